@@ -1,0 +1,5 @@
+pub mod Puts
+pub mod Images
+pub mod Numbers
+pub mod Layouts
+pub mod Writes

@@ -1,0 +1,386 @@
+//! The load commands but those of segments and symbols.
+//!
+//! A command is its record, then what it needs, filled with zeros to a multiple of 8 (`mach-o/loader.h`):
+//!
+//!     0e 00 00 00 20 00 00 00 0c 00 00 00   DylinkerCommand: 32 bytes, the path at 12
+//!     "/usr/lib/dyld" and zeros
+ghost use Rattle.std.specs.Prelude.{◌≡◌, ◌+◌, ◌≤◌, length};
+ghost use Rattle.macho_bytes.specs.Texts.{put};
+ghost use Rattle.macho_bytes.specs.Layouts.{read_of, size_of, spelling, ReadsBack};
+ghost use Rattle.macho_records.specs.Layouts.{entry_point_command, dylinker_command, dylib_command, rpath_command, linkedit_data_command, uuid_command, build_version_command, build_tool_version};
+
+use crate::bytes::{put_text, put_u32s, put_u64s, text_at, u32_at, u64_at};
+
+/// `struct entry_point_command` of mach-o/loader.h, `LC_MAIN`: where an executable begins.
+#[derive(Clone, Copy)]
+pub struct EntryPointCommand {
+    /// The number of the command.
+    pub cmd: u32,
+    /// The bytes of the command, this record and what follows it.
+    pub cmdsize: u32,
+    /// The file offset of the first instruction.
+    pub entryoff: u64,
+    /// The bytes of the stack, 0 for the default.
+    pub stacksize: u64,
+}
+
+impl EntryPointCommand {
+    /// The bytes of the record.
+    pub const SIZE: usize = 24;
+
+    /// The record at a place of the bytes, None where it does not stand there whole.
+    #[tactic(auto, unfolding(macho_bytes::specs::Layouts::reading))]
+    pub fn read(bytes: &[u8], at: usize) -> Option<EntryPointCommand>
+        ensures { result ≡ read_of entry_point_command bytes.now at }
+    {
+        if bytes.len() < Self::SIZE || bytes.len() - Self::SIZE < at {
+            return None;
+        }
+        Some(EntryPointCommand {
+            cmd: u32_at(bytes, at, 0),
+            cmdsize: u32_at(bytes, at, 4),
+            entryoff: u64_at(bytes, at, 8),
+            stacksize: u64_at(bytes, at, 16),
+        })
+    }
+
+    /// Writes the record at a place; the other bytes stay.
+    #[tactic(auto, using(macho_bytes::proofs::Layouts::little_record))]
+    pub fn write(&self, out: &mut [u8], at: usize)
+        requires { at + size_of entry_point_command ≤ length out.old }
+        ensures written { out.new ≡ put at (spelling entry_point_command self.now) out.old }
+        ensures back { ReadsBack entry_point_command self.now }
+    {
+        let r = *self;
+        put_u32s(out, at, &[r.cmd, r.cmdsize]);
+        put_u64s(out, at + 8, &[r.entryoff, r.stacksize]);
+    }
+}
+
+/// `struct dylinker_command` of mach-o/loader.h: the dynamic linker; its path follows.
+#[derive(Clone, Copy)]
+pub struct DylinkerCommand {
+    /// The number of the command.
+    pub cmd: u32,
+    /// The bytes of the command, this record and what follows it.
+    pub cmdsize: u32,
+    /// The place of the path, from the start of the command.
+    pub name_offset: u32,
+}
+
+impl DylinkerCommand {
+    /// The bytes of the record.
+    pub const SIZE: usize = 12;
+
+    /// The record at a place of the bytes, None where it does not stand there whole.
+    #[tactic(auto, unfolding(macho_bytes::specs::Layouts::reading))]
+    pub fn read(bytes: &[u8], at: usize) -> Option<DylinkerCommand>
+        ensures { result ≡ read_of dylinker_command bytes.now at }
+    {
+        if bytes.len() < Self::SIZE || bytes.len() - Self::SIZE < at {
+            return None;
+        }
+        Some(DylinkerCommand {
+            cmd: u32_at(bytes, at, 0),
+            cmdsize: u32_at(bytes, at, 4),
+            name_offset: u32_at(bytes, at, 8),
+        })
+    }
+
+    /// Writes the record at a place; the other bytes stay.
+    #[tactic(auto, using(macho_bytes::proofs::Layouts::little_record))]
+    pub fn write(&self, out: &mut [u8], at: usize)
+        requires { at + size_of dylinker_command ≤ length out.old }
+        ensures written { out.new ≡ put at (spelling dylinker_command self.now) out.old }
+        ensures back { ReadsBack dylinker_command self.now }
+    {
+        let r = *self;
+        put_u32s(out, at, &[r.cmd, r.cmdsize, r.name_offset]);
+    }
+}
+
+/// `struct dylib_command` of mach-o/loader.h: a dynamic library, needed or made; its path follows.
+#[derive(Clone, Copy)]
+pub struct DylibCommand {
+    /// The number of the command.
+    pub cmd: u32,
+    /// The bytes of the command, this record and what follows it.
+    pub cmdsize: u32,
+    /// The place of the path, from the start of the command.
+    pub name_offset: u32,
+    /// A time stamp; linkers write 1 or 2.
+    pub timestamp: u32,
+    /// The version, as 16, 8 and 8 bits.
+    pub current_version: u32,
+    /// The oldest version that it stands for.
+    pub compatibility_version: u32,
+}
+
+impl DylibCommand {
+    /// The bytes of the record.
+    pub const SIZE: usize = 24;
+
+    /// The record at a place of the bytes, None where it does not stand there whole.
+    #[tactic(auto, unfolding(macho_bytes::specs::Layouts::reading))]
+    pub fn read(bytes: &[u8], at: usize) -> Option<DylibCommand>
+        ensures { result ≡ read_of dylib_command bytes.now at }
+    {
+        if bytes.len() < Self::SIZE || bytes.len() - Self::SIZE < at {
+            return None;
+        }
+        Some(DylibCommand {
+            cmd: u32_at(bytes, at, 0),
+            cmdsize: u32_at(bytes, at, 4),
+            name_offset: u32_at(bytes, at, 8),
+            timestamp: u32_at(bytes, at, 12),
+            current_version: u32_at(bytes, at, 16),
+            compatibility_version: u32_at(bytes, at, 20),
+        })
+    }
+
+    /// Writes the record at a place; the other bytes stay.
+    #[tactic(auto, using(macho_bytes::proofs::Layouts::little_record))]
+    pub fn write(&self, out: &mut [u8], at: usize)
+        requires { at + size_of dylib_command ≤ length out.old }
+        ensures written { out.new ≡ put at (spelling dylib_command self.now) out.old }
+        ensures back { ReadsBack dylib_command self.now }
+    {
+        let r = *self;
+        put_u32s(
+            out,
+            at,
+            &[
+                r.cmd,
+                r.cmdsize,
+                r.name_offset,
+                r.timestamp,
+                r.current_version,
+                r.compatibility_version,
+            ],
+        );
+    }
+}
+
+/// `struct rpath_command` of mach-o/loader.h: a path to search `@rpath` in; it follows.
+#[derive(Clone, Copy)]
+pub struct RpathCommand {
+    /// The number of the command.
+    pub cmd: u32,
+    /// The bytes of the command, this record and what follows it.
+    pub cmdsize: u32,
+    /// The place of the path, from the start of the command.
+    pub name_offset: u32,
+}
+
+impl RpathCommand {
+    /// The bytes of the record.
+    pub const SIZE: usize = 12;
+
+    /// The record at a place of the bytes, None where it does not stand there whole.
+    #[tactic(auto, unfolding(macho_bytes::specs::Layouts::reading))]
+    pub fn read(bytes: &[u8], at: usize) -> Option<RpathCommand>
+        ensures { result ≡ read_of rpath_command bytes.now at }
+    {
+        if bytes.len() < Self::SIZE || bytes.len() - Self::SIZE < at {
+            return None;
+        }
+        Some(RpathCommand {
+            cmd: u32_at(bytes, at, 0),
+            cmdsize: u32_at(bytes, at, 4),
+            name_offset: u32_at(bytes, at, 8),
+        })
+    }
+
+    /// Writes the record at a place; the other bytes stay.
+    #[tactic(auto, using(macho_bytes::proofs::Layouts::little_record))]
+    pub fn write(&self, out: &mut [u8], at: usize)
+        requires { at + size_of rpath_command ≤ length out.old }
+        ensures written { out.new ≡ put at (spelling rpath_command self.now) out.old }
+        ensures back { ReadsBack rpath_command self.now }
+    {
+        let r = *self;
+        put_u32s(out, at, &[r.cmd, r.cmdsize, r.name_offset]);
+    }
+}
+
+/// `struct linkedit_data_command` of mach-o/loader.h: a range of `__LINKEDIT`.
+#[derive(Clone, Copy)]
+pub struct LinkeditDataCommand {
+    /// The number of the command.
+    pub cmd: u32,
+    /// The bytes of the command, this record and what follows it.
+    pub cmdsize: u32,
+    /// The file offset of the range.
+    pub dataoff: u32,
+    /// Its bytes.
+    pub datasize: u32,
+}
+
+impl LinkeditDataCommand {
+    /// The bytes of the record.
+    pub const SIZE: usize = 16;
+
+    /// The record at a place of the bytes, None where it does not stand there whole.
+    #[tactic(auto, unfolding(macho_bytes::specs::Layouts::reading))]
+    pub fn read(bytes: &[u8], at: usize) -> Option<LinkeditDataCommand>
+        ensures { result ≡ read_of linkedit_data_command bytes.now at }
+    {
+        if bytes.len() < Self::SIZE || bytes.len() - Self::SIZE < at {
+            return None;
+        }
+        Some(LinkeditDataCommand {
+            cmd: u32_at(bytes, at, 0),
+            cmdsize: u32_at(bytes, at, 4),
+            dataoff: u32_at(bytes, at, 8),
+            datasize: u32_at(bytes, at, 12),
+        })
+    }
+
+    /// Writes the record at a place; the other bytes stay.
+    #[tactic(auto, using(macho_bytes::proofs::Layouts::little_record))]
+    pub fn write(&self, out: &mut [u8], at: usize)
+        requires { at + size_of linkedit_data_command ≤ length out.old }
+        ensures written { out.new ≡ put at (spelling linkedit_data_command self.now) out.old }
+        ensures back { ReadsBack linkedit_data_command self.now }
+    {
+        let r = *self;
+        put_u32s(out, at, &[r.cmd, r.cmdsize, r.dataoff, r.datasize]);
+    }
+}
+
+/// `struct uuid_command` of mach-o/loader.h: the name of this build.
+#[derive(Clone, Copy)]
+pub struct UuidCommand {
+    /// The number of the command.
+    pub cmd: u32,
+    /// The bytes of the command, this record and what follows it.
+    pub cmdsize: u32,
+    /// The 16 bytes of the UUID.
+    pub uuid: [u8; 16],
+}
+
+impl UuidCommand {
+    /// The bytes of the record.
+    pub const SIZE: usize = 24;
+
+    /// The record at a place of the bytes, None where it does not stand there whole.
+    #[tactic(auto, unfolding(macho_bytes::specs::Layouts::reading))]
+    pub fn read(bytes: &[u8], at: usize) -> Option<UuidCommand>
+        ensures { result ≡ read_of uuid_command bytes.now at }
+    {
+        if bytes.len() < Self::SIZE || bytes.len() - Self::SIZE < at {
+            return None;
+        }
+        Some(UuidCommand {
+            cmd: u32_at(bytes, at, 0),
+            cmdsize: u32_at(bytes, at, 4),
+            uuid: text_at(bytes, at, 8),
+        })
+    }
+
+    /// Writes the record at a place; the other bytes stay.
+    #[tactic(auto, using(macho_bytes::proofs::Layouts::little_record))]
+    pub fn write(&self, out: &mut [u8], at: usize)
+        requires { at + size_of uuid_command ≤ length out.old }
+        ensures written { out.new ≡ put at (spelling uuid_command self.now) out.old }
+        ensures back { ReadsBack uuid_command self.now }
+    {
+        let r = *self;
+        put_u32s(out, at, &[r.cmd, r.cmdsize]);
+        put_text(out, at + 8, &r.uuid);
+    }
+}
+
+/// `struct build_version_command` of mach-o/loader.h: what the file was built for; the tools follow.
+#[derive(Clone, Copy)]
+pub struct BuildVersionCommand {
+    /// The number of the command.
+    pub cmd: u32,
+    /// The bytes of the command, this record and what follows it.
+    pub cmdsize: u32,
+    /// `PLATFORM_MACOS` is 1.
+    pub platform: u32,
+    /// The least version, as 16, 8 and 8 bits.
+    pub minos: u32,
+    /// The version of the SDK.
+    pub sdk: u32,
+    /// How many tools follow.
+    pub ntools: u32,
+}
+
+impl BuildVersionCommand {
+    /// The bytes of the record.
+    pub const SIZE: usize = 24;
+
+    /// The record at a place of the bytes, None where it does not stand there whole.
+    #[tactic(auto, unfolding(macho_bytes::specs::Layouts::reading))]
+    pub fn read(bytes: &[u8], at: usize) -> Option<BuildVersionCommand>
+        ensures { result ≡ read_of build_version_command bytes.now at }
+    {
+        if bytes.len() < Self::SIZE || bytes.len() - Self::SIZE < at {
+            return None;
+        }
+        Some(BuildVersionCommand {
+            cmd: u32_at(bytes, at, 0),
+            cmdsize: u32_at(bytes, at, 4),
+            platform: u32_at(bytes, at, 8),
+            minos: u32_at(bytes, at, 12),
+            sdk: u32_at(bytes, at, 16),
+            ntools: u32_at(bytes, at, 20),
+        })
+    }
+
+    /// Writes the record at a place; the other bytes stay.
+    #[tactic(auto, using(macho_bytes::proofs::Layouts::little_record))]
+    pub fn write(&self, out: &mut [u8], at: usize)
+        requires { at + size_of build_version_command ≤ length out.old }
+        ensures written { out.new ≡ put at (spelling build_version_command self.now) out.old }
+        ensures back { ReadsBack build_version_command self.now }
+    {
+        let r = *self;
+        put_u32s(
+            out,
+            at,
+            &[r.cmd, r.cmdsize, r.platform, r.minos, r.sdk, r.ntools],
+        );
+    }
+}
+
+/// `struct build_tool_version` of mach-o/loader.h: a tool that built the file.
+#[derive(Clone, Copy)]
+pub struct BuildToolVersion {
+    /// The number of the tool.
+    pub tool: u32,
+    /// Its version, as 16, 8 and 8 bits.
+    pub version: u32,
+}
+
+impl BuildToolVersion {
+    /// The bytes of the record.
+    pub const SIZE: usize = 8;
+
+    /// The record at a place of the bytes, None where it does not stand there whole.
+    #[tactic(auto, unfolding(macho_bytes::specs::Layouts::reading))]
+    pub fn read(bytes: &[u8], at: usize) -> Option<BuildToolVersion>
+        ensures { result ≡ read_of build_tool_version bytes.now at }
+    {
+        if bytes.len() < Self::SIZE || bytes.len() - Self::SIZE < at {
+            return None;
+        }
+        Some(BuildToolVersion {
+            tool: u32_at(bytes, at, 0),
+            version: u32_at(bytes, at, 4),
+        })
+    }
+
+    /// Writes the record at a place; the other bytes stay.
+    #[tactic(auto, using(macho_bytes::proofs::Layouts::little_record))]
+    pub fn write(&self, out: &mut [u8], at: usize)
+        requires { at + size_of build_tool_version ≤ length out.old }
+        ensures written { out.new ≡ put at (spelling build_tool_version self.now) out.old }
+        ensures back { ReadsBack build_tool_version self.now }
+    {
+        let r = *self;
+        put_u32s(out, at, &[r.tool, r.version]);
+    }
+}

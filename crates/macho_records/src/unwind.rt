@@ -1,0 +1,60 @@
+//! The entries of compact unwind information in objects.
+//!
+//! Each function has an entry of 32 bytes (`mach-o/compact_unwind_encoding.h`): its start and its personality and
+//! language data are filled in by relocations at 0, 16 and 24.
+ghost use Rattle.std.specs.Prelude.{◌≡◌, ◌+◌, ◌≤◌, length};
+ghost use Rattle.macho_bytes.specs.Texts.{put};
+ghost use Rattle.macho_bytes.specs.Layouts.{read_of, size_of, spelling, ReadsBack};
+ghost use Rattle.macho_records.specs.Layouts.{unwind_info_entry};
+
+use crate::bytes::{put_u32s, put_u64s, u32_at, u64_at};
+
+/// An entry of `__LD,__compact_unwind`, mach-o/compact_unwind_encoding.h: how a function is unwound, as compilers write it.
+#[derive(Clone, Copy)]
+pub struct UnwindInfoEntry {
+    /// The address of the function.
+    pub start: u64,
+    /// Its bytes.
+    pub length: u32,
+    /// How its frame is unwound.
+    pub encoding: u32,
+    /// The address of its personality function, 0 for none.
+    pub personality: u64,
+    /// The address of its language data, 0 for none.
+    pub lsda: u64,
+}
+
+impl UnwindInfoEntry {
+    /// The bytes of the record.
+    pub const SIZE: usize = 32;
+
+    /// The record at a place of the bytes, None where it does not stand there whole.
+    #[tactic(auto, unfolding(macho_bytes::specs::Layouts::reading))]
+    pub fn read(bytes: &[u8], at: usize) -> Option<UnwindInfoEntry>
+        ensures { result ≡ read_of unwind_info_entry bytes.now at }
+    {
+        if bytes.len() < Self::SIZE || bytes.len() - Self::SIZE < at {
+            return None;
+        }
+        Some(UnwindInfoEntry {
+            start: u64_at(bytes, at, 0),
+            length: u32_at(bytes, at, 8),
+            encoding: u32_at(bytes, at, 12),
+            personality: u64_at(bytes, at, 16),
+            lsda: u64_at(bytes, at, 24),
+        })
+    }
+
+    /// Writes the record at a place; the other bytes stay.
+    #[tactic(auto, using(macho_bytes::proofs::Layouts::little_record))]
+    pub fn write(&self, out: &mut [u8], at: usize)
+        requires { at + size_of unwind_info_entry ≤ length out.old }
+        ensures written { out.new ≡ put at (spelling unwind_info_entry self.now) out.old }
+        ensures back { ReadsBack unwind_info_entry self.now }
+    {
+        let r = *self;
+        put_u64s(out, at, &[r.start]);
+        put_u32s(out, at + 8, &[r.length, r.encoding]);
+        put_u64s(out, at + 16, &[r.personality, r.lsda]);
+    }
+}
