@@ -1,0 +1,113 @@
+-- When bytes are a relocatable object or a dynamic library that this linker takes: the tests of `ObjectRules`, asked of
+-- each record. A refusal names a rule and the place of a record that fails its test.
+use Rattle.std.specs.Prelude.{◌≡◌, ℕ, ◌<◌, ◌≤◌, ◌⊎◌, Bool, true, false, List, [], length, get_or, All}
+use Rattle.macho_model.specs.declared.rules.ObjectRule.{ObjectRule}
+use Rattle.macho_model.specs.declared.rules.ObjectRule.TheVariants.{O1, O2, O3, O4, O5, O6, O7, O8, O9, O10, O11, O12, O13, O14}
+use Rattle.macho_model.specs.Constants.{MH_OBJECT, MH_DYLIB, LC_SEGMENT_64, LC_SYMTAB, LC_ID_DYLIB}
+use Rattle.macho_model.specs.Commands.{Command, commands_of, numbered, place_of, command_fits}
+use Rattle.macho_model.specs.Objects.{num_sections, section_place, section_at, num_symbols, symbol_place, relocation_place}
+use Rattle.macho_model.specs.ObjectRules.{head_fits, commands_inside, needed_in_object, needed_in_dylib, has_one, tables_inside, symbol_section_exists, relocation_number_exists, data_inside, exponent_fits, value_in_section, name_ends, path_ends, relocations_inside, field_inside, thread_local_in_data, zerofill_unrelocated, global_has_name, common_fits}
+
+-- a test holds of each section, symbol, relocation or command
+abbrev pub EachSection : List ℕ → (ℕ → Bool) → Type 0
+EachSection b test = (k : ℕ) → k < num_sections b → test k ≡ true
+
+abbrev pub EachSymbol : List ℕ → (ℕ → Bool) → Type 0
+EachSymbol b test = (k : ℕ) → k < num_symbols b → test k ≡ true
+
+abbrev pub EachRelocation : List ℕ → (ℕ → ℕ → Bool) → Type 0
+EachRelocation b test = (k r : ℕ) → k < num_sections b → r < (section_at b k).nreloc → test k r ≡ true
+
+abbrev pub EachCommand : List Command → (Command → Bool) → Type 0
+EachCommand cs test = All (λ c. test c ≡ true) cs
+
+-- The bytes are a relocatable object: one field for each rule.
+pub record IsObject (b : List ℕ) : Type 0 where
+  pub o1 : head_fits MH_OBJECT b ≡ true
+  pub o2 : (commands_inside b ≡ true) × EachCommand (commands_of b) (command_fits (needed_in_object b) b)
+  pub o3 : (has_one LC_SEGMENT_64 b ≡ true) × (has_one LC_SYMTAB b ≡ true)
+  pub o4 : tables_inside b ≡ true
+  pub o5 : EachSymbol b (symbol_section_exists b) × EachRelocation b (relocation_number_exists b)
+  pub o6 : EachSection b (data_inside b)
+  pub o7 : EachSection b (exponent_fits b)
+  pub o8 : EachSymbol b (value_in_section b)
+  pub o9 : EachSymbol b (name_ends b)
+  pub o10 : EachSection b (relocations_inside b) × EachRelocation b (field_inside b)
+  pub o11 : EachSection b (thread_local_in_data b)
+  pub o12 : EachSection b (zerofill_unrelocated b)
+  pub o13 : EachSymbol b (global_has_name b)
+  pub o14 : EachSymbol b (common_fits b)
+
+-- The bytes are a dynamic library: its segments are not read, so no rule speaks of sections.
+pub record IsDylib (b : List ℕ) : Type 0 where
+  pub o1 : head_fits MH_DYLIB b ≡ true
+  pub o2 : (commands_inside b ≡ true) × EachCommand (commands_of b) (command_fits needed_in_dylib b)
+  pub o3 : (has_one LC_ID_DYLIB b ≡ true) × (has_one LC_SYMTAB b ≡ true)
+  pub o4 : tables_inside b ≡ true
+  pub o9 : EachSymbol b (name_ends b) × EachCommand (numbered LC_ID_DYLIB b) (path_ends b)
+  pub o13 : EachSymbol b (global_has_name b)
+
+-- an object, or a dynamic library
+abbrev pub IsFile : Bool → List ℕ → Type 0
+IsFile false b = IsObject b
+IsFile true b = IsDylib b
+
+-- some section, symbol, relocation or command whose record stands at a place fails a test
+abbrev pub SectionFails : List ℕ → ℕ → (ℕ → Bool) → Type 0
+SectionFails b place test = (k : ℕ) × (k < num_sections b) × (place ≡ section_place b k) × (test k ≡ false)
+
+abbrev pub SymbolFails : List ℕ → ℕ → (ℕ → Bool) → Type 0
+SymbolFails b place test = (k : ℕ) × (k < num_symbols b) × (place ≡ symbol_place b k) × (test k ≡ false)
+
+abbrev pub RelocationFails : List ℕ → ℕ → (ℕ → ℕ → Bool) → Type 0
+RelocationFails b place test =
+    (k : ℕ) × (r : ℕ) × (k < num_sections b) × (r < (section_at b k).nreloc) × (place ≡ relocation_place b k r) × (test k r ≡ false)
+
+abbrev pub CommandFails : List Command → ℕ → (Command → Bool) → Type 0
+CommandFails cs place test =
+    (k : ℕ) × (c : Command) × (k < length cs) × (get_or cs k c ≡ c) × (place ≡ c.at) × (test c ≡ false)
+
+-- there is no command of a number, told at place 0, or a second one, told at its place
+abbrev pub IsNotOne : ℕ → List ℕ → ℕ → Type 0
+IsNotOne n b place =
+    ((numbered n b ≡ []) × (place ≡ 0))
+    ⊎ ((k : ℕ) × (c : Command) × (1 ≤ k) × (k < length (numbered n b)) × (get_or (numbered n b) k c ≡ c) × (place ≡ c.at))
+
+-- An object breaks a rule at a place: that rule's test fails for the record that stands there.
+abbrev pub ObjectBreaks : List ℕ → ObjectRule → ℕ → Type 0
+ObjectBreaks b O1 place = (place ≡ 0) × (head_fits MH_OBJECT b ≡ false)
+ObjectBreaks b O2 place = ((place ≡ 0) × (commands_inside b ≡ false)) ⊎ CommandFails (commands_of b) place (command_fits (needed_in_object b) b)
+ObjectBreaks b O3 place = IsNotOne LC_SEGMENT_64 b place ⊎ IsNotOne LC_SYMTAB b place
+ObjectBreaks b O4 place = (place ≡ place_of LC_SYMTAB b) × (tables_inside b ≡ false)
+ObjectBreaks b O5 place = SymbolFails b place (symbol_section_exists b) ⊎ RelocationFails b place (relocation_number_exists b)
+ObjectBreaks b O6 place = SectionFails b place (data_inside b)
+ObjectBreaks b O7 place = SectionFails b place (exponent_fits b)
+ObjectBreaks b O8 place = SymbolFails b place (value_in_section b)
+ObjectBreaks b O9 place = SymbolFails b place (name_ends b)
+ObjectBreaks b O10 place = SectionFails b place (relocations_inside b) ⊎ RelocationFails b place (field_inside b)
+ObjectBreaks b O11 place = SectionFails b place (thread_local_in_data b)
+ObjectBreaks b O12 place = SectionFails b place (zerofill_unrelocated b)
+ObjectBreaks b O13 place = SymbolFails b place (global_has_name b)
+ObjectBreaks b O14 place = SymbolFails b place (common_fits b)
+
+-- A dynamic library breaks a rule at a place.
+abbrev pub DylibBreaks : List ℕ → ObjectRule → ℕ → Type 0
+DylibBreaks b O1 place = (place ≡ 0) × (head_fits MH_DYLIB b ≡ false)
+DylibBreaks b O2 place = ((place ≡ 0) × (commands_inside b ≡ false)) ⊎ CommandFails (commands_of b) place (command_fits needed_in_dylib b)
+DylibBreaks b O3 place = IsNotOne LC_ID_DYLIB b place ⊎ IsNotOne LC_SYMTAB b place
+DylibBreaks b O4 place = (place ≡ place_of LC_SYMTAB b) × (tables_inside b ≡ false)
+DylibBreaks b O5 place = ⊥
+DylibBreaks b O6 place = ⊥
+DylibBreaks b O7 place = ⊥
+DylibBreaks b O8 place = ⊥
+DylibBreaks b O9 place = SymbolFails b place (name_ends b) ⊎ CommandFails (numbered LC_ID_DYLIB b) place (path_ends b)
+DylibBreaks b O10 place = ⊥
+DylibBreaks b O11 place = ⊥
+DylibBreaks b O12 place = ⊥
+DylibBreaks b O13 place = SymbolFails b place (global_has_name b)
+DylibBreaks b O14 place = ⊥
+
+-- A file of a kind (a dynamic library or not) breaks a rule at a place.
+abbrev pub Breaks : Bool → List ℕ → ObjectRule → ℕ → Type 0
+Breaks false b rule place = ObjectBreaks b rule place
+Breaks true b rule place = DylibBreaks b rule place

@@ -1,0 +1,13 @@
+pub mod Constants
+pub mod Commands
+pub mod Objects
+pub mod ObjectRules
+pub mod Grammar
+pub mod ExportLists
+pub mod Links
+pub mod Resolution
+pub mod Needs
+pub mod Targets
+pub mod Fields
+pub mod Words
+pub mod Meaning

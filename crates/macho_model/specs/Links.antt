@@ -1,0 +1,106 @@
+-- What is linked: the arguments that matter and the inputs in order; which sections of the objects go into the image.
+use Rattle.std.specs.Prelude.{◌≡◌, ℕ, ◌+◌, ◌==◌, nat_le, ◌&&◌, ◌||◌, not, if◌then◌else◌, Bool, true, false, List, [], ◌∷◌, ◌++◌, length, map, filter, Option, codes, get_or, max}
+use Rattle.std.specs.List.{flat_map, enumerate_from, range_with_len, list_any}
+use Rattle.macho_records.specs.declared.header.SectionHeader.{SectionHeader}
+use Rattle.macho_model.specs.Constants.{should_exclude, has_section_name, section_type, S_THREAD_LOCAL_REGULAR, S_THREAD_LOCAL_ZEROFILL, S_THREAD_LOCAL_VARIABLES}
+use Rattle.macho_model.specs.Objects.{num_sections, section_at}
+
+-- what a stub text says: its library's install name, and the names that it offers
+pub record StubReading : Type 0 where
+  pub install_name : List ℕ
+  pub names : List (List ℕ)
+  pub weak_names : List (List ℕ)
+
+-- An input, with the kind that its bytes have.
+pub data Input : Type 0 where
+  Object : (bytes : List ℕ) → Input
+  Dylib : (bytes : List ℕ) → Input
+  Stub : (says : StubReading) → Input
+
+-- What is linked. Files are numbered by their place among the inputs, from 0.
+pub record Link : Type 0 where
+  -- an executable, else a dynamic library
+  pub executable : Bool
+  pub output : List ℕ
+  pub entry : List ℕ
+  -- of a dynamic library
+  pub install_name : List ℕ
+  pub rpaths : List (List ℕ)
+  -- the least version of macOS and that of the SDK, where they were given
+  pub versions : Option (ℕ × ℕ)
+  pub dead_strip_dylibs : Bool
+  pub headerpad : Bool
+  pub inputs : List Input
+  -- the texts of the export lists
+  pub export_lists : List (List ℕ)
+
+-- the bytes of an object, none for another input
+abbrev pub object_bytes : Input → List ℕ
+object_bytes (Object bytes) = bytes
+object_bytes (Dylib bytes) = []
+object_bytes (Stub says) = []
+
+abbrev pub no_input : Input
+no_input = Object []
+
+-- the bytes of a file that is an object
+abbrev pub object_of : Link → ℕ → List ℕ
+object_of l file = object_bytes (get_or l.inputs file no_input)
+
+-- A section of an object, by file and number.
+pub record SectionId : Type 0 where
+  pub file : ℕ
+  pub section : ℕ
+
+abbrev pub header_at : Link → SectionId → SectionHeader
+header_at l s = section_at (object_of l s.file) s.section
+
+-- initializers and compact unwind entries are turned into sections of the image's own
+abbrev pub is_initializers : SectionHeader → Bool
+is_initializers h = has_section_name (codes "__mod_init_func") h
+
+abbrev pub is_unwind_entries : SectionHeader → Bool
+is_unwind_entries h = has_section_name (codes "__compact_unwind") h
+
+-- a section goes into the image as it is
+abbrev pub is_carried : SectionHeader → Bool
+is_carried h = not (should_exclude h) && not (is_initializers h) && not (is_unwind_entries h)
+
+-- a section that is read, and goes into the image in another form
+abbrev pub is_consumed : SectionHeader → Bool
+is_consumed h = not (should_exclude h) && (is_initializers h || is_unwind_entries h)
+
+-- a carried section of the thread-local template
+abbrev pub is_template : SectionHeader → Bool
+is_template h = is_carried h && ((section_type h == S_THREAD_LOCAL_REGULAR) || (section_type h == S_THREAD_LOCAL_ZEROFILL))
+
+-- the sections of one file
+abbrev pub sections_of_file : ℕ → Input → List SectionId
+sections_of_file file (Object bytes) = map (λ k. record { file = file; section = k }) (range_with_len 0 (num_sections bytes))
+sections_of_file file (Dylib bytes) = []
+sections_of_file file (Stub says) = []
+
+-- all sections of all objects, by file, then section
+unfoldable pub sections_of : Link → List SectionId
+sections_of l = flat_map (λ i. sections_of_file i.0 i.1) (enumerate_from 0 l.inputs)
+
+-- the carried ones, in the same order
+unfoldable pub carried_of : Link → List SectionId
+carried_of l = filter (λ s. is_carried (header_at l s)) (sections_of l)
+
+-- the greatest of some numbers, 0 of none
+abbrev pub greatest : List ℕ → ℕ
+greatest [] = 0
+greatest (n ∷ ns) = max n (greatest ns)
+
+-- the alignment of the template: the greatest of its sections'
+unfoldable pub template_exponent : Link → ℕ
+template_exponent l = greatest (map (λ s. (header_at l s).align) (filter (λ s. is_template (header_at l s)) (sections_of l)))
+
+-- The alignment that a carried section is placed at, as an exponent of 2: its own; that of the template in the
+-- template; at least that of a pointer where thread-local variables are described.
+unfoldable pub placed_exponent : Link → SectionId → ℕ
+placed_exponent l s =
+    if is_template (header_at l s) then template_exponent l
+    else if section_type (header_at l s) == S_THREAD_LOCAL_VARIABLES then max 3 (header_at l s).align
+    else (header_at l s).align

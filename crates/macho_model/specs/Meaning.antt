@@ -1,0 +1,61 @@
+-- What a relocated field says, as relations between a place, a word that is read there and the address that the field
+-- refers to. Addresses are numbers modulo 2 ^ 64 (`mach-o/arm64/reloc.h`).
+use Rattle.std.specs.Prelude.{◌≡◌, ℕ, ◌+◌, ◌*◌, ◌-◌, ◌%◌, ◌^◌, ◌==◌, ◌&&◌, Bool, true, false, Option, Some, None}
+use Rattle.macho_bytes.specs.Numbers.{signed, page, low}
+use Rattle.macho_model.specs.Words.{is_adrp, imm21, is_branch, imm26, is_add, is_ldr, is_load_store, imm12, scale_of, base_register, written_register, without_imm21, without_imm26, without_imm12, BR_X16, X16}
+
+-- two addresses are the same
+abbrev pub Same : ℕ → ℕ → Type 0
+Same x y = x % 2 ^ 64 ≡ y % 2 ^ 64
+
+-- an address, where a sum may have passed 2 ^ 64
+abbrev pub address : ℕ → ℕ
+address x = x % 2 ^ 64
+
+-- a pointer of 8 bytes holds an address
+abbrev pub PointsTo : ℕ → ℕ → Type 0
+PointsTo word x = Same word x
+
+-- a signed difference of a width in bytes: the word plus the subtrahend is the target plus the addend
+abbrev pub IsDifference : ℕ → ℕ → ℕ → ℕ → ℕ → Type 0
+IsDifference width word target subtrahend addend = Same (signed (8 * width) word + subtrahend) (target + addend)
+
+-- a branch at a place goes to an address; the input's operation stands
+pub record BranchesTo (place word input x : ℕ) : Type 0 where
+  pub reaches : Same (place + 4 * signed 26 (imm26 word)) x
+  pub kept : without_imm26 word ≡ without_imm26 input
+
+-- an ADRP at a place gives the page of an address
+pub record PagesTo (place word input x : ℕ) : Type 0 where
+  pub reaches : Same (page (address place) + 4096 * signed 21 (imm21 word)) (page (address x))
+  pub kept : without_imm21 word ≡ without_imm21 input
+
+-- an ADD, load or store adds the low bits of an address
+pub record OffsetsTo (word input x : ℕ) : Type 0 where
+  pub reaches : imm12 word * scale_of word ≡ low (address x)
+  pub kept : without_imm12 word ≡ without_imm12 input
+
+-- a load of a slot was made an ADD that gives the address itself, in the same two registers
+pub record AddsTo (word input x : ℕ) : Type 0 where
+  pub add : is_add word ≡ true
+  pub base : base_register word ≡ base_register input
+  pub written : written_register word ≡ written_register input
+  pub reaches : imm12 word ≡ low (address x)
+
+-- a 64-bit load reads from the low bits of a slot's address
+pub record LoadsFrom (word input slot : ℕ) : Type 0 where
+  pub load : is_ldr word ≡ true
+  pub reaches : 8 * imm12 word ≡ low (address slot)
+  pub kept : without_imm12 word ≡ without_imm12 input
+
+-- a signed distance of 4 bytes from a place to a slot
+abbrev pub IsDistance : ℕ → ℕ → ℕ → Type 0
+IsDistance place word slot = Same (place + signed 32 word) slot
+
+-- The three words of a stub at a place go on through a slot: ADRP x16 and LDR x16 from x16 find it, BR x16 leaves.
+pub record GoesThrough (place slot adrp ldr br : ℕ) : Type 0 where
+  pub pages : (is_adrp adrp ≡ true) × (written_register adrp ≡ X16)
+  pub reaches : Same (page (address place) + 4096 * signed 21 (imm21 adrp)) (page (address slot))
+  pub load : (is_ldr ldr ≡ true) × (base_register ldr ≡ X16) × (written_register ldr ≡ X16)
+  pub offset : 8 * imm12 ldr ≡ low (address slot)
+  pub leaves : br ≡ BR_X16

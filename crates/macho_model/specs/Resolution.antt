@@ -1,0 +1,136 @@
+-- Resolution: which definition a global name has. The one strong definition, else the first weak one, else the greatest
+-- common, else the first library that offers the name, else the image itself for the name of its own handle.
+use Rattle.std.specs.Prelude.{◌≡◌, ℕ, ◌+◌, ◌-◌, ◌==◌, nat_le, ◌&&◌, ◌||◌, not, if◌then◌else◌, Bool, true, false, List, [], ◌∷◌, length, map, filter, find, Option, Some, None, codes, get_or}
+use Rattle.std.specs.List.{flat_map, enumerate_from, range_with_len, list_any, list_all}
+use Rattle.std.specs.Str.{bytes_eq}
+use Rattle.macho_records.specs.declared.symbols.SymtabEntry.{SymtabEntry}
+use Rattle.macho_model.specs.Constants.{is_stab, is_ext, is_private_extern, is_weak_def, is_in_section, is_absolute, is_common}
+use Rattle.macho_model.specs.Objects.{num_symbols, symbol_at, symbol_name, install_name_of}
+use Rattle.macho_model.specs.Links.{StubReading, Input, Object, Dylib, Stub, Link, no_input, object_of, SectionId, header_at, is_carried}
+
+-- A symbol of an object, by file and index.
+pub record SymbolId : Type 0 where
+  pub file : ℕ
+  pub symbol : ℕ
+
+abbrev pub same_symbol : SymbolId → SymbolId → Bool
+same_symbol s t = (s.file == t.file) && (s.symbol == t.symbol)
+
+abbrev pub entry_at : Link → SymbolId → SymtabEntry
+entry_at l s = symbol_at (object_of l s.file) s.symbol
+
+abbrev pub name_at : Link → SymbolId → List ℕ
+name_at l s = symbol_name (object_of l s.file) s.symbol
+
+-- debugging entries are neither global nor local
+abbrev pub is_global : SymtabEntry → Bool
+is_global e = not (is_stab e) && is_ext e
+
+abbrev pub is_local : SymtabEntry → Bool
+is_local e = not (is_stab e) && not (is_ext e)
+
+-- the symbols of one file, and all symbols of all objects, by file, then index
+abbrev pub symbols_of_file : ℕ → Input → List SymbolId
+symbols_of_file file (Object bytes) = map (λ k. record { file = file; symbol = k }) (range_with_len 0 (num_symbols bytes))
+symbols_of_file file (Dylib bytes) = []
+symbols_of_file file (Stub says) = []
+
+unfoldable pub symbols_of : Link → List SymbolId
+symbols_of l = flat_map (λ i. symbols_of_file i.0 i.1) (enumerate_from 0 l.inputs)
+
+-- the section that a symbol of a section stands in
+abbrev pub section_of_symbol : Link → SymbolId → SectionId
+section_of_symbol l s = record { file = s.file; section = (entry_at l s).n_sect - 1 }
+
+-- a symbol stands in a carried section
+abbrev pub stands_in_carried : Link → SymbolId → Bool
+stands_in_carried l s = is_in_section (entry_at l s) && is_carried (header_at l (section_of_symbol l s))
+
+-- a global symbol that is defined: in a carried section, or as a value of its own
+abbrev pub is_definition : Link → SymbolId → Bool
+is_definition l s = is_global (entry_at l s) && (stands_in_carried l s || is_absolute (entry_at l s))
+
+abbrev pub is_strong : Link → SymbolId → Bool
+is_strong l s = is_definition l s && not (is_weak_def (entry_at l s))
+
+abbrev pub is_weak : Link → SymbolId → Bool
+is_weak l s = is_definition l s && is_weak_def (entry_at l s)
+
+abbrev pub has_name : Link → List ℕ → SymbolId → Bool
+has_name l name s = bytes_eq (name_at l s) name
+
+-- the strong definitions of a name, the weak ones and the commons, each in order
+unfoldable pub strong_of : Link → List ℕ → List SymbolId
+strong_of l name = filter (λ s. is_strong l s && has_name l name s) (symbols_of l)
+
+unfoldable pub weak_of : Link → List ℕ → List SymbolId
+weak_of l name = filter (λ s. is_weak l s && has_name l name s) (symbols_of l)
+
+unfoldable pub commons_of : Link → List ℕ → List SymbolId
+commons_of l name = filter (λ s. is_common (entry_at l s) && has_name l name s) (symbols_of l)
+
+-- the commons of a name than which none is greater
+unfoldable pub greatest_of : Link → List ℕ → List SymbolId
+greatest_of l name = filter (λ s. list_all (λ t. nat_le (entry_at l t).n_value (entry_at l s).n_value) (commons_of l name)) (commons_of l name)
+
+-- a library offers the names of its visible defined symbols, or those that its stub lists
+abbrev pub is_offered_symbol : List ℕ → List ℕ → ℕ → Bool
+is_offered_symbol bytes name k =
+    is_ext (symbol_at bytes k) && not (is_private_extern (symbol_at bytes k)) && (is_in_section (symbol_at bytes k) || is_absolute (symbol_at bytes k))
+    && bytes_eq (symbol_name bytes k) name
+
+abbrev pub offers : List ℕ → Input → Bool
+offers name (Object bytes) = false
+offers name (Dylib bytes) = list_any (is_offered_symbol bytes name) (range_with_len 0 (num_symbols bytes))
+offers name (Stub says) = list_any (λ n. bytes_eq n name) says.names || list_any (λ n. bytes_eq n name) says.weak_names
+
+-- the libraries that offer a name, by number, in order
+unfoldable pub libraries_with : Link → List ℕ → List ℕ
+libraries_with l name = map (λ i. i.0) (filter (λ i. offers name i.1) (enumerate_from 0 l.inputs))
+
+-- the symbol whose address is the image's own
+abbrev pub DSO_HANDLE : List ℕ
+DSO_HANDLE = codes "___dso_handle"
+
+-- What defines a name: a symbol of an object, a library by its number, or the image.
+pub data Definition : Type 0 where
+  Symbol : (s : SymbolId) → Definition
+  Library : (file : ℕ) → Definition
+  ImageBase : Definition
+
+-- the first of a list, else another definition
+abbrev pub first_or : List Definition → Option Definition → Option Definition
+first_or [] other = other
+first_or (d ∷ ds) other = Some d
+
+-- the definition of a global name
+unfoldable pub definition_of : Link → List ℕ → Option Definition
+definition_of l name =
+    first_or (map Symbol (strong_of l name))
+    (first_or (map Symbol (weak_of l name))
+    (first_or (map Symbol (greatest_of l name))
+    (first_or (map Library (libraries_with l name))
+    (if bytes_eq name DSO_HANDLE then Some ImageBase else None))))
+
+-- a symbol is the one that defines its name
+abbrev pub is_symbol : SymbolId → Option Definition → Bool
+is_symbol s None = false
+is_symbol s (Some (Symbol t)) = same_symbol s t
+is_symbol s (Some (Library file)) = false
+is_symbol s (Some ImageBase) = false
+
+abbrev pub defines : Link → SymbolId → Bool
+defines l s = is_global (entry_at l s) && is_symbol s (definition_of l (name_at l s))
+
+-- the commons that define their name, by file and symbol; they are numbered by their place here
+unfoldable pub chosen_commons : Link → List SymbolId
+chosen_commons l = filter (λ s. is_common (entry_at l s) && defines l s) (symbols_of l)
+
+-- the install name of a library
+abbrev pub install_name_in : Input → List ℕ
+install_name_in (Object bytes) = []
+install_name_in (Dylib bytes) = install_name_of bytes
+install_name_in (Stub says) = says.install_name
+
+abbrev pub library_name : Link → ℕ → List ℕ
+library_name l file = install_name_in (get_or l.inputs file no_input)

@@ -1,0 +1,140 @@
+-- Targets: what a symbol and a relocation lead to; and the slots and stubs that references need.
+use Rattle.std.specs.Prelude.{◌≡◌, ℕ, ◌+◌, ◌-◌, ◌==◌, ◌&&◌, ◌||◌, not, if◌then◌else◌, Bool, true, false, List, [], ◌∷◌, length, map, filter, Option, Some, None}
+use Rattle.std.specs.List.{filter_map, position_or_len}
+use Rattle.macho_model.specs.declared.targets.Target.{Target}
+use Rattle.macho_model.specs.declared.targets.Target.TheVariants as target
+use Rattle.macho_model.specs.Constants.{is_in_section, is_absolute, is_common}
+use Rattle.macho_model.specs.Links.{Link, SectionId, header_at, is_carried}
+use Rattle.macho_model.specs.Resolution.{SymbolId, Definition, Symbol, Library, ImageBase, entry_at, name_at, is_global, is_local, same_symbol, section_of_symbol, stands_in_carried, definition_of, chosen_commons}
+use Rattle.macho_model.specs.Needs.{Use, ByRelocation, ByInitializer, ByPersonality, ByName, relocation_in, symbol_of_relocation, import_number, uses_of, distinct}
+
+-- the place of a symbol in its section
+abbrev pub place_of_symbol : Link → SymbolId → Target
+place_of_symbol l s = target.Section s.file ((entry_at l s).n_sect - 1) ((entry_at l s).n_value - (header_at l (section_of_symbol l s)).addr)
+
+-- what a symbol that defines itself leads to
+abbrev pub own_target : Link → SymbolId → Target
+own_target l s =
+    if stands_in_carried l s then place_of_symbol l s
+    else if is_absolute (entry_at l s) then target.Absolute (entry_at l s).n_value
+    else if is_common (entry_at l s) then target.Common (position_or_len (same_symbol s) (chosen_commons l))
+    else target.None
+
+abbrev pub target_of_definition : Link → List ℕ → Option Definition → Target
+target_of_definition l name None = target.None
+target_of_definition l name (Some (Symbol s)) = own_target l s
+target_of_definition l name (Some (Library file)) = target.Import (import_number l name)
+target_of_definition l name (Some ImageBase) = target.Base
+
+-- the target of a global name
+abbrev pub target_of_name : Link → List ℕ → Target
+target_of_name l name = target_of_definition l name (definition_of l name)
+
+-- The target of a symbol: that of its name where it is global, its own place or value where it is local.
+unfoldable pub target_of : Link → SymbolId → Target
+target_of l s =
+    if is_global (entry_at l s) then target_of_name l (name_at l s)
+    else if is_local (entry_at l s) && (stands_in_carried l s || is_absolute (entry_at l s)) then own_target l s
+    else target.None
+
+abbrev pub target_of_symbol : Link → Option SymbolId → Target
+target_of_symbol l None = target.None
+target_of_symbol l (Some s) = target_of l s
+
+-- the start of a section that a relocation names by its number, from 1
+abbrev pub target_of_section : Link → SectionId → Target
+target_of_section l s = if is_carried (header_at l s) then target.Section s.file s.section 0 else target.None
+
+-- the target of a relocation: of its symbol, or the start of its section
+unfoldable pub target_of_relocation : Link → SectionId → ℕ → Target
+target_of_relocation l s r =
+    if (relocation_in l s r).r_extern then target_of_symbol l (symbol_of_relocation l s r)
+    else target_of_section l (record { file = s.file; section = (relocation_in l s r).r_symbolnum - 1 })
+
+abbrev pub is_import : Target → Bool
+is_import (target.Import id) = true
+is_import t = false
+
+-- a target that moves with the image: a section, a common or the image's base
+abbrev pub is_defined : Target → Bool
+is_defined (target.Section file section offset) = true
+is_defined (target.Common id) = true
+is_defined target.Base = true
+is_defined t = false
+
+abbrev pub same_target : Target → Target → Bool
+same_target (target.Section f s o) (target.Section g t p) = (f == g) && (s == t) && (o == p)
+same_target (target.Common i) (target.Common j) = i == j
+same_target (target.Import i) (target.Import j) = i == j
+same_target target.Base target.Base = true
+same_target (target.Absolute v) (target.Absolute w) = v == w
+same_target target.None target.None = true
+same_target t u = false
+
+-- the relocation types of arm64 (`mach-o/arm64/reloc.h`, `ARM64_RELOC_..`)
+abbrev pub UNSIGNED : ℕ
+UNSIGNED = 0
+
+abbrev pub SUBTRACTOR : ℕ
+SUBTRACTOR = 1
+
+abbrev pub BRANCH26 : ℕ
+BRANCH26 = 2
+
+abbrev pub PAGE21 : ℕ
+PAGE21 = 3
+
+abbrev pub PAGEOFF12 : ℕ
+PAGEOFF12 = 4
+
+abbrev pub GOT_LOAD_PAGE21 : ℕ
+GOT_LOAD_PAGE21 = 5
+
+abbrev pub GOT_LOAD_PAGEOFF12 : ℕ
+GOT_LOAD_PAGEOFF12 = 6
+
+abbrev pub POINTER_TO_GOT : ℕ
+POINTER_TO_GOT = 7
+
+abbrev pub TLVP_LOAD_PAGE21 : ℕ
+TLVP_LOAD_PAGE21 = 8
+
+abbrev pub TLVP_LOAD_PAGEOFF12 : ℕ
+TLVP_LOAD_PAGEOFF12 = 9
+
+-- a reference of a type goes through a slot where its target is an import
+abbrev pub goes_by_slot : ℕ → Bool
+goes_by_slot type =
+    (type == BRANCH26) || (type == GOT_LOAD_PAGE21) || (type == GOT_LOAD_PAGEOFF12) || (type == TLVP_LOAD_PAGE21) || (type == TLVP_LOAD_PAGEOFF12)
+
+-- the target that a use needs a slot for, if it needs one: an import that is loaded or called, and whatever a pointer
+-- to a slot or a personality function names
+abbrev pub slot_of_relocation : ℕ → Target → Option Target
+slot_of_relocation type t = if (type == POINTER_TO_GOT) || (goes_by_slot type && is_import t) then Some t else None
+
+abbrev pub slot_of_use : Link → Use → Option Target
+slot_of_use l (ByRelocation s r) = slot_of_relocation (relocation_in l s r).r_type (target_of_relocation l s r)
+slot_of_use l (ByInitializer s r) = None
+slot_of_use l (ByPersonality s r) = Some (target_of_relocation l s r)
+slot_of_use l (ByName name) = None
+
+-- the targets that have a slot, by first need; a slot is numbered by its place here
+unfoldable pub slots_of : Link → List Target
+slots_of l = distinct same_target (filter_map (slot_of_use l) (uses_of l))
+
+abbrev pub slot_number : Link → Target → ℕ
+slot_number l t = position_or_len (same_target t) (slots_of l)
+
+-- the import that a use calls through a stub, if it calls one
+abbrev pub stub_of_relocation : ℕ → Target → Option Target
+stub_of_relocation type t = if (type == BRANCH26) && is_import t then Some t else None
+
+abbrev pub stub_of_use : Link → Use → Option Target
+stub_of_use l (ByRelocation s r) = stub_of_relocation (relocation_in l s r).r_type (target_of_relocation l s r)
+stub_of_use l (ByInitializer s r) = None
+stub_of_use l (ByPersonality s r) = None
+stub_of_use l (ByName name) = None
+
+-- the imports that have a stub, by first need; a stub is numbered by its place here
+unfoldable pub stubs_of : Link → List Target
+stubs_of l = distinct same_target (filter_map (stub_of_use l) (uses_of l))

@@ -1,0 +1,15 @@
+//! The definitions under the linker's theorem, and the plain functions that compute them.
+//!
+//! The definitions stand in `specs`, a file for each subject, in the order of `docs/THEOREMS.md`. Here stand the plain
+//! types that they speak of. None of them holds a collection, so a contract sees each as it is.
+#![tactic(auto)]
+
+mod placed;
+mod rules;
+mod targets;
+
+pub use placed::{
+    Counts, Linkedit, PlacedCommon, PlacedSection, PlacedSegment, Range64, Slot, Stub,
+};
+pub use rules::{LoadRule, ObjectRule, UnwindRule};
+pub use targets::{Limit, Site, Target};
