@@ -1,0 +1,168 @@
+-- Sections that are read and turned into parts of the image: initializers, and compact unwind entries
+-- (`mach-o/compact_unwind_encoding.h`). A test for each rule that they keep.
+use Rattle.std.specs.Prelude.{◌≡◌, ℕ, ◌+◌, ◌*◌, ◌-◌, ◌/◌, ◌%◌, ◌^◌, ◌<◌, ◌==◌, nat_le, nat_lt, ◌&&◌, ◌||◌, not, if◌then◌else◌, Bool, true, false, List, [], ◌∷◌, length, filter, map}
+use Rattle.std.specs.List.{list_any, list_all, flat_map, range_with_len}
+use Rattle.macho_bytes.specs.Numbers.{le_at, bits}
+use Rattle.macho_bytes.specs.Layouts.{reading}
+use Rattle.macho_records.specs.Layouts.{unwind_info_entry}
+use Rattle.macho_records.specs.declared.unwind.UnwindInfoEntry.{UnwindInfoEntry}
+use Rattle.macho_records.specs.declared.relocations.RelocationInfo.{RelocationInfo}
+use Rattle.macho_model.specs.declared.rules.UnwindRule.{UnwindRule}
+use Rattle.macho_model.specs.declared.rules.UnwindRule.TheVariants.{U1, U2, U3, U4, U5, U6, U7, U8}
+use Rattle.macho_model.specs.declared.targets.Target.{Target}
+use Rattle.macho_model.specs.declared.targets.Target.TheVariants as target
+use Rattle.macho_model.specs.Constants.{section_type, is_zerofill, is_executable_section, is_in_segment, S_MOD_INIT_FUNC_POINTERS}
+use Rattle.macho_model.specs.Objects.{section_bytes}
+use Rattle.macho_model.specs.Links.{Link, object_of, SectionId, header_at, is_carried}
+use Rattle.macho_model.specs.Needs.{relocation_in, relocations_of, relocations_at, unwind_sections, distinct, POINTER_SIZE, UNWIND_ENTRY_SIZE, PERSONALITY_PLACE}
+use Rattle.macho_model.specs.Targets.{target_of_relocation, is_defined, is_import, same_target, UNSIGNED}
+use Rattle.macho_model.specs.Segments.{TEXT}
+
+abbrev pub bytes_of_section : Link → SectionId → List ℕ
+bytes_of_section l s = section_bytes (object_of l s.file) s.section
+
+-- a plain pointer of 8 bytes
+abbrev pub is_plain_pointer : RelocationInfo → Bool
+is_plain_pointer rel = (rel.r_type == UNSIGNED) && (rel.r_length == 3) && not rel.r_pcrel
+
+abbrev pub is_section_target : Target → Bool
+is_section_target (target.Section file section offset) = true
+is_section_target t = false
+
+-- an initializer's relocation: a plain pointer to a symbol in a carried section
+abbrev pub initializer_relocation_fits : Link → SectionId → ℕ → Bool
+initializer_relocation_fits l s r =
+    is_plain_pointer (relocation_in l s r) && (relocation_in l s r).r_extern && is_section_target (target_of_relocation l s r)
+
+-- a slot has exactly one relocation, at its start, and its content is 0
+abbrev pub initializer_slot_fits : Link → SectionId → ℕ → Bool
+initializer_slot_fits l s slot =
+    (length (relocations_at l s (POINTER_SIZE * slot)) == 1) && list_all (initializer_relocation_fits l s) (relocations_at l s (POINTER_SIZE * slot))
+    && (le_at POINTER_SIZE (bytes_of_section l s) (POINTER_SIZE * slot) == 0)
+
+abbrev pub initializer_section_fits : Link → SectionId → Bool
+initializer_section_fits l s = (section_type (header_at l s) == S_MOD_INIT_FUNC_POINTERS) && ((header_at l s).size % POINTER_SIZE == 0)
+
+-- the places of the three addresses of an entry
+abbrev pub START_PLACE : ℕ
+START_PLACE = 0
+
+abbrev pub LSDA_PLACE : ℕ
+LSDA_PLACE = 24
+
+-- an unwind entry of a section, by number
+abbrev pub unwind_entry : Link → SectionId → ℕ → UnwindInfoEntry
+unwind_entry l s e = reading unwind_info_entry (bytes_of_section l s) (UNWIND_ENTRY_SIZE * e)
+
+abbrev pub entry_count : Link → SectionId → ℕ
+entry_count l s = (header_at l s).size / UNWIND_ENTRY_SIZE
+
+-- the relocations of an address of an entry
+abbrev pub relocations_in_entry : Link → SectionId → ℕ → ℕ → List ℕ
+relocations_in_entry l s e place = relocations_at l s (UNWIND_ENTRY_SIZE * e + place)
+
+-- U1: the section is made of whole entries
+abbrev pub whole_entries : Link → SectionId → Bool
+whole_entries l s = (header_at l s).size % UNWIND_ENTRY_SIZE == 0
+
+-- U2: a relocation is a plain pointer at one of the three addresses
+abbrev pub unwind_relocation_fits : Link → SectionId → ℕ → Bool
+unwind_relocation_fits l s r = is_plain_pointer (relocation_in l s r) && at_address ((relocation_in l s r).r_address % UNWIND_ENTRY_SIZE)
+  where
+    at_address : ℕ → Bool
+    at_address place = (place == START_PLACE) || (place == PERSONALITY_PLACE) || (place == LSDA_PLACE)
+
+-- U3: an address has one relocation at most
+abbrev pub single_relocations : Link → SectionId → ℕ → Bool
+single_relocations l s e =
+    nat_le (length (relocations_in_entry l s e START_PLACE)) 1 && nat_le (length (relocations_in_entry l s e PERSONALITY_PLACE)) 1
+    && nat_le (length (relocations_in_entry l s e LSDA_PLACE)) 1
+
+-- the section that a relocation names by number
+abbrev pub section_named : Link → SectionId → ℕ → SectionId
+section_named l s r = record { file = s.file; section = (relocation_in l s r).r_symbolnum - 1 }
+
+-- a section that functions stand in
+abbrev pub holds_functions : Link → SectionId → Bool
+holds_functions l f =
+    is_carried (header_at l f) && is_executable_section (header_at l f) && is_in_segment TEXT (header_at l f) && not (is_zerofill (header_at l f))
+
+-- U4: the start has a relocation that names such a section by number
+abbrev pub start_fits : Link → SectionId → ℕ → Bool
+start_fits l s e =
+    not (length (relocations_in_entry l s e START_PLACE) == 0)
+    && list_all (λ r. not (relocation_in l s r).r_extern && holds_functions l (section_named l s r)) (relocations_in_entry l s e START_PLACE)
+
+-- an address of the input lies in a section, with so many bytes from it on
+abbrev pub lies_in : Link → SectionId → ℕ → ℕ → Bool
+lies_in l f address size =
+    nat_le (header_at l f).addr address && nat_lt address ((header_at l f).addr + (header_at l f).size)
+    && nat_le (address + size) ((header_at l f).addr + (header_at l f).size)
+
+-- U5: the function lies in its section
+abbrev pub function_inside : Link → SectionId → ℕ → Bool
+function_inside l s e =
+    list_all (λ r. lies_in l (section_named l s r) (unwind_entry l s e).start (unwind_entry l s e).length) (relocations_in_entry l s e START_PLACE)
+
+-- An entry by its section and number, with the function that it is of: a section and an offset in it.
+pub record EntryId : Type 0 where
+  pub of_section : SectionId
+  pub entry : ℕ
+
+unfoldable pub entries_of_link : Link → List EntryId
+entries_of_link l = flat_map (λ s. map (λ e. record { of_section = s; entry = e }) (range_with_len 0 (entry_count l s))) (unwind_sections l)
+
+-- two entries are of functions that begin at one place
+abbrev pub same_section : SectionId → SectionId → Bool
+same_section f g = (f.file == g.file) && (f.section == g.section)
+
+abbrev pub same_start : Link → EntryId → EntryId → Bool
+same_start l d e =
+    list_any (λ q. list_any (λ r. same_section (section_named l d.of_section q) (section_named l e.of_section r)) (relocations_in_entry l e.of_section e.entry START_PLACE))
+    (relocations_in_entry l d.of_section d.entry START_PLACE)
+    && ((unwind_entry l d.of_section d.entry).start == (unwind_entry l e.of_section e.entry).start)
+
+-- U6: no other entry begins where this one does
+abbrev pub start_alone : Link → SectionId → ℕ → Bool
+start_alone l s e =
+    list_all (λ d. not (same_start l d (record { of_section = s; entry = e })) || (same_section d.of_section s && (d.entry == e))) (entries_of_link l)
+
+-- U7: a personality is a symbol that is defined or imported, language data a place in a carried section by number
+abbrev pub personality_fits : Link → SectionId → ℕ → Bool
+personality_fits l s e =
+    list_all (λ r. (relocation_in l s r).r_extern && (is_defined (target_of_relocation l s r) || is_import (target_of_relocation l s r)))
+    (relocations_in_entry l s e PERSONALITY_PLACE)
+    && list_all
+    (λ r. not (relocation_in l s r).r_extern && is_carried (header_at l (section_named l s r)) && lies_in l (section_named l s r) (unwind_entry l s e).lsda 0)
+    (relocations_in_entry l s e LSDA_PLACE)
+
+-- U8: the bits that the linker numbers personalities by are clear, and so is an address without a relocation
+abbrev pub absent_is_zero : List ℕ → ℕ → Bool
+absent_is_zero relocations word = not (length relocations == 0) || (word == 0)
+
+abbrev pub entry_is_clear : Link → SectionId → ℕ → Bool
+entry_is_clear l s e =
+    (bits 28 2 (unwind_entry l s e).encoding == 0) && absent_is_zero (relocations_in_entry l s e PERSONALITY_PLACE) (unwind_entry l s e).personality
+    && absent_is_zero (relocations_in_entry l s e LSDA_PLACE) (unwind_entry l s e).lsda
+
+-- each relocation of an entry passes a test
+abbrev pub each_relocation_in : Link → SectionId → ℕ → Bool
+each_relocation_in l s e =
+    list_all (unwind_relocation_fits l s) (filter (λ r. (relocation_in l s r).r_address / UNWIND_ENTRY_SIZE == e) (relocations_of l s))
+
+-- an entry keeps a rule
+abbrev pub keeps : Link → SectionId → ℕ → UnwindRule → Bool
+keeps l s e U1 = whole_entries l s
+keeps l s e U2 = each_relocation_in l s e
+keeps l s e U3 = single_relocations l s e
+keeps l s e U4 = start_fits l s e
+keeps l s e U5 = function_inside l s e
+keeps l s e U6 = start_alone l s e
+keeps l s e U7 = personality_fits l s e
+keeps l s e U8 = entry_is_clear l s e
+
+-- the personality functions, each once
+unfoldable pub personality_targets : Link → List Target
+personality_targets l =
+    distinct same_target
+    (flat_map (λ d. map (target_of_relocation l d.of_section) (relocations_in_entry l d.of_section d.entry PERSONALITY_PLACE)) (entries_of_link l))

@@ -1,0 +1,136 @@
+-- When each refusal of a link stands. A refusal is told only where it stands, and an image only where none does.
+use Rattle.std.specs.Prelude.{◌≡◌, ℕ, ◌+◌, ◌*◌, ◌-◌, ◌%◌, ◌^◌, ◌<◌, ◌≤◌, ◌⊎◌, ◌==◌, nat_le, nat_lt, ◌&&◌, ◌||◌, not, Bool, true, false, List, [], ◌∷◌, length, get_or, Option, Some, None, Contains, IsNone, reverse, take_while, drop, codes}
+use Rattle.std.specs.List.{list_any}
+use Rattle.std.specs.Str.{bytes_eq}
+use Rattle.macho_model.specs.declared.rules.UnwindRule.{UnwindRule}
+use Rattle.macho_model.specs.declared.targets.Limit.{Limit}
+use Rattle.macho_model.specs.declared.targets.Site.{Site}
+use Rattle.macho_model.specs.declared.placed.Counts.{Counts}
+use Rattle.macho_model.specs.ExportLists.{plain_entries}
+use Rattle.macho_model.specs.Links.{Link, SectionId, header_at, carried_of}
+use Rattle.macho_model.specs.Resolution.{SymbolId, entry_at, name_at, is_global, strong_of, definition_of}
+use Rattle.macho_model.specs.Needs.{Use, uses_of, symbol_used, initializer_sections, unwind_sections, relocation_in, POINTER_SIZE}
+use Rattle.macho_model.specs.Targets.{target_of_name, is_import}
+use Rattle.macho_model.specs.Fields.{Field}
+use Rattle.macho_model.specs.Segments.{DATA, DATA_CONST, SEGMENT_PAGE, segment_name}
+use Rattle.macho_model.specs.Placement.{Placed, IsPlaced}
+use Rattle.macho_model.specs.Rows.{is_supported, share_byte, are_pair}
+use Rattle.macho_model.specs.Consumed.{initializer_section_fits, initializer_slot_fits, is_section_target, keeps}
+use Rattle.macho_model.specs.Limits.{PassesLimit, IsTooLarge}
+use Rattle.macho_model.specs.Values.{section_id, FieldOf, PlacedAt, is_pointer, needs_fixup, BadRebase, BadRange}
+
+-- A refusal, seen without memory.
+pub data LinkFault : Type 0 where
+  DuplicateSymbol : (name : List ℕ) (first second : ℕ) → LinkFault
+  UndefinedSymbol : (name : List ℕ) (file : ℕ) → LinkFault
+  EntryNotDefined : (name : List ℕ) → LinkFault
+  ExportListMissing : (name : List ℕ) → LinkFault
+  BadInitializer : (file section offset : ℕ) → LinkFault
+  BadUnwind : (file section entry : ℕ) (rule : UnwindRule) → LinkFault
+  UnsupportedRelocation : (file section relocation : ℕ) → LinkFault
+  OverlappingFields : (file section first second : ℕ) → LinkFault
+  BindAddend : (file section relocation addend : ℕ) → LinkFault
+  FixupPlace : (file section relocation : ℕ) (placement : Option Placed) → LinkFault
+  TooMany : (what : Limit) (number : ℕ) (placement : Option Placed) → LinkFault
+  ImageTooLarge : (placement : Option Placed) → LinkFault
+  RebaseTarget : (at : Site) (placement : Placed) → LinkFault
+  RelocationRange : (at : Site) (placement : Placed) → LinkFault
+  BadName : LinkFault
+
+-- a name has two strong definitions, in these files
+abbrev pub IsDuplicate : Link → List ℕ → ℕ → ℕ → Type 0
+IsDuplicate l name first second =
+    (i : ℕ) × (j : ℕ) × (s : SymbolId) × (t : SymbolId) × (i < j) × (j < length (strong_of l name)) × (get_or (strong_of l name) i s ≡ s)
+    × (get_or (strong_of l name) j t ≡ t) × (s.file ≡ first) × (t.file ≡ second)
+
+-- a file uses a global name that has no definition
+abbrev pub IsUndefined : Link → List ℕ → ℕ → Type 0
+IsUndefined l name file =
+    (u : Use) × (s : SymbolId) × Contains (uses_of l) u × (symbol_used l u ≡ Some s) × (is_global (entry_at l s) ≡ true) × (name_at l s ≡ name)
+    × (s.file ≡ file) × IsNone (definition_of l name)
+
+-- an executable's entry is defined in a carried section
+abbrev pub entry_is_defined : Link → Bool
+entry_is_defined l = not l.executable || is_section_target (target_of_name l l.entry)
+
+-- an initializer section is broken: as a whole, in a slot, or by a relocation between slots
+abbrev pub IsBadInitializer : Link → SectionId → ℕ → Type 0
+IsBadInitializer l s offset =
+    ((initializer_section_fits l s ≡ false) × (offset ≡ 0))
+    ⊎ ((slot : ℕ) × (POINTER_SIZE * slot + POINTER_SIZE ≤ (header_at l s).size) × (offset ≡ POINTER_SIZE * slot) × (initializer_slot_fits l s slot ≡ false))
+    ⊎ ((r : ℕ) × (r < (header_at l s).nreloc) × (offset ≡ (relocation_in l s r).r_address) × ((offset % POINTER_SIZE == 0) ≡ false))
+
+-- an addend, read as signed, fits 32 bits
+abbrev pub fits_32_signed : ℕ → Bool
+fits_32_signed x = nat_lt x (2 ^ 31) || nat_le (2 ^ 64 - 2 ^ 31) x
+
+-- the segments that the loader writes pointers in
+abbrev pub may_hold_pointers : List ℕ → Bool
+may_hold_pointers name = bytes_eq name DATA || bytes_eq name DATA_CONST
+
+-- a pointer is in a segment that may hold none; or its word crosses a page or is not at a multiple of four
+abbrev pub BadPlace : Link → SectionId → Field → Option Placed → Type 0
+BadPlace l s f None = may_hold_pointers (segment_name l s) ≡ false
+BadPlace l s f (Some p) =
+    (address : ℕ) × PlacedAt p s address × ((SEGMENT_PAGE < (address + f.offset) % SEGMENT_PAGE + 8) ⊎ (1 ≤ (address + f.offset) % 4))
+
+-- the last part of a path, without the slashes at its end
+abbrev pub SLASH : ℕ
+SLASH = 47
+
+abbrev pub last_part : List ℕ → List ℕ
+last_part path = reverse (take_while (λ b. not (b == SLASH)) (without_slashes (reverse path)))
+  where
+    without_slashes : List ℕ → List ℕ
+    without_slashes path = drop (length (take_while (λ b. b == SLASH) path)) path
+
+abbrev pub has_zero : List ℕ → Bool
+has_zero text = list_any (λ b. b == 0) text
+
+-- the output has no file name, or a NUL stands in a path that is written
+abbrev pub bad_name : Link → Bool
+bad_name l =
+    (length (last_part l.output) == 0) || bytes_eq (last_part l.output) (codes ".") || bytes_eq (last_part l.output) (codes "..")
+    || has_zero l.output || has_zero l.install_name || list_any has_zero l.rpaths
+
+-- THE refusal stands.
+abbrev pub FaultStands : Link → Counts → LinkFault → Type 0
+FaultStands l counts (DuplicateSymbol name first second) = IsDuplicate l name first second
+FaultStands l counts (UndefinedSymbol name file) = IsUndefined l name file
+FaultStands l counts (EntryNotDefined name) = (name ≡ l.entry) × (entry_is_defined l ≡ false)
+FaultStands l counts (ExportListMissing name) = Contains (plain_entries l.export_lists) name × IsNone (definition_of l name)
+FaultStands l counts (BadInitializer file section offset) =
+    Contains (initializer_sections l) (section_id file section) × IsBadInitializer l (section_id file section) offset
+FaultStands l counts (BadUnwind file section entry rule) =
+    Contains (unwind_sections l) (section_id file section) × (keeps l (section_id file section) entry rule ≡ false)
+FaultStands l counts (UnsupportedRelocation file section relocation) =
+    Contains (carried_of l) (section_id file section) × (relocation < (header_at l (section_id file section)).nreloc)
+    × (is_supported l (section_id file section) relocation ≡ false)
+FaultStands l counts (OverlappingFields file section first second) =
+    Contains (carried_of l) (section_id file section) × (first < second) × (second < (header_at l (section_id file section)).nreloc)
+    × (share_byte l (section_id file section) first second ≡ true) × (are_pair l (section_id file section) first second ≡ false)
+FaultStands l counts (BindAddend file section relocation addend) =
+    (f : Field) × FieldOf l (section_id file section) relocation f × (is_pointer f ≡ true) × (is_import f.target ≡ true) × (addend ≡ f.addend)
+    × (fits_32_signed addend ≡ false)
+FaultStands l counts (FixupPlace file section relocation placement) =
+    (f : Field) × FieldOf l (section_id file section) relocation f × (needs_fixup l (section_id file section) f ≡ true)
+    × BadPlace l (section_id file section) f placement
+FaultStands l counts (TooMany what number placement) = PassesLimit l counts what number placement
+FaultStands l counts (ImageTooLarge placement) = IsTooLarge l counts placement
+FaultStands l counts (RebaseTarget at placement) = BadRebase l placement at
+FaultStands l counts (RelocationRange at placement) = BadRange l placement at
+FaultStands l counts BadName = bad_name l ≡ true
+
+-- the placement that a refusal keeps meets the placement relation
+abbrev pub KeepsPlaced : Link → Counts → Option Placed → Type 0
+KeepsPlaced l counts None = Unit {0}
+KeepsPlaced l counts (Some p) = IsPlaced l counts p
+
+-- the placement that a refusal keeps, if it keeps one
+abbrev pub kept_placement : LinkFault → Option Placed
+kept_placement (FixupPlace file section relocation placement) = placement
+kept_placement (TooMany what number placement) = placement
+kept_placement (ImageTooLarge placement) = placement
+kept_placement (RebaseTarget at placement) = Some placement
+kept_placement (RelocationRange at placement) = Some placement
+kept_placement fault = None

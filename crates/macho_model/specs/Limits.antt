@@ -1,0 +1,80 @@
+-- The greatest numbers that the format takes, and when a link or an image passes one.
+use Rattle.std.specs.Prelude.{◌≡◌, ℕ, ◌+◌, ◌-◌, ◌/◌, ◌^◌, ◌<◌, ◌≤◌, ◌⊎◌, List, length, Option, Some, None, Contains}
+use Rattle.macho_model.specs.declared.targets.Limit.{Limit}
+use Rattle.macho_model.specs.declared.targets.Limit.TheVariants as limit
+use Rattle.macho_model.specs.declared.placed.Counts.{Counts}
+use Rattle.macho_model.specs.declared.placed.PlacedSegment.{PlacedSegment}
+use Rattle.macho_model.specs.declared.placed.PlacedSection.{PlacedSection}
+use Rattle.macho_model.specs.declared.placed.Range64.{Range64}
+use Rattle.macho_model.specs.ExportLists.{plain_entries}
+use Rattle.macho_model.specs.Links.{Link, header_at}
+use Rattle.macho_model.specs.Resolution.{symbols_of}
+use Rattle.macho_model.specs.Needs.{libraries_needed}
+use Rattle.macho_model.specs.Consumed.{personality_targets}
+use Rattle.macho_model.specs.Segments.{SEGMENT_PAGE, segment_names_of, output_count}
+use Rattle.macho_model.specs.WrittenSum.{written_sum_of}
+use Rattle.macho_model.specs.Placement.{Placed, id_of, linkedit_ranges}
+
+-- the greatest numbers that the format takes
+abbrev pub GREATEST_SEGMENTS : ℕ
+GREATEST_SEGMENTS = 6
+
+abbrev pub GREATEST_LIBRARIES : ℕ
+GREATEST_LIBRARIES = 240
+
+abbrev pub GREATEST_SECTIONS : ℕ
+GREATEST_SECTIONS = 255
+
+abbrev pub GREATEST_PERSONALITIES : ℕ
+GREATEST_PERSONALITIES = 3
+
+abbrev pub GREATEST_IMPORTS : ℕ
+GREATEST_IMPORTS = 2 ^ 24
+
+abbrev pub GREATEST_NAME_BYTES : ℕ
+GREATEST_NAME_BYTES = 2 ^ 23
+
+abbrev pub GREATEST_SYMBOLS : ℕ
+GREATEST_SYMBOLS = 2 ^ 32 - 2
+
+abbrev pub GREATEST_PAGES : ℕ
+GREATEST_PAGES = 65535
+
+-- a number that a limit speaks of, without a placement
+abbrev pub limited : Link → Counts → Limit → ℕ × ℕ
+limited l counts limit.Segments = (length (segment_names_of l), GREATEST_SEGMENTS)
+limited l counts limit.Libraries = (length (libraries_needed l), GREATEST_LIBRARIES)
+limited l counts limit.Sections = (output_count l counts, GREATEST_SECTIONS)
+limited l counts limit.Personalities = (length (personality_targets l), GREATEST_PERSONALITIES)
+limited l counts limit.Imports = (counts.imports, GREATEST_IMPORTS)
+limited l counts limit.NameBytes = (counts.name_bytes, GREATEST_NAME_BYTES)
+limited l counts limit.Symbols = (length (symbols_of l) + length (plain_entries l.export_lists), GREATEST_SYMBOLS)
+limited l counts limit.Pages = (0, GREATEST_PAGES)
+
+-- the pages of a segment's file part
+abbrev pub pages_of : PlacedSegment → ℕ
+pages_of s = (s.file_size + (SEGMENT_PAGE - 1)) / SEGMENT_PAGE
+
+abbrev pub PassesLimit : Link → Counts → Limit → ℕ → Option Placed → Type 0
+PassesLimit l counts what number None = (number ≡ (limited l counts what).0) × ((limited l counts what).1 < number)
+PassesLimit l counts limit.Pages number (Some p) = (s : PlacedSegment) × Contains p.segments s × (number ≡ pages_of s) × (GREATEST_PAGES < number)
+PassesLimit l counts what number (Some p) = ⊥
+
+-- the numbers that are written in 32 bits
+abbrev pub LIMIT_32 : ℕ
+LIMIT_32 = 2 ^ 32
+
+abbrev pub RangePasses : Range64 → Type 0
+RangePasses r = (LIMIT_32 ≤ r.start) ⊎ (LIMIT_32 ≤ r.end - r.start)
+
+-- a file offset or size, or an offset from the base that initializers or unwind entries are written as, passes 32 bits
+abbrev pub ImagePasses : Link → Counts → Placed → Type 0
+ImagePasses l counts p =
+    ((s : PlacedSegment) × Contains p.segments s × ((LIMIT_32 ≤ s.file_offset) ⊎ (LIMIT_32 ≤ s.file_size)))
+    ⊎ ((r : Range64) × Contains (linkedit_ranges p) r × RangePasses r)
+    ⊎ ((1 ≤ counts.initializers + counts.unwind)
+    × ((q : PlacedSection) × Contains p.sections q × (p.base + LIMIT_32 ≤ q.address + (header_at l (id_of q)).size)))
+
+abbrev pub IsTooLarge : Link → Counts → Option Placed → Type 0
+IsTooLarge l counts None = 2 ^ 64 ≤ written_sum_of l counts + LIMIT_32
+IsTooLarge l counts (Some p) = ImagePasses l counts p

@@ -1,0 +1,110 @@
+-- When the loader accepts an image: the tests of `LoadRules`, asked of each record, and of each word on the chain. A
+-- refusal names a rule and the file offset of what breaks it.
+use Rattle.std.specs.Prelude.{◌≡◌, ℕ, ◌+◌, ◌*◌, ◌-◌, ◌/◌, ◌%◌, ◌<◌, ◌≤◌, ◌⊎◌, ◌==◌, ◌&&◌, Bool, true, false, List, [], ◌∷◌, length, get_or, filter, All, Contains}
+use Rattle.macho_bytes.specs.Numbers.{bits}
+use Rattle.macho_records.specs.declared.header.SegmentCommand.{SegmentCommand}
+use Rattle.macho_model.specs.declared.rules.LoadRule.{LoadRule}
+use Rattle.macho_model.specs.declared.rules.LoadRule.TheVariants.{L1, L2, L3, L4, L5, L6, L7, L8, L9, L10}
+use Rattle.macho_model.specs.Constants.{LC_SEGMENT_64, LC_DYLD_CHAINED_FIXUPS}
+use Rattle.macho_model.specs.Commands.{Command, commands_of, commands_end, numbered, command_fits}
+use Rattle.macho_model.specs.ObjectRules.{commands_inside}
+use Rattle.macho_model.specs.Grammar.{EachCommand, CommandFails}
+use Rattle.macho_model.specs.Segments.{TEXT}
+use Rattle.macho_model.specs.Images.{mapped_segments, is_named, segments_named, Table, table_of_command, tables_of, fixups_header, import_place, CHAIN_PAGE}
+use Rattle.macho_model.specs.Chain.{ChainSegment, chain_segments, IsFileWord, WORD_SIZE, OnChainOf}
+use Rattle.macho_model.specs.LoadRules.{image_head_fits, needed_in_image, segment_in, protections_fit, file_part_inside, segment_is_paged, segment_ends, begins_behind, text_holds_commands, table_fits, import_fits}
+
+-- a chain word binds an import, by number, or moves with the image (`mach-o/fixup-chains.h`)
+abbrev pub is_bind : ℕ → Bool
+is_bind word = bits 63 1 word == 1
+
+abbrev pub ordinal_of : ℕ → ℕ
+ordinal_of word = bits 0 24 word
+
+-- a segment may be written to
+abbrev pub is_writable : SegmentCommand → Bool
+is_writable s = bits 1 1 s.initprot == 1
+
+-- how many imports an image has
+abbrev pub import_count : List ℕ → List Table → ℕ
+import_count b [] = 0
+import_count b (t ∷ tables) = (fixups_header b t).imports_count
+
+-- L10: a chain word stands whole in the file bytes of a writable segment and in one page of it, and its import exists
+pub record WordFits (b : List ℕ) (a : ℕ) : Type 0 where
+  pub segment : SegmentCommand
+  pub one : Contains (mapped_segments b) segment
+  pub writable : is_writable segment ≡ true
+  pub from : segment.vmaddr ≤ a
+  pub to : a + WORD_SIZE ≤ segment.vmaddr + segment.filesize
+  pub page : (a - segment.vmaddr) % CHAIN_PAGE + WORD_SIZE ≤ CHAIN_PAGE
+  pub import : (word : ℕ) → IsFileWord (chain_segments b) b a word → is_bind word ≡ true → ordinal_of word < import_count b (tables_of b)
+
+-- each segment and the one behind it
+abbrev pub EachNeighbour : List Command → (Command → Command → Bool) → Type 0
+EachNeighbour cs test = (k : ℕ) (c d : Command) → k + 1 < length cs → get_or cs k c ≡ c → get_or cs (k + 1) d ≡ d → test c d ≡ true
+
+-- the commands of segments
+abbrev pub segment_commands : List ℕ → List Command
+segment_commands b = numbered LC_SEGMENT_64 b
+
+-- THE loader accepts an image: one field for each rule.
+pub record IsAccepted (b : List ℕ) : Type 0 where
+  pub l1 : image_head_fits b ≡ true
+  pub l2 : (commands_inside b ≡ true) × EachCommand (commands_of b) (command_fits (needed_in_image b) b)
+  pub l3 : EachCommand (segment_commands b) (protections_fit b)
+  pub l4 : EachCommand (segment_commands b) (file_part_inside b)
+  pub l5 : EachCommand (segment_commands b) (segment_is_paged b)
+  pub l6 : EachCommand (segment_commands b) (segment_ends b) × EachNeighbour (segment_commands b) (begins_behind b)
+  pub l7 : (length (segments_named TEXT b) ≡ 1) × All (λ s. text_holds_commands b s ≡ true) (segments_named TEXT b)
+  pub l8 : (length (tables_of b) ≤ 1) × All (λ t. table_fits b t ≡ true) (tables_of b)
+  pub l9 : (t : Table) (k : ℕ) → Contains (tables_of b) t → k < (fixups_header b t).imports_count → import_fits b t k ≡ true
+  pub l10 : (a : ℕ) → OnChainOf b a → WordFits b a
+
+-- some segment's command and the one behind it fail a test, told at the latter
+abbrev pub NeighbourFails : List Command → ℕ → (Command → Command → Bool) → Type 0
+NeighbourFails cs place test =
+    (k : ℕ) × (c : Command) × (d : Command) × (k + 1 < length cs) × (get_or cs k c ≡ c) × (get_or cs (k + 1) d ≡ d) × (place ≡ d.at)
+    × (test c d ≡ false)
+
+-- the commands of `__TEXT` segments
+abbrev pub text_commands : List ℕ → List Command
+text_commands b = filter (λ c. is_named TEXT (segment_in b c)) (segment_commands b)
+
+-- there is no `__TEXT`, told at 0, or a second one, told at its command
+abbrev pub TextIsNotOne : List ℕ → ℕ → Type 0
+TextIsNotOne b place =
+    ((text_commands b ≡ []) × (place ≡ 0))
+    ⊎ ((k : ℕ) × (c : Command) × (1 ≤ k) × (k < length (text_commands b)) × (get_or (text_commands b) k c ≡ c) × (place ≡ c.at))
+
+abbrev pub fixup_commands : List ℕ → List Command
+fixup_commands b = numbered LC_DYLD_CHAINED_FIXUPS b
+
+-- a second fixup command, told at its place
+abbrev pub SecondTable : List ℕ → ℕ → Type 0
+SecondTable b place = (k : ℕ) × (c : Command) × (1 ≤ k) × (k < length (fixup_commands b)) × (get_or (fixup_commands b) k c ≡ c) × (place ≡ c.at)
+
+-- an import that fails, told at its entry
+abbrev pub ImportFails : List ℕ → ℕ → Type 0
+ImportFails b place =
+    (t : Table) × (k : ℕ) × Contains (tables_of b) t × (k < (fixups_header b t).imports_count) × (place ≡ import_place b t k)
+    × (import_fits b t k ≡ false)
+
+-- a chain word that does not fit, told at its file offset in the segment of its page
+abbrev pub WordFails : List ℕ → ℕ → Type 0
+WordFails b place =
+    (a : ℕ) × (s : ChainSegment) × OnChainOf b a × Contains (chain_segments b) s × (s.address ≤ a) × ((a - s.address) / CHAIN_PAGE < length s.starts)
+    × (place ≡ s.file_offset + (a - s.address)) × (WordFits b a → ⊥)
+
+-- An image breaks a rule of the loader at a place.
+abbrev pub ImageBreaks : List ℕ → LoadRule → ℕ → Type 0
+ImageBreaks b L1 place = (place ≡ 0) × (image_head_fits b ≡ false)
+ImageBreaks b L2 place = ((place ≡ 0) × (commands_inside b ≡ false)) ⊎ CommandFails (commands_of b) place (command_fits (needed_in_image b) b)
+ImageBreaks b L3 place = CommandFails (segment_commands b) place (protections_fit b)
+ImageBreaks b L4 place = CommandFails (segment_commands b) place (file_part_inside b)
+ImageBreaks b L5 place = CommandFails (segment_commands b) place (segment_is_paged b)
+ImageBreaks b L6 place = CommandFails (segment_commands b) place (segment_ends b) ⊎ NeighbourFails (segment_commands b) place (begins_behind b)
+ImageBreaks b L7 place = TextIsNotOne b place ⊎ CommandFails (text_commands b) place (λ c. text_holds_commands b (segment_in b c))
+ImageBreaks b L8 place = SecondTable b place ⊎ CommandFails (fixup_commands b) place (λ c. table_fits b (table_of_command b c))
+ImageBreaks b L9 place = ImportFails b place
+ImageBreaks b L10 place = WordFails b place

@@ -1,0 +1,109 @@
+-- The segments that a link has, and the output sections: which there are, and in which order segments stand.
+use Rattle.std.specs.Prelude.{◌≡◌, ℕ, ◌+◌, ◌*◌, ◌==◌, nat_lt, ◌&&◌, ◌||◌, not, if◌then◌else◌, Bool, true, false, List, [], ◌∷◌, ◌++◌, length, map, filter, codes}
+use Rattle.std.specs.List.{list_any, position_or_len}
+use Rattle.std.specs.Str.{bytes_eq}
+use Rattle.macho_bytes.specs.Texts.{name_of}
+use Rattle.macho_records.specs.declared.header.SectionHeader.{SectionHeader}
+use Rattle.macho_model.specs.declared.placed.Counts.{Counts}
+use Rattle.macho_model.specs.Constants.{section_type, S_ZEROFILL}
+use Rattle.macho_model.specs.Links.{Link, SectionId, header_at, carried_of}
+use Rattle.macho_model.specs.Resolution.{chosen_commons}
+use Rattle.macho_model.specs.Needs.{distinct}
+use Rattle.macho_model.specs.Targets.{slots_of, stubs_of}
+
+-- the names of segments that the linker knows, and of the section that commons are put into
+abbrev pub PAGEZERO : List ℕ
+PAGEZERO = codes "__PAGEZERO"
+
+abbrev pub TEXT : List ℕ
+TEXT = codes "__TEXT"
+
+abbrev pub DATA_CONST : List ℕ
+DATA_CONST = codes "__DATA_CONST"
+
+abbrev pub DATA : List ℕ
+DATA = codes "__DATA"
+
+abbrev pub LINKEDIT : List ℕ
+LINKEDIT = codes "__LINKEDIT"
+
+abbrev pub COMMON : List ℕ
+COMMON = codes "__common"
+
+-- segments are mapped by pages of 16 KiB, and an executable's first 4 GiB are kept free
+abbrev pub SEGMENT_PAGE : ℕ
+SEGMENT_PAGE = 0x4000
+
+abbrev pub PAGEZERO_SIZE : ℕ
+PAGEZERO_SIZE = 0x100000000
+
+-- the address of the image's first byte
+abbrev pub base_of_link : Link → ℕ
+base_of_link l = if l.executable then PAGEZERO_SIZE else 0
+
+abbrev pub segment_name : Link → SectionId → List ℕ
+segment_name l s = name_of (header_at l s).segname
+
+-- a segment with a place of its own in the order
+abbrev pub is_known_segment : List ℕ → Bool
+is_known_segment name =
+    bytes_eq name PAGEZERO || bytes_eq name TEXT || bytes_eq name DATA_CONST || bytes_eq name DATA || bytes_eq name LINKEDIT
+
+-- the other segments, in the order in which the carried sections name them first
+unfoldable pub other_segments : Link → List (List ℕ)
+other_segments l = filter (λ name. not (is_known_segment name)) (distinct bytes_eq (map (segment_name l) (carried_of l)))
+
+-- The rank of a segment: `__PAGEZERO`, `__TEXT`, `__DATA_CONST`, `__DATA`, the others as first seen, `__LINKEDIT`.
+unfoldable pub segment_rank : Link → List ℕ → ℕ
+segment_rank l name =
+    if bytes_eq name PAGEZERO then 0
+    else if bytes_eq name TEXT then 1
+    else if bytes_eq name DATA_CONST then 2
+    else if bytes_eq name DATA then 3
+    else if bytes_eq name LINKEDIT then 5 + length (other_segments l)
+    else 4 + position_or_len (bytes_eq name) (other_segments l)
+
+abbrev pub has_section_in : Link → List ℕ → Bool
+has_section_in l name = list_any (λ s. bytes_eq (segment_name l s) name) (carried_of l)
+
+-- a list where a test holds, else nothing
+abbrev pub list_if : {X : Type 0} → Bool → List X → List X
+list_if b xs = if b then xs else []
+
+-- The segments of the image, in order: `__TEXT` and `__LINKEDIT` always, the others where they have a part.
+unfoldable pub segment_names_of : Link → List (List ℕ)
+segment_names_of l =
+    list_if l.executable (PAGEZERO ∷ []) ++ TEXT ∷ []
+    ++ list_if (has_section_in l DATA_CONST || not (length (slots_of l) == 0)) (DATA_CONST ∷ [])
+    ++ list_if (has_section_in l DATA || not (length (chosen_commons l) == 0)) (DATA ∷ [])
+    ++ other_segments l ++ LINKEDIT ∷ []
+
+-- What output sections are merged by: sections of one segment, name and type are one.
+pub record OutputKey : Type 0 where
+  pub segment : List ℕ
+  pub name : List ℕ
+  pub type : ℕ
+
+abbrev pub same_key : OutputKey → OutputKey → Bool
+same_key a b = bytes_eq a.segment b.segment && bytes_eq a.name b.name && (a.type == b.type)
+
+abbrev pub key_of : SectionHeader → OutputKey
+key_of h = record { segment = name_of h.segname; name = name_of h.sectname; type = section_type h }
+
+-- the section that commons stand in
+abbrev pub common_key : OutputKey
+common_key = record { segment = DATA; name = COMMON; type = S_ZEROFILL }
+
+-- the merged sections of the image, as first seen
+unfoldable pub output_keys_of : Link → List OutputKey
+output_keys_of l =
+    distinct same_key (map (λ s. key_of (header_at l s)) (carried_of l) ++ list_if (not (length (chosen_commons l) == 0)) (common_key ∷ []))
+
+-- one for each part that the linker makes and that is not empty: initializers, unwind information, stubs, slots
+abbrev pub one_if : Bool → ℕ
+one_if b = if b then 1 else 0
+
+unfoldable pub output_count : Link → Counts → ℕ
+output_count l counts =
+    length (output_keys_of l) + one_if (nat_lt 0 counts.initializers) + one_if (nat_lt 0 counts.unwind) + one_if (not (length (stubs_of l) == 0))
+    + one_if (not (length (slots_of l) == 0))

@@ -1,0 +1,175 @@
+-- When an image stands in memory: every carried section and chosen common whole at its place, every relocated field
+-- denoting its target and addend, every slot and stub leading to its target.
+use Rattle.std.specs.Prelude.{◌≡◌, ℕ, ◌+◌, ◌*◌, ◌-◌, ◌%◌, ◌^◌, ◌<◌, ◌≤◌, ◌⊎◌, ◌==◌, ◌&&◌, ◌||◌, not, if◌then◌else◌, Bool, true, false, List, [], ◌∷◌, length, get_or, slice_index, Option, Some, None, All, Contains, is_some}
+use Rattle.macho_bytes.specs.Numbers.{le_at}
+use Rattle.macho_model.specs.declared.placed.Counts.{Counts}
+use Rattle.macho_model.specs.declared.placed.PlacedSection.{PlacedSection}
+use Rattle.macho_model.specs.declared.placed.PlacedCommon.{PlacedCommon}
+use Rattle.macho_model.specs.declared.placed.Slot.{Slot}
+use Rattle.macho_model.specs.declared.placed.Stub.{Stub}
+use Rattle.macho_model.specs.declared.placed.Range64.{Range64}
+use Rattle.macho_model.specs.declared.targets.Target.{Target}
+use Rattle.macho_model.specs.declared.targets.Target.TheVariants as target
+use Rattle.macho_model.specs.Constants.{section_type, S_THREAD_LOCAL_VARIABLES, common_size}
+use Rattle.macho_model.specs.Objects.{section_bytes}
+use Rattle.macho_model.specs.Links.{Link, object_of, SectionId, header_at, is_template}
+use Rattle.macho_model.specs.Resolution.{entry_at}
+use Rattle.macho_model.specs.Needs.{imports_of, import_library}
+use Rattle.macho_model.specs.Targets.{UNSIGNED, BRANCH26, PAGE21, PAGEOFF12, GOT_LOAD_PAGE21, GOT_LOAD_PAGEOFF12, POINTER_TO_GOT, TLVP_LOAD_PAGE21, TLVP_LOAD_PAGEOFF12}
+use Rattle.macho_model.specs.Fields.{Field, fields_of, content_of}
+use Rattle.macho_model.specs.Meaning.{Same, PointsTo, IsDifference, BranchesTo, PagesTo, OffsetsTo, AddsTo, LoadsFrom, IsDistance, GoesThrough}
+use Rattle.macho_model.specs.Segments.{SEGMENT_PAGE}
+use Rattle.macho_model.specs.Placement.{Placed, id_of, common_of, IsPlaced}
+use Rattle.macho_model.specs.Loader.{IsAccepted}
+use Rattle.macho_model.specs.Memory.{Choice, chosen, BindsAll, FitsSlide, Holds, HoldsNumber}
+
+-- a section's place: its placed address
+abbrev pub SectionAt : Placed → ℕ → ℕ → ℕ → Type 0
+SectionAt p file section address =
+    (q : PlacedSection) × Contains p.sections q × (q.file ≡ file) × (q.section ≡ section) × (q.address ≡ address)
+
+-- Where a target is, at a slide and for a choice of import addresses. What has no place is nowhere.
+abbrev pub IsAt : Link → Placed → ℕ → Choice → Target → ℕ → Type 0
+IsAt l p s choice (target.Section file section offset) x = (address : ℕ) × SectionAt p file section address × (x ≡ address + offset + s)
+IsAt l p s choice (target.Common id) x = (c : PlacedCommon) × Contains p.commons c × (c.id ≡ id) × (x ≡ c.address + s)
+IsAt l p s choice (target.Import id) x =
+    chosen choice (import_library l (get_or (imports_of l) id [])) (get_or (imports_of l) id []) ≡ Some x
+IsAt l p s choice target.Base x = x ≡ p.base + s
+IsAt l p s choice (target.Absolute value) x = x ≡ value
+IsAt l p s choice target.None x = ⊥
+
+-- the slot of a target, and the stub of an import, in memory
+abbrev pub SlotAt : Placed → ℕ → Target → ℕ → Type 0
+SlotAt p s t x = (slot : Slot) × Contains p.slots slot × (slot.target ≡ t) × (x ≡ slot.address + s)
+
+abbrev pub StubAt : Placed → ℕ → ℕ → ℕ → Type 0
+StubAt p s id x = (stub : Stub) × Contains p.stubs stub × (stub.import ≡ id) × (x ≡ stub.address + s)
+
+-- where a call of a target goes: to an import by its stub
+abbrev pub CallIsAt : Link → Placed → ℕ → Choice → Target → ℕ → Type 0
+CallIsAt l p s choice (target.Import id) x = StubAt p s id x
+CallIsAt l p s choice t x = IsAt l p s choice t x
+
+-- What a relocated field is, by the type of its relocation.
+pub data Kind : Type 0 where
+  Pointer : Kind
+  Difference : Kind
+  Branch : Kind
+  Page : Kind
+  Offset : Kind
+  SlotPage : Kind
+  SlotOffset : Kind
+  SlotDistance : Kind
+  NoKind : Kind
+
+abbrev pub kind_of : ℕ → Bool → Kind
+kind_of type has_subtrahend =
+    if type == UNSIGNED then (if has_subtrahend then Difference else Pointer)
+    else if type == BRANCH26 then Branch
+    else if type == PAGE21 then Page
+    else if type == PAGEOFF12 then Offset
+    else if (type == GOT_LOAD_PAGE21) || (type == TLVP_LOAD_PAGE21) then SlotPage
+    else if (type == GOT_LOAD_PAGEOFF12) || (type == TLVP_LOAD_PAGEOFF12) then SlotOffset
+    else if type == POINTER_TO_GOT then SlotDistance
+    else NoKind
+
+-- a target lies in the thread-local template
+abbrev pub is_in_template : Link → Target → Bool
+is_in_template l (target.Section file section offset) = is_template (header_at l (record { file = file; section = section }))
+is_in_template l t = false
+
+-- a pointer in a descriptor of a thread-local variable to its initial value is an offset from the template's start
+abbrev pub is_template_offset : Link → SectionId → Field → Bool
+is_template_offset l id f = (section_type (header_at l id) == S_THREAD_LOCAL_VARIABLES) && is_in_template l f.target
+
+abbrev pub PointerSays : Bool → Option Range64 → ℕ → ℕ → ℕ → Type 0
+PointerSays false template s word x = PointsTo word x
+PointerSays true None s word x = ⊥
+PointerSays true (Some r) s word x = Same (word + (r.start + s)) x
+
+-- a load of a target's address: of an import from its slot, else made an ADD of the address itself
+abbrev pub LoadSays : Link → Placed → ℕ → Choice → Target → ℕ → ℕ → Type 0
+LoadSays l p s choice (target.Import id) word input = (slot : ℕ) × SlotAt p s (target.Import id) slot × LoadsFrom word input slot
+LoadSays l p s choice t word input = (x : ℕ) × IsAt l p s choice t x × AddsTo word input x
+
+-- the page that such a load begins with: of the slot, or of the target itself
+abbrev pub LoadIsAt : Link → Placed → ℕ → Choice → Target → ℕ → Type 0
+LoadIsAt l p s choice (target.Import id) x = SlotAt p s (target.Import id) x
+LoadIsAt l p s choice t x = IsAt l p s choice t x
+
+-- where the subtrahend of a difference is
+abbrev pub SubtrahendIsAt : Link → Placed → ℕ → Choice → Option Target → ℕ → Type 0
+SubtrahendIsAt l p s choice None x = ⊥
+SubtrahendIsAt l p s choice (Some t) x = IsAt l p s choice t x
+
+-- What a field says, by its kind: at a place, with the word that is there and the one that the input has.
+abbrev pub Says : Link → Placed → ℕ → Choice → SectionId → Field → ℕ → ℕ → ℕ → Kind → Type 0
+Says l p s choice id f place word input Pointer =
+    (x : ℕ) × IsAt l p s choice f.target x × PointerSays (is_template_offset l id f) p.template s word (x + f.addend)
+Says l p s choice id f place word input Difference =
+    (x : ℕ) × (y : ℕ) × IsAt l p s choice f.target x × SubtrahendIsAt l p s choice f.subtrahend y × IsDifference f.width word x y f.addend
+Says l p s choice id f place word input Branch = (x : ℕ) × CallIsAt l p s choice f.target x × BranchesTo place word input (x + f.addend)
+Says l p s choice id f place word input Page = (x : ℕ) × IsAt l p s choice f.target x × PagesTo place word input (x + f.addend)
+Says l p s choice id f place word input Offset = (x : ℕ) × IsAt l p s choice f.target x × OffsetsTo word input (x + f.addend)
+Says l p s choice id f place word input SlotPage = (x : ℕ) × LoadIsAt l p s choice f.target x × PagesTo place word input x
+Says l p s choice id f place word input SlotOffset = LoadSays l p s choice f.target word input
+Says l p s choice id f place word input SlotDistance = (slot : ℕ) × SlotAt p s f.target slot × IsDistance place word slot
+Says l p s choice id f place word input NoKind = ⊥
+
+-- A field of a placed section denotes its target and addend in memory.
+pub record Denotes (l : Link) (b : List ℕ) (p : Placed) (s : ℕ) (choice : Choice) (q : PlacedSection) (f : Field) : Type 0 where
+  pub word : ℕ
+  pub held : HoldsNumber b s choice f.width (q.address + f.offset + s) word
+  pub says : Says l p s choice (id_of q) f (q.address + f.offset + s) word (content_of l (id_of q) f.relocation) (kind_of f.type (is_some f.subtrahend))
+
+-- an offset in a section is in none of its fields
+abbrev pub IsOutsideField : ℕ → Field → Type 0
+IsOutsideField i f = (i + 1 ≤ f.offset) ⊎ (f.offset + f.width ≤ i)
+
+-- A carried section stands: outside its fields its input's bytes, zeros for zerofill; and each field denotes.
+pub record SectionStands (l : Link) (b : List ℕ) (p : Placed) (s : ℕ) (choice : Choice) (q : PlacedSection) : Type 0 where
+  pub bytes : (i : ℕ) → i < (header_at l (id_of q)).size → All (IsOutsideField i) (fields_of l (id_of q))
+      → Holds b s choice (q.address + i + s) (slice_index (section_bytes (object_of l q.file) q.section) i)
+  pub fields : All (Denotes l b p s choice q) (fields_of l (id_of q))
+
+-- a chosen common is zeros over its size
+abbrev pub CommonStands : Link → List ℕ → ℕ → Choice → PlacedCommon → Type 0
+CommonStands l b s choice c = (i : ℕ) → i < common_size (entry_at l (common_of l c.id)) → Holds b s choice (c.address + i + s) 0
+
+-- a slot holds the address of its target
+pub record SlotStands (l : Link) (b : List ℕ) (p : Placed) (s : ℕ) (choice : Choice) (slot : Slot) : Type 0 where
+  pub word : ℕ
+  pub held : HoldsNumber b s choice 8 (slot.address + s) word
+  pub x : ℕ
+  pub at : IsAt l p s choice slot.target x
+  pub points : PointsTo word x
+
+-- a stub goes on through the slot of its import
+pub record StubStands (b : List ℕ) (p : Placed) (s : ℕ) (choice : Choice) (stub : Stub) : Type 0 where
+  pub adrp : ℕ
+  pub ldr : ℕ
+  pub br : ℕ
+  pub held_adrp : HoldsNumber b s choice 4 (stub.address + s) adrp
+  pub held_ldr : HoldsNumber b s choice 4 (stub.address + 4 + s) ldr
+  pub held_br : HoldsNumber b s choice 4 (stub.address + 8 + s) br
+  pub slot : ℕ
+  pub at : SlotAt p s (target.Import stub.import) slot
+  pub through : GoesThrough (stub.address + s) slot adrp ldr br
+
+-- slots and stubs lead to their targets
+pub record LeadsThrough (l : Link) (b : List ℕ) (p : Placed) (s : ℕ) (choice : Choice) : Type 0 where
+  pub slots : All (SlotStands l b p s choice) p.slots
+  pub stubs : All (StubStands b p s choice) p.stubs
+
+-- THE image stands, at a slide and for a choice of import addresses.
+pub record ImageStands (l : Link) (b : List ℕ) (p : Placed) (s : ℕ) (choice : Choice) : Type 0 where
+  pub sections : All (SectionStands l b p s choice) p.sections
+  pub commons : All (CommonStands l b s choice) p.commons
+  pub through : LeadsThrough l b p s choice
+
+-- THE promise of a link: its parts are placed, the loader accepts the bytes, and at every slide of whole pages that
+-- fits, for every choice that binds all imports, the image stands.
+pub record IsLinked (l : Link) (counts : Counts) (b : List ℕ) (p : Placed) : Type 0 where
+  pub placed : IsPlaced l counts p
+  pub accepted : IsAccepted b
+  pub stands : (s : ℕ) (choice : Choice) → s % SEGMENT_PAGE ≡ 0 → FitsSlide b s → BindsAll b choice → ImageStands l b p s choice

@@ -1,0 +1,75 @@
+-- The written sum: a bound on the bytes of an image, from sizes alone, before any address is known. It keeps a linker
+-- from spreading an image over the address space: a placement ends at most this far behind its base.
+use Rattle.std.specs.Prelude.{ℕ, ◌+◌, ◌*◌, ◌-◌, ◌/◌, ◌^◌, ◌<◌, ◌==◌, if◌then◌else◌, List, length, map, filter, sum_by, not}
+use Rattle.macho_records.specs.Layouts.{mach_header, segment_command, section_header}
+use Rattle.macho_bytes.specs.Layouts.{size_of}
+use Rattle.macho_bytes.specs.Texts.{name_of}
+use Rattle.macho_model.specs.declared.placed.Counts.{Counts}
+use Rattle.macho_model.specs.Constants.{common_size, common_exponent}
+use Rattle.macho_model.specs.Links.{Link, SectionId, header_at, carried_of, placed_exponent}
+use Rattle.macho_model.specs.Resolution.{SymbolId, entry_at, chosen_commons}
+use Rattle.macho_model.specs.Targets.{slots_of, stubs_of}
+use Rattle.macho_model.specs.Segments.{SEGMENT_PAGE, segment_names_of, output_count, one_if}
+
+-- what alignment to an exponent of 2 may cost: in front of the section, and in front of its output section
+abbrev pub padding_of : ℕ → ℕ
+padding_of exponent = 2 * (2 ^ exponent - 1)
+
+abbrev pub SLOT_SIZE : ℕ
+SLOT_SIZE = 8
+
+abbrev pub STUB_SIZE : ℕ
+STUB_SIZE = 12
+
+abbrev pub INITIALIZER_SIZE : ℕ
+INITIALIZER_SIZE = 4
+
+abbrev pub SYMBOL_SIZE : ℕ
+SYMBOL_SIZE = 16
+
+abbrev pub SIGNED_PAGE : ℕ
+SIGNED_PAGE = 4096
+
+abbrev pub DIGEST_SIZE : ℕ
+DIGEST_SIZE = 32
+
+abbrev pub section_cost : Link → SectionId → ℕ
+section_cost l s = (header_at l s).size + padding_of (placed_exponent l s)
+
+abbrev pub common_cost : Link → SymbolId → ℕ
+common_cost l s = common_size (entry_at l s) + padding_of (common_exponent (entry_at l s))
+
+-- sections, commons, slots, stubs, initializers and unwind information
+unfoldable pub content_sum : Link → Counts → ℕ
+content_sum l counts =
+    sum_by (section_cost l) (carried_of l) + sum_by (common_cost l) (chosen_commons l) + SLOT_SIZE * length (slots_of l) + STUB_SIZE * length (stubs_of l)
+    + INITIALIZER_SIZE * counts.initializers + counts.unwind
+
+-- the segments that are mapped from the file: all but `__PAGEZERO`
+abbrev pub file_segments : Link → ℕ
+file_segments l = length (segment_names_of l) - one_if l.executable
+
+-- the load commands
+unfoldable pub command_sum : Link → Counts → ℕ
+command_sum l counts =
+    size_of segment_command * length (segment_names_of l) + size_of section_header * output_count l counts + counts.commands
+
+-- the fixed parts of a fixup table and of the tables' alignment
+abbrev pub TABLES_FIXED : ℕ
+TABLES_FIXED = 216
+
+-- with header, commands and the tables; a segment may cost two pages of 16 KiB
+unfoldable pub unsigned_sum : Link → Counts → ℕ
+unsigned_sum l counts =
+    content_sum l counts + size_of mach_header + command_sum l counts + counts.padding + counts.trie + SYMBOL_SIZE * counts.symbols + counts.strings
+    + TABLES_FIXED + counts.import_size * counts.imports + counts.name_bytes
+    + 2 * (content_sum l counts / SEGMENT_PAGE + (length (carried_of l) + length (chosen_commons l) + 1)) + 2 * SEGMENT_PAGE * file_segments l
+
+-- the fixed parts of a signature: its superblob and code directory
+abbrev pub SIGNATURE_FIXED : ℕ
+SIGNATURE_FIXED = 108
+
+-- with the signature: the identifier and a digest for each page
+unfoldable pub written_sum_of : Link → Counts → ℕ
+written_sum_of l counts =
+    unsigned_sum l counts + SIGNATURE_FIXED + counts.identifier + DIGEST_SIZE * (unsigned_sum l counts / SIGNED_PAGE + 1)
