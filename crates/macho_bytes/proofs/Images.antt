@@ -3,10 +3,10 @@
 -- Zeros are an image of no parts. A text put into an image, at a range that shares no byte with any part, makes an
 -- image of one part more: the old parts stand as before since the write leaves what is beside it, the new part
 -- stands since it was put, and a place outside all parts is outside the written range too, so its byte is still 0.
-use Rattle.std.proofs.Common.{◌≡◌, ℕ, ◌+◌, ◌<◌, ◌≤◌, ◌⊎◌, List, [], ◌∷◌, ◌++◌, length, get_or, slice_index, replicate, refl, sym, ◌∙◌, arith, inl, inr, All}
+use Rattle.std.proofs.Common.{◌≡◌, ℕ, ◌+◌, ◌≤◌, List, [], ◌∷◌, ◌++◌, length, get_or, slice_index, refl, ◌∙◌, arith, inl, inr, All}
 use Rattle.std.proofs.lemmas.Bool.{cases_lt}
 use Rattle.std.proofs.lemmas.List.{get_or-replicate, get_or_past, get_or_append_left, get_or_at, length-replicate, length-append}
-use Rattle.std.proofs.lemmas.List.Elements.{All-nil, All-push, All-weaker, All-get_or, All-from_get_or, All-append}
+use Rattle.std.proofs.lemmas.List.Elements.{All-nil, All-push}
 use Rattle.macho_bytes.specs.Texts.{put, Part, end_of, Stands, Apart, IsOutside}
 use Rattle.macho_bytes.specs.Images.{IsImage, zeros}
 use Rattle.macho_bytes.proofs.Puts.{length-put, get_or-put_below, get_or-put_above, put_stands, stands_beside}
@@ -48,8 +48,10 @@ adds_last n parts p now next is image within apart =
   where
     fits : p.at + length p.text ≤ length now
     fits = omega (arith, image.size)
+
     beside : All (Stands (put p.at p.text now)) parts
     beside = λ k d lt. stands_beside p.at p.text now (get_or parts k d) fits (image.each k d lt) (apart k d lt)
+
     zero_at : (i : ℕ) → All (IsOutside i) parts → IsOutside i p → slice_index (put p.at p.text now) i ≡ 0
     zero_at i outside here =
         elim here [

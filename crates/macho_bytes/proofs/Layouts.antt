@@ -5,10 +5,9 @@
 -- themselves. So reading sets, row by row, the fields that the record has. Setting all fields of any record to those
 -- of r gives r: that is true by computing for each layout, and is the only fact asked of one.
 use Rattle.std.proofs.Common.{◌≡◌, ℕ, zero, suc, ◌+◌, ◌*◌, ◌-◌, ◌<◌, ◌≤◌, List, [], ◌∷◌, ◌++◌, length, get_or, take, drop, slice_range, slice_index, refl, sym, ap, ◌∙◌, arith, append_assoc}
-use Rattle.std.proofs.Math.Nat.{mul-suc}
 use Rattle.std.proofs.lemmas.List.{length-append, append-nil}
 use Rattle.macho_bytes.specs.Numbers.{ByteOrder, little, big, row_bytes, AllBelow}
-use Rattle.macho_bytes.specs.Texts.{Part, end_of, Stands}
+use Rattle.macho_bytes.specs.Texts.{Stands}
 use Rattle.macho_bytes.specs.Layouts.{Row, numbers, text, Layout, row_text, row_size, row_read, numbers_at, size_from, size_of, text_from, spelling, read_from, reading, ReadsBack}
 use Rattle.macho_bytes.proofs.Numbers.{IsSound, little_is_sound, big_is_sound, number-stands, stands-front, stands-back, length-row_bytes, length-row_little, length-row_big}
 use Rattle.macho_bytes.proofs.Puts.{put-put, length-put}
@@ -40,7 +39,7 @@ numbers_at-stands order sound w (n ∷ ns) bytes at offset fits s =
     let here = number-stands order sound w n bytes (at + offset) fits.0 (stands-front bytes (at + offset) (order.bytes_of w n) (row_bytes order w ns) s) in
     let next : at + (offset + w) ≡ at + offset + length (order.bytes_of w n) = omega (arith, sound.long w n) in
     let rest = numbers_at-stands order sound w ns bytes at (offset + w) fits.1
-      (stands-back bytes (at + offset) (at + (offset + w)) (order.bytes_of w n) (row_bytes order w ns) next s) in
+    (stands-back bytes (at + offset) (at + (offset + w)) (order.bytes_of w n) (row_bytes order w ns) next s) in
     rw (here, rest) refl
 
 -- a row reads back where it stands
@@ -48,7 +47,7 @@ row_read-stands : {R : Type 0} (order : ByteOrder) → IsSound order → (blank 
     → Stands bytes (record { at = at + offset; text = row_text order r row }) → row_read order blank bytes at offset r0 row ≡ row_filled r0 r row
 row_read-stands order sound blank r r0 bytes at offset (numbers width fields set) fits s =
     let same : numbers_at order width bytes at offset (length (fields blank)) ≡ fields r =
-      ap (λ (k : ℕ). numbers_at order width bytes at offset k) (sym fits.1) ∙ numbers_at-stands order sound width (fields r) bytes at offset fits.0 s in
+    ap (λ (k : ℕ). numbers_at order width bytes at offset k) (sym fits.1) ∙ numbers_at-stands order sound width (fields r) bytes at offset fits.0 s in
     ap (λ (ns : List ℕ). set (slice_index ns) r0) same
 row_read-stands order sound blank r r0 bytes at offset (text field set) fits s =
     let ends : at + (offset + length (field blank)) ≡ at + offset + length (field r) = omega (arith, fits) in
@@ -75,12 +74,12 @@ read_from-stands order sound blank r bytes at [] offset r0 front long fits s = r
 read_from-stands {R = R} order sound blank r bytes at (row ∷ rows) offset r0 front long fits s =
     let size = length-row_text order sound blank r row fits.0 in
     let whole : Stands bytes (record { at = at; text = (front ++ row_text order r row) ++ text_from order r [] rows }) =
-      rw (← text_from-front order r (front ++ row_text order r row) rows) s in
+    rw (← text_from-front order r (front ++ row_text order r row) rows) s in
     let both = stands-front bytes at (front ++ row_text order r row) (text_from order r [] rows) whole in
     let here = stands-back bytes at (at + offset) front (row_text order r row) (omega (arith, long)) both in
     let first = row_read-stands order sound blank r r0 bytes at offset row fits.0 here in
     let rest = read_from-stands order sound blank r bytes at rows (offset + row_size blank row) (row_filled r0 r row) (front ++ row_text order r row)
-      (omega (arith, long, size, length-append front (row_text order r row))) fits.1 s in
+    (omega (arith, long, size, length-append front (row_text order r row))) fits.1 s in
     ap (λ (x : R). read_from order blank bytes at (offset + row_size blank row) x rows) first ∙ rest
 
 -- the length of a spelling
@@ -89,7 +88,7 @@ length-text_from : {R : Type 0} (order : ByteOrder) → IsSound order → (blank
 length-text_from order sound blank r [] offset front long fits = long
 length-text_from order sound blank r (row ∷ rows) offset front long fits =
     length-text_from order sound blank r rows (offset + row_size blank row) (front ++ row_text order r row)
-      (omega (arith, long, length-append front (row_text order r row), length-row_text order sound blank r row fits.0)) fits.1
+    (omega (arith, long, length-append front (row_text order r row), length-row_text order sound blank r row fits.0)) fits.1
 
 -- The one lemma for every record: if its fields fit their rows, and filling a blank record with them gives it back.
 pub reads_back : {R : Type 0} (l : Layout R) (r : R) → IsSound l.order → RowsFit l.blank r l.rows → filled l.blank r l.rows ≡ r → ReadsBack l r

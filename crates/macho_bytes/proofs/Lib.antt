@@ -3,3 +3,5 @@ pub mod Images
 pub mod Numbers
 pub mod Layouts
 pub mod Writes
+pub mod Names
+pub mod Rounding

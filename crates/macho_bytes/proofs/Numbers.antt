@@ -4,15 +4,14 @@
 -- laws). Where the spelling of n stands at the place, the list from there on begins with that spelling, so the
 -- number read is n, if n fits w bytes. A row of numbers is the spellings joined end to end, each w bytes long, so
 -- number k stands w * k bytes behind the row's start.
-use Rattle.std.proofs.Common.{◌≡◌, ℕ, zero, suc, ◌+◌, ◌*◌, ◌^◌, ◌-◌, ◌<◌, ◌≤◌, List, [], ◌∷◌, ◌++◌, length, get_or, take, drop, slice_range, refl, sym, ap, ◌∙◌, arith, append_assoc}
-use Rattle.std.specs.List.{flat_map}
+use Rattle.std.proofs.Common.{◌≡◌, ℕ, ◌+◌, ◌*◌, ◌^◌, ◌-◌, ◌<◌, List, [], ◌∷◌, ◌++◌, length, get_or, take, drop, sym, ap, ◌∙◌, arith}
 use Rattle.std.proofs.Math.Nat.{mul-suc}
-use Rattle.std.proofs.lemmas.List.{get_or_append_left, get_or-append-add, length-append, length-drop, take-append-drop, take_at, append-nil, drop-append-le, drop_at, drop-drop}
+use Rattle.std.proofs.lemmas.List.{get_or_append_left, get_or-append-add, length-append, take-append-drop, append-nil, drop-drop}
 use Rattle.std.proofs.lemmas.Grind.{flat_map-append}
-use Rattle.std.proofs.lemmas.List.Edits.{length-between, get_or-between}
-use Rattle.byteorder.specs.Endian.{little_number, big_number, little_bytes, big_bytes}
+use Rattle.std.proofs.lemmas.List.Edits.{get_or-between}
+use Rattle.byteorder.specs.Endian.{little_number, big_number}
 use Rattle.byteorder.specs.Numbers.{big_number-reads_back, little_number-reads_back, length-bytes_low_first, length-bytes_high_first}
-use Rattle.macho_bytes.specs.Numbers.{ByteOrder, little, big, le_at, be_at, le_bytes, be_bytes, row_bytes, AllBelow}
+use Rattle.macho_bytes.specs.Numbers.{ByteOrder, little, big, le_at, be_at, le_bytes, be_bytes, row_bytes}
 use Rattle.macho_bytes.specs.Texts.{Part, end_of, Stands}
 use Rattle.macho_bytes.proofs.Puts.{stands_by_bytes}
 
@@ -39,25 +38,25 @@ big_is_sound = record {
 pub drop-stands : (bytes : List ℕ) (p : Part) → Stands bytes p → drop p.at bytes ≡ p.text ++ drop (end_of p) bytes
 drop-stands bytes p s =
     let split : take (end_of p - p.at) (drop p.at bytes) ++ drop (end_of p - p.at) (drop p.at bytes) ≡ drop p.at bytes =
-      take-append-drop (end_of p - p.at) (drop p.at bytes) in
+    take-append-drop (end_of p - p.at) (drop p.at bytes) in
     let rest : drop (end_of p - p.at) (drop p.at bytes) ≡ drop (end_of p) bytes =
-      drop-drop (end_of p - p.at) p.at bytes ∙ ap (λ (k : ℕ). drop k bytes) (omega arith) in
+    drop-drop (end_of p - p.at) p.at bytes ∙ ap (λ (k : ℕ). drop k bytes) (omega arith) in
     sym split ∙ ap (λ (t : List ℕ). t ++ drop (end_of p - p.at) (drop p.at bytes)) s.same ∙ ap (λ (t : List ℕ). p.text ++ t) rest
 
 -- the front and the back of a text that stands
 pub stands-front : (bytes : List ℕ) (at : ℕ) (x y : List ℕ) → Stands bytes (record { at = at; text = x ++ y }) → Stands bytes (record { at = at; text = x })
 stands-front bytes at x y s =
     stands_by_bytes bytes (record { at = at; text = x }) (omega (arith, s.within, length-append x y))
-      (λ i h. sym (get_or-between bytes at (at + length (x ++ y)) i 0 (omega (arith, length-append x y)))
-        ∙ ap (λ (t : List ℕ). get_or t i 0) s.same ∙ get_or_append_left x y 0 i h)
+    (λ i h. sym (get_or-between bytes at (at + length (x ++ y)) i 0 (omega (arith, length-append x y)))
+    ∙ ap (λ (t : List ℕ). get_or t i 0) s.same ∙ get_or_append_left x y 0 i h)
 
 pub stands-back : (bytes : List ℕ) (at next : ℕ) (x y : List ℕ) → next ≡ at + length x → Stands bytes (record { at = at; text = x ++ y })
     → Stands bytes (record { at = next; text = y })
 stands-back bytes at next x y is s =
     stands_by_bytes bytes (record { at = next; text = y }) (omega (arith, s.within, length-append x y))
-      (λ i h. ap (λ (k : ℕ). get_or bytes k 0) (omega arith)
-        ∙ sym (get_or-between bytes at (at + length (x ++ y)) (length x + i) 0 (omega (arith, length-append x y)))
-        ∙ ap (λ (t : List ℕ). get_or t (length x + i) 0) s.same ∙ get_or-append-add x y i 0)
+    (λ i h. ap (λ (k : ℕ). get_or bytes k 0) (omega arith)
+    ∙ sym (get_or-between bytes at (at + length (x ++ y)) (length x + i) 0 (omega (arith, length-append x y)))
+    ∙ ap (λ (t : List ℕ). get_or t (length x + i) 0) s.same ∙ get_or-append-add x y i 0)
 
 -- a number reads back where its spelling stands
 pub number-stands : (order : ByteOrder) → IsSound order → (w n : ℕ) (bytes : List ℕ) (at : ℕ) → n < 256 ^ w

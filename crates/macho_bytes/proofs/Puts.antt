@@ -4,19 +4,23 @@
 -- it is known by where its place lies, and two lists are equal where they agree at each place. Every lemma here
 -- goes that way: three cases for a place, and arithmetic. With them two puts next to each other are one put of
 -- both texts, what was put stands, and a part that shares no byte with the text stands as before.
-use Rattle.std.proofs.Common.{◌≡◌, ℕ, ◌+◌, ◌-◌, ◌<◌, ◌≤◌, ◌⊎◌, List, [], ◌∷◌, ◌++◌, length, get_or, take, drop, slice_range, refl, sym, ap, ◌∙◌, arith, inl, inr, min}
+use Rattle.std.proofs.Common.{◌≡◌, ℕ, ◌+◌, ◌-◌, ◌<◌, ◌≤◌, List, [], ◌++◌, length, get_or, take, drop, slice_range, refl, sym, ap, ◌∙◌, arith, inl, inr}
 use Rattle.std.proofs.lemmas.Bool.{cases_lt}
-use Rattle.std.proofs.lemmas.List.{ext_get_or, get_or-take, get_or-drop, get_or_append_left, get_or-append_right, length-take, length-drop, length-append, get_or_past, take-append-drop, append_assoc}
+use Rattle.std.proofs.lemmas.List.{ext_get_or, get_or-take, get_or-drop, get_or_append_left, get_or-append_right, length-take, length-drop, length-append}
 use Rattle.std.proofs.lemmas.List.Edits.{length-between, get_or-between}
-use Rattle.std.specs.List.{between}
-use Rattle.macho_bytes.specs.Texts.{put, Part, end_of, Stands, Apart, IsOutside}
+use Rattle.macho_bytes.specs.Texts.{put, Part, end_of, Stands, Apart}
 
 -- a put keeps the length
 pub length-put : (at : ℕ) (text bytes : List ℕ) → at + length text ≤ length bytes → length (put at text bytes) ≡ length bytes
 unfolding put
 length-put at text bytes fits =
-    omega (arith, length-append (take at bytes) (text ++ drop (at + length text) bytes), length-append text (drop (at + length text) bytes),
-      length-take at bytes, length-drop (at + length text) bytes)
+    omega (
+      arith,
+      length-append (take at bytes) (text ++ drop (at + length text) bytes),
+      length-append text (drop (at + length text) bytes),
+      length-take at bytes,
+      length-drop (at + length text) bytes,
+    )
 
 -- a byte of the text
 pub get_or-put_in : (at : ℕ) (text bytes : List ℕ) (i : ℕ) → at + length text ≤ length bytes → at ≤ i → i < at + length text
@@ -72,12 +76,16 @@ put-put a b x y bytes next fits =
   where
     long : length (x ++ y) ≡ length x + length y
     long = length-append x y
+
     first : length (put a x bytes) ≡ length bytes
     first = length-put a x bytes (omega arith)
+
     below : (i : ℕ) → i < a → get_or (put b y (put a x bytes)) i 0 ≡ get_or bytes i 0
     below i h = get_or-put_below b y (put a x bytes) i (omega (arith, first)) (omega arith) ∙ get_or-put_below a x bytes i (omega arith) h
+
     above : (i : ℕ) → a + length (x ++ y) ≤ i → get_or (put b y (put a x bytes)) i 0 ≡ get_or bytes i 0
     above i h = get_or-put_above b y (put a x bytes) i (omega (arith, first)) (omega (arith, long)) ∙ get_or-put_above a x bytes i (omega arith) (omega (arith, long))
+
     inside : (i : ℕ) → a ≤ i → i < a + length (x ++ y) → get_or (put b y (put a x bytes)) i 0 ≡ get_or (x ++ y) (i - a) 0
     inside i from to =
         elim (cases_lt i b) [
@@ -109,6 +117,7 @@ stands_by_bytes bytes p within each =
   where
     long : length (slice_range bytes p.at (end_of p)) ≡ length p.text
     long = omega (arith, length-between bytes p.at (end_of p))
+
     same : (i : ℕ) → i < length (slice_range bytes p.at (end_of p)) → get_or (slice_range bytes p.at (end_of p)) i 0 ≡ get_or p.text i 0
     same i h = get_or-between bytes p.at (end_of p) i 0 (omega (arith, long)) ∙ each i (omega (arith, long))
 
@@ -116,16 +125,16 @@ stands_by_bytes bytes p within each =
 pub put_stands : (at : ℕ) (text bytes : List ℕ) → at + length text ≤ length bytes → Stands (put at text bytes) (record { at = at; text = text })
 put_stands at text bytes fits =
     stands_by_bytes (put at text bytes) (record { at = at; text = text }) (omega (arith, length-put at text bytes fits))
-      (λ i h. get_or-put_in at text bytes (at + i) fits (omega arith) (omega arith) ∙ ap (λ (k : ℕ). get_or text k 0) (omega arith))
+    (λ i h. get_or-put_in at text bytes (at + i) fits (omega arith) (omega arith) ∙ ap (λ (k : ℕ). get_or text k 0) (omega arith))
 
 -- a write leaves every part that shares no byte with it
 pub stands_beside : (at : ℕ) (text bytes : List ℕ) (p : Part) → at + length text ≤ length bytes → Stands bytes p
     → Apart p (record { at = at; text = text }) → Stands (put at text bytes) p
 stands_beside at text bytes p fits s apart =
     stands_by_bytes (put at text bytes) p (omega (arith, length-put at text bytes fits, s.within))
-      (λ i h. elim apart [
-        | inl before ↦ get_or-put_below at text bytes (p.at + i) fits (omega arith) ∙ sym (get_or-part bytes p s i h)
-        | inr after ↦ get_or-put_above at text bytes (p.at + i) fits (omega arith) ∙ sym (get_or-part bytes p s i h)
-      ])
+    (λ i h. elim apart [
+      | inl before ↦ get_or-put_below at text bytes (p.at + i) fits (omega arith) ∙ sym (get_or-part bytes p s i h)
+      | inr after ↦ get_or-put_above at text bytes (p.at + i) fits (omega arith) ∙ sym (get_or-part bytes p s i h)
+    ])
 
 pub ruleset puts = (put-put, length-put, put_nothing)

@@ -3,14 +3,14 @@
 -- A write of a text to the front of `&mut out[at..]` leaves the bytes below `at`, the text, and what stood behind
 -- the text: that is the put. A loop that writes number after number keeps 'the numbers so far are put': the next
 -- number stands where they end, and two puts next to each other are one.
-use Rattle.std.proofs.Common.{◌≡◌, ℕ, suc, ◌^◌, ◌+◌, ◌*◌, ◌-◌, ◌<◌, ◌≤◌, List, [], ◌∷◌, ◌++◌, length, get_or, take, drop, slice_index, refl, sym, ap, ◌∙◌, arith, min}
+use Rattle.std.proofs.Common.{◌≡◌, ℕ, suc, ◌^◌, ◌+◌, ◌*◌, ◌-◌, ◌<◌, ◌≤◌, List, [], ◌∷◌, ◌++◌, length, take, drop, slice_index, refl, sym, ap, ◌∙◌, arith}
 use borrow.Rule.Slice.PartMut.{put_mid, mid_of}
-use Rattle.std.proofs.lemmas.List.{take_rest, drop_all, drop-drop, append-nil, take_more, length-drop, length-append, length-take, take_all}
+use Rattle.std.proofs.lemmas.List.{drop_all, drop-drop, append-nil, take_more, length-drop, length-take, take_all}
 use Rattle.std.proofs.Math.Nat.{mul-add, mul-le-mul_left, mod-eq_of_lt}
 use Rattle.macho_bytes.specs.Numbers.{ByteOrder, little, big, le_bytes, be_bytes, row_bytes, AllBelow}
 use Rattle.macho_bytes.specs.Texts.{put}
-use Rattle.macho_bytes.proofs.Puts.{put-put, length-put, put_nothing}
-use Rattle.macho_bytes.proofs.Numbers.{IsSound, length-row_bytes, length-row_little, length-row_big, row_bytes-more}
+use Rattle.macho_bytes.proofs.Puts.{put-put, put_nothing}
+use Rattle.macho_bytes.proofs.Numbers.{IsSound, length-row_bytes, row_bytes-more}
 
 -- a text written to the front of `&mut out[at..]`
 pub put_mid-front : (at k : ℕ) (out text now : List ℕ) → k ≡ length out - at → at + length text ≤ length out
@@ -21,7 +21,7 @@ put_mid-front at k out text now whole fits is =
     let behind : drop (length text) (mid_of at k out) ≡ drop (at + length text) out = ap (drop (length text)) rest ∙ drop-drop (length text) at out in
     let none : drop k (drop at out) ≡ [] = drop_all k (drop at out) (omega (arith, length-drop at out)) in
     let tail : now ++ drop k (drop at out) ≡ text ++ drop (at + length text) out =
-      ap (λ (t : List ℕ). now ++ t) none ∙ append-nil now ∙ is ∙ ap (λ (t : List ℕ). text ++ t) behind in
+    ap (λ (t : List ℕ). now ++ t) none ∙ append-nil now ∙ is ∙ ap (λ (t : List ℕ). text ++ t) behind in
     ap (λ (t : List ℕ). take at out ++ t) tail
 
 -- a text written to the whole of `&mut out[at..end]`
@@ -47,9 +47,10 @@ row_goes_on order sound w at place i ns before out now lt fits here so_far is =
     let row : length (row_bytes order w (take i ns)) ≡ w * i = length-row_bytes order sound w (take i ns) ∙ ap (λ (k : ℕ). w * k) long in
     let both = put-put at place (row_bytes order w (take i ns)) (order.bytes_of w (slice_index ns i)) before (omega arith) (omega (arith, sound.long w (slice_index ns i))) in
     let more : row_bytes order w (take (i + 1) ns) ≡ row_bytes order w (take i ns) ++ order.bytes_of w (slice_index ns i) =
-      ap (row_bytes order w) (take_more ns i 0 lt) ∙ row_bytes-more order w (take i ns) (slice_index ns i) in
-    (omega arith,
-     is ∙ ap (put place (order.bytes_of w (slice_index ns i))) so_far ∙ both ∙ ap (λ (t : List ℕ). put at t before) (sym more))
+    ap (row_bytes order w) (take_more ns i 0 lt) ∙ row_bytes-more order w (take i ns) (slice_index ns i) in (
+      omega arith,
+      is ∙ ap (put place (order.bytes_of w (slice_index ns i))) so_far ∙ both ∙ ap (λ (t : List ℕ). put at t before) (sym more),
+    )
 
 -- the whole row
 pub row_ends : (order : ByteOrder) (w at i : ℕ) (ns before out : List ℕ) → length ns ≤ i → out ≡ put at (row_bytes order w (take i ns)) before → out ≡ put at (row_bytes order w ns) before

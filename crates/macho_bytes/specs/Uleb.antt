@@ -1,5 +1,5 @@
 -- ULEB128 (DWARF 5, section 7.6): a number in groups of seven bits, the lowest first; each byte but the last has its high bit set.
-use Rattle.std.specs.Prelude.{◌≡◌, ◌≢◌, ℕ, zero, suc, ◌+◌, ◌*◌, ◌/◌, ◌%◌, ◌^◌, ◌-◌, ◌<◌, ◌≤◌, List, [], ◌∷◌, length, slice_index}
+use Rattle.std.specs.Prelude.{◌≡◌, ◌≢◌, ℕ, ◌+◌, ◌*◌, ◌%◌, ◌-◌, ◌<◌, ◌≤◌, List, [], ◌∷◌, length, slice_index}
 
 -- the value of the groups: the low seven bits of each byte
 abbrev pub uleb_value : List ℕ → ℕ

@@ -1,6 +1,6 @@
 -- The layouts of the records of a Mach-O file: for each record its fields in order, in rows of one width in bytes.
-use Rattle.std.specs.Prelude.{ℕ, ◌+◌, ◌*◌, ◌^◌, ◌==◌, Bool, if◌then◌else◌, List, [], ◌∷◌, replicate}
-use Rattle.macho_bytes.specs.Numbers.{little, big, bits}
+use Rattle.std.specs.Prelude.{ℕ, List, [], ◌∷◌, replicate}
+use Rattle.macho_bytes.specs.Numbers.{little, big}
 use Rattle.macho_bytes.specs.Layouts.{Layout, numbers, text}
 use Rattle.macho_records.specs.declared.header.MachHeader.{MachHeader}
 use Rattle.macho_records.specs.declared.header.LoadCommand.{LoadCommand}

@@ -1,5 +1,5 @@
 -- The layout of a relocation: its second word packs five fields in bits.
-use Rattle.std.specs.Prelude.{ℕ, ◌+◌, ◌*◌, ◌^◌, ◌<◌, ◌==◌, Bool, true, false, List, [], ◌∷◌}
+use Rattle.std.specs.Prelude.{ℕ, ◌+◌, ◌*◌, ◌^◌, ◌<◌, ◌==◌, Bool, true, false, [], ◌∷◌}
 use Rattle.macho_bytes.specs.Numbers.{little, bits}
 use Rattle.macho_bytes.specs.Layouts.{Layout, numbers}
 use Rattle.macho_records.specs.declared.relocations.RelocationInfo.{RelocationInfo}

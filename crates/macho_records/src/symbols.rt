@@ -7,12 +7,15 @@
 //!     01            n_sect
 //!     00 00         n_desc
 //!     00 .. 00      n_value, 8 bytes
-ghost use Rattle.std.specs.Prelude.{◌≡◌, ◌+◌, ◌≤◌, length};
+ghost use Rattle.std.specs.Prelude.{◌≡◌, ◌+◌, ◌^◌, ◌<◌, ◌≤◌, ◌==◌, true, false, not, length, IsTrue, if◌then◌else◌};
+ghost use Rattle.macho_bytes.specs.Numbers.{rounded_up};
 ghost use Rattle.macho_bytes.specs.Texts.{put};
 ghost use Rattle.macho_bytes.specs.Layouts.{read_of, size_of, spelling, ReadsBack};
 ghost use Rattle.macho_records.specs.Layouts.{symtab_command, symtab_entry};
+ghost use Rattle.macho_records.specs.Symbols.{is_stab_of, is_undefined_of, is_absolute_of, is_external_of, is_local_of, is_hidden_of, is_weak_of, visibility_of, is_common_of, common_exponent_of, common_size_of, common_of, is_default_strippable_of, with_hidden_of};
 
 use crate::bytes::{put_u8s, put_u16s, put_u32s, put_u64s, u8_at, u16_at, u32_at, u64_at};
+use crate::constants::{N_ABS, N_EXT, N_PEXT, N_STAB, N_TYPE, N_UNDF, N_WEAK_DEF};
 
 /// `struct symtab_command` of mach-o/loader.h: where symbols and their names stand.
 #[derive(Clone, Copy)]
@@ -118,4 +121,173 @@ impl SymtabEntry {
         put_u16s(out, at + 6, &[r.n_desc]);
         put_u64s(out, at + 8, &[r.n_value]);
     }
+}
+
+impl SymtabEntry {
+    /// Whether it is defined in no section and has no value: no debugging entry, and its type is `N_UNDF`.
+    pub fn is_undefined(&self) -> bool
+        ensures { result ≡ is_undefined_of self.now }
+    {
+        self.n_type & N_STAB == 0 && self.n_type & N_TYPE == N_UNDF
+    }
+
+    /// Whether other files do not see it: `N_EXT` is clear.
+    pub fn is_local(&self) -> bool
+        ensures { result ≡ is_local_of self.now }
+    {
+        self.n_type & N_EXT == 0
+    }
+
+    /// Whether its value is absolute: its type is `N_ABS`.
+    pub fn is_absolute(&self) -> bool
+        ensures { result ≡ is_absolute_of self.now }
+    {
+        self.n_type & N_TYPE == N_ABS
+    }
+
+    /// Whether it gives way to other definitions: `N_WEAK_DEF` is set.
+    pub fn is_weak(&self) -> bool
+        ensures { result ≡ is_weak_of self.now }
+    {
+        self.n_desc & N_WEAK_DEF != 0
+    }
+
+    /// Whether it is seen by this link alone: `N_PEXT` is set.
+    pub fn is_hidden(&self) -> bool
+        ensures { result ≡ is_hidden_of self.now }
+    {
+        self.n_type & N_PEXT != 0
+    }
+
+    /// Whether another definition may take its place when the program runs: it isn't hidden.
+    pub fn is_interposable(&self) -> bool
+        ensures { result ≡ not (is_hidden_of self.now) }
+    {
+        !self.is_hidden()
+    }
+
+    /// Who sees it.
+    pub fn visibility(&self) -> Visibility
+        ensures { result ≡ visibility_of self.now }
+    {
+        if self.is_hidden() {
+            Visibility::Hidden
+        } else {
+            Visibility::Default
+        }
+    }
+
+    /// The common that it is, None where it is none. A common is undefined and external, with a size as its value.
+    pub fn as_common(&self) -> Option<CommonSymbol>
+        requires { IsTrue (is_common_of self.now) → common_size_of self.now < 2 ^ 64 }
+        ensures { result ≡ common_of self.now }
+    {
+        if !self.is_undefined() || self.is_local() || self.n_value == 0 {
+            return None;
+        }
+        let align = ((self.n_desc >> 8) & 15) as u8;
+        Some(CommonSymbol {
+            size: rounded_up(self.n_value, align),
+            align,
+        })
+    }
+
+    /// The value: an address, an absolute value, or the size of a common.
+    pub fn value(&self) -> u64
+        ensures { result ≡ self.now.n_value }
+    {
+        self.n_value
+    }
+
+    /// The size of a common, 0 of any other symbol.
+    pub fn size(&self) -> u64
+        requires { IsTrue (is_common_of self.now) → common_size_of self.now < 2 ^ 64 }
+        ensures { result ≡ (if is_common_of self.now then common_size_of self.now else 0) }
+    {
+        match self.as_common() {
+            Some(common) => common.size,
+            None => 0,
+        }
+    }
+
+    /// Whether it has a name: `n_strx` isn't 0.
+    pub fn has_name(&self) -> bool
+        ensures { result ≡ not (self.now.n_strx == 0) }
+    {
+        self.n_strx != 0
+    }
+
+    /// Whether the symbol of this name is a label that an assembler made for itself: local, and `ltmp..`.
+    pub fn is_default_strippable(&self, name: &[u8]) -> bool
+        ensures { result ≡ is_default_strippable_of self.now name.now }
+    {
+        self.is_local() && name.starts_with(b"ltmp")
+    }
+
+    /// No symbol is marked as thread-local.
+    pub fn is_tls(&self) -> bool
+        ensures { result ≡ false }
+    {
+        false
+    }
+
+    /// No symbol is marked as a function.
+    pub fn is_func(&self) -> bool
+        ensures { result ≡ false }
+    {
+        false
+    }
+
+    /// No symbol is an indirect function.
+    pub fn is_ifunc(&self) -> bool
+        ensures { result ≡ false }
+    {
+        false
+    }
+
+    /// No symbol is unique over libraries.
+    pub fn is_gnu_unique(&self) -> bool
+        ensures { result ≡ false }
+    {
+        false
+    }
+
+    /// The symbol with `N_PEXT` set or cleared.
+    pub fn with_hidden(self, hidden: bool) -> SymtabEntry
+        ensures { result ≡ with_hidden_of self hidden }
+    {
+        let n_type = if hidden {
+            self.n_type | N_PEXT
+        } else {
+            self.n_type & !N_PEXT
+        };
+        SymtabEntry { n_type, ..self }
+    }
+}
+
+/// A number rounded up to a multiple of a power of two.
+fn rounded_up(number: u64, exponent: u8) -> u64
+    requires small { exponent < 16 }
+    requires fits { rounded_up (2 ^ exponent) number < 2 ^ 64 }
+    ensures { result ≡ rounded_up (2 ^ exponent) number }
+{
+    number.next_multiple_of(1 << exponent)
+}
+
+/// A common symbol: storage that the linker makes, of the greatest size of all files.
+#[derive(Clone, Copy)]
+pub struct CommonSymbol {
+    /// Its bytes, rounded up to its alignment.
+    pub size: u64,
+    /// Its alignment, as an exponent of 2.
+    pub align: u8,
+}
+
+/// Who sees a symbol.
+#[derive(Clone, Copy, PartialEq, Eq)]
+pub enum Visibility {
+    /// This link alone.
+    Hidden,
+    /// Every file.
+    Default,
 }

@@ -1,5 +1,4 @@
 use Rattle.std.proofs.Common.{ap, sym, ◌∙◌, List, ℕ, arith}
-use Rattle.macho_bytes.specs.Numbers.{little, big}
 use Rattle.macho_bytes.specs.Texts.{put}
 use Rattle.macho_bytes.proofs.Writes.{all_below, row_bytes-little, row_bytes-big}
 use Rattle.macho_records.proofs.bytes.put_u8s.Goals as goal
