@@ -1,6 +1,6 @@
 -- The words on the chain: those that the loader writes anew. They are the least set with two rules: a page start puts
 -- its word on the chain, and each word on the chain leads to the next one (`mach-o/fixup-chains.h`).
-use Rattle.std.specs.Prelude.{◌≡◌, ◌≢◌, ℕ, ◌+◌, ◌*◌, ◌-◌, ◌<◌, ◌≤◌, nat_lt, if◌then◌else◌, List, [], ◌∷◌, length, map, get_or, slice_index, Contains}
+use Rattle.std.specs.Prelude.{◌≡◌, ◌≢◌, ℕ, ◌+◌, ◌*◌, ◌-◌, ◌<◌, ◌≤◌, nat_lt, if◌then◌else◌, List, [], ◌∷◌, length, map, slice_index, Contains}
 use Rattle.std.specs.List.{enumerate_from}
 use Rattle.macho_bytes.specs.Numbers.{le_at, bits}
 use Rattle.macho_records.specs.declared.header.SegmentCommand.{SegmentCommand}

@@ -1,5 +1,5 @@
 -- The load commands of a Mach-O file (`mach-o/loader.h`): a list behind the header, each with its number and its size.
-use Rattle.std.specs.Prelude.{◌≡◌, ℕ, zero, suc, ◌+◌, ◌*◌, ◌≤◌, ◌==◌, nat_le, nat_lt, ◌&&◌, not, Bool, true, List, [], ◌∷◌, length, map, filter, slice_range}
+use Rattle.std.specs.Prelude.{ℕ, zero, suc, ◌+◌, ◌*◌, ◌==◌, nat_le, ◌&&◌, Bool, List, [], ◌∷◌, filter, slice_range}
 use Rattle.macho_bytes.specs.Layouts.{reading, size_of}
 use Rattle.macho_bytes.specs.Texts.{name_of}
 use Rattle.macho_records.specs.Layouts.{mach_header, load_command, segment_command, section_header}

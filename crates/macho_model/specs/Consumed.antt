@@ -1,6 +1,6 @@
 -- Sections that are read and turned into parts of the image: initializers, and compact unwind entries
 -- (`mach-o/compact_unwind_encoding.h`). A test for each rule that they keep.
-use Rattle.std.specs.Prelude.{◌≡◌, ℕ, ◌+◌, ◌*◌, ◌-◌, ◌/◌, ◌%◌, ◌^◌, ◌<◌, ◌==◌, nat_le, nat_lt, ◌&&◌, ◌||◌, not, if◌then◌else◌, Bool, true, false, List, [], ◌∷◌, length, filter, map}
+use Rattle.std.specs.Prelude.{ℕ, ◌+◌, ◌*◌, ◌-◌, ◌/◌, ◌%◌, ◌==◌, nat_le, nat_lt, ◌&&◌, ◌||◌, not, Bool, true, false, List, length, filter, map}
 use Rattle.std.specs.List.{list_any, list_all, flat_map, range_with_len}
 use Rattle.macho_bytes.specs.Numbers.{le_at, bits}
 use Rattle.macho_bytes.specs.Layouts.{reading}
@@ -11,11 +11,13 @@ use Rattle.macho_model.specs.declared.rules.UnwindRule.{UnwindRule}
 use Rattle.macho_model.specs.declared.rules.UnwindRule.TheVariants.{U1, U2, U3, U4, U5, U6, U7, U8}
 use Rattle.macho_model.specs.declared.targets.Target.{Target}
 use Rattle.macho_model.specs.declared.targets.Target.TheVariants as target
-use Rattle.macho_model.specs.Constants.{section_type, is_zerofill, is_executable_section, is_in_segment, S_MOD_INIT_FUNC_POINTERS}
+use Rattle.macho_records.specs.Sections.{is_executable_of, is_zerofill, type_of}
+use Rattle.macho_model.specs.Symbols.{is_in_segment}
+use Rattle.macho_records.specs.declared.constants.TheConstants.{ARM64_RELOC_UNSIGNED, S_MOD_INIT_FUNC_POINTERS}
 use Rattle.macho_model.specs.Objects.{section_bytes}
 use Rattle.macho_model.specs.Links.{Link, object_of, SectionId, header_at, is_carried}
 use Rattle.macho_model.specs.Needs.{relocation_in, relocations_of, relocations_at, unwind_sections, distinct, POINTER_SIZE, UNWIND_ENTRY_SIZE, PERSONALITY_PLACE}
-use Rattle.macho_model.specs.Targets.{target_of_relocation, is_defined, is_import, same_target, UNSIGNED}
+use Rattle.macho_model.specs.Targets.{target_of_relocation, is_defined, is_import, same_target}
 use Rattle.macho_model.specs.Segments.{TEXT}
 
 abbrev pub bytes_of_section : Link → SectionId → List ℕ
@@ -23,7 +25,7 @@ bytes_of_section l s = section_bytes (object_of l s.file) s.section
 
 -- a plain pointer of 8 bytes
 abbrev pub is_plain_pointer : RelocationInfo → Bool
-is_plain_pointer rel = (rel.r_type == UNSIGNED) && (rel.r_length == 3) && not rel.r_pcrel
+is_plain_pointer rel = (rel.r_type == ARM64_RELOC_UNSIGNED) && (rel.r_length == 3) && not rel.r_pcrel
 
 abbrev pub is_section_target : Target → Bool
 is_section_target (target.Section file section offset) = true
@@ -41,7 +43,7 @@ initializer_slot_fits l s slot =
     && (le_at POINTER_SIZE (bytes_of_section l s) (POINTER_SIZE * slot) == 0)
 
 abbrev pub initializer_section_fits : Link → SectionId → Bool
-initializer_section_fits l s = (section_type (header_at l s) == S_MOD_INIT_FUNC_POINTERS) && ((header_at l s).size % POINTER_SIZE == 0)
+initializer_section_fits l s = (type_of (header_at l s) == S_MOD_INIT_FUNC_POINTERS) && ((header_at l s).size % POINTER_SIZE == 0)
 
 -- the places of the three addresses of an entry
 abbrev pub START_PLACE : ℕ
@@ -85,7 +87,7 @@ section_named l s r = record { file = s.file; section = (relocation_in l s r).r_
 -- a section that functions stand in
 abbrev pub holds_functions : Link → SectionId → Bool
 holds_functions l f =
-    is_carried (header_at l f) && is_executable_section (header_at l f) && is_in_segment TEXT (header_at l f) && not (is_zerofill (header_at l f))
+    is_carried (header_at l f) && is_executable_of (header_at l f) && is_in_segment TEXT (header_at l f) && not (is_zerofill (header_at l f))
 
 -- U4: the start has a relocation that names such a section by number
 abbrev pub start_fits : Link → SectionId → ℕ → Bool

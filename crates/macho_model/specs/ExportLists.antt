@@ -1,7 +1,6 @@
 -- Export lists: a text of lines, each a name or a pattern in which `*` stands for any run of bytes.
-use Rattle.std.specs.Prelude.{ℕ, ◌+◌, ◌==◌, ◌&&◌, ◌||◌, not, if◌then◌else◌, Bool, true, false, List, [], ◌∷◌, length, map, filter, drop, reverse, take_while}
+use Rattle.std.specs.Prelude.{ℕ, ◌+◌, ◌==◌, ◌&&◌, ◌||◌, not, if◌then◌else◌, Bool, false, List, [], ◌∷◌, length, map, filter, drop, reverse, take_while}
 use Rattle.std.specs.List.{flat_map, list_any, before_first, range_with_len, slice_split}
-use Rattle.std.specs.Str.{bytes_eq}
 
 -- the bytes of the format
 abbrev pub NEWLINE : ℕ

@@ -1,11 +1,13 @@
 -- The names that an image exports, and what the exports trie says of each (`mach-o/loader.h`, `EXPORT_SYMBOL_FLAGS_..`).
-use Rattle.std.specs.Prelude.{◌≡◌, ℕ, ◌+◌, ◌==◌, ◌&&◌, ◌||◌, not, if◌then◌else◌, Bool, true, false, List, [], length, Option, Some, None, Contains}
+use Rattle.std.specs.Prelude.{◌≡◌, ℕ, ◌+◌, ◌==◌, ◌||◌, not, if◌then◌else◌, Bool, true, false, List, length, Some, Contains}
 use Rattle.std.specs.List.{position_or_len}
 use Rattle.std.specs.Str.{bytes_eq}
 use Rattle.macho_model.specs.declared.targets.Target.{Target}
 use Rattle.macho_model.specs.declared.targets.Target.TheVariants as target
 use Rattle.macho_model.specs.declared.placed.PlacedCommon.{PlacedCommon}
-use Rattle.macho_model.specs.Constants.{is_private_extern, is_weak_def, section_type, S_THREAD_LOCAL_VARIABLES}
+use Rattle.macho_records.specs.Symbols.{is_hidden_of, is_weak_of}
+use Rattle.macho_records.specs.Sections.{type_of}
+use Rattle.macho_records.specs.declared.constants.TheConstants.{S_THREAD_LOCAL_VARIABLES}
 use Rattle.macho_model.specs.ExportLists.{listed}
 use Rattle.macho_model.specs.Links.{Link, header_at}
 use Rattle.macho_model.specs.Resolution.{SymbolId, Symbol, entry_at, definition_of}
@@ -38,13 +40,13 @@ is_listed l name = not (has_lists l) || listed l.export_lists name
 
 -- a name is exported from an object: its definition stands there and is visible
 abbrev pub IsExported : Link → List ℕ → SymbolId → Type 0
-IsExported l name s = (definition_of l name ≡ Some (Symbol s)) × (is_private_extern (entry_at l s) ≡ false) × (is_listed l name ≡ true)
+IsExported l name s = (definition_of l name ≡ Some (Symbol s)) × (is_hidden_of (entry_at l s) ≡ false) × (is_listed l name ≡ true)
 
 abbrev pub weak_flag : Link → SymbolId → ℕ
-weak_flag l s = if is_weak_def (entry_at l s) then FLAG_WEAK else 0
+weak_flag l s = if is_weak_of (entry_at l s) then FLAG_WEAK else 0
 
 abbrev pub section_flag : Link → ℕ → ℕ → ℕ
-section_flag l file section = if section_type (header_at l (record { file = file; section = section })) == S_THREAD_LOCAL_VARIABLES then FLAG_THREAD_LOCAL else 0
+section_flag l file section = if type_of (header_at l (record { file = file; section = section })) == S_THREAD_LOCAL_VARIABLES then FLAG_THREAD_LOCAL else 0
 
 -- the flags and the value of a target: an address less the base, or an absolute value
 abbrev pub ValueOf : Link → Placed → ℕ → Target → Export → Type 0

@@ -1,5 +1,5 @@
 -- When each refusal of a link stands. A refusal is told only where it stands, and an image only where none does.
-use Rattle.std.specs.Prelude.{◌≡◌, ℕ, ◌+◌, ◌*◌, ◌-◌, ◌%◌, ◌^◌, ◌<◌, ◌≤◌, ◌⊎◌, ◌==◌, nat_le, nat_lt, ◌&&◌, ◌||◌, not, Bool, true, false, List, [], ◌∷◌, length, get_or, Option, Some, None, Contains, IsNone, reverse, take_while, drop, codes}
+use Rattle.std.specs.Prelude.{◌≡◌, ℕ, ◌+◌, ◌*◌, ◌-◌, ◌%◌, ◌^◌, ◌<◌, ◌≤◌, ◌⊎◌, ◌==◌, nat_le, nat_lt, ◌||◌, not, Bool, true, false, List, length, get_or, Option, Some, None, Contains, IsNone, reverse, take_while, drop, codes}
 use Rattle.std.specs.List.{list_any}
 use Rattle.std.specs.Str.{bytes_eq}
 use Rattle.macho_model.specs.declared.rules.UnwindRule.{UnwindRule}
@@ -8,7 +8,8 @@ use Rattle.macho_model.specs.declared.targets.Site.{Site}
 use Rattle.macho_model.specs.declared.placed.Counts.{Counts}
 use Rattle.macho_model.specs.ExportLists.{plain_entries}
 use Rattle.macho_model.specs.Links.{Link, SectionId, header_at, carried_of}
-use Rattle.macho_model.specs.Resolution.{SymbolId, entry_at, name_at, is_global, strong_of, definition_of}
+use Rattle.macho_model.specs.Symbols.{is_global}
+use Rattle.macho_model.specs.Resolution.{SymbolId, entry_at, name_at, strong_of, definition_of}
 use Rattle.macho_model.specs.Needs.{Use, uses_of, symbol_used, initializer_sections, unwind_sections, relocation_in, POINTER_SIZE}
 use Rattle.macho_model.specs.Targets.{target_of_name, is_import}
 use Rattle.macho_model.specs.Fields.{Field}

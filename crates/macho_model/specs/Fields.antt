@@ -1,13 +1,12 @@
 -- The relocated fields of a carried section: where each stands, what it refers to, and what it adds.
-use Rattle.std.specs.Prelude.{◌≡◌, ℕ, ◌+◌, ◌*◌, ◌-◌, ◌%◌, ◌^◌, ◌==◌, nat_le, ◌&&◌, ◌||◌, not, if◌then◌else◌, Bool, true, false, List, [], ◌∷◌, length, map, filter, Option, Some, None}
-use Rattle.std.specs.List.{range_with_len}
+use Rattle.std.specs.Prelude.{ℕ, ◌+◌, ◌*◌, ◌-◌, ◌%◌, ◌^◌, ◌==◌, nat_le, ◌&&◌, ◌||◌, not, if◌then◌else◌, Bool, List, map, filter, Option, Some, None}
+use Rattle.macho_records.specs.declared.constants.TheConstants.{ARM64_RELOC_ADDEND, ARM64_RELOC_BRANCH26, ARM64_RELOC_PAGE21, ARM64_RELOC_PAGEOFF12, ARM64_RELOC_SUBTRACTOR, ARM64_RELOC_UNSIGNED}
 use Rattle.macho_bytes.specs.Numbers.{le_at, signed}
 use Rattle.macho_model.specs.declared.targets.Target.{Target}
 use Rattle.macho_model.specs.Objects.{section_bytes}
-use Rattle.macho_model.specs.ObjectRules.{RELOC_ADDEND}
 use Rattle.macho_model.specs.Links.{Link, object_of, SectionId, header_at}
 use Rattle.macho_model.specs.Needs.{relocation_in, relocations_of}
-use Rattle.macho_model.specs.Targets.{target_of_relocation, UNSIGNED, SUBTRACTOR, BRANCH26, PAGE21, PAGEOFF12}
+use Rattle.macho_model.specs.Targets.{target_of_relocation}
 
 -- A field: its offset in the section, its width in bytes, the type of its relocation, what it refers to, what it
 -- subtracts where it is a difference, and its addend as a number modulo 2 ^ 64.
@@ -22,7 +21,7 @@ pub record Field : Type 0 where
 
 -- a relocation's type is one of the two that are part of the field of the relocation behind them
 abbrev pub is_prefix_type : ℕ → Bool
-is_prefix_type type = (type == SUBTRACTOR) || (type == RELOC_ADDEND)
+is_prefix_type type = (type == ARM64_RELOC_SUBTRACTOR) || (type == ARM64_RELOC_ADDEND)
 
 -- the relocation in front of one has a type
 abbrev pub follows : Link → SectionId → ℕ → ℕ → Bool
@@ -40,23 +39,23 @@ content_of l s r = le_at (width_of l s r) (section_bytes (object_of l s.file) s.
 -- number its content less that section's address in the input.
 abbrev pub pointer_addend : Link → SectionId → ℕ → ℕ
 pointer_addend l s r =
-    if follows l s r SUBTRACTOR then signed (8 * width_of l s r) (content_of l s r)
+    if follows l s r ARM64_RELOC_SUBTRACTOR then signed (8 * width_of l s r) (content_of l s r)
     else if (relocation_in l s r).r_extern then content_of l s r
     else (content_of l s r + (2 ^ 64 - (header_at l (record { file = s.file; section = (relocation_in l s r).r_symbolnum - 1 })).addr)) % 2 ^ 64
 
 -- the types that an addend may stand in front of
 abbrev pub takes_addend : ℕ → Bool
-takes_addend type = (type == BRANCH26) || (type == PAGE21) || (type == PAGEOFF12)
+takes_addend type = (type == ARM64_RELOC_BRANCH26) || (type == ARM64_RELOC_PAGE21) || (type == ARM64_RELOC_PAGEOFF12)
 
 -- The addend of any field: that of a pointer; the 24 bits of the addend in front of it, read as signed; else 0.
 abbrev pub addend_of : Link → SectionId → ℕ → ℕ
 addend_of l s r =
-    if (relocation_in l s r).r_type == UNSIGNED then pointer_addend l s r
-    else if takes_addend (relocation_in l s r).r_type && follows l s r RELOC_ADDEND then signed 24 (relocation_in l s (r - 1)).r_symbolnum
+    if (relocation_in l s r).r_type == ARM64_RELOC_UNSIGNED then pointer_addend l s r
+    else if takes_addend (relocation_in l s r).r_type && follows l s r ARM64_RELOC_ADDEND then signed 24 (relocation_in l s (r - 1)).r_symbolnum
     else 0
 
 abbrev pub subtrahend_of : Link → SectionId → ℕ → Option Target
-subtrahend_of l s r = if follows l s r SUBTRACTOR then Some (target_of_relocation l s (r - 1)) else None
+subtrahend_of l s r = if follows l s r ARM64_RELOC_SUBTRACTOR then Some (target_of_relocation l s (r - 1)) else None
 
 abbrev pub field_of : Link → SectionId → ℕ → Field
 field_of l s r = record {

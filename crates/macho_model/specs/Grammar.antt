@@ -3,7 +3,7 @@
 use Rattle.std.specs.Prelude.{◌≡◌, ℕ, ◌<◌, ◌≤◌, ◌⊎◌, Bool, true, false, List, [], length, get_or, All}
 use Rattle.macho_model.specs.declared.rules.ObjectRule.{ObjectRule}
 use Rattle.macho_model.specs.declared.rules.ObjectRule.TheVariants.{O1, O2, O3, O4, O5, O6, O7, O8, O9, O10, O11, O12, O13, O14}
-use Rattle.macho_model.specs.Constants.{MH_OBJECT, MH_DYLIB, LC_SEGMENT_64, LC_SYMTAB, LC_ID_DYLIB}
+use Rattle.macho_records.specs.declared.constants.TheConstants.{LC_ID_DYLIB, LC_SEGMENT_64, LC_SYMTAB, MH_DYLIB, MH_OBJECT}
 use Rattle.macho_model.specs.Commands.{Command, commands_of, numbered, place_of, command_fits}
 use Rattle.macho_model.specs.Objects.{num_sections, section_place, section_at, num_symbols, symbol_place, relocation_place}
 use Rattle.macho_model.specs.ObjectRules.{head_fits, commands_inside, needed_in_object, needed_in_dylib, has_one, tables_inside, symbol_section_exists, relocation_number_exists, data_inside, exponent_fits, value_in_section, name_ends, path_ends, relocations_inside, field_inside, thread_local_in_data, zerofill_unrelocated, global_has_name, common_fits}

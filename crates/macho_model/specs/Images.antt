@@ -1,6 +1,6 @@
 -- What the bytes of an image say to the loader: its segments, its libraries, its fixup table. Each is a total function
 -- of the whole list of bytes; `Loader` tells when an image is accepted.
-use Rattle.std.specs.Prelude.{◌≡◌, ℕ, zero, suc, ◌+◌, ◌*◌, ◌-◌, ◌/◌, ◌%◌, ◌^◌, ◌==◌, if◌then◌else◌, not, Bool, List, [], ◌∷◌, length, map, filter, drop, slice_range, get_or, Option, Some, None}
+use Rattle.std.specs.Prelude.{ℕ, ◌+◌, ◌*◌, ◌-◌, ◌==◌, if◌then◌else◌, not, Bool, List, [], ◌∷◌, map, filter, drop, slice_range, get_or}
 use Rattle.std.specs.List.{range_with_len}
 use Rattle.std.specs.Str.{bytes_eq}
 use Rattle.macho_bytes.specs.Numbers.{le_at, bits, signed}
@@ -10,7 +10,7 @@ use Rattle.macho_records.specs.Layouts.{segment_command, dylib_command, linkedit
 use Rattle.macho_records.specs.declared.header.SegmentCommand.{SegmentCommand}
 use Rattle.macho_records.specs.declared.fixups.ChainedFixupsHeader.{ChainedFixupsHeader}
 use Rattle.macho_records.specs.declared.fixups.ChainedStartsInSegment.{ChainedStartsInSegment}
-use Rattle.macho_model.specs.Constants.{LC_SEGMENT_64, LC_LOAD_DYLIB, LC_DYLD_CHAINED_FIXUPS}
+use Rattle.macho_records.specs.declared.constants.TheConstants.{LC_DYLD_CHAINED_FIXUPS, LC_LOAD_DYLIB, LC_SEGMENT_64}
 use Rattle.macho_model.specs.Commands.{Command, numbered, path_of}
 use Rattle.macho_model.specs.Segments.{PAGEZERO, TEXT}
 

@@ -1,4 +1,4 @@
-pub mod Constants
+pub mod Symbols
 pub mod Commands
 pub mod Objects
 pub mod ObjectRules

@@ -1,5 +1,5 @@
 -- The greatest numbers that the format takes, and when a link or an image passes one.
-use Rattle.std.specs.Prelude.{◌≡◌, ℕ, ◌+◌, ◌-◌, ◌/◌, ◌^◌, ◌<◌, ◌≤◌, ◌⊎◌, List, length, Option, Some, None, Contains}
+use Rattle.std.specs.Prelude.{◌≡◌, ℕ, ◌+◌, ◌-◌, ◌/◌, ◌^◌, ◌<◌, ◌≤◌, ◌⊎◌, length, Option, Some, None, Contains}
 use Rattle.macho_model.specs.declared.targets.Limit.{Limit}
 use Rattle.macho_model.specs.declared.targets.Limit.TheVariants as limit
 use Rattle.macho_model.specs.declared.placed.Counts.{Counts}

@@ -1,8 +1,10 @@
 -- What is linked: the arguments that matter and the inputs in order; which sections of the objects go into the image.
-use Rattle.std.specs.Prelude.{◌≡◌, ℕ, ◌+◌, ◌==◌, nat_le, ◌&&◌, ◌||◌, not, if◌then◌else◌, Bool, true, false, List, [], ◌∷◌, ◌++◌, length, map, filter, Option, codes, get_or, max}
-use Rattle.std.specs.List.{flat_map, enumerate_from, range_with_len, list_any}
+use Rattle.std.specs.Prelude.{ℕ, ◌==◌, ◌&&◌, ◌||◌, not, if◌then◌else◌, Bool, List, [], ◌∷◌, map, filter, Option, codes, get_or, max}
+use Rattle.std.specs.List.{flat_map, enumerate_from, range_with_len}
 use Rattle.macho_records.specs.declared.header.SectionHeader.{SectionHeader}
-use Rattle.macho_model.specs.Constants.{should_exclude, has_section_name, section_type, S_THREAD_LOCAL_REGULAR, S_THREAD_LOCAL_ZEROFILL, S_THREAD_LOCAL_VARIABLES}
+use Rattle.macho_records.specs.Sections.{should_exclude_of, type_of}
+use Rattle.macho_model.specs.Symbols.{has_section_name}
+use Rattle.macho_records.specs.declared.constants.TheConstants.{S_THREAD_LOCAL_REGULAR, S_THREAD_LOCAL_VARIABLES, S_THREAD_LOCAL_ZEROFILL}
 use Rattle.macho_model.specs.Objects.{num_sections, section_at}
 
 -- what a stub text says: its library's install name, and the names that it offers
@@ -64,15 +66,15 @@ is_unwind_entries h = has_section_name (codes "__compact_unwind") h
 
 -- a section goes into the image as it is
 abbrev pub is_carried : SectionHeader → Bool
-is_carried h = not (should_exclude h) && not (is_initializers h) && not (is_unwind_entries h)
+is_carried h = not (should_exclude_of h) && not (is_initializers h) && not (is_unwind_entries h)
 
 -- a section that is read, and goes into the image in another form
 abbrev pub is_consumed : SectionHeader → Bool
-is_consumed h = not (should_exclude h) && (is_initializers h || is_unwind_entries h)
+is_consumed h = not (should_exclude_of h) && (is_initializers h || is_unwind_entries h)
 
 -- a carried section of the thread-local template
 abbrev pub is_template : SectionHeader → Bool
-is_template h = is_carried h && ((section_type h == S_THREAD_LOCAL_REGULAR) || (section_type h == S_THREAD_LOCAL_ZEROFILL))
+is_template h = is_carried h && ((type_of h == S_THREAD_LOCAL_REGULAR) || (type_of h == S_THREAD_LOCAL_ZEROFILL))
 
 -- the sections of one file
 abbrev pub sections_of_file : ℕ → Input → List SectionId
@@ -102,5 +104,5 @@ template_exponent l = greatest (map (λ s. (header_at l s).align) (filter (λ s.
 unfoldable pub placed_exponent : Link → SectionId → ℕ
 placed_exponent l s =
     if is_template (header_at l s) then template_exponent l
-    else if section_type (header_at l s) == S_THREAD_LOCAL_VARIABLES then max 3 (header_at l s).align
+    else if type_of (header_at l s) == S_THREAD_LOCAL_VARIABLES then max 3 (header_at l s).align
     else (header_at l s).align

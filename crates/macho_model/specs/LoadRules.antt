@@ -1,16 +1,16 @@
 -- What the loader asks of an image: a test for each rule, of one record: the header, a command, a fixup table, an import.
-use Rattle.std.specs.Prelude.{◌≡◌, ℕ, ◌+◌, ◌*◌, ◌-◌, ◌%◌, ◌^◌, ◌<◌, ◌==◌, nat_le, nat_lt, ◌&&◌, ◌||◌, not, if◌then◌else◌, Bool, true, false, List, [], ◌∷◌, length, map, drop, get_or, codes}
+use Rattle.std.specs.Prelude.{ℕ, ◌+◌, ◌*◌, ◌%◌, ◌^◌, ◌==◌, nat_le, ◌&&◌, ◌||◌, if◌then◌else◌, Bool, List, length, map, drop, get_or}
 use Rattle.std.specs.List.{list_all, range_with_len}
 use Rattle.std.specs.Str.{bytes_eq}
 use Rattle.macho_bytes.specs.Texts.{name_of}
 use Rattle.macho_bytes.specs.Layouts.{reading, size_of}
 use Rattle.macho_records.specs.Layouts.{mach_header, segment_command, symtab_command, dylib_command, dylinker_command, rpath_command, uuid_command, build_version_command, linkedit_data_command, entry_point_command, chained_fixups_header, chained_starts_in_segment}
 use Rattle.macho_records.specs.declared.header.SegmentCommand.{SegmentCommand}
-use Rattle.macho_model.specs.Constants.{MH_MAGIC_64, CPU_TYPE_ARM64, MH_EXECUTE, MH_DYLIB, LC_SYMTAB, LC_LOAD_DYLIB, LC_ID_DYLIB, LC_LOAD_DYLINKER, LC_SEGMENT_64, LC_UUID, LC_CODE_SIGNATURE, LC_BUILD_VERSION, LC_RPATH, LC_MAIN, LC_DYLD_EXPORTS_TRIE, LC_DYLD_CHAINED_FIXUPS}
+use Rattle.macho_records.specs.declared.constants.TheConstants.{CPU_TYPE_ARM64, LC_BUILD_VERSION, LC_CODE_SIGNATURE, LC_DYLD_CHAINED_FIXUPS, LC_DYLD_EXPORTS_TRIE, LC_ID_DYLIB, LC_LOAD_DYLIB, LC_LOAD_DYLINKER, LC_MAIN, LC_RPATH, LC_SEGMENT_64, LC_SYMTAB, LC_UUID, MH_DYLIB, MH_EXECUTE, MH_MAGIC_64}
 use Rattle.macho_model.specs.Commands.{Command, header_of, commands_end, segment_size}
 use Rattle.macho_model.specs.ObjectRules.{has_nul}
-use Rattle.macho_model.specs.Segments.{PAGEZERO, TEXT, DATA_CONST, LINKEDIT, SEGMENT_PAGE}
-use Rattle.macho_model.specs.Images.{segments_of, base_of, libraries_of, Table, fixups_header, starts_count, starts_offset, segment_starts, import_entry_size, ImportEntry, import_entry, table_names, IMPORT_FORMAT, IMPORT_ADDEND_FORMAT, CHAIN_PAGE}
+use Rattle.macho_model.specs.Segments.{PAGEZERO, TEXT, LINKEDIT, SEGMENT_PAGE}
+use Rattle.macho_model.specs.Images.{segments_of, base_of, libraries_of, Table, fixups_header, starts_count, starts_offset, segment_starts, import_entry_size, import_entry, table_names, IMPORT_FORMAT, IMPORT_ADDEND_FORMAT, CHAIN_PAGE}
 
 -- L1: a whole 64-bit arm64 header of an executable or a dynamic library
 abbrev pub image_head_fits : List ℕ → Bool
@@ -33,8 +33,8 @@ needed_in_image b c =
     then size_of linkedit_data_command else 0
 
 -- what a segment of a name may be accessed for: 1 to read, 2 to write, 4 to execute
-abbrev pub protection_of : List ℕ → ℕ
-protection_of name =
+abbrev pub loaded_protection_of : List ℕ → ℕ
+loaded_protection_of name =
     if bytes_eq name PAGEZERO then 0 else if bytes_eq name TEXT then 5 else if bytes_eq name LINKEDIT then 1 else 3
 
 abbrev pub segment_in : List ℕ → Command → SegmentCommand
@@ -43,8 +43,8 @@ segment_in b c = reading segment_command b c.at
 -- L3: a segment's protections are those of its name
 abbrev pub protections_fit : List ℕ → Command → Bool
 protections_fit b c =
-    ((segment_in b c).maxprot == protection_of (name_of (segment_in b c).segname))
-    && ((segment_in b c).initprot == protection_of (name_of (segment_in b c).segname))
+    ((segment_in b c).maxprot == loaded_protection_of (name_of (segment_in b c).segname))
+    && ((segment_in b c).initprot == loaded_protection_of (name_of (segment_in b c).segname))
 
 -- L4: a segment's file bytes stand inside the file, and are at most its bytes in memory
 abbrev pub file_part_inside : List ℕ → Command → Bool

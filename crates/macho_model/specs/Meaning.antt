@@ -1,8 +1,8 @@
 -- What a relocated field says, as relations between a place, a word that is read there and the address that the field
 -- refers to. Addresses are numbers modulo 2 ^ 64 (`mach-o/arm64/reloc.h`).
-use Rattle.std.specs.Prelude.{◌≡◌, ℕ, ◌+◌, ◌*◌, ◌-◌, ◌%◌, ◌^◌, ◌==◌, ◌&&◌, Bool, true, false, Option, Some, None}
+use Rattle.std.specs.Prelude.{◌≡◌, ℕ, ◌+◌, ◌*◌, ◌%◌, ◌^◌, true}
 use Rattle.macho_bytes.specs.Numbers.{signed, page, low}
-use Rattle.macho_model.specs.Words.{is_adrp, imm21, is_branch, imm26, is_add, is_ldr, is_load_store, imm12, scale_of, base_register, written_register, without_imm21, without_imm26, without_imm12, BR_X16, X16}
+use Rattle.macho_model.specs.Words.{is_adrp, imm21, imm26, is_add, is_ldr, imm12, scale_of, base_register, written_register, without_imm21, without_imm26, without_imm12, BR_X16, X16}
 
 -- two addresses are the same
 abbrev pub Same : ℕ → ℕ → Type 0

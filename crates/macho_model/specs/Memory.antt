@@ -1,13 +1,13 @@
 -- The memory of a loaded image, at a slide and for a choice of import addresses: each segment's file bytes, then zeros;
 -- and in place of the bytes of each word on the chain, the word that the loader makes of it.
-use Rattle.std.specs.Prelude.{◌≡◌, ℕ, ◌+◌, ◌*◌, ◌-◌, ◌%◌, ◌^◌, ◌<◌, ◌≤◌, ◌⊎◌, ◌==◌, nat_lt, if◌then◌else◌, Bool, true, false, List, [], ◌∷◌, length, slice_index, Option, Some, None, All, Contains}
+use Rattle.std.specs.Prelude.{◌≡◌, ℕ, ◌+◌, ◌*◌, ◌-◌, ◌%◌, ◌^◌, ◌<◌, ◌≤◌, ◌⊎◌, nat_lt, if◌then◌else◌, Bool, true, false, List, length, slice_index, Option, Some, All, Contains}
 use Rattle.std.specs.FinMap.{FinMap, get}
 use Rattle.std.specs.Ordering.{ordering_then, nat_cmp}
 use Rattle.std.specs.declared.cmp.Ordering.{Ordering}
 use Rattle.std.specs.Cmp.Lexicographic.{slice_cmp}
 use Rattle.macho_bytes.specs.Numbers.{le_at, le_bytes, bits}
 use Rattle.macho_records.specs.declared.header.SegmentCommand.{SegmentCommand}
-use Rattle.macho_model.specs.Images.{mapped_segments, base_of, Table, tables_of, fixups_header, ImportEntry, import_entry, import_name, import_library_name}
+use Rattle.macho_model.specs.Images.{mapped_segments, base_of, Table, tables_of, fixups_header, import_entry, import_name, import_library_name}
 use Rattle.macho_model.specs.Chain.{chain_segments, IsFileWord, WORD_SIZE, OnChainOf}
 use Rattle.macho_model.specs.Loader.{is_bind, ordinal_of}
 

@@ -1,15 +1,15 @@
 -- What the objects ask for, in the order of one walk: carried relocations, then initializers, then personality
 -- functions of unwind entries, then the plain names of the export lists. From it come imports and libraries.
-use Rattle.std.specs.Prelude.{◌≡◌, ℕ, ◌+◌, ◌*◌, ◌/◌, ◌==◌, nat_lt, ◌&&◌, ◌||◌, not, if◌then◌else◌, Bool, true, false, List, [], ◌∷◌, ◌++◌, length, map, filter, find, Option, Some, None}
-use Rattle.std.specs.List.{flat_map, filter_map, enumerate_from, range_with_len, list_any, position_or_len}
+use Rattle.std.specs.Prelude.{ℕ, ◌+◌, ◌*◌, ◌/◌, ◌==◌, ◌&&◌, ◌||◌, not, if◌then◌else◌, Bool, true, false, List, [], ◌∷◌, ◌++◌, map, filter, Option, Some, None}
+use Rattle.std.specs.List.{flat_map, filter_map, range_with_len, list_any, position_or_len}
 use Rattle.std.specs.Str.{bytes_eq}
 use Rattle.macho_records.specs.declared.relocations.RelocationInfo.{RelocationInfo}
-use Rattle.macho_model.specs.Constants.{should_exclude}
+use Rattle.macho_records.specs.declared.constants.TheConstants.{ARM64_RELOC_ADDEND}
 use Rattle.macho_model.specs.Objects.{relocation_at, install_name_of}
-use Rattle.macho_model.specs.ObjectRules.{RELOC_ADDEND}
 use Rattle.macho_model.specs.ExportLists.{plain_entries}
 use Rattle.macho_model.specs.Links.{Input, Object, Dylib, Stub, Link, object_of, SectionId, header_at, is_consumed, is_initializers, is_unwind_entries, sections_of, carried_of}
-use Rattle.macho_model.specs.Resolution.{SymbolId, Definition, Symbol, Library, ImageBase, definition_of, is_global, entry_at, name_at, library_name}
+use Rattle.macho_model.specs.Symbols.{is_global}
+use Rattle.macho_model.specs.Resolution.{SymbolId, Definition, Symbol, Library, ImageBase, definition_of, entry_at, name_at, library_name}
 
 -- the bytes of an initializer's slot and of a compact unwind entry, and the place of the personality in the latter
 -- (`mach-o/compact_unwind_encoding.h`)
@@ -80,7 +80,7 @@ uses_of l =
 -- the symbol that a relocation names, if it names one
 abbrev pub symbol_of_relocation : Link → SectionId → ℕ → Option SymbolId
 symbol_of_relocation l s r =
-    if (relocation_in l s r).r_extern && not ((relocation_in l s r).r_type == RELOC_ADDEND)
+    if (relocation_in l s r).r_extern && not ((relocation_in l s r).r_type == ARM64_RELOC_ADDEND)
     then Some (record { file = s.file; symbol = (relocation_in l s r).r_symbolnum }) else None
 
 abbrev pub symbol_used : Link → Use → Option SymbolId

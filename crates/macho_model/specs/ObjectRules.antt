@@ -1,21 +1,20 @@
 -- The rules of relocatable objects and dynamic libraries, a test for each, of one record: a section, a symbol, a
 -- relocation or a command. `Grammar` asks each test of each record.
-use Rattle.std.specs.Prelude.{◌≡◌, ℕ, ◌+◌, ◌*◌, ◌-◌, ◌^◌, ◌<◌, ◌==◌, nat_le, nat_lt, ◌&&◌, ◌||◌, not, if◌then◌else◌, Bool, true, false, List, [], ◌∷◌, length, drop, slice_range, codes}
+use Rattle.std.specs.Prelude.{ℕ, ◌+◌, ◌*◌, ◌-◌, ◌^◌, ◌==◌, nat_le, nat_lt, ◌&&◌, ◌||◌, not, if◌then◌else◌, Bool, List, length, drop, slice_range, codes}
 use Rattle.macho_bytes.specs.Texts.{name_of}
 use Rattle.macho_bytes.specs.Layouts.{reading, size_of}
 use Rattle.macho_records.specs.Layouts.{mach_header, symtab_command, symtab_entry, dylib_command}
 use Rattle.macho_records.specs.Relocations.{relocation_info}
-use Rattle.macho_model.specs.Constants.{MH_MAGIC_64, CPU_TYPE_ARM64, MH_OBJECT, MH_DYLIB, LC_SEGMENT_64, LC_SYMTAB, LC_ID_DYLIB, is_stab, is_ext, is_in_section, is_common, common_exponent, common_size, is_zerofill, section_type, is_in_segment}
-use Rattle.macho_model.specs.Commands.{Command, header_of, commands_of, commands_end, numbered, place_of, segment_size, command_fits}
-use Rattle.macho_model.specs.Objects.{num_sections, section_place, section_at, symtab_of, num_symbols, symbol_place, symbol_at, strings_of, relocation_place, relocation_at}
+use Rattle.macho_records.specs.declared.constants.TheConstants.{ARM64_RELOC_ADDEND, CPU_TYPE_ARM64, LC_ID_DYLIB, LC_SEGMENT_64, LC_SYMTAB, MH_MAGIC_64}
+use Rattle.macho_records.specs.Symbols.{common_exponent_of, common_size_of, is_common_of, is_external_of, is_stab_of}
+use Rattle.macho_model.specs.Symbols.{is_in_section, is_in_segment}
+use Rattle.macho_records.specs.Sections.{is_zerofill, type_of}
+use Rattle.macho_model.specs.Commands.{Command, header_of, commands_end, numbered, segment_size}
+use Rattle.macho_model.specs.Objects.{num_sections, section_at, symtab_of, num_symbols, symbol_at, strings_of, relocation_at}
 
 -- the greatest alignment that is taken, as an exponent of 2: a page of 16 KiB
 abbrev pub GREATEST_EXPONENT : ℕ
 GREATEST_EXPONENT = 14
-
--- the type of a relocation that holds an addend for the next one (`ARM64_RELOC_ADDEND`, mach-o/arm64/reloc.h)
-abbrev pub RELOC_ADDEND : ℕ
-RELOC_ADDEND = 10
 
 -- O1: a whole 64-bit arm64 header of the type, in a file of fewer than 2 ^ 32 bytes
 abbrev pub head_fits : ℕ → List ℕ → Bool
@@ -53,7 +52,7 @@ symbol_section_exists b k =
 abbrev pub relocation_number_exists : List ℕ → ℕ → ℕ → Bool
 relocation_number_exists b k r =
     if (relocation_at b k r).r_extern then nat_lt (relocation_at b k r).r_symbolnum (num_symbols b)
-    else ((relocation_at b k r).r_type == RELOC_ADDEND)
+    else ((relocation_at b k r).r_type == ARM64_RELOC_ADDEND)
     || (nat_le 1 (relocation_at b k r).r_symbolnum && nat_le (relocation_at b k r).r_symbolnum (num_sections b))
 
 -- O6: a section's data stands inside the file, and its addresses end at 2 ^ 64 at most
@@ -79,7 +78,7 @@ has_nul text = nat_lt (length (name_of text)) (length text)
 
 -- O9, of a symbol: its name begins in the string table, and a NUL ends it there; place 0 stands for no name
 abbrev pub name_ends : List ℕ → ℕ → Bool
-name_ends b k = is_stab (symbol_at b k) || ((symbol_at b k).n_strx == 0) || has_nul (drop (symbol_at b k).n_strx (strings_of b))
+name_ends b k = is_stab_of (symbol_at b k) || ((symbol_at b k).n_strx == 0) || has_nul (drop (symbol_at b k).n_strx (strings_of b))
 
 -- O9, of an install name: a NUL ends it in its command
 abbrev pub path_ends : List ℕ → Command → Bool
@@ -98,7 +97,7 @@ abbrev pub is_thread_local : ℕ → Bool
 is_thread_local type = (type == 0x11) || (type == 0x12) || (type == 0x13)
 
 abbrev pub thread_local_in_data : List ℕ → ℕ → Bool
-thread_local_in_data b k = not (is_thread_local (section_type (section_at b k))) || is_in_segment (codes "__DATA") (section_at b k)
+thread_local_in_data b k = not (is_thread_local (type_of (section_at b k))) || is_in_segment (codes "__DATA") (section_at b k)
 
 -- O12: a zerofill section has no relocations
 abbrev pub zerofill_unrelocated : List ℕ → ℕ → Bool
@@ -106,10 +105,10 @@ zerofill_unrelocated b k = not (is_zerofill (section_at b k)) || ((section_at b 
 
 -- O13: a global symbol has a name
 abbrev pub global_has_name : List ℕ → ℕ → Bool
-global_has_name b k = is_stab (symbol_at b k) || not (is_ext (symbol_at b k)) || not ((symbol_at b k).n_strx == 0)
+global_has_name b k = is_stab_of (symbol_at b k) || not (is_external_of (symbol_at b k)) || not ((symbol_at b k).n_strx == 0)
 
 -- O14: a common is aligned to 2 ^ 14 at most, and its rounded size is below 2 ^ 64
 abbrev pub common_fits : List ℕ → ℕ → Bool
 common_fits b k =
-    not (is_common (symbol_at b k))
-    || (nat_le (common_exponent (symbol_at b k)) GREATEST_EXPONENT && nat_lt (common_size (symbol_at b k)) (2 ^ 64))
+    not (is_common_of (symbol_at b k))
+    || (nat_le (common_exponent_of (symbol_at b k)) GREATEST_EXPONENT && nat_lt (common_size_of (symbol_at b k)) (2 ^ 64))

@@ -1,6 +1,6 @@
 -- What the bytes of an object or of a dynamic library say: its sections, symbols, names, relocations and install name.
 -- Each is a total function of the whole list of bytes; `Grammar` tells when the bytes are whole.
-use Rattle.std.specs.Prelude.{◌≡◌, ℕ, ◌+◌, ◌*◌, ◌==◌, if◌then◌else◌, List, [], ◌∷◌, drop, slice_range}
+use Rattle.std.specs.Prelude.{ℕ, ◌+◌, ◌*◌, ◌==◌, if◌then◌else◌, List, [], ◌∷◌, drop, slice_range}
 use Rattle.macho_bytes.specs.Texts.{name_of}
 use Rattle.macho_bytes.specs.Layouts.{reading, size_of}
 use Rattle.macho_records.specs.Layouts.{segment_command, section_header, symtab_command, symtab_entry, dylib_command}
@@ -10,7 +10,8 @@ use Rattle.macho_records.specs.declared.header.SectionHeader.{SectionHeader}
 use Rattle.macho_records.specs.declared.symbols.SymtabCommand.{SymtabCommand}
 use Rattle.macho_records.specs.declared.symbols.SymtabEntry.{SymtabEntry}
 use Rattle.macho_records.specs.declared.relocations.RelocationInfo.{RelocationInfo}
-use Rattle.macho_model.specs.Constants.{LC_SEGMENT_64, LC_SYMTAB, LC_ID_DYLIB, is_zerofill}
+use Rattle.macho_records.specs.declared.constants.TheConstants.{LC_ID_DYLIB, LC_SEGMENT_64, LC_SYMTAB}
+use Rattle.macho_records.specs.Sections.{is_zerofill}
 use Rattle.macho_model.specs.Commands.{Command, numbered, place_of, path_of}
 
 -- an object's one segment, which holds all its sections

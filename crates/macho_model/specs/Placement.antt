@@ -1,5 +1,5 @@
 -- The placement relation: what any placement of a link's parts has to keep, whoever made it and however.
-use Rattle.std.specs.Prelude.{◌≡◌, ℕ, zero, suc, ◌+◌, ◌*◌, ◌-◌, ◌%◌, ◌^◌, ◌<◌, ◌≤◌, ◌⊎◌, ◌==◌, ◌&&◌, not, if◌then◌else◌, Bool, true, false, List, [], ◌∷◌, ◌++◌, length, map, filter, get_or, All, AllPairs, Contains, Option, Some, None, IsPermutation, slice_index}
+use Rattle.std.specs.Prelude.{◌≡◌, ℕ, ◌+◌, ◌*◌, ◌-◌, ◌%◌, ◌^◌, ◌<◌, ◌≤◌, ◌⊎◌, ◌==◌, ◌&&◌, not, if◌then◌else◌, Bool, true, false, List, [], ◌∷◌, ◌++◌, length, map, filter, get_or, All, AllPairs, Contains, Option, Some, None, IsPermutation}
 use Rattle.std.specs.Str.{bytes_eq}
 use Rattle.std.specs.List.{range_with_len}
 use Rattle.macho_bytes.specs.Layouts.{size_of}
@@ -14,13 +14,13 @@ use Rattle.macho_model.specs.declared.placed.Slot.{Slot}
 use Rattle.macho_model.specs.declared.placed.Stub.{Stub}
 use Rattle.macho_model.specs.declared.placed.Range64.{Range64}
 use Rattle.macho_model.specs.declared.placed.Linkedit.{Linkedit}
-use Rattle.macho_model.specs.declared.targets.Target.{Target}
 use Rattle.macho_model.specs.declared.targets.Target.TheVariants as target
-use Rattle.macho_model.specs.Constants.{is_zerofill, common_size, common_exponent}
+use Rattle.macho_records.specs.Sections.{is_zerofill}
+use Rattle.macho_records.specs.Symbols.{common_exponent_of, common_size_of}
 use Rattle.macho_model.specs.Links.{Link, SectionId, header_at, carried_of, is_template, placed_exponent}
 use Rattle.macho_model.specs.Resolution.{SymbolId, entry_at, chosen_commons}
 use Rattle.macho_model.specs.Targets.{slots_of, stubs_of, slot_number}
-use Rattle.macho_model.specs.Segments.{PAGEZERO, TEXT, DATA_CONST, DATA, LINKEDIT, SEGMENT_PAGE, base_of_link, segment_name, segment_rank}
+use Rattle.macho_model.specs.Segments.{TEXT, DATA_CONST, DATA, LINKEDIT, SEGMENT_PAGE, base_of_link, segment_name, segment_rank}
 use Rattle.macho_model.specs.WrittenSum.{SLOT_SIZE, STUB_SIZE, written_sum_of}
 
 -- A placement in plain lists: where each thing got its addresses and its file range.
@@ -61,7 +61,7 @@ abbrev pub common_of : Link → ℕ → SymbolId
 common_of l id = get_or (chosen_commons l) id no_symbol
 
 abbrev pub common_span : Link → PlacedCommon → Span
-common_span l c = record { start = c.address; size = common_size (entry_at l (common_of l c.id)) }
+common_span l c = record { start = c.address; size = common_size_of (entry_at l (common_of l c.id)) }
 
 abbrev pub slot_span : Slot → Span
 slot_span s = record { start = s.address; size = SLOT_SIZE }
@@ -141,7 +141,7 @@ pub record IsWholeList (l : Link) (p : Placed) : Type 0 where
 -- each address is a multiple of its alignment
 pub record IsAligned (l : Link) (p : Placed) : Type 0 where
   pub sections : All (λ q. q.address % 2 ^ placed_exponent l (id_of q) ≡ 0) p.sections
-  pub commons : All (λ c. c.address % 2 ^ common_exponent (entry_at l (common_of l c.id)) ≡ 0) p.commons
+  pub commons : All (λ c. c.address % 2 ^ common_exponent_of (entry_at l (common_of l c.id)) ≡ 0) p.commons
   pub slots : All (λ s. s.address % 8 ≡ 0) p.slots
   pub stubs : All (λ s. s.address % 4 ≡ 0) p.stubs
 

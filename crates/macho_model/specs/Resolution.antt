@@ -1,12 +1,13 @@
 -- Resolution: which definition a global name has. The one strong definition, else the first weak one, else the greatest
 -- common, else the first library that offers the name, else the image itself for the name of its own handle.
-use Rattle.std.specs.Prelude.{◌≡◌, ℕ, ◌+◌, ◌-◌, ◌==◌, nat_le, ◌&&◌, ◌||◌, not, if◌then◌else◌, Bool, true, false, List, [], ◌∷◌, length, map, filter, find, Option, Some, None, codes, get_or}
+use Rattle.std.specs.Prelude.{ℕ, ◌-◌, ◌==◌, nat_le, ◌&&◌, ◌||◌, not, if◌then◌else◌, Bool, false, List, [], ◌∷◌, map, filter, Option, Some, None, codes, get_or}
 use Rattle.std.specs.List.{flat_map, enumerate_from, range_with_len, list_any, list_all}
 use Rattle.std.specs.Str.{bytes_eq}
 use Rattle.macho_records.specs.declared.symbols.SymtabEntry.{SymtabEntry}
-use Rattle.macho_model.specs.Constants.{is_stab, is_ext, is_private_extern, is_weak_def, is_in_section, is_absolute, is_common}
+use Rattle.macho_records.specs.Symbols.{is_common_of, is_external_of, is_hidden_of, is_weak_of}
+use Rattle.macho_model.specs.Symbols.{is_absolute, is_in_section, is_global}
 use Rattle.macho_model.specs.Objects.{num_symbols, symbol_at, symbol_name, install_name_of}
-use Rattle.macho_model.specs.Links.{StubReading, Input, Object, Dylib, Stub, Link, no_input, object_of, SectionId, header_at, is_carried}
+use Rattle.macho_model.specs.Links.{Input, Object, Dylib, Stub, Link, no_input, object_of, SectionId, header_at, is_carried}
 
 -- A symbol of an object, by file and index.
 pub record SymbolId : Type 0 where
@@ -21,13 +22,6 @@ entry_at l s = symbol_at (object_of l s.file) s.symbol
 
 abbrev pub name_at : Link → SymbolId → List ℕ
 name_at l s = symbol_name (object_of l s.file) s.symbol
-
--- debugging entries are neither global nor local
-abbrev pub is_global : SymtabEntry → Bool
-is_global e = not (is_stab e) && is_ext e
-
-abbrev pub is_local : SymtabEntry → Bool
-is_local e = not (is_stab e) && not (is_ext e)
 
 -- the symbols of one file, and all symbols of all objects, by file, then index
 abbrev pub symbols_of_file : ℕ → Input → List SymbolId
@@ -51,10 +45,10 @@ abbrev pub is_definition : Link → SymbolId → Bool
 is_definition l s = is_global (entry_at l s) && (stands_in_carried l s || is_absolute (entry_at l s))
 
 abbrev pub is_strong : Link → SymbolId → Bool
-is_strong l s = is_definition l s && not (is_weak_def (entry_at l s))
+is_strong l s = is_definition l s && not (is_weak_of (entry_at l s))
 
 abbrev pub is_weak : Link → SymbolId → Bool
-is_weak l s = is_definition l s && is_weak_def (entry_at l s)
+is_weak l s = is_definition l s && is_weak_of (entry_at l s)
 
 abbrev pub has_name : Link → List ℕ → SymbolId → Bool
 has_name l name s = bytes_eq (name_at l s) name
@@ -67,7 +61,7 @@ unfoldable pub weak_of : Link → List ℕ → List SymbolId
 weak_of l name = filter (λ s. is_weak l s && has_name l name s) (symbols_of l)
 
 unfoldable pub commons_of : Link → List ℕ → List SymbolId
-commons_of l name = filter (λ s. is_common (entry_at l s) && has_name l name s) (symbols_of l)
+commons_of l name = filter (λ s. is_common_of (entry_at l s) && has_name l name s) (symbols_of l)
 
 -- the commons of a name than which none is greater
 unfoldable pub greatest_of : Link → List ℕ → List SymbolId
@@ -76,7 +70,7 @@ greatest_of l name = filter (λ s. list_all (λ t. nat_le (entry_at l t).n_value
 -- a library offers the names of its visible defined symbols, or those that its stub lists
 abbrev pub is_offered_symbol : List ℕ → List ℕ → ℕ → Bool
 is_offered_symbol bytes name k =
-    is_ext (symbol_at bytes k) && not (is_private_extern (symbol_at bytes k)) && (is_in_section (symbol_at bytes k) || is_absolute (symbol_at bytes k))
+    is_external_of (symbol_at bytes k) && not (is_hidden_of (symbol_at bytes k)) && (is_in_section (symbol_at bytes k) || is_absolute (symbol_at bytes k))
     && bytes_eq (symbol_name bytes k) name
 
 abbrev pub offers : List ℕ → Input → Bool
@@ -124,7 +118,7 @@ defines l s = is_global (entry_at l s) && is_symbol s (definition_of l (name_at 
 
 -- the commons that define their name, by file and symbol; they are numbered by their place here
 unfoldable pub chosen_commons : Link → List SymbolId
-chosen_commons l = filter (λ s. is_common (entry_at l s) && defines l s) (symbols_of l)
+chosen_commons l = filter (λ s. is_common_of (entry_at l s) && defines l s) (symbols_of l)
 
 -- the install name of a library
 abbrev pub install_name_in : Input → List ℕ

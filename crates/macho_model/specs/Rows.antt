@@ -1,13 +1,13 @@
 -- Which relocations are supported: each with its length, its flags, its pair, the instruction at its place and the kind
 -- of its target (`mach-o/arm64/reloc.h`).
-use Rattle.std.specs.Prelude.{◌≡◌, ℕ, ◌+◌, ◌*◌, ◌-◌, ◌^◌, ◌<◌, ◌==◌, nat_le, nat_lt, ◌&&◌, ◌||◌, not, if◌then◌else◌, Bool, true, false}
+use Rattle.std.specs.Prelude.{ℕ, ◌+◌, ◌^◌, ◌==◌, nat_lt, ◌&&◌, ◌||◌, not, if◌then◌else◌, Bool, true, false}
+use Rattle.macho_records.specs.declared.constants.TheConstants.{ARM64_RELOC_ADDEND, ARM64_RELOC_BRANCH26, ARM64_RELOC_GOT_LOAD_PAGE21, ARM64_RELOC_GOT_LOAD_PAGEOFF12, ARM64_RELOC_PAGE21, ARM64_RELOC_PAGEOFF12, ARM64_RELOC_POINTER_TO_GOT, ARM64_RELOC_SUBTRACTOR, ARM64_RELOC_TLVP_LOAD_PAGE21, ARM64_RELOC_TLVP_LOAD_PAGEOFF12, ARM64_RELOC_UNSIGNED}
 use Rattle.macho_model.specs.declared.targets.Target.{Target}
 use Rattle.macho_model.specs.declared.targets.Target.TheVariants as target
 use Rattle.macho_records.specs.declared.relocations.RelocationInfo.{RelocationInfo}
-use Rattle.macho_model.specs.ObjectRules.{RELOC_ADDEND}
 use Rattle.macho_model.specs.Links.{Link, SectionId, header_at}
 use Rattle.macho_model.specs.Needs.{relocation_in}
-use Rattle.macho_model.specs.Targets.{target_of_relocation, is_import, is_defined, UNSIGNED, SUBTRACTOR, BRANCH26, PAGE21, PAGEOFF12, GOT_LOAD_PAGE21, GOT_LOAD_PAGEOFF12, POINTER_TO_GOT, TLVP_LOAD_PAGE21, TLVP_LOAD_PAGEOFF12}
+use Rattle.macho_model.specs.Targets.{target_of_relocation, is_import, is_defined}
 use Rattle.macho_model.specs.Fields.{follows, content_of, takes_addend}
 use Rattle.macho_model.specs.Words.{is_adrp, is_branch, is_add, is_ldr, is_load_store, written_register, REGISTER_31}
 
@@ -30,7 +30,7 @@ is_none t = false
 abbrev pub subtractor_fits : Link → SectionId → ℕ → Bool
 subtractor_fits l s r =
     (has_form (relocation_in l s r) 2 false true || has_form (relocation_in l s r) 3 false true) && next_is_here l s r
-    && ((relocation_in l s (r + 1)).r_type == UNSIGNED) && ((relocation_in l s (r + 1)).r_length == (relocation_in l s r).r_length)
+    && ((relocation_in l s (r + 1)).r_type == ARM64_RELOC_UNSIGNED) && ((relocation_in l s (r + 1)).r_length == (relocation_in l s r).r_length)
     && is_defined (target_of_relocation l s r)
 
 -- An addend stands immediately in front of a branch, a page or an offset of the same place.
@@ -41,13 +41,13 @@ addend_fits l s r =
 -- a pointer of 8 bytes to anything, or a difference of 4 or 8 bytes whose targets move with the image
 abbrev pub pointer_fits : Link → SectionId → ℕ → Bool
 pointer_fits l s r =
-    if follows l s r SUBTRACTOR
+    if follows l s r ARM64_RELOC_SUBTRACTOR
     then (has_form (relocation_in l s r) 2 false true || has_form (relocation_in l s r) 3 false true) && is_defined (target_of_relocation l s r)
     else ((relocation_in l s r).r_length == 3) && not (relocation_in l s r).r_pcrel && not (is_none (target_of_relocation l s r))
 
 -- a target that may be called: one that moves with the image, or an import without addend
 abbrev pub may_be_called : Link → SectionId → ℕ → Bool
-may_be_called l s r = is_defined (target_of_relocation l s r) || (is_import (target_of_relocation l s r) && not (follows l s r RELOC_ADDEND))
+may_be_called l s r = is_defined (target_of_relocation l s r) || (is_import (target_of_relocation l s r) && not (follows l s r ARM64_RELOC_ADDEND))
 
 abbrev pub defined_or_import : Target → Bool
 defined_or_import t = is_defined t || is_import t
@@ -66,16 +66,16 @@ is_supported l s r = supported (relocation_in l s r) (target_of_relocation l s r
   where
     supported : RelocationInfo → Target → ℕ → Bool
     supported rel t w =
-        if rel.r_type == UNSIGNED then pointer_fits l s r
-        else if rel.r_type == SUBTRACTOR then subtractor_fits l s r
-        else if rel.r_type == BRANCH26 then has_form rel 2 true true && is_branch w && may_be_called l s r
-        else if rel.r_type == PAGE21 then has_form rel 2 true true && is_adrp w && is_defined t
-        else if rel.r_type == PAGEOFF12 then has_form rel 2 false true && takes_offset w && is_defined t
-        else if (rel.r_type == GOT_LOAD_PAGE21) || (rel.r_type == TLVP_LOAD_PAGE21) then has_form rel 2 true true && is_adrp w && defined_or_import t
-        else if (rel.r_type == GOT_LOAD_PAGEOFF12) || (rel.r_type == TLVP_LOAD_PAGEOFF12)
+        if rel.r_type == ARM64_RELOC_UNSIGNED then pointer_fits l s r
+        else if rel.r_type == ARM64_RELOC_SUBTRACTOR then subtractor_fits l s r
+        else if rel.r_type == ARM64_RELOC_BRANCH26 then has_form rel 2 true true && is_branch w && may_be_called l s r
+        else if rel.r_type == ARM64_RELOC_PAGE21 then has_form rel 2 true true && is_adrp w && is_defined t
+        else if rel.r_type == ARM64_RELOC_PAGEOFF12 then has_form rel 2 false true && takes_offset w && is_defined t
+        else if (rel.r_type == ARM64_RELOC_GOT_LOAD_PAGE21) || (rel.r_type == ARM64_RELOC_TLVP_LOAD_PAGE21) then has_form rel 2 true true && is_adrp w && defined_or_import t
+        else if (rel.r_type == ARM64_RELOC_GOT_LOAD_PAGEOFF12) || (rel.r_type == ARM64_RELOC_TLVP_LOAD_PAGEOFF12)
         then has_form rel 2 false true && load_fits w t && defined_or_import t
-        else if rel.r_type == POINTER_TO_GOT then has_form rel 2 true true && defined_or_import t
-        else if rel.r_type == RELOC_ADDEND then addend_fits l s r
+        else if rel.r_type == ARM64_RELOC_POINTER_TO_GOT then has_form rel 2 true true && defined_or_import t
+        else if rel.r_type == ARM64_RELOC_ADDEND then addend_fits l s r
         else false
 
 -- two relocations of a section share a byte
@@ -88,4 +88,4 @@ share_byte l s q r =
 abbrev pub are_pair : Link → SectionId → ℕ → ℕ → Bool
 are_pair l s q r =
     (r == q + 1)
-    && ((((relocation_in l s q).r_type == SUBTRACTOR) && subtractor_fits l s q) || (((relocation_in l s q).r_type == RELOC_ADDEND) && addend_fits l s q))
+    && ((((relocation_in l s q).r_type == ARM64_RELOC_SUBTRACTOR) && subtractor_fits l s q) || (((relocation_in l s q).r_type == ARM64_RELOC_ADDEND) && addend_fits l s q))

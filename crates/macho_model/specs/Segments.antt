@@ -1,11 +1,12 @@
 -- The segments that a link has, and the output sections: which there are, and in which order segments stand.
-use Rattle.std.specs.Prelude.{◌≡◌, ℕ, ◌+◌, ◌*◌, ◌==◌, nat_lt, ◌&&◌, ◌||◌, not, if◌then◌else◌, Bool, true, false, List, [], ◌∷◌, ◌++◌, length, map, filter, codes}
+use Rattle.std.specs.Prelude.{ℕ, ◌+◌, ◌==◌, nat_lt, ◌&&◌, ◌||◌, not, if◌then◌else◌, Bool, List, [], ◌∷◌, ◌++◌, length, map, filter, codes}
 use Rattle.std.specs.List.{list_any, position_or_len}
 use Rattle.std.specs.Str.{bytes_eq}
 use Rattle.macho_bytes.specs.Texts.{name_of}
 use Rattle.macho_records.specs.declared.header.SectionHeader.{SectionHeader}
 use Rattle.macho_model.specs.declared.placed.Counts.{Counts}
-use Rattle.macho_model.specs.Constants.{section_type, S_ZEROFILL}
+use Rattle.macho_records.specs.Sections.{type_of}
+use Rattle.macho_records.specs.declared.constants.TheConstants.{S_ZEROFILL}
 use Rattle.macho_model.specs.Links.{Link, SectionId, header_at, carried_of}
 use Rattle.macho_model.specs.Resolution.{chosen_commons}
 use Rattle.macho_model.specs.Needs.{distinct}
@@ -88,7 +89,7 @@ abbrev pub same_key : OutputKey → OutputKey → Bool
 same_key a b = bytes_eq a.segment b.segment && bytes_eq a.name b.name && (a.type == b.type)
 
 abbrev pub key_of : SectionHeader → OutputKey
-key_of h = record { segment = name_of h.segname; name = name_of h.sectname; type = section_type h }
+key_of h = record { segment = name_of h.segname; name = name_of h.sectname; type = type_of h }
 
 -- the section that commons stand in
 abbrev pub common_key : OutputKey

@@ -1,7 +1,6 @@
 -- When an image stands in memory: every carried section and chosen common whole at its place, every relocated field
 -- denoting its target and addend, every slot and stub leading to its target.
-use Rattle.std.specs.Prelude.{◌≡◌, ℕ, ◌+◌, ◌*◌, ◌-◌, ◌%◌, ◌^◌, ◌<◌, ◌≤◌, ◌⊎◌, ◌==◌, ◌&&◌, ◌||◌, not, if◌then◌else◌, Bool, true, false, List, [], ◌∷◌, length, get_or, slice_index, Option, Some, None, All, Contains, is_some}
-use Rattle.macho_bytes.specs.Numbers.{le_at}
+use Rattle.std.specs.Prelude.{◌≡◌, ℕ, ◌+◌, ◌%◌, ◌<◌, ◌≤◌, ◌⊎◌, ◌==◌, ◌&&◌, ◌||◌, if◌then◌else◌, Bool, true, false, List, [], get_or, slice_index, Option, Some, None, All, Contains, is_some}
 use Rattle.macho_model.specs.declared.placed.Counts.{Counts}
 use Rattle.macho_model.specs.declared.placed.PlacedSection.{PlacedSection}
 use Rattle.macho_model.specs.declared.placed.PlacedCommon.{PlacedCommon}
@@ -10,12 +9,13 @@ use Rattle.macho_model.specs.declared.placed.Stub.{Stub}
 use Rattle.macho_model.specs.declared.placed.Range64.{Range64}
 use Rattle.macho_model.specs.declared.targets.Target.{Target}
 use Rattle.macho_model.specs.declared.targets.Target.TheVariants as target
-use Rattle.macho_model.specs.Constants.{section_type, S_THREAD_LOCAL_VARIABLES, common_size}
+use Rattle.macho_records.specs.Sections.{type_of}
+use Rattle.macho_records.specs.declared.constants.TheConstants.{ARM64_RELOC_BRANCH26, ARM64_RELOC_GOT_LOAD_PAGE21, ARM64_RELOC_GOT_LOAD_PAGEOFF12, ARM64_RELOC_PAGE21, ARM64_RELOC_PAGEOFF12, ARM64_RELOC_POINTER_TO_GOT, ARM64_RELOC_TLVP_LOAD_PAGE21, ARM64_RELOC_TLVP_LOAD_PAGEOFF12, ARM64_RELOC_UNSIGNED, S_THREAD_LOCAL_VARIABLES}
+use Rattle.macho_records.specs.Symbols.{common_size_of}
 use Rattle.macho_model.specs.Objects.{section_bytes}
 use Rattle.macho_model.specs.Links.{Link, object_of, SectionId, header_at, is_template}
 use Rattle.macho_model.specs.Resolution.{entry_at}
 use Rattle.macho_model.specs.Needs.{imports_of, import_library}
-use Rattle.macho_model.specs.Targets.{UNSIGNED, BRANCH26, PAGE21, PAGEOFF12, GOT_LOAD_PAGE21, GOT_LOAD_PAGEOFF12, POINTER_TO_GOT, TLVP_LOAD_PAGE21, TLVP_LOAD_PAGEOFF12}
 use Rattle.macho_model.specs.Fields.{Field, fields_of, content_of}
 use Rattle.macho_model.specs.Meaning.{Same, PointsTo, IsDifference, BranchesTo, PagesTo, OffsetsTo, AddsTo, LoadsFrom, IsDistance, GoesThrough}
 use Rattle.macho_model.specs.Segments.{SEGMENT_PAGE}
@@ -64,13 +64,13 @@ pub data Kind : Type 0 where
 
 abbrev pub kind_of : ℕ → Bool → Kind
 kind_of type has_subtrahend =
-    if type == UNSIGNED then (if has_subtrahend then Difference else Pointer)
-    else if type == BRANCH26 then Branch
-    else if type == PAGE21 then Page
-    else if type == PAGEOFF12 then Offset
-    else if (type == GOT_LOAD_PAGE21) || (type == TLVP_LOAD_PAGE21) then SlotPage
-    else if (type == GOT_LOAD_PAGEOFF12) || (type == TLVP_LOAD_PAGEOFF12) then SlotOffset
-    else if type == POINTER_TO_GOT then SlotDistance
+    if type == ARM64_RELOC_UNSIGNED then (if has_subtrahend then Difference else Pointer)
+    else if type == ARM64_RELOC_BRANCH26 then Branch
+    else if type == ARM64_RELOC_PAGE21 then Page
+    else if type == ARM64_RELOC_PAGEOFF12 then Offset
+    else if (type == ARM64_RELOC_GOT_LOAD_PAGE21) || (type == ARM64_RELOC_TLVP_LOAD_PAGE21) then SlotPage
+    else if (type == ARM64_RELOC_GOT_LOAD_PAGEOFF12) || (type == ARM64_RELOC_TLVP_LOAD_PAGEOFF12) then SlotOffset
+    else if type == ARM64_RELOC_POINTER_TO_GOT then SlotDistance
     else NoKind
 
 -- a target lies in the thread-local template
@@ -80,7 +80,7 @@ is_in_template l t = false
 
 -- a pointer in a descriptor of a thread-local variable to its initial value is an offset from the template's start
 abbrev pub is_template_offset : Link → SectionId → Field → Bool
-is_template_offset l id f = (section_type (header_at l id) == S_THREAD_LOCAL_VARIABLES) && is_in_template l f.target
+is_template_offset l id f = (type_of (header_at l id) == S_THREAD_LOCAL_VARIABLES) && is_in_template l f.target
 
 abbrev pub PointerSays : Bool → Option Range64 → ℕ → ℕ → ℕ → Type 0
 PointerSays false template s word x = PointsTo word x
@@ -134,7 +134,7 @@ pub record SectionStands (l : Link) (b : List ℕ) (p : Placed) (s : ℕ) (choic
 
 -- a chosen common is zeros over its size
 abbrev pub CommonStands : Link → List ℕ → ℕ → Choice → PlacedCommon → Type 0
-CommonStands l b s choice c = (i : ℕ) → i < common_size (entry_at l (common_of l c.id)) → Holds b s choice (c.address + i + s) 0
+CommonStands l b s choice c = (i : ℕ) → i < common_size_of (entry_at l (common_of l c.id)) → Holds b s choice (c.address + i + s) 0
 
 -- a slot holds the address of its target
 pub record SlotStands (l : Link) (b : List ℕ) (p : Placed) (s : ℕ) (choice : Choice) (slot : Slot) : Type 0 where

@@ -1,11 +1,13 @@
 -- Targets: what a symbol and a relocation lead to; and the slots and stubs that references need.
-use Rattle.std.specs.Prelude.{◌≡◌, ℕ, ◌+◌, ◌-◌, ◌==◌, ◌&&◌, ◌||◌, not, if◌then◌else◌, Bool, true, false, List, [], ◌∷◌, length, map, filter, Option, Some, None}
+use Rattle.std.specs.Prelude.{ℕ, ◌-◌, ◌==◌, ◌&&◌, ◌||◌, if◌then◌else◌, Bool, true, false, List, Option, Some, None}
 use Rattle.std.specs.List.{filter_map, position_or_len}
 use Rattle.macho_model.specs.declared.targets.Target.{Target}
 use Rattle.macho_model.specs.declared.targets.Target.TheVariants as target
-use Rattle.macho_model.specs.Constants.{is_in_section, is_absolute, is_common}
+use Rattle.macho_model.specs.Symbols.{is_absolute, is_global, is_local}
+use Rattle.macho_records.specs.Symbols.{is_common_of}
+use Rattle.macho_records.specs.declared.constants.TheConstants.{ARM64_RELOC_BRANCH26, ARM64_RELOC_GOT_LOAD_PAGE21, ARM64_RELOC_GOT_LOAD_PAGEOFF12, ARM64_RELOC_POINTER_TO_GOT, ARM64_RELOC_TLVP_LOAD_PAGE21, ARM64_RELOC_TLVP_LOAD_PAGEOFF12}
 use Rattle.macho_model.specs.Links.{Link, SectionId, header_at, is_carried}
-use Rattle.macho_model.specs.Resolution.{SymbolId, Definition, Symbol, Library, ImageBase, entry_at, name_at, is_global, is_local, same_symbol, section_of_symbol, stands_in_carried, definition_of, chosen_commons}
+use Rattle.macho_model.specs.Resolution.{SymbolId, Definition, Symbol, Library, ImageBase, entry_at, name_at, same_symbol, section_of_symbol, stands_in_carried, definition_of, chosen_commons}
 use Rattle.macho_model.specs.Needs.{Use, ByRelocation, ByInitializer, ByPersonality, ByName, relocation_in, symbol_of_relocation, import_number, uses_of, distinct}
 
 -- the place of a symbol in its section
@@ -17,7 +19,7 @@ abbrev pub own_target : Link → SymbolId → Target
 own_target l s =
     if stands_in_carried l s then place_of_symbol l s
     else if is_absolute (entry_at l s) then target.Absolute (entry_at l s).n_value
-    else if is_common (entry_at l s) then target.Common (position_or_len (same_symbol s) (chosen_commons l))
+    else if is_common_of (entry_at l s) then target.Common (position_or_len (same_symbol s) (chosen_commons l))
     else target.None
 
 abbrev pub target_of_definition : Link → List ℕ → Option Definition → Target
@@ -71,46 +73,15 @@ same_target (target.Absolute v) (target.Absolute w) = v == w
 same_target target.None target.None = true
 same_target t u = false
 
--- the relocation types of arm64 (`mach-o/arm64/reloc.h`, `ARM64_RELOC_..`)
-abbrev pub UNSIGNED : ℕ
-UNSIGNED = 0
-
-abbrev pub SUBTRACTOR : ℕ
-SUBTRACTOR = 1
-
-abbrev pub BRANCH26 : ℕ
-BRANCH26 = 2
-
-abbrev pub PAGE21 : ℕ
-PAGE21 = 3
-
-abbrev pub PAGEOFF12 : ℕ
-PAGEOFF12 = 4
-
-abbrev pub GOT_LOAD_PAGE21 : ℕ
-GOT_LOAD_PAGE21 = 5
-
-abbrev pub GOT_LOAD_PAGEOFF12 : ℕ
-GOT_LOAD_PAGEOFF12 = 6
-
-abbrev pub POINTER_TO_GOT : ℕ
-POINTER_TO_GOT = 7
-
-abbrev pub TLVP_LOAD_PAGE21 : ℕ
-TLVP_LOAD_PAGE21 = 8
-
-abbrev pub TLVP_LOAD_PAGEOFF12 : ℕ
-TLVP_LOAD_PAGEOFF12 = 9
-
 -- a reference of a type goes through a slot where its target is an import
 abbrev pub goes_by_slot : ℕ → Bool
 goes_by_slot type =
-    (type == BRANCH26) || (type == GOT_LOAD_PAGE21) || (type == GOT_LOAD_PAGEOFF12) || (type == TLVP_LOAD_PAGE21) || (type == TLVP_LOAD_PAGEOFF12)
+    (type == ARM64_RELOC_BRANCH26) || (type == ARM64_RELOC_GOT_LOAD_PAGE21) || (type == ARM64_RELOC_GOT_LOAD_PAGEOFF12) || (type == ARM64_RELOC_TLVP_LOAD_PAGE21) || (type == ARM64_RELOC_TLVP_LOAD_PAGEOFF12)
 
 -- the target that a use needs a slot for, if it needs one: an import that is loaded or called, and whatever a pointer
 -- to a slot or a personality function names
 abbrev pub slot_of_relocation : ℕ → Target → Option Target
-slot_of_relocation type t = if (type == POINTER_TO_GOT) || (goes_by_slot type && is_import t) then Some t else None
+slot_of_relocation type t = if (type == ARM64_RELOC_POINTER_TO_GOT) || (goes_by_slot type && is_import t) then Some t else None
 
 abbrev pub slot_of_use : Link → Use → Option Target
 slot_of_use l (ByRelocation s r) = slot_of_relocation (relocation_in l s r).r_type (target_of_relocation l s r)
@@ -127,7 +98,7 @@ slot_number l t = position_or_len (same_target t) (slots_of l)
 
 -- the import that a use calls through a stub, if it calls one
 abbrev pub stub_of_relocation : ℕ → Target → Option Target
-stub_of_relocation type t = if (type == BRANCH26) && is_import t then Some t else None
+stub_of_relocation type t = if (type == ARM64_RELOC_BRANCH26) && is_import t then Some t else None
 
 abbrev pub stub_of_use : Link → Use → Option Target
 stub_of_use l (ByRelocation s r) = stub_of_relocation (relocation_in l s r).r_type (target_of_relocation l s r)

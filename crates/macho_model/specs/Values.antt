@@ -1,6 +1,6 @@
 -- When a value does not fit where it is to be written: a pointer or slot as a chain word, a relocated field, a stub.
 -- Addresses are those of a placement, before any slide.
-use Rattle.std.specs.Prelude.{◌≡◌, ℕ, ◌+◌, ◌-◌, ◌%◌, ◌^◌, ◌<◌, ◌≤◌, ◌⊎◌, ◌==◌, nat_le, nat_lt, ◌&&◌, ◌||◌, not, Bool, true, false, List, length, get_or, Contains, is_some}
+use Rattle.std.specs.Prelude.{◌≡◌, ℕ, ◌+◌, ◌-◌, ◌%◌, ◌^◌, ◌<◌, ◌≤◌, ◌⊎◌, ◌==◌, nat_le, nat_lt, ◌&&◌, ◌||◌, not, Bool, true, false, length, get_or, Contains, is_some}
 use Rattle.std.specs.FinMap.{empty}
 use Rattle.macho_bytes.specs.Numbers.{bits, page, low}
 use Rattle.macho_model.specs.declared.targets.Site.{Site}

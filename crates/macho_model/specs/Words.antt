@@ -1,6 +1,6 @@
 -- The arm64 instructions that relocations speak of, as 32-bit words (Arm Architecture Reference Manual for A-profile,
 -- chapter C6), and the immediates that they hold.
-use Rattle.std.specs.Prelude.{ℕ, ◌+◌, ◌*◌, ◌^◌, ◌==◌, ◌&&◌, ◌||◌, not, if◌then◌else◌, Bool}
+use Rattle.std.specs.Prelude.{ℕ, ◌+◌, ◌*◌, ◌^◌, ◌==◌, ◌&&◌, if◌then◌else◌, Bool}
 use Rattle.macho_bytes.specs.Numbers.{bits}
 
 -- ADRP: 1 immlo:2 10000 immhi:19 Rd:5

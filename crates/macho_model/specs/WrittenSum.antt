@@ -1,11 +1,10 @@
 -- The written sum: a bound on the bytes of an image, from sizes alone, before any address is known. It keeps a linker
 -- from spreading an image over the address space: a placement ends at most this far behind its base.
-use Rattle.std.specs.Prelude.{ℕ, ◌+◌, ◌*◌, ◌-◌, ◌/◌, ◌^◌, ◌<◌, ◌==◌, if◌then◌else◌, List, length, map, filter, sum_by, not}
+use Rattle.std.specs.Prelude.{ℕ, ◌+◌, ◌*◌, ◌-◌, ◌/◌, ◌^◌, length, sum_by}
 use Rattle.macho_records.specs.Layouts.{mach_header, segment_command, section_header}
 use Rattle.macho_bytes.specs.Layouts.{size_of}
-use Rattle.macho_bytes.specs.Texts.{name_of}
 use Rattle.macho_model.specs.declared.placed.Counts.{Counts}
-use Rattle.macho_model.specs.Constants.{common_size, common_exponent}
+use Rattle.macho_records.specs.Symbols.{common_exponent_of, common_size_of}
 use Rattle.macho_model.specs.Links.{Link, SectionId, header_at, carried_of, placed_exponent}
 use Rattle.macho_model.specs.Resolution.{SymbolId, entry_at, chosen_commons}
 use Rattle.macho_model.specs.Targets.{slots_of, stubs_of}
@@ -37,7 +36,7 @@ abbrev pub section_cost : Link → SectionId → ℕ
 section_cost l s = (header_at l s).size + padding_of (placed_exponent l s)
 
 abbrev pub common_cost : Link → SymbolId → ℕ
-common_cost l s = common_size (entry_at l s) + padding_of (common_exponent (entry_at l s))
+common_cost l s = common_size_of (entry_at l s) + padding_of (common_exponent_of (entry_at l s))
 
 -- sections, commons, slots, stubs, initializers and unwind information
 unfoldable pub content_sum : Link → Counts → ℕ
