@@ -39,6 +39,13 @@ pub data OnChain (segments : List ChainSegment) (b : List ℕ) : ℕ → Type 0 
       → OnChain segments b (s.address + CHAIN_PAGE * page + slice_index s.starts page)
   next : (a word : ℕ) → OnChain segments b a → IsFileWord segments b a word → 1 ≤ next_of word → OnChain segments b (a + STRIDE * next_of word)
 
+-- The words of one page's chain: its start, and each word that a word of it leads to.
+pub data OnPageChain (segments : List ChainSegment) (b : List ℕ) (s : ChainSegment) (page : ℕ) : ℕ → Type 0 where
+  first : page < length s.starts → slice_index s.starts page ≢ NO_START
+      → OnPageChain segments b s page (s.address + CHAIN_PAGE * page + slice_index s.starts page)
+  next : (a word : ℕ) → OnPageChain segments b s page a → IsFileWord segments b a word → 1 ≤ next_of word
+      → OnPageChain segments b s page (a + STRIDE * next_of word)
+
 -- a segment by its command, with the starts that a table has for its number
 abbrev pub starts_in_tables : List ℕ → List Table → ℕ → List ℕ
 starts_in_tables b [] k = []

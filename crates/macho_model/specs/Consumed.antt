@@ -106,7 +106,7 @@ abbrev pub function_inside : Link → SectionId → ℕ → Bool
 function_inside l s e =
     list_all (λ r. lies_in l (section_named l s r) (unwind_entry l s e).start (unwind_entry l s e).length) (relocations_in_entry l s e START_PLACE)
 
--- An entry by its section and number, with the function that it is of: a section and an offset in it.
+-- An entry, by its section and number.
 pub record EntryId : Type 0 where
   pub of_section : SectionId
   pub entry : ℕ

@@ -3,6 +3,7 @@ use Rattle.std.specs.Prelude.{◌≡◌, ℕ, ◌+◌, ◌*◌, ◌-◌, ◌%◌
 use Rattle.std.specs.List.{list_any}
 use Rattle.std.specs.Str.{bytes_eq}
 use Rattle.macho_model.specs.declared.rules.UnwindRule.{UnwindRule}
+use Rattle.macho_model.specs.declared.rules.UnwindRule.TheVariants.{U1}
 use Rattle.macho_model.specs.declared.targets.Limit.{Limit}
 use Rattle.macho_model.specs.declared.targets.Site.{Site}
 use Rattle.macho_model.specs.declared.placed.Counts.{Counts}
@@ -10,13 +11,13 @@ use Rattle.macho_model.specs.ExportLists.{plain_entries}
 use Rattle.macho_model.specs.Links.{Link, SectionId, header_at, carried_of}
 use Rattle.macho_model.specs.Symbols.{is_global}
 use Rattle.macho_model.specs.Resolution.{SymbolId, entry_at, name_at, strong_of, definition_of}
-use Rattle.macho_model.specs.Needs.{Use, uses_of, symbol_used, initializer_sections, unwind_sections, relocation_in, POINTER_SIZE}
+use Rattle.macho_model.specs.Needs.{Use, ByRelocation, ByInitializer, ByPersonality, ByName, uses_of, symbol_used, initializer_sections, unwind_sections, relocation_in, POINTER_SIZE}
 use Rattle.macho_model.specs.Targets.{target_of_name, is_import}
 use Rattle.macho_model.specs.Fields.{Field}
-use Rattle.macho_model.specs.Segments.{DATA, DATA_CONST, SEGMENT_PAGE, segment_name}
+use Rattle.macho_model.specs.Segments.{SEGMENT_PAGE, segment_name, may_hold_pointers}
 use Rattle.macho_model.specs.Placement.{Placed, IsPlaced}
 use Rattle.macho_model.specs.Rows.{is_supported, share_byte, are_pair}
-use Rattle.macho_model.specs.Consumed.{initializer_section_fits, initializer_slot_fits, is_section_target, keeps}
+use Rattle.macho_model.specs.Consumed.{initializer_section_fits, initializer_slot_fits, is_plain_pointer, is_section_target, entry_count, whole_entries, keeps}
 use Rattle.macho_model.specs.Limits.{PassesLimit, IsTooLarge}
 use Rattle.macho_model.specs.Values.{section_id, FieldOf, PlacedAt, is_pointer, needs_fixup, BadRebase, BadRange}
 
@@ -44,11 +45,23 @@ IsDuplicate l name first second =
     (i : ℕ) × (j : ℕ) × (s : SymbolId) × (t : SymbolId) × (i < j) × (j < length (strong_of l name)) × (get_or (strong_of l name) i s ≡ s)
     × (get_or (strong_of l name) j t ≡ t) × (s.file ≡ first) × (t.file ≡ second)
 
+-- a use names a symbol: that of a consumed section only where its relocation has the form that is read
+abbrev pub names_symbol : Link → Use → Bool
+names_symbol l (ByRelocation s r) = true
+names_symbol l (ByInitializer s r) = is_plain_pointer (relocation_in l s r)
+names_symbol l (ByPersonality s r) = is_plain_pointer (relocation_in l s r)
+names_symbol l (ByName name) = false
+
 -- a file uses a global name that has no definition
 abbrev pub IsUndefined : Link → List ℕ → ℕ → Type 0
 IsUndefined l name file =
-    (u : Use) × (s : SymbolId) × Contains (uses_of l) u × (symbol_used l u ≡ Some s) × (is_global (entry_at l s) ≡ true) × (name_at l s ≡ name)
+    (u : Use) × (s : SymbolId) × Contains (uses_of l) u × (names_symbol l u ≡ true) × (symbol_used l u ≡ Some s) × (is_global (entry_at l s) ≡ true) × (name_at l s ≡ name)
     × (s.file ≡ file) × IsNone (definition_of l name)
+
+-- an entry breaks a rule; a section that is cut is told at the entry that is cut
+abbrev pub IsBadEntry : Link → SectionId → ℕ → UnwindRule → Type 0
+IsBadEntry l s entry U1 = (entry ≡ entry_count l s) × (whole_entries l s ≡ false)
+IsBadEntry l s entry rule = (entry < entry_count l s) × (keeps l s entry rule ≡ false)
 
 -- an executable's entry is defined in a carried section
 abbrev pub entry_is_defined : Link → Bool
@@ -64,10 +77,6 @@ IsBadInitializer l s offset =
 -- an addend, read as signed, fits 32 bits
 abbrev pub fits_32_signed : ℕ → Bool
 fits_32_signed x = nat_lt x (2 ^ 31) || nat_le (2 ^ 64 - 2 ^ 31) x
-
--- the segments that the loader writes pointers in
-abbrev pub may_hold_pointers : List ℕ → Bool
-may_hold_pointers name = bytes_eq name DATA || bytes_eq name DATA_CONST
 
 -- a pointer is in a segment that may hold none; or its word crosses a page or is not at a multiple of four
 abbrev pub BadPlace : Link → SectionId → Field → Option Placed → Type 0
@@ -103,7 +112,7 @@ FaultStands l counts (ExportListMissing name) = Contains (plain_entries l.export
 FaultStands l counts (BadInitializer file section offset) =
     Contains (initializer_sections l) (section_id file section) × IsBadInitializer l (section_id file section) offset
 FaultStands l counts (BadUnwind file section entry rule) =
-    Contains (unwind_sections l) (section_id file section) × (keeps l (section_id file section) entry rule ≡ false)
+    Contains (unwind_sections l) (section_id file section) × IsBadEntry l (section_id file section) entry rule
 FaultStands l counts (UnsupportedRelocation file section relocation) =
     Contains (carried_of l) (section_id file section) × (relocation < (header_at l (section_id file section)).nreloc)
     × (is_supported l (section_id file section) relocation ≡ false)

@@ -1,6 +1,6 @@
 -- When bytes are a relocatable object or a dynamic library that this linker takes: the tests of `ObjectRules`, asked of
 -- each record. A refusal names a rule and the place of a record that fails its test.
-use Rattle.std.specs.Prelude.{◌≡◌, ℕ, ◌<◌, ◌≤◌, ◌⊎◌, Bool, true, false, List, [], length, get_or, All}
+use Rattle.std.specs.Prelude.{◌≡◌, ℕ, ◌<◌, ◌≤◌, ◌⊎◌, not, ◌||◌, Bool, true, false, List, [], length, get_or, All}
 use Rattle.macho_model.specs.declared.rules.ObjectRule.{ObjectRule}
 use Rattle.macho_model.specs.declared.rules.ObjectRule.TheVariants.{O1, O2, O3, O4, O5, O6, O7, O8, O9, O10, O11, O12, O13, O14}
 use Rattle.macho_records.specs.declared.constants.TheConstants.{LC_ID_DYLIB, LC_SEGMENT_64, LC_SYMTAB, MH_DYLIB, MH_OBJECT}
@@ -52,16 +52,17 @@ abbrev pub IsFile : Bool → List ℕ → Type 0
 IsFile false b = IsObject b
 IsFile true b = IsDylib b
 
--- some section, symbol, relocation or command whose record stands at a place fails a test
+-- some section, symbol, relocation or command whose record stands at a place fails a test; where the command that tells
+-- of such records isn't there once, there are none
 abbrev pub SectionFails : List ℕ → ℕ → (ℕ → Bool) → Type 0
-SectionFails b place test = (k : ℕ) × (k < num_sections b) × (place ≡ section_place b k) × (test k ≡ false)
+SectionFails b place test = (has_one LC_SEGMENT_64 b ≡ true) × (k : ℕ) × (k < num_sections b) × (place ≡ section_place b k) × (test k ≡ false)
 
 abbrev pub SymbolFails : List ℕ → ℕ → (ℕ → Bool) → Type 0
-SymbolFails b place test = (k : ℕ) × (k < num_symbols b) × (place ≡ symbol_place b k) × (test k ≡ false)
+SymbolFails b place test = (has_one LC_SYMTAB b ≡ true) × (k : ℕ) × (k < num_symbols b) × (place ≡ symbol_place b k) × (test k ≡ false)
 
 abbrev pub RelocationFails : List ℕ → ℕ → (ℕ → ℕ → Bool) → Type 0
 RelocationFails b place test =
-    (k : ℕ) × (r : ℕ) × (k < num_sections b) × (r < (section_at b k).nreloc) × (place ≡ relocation_place b k r) × (test k r ≡ false)
+    (has_one LC_SEGMENT_64 b ≡ true) × (k : ℕ) × (r : ℕ) × (k < num_sections b) × (r < (section_at b k).nreloc) × (place ≡ relocation_place b k r) × (test k r ≡ false)
 
 abbrev pub CommandFails : List Command → ℕ → (Command → Bool) → Type 0
 CommandFails cs place test =
@@ -78,11 +79,11 @@ abbrev pub ObjectBreaks : List ℕ → ObjectRule → ℕ → Type 0
 ObjectBreaks b O1 place = (place ≡ 0) × (head_fits MH_OBJECT b ≡ false)
 ObjectBreaks b O2 place = ((place ≡ 0) × (commands_inside b ≡ false)) ⊎ CommandFails (commands_of b) place (command_fits (needed_in_object b) b)
 ObjectBreaks b O3 place = IsNotOne LC_SEGMENT_64 b place ⊎ IsNotOne LC_SYMTAB b place
-ObjectBreaks b O4 place = (place ≡ place_of LC_SYMTAB b) × (tables_inside b ≡ false)
+ObjectBreaks b O4 place = (has_one LC_SYMTAB b ≡ true) × (place ≡ place_of LC_SYMTAB b) × (tables_inside b ≡ false)
 ObjectBreaks b O5 place = SymbolFails b place (symbol_section_exists b) ⊎ RelocationFails b place (relocation_number_exists b)
 ObjectBreaks b O6 place = SectionFails b place (data_inside b)
 ObjectBreaks b O7 place = SectionFails b place (exponent_fits b)
-ObjectBreaks b O8 place = SymbolFails b place (value_in_section b)
+ObjectBreaks b O8 place = SymbolFails b place (λ k. not (symbol_section_exists b k) || value_in_section b k)
 ObjectBreaks b O9 place = SymbolFails b place (name_ends b)
 ObjectBreaks b O10 place = SectionFails b place (relocations_inside b) ⊎ RelocationFails b place (field_inside b)
 ObjectBreaks b O11 place = SectionFails b place (thread_local_in_data b)
@@ -95,7 +96,7 @@ abbrev pub DylibBreaks : List ℕ → ObjectRule → ℕ → Type 0
 DylibBreaks b O1 place = (place ≡ 0) × (head_fits MH_DYLIB b ≡ false)
 DylibBreaks b O2 place = ((place ≡ 0) × (commands_inside b ≡ false)) ⊎ CommandFails (commands_of b) place (command_fits needed_in_dylib b)
 DylibBreaks b O3 place = IsNotOne LC_ID_DYLIB b place ⊎ IsNotOne LC_SYMTAB b place
-DylibBreaks b O4 place = (place ≡ place_of LC_SYMTAB b) × (tables_inside b ≡ false)
+DylibBreaks b O4 place = (has_one LC_SYMTAB b ≡ true) × (place ≡ place_of LC_SYMTAB b) × (tables_inside b ≡ false)
 DylibBreaks b O5 place = ⊥
 DylibBreaks b O6 place = ⊥
 DylibBreaks b O7 place = ⊥

@@ -6,11 +6,11 @@ use Rattle.std.specs.Str.{bytes_eq}
 use Rattle.macho_bytes.specs.Numbers.{le_at, bits, signed}
 use Rattle.macho_bytes.specs.Texts.{name_of}
 use Rattle.macho_bytes.specs.Layouts.{reading, size_of}
-use Rattle.macho_records.specs.Layouts.{segment_command, dylib_command, linkedit_data_command, chained_fixups_header, chained_starts_in_segment}
+use Rattle.macho_records.specs.Layouts.{segment_command, symtab_command, symtab_entry, entry_point_command, dylib_command, linkedit_data_command, chained_fixups_header, chained_starts_in_segment}
 use Rattle.macho_records.specs.declared.header.SegmentCommand.{SegmentCommand}
 use Rattle.macho_records.specs.declared.fixups.ChainedFixupsHeader.{ChainedFixupsHeader}
 use Rattle.macho_records.specs.declared.fixups.ChainedStartsInSegment.{ChainedStartsInSegment}
-use Rattle.macho_records.specs.declared.constants.TheConstants.{LC_DYLD_CHAINED_FIXUPS, LC_LOAD_DYLIB, LC_SEGMENT_64}
+use Rattle.macho_records.specs.declared.constants.TheConstants.{LC_CODE_SIGNATURE, LC_DYLD_CHAINED_FIXUPS, LC_DYLD_EXPORTS_TRIE, LC_LOAD_DYLIB, LC_MAIN, LC_SEGMENT_64, LC_SYMTAB}
 use Rattle.macho_model.specs.Commands.{Command, numbered, path_of}
 use Rattle.macho_model.specs.Segments.{PAGEZERO, TEXT}
 
@@ -40,7 +40,7 @@ base_of b = first_address (segments_named TEXT b)
 unfoldable pub libraries_of : List ℕ → List (List ℕ)
 libraries_of b = map (λ c. path_of b c (reading dylib_command b c.at).name_offset) (numbered LC_LOAD_DYLIB b)
 
--- A fixup table: the range of the file that its command gives (`mach-o/fixup-chains.h`).
+-- A table of `__LINKEDIT`: the range of the file that its command gives.
 pub record Table : Type 0 where
   pub at : ℕ
   pub size : ℕ
@@ -48,9 +48,36 @@ pub record Table : Type 0 where
 abbrev pub table_of_command : List ℕ → Command → Table
 table_of_command b c = record { at = (reading linkedit_data_command b c.at).dataoff; size = (reading linkedit_data_command b c.at).datasize }
 
+-- the ranges that the commands of a number give
+abbrev pub ranges_of : ℕ → List ℕ → List Table
+ranges_of n b = map (table_of_command b) (numbered n b)
+
 -- the fixup tables of a file; the loader takes one at most
 unfoldable pub tables_of : List ℕ → List Table
-tables_of b = map (table_of_command b) (numbered LC_DYLD_CHAINED_FIXUPS b)
+tables_of b = ranges_of LC_DYLD_CHAINED_FIXUPS b
+
+-- the exports tries and the signatures of a file, and where its symbols and its strings stand
+unfoldable pub tries_of : List ℕ → List Table
+tries_of b = ranges_of LC_DYLD_EXPORTS_TRIE b
+
+unfoldable pub signatures_of : List ℕ → List Table
+signatures_of b = ranges_of LC_CODE_SIGNATURE b
+
+abbrev pub symbols_range : List ℕ → Command → Table
+symbols_range b c = record { at = (reading symtab_command b c.at).symoff; size = size_of symtab_entry * (reading symtab_command b c.at).nsyms }
+
+abbrev pub strings_range : List ℕ → Command → Table
+strings_range b c = record { at = (reading symtab_command b c.at).stroff; size = (reading symtab_command b c.at).strsize }
+
+unfoldable pub symbol_tables_of : List ℕ → List Table
+symbol_tables_of b = map (symbols_range b) (numbered LC_SYMTAB b)
+
+unfoldable pub string_tables_of : List ℕ → List Table
+string_tables_of b = map (strings_range b) (numbered LC_SYMTAB b)
+
+-- the file offsets at which an executable begins; it has one
+unfoldable pub entries_of_file : List ℕ → List ℕ
+entries_of_file b = map (λ c. (reading entry_point_command b c.at).entryoff) (numbered LC_MAIN b)
 
 abbrev pub fixups_header : List ℕ → Table → ChainedFixupsHeader
 fixups_header b t = reading chained_fixups_header b t.at
@@ -84,7 +111,7 @@ NO_START = 0xffff
 abbrev pub CHAIN_PAGE : ℕ
 CHAIN_PAGE = 0x4000
 
--- the page starts of segment k, none where it has no fixups or the table does not count it
+-- the page starts of segment k, none where it has no fixups
 abbrev pub page_starts : List ℕ → Table → ℕ → List ℕ
 page_starts b t k = if starts_offset b t k == 0 then [] else map (page_start b t k) (range_with_len 0 (segment_starts b t k).page_count)
 

@@ -25,5 +25,6 @@ pub mod Rows
 pub mod Consumed
 pub mod Limits
 pub mod Values
+pub mod Fixups
 pub mod Faults
 pub mod Valid

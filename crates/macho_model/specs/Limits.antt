@@ -1,19 +1,23 @@
 -- The greatest numbers that the format takes, and when a link or an image passes one.
-use Rattle.std.specs.Prelude.{◌≡◌, ℕ, ◌+◌, ◌-◌, ◌/◌, ◌^◌, ◌<◌, ◌≤◌, ◌⊎◌, length, Option, Some, None, Contains}
+use Rattle.std.specs.Prelude.{◌≡◌, ℕ, ◌+◌, ◌-◌, ◌/◌, ◌^◌, ◌<◌, ◌≤◌, ◌⊎◌, length, Option, Some, None, Contains, true}
+use Rattle.std.specs.FinMap.{empty}
+use Rattle.macho_bytes.specs.Texts.{name_of}
+use Rattle.macho_model.specs.declared.targets.Target.{Target}
 use Rattle.macho_model.specs.declared.targets.Limit.{Limit}
 use Rattle.macho_model.specs.declared.targets.Limit.TheVariants as limit
 use Rattle.macho_model.specs.declared.placed.Counts.{Counts}
 use Rattle.macho_model.specs.declared.placed.PlacedSegment.{PlacedSegment}
-use Rattle.macho_model.specs.declared.placed.PlacedSection.{PlacedSection}
 use Rattle.macho_model.specs.declared.placed.Range64.{Range64}
 use Rattle.macho_model.specs.ExportLists.{plain_entries}
-use Rattle.macho_model.specs.Links.{Link, header_at}
+use Rattle.macho_model.specs.Links.{Link, SectionId, header_at}
 use Rattle.macho_model.specs.Resolution.{symbols_of}
-use Rattle.macho_model.specs.Needs.{libraries_needed}
-use Rattle.macho_model.specs.Consumed.{personality_targets}
-use Rattle.macho_model.specs.Segments.{SEGMENT_PAGE, segment_names_of, output_count}
+use Rattle.macho_model.specs.Needs.{libraries_needed, initializer_sections}
+use Rattle.macho_model.specs.Targets.{target_of_relocation}
+use Rattle.macho_model.specs.Consumed.{personality_targets, EntryId, entries_of_link, relocations_in_entry, section_named, unwind_entry, START_PLACE, LSDA_PLACE}
+use Rattle.macho_model.specs.Segments.{SEGMENT_PAGE, may_hold_pointers, segment_names_of, output_count}
 use Rattle.macho_model.specs.WrittenSum.{written_sum_of}
-use Rattle.macho_model.specs.Placement.{Placed, id_of, linkedit_ranges}
+use Rattle.macho_model.specs.Placement.{Placed, linkedit_ranges}
+use Rattle.macho_model.specs.Stands.{IsAt, SlotAt, SectionAt}
 
 -- the greatest numbers that the format takes
 abbrev pub GREATEST_SEGMENTS : ℕ
@@ -57,7 +61,8 @@ pages_of s = (s.file_size + (SEGMENT_PAGE - 1)) / SEGMENT_PAGE
 
 abbrev pub PassesLimit : Link → Counts → Limit → ℕ → Option Placed → Type 0
 PassesLimit l counts what number None = (number ≡ (limited l counts what).0) × ((limited l counts what).1 < number)
-PassesLimit l counts limit.Pages number (Some p) = (s : PlacedSegment) × Contains p.segments s × (number ≡ pages_of s) × (GREATEST_PAGES < number)
+PassesLimit l counts limit.Pages number (Some p) =
+    (s : PlacedSegment) × Contains p.segments s × (may_hold_pointers (name_of s.name) ≡ true) × (number ≡ pages_of s) × (GREATEST_PAGES < number)
 PassesLimit l counts what number (Some p) = ⊥
 
 -- the numbers that are written in 32 bits
@@ -67,14 +72,27 @@ LIMIT_32 = 2 ^ 32
 abbrev pub RangePasses : Range64 → Type 0
 RangePasses r = (LIMIT_32 ≤ r.start) ⊎ (LIMIT_32 ≤ r.end - r.start)
 
+-- An address whose offset from the base is written in 32 bits: an initializer, the start or the end of a function, its
+-- language data, the slot of its personality.
+pub data IsWritten32 (l : Link) (p : Placed) : ℕ → Type 0 where
+  initializer : (s : SectionId) (r x : ℕ) → Contains (initializer_sections l) s → r < (header_at l s).nreloc
+      → IsAt l p 0 empty (target_of_relocation l s r) x → IsWritten32 l p x
+  function : (d : EntryId) (r at extra : ℕ) → Contains (entries_of_link l) d
+      → Contains (relocations_in_entry l d.of_section d.entry START_PLACE) r → SectionAt p d.of_section.file (section_named l d.of_section r).section at
+      → (extra ≡ 0) ⊎ (extra ≡ (unwind_entry l d.of_section d.entry).length)
+      → IsWritten32 l p (at + ((unwind_entry l d.of_section d.entry).start - (header_at l (section_named l d.of_section r)).addr) + extra)
+  language : (d : EntryId) (r at : ℕ) → Contains (entries_of_link l) d
+      → Contains (relocations_in_entry l d.of_section d.entry LSDA_PLACE) r → SectionAt p d.of_section.file (section_named l d.of_section r).section at
+      → IsWritten32 l p (at + ((unwind_entry l d.of_section d.entry).lsda - (header_at l (section_named l d.of_section r)).addr))
+  personality : (t : Target) (x : ℕ) → Contains (personality_targets l) t → SlotAt p 0 t x → IsWritten32 l p x
+
 -- a file offset or size, or an offset from the base that initializers or unwind entries are written as, passes 32 bits
-abbrev pub ImagePasses : Link → Counts → Placed → Type 0
-ImagePasses l counts p =
+abbrev pub ImagePasses : Link → Placed → Type 0
+ImagePasses l p =
     ((s : PlacedSegment) × Contains p.segments s × ((LIMIT_32 ≤ s.file_offset) ⊎ (LIMIT_32 ≤ s.file_size)))
     ⊎ ((r : Range64) × Contains (linkedit_ranges p) r × RangePasses r)
-    ⊎ ((1 ≤ counts.initializers + counts.unwind)
-    × ((q : PlacedSection) × Contains p.sections q × (p.base + LIMIT_32 ≤ q.address + (header_at l (id_of q)).size)))
+    ⊎ ((x : ℕ) × IsWritten32 l p x × (p.base + LIMIT_32 ≤ x))
 
 abbrev pub IsTooLarge : Link → Counts → Option Placed → Type 0
 IsTooLarge l counts None = 2 ^ 64 ≤ written_sum_of l counts + LIMIT_32
-IsTooLarge l counts (Some p) = ImagePasses l counts p
+IsTooLarge l counts (Some p) = ImagePasses l p

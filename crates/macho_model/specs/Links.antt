@@ -25,7 +25,7 @@ pub record Link : Type 0 where
   pub executable : Bool
   pub output : List ℕ
   pub entry : List ℕ
-  -- of a dynamic library
+  -- the install name that was given, else the output path; only a dynamic library has it written
   pub install_name : List ℕ
   pub rpaths : List (List ℕ)
   -- the least version of macOS and that of the SDK, where they were given

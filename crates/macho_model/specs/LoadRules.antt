@@ -78,7 +78,7 @@ starts_fit b t k =
     || (nat_le ((fixups_header b t).starts_offset + starts_offset b t k + size_of chained_starts_in_segment) t.size
     && nat_le ((fixups_header b t).starts_offset + starts_offset b t k + size_of chained_starts_in_segment + 2 * (segment_starts b t k).page_count) t.size
     && ((segment_starts b t k).page_size == CHAIN_PAGE) && ((segment_starts b t k).pointer_format == POINTER_FORMAT)
-    && ((segment_starts b t k).segment_offset + base_of b == (get_or (map (λ s. s.vmaddr) (segments_of b)) k 0)))
+    && (((segment_starts b t k).segment_offset + base_of b) % 2 ^ 64 == get_or (map (λ s. s.vmaddr) (segments_of b)) k 0))
 
 -- L8, of a table: it stands inside the file, its parts inside it, and versions and formats are the known ones
 abbrev pub table_fits : List ℕ → Table → Bool

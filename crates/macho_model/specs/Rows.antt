@@ -84,8 +84,15 @@ share_byte l s q r =
     nat_lt (relocation_in l s q).r_address ((relocation_in l s r).r_address + 2 ^ (relocation_in l s r).r_length)
     && nat_lt (relocation_in l s r).r_address ((relocation_in l s q).r_address + 2 ^ (relocation_in l s q).r_length)
 
--- two relocations are a pair: a subtrahend or an addend, and the one behind it that it belongs to
+-- two relocations are a pair: a subtrahend in front of a pointer of its place and length, or an addend in front of a
+-- branch, a page or an offset of its place
 abbrev pub are_pair : Link → SectionId → ℕ → ℕ → Bool
 are_pair l s q r =
-    (r == q + 1)
-    && ((((relocation_in l s q).r_type == ARM64_RELOC_SUBTRACTOR) && subtractor_fits l s q) || (((relocation_in l s q).r_type == ARM64_RELOC_ADDEND) && addend_fits l s q))
+    (r == q + 1) && ((relocation_in l s q).r_address == (relocation_in l s r).r_address)
+    && (is_difference (relocation_in l s q) (relocation_in l s r) || has_addend (relocation_in l s q) (relocation_in l s r))
+  where
+    is_difference : RelocationInfo → RelocationInfo → Bool
+    is_difference p q = (p.r_type == ARM64_RELOC_SUBTRACTOR) && (q.r_type == ARM64_RELOC_UNSIGNED) && (p.r_length == q.r_length)
+
+    has_addend : RelocationInfo → RelocationInfo → Bool
+    has_addend p q = (p.r_type == ARM64_RELOC_ADDEND) && takes_addend q.r_type

@@ -12,15 +12,15 @@ use Rattle.macho_model.specs.Resolution.{entry_at, strong_of, definition_of}
 use Rattle.macho_model.specs.Needs.{Use, uses_of, name_used, initializer_sections, unwind_sections, relocation_in, POINTER_SIZE}
 use Rattle.macho_model.specs.Fields.{Field, fields_of, content_of}
 use Rattle.macho_model.specs.Words.{scale_of}
-use Rattle.macho_model.specs.Segments.{segment_name}
+use Rattle.macho_model.specs.Segments.{segment_name, may_hold_pointers}
 use Rattle.macho_model.specs.WrittenSum.{written_sum_of}
 use Rattle.macho_model.specs.Placement.{common_of}
 use Rattle.macho_model.specs.Stands.{Kind, Pointer, Difference, Branch, Page, Offset, SlotPage, SlotOffset, SlotDistance, NoKind, kind_of}
 use Rattle.macho_model.specs.Rows.{is_supported, share_byte, are_pair}
-use Rattle.macho_model.specs.Consumed.{initializer_section_fits, initializer_slot_fits, entry_count, keeps}
+use Rattle.macho_model.specs.Consumed.{initializer_section_fits, initializer_slot_fits, entry_count, whole_entries, keeps}
 use Rattle.macho_model.specs.Limits.{limited}
 use Rattle.macho_model.specs.Values.{needs_fixup}
-use Rattle.macho_model.specs.Faults.{entry_is_defined, may_hold_pointers, fits_32_signed}
+use Rattle.macho_model.specs.Faults.{entry_is_defined, fits_32_signed}
 
 -- a number modulo 2 ^ 64, read as signed, is below 2 ^ 23 in size
 abbrev pub is_small : ℕ → Bool
@@ -87,6 +87,7 @@ pub record IsValid (l : Link) (counts : Counts) : Type 0 where
       → initializer_slot_fits l s slot ≡ true
   pub placed : (s : SectionId) (r : ℕ) → Contains (initializer_sections l) s → r < (header_at l s).nreloc
       → ((relocation_in l s r).r_address % POINTER_SIZE == 0) ≡ true
+  pub whole : All (λ s. whole_entries l s ≡ true) (unwind_sections l)
   pub unwind : (s : SectionId) (e : ℕ) (rule : UnwindRule) → Contains (unwind_sections l) s → e < entry_count l s → keeps l s e rule ≡ true
   -- no number passes its limit
   pub limits : (what : Limit) → (limited l counts what).0 ≤ (limited l counts what).1

@@ -24,9 +24,9 @@ section_id file section = record { file = file; section = section }
 abbrev pub PlacedAt : Placed → SectionId → ℕ → Type 0
 PlacedAt p s address = (q : PlacedSection) × Contains p.sections q × (id_of q ≡ s) × (q.address ≡ address)
 
--- a field that is a pointer
+-- a field that is a pointer of 8 bytes
 abbrev pub is_pointer : Field → Bool
-is_pointer f = is_pointer_kind (kind_of f.type (is_some f.subtrahend))
+is_pointer f = (f.width == 8) && is_pointer_kind (kind_of f.type (is_some f.subtrahend))
   where
     is_pointer_kind : Kind → Bool
     is_pointer_kind Pointer = true

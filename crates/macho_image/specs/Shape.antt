@@ -1,0 +1,46 @@
+-- The shape of an executable of one text segment: its two segments, its header and its load commands.
+use Rattle.std.specs.Prelude.{◌≡◌, ℕ, ◌+◌, List, [], ◌∷◌, ◌++◌, length, codes, replicate}
+use Rattle.std.specs.Borrow.{Bor}
+use Rattle.macho_bytes.specs.Layouts.{reading}
+use Rattle.macho_records.specs.Layouts.{mach_header}
+use Rattle.macho_records.specs.declared.constants.TheConstants.{MH_MAGIC_64, CPU_TYPE_ARM64, MH_EXECUTE}
+use Rattle.macho_records.specs.declared.header.MachHeader.{MachHeader}
+use Rattle.macho_records.specs.declared.header.SectionHeader.{SectionHeader}
+use Rattle.macho_model.specs.declared.placed.PlacedSegment.{PlacedSegment}
+use Rattle.macho_model.specs.Segments.{PAGEZERO_SIZE}
+use Rattle.macho_commands.specs.declared.command.Command.{Command}
+use Rattle.macho_commands.specs.declared.command.Command.TheVariants.{Segment, EntryPoint, Dylinker}
+use Rattle.macho_commands.specs.Commands.{commands_size}
+
+-- the segment that keeps the first 4 GiB free, and the one of code
+abbrev pub pagezero_segment : PlacedSegment
+pagezero_segment = record { name = codes "__PAGEZERO" ++ replicate 6 0; address = 0; size = PAGEZERO_SIZE; file_offset = 0; file_size = 0 }
+
+abbrev pub text_segment : ℕ → PlacedSegment
+text_segment n = record { name = codes "__TEXT" ++ replicate 10 0; address = PAGEZERO_SIZE; size = n; file_offset = 0; file_size = n }
+
+-- read and execute
+abbrev pub TEXT_PROTECTION : ℕ
+TEXT_PROTECTION = 5
+
+-- `MH_NOUNDEFS`, `MH_DYLDLINK`, `MH_TWOLEVEL` and `MH_PIE`
+abbrev pub EXECUTABLE_FLAGS : ℕ
+EXECUTABLE_FLAGS = 0x200085
+
+-- the load commands, with no section in the first segment
+abbrev pub commands_of_image : ℕ → ℕ → Bor (List SectionHeader) → Bor (List SectionHeader) → List Command
+commands_of_image n entry none headers =
+    Segment pagezero_segment 0 0 none ∷ Segment (text_segment n) TEXT_PROTECTION 0 headers ∷ EntryPoint entry ∷ Dylinker ∷ []
+
+-- the header in front of so many bytes of commands
+abbrev pub header_of_image : ℕ → MachHeader
+header_of_image size = record {
+  magic = MH_MAGIC_64;
+  cputype = CPU_TYPE_ARM64;
+  cpusubtype = 0;
+  filetype = MH_EXECUTE;
+  ncmds = 4;
+  sizeofcmds = size;
+  flags = EXECUTABLE_FLAGS;
+  reserved = 0;
+}

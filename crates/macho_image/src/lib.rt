@@ -1,0 +1,2 @@
+//! The linker: from objects to the bytes of an image.
+#![tactic(auto)]
