@@ -1,0 +1,2 @@
+pub mod Unchained
+pub mod Memory
