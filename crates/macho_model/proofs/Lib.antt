@@ -1,0 +1,3 @@
+pub mod Unchained
+pub mod Memory
+pub mod PageChains
