@@ -16,7 +16,7 @@ use Rattle.macho_records.specs.declared.constants.TheConstants.{LC_SEGMENT_64, L
 use Rattle.macho_model.specs.Commands as found
 use Rattle.macho_model.specs.Images.{segments_of, mapped_segments, tables_of, base_of, segments_named}
 use Rattle.macho_model.specs.Segments.{TEXT, SEGMENT_PAGE, PAGEZERO_SIZE}
-use Rattle.macho_model.specs.Chain.{OnChainOf}
+use Rattle.macho_model.proofs.PageChains.{no_page_chain}
 use Rattle.macho_model.specs.ObjectRules.{commands_inside}
 use Rattle.macho_model.specs.Grammar.{EachCommand}
 use Rattle.macho_model.specs.LoadRules.{image_head_fits, needed_in_image, protections_fit, file_part_inside, segment_is_paged, segment_ends, begins_behind, text_holds_commands, table_fits}
@@ -96,7 +96,7 @@ both : (b : List ℕ) (n entry : ℕ) (none headers : Bor (List SectionHeader)) 
 both b n entry none headers h test first second =
     let P : found.Command → Type 0 = λ c. test c ≡ true in
     All-same P (segment_commands b) (two_commands (length headers.now)) (segment_commands-are b n entry none headers h)
-      (All-from_recursion P (two_commands (length headers.now)) (first, (second, tt)))
+    (All-from_recursion P (two_commands (length headers.now)) (first, (second, tt)))
 
 and-true : (p q : Bool) → p ≡ true → q ≡ true → (p && q) ≡ true
 and-true p q e f = rw (e, f) refl
@@ -132,14 +132,22 @@ each-fits b n entry none headers h =
     let P : found.Command → Type 0 = λ c. found.command_fits (needed_in_image b) b c ≡ true in
     let end = commands-end b n entry none headers h in
     All-same P (found.commands_of b) (four_commands (length headers.now)) (commands-are b n entry none headers h)
-      (All-from_recursion P (four_commands (length headers.now))
-        (fits (needed_in_image b) b (record { at = 32; number = LC_SEGMENT_64; size = 72 }) (omega arith) (omega (arith, end))
-           (rw (pagezero-says b n entry none headers h) (omega arith)),
-         (fits (needed_in_image b) b (record { at = 104; number = LC_SEGMENT_64; size = 72 + 80 * length headers.now }) (omega arith) (omega (arith, end))
-           (rw (text-says b n entry none headers h) (omega arith)),
-         (fits (needed_in_image b) b (record { at = 104 + (72 + 80 * length headers.now); number = LC_MAIN; size = 24 }) (omega arith) (omega (arith, end)) (omega arith),
-         (fits (needed_in_image b) b (record { at = 104 + (72 + 80 * length headers.now) + 24; number = LC_LOAD_DYLINKER; size = 32 }) (omega arith)
-           (omega (arith, end)) (omega arith), tt)))))
+    (All-from_recursion P (four_commands (length headers.now)) (
+      fits (needed_in_image b) b (record { at = 32; number = LC_SEGMENT_64; size = 72 }) (omega arith) (omega (arith, end))
+          (rw (pagezero-says b n entry none headers h) (omega arith)),
+      (
+        fits (needed_in_image b) b (record { at = 104; number = LC_SEGMENT_64; size = 72 + 80 * length headers.now }) (omega arith) (omega (arith, end))
+            (rw (text-says b n entry none headers h) (omega arith)),
+        (
+          fits (needed_in_image b) b (record { at = 104 + (72 + 80 * length headers.now); number = LC_MAIN; size = 24 }) (omega arith) (omega (arith, end)) (omega arith),
+          (
+            fits (needed_in_image b) b (record { at = 104 + (72 + 80 * length headers.now) + 24; number = LC_LOAD_DYLINKER; size = 32 }) (omega arith)
+                (omega (arith, end)) (omega arith),
+            tt,
+          ),
+        ),
+      ),
+    ))
 
 -- the only neighbours of a list of two
 neighbours : (test : found.Command → found.Command → Bool) (x y : found.Command) → test x y ≡ true → EachNeighbour (x ∷ y ∷ []) test
@@ -149,31 +157,40 @@ neighbours test x y e (suc k) c d lt at_c at_d = absurd (omega arith)
 
 -- the loader accepts the image
 pub accepted : (b : List ℕ) (n entry : ℕ) (none headers : Bor (List SectionHeader)) → HasHead b n entry none headers → n % SEGMENT_PAGE ≡ 0
-    → PAGEZERO_SIZE + n ≤ 2 ^ 64 → ((a : ℕ) → OnChainOf b a → ⊥) → IsAccepted b
-accepted b n entry none headers h pages high unchained = record {
+    → PAGEZERO_SIZE + n ≤ 2 ^ 64 → IsAccepted b
+accepted b n entry none headers h pages high = record {
   l1 = head-fits b n entry none headers h;
   l2 = (commands-inside b n entry none headers h, each-fits b n entry none headers h);
   l3 = both b n entry none headers h (protections_fit b) (rw pagezero refl) (rw text refl);
   l4 = both b n entry none headers h (file_part_inside b) (rw pagezero (and-true _ _ (le-leb 0 (length b) (omega arith)) refl))
-    (rw text (and-true _ _ (le-leb (0 + n) (length b) (omega (arith, h.size))) (le-leb n n (omega arith))));
+      (rw text (and-true _ _ (le-leb (0 + n) (length b) (omega (arith, h.size))) (le-leb n n (omega arith))));
   l5 = both b n entry none headers h (segment_is_paged b) (rw pagezero refl) (rw (text, pages) refl);
-  l6 = (both b n entry none headers h (segment_ends b) (rw pagezero refl) (rw text (le-leb (PAGEZERO_SIZE + n) (2 ^ 64) high)),
-        subst (λ (cs : List found.Command). EachNeighbour cs (begins_behind b)) (sym (segment_commands-are b n entry none headers h))
-          (neighbours (begins_behind b) _ _ (rw (pagezero, text) refl)));
-  l7 = (ap length texts, All-same (λ s. text_holds_commands b s ≡ true) (segments_named TEXT b) (text_record n (length headers.now) ∷ []) texts
-         (All-from_recursion (λ s. text_holds_commands b s ≡ true) (text_record n (length headers.now) ∷ []) (holds, tt)));
+  l6 = (
+    both b n entry none headers h (segment_ends b) (rw pagezero refl) (rw text (le-leb (PAGEZERO_SIZE + n) (2 ^ 64) high)),
+    subst (λ (cs : List found.Command). EachNeighbour cs (begins_behind b)) (sym (segment_commands-are b n entry none headers h))
+        (neighbours (begins_behind b) _ _ (rw (pagezero, text) refl)),
+  );
+  l7 = (
+    ap length texts,
+    All-same (λ s. text_holds_commands b s ≡ true) (segments_named TEXT b) (text_record n (length headers.now) ∷ []) texts
+        (All-from_recursion (λ s. text_holds_commands b s ≡ true) (text_record n (length headers.now) ∷ []) (holds, tt)),
+  );
   l8 = (omega (arith, ap length tables), All-same (λ t. table_fits b t ≡ true) (tables_of b) [] tables (All-nil (λ t. table_fits b t ≡ true)));
   l9 = λ t k one lt. absurd (omega (arith, one.1, ap length tables));
-  l10 = λ a on. absurd (unchained a on);
+  l10 = λ s page a one on. absurd (no_page_chain b tables s page a one on);
 }
   where
     pagezero : reading segment_command b 32 ≡ pagezero_record
     pagezero = pagezero-says b n entry none headers h
+
     text : reading segment_command b 104 ≡ text_record n (length headers.now)
     text = text-says b n entry none headers h
+
     texts : segments_named TEXT b ≡ text_record n (length headers.now) ∷ []
     texts = rw (segments-are b n entry none headers h) refl
+
     holds : text_holds_commands b (text_record n (length headers.now)) ≡ true
     holds = le-leb (found.commands_end b) n (omega (arith, commands-end b n entry none headers h, h.room))
+
     tables : tables_of b ≡ []
     tables = tables-are b n entry none headers h
