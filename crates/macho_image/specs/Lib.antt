@@ -1,2 +1,4 @@
 pub mod Shape
 pub mod Places
+pub mod First
+pub mod Counts

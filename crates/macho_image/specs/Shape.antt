@@ -1,5 +1,5 @@
 -- The shape of an executable of one text segment: its two segments, its header and its load commands.
-use Rattle.std.specs.Prelude.{◌≡◌, ℕ, ◌+◌, List, [], ◌∷◌, ◌++◌, length, codes, replicate}
+use Rattle.std.specs.Prelude.{◌≡◌, ℕ, ◌+◌, List, [], ◌∷◌, ◌++◌, length, codes, replicate, None}
 use Rattle.std.specs.Borrow.{Bor}
 use Rattle.macho_bytes.specs.Layouts.{reading}
 use Rattle.macho_records.specs.Layouts.{mach_header}
@@ -7,6 +7,9 @@ use Rattle.macho_records.specs.declared.constants.TheConstants.{MH_MAGIC_64, CPU
 use Rattle.macho_records.specs.declared.header.MachHeader.{MachHeader}
 use Rattle.macho_records.specs.declared.header.SectionHeader.{SectionHeader}
 use Rattle.macho_model.specs.declared.placed.PlacedSegment.{PlacedSegment}
+use Rattle.macho_model.specs.declared.placed.PlacedSection.{PlacedSection}
+use Rattle.macho_model.specs.declared.placed.Range64.{Range64}
+use Rattle.macho_model.specs.Placement.{Placed}
 use Rattle.macho_model.specs.Segments.{PAGEZERO_SIZE}
 use Rattle.macho_commands.specs.declared.command.Command.{Command}
 use Rattle.macho_commands.specs.declared.command.Command.TheVariants.{Segment, EntryPoint, Dylinker}
@@ -43,4 +46,24 @@ header_of_image size = record {
   sizeofcmds = size;
   flags = EXECUTABLE_FLAGS;
   reserved = 0;
+}
+
+-- a range of nothing
+abbrev pub no_range : Range64
+no_range = record { start = 0; end = 0 }
+
+-- the placement of such an image: the places of its sections, and their headers
+abbrev pub placed_of_image : ℕ → List PlacedSection → List SectionHeader → Placed
+placed_of_image n sections headers = record {
+  base = PAGEZERO_SIZE;
+  segments = pagezero_segment ∷ text_segment n ∷ [];
+  sections = sections;
+  commons = [];
+  slots = [];
+  stubs = [];
+  output_sections = headers;
+  init_offsets = no_range;
+  unwind = no_range;
+  template = None;
+  linkedit = record { fixups = no_range; trie = no_range; symtab = no_range; strtab = no_range; signature = no_range };
 }

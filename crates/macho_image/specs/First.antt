@@ -1,0 +1,32 @@
+-- What the first links are: one object whose carried sections stand in `__TEXT` and have no relocations.
+use Rattle.std.specs.Prelude.{◌≡◌, ℕ, ◌+◌, ◌<◌, Bool, true, false, List, [], ◌∷◌, length, map, get_or}
+use Rattle.macho_records.specs.declared.header.SectionHeader.{SectionHeader}
+use Rattle.macho_records.specs.Sections.{is_zerofill, segment_name_of}
+use Rattle.macho_model.specs.declared.placed.Counts.{Counts}
+use Rattle.macho_model.specs.Links.{Link, SectionId, header_at, carried_of, is_template, placed_exponent}
+use Rattle.macho_model.specs.Resolution.{chosen_commons}
+use Rattle.macho_model.specs.Targets.{slots_of, stubs_of}
+use Rattle.macho_model.specs.Segments.{TEXT}
+use Rattle.macho_image.specs.declared.carried.Carried.{Carried}
+
+-- a carried section by its number in the only object
+abbrev pub id_of_carried : Carried → SectionId
+id_of_carried c = record { file = 0; section = c.section }
+
+-- a carried section of such a link
+pub record IsPlain (l : Link) (c : Carried) : Type 0 where
+  pub header : header_at l (id_of_carried c) ≡ c.header
+  pub text : segment_name_of c.header ≡ TEXT
+  pub filled : is_zerofill c.header ≡ false
+  pub template : is_template c.header ≡ false
+  pub exponent : placed_exponent l (id_of_carried c) ≡ c.header.align
+  pub relocations : c.header.nreloc ≡ 0
+
+-- a link whose carried sections are these, and which needs nothing else
+pub record IsFirst (l : Link) (carried : List Carried) : Type 0 where
+  pub executable : l.executable ≡ true
+  pub list : carried_of l ≡ map id_of_carried carried
+  pub plain : (k : ℕ) (c : Carried) → k < length carried → IsPlain l (get_or carried k c)
+  pub commons : chosen_commons l ≡ []
+  pub slots : slots_of l ≡ []
+  pub stubs : stubs_of l ≡ []
