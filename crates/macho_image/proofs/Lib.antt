@@ -1,3 +1,4 @@
 pub mod Accepted
 pub mod Places
 pub mod Placed
+pub mod Held

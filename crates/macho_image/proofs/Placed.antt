@@ -73,18 +73,18 @@ pub record IsAtPlace (l : Link) (front end : ℕ) (c : Carried) (q : PlacedSecti
   pub place : IsPlaceOf front c q end
   pub same : id_of q ≡ id_of_carried c
 
-at_place : (l : Link) (front end : ℕ) (cs : List Carried) (ps : List PlacedSection) → IsFirst l cs → Places front cs ps end → (k : ℕ) (q : PlacedSection)
+pub at_place : (l : Link) (front end : ℕ) (cs : List Carried) (ps : List PlacedSection) → IsFirst l cs → Places front cs ps end → (k : ℕ) (q : PlacedSection)
     → k < length ps → IsAtPlace l front end (get_or cs k no_carried) (get_or ps k q)
 at_place l front end cs ps first places k q lt =
     let p = places.each k no_carried q (omega (arith, places.count)) in
     record { plain = first.plain k no_carried (omega (arith, places.count)); place = p; same = rw (p.file, p.section) refl }
 
 -- a placed section's header is the carried one
-header-at : (l : Link) (front end : ℕ) (c : Carried) (q : PlacedSection) → IsAtPlace l front end c q → header_at l (id_of q) ≡ c.header
+pub header-at : (l : Link) (front end : ℕ) (c : Carried) (q : PlacedSection) → IsAtPlace l front end c q → header_at l (id_of q) ≡ c.header
 header-at l front end c q h = ap (header_at l) h.same ∙ h.plain.header
 
 -- a section's size is that of its carried header
-size-at : (l : Link) (front end : ℕ) (c : Carried) (q : PlacedSection) → IsAtPlace l front end c q → (header_at l (id_of q)).size ≡ c.header.size
+pub size-at : (l : Link) (front end : ℕ) (c : Carried) (q : PlacedSection) → IsAtPlace l front end c q → (header_at l (id_of q)).size ≡ c.header.size
 size-at l front end c q h = ap (λ (x : SectionHeader). x.size) (header-at l front end c q h)
 
 same_if : (b : Bool) (n : ℕ) → (if b then n else n) ≡ n

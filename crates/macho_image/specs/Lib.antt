@@ -2,3 +2,4 @@ pub mod Shape
 pub mod Places
 pub mod First
 pub mod Counts
+pub mod Parts
