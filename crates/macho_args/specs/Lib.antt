@@ -1,3 +1,4 @@
 pub mod Store
+pub mod Numbers
 pub mod Version
 pub mod Settings

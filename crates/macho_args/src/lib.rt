@@ -7,6 +7,7 @@
 
 mod fault;
 mod fields;
+mod numbers;
 mod outside;
 mod version;
 
