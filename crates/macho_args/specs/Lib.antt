@@ -2,3 +2,5 @@ pub mod Store
 pub mod Numbers
 pub mod Version
 pub mod Settings
+pub mod Options
+pub mod Effects

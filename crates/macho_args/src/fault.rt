@@ -1,7 +1,12 @@
 //! Why a command line is refused.
 
+ghost use Rattle.std.specs.Prelude.{◌≡◌};
+ghost use Rattle.macho_args.specs.declared.fault.ArgsFault.TheVariants.{OutOfMemory};
+
+use std::alloc::{AllocError, AllocFailed};
+
 /// Why a command line is refused: the first word that breaks its option's rule, by its index in the
-/// words, from 0. The bad value's own index is told, and of a missing value the option's.
+/// words, from 0. A bad value's own index is told, and of a missing value the option's.
 #[derive(Clone, Copy, Debug, PartialEq, Eq)]
 pub enum ArgsFault {
     /// Too few words follow the option.
@@ -22,4 +27,20 @@ pub enum ArgsFault {
     BadNumber { word: u32 },
     /// Memory ran out. No word is at fault.
     OutOfMemory,
+}
+
+impl From<AllocError> for ArgsFault {
+    ghost from_gives = { λ _ fault. fault ≡ OutOfMemory };
+
+    fn from(_error: AllocError) -> ArgsFault {
+        ArgsFault::OutOfMemory
+    }
+}
+
+impl<T: Drop> From<AllocFailed<T>> for ArgsFault {
+    ghost from_gives = { λ _ fault. fault ≡ OutOfMemory };
+
+    fn from(_error: AllocFailed<T>) -> ArgsFault {
+        ArgsFault::OutOfMemory
+    }
 }

@@ -5,9 +5,11 @@
 //! first word that it can't take.
 #![tactic(auto)]
 
+mod effects;
 mod fault;
 mod fields;
 mod numbers;
+mod options;
 mod outside;
 mod version;
 
