@@ -1,14 +1,17 @@
 //! What each option does to the fields.
 
-ghost use Rattle.std.specs.Prelude.{◌≡◌, Ok, OnOk, IfErr};
+ghost use Rattle.std.specs.Prelude.{◌≡◌, ◌+◌, ◌<◌, ◌^◌, [], Ok, Some, OnOk, IfErr};
+ghost use Rattle.macho_args.specs.Effects.{uuid_of, count_of};
 
-use std::alloc::Global;
+use hex::FromHex;
+use std::alloc::{AllocError, Global};
 
 use crate::fault::ArgsFault;
 use crate::fields::{InputSpec, MachOArgs, PlatformVersion};
 use crate::numbers::number_up_to;
 use crate::options::{Flag, Valued};
 use crate::version::SemanticVersion;
+use crate::words::{begins_with, contains_text};
 
 /// The one architecture.
 const ARM64: &str = "arm64";
@@ -24,7 +27,7 @@ const MAX_GENERATED: u32 = 10_000;
 
 impl MachOArgs {
     ghost use Rattle.macho_args.specs.Settings.{settings_of};
-    ghost use Rattle.macho_args.specs.Effects.{HasCause, with_flag, with_value, with_platform};
+    ghost use Rattle.macho_args.specs.Effects.{HasCause, with_flag, with_value, with_once, with_platform};
 
     /// Sets a flag.
     pub(crate) fn set_flag(&mut self, flag: Flag)
@@ -62,8 +65,107 @@ impl MachOArgs {
             Valued::FrameworkPath => self
                 .framework_search_path
                 .push(String::from_str(alloc, value)?)?,
-            _ => return Err(ArgsFault::OutOfMemory),
+            Valued::Rpath => self.add_rpath(alloc, value)?,
+            Valued::Root => self.set_root(alloc, value)?,
+            Valued::Framework => {
+                let name = String::from_str(alloc, value)?;
+                self.inputs.push(InputSpec::Framework { word, name })?
+            }
+            Valued::Library => self.add_library(alloc, word, value)?,
+            Valued::Arch if value == ARM64 => {}
+            Valued::Arch => return Err(ArgsFault::BadArch { word }),
+            Valued::Mllvm if value == OUTLINING => {}
+            Valued::Mllvm => return Err(ArgsFault::Unsupported { word }),
+            Valued::Uuid => {
+                self.uuid = Some(uuid(value).ok_or(ArgsFault::BadUuid { word })?);
+            }
+            Valued::Generate => {
+                self.generate = Some(object_count(value).ok_or(ArgsFault::BadNumber { word })?);
+            }
         }
         Ok(())
+    }
+
+    // Adds a run path, if it isn't there.
+    fn add_rpath(&mut self, alloc: Global, path: &str) -> Result<(), AllocError>
+        ensures { OnOk result (settings_of self.new ≡ record (settings_of self.old) { rpaths = with_once path.now (settings_of self.old).rpaths }) }
+    {
+        if contains_text(&self.rpaths, path) {
+            return Ok(());
+        }
+        self.rpaths.push(String::from_str(alloc, path)?)?;
+        Ok(())
+    }
+
+    // Sets the root, which drops the library paths before it.
+    fn set_root(&mut self, alloc: Global, path: &str) -> Result<(), AllocError>
+        ensures { OnOk result (settings_of self.new ≡ record (settings_of self.old) { sysroot = Some path.now; lib_search_path = [] }) }
+    {
+        self.sysroot = Some(String::from_str(alloc, path)?);
+        self.lib_search_path.clear();
+        Ok(())
+    }
+
+    #[tactic(auto, unfolding(crate::specs::Effects::with_value))]
+    // Adds a library by its name. A name that begins with a colon would name a file, which isn't supported.
+    fn add_library(&mut self, alloc: Global, word: u32, name: &str) -> Result<(), ArgsFault>
+        ensures done { OnOk result (with_value Valued.Library word name.now (settings_of self.old) ≡ Ok (settings_of self.new)) }
+        ensures why { IfErr result (HasCause (with_value Valued.Library word name.now (settings_of self.old))) }
+    {
+        if begins_with(name, ":") {
+            return Err(ArgsFault::Unsupported { word });
+        }
+        let name = String::from_str(alloc, name)?;
+        self.inputs.push(InputSpec::Lib { word, name })?;
+        Ok(())
+    }
+
+    /// Takes the three values of `-platform_version`, which is the word with this index.
+    #[tactic(auto, unfolding(crate::specs::Effects::with_platform))]
+    pub(crate) fn set_platform(
+        &mut self,
+        alloc: Global,
+        word: u32,
+        platform: &str,
+        minimum: &str,
+        sdk: &str,
+    ) -> Result<(), ArgsFault>
+        requires { word + 3 < 2 ^ 32 }
+        ensures done { OnOk result (with_platform word platform.now minimum.now sdk.now (settings_of self.old) ≡ Ok (settings_of self.new)) }
+        ensures why { IfErr result (HasCause (with_platform word platform.now minimum.now sdk.now (settings_of self.old))) }
+    {
+        if platform != MACOS {
+            return Err(ArgsFault::BadPlatform { word: word + 1 });
+        }
+        let Ok(minimum_version) = SemanticVersion::try_from(minimum) else {
+            return Err(ArgsFault::BadVersion { word: word + 2 });
+        };
+        let Ok(sdk_version) = SemanticVersion::try_from(sdk) else {
+            return Err(ArgsFault::BadVersion { word: word + 3 });
+        };
+        let platform = String::from_str(alloc, platform)?;
+        self.platform_version = Some(PlatformVersion {
+            platform,
+            minimum_version,
+            sdk_version,
+        });
+        Ok(())
+    }
+}
+
+// 16 bytes in 32 hexadecimal digits.
+fn uuid(text: &str) -> Option<[u8; 16]>
+    ensures { result ≡ uuid_of text.now }
+{
+    <[u8; 16] as FromHex>::from_hex(text).ok()
+}
+
+// How many objects are made.
+fn object_count(text: &str) -> Option<u32>
+    ensures { result ≡ count_of text.now }
+{
+    match number_up_to(MAX_GENERATED, text) {
+        Some(0) | None => None,
+        Some(count) => Some(count),
     }
 }

@@ -12,6 +12,7 @@ mod numbers;
 mod options;
 mod outside;
 mod version;
+mod words;
 
 pub use crate::fault::ArgsFault;
 pub use crate::fields::{InputSpec, MachOArgs, PlatformVersion};

@@ -1,0 +1,25 @@
+//! Tests of words.
+
+ghost use Rattle.std.specs.Prelude.{◌≡◌, nat_eq, map};
+ghost use Rattle.std.specs.List.{list_any, starts_with};
+ghost use Rattle.std.specs.Str.{bytes_eq};
+ghost use Rattle.std.specs.String.{string_bytes};
+
+/// Whether the word begins with this text.
+pub(crate) fn begins_with(word: &str, text: &str) -> bool
+    ensures { result ≡ starts_with nat_eq word.now text.now }
+{
+    word.starts_with(text)
+}
+
+/// Whether one of the texts is this text.
+pub(crate) fn contains_text(texts: &[String], text: &str) -> bool
+    ensures { result ≡ list_any (λ one. bytes_eq one text.now) (map string_bytes texts.now) }
+{
+    for one in texts {
+        if one.as_str() == text {
+            return true;
+        }
+    }
+    false
+}
