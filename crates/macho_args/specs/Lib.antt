@@ -4,3 +4,4 @@ pub mod Version
 pub mod Settings
 pub mod Options
 pub mod Effects
+pub mod Words

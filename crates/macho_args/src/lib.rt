@@ -11,6 +11,7 @@ mod fields;
 mod numbers;
 mod options;
 mod outside;
+mod parse;
 mod version;
 mod words;
 

@@ -1,7 +1,8 @@
 //! Tests of words.
 
-ghost use Rattle.std.specs.Prelude.{◌≡◌, nat_eq, map};
+ghost use Rattle.std.specs.Prelude.{◌≡◌, nat_eq, map, length, drop, if◌then◌else◌, Some, None};
 ghost use Rattle.std.specs.List.{list_any, starts_with};
+ghost use Rattle.std.specs.Option.{option_copied};
 ghost use Rattle.std.specs.Str.{bytes_eq};
 ghost use Rattle.std.specs.String.{string_bytes};
 
@@ -22,4 +23,11 @@ pub(crate) fn contains_text(texts: &[String], text: &str) -> bool
         }
     }
     false
+}
+
+/// What follows this text in the word, if the word begins with it.
+pub(crate) fn after_prefix<'a>(word: &'a str, prefix: &str) -> Option<&'a str>
+    ensures { option_copied result ≡ (if starts_with nat_eq word.now prefix.now then Some (drop (length prefix.now) word.now) else None) }
+{
+    word.strip_prefix(prefix)
 }

@@ -1,0 +1,75 @@
+-- What the words of a command line say: the option table, folded over the words.
+use Rattle.std.specs.Prelude.{ℕ, zero, suc, ◌+◌, List, [], ◌∷◌, ◌++◌, codes, map, drop, Option, Some, None, Result, Ok, Err, nat_eq, if◌then◌else◌, String}
+use Rattle.std.specs.List.{starts_with}
+use Rattle.std.specs.String.{string_bytes}
+use Rattle.macho_args.specs.declared.fault.ArgsFault.{ArgsFault}
+use Rattle.macho_args.specs.declared.fault.ArgsFault.TheVariants.{MissingValue, Unknown, Unsupported}
+use Rattle.macho_args.specs.declared.options.LinkOption.{LinkOption}
+use Rattle.macho_args.specs.declared.options.LinkOption.TheVariants.{Sets, Takes, PlatformVersion, Ignored, Refused}
+use Rattle.macho_args.specs.declared.options.Valued.{Valued}
+use Rattle.macho_args.specs.Effects.{◌>>=◌, with_flag, with_value, with_platform}
+use Rattle.macho_args.specs.Options.{option_named, joined_option}
+use Rattle.macho_args.specs.Settings.{Settings, Input, file, library, framework, fresh}
+
+-- the texts of words
+abbrev pub texts_of : {A : Type 0} → List (String A) → List (List ℕ)
+texts_of words = map string_bytes words
+
+-- A word that is no option's name and no option with its value: an unknown option, a file of further words,
+-- which isn't supported, or an input file.
+abbrev pub read_plain : ℕ → List ℕ → Settings → Result Settings ArgsFault
+read_plain i word s =
+    if starts_with nat_eq word (codes "-") then Err (Unknown i)
+    else if starts_with nat_eq word (codes "@") then Err (Unsupported i)
+    else Ok (record s { inputs = s.inputs ++ file i word ∷ [] })
+
+-- a word that is no option's name: behind `-F`, `-L` and `-l` stands the value
+abbrev pub read_unnamed : Option Valued → ℕ → List ℕ → Settings → Result Settings ArgsFault
+read_unnamed (Some option) i word s = with_value option i (drop 2 word) s
+read_unnamed None i word s = read_plain i word s
+
+-- the settings after a word, and how many of the words behind it are its values
+pub record Read : Type 0 where
+  pub settings : Settings
+  pub values : ℕ
+
+-- a meaning, with the number of values that it took
+abbrev pub taking : ℕ → Result Settings ArgsFault → Result Read ArgsFault
+taking values meaning = meaning >>= λ s. Ok (record { settings = s; values = values })
+
+-- The word i, where these words stand behind it. A missing value is told at the option.
+abbrev pub read_option : Option LinkOption → ℕ → List ℕ → List (List ℕ) → Settings → Result Read ArgsFault
+read_option (Some (Sets flag)) i word behind s = taking 0 (Ok (with_flag flag s))
+read_option (Some (Takes option)) i word (value ∷ behind) s = taking 1 (with_value option (i + 1) value s)
+read_option (Some (Takes option)) i word [] s = Err (MissingValue i)
+read_option (Some PlatformVersion) i word (platform ∷ minimum ∷ sdk ∷ behind) s = taking 3 (with_platform i platform minimum sdk s)
+read_option (Some PlatformVersion) i word _ s = Err (MissingValue i)
+read_option (Some Ignored) i word behind s = taking 0 (Ok s)
+read_option (Some Refused) i word behind s = Err (Unsupported i)
+read_option None i word behind s = taking 0 (read_unnamed (joined_option word) i word s)
+
+unfoldable pub read_word : ℕ → List ℕ → List (List ℕ) → Settings → Result Read ArgsFault
+read_word i word behind s = read_option (option_named word) i word behind s
+
+-- The words from number i on, of which the first `values` are values of the option before them.
+unfoldable pub read_from : ℕ → ℕ → List (List ℕ) → Settings → Result Settings ArgsFault
+read_from values i [] s = Ok s
+read_from zero i (word ∷ behind) s = read_word i word behind s >>= λ read. read_from read.values (i + 1) behind read.settings
+read_from (suc values) i (word ∷ behind) s = read_from values (i + 1) behind s
+
+-- the index of the word in which an input's path or name stands
+abbrev pub word_of : Input → ℕ
+word_of (file word path) = word
+word_of (library word name) = word
+word_of (framework word name) = word
+
+-- an input beside `-generate` isn't supported: the first one is told
+abbrev pub without_inputs : Option ℕ → List Input → Settings → Result Settings ArgsFault
+without_inputs (Some count) (input ∷ inputs) s = Err (Unsupported (word_of input))
+without_inputs (Some count) [] s = Ok s
+without_inputs None inputs s = Ok s
+
+-- What the words say before any question to the file system, or the fault of the first word that breaks its
+-- option's rule. The rule on inputs beside `-generate` comes after all words.
+unfoldable pub args_of : List (List ℕ) → Result Settings ArgsFault
+args_of words = read_from 0 0 words fresh >>= λ s. without_inputs s.generate s.inputs s

@@ -1,0 +1,92 @@
+//! The words, read one after another.
+
+ghost use Rattle.std.specs.Prelude.{◌≡◌, ◌+◌, ◌-◌, ◌<◌, ◌^◌, Ok, OnOk, IfOk, IfErr, length, map};
+ghost use Rattle.std.specs.String.{string_bytes};
+
+use std::alloc::Global;
+
+use crate::fault::ArgsFault;
+use crate::fields::{InputSpec, MachOArgs};
+use crate::options::{LinkOption, Valued, option_named};
+use crate::words::{after_prefix, begins_with};
+
+impl MachOArgs {
+    ghost use Rattle.macho_args.specs.Settings.{settings_of, fresh};
+    ghost use Rattle.macho_args.specs.Effects.{HasCause};
+    ghost use Rattle.macho_args.specs.Options.{joined_option};
+    ghost use Rattle.macho_args.specs.Words.{args_of, read_from, read_option, read_plain, read_unnamed, read_word, texts_of};
+
+    // Reads the word with this index, and answers how many of the words behind it are its values.
+    #[tactic(auto, unfolding(crate::specs::Words::read_word))]
+    fn read_word(
+        &mut self,
+        alloc: Global,
+        word: u32,
+        text: &str,
+        behind: &[String],
+    ) -> Result<usize, ArgsFault>
+        requires { word + 1 + length behind.now < 2 ^ 32 }
+        ensures done { IfOk result (λ values. read_word word text.now (texts_of behind.now) (settings_of self.old) ≡ Ok (record { settings = settings_of self.new; values = values })) }
+        ensures why { IfErr result (HasCause (read_word word text.now (texts_of behind.now) (settings_of self.old))) }
+    {
+        match option_named(text) {
+            Some(LinkOption::Sets(flag)) => {
+                self.set_flag(flag);
+                Ok(0)
+            }
+            Some(LinkOption::Takes(option)) => {
+                let [value, ..] = behind else {
+                    return Err(ArgsFault::MissingValue { word });
+                };
+                self.set_value(alloc, option, word + 1, value.as_str())?;
+                Ok(1)
+            }
+            Some(LinkOption::PlatformVersion) => {
+                let [platform, minimum, sdk, ..] = behind else {
+                    return Err(ArgsFault::MissingValue { word });
+                };
+                self.set_platform(alloc, word, platform.as_str(), minimum.as_str(), sdk.as_str())?;
+                Ok(3)
+            }
+            Some(LinkOption::Ignored) => Ok(0),
+            Some(LinkOption::Refused) => Err(ArgsFault::Unsupported { word }),
+            None => {
+                self.read_unnamed(alloc, word, text)?;
+                Ok(0)
+            }
+        }
+    }
+
+    // Reads a word that is no option's name.
+    #[tactic(auto, unfolding(crate::specs::Options::joined_option))]
+    fn read_unnamed(&mut self, alloc: Global, word: u32, text: &str) -> Result<(), ArgsFault>
+        ensures done { OnOk result (read_unnamed (joined_option text.now) word text.now (settings_of self.old) ≡ Ok (settings_of self.new)) }
+        ensures why { IfErr result (HasCause (read_unnamed (joined_option text.now) word text.now (settings_of self.old))) }
+    {
+        if let Some(path) = after_prefix(text, "-F") {
+            self.set_value(alloc, Valued::FrameworkPath, word, path)
+        } else if let Some(path) = after_prefix(text, "-L") {
+            self.set_value(alloc, Valued::LibraryPath, word, path)
+        } else if let Some(name) = after_prefix(text, "-l") {
+            self.set_value(alloc, Valued::Library, word, name)
+        } else {
+            self.read_plain(alloc, word, text)
+        }
+    }
+
+    // Reads a word that is no option and holds no option.
+    fn read_plain(&mut self, alloc: Global, word: u32, text: &str) -> Result<(), ArgsFault>
+        ensures done { OnOk result (read_plain word text.now (settings_of self.old) ≡ Ok (settings_of self.new)) }
+        ensures why { IfErr result (HasCause (read_plain word text.now (settings_of self.old))) }
+    {
+        if begins_with(text, "-") {
+            return Err(ArgsFault::Unknown { word });
+        }
+        if begins_with(text, "@") {
+            return Err(ArgsFault::Unsupported { word });
+        }
+        let path = String::from_str(alloc, text)?;
+        self.inputs.push(InputSpec::File { word, path })?;
+        Ok(())
+    }
+}
