@@ -5,3 +5,4 @@ pub mod Settings
 pub mod Options
 pub mod Effects
 pub mod Words
+pub mod SearchPaths

@@ -1,7 +1,6 @@
 //! The words, read one after another.
 
-ghost use Rattle.std.specs.Prelude.{◌≡◌, ◌+◌, ◌-◌, ◌<◌, ◌^◌, Ok, OnOk, IfOk, IfErr, length, map};
-ghost use Rattle.std.specs.String.{string_bytes};
+ghost use Rattle.std.specs.Prelude.{◌≡◌, ◌+◌, ◌-◌, ◌<◌, ◌^◌, Ok, OnOk, IfOk, IfErr, length, drop};
 
 use std::alloc::Global;
 
@@ -15,6 +14,40 @@ impl MachOArgs {
     ghost use Rattle.macho_args.specs.Effects.{HasCause};
     ghost use Rattle.macho_args.specs.Options.{joined_option};
     ghost use Rattle.macho_args.specs.Words.{args_of, read_from, read_option, read_plain, read_unnamed, read_word, texts_of};
+
+    // Reads the words in order.
+    pub(crate) fn read_words(&mut self, alloc: Global, words: &[String]) -> Result<(), ArgsFault>
+        requires { length words.now < 2 ^ 32 - 1 }
+        ensures done { OnOk result (read_from 0 0 (texts_of words.now) (settings_of self.old) ≡ Ok (settings_of self.new)) }
+        ensures why { IfErr result (HasCause (read_from 0 0 (texts_of words.now) (settings_of self.old))) }
+    {
+        let mut values = 0;
+        for i in 0..words.len() {
+            values = self.read_next(alloc, words, i, values)?;
+        }
+        Ok(())
+    }
+
+    // Reads the word at this place, unless it is a value of the option before it, as the next `values` words
+    // are. Answers the same of the words behind it.
+    fn read_next(
+        &mut self,
+        alloc: Global,
+        words: &[String],
+        place: usize,
+        values: usize,
+    ) -> Result<usize, ArgsFault>
+        requires within { place < length words.now }
+        requires few { length words.now < 2 ^ 32 - 1 }
+        ensures done { IfOk result (λ left. read_from values place (texts_of (drop place words.now)) (settings_of self.old)
+            ≡ read_from left (place + 1) (texts_of (drop (place + 1) words.now)) (settings_of self.new)) }
+        ensures why { IfErr result (HasCause (read_from values place (texts_of (drop place words.now)) (settings_of self.old))) }
+    {
+        if values > 0 {
+            return Ok(values - 1);
+        }
+        self.read_word(alloc, place as u32, words[place].as_str(), &words[place + 1..])
+    }
 
     // Reads the word with this index, and answers how many of the words behind it are its values.
     #[tactic(auto, unfolding(crate::specs::Words::read_word))]
