@@ -2,3 +2,4 @@ pub mod Digits
 pub mod Dots
 pub mod Prefixes
 pub mod Reading
+pub mod Moves

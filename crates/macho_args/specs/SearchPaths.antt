@@ -1,31 +1,17 @@
 -- The rule on paths: what the root and the search paths become, once the words are read.
-use Rattle.std.specs.Prelude.{◌≡◌, ℕ, drop, List, [], ◌∷◌, ◌++◌, codes, Bool, ◌&&◌, Option, None, Some, nat_eq, unwrap_or, if◌then◌else◌, Result, Ok}
+use Rattle.std.specs.Prelude.{◌≡◌, ℕ, drop, List, [], ◌∷◌, ◌++◌, codes, Bool, ◌&&◌, Option, None, Some, nat_eq, unwrap_or, if◌then◌else◌, Ok}
 use Rattle.std.specs.List.{AllZip, starts_with, ends_with}
-use Rattle.std.specs.FinMap.{get}
-use Rattle.std.specs.FinSet.{contains}
-use Rattle.macho_args.specs.declared.fault.ArgsFault.{ArgsFault}
 use Rattle.macho_args.specs.Settings.{Settings}
-use Rattle.macho_args.specs.Store.{CanonicalPaths, Directories}
+use Rattle.macho_args.specs.Store.{CanonicalPaths, Directories, IsToldCanonical, IsToldDirectory}
 use Rattle.macho_args.specs.Words.{args_of}
 
 -- a path below a root: one `/` stands between, and none is added where the root ends with it
-abbrev pub joined : List ℕ → List ℕ → List ℕ
-joined root path = if ends_with nat_eq root (codes "/") then root ++ path else root ++ codes "/" ++ path
+unfoldable pub joined : List ℕ → List ℕ → List ℕ
+joined root path = if ends_with nat_eq root (codes "/") then root ++ path else root ++ (codes "/" ++ path)
 
 -- the two standard framework paths below a root
 abbrev pub standard_frameworks : List ℕ → List (List ℕ)
 standard_frameworks root = joined root (codes "Library/Frameworks") ∷ joined root (codes "System/Library/Frameworks") ∷ []
-
--- The root for a given path is its canonical path, else the path itself. Where canonical paths aren't told,
--- it is what the file system answered.
-abbrev pub IsRootFor : Option CanonicalPaths → List ℕ → List ℕ → Type 0
-IsRootFor (Some known) path root = root ≡ unwrap_or (get known path) path
-IsRootFor None path root = Unit {0}
-
--- the answer to whether a path is a directory, where directories are told
-abbrev pub IsDirectoryAnswer : Option Directories → List ℕ → Bool → Type 0
-IsDirectoryAnswer (Some known) path answer = answer ≡ contains known path
-IsDirectoryAnswer None path answer = Unit {0}
 
 -- a path that begins with `/` goes below the root, where that is a directory
 abbrev pub moved : List ℕ → Bool → List ℕ → List ℕ
@@ -34,17 +20,26 @@ moved root is_directory path = if starts_with nat_eq path (codes "/") && is_dire
 -- a framework path, and what becomes of it
 pub record IsMoved (known : Option Directories) (root path new : List ℕ) : Type 0 where
   pub is_directory : Bool
-  pub told : IsDirectoryAnswer known (joined root (drop 1 path)) is_directory
+  pub told : IsToldDirectory known (joined root (drop 1 path)) is_directory
   pub is : new ≡ moved root is_directory path
 
--- With a root, its `usr/lib` comes before the library paths behind it, and framework paths go below it. The
--- standard framework paths come last.
+-- the fields below a root: its `usr/lib` comes before the other library paths, and its standard framework
+-- paths come last
+abbrev pub rooted : List ℕ → List (List ℕ) → Settings → Settings
+rooted root frameworks said =
+    record said {
+      sysroot = Some root;
+      lib_search_path = joined root (codes "usr/lib") ∷ said.lib_search_path;
+      framework_search_path = frameworks ++ standard_frameworks root;
+    }
+
+-- The root is the canonical path of the path that was given, else that path itself.
 pub record IsRooted (directories : Option Directories) (canonical_paths : Option CanonicalPaths) (path : List ℕ) (said args : Settings) : Type 0 where
-  pub root : List ℕ
+  pub canonical : Option (List ℕ)
+  pub told : IsToldCanonical canonical_paths path canonical
   pub frameworks : List (List ℕ)
-  pub root_for : IsRootFor canonical_paths path root
-  pub each : AllZip (IsMoved directories root) said.framework_search_path frameworks
-  pub is : args ≡ record said { sysroot = Some root; lib_search_path = joined root (codes "usr/lib") ∷ said.lib_search_path; framework_search_path = frameworks ++ standard_frameworks root }
+  pub each : AllZip (IsMoved directories (unwrap_or canonical path)) said.framework_search_path frameworks
+  pub is : args ≡ rooted (unwrap_or canonical path) frameworks said
 
 -- without a root only the standard framework paths are added
 abbrev pub FollowsPaths : Option Directories → Option CanonicalPaths → Option (List ℕ) → Settings → Settings → Type 0
@@ -55,4 +50,4 @@ FollowsPaths directories canonical_paths None said args = args ≡ record said {
 pub record IsParsed (directories : Option Directories) (canonical_paths : Option CanonicalPaths) (words : List (List ℕ)) (args : Settings) : Type 0 where
   pub said : Settings
   pub read : args_of words ≡ Ok said
-  pub paths : FollowsPaths directories canonical_paths said.sysroot said args
+  pub follows : FollowsPaths directories canonical_paths said.sysroot said args

@@ -12,6 +12,7 @@ mod numbers;
 mod options;
 mod outside;
 mod parse;
+mod search_paths;
 mod version;
 mod words;
 

@@ -1,11 +1,9 @@
 //! What a command line asks of the file system.
 
-ghost use Rattle.std.specs.Prelude.{◌≡◌, ℕ, Option, IfOk, IfSome};
+ghost use Rattle.std.specs.Prelude.{ℕ, Option, IfOk};
 ghost use Rattle.std.specs.Option.{option_map};
 ghost use Rattle.std.specs.String.{string_bytes};
-ghost use Rattle.std.specs.FinMap.{get};
-ghost use Rattle.std.specs.FinSet.{contains};
-ghost use Rattle.macho_args.specs.Store.{Store, Directories, CanonicalPaths, KeepsOutside};
+ghost use Rattle.macho_args.specs.Store.{Store, Directories, CanonicalPaths, IsToldDirectory, IsToldCanonical, KeepsOutside};
 
 use std::alloc::{AllocError, Global};
 
@@ -26,11 +24,11 @@ pub trait Paths {
 
     /// Whether the path is a directory. What can't be found out is no directory.
     fn is_dir(&mut self, path: &str) -> bool
-        ensures told { IfSome (directories self.old) (λ known. result ≡ contains known path.now) }
+        ensures told { IsToldDirectory (directories self.old) path.now result }
         ensures kept { KeepsOutside directories canonical_paths holds faults write_faults self.old self.new };
 
     /// The canonical path of the path, or `None` where there is none.
     fn canonical(&mut self, alloc: Global, path: &str) -> Result<Option<String>, AllocError>
-        ensures told { IfSome (canonical_paths self.old) (λ known. IfOk result (λ answer. option_map string_bytes answer ≡ get known path.now)) }
+        ensures told { IfOk result (λ answer. IsToldCanonical (canonical_paths self.old) path.now (option_map string_bytes answer)) }
         ensures kept { KeepsOutside directories canonical_paths holds faults write_faults self.old self.new };
 }

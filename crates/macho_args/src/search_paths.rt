@@ -1,0 +1,91 @@
+//! The rule on paths, which comes after the words.
+
+ghost use Rattle.std.specs.Prelude.{◌≡◌, ◌++◌, IfOk, OnOk, map};
+ghost use Rattle.std.specs.List.{AllZip};
+ghost use Rattle.std.specs.Option.{option_map};
+ghost use Rattle.std.specs.String.{string_bytes};
+ghost use Rattle.macho_args.specs.Store.{KeepsOutside, IsToldCanonical};
+ghost use Rattle.macho_args.specs.SearchPaths.{IsMoved, joined as joined_path, standard_frameworks};
+
+use std::alloc::{AllocError, Global};
+
+use crate::fields::MachOArgs;
+use crate::outside::Paths;
+use crate::words::{after_prefix, ends_with};
+
+/// Where libraries are, below a root.
+const LIBRARIES: &str = "usr/lib";
+
+/// Where frameworks are, below a root.
+const FRAMEWORKS: &str = "Library/Frameworks";
+
+/// Where the system's frameworks are, below a root.
+const SYSTEM_FRAMEWORKS: &str = "System/Library/Frameworks";
+
+/// What stands between the parts of a path.
+const SEPARATOR: &str = "/";
+
+impl MachOArgs {
+    ghost use Rattle.macho_args.specs.Settings.{settings_of};
+
+    // Adds the standard framework paths below a root.
+    fn add_standard_frameworks(&mut self, alloc: Global, root: &str) -> Result<(), AllocError>
+        ensures { OnOk result (settings_of self.new ≡ record (settings_of self.old) { framework_search_path = (settings_of self.old).framework_search_path ++ standard_frameworks root.now }) }
+    {
+        let frameworks = joined(alloc, root, FRAMEWORKS)?;
+        let system = joined(alloc, root, SYSTEM_FRAMEWORKS)?;
+        self.framework_search_path.push(frameworks)?;
+        self.framework_search_path.push(system)?;
+        Ok(())
+    }
+}
+
+// What becomes of framework paths: each that begins with `/` goes below the root, where that is a directory.
+fn moved_paths<D: Paths>(
+    alloc: Global,
+    root: &str,
+    old: &[String],
+    paths: &mut D,
+) -> Result<Vec<String>, AllocError>
+    ensures each { IfOk result (λ new. AllZip (IsMoved (D.directories paths.old) root.now) (map string_bytes old.now) (map string_bytes new.items)) }
+    ensures outside { KeepsOutside D.directories D.canonical_paths D.holds D.faults D.write_faults paths.old paths.new }
+{
+    let mut new = Vec::new(alloc);
+    for path in old {
+        new.push(moved_path(alloc, root, path.as_str(), paths)?)?;
+    }
+    Ok(new)
+}
+
+// What becomes of one framework path.
+fn moved_path<D: Paths>(
+    alloc: Global,
+    root: &str,
+    path: &str,
+    paths: &mut D,
+) -> Result<String, AllocError>
+    ensures moved { IfOk result (λ new. IsMoved (D.directories paths.old) root.now path.now (string_bytes new)) }
+    ensures outside { KeepsOutside D.directories D.canonical_paths D.holds D.faults D.write_faults paths.old paths.new }
+{
+    let Some(rest) = after_prefix(path, SEPARATOR) else {
+        return String::from_str(alloc, path);
+    };
+    let below = joined(alloc, root, rest)?;
+    if paths.is_dir(below.as_str()) {
+        Ok(below)
+    } else {
+        String::from_str(alloc, path)
+    }
+}
+
+// A path below a root.
+#[tactic(auto, unfolding(crate::specs::SearchPaths::joined))]
+fn joined(alloc: Global, root: &str, path: &str) -> Result<String, AllocError>
+    ensures { IfOk result (λ text. string_bytes text ≡ joined_path root.now path.now) }
+{
+    if ends_with(root, SEPARATOR) {
+        format!(in alloc; "{root}{path}")
+    } else {
+        format!(in alloc; "{root}/{path}")
+    }
+}
