@@ -3,10 +3,9 @@
 -- A text of digits has no sign, so `parse` at 32 bits answers its value exactly where the text isn't
 -- empty and the value is below 2 ^ 32. The bound `most` is itself below 2 ^ 32, so whatever is at most
 -- `most` was read, and what wasn't read is above it or isn't there.
-use Rattle.std.proofs.Common.{◌≡◌, ℕ, ◌+◌, ◌<◌, ◌≤◌, ◌^◌, Bool, true, false, cond, List, [], ◌∷◌, length, Option, None, Some, Result, Ok, Err, MatchResult, rules, arith, refl, ap, sym, ◌∙◌, nat_le, nat_lt, ◌&&◌}
+use Rattle.std.proofs.Common.{◌≡◌, ℕ, ◌<◌, ◌^◌, Bool, true, false, cond, List, length, Option, None, Some, Result, Ok, Err, MatchResult, rules, arith, refl, sym, nat_le, nat_lt, ◌&&◌}
 use Rattle.std.specs.Char.{is_ascii_digit}
 use Rattle.std.specs.List.{list_all}
-use Rattle.std.specs.Option.{IfSome}
 use Rattle.std.specs.Str.Parse.{ParsesUnsigned, digits_value}
 use Rattle.std.proofs.lemmas.Bool.Decides.{nat_tests}
 use Rattle.std.proofs.lemmas.Str.Parse.{IsDigitsTest, IsNumeralModel, numerals_by_value, parse_digits}

@@ -2,8 +2,8 @@
 --
 -- Where there is no dot, the text is the one part. Else the first part ends before the first dot, and the
 -- other parts are those of the text behind it. A fourth part makes the text no version.
-use Rattle.std.proofs.Common.{◌≡◌, ◌≢◌, ℕ, ◌<◌, List, [], ◌∷◌, length, eqb, false, get_or, arith, Option, None, refl}
-use Rattle.std.specs.List.{position_or_len, before_first, after_first, slice_split}
+use Rattle.std.proofs.Common.{◌≡◌, ◌≢◌, ℕ, ◌<◌, List, [], ◌∷◌, length, eqb, get_or, arith, None, refl}
+use Rattle.std.specs.List.{position_or_len, before_first, after_first}
 use Rattle.std.proofs.lemmas.Bool.Decides.{nat_tests}
 use Rattle.std.proofs.lemmas.List.{get_or_default}
 use Rattle.std.proofs.lemmas.List.Splits.{slice_split_none, slice_split_first, length-slice_split}
@@ -12,9 +12,9 @@ use Rattle.macho_args.specs.Version.{dotted_parts, packed_parts, version_of}
 pub dotted-none : (text : List ℕ) → ((i : ℕ) → i < length text → get_or text i 0 ≢ 46) → dotted_parts text ≡ text ∷ []
 dotted-none text none =
     slice_split_none (λ byte. eqb byte 46) text (λ k d h.
-      let differs = none k h in
-      let same : get_or text k d ≡ get_or text k 0 = get_or_default text k d 0 h in
-      grind (arith, nat_tests))
+    let differs = none k h in
+    let same : get_or text k d ≡ get_or text k 0 = get_or_default text k d 0 h in
+    grind (arith, nat_tests))
 
 pub dotted-first : (text first rest : List ℕ) → position_or_len (λ byte. eqb byte 46) text < length text → first ≡ before_first (λ byte. eqb byte 46) text
     → rest ≡ after_first (λ byte. eqb byte 46) text → dotted_parts text ≡ first ∷ dotted_parts rest

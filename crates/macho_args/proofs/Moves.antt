@@ -2,12 +2,12 @@
 --
 -- A path that doesn't begin with `/` stays, whatever is a directory. For the list, one more path and what
 -- becomes of it join what is known of those before; the file system tells the same at each turn.
-use Rattle.std.proofs.Common.{◌≡◌, ℕ, ◌+◌, ◌<◌, Bool, true, false, List, [], ◌∷◌, ◌++◌, length, map, take, drop, get_or, cond, Option, Some, None, String, refl, sym, ap, ◌∙◌, subst, arith, rules, nat_eq}
+use Rattle.std.proofs.Common.{◌≡◌, ℕ, ◌+◌, ◌<◌, Bool, true, false, List, [], ◌∷◌, ◌++◌, length, map, take, drop, get_or, cond, Option, Some, None, String, refl, ◌∙◌, nat_eq}
 use Rattle.std.specs.List.{AllZip, starts_with}
 use Rattle.std.specs.String.{string_bytes}
 use Rattle.std.proofs.lemmas.List.{map_more, map-append}
 use Rattle.std.proofs.lemmas.List.Elements.{AllZip-push}
-use Rattle.macho_args.specs.SearchPaths.{IsMoved, joined, moved}
+use Rattle.macho_args.specs.SearchPaths.{IsMoved, joined}
 use Rattle.macho_args.specs.Store.{CanonicalPaths, Directories, IsToldDirectory, KeepsOutside, Store}
 
 -- there is an answer that may be given
@@ -33,7 +33,7 @@ pub moved-more : {A B : Type 0} (known : Option Directories) (root : List ℕ) (
     → IsMoved known root (string_bytes path) (string_bytes next) → AllZip (IsMoved known root) (map string_bytes (take (i + 1) old)) (map string_bytes (new ++ next ∷ []))
 moved-more known root old new i path next within is each one =
     rw (map_more string_bytes old i path within, ← is, map-append string_bytes new (next ∷ []))
-      (AllZip-push (IsMoved known root) (map string_bytes (take i old)) (map string_bytes new) (string_bytes path) (string_bytes next) each one)
+    (AllZip-push (IsMoved known root) (map string_bytes (take i old)) (map string_bytes new) (string_bytes path) (string_bytes next) each one)
 
 -- what is told at a later time is what was told before
 module _ {D : Type 0} (directories : D → Option Directories) (canonical_paths : D → Option CanonicalPaths) (holds : D → Option Store) (faults write_faults : D → ℕ) where

@@ -2,7 +2,7 @@
 --
 -- std's clause has two cases. Where the text doesn't stand in front, `starts_with` is false. Else it is
 -- true, and what is left is the word without as many bytes as the text has.
-use Rattle.std.proofs.Common.{◌≡◌, ℕ, Bool, true, false, List, length, drop, cond, Option, Some, None, sym, refl, nat_eq}
+use Rattle.std.proofs.Common.{◌≡◌, ℕ, true, false, List, length, drop, cond, Option, Some, None, sym, refl, nat_eq}
 use Rattle.std.specs.Borrow.{Bor}
 use Rattle.std.specs.List.{starts_with}
 use Rattle.std.specs.Option.{MatchOption, option_copied}

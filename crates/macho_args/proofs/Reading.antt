@@ -2,15 +2,15 @@
 --
 -- The words from number i on are the word i and the words behind it. If it is a value, one value fewer is
 -- left. Else it is read, and the words behind it go on from what it gave; its fault is theirs.
-use Rattle.std.proofs.Common.{◌≡◌, ℕ, zero, suc, ◌+◌, ◌-◌, ◌<◌, List, [], ◌∷◌, length, drop, map, get_or, Result, Ok, Err, arith, rules, refl, ap, sym, ◌∙◌, inl, inr, ◌⊎◌, String, add-one, ◌≤◌, IfOk, IfErr}
+use Rattle.std.proofs.Common.{◌≡◌, ℕ, zero, suc, ◌+◌, ◌-◌, ◌<◌, List, [], ◌∷◌, length, drop, get_or, Result, Ok, Err, arith, refl, ap, ◌∙◌, inl, inr, String, add-one, ◌≤◌, IfOk, IfErr}
 use Rattle.std.proofs.lemmas.Result.{IfOk-weaker, IfErr-weaker}
 use Rattle.std.specs.String.{string_bytes}
 use Rattle.std.proofs.Math.Seq.{drop-cons}
 use Rattle.std.proofs.lemmas.List.{drop-map, drop-drop}
 use Rattle.macho_args.specs.declared.fault.ArgsFault.{ArgsFault}
-use Rattle.macho_args.specs.Effects.{HasCause, ◌>>=◌}
-use Rattle.macho_args.specs.Settings.{Settings}
-use Rattle.macho_args.specs.Words.{Read, read_from, read_word, texts_of}
+use Rattle.macho_args.specs.Effects.{HasCause}
+use Rattle.macho_args.specs.Settings.{Settings, fresh}
+use Rattle.macho_args.specs.Words.{read_from, read_word, texts_of, args_of, without_inputs}
 
 -- after the last word
 pub read-nothing : (values i : ℕ) (s : Settings) → read_from values i [] s ≡ Ok s
@@ -58,3 +58,18 @@ module _ {A : Type 0} (words : List (String A)) (i values : ℕ) (word : String 
 
   pub turn-why : IfErr result (HasCause (read_word i text (texts_of behind) s)) → IfErr result (HasCause (read_from values i (texts_of (drop i words)) s))
   turn-why why = IfErr-weaker result _ _ (λ fault cause. rw at_word (read-refused i text (texts_of behind) s fault cause)) why
+
+-- what all words say, from the fields before the first word
+module _ (words : List (List ℕ)) (start : Settings) (is_fresh : start ≡ fresh) where
+  pub args-refused : (fault : ArgsFault) → HasCause (read_from 0 0 words start) fault → HasCause (args_of words) fault
+  unfolding args_of
+  args-refused fault (inl memory) = inl memory
+  args-refused fault (inr why) = let read = rw is_fresh at why in inr (rw read refl)
+
+  pub args-beside : (s : Settings) (fault : ArgsFault) → read_from 0 0 words start ≡ Ok s → without_inputs s.generate s.inputs s ≡ Err fault → HasCause (args_of words) fault
+  unfolding args_of
+  args-beside s fault said beside = let read = rw is_fresh at said in inr (rw read beside)
+
+  pub args-said : (s : Settings) → read_from 0 0 words start ≡ Ok s → without_inputs s.generate s.inputs s ≡ Ok s → args_of words ≡ Ok s
+  unfolding args_of
+  args-said s said alone = let read = rw is_fresh at said in rw read alone

@@ -1,5 +1,5 @@
 -- What each option does to the settings, and which values it takes.
-use Rattle.std.specs.Prelude.{◌≡◌, ℕ, ◌+◌, ◌==◌, List, [], ◌∷◌, ◌++◌, codes, Bool, true, ◌⊎◌, Option, Some, None, option_and_then, Result, Ok, Err, nat_eq, if◌then◌else◌}
+use Rattle.std.specs.Prelude.{◌≡◌, ℕ, ◌+◌, ◌==◌, List, [], ◌∷◌, ◌++◌, codes, true, ◌⊎◌, Option, Some, None, option_and_then, Result, Ok, Err, nat_eq, if◌then◌else◌}
 use Rattle.std.specs.List.{starts_with, list_any}
 use Rattle.std.specs.Option.{ok_or}
 use Rattle.std.specs.Result.{result_ok}
@@ -12,7 +12,7 @@ use Rattle.macho_args.specs.declared.options.Flag.TheVariants.{Dylib, DeadStripD
 use Rattle.macho_args.specs.declared.options.Valued.{Valued}
 use Rattle.macho_args.specs.declared.options.Valued.TheVariants.{Output, Entry, InstallName, LtoLibrary, ExportedSymbolsList, Rpath, LibraryPath, FrameworkPath, Root, Library, Framework, Arch, Mllvm, Uuid, Generate}
 use Rattle.macho_args.specs.Numbers.{number_up_to}
-use Rattle.macho_args.specs.Settings.{Settings, Input, library, framework}
+use Rattle.macho_args.specs.Settings.{Settings, library, framework}
 use Rattle.macho_args.specs.Version.{version_of}
 
 -- `r >>= f` is `?` of Rust: what f makes of the value, or the fault
@@ -67,7 +67,7 @@ with_value Generate i value s = ok_or (count_of value) (BadNumber i) >>= λ n. O
 unfoldable pub with_platform : ℕ → List ℕ → List ℕ → List ℕ → Settings → Result Settings ArgsFault
 with_platform i platform minimum sdk s =
     if bytes_eq platform (codes "macos") then (do
-        lowest ← ok_or (version_of minimum) (BadVersion (i + 2))
-        built ← ok_or (version_of sdk) (BadVersion (i + 3))
-        Ok (record s { platform_version = Some (record { platform = platform; minimum_version = lowest; sdk_version = built }) }))
+      lowest ← ok_or (version_of minimum) (BadVersion (i + 2))
+      built ← ok_or (version_of sdk) (BadVersion (i + 3))
+      Ok (record s { platform_version = Some (record { platform = platform; minimum_version = lowest; sdk_version = built }) }))
     else Err (BadPlatform (i + 1))

@@ -33,13 +33,19 @@ rooted root frameworks said =
       framework_search_path = frameworks ++ standard_frameworks root;
     }
 
--- The root is the canonical path of the path that was given, else that path itself.
-pub record IsRooted (directories : Option Directories) (canonical_paths : Option CanonicalPaths) (path : List ℕ) (said args : Settings) : Type 0 where
+-- the root for a path that was given: its canonical path, else the path itself
+pub record IsRootFor (known : Option CanonicalPaths) (path root : List ℕ) : Type 0 where
   pub canonical : Option (List ℕ)
-  pub told : IsToldCanonical canonical_paths path canonical
+  pub told : IsToldCanonical known path canonical
+  pub is : root ≡ unwrap_or canonical path
+
+-- with a root, framework paths go below it, and its own paths are added
+pub record IsRooted (directories : Option Directories) (canonical_paths : Option CanonicalPaths) (path : List ℕ) (said args : Settings) : Type 0 where
+  pub root : List ℕ
+  pub root_for : IsRootFor canonical_paths path root
   pub frameworks : List (List ℕ)
-  pub each : AllZip (IsMoved directories (unwrap_or canonical path)) said.framework_search_path frameworks
-  pub is : args ≡ rooted (unwrap_or canonical path) frameworks said
+  pub each : AllZip (IsMoved directories root) said.framework_search_path frameworks
+  pub is : args ≡ rooted root frameworks said
 
 -- without a root only the standard framework paths are added
 abbrev pub FollowsPaths : Option Directories → Option CanonicalPaths → Option (List ℕ) → Settings → Settings → Type 0

@@ -16,6 +16,12 @@ pub data Input : Type 0 where
   library : ℕ → List ℕ → Input
   framework : ℕ → List ℕ → Input
 
+-- the index of the word in which an input's path or name stands
+abbrev pub word_of : Input → ℕ
+word_of (file word path) = word
+word_of (library word name) = word
+word_of (framework word name) = word
+
 -- a platform with the lowest version that the output runs on and the version of the SDK, both packed
 pub record Platform : Type 0 where
   pub platform : List ℕ

@@ -9,7 +9,7 @@ use Rattle.macho_args.specs.declared.options.LinkOption.TheVariants.{Sets, Takes
 use Rattle.macho_args.specs.declared.options.Valued.{Valued}
 use Rattle.macho_args.specs.Effects.{◌>>=◌, with_flag, with_value, with_platform}
 use Rattle.macho_args.specs.Options.{option_named, joined_option}
-use Rattle.macho_args.specs.Settings.{Settings, Input, file, library, framework, fresh}
+use Rattle.macho_args.specs.Settings.{Settings, Input, file, word_of, fresh}
 
 -- the texts of words
 abbrev pub texts_of : {A : Type 0} → List (String A) → List (List ℕ)
@@ -56,12 +56,6 @@ unfoldable pub read_from : ℕ → ℕ → List (List ℕ) → Settings → Resu
 read_from values i [] s = Ok s
 read_from zero i (word ∷ behind) s = read_word i word behind s >>= λ read. read_from read.values (i + 1) behind read.settings
 read_from (suc values) i (word ∷ behind) s = read_from values (i + 1) behind s
-
--- the index of the word in which an input's path or name stands
-abbrev pub word_of : Input → ℕ
-word_of (file word path) = word
-word_of (library word name) = word
-word_of (framework word name) = word
 
 -- an input beside `-generate` isn't supported: the first one is told
 abbrev pub without_inputs : Option ℕ → List Input → Settings → Result Settings ArgsFault

@@ -3,15 +3,14 @@
 ghost use Rattle.std.specs.Prelude.{◌≡◌, ◌+◌, ◌<◌, ◌^◌, [], Ok, Some, OnOk, IfErr};
 ghost use Rattle.macho_args.specs.Effects.{uuid_of, count_of};
 
-use hex::FromHex;
-use std::alloc::{AllocError, Global};
-
 use crate::fault::ArgsFault;
 use crate::fields::{InputSpec, MachOArgs, PlatformVersion};
 use crate::numbers::number_up_to;
 use crate::options::{Flag, Valued};
 use crate::version::SemanticVersion;
 use crate::words::{begins_with, contains_text};
+use hex::FromHex;
+use std::alloc::{AllocError, Global};
 
 /// The one architecture.
 const ARM64: &str = "arm64";

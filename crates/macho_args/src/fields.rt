@@ -31,6 +31,21 @@ pub enum InputSpec {
     Framework { word: u32, name: String },
 }
 
+impl InputSpec {
+    ghost use Rattle.macho_args.specs.Settings.{input_of, word_of};
+
+    /// The index of the word in which the path or the name stands.
+    pub fn word(&self) -> u32
+        ensures { result ≡ word_of (input_of self.now) }
+    {
+        match self {
+            InputSpec::File { word, .. }
+            | InputSpec::Lib { word, .. }
+            | InputSpec::Framework { word, .. } => *word,
+        }
+    }
+}
+
 /// What the words of a command line say.
 #[derive(Debug, Drop)]
 pub struct MachOArgs {

@@ -52,15 +52,24 @@ pub(crate) enum Valued {
 /// The names, and the option that each stands for.
 const OPTIONS: [(&str, LinkOption); 36] = [
     ("-dylib", LinkOption::Sets(Flag::Dylib)),
-    ("-dead_strip_dylibs", LinkOption::Sets(Flag::DeadStripDylibs)),
-    ("-headerpad_max_install_names", LinkOption::Sets(Flag::HeaderpadMaxInstallNames)),
+    (
+        "-dead_strip_dylibs",
+        LinkOption::Sets(Flag::DeadStripDylibs),
+    ),
+    (
+        "-headerpad_max_install_names",
+        LinkOption::Sets(Flag::HeaderpadMaxInstallNames),
+    ),
     ("-map", LinkOption::Sets(Flag::Map)),
     ("-o", LinkOption::Takes(Valued::Output)),
     ("-output", LinkOption::Takes(Valued::Output)),
     ("-e", LinkOption::Takes(Valued::Entry)),
     ("-install_name", LinkOption::Takes(Valued::InstallName)),
     ("-lto_library", LinkOption::Takes(Valued::LtoLibrary)),
-    ("-exported_symbols_list", LinkOption::Takes(Valued::ExportedSymbolsList)),
+    (
+        "-exported_symbols_list",
+        LinkOption::Takes(Valued::ExportedSymbolsList),
+    ),
     ("-rpath", LinkOption::Takes(Valued::Rpath)),
     ("-L", LinkOption::Takes(Valued::LibraryPath)),
     ("-F", LinkOption::Takes(Valued::FrameworkPath)),

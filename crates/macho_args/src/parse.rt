@@ -1,19 +1,55 @@
 //! The words, read one after another.
 
-ghost use Rattle.std.specs.Prelude.{◌≡◌, ◌+◌, ◌-◌, ◌<◌, ◌^◌, Ok, OnOk, IfOk, IfErr, length, drop};
-
-use std::alloc::Global;
+ghost use Rattle.std.specs.Prelude.{◌≡◌, ◌+◌, ◌-◌, ◌<◌, ◌^◌, Ok, Err, OnOk, OnErr, IfOk, IfErr, MatchResult, length, drop};
+ghost use Rattle.macho_args.specs.Settings.{settings_of, fresh};
+ghost use Rattle.macho_args.specs.Effects.{HasCause};
+ghost use Rattle.macho_args.specs.SearchPaths.{IsParsed};
+ghost use Rattle.macho_args.specs.Store.{KeepsOutside};
+ghost use Rattle.macho_args.specs.Options.{joined_option};
+ghost use Rattle.macho_args.specs.Words.{args_of, read_from, read_option, read_plain, read_unnamed, read_word, texts_of, without_inputs};
 
 use crate::fault::ArgsFault;
 use crate::fields::{InputSpec, MachOArgs};
 use crate::options::{LinkOption, Valued, option_named};
+use crate::outside::Paths;
 use crate::words::{after_prefix, begins_with};
+use std::alloc::Global;
 
 impl MachOArgs {
-    ghost use Rattle.macho_args.specs.Settings.{settings_of, fresh};
-    ghost use Rattle.macho_args.specs.Effects.{HasCause};
-    ghost use Rattle.macho_args.specs.Options.{joined_option};
-    ghost use Rattle.macho_args.specs.Words.{args_of, read_from, read_option, read_plain, read_unnamed, read_word, texts_of};
+    /// Reads the words of a command line, which follow the program's name. The fields become what the words
+    /// say, and then the root and the search paths follow what `paths` answers.
+    ///
+    /// A fault names the first word that breaks its option's rule. After it the fields are as they were.
+    pub fn parse<D: Paths>(&mut self, words: &[String], paths: &mut D) -> Result<(), ArgsFault>
+        requires fresh { settings_of self.old ≡ fresh }
+        requires few { length words.now < 2 ^ 32 - 1 }
+
+        // The fields are the meaning of the words.
+        ensures done { OnOk result (IsParsed (D.directories paths.old) (D.canonical_paths paths.old) (texts_of words.now) (settings_of self.new)) }
+
+        // A fault is that of the words, or memory ran out.
+        ensures why { IfErr result (HasCause (args_of (texts_of words.now))) }
+        ensures kept { OnErr result (settings_of self.new ≡ settings_of self.old) }
+        ensures outside { KeepsOutside D.directories D.canonical_paths D.holds D.faults D.write_faults paths.old paths.new }
+    {
+        let alloc = *self.inputs.allocator();
+        let mut args = read_args(alloc, words)?;
+        args.follow_paths(alloc, paths)?;
+        *self = args;
+        Ok(())
+    }
+
+    // An input beside `-generate` isn't supported: the first one is told.
+    fn refuse_inputs(&self) -> Result<(), ArgsFault>
+        ensures { MatchResult result
+            (λ _. without_inputs self.now.generate (settings_of self.now).inputs (settings_of self.now) ≡ Ok (settings_of self.now))
+            (λ fault. without_inputs self.now.generate (settings_of self.now).inputs (settings_of self.now) ≡ Err fault) }
+    {
+        match (self.generate, self.inputs.first()) {
+            (Some(_), Some(input)) => Err(ArgsFault::Unsupported { word: input.word() }),
+            _ => Ok(()),
+        }
+    }
 
     // Reads the words in order.
     pub(crate) fn read_words(&mut self, alloc: Global, words: &[String]) -> Result<(), ArgsFault>
@@ -46,7 +82,12 @@ impl MachOArgs {
         if values > 0 {
             return Ok(values - 1);
         }
-        self.read_word(alloc, place as u32, words[place].as_str(), &words[place + 1..])
+        self.read_word(
+            alloc,
+            place as u32,
+            words[place].as_str(),
+            &words[place + 1..],
+        )
     }
 
     // Reads the word with this index, and answers how many of the words behind it are its values.
@@ -78,7 +119,13 @@ impl MachOArgs {
                 let [platform, minimum, sdk, ..] = behind else {
                     return Err(ArgsFault::MissingValue { word });
                 };
-                self.set_platform(alloc, word, platform.as_str(), minimum.as_str(), sdk.as_str())?;
+                self.set_platform(
+                    alloc,
+                    word,
+                    platform.as_str(),
+                    minimum.as_str(),
+                    sdk.as_str(),
+                )?;
                 Ok(3)
             }
             Some(LinkOption::Ignored) => Ok(0),
@@ -122,4 +169,16 @@ impl MachOArgs {
         self.inputs.push(InputSpec::File { word, path })?;
         Ok(())
     }
+}
+
+// What the words say, before the rule on paths.
+fn read_args(alloc: Global, words: &[String]) -> Result<MachOArgs, ArgsFault>
+    requires { length words.now < 2 ^ 32 - 1 }
+    ensures done { IfOk result (λ args. args_of (texts_of words.now) ≡ Ok (settings_of args)) }
+    ensures why { IfErr result (HasCause (args_of (texts_of words.now))) }
+{
+    let mut args = MachOArgs::new(alloc)?;
+    args.read_words(alloc, words)?;
+    args.refuse_inputs()?;
+    Ok(args)
 }

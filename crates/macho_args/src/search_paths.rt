@@ -2,16 +2,14 @@
 
 ghost use Rattle.std.specs.Prelude.{◌≡◌, ◌++◌, IfOk, OnOk, map};
 ghost use Rattle.std.specs.List.{AllZip};
-ghost use Rattle.std.specs.Option.{option_map};
 ghost use Rattle.std.specs.String.{string_bytes};
-ghost use Rattle.macho_args.specs.Store.{KeepsOutside, IsToldCanonical};
-ghost use Rattle.macho_args.specs.SearchPaths.{IsMoved, joined as joined_path, standard_frameworks};
-
-use std::alloc::{AllocError, Global};
+ghost use Rattle.macho_args.specs.Store.{KeepsOutside};
+ghost use Rattle.macho_args.specs.SearchPaths.{FollowsPaths, IsMoved, IsRooted, IsRootFor, joined as joined_path, rooted, standard_frameworks};
 
 use crate::fields::MachOArgs;
 use crate::outside::Paths;
 use crate::words::{after_prefix, ends_with};
+use std::alloc::{AllocError, Global};
 
 /// Where libraries are, below a root.
 const LIBRARIES: &str = "usr/lib";
@@ -28,6 +26,48 @@ const SEPARATOR: &str = "/";
 impl MachOArgs {
     ghost use Rattle.macho_args.specs.Settings.{settings_of};
 
+    /// Follows the rule on paths: with a root, the paths below it, and last the standard framework paths.
+    pub(crate) fn follow_paths<D: Paths>(
+        &mut self,
+        alloc: Global,
+        paths: &mut D,
+    ) -> Result<(), AllocError>
+        ensures done { OnOk result (FollowsPaths (D.directories paths.old) (D.canonical_paths paths.old) (settings_of self.old).sysroot (settings_of self.old) (settings_of self.new)) }
+        ensures outside { KeepsOutside D.directories D.canonical_paths D.holds D.faults D.write_faults paths.old paths.new }
+    {
+        match self.sysroot.take() {
+            Some(path) => self.go_below(alloc, path.as_str(), paths),
+            None => self.add_standard_frameworks(alloc, SEPARATOR),
+        }
+    }
+
+    // Takes the root for a path that was given, and puts the search paths below it.
+    fn go_below<D: Paths>(
+        &mut self,
+        alloc: Global,
+        path: &str,
+        paths: &mut D,
+    ) -> Result<(), AllocError>
+        ensures done { OnOk result (IsRooted (D.directories paths.old) (D.canonical_paths paths.old) path.now (settings_of self.old) (settings_of self.new)) }
+        ensures outside { KeepsOutside D.directories D.canonical_paths D.holds D.faults D.write_faults paths.old paths.new }
+    {
+        let root = root_for(alloc, path, paths)?;
+        let frameworks = moved_paths(alloc, root.as_str(), &self.framework_search_path, paths)?;
+        self.framework_search_path = frameworks;
+        self.set_rooted(alloc, root)
+    }
+
+    // Sets the root, and adds its own paths.
+    fn set_rooted(&mut self, alloc: Global, root: String) -> Result<(), AllocError>
+        ensures { OnOk result (settings_of self.new ≡ rooted (string_bytes root) (settings_of self.old).framework_search_path (settings_of self.old)) }
+    {
+        let libraries = joined(alloc, root.as_str(), LIBRARIES)?;
+        self.lib_search_path.insert(0, libraries)?;
+        self.add_standard_frameworks(alloc, root.as_str())?;
+        self.sysroot = Some(root);
+        Ok(())
+    }
+
     // Adds the standard framework paths below a root.
     fn add_standard_frameworks(&mut self, alloc: Global, root: &str) -> Result<(), AllocError>
         ensures { OnOk result (settings_of self.new ≡ record (settings_of self.old) { framework_search_path = (settings_of self.old).framework_search_path ++ standard_frameworks root.now }) }
@@ -37,6 +77,17 @@ impl MachOArgs {
         self.framework_search_path.push(frameworks)?;
         self.framework_search_path.push(system)?;
         Ok(())
+    }
+}
+
+// The root for a path that was given: its canonical path, else the path itself.
+fn root_for<D: Paths>(alloc: Global, path: &str, paths: &mut D) -> Result<String, AllocError>
+    ensures root { IfOk result (λ root. IsRootFor (D.canonical_paths paths.old) path.now (string_bytes root)) }
+    ensures outside { KeepsOutside D.directories D.canonical_paths D.holds D.faults D.write_faults paths.old paths.new }
+{
+    match paths.canonical(alloc, path)? {
+        Some(canonical) => Ok(canonical),
+        None => String::from_str(alloc, path),
     }
 }
 

@@ -1,5 +1,4 @@
 -- A path that doesn't begin with `/` stays.
-use Rattle.std.proofs.Common.{drop}
 use Rattle.std.proofs.lemmas.Result.{IfOk-weaker}
 use Rattle.macho_args.proofs.Moves.{moved-relative}
 use Rattle.macho_args.proofs.search_paths.moved_path.Goals as goal

@@ -9,7 +9,7 @@ loop-path-preserved g c =
     let moved = moved-later D.directories D.canonical_paths D.holds D.faults D.write_faults c.args.paths.now c.loop-path.paths _ _ _ c.loop-path.invariant.outside c.in_ok-moved_path.ensures.moved in
     record {
       each =
-        rw (c.in_ok-push.ensures.items) (moved-more (D.directories c.args.paths.now) c.args.root.now c.args.old.now c.loop-path.new.items c.loop-path.path-index c.path-item.result c.in_ok-moved_path.field-0
+          rw (c.in_ok-push.ensures.items) (moved-more (D.directories c.args.paths.now) c.args.root.now c.args.old.now c.loop-path.new.items c.loop-path.path-index c.path-item.result c.in_ok-moved_path.field-0
           (omega arith) c.path-item.is c.loop-path.invariant.each (rw (c.as_str.ensures.value) at moved));
       outside = keeps-twice D.directories D.canonical_paths D.holds D.faults D.write_faults c.args.paths.now c.loop-path.paths c.moved_path.new.paths c.loop-path.invariant.outside c.moved_path.ensures.outside;
     }

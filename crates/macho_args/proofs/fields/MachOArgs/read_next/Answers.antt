@@ -10,9 +10,9 @@ returns-then-values-gt0-clause-done c = turn-value c.args.words.now c.args.place
 pub returns-clause-done : goal.returns-clause-done
 returns-clause-done c =
     turn-done c.args.words.now c.args.place c.args.values c.index-words-place.result c.as_str.result.now _ _ _ c.if-values-gt0.false c.requires.within c.index-words-place.is
-      c.as_str.ensures.value (take_rest c.args.words.now (c.args.place + 1)) _ c.read_word.ensures.done
+    c.as_str.ensures.value (take_rest c.args.words.now (c.args.place + 1)) _ c.read_word.ensures.done
 
 pub returns-clause-why : goal.returns-clause-why
 returns-clause-why c =
     turn-why c.args.words.now c.args.place c.args.values c.index-words-place.result c.as_str.result.now _ _ _ c.if-values-gt0.false c.requires.within c.index-words-place.is
-      c.as_str.ensures.value (take_rest c.args.words.now (c.args.place + 1)) c.read_word.ensures.why
+    c.as_str.ensures.value (take_rest c.args.words.now (c.args.place + 1)) c.read_word.ensures.why
