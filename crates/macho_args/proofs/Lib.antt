@@ -3,3 +3,4 @@ pub mod Dots
 pub mod Prefixes
 pub mod Reading
 pub mod Moves
+pub mod Roots

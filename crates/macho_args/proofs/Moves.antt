@@ -7,7 +7,8 @@ use Rattle.std.specs.List.{AllZip, starts_with}
 use Rattle.std.specs.String.{string_bytes}
 use Rattle.std.proofs.lemmas.List.{map_more, map-append}
 use Rattle.std.proofs.lemmas.List.Elements.{AllZip-push}
-use Rattle.macho_args.specs.SearchPaths.{IsMoved, joined}
+use Rattle.macho_args.specs.SearchPaths.{IsMoved}
+use Rattle.macho_args.specs.Effects.{joined}
 use Rattle.macho_args.specs.Store.{CanonicalPaths, Directories, IsToldDirectory, KeepsOutside, Store}
 
 -- there is an answer that may be given

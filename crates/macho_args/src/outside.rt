@@ -3,7 +3,8 @@
 ghost use Rattle.std.specs.Prelude.{ℕ, Option, IfOk};
 ghost use Rattle.std.specs.Option.{option_map};
 ghost use Rattle.std.specs.String.{string_bytes};
-ghost use Rattle.macho_args.specs.Store.{Store, Directories, CanonicalPaths, IsToldDirectory, IsToldCanonical, KeepsOutside};
+ghost use Rattle.macho_args.specs.Store.{Store, Directories, CanonicalPaths};
+ghost use Rattle.macho_args.specs.Store.{IsToldDirectory, IsToldCanonical, KeepsOutside};
 
 use std::alloc::{AllocError, Global};
 
@@ -29,6 +30,7 @@ pub trait Paths {
 
     /// The canonical path of the path, or `None` where there is none.
     fn canonical(&mut self, alloc: Global, path: &str) -> Result<Option<String>, AllocError>
-        ensures told { IfOk result (λ answer. IsToldCanonical (canonical_paths self.old) path.now (option_map string_bytes answer)) }
+        ensures told { IfOk result (λ answer.
+            IsToldCanonical (canonical_paths self.old) path.now (option_map string_bytes answer)) }
         ensures kept { KeepsOutside directories canonical_paths holds faults write_faults self.old self.new };
 }

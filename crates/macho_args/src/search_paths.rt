@@ -1,10 +1,12 @@
 //! The rule on paths, which comes after the words.
 
-ghost use Rattle.std.specs.Prelude.{◌≡◌, ◌++◌, IfOk, OnOk, map};
+ghost use Rattle.std.specs.Prelude.{◌≡◌, ◌++◌, IfOk, OnOk, Some, map};
 ghost use Rattle.std.specs.List.{AllZip};
 ghost use Rattle.std.specs.String.{string_bytes};
+ghost use Rattle.macho_args.specs.Effects.{joined as joined_path};
+ghost use Rattle.macho_args.specs.KeptRoot.{SettlesRoot, settled};
+ghost use Rattle.macho_args.specs.SearchPaths.{FollowsRoot, IsBelow, IsMoved, IsRootFor, standard_frameworks};
 ghost use Rattle.macho_args.specs.Store.{KeepsOutside};
-ghost use Rattle.macho_args.specs.SearchPaths.{FollowsPaths, IsMoved, IsRooted, IsRootFor, joined as joined_path, rooted, standard_frameworks};
 
 use crate::fields::MachOArgs;
 use crate::outside::Paths;
@@ -26,43 +28,66 @@ const SEPARATOR: &str = "/";
 impl MachOArgs {
     ghost use Rattle.macho_args.specs.Settings.{settings_of};
 
-    /// Follows the rule on paths: with a root, the paths below it, and last the standard framework paths.
-    pub(crate) fn follow_paths<D: Paths>(
+    /// Takes the canonical path of the root that was given, and puts its library path first.
+    pub(crate) fn settle_root<D: Paths>(
         &mut self,
         alloc: Global,
         paths: &mut D,
     ) -> Result<(), AllocError>
-        ensures done { OnOk result (FollowsPaths (D.directories paths.old) (D.canonical_paths paths.old) (settings_of self.old).sysroot (settings_of self.old) (settings_of self.new)) }
-        ensures outside { KeepsOutside D.directories D.canonical_paths D.holds D.faults D.write_faults paths.old paths.new }
+        ensures done { OnOk result (SettlesRoot (D.canonical_paths paths.old) (settings_of self.old).sysroot
+            (settings_of self.old) (settings_of self.new)) }
+        ensures outside { KeepsOutside D.directories D.canonical_paths D.holds D.faults D.write_faults
+            paths.old paths.new }
+    {
+        let Some(path) = self.sysroot.take() else {
+            return Ok(());
+        };
+        let root = root_for(alloc, path.as_str(), paths)?;
+        self.set_root(alloc, root)
+    }
+
+    // Sets the root, with its library path.
+    fn set_root(&mut self, alloc: Global, root: String) -> Result<(), AllocError>
+        ensures { OnOk result (settings_of self.new ≡ settled (string_bytes root) (settings_of self.old)) }
+    {
+        let libraries = joined(alloc, root.as_str(), LIBRARIES)?;
+        self.lib_search_path.insert(0, libraries)?;
+        self.sysroot = Some(root);
+        Ok(())
+    }
+
+    /// Puts the framework paths below the root, and adds the standard ones.
+    pub(crate) fn move_frameworks<D: Paths>(
+        &mut self,
+        alloc: Global,
+        paths: &mut D,
+    ) -> Result<(), AllocError>
+        ensures done { OnOk result (FollowsRoot (D.directories paths.old) (settings_of self.old).sysroot
+            (settings_of self.old) (settings_of self.new)) }
+        ensures outside { KeepsOutside D.directories D.canonical_paths D.holds D.faults D.write_faults
+            paths.old paths.new }
     {
         match self.sysroot.take() {
-            Some(path) => self.go_below(alloc, path.as_str(), paths),
+            Some(root) => self.move_below(alloc, root, paths),
             None => self.add_standard_frameworks(alloc, SEPARATOR),
         }
     }
 
-    // Takes the root for a path that was given, and puts the search paths below it.
-    fn go_below<D: Paths>(
+    // The same below this root, which becomes the root again.
+    fn move_below<D: Paths>(
         &mut self,
         alloc: Global,
-        path: &str,
+        root: String,
         paths: &mut D,
     ) -> Result<(), AllocError>
-        ensures done { OnOk result (IsRooted (D.directories paths.old) (D.canonical_paths paths.old) path.now (settings_of self.old) (settings_of self.new)) }
-        ensures outside { KeepsOutside D.directories D.canonical_paths D.holds D.faults D.write_faults paths.old paths.new }
+        ensures done { OnOk result (IsBelow (D.directories paths.old) (string_bytes root)
+            (record (settings_of self.old) { sysroot = Some (string_bytes root) }) (settings_of self.new)) }
+        ensures outside { KeepsOutside D.directories D.canonical_paths D.holds D.faults D.write_faults
+            paths.old paths.new }
     {
-        let root = root_for(alloc, path, paths)?;
-        let frameworks = moved_paths(alloc, root.as_str(), &self.framework_search_path, paths)?;
+        let old = &self.framework_search_path;
+        let frameworks = moved_paths(alloc, root.as_str(), old, paths)?;
         self.framework_search_path = frameworks;
-        self.set_rooted(alloc, root)
-    }
-
-    // Sets the root, and adds its own paths.
-    fn set_rooted(&mut self, alloc: Global, root: String) -> Result<(), AllocError>
-        ensures { OnOk result (settings_of self.new ≡ rooted (string_bytes root) (settings_of self.old).framework_search_path (settings_of self.old)) }
-    {
-        let libraries = joined(alloc, root.as_str(), LIBRARIES)?;
-        self.lib_search_path.insert(0, libraries)?;
         self.add_standard_frameworks(alloc, root.as_str())?;
         self.sysroot = Some(root);
         Ok(())
@@ -70,7 +95,8 @@ impl MachOArgs {
 
     // Adds the standard framework paths below a root.
     fn add_standard_frameworks(&mut self, alloc: Global, root: &str) -> Result<(), AllocError>
-        ensures { OnOk result (settings_of self.new ≡ record (settings_of self.old) { framework_search_path = (settings_of self.old).framework_search_path ++ standard_frameworks root.now }) }
+        ensures { OnOk result (settings_of self.new ≡ record (settings_of self.old) {
+            framework_search_path = (settings_of self.old).framework_search_path ++ standard_frameworks root.now }) }
     {
         let frameworks = joined(alloc, root, FRAMEWORKS)?;
         let system = joined(alloc, root, SYSTEM_FRAMEWORKS)?;
@@ -83,7 +109,8 @@ impl MachOArgs {
 // The root for a path that was given: its canonical path, else the path itself.
 fn root_for<D: Paths>(alloc: Global, path: &str, paths: &mut D) -> Result<String, AllocError>
     ensures root { IfOk result (λ root. IsRootFor (D.canonical_paths paths.old) path.now (string_bytes root)) }
-    ensures outside { KeepsOutside D.directories D.canonical_paths D.holds D.faults D.write_faults paths.old paths.new }
+    ensures outside { KeepsOutside D.directories D.canonical_paths D.holds D.faults D.write_faults
+        paths.old paths.new }
 {
     match paths.canonical(alloc, path)? {
         Some(canonical) => Ok(canonical),
@@ -98,8 +125,10 @@ fn moved_paths<D: Paths>(
     old: &[String],
     paths: &mut D,
 ) -> Result<Vec<String>, AllocError>
-    ensures each { IfOk result (λ new. AllZip (IsMoved (D.directories paths.old) root.now) (map string_bytes old.now) (map string_bytes new.items)) }
-    ensures outside { KeepsOutside D.directories D.canonical_paths D.holds D.faults D.write_faults paths.old paths.new }
+    ensures each { IfOk result (λ new.
+        AllZip (IsMoved (D.directories paths.old) root.now) (map string_bytes old.now) (map string_bytes new.items)) }
+    ensures outside { KeepsOutside D.directories D.canonical_paths D.holds D.faults D.write_faults
+        paths.old paths.new }
 {
     let mut new = Vec::new(alloc);
     for path in old {
@@ -116,7 +145,8 @@ fn moved_path<D: Paths>(
     paths: &mut D,
 ) -> Result<String, AllocError>
     ensures moved { IfOk result (λ new. IsMoved (D.directories paths.old) root.now path.now (string_bytes new)) }
-    ensures outside { KeepsOutside D.directories D.canonical_paths D.holds D.faults D.write_faults paths.old paths.new }
+    ensures outside { KeepsOutside D.directories D.canonical_paths D.holds D.faults D.write_faults
+        paths.old paths.new }
 {
     let Some(rest) = after_prefix(path, SEPARATOR) else {
         return String::from_str(alloc, path);
@@ -130,7 +160,7 @@ fn moved_path<D: Paths>(
 }
 
 // A path below a root.
-#[tactic(auto, unfolding(crate::specs::SearchPaths::joined))]
+#[tactic(auto, unfolding(crate::specs::Effects::joined))]
 fn joined(alloc: Global, root: &str, path: &str) -> Result<String, AllocError>
     ensures { IfOk result (λ text. string_bytes text ≡ joined_path root.now path.now) }
 {

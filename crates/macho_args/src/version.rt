@@ -26,7 +26,9 @@ impl SemanticVersion {
     /// parts are 0. The major part is at most 65,535, the others at most 255.
     #[tactic(auto, unfolding(crate::specs::Version::version_of))]
     pub fn try_from(text: &str) -> Result<SemanticVersion, BadVersion>
-        ensures { MatchResult result (λ version. version_of text.now ≡ Some (version_number version)) (λ _. version_of text.now ≡ None) }
+        ensures { MatchResult result
+            (λ version. version_of text.now ≡ Some (version_number version))
+            (λ _. version_of text.now ≡ None) }
     {
         let (major, rest) = first_part(text);
         let Some(rest) = rest else {

@@ -27,7 +27,8 @@ pub(crate) fn contains_text(texts: &[String], text: &str) -> bool
 
 /// What follows this text in the word, if the word begins with it.
 pub(crate) fn after_prefix<'a>(word: &'a str, prefix: &str) -> Option<&'a str>
-    ensures { option_copied result ≡ (if starts_with nat_eq word.now prefix.now then Some (drop (length prefix.now) word.now) else None) }
+    ensures { option_copied result
+        ≡ (if starts_with nat_eq word.now prefix.now then Some (drop (length prefix.now) word.now) else None) }
 {
     word.strip_prefix(prefix)
 }
