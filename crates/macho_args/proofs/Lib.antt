@@ -4,3 +4,4 @@ pub mod Prefixes
 pub mod Reading
 pub mod Moves
 pub mod Roots
+mod Rows

@@ -67,7 +67,7 @@ module _ (set_root : List ℕ → Settings → Settings) {A : Type 0} (words : L
   pub turn-done : (t : Settings)
       → IfOk result (λ n. read_word set_root i text (texts_of behind) s ≡ Ok (reading n t))
       → IfOk result (λ left. read_from set_root values i (texts_of (drop i words)) s
-          ≡ read_from set_root left (i + 1) (texts_of (drop (i + 1) words)) t)
+      ≡ read_from set_root left (i + 1) (texts_of (drop (i + 1) words)) t)
   turn-done t read =
       IfOk-weaker result _ _ (λ n done. at_word ∙ (read-word set_root i text (texts_of behind) s t n done ∙ rw is_behind refl)) read
 

@@ -83,9 +83,9 @@ module _ (root_of : List ℕ → List ℕ) where
   unfolding with_platform
   platform-finish i p m k s =
       ap (λ meaning. cond (bytes_eq p (codes "macos")) meaning (Err (BadPlatform (i + 1))))
-        (ap (λ f. ok_or (version_of m) (BadVersion (i + 2)) >>= f)
-          (λ j lowest. finished-or (version_of k) (BadVersion (i + 3)) (λ built. Ok (with_versions p lowest built s)) j)
-        ∙ finished-or (version_of m) (BadVersion (i + 2)) (λ lowest. ok_or (version_of k) (BadVersion (i + 3)) >>= λ built. Ok (with_versions p lowest built s)))
+      (ap (λ f. ok_or (version_of m) (BadVersion (i + 2)) >>= f)
+      (λ j lowest. finished-or (version_of k) (BadVersion (i + 3)) (λ built. Ok (with_versions p lowest built s)) j)
+      ∙ finished-or (version_of m) (BadVersion (i + 2)) (λ lowest. ok_or (version_of k) (BadVersion (i + 3)) >>= λ built. Ok (with_versions p lowest built s)))
       ∙ finished-cond (bytes_eq p (codes "macos")) _ (Err (BadPlatform (i + 1)))
 
   plain-finish : (i : ℕ) (word : List ℕ) (s : Settings) → read_plain i word (finish s) ≡ finished (read_plain i word s)

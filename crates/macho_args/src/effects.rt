@@ -3,15 +3,14 @@
 ghost use Rattle.std.specs.Prelude.{◌≡◌, ◌+◌, ◌<◌, ◌^◌, ◌∷◌, ◌++◌, [], Ok, Err, OnOk, IfErr, MatchBool};
 ghost use Rattle.macho_args.specs.Effects.{uuid_of, count_of};
 
-use hex::FromHex;
-use std::alloc::{AllocError, Global};
-
 use crate::fault::ArgsFault;
 use crate::fields::{InputSpec, MachOArgs, PlatformVersion};
 use crate::numbers::number_up_to;
 use crate::options::{Flag, Valued};
 use crate::version::SemanticVersion;
 use crate::words::{begins_with, contains_text};
+use hex::FromHex;
+use std::alloc::{AllocError, Global};
 
 /// The one architecture.
 const ARM64: &str = "arm64";
@@ -70,7 +69,9 @@ impl MachOArgs {
             Valued::Arch => check(value == ARM64, ArgsFault::BadArch { word })?,
             Valued::Mllvm => check(value == OUTLINING, ArgsFault::Unsupported { word })?,
             Valued::Uuid => self.uuid = Some(uuid(value).ok_or(ArgsFault::BadUuid { word })?),
-            Valued::Generate => self.generate = Some(object_count(value).ok_or(ArgsFault::BadNumber { word })?),
+            Valued::Generate => self.generate = Some(object_count(value).ok_or(
+                ArgsFault::BadNumber { word },
+            )?),
         }
         Ok(())
     }
@@ -78,7 +79,8 @@ impl MachOArgs {
     // Adds a list of exported names, by its path.
     fn add_export_list(&mut self, alloc: Global, word: u32, path: &str) -> Result<(), AllocError>
         ensures { OnOk result (settings_of self.new ≡ record (settings_of self.old) {
-            export_list_paths = (settings_of self.old).export_list_paths ++ (word, path.now) ∷ [] }) }
+          export_list_paths = (settings_of self.old).export_list_paths ++ (word, path.now) ∷ [];
+        }) }
     {
         self.export_list_paths
             .push((word, String::from_str(alloc, path)?))?;
@@ -88,7 +90,8 @@ impl MachOArgs {
     // Adds a run path, if it isn't there.
     fn add_rpath(&mut self, alloc: Global, path: &str) -> Result<(), AllocError>
         ensures { OnOk result (settings_of self.new ≡ record (settings_of self.old) {
-            rpaths = with_once path.now (settings_of self.old).rpaths }) }
+          rpaths = with_once path.now (settings_of self.old).rpaths;
+        }) }
     {
         if contains_text(&self.rpaths, path) {
             return Ok(());
@@ -100,7 +103,8 @@ impl MachOArgs {
     // Adds a path of libraries.
     fn add_library_path(&mut self, alloc: Global, path: &str) -> Result<(), AllocError>
         ensures { OnOk result (settings_of self.new ≡ record (settings_of self.old) {
-            lib_search_path = (settings_of self.old).lib_search_path ++ path.now ∷ [] }) }
+          lib_search_path = (settings_of self.old).lib_search_path ++ path.now ∷ [];
+        }) }
     {
         self.lib_search_path.push(String::from_str(alloc, path)?)?;
         Ok(())
@@ -109,7 +113,8 @@ impl MachOArgs {
     // Adds a path of frameworks.
     fn add_framework_path(&mut self, alloc: Global, path: &str) -> Result<(), AllocError>
         ensures { OnOk result (settings_of self.new ≡ record (settings_of self.old) {
-            framework_search_path = (settings_of self.old).framework_search_path ++ path.now ∷ [] }) }
+          framework_search_path = (settings_of self.old).framework_search_path ++ path.now ∷ [];
+        }) }
     {
         self.framework_search_path
             .push(String::from_str(alloc, path)?)?;
@@ -143,7 +148,8 @@ impl MachOArgs {
     // Adds a framework by its name.
     fn add_framework(&mut self, alloc: Global, word: u32, name: &str) -> Result<(), AllocError>
         ensures { OnOk result (settings_of self.new ≡ record (settings_of self.old) {
-            inputs = (settings_of self.old).inputs ++ framework word name.now ∷ [] }) }
+          inputs = (settings_of self.old).inputs ++ framework word name.now ∷ [];
+        }) }
     {
         let name = String::from_str(alloc, name)?;
         self.inputs.push(InputSpec::Framework { word, name })?;

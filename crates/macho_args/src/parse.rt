@@ -12,13 +12,12 @@ ghost use Rattle.macho_args.specs.Store.{KeepsOutside};
 ghost use Rattle.macho_args.specs.Words.{read_all, read_from, read_plain, read_unnamed, read_word, reading};
 ghost use Rattle.macho_args.specs.Words.{texts_of, without_inputs};
 
-use std::alloc::Global;
-
 use crate::fault::ArgsFault;
 use crate::fields::{InputSpec, MachOArgs};
 use crate::options::{LinkOption, Valued, option_named};
 use crate::outside::Paths;
 use crate::words::{after_prefix, begins_with};
+use std::alloc::Global;
 
 impl MachOArgs {
     /// Reads the words of a command line, which follow the program's name. The fields become what the words

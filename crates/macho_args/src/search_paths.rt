@@ -96,7 +96,8 @@ impl MachOArgs {
     // Adds the standard framework paths below a root.
     fn add_standard_frameworks(&mut self, alloc: Global, root: &str) -> Result<(), AllocError>
         ensures { OnOk result (settings_of self.new ≡ record (settings_of self.old) {
-            framework_search_path = (settings_of self.old).framework_search_path ++ standard_frameworks root.now }) }
+          framework_search_path = (settings_of self.old).framework_search_path ++ standard_frameworks root.now;
+        }) }
     {
         let frameworks = joined(alloc, root, FRAMEWORKS)?;
         let system = joined(alloc, root, SYSTEM_FRAMEWORKS)?;

@@ -1,5 +1,5 @@
 -- What was read with the root kept, and then settled, is what the words say.
-use Rattle.std.proofs.Common.{ap, subst, Option}
+use Rattle.std.proofs.Common.{subst, Option}
 use Rattle.std.proofs.lemmas.Result.{err_from_is_err_and}
 use Rattle.macho_args.specs.SearchPaths.{FollowsRoot}
 use Rattle.macho_args.specs.Settings.{settings_of}
@@ -21,4 +21,4 @@ returns-clause-done g c =
     let args = settings_of c.move_frameworks.new.self in
     let follows = subst (λ (known : Option Directories). FollowsRoot known said.sysroot said args) c.settle_root.ensures.outside.same_directories c.in_ok-move_frameworks.ensures.done in
     words-parsed (D.canonical_paths c.args.paths.now) (texts_of c.args.words.now) kept said c.in_ok-args.ensures.done
-      (D.directories c.args.paths.now) args c.in_ok-settle_root.ensures.done follows
+    (D.directories c.args.paths.now) args c.in_ok-settle_root.ensures.done follows
