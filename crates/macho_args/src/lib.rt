@@ -13,6 +13,8 @@ mod options;
 mod outside;
 mod parse;
 mod search_paths;
+#[cfg(test)]
+mod tests;
 mod version;
 mod words;
 
