@@ -26,11 +26,13 @@ unfolding chosen
 none_unless_all true value most = refl
 none_unless_all false value most = refl
 
-some_where_small : (len value most n : ℕ) → 0 < len → value ≡ n → chosen (nat_lt 0 len) true value most ≡ cond (nat_le n most) (Some n) None
+some_where_small : (len value most n : ℕ) → 0 < len → value ≡ n
+    → chosen (nat_lt 0 len) true value most ≡ cond (nat_le n most) (Some n) None
 unfolding chosen
 some_where_small len value most n long is = grind (arith, nat_tests)
 
-none_where_large : (len value most : ℕ) → most < 2 ^ 32 → (0 < len × value < 2 ^ 32 → ⊥) → chosen (nat_lt 0 len) true value most ≡ None
+none_where_large : (len value most : ℕ) → most < 2 ^ 32 → (0 < len × value < 2 ^ 32 → ⊥)
+    → chosen (nat_lt 0 len) true value most ≡ None
 unfolding chosen
 none_where_large len value most small not_read = grind (arith, nat_tests)
 
@@ -40,7 +42,8 @@ unfolding number_up_to chosen
 number-no_digits most text h = rw h (none_unless_all (nat_lt 0 (length text)) (digits_value 10 text) most)
 
 -- `parse` reads what is at most `most`
-pub number-parsed : {E : Type 0} (most : ℕ) (text : List ℕ) (r : Result ℕ E) → most < 2 ^ 32 → list_all is_ascii_digit text ≡ true → ParsesUnsigned 32 10 text r
+pub number-parsed : {E : Type 0} (most : ℕ) (text : List ℕ) (r : Result ℕ E)
+    → most < 2 ^ 32 → list_all is_ascii_digit text ≡ true → ParsesUnsigned 32 10 text r
     → MatchResult r (λ n. number_up_to most text ≡ cond (nat_le n most) (Some n) None) (λ _. number_up_to most text ≡ None)
 unfolding number_up_to chosen
 number-parsed {E} most text (Ok n) small digits h =

@@ -16,7 +16,8 @@ dotted-none text none =
     let same : get_or text k d ≡ get_or text k 0 = get_or_default text k d 0 h in
     grind (arith, nat_tests))
 
-pub dotted-first : (text first rest : List ℕ) → position_or_len (λ byte. eqb byte 46) text < length text → first ≡ before_first (λ byte. eqb byte 46) text
+pub dotted-first : (text first rest : List ℕ) → position_or_len (λ byte. eqb byte 46) text < length text
+    → first ≡ before_first (λ byte. eqb byte 46) text
     → rest ≡ after_first (λ byte. eqb byte 46) text → dotted_parts text ≡ first ∷ dotted_parts rest
 dotted-first text first rest found is_first is_rest = rw (is_first, is_rest) (slice_split_first (λ byte. eqb byte 46) text 0 found)
 

@@ -21,7 +21,8 @@ no_front true x e = cc
 no_front false x e = refl
 
 -- a path that doesn't begin with `/` stays
-pub moved-relative : (known : Option Directories) (root path new rest : List ℕ) → ◌≡◌ {A = Option (List ℕ)} None (cond (starts_with nat_eq path (47 ∷ [])) (Some rest) None)
+pub moved-relative : (known : Option Directories) (root path new rest : List ℕ)
+    → ◌≡◌ {A = Option (List ℕ)} None (cond (starts_with nat_eq path (47 ∷ [])) (Some rest) None)
     → new ≡ path → IsMoved known root path new
 moved-relative known root path new rest none is =
     let answer = some_answer known (joined root (drop 1 path)) in
@@ -29,15 +30,19 @@ moved-relative known root path new rest none is =
     record { is_directory = answer.0; told = answer.1; is = rw relative is }
 
 -- one path more
-pub moved-more : {A B : Type 0} (known : Option Directories) (root : List ℕ) (old : List (String A)) (new : List (String B)) (i : ℕ) (path : String A) (next : String B)
+pub moved-more : {A B : Type 0} (known : Option Directories) (root : List ℕ) (old : List (String A)) (new : List (String B))
+    (i : ℕ) (path : String A) (next : String B)
     → i < length old → path ≡ get_or old i path → AllZip (IsMoved known root) (map string_bytes (take i old)) (map string_bytes new)
-    → IsMoved known root (string_bytes path) (string_bytes next) → AllZip (IsMoved known root) (map string_bytes (take (i + 1) old)) (map string_bytes (new ++ next ∷ []))
+    → IsMoved known root (string_bytes path) (string_bytes next)
+    → AllZip (IsMoved known root) (map string_bytes (take (i + 1) old)) (map string_bytes (new ++ next ∷ []))
 moved-more known root old new i path next within is each one =
     rw (map_more string_bytes old i path within, ← is, map-append string_bytes new (next ∷ []))
-    (AllZip-push (IsMoved known root) (map string_bytes (take i old)) (map string_bytes new) (string_bytes path) (string_bytes next) each one)
+    (AllZip-push (IsMoved known root) (map string_bytes (take i old)) (map string_bytes new)
+    (string_bytes path) (string_bytes next) each one)
 
 -- what is told at a later time is what was told before
-module _ {D : Type 0} (directories : D → Option Directories) (canonical_paths : D → Option CanonicalPaths) (holds : D → Option Store) (faults write_faults : D → ℕ) where
+module _ {D : Type 0} (directories : D → Option Directories) (canonical_paths : D → Option CanonicalPaths)
+    (holds : D → Option Store) (faults write_faults : D → ℕ) where
   abbrev Keeps : D → D → Type 0
   Keeps old new = KeepsOutside directories canonical_paths holds faults write_faults old new
 
@@ -51,5 +56,6 @@ module _ {D : Type 0} (directories : D → Option Directories) (canonical_paths 
         same_write_faults = second.same_write_faults ∙ first.same_write_faults;
       }
 
-  pub moved-later : (a b : D) (root path new : List ℕ) → Keeps a b → IsMoved (directories b) root path new → IsMoved (directories a) root path new
+  pub moved-later : (a b : D) (root path new : List ℕ) → Keeps a b
+      → IsMoved (directories b) root path new → IsMoved (directories a) root path new
   moved-later a b root path new keeps moves = rw keeps.same_directories at moves

@@ -45,7 +45,8 @@ module _ (root_of : List ℕ → List ℕ) where
   abbrev finished : Result Settings ArgsFault → Result Settings ArgsFault
   finished meaning = meaning >>= λ s. Ok (finish s)
 
-  below-push : (root : Option (List ℕ)) (paths : List (List ℕ)) (path : List ℕ) → below root paths ++ path ∷ [] ≡ below root (paths ++ path ∷ [])
+  below-push : (root : Option (List ℕ)) (paths : List (List ℕ)) (path : List ℕ)
+      → below root paths ++ path ∷ [] ≡ below root (paths ++ path ∷ [])
   below-push (Some root) paths path = refl
   below-push None paths path = refl
 
@@ -69,7 +70,8 @@ module _ (root_of : List ℕ → List ℕ) where
   value-finish LtoLibrary i v s = refl
   value-finish ExportedSymbolsList i v s = refl
   value-finish Rpath i v s = refl
-  value-finish LibraryPath i v s = ap (λ paths. Ok (record (finish s) { lib_search_path = paths })) (below-push s.sysroot s.lib_search_path v)
+  value-finish LibraryPath i v s =
+      ap (λ paths. Ok (record (finish s) { lib_search_path = paths })) (below-push s.sysroot s.lib_search_path v)
   value-finish FrameworkPath i v s = refl
   value-finish Root i v s = refl
   value-finish Library i v s = finished-cond _ _ _
@@ -85,12 +87,14 @@ module _ (root_of : List ℕ → List ℕ) where
       ap (λ meaning. cond (bytes_eq p (codes "macos")) meaning (Err (BadPlatform (i + 1))))
       (ap (λ f. ok_or (version_of m) (BadVersion (i + 2)) >>= f)
       (λ j lowest. finished-or (version_of k) (BadVersion (i + 3)) (λ built. Ok (with_versions p lowest built s)) j)
-      ∙ finished-or (version_of m) (BadVersion (i + 2)) (λ lowest. ok_or (version_of k) (BadVersion (i + 3)) >>= λ built. Ok (with_versions p lowest built s)))
+      ∙ finished-or (version_of m) (BadVersion (i + 2))
+      (λ lowest. ok_or (version_of k) (BadVersion (i + 3)) >>= λ built. Ok (with_versions p lowest built s)))
       ∙ finished-cond (bytes_eq p (codes "macos")) _ (Err (BadPlatform (i + 1)))
 
   plain-finish : (i : ℕ) (word : List ℕ) (s : Settings) → read_plain i word (finish s) ≡ finished (read_plain i word s)
   plain-finish i word s =
-      ap (cond (starts_with nat_eq word (codes "-")) (Err (Unknown i))) (finished-cond (starts_with nat_eq word (codes "@")) (Err (Unsupported i)) _)
+      ap (cond (starts_with nat_eq word (codes "-")) (Err (Unknown i)))
+      (finished-cond (starts_with nat_eq word (codes "@")) (Err (Unsupported i)) _)
       ∙ finished-cond (starts_with nat_eq word (codes "-")) (Err (Unknown i)) _
 
   unnamed-finish : (option : Option Valued) (i : ℕ) (word : List ℕ) (s : Settings)
@@ -102,7 +106,8 @@ module _ (root_of : List ℕ → List ℕ) where
   abbrev finished-read : Result Read ArgsFault → Result Read ArgsFault
   finished-read meaning = meaning >>= λ read. Ok (reading read.values (finish read.settings))
 
-  taking-finish : (values : ℕ) (m n : Result Settings ArgsFault) → m ≡ finished n → taking values m ≡ finished-read (taking values n)
+  taking-finish : (values : ℕ) (m n : Result Settings ArgsFault) → m ≡ finished n
+      → taking values m ≡ finished-read (taking values n)
   taking-finish values m (Ok s) is = rw is refl
   taking-finish values m (Err fault) is = rw is refl
 
@@ -127,7 +132,8 @@ module _ (root_of : List ℕ → List ℕ) where
 
   -- where the next words commute, one more word does
   then-finish : (m n : Result Read ArgsFault) (f g : Read → Result Settings ArgsFault)
-      → m ≡ finished-read n → ((read : Read) → f (reading read.values (finish read.settings)) ≡ finished (g read)) → (m >>= f) ≡ finished (n >>= g)
+      → m ≡ finished-read n → ((read : Read) → f (reading read.values (finish read.settings)) ≡ finished (g read))
+      → (m >>= f) ≡ finished (n >>= g)
   then-finish m (Ok read) f g is next = rw is (next read)
   then-finish m (Err fault) f g is next = rw is refl
 
@@ -136,10 +142,12 @@ module _ (root_of : List ℕ → List ℕ) where
   unfolding read_from read_word
   from-finish values i [] s = refl
   from-finish zero i (word ∷ behind) s =
-      then-finish _ _ _ _ (option-finish (option_named word) i word behind s) (λ read. from-finish read.values (i + 1) behind read.settings)
+      then-finish _ _ _ _ (option-finish (option_named word) i word behind s)
+      (λ read. from-finish read.values (i + 1) behind read.settings)
   from-finish (suc values) i (word ∷ behind) s = from-finish values (i + 1) behind s
 
-  inputs-finish : (count : Option ℕ) (inputs : List Input) (s : Settings) → without_inputs count inputs (finish s) ≡ finished (without_inputs count inputs s)
+  inputs-finish : (count : Option ℕ) (inputs : List Input) (s : Settings)
+      → without_inputs count inputs (finish s) ≡ finished (without_inputs count inputs s)
   inputs-finish (Some count) (input ∷ inputs) s = refl
   inputs-finish (Some count) [] s = refl
   inputs-finish None inputs s = refl
@@ -175,7 +183,8 @@ roots None path root found =
     record { root_of = λ other. root; each = λ other. record { canonical = Some root; told = tt; is = refl }; here = refl }
 
 -- The words are refused, whatever the roots are.
-pub words-refused : (words : List (List ℕ)) (fault : ArgsFault) → HasCause (read_all keep_root words) fault → (fault ≡ OutOfMemory) ⊎ IsRefused words fault
+pub words-refused : (words : List (List ℕ)) (fault : ArgsFault) → HasCause (read_all keep_root words) fault
+    → (fault ≡ OutOfMemory) ⊎ IsRefused words fault
 words-refused words fault (inl memory) = inl memory
 words-refused words fault (inr why) = inr (record { told = λ root_of. all-finish root_of words ∙ rw why refl })
 
@@ -185,7 +194,8 @@ record Said (known : Option CanonicalPaths) (words : List (List ℕ)) (said : Se
   each : (path : List ℕ) → IsRootFor known path (root_of path)
   is : args_of root_of words ≡ Ok said
 
-module _ (known : Option CanonicalPaths) (words : List (List ℕ)) (kept said : Settings) (read : read_all keep_root words ≡ Ok kept) where
+module _ (known : Option CanonicalPaths) (words : List (List ℕ)) (kept said : Settings)
+    (read : read_all keep_root words ≡ Ok kept) where
   said_as : (root_of : List ℕ → List ℕ) → finish root_of kept ≡ said → args_of root_of words ≡ Ok said
   said_as root_of is = all-finish root_of words ∙ (rw read refl ∙ ap Ok is)
 
@@ -195,7 +205,8 @@ module _ (known : Option CanonicalPaths) (words : List (List ℕ)) (kept said : 
       ap (λ root. record kept { sysroot = option_map root_of root; lib_search_path = below root_of root kept.lib_search_path }) none
       ∙ ap (λ root. record kept { sysroot = root }) (sym none)
 
-  finish-some : (root_of : List ℕ → List ℕ) (path : List ℕ) → kept.sysroot ≡ Some path → finish root_of kept ≡ settled (root_of path) kept
+  finish-some : (root_of : List ℕ → List ℕ) (path : List ℕ) → kept.sysroot ≡ Some path
+      → finish root_of kept ≡ settled (root_of path) kept
   finish-some root_of path some = rw some refl
 
   said_by_settling : (root : Option (List ℕ)) → kept.sysroot ≡ root → SettlesRoot known root kept said → Said known words said

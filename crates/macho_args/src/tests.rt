@@ -7,7 +7,6 @@ use crate::fields::{InputSpec, MachOArgs};
 use crate::outside::Paths;
 use crate::version::{BadVersion, SemanticVersion};
 use std::alloc::{AllocError, Global};
-use std::process::Abort;
 use std::test::Fail;
 
 // A disk with one directory, and one path that has another canonical path.
@@ -49,7 +48,7 @@ const EMPTY_DISK: Disk = Disk {
 };
 
 // The words of a line, parsed.
-fn parse(alloc: Global, line: &str, disk: &mut Disk) -> Result<MachOArgs, ArgsFault> {
+fn parse(alloc: Global, line: &str, mut disk: Disk) -> Result<MachOArgs, ArgsFault> {
     let mut words = Vec::new(alloc);
     for word in line.split_whitespace() {
         words.push(String::from_str(alloc, word)?)?;
@@ -58,8 +57,26 @@ fn parse(alloc: Global, line: &str, disk: &mut Disk) -> Result<MachOArgs, ArgsFa
         return Err(ArgsFault::OutOfMemory);
     }
     let mut args = MachOArgs::new(alloc)?;
-    args.parse(&words, disk)?;
+    args.parse(&words, &mut disk)?;
     Ok(args)
+}
+
+// Whether the fields that a line gives pass a test.
+fn gives<F: Fn(&MachOArgs) -> bool + Drop>(
+    alloc: Global,
+    line: &str,
+    disk: Disk,
+    test: F,
+) -> Result<bool, ArgsFault>
+    requires { F.IsAlwaysCallable test }
+{
+    let args = parse(alloc, line, disk)?;
+    Ok(test(&args))
+}
+
+// The fault of a line.
+fn fault_of(alloc: Global, line: &str) -> Option<ArgsFault> {
+    parse(alloc, line, EMPTY_DISK).err()
 }
 
 // Whether the texts are these.
@@ -78,99 +95,142 @@ fn is(text: &Option<String>, wanted: &str) -> bool {
     }
 }
 
+const DRIVER: &str =
+    "-arch arm64 -lto_library /foo/bar/libLTO.dylib -no_deduplicate -platform_version macos 14.0 15.16.17 -demangle -syslibroot /foo/bar -mllvm -enable-linkonceodr-outlining -o a.out -L/foo/lib -L /bar/lib -F/foo/frameworks -F /bar/frameworks -framework CoreFoundation main.o -lc++ -dead_strip -search_paths_first -no_warn_duplicate_libraries -headerpad_max_install_names";
+
+fn has_versions(args: &MachOArgs) -> bool {
+    match &args.platform_version {
+        Some(version) => {
+            version.platform.as_str() == "macos"
+                && version.minimum_version.get() == 0x000e_0000
+                && version.sdk_version.get() == 0x000f_1011
+        }
+        None => false,
+    }
+}
+
+fn has_driver_paths(args: &MachOArgs) -> bool {
+    are(
+        args.lib_search_path(),
+        &["/foo/bar/usr/lib", "/foo/lib", "/bar/lib"],
+    ) && are(
+        args.framework_search_path(),
+        &[
+            "/foo/frameworks",
+            "/bar/frameworks",
+            "/foo/bar/Library/Frameworks",
+            "/foo/bar/System/Library/Frameworks",
+        ],
+    )
+}
+
 #[test]
 fn line_of_a_compiler_driver(rt: HostRuntime) -> Result<(), Fail> {
-    let line =
-        "-arch arm64 -lto_library /foo/bar/libLTO.dylib -no_deduplicate -platform_version macos 14.0 15.16.17 -demangle -syslibroot /foo/bar -mllvm -enable-linkonceodr-outlining -o a.out -L/foo/lib -L /bar/lib -F/foo/frameworks -F /bar/frameworks -framework CoreFoundation main.o -lc++ -dead_strip -search_paths_first -no_warn_duplicate_libraries -headerpad_max_install_names";
-    let args = parse(rt.alloc(), line, &mut EMPTY_DISK)?;
-    let version = args.platform_version.as_ref().ok_or("no version")?;
-    assert_eq!(rt; version.platform.as_str(), "macos");
-    assert_eq!(rt; version.minimum_version.get(), 0x000e_0000);
-    assert_eq!(rt; version.sdk_version.get(), 0x000f_1011);
+    let alloc = rt.alloc();
+    assert!(rt; gives(alloc, DRIVER, EMPTY_DISK, has_versions)?);
+    assert!(rt; gives(alloc, DRIVER, EMPTY_DISK, has_driver_paths)?);
     assert!(rt;
-        are(
-            args.lib_search_path(),
-            &["/foo/bar/usr/lib", "/foo/lib", "/bar/lib"]
-        )
+        gives(
+            alloc,
+            DRIVER,
+            EMPTY_DISK,
+            |args| is(&args.sysroot, "/foo/bar")
+                && is(&args.plugin_path, "/foo/bar/libLTO.dylib")
+                && args.headerpad_max_install_names
+                && args.output.as_str() == "a.out"
+                && args.inputs.len() == 3
+        )?
     );
-    assert!(rt;
-        are(
-            args.framework_search_path(),
-            &[
-                "/foo/frameworks",
-                "/bar/frameworks",
-                "/foo/bar/Library/Frameworks",
-                "/foo/bar/System/Library/Frameworks"
-            ]
-        )
-    );
-    assert_eq!(rt; args.sysroot(), Some("/foo/bar"));
-    assert!(rt; is(&args.plugin_path, "/foo/bar/libLTO.dylib"));
-    assert!(rt; args.headerpad_max_install_names);
-    assert_eq!(rt; args.output.as_str(), "a.out");
-    assert_eq!(rt; args.inputs.len(), 3);
     Ok(())
+}
+
+const FIELDS: &str =
+    "-dylib -dead_strip_dylibs -map -install_name n -e _start -output x -o y -rpath r -rpath s -rpath r -exported_symbols_list a -exported_symbols_list -b -uuid 00112233445566778899aabbccddeeFF";
+
+fn has_lists(args: &MachOArgs) -> bool {
+    match args.export_list_paths() {
+        [first, second] => {
+            first.0 == 18 && first.1.as_str() == "a" && second.0 == 20 && second.1.as_str() == "-b"
+        }
+        _ => false,
+    }
+}
+
+fn has_uuid(args: &MachOArgs) -> bool {
+    match args.uuid {
+        Some(uuid) => uuid[1] == 0x11 && uuid[15] == 0xff,
+        None => false,
+    }
 }
 
 #[test]
 fn each_option_sets_its_field(rt: HostRuntime) -> Result<(), Fail> {
     let alloc = rt.alloc();
-    let line =
-        "-dylib -dead_strip_dylibs -map -install_name n -e _start -output x -o y -rpath r -rpath s -rpath r -exported_symbols_list a -exported_symbols_list -b -uuid 00112233445566778899aabbccddeeFF";
-    let args = parse(alloc, line, &mut EMPTY_DISK)?;
     assert!(rt;
-        args.dylib && args.dead_strip_dylibs && args.map && !args.headerpad_max_install_names
+        gives(
+            alloc,
+            FIELDS,
+            EMPTY_DISK,
+            |args| args.dylib && args.dead_strip_dylibs && args.map
+        )?
     );
-    assert!(rt; is(&args.install_name, "n"));
-    assert_eq!(rt; args.dylib_install_name(), b"n".as_slice());
-    assert_eq!(rt; args.entry.as_str(), "_start");
-    assert_eq!(rt; args.entry_point().is_none(), true);
-    assert!(rt; !args.should_output_executable());
-    assert_eq!(rt; args.output.as_str(), "y");
-    assert!(rt; are(&args.rpaths, &["r", "s"]));
-    let lists = args.export_list_paths();
-    assert_eq!(rt; lists.len(), 2);
-    assert_eq!(rt; lists[0].0, 18);
-    assert_eq!(rt; lists[0].1.as_str(), "a");
-    assert_eq!(rt; lists[1].0, 20);
-    assert_eq!(rt; lists[1].1.as_str(), "-b");
-    let uuid = args.uuid.ok_or("no uuid")?;
-    assert_eq!(rt; uuid[1], 0x11);
-    assert_eq!(rt; uuid[15], 0xff);
-    assert_eq!(rt;
-        parse(alloc, "-generate 10000", &mut EMPTY_DISK)?.generate,
-        Some(10_000)
+    assert!(rt;
+        gives(
+            alloc,
+            FIELDS,
+            EMPTY_DISK,
+            |args| args.dylib_install_name() == b"n".as_slice()
+                && args.entry.as_str() == "_start"
+                && args.entry_point().is_none()
+                && !args.should_output_executable()
+                && args.output.as_str() == "y"
+                && are(&args.rpaths, &["r", "s"])
+        )?
+    );
+    assert!(rt; gives(alloc, FIELDS, EMPTY_DISK, has_lists)?);
+    assert!(rt; gives(alloc, FIELDS, EMPTY_DISK, has_uuid)?);
+    assert!(rt;
+        gives(
+            alloc,
+            "-generate 10000",
+            EMPTY_DISK,
+            |args| args.generate == Some(10_000)
+        )?
     );
     Ok(())
 }
 
+fn has_fresh_names(args: &MachOArgs) -> bool {
+    args.dylib_install_name() == b"a.out".as_slice()
+        && args.entry_point() == Some(b"_main".as_slice())
+        && args.should_output_executable()
+        && args.sysroot().is_none()
+        && args.export_list_paths().is_empty()
+        && are(
+            args.framework_search_path(),
+            &["/Library/Frameworks", "/System/Library/Frameworks"],
+        )
+}
+
+fn has_constants(args: &MachOArgs) -> bool {
+    !args.should_strip_all()
+        && !args.should_gc_sections()
+        && args.should_merge_sections()
+        && args.should_export_all_dynamic_symbols()
+        && args.should_export_dynamic()
+        && args.loadable_segment_alignment() == 16_384
+        && ["export_dynamic", "O0", "O1", "O2", "O3"]
+            .iter()
+            .all(|flag| args.is_ignored_flag(flag))
+        && !["O4", "-O0", "dynamic", ""]
+            .iter()
+            .any(|flag| args.is_ignored_flag(flag))
+}
+
 #[test]
 fn no_words(rt: HostRuntime) -> Result<(), Fail> {
-    let args = parse(rt.alloc(), "", &mut EMPTY_DISK)?;
-    assert_eq!(rt; args.dylib_install_name(), b"a.out".as_slice());
-    assert_eq!(rt; args.entry_point().ok_or("no entry")?, b"_main".as_slice());
-    assert!(rt; args.should_output_executable());
-    assert!(rt;
-        are(
-            args.framework_search_path(),
-            &["/Library/Frameworks", "/System/Library/Frameworks"]
-        )
-    );
-    assert_eq!(rt;
-        args.sysroot().is_none() && args.export_list_paths().is_empty(),
-        true
-    );
-    assert!(rt;
-        !args.should_strip_all() && !args.should_gc_sections() && args.should_merge_sections()
-    );
-    assert!(rt; args.should_export_all_dynamic_symbols() && args.should_export_dynamic());
-    assert_eq!(rt; args.loadable_segment_alignment(), 16_384);
-    for flag in ["export_dynamic", "O0", "O1", "O2", "O3"] {
-        assert!(rt; args.is_ignored_flag(flag), "{flag}");
-    }
-    for flag in ["O4", "-O0", "dynamic", ""] {
-        assert!(rt; !args.is_ignored_flag(flag), "{flag}");
-    }
+    assert!(rt; gives(rt.alloc(), "", EMPTY_DISK, has_fresh_names)?);
+    assert!(rt; gives(rt.alloc(), "", EMPTY_DISK, has_constants)?);
     Ok(())
 }
 
@@ -178,86 +238,150 @@ fn no_words(rt: HostRuntime) -> Result<(), Fail> {
 fn options_without_effect(rt: HostRuntime) -> Result<(), Fail> {
     let line =
         "-no_deduplicate -search_paths_first -no_warn_duplicate_libraries -demangle -dynamic -init_offsets -dead_strip -export_dynamic -O0 -O1 -O2 -O3 -arch arm64 -mllvm -enable-linkonceodr-outlining";
-    let args = parse(rt.alloc(), line, &mut EMPTY_DISK)?;
-    assert!(rt; args.inputs.is_empty() && args.lib_search_path.is_empty() && args.uuid.is_none());
+    assert!(rt; gives(rt.alloc(), line, EMPTY_DISK, has_fresh_names)?);
     Ok(())
+}
+
+// Whether an input is this file, library or framework.
+fn is_input(input: &InputSpec, at: u32, text: &str) -> bool {
+    let name = match input {
+        InputSpec::File { path, .. } => path,
+        InputSpec::Lib { name, .. } | InputSpec::Framework { name, .. } => name,
+    };
+    input.word() == at && name.as_str() == text
+}
+
+fn has_inputs(args: &MachOArgs) -> bool {
+    match args.inputs.as_slice() {
+        [
+            InputSpec::File { .. },
+            InputSpec::Lib { .. },
+            InputSpec::Lib { .. },
+            InputSpec::Framework { .. },
+            InputSpec::File { .. },
+        ] => [(0, "a.o"), (1, "c"), (3, "z"), (5, "F"), (8, "b.o")]
+            .iter()
+            .zip(&args.inputs)
+            .all(|(row, input)| is_input(input, row.0, row.1)),
+        _ => false,
+    }
 }
 
 #[test]
 fn inputs_with_their_words(rt: HostRuntime) -> Result<(), Fail> {
-    let args = parse(
-        rt.alloc(),
-        "a.o -lc -l z -framework F -o -o b.o",
-        &mut EMPTY_DISK,
-    )?;
-    let mut words = [9u32; 5];
-    for (i, input) in args.inputs.iter().enumerate() {
-        let fits = match input {
-            InputSpec::File { path, .. } => path.as_str() == if i == 0 { "a.o" } else { "b.o" },
-            InputSpec::Lib { name, .. } => name.as_str() == if i == 1 { "c" } else { "z" },
-            InputSpec::Framework { name, .. } => name.as_str() == "F",
-        };
-        assert!(rt; fits && i < 5, "{i}");
-        words[i] = input.word();
-    }
-    assert_eq!(rt; words, [0, 1, 3, 5, 8]);
+    assert!(rt;
+        gives(
+            rt.alloc(),
+            "a.o -lc -l z -framework F -o -o b.o",
+            EMPTY_DISK,
+            has_inputs
+        )?
+    );
     Ok(())
 }
 
-#[test]
-fn root_and_framework_paths(rt: HostRuntime) -> Result<(), Fail> {
-    let mut disk = Disk {
-        directory: "/real/sdk/F",
-        link: "/sdk",
-        target: "/real/sdk",
-    };
-    let line = "-L/old -F/F -F/G -Frelative -syslibroot /other -syslibroot /sdk -L/new";
-    let args = parse(rt.alloc(), line, &mut disk)?;
-    assert_eq!(rt; args.sysroot(), Some("/real/sdk"));
-    assert!(rt; are(args.lib_search_path(), &["/real/sdk/usr/lib", "/new"]));
-    assert!(rt;
-        are(
+fn has_canonical_root(args: &MachOArgs) -> bool {
+    is(&args.sysroot, "/real/sdk")
+        && are(args.lib_search_path(), &["/real/sdk/usr/lib", "/new"])
+        && are(
             args.framework_search_path(),
             &[
                 "/real/sdk/F",
                 "/G",
                 "relative",
                 "/real/sdk/Library/Frameworks",
-                "/real/sdk/System/Library/Frameworks"
-            ]
+                "/real/sdk/System/Library/Frameworks",
+            ],
         )
+}
+
+#[test]
+fn root_and_framework_paths(rt: HostRuntime) -> Result<(), Fail> {
+    let disk = Disk {
+        directory: "/real/sdk/F",
+        link: "/sdk",
+        target: "/real/sdk",
+    };
+    let line = "-L/old -F/F -F/G -Frelative -syslibroot /other -syslibroot /sdk -L/new";
+    assert!(rt; gives(rt.alloc(), line, disk, has_canonical_root)?);
+    assert!(rt;
+        gives(
+            rt.alloc(),
+            "-syslibroot /",
+            disk,
+            |args| are(args.lib_search_path(), &["/usr/lib"])
+        )?
     );
-    let slash = parse(rt.alloc(), "-syslibroot /", &mut disk)?;
-    assert!(rt; are(slash.lib_search_path(), &["/usr/lib"]));
     Ok(())
 }
 
 #[test]
-fn first_word_at_fault(rt: HostRuntime) -> Result<(), Fail> {
+fn missing_values(rt: HostRuntime) {
     let rows = [
-        ("a.o -o", ArgsFault::MissingValue { word: 1 }),
-        ("-install_name", ArgsFault::MissingValue { word: 0 }),
-        ("-e", ArgsFault::MissingValue { word: 0 }),
-        ("-lto_library", ArgsFault::MissingValue { word: 0 }),
-        ("-output", ArgsFault::MissingValue { word: 0 }),
-        (
-            "-exported_symbols_list",
-            ArgsFault::MissingValue { word: 0 },
-        ),
-        ("-rpath", ArgsFault::MissingValue { word: 0 }),
-        ("-syslibroot", ArgsFault::MissingValue { word: 0 }),
-        ("-F", ArgsFault::MissingValue { word: 0 }),
-        ("-L", ArgsFault::MissingValue { word: 0 }),
-        ("-l", ArgsFault::MissingValue { word: 0 }),
-        ("-framework", ArgsFault::MissingValue { word: 0 }),
-        ("-arch", ArgsFault::MissingValue { word: 0 }),
-        ("-mllvm", ArgsFault::MissingValue { word: 0 }),
-        ("-uuid", ArgsFault::MissingValue { word: 0 }),
-        ("-generate", ArgsFault::MissingValue { word: 0 }),
-        (
-            "-platform_version linux 1.2.3.4",
-            ArgsFault::MissingValue { word: 0 },
-        ),
+        ("a.o -o", 1),
+        ("-install_name", 0),
+        ("-e", 0),
+        ("-lto_library", 0),
+        ("-output", 0),
+        ("-exported_symbols_list", 0),
+        ("-rpath", 0),
+        ("-syslibroot", 0),
+        ("-F", 0),
+        ("-L", 0),
+        ("-l", 0),
+        ("-framework", 0),
+        ("-arch", 0),
+        ("-mllvm", 0),
+        ("-uuid", 0),
+        ("-generate", 0),
+        ("-platform_version linux 1.2.3.4", 0),
+    ];
+    for (line, word) in rows {
+        assert_eq!(rt;
+            fault_of(rt.alloc(), line),
+            Some(ArgsFault::MissingValue { word }),
+            "{line}"
+        );
+    }
+}
+
+#[test]
+fn unsupported_words(rt: HostRuntime) {
+    let rows = [
+        ("-mllvm -x", 1),
+        ("-generate 1 in.o", 2),
+        ("-framework F -generate 1", 1),
+        ("-l:file", 0),
+        ("-l :file", 1),
+        ("@file", 0),
+        ("-sectcreate a b c", 0),
+        ("-help", 0),
+        ("-version", 0),
+    ];
+    for (line, word) in rows {
+        assert_eq!(rt;
+            fault_of(rt.alloc(), line),
+            Some(ArgsFault::Unsupported { word }),
+            "{line}"
+        );
+    }
+}
+
+#[test]
+fn unknown_options(rt: HostRuntime) {
+    let rows = [("in.o -generate 1 -x", 3), ("-dylibs", 0), ("-", 0)];
+    for (line, word) in rows {
+        assert_eq!(rt;
+            fault_of(rt.alloc(), line),
+            Some(ArgsFault::Unknown { word }),
+            "{line}"
+        );
+    }
+}
+
+#[test]
+fn bad_values(rt: HostRuntime) {
+    let rows = [
         (
             "-platform_version ios 1.2.3.4 1",
             ArgsFault::BadPlatform { word: 1 },
@@ -271,7 +395,6 @@ fn first_word_at_fault(rt: HostRuntime) -> Result<(), Fail> {
             ArgsFault::BadVersion { word: 3 },
         ),
         ("-arch x86_64", ArgsFault::BadArch { word: 1 }),
-        ("-mllvm -x", ArgsFault::Unsupported { word: 1 }),
         (
             "-uuid 0011223344556677889900112233445",
             ArgsFault::BadUuid { word: 1 },
@@ -283,42 +406,25 @@ fn first_word_at_fault(rt: HostRuntime) -> Result<(), Fail> {
         ("-generate 0", ArgsFault::BadNumber { word: 1 }),
         ("-generate 10001", ArgsFault::BadNumber { word: 1 }),
         ("-generate +1", ArgsFault::BadNumber { word: 1 }),
-        ("-generate 1 in.o", ArgsFault::Unsupported { word: 2 }),
-        (
-            "-framework F -generate 1",
-            ArgsFault::Unsupported { word: 1 },
-        ),
-        ("in.o -generate 1 -x", ArgsFault::Unknown { word: 3 }),
-        ("-l:file", ArgsFault::Unsupported { word: 0 }),
-        ("-l :file", ArgsFault::Unsupported { word: 1 }),
-        ("@file", ArgsFault::Unsupported { word: 0 }),
-        ("-sectcreate a b c", ArgsFault::Unsupported { word: 0 }),
-        ("-help", ArgsFault::Unsupported { word: 0 }),
-        ("-version", ArgsFault::Unsupported { word: 0 }),
-        ("-dylibs", ArgsFault::Unknown { word: 0 }),
-        ("-", ArgsFault::Unknown { word: 0 }),
     ];
     for (line, fault) in rows {
-        assert_eq!(rt;
-            parse(rt.alloc(), line, &mut EMPTY_DISK).err(),
-            Some(fault),
-            "{line}"
-        );
+        assert_eq!(rt; fault_of(rt.alloc(), line), Some(fault), "{line}");
     }
-    Ok(())
+}
+
+// Whether a refused line leaves the fields as they were.
+fn stays_fresh(alloc: Global) -> Result<bool, AllocError> {
+    let mut words = Vec::new(alloc);
+    words.push(String::from_str(alloc, "-dylib")?)?;
+    words.push(String::from_str(alloc, "-what")?)?;
+    let mut args = MachOArgs::new(alloc)?;
+    let refused = args.parse(&words, &mut EMPTY_DISK).is_err();
+    Ok(refused && !args.dylib && args.framework_search_path.is_empty())
 }
 
 #[test]
 fn fields_stay_after_a_fault(rt: HostRuntime) -> Result<(), Fail> {
-    let alloc = rt.alloc();
-    let mut words = Vec::new(alloc);
-    words.push(String::from_str(alloc, "-dylib")?)?;
-    words.push(String::from_str(alloc, "-what")?)?;
-    assert_eq!(rt; words.len(), 2);
-    let mut args = MachOArgs::new(alloc)?;
-    let answer = args.parse(&words, &mut EMPTY_DISK);
-    assert_eq!(rt; answer, Err(ArgsFault::Unknown { word: 1 }));
-    assert!(rt; !args.dylib && args.framework_search_path.is_empty());
+    assert!(rt; stays_fresh(rt.alloc())?);
     Ok(())
 }
 

@@ -11,16 +11,21 @@ returns-then-not-is_digits-clause-found c =
 pub returns-in_default-clause-found : goal.returns-in_default-clause-found
 returns-in_default-clause-found c =
     let small : c.args.most < 2 ^ 32 = omega arith in
-    sym (number-parsed {E = Unit {0}} c.args.most c.args.text.now (Err tt) small (sym c.is_digits.ensures ∙ c.if-not-is_digits.false) c.in_default.ensures.value.0)
+    let digits = sym c.is_digits.ensures ∙ c.if-not-is_digits.false in
+    sym (number-parsed {E = Unit {0}} c.args.most c.args.text.now (Err tt) small digits c.in_default.ensures.value.0)
 
 pub returns-then-number-most-clause-found : goal.returns-then-number-most-clause-found
 returns-then-number-most-clause-found c =
     let small : c.args.most < 2 ^ 32 = omega arith in
-    let parsed = number-parsed {E = Unit {0}} c.args.most c.args.text.now (Ok c.in-Ok.number) small (sym c.is_digits.ensures ∙ c.if-not-is_digits.false) c.in-Ok.ensures.value.0 in
+    let digits = sym c.is_digits.ensures ∙ c.if-not-is_digits.false in
+    let read = Ok c.in-Ok.number in
+    let parsed = number-parsed {E = Unit {0}} c.args.most c.args.text.now read small digits c.in-Ok.ensures.value.0 in
     grind (arith, nat_tests)
 
 pub returns-else-number-most-clause-found : goal.returns-else-number-most-clause-found
 returns-else-number-most-clause-found c =
     let small : c.args.most < 2 ^ 32 = omega arith in
-    let parsed = number-parsed {E = Unit {0}} c.args.most c.args.text.now (Ok c.in-Ok.number) small (sym c.is_digits.ensures ∙ c.if-not-is_digits.false) c.in-Ok.ensures.value.0 in
+    let digits = sym c.is_digits.ensures ∙ c.if-not-is_digits.false in
+    let read = Ok c.in-Ok.number in
+    let parsed = number-parsed {E = Unit {0}} c.args.most c.args.text.now read small digits c.in-Ok.ensures.value.0 in
     grind (arith, nat_tests)

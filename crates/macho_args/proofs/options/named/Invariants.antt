@@ -7,4 +7,5 @@ use Rattle.macho_args.proofs.options.named.Given as goal
 
 abbrev pub invariant-loop-row : goal.invariant-loop-row
 invariant-loop-row l =
-    lookup (λ name. bytes_eq name l.word) (map plain_row (drop l.row-index l.rows)) ≡ lookup (λ name. bytes_eq name l.word) (map plain_row l.rows)
+    lookup (λ name. bytes_eq name l.word) (map plain_row (drop l.row-index l.rows))
+    ≡ lookup (λ name. bytes_eq name l.word) (map plain_row l.rows)

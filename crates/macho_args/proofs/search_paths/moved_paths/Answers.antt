@@ -6,10 +6,15 @@ use Rattle.macho_args.proofs.search_paths.moved_paths.Goals as goal
 pub loop-path-preserved : goal.loop-path-preserved
 loop-path-preserved g c =
     let D = g.D.Paths in
-    let moved = moved-later D.directories D.canonical_paths D.holds D.faults D.write_faults c.args.paths.now c.loop-path.paths _ _ _ c.loop-path.invariant.outside c.in_ok-moved_path.ensures.moved in
+    let known = D.directories c.args.paths.now in
+    let before = c.loop-path.invariant in
+    let later = moved-later D.directories D.canonical_paths D.holds D.faults D.write_faults c.args.paths.now c.loop-path.paths in
+    let moved = rw (c.as_str.ensures.value) at (later _ _ _ before.outside c.in_ok-moved_path.ensures.moved) in
+    let more = moved-more known c.args.root.now c.args.old.now c.loop-path.new.items c.loop-path.path-index in
+    let keeps = keeps-twice D.directories D.canonical_paths D.holds D.faults D.write_faults c.args.paths.now c.loop-path.paths in
     record {
       each =
-          rw (c.in_ok-push.ensures.items) (moved-more (D.directories c.args.paths.now) c.args.root.now c.args.old.now c.loop-path.new.items c.loop-path.path-index c.path-item.result c.in_ok-moved_path.field-0
-          (omega arith) c.path-item.is c.loop-path.invariant.each (rw (c.as_str.ensures.value) at moved));
-      outside = keeps-twice D.directories D.canonical_paths D.holds D.faults D.write_faults c.args.paths.now c.loop-path.paths c.moved_path.new.paths c.loop-path.invariant.outside c.moved_path.ensures.outside;
+          rw (c.in_ok-push.ensures.items)
+          (more c.path-item.result c.in_ok-moved_path.field-0 (omega arith) c.path-item.is before.each moved);
+      outside = keeps c.moved_path.new.paths before.outside c.moved_path.ensures.outside;
     }

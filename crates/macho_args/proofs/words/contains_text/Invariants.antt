@@ -7,4 +7,5 @@ use Rattle.macho_args.proofs.words.contains_text.Given as goal
 
 abbrev pub invariant-loop-one : goal.invariant-loop-one
 invariant-loop-one l =
-    list_any (λ one. bytes_eq one l.text) (map string_bytes (drop l.one-index l.texts)) ≡ list_any (λ one. bytes_eq one l.text) (map string_bytes l.texts)
+    list_any (λ one. bytes_eq one l.text) (map string_bytes (drop l.one-index l.texts))
+    ≡ list_any (λ one. bytes_eq one l.text) (map string_bytes l.texts)

@@ -19,6 +19,8 @@ returns-clause-done g c =
     let kept = settings_of c.in_ok-args.args in
     let said = settings_of c.settle_root.new.self in
     let args = settings_of c.move_frameworks.new.self in
-    let follows = subst (λ (known : Option Directories). FollowsRoot known said.sysroot said args) c.settle_root.ensures.outside.same_directories c.in_ok-move_frameworks.ensures.done in
+    let same = c.settle_root.ensures.outside.same_directories in
+    let below = λ (known : Option Directories). FollowsRoot known said.sysroot said args in
+    let follows = subst below same c.in_ok-move_frameworks.ensures.done in
     words-parsed (D.canonical_paths c.args.paths.now) (texts_of c.args.words.now) kept said c.in_ok-args.ensures.done
     (D.directories c.args.paths.now) args c.in_ok-settle_root.ensures.done follows

@@ -8,5 +8,6 @@ returns-in-Some-rest-2 c =
     let first = rw c.in-Some.is at c.first_part.ensures in
     let second = rw c.in-Some-rest.is at c.first_part-2.ensures in
     let third = rw c.in-Some-rest-2.is at c.first_part-3.ensures in
-    version-four c.args.text.now c.first_part.result.0.now c.first_part-2.result.0.now c.first_part-3.result.0.now c.in-Some-rest-2._fourth.now
+    version-four c.args.text.now c.first_part.result.0.now c.first_part-2.result.0.now c.first_part-3.result.0.now
+    c.in-Some-rest-2._fourth.now
     (rw (first, second, third) refl)
