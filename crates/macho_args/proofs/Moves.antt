@@ -1,0 +1,61 @@
+-- What becomes of framework paths, one after another.
+--
+-- A path that doesn't begin with `/` stays, whatever is a directory. For the list, one more path and what
+-- becomes of it join what is known of those before; the file system tells the same at each turn.
+use Rattle.std.proofs.Common.{◌≡◌, ℕ, ◌+◌, ◌<◌, Bool, true, false, List, [], ◌∷◌, ◌++◌, length, map, take, drop, get_or, cond, Option, Some, None, String, refl, ◌∙◌, nat_eq}
+use Rattle.std.specs.List.{AllZip, starts_with}
+use Rattle.std.specs.String.{string_bytes}
+use Rattle.std.proofs.lemmas.List.{map_more, map-append}
+use Rattle.std.proofs.lemmas.List.Elements.{AllZip-push}
+use Rattle.macho_args.specs.SearchPaths.{IsMoved}
+use Rattle.macho_args.specs.Effects.{joined}
+use Rattle.macho_args.specs.Store.{CanonicalPaths, Directories, IsToldDirectory, KeepsOutside, Store}
+
+-- there is an answer that may be given
+some_answer : (known : Option Directories) (path : List ℕ) → (answer : Bool) × IsToldDirectory known path answer
+some_answer (Some known) path = (_, refl)
+some_answer None path = (false, tt)
+
+no_front : (b : Bool) (x : List ℕ) → ◌≡◌ {A = Option (List ℕ)} None (cond b (Some x) None) → b ≡ false
+no_front true x e = cc
+no_front false x e = refl
+
+-- a path that doesn't begin with `/` stays
+pub moved-relative : (known : Option Directories) (root path new rest : List ℕ)
+    → ◌≡◌ {A = Option (List ℕ)} None (cond (starts_with nat_eq path (47 ∷ [])) (Some rest) None)
+    → new ≡ path → IsMoved known root path new
+moved-relative known root path new rest none is =
+    let answer = some_answer known (joined root (drop 1 path)) in
+    let relative = no_front (starts_with nat_eq path (47 ∷ [])) rest none in
+    record { is_directory = answer.0; told = answer.1; is = rw relative is }
+
+-- one path more
+pub moved-more : {A B : Type 0} (known : Option Directories) (root : List ℕ) (old : List (String A)) (new : List (String B))
+    (i : ℕ) (path : String A) (next : String B)
+    → i < length old → path ≡ get_or old i path → AllZip (IsMoved known root) (map string_bytes (take i old)) (map string_bytes new)
+    → IsMoved known root (string_bytes path) (string_bytes next)
+    → AllZip (IsMoved known root) (map string_bytes (take (i + 1) old)) (map string_bytes (new ++ next ∷ []))
+moved-more known root old new i path next within is each one =
+    rw (map_more string_bytes old i path within, ← is, map-append string_bytes new (next ∷ []))
+    (AllZip-push (IsMoved known root) (map string_bytes (take i old)) (map string_bytes new)
+    (string_bytes path) (string_bytes next) each one)
+
+-- what is told at a later time is what was told before
+module _ {D : Type 0} (directories : D → Option Directories) (canonical_paths : D → Option CanonicalPaths)
+    (holds : D → Option Store) (faults write_faults : D → ℕ) where
+  abbrev Keeps : D → D → Type 0
+  Keeps old new = KeepsOutside directories canonical_paths holds faults write_faults old new
+
+  pub keeps-twice : (a b c : D) → Keeps a b → Keeps b c → Keeps a c
+  keeps-twice a b c first second =
+      record {
+        same_directories = second.same_directories ∙ first.same_directories;
+        same_canonical_paths = second.same_canonical_paths ∙ first.same_canonical_paths;
+        same_files = second.same_files ∙ first.same_files;
+        same_faults = second.same_faults ∙ first.same_faults;
+        same_write_faults = second.same_write_faults ∙ first.same_write_faults;
+      }
+
+  pub moved-later : (a b : D) (root path new : List ℕ) → Keeps a b
+      → IsMoved (directories b) root path new → IsMoved (directories a) root path new
+  moved-later a b root path new keeps moves = rw keeps.same_directories at moves

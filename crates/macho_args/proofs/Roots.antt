@@ -1,0 +1,226 @@
+-- A root that is kept as it is given, and settled after the words, says what the words say.
+--
+-- Let `finish` put a root in the place of the path that is kept, and its library path before the others. Each
+-- option commutes with it: most change neither field, a library path comes last in both, and `-syslibroot`
+-- drops the same library paths in both. So by induction on the words the fold with canonical paths is the fold
+-- that keeps paths, finished at the end. The root for the last path that was kept is all that it asks, so any
+-- answer to one question gives a choice of roots for all paths.
+use Rattle.std.proofs.Common.{◌≡◌, ℕ, zero, suc, ◌+◌, List, [], ◌∷◌, ◌++◌, Bool, true, false, cond, refl, ap, sym, ◌∙◌, drop}
+use Rattle.std.proofs.Common.{Option, Some, None, Result, Ok, Err, codes, nat_eq, ◌⊎◌, inl, inr}
+use Rattle.std.specs.List.{starts_with}
+use Rattle.std.specs.Option.{ok_or, option_map, unwrap_or}
+use Rattle.std.specs.Str.{bytes_eq}
+use Rattle.macho_args.specs.declared.fault.ArgsFault.{ArgsFault}
+use Rattle.macho_args.specs.declared.options.LinkOption.{LinkOption}
+use Rattle.macho_args.specs.declared.options.LinkOption.TheVariants.{Sets, Takes, PlatformVersion, Ignored, Refused}
+use Rattle.macho_args.specs.declared.options.Flag.{Flag}
+use Rattle.macho_args.specs.declared.options.Flag.TheVariants.{Dylib, DeadStripDylibs, HeaderpadMaxInstallNames, Map}
+use Rattle.macho_args.specs.declared.options.Valued.{Valued}
+use Rattle.macho_args.specs.declared.options.Valued.TheVariants.{Output, Entry, InstallName, LtoLibrary, ExportedSymbolsList}
+use Rattle.macho_args.specs.declared.options.Valued.TheVariants.{Rpath, LibraryPath, FrameworkPath, Root, Library, Framework}
+use Rattle.macho_args.specs.declared.options.Valued.TheVariants.{Arch, Mllvm, Uuid, Generate}
+use Rattle.macho_args.specs.declared.fault.ArgsFault.TheVariants.{Unknown, Unsupported, BadVersion, BadPlatform, BadUuid, BadNumber, OutOfMemory}
+use Rattle.macho_args.specs.Effects.{HasCause, uuid_of, count_of, with_versions}
+use Rattle.macho_args.specs.Effects.{◌>>=◌, at_root, joined, with_flag, with_value, with_platform}
+use Rattle.std.specs.FinMap.{get}
+use Rattle.macho_args.specs.Store.{CanonicalPaths, Directories}
+use Rattle.macho_args.specs.SearchPaths.{FollowsRoot, IsParsed, IsRefused, IsRootFor}
+use Rattle.macho_args.specs.KeptRoot.{keep_root, settled, SettlesRoot}
+use Rattle.macho_args.specs.Options.{option_named, joined_option}
+use Rattle.macho_args.specs.Settings.{Settings, Input, fresh}
+use Rattle.macho_args.specs.Version.{version_of}
+use Rattle.macho_args.specs.Words.{Read, reading, read_from, read_option, read_word, read_plain, read_unnamed, read_all, args_of, without_inputs, taking}
+
+module _ (root_of : List ℕ → List ℕ) where
+  -- the library paths below the root
+  abbrev below : Option (List ℕ) → List (List ℕ) → List (List ℕ)
+  below (Some path) paths = joined (root_of path) (codes "usr/lib") ∷ paths
+  below None paths = paths
+
+  -- the root is settled
+  abbrev pub finish : Settings → Settings
+  finish s = record s { sysroot = option_map root_of s.sysroot; lib_search_path = below s.sysroot s.lib_search_path }
+
+  -- the same of a meaning
+  abbrev finished : Result Settings ArgsFault → Result Settings ArgsFault
+  finished meaning = meaning >>= λ s. Ok (finish s)
+
+  below-push : (root : Option (List ℕ)) (paths : List (List ℕ)) (path : List ℕ)
+      → below root paths ++ path ∷ [] ≡ below root (paths ++ path ∷ [])
+  below-push (Some root) paths path = refl
+  below-push None paths path = refl
+
+  -- a choice between two meanings
+  finished-cond : (b : Bool) (m n : Result Settings ArgsFault) → cond b (finished m) (finished n) ≡ finished (cond b m n)
+  finished-cond true m n = refl
+  finished-cond false m n = refl
+
+  -- a value that may be missing
+  finished-or : {A : Type 0} (o : Option A) (fault : ArgsFault) (f : A → Result Settings ArgsFault)
+      → (ok_or o fault >>= λ a. finished (f a)) ≡ finished (ok_or o fault >>= f)
+  finished-or (Some a) fault f = refl
+  finished-or None fault f = refl
+
+  value-finish : (option : Valued) (i : ℕ) (v : List ℕ) (s : Settings)
+      → with_value (at_root root_of) option i v (finish s) ≡ finished (with_value keep_root option i v s)
+  unfolding with_value
+  value-finish Output i v s = refl
+  value-finish Entry i v s = refl
+  value-finish InstallName i v s = refl
+  value-finish LtoLibrary i v s = refl
+  value-finish ExportedSymbolsList i v s = refl
+  value-finish Rpath i v s = refl
+  value-finish LibraryPath i v s =
+      ap (λ paths. Ok (record (finish s) { lib_search_path = paths })) (below-push s.sysroot s.lib_search_path v)
+  value-finish FrameworkPath i v s = refl
+  value-finish Root i v s = refl
+  value-finish Library i v s = finished-cond _ _ _
+  value-finish Framework i v s = refl
+  value-finish Arch i v s = finished-cond _ _ _
+  value-finish Mllvm i v s = finished-cond _ _ _
+  value-finish Uuid i v s = finished-or (uuid_of v) (BadUuid i) (λ bytes. Ok (record s { uuid = Some bytes }))
+  value-finish Generate i v s = finished-or (count_of v) (BadNumber i) (λ n. Ok (record s { generate = Some n }))
+
+  platform-finish : (i : ℕ) (p m k : List ℕ) (s : Settings) → with_platform i p m k (finish s) ≡ finished (with_platform i p m k s)
+  unfolding with_platform
+  platform-finish i p m k s =
+      ap (λ meaning. cond (bytes_eq p (codes "macos")) meaning (Err (BadPlatform (i + 1))))
+      (ap (λ f. ok_or (version_of m) (BadVersion (i + 2)) >>= f)
+      (λ j lowest. finished-or (version_of k) (BadVersion (i + 3)) (λ built. Ok (with_versions p lowest built s)) j)
+      ∙ finished-or (version_of m) (BadVersion (i + 2))
+      (λ lowest. ok_or (version_of k) (BadVersion (i + 3)) >>= λ built. Ok (with_versions p lowest built s)))
+      ∙ finished-cond (bytes_eq p (codes "macos")) _ (Err (BadPlatform (i + 1)))
+
+  plain-finish : (i : ℕ) (word : List ℕ) (s : Settings) → read_plain i word (finish s) ≡ finished (read_plain i word s)
+  plain-finish i word s =
+      ap (cond (starts_with nat_eq word (codes "-")) (Err (Unknown i)))
+      (finished-cond (starts_with nat_eq word (codes "@")) (Err (Unsupported i)) _)
+      ∙ finished-cond (starts_with nat_eq word (codes "-")) (Err (Unknown i)) _
+
+  unnamed-finish : (option : Option Valued) (i : ℕ) (word : List ℕ) (s : Settings)
+      → read_unnamed (at_root root_of) option i word (finish s) ≡ finished (read_unnamed keep_root option i word s)
+  unnamed-finish (Some option) i word s = value-finish option i (drop 2 word) s
+  unnamed-finish None i word s = plain-finish i word s
+
+  -- what was read, where the root is settled
+  abbrev finished-read : Result Read ArgsFault → Result Read ArgsFault
+  finished-read meaning = meaning >>= λ read. Ok (reading read.values (finish read.settings))
+
+  taking-finish : (values : ℕ) (m n : Result Settings ArgsFault) → m ≡ finished n
+      → taking values m ≡ finished-read (taking values n)
+  taking-finish values m (Ok s) is = rw is refl
+  taking-finish values m (Err fault) is = rw is refl
+
+  flag-finish : (flag : Flag) (s : Settings) → with_flag flag (finish s) ≡ finish (with_flag flag s)
+  flag-finish Dylib s = refl
+  flag-finish DeadStripDylibs s = refl
+  flag-finish HeaderpadMaxInstallNames s = refl
+  flag-finish Map s = refl
+
+  option-finish : (option : Option LinkOption) (i : ℕ) (word : List ℕ) (behind : List (List ℕ)) (s : Settings)
+      → read_option (at_root root_of) option i word behind (finish s) ≡ finished-read (read_option keep_root option i word behind s)
+  option-finish (Some (Sets flag)) i word behind s = ap (λ t. Ok (reading 0 t)) (flag-finish flag s)
+  option-finish (Some (Takes option)) i word [] s = refl
+  option-finish (Some (Takes option)) i word (v ∷ behind) s = taking-finish 1 _ _ (value-finish option (i + 1) v s)
+  option-finish (Some PlatformVersion) i word [] s = refl
+  option-finish (Some PlatformVersion) i word (p ∷ []) s = refl
+  option-finish (Some PlatformVersion) i word (p ∷ m ∷ []) s = refl
+  option-finish (Some PlatformVersion) i word (p ∷ m ∷ k ∷ behind) s = taking-finish 3 _ _ (platform-finish i p m k s)
+  option-finish (Some Ignored) i word behind s = refl
+  option-finish (Some Refused) i word behind s = refl
+  option-finish None i word behind s = taking-finish 0 _ _ (unnamed-finish (joined_option word) i word s)
+
+  -- where the next words commute, one more word does
+  then-finish : (m n : Result Read ArgsFault) (f g : Read → Result Settings ArgsFault)
+      → m ≡ finished-read n → ((read : Read) → f (reading read.values (finish read.settings)) ≡ finished (g read))
+      → (m >>= f) ≡ finished (n >>= g)
+  then-finish m (Ok read) f g is next = rw is (next read)
+  then-finish m (Err fault) f g is next = rw is refl
+
+  from-finish : (values i : ℕ) (words : List (List ℕ)) (s : Settings)
+      → read_from (at_root root_of) values i words (finish s) ≡ finished (read_from keep_root values i words s)
+  unfolding read_from read_word
+  from-finish values i [] s = refl
+  from-finish zero i (word ∷ behind) s =
+      then-finish _ _ _ _ (option-finish (option_named word) i word behind s)
+      (λ read. from-finish read.values (i + 1) behind read.settings)
+  from-finish (suc values) i (word ∷ behind) s = from-finish values (i + 1) behind s
+
+  inputs-finish : (count : Option ℕ) (inputs : List Input) (s : Settings)
+      → without_inputs count inputs (finish s) ≡ finished (without_inputs count inputs s)
+  inputs-finish (Some count) (input ∷ inputs) s = refl
+  inputs-finish (Some count) [] s = refl
+  inputs-finish None inputs s = refl
+
+  checked-finish : (m n : Result Settings ArgsFault) → m ≡ finished n
+      → (m >>= λ s. without_inputs s.generate s.inputs s) ≡ finished (n >>= λ s. without_inputs s.generate s.inputs s)
+  checked-finish m (Ok s) is = rw is (inputs-finish s.generate s.inputs s)
+  checked-finish m (Err fault) is = rw is refl
+
+  pub all-finish : (words : List (List ℕ)) → args_of root_of words ≡ finished (read_all keep_root words)
+  unfolding read_all
+  all-finish words = checked-finish _ _ (from-finish 0 0 words fresh)
+
+-- A choice of roots: the one that was answered for a path, and for each other path some root that may be told.
+record Roots (known : Option CanonicalPaths) (path root : List ℕ) : Type 0 where
+  root_of : List ℕ → List ℕ
+  each : (other : List ℕ) → IsRootFor known other (root_of other)
+  here : root ≡ root_of path
+
+-- some root may be told for a path
+some_root : (known : Option CanonicalPaths) (path : List ℕ) → (root : List ℕ) × IsRootFor known path root
+some_root (Some known) path = (_, record { canonical = get known path; told = refl; is = refl })
+some_root None path = (path, record { canonical = None; told = tt; is = refl })
+
+roots : (known : Option CanonicalPaths) (path root : List ℕ) → IsRootFor known path root → Roots known path root
+roots (Some known) path root found =
+    record {
+      root_of = λ other. unwrap_or (get known other) other;
+      each = λ other. record { canonical = get known other; told = refl; is = refl };
+      here = found.is ∙ ap (λ answer. unwrap_or answer path) found.told;
+    }
+roots None path root found =
+    record { root_of = λ other. root; each = λ other. record { canonical = Some root; told = tt; is = refl }; here = refl }
+
+-- The words are refused, whatever the roots are.
+pub words-refused : (words : List (List ℕ)) (fault : ArgsFault) → HasCause (read_all keep_root words) fault
+    → (fault ≡ OutOfMemory) ⊎ IsRefused words fault
+words-refused words fault (inl memory) = inl memory
+words-refused words fault (inr why) = inr (record { told = λ root_of. all-finish root_of words ∙ rw why refl })
+
+-- what the words say, for some roots that may be told
+record Said (known : Option CanonicalPaths) (words : List (List ℕ)) (said : Settings) : Type 0 where
+  root_of : List ℕ → List ℕ
+  each : (path : List ℕ) → IsRootFor known path (root_of path)
+  is : args_of root_of words ≡ Ok said
+
+module _ (known : Option CanonicalPaths) (words : List (List ℕ)) (kept said : Settings)
+    (read : read_all keep_root words ≡ Ok kept) where
+  said_as : (root_of : List ℕ → List ℕ) → finish root_of kept ≡ said → args_of root_of words ≡ Ok said
+  said_as root_of is = all-finish root_of words ∙ (rw read refl ∙ ap Ok is)
+
+  -- without a root the fields stay
+  finish-none : (root_of : List ℕ → List ℕ) → kept.sysroot ≡ None → finish root_of kept ≡ kept
+  finish-none root_of none =
+      ap (λ root. record kept { sysroot = option_map root_of root; lib_search_path = below root_of root kept.lib_search_path }) none
+      ∙ ap (λ root. record kept { sysroot = root }) (sym none)
+
+  finish-some : (root_of : List ℕ → List ℕ) (path : List ℕ) → kept.sysroot ≡ Some path
+      → finish root_of kept ≡ settled (root_of path) kept
+  finish-some root_of path some = rw some refl
+
+  said_by_settling : (root : Option (List ℕ)) → kept.sysroot ≡ root → SettlesRoot known root kept said → Said known words said
+  said_by_settling None none settles =
+      let any = roots known [] (some_root known []).0 (some_root known []).1 in
+      record { root_of = any.root_of; each = any.each; is = said_as any.root_of (finish-none any.root_of none ∙ sym settles) }
+  said_by_settling (Some path) some settles =
+      let chosen = roots known path settles.root settles.root_for in
+      let is_settled = finish-some chosen.root_of path some ∙ (ap (λ root. settled root kept) (sym chosen.here) ∙ sym settles.is) in
+      record { root_of = chosen.root_of; each = chosen.each; is = said_as chosen.root_of is_settled }
+
+  -- What was kept and then settled is what the words say, and the rule on framework paths follows.
+  pub words-parsed : (directories : Option Directories) (args : Settings) → SettlesRoot known kept.sysroot kept said
+      → FollowsRoot directories said.sysroot said args → IsParsed directories known words args
+  words-parsed directories args settles follows =
+      let one = said_by_settling kept.sysroot refl settles in
+      record { root_of = one.root_of; roots = one.each; said = said; read = one.is; follows = follows }

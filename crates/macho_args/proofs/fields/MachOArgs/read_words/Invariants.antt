@@ -1,0 +1,11 @@
+-- What is left of the words, read from the fields so far, is what all words say.
+use Rattle.std.proofs.Common.{◌≡◌, drop}
+use Rattle.macho_args.specs.KeptRoot.{keep_root}
+use Rattle.macho_args.specs.Settings.{settings_of}
+use Rattle.macho_args.specs.Words.{read_from, texts_of}
+use Rattle.macho_args.proofs.fields.MachOArgs.read_words.Given as goal
+
+abbrev pub invariant-loop-i : goal.invariant-loop-i
+invariant-loop-i l =
+    read_from keep_root l.values l.i (texts_of (drop l.i l.words)) (settings_of l.self)
+    ≡ read_from keep_root 0 0 (texts_of l.words) (settings_of l.fn.self)

@@ -1,0 +1,96 @@
+-- What each option does to the settings, and which values it takes.
+use Rattle.std.specs.Prelude.{◌≡◌, ℕ, ◌+◌, ◌==◌, List, [], ◌∷◌, ◌++◌, codes, true, ◌⊎◌, nat_eq, if◌then◌else◌}
+use Rattle.std.specs.Prelude.{Option, Some, None, option_and_then, Result, Ok, Err}
+use Rattle.std.specs.List.{starts_with, ends_with, list_any}
+use Rattle.std.specs.Option.{ok_or}
+use Rattle.std.specs.Result.{result_ok}
+use Rattle.std.specs.Str.{bytes_eq}
+use Rattle.hex.specs.Hex.{decode_sized}
+use Rattle.macho_args.specs.declared.fault.ArgsFault.{ArgsFault}
+use Rattle.macho_args.specs.declared.fault.ArgsFault.TheVariants.{Unsupported, OutOfMemory}
+use Rattle.macho_args.specs.declared.fault.ArgsFault.TheVariants.{BadVersion, BadPlatform, BadArch, BadUuid, BadNumber}
+use Rattle.macho_args.specs.declared.options.Flag.{Flag}
+use Rattle.macho_args.specs.declared.options.Flag.TheVariants.{Dylib, DeadStripDylibs, HeaderpadMaxInstallNames, Map}
+use Rattle.macho_args.specs.declared.options.Valued.{Valued}
+use Rattle.macho_args.specs.declared.options.Valued.TheVariants.{Output, Entry, InstallName, LtoLibrary, ExportedSymbolsList}
+use Rattle.macho_args.specs.declared.options.Valued.TheVariants.{Rpath, LibraryPath, FrameworkPath, Root, Library, Framework}
+use Rattle.macho_args.specs.declared.options.Valued.TheVariants.{Arch, Mllvm, Uuid, Generate}
+use Rattle.macho_args.specs.Numbers.{number_up_to}
+use Rattle.macho_args.specs.Settings.{Settings, library, framework}
+use Rattle.macho_args.specs.Version.{version_of}
+
+-- `r >>= f` is `?` of Rust: what f makes of the value, or the fault
+infixl 10 ◌>>=◌
+abbrev pub ◌>>=◌ : {A B : Type 0} → Result A ArgsFault → (A → Result B ArgsFault) → Result B ArgsFault
+Ok x >>= f = f x
+Err fault >>= f = Err fault
+
+-- Why a step was refused: it is the fault that its meaning has, or memory ran out.
+abbrev pub HasCause : {A : Type 0} → Result A ArgsFault → ArgsFault → Type 0
+HasCause meaning fault = (fault ≡ OutOfMemory) ⊎ (meaning ≡ Err fault)
+
+-- a flag is set
+abbrev pub with_flag : Flag → Settings → Settings
+with_flag Dylib s = record s { dylib = true }
+with_flag DeadStripDylibs s = record s { dead_strip_dylibs = true }
+with_flag HeaderpadMaxInstallNames s = record s { headerpad_max_install_names = true }
+with_flag Map s = record s { map_lines = true }
+
+-- a run path is kept once
+abbrev pub with_once : List ℕ → List (List ℕ) → List (List ℕ)
+with_once path paths = if list_any (λ old. bytes_eq old path) paths then paths else paths ++ path ∷ []
+
+-- 16 bytes in 32 hexadecimal digits
+abbrev pub uuid_of : List ℕ → Option (List ℕ)
+uuid_of text = result_ok (decode_sized text 16)
+
+-- how many objects are made: 1 to 10,000
+abbrev pub count_of : List ℕ → Option ℕ
+count_of text = option_and_then (λ n. if n == 0 then None else Some n) (number_up_to 10000 text)
+
+-- a path below a root: one `/` stands between, and none is added where the root ends with it
+unfoldable pub joined : List ℕ → List ℕ → List ℕ
+joined root path = if ends_with nat_eq root (codes "/") then root ++ path else root ++ (codes "/" ++ path)
+
+-- The root is set, and the library paths become its `usr/lib` alone. `root_of` is the canonical path of a
+-- path, else the path itself.
+abbrev pub at_root : (List ℕ → List ℕ) → List ℕ → Settings → Settings
+at_root root_of path s =
+    let root = root_of path in
+    record s { sysroot = Some root; lib_search_path = joined root (codes "usr/lib") ∷ [] }
+
+-- The value of an option, which stands in the word i. `set_root` is what the path of `-syslibroot` does.
+unfoldable pub with_value : (List ℕ → Settings → Settings) → Valued → ℕ → List ℕ → Settings → Result Settings ArgsFault
+with_value set_root Output i v s = Ok (record s { output = v })
+with_value set_root Entry i v s = Ok (record s { entry = v })
+with_value set_root InstallName i v s = Ok (record s { install_name = Some v })
+with_value set_root LtoLibrary i v s = Ok (record s { plugin_path = Some v })
+with_value set_root ExportedSymbolsList i v s = Ok (record s { export_list_paths = s.export_list_paths ++ (i, v) ∷ [] })
+with_value set_root Rpath i v s = Ok (record s { rpaths = with_once v s.rpaths })
+with_value set_root LibraryPath i v s = Ok (record s { lib_search_path = s.lib_search_path ++ v ∷ [] })
+with_value set_root FrameworkPath i v s = Ok (record s { framework_search_path = s.framework_search_path ++ v ∷ [] })
+with_value set_root Root i v s = Ok (set_root v s)
+with_value set_root Library i v s =
+    if starts_with nat_eq v (codes ":") then Err (Unsupported i)
+    else Ok (record s { inputs = s.inputs ++ library i v ∷ [] })
+with_value set_root Framework i v s = Ok (record s { inputs = s.inputs ++ framework i v ∷ [] })
+with_value set_root Arch i v s = if bytes_eq v (codes "arm64") then Ok s else Err (BadArch i)
+with_value set_root Mllvm i v s =
+    if bytes_eq v (codes "-enable-linkonceodr-outlining") then Ok s else Err (Unsupported i)
+with_value set_root Uuid i v s = ok_or (uuid_of v) (BadUuid i) >>= λ bytes. Ok (record s { uuid = Some bytes })
+with_value set_root Generate i v s = ok_or (count_of v) (BadNumber i) >>= λ n. Ok (record s { generate = Some n })
+
+-- the platform with its two versions
+abbrev pub with_versions : List ℕ → ℕ → ℕ → Settings → Settings
+with_versions platform lowest built s =
+    record s { platform_version = Some (record { platform = platform; minimum_version = lowest; sdk_version = built }) }
+
+-- The three values of `-platform_version`, which is the word i: a platform, the lowest version of the system,
+-- and the version of the SDK.
+unfoldable pub with_platform : ℕ → List ℕ → List ℕ → List ℕ → Settings → Result Settings ArgsFault
+with_platform i platform minimum sdk s =
+    if bytes_eq platform (codes "macos") then (do
+      lowest ← ok_or (version_of minimum) (BadVersion (i + 2))
+      built ← ok_or (version_of sdk) (BadVersion (i + 3))
+      Ok (with_versions platform lowest built s))
+    else Err (BadPlatform (i + 1))

@@ -1,0 +1,214 @@
+//! What each option does to the fields.
+
+ghost use Rattle.std.specs.Prelude.{◌≡◌, ◌+◌, ◌<◌, ◌^◌, ◌∷◌, ◌++◌, [], Ok, Err, OnOk, IfErr, MatchBool};
+ghost use Rattle.macho_args.specs.Effects.{uuid_of, count_of};
+
+use crate::fault::ArgsFault;
+use crate::fields::{InputSpec, MachOArgs, PlatformVersion};
+use crate::numbers::number_up_to;
+use crate::options::{Flag, Valued};
+use crate::version::SemanticVersion;
+use crate::words::{begins_with, contains_text};
+use hex::FromHex;
+use std::alloc::{AllocError, Global};
+
+/// The one architecture.
+const ARM64: &str = "arm64";
+
+/// The one platform.
+const MACOS: &str = "macos";
+
+/// The one option of LLVM that is taken. It does nothing.
+const OUTLINING: &str = "-enable-linkonceodr-outlining";
+
+/// The greatest number of objects that are made.
+const MAX_GENERATED: u32 = 10_000;
+
+impl MachOArgs {
+    ghost use Rattle.macho_args.specs.Settings.{settings_of, framework};
+    ghost use Rattle.macho_args.specs.Effects.{HasCause, with_flag, with_value, with_once, with_platform};
+    ghost use Rattle.macho_args.specs.KeptRoot.{keep_root};
+
+    /// Sets a flag.
+    pub(crate) fn set_flag(&mut self, flag: Flag)
+        ensures { settings_of self.new ≡ with_flag flag (settings_of self.old) }
+    {
+        match flag {
+            Flag::Dylib => self.dylib = true,
+            Flag::DeadStripDylibs => self.dead_strip_dylibs = true,
+            Flag::HeaderpadMaxInstallNames => self.headerpad_max_install_names = true,
+            Flag::Map => self.map = true,
+        }
+    }
+
+    /// Takes the value of an option, which stands in the word with this index.
+    #[tactic(auto, unfolding(crate::specs::Effects::with_value))]
+    pub(crate) fn set_value(
+        &mut self,
+        alloc: Global,
+        option: Valued,
+        word: u32,
+        value: &str,
+    ) -> Result<(), ArgsFault>
+        ensures done { OnOk result
+            (with_value keep_root option word value.now (settings_of self.old) ≡ Ok (settings_of self.new)) }
+        ensures why { IfErr result (HasCause (with_value keep_root option word value.now (settings_of self.old))) }
+    {
+        match option {
+            Valued::Output => self.output = String::from_str(alloc, value)?,
+            Valued::Entry => self.entry = String::from_str(alloc, value)?,
+            Valued::InstallName => self.install_name = Some(String::from_str(alloc, value)?),
+            Valued::LtoLibrary => self.plugin_path = Some(String::from_str(alloc, value)?),
+            Valued::ExportedSymbolsList => self.add_export_list(alloc, word, value)?,
+            Valued::Rpath => self.add_rpath(alloc, value)?,
+            Valued::LibraryPath => self.add_library_path(alloc, value)?,
+            Valued::FrameworkPath => self.add_framework_path(alloc, value)?,
+            Valued::Root => self.keep_root(alloc, value)?,
+            Valued::Library => self.add_library(alloc, word, value)?,
+            Valued::Framework => self.add_framework(alloc, word, value)?,
+            Valued::Arch => check(value == ARM64, ArgsFault::BadArch { word })?,
+            Valued::Mllvm => check(value == OUTLINING, ArgsFault::Unsupported { word })?,
+            Valued::Uuid => self.uuid = Some(uuid(value).ok_or(ArgsFault::BadUuid { word })?),
+            Valued::Generate => self.generate = Some(object_count(value).ok_or(
+                ArgsFault::BadNumber { word },
+            )?),
+        }
+        Ok(())
+    }
+
+    // Adds a list of exported names, by its path.
+    fn add_export_list(&mut self, alloc: Global, word: u32, path: &str) -> Result<(), AllocError>
+        ensures { OnOk result (settings_of self.new ≡ record (settings_of self.old) {
+          export_list_paths = (settings_of self.old).export_list_paths ++ (word, path.now) ∷ [];
+        }) }
+    {
+        self.export_list_paths
+            .push((word, String::from_str(alloc, path)?))?;
+        Ok(())
+    }
+
+    // Adds a run path, if it isn't there.
+    fn add_rpath(&mut self, alloc: Global, path: &str) -> Result<(), AllocError>
+        ensures { OnOk result (settings_of self.new ≡ record (settings_of self.old) {
+          rpaths = with_once path.now (settings_of self.old).rpaths;
+        }) }
+    {
+        if contains_text(&self.rpaths, path) {
+            return Ok(());
+        }
+        self.rpaths.push(String::from_str(alloc, path)?)?;
+        Ok(())
+    }
+
+    // Adds a path of libraries.
+    fn add_library_path(&mut self, alloc: Global, path: &str) -> Result<(), AllocError>
+        ensures { OnOk result (settings_of self.new ≡ record (settings_of self.old) {
+          lib_search_path = (settings_of self.old).lib_search_path ++ path.now ∷ [];
+        }) }
+    {
+        self.lib_search_path.push(String::from_str(alloc, path)?)?;
+        Ok(())
+    }
+
+    // Adds a path of frameworks.
+    fn add_framework_path(&mut self, alloc: Global, path: &str) -> Result<(), AllocError>
+        ensures { OnOk result (settings_of self.new ≡ record (settings_of self.old) {
+          framework_search_path = (settings_of self.old).framework_search_path ++ path.now ∷ [];
+        }) }
+    {
+        self.framework_search_path
+            .push(String::from_str(alloc, path)?)?;
+        Ok(())
+    }
+
+    // Keeps the path of the root as it is given, and drops the library paths before it.
+    fn keep_root(&mut self, alloc: Global, path: &str) -> Result<(), AllocError>
+        ensures { OnOk result (settings_of self.new ≡ keep_root path.now (settings_of self.old)) }
+    {
+        self.sysroot = Some(String::from_str(alloc, path)?);
+        self.lib_search_path.clear();
+        Ok(())
+    }
+
+    // Adds a library by its name. A name that begins with a colon would name a file, which isn't supported.
+    #[tactic(auto, unfolding(crate::specs::Effects::with_value))]
+    fn add_library(&mut self, alloc: Global, word: u32, name: &str) -> Result<(), ArgsFault>
+        ensures done { OnOk result
+            (with_value keep_root Valued.Library word name.now (settings_of self.old) ≡ Ok (settings_of self.new)) }
+        ensures why { IfErr result (HasCause (with_value keep_root Valued.Library word name.now (settings_of self.old))) }
+    {
+        if begins_with(name, ":") {
+            return Err(ArgsFault::Unsupported { word });
+        }
+        let name = String::from_str(alloc, name)?;
+        self.inputs.push(InputSpec::Lib { word, name })?;
+        Ok(())
+    }
+
+    // Adds a framework by its name.
+    fn add_framework(&mut self, alloc: Global, word: u32, name: &str) -> Result<(), AllocError>
+        ensures { OnOk result (settings_of self.new ≡ record (settings_of self.old) {
+          inputs = (settings_of self.old).inputs ++ framework word name.now ∷ [];
+        }) }
+    {
+        let name = String::from_str(alloc, name)?;
+        self.inputs.push(InputSpec::Framework { word, name })?;
+        Ok(())
+    }
+
+    /// Takes the three values of `-platform_version`, which is the word with this index.
+    #[tactic(auto, unfolding(crate::specs::Effects::with_platform))]
+    pub(crate) fn set_platform(
+        &mut self,
+        alloc: Global,
+        word: u32,
+        platform: &str,
+        minimum: &str,
+        sdk: &str,
+    ) -> Result<(), ArgsFault>
+        requires { word + 3 < 2 ^ 32 }
+        ensures done { OnOk result
+            (with_platform word platform.now minimum.now sdk.now (settings_of self.old) ≡ Ok (settings_of self.new)) }
+        ensures why { IfErr result
+            (HasCause (with_platform word platform.now minimum.now sdk.now (settings_of self.old))) }
+    {
+        check(platform == MACOS, ArgsFault::BadPlatform { word: word + 1 })?;
+        let Ok(minimum_version) = SemanticVersion::try_from(minimum) else {
+            return Err(ArgsFault::BadVersion { word: word + 2 });
+        };
+        let Ok(sdk_version) = SemanticVersion::try_from(sdk) else {
+            return Err(ArgsFault::BadVersion { word: word + 3 });
+        };
+        let platform = String::from_str(alloc, platform)?;
+        self.platform_version = Some(PlatformVersion {
+            platform,
+            minimum_version,
+            sdk_version,
+        });
+        Ok(())
+    }
+}
+
+// Refuses what doesn't hold.
+fn check(holds: bool, fault: ArgsFault) -> Result<(), ArgsFault>
+    ensures { MatchBool holds (result ≡ Ok tt) (result ≡ Err fault) }
+{
+    if holds { Ok(()) } else { Err(fault) }
+}
+
+// 16 bytes in 32 hexadecimal digits.
+fn uuid(text: &str) -> Option<[u8; 16]>
+    ensures { result ≡ uuid_of text.now }
+{
+    <[u8; 16] as FromHex>::from_hex(text).ok()
+}
+
+// How many objects are made.
+fn object_count(text: &str) -> Option<u32>
+    ensures { result ≡ count_of text.now }
+{
+    match number_up_to(MAX_GENERATED, text) {
+        Some(0) | None => None,
+        Some(count) => Some(count),
+    }
+}

@@ -1,0 +1,198 @@
+//! The words, read one after another.
+
+ghost use Rattle.std.specs.Prelude.{◌≡◌, ◌+◌, ◌-◌, ◌<◌, ◌^◌, length, drop};
+ghost use Rattle.std.specs.Prelude.{Ok, Err, OnOk, OnErr, IfOk, IfErr, MatchResult, ◌⊎◌};
+ghost use Rattle.macho_args.specs.declared.fault.ArgsFault.TheVariants.{OutOfMemory};
+ghost use Rattle.macho_args.specs.Effects.{HasCause};
+ghost use Rattle.macho_args.specs.KeptRoot.{keep_root};
+ghost use Rattle.macho_args.specs.Options.{joined_option};
+ghost use Rattle.macho_args.specs.SearchPaths.{IsParsed, IsRefused};
+ghost use Rattle.macho_args.specs.Settings.{settings_of, fresh};
+ghost use Rattle.macho_args.specs.Store.{KeepsOutside};
+ghost use Rattle.macho_args.specs.Words.{read_all, read_from, read_plain, read_unnamed, read_word, reading};
+ghost use Rattle.macho_args.specs.Words.{texts_of, without_inputs};
+
+use crate::fault::ArgsFault;
+use crate::fields::{InputSpec, MachOArgs};
+use crate::options::{LinkOption, Valued, option_named};
+use crate::outside::Paths;
+use crate::words::{after_prefix, begins_with};
+use std::alloc::Global;
+
+impl MachOArgs {
+    /// Reads the words of a command line, which follow the program's name. The fields become what the words
+    /// say, where the root and the framework paths follow what `paths` answers.
+    ///
+    /// A fault names the first word that breaks its option's rule. After it the fields are as they were.
+    pub fn parse<D: Paths>(&mut self, words: &[String], paths: &mut D) -> Result<(), ArgsFault>
+        requires fresh { settings_of self.old ≡ fresh }
+        requires few { length words.now < 2 ^ 32 - 1 }
+
+        // The fields are the meaning of the words.
+        ensures done { OnOk result (IsParsed (D.directories paths.old) (D.canonical_paths paths.old)
+            (texts_of words.now) (settings_of self.new)) }
+
+        // A fault is that of the words, or memory ran out.
+        ensures why { IfErr result (λ fault. (fault ≡ OutOfMemory) ⊎ IsRefused (texts_of words.now) fault) }
+        ensures kept { OnErr result (settings_of self.new ≡ settings_of self.old) }
+        ensures outside { KeepsOutside D.directories D.canonical_paths D.holds D.faults D.write_faults
+            paths.old paths.new }
+    {
+        let alloc = *self.inputs.allocator();
+        let mut args = read_args(alloc, words)?;
+        args.settle_root(alloc, paths)?;
+        args.move_frameworks(alloc, paths)?;
+        *self = args;
+        Ok(())
+    }
+
+    // An input beside `-generate` isn't supported: the first one is told.
+    fn refuse_inputs(&self) -> Result<(), ArgsFault>
+        ensures { let s = settings_of self.now in MatchResult result
+            (λ _. without_inputs s.generate s.inputs s ≡ Ok s)
+            (λ fault. without_inputs s.generate s.inputs s ≡ Err fault) }
+    {
+        match (self.generate, self.inputs.first()) {
+            (Some(_), Some(input)) => Err(ArgsFault::Unsupported { word: input.word() }),
+            _ => Ok(()),
+        }
+    }
+
+    // Reads the words in order.
+    pub(crate) fn read_words(&mut self, alloc: Global, words: &[String]) -> Result<(), ArgsFault>
+        requires { length words.now < 2 ^ 32 - 1 }
+        ensures done { OnOk result
+            (read_from keep_root 0 0 (texts_of words.now) (settings_of self.old) ≡ Ok (settings_of self.new)) }
+        ensures why { IfErr result (HasCause (read_from keep_root 0 0 (texts_of words.now) (settings_of self.old))) }
+    {
+        let mut values = 0;
+        for i in 0..words.len() {
+            values = self.read_next(alloc, words, i, values)?;
+        }
+        Ok(())
+    }
+
+    // Reads the word at this place, unless it is a value of the option before it, as the next `values` words
+    // are. Answers the same of the words behind it.
+    fn read_next(
+        &mut self,
+        alloc: Global,
+        words: &[String],
+        place: usize,
+        values: usize,
+    ) -> Result<usize, ArgsFault>
+        requires within { place < length words.now }
+        requires few { length words.now < 2 ^ 32 - 1 }
+        ensures done { IfOk result (λ left.
+            read_from keep_root values place (texts_of (drop place words.now)) (settings_of self.old)
+            ≡ read_from keep_root left (place + 1) (texts_of (drop (place + 1) words.now)) (settings_of self.new)) }
+        ensures why { IfErr result
+            (HasCause (read_from keep_root values place (texts_of (drop place words.now)) (settings_of self.old))) }
+    {
+        if values > 0 {
+            return Ok(values - 1);
+        }
+        self.read_word(
+            alloc,
+            place as u32,
+            words[place].as_str(),
+            &words[place + 1..],
+        )
+    }
+
+    // Reads the word with this index, and answers how many of the words behind it are its values.
+    #[tactic(auto, unfolding(crate::specs::Words::read_word))]
+    fn read_word(
+        &mut self,
+        alloc: Global,
+        word: u32,
+        text: &str,
+        behind: &[String],
+    ) -> Result<usize, ArgsFault>
+        requires { word + 1 + length behind.now < 2 ^ 32 }
+        ensures done { IfOk result (λ values. read_word keep_root word text.now (texts_of behind.now) (settings_of self.old)
+            ≡ Ok (reading values (settings_of self.new))) }
+        ensures why { IfErr result
+            (HasCause (read_word keep_root word text.now (texts_of behind.now) (settings_of self.old))) }
+    {
+        match option_named(text) {
+            Some(LinkOption::Sets(flag)) => {
+                self.set_flag(flag);
+                Ok(0)
+            }
+            Some(LinkOption::Takes(option)) => {
+                let [value, ..] = behind else {
+                    return Err(ArgsFault::MissingValue { word });
+                };
+                self.set_value(alloc, option, word + 1, value.as_str())?;
+                Ok(1)
+            }
+            Some(LinkOption::PlatformVersion) => {
+                let [platform, minimum, sdk, ..] = behind else {
+                    return Err(ArgsFault::MissingValue { word });
+                };
+                self.set_platform(
+                    alloc,
+                    word,
+                    platform.as_str(),
+                    minimum.as_str(),
+                    sdk.as_str(),
+                )?;
+                Ok(3)
+            }
+            Some(LinkOption::Ignored) => Ok(0),
+            Some(LinkOption::Refused) => Err(ArgsFault::Unsupported { word }),
+            None => {
+                self.read_unnamed(alloc, word, text)?;
+                Ok(0)
+            }
+        }
+    }
+
+    // Reads a word that is no option's name.
+    #[tactic(auto, unfolding(crate::specs::Options::joined_option))]
+    fn read_unnamed(&mut self, alloc: Global, word: u32, text: &str) -> Result<(), ArgsFault>
+        ensures done { OnOk result
+            (read_unnamed keep_root (joined_option text.now) word text.now (settings_of self.old) ≡ Ok (settings_of self.new)) }
+        ensures why { IfErr result
+            (HasCause (read_unnamed keep_root (joined_option text.now) word text.now (settings_of self.old))) }
+    {
+        if let Some(path) = after_prefix(text, "-F") {
+            self.set_value(alloc, Valued::FrameworkPath, word, path)
+        } else if let Some(path) = after_prefix(text, "-L") {
+            self.set_value(alloc, Valued::LibraryPath, word, path)
+        } else if let Some(name) = after_prefix(text, "-l") {
+            self.set_value(alloc, Valued::Library, word, name)
+        } else {
+            self.read_plain(alloc, word, text)
+        }
+    }
+
+    // Reads a word that is no option and holds no option.
+    fn read_plain(&mut self, alloc: Global, word: u32, text: &str) -> Result<(), ArgsFault>
+        ensures done { OnOk result (read_plain word text.now (settings_of self.old) ≡ Ok (settings_of self.new)) }
+        ensures why { IfErr result (HasCause (read_plain word text.now (settings_of self.old))) }
+    {
+        if begins_with(text, "-") {
+            return Err(ArgsFault::Unknown { word });
+        }
+        if begins_with(text, "@") {
+            return Err(ArgsFault::Unsupported { word });
+        }
+        let path = String::from_str(alloc, text)?;
+        self.inputs.push(InputSpec::File { word, path })?;
+        Ok(())
+    }
+}
+
+// What the words say, where the root is kept as it is given.
+fn read_args(alloc: Global, words: &[String]) -> Result<MachOArgs, ArgsFault>
+    requires { length words.now < 2 ^ 32 - 1 }
+    ensures done { IfOk result (λ args. read_all keep_root (texts_of words.now) ≡ Ok (settings_of args)) }
+    ensures why { IfErr result (HasCause (read_all keep_root (texts_of words.now))) }
+{
+    let mut args = MachOArgs::new(alloc)?;
+    args.read_words(alloc, words)?;
+    args.refuse_inputs()?;
+    Ok(args)
+}
