@@ -2,3 +2,4 @@ pub mod Accepted
 pub mod Places
 pub mod Placed
 pub mod Held
+pub mod First

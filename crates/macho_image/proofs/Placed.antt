@@ -30,7 +30,7 @@ use Rattle.macho_image.specs.Counts.{counts_of}
 use Rattle.macho_image.specs.Shape.{pagezero_segment, text_segment, placed_of_image}
 
 -- an element of a mapped list
-map-at : {X Y : Type 0} (f : X → Y) (xs : List X) (k : ℕ) (d : X) (e : Y) → k < length xs → get_or (map f xs) k e ≡ f (get_or xs k d)
+pub map-at : {X Y : Type 0} (f : X → Y) (xs : List X) (k : ℕ) (d : X) (e : Y) → k < length xs → get_or (map f xs) k e ≡ f (get_or xs k d)
 map-at f [] k d e lt = absurd (omega arith)
 map-at f (x ∷ xs) zero d e lt = refl
 map-at f (x ∷ xs) (suc k) d e lt = map-at f xs k d e (omega arith)
@@ -148,7 +148,7 @@ parts_apart l front end n cs ps headers first places count is =
       (All-from_recursion (λ s. s.size ≡ 0) (empty_spans (placed_of_image n ps headers)) (refl, (refl, (refl, (refl, (refl, (refl, (refl, tt))))))))
 
 -- a filter that lets nothing through
-filter_none : {X : Type 0} (test : X → Bool) (xs : List X) → ((k : ℕ) (d : X) → k < length xs → test (get_or xs k d) ≡ false) → filter test xs ≡ []
+pub filter_none : {X : Type 0} (test : X → Bool) (xs : List X) → ((k : ℕ) (d : X) → k < length xs → test (get_or xs k d) ≡ false) → filter test xs ≡ []
 filter_none test [] none = refl
 filter_none test (x ∷ xs) none = rw (none 0 x (omega arith), filter_none test xs (λ k d lt. none (suc k) d (omega arith))) refl
 

@@ -1,9 +1,12 @@
 -- What the first links are: one object whose carried sections stand in `__TEXT` and have no relocations.
-use Rattle.std.specs.Prelude.{◌≡◌, ℕ, ◌+◌, ◌<◌, Bool, true, false, List, [], ◌∷◌, length, map, get_or}
+use Rattle.std.specs.Prelude.{◌≡◌, ℕ, ◌+◌, ◌<◌, Bool, true, false, List, [], ◌∷◌, length, map, filter, get_or}
+use Rattle.std.specs.List.{range_with_len}
 use Rattle.macho_records.specs.declared.header.SectionHeader.{SectionHeader}
+use Rattle.macho_records.specs.Symbols.{is_common_of}
 use Rattle.macho_records.specs.Sections.{is_zerofill, segment_name_of}
 use Rattle.macho_model.specs.declared.placed.Counts.{Counts}
-use Rattle.macho_model.specs.Links.{Link, SectionId, header_at, carried_of, is_template, placed_exponent}
+use Rattle.macho_model.specs.Objects.{num_sections, section_at, num_symbols, symbol_at}
+use Rattle.macho_model.specs.Links.{Link, Object, SectionId, header_at, carried_of, is_carried, is_consumed, is_template, placed_exponent}
 use Rattle.macho_model.specs.Resolution.{chosen_commons}
 use Rattle.macho_model.specs.Targets.{slots_of, stubs_of}
 use Rattle.macho_model.specs.Segments.{TEXT}
@@ -30,3 +33,20 @@ pub record IsFirst (l : Link) (carried : List Carried) : Type 0 where
   pub commons : chosen_commons l ≡ []
   pub slots : slots_of l ≡ []
   pub stubs : stubs_of l ≡ []
+
+-- what is found of an object before it is placed: its carried sections, which are plain, and that it has nothing else
+pub record IsPlainObject (b : List ℕ) (carried : List Carried) : Type 0 where
+  pub numbers : map (λ c. c.section) carried ≡ filter (λ k. is_carried (section_at b k)) (range_with_len 0 (num_sections b))
+  pub headers : (k : ℕ) (c : Carried) → k < length carried → (get_or carried k c).header ≡ section_at b (get_or carried k c).section
+  pub exist : (k : ℕ) (c : Carried) → k < length carried → (get_or carried k c).section < num_sections b
+  pub text : (k : ℕ) (c : Carried) → k < length carried → segment_name_of (get_or carried k c).header ≡ TEXT
+  pub filled : (k : ℕ) (c : Carried) → k < length carried → is_zerofill (get_or carried k c).header ≡ false
+  pub relocations : (k : ℕ) (c : Carried) → k < length carried → (get_or carried k c).header.nreloc ≡ 0
+  pub consumed : (k : ℕ) → k < num_sections b → is_consumed (section_at b k) ≡ false
+  pub commons : (k : ℕ) → k < num_symbols b → is_common_of (symbol_at b k) ≡ false
+
+-- a link of one object as an executable, without export lists
+pub record HasOneObject (l : Link) (b : List ℕ) : Type 0 where
+  pub executable : l.executable ≡ true
+  pub inputs : l.inputs ≡ Object b ∷ []
+  pub lists : l.export_lists ≡ []
