@@ -1,0 +1,5 @@
+pub mod Views
+pub mod Scans
+pub mod Outlines
+pub mod Checks
+pub mod Wholes
