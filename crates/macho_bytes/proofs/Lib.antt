@@ -5,3 +5,4 @@ pub mod Layouts
 pub mod Writes
 pub mod Names
 pub mod Rounding
+pub mod Ulebs

@@ -12,6 +12,7 @@ mod sections;
 mod segments;
 mod signature;
 mod symbols;
+mod uleb;
 mod unwind;
 
 pub use commands::{
@@ -44,4 +45,5 @@ pub use sections::{SectionAttributes, SectionFlags};
 pub use segments::{ProgramSegmentDef, SegmentName};
 pub use signature::CodeDirectory;
 pub use symbols::{CommonSymbol, SymtabCommand, SymtabEntry, Visibility};
+pub use uleb::{read_uleb, uleb_size, write_uleb};
 pub use unwind::UnwindInfoEntry;
