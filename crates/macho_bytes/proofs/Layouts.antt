@@ -90,6 +90,31 @@ length-text_from order sound blank r (row ∷ rows) offset front long fits =
     length-text_from order sound blank r rows (offset + row_size blank row) (front ++ row_text order r row)
     (omega (arith, long, length-append front (row_text order r row), length-row_text order sound blank r row fits.0)) fits.1
 
+-- the fields of a row are as many as its layout says
+abbrev pub RowLong : {R : Type 0} → R → R → Row R → Type 0
+RowLong blank r (numbers width fields set) = length (fields r) ≡ length (fields blank)
+RowLong blank r (text field set) = length (field r) ≡ length (field blank)
+
+abbrev pub RowsLong : {R : Type 0} → R → R → List (Row R) → Type 0
+RowsLong blank r [] = Unit {0}
+RowsLong blank r (row ∷ rows) = RowLong blank r row × RowsLong blank r rows
+
+length-row_long : {R : Type 0} (order : ByteOrder) → IsSound order → (blank r : R) (row : Row R) → RowLong blank r row → length (row_text order r row) ≡ row_size blank row
+length-row_long order sound blank r (numbers width fields set) long = length-row_bytes order sound width (fields r) ∙ ap (λ (k : ℕ). width * k) long
+length-row_long order sound blank r (text field set) long = long
+
+length-text_long : {R : Type 0} (order : ByteOrder) → IsSound order → (blank r : R) (rows : List (Row R)) (offset : ℕ) (front : List ℕ)
+    → length front ≡ offset → RowsLong blank r rows → length (text_from order r front rows) ≡ size_from blank offset rows
+length-text_long order sound blank r [] offset front is long = is
+length-text_long order sound blank r (row ∷ rows) offset front is long =
+    length-text_long order sound blank r rows (offset + row_size blank row) (front ++ row_text order r row)
+      (omega (arith, is, length-append front (row_text order r row), length-row_long order sound blank r row long.0)) long.1
+
+-- the length of a spelling, whatever its numbers: it asks only that each text has its length
+pub length-spelling : {R : Type 0} (l : Layout R) (r : R) → IsSound l.order → RowsLong l.blank r l.rows → length (spelling l r) ≡ size_of l
+unfolding spelling
+length-spelling l r sound long = length-text_long l.order sound l.blank r l.rows 0 [] refl long
+
 -- The one lemma for every record: if its fields fit their rows, and filling a blank record with them gives it back.
 pub reads_back : {R : Type 0} (l : Layout R) (r : R) → IsSound l.order → RowsFit l.blank r l.rows → filled l.blank r l.rows ≡ r → ReadsBack l r
 unfolding spelling reading

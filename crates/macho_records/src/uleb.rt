@@ -100,5 +100,7 @@ fn number_of(groups: &[u8]) -> Option<u64>
 fn with_group(group: u8, above: u64) -> Option<u64>
     ensures { MatchOption result (2 ^ 64 ≤ group % 128 + 128 * above) (λ v. v ≡ group % 128 + 128 * above) }
 {
-    above.checked_mul(0x80)?.checked_add(u64::from(group % 0x80))
+    above
+        .checked_mul(0x80)?
+        .checked_add(u64::from(group % 0x80))
 }

@@ -6,7 +6,7 @@ pub returns-in_err-get : goal.returns-in_err-get
 returns-in_err-get c =
     let past : length c.args.bytes.now ≤ c.loop-count.count = search rules in
     rw c.from_residual.ensures
-      (no_last_group c.args.bytes.now c.loop-count.count (inl past) (λ k early within. c.loop-count.invariant.1 k early))
+    (no_last_group c.args.bytes.now c.loop-count.count (inl past) (λ k early within. c.loop-count.invariant.1 k early))
 
 pub returns-then-branch-lt128 : goal.returns-then-branch-lt128
 returns-then-branch-lt128 c =

@@ -30,4 +30,4 @@ returns-clause-written c =
     let here : c.loop-count.count ≡ 9 = omega arith in
     let small = last_rest (MOST_GROUPS - 1 - c.loop-count.count) c.loop-count.rest (omega arith) c.loop-count.invariant.1 in
     rw here at (write-ends (MOST_GROUPS - 1 - c.loop-count.count) c.loop-count.count c.loop-count.rest (uleb_of c.args.value) c.loop-count.groups
-      small (omega arith) c.loop-count.invariant.0)
+    small (omega arith) c.loop-count.invariant.0)
