@@ -1,1 +1,3 @@
 pub mod Prints
+pub mod Bits
+pub mod Rows
