@@ -8,3 +8,4 @@ pub mod Tables
 pub mod Names
 pub mod Rounding
 pub mod Ulebs
+pub mod UlebRows
