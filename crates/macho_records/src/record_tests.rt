@@ -6,7 +6,29 @@ use crate::{
     LoadCommand, MachHeader, RelocationInfo, RpathCommand, SectionHeader, SegmentCommand,
     SymtabCommand, SymtabEntry, UnwindInfoEntry, UuidCommand,
 };
-use std::test::Fail;
+
+/// The bytes, with one other byte on each side.
+fn is_framed(out: &[u8], bytes: &[u8]) -> bool {
+    match out {
+        [0xee, inner @ .., 0xee] => *inner == *bytes,
+        _ => false,
+    }
+}
+
+/// Whether a record is read at the start alone, has this field, and is written as the bytes.
+macro_rules! is_row {
+    ($record:ident, $bytes:expr, $framed:expr, $field:ident, $value:expr) => {{
+        let Some(record) = $record::read(&$bytes, 0) else {
+            return false;
+        };
+        let mut out = [0xee; $framed];
+        record.write(&mut out, 1);
+        record.$field == $value
+            && is_framed(&out, &$bytes)
+            && $record::read(&$bytes, 1).is_none()
+            && $record::read(&$bytes, usize::MAX).is_none()
+    }};
+}
 
 /// MachHeader, laid out by the C structures of the public headers.
 const MACH_HEADER: [u8; 32] = [
@@ -101,96 +123,137 @@ const CODE_DIRECTORY: [u8; 88] = [
 /// RelocationInfo, laid out by the C structures of the public headers.
 const RELOCATION_INFO: [u8; 8] = [0x14, 0x00, 0x00, 0x00, 0x01, 0x02, 0x03, 0xa5];
 
-macro_rules! assert_row {
-    ($rt:expr, $record:ident, $bytes:expr, $field:ident, $value:expr) => {{
-        let record = $record::read(&$bytes, 0).ok_or("no record")?;
-        assert_eq!($rt; record.$field, $value);
-        assert!($rt; $record::read(&$bytes, 1).is_none());
-        assert!($rt; $record::read(&$bytes, usize::MAX).is_none());
-        let mut out = [0xee; 90];
-        record.write(&mut out, 1);
-        assert_eq!($rt; out[0], 0xee);
-        assert_eq!($rt; &out[1..1 + $record::SIZE], $bytes.as_slice());
-        assert_eq!($rt; out[1 + $record::SIZE], 0xee);
-    }};
+fn mach_header() -> bool {
+    is_row!(MachHeader, MACH_HEADER, 34, flags, 0x2000)
 }
 
-#[test]
-fn header_and_segments(rt: HostRuntime) -> Result<(), Fail> {
-    assert_row!(rt, MachHeader, MACH_HEADER, flags, 0x2000);
-    assert_row!(rt, LoadCommand, LOAD_COMMAND, cmdsize, 0x98);
-    assert_row!(rt, SegmentCommand, SEGMENT_COMMAND, filesize, 0x3f00);
-    assert_row!(rt, SectionHeader, SECTION_HEADER, addr, 0x1_0000_01e0);
-    Ok(())
+fn load_command() -> bool {
+    is_row!(LoadCommand, LOAD_COMMAND, 10, cmdsize, 0x98)
 }
 
-#[test]
-fn symbols_relocations_and_unwind(rt: HostRuntime) -> Result<(), Fail> {
-    assert_row!(rt, SymtabCommand, SYMTAB_COMMAND, stroff, 0x40e8);
-    assert_row!(rt, SymtabEntry, SYMTAB_ENTRY, n_desc, 0x380);
-    assert_row!(rt, RelocationInfo, RELOCATION_INFO, r_type, 10);
-    assert_row!(rt, UnwindInfoEntry, UNWIND_INFO_ENTRY, lsda, 0x1_0000_5000);
-    Ok(())
+fn segment_command() -> bool {
+    is_row!(SegmentCommand, SEGMENT_COMMAND, 74, filesize, 0x3f00)
 }
 
-#[test]
-fn paths_and_entry(rt: HostRuntime) -> Result<(), Fail> {
-    assert_row!(
-        rt,
+fn section_header() -> bool {
+    is_row!(SectionHeader, SECTION_HEADER, 82, addr, 0x1_0000_01e0)
+}
+
+fn symtab_command() -> bool {
+    is_row!(SymtabCommand, SYMTAB_COMMAND, 26, stroff, 0x40e8)
+}
+
+fn symtab_entry() -> bool {
+    is_row!(SymtabEntry, SYMTAB_ENTRY, 18, n_desc, 0x380)
+}
+
+fn entry_point_command() -> bool {
+    is_row!(
         EntryPointCommand,
         ENTRY_POINT_COMMAND,
+        26,
         stacksize,
         0x10_0000
-    );
-    assert_row!(rt, DylinkerCommand, DYLINKER_COMMAND, name_offset, 12);
-    assert_row!(
-        rt,
+    )
+}
+
+fn dylinker_command() -> bool {
+    is_row!(DylinkerCommand, DYLINKER_COMMAND, 14, name_offset, 12)
+}
+
+fn dylib_command() -> bool {
+    is_row!(
         DylibCommand,
         DYLIB_COMMAND,
+        26,
         current_version,
         0x054c_0000
-    );
-    assert_row!(rt, RpathCommand, RPATH_COMMAND, cmd, 0x8000_001c);
-    Ok(())
+    )
 }
 
-#[test]
-fn tables_and_versions(rt: HostRuntime) -> Result<(), Fail> {
-    assert_row!(
-        rt,
+fn rpath_command() -> bool {
+    is_row!(RpathCommand, RPATH_COMMAND, 14, cmd, 0x8000_001c)
+}
+
+fn linkedit_data_command() -> bool {
+    is_row!(
         LinkeditDataCommand,
         LINKEDIT_DATA_COMMAND,
+        18,
         dataoff,
         0x4000
-    );
-    assert_row!(rt, UuidCommand, UUID_COMMAND, cmdsize, 24);
-    assert_row!(
-        rt,
+    )
+}
+
+fn uuid_command() -> bool {
+    is_row!(UuidCommand, UUID_COMMAND, 26, cmdsize, 24)
+}
+
+fn build_version_command() -> bool {
+    is_row!(
         BuildVersionCommand,
         BUILD_VERSION_COMMAND,
+        26,
         sdk,
         0xf_1011
-    );
-    assert_row!(rt, BuildToolVersion, BUILD_TOOL_VERSION, version, 0xb00);
-    Ok(())
+    )
+}
+
+fn build_tool_version() -> bool {
+    is_row!(BuildToolVersion, BUILD_TOOL_VERSION, 10, version, 0xb00)
+}
+
+fn chained_fixups_header() -> bool {
+    is_row!(
+        ChainedFixupsHeader,
+        CHAINED_FIXUPS_HEADER,
+        30,
+        imports_count,
+        2
+    )
+}
+
+fn chained_starts_in_segment() -> bool {
+    is_row!(
+        ChainedStartsInSegment,
+        CHAINED_STARTS_IN_SEGMENT,
+        24,
+        segment_offset,
+        0x8000
+    )
+}
+
+fn unwind_info_entry() -> bool {
+    is_row!(UnwindInfoEntry, UNWIND_INFO_ENTRY, 34, lsda, 0x1_0000_5000)
+}
+
+fn code_directory() -> bool {
+    is_row!(CodeDirectory, CODE_DIRECTORY, 90, exec_limit, 0x4000)
+}
+
+fn relocation_info() -> bool {
+    is_row!(RelocationInfo, RELOCATION_INFO, 10, r_type, 10)
 }
 
 #[test]
-fn fixups_and_signature(rt: HostRuntime) -> Result<(), Fail> {
-    assert_row!(
-        rt,
-        ChainedFixupsHeader,
-        CHAINED_FIXUPS_HEADER,
-        imports_count,
-        2
-    );
-    assert_row!(
-        rt,
-        ChainedStartsInSegment,
-        CHAINED_STARTS_IN_SEGMENT,
-        segment_offset,
-        0x8000
-    );
-    assert_row!(rt, CodeDirectory, CODE_DIRECTORY, exec_limit, 0x4000);
-    Ok(())
+fn each_record(rt: HostRuntime) {
+    assert!(rt; mach_header());
+    assert!(rt; load_command());
+    assert!(rt; segment_command());
+    assert!(rt; section_header());
+    assert!(rt; symtab_command());
+    assert!(rt; symtab_entry());
+    assert!(rt; entry_point_command());
+    assert!(rt; dylinker_command());
+    assert!(rt; dylib_command());
+    assert!(rt; rpath_command());
+    assert!(rt; linkedit_data_command());
+    assert!(rt; uuid_command());
+    assert!(rt; build_version_command());
+    assert!(rt; build_tool_version());
+    assert!(rt; chained_fixups_header());
+    assert!(rt; chained_starts_in_segment());
+    assert!(rt; unwind_info_entry());
+    assert!(rt; code_directory());
+    assert!(rt; relocation_info());
 }
