@@ -6,13 +6,12 @@
 -- the last one go on; and what is cut is a form, since all groups before the first last one go on.
 use Rattle.std.proofs.Common.{◌≡◌, ◌≢◌, ℕ, zero, suc, ◌+◌, ◌*◌, ◌/◌, ◌%◌, ◌^◌, ◌-◌, ◌<◌, ◌≤◌, ◌⊎◌, Bool, true, false, ◌&&◌, nat_lt, List, [], ◌∷◌, ◌++◌, length, get_or, take, drop, slice_index, slice_range, refl, sym, ap, subst, append_assoc, ◌∙◌, arith, inl, inr, min, Option, Some, None, IfSome, if◌then◌else◌}
 use Rattle.std.proofs.Math.ListN.{set}
-use Rattle.std.specs.List.{position_or_len}
 use Rattle.std.proofs.lemmas.Bool.{cases_lt, lt-ltb, ltb-true}
 use Rattle.std.proofs.lemmas.Bool.Decides.{nat_tests}
-use Rattle.std.proofs.lemmas.List.{get_or-take, get_or-drop, drop_all, length-take, length-drop, length-append, get_or_append_left, take-append-drop}
+use Rattle.std.proofs.lemmas.List.{get_or-take, drop_all, length-take, length-drop, length-append, get_or_append_left, take-append-drop}
 use Rattle.std.proofs.Math.Seq.{take-append_seam, drop-cons, take-suc-set}
 use Rattle.std.proofs.lemmas.List.Sums.{position_or_len_is, fails_before_first, passes_at_first}
-use Rattle.macho_bytes.specs.Texts.{Part, end_of, Stands}
+use Rattle.macho_bytes.specs.Texts.{Stands}
 use Rattle.macho_bytes.specs.Uleb.{uleb_value, IsUleb, IsShortest, MOST_GROUPS, IsUlebAt, groups_of, uleb_of, is_last_group, groups_before_last, first_groups, has_last_group, uleb_at, UlebReadsBack}
 
 not_below : (a b : ℕ) → b ≤ a → nat_lt a b ≡ false
@@ -74,14 +73,16 @@ unfolding groups_of FitsGroups
 groups-shortest zero n fits = record { form = one_group n fits; value = omega arith; least = λ h. absurd (omega arith) }
 groups-shortest (suc others) n fits =
     elim (cases_lt n 128) [
-      | inl small ↦ rw (groups_last (suc others) n small) (record { form = one_group n small; value = omega arith; least = λ h. absurd (omega arith) })
+      | inl small ↦ rw (groups_last (suc others) n small)
+          (record { form = one_group n small; value = omega arith; least = λ h. absurd (omega arith) })
       | inr big ↦
           let rest = groups-shortest others (n / 128) fits in
           rw (groups_more others n big) (record {
             form = one_group_more (128 + n % 128) (groups_of others (n / 128)) (omega arith) rest.form;
             value = omega (arith, rest.value);
             least = λ h zero_last.
-              ends_above (groups_of others (n / 128)) (n / 128) rest (omega arith) (sym (last_of (128 + n % 128) (groups_of others (n / 128)) rest.form.some) ∙ zero_last);
+                ends_above (groups_of others (n / 128)) (n / 128) rest (omega arith)
+                (sym (last_of (128 + n % 128) (groups_of others (n / 128)) rest.form.some) ∙ zero_last);
           })
     ]
 
@@ -114,8 +115,10 @@ first-form text rest u =
   where
     same : (k : ℕ) → k < length text → get_or (text ++ rest) k 0 ≡ slice_index text k
     same k h = get_or_append_left text rest 0 k h
+
     before : (k : ℕ) → k < length text - 1 → is_last_group (get_or (text ++ rest) k 0) ≡ false
     before k h = not_below (get_or (text ++ rest) k 0) 128 (omega (arith, same k (omega arith), u.goes_on k (omega arith)))
+
     here : length text - 1 < length (text ++ rest) → is_last_group (get_or (text ++ rest) (length text - 1) 0) ≡ true
     here h = lt-ltb (get_or (text ++ rest) (length text - 1) 0) 128 (omega (arith, same (length text - 1) (omega (arith, u.some)), u.ends))
 
@@ -145,21 +148,27 @@ size-step left next size rest whole is big so_far =
     omega (arith, so_far, ap (λ (k : ℕ). length (groups_of k rest)) is, ap length (groups_more next rest big))
 
 -- the same of a loop that writes them
-pub write-step : (left next count rest : ℕ) (whole groups : List ℕ) → left ≡ suc next → 128 ≤ rest → count < length groups → FitsGroups left rest
+pub write-step : (left next count rest : ℕ) (whole groups : List ℕ) → left ≡ suc next → 128 ≤ rest → count < length groups
+    → FitsGroups left rest
     → whole ≡ take count groups ++ groups_of left rest
     → (whole ≡ take (count + 1) (set groups count (128 + rest % 128)) ++ groups_of next (rest / 128)) × FitsGroups next (rest / 128)
-write-step left next count rest whole groups is big within fits so_far =
-    (so_far ∙ ap (λ (t : List ℕ). take count groups ++ t) more ∙ sym (append_assoc (take count groups) ((128 + rest % 128) ∷ []) (groups_of next (rest / 128)))
+write-step left next count rest whole groups is big within fits so_far = (
+  so_far ∙ ap (λ (t : List ℕ). take count groups ++ t) more
+      ∙ sym (append_assoc (take count groups) ((128 + rest % 128) ∷ []) (groups_of next (rest / 128)))
       ∙ ap (λ (t : List ℕ). t ++ groups_of next (rest / 128)) (sym (written (128 + rest % 128))),
-     fits-more next rest (subst (λ (k : ℕ). FitsGroups k rest) is fits))
+  fits-more next rest (subst (λ (k : ℕ). FitsGroups k rest) is fits),
+)
   where
     more : groups_of left rest ≡ (128 + rest % 128) ∷ groups_of next (rest / 128)
     more = ap (λ (k : ℕ). groups_of k rest) is ∙ groups_more next rest big
+
     written : (b : ℕ) → take (count + 1) (set groups count b) ≡ take count groups ++ (b ∷ [])
-    written b = let next_is : count + 1 ≡ suc count = omega arith in ap (λ (k : ℕ). take k (set groups count b)) next_is ∙ take-suc-set groups count b within
+    written b = let next_is : count + 1 ≡ suc count = omega arith in ap (λ (k : ℕ). take k (set groups count b)) next_is
+        ∙ take-suc-set groups count b within
 
 -- the last group is written
-pub write-ends : (left count rest : ℕ) (whole groups : List ℕ) → rest < 128 → count < length groups → whole ≡ take count groups ++ groups_of left rest
+pub write-ends : (left count rest : ℕ) (whole groups : List ℕ) → rest < 128 → count < length groups
+    → whole ≡ take count groups ++ groups_of left rest
     → take (count + 1) (set groups count rest) ≡ whole
 write-ends left count rest whole groups small within so_far =
     let next_is : count + 1 ≡ suc count = omega arith in
@@ -176,39 +185,48 @@ uleb_at-only bytes at n last u =
     let rest : length (drop at bytes) ≡ length bytes - at = length-drop at bytes in
     let some : 1 ≤ length text = u.form.some in
     let first : groups_before_last (drop at bytes) ≡ length text - 1 =
-      ap groups_before_last (sym split) ∙ first-form text (drop (last - at) (drop at bytes)) u.form in
+    ap groups_before_last (sym split) ∙ first-form text (drop (last - at) (drop at bytes)) u.form in
     let cut : first_groups (drop at bytes) ≡ text = ap first_groups (sym split) ∙ cut-form text (drop (last - at) (drop at bytes)) u.form in
     let has : has_last_group (drop at bytes) ≡ true =
-      both (lt-ltb (groups_before_last (drop at bytes)) MOST_GROUPS (omega (arith, u.groups))) (lt-ltb (groups_before_last (drop at bytes)) (length (drop at bytes)) (omega arith)) in
+    both (lt-ltb (groups_before_last (drop at bytes)) MOST_GROUPS (omega (arith, u.groups)))
+    (lt-ltb (groups_before_last (drop at bytes)) (length (drop at bytes)) (omega arith)) in
     let ends : at + length text ≡ last = omega (arith, u.within) in
     let fits : uleb_value text < 2 ^ 64 = omega (arith, u.value, u.fits) in
     answer (drop at bytes) text at has cut fits ∙ pair u.value ends
   where
     both : {a b : Bool} → a ≡ true → b ≡ true → (a && b) ≡ true
     both p q = cc
+
     pair : {a b c d : ℕ} → a ≡ c → b ≡ d → (let r : Option (ℕ × ℕ) = Some (a, b) in r ≡ Some (c, d))
     pair p q = cc
 
 -- what is cut off before the tests hold is a form
-is-cut : (xs : List ℕ) → groups_before_last xs < length xs → (IsUleb (first_groups xs)) × (length (first_groups xs) ≡ groups_before_last xs + 1)
+is-cut : (xs : List ℕ) → groups_before_last xs < length xs
+    → (IsUleb (first_groups xs)) × (length (first_groups xs) ≡ groups_before_last xs + 1)
 is-cut xs within = (record { some = omega (arith, long); goes_on = each; ends = last }, long)
   where
     long : length (first_groups xs) ≡ groups_before_last xs + 1
     long = omega (arith, length-take (groups_before_last xs + 1) xs)
+
     same : (k : ℕ) → k < groups_before_last xs + 1 → slice_index (first_groups xs) k ≡ slice_index xs k
     same k h = get_or-take (groups_before_last xs + 1) xs k 0 h
+
     each : (k : ℕ) → k + 1 < length (first_groups xs) → 128 ≤ slice_index (first_groups xs) k
     each k h =
-        let goes : 128 ≤ slice_index xs k = not_false (slice_index xs k) 128 (fails_before_first is_last_group xs k 0 (omega (arith, long))) in
+        let goes : 128 ≤ slice_index xs k = not_false (slice_index xs k) 128
+        (fails_before_first is_last_group xs k 0 (omega (arith, long))) in
         omega (arith, same k (omega (arith, long)))
+
     last : slice_index (first_groups xs) (length (first_groups xs) - 1) < 128
     last =
-        let stops : slice_index xs (groups_before_last xs) < 128 = ltb-true (slice_index xs (groups_before_last xs)) 128 (passes_at_first is_last_group xs 0 within) in
+        let stops : slice_index xs (groups_before_last xs) < 128 = ltb-true (slice_index xs (groups_before_last xs)) 128
+        (passes_at_first is_last_group xs 0 within) in
         let there : length (first_groups xs) - 1 ≡ groups_before_last xs = omega (arith, long) in
         omega (arith, ap (λ (k : ℕ). slice_index (first_groups xs) k) there, same (groups_before_last xs) (omega arith))
 
 -- by the answers of the three tests
-by_tests : {X : Type 0} (P : X → Type 0) (x : X) (a b c : Bool) → (a ≡ true → b ≡ true → c ≡ true → P x) → IfSome (if a && b && c then Some x else None) P
+by_tests : {X : Type 0} (P : X → Type 0) (x : X) (a b c : Bool) → (a ≡ true → b ≡ true → c ≡ true → P x)
+    → IfSome (if a && b && c then Some x else None) P
 by_tests P x true true true holds = holds refl refl refl
 by_tests P x true true false holds = tt
 by_tests P x true false c holds = tt
@@ -219,21 +237,30 @@ pub uleb_at-found : (bytes : List ℕ) (at : ℕ) → IfSome (uleb_at bytes at) 
 unfolding uleb_at
 uleb_at-found bytes at =
     by_tests (λ (r : ℕ × ℕ). IsUlebAt bytes at r.0 r.1) (uleb_value text, at + length text) (nat_lt (groups_before_last xs) MOST_GROUPS)
-      (nat_lt (groups_before_last xs) (length xs)) (nat_lt (uleb_value text) (2 ^ 64))
-      (λ few within fits. stands (ltb-true (groups_before_last xs) MOST_GROUPS few) (ltb-true (groups_before_last xs) (length xs) within)
-        (ltb-true (uleb_value text) (2 ^ 64) fits))
+    (nat_lt (groups_before_last xs) (length xs)) (nat_lt (uleb_value text) (2 ^ 64))
+    (λ few within fits. stands (ltb-true (groups_before_last xs) MOST_GROUPS few) (ltb-true (groups_before_last xs) (length xs) within)
+    (ltb-true (uleb_value text) (2 ^ 64) fits))
   where
     xs : List ℕ
     xs = drop at bytes
+
     text : List ℕ
     text = first_groups xs
-    stands : groups_before_last xs < MOST_GROUPS → groups_before_last xs < length xs → uleb_value text < 2 ^ 64 → IsUlebAt bytes at (uleb_value text) (at + length text)
+
+    stands : groups_before_last xs < MOST_GROUPS → groups_before_last xs < length xs → uleb_value text < 2 ^ 64
+        → IsUlebAt bytes at (uleb_value text) (at + length text)
     stands few within fits =
         let cut = is-cut xs within in
         let rest : length xs ≡ length bytes - at = length-drop at bytes in
         let count : at + length text - at ≡ groups_before_last xs + 1 = omega (arith, cut.1) in
         let same : slice_range bytes at (at + length text) ≡ text = ap (λ (k : ℕ). take k xs) count in
-        record { within = omega (arith, cut.1); groups = omega (arith, cut.1); form = rw same cut.0; value = ap uleb_value same; fits = fits }
+        record {
+          within = omega (arith, cut.1);
+          groups = omega (arith, cut.1);
+          form = rw same cut.0;
+          value = ap uleb_value same;
+          fits = fits;
+        }
 
 -- a number of 64 bits fits ten groups
 pub fits-ten : (n : ℕ) → n < 2 ^ 64 → FitsGroups (MOST_GROUPS - 1) n
@@ -247,6 +274,7 @@ uleb_reads_back n fits = record { shortest = shortest; long = omega (arith, (len
   where
     shortest : IsShortest (groups_of (MOST_GROUPS - 1) n) n
     shortest = groups-shortest (MOST_GROUPS - 1) n (fits-ten n fits)
+
     back : (bytes : List ℕ) (at : ℕ) → Stands bytes (record { at = at; text = groups_of (MOST_GROUPS - 1) n })
         → uleb_at bytes at ≡ Some (n, at + length (groups_of (MOST_GROUPS - 1) n))
     back bytes at s =
@@ -275,13 +303,14 @@ no_last_group xs i far goes =
     elim (cases_lt (groups_before_last xs) (length xs)) [
       | inr past ↦ rw (not_below (groups_before_last xs) (length xs) past) (and_false (nat_lt (groups_before_last xs) MOST_GROUPS))
       | inl within ↦
-          let stops : slice_index xs (groups_before_last xs) < 128 = ltb-true (slice_index xs (groups_before_last xs)) 128 (passes_at_first is_last_group xs 0 within) in
+          let stops : slice_index xs (groups_before_last xs) < 128 = ltb-true (slice_index xs (groups_before_last xs)) 128
+          (passes_at_first is_last_group xs 0 within) in
           elim (cases_lt (groups_before_last xs) i) [
             | inl early ↦ absurd (omega (arith, goes (groups_before_last xs) early within))
             | inr late ↦ elim far [
-                | inl end ↦ absurd (omega arith)
-                | inr ten ↦ rw (not_below (groups_before_last xs) MOST_GROUPS (omega arith)) refl
-              ]
+              | inl end ↦ absurd (omega arith)
+              | inr ten ↦ rw (not_below (groups_before_last xs) MOST_GROUPS (omega arith)) refl
+            ]
           ]
     ]
   where
@@ -290,18 +319,25 @@ no_last_group xs i far goes =
     and_false false = refl
 
 -- where the first groups go on and the next one is a last one, it is found there
-pub has_last_group-at : (xs : List ℕ) (i : ℕ) → i < MOST_GROUPS → i < length xs → ((k : ℕ) → k < i → 128 ≤ slice_index xs k) → slice_index xs i < 128
+pub has_last_group-at : (xs : List ℕ) (i : ℕ) → i < MOST_GROUPS → i < length xs → ((k : ℕ) → k < i → 128 ≤ slice_index xs k)
+    → slice_index xs i < 128
     → (has_last_group xs ≡ true) × (first_groups xs ≡ take (i + 1) xs)
-has_last_group-at xs i few within goes stops =
-    (both (lt-ltb (groups_before_last xs) MOST_GROUPS (omega (arith, here))) (lt-ltb (groups_before_last xs) (length xs) (omega (arith, here))), ap (λ (k : ℕ). take (k + 1) xs) here)
+has_last_group-at xs i few within goes stops = (
+  both (lt-ltb (groups_before_last xs) MOST_GROUPS (omega (arith, here)))
+      (lt-ltb (groups_before_last xs) (length xs) (omega (arith, here))),
+  ap (λ (k : ℕ). take (k + 1) xs) here,
+)
   where
     here : groups_before_last xs ≡ i
-    here = position_or_len_is is_last_group xs i 0 (omega arith) (λ k h. not_below (get_or xs k 0) 128 (goes k h)) (λ h. lt-ltb (get_or xs i 0) 128 stops)
+    here = position_or_len_is is_last_group xs i 0 (omega arith) (λ k h. not_below (get_or xs k 0) 128 (goes k h))
+        (λ h. lt-ltb (get_or xs i 0) 128 stops)
+
     both : {a b : Bool} → a ≡ true → b ≡ true → (a && b) ≡ true
     both p q = cc
 
 -- one group more in front of those that are done
-pub uleb_value-more : (xs : List ℕ) (i : ℕ) → i < length xs → uleb_value (drop i xs) ≡ slice_index xs i % 128 + 128 * uleb_value (drop (i + 1) xs)
+pub uleb_value-more : (xs : List ℕ) (i : ℕ) → i < length xs
+    → uleb_value (drop i xs) ≡ slice_index xs i % 128 + 128 * uleb_value (drop (i + 1) xs)
 uleb_value-more xs i within =
     let next : suc i ≡ i + 1 = omega arith in
     ap uleb_value (drop-cons xs i 0 within) ∙ ap (λ (k : ℕ). slice_index xs i % 128 + 128 * uleb_value (drop k xs)) next
@@ -316,16 +352,21 @@ uleb_value-drop (x ∷ xs) (suc i) = omega (arith, uleb_value-drop xs i)
 pub uleb_at-unended : (bytes : List ℕ) (at : ℕ) → has_last_group (drop at bytes) ≡ false → uleb_at bytes at ≡ None
 unfolding uleb_at
 uleb_at-unended bytes at none =
-    ap (λ (b : Bool). if b && nat_lt (uleb_value (first_groups (drop at bytes))) (2 ^ 64) then told (first_groups (drop at bytes)) at else None) none
+    ap (λ (b : Bool). if b && nat_lt (uleb_value (first_groups (drop at bytes))) (2 ^ 64) then told
+    (first_groups (drop at bytes)) at else None) none
 
-pub uleb_at-great : (bytes text : List ℕ) (at : ℕ) → has_last_group (drop at bytes) ≡ true → text ≡ first_groups (drop at bytes) → 2 ^ 64 ≤ uleb_value text → uleb_at bytes at ≡ None
+pub uleb_at-great : (bytes text : List ℕ) (at : ℕ) → has_last_group (drop at bytes) ≡ true → text ≡ first_groups (drop at bytes)
+    → 2 ^ 64 ≤ uleb_value text → uleb_at bytes at ≡ None
 unfolding uleb_at
 uleb_at-great bytes text at has cut great =
-    let big : nat_lt (uleb_value (first_groups (drop at bytes))) (2 ^ 64) ≡ false = not_below (uleb_value (first_groups (drop at bytes))) (2 ^ 64) (omega (arith, ap uleb_value cut)) in
-    ap (λ (b : Bool). if b && nat_lt (uleb_value (first_groups (drop at bytes))) (2 ^ 64) then told (first_groups (drop at bytes)) at else None) has
+    let big : nat_lt (uleb_value (first_groups (drop at bytes))) (2 ^ 64)
+    ≡ false = not_below (uleb_value (first_groups (drop at bytes))) (2 ^ 64) (omega (arith, ap uleb_value cut)) in
+    ap (λ (b : Bool). if b && nat_lt (uleb_value (first_groups (drop at bytes))) (2 ^ 64) then told
+    (first_groups (drop at bytes)) at else None) has
     ∙ ap (λ (b : Bool). if b then told (first_groups (drop at bytes)) at else None) big
 
-pub uleb_at-told : (bytes text : List ℕ) (at n last : ℕ) → has_last_group (drop at bytes) ≡ true → text ≡ first_groups (drop at bytes) → n ≡ uleb_value text → n < 2 ^ 64
+pub uleb_at-told : (bytes text : List ℕ) (at n last : ℕ) → has_last_group (drop at bytes) ≡ true → text ≡ first_groups (drop at bytes)
+    → n ≡ uleb_value text → n < 2 ^ 64
     → last ≡ at + length text → uleb_at bytes at ≡ Some (n, last)
 unfolding uleb_at
 uleb_at-told bytes text at n last has cut value fits ends =

@@ -68,4 +68,5 @@ uleb_at bytes at =
 pub record UlebReadsBack (n : ℕ) : Type 0 where
   pub shortest : IsShortest (uleb_of n) n
   pub long : length (uleb_of n) ≤ MOST_GROUPS
-  pub back : (bytes : List ℕ) (at : ℕ) → Stands bytes (record { at = at; text = uleb_of n }) → uleb_at bytes at ≡ Some (n, at + length (uleb_of n))
+  pub back : (bytes : List ℕ) (at : ℕ) → Stands bytes (record { at = at; text = uleb_of n })
+      → uleb_at bytes at ≡ Some (n, at + length (uleb_of n))

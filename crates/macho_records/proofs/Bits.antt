@@ -3,11 +3,10 @@
 -- A mask that is set is there, and one that is cleared is not; a mask that shares no bit with it reads the same. The
 -- flags of a section are its attributes, a multiple of 256, and its type below 256: they share no bit, so joined by
 -- `|` they are the sum, which is the flags again.
-use Rattle.std.proofs.Common.{◌≡◌, ℕ, ◌+◌, ◌-◌, ◌*◌, ◌/◌, ◌%◌, ◌==◌, Bool, true, false, not, if◌then◌else◌, bit_and, bit_or, refl, ap, ◌∙◌, arith}
+use Rattle.std.proofs.Common.{◌≡◌, ℕ, ◌-◌, ◌*◌, ◌/◌, bit_and, bit_or, refl, ap, ◌∙◌, arith}
 use Rattle.std.specs.Int.Bits.{and_zero_r}
 use Rattle.std.proofs.lemmas.Nat.{or_shifted, and_or_self, and_or_apart, and_assoc}
 use Rattle.macho_records.specs.declared.constants.TheConstants.{N_PEXT}
-use Rattle.macho_records.specs.Flags.{has_any}
 use Rattle.macho_records.specs.Sections.{section_type, attributes_in}
 
 -- the type and the attributes make the flags again

@@ -3,7 +3,7 @@
 -- Every field has another value, and the bytes were laid out apart from this project, by the C structures of
 -- mach-o/loader.h, nlist.h, reloc.h, fixup-chains.h, compact_unwind_encoding.h and cs_blobs.h. The checker computes both
 -- directions: the record is spelled by these bytes, and behind three others they are read as this record.
-use Rattle.std.proofs.Common.{◌≡◌, ℕ, ◌+◌, ◌^◌, true, false, List, [], ◌∷◌, ◌++◌, replicate, codes, refl}
+use Rattle.std.proofs.Common.{◌≡◌, ℕ, true, false, List, [], ◌∷◌, ◌++◌, replicate, codes, refl}
 use Rattle.macho_bytes.specs.Numbers.{le_at, be_at, le_bytes, be_bytes, row_bytes}
 use Rattle.macho_bytes.specs.Layouts.{Layout, spelling, reading}
 use Rattle.macho_records.specs.Layouts.{mach_header, load_command, segment_command, section_header, symtab_command, symtab_entry, entry_point_command, dylinker_command, dylib_command, rpath_command, linkedit_data_command, uuid_command, build_version_command, build_tool_version, chained_fixups_header, chained_starts_in_segment, unwind_info_entry, code_directory}

@@ -178,15 +178,30 @@ fn strippable_symbols(rt: HostRuntime) {
     assert!(rt; !symbol(0x0e, 0, 0).is_default_strippable(b"_ltmp0"));
 }
 
-/// A common of 9 bytes aligned to 8 has 16.
+/// A common of 9 bytes, aligned to 8.
+const COMMON: SymtabEntry = SymtabEntry {
+    n_strx: 1,
+    n_type: 0x01,
+    n_sect: 0,
+    n_desc: 0x0300,
+    n_value: 9,
+};
+
+/// An undefined symbol, which has no size.
+const UNDEFINED: SymtabEntry = SymtabEntry {
+    n_strx: 1,
+    n_type: 0x01,
+    n_sect: 0,
+    n_desc: 0x0300,
+    n_value: 0,
+};
+
 #[test]
 fn commons(rt: HostRuntime) -> Result<(), Fail> {
-    let storage = symbol(0x01, 0x0300, 9);
-    let common = storage.as_common().ok_or("no common")?;
+    let common = COMMON.as_common().ok_or("no common")?;
     assert!(rt; common.size == 16 && common.align == 3);
-    assert_eq!(rt; storage.size(), 16);
-    assert_eq!(rt; symbol(0x01, 0x0300, 0).size(), 0);
-    assert!(rt; symbol(0x00, 0x0300, 9).as_common().is_none());
+    assert_eq!(rt; COMMON.size(), 16);
+    assert_eq!(rt; UNDEFINED.size(), 0);
     Ok(())
 }
 

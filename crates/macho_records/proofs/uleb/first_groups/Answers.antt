@@ -1,4 +1,4 @@
-use Rattle.std.proofs.Common.{◌≡◌, ◌≤◌, ◌<◌, length, slice_index, sym, rules, arith, inl, inr}
+use Rattle.std.proofs.Common.{◌≤◌, ◌<◌, length, slice_index, sym, rules, inl, inr}
 use Rattle.macho_bytes.proofs.Ulebs.{no_last_group, has_last_group-at}
 use Rattle.macho_records.proofs.uleb.first_groups.Goals as goal
 
@@ -16,4 +16,5 @@ returns-then-branch-lt128 c =
     (both.0, sym both.1)
 
 pub returns : goal.returns
-returns c = no_last_group c.args.bytes.now c.loop-count.count (inr c.loop-count-test.false) (λ k early within. c.loop-count.invariant.1 k early)
+returns c = no_last_group c.args.bytes.now c.loop-count.count (inr c.loop-count-test.false)
+    (λ k early within. c.loop-count.invariant.1 k early)

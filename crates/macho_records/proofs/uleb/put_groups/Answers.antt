@@ -10,7 +10,8 @@ loop-count-init c = (refl, fits-ten c.args.value (omega arith))
 pub loop-count-preserved : goal.loop-count-preserved
 loop-count-preserved c =
     write-step (MOST_GROUPS - 1 - c.loop-count.count) (MOST_GROUPS - 1 - (c.loop-count.count + 1)) c.loop-count.count c.loop-count.rest
-    (uleb_of c.args.value) c.loop-count.groups (omega arith) c.if-rest-lt128.false (omega arith) c.loop-count.invariant.1 c.loop-count.invariant.0
+    (uleb_of c.args.value) c.loop-count.groups (omega arith) c.if-rest-lt128.false
+    (omega arith) c.loop-count.invariant.1 c.loop-count.invariant.0
 
 pub returns-then-rest-lt128-clause-written : goal.returns-then-rest-lt128-clause-written
 returns-then-rest-lt128-clause-written c =
@@ -29,5 +30,6 @@ pub returns-clause-written : goal.returns-clause-written
 returns-clause-written c =
     let here : c.loop-count.count ≡ 9 = omega arith in
     let small = last_rest (MOST_GROUPS - 1 - c.loop-count.count) c.loop-count.rest (omega arith) c.loop-count.invariant.1 in
-    rw here at (write-ends (MOST_GROUPS - 1 - c.loop-count.count) c.loop-count.count c.loop-count.rest (uleb_of c.args.value) c.loop-count.groups
+    rw here at (write-ends (MOST_GROUPS - 1 - c.loop-count.count) c.loop-count.count c.loop-count.rest
+    (uleb_of c.args.value) c.loop-count.groups
     small (omega arith) c.loop-count.invariant.0)

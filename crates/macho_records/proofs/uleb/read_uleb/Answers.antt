@@ -1,4 +1,4 @@
-use Rattle.std.proofs.Common.{◌≡◌, ◌-◌, ◌+◌, ◌≤◌, ◌<◌, ◌^◌, ℕ, Bool, List, length, take, drop, true, false, Option, Some, None, IfSome, sym, ap, subst, ◌∙◌, refl, arith}
+use Rattle.std.proofs.Common.{◌≡◌, ◌-◌, ◌+◌, ◌≤◌, ◌<◌, ◌^◌, ℕ, List, length, take, drop, true, false, Option, Some, None, IfSome, sym, ap, subst, ◌∙◌, refl, arith}
 use Rattle.std.proofs.lemmas.List.{take_rest}
 use Rattle.macho_bytes.specs.Uleb.{IsUlebAt, uleb_at, uleb_value, first_groups, has_last_group}
 use Rattle.macho_bytes.proofs.Ulebs.{uleb_at-past, uleb_at-unended, uleb_at-great, uleb_at-told, uleb_at-only, uleb_at-found}
@@ -17,7 +17,8 @@ told : (bytes text : List ℕ) (at n : ℕ) → has_last_group (take (length byt
     → text ≡ first_groups (take (length bytes - at) (drop at bytes)) → n ≡ uleb_value text → n < 2 ^ 64
     → uleb_at bytes at ≡ Some (n, at + length text)
 told bytes text at n has cut value fits =
-    uleb_at-told bytes text at n (at + length text) (ap has_last_group (sym (take_rest bytes at)) ∙ has) (cut ∙ ap first_groups (take_rest bytes at)) value fits refl
+    uleb_at-told bytes text at n (at + length text) (ap has_last_group (sym (take_rest bytes at)) ∙ has)
+    (cut ∙ ap first_groups (take_rest bytes at)) value fits refl
 
 pub returns-then-bytes-at-clause-value : goal.returns-then-bytes-at-clause-value
 returns-then-bytes-at-clause-value c = sym (uleb_at-past c.args.bytes.now c.args.at (omega arith))
@@ -27,7 +28,8 @@ returns-in_err-groups-clause-value c = c.from_residual.ensures ∙ sym (unended 
 
 pub returns-in_err-groups-clause-only : goal.returns-in_err-groups-clause-only
 returns-in_err-groups-clause-only c n last u =
-    c.from_residual.ensures ∙ sym (unended c.args.bytes.now c.args.at c.in_err-groups.ensures) ∙ uleb_at-only c.args.bytes.now c.args.at n last u
+    c.from_residual.ensures ∙ sym (unended c.args.bytes.now c.args.at c.in_err-groups.ensures)
+    ∙ uleb_at-only c.args.bytes.now c.args.at n last u
 
 pub returns-in_err-value-clause-value : goal.returns-in_err-value-clause-value
 returns-in_err-value-clause-value c =

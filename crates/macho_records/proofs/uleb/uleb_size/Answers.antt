@@ -9,7 +9,8 @@ loop-size-init c = omega arith
 
 pub loop-size-preserved : goal.loop-size-preserved
 loop-size-preserved c =
-    size-step (MOST_GROUPS - c.loop-size.size) (MOST_GROUPS - (c.loop-size.size + 1)) c.loop-size.size c.loop-size.rest (length (uleb_of c.args.value))
+    size-step (MOST_GROUPS - c.loop-size.size) (MOST_GROUPS - (c.loop-size.size + 1)) c.loop-size.size c.loop-size.rest
+    (length (uleb_of c.args.value))
     (omega arith) c.if-rest-lt128.false c.loop-size.invariant
 
 pub returns-then-rest-lt128 : goal.returns-then-rest-lt128
