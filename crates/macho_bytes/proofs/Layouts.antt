@@ -36,30 +36,37 @@ numbers_at-stands : (order : ByteOrder) → IsSound order → (w : ℕ) (ns byte
 unfolding row_bytes
 numbers_at-stands order sound w [] bytes at offset fits s = refl
 numbers_at-stands order sound w (n ∷ ns) bytes at offset fits s =
-    let here = number-stands order sound w n bytes (at + offset) fits.0 (stands-front bytes (at + offset) (order.bytes_of w n) (row_bytes order w ns) s) in
+    let here = number-stands order sound w n bytes (at + offset) fits.0
+    (stands-front bytes (at + offset) (order.bytes_of w n) (row_bytes order w ns) s) in
     let next : at + (offset + w) ≡ at + offset + length (order.bytes_of w n) = omega (arith, sound.long w n) in
     let rest = numbers_at-stands order sound w ns bytes at (offset + w) fits.1
     (stands-back bytes (at + offset) (at + (offset + w)) (order.bytes_of w n) (row_bytes order w ns) next s) in
     rw (here, rest) refl
 
 -- a row reads back where it stands
-row_read-stands : {R : Type 0} (order : ByteOrder) → IsSound order → (blank r r0 : R) (bytes : List ℕ) (at offset : ℕ) (row : Row R) → RowFits blank r row
-    → Stands bytes (record { at = at + offset; text = row_text order r row }) → row_read order blank bytes at offset r0 row ≡ row_filled r0 r row
+row_read-stands : {R : Type 0} (order : ByteOrder) → IsSound order → (blank r r0 : R) (bytes : List ℕ) (at offset : ℕ) (row : Row R)
+    → RowFits blank r row
+    → Stands bytes (record { at = at + offset; text = row_text order r row })
+    → row_read order blank bytes at offset r0 row ≡ row_filled r0 r row
 row_read-stands order sound blank r r0 bytes at offset (numbers width fields set) fits s =
     let same : numbers_at order width bytes at offset (length (fields blank)) ≡ fields r =
-    ap (λ (k : ℕ). numbers_at order width bytes at offset k) (sym fits.1) ∙ numbers_at-stands order sound width (fields r) bytes at offset fits.0 s in
+    ap (λ (k : ℕ). numbers_at order width bytes at offset k) (sym fits.1)
+    ∙ numbers_at-stands order sound width (fields r) bytes at offset fits.0 s in
     ap (λ (ns : List ℕ). set (slice_index ns) r0) same
 row_read-stands order sound blank r r0 bytes at offset (text field set) fits s =
     let ends : at + (offset + length (field blank)) ≡ at + offset + length (field r) = omega (arith, fits) in
     ap (λ (t : List ℕ). set t r0) (ap (λ (e : ℕ). slice_range bytes (at + offset) e) ends ∙ s.same)
 
 -- the size of a row is the length of its text
-length-row_text : {R : Type 0} (order : ByteOrder) → IsSound order → (blank r : R) (row : Row R) → RowFits blank r row → length (row_text order r row) ≡ row_size blank row
-length-row_text order sound blank r (numbers width fields set) fits = length-row_bytes order sound width (fields r) ∙ ap (λ (k : ℕ). width * k) fits.1
+length-row_text : {R : Type 0} (order : ByteOrder) → IsSound order → (blank r : R) (row : Row R) → RowFits blank r row
+    → length (row_text order r row) ≡ row_size blank row
+length-row_text order sound blank r (numbers width fields set) fits = length-row_bytes order sound width (fields r)
+    ∙ ap (λ (k : ℕ). width * k) fits.1
 length-row_text order sound blank r (text field set) fits = fits
 
 -- what stands in front of a spelling stays in front
-text_from-front : {R : Type 0} (order : ByteOrder) (r : R) (front : List ℕ) (rows : List (Row R)) → text_from order r front rows ≡ front ++ text_from order r [] rows
+text_from-front : {R : Type 0} (order : ByteOrder) (r : R) (front : List ℕ) (rows : List (Row R))
+    → text_from order r front rows ≡ front ++ text_from order r [] rows
 text_from-front order r front [] = sym (append-nil front)
 text_from-front order r front (row ∷ rows) =
     text_from-front order r (front ++ row_text order r row) rows
@@ -67,7 +74,8 @@ text_from-front order r front (row ∷ rows) =
     ∙ ap (λ (t : List ℕ). front ++ t) (sym (text_from-front order r (row_text order r row) rows))
 
 -- the rest of a record reads back where its spelling stands
-read_from-stands : {R : Type 0} (order : ByteOrder) → IsSound order → (blank r : R) (bytes : List ℕ) (at : ℕ) (rows : List (Row R)) (offset : ℕ) (r0 : R) (front : List ℕ)
+read_from-stands : {R : Type 0} (order : ByteOrder) → IsSound order
+    → (blank r : R) (bytes : List ℕ) (at : ℕ) (rows : List (Row R)) (offset : ℕ) (r0 : R) (front : List ℕ)
     → length front ≡ offset → RowsFit blank r rows → Stands bytes (record { at = at; text = text_from order r front rows })
     → read_from order blank bytes at offset r0 rows ≡ filled r0 r rows
 read_from-stands order sound blank r bytes at [] offset r0 front long fits s = refl
@@ -78,7 +86,8 @@ read_from-stands {R = R} order sound blank r bytes at (row ∷ rows) offset r0 f
     let both = stands-front bytes at (front ++ row_text order r row) (text_from order r [] rows) whole in
     let here = stands-back bytes at (at + offset) front (row_text order r row) (omega (arith, long)) both in
     let first = row_read-stands order sound blank r r0 bytes at offset row fits.0 here in
-    let rest = read_from-stands order sound blank r bytes at rows (offset + row_size blank row) (row_filled r0 r row) (front ++ row_text order r row)
+    let rest = read_from-stands order sound blank r bytes at rows (offset + row_size blank row) (row_filled r0 r row)
+    (front ++ row_text order r row)
     (omega (arith, long, size, length-append front (row_text order r row))) fits.1 s in
     ap (λ (x : R). read_from order blank bytes at (offset + row_size blank row) x rows) first ∙ rest
 
@@ -90,8 +99,36 @@ length-text_from order sound blank r (row ∷ rows) offset front long fits =
     length-text_from order sound blank r rows (offset + row_size blank row) (front ++ row_text order r row)
     (omega (arith, long, length-append front (row_text order r row), length-row_text order sound blank r row fits.0)) fits.1
 
+-- the fields of a row are as many as its layout says
+abbrev pub RowLong : {R : Type 0} → R → R → Row R → Type 0
+RowLong blank r (numbers width fields set) = length (fields r) ≡ length (fields blank)
+RowLong blank r (text field set) = length (field r) ≡ length (field blank)
+
+abbrev pub RowsLong : {R : Type 0} → R → R → List (Row R) → Type 0
+RowsLong blank r [] = Unit {0}
+RowsLong blank r (row ∷ rows) = RowLong blank r row × RowsLong blank r rows
+
+length-row_long : {R : Type 0} (order : ByteOrder) → IsSound order → (blank r : R) (row : Row R) → RowLong blank r row
+    → length (row_text order r row) ≡ row_size blank row
+length-row_long order sound blank r (numbers width fields set) long = length-row_bytes order sound width (fields r)
+    ∙ ap (λ (k : ℕ). width * k) long
+length-row_long order sound blank r (text field set) long = long
+
+length-text_long : {R : Type 0} (order : ByteOrder) → IsSound order → (blank r : R) (rows : List (Row R)) (offset : ℕ) (front : List ℕ)
+    → length front ≡ offset → RowsLong blank r rows → length (text_from order r front rows) ≡ size_from blank offset rows
+length-text_long order sound blank r [] offset front is long = is
+length-text_long order sound blank r (row ∷ rows) offset front is long =
+    length-text_long order sound blank r rows (offset + row_size blank row) (front ++ row_text order r row)
+    (omega (arith, is, length-append front (row_text order r row), length-row_long order sound blank r row long.0)) long.1
+
+-- the length of a spelling, whatever its numbers: it asks only that each text has its length
+pub length-spelling : {R : Type 0} (l : Layout R) (r : R) → IsSound l.order → RowsLong l.blank r l.rows → length (spelling l r) ≡ size_of l
+unfolding spelling
+length-spelling l r sound long = length-text_long l.order sound l.blank r l.rows 0 [] refl long
+
 -- The one lemma for every record: if its fields fit their rows, and filling a blank record with them gives it back.
-pub reads_back : {R : Type 0} (l : Layout R) (r : R) → IsSound l.order → RowsFit l.blank r l.rows → filled l.blank r l.rows ≡ r → ReadsBack l r
+pub reads_back : {R : Type 0} (l : Layout R) (r : R) → IsSound l.order → RowsFit l.blank r l.rows → filled l.blank r l.rows ≡ r
+    → ReadsBack l r
 unfolding spelling reading
 reads_back l r sound fits whole =
     record {
@@ -122,7 +159,15 @@ unfolding spelling
 spelling_is l r = refl
 
 -- what the write of a little-endian record is proved by: its rows are puts next to each other, and it reads back
-pub ruleset little_record = (spelling_is, put-put, length-put, length-row_little, length-append, length-spelling_little, reading-stands_little)
+pub ruleset little_record = (
+  spelling_is,
+  put-put,
+  length-put,
+  length-row_little,
+  length-append,
+  length-spelling_little,
+  reading-stands_little,
+)
 
 -- the same of a big-endian record
 pub ruleset big_record = (spelling_is, put-put, length-put, length-row_big, length-append, length-spelling_big, reading-stands_big)

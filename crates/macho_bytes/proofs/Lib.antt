@@ -3,6 +3,10 @@ pub mod Images
 pub mod Numbers
 pub mod Layouts
 pub mod Writes
+pub mod Reading
+pub mod Tables
 pub mod Names
 pub mod Rounding
 pub mod Sequences
+pub mod Ulebs
+pub mod UlebRows

@@ -17,11 +17,13 @@ pub name_of-ends : (bytes : List ℕ) (k : ℕ) → k < length bytes → ((i : �
     → name_of bytes ≡ take k bytes
 name_of-ends bytes k within before zero_at =
     ap (λ (n : ℕ). take n bytes)
-    (position_or_len_is (λ b. b == 0) bytes k 0 (omega arith) (λ i h. fails (slice_index bytes i) (before i h)) (λ h. eq-eqb (slice_index bytes k) 0 zero_at))
+    (position_or_len_is (λ b. b == 0) bytes k 0 (omega arith) (λ i h. fails (slice_index bytes i) (before i h))
+    (λ h. eq-eqb (slice_index bytes k) 0 zero_at))
 
 -- a name without a zero is whole
 pub name_of-whole : (bytes : List ℕ) → ((i : ℕ) → i < length bytes → slice_index bytes i ≡ 0 → ⊥) → name_of bytes ≡ bytes
 name_of-whole bytes none =
     ap (λ (n : ℕ). take n bytes)
-    (position_or_len_is (λ b. b == 0) bytes (length bytes) 0 (omega arith) (λ i h. fails (slice_index bytes i) (none i h)) (λ h. absurd (omega arith)))
+    (position_or_len_is (λ b. b == 0) bytes (length bytes) 0 (omega arith) (λ i h. fails (slice_index bytes i) (none i h))
+    (λ h. absurd (omega arith)))
     ∙ take_all (length bytes) bytes (omega arith)

@@ -18,7 +18,8 @@ use Rattle.macho_bytes.proofs.Puts.{stands_by_bytes}
 -- A byte order spells a number of w bytes by w bytes, and reads it where they stand first.
 pub record IsSound (order : ByteOrder) : Type 0 where
   pub long : (w n : ℕ) → length (order.bytes_of w n) ≡ w
-  pub first : (w n : ℕ) (bytes rest : List ℕ) (at : ℕ) → n < 256 ^ w → drop at bytes ≡ order.bytes_of w n ++ rest → order.number_at w bytes at ≡ n
+  pub first : (w n : ℕ) (bytes rest : List ℕ) (at : ℕ) → n < 256 ^ w → drop at bytes ≡ order.bytes_of w n ++ rest
+      → order.number_at w bytes at ≡ n
 
 pub little_is_sound : IsSound little
 unfolding le_at le_bytes
@@ -44,7 +45,8 @@ drop-stands bytes p s =
     sym split ∙ ap (λ (t : List ℕ). t ++ drop (end_of p - p.at) (drop p.at bytes)) s.same ∙ ap (λ (t : List ℕ). p.text ++ t) rest
 
 -- the front and the back of a text that stands
-pub stands-front : (bytes : List ℕ) (at : ℕ) (x y : List ℕ) → Stands bytes (record { at = at; text = x ++ y }) → Stands bytes (record { at = at; text = x })
+pub stands-front : (bytes : List ℕ) (at : ℕ) (x y : List ℕ) → Stands bytes (record { at = at; text = x ++ y })
+    → Stands bytes (record { at = at; text = x })
 stands-front bytes at x y s =
     stands_by_bytes bytes (record { at = at; text = x }) (omega (arith, s.within, length-append x y))
     (λ i h. sym (get_or-between bytes at (at + length (x ++ y)) i 0 (omega (arith, length-append x y)))
@@ -62,7 +64,8 @@ stands-back bytes at next x y is s =
 pub number-stands : (order : ByteOrder) → IsSound order → (w n : ℕ) (bytes : List ℕ) (at : ℕ) → n < 256 ^ w
     → Stands bytes (record { at = at; text = order.bytes_of w n }) → order.number_at w bytes at ≡ n
 number-stands order sound w n bytes at fits s =
-    sound.first w n bytes (drop (end_of (record { at = at; text = order.bytes_of w n })) bytes) at fits (drop-stands bytes (record { at = at; text = order.bytes_of w n }) s)
+    sound.first w n bytes (drop (end_of (record { at = at; text = order.bytes_of w n })) bytes) at fits
+    (drop-stands bytes (record { at = at; text = order.bytes_of w n }) s)
 
 -- a row has w bytes for each number
 pub length-row_bytes : (order : ByteOrder) → IsSound order → (w : ℕ) (ns : List ℕ) → length (row_bytes order w ns) ≡ w * length ns
@@ -75,7 +78,8 @@ length-row_bytes order sound w (n ∷ ns) =
     omega (arith, ih, here, split, mul-suc w (length ns))
 
 -- one number more of a row
-pub row_bytes-more : (order : ByteOrder) (w : ℕ) (ns : List ℕ) (n : ℕ) → row_bytes order w (ns ++ n ∷ []) ≡ row_bytes order w ns ++ order.bytes_of w n
+pub row_bytes-more : (order : ByteOrder) (w : ℕ) (ns : List ℕ) (n : ℕ)
+    → row_bytes order w (ns ++ n ∷ []) ≡ row_bytes order w ns ++ order.bytes_of w n
 unfolding row_bytes
 row_bytes-more order w ns n =
     flat_map-append (order.bytes_of w) ns (n ∷ []) ∙ ap (λ (t : List ℕ). row_bytes order w ns ++ t) (append-nil (order.bytes_of w n))

@@ -32,7 +32,8 @@ get_or-put_in at text bytes i fits from to =
     ∙ get_or_append_left text (drop (at + length text) bytes) 0 (i - at) (omega arith)
 
 -- a byte below the text
-pub get_or-put_below : (at : ℕ) (text bytes : List ℕ) (i : ℕ) → at + length text ≤ length bytes → i < at → get_or (put at text bytes) i 0 ≡ get_or bytes i 0
+pub get_or-put_below : (at : ℕ) (text bytes : List ℕ) (i : ℕ) → at + length text ≤ length bytes → i < at
+    → get_or (put at text bytes) i 0 ≡ get_or bytes i 0
 unfolding put
 get_or-put_below at text bytes i fits below =
     get_or_append_left (take at bytes) (text ++ drop (at + length text) bytes) 0 i (omega (arith, length-take at bytes))
@@ -70,9 +71,11 @@ is_put at text bytes now fits long inside below above =
         ]
 
 -- two puts, the second where the first ends, are one
-pub put-put : (a b : ℕ) (x y bytes : List ℕ) → b ≡ a + length x → b + length y ≤ length bytes → put b y (put a x bytes) ≡ put a (x ++ y) bytes
+pub put-put : (a b : ℕ) (x y bytes : List ℕ) → b ≡ a + length x → b + length y ≤ length bytes
+    → put b y (put a x bytes) ≡ put a (x ++ y) bytes
 put-put a b x y bytes next fits =
-    is_put a (x ++ y) bytes (put b y (put a x bytes)) (omega (arith, long)) (omega (arith, length-put b y (put a x bytes), first)) inside below above
+    is_put a (x ++ y) bytes (put b y (put a x bytes)) (omega (arith, long))
+    (omega (arith, length-put b y (put a x bytes), first)) inside below above
   where
     long : length (x ++ y) ≡ length x + length y
     long = length-append x y
@@ -84,7 +87,8 @@ put-put a b x y bytes next fits =
     below i h = get_or-put_below b y (put a x bytes) i (omega (arith, first)) (omega arith) ∙ get_or-put_below a x bytes i (omega arith) h
 
     above : (i : ℕ) → a + length (x ++ y) ≤ i → get_or (put b y (put a x bytes)) i 0 ≡ get_or bytes i 0
-    above i h = get_or-put_above b y (put a x bytes) i (omega (arith, first)) (omega (arith, long)) ∙ get_or-put_above a x bytes i (omega arith) (omega (arith, long))
+    above i h = get_or-put_above b y (put a x bytes) i (omega (arith, first)) (omega (arith, long))
+        ∙ get_or-put_above a x bytes i (omega arith) (omega (arith, long))
 
     inside : (i : ℕ) → a ≤ i → i < a + length (x ++ y) → get_or (put b y (put a x bytes)) i 0 ≡ get_or (x ++ y) (i - a) 0
     inside i from to =
@@ -122,7 +126,8 @@ stands_by_bytes bytes p within each =
     same i h = get_or-between bytes p.at (end_of p) i 0 (omega (arith, long)) ∙ each i (omega (arith, long))
 
 -- what was put stands
-pub put_stands : (at : ℕ) (text bytes : List ℕ) → at + length text ≤ length bytes → Stands (put at text bytes) (record { at = at; text = text })
+pub put_stands : (at : ℕ) (text bytes : List ℕ) → at + length text ≤ length bytes
+    → Stands (put at text bytes) (record { at = at; text = text })
 put_stands at text bytes fits =
     stands_by_bytes (put at text bytes) (record { at = at; text = text }) (omega (arith, length-put at text bytes fits))
     (λ i h. get_or-put_in at text bytes (at + i) fits (omega arith) (omega arith) ∙ ap (λ (k : ℕ). get_or text k 0) (omega arith))

@@ -72,7 +72,7 @@ carried-are l b cs one plain =
     ap (filter (λ s. is_carried (header_at l s))) (sections-are l b one)
     ∙ filter-map first_section (λ s. is_carried (header_at l s)) (range_with_len 0 (num_sections b))
     ∙ ap (λ (o : List ℕ). map first_section (filter (λ k. is_carried (section_at o k)) (range_with_len 0 (num_sections b)))) (object-is l b one)
-    ∙ ap (map first_section) (sym plain.numbers)
+    ∙ ap (map first_section) (sym plain.sections.numbers)
     ∙ map-map (λ c. c.section) first_section cs
 
 -- an element of the numbers of something, mapped
@@ -91,10 +91,10 @@ no_consumed l b cs also one plain =
     let test : SectionId → Bool = λ s. is_consumed (header_at l s) && also (header_at l s) in
     ap (filter test) (sections-are l b one)
     ∙ filter_none test (map first_section (range_with_len 0 (num_sections b)))
-      (λ k d lt. let here = numbered first_section (num_sections b) k d lt in
-        let header : header_at l (get_or (map first_section (range_with_len 0 (num_sections b))) k d) ≡ section_at b k = ap (header_at l) here.1 ∙ first-header l b one k in
-        let NotBoth : SectionHeader → Type 0 = λ h. (is_consumed h && also h) ≡ false in
-        subst NotBoth (sym header) (and-false (is_consumed (section_at b k)) (also (section_at b k)) (plain.consumed k here.0)))
+    (λ k d lt. let here = numbered first_section (num_sections b) k d lt in
+    let header : header_at l (get_or (map first_section (range_with_len 0 (num_sections b))) k d) ≡ section_at b k = ap (header_at l) here.1 ∙ first-header l b one k in
+    let NotBoth : SectionHeader → Type 0 = λ h. (is_consumed h && also h) ≡ false in
+    subst NotBoth (sym header) (and-false (is_consumed (section_at b k)) (also (section_at b k)) (plain.sections.consumed k here.0)))
 
 -- no symbol of the link is a common
 no_commons : (l : Link) (b : List ℕ) (cs : List Carried) → HasOneObject l b → IsPlainObject b cs → chosen_commons l ≡ []
@@ -103,25 +103,25 @@ no_commons l b cs one plain =
     let test : SymbolId → Bool = λ s. is_common_of (entry_at l s) && defines l s in
     ap (filter test) (symbols-are l b one)
     ∙ filter_none test (map first_symbol (range_with_len 0 (num_symbols b)))
-      (λ k d lt. let here = numbered first_symbol (num_symbols b) k d lt in
-        let entry : entry_at l (get_or (map first_symbol (range_with_len 0 (num_symbols b))) k d) ≡ symbol_at b k =
-          ap (entry_at l) here.1 ∙ ap (λ (o : List ℕ). symbol_at o k) (object-is l b one) in
-        and-false (is_common_of (entry_at l (get_or (map first_symbol (range_with_len 0 (num_symbols b))) k d)))
-          (defines l (get_or (map first_symbol (range_with_len 0 (num_symbols b))) k d))
-          (ap is_common_of entry ∙ plain.commons k here.0))
+    (λ k d lt. let here = numbered first_symbol (num_symbols b) k d lt in
+    let entry : entry_at l (get_or (map first_symbol (range_with_len 0 (num_symbols b))) k d) ≡ symbol_at b k =
+    ap (entry_at l) here.1 ∙ ap (λ (o : List ℕ). symbol_at o k) (object-is l b one) in
+    and-false (is_common_of (entry_at l (get_or (map first_symbol (range_with_len 0 (num_symbols b))) k d)))
+    (defines l (get_or (map first_symbol (range_with_len 0 (num_symbols b))) k d))
+    (ap is_common_of entry ∙ plain.commons k here.0))
 
 -- a carried section has no relocation, so no use
 no_uses_carried : (l : Link) (b : List ℕ) (cs : List Carried) → HasOneObject l b → IsPlainObject b cs → flat_map (carried_uses l) (carried_of l) ≡ []
 no_uses_carried l b cs one plain =
     ap (flat_map (carried_uses l)) (carried-are l b cs one plain)
     ∙ flat_map_none (carried_uses l) (map id_of_carried cs)
-      (λ k d lt. let within : k < length cs = omega (arith, length-map cs id_of_carried) in
-        let here : get_or (map id_of_carried cs) k d ≡ id_of_carried (get_or cs k no_carried) = map-at id_of_carried cs k no_carried d within in
-        let none : (header_at l (get_or (map id_of_carried cs) k d)).nreloc ≡ 0 =
-          ap (λ (s : SectionId). (header_at l s).nreloc) here
-          ∙ ap (λ (h : SectionHeader). h.nreloc) (first-header l b one (get_or cs k no_carried).section ∙ sym (plain.headers k no_carried within))
-          ∙ plain.relocations k no_carried within in
-        ap (λ (n : ℕ). map (ByRelocation (get_or (map id_of_carried cs) k d)) (range_with_len 0 n)) none)
+    (λ k d lt. let within : k < length cs = omega (arith, length-map cs id_of_carried) in
+    let here : get_or (map id_of_carried cs) k d ≡ id_of_carried (get_or cs k no_carried) = map-at id_of_carried cs k no_carried d within in
+    let none : (header_at l (get_or (map id_of_carried cs) k d)).nreloc ≡ 0 =
+    ap (λ (s : SectionId). (header_at l s).nreloc) here
+    ∙ ap (λ (h : SectionHeader). h.nreloc) (first-header l b one (get_or cs k no_carried).section ∙ sym (plain.sections.each k no_carried within).header)
+    ∙ (plain.sections.each k no_carried within).plain.relocations in
+    ap (λ (n : ℕ). map (ByRelocation (get_or (map id_of_carried cs) k d)) (range_with_len 0 n)) none)
 
 -- so there is no use at all
 no_uses : (l : Link) (b : List ℕ) (cs : List Carried) → HasOneObject l b → IsPlainObject b cs → uses_of l ≡ []
@@ -168,6 +168,7 @@ plain_exponent l s h is apart =
   where
     exponent_by : Link → SectionHeader → ℕ
     exponent_by k x = if is_template x then template_exponent k else if type_of x == 0x13 then max 3 x.align else x.align
+
     by_tests : is_template h ≡ false → (type_of h == 0x13) ≡ false → exponent_by l h ≡ h.align
     by_tests t u = rw (t, u) refl
 
@@ -177,18 +178,18 @@ is_first l b cs one object plain = record {
   executable = one.executable;
   list = carried-are l b cs one plain;
   plain = λ k c lt. let x = get_or cs k c in
-    let header : header_at l (id_of_carried x) ≡ x.header = first-header l b one x.section ∙ sym (plain.headers k c lt) in
-    let rule = subst (λ (h : SectionHeader). (not (is_thread_local (type_of h)) || is_in_segment (codes "__DATA") h) ≡ true) (sym (plain.headers k c lt))
-      (object.o11 x.section (plain.exist k c lt)) in
-    let own = plain_exponent l (id_of_carried x) x.header header (not_thread_local x.header (plain.text k c lt) rule) in
-    record {
-      header = header;
-      text = plain.text k c lt;
-      filled = plain.filled k c lt;
-      template = own.0;
-      exponent = own.1;
-      relocations = plain.relocations k c lt;
-    };
+      let header : header_at l (id_of_carried x) ≡ x.header = first-header l b one x.section ∙ sym (plain.sections.each k c lt).header in
+      let rule = subst (λ (h : SectionHeader). (not (is_thread_local (type_of h)) || is_in_segment (codes "__DATA") h) ≡ true) (sym (plain.sections.each k c lt).header)
+      (object.o11 x.section (plain.sections.each k c lt).exist) in
+      let own = plain_exponent l (id_of_carried x) x.header header (not_thread_local x.header ((plain.sections.each k c lt).plain.text) rule) in
+      record {
+        header = header;
+        text = (plain.sections.each k c lt).plain.text;
+        filled = (plain.sections.each k c lt).plain.filled;
+        template = own.0;
+        exponent = own.1;
+        relocations = (plain.sections.each k c lt).plain.relocations;
+      };
   commons = no_commons l b cs one plain;
   slots = no_slots l b cs one plain;
   stubs = no_stubs l b cs one plain;

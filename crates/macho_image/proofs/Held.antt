@@ -50,15 +50,18 @@ section_stands l b object n entry none headers front end c q sections s choice h
   where
     no : fields_of l (id_of q) ≡ []
     no = no_fields l (id_of q) (ap (λ (x : SectionHeader). x.nreloc) (header-at l front end c q here) ∙ here.plain.relocations)
+
     held : HoldsText b s choice (PAGEZERO_SIZE + (q.address - PAGEZERO_SIZE) + s) (section_bytes object q.section)
     held =
         text_is_held b s choice (text_record n (length headers.now)) (q.address - PAGEZERO_SIZE) (section_bytes object q.section) (tables-are b n entry none headers head)
-          (mapped b n entry none headers head) (omega (arith, long, here.place.to, here.place.from)) (omega arith) (moved stands)
+        (mapped b n entry none headers head) (omega (arith, long, here.place.to, here.place.from)) (omega arith) (moved stands)
       where
         moved : Stands b (section_part object q) → Stands b (record { at = 0 + (q.address - PAGEZERO_SIZE); text = section_bytes object q.section })
         moved st = subst (λ (a : ℕ). Stands b (record { at = a; text = section_bytes object q.section })) (omega arith) st
+
     object-is : object_of l q.file ≡ object
     object-is = ap (object_of l) here.place.file ∙ is
+
     bytes : (i : ℕ) → i < (header_at l (id_of q)).size → All (IsOutsideField i) (fields_of l (id_of q))
         → Holds b s choice (q.address + i + s) (slice_index (section_bytes (object_of l q.file) q.section) i)
     bytes i lt outside =
@@ -73,7 +76,7 @@ pub stands : (l : Link) (b object : List ℕ) (n entry : ℕ) (none headers : Bo
     → All (λ q. Stands b (section_part object q)) ps → ImageStands l b (placed_of_image n ps headers.now) s choice
 stands l b object n entry none headers front end cs ps s choice first head places low high is long each = record {
   sections = λ k q lt. section_stands l b object n entry none headers front end (get_or cs k no_carried) (get_or ps k q) ps s choice head
-    (at_place l front end cs ps first places k q lt) low high is (sized k q lt) (each k q lt);
+      (at_place l front end cs ps first places k q lt) low high is (sized k q lt) (each k q lt);
   commons = All-nil (CommonStands l b s choice);
   through = record {
     slots = All-nil (SlotStands l b (placed_of_image n ps headers.now) s choice);

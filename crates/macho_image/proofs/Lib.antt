@@ -3,3 +3,4 @@ pub mod Places
 pub mod Placed
 pub mod Held
 pub mod First
+pub mod Scans

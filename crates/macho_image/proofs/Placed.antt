@@ -52,6 +52,7 @@ ids front end cs ps places =
   where
     none : SectionId
     none = record { file = 0; section = 0 }
+
     same : (i : ℕ) → i < length (map id_of ps) → get_or (map id_of ps) i none ≡ get_or (map id_of_carried cs) i none
     same i lt =
         let p = places.each i no_carried no_place (omega (arith, length-map ps id_of, places.count)) in
@@ -64,8 +65,8 @@ apart_from_empty : (xs ys : List Span) → AllPairs AreApart xs → All (λ s. s
 apart_from_empty xs [] pairs empty = rw (append-nil xs) pairs
 apart_from_empty xs (y ∷ ys) pairs empty =
     rw (← append_assoc xs (y ∷ []) ys)
-      (apart_from_empty (xs ++ y ∷ []) ys (all_pairs_push AreApart xs y pairs (λ k d lt. inr (inl (empty 0 y (omega arith)))))
-        (λ k d lt. empty (suc k) d (omega arith)))
+    (apart_from_empty (xs ++ y ∷ []) ys (all_pairs_push AreApart xs y pairs (λ k d lt. inr (inl (empty 0 y (omega arith)))))
+    (λ k d lt. empty (suc k) d (omega arith)))
 
 -- the facts about the place number k: its section's header, its exponent, its segment
 pub record IsAtPlace (l : Link) (front end : ℕ) (c : Carried) (q : PlacedSection) : Type 0 where
@@ -110,16 +111,21 @@ section_aligned l front end c q h =
 
 section_lies : (l : Link) (front end n : ℕ) (c : Carried) (q : PlacedSection) (sections : List PlacedSection) (headers : List SectionHeader)
     → IsAtPlace l front end c q → PAGEZERO_SIZE ≤ front → end ≤ PAGEZERO_SIZE + n → SectionLies l (placed_of_image n sections headers) q
-section_lies l front end n c q sections headers h low high =
-    (text_segment n,
-     rw h.place.segment (omega arith),
-     rw h.place.segment refl,
-     subst (λ (x : SectionHeader). bytes_eq (codes "__TEXT") (name_of x.segname) ≡ true) (sym (header-at l front end c q h)) (named c h.plain.text),
-     record {
-       from = omega (arith, h.place.from);
-       to = omega (arith, h.place.to, size-at l front end c q h,
-         same_if (not (is_zerofill (header_at l (id_of q))) && not ((header_at l (id_of q)).size == 0)) n);
-     })
+section_lies l front end n c q sections headers h low high = (
+  text_segment n,
+  rw h.place.segment (omega arith),
+  rw h.place.segment refl,
+  subst (λ (x : SectionHeader). bytes_eq (codes "__TEXT") (name_of x.segname) ≡ true) (sym (header-at l front end c q h)) (named c h.plain.text),
+  record {
+    from = omega (arith, h.place.from);
+    to = omega (
+      arith,
+      h.place.to,
+      size-at l front end c q h,
+      same_if (not (is_zerofill (header_at l (id_of q))) && not ((header_at l (id_of q)).size == 0)) n,
+    );
+  },
+)
   where
     named : (x : Carried) → segment_name_of x.header ≡ TEXT → bytes_eq (codes "__TEXT") (name_of x.header.segname) ≡ true
     named x e = rw e refl
@@ -142,10 +148,10 @@ parts_apart : (l : Link) (front end n : ℕ) (cs : List Carried) (ps : List Plac
 unfolding spans_with
 parts_apart l front end n cs ps headers first places count is =
     apart_from_empty (head_span (counts_of l) (placed_of_image n ps headers) ∷ map (section_span l) ps ++ [] ++ [] ++ []) (empty_spans (placed_of_image n ps headers))
-      (subst (AllPairs AreApart) {x = head_span (counts_of l) (placed_of_image n ps headers) ∷ map (section_span l) ps} (sym (append-nil _ ∙ append-nil _ ∙ append-nil _))
-        (AllPairs-cons AreApart (head_span (counts_of l) (placed_of_image n ps headers)) (map (section_span l) ps)
-          (front_apart l front end n cs ps headers first places count is) (sections_apart l front end cs ps first places)))
-      (All-from_recursion (λ s. s.size ≡ 0) (empty_spans (placed_of_image n ps headers)) (refl, (refl, (refl, (refl, (refl, (refl, (refl, tt))))))))
+    (subst (AllPairs AreApart) {x = head_span (counts_of l) (placed_of_image n ps headers) ∷ map (section_span l) ps} (sym (append-nil _ ∙ append-nil _ ∙ append-nil _))
+    (AllPairs-cons AreApart (head_span (counts_of l) (placed_of_image n ps headers)) (map (section_span l) ps)
+    (front_apart l front end n cs ps headers first places count is) (sections_apart l front end cs ps first places)))
+    (All-from_recursion (λ s. s.size ≡ 0) (empty_spans (placed_of_image n ps headers)) (refl, (refl, (refl, (refl, (refl, (refl, (refl, tt))))))))
 
 -- a filter that lets nothing through
 pub filter_none : {X : Type 0} (test : X → Bool) (xs : List X) → ((k : ℕ) (d : X) → k < length xs → test (get_or xs k d) ≡ false) → filter test xs ≡ []
@@ -157,8 +163,8 @@ no_template : (l : Link) (front end n : ℕ) (cs : List Carried) (ps : List Plac
     → template_sections l (placed_of_image n ps headers) ≡ []
 no_template l front end n cs ps headers first places =
     filter_none (λ q. is_template (header_at l (id_of q))) ps
-      (λ k q lt. let h = at_place l front end cs ps first places k q lt in
-        subst (λ (x : SectionHeader). is_template x ≡ false) (sym (header-at l front end (get_or cs k no_carried) (get_or ps k q) h)) h.plain.template)
+    (λ k q lt. let h = at_place l front end cs ps first places k q lt in
+    subst (λ (x : SectionHeader). is_template x ≡ false) (sym (header-at l front end (get_or cs k no_carried) (get_or ps k q) h)) h.plain.template)
 
 -- an executable has three segments at least
 names-long : (l : Link) → l.executable ≡ true → 3 ≤ length (segment_names_of l)
@@ -217,20 +223,21 @@ placed l front end n cs ps headers first places count is few high near pages = r
   };
   in_segment = record {
     sections = λ k q lt. section_lies l front end n (get_or cs k no_carried) (get_or ps k q) ps headers (at_place l front end cs ps first places k q lt)
-      (omega (arith, is)) high;
+        (omega (arith, is)) high;
     commons = All-nil _;
     slots = All-nil _;
     stubs = All-nil _;
     init_offsets = (omega arith, inl refl);
     unwind = (omega arith, inl refl);
     linkedit = All-from_recursion (TableLies (placed_of_image n ps headers)) (linkedit_ranges (placed_of_image n ps headers))
-      (inl refl, (inl refl, (inl refl, (inl refl, (inl refl, tt)))));
+        (inl refl, (inl refl, (inl refl, (inl refl, (inl refl, tt)))));
   };
   apart = parts_apart l front end n cs ps headers first places count is;
   in_order = record {
-    paged = All-from_recursion IsPaged (pagezero_segment ∷ text_segment n ∷ [])
-      (record { address = refl; size = refl; file_offset = refl; file_size = omega arith },
-       (record { address = refl; size = pages; file_offset = refl; file_size = omega arith }, tt));
+    paged = All-from_recursion IsPaged (pagezero_segment ∷ text_segment n ∷ []) (
+      record { address = refl; size = refl; file_offset = refl; file_size = omega arith },
+      (record { address = refl; size = pages; file_offset = refl; file_size = omega arith }, tt),
+    );
     follow = two_follow l pagezero_segment (text_segment n) (follows l n);
   };
   template = no_template l front end n cs ps headers first places;

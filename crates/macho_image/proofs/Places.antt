@@ -31,12 +31,16 @@ places_push front cs ps end x q places behind here small = record {
   where
     old_c : (k : ℕ) (c : Carried) → k < length cs → get_or (cs ++ x ∷ []) k c ≡ get_or cs k c
     old_c k c lt = get_or_append_left cs (x ∷ []) c k lt
+
     old_p : (k : ℕ) (p : PlacedSection) → k < length cs → get_or (ps ++ q ∷ []) k p ≡ get_or ps k p
     old_p k p lt = get_or_append_left ps (q ∷ []) p k (omega (arith, places.count))
+
     new_c : (k : ℕ) (c : Carried) → length cs ≡ k → get_or (cs ++ x ∷ []) k c ≡ x
     new_c k c e = get_or_push cs x c k e
+
     new_p : (k : ℕ) (p : PlacedSection) → length cs ≡ k → get_or (ps ++ q ∷ []) k p ≡ q
     new_p k p e = get_or_push ps q p k (places.count ∙ e)
+
     each : (k : ℕ) (c : Carried) (p : PlacedSection) → k < length (cs ++ x ∷ [])
         → IsPlaceOf front (get_or (cs ++ x ∷ []) k c) (get_or (ps ++ q ∷ []) k p) (q.address + x.header.size)
     each k c p lt =
@@ -46,6 +50,7 @@ places_push front cs ps end x q places behind here small = record {
               let e : length cs ≡ k = omega (arith, length_push cs x) in
               rw (new_c k c e, new_p k p e) here
         ]
+
     order : (j k : ℕ) (c : Carried) (p r : PlacedSection) → j < k → k < length (cs ++ x ∷ [])
         → (get_or (ps ++ q ∷ []) j p).address + (get_or (cs ++ x ∷ []) j c).header.size ≤ (get_or (ps ++ q ∷ []) k r).address
     order j k c p r before lt =
@@ -65,8 +70,8 @@ pub places_more : (front : ℕ) (cs : List Carried) (i : ℕ) (d : Carried) (ps 
     → Places front (take (i + 1) cs) next (q.address + (get_or cs i d).header.size)
 places_more front cs i d ps next end q lt places pushed file section segment aligned behind near =
     subst (λ (ys : List PlacedSection). Places front (take (i + 1) cs) ys (q.address + (get_or cs i d).header.size)) (sym pushed)
-      (subst (λ (xs : List Carried). Places front xs (ps ++ q ∷ []) (q.address + (get_or cs i d).header.size)) (sym (take_more cs i d lt))
-        (places_push front (take i cs) ps end (get_or cs i d) q places behind
-          (record { file = file; section = section; segment = segment; aligned = aligned; from = omega (arith, places.bound); to = omega arith })
-          (subst (λ (xs : List Carried). q.address + (get_or cs i d).header.size ≤ front + sum_by cost_of xs) (take_more cs i d lt)
-            (omega (arith, sum_by_more cost_of cs i d lt, places.within, one-le-pow (get_or cs i d).header.align 2 (omega arith))))))
+    (subst (λ (xs : List Carried). Places front xs (ps ++ q ∷ []) (q.address + (get_or cs i d).header.size)) (sym (take_more cs i d lt))
+    (places_push front (take i cs) ps end (get_or cs i d) q places behind
+    (record { file = file; section = section; segment = segment; aligned = aligned; from = omega (arith, places.bound); to = omega arith })
+    (subst (λ (xs : List Carried). q.address + (get_or cs i d).header.size ≤ front + sum_by cost_of xs) (take_more cs i d lt)
+    (omega (arith, sum_by_more cost_of cs i d lt, places.within, one-le-pow (get_or cs i d).header.align 2 (omega arith))))))

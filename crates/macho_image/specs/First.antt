@@ -34,16 +34,32 @@ pub record IsFirst (l : Link) (carried : List Carried) : Type 0 where
   pub slots : slots_of l ≡ []
   pub stubs : stubs_of l ≡ []
 
+-- a section that is carried and plain: in `__TEXT`, with bytes in the file and without relocations
+pub record IsPlainHeader (h : SectionHeader) : Type 0 where
+  pub text : segment_name_of h ≡ TEXT
+  pub filled : is_zerofill h ≡ false
+  pub relocations : h.nreloc ≡ 0
+
+-- one of the first n sections of an object, found as carried
+pub record IsFound (b : List ℕ) (n : ℕ) (c : Carried) : Type 0 where
+  pub exist : c.section < n
+  pub header : c.header ≡ section_at b c.section
+  pub plain : IsPlainHeader c.header
+
+-- Of the first n sections of an object these are carried, and all of them are plain; none is consumed.
+pub record HasSections (b : List ℕ) (n : ℕ) (carried : List Carried) : Type 0 where
+  pub numbers : map (λ c. c.section) carried ≡ filter (λ k. is_carried (section_at b k)) (range_with_len 0 n)
+  pub each : (k : ℕ) (c : Carried) → k < length carried → IsFound b n (get_or carried k c)
+  pub consumed : (k : ℕ) → k < n → is_consumed (section_at b k) ≡ false
+
+-- none of the first n symbols is a common
+abbrev pub HasNoCommon : List ℕ → ℕ → Type 0
+HasNoCommon b n = (k : ℕ) → k < n → is_common_of (symbol_at b k) ≡ false
+
 -- what is found of an object before it is placed: its carried sections, which are plain, and that it has nothing else
 pub record IsPlainObject (b : List ℕ) (carried : List Carried) : Type 0 where
-  pub numbers : map (λ c. c.section) carried ≡ filter (λ k. is_carried (section_at b k)) (range_with_len 0 (num_sections b))
-  pub headers : (k : ℕ) (c : Carried) → k < length carried → (get_or carried k c).header ≡ section_at b (get_or carried k c).section
-  pub exist : (k : ℕ) (c : Carried) → k < length carried → (get_or carried k c).section < num_sections b
-  pub text : (k : ℕ) (c : Carried) → k < length carried → segment_name_of (get_or carried k c).header ≡ TEXT
-  pub filled : (k : ℕ) (c : Carried) → k < length carried → is_zerofill (get_or carried k c).header ≡ false
-  pub relocations : (k : ℕ) (c : Carried) → k < length carried → (get_or carried k c).header.nreloc ≡ 0
-  pub consumed : (k : ℕ) → k < num_sections b → is_consumed (section_at b k) ≡ false
-  pub commons : (k : ℕ) → k < num_symbols b → is_common_of (symbol_at b k) ≡ false
+  pub sections : HasSections b (num_sections b) carried
+  pub commons : HasNoCommon b (num_symbols b)
 
 -- a link of one object as an executable, without export lists
 pub record HasOneObject (l : Link) (b : List ℕ) : Type 0 where

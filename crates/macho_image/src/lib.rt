@@ -2,4 +2,9 @@
 #![tactic(auto)]
 
 mod carried;
+mod fault;
 mod place;
+mod scan;
+
+pub use fault::{InputFault, LinkError, Unbuilt};
+pub use macho_layout::Placement;

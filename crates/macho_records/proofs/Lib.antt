@@ -1,1 +1,4 @@
 pub mod Prints
+pub mod Bits
+pub mod Rows
+pub mod ConstantRows

@@ -7,41 +7,121 @@ mod constants;
 mod fixups;
 mod header;
 mod names;
+mod placeholders;
+#[cfg(test)]
+mod record_tests;
 mod relocations;
 mod sections;
 mod segments;
 mod signature;
+mod symbol_names;
 mod symbols;
+#[cfg(test)]
+mod tests;
+mod uleb;
 mod unwind;
 
-pub use commands::{
-    BuildToolVersion, BuildVersionCommand, DylibCommand, DylinkerCommand, EntryPointCommand,
-    LinkeditDataCommand, RpathCommand, UuidCommand,
-};
-pub use constants::{
-    ARM64_RELOC_ADDEND, ARM64_RELOC_AUTHENTICATED_POINTER, ARM64_RELOC_BRANCH26,
-    ARM64_RELOC_GOT_LOAD_PAGE21, ARM64_RELOC_GOT_LOAD_PAGEOFF12, ARM64_RELOC_PAGE21,
-    ARM64_RELOC_PAGEOFF12, ARM64_RELOC_POINTER_TO_GOT, ARM64_RELOC_SUBTRACTOR,
-    ARM64_RELOC_TLVP_LOAD_PAGE21, ARM64_RELOC_TLVP_LOAD_PAGEOFF12, ARM64_RELOC_UNSIGNED,
-    CPU_SUBTYPE_ARM64_ALL, CPU_TYPE_ARM64, LC_BUILD_VERSION, LC_CODE_SIGNATURE,
-    LC_DYLD_CHAINED_FIXUPS, LC_DYLD_EXPORTS_TRIE, LC_ID_DYLIB, LC_LOAD_DYLIB, LC_LOAD_DYLINKER,
-    LC_MAIN, LC_RPATH, LC_SEGMENT_64, LC_SYMTAB, LC_UUID, MH_DYLDLINK, MH_DYLIB, MH_EXECUTE,
-    MH_HAS_TLV_DESCRIPTORS, MH_MAGIC_64, MH_NOUNDEFS, MH_OBJECT, MH_PIE,
-    MH_SUBSECTIONS_VIA_SYMBOLS, MH_TWOLEVEL, N_ABS, N_EXT, N_PEXT, N_SECT, N_STAB, N_TYPE, N_UNDF,
-    N_WEAK_DEF, N_WEAK_REF, S_ATTR_DEBUG, S_ATTR_EXT_RELOC, S_ATTR_LOC_RELOC,
-    S_ATTR_PURE_INSTRUCTIONS, S_ATTR_SOME_INSTRUCTIONS, S_GB_ZEROFILL, S_INIT_FUNC_OFFSETS,
-    S_LAZY_DYLIB_SYMBOL_POINTERS, S_LAZY_SYMBOL_POINTERS, S_MOD_INIT_FUNC_POINTERS,
-    S_NON_LAZY_SYMBOL_POINTERS, S_REGULAR, S_SYMBOL_STUBS, S_THREAD_LOCAL_REGULAR,
-    S_THREAD_LOCAL_VARIABLE_POINTERS, S_THREAD_LOCAL_VARIABLES, S_THREAD_LOCAL_ZEROFILL,
-    S_ZEROFILL, SECTION_ATTRIBUTES, SECTION_TYPE, SG_READ_ONLY, VM_PROT_EXECUTE, VM_PROT_READ,
-    VM_PROT_WRITE,
-};
-pub use fixups::{ChainedFixupsHeader, ChainedStartsInSegment};
-pub use header::{LoadCommand, MachHeader, SectionHeader, SegmentCommand};
+pub use commands::BuildToolVersion;
+pub use commands::BuildVersionCommand;
+pub use commands::DylibCommand;
+pub use commands::DylinkerCommand;
+pub use commands::EntryPointCommand;
+pub use commands::LinkeditDataCommand;
+pub use commands::RpathCommand;
+pub use commands::UuidCommand;
+pub use constants::ARM64_RELOC_ADDEND;
+pub use constants::ARM64_RELOC_AUTHENTICATED_POINTER;
+pub use constants::ARM64_RELOC_BRANCH26;
+pub use constants::ARM64_RELOC_GOT_LOAD_PAGE21;
+pub use constants::ARM64_RELOC_GOT_LOAD_PAGEOFF12;
+pub use constants::ARM64_RELOC_PAGE21;
+pub use constants::ARM64_RELOC_PAGEOFF12;
+pub use constants::ARM64_RELOC_POINTER_TO_GOT;
+pub use constants::ARM64_RELOC_SUBTRACTOR;
+pub use constants::ARM64_RELOC_TLVP_LOAD_PAGE21;
+pub use constants::ARM64_RELOC_TLVP_LOAD_PAGEOFF12;
+pub use constants::ARM64_RELOC_UNSIGNED;
+pub use constants::CPU_SUBTYPE_ARM64_ALL;
+pub use constants::CPU_TYPE_ARM64;
+pub use constants::LC_BUILD_VERSION;
+pub use constants::LC_CODE_SIGNATURE;
+pub use constants::LC_DYLD_CHAINED_FIXUPS;
+pub use constants::LC_DYLD_EXPORTS_TRIE;
+pub use constants::LC_ID_DYLIB;
+pub use constants::LC_LOAD_DYLIB;
+pub use constants::LC_LOAD_DYLINKER;
+pub use constants::LC_MAIN;
+pub use constants::LC_RPATH;
+pub use constants::LC_SEGMENT_64;
+pub use constants::LC_SYMTAB;
+pub use constants::LC_UUID;
+pub use constants::MH_DYLDLINK;
+pub use constants::MH_DYLIB;
+pub use constants::MH_EXECUTE;
+pub use constants::MH_HAS_TLV_DESCRIPTORS;
+pub use constants::MH_MAGIC_64;
+pub use constants::MH_NOUNDEFS;
+pub use constants::MH_OBJECT;
+pub use constants::MH_PIE;
+pub use constants::MH_SUBSECTIONS_VIA_SYMBOLS;
+pub use constants::MH_TWOLEVEL;
+pub use constants::N_ABS;
+pub use constants::N_EXT;
+pub use constants::N_PEXT;
+pub use constants::N_SECT;
+pub use constants::N_STAB;
+pub use constants::N_TYPE;
+pub use constants::N_UNDF;
+pub use constants::N_WEAK_DEF;
+pub use constants::N_WEAK_REF;
+pub use constants::S_ATTR_DEBUG;
+pub use constants::S_ATTR_EXT_RELOC;
+pub use constants::S_ATTR_LOC_RELOC;
+pub use constants::S_ATTR_PURE_INSTRUCTIONS;
+pub use constants::S_ATTR_SOME_INSTRUCTIONS;
+pub use constants::S_GB_ZEROFILL;
+pub use constants::S_INIT_FUNC_OFFSETS;
+pub use constants::S_LAZY_DYLIB_SYMBOL_POINTERS;
+pub use constants::S_LAZY_SYMBOL_POINTERS;
+pub use constants::S_MOD_INIT_FUNC_POINTERS;
+pub use constants::S_NON_LAZY_SYMBOL_POINTERS;
+pub use constants::S_REGULAR;
+pub use constants::S_SYMBOL_STUBS;
+pub use constants::S_THREAD_LOCAL_REGULAR;
+pub use constants::S_THREAD_LOCAL_VARIABLE_POINTERS;
+pub use constants::S_THREAD_LOCAL_VARIABLES;
+pub use constants::S_THREAD_LOCAL_ZEROFILL;
+pub use constants::S_ZEROFILL;
+pub use constants::SECTION_ATTRIBUTES;
+pub use constants::SECTION_TYPE;
+pub use constants::SG_READ_ONLY;
+pub use constants::VM_PROT_EXECUTE;
+pub use constants::VM_PROT_READ;
+pub use constants::VM_PROT_WRITE;
+pub use fixups::ChainedFixupsHeader;
+pub use fixups::ChainedStartsInSegment;
+pub use header::LoadCommand;
+pub use header::MachHeader;
+pub use header::SectionHeader;
+pub use header::SegmentCommand;
 pub use names::name_bytes;
+pub use placeholders::BuiltInSectionDetails;
+pub use placeholders::DynamicTagValues;
+pub use placeholders::NonAddressableIndexes;
+pub use placeholders::SegmentType;
+pub use placeholders::VerneedTable;
 pub use relocations::RelocationInfo;
-pub use sections::{SectionAttributes, SectionFlags};
-pub use segments::{ProgramSegmentDef, SegmentName};
+pub use sections::SectionAttributes;
+pub use sections::SectionFlags;
+pub use segments::ProgramSegmentDef;
+pub use segments::SegmentName;
 pub use signature::CodeDirectory;
-pub use symbols::{CommonSymbol, SymtabCommand, SymtabEntry, Visibility};
+pub use symbol_names::RawSymbolName;
+pub use symbols::CommonSymbol;
+pub use symbols::SymtabCommand;
+pub use symbols::SymtabEntry;
+pub use symbols::Visibility;
+pub use uleb::read_uleb;
+pub use uleb::uleb_size;
+pub use uleb::write_uleb;
 pub use unwind::UnwindInfoEntry;

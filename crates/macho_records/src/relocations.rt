@@ -9,7 +9,7 @@
 //!     bits 28 to 31  r_type
 //!
 //! A branch to symbol 2 is `02 00 00 2d`: type 2, extern, length 2, relative.
-ghost use Rattle.std.specs.Prelude.{◌≡◌, ◌+◌, ◌≤◌, length};
+ghost use Rattle.std.specs.Prelude.{◌≡◌, ◌+◌, ◌≤◌, IfSome, length};
 ghost use Rattle.macho_bytes.specs.Texts.{put};
 ghost use Rattle.macho_bytes.specs.Layouts.{read_of, size_of, spelling, ReadsBack};
 ghost use Rattle.macho_records.specs.Relocations.{relocation_info, BitsFit, packed_word};
@@ -40,7 +40,8 @@ impl RelocationInfo {
     /// The record at a place of the bytes, None where it does not stand there whole.
     #[tactic(auto, unfolding(macho_bytes::specs::Layouts::reading))]
     pub fn read(bytes: &[u8], at: usize) -> Option<RelocationInfo>
-        ensures { result ≡ read_of relocation_info bytes.now at }
+        ensures done { result ≡ read_of relocation_info bytes.now at }
+        ensures bits { IfSome result BitsFit }
     {
         if bytes.len() < Self::SIZE || bytes.len() - Self::SIZE < at {
             return None;

@@ -161,12 +161,15 @@ pub struct SectionAttributes {
 
 impl SectionAttributes {
     /// The attributes of a section with these flags in a segment; in none it isn't writable.
+    #[tactic(auto, using(crate::proofs::Bits::flags_whole))]
     pub fn new(flags: u32, segment: Option<SegmentName>) -> SectionAttributes
-        ensures { result ≡ attributes_of flags segment }
+        ensures done { result ≡ attributes_of flags segment }
+        ensures whole { flags_of result ≡ flags }
     {
+        let ty = SectionFlags(flags).typ();
         SectionAttributes {
-            ty: SectionFlags(flags).typ(),
-            attributes: flags - SectionFlags(flags).typ(),
+            ty,
+            attributes: flags - ty,
             writable: match segment {
                 Some(name) => name.is_writable(),
                 None => false,

@@ -7,7 +7,7 @@
 //!     01            n_sect
 //!     00 00         n_desc
 //!     00 .. 00      n_value, 8 bytes
-ghost use Rattle.std.specs.Prelude.{◌≡◌, ◌+◌, ◌^◌, ◌<◌, ◌≤◌, ◌==◌, true, false, not, length, IsTrue, if◌then◌else◌};
+ghost use Rattle.std.specs.Prelude.{◌≡◌, ◌+◌, ◌^◌, ◌<◌, ◌≤◌, ◌==◌, ◌-◌, bit_and, true, false, not, length, IsTrue, if◌then◌else◌};
 ghost use Rattle.macho_bytes.specs.Numbers.{rounded_up};
 ghost use Rattle.macho_bytes.specs.Texts.{put};
 ghost use Rattle.macho_bytes.specs.Layouts.{read_of, size_of, spelling, ReadsBack};
@@ -253,8 +253,11 @@ impl SymtabEntry {
     }
 
     /// The symbol with `N_PEXT` set or cleared.
+    #[tactic(auto, using(crate::proofs::Bits::pext))]
     pub fn with_hidden(self, hidden: bool) -> SymtabEntry
-        ensures { result ≡ with_hidden_of self hidden }
+        ensures done { result ≡ with_hidden_of self hidden }
+        ensures set { is_hidden_of result ≡ hidden }
+        ensures kept { bit_and result.n_type (255 - N_PEXT) ≡ bit_and self.n_type (255 - N_PEXT) }
     {
         let n_type = if hidden {
             self.n_type | N_PEXT
