@@ -24,8 +24,8 @@ pub texts_go_on : {X : Type 0} (f : X → List ℕ) (at place next i : ℕ) (xs 
     → MoreTexts f at next (take (i + 1) xs) before now
 texts_go_on {X = X} f at place next i xs x before out now lt read so_far moved room is =
     let more : flat_map f (take (i + 1) xs) ≡ flat_map f (take i xs) ++ f x =
-      ap (flat_map f) (take_more xs i x lt ∙ ap (λ (y : X). take i xs ++ y ∷ []) (sym read))
-      ∙ flat_map-append f (take i xs) (x ∷ []) ∙ ap (λ (t : List ℕ). flat_map f (take i xs) ++ t) (append-nil (f x)) in
+    ap (flat_map f) (take_more xs i x lt ∙ ap (λ (y : X). take i xs ++ y ∷ []) (sym read))
+    ∙ flat_map-append f (take i xs) (x ∷ []) ∙ ap (λ (t : List ℕ). flat_map f (take i xs) ++ t) (append-nil (f x)) in
     let both = put-put at place (flat_map f (take i xs)) (f x) before so_far.ends (omega (arith, moved, room)) in
     record {
       written = is ∙ ap (put place (f x)) so_far.written ∙ both ∙ ap (λ (t : List ℕ). put at t before) (sym more);
