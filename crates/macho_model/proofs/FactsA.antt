@@ -16,6 +16,8 @@ use Rattle.macho_model.specs.Rows.{is_supported}
 use Rattle.macho_model.specs.Segments.{other_segments, segment_rank, segment_names_of, output_keys_of, output_count}
 use Rattle.macho_model.specs.WrittenSum.{content_sum, command_sum, unsigned_sum, written_sum_of}
 use Rattle.macho_model.specs.Consumed.{personality_targets, entries_of_link}
+use Rattle.macho_model.specs.declared.targets.Limit.TheVariants as limit
+use Rattle.macho_model.specs.Limits.{limited}
 use Rattle.macho_model.specs.Placement.{spans_with}
 use Rattle.macho_model.specs.Faults.{entry_is_defined}
 use Rattle.macho_model.proofs.Examples.{words8, words, name16, object_a}
@@ -94,3 +96,12 @@ ranks_a = refl
 pub sum_a : written_sum_of link_a counts_a ≡ 14 + 32 + 216 + 80 + 56 + 216 + 4 + 65536 + 108 + 32 * 17
 unfolding header_of commands_from commands_of commands_end segment_of num_sections section_place section_at section_bytes symtab_of num_symbols symbol_place symbol_at strings_of symbol_name relocation_place relocation_at sections_of carried_of template_exponent placed_exponent symbols_of strong_of weak_of commons_of greatest_of libraries_with definition_of chosen_commons initializer_sections unwind_sections uses_of imports_of libraries_needed target_of target_of_relocation slots_of stubs_of fields_of is_supported plain_entries all_entries entries_of other_segments segment_rank segment_names_of output_keys_of output_count content_sum command_sum unsigned_sum written_sum_of spans_with personality_targets entries_of_link le_at le_bytes row_bytes reading words8 words name16 object_a
 sum_a = refl
+
+-- its numbers and their limits
+abbrev pub numbers_a : List (ℕ × ℕ)
+numbers_a = (3, 6) ∷ (0, 240) ∷ (1, 255) ∷ (0, 3) ∷ (0, 0x1000000) ∷ (0, 0x800000) ∷ (1, 0xfffffffe) ∷ (0, 65535) ∷ []
+
+pub limits_a : map (limited link_a counts_a) (limit.Segments ∷ limit.Libraries ∷ limit.Sections ∷ limit.Personalities ∷ limit.Imports ∷ limit.NameBytes ∷ limit.Symbols ∷ limit.Pages ∷ [])
+    ≡ numbers_a
+unfolding header_of commands_from commands_of commands_end segment_of num_sections section_place section_at section_bytes symtab_of num_symbols symbol_place symbol_at strings_of symbol_name relocation_place relocation_at sections_of carried_of template_exponent placed_exponent symbols_of strong_of weak_of commons_of greatest_of libraries_with definition_of chosen_commons initializer_sections unwind_sections uses_of imports_of libraries_needed target_of target_of_relocation slots_of stubs_of fields_of is_supported plain_entries all_entries entries_of other_segments segment_rank segment_names_of output_keys_of output_count content_sum command_sum unsigned_sum written_sum_of spans_with personality_targets entries_of_link le_at le_bytes row_bytes reading words8 words name16 object_a
+limits_a = refl

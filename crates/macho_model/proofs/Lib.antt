@@ -18,6 +18,7 @@ pub mod ExamplePlacement
 pub mod FactsA
 pub mod RowsPlacement
 pub mod RowsStands
+pub mod RowsValid
 pub mod RowsObjects
 pub mod RowsLinks
 pub mod RowsFields
