@@ -19,6 +19,7 @@ pub mod FactsA
 pub mod RowsPlacement
 pub mod RowsStands
 pub mod RowsValid
+pub mod RowsInvalid
 pub mod RowsObjects
 pub mod RowsLinks
 pub mod RowsFields
