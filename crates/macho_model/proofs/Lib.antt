@@ -20,6 +20,8 @@ pub mod RowsPlacement
 pub mod RowsStands
 pub mod RowsValid
 pub mod RowsInvalid
+pub mod Slides
+pub mod FieldSlides
 pub mod RowsObjects
 pub mod RowsLinks
 pub mod RowsFields
