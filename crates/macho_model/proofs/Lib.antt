@@ -22,6 +22,7 @@ pub mod RowsValid
 pub mod RowsInvalid
 pub mod Slides
 pub mod FieldSlides
+pub mod PointerFixups
 pub mod RowsObjects
 pub mod RowsLinks
 pub mod RowsFields
