@@ -21,6 +21,7 @@ pub mod RowsStands
 pub mod RowsValid
 pub mod RowsInvalid
 pub mod Slides
+pub mod Apart
 pub mod FieldSlides
 pub mod PointerFixups
 pub mod RowsObjects
