@@ -22,6 +22,7 @@ pub mod RowsValid
 pub mod RowsInvalid
 pub mod Slides
 pub mod Apart
+pub mod SegmentWalk
 pub mod FieldSlides
 pub mod PointerFixups
 pub mod RowsObjects
