@@ -19,6 +19,7 @@ pub mod Chain
 pub mod LoadRules
 pub mod Loader
 pub mod Memory
+pub mod Walks
 pub mod Stands
 pub mod Exports
 pub mod Rows

@@ -4,6 +4,7 @@
 //! types that they speak of. None of them holds a collection, so a contract sees each as it is.
 #![tactic(auto)]
 
+mod mapped;
 mod placed;
 mod rules;
 mod targets;

@@ -1,0 +1,165 @@
+-- The smallest image stands in memory at every slide, and so is linked; and each part of that is broken by a change.
+--
+-- Its one section stands in the file at 0x138, in the file part of `__TEXT`, which has no chain word; so memory holds
+-- the section's bytes at its placed address plus the slide. There are no fields, commons, slots or stubs. Memory has one
+-- byte at an address of the one mapped segment, so another byte there is not held.
+use Rattle.std.proofs.Common.{◌≡◌, ℕ, ◌+◌, ◌*◌, ◌-◌, ◌%◌, ◌<◌, ◌≤◌, nat_lt, if◌then◌else◌, true, List, [], ◌∷◌, length, get_or, slice_index, refl, sym, ap, subst, ◌∙◌, arith, inl, inr, All}
+use Rattle.std.specs.Prelude.{Contains, codes}
+use Rattle.std.proofs.lemmas.Bool.{lt-ltb}
+use Rattle.std.proofs.lemmas.List.Elements.{All-nil, All-cons, All-contains, All-head}
+use Rattle.macho_bytes.specs.Numbers.{le_at, le_bytes, row_bytes}
+use Rattle.macho_bytes.specs.Layouts.{reading}
+use Rattle.macho_bytes.specs.Texts.{Stands}
+use Rattle.macho_records.specs.declared.header.SegmentCommand.{SegmentCommand}
+use Rattle.macho_model.specs.declared.placed.PlacedSection.{PlacedSection}
+use Rattle.macho_model.specs.declared.placed.PlacedCommon.{PlacedCommon}
+use Rattle.macho_model.specs.declared.placed.Slot.{Slot}
+use Rattle.macho_model.specs.declared.targets.Target.TheVariants as target
+use Rattle.macho_model.specs.Commands.{header_of, commands_from, commands_of, commands_end}
+use Rattle.macho_model.specs.Objects.{section_bytes}
+use Rattle.macho_model.specs.Links.{header_at}
+use Rattle.macho_model.specs.Fields.{fields_of}
+use Rattle.macho_model.specs.Images.{segments_of, mapped_segments, base_of, tables_of}
+use Rattle.macho_model.specs.Memory.{Choice, Holds, HoldsText, IsSegmentByte}
+use Rattle.macho_model.specs.Placement.{Placed, id_of}
+use Rattle.macho_model.specs.Stands.{IsOutsideField, Denotes, SectionStands, CommonStands, SlotStands, StubStands, LeadsThrough, ImageStands, IsLinked}
+use Rattle.macho_model.proofs.Examples.{words8, words, name16, object_a, changed}
+use Rattle.macho_model.proofs.ExampleLinks.{section}
+use Rattle.macho_model.proofs.ExampleImages.{smallest}
+use Rattle.macho_model.proofs.ExamplePlacement.{link_a, counts_a, section_a, placed_a}
+use Rattle.macho_model.proofs.FactsA.{section_of_a, bytes_of_a, fields_a}
+use Rattle.macho_model.proofs.Unchained.{uncovered}
+use Rattle.macho_model.proofs.Memory.{text_is_held}
+use Rattle.macho_model.proofs.RowsLoader.{no_tables, smallest_is_accepted}
+use Rattle.macho_model.proofs.RowsPlacement.{a_is_placed}
+
+-- `__TEXT` of the smallest image
+text_segment : SegmentCommand
+text_segment = record {
+  cmd = 0x19; cmdsize = 152; segname = name16 (codes "__TEXT"); vmaddr = 0x100000000; vmsize = 0x4000; fileoff = 0; filesize = 0x4000; maxprot = 5; initprot = 5;
+  nsects = 1; flags = 0;
+}
+
+one_segment : mapped_segments smallest ≡ text_segment ∷ []
+unfolding text_segment mapped_segments segments_of commands_of commands_from header_of reading le_at row_bytes le_bytes words8 words name16 smallest
+one_segment = refl
+
+-- the section's bytes, in the file
+abbrev pub code : List ℕ
+code = 0x00 ∷ 0x00 ∷ 0x80 ∷ 0x52 ∷ 0xc0 ∷ 0x03 ∷ 0x5f ∷ 0xd6 ∷ []
+
+code_stands : Stands smallest (record { at = 0x138; text = code })
+unfolding row_bytes le_bytes words8 words name16 smallest
+code_stands = record { within = omega arith; same = refl }
+
+-- so they are held
+code_is_held : (s : ℕ) (choice : Choice) → HoldsText smallest s choice (0x100000138 + s) code
+unfolding text_segment
+code_is_held s choice =
+    text_is_held smallest s choice text_segment 0x138 code no_tables (rw one_segment (0, omega arith, refl)) (omega arith) (omega arith) code_stands
+
+section_stands : (s : ℕ) (choice : Choice) → SectionStands link_a smallest placed_a s choice (section_a 0x100000138)
+section_stands s choice =
+    record {
+      bytes = λ i within outside.
+        let small : i < 8 = rw section_of_a at within in
+        let here : 0x100000138 + i + s ≡ 0x100000138 + s + i = omega arith in
+        rw (here, bytes_of_a) (code_is_held s choice i small);
+      fields = rw fields_a (All-nil (Denotes link_a smallest placed_a s choice (section_a 0x100000138)));
+    }
+
+-- The smallest image stands.
+pub smallest_stands : (s : ℕ) (choice : Choice) → ImageStands link_a smallest placed_a s choice
+smallest_stands s choice =
+    record {
+      sections = All-cons (SectionStands link_a smallest placed_a s choice) (section_a 0x100000138) [] (section_stands s choice)
+        (All-nil (SectionStands link_a smallest placed_a s choice));
+      commons = All-nil (CommonStands link_a smallest s choice);
+      through = record { slots = All-nil (SlotStands link_a smallest placed_a s choice); stubs = All-nil (StubStands smallest placed_a s choice) };
+    }
+
+-- The smallest link meets the whole promise.
+pub a_is_linked : IsLinked link_a counts_a smallest placed_a
+a_is_linked = record { placed = a_is_placed; accepted = smallest_is_accepted; stands = λ s choice paged fits binds. smallest_stands s choice }
+
+-- memory of an image with one mapped segment and no tables has the file's byte at an offset in its file part
+pub one_byte : (b : List ℕ) (segment : SegmentCommand) (s : ℕ) (choice : Choice) (i v : ℕ) → tables_of b ≡ [] → mapped_segments b ≡ segment ∷ []
+    → i < segment.filesize → Holds b s choice (segment.vmaddr + i + s) v → v ≡ slice_index b (segment.fileoff + i)
+one_byte b segment s choice i v none one within held =
+    let here : held.a ≡ segment.vmaddr + i = omega (arith, held.slid) in
+    elim held.byte [
+      | inl chained ↦ absurd (uncovered b none held.a chained.word_at chained.covers)
+      | inr plain ↦ of_segment plain.1.segment (subst (λ xs. Contains xs plain.1.segment) one plain.1.one) here plain.1.is
+    ]
+  where
+    value : (t : SegmentCommand) → segment ≡ t → (a : ℕ) → a ≡ segment.vmaddr + i
+        → v ≡ (if nat_lt (a - t.vmaddr) t.filesize then slice_index b (t.fileoff + (a - t.vmaddr)) else 0) → v ≡ slice_index b (segment.fileoff + i)
+    value t same a here is =
+        let place : segment.vmaddr + i - segment.vmaddr ≡ i = omega arith in
+        let first : v ≡ (if nat_lt (segment.vmaddr + i - segment.vmaddr) segment.filesize then slice_index b (segment.fileoff + (segment.vmaddr + i - segment.vmaddr)) else 0) =
+        rw (← same, here) at is in
+        let second : v ≡ (if nat_lt i segment.filesize then slice_index b (segment.fileoff + i) else 0) = rw place at first in
+        rw (lt-ltb i segment.filesize within) at second
+
+    of_segment : (t : SegmentCommand) → Contains (segment ∷ []) t → {a : ℕ} → a ≡ segment.vmaddr + i
+        → v ≡ (if nat_lt (a - t.vmaddr) t.filesize then slice_index b (t.fileoff + (a - t.vmaddr)) else 0) → v ≡ slice_index b (segment.fileoff + i)
+    of_segment t one_of {a = a} here is =
+        let same : segment ≡ t = All-contains (λ x. segment ≡ x) (segment ∷ []) t (All-cons (λ x. segment ≡ x) segment [] refl (All-nil (λ x. segment ≡ x))) one_of in
+        value t same a here is
+
+-- The same image with another first byte of code: `sections` fails, since memory has 1 where the input has 0.
+unfoldable pub other_code : List ℕ
+other_code = changed smallest 0x138 (1 ∷ [])
+
+other_tables : tables_of other_code ≡ []
+unfolding tables_of commands_of commands_from header_of reading le_at row_bytes le_bytes words8 words name16 smallest changed other_code
+other_tables = refl
+
+other_segment : mapped_segments other_code ≡ text_segment ∷ []
+unfolding text_segment mapped_segments segments_of commands_of commands_from header_of reading le_at row_bytes le_bytes words8 words name16 smallest changed other_code
+other_segment = refl
+
+other_byte : slice_index other_code 0x138 ≡ 1
+unfolding row_bytes le_bytes words8 words name16 smallest changed other_code
+other_byte = refl
+
+pub other_code_does_not_stand : (s : ℕ) (choice : Choice) → ImageStands link_a other_code placed_a s choice → ⊥
+unfolding text_segment
+other_code_does_not_stand s choice stands =
+    let first = All-head (SectionStands link_a other_code placed_a s choice) (section_a 0x100000138) [] stands.sections in
+    let outside : All (IsOutsideField 0) (fields_of link_a (id_of (section_a 0x100000138))) = rw fields_a (All-nil (IsOutsideField 0)) in
+    let held = first.bytes 0 (rw section_of_a (omega arith)) outside in
+    let zero_there : Holds other_code s choice (0x100000138 + 0 + s) 0 = rw bytes_of_a at held in
+    let is = one_byte other_code text_segment s choice 0x138 0 other_tables other_segment (omega arith) zero_there in
+    omega (arith, is, other_byte)
+
+-- A common at an address that is not mapped: `commons` fails.
+pub unmapped_is_not_held : (s : ℕ) (choice : Choice) (v : ℕ) → Holds smallest s choice (0 + s) v → ⊥
+unfolding text_segment
+unmapped_is_not_held s choice v held =
+    elim held.byte [
+      | inl chained ↦ uncovered smallest no_tables held.a chained.word_at chained.covers
+      | inr plain ↦
+          let from = All-contains (λ (x : SegmentCommand). 0x100000000 ≤ x.vmaddr) (text_segment ∷ []) plain.1.segment
+          (All-cons (λ (x : SegmentCommand). 0x100000000 ≤ x.vmaddr) text_segment [] (omega arith) (All-nil (λ (x : SegmentCommand). 0x100000000 ≤ x.vmaddr)))
+          (subst (λ xs. Contains xs plain.1.segment) one_segment plain.1.one) in
+          omega (arith, from, plain.1.from, held.slid)
+    ]
+
+-- A slot whose target is nowhere: `through` fails.
+abbrev pub with_slot : Placed
+with_slot = record placed_a { slots = record { target = target.None; address = 0x100000138 } ∷ [] }
+
+pub no_target_no_image : (s : ℕ) (choice : Choice) → ImageStands link_a smallest with_slot s choice → ⊥
+no_target_no_image s choice stands =
+    (All-head (SlotStands link_a smallest with_slot s choice) (record { target = target.None; address = 0x100000138 }) [] stands.through.slots).at
+
+-- and the other two parts of it hold
+pub slot_alone : (s : ℕ) (choice : Choice) → All (SectionStands link_a smallest with_slot s choice) with_slot.sections × All (CommonStands link_a smallest s choice) with_slot.commons
+slot_alone s choice =
+    (
+      All-cons (SectionStands link_a smallest with_slot s choice) (section_a 0x100000138) []
+      (record { bytes = (section_stands s choice).bytes; fields = rw fields_a (All-nil (Denotes link_a smallest with_slot s choice (section_a 0x100000138))) })
+      (All-nil (SectionStands link_a smallest with_slot s choice)),
+      All-nil (CommonStands link_a smallest s choice),
+    )

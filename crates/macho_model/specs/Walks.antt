@@ -1,0 +1,39 @@
+-- What the plain walks over an image's commands say.
+use Rattle.std.specs.Prelude.{◌≡◌, ℕ, ◌+◌, ◌-◌, ◌<◌, ◌≤◌, ◌==◌, nat_lt, if◌then◌else◌, true, false, List, length, slice_index}
+use Rattle.macho_bytes.specs.Layouts.{reading}
+use Rattle.macho_records.specs.Layouts.{load_command, segment_command}
+use Rattle.macho_records.specs.declared.header.SegmentCommand.{SegmentCommand}
+use Rattle.macho_records.specs.declared.constants.TheConstants.{LC_SEGMENT_64}
+use Rattle.macho_model.specs.Commands.{Command, commands_of, command_fits}
+use Rattle.macho_model.specs.ObjectRules.{commands_inside}
+use Rattle.macho_model.specs.Grammar.{EachCommand}
+use Rattle.macho_model.specs.Segments.{PAGEZERO}
+use Rattle.macho_model.specs.Images.{is_named}
+use Rattle.macho_model.specs.LoadRules.{needed_in_image}
+
+-- the command that stands at a place
+abbrev pub command_at : List ℕ → ℕ → Command
+command_at b at = record { at = at; number = (reading load_command b at).cmd; size = (reading load_command b at).cmdsize }
+
+-- the load commands of an image are whole: the loader's second rule
+pub record AreCommandsWhole (b : List ℕ) : Type 0 where
+  pub inside : commands_inside b ≡ true
+  pub each : EachCommand (commands_of b) (command_fits (needed_in_image b) b)
+
+-- a command ends inside the file, and so does what is needed of it
+pub record EndsInside (b : List ℕ) (place : ℕ) : Type 0 where
+  pub head : place + 8 ≤ length b
+  pub end : place + (command_at b place).size ≤ length b
+  pub needed : place + needed_in_image b (command_at b place) ≤ length b
+
+-- a segment has a byte at an address: one of the file, or zero behind its file bytes
+pub record SegmentHas (b : List ℕ) (s : SegmentCommand) (a v : ℕ) : Type 0 where
+  pub mapped : is_named PAGEZERO s ≡ false
+  pub from : s.vmaddr ≤ a
+  pub to : a < s.vmaddr + s.vmsize
+  pub is : v ≡ (if nat_lt (a - s.vmaddr) s.filesize then slice_index b (s.fileoff + (a - s.vmaddr)) else 0)
+
+-- the command at a place is of a segment that has a byte at an address
+pub record CommandHas (b : List ℕ) (place a v : ℕ) : Type 0 where
+  pub is_segment : ((command_at b place).number == LC_SEGMENT_64) ≡ true
+  pub has : SegmentHas b (reading segment_command b place) a v
