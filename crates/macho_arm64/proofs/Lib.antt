@@ -1,0 +1,2 @@
+pub mod PutNumbers
+pub mod KindTable
