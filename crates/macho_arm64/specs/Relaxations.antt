@@ -1,6 +1,8 @@
 -- Relaxations: a reference through a slot to a target whose place is known needs no slot. The ADRP gives the target's
 -- own page, and the load of the slot becomes an ADD that gives the target's address.
-use Rattle.std.specs.Prelude.{◌≡◌, ℕ, ◌==◌, ◌||◌, ◌&&◌, not, Bool, true, false, if◌then◌else◌, Option, Some, None}
+use Rattle.std.specs.Prelude.{◌≡◌, ℕ, ◌==◌, ◌||◌, ◌&&◌, not, Bool, true, false, if◌then◌else◌, Option, Some, None, List}
+use Rattle.macho_bytes.specs.Numbers.{le_at, le_bytes}
+use Rattle.macho_bytes.specs.Texts.{put}
 use Rattle.macho_model.specs.Words.{is_add, is_ldr, imm12, base_register, written_register, REGISTER_31}
 use Rattle.macho_model.specs.Targets.{PAGE21, PAGEOFF12, GOT_LOAD_PAGE21, GOT_LOAD_PAGEOFF12, TLVP_LOAD_PAGEOFF12}
 use Rattle.macho_arm64.specs.declared.kinds.RelocationKindInfo.{RelocationKindInfo}
@@ -30,3 +32,18 @@ pub record IsMadeAdd (input word : ℕ) : Type 0 where
   pub base : base_register word ≡ base_register input
   pub written : written_register word ≡ written_register input
   pub zero_offset : imm12 word ≡ 0
+
+-- whether a relaxation can be made at a word
+abbrev pub can_relax : Relaxation → ℕ → Bool
+can_relax relaxation.Page word = true
+can_relax relaxation.LoadToAdd word = is_relaxable word
+
+-- the load at a place was made an ADD; no other byte changed
+pub record MakesAdd (at : ℕ) (old new : List ℕ) : Type 0 where
+  pub add : IsMadeAdd (le_at 4 old at) (le_at 4 new at)
+  pub outside : new ≡ put at (le_bytes 4 (le_at 4 new at)) old
+
+-- what a relaxation makes of the bytes
+abbrev pub Relaxes : Relaxation → ℕ → List ℕ → List ℕ → Type 0
+Relaxes relaxation.Page at old new = new ≡ old
+Relaxes relaxation.LoadToAdd at old new = MakesAdd at old new

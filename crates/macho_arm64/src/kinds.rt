@@ -86,11 +86,11 @@ const SUBTRACTOR: u8 = 1;
 const BRANCH26: u8 = 2;
 const PAGE21: u8 = 3;
 const PAGEOFF12: u8 = 4;
-const GOT_LOAD_PAGE21: u8 = 5;
-const GOT_LOAD_PAGEOFF12: u8 = 6;
+pub(crate) const GOT_LOAD_PAGE21: u8 = 5;
+pub(crate) const GOT_LOAD_PAGEOFF12: u8 = 6;
 const POINTER_TO_GOT: u8 = 7;
 const TLVP_LOAD_PAGE21: u8 = 8;
-const TLVP_LOAD_PAGEOFF12: u8 = 9;
+pub(crate) const TLVP_LOAD_PAGEOFF12: u8 = 9;
 const ADDEND: u8 = 10;
 
 macro_rules! row {

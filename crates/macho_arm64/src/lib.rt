@@ -14,7 +14,8 @@ mod stubs;
 mod words;
 
 
+pub use fields::{RangeFault, fits_instruction, write_field};
 pub use kinds::{FieldSize, MachOAArch64, RelocationKind, RelocationKindInfo, UnknownRelocation};
 pub use names::rel_type_to_string;
-pub use relaxation::{Relaxation};
-
+pub use relaxation::{NotALoad, Relaxation};
+pub use stubs::{PltFault, start_memory_address, write_plt_entry};
