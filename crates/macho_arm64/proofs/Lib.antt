@@ -1,2 +1,3 @@
 pub mod PutNumbers
 pub mod KindTable
+pub mod FieldLaws
