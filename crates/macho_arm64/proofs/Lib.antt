@@ -1,3 +1,5 @@
 pub mod PutNumbers
 pub mod KindTable
 pub mod FieldLaws
+pub mod StubLaws
+pub mod RangeLaws

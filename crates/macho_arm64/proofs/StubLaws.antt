@@ -1,0 +1,14 @@
+-- A stub that goes through its slot does so at every slide.
+--
+-- Stub and slot move by the same whole pages: the distance of their pages stays, and so does the slot's offset in its
+-- page. The words are the same.
+use Rattle.std.proofs.Common.{◌≡◌, ℕ, ◌+◌, ◌*◌, ◌%◌, ◌^◌, arith}
+use Rattle.macho_bytes.specs.Numbers.{signed, page, low}
+use Rattle.macho_model.specs.Words.{imm12, imm21}
+use Rattle.macho_model.specs.Meaning.{Same, address, GoesThrough}
+use Rattle.macho_arm64.specs.Stubs.{SLIDE_UNIT}
+
+pub goes_through : (place slot adrp ldr br s : ℕ) → GoesThrough place slot adrp ldr br → s % SLIDE_UNIT ≡ 0
+    → GoesThrough (place + s) (slot + s) adrp ldr br
+goes_through place slot adrp ldr br s g whole =
+    record { pages = g.pages; reaches = omega (arith, g.reaches); load = g.load; offset = omega (arith, g.offset); leaves = g.leaves }
