@@ -3,3 +3,4 @@ pub mod KindTable
 pub mod FieldLaws
 pub mod StubLaws
 pub mod RangeLaws
+pub mod Examples
