@@ -16,7 +16,7 @@ use Rattle.macho_bytes.proofs.Puts.{put_stands, stands_beside}
 pub le_at-put : (w at n : ℕ) (bytes : List ℕ) → n < 256 ^ w → at + w ≤ length bytes → le_at w (put at (le_bytes w n) bytes) at ≡ n
 le_at-put w at n bytes fits room =
     number-stands little little_is_sound w n (put at (le_bytes w n) bytes) at fits
-      (put_stands at (le_bytes w n) bytes (omega (arith, little_is_sound.long w n)))
+    (put_stands at (le_bytes w n) bytes (omega (arith, little_is_sound.long w n)))
 
 -- a number is that of its bytes
 le_at-stands : (w : ℕ) (bytes : List ℕ) (p : Part) → Stands bytes p → w ≤ length p.text → le_at w bytes p.at ≡ little_number w p.text
@@ -34,12 +34,16 @@ le_at-beside w at v i n now next is room inside apart =
   where
     long : length (slice_range now i (i + w)) ≡ w
     long = omega (arith, length-between now i (i + w))
+
     size : length (le_bytes v n) ≡ v
     size = little_is_sound.long v n
+
     part : Part
     part = record { at = i; text = slice_range now i (i + w) }
+
     before : Stands now part
     before = record { within = omega (arith, long); same = ap (λ (k : ℕ). slice_range now i (i + k)) long }
+
     after : Stands (put at (le_bytes v n) now) part
     after = stands_beside at (le_bytes v n) now part (omega (arith, size)) before
-      (elim apart [ | inl below ↦ inl (omega (arith, long)) | inr above ↦ inr (omega (arith, size)) ])
+        (elim apart [ inl below ↦ inl (omega (arith, long)) | inr above ↦ inr (omega (arith, size)) ])

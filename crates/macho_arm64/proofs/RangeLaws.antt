@@ -35,8 +35,8 @@ offset_range : (word input value : ℕ) → value < PAGE → imm12 word * scale_
     → (nat_lt value PAGE && (value % scale_of input == 0)) ≡ true
 offset_range word input value small is kept =
     let whole : value % scale_of input ≡ 0 =
-      ap (λ (n : ℕ). n % scale_of input) (sym is) ∙ ap (λ (k : ℕ). imm12 word * k % scale_of input) (same_scale word input kept)
-      ∙ mul-mod_left (imm12 word) (scale_of input) in
+    ap (λ (n : ℕ). n % scale_of input) (sym is) ∙ ap (λ (k : ℕ). imm12 word * k % scale_of input) (same_scale word input kept)
+    ∙ mul-mod_left (imm12 word) (scale_of input) in
     rw whole (grind (arith, nat_tests))
 
 four_or_eight : (n : ℕ) → ((n == 4) || (n == 8)) ≡ true → (n ≡ 4) ⊎ (n ≡ 8)

@@ -24,19 +24,19 @@ row type length pcrel kind size page implicit_addend = record {
 -- the field's content is the addend.
 abbrev pub kinds : List KindRow
 kinds =
-    row UNSIGNED            2 false Absolute         (Bytes 4) false true
-    ∷ row UNSIGNED            3 false Absolute         (Bytes 8) false true
-    ∷ row SUBTRACTOR          2 false MachoSubtraction (Bytes 0) false false
-    ∷ row SUBTRACTOR          3 false MachoSubtraction (Bytes 0) false false
-    ∷ row BRANCH26            2 true  Relative         JumpCall  false false
-    ∷ row PAGE21              2 true  Relative         Adr       true  false
-    ∷ row PAGEOFF12           2 false AbsoluteLowPart  Low12     false false
-    ∷ row GOT_LOAD_PAGE21     2 true  GotRelative      Adr       true  false
-    ∷ row GOT_LOAD_PAGEOFF12  2 false Got              Low12     false false
-    ∷ row POINTER_TO_GOT      2 true  GotRelative      (Bytes 4) false false
-    ∷ row TLVP_LOAD_PAGE21    2 true  Relative         Adr       true  false
-    ∷ row TLVP_LOAD_PAGEOFF12 2 false AbsoluteLowPart  Low12     false false
-    ∷ row RELOC_ADDEND        2 false MachoAddition    (Bytes 0) false false
+    row UNSIGNED 2 false Absolute (Bytes 4) false true
+    ∷ row UNSIGNED 3 false Absolute (Bytes 8) false true
+    ∷ row SUBTRACTOR 2 false MachoSubtraction (Bytes 0) false false
+    ∷ row SUBTRACTOR 3 false MachoSubtraction (Bytes 0) false false
+    ∷ row BRANCH26 2 true Relative JumpCall false false
+    ∷ row PAGE21 2 true Relative Adr true false
+    ∷ row PAGEOFF12 2 false AbsoluteLowPart Low12 false false
+    ∷ row GOT_LOAD_PAGE21 2 true GotRelative Adr true false
+    ∷ row GOT_LOAD_PAGEOFF12 2 false Got Low12 false false
+    ∷ row POINTER_TO_GOT 2 true GotRelative (Bytes 4) false false
+    ∷ row TLVP_LOAD_PAGE21 2 true Relative Adr true false
+    ∷ row TLVP_LOAD_PAGEOFF12 2 false AbsoluteLowPart Low12 false false
+    ∷ row RELOC_ADDEND 2 false MachoAddition (Bytes 0) false false
     ∷ []
 
 abbrev pub same_flag : Bool → Bool → Bool

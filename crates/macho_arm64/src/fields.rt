@@ -36,7 +36,12 @@ pub fn fits_instruction(size: FieldSize, word: u32) -> bool
 /// Writes a value to a field of 4 or 8 bytes, or to the immediate of the instruction at a place. The value is the number
 /// that the field then holds, modulo 2^64: a distance in bytes for a branch, a distance of pages in bytes for an ADRP, an
 /// offset in a page for an ADD, a load or a store. Nothing is written where it does not fit.
-pub fn write_field(size: FieldSize, bytes: &mut [u8], at: usize, value: u64) -> Result<(), RangeFault>
+pub fn write_field(
+    size: FieldSize,
+    bytes: &mut [u8],
+    at: usize,
+    value: u64,
+) -> Result<(), RangeFault>
     requires size { IsTrue (is_field size) }
     requires room { at + width_of size ≤ length bytes.old }
     requires word { IsTrue (fits_word size (le_at 4 bytes.old at)) }

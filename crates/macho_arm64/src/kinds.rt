@@ -82,15 +82,25 @@ pub struct MachOAArch64;
 
 /// The `ARM64_RELOC_` types.
 const UNSIGNED: u8 = 0;
+
 const SUBTRACTOR: u8 = 1;
+
 const BRANCH26: u8 = 2;
+
 const PAGE21: u8 = 3;
+
 const PAGEOFF12: u8 = 4;
+
 pub(crate) const GOT_LOAD_PAGE21: u8 = 5;
+
 pub(crate) const GOT_LOAD_PAGEOFF12: u8 = 6;
+
 const POINTER_TO_GOT: u8 = 7;
+
 const TLVP_LOAD_PAGE21: u8 = 8;
+
 pub(crate) const TLVP_LOAD_PAGEOFF12: u8 = 9;
+
 const ADDEND: u8 = 10;
 
 macro_rules! row {

@@ -11,8 +11,9 @@ mod kinds;
 mod names;
 mod relaxation;
 mod stubs;
+#[cfg(test)]
+mod tests;
 mod words;
-
 
 pub use fields::{RangeFault, fits_instruction, write_field};
 pub use kinds::{FieldSize, MachOAArch64, RelocationKind, RelocationKindInfo, UnknownRelocation};

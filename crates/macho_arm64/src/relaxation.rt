@@ -9,8 +9,10 @@ ghost use Rattle.macho_bytes.specs.Numbers.{le_at};
 ghost use Rattle.macho_arm64.specs.Relaxations.{relaxation_of, relaxed_kind, can_relax, is_relaxable, IsMadeAdd, MakesAdd, Relaxes};
 
 use crate::bytes::{put_word, word_at};
-use crate::kinds::{FieldSize, MachOAArch64, RelocationKind, RelocationKindInfo};
-use crate::kinds::{GOT_LOAD_PAGE21, GOT_LOAD_PAGEOFF12, TLVP_LOAD_PAGEOFF12};
+use crate::kinds::{
+    FieldSize, GOT_LOAD_PAGE21, GOT_LOAD_PAGEOFF12, MachOAArch64, RelocationKind,
+    RelocationKindInfo, TLVP_LOAD_PAGEOFF12,
+};
 use crate::words::is_ldr;
 use macho_records::RelocationInfo;
 

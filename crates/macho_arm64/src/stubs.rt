@@ -15,7 +15,9 @@ use crate::words::{with_imm12, with_imm21};
 
 /// ADRP x16, LDR x16 from x16, and BR x16.
 const ADRP_X16: u32 = 0x9000_0010;
+
 const LDR_X16: u32 = 0xf940_0210;
+
 const BR_X16: u32 = 0xd61f_0200;
 
 /// A stub that can't reach its slot.
@@ -29,7 +31,11 @@ pub enum PltFault {
 
 /// Writes the stub at an address that goes through the slot at another. The entry has the stub's 12 bytes, and a slot's
 /// address is a multiple of 8. Nothing is written where the slot is out of reach.
-pub fn write_plt_entry(plt_entry: &mut [u8], got_address: u64, plt_address: u64) -> Result<(), PltFault>
+pub fn write_plt_entry(
+    plt_entry: &mut [u8],
+    got_address: u64,
+    plt_address: u64,
+) -> Result<(), PltFault>
     requires room { length plt_entry.old ≡ STUB_SIZE }
     requires aligned { got_address % 8 ≡ 0 }
     ensures after { (result ≡ Err PltFault.StubAfterSlot) ↔ (got_address ≤ plt_address) }
@@ -47,7 +53,11 @@ pub fn write_plt_entry(plt_entry: &mut [u8], got_address: u64, plt_address: u64)
     }
     let pages = (distance / 4096) as u32;
     let offset = (distance % 4096) as u32;
-    put_stub(plt_entry, with_imm21(ADRP_X16, pages), with_imm12(LDR_X16, offset / 8));
+    put_stub(
+        plt_entry,
+        with_imm21(ADRP_X16, pages),
+        with_imm12(LDR_X16, offset / 8),
+    );
     Ok(())
 }
 

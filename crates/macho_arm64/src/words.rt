@@ -62,7 +62,11 @@ pub(crate) fn with_imm21(word: u32, imm: u32) -> u32
 {
     let immhi = imm >> 2;
     let immlo = imm & 3;
-    (word & 0x1f) + (immhi << 5) + (((word >> 24) & 0x1f) << 24) + (immlo << 29) + ((word >> 31) << 31)
+    (word & 0x1f)
+        + (immhi << 5)
+        + (((word >> 24) & 0x1f) << 24)
+        + (immlo << 29)
+        + ((word >> 31) << 31)
 }
 
 pub(crate) fn with_imm26(word: u32, imm: u32) -> u32
