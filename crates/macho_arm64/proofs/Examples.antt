@@ -19,6 +19,9 @@ branch_forward = record { reaches = refl; kept = refl }
 branch_back : BranchesTo 0x100001000 0x17ffffff 0x14000000 0x100000ffc
 branch_back = record { reaches = refl; kept = refl }
 
+branch_words : map (fits_word JumpCall) (0x94000004 ∷ 0x17ffffff ∷ []) ≡ true ∷ true ∷ []
+branch_words = refl
+
 -- adrp x0 at the end of a page, to the next page
 page_forward : PagesTo 0x100001ffc 0xb0000000 0x90000000 0x100002000
 page_forward = record { reaches = refl; kept = refl }

@@ -10,7 +10,7 @@ use Rattle.macho_bytes.specs.Numbers.{signed, page, low, bits, PAGE}
 use Rattle.macho_model.specs.Words.{imm12, imm21, imm26, is_add, is_ldr, scale_of, without_imm12, base_register, written_register}
 use Rattle.macho_model.specs.Meaning.{Same, address, PointsTo, IsDifference, BranchesTo, PagesTo, OffsetsTo, AddsTo, LoadsFrom, IsDistance}
 use Rattle.macho_arm64.specs.declared.kinds.FieldSize.TheVariants.{Bytes, Adr, JumpCall, Low12}
-use Rattle.macho_arm64.specs.Fields.{value_of, rest_of, Holds}
+use Rattle.macho_arm64.specs.Fields.{fits_word, value_of, rest_of, can_hold, Holds}
 use Rattle.macho_arm64.specs.Relaxations.{IsMadeAdd}
 use Rattle.macho_arm64.specs.Stubs.{SLIDE_UNIT}
 
@@ -83,3 +83,17 @@ adds_to input add word value x s y made h row whole moved =
     let says : imm12 word * 1 ≡ value = rw (← scale_of-add word still) h.says in
     let registers : bits 0 10 word ≡ bits 0 10 add = same_registers word add h.kept in
     record { add = still; base = omega arith; written = omega arith; reaches = omega arith }
+
+-- an ADD that a load was made takes any offset in a page
+pub add_fits : (input word : ℕ) → IsMadeAdd input word → fits_word Low12 word ≡ true
+add_fits input word made = rw made.add refl
+
+pub add_can_hold : (input word value : ℕ) → IsMadeAdd input word → value < PAGE → can_hold Low12 word value ≡ true
+add_can_hold input word value made small = rw (scale_of-add word made.add) (grind (arith, nat_tests))
+
+-- a 64-bit load takes the offset of any slot, since a slot stands at a multiple of 8
+pub load_fits : (word : ℕ) → is_ldr word ≡ true → fits_word Low12 word ≡ true
+load_fits word load = rw (operation word 0b1111100101 load) refl
+
+pub load_can_hold : (word slot : ℕ) → is_ldr word ≡ true → slot % 8 ≡ 0 → can_hold Low12 word (low (address slot)) ≡ true
+load_can_hold word slot load aligned = rw (scale_of-ldr word load) (grind (arith, nat_tests))

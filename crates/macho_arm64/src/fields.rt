@@ -47,7 +47,7 @@ pub fn write_field(
     requires word { IsTrue (fits_word size (le_at 4 bytes.old at)) }
 
     // It is done exactly where the field can hold the value.
-    ensures ok { OnOk result (IsTrue (can_hold size (le_at 4 bytes.old at) value)) }
+    ensures found { OnOk result (IsTrue (can_hold size (le_at 4 bytes.old at) value)) }
     ensures why { OnErr result (can_hold size (le_at 4 bytes.old at) value ≡ false) }
     ensures told { IfErr result (λ fault. fault.value ≡ value) }
     ensures kept { OnErr result (bytes.new ≡ bytes.old) }

@@ -67,7 +67,7 @@ impl Relaxation {
     /// Relaxes the instruction at a place. Nothing is changed where it is no load that can be made an ADD.
     pub fn apply(&self, bytes: &mut [u8], at: usize) -> Result<(), NotALoad>
         requires { at + 4 ≤ length bytes.old }
-        ensures ok { OnOk result (can_relax self.now (le_at 4 bytes.old at) ≡ true) }
+        ensures found { OnOk result (can_relax self.now (le_at 4 bytes.old at) ≡ true) }
         ensures why { OnErr result (can_relax self.now (le_at 4 bytes.old at) ≡ false) }
         ensures kept { OnErr result (bytes.new ≡ bytes.old) }
         ensures done { OnOk result (Relaxes self.now at bytes.old bytes.new) }
@@ -82,7 +82,7 @@ impl Relaxation {
 /// Makes the load at a place the ADD of 0 to the same base, into the same register.
 fn make_add(bytes: &mut [u8], at: usize) -> Result<(), NotALoad>
     requires { at + 4 ≤ length bytes.old }
-    ensures ok { OnOk result (is_relaxable (le_at 4 bytes.old at) ≡ true) }
+    ensures found { OnOk result (is_relaxable (le_at 4 bytes.old at) ≡ true) }
     ensures why { OnErr result (is_relaxable (le_at 4 bytes.old at) ≡ false) }
     ensures kept { OnErr result (bytes.new ≡ bytes.old) }
     ensures done { OnOk result (MakesAdd at bytes.old bytes.new) }
