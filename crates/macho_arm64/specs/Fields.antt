@@ -1,7 +1,7 @@
 -- What a relocated field holds: the number that its word stands for, which numbers it can hold, and what of the word is
 -- no part of the number. Numbers are taken modulo 2 ^ 64.
 use Rattle.std.specs.Prelude.{◌≡◌, ℕ, ◌+◌, ◌*◌, ◌-◌, ◌%◌, ◌^◌, ◌==◌, nat_lt, nat_le, ◌&&◌, ◌||◌, Bool, true, List}
-use Rattle.macho_bytes.specs.Numbers.{signed, PAGE}
+use Rattle.macho_bytes.specs.Numbers.{le_at, signed, PAGE}
 use Rattle.macho_model.specs.Words.{is_adrp, imm21, is_branch, imm26, is_add, is_ldr, is_load_store, imm12, scale_of, without_imm21, without_imm26, without_imm12}
 use Rattle.macho_model.specs.Meaning.{address}
 use Rattle.macho_arm64.specs.declared.kinds.FieldSize.{FieldSize}
@@ -11,6 +11,10 @@ use Rattle.macho_arm64.specs.declared.kinds.FieldSize.TheVariants.{Bytes, Adr, J
 abbrev pub width_of : FieldSize → ℕ
 width_of (Bytes n) = n
 width_of size = 4
+
+-- the number of a field's bytes
+abbrev pub field_at : FieldSize → List ℕ → ℕ → ℕ
+field_at size bytes at = le_at (width_of size) bytes at
 
 -- a field that a value can be written to: 4 or 8 bytes, or an immediate
 abbrev pub is_field : FieldSize → Bool

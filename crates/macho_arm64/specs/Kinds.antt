@@ -12,6 +12,7 @@ use Rattle.macho_arm64.specs.declared.kinds.FieldSize.TheVariants.{Bytes, Adr, J
 use Rattle.macho_arm64.specs.declared.kinds.RelocationKindInfo.{RelocationKindInfo}
 use Rattle.macho_arm64.specs.declared.kinds.KindRow.{KindRow}
 
+-- a row of the table
 abbrev pub row : ℕ → ℕ → Bool → RelocationKind → FieldSize → Bool → Bool → KindRow
 row type length pcrel kind size page implicit_addend = record {
   r_type = type;

@@ -5,12 +5,13 @@ ghost use Rattle.std.specs.Prelude.{◌≡◌, ◌↔◌, ◌+◌, ◌<◌, ◌�
 ghost use Rattle.macho_bytes.specs.Numbers.{le_at, le_bytes, signed, PAGE};
 ghost use Rattle.macho_bytes.specs.Texts.{put};
 ghost use Rattle.macho_model.specs.Meaning.{address};
-ghost use Rattle.macho_arm64.specs.Fields.{width_of, is_field, fits_word, can_hold, fits_signed, Holds};
+ghost use Rattle.macho_arm64.specs.Fields.{width_of, field_at, is_field, fits_word, can_hold, fits_signed, Holds};
 
 use crate::bytes::{put_doubleword, put_word, word_at};
 use crate::kinds::FieldSize;
 use crate::words::{
-    is_add, is_adrp, is_branch, is_ldr, is_load_store, scale_of, with_imm12, with_imm21, with_imm26,
+    PAGE_SIZE, is_add, is_adrp, is_branch, is_ldr, is_load_store, scale_of, with_imm12, with_imm21,
+    with_imm26,
 };
 
 /// The value does not fit the field.
@@ -53,9 +54,8 @@ pub fn write_field(
     ensures kept { OnErr result (bytes.new ≡ bytes.old) }
 
     // The field then holds it, and no other byte changes.
-    ensures done { OnOk result (Holds size (le_at (width_of size) bytes.old at) (le_at (width_of size) bytes.new at) value) }
-    ensures outside { OnOk result
-        (bytes.new ≡ put at (le_bytes (width_of size) (le_at (width_of size) bytes.new at)) bytes.old) }
+    ensures done { OnOk result (Holds size (field_at size bytes.old at) (field_at size bytes.new at) value) }
+    ensures outside { OnOk result (bytes.new ≡ put at (le_bytes (width_of size) (field_at size bytes.new at)) bytes.old) }
 {
     if size == FieldSize::Bytes(8) {
         put_doubleword(bytes, at, value);
@@ -111,7 +111,7 @@ fn page_immediate(value: u64) -> Option<u32>
     ensures small { IfSome result (λ imm. imm < 2 ^ 21) }
     ensures some { IsSome result ↔ ((fits_signed 33 value && (value % PAGE == 0)) ≡ true) }
 {
-    if fits_signed(33, value) && value % 4096 == 0 {
+    if fits_signed(33, value) && value % PAGE_SIZE == 0 {
         Some(((value >> 12) & 0x1f_ffff) as u32)
     } else {
         None
@@ -138,7 +138,7 @@ fn offset_immediate(value: u64, scale: u64) -> Option<u32>
     ensures small { IfSome result (λ imm. imm < 2 ^ 12) }
     ensures some { IsSome result ↔ ((nat_lt value PAGE && (value % scale == 0)) ≡ true) }
 {
-    if value < 4096 && value % scale == 0 {
+    if value < PAGE_SIZE && value % scale == 0 {
         Some((value / scale) as u32)
     } else {
         None

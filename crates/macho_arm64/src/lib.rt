@@ -20,3 +20,4 @@ pub use kinds::{FieldSize, MachOAArch64, RelocationKind, RelocationKindInfo, Unk
 pub use names::rel_type_to_string;
 pub use relaxation::{NotALoad, Relaxation};
 pub use stubs::{PltFault, start_memory_address, write_plt_entry};
+pub use words::is_ldr;

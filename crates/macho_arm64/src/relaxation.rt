@@ -95,10 +95,13 @@ fn make_add(bytes: &mut [u8], at: usize) -> Result<(), NotALoad>
     Ok(())
 }
 
+/// The register that is zero in a load, and the stack pointer in an ADD.
+const ZERO_OR_STACK: u32 = 31;
+
 fn is_relaxable(word: u32) -> bool
     ensures { result ≡ is_relaxable word }
 {
-    is_ldr(word) && word & 0x1f != 31
+    is_ldr(word) && word & 0x1f != ZERO_OR_STACK
 }
 
 /// The ADD of 0 with the registers of a load.

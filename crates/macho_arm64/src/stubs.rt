@@ -11,7 +11,7 @@ ghost use Rattle.macho_model.specs.Meaning.{GoesThrough};
 ghost use Rattle.macho_arm64.specs.Stubs.{STUB_SIZE, ADRP_REACH, start_address};
 
 use crate::bytes::put_word;
-use crate::words::{with_imm12, with_imm21};
+use crate::words::{PAGE_SIZE, with_imm12, with_imm21};
 
 /// ADRP x16, LDR x16 from x16, and BR x16.
 const ADRP_X16: u32 = 0x9000_0010;
@@ -19,6 +19,12 @@ const ADRP_X16: u32 = 0x9000_0010;
 const LDR_X16: u32 = 0xf940_0210;
 
 const BR_X16: u32 = 0xd61f_0200;
+
+/// How far an ADRP reaches forward, from the start of its page.
+const REACH: u64 = 1 << 32;
+
+/// Where an executable begins.
+const START_MEMORY_ADDRESS: u64 = 1 << 32;
 
 /// A stub that can't reach its slot.
 #[derive(Clone, Copy, Debug, PartialEq, Eq)]
@@ -47,12 +53,12 @@ pub fn write_plt_entry(
     if plt_address >= got_address {
         return Err(PltFault::StubAfterSlot);
     }
-    let distance = got_address - (plt_address - plt_address % 4096);
-    if distance >= 1 << 32 {
+    let distance = got_address - (plt_address - plt_address % PAGE_SIZE);
+    if distance >= REACH {
         return Err(PltFault::StubTooFar);
     }
-    let pages = (distance / 4096) as u32;
-    let offset = (distance % 4096) as u32;
+    let pages = (distance / PAGE_SIZE) as u32;
+    let offset = (distance % PAGE_SIZE) as u32;
     put_stub(
         plt_entry,
         with_imm21(ADRP_X16, pages),
@@ -77,5 +83,5 @@ fn put_stub(plt_entry: &mut [u8], adrp: u32, ldr: u32)
 pub fn start_memory_address(executable: bool) -> u64
     ensures { result ≡ start_address executable }
 {
-    if executable { 0x1_0000_0000 } else { 0 }
+    if executable { START_MEMORY_ADDRESS } else { 0 }
 }

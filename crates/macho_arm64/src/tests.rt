@@ -50,14 +50,15 @@ fn names_of_relocations(rt: HostRuntime) -> Result<(), Fail> {
     Ok(())
 }
 
-/// The four bytes with a value in their field, None where it does not fit.
-fn written(rt: &impl Abort, size: FieldSize, mut bytes: [u8; 4], value: u64) -> Option<[u8; 4]>
+/// The word with a value in its field, None where it does not fit.
+fn written(rt: &impl Abort, size: FieldSize, word: u32, value: u64) -> Option<u32>
     requires field { IsTrue (is_field size) }
     requires width { width_of size ≡ 4 }
 {
+    let mut bytes = word.to_le_bytes();
     assert!(rt; fits_instruction(size, word_at(&bytes, 0)));
     match write_field(size, &mut bytes, 0, value) {
-        Ok(()) => Some(bytes),
+        Ok(()) => Some(u32::from_le_bytes(bytes)),
         Err(fault) => {
             assert_eq!(rt; fault.value, value);
             None
@@ -65,73 +66,84 @@ fn written(rt: &impl Abort, size: FieldSize, mut bytes: [u8; 4], value: u64) -> 
     }
 }
 
-/// Words that clang 14 wrote for arm64-apple-macos14, as llvm-objdump 14 lists them: each load and store of a size, without
-/// an offset and with one.
-const LOADS: [([u8; 4], u64, [u8; 4]); 23] = [
-    ([0x41, 0x00, 0x40, 0x39], 0x123, [0x41, 0x8c, 0x44, 0x39]), // ldrb w1, [x2]
-    ([0x41, 0x00, 0x00, 0x39], 0x123, [0x41, 0x8c, 0x04, 0x39]), // strb w1
-    ([0x41, 0x00, 0x80, 0x39], 0x123, [0x41, 0x8c, 0x84, 0x39]), // ldrsb x1
-    ([0x41, 0x00, 0x40, 0x79], 0x122, [0x41, 0x44, 0x42, 0x79]), // ldrh w1
-    ([0x41, 0x00, 0x00, 0x79], 0x122, [0x41, 0x44, 0x02, 0x79]), // strh w1
-    ([0x41, 0x00, 0xc0, 0x79], 0x122, [0x41, 0x44, 0xc2, 0x79]), // ldrsh w1
-    ([0x41, 0x00, 0x40, 0xb9], 0x124, [0x41, 0x24, 0x41, 0xb9]), // ldr w1
-    ([0x41, 0x00, 0x00, 0xb9], 0x124, [0x41, 0x24, 0x01, 0xb9]), // str w1
-    ([0x41, 0x00, 0x80, 0xb9], 0x124, [0x41, 0x24, 0x81, 0xb9]), // ldrsw x1
-    ([0x41, 0x00, 0x40, 0xf9], 0x128, [0x41, 0x94, 0x40, 0xf9]), // ldr x1
-    ([0x41, 0x00, 0x00, 0xf9], 0x128, [0x41, 0x94, 0x00, 0xf9]), // str x1
-    ([0x40, 0x00, 0x80, 0xf9], 0x128, [0x40, 0x94, 0x80, 0xf9]), // prfm pldl1keep
-    ([0x41, 0x00, 0x40, 0x3d], 0x123, [0x41, 0x8c, 0x44, 0x3d]), // ldr b1
-    ([0x41, 0x00, 0x00, 0x3d], 0x123, [0x41, 0x8c, 0x04, 0x3d]), // str b1
-    ([0x41, 0x00, 0x40, 0x7d], 0x122, [0x41, 0x44, 0x42, 0x7d]), // ldr h1
-    ([0x41, 0x00, 0x00, 0x7d], 0x122, [0x41, 0x44, 0x02, 0x7d]), // str h1
-    ([0x41, 0x00, 0x40, 0xbd], 0x124, [0x41, 0x24, 0x41, 0xbd]), // ldr s1
-    ([0x41, 0x00, 0x00, 0xbd], 0x124, [0x41, 0x24, 0x01, 0xbd]), // str s1
-    ([0x41, 0x00, 0x40, 0xfd], 0x128, [0x41, 0x94, 0x40, 0xfd]), // ldr d1
-    ([0x41, 0x00, 0x00, 0xfd], 0x128, [0x41, 0x94, 0x00, 0xfd]), // str d1
-    ([0x41, 0x00, 0xc0, 0x3d], 0x120, [0x41, 0x48, 0xc0, 0x3d]), // ldr q1
-    ([0x41, 0x00, 0x80, 0x3d], 0x120, [0x41, 0x48, 0x80, 0x3d]), // str q1
-    ([0x41, 0x00, 0x00, 0x91], 0x123, [0x41, 0x8c, 0x04, 0x91]), // add x1, x2, 0
+/// Loads and stores of each size, without an offset, an offset, and the word with it: as clang 14 wrote them for
+/// arm64-apple-macos14 and llvm-objdump 14 lists them.
+const LOADS: [(u32, u64, u32); 23] = [
+    (0x39400041, 0x123, 0x39448c41), // ldrb w1, [x2, #291]
+    (0x39000041, 0x123, 0x39048c41), // strb w1, [x2, #291]
+    (0x39800041, 0x123, 0x39848c41), // ldrsb x1, [x2, #291]
+    (0x79400041, 0x122, 0x79424441), // ldrh w1, [x2, #290]
+    (0x79000041, 0x122, 0x79024441), // strh w1, [x2, #290]
+    (0x79c00041, 0x122, 0x79c24441), // ldrsh w1, [x2, #290]
+    (0xb9400041, 0x124, 0xb9412441), // ldr w1, [x2, #292]
+    (0xb9000041, 0x124, 0xb9012441), // str w1, [x2, #292]
+    (0xb9800041, 0x124, 0xb9812441), // ldrsw x1, [x2, #292]
+    (0xf9400041, 0x128, 0xf9409441), // ldr x1, [x2, #296]
+    (0xf9000041, 0x128, 0xf9009441), // str x1, [x2, #296]
+    (0xf9800040, 0x128, 0xf9809440), // prfm pldl1keep, [x2, #296]
+    (0x3d400041, 0x123, 0x3d448c41), // ldr b1, [x2, #291]
+    (0x3d000041, 0x123, 0x3d048c41), // str b1, [x2, #291]
+    (0x7d400041, 0x122, 0x7d424441), // ldr h1, [x2, #290]
+    (0x7d000041, 0x122, 0x7d024441), // str h1, [x2, #290]
+    (0xbd400041, 0x124, 0xbd412441), // ldr s1, [x2, #292]
+    (0xbd000041, 0x124, 0xbd012441), // str s1, [x2, #292]
+    (0xfd400041, 0x128, 0xfd409441), // ldr d1, [x2, #296]
+    (0xfd000041, 0x128, 0xfd009441), // str d1, [x2, #296]
+    (0x3dc00041, 0x120, 0x3dc04841), // ldr q1, [x2, #288]
+    (0x3d800041, 0x120, 0x3d804841), // str q1, [x2, #288]
+    (0x91000041, 0x123, 0x91048c41), // add x1, x2, #291
 ];
 
 #[test]
 fn offsets_as_an_assembler_writes_them(rt: HostRuntime) {
-    for (bytes, offset, want) in LOADS {
+    for (word, offset, want) in LOADS {
         assert_eq!(rt;
-            written(&rt, FieldSize::Low12, bytes, offset),
+            written(&rt, FieldSize::Low12, word, offset),
             Some(want),
-            "{want:?}"
+            "{want:x}"
         );
     }
-    assert_eq!(rt;
-        written(&rt, FieldSize::Low12, [0x00, 0x00, 0x40, 0xf9], 4),
-        None
-    );
+    assert_eq!(rt; written(&rt, FieldSize::Low12, 0xf9400000, 4), None);
+    assert_eq!(rt; written(&rt, FieldSize::Low12, 0x39400000, 0x1000), None);
 }
 
 #[test]
 fn branches_pages_and_distances(rt: HostRuntime) {
-    let bl = [0x00, 0x00, 0x00, 0x94];
+    for (distance, want) in [
+        (0x10, Some(0x94000004)),
+        (0x7fffffc, Some(0x95ffffff)),
+        (0x8000000, None),
+        (0xffff_ffff_f800_0000, Some(0x96000000)),
+        (0xffff_ffff_f7ff_fffc, None),
+        (2, None),
+    ] {
+        assert_eq!(rt;
+            written(&rt, FieldSize::JumpCall, 0x94000000, distance),
+            want
+        );
+    }
+    for (distance, want) in [
+        (0x1000, Some(0xb0000000)),
+        (0xfffff000, Some(0xf07fffe0)),
+        (0x100000000, None),
+        (0xffff_ffff_0000_0000, Some(0x90800000)),
+        (0x800, None),
+    ] {
+        assert_eq!(rt; written(&rt, FieldSize::Adr, 0x90000000, distance), want);
+    }
     assert_eq!(rt;
-        written(&rt, FieldSize::JumpCall, bl, 0x10),
-        Some([0x04, 0x00, 0x00, 0x94])
+        written(&rt, FieldSize::Bytes(4), 0, 0xffff_ffff_8000_0000),
+        Some(0x80000000)
     );
-    assert_eq!(rt;
-        written(&rt, FieldSize::JumpCall, bl, 0x7fffffc),
-        Some([0xff, 0xff, 0xff, 0x95])
-    );
-    assert_eq!(rt; written(&rt, FieldSize::JumpCall, bl, 0x8000000), None);
-    let adrp = [0x00, 0x00, 0x00, 0x90];
-    assert_eq!(rt;
-        written(&rt, FieldSize::Adr, adrp, 0x1000),
-        Some([0x00, 0x00, 0x00, 0xb0])
-    );
-    assert_eq!(rt; written(&rt, FieldSize::Adr, adrp, 0x100000000), None);
-    let minus_eight = 0xffff_ffff_ffff_fff8;
-    assert_eq!(rt;
-        written(&rt, FieldSize::Bytes(4), bl, minus_eight),
-        Some([0xf8, 0xff, 0xff, 0xff])
-    );
-    assert_eq!(rt; written(&rt, FieldSize::Bytes(4), bl, 0x80000000), None);
+    assert_eq!(rt; written(&rt, FieldSize::Bytes(4), 0, 0x80000000), None);
+}
+
+#[test]
+fn bytes_beside_a_field_stay(rt: HostRuntime) {
+    let mut branch = [0xff, 0x00, 0x00, 0x00, 0x94, 0xff];
+    assert!(rt; fits_instruction(FieldSize::JumpCall, word_at(&branch, 1)));
+    assert!(rt; write_field(FieldSize::JumpCall, &mut branch, 1, 0x10).is_ok());
+    assert_eq!(rt; branch, [0xff, 0x04, 0x00, 0x00, 0x94, 0xff]);
     let mut pointer = [0xff; 10];
     assert!(rt; write_field(FieldSize::Bytes(8), &mut pointer, 1, 0x100003f00).is_ok());
     assert_eq!(rt;
@@ -151,10 +163,9 @@ fn loads_of_slots_become_adds(rt: HostRuntime) -> Result<(), Fail> {
     assert!(rt; page.apply(&mut load, 0).is_ok());
     assert_eq!(rt; load, [0x00, 0x00, 0x40, 0xf9]);
     assert!(rt; offset.apply(&mut load, 0).is_ok());
-    assert_eq!(rt;
-        written(&rt, FieldSize::Low12, load, 0x123),
-        Some([0x00, 0x8c, 0x04, 0x91])
-    );
+    assert!(rt; fits_instruction(FieldSize::Low12, word_at(&load, 0)));
+    assert!(rt; write_field(FieldSize::Low12, &mut load, 0, 0x123).is_ok());
+    assert_eq!(rt; load, [0x00, 0x8c, 0x04, 0x91]);
     let mut into_zero_register = [0x1f, 0x00, 0x40, 0xf9];
     assert_eq!(rt; offset.apply(&mut into_zero_register, 0), Err(NotALoad));
     Ok(())
