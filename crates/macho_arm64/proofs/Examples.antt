@@ -1,15 +1,14 @@
 -- Words that an assembler wrote (clang 14 for arm64-apple-macos14, listed by llvm-objdump 14), against the definitions.
 --
 -- Each fact is computed: what the word of an instruction means is what the assembler was asked for.
-use Rattle.std.proofs.Common.{◌≡◌, ℕ, ◌+◌, ◌-◌, ◌^◌, Bool, true, false, List, [], ◌∷◌, map, filter, refl, Option, Some, None}
-use Rattle.std.specs.Prelude.{codes}
-use Rattle.macho_model.specs.Words.{is_adrp, is_branch, is_add, is_ldr, is_load_store, scale_of}
+use Rattle.std.proofs.Common.{◌≡◌, ℕ, ◌-◌, ◌^◌, true, false, List, [], ◌∷◌, map, filter, refl, Some, None}
+use Rattle.macho_model.specs.Words.{scale_of}
 use Rattle.macho_model.specs.Meaning.{BranchesTo, PagesTo, OffsetsTo, AddsTo, LoadsFrom, IsDistance, IsDifference, GoesThrough}
-use Rattle.macho_model.specs.Targets.{UNSIGNED, SUBTRACTOR, BRANCH26, PAGE21, PAGEOFF12, GOT_LOAD_PAGEOFF12, TLVP_LOAD_PAGEOFF12}
-use Rattle.macho_arm64.specs.declared.kinds.RelocationKind.TheVariants.{Absolute, AbsoluteLowPart}
+use Rattle.macho_model.specs.Targets.{UNSIGNED, BRANCH26, PAGEOFF12, TLVP_LOAD_PAGEOFF12}
+use Rattle.macho_arm64.specs.declared.kinds.RelocationKind.TheVariants.{Absolute}
 use Rattle.macho_arm64.specs.declared.kinds.FieldSize.TheVariants.{Bytes, Adr, JumpCall, Low12}
-use Rattle.macho_arm64.specs.Kinds.{kind_among, kind_at, type_text}
-use Rattle.macho_arm64.specs.Fields.{fits_word, value_of, fits_signed, can_hold}
+use Rattle.macho_arm64.specs.Kinds.{kind_among, kind_at}
+use Rattle.macho_arm64.specs.Fields.{fits_word, can_hold}
 use Rattle.macho_arm64.specs.Relaxations.{is_relaxable}
 
 -- bl at 0x100001000 to 0x100001010, from `bl 0`; b a word back

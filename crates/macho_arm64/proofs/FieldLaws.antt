@@ -4,13 +4,13 @@
 -- place reaches the target. When the image slides, place and target move by the same s, and the number stays. Modulo
 -- 2 ^ 64 that is a sum on both sides. A page moves by s too, where s is whole pages; an offset in a page does not move.
 -- So each law is arithmetic on the number that the word decodes to; the rest of the word is the input's by `Holds`.
-use Rattle.std.proofs.Common.{◌≡◌, ℕ, ◌+◌, ◌*◌, ◌-◌, ◌/◌, ◌%◌, ◌^◌, ◌<◌, ◌==◌, nat_lt, if◌then◌else◌, Bool, true, false, arith, ap, sym, ◌∙◌, refl}
+use Rattle.std.proofs.Common.{◌≡◌, ℕ, ◌+◌, ◌*◌, ◌-◌, ◌%◌, ◌^◌, ◌<◌, ◌==◌, nat_lt, if◌then◌else◌, true, false, arith, ◌∙◌, refl}
 use Rattle.std.proofs.lemmas.Bool.Decides.{nat_tests}
 use Rattle.macho_bytes.specs.Numbers.{signed, page, low, bits, PAGE}
-use Rattle.macho_model.specs.Words.{imm12, imm21, imm26, is_add, is_ldr, scale_of, without_imm12, base_register, written_register}
+use Rattle.macho_model.specs.Words.{imm12, is_add, is_ldr, scale_of, without_imm12}
 use Rattle.macho_model.specs.Meaning.{Same, address, PointsTo, IsDifference, BranchesTo, PagesTo, OffsetsTo, AddsTo, LoadsFrom, IsDistance}
 use Rattle.macho_arm64.specs.declared.kinds.FieldSize.TheVariants.{Bytes, Adr, JumpCall, Low12}
-use Rattle.macho_arm64.specs.Fields.{fits_word, value_of, rest_of, can_hold, Holds}
+use Rattle.macho_arm64.specs.Fields.{fits_word, can_hold, Holds}
 use Rattle.macho_arm64.specs.Relaxations.{IsMadeAdd}
 use Rattle.macho_arm64.specs.Stubs.{SLIDE_UNIT}
 

@@ -3,7 +3,7 @@
 -- What was put stands, and a number reads back where its spelling stands: so the number that was put is read at its
 -- place. A number beside it is the first of the list from its own place on. Its bytes are a part that shares none with
 -- what was put, so they stand as before; a number reads no byte past its own, so it is as before.
-use Rattle.std.proofs.Common.{◌≡◌, ℕ, ◌+◌, ◌^◌, ◌<◌, ◌≤◌, ◌⊎◌, List, ◌++◌, length, drop, slice_range, arith, ap, sym, ◌∙◌, inl, inr}
+use Rattle.std.proofs.Common.{◌≡◌, ℕ, ◌+◌, ◌^◌, ◌<◌, ◌≤◌, ◌⊎◌, List, length, drop, slice_range, arith, ap, sym, ◌∙◌, inl, inr}
 use Rattle.std.proofs.lemmas.List.Edits.{length-between}
 use Rattle.byteorder.specs.Endian.{little_number}
 use Rattle.byteorder.specs.Numbers.{little_from-append}

@@ -3,7 +3,7 @@
 -- An immediate of n bits, read as two's complement, is below 2 ^ (n - 1) or within 2 ^ (n - 1) of 2 ^ 64. Times its unit
 -- it is a multiple of the unit in that many times the range. So a number that fails the range test is none that a word
 -- of the field says, whatever the word is. (An offset in a page is below a page, which a scaled load could pass.)
-use Rattle.std.proofs.Common.{◌≡◌, ℕ, ◌+◌, ◌*◌, ◌-◌, ◌/◌, ◌%◌, ◌^◌, ◌<◌, ◌≤◌, ◌==◌, nat_lt, nat_le, ◌&&◌, ◌||◌, if◌then◌else◌, Bool, true, false, arith, ap, sym, ◌∙◌, refl, ◌⊎◌, inl, inr}
+use Rattle.std.proofs.Common.{◌≡◌, ℕ, ◌*◌, ◌%◌, ◌^◌, ◌<◌, ◌==◌, nat_lt, ◌&&◌, ◌||◌, true, arith, ap, sym, ◌∙◌, refl, ◌⊎◌, inl, inr}
 use Rattle.std.proofs.Math.Nat.{mul-mod_left}
 use Rattle.std.proofs.lemmas.Bool.Decides.{nat_tests}
 use Rattle.macho_bytes.specs.Numbers.{signed, bits, PAGE}
@@ -11,7 +11,7 @@ use Rattle.macho_model.specs.Words.{imm12, imm21, imm26, scale_of, without_imm12
 use Rattle.macho_model.specs.Meaning.{address}
 use Rattle.macho_arm64.specs.declared.kinds.FieldSize.{FieldSize}
 use Rattle.macho_arm64.specs.declared.kinds.FieldSize.TheVariants.{Bytes, Adr, JumpCall, Low12}
-use Rattle.macho_arm64.specs.Fields.{width_of, is_field, value_of, rest_of, fits_signed, can_hold, Holds}
+use Rattle.macho_arm64.specs.Fields.{width_of, is_field, fits_signed, can_hold, Holds}
 
 page_range : (imm value : ℕ) → imm < 2 ^ 21 → address (PAGE * signed 21 imm) ≡ value → (fits_signed 33 value && (value % PAGE == 0)) ≡ true
 page_range imm value small is = grind (arith, nat_tests)

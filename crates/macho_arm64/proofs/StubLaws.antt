@@ -2,10 +2,8 @@
 --
 -- Stub and slot move by the same whole pages: the distance of their pages stays, and so does the slot's offset in its
 -- page. The words are the same.
-use Rattle.std.proofs.Common.{◌≡◌, ℕ, ◌+◌, ◌*◌, ◌%◌, ◌^◌, arith}
-use Rattle.macho_bytes.specs.Numbers.{signed, page, low}
-use Rattle.macho_model.specs.Words.{imm12, imm21}
-use Rattle.macho_model.specs.Meaning.{Same, address, GoesThrough}
+use Rattle.std.proofs.Common.{◌≡◌, ℕ, ◌+◌, ◌%◌, arith}
+use Rattle.macho_model.specs.Meaning.{GoesThrough}
 use Rattle.macho_arm64.specs.Stubs.{SLIDE_UNIT}
 
 pub goes_through : (place slot adrp ldr br s : ℕ) → GoesThrough place slot adrp ldr br → s % SLIDE_UNIT ≡ 0

@@ -1,6 +1,6 @@
 -- What a relocated field holds: the number that its word stands for, which numbers it can hold, and what of the word is
--- no part of the number. Numbers are taken modulo 2 ^ 64.
-use Rattle.std.specs.Prelude.{◌≡◌, ℕ, ◌+◌, ◌*◌, ◌-◌, ◌%◌, ◌^◌, ◌==◌, nat_lt, nat_le, ◌&&◌, ◌||◌, Bool, true, List}
+-- no part of the number. Numbers are taken modulo 2 ^ 64. (Instructions: Arm Architecture Reference Manual, chapter C6.)
+use Rattle.std.specs.Prelude.{◌≡◌, ℕ, ◌*◌, ◌-◌, ◌%◌, ◌^◌, ◌==◌, nat_lt, nat_le, ◌&&◌, ◌||◌, Bool, true, List}
 use Rattle.macho_bytes.specs.Numbers.{le_at, signed, PAGE}
 use Rattle.macho_model.specs.Words.{is_adrp, imm21, is_branch, imm26, is_add, is_ldr, is_load_store, imm12, scale_of, without_imm21, without_imm26, without_imm12}
 use Rattle.macho_model.specs.Meaning.{address}

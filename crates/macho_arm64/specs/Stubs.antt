@@ -1,5 +1,5 @@
 -- Stubs: three instructions that go on to an import through its slot; and where an image begins.
-use Rattle.std.specs.Prelude.{ℕ, ◌*◌, ◌^◌, Bool, if◌then◌else◌}
+use Rattle.std.specs.Prelude.{ℕ, ◌^◌, Bool, if◌then◌else◌}
 
 -- the bytes of a stub
 abbrev pub STUB_SIZE : ℕ

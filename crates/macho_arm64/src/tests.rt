@@ -60,7 +60,7 @@ fn written(rt: &impl Abort, size: FieldSize, word: u32, value: u64) -> Option<u3
     match write_field(size, &mut bytes, 0, value) {
         Ok(()) => Some(u32::from_le_bytes(bytes)),
         Err(fault) => {
-            assert_eq!(rt; fault.value, value);
+            assert_eq!(rt; value, fault.value);
             None
         }
     }

@@ -1,4 +1,4 @@
-use Rattle.std.proofs.Common.{◌≡◌, ap, ◌∙◌, refl, arith, List, ℕ}
+use Rattle.std.proofs.Common.{ap, ◌∙◌, refl, arith, List, ℕ}
 use Rattle.macho_bytes.specs.Numbers.{le_at, le_bytes}
 use Rattle.macho_bytes.proofs.Writes.{put_mid-front}
 use Rattle.macho_arm64.proofs.PutNumbers.{le_at-put}

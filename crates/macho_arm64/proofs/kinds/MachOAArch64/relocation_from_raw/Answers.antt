@@ -1,6 +1,5 @@
-use Rattle.std.proofs.Common.{◌≡◌, ap, ◌∙◌, List, Some, None, IfOk, OnErr, Result}
+use Rattle.std.proofs.Common.{◌≡◌, ap, ◌∙◌, List}
 use Rattle.macho_arm64.specs.declared.kinds.KindRow.{KindRow}
-use Rattle.macho_arm64.specs.declared.kinds.RelocationKindInfo.{RelocationKindInfo}
 use Rattle.macho_arm64.specs.Kinds.{kind_among, kind_of}
 use Rattle.macho_arm64.proofs.KindTable.{one_table, found-ok_or, none-ok_or}
 use Rattle.macho_arm64.proofs.kinds.MachOAArch64.relocation_from_raw.Goals as goal
