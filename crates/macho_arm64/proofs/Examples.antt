@@ -4,7 +4,7 @@
 use Rattle.std.proofs.Common.{◌≡◌, ℕ, ◌-◌, ◌^◌, true, false, List, [], ◌∷◌, map, filter, refl, Some, None}
 use Rattle.macho_model.specs.Words.{scale_of}
 use Rattle.macho_model.specs.Meaning.{BranchesTo, PagesTo, OffsetsTo, AddsTo, LoadsFrom, IsDistance, IsDifference, GoesThrough}
-use Rattle.macho_model.specs.Targets.{UNSIGNED, BRANCH26, PAGEOFF12, TLVP_LOAD_PAGEOFF12}
+use Rattle.macho_records.specs.declared.constants.TheConstants.{ARM64_RELOC_UNSIGNED, ARM64_RELOC_BRANCH26, ARM64_RELOC_PAGEOFF12, ARM64_RELOC_TLVP_LOAD_PAGEOFF12}
 use Rattle.macho_arm64.specs.declared.kinds.RelocationKind.TheVariants.{Absolute}
 use Rattle.macho_arm64.specs.declared.kinds.FieldSize.TheVariants.{Bytes, Adr, JumpCall, Low12}
 use Rattle.macho_arm64.specs.Kinds.{kind_among, kind_at}
@@ -102,15 +102,15 @@ offset_edges : map (can_hold Low12 0x3dc00041) (0xff0 ∷ 0x1000 ∷ 8 ∷ []) �
 offset_edges = refl
 
 -- kinds, and what has none: a pcrel turned, a length of 8 bytes at a word, the type 11
-pointer_kind : kind_at UNSIGNED 3 false ≡ Some (record { kind = Absolute; size = Bytes 8; page = false; implicit_addend = true })
+pointer_kind : kind_at ARM64_RELOC_UNSIGNED 3 false ≡ Some (record { kind = Absolute; size = Bytes 8; page = false; implicit_addend = true })
 unfolding kind_among
 pointer_kind = refl
 
-one_offset_kind : kind_at TLVP_LOAD_PAGEOFF12 2 false ≡ kind_at PAGEOFF12 2 false
+one_offset_kind : kind_at ARM64_RELOC_TLVP_LOAD_PAGEOFF12 2 false ≡ kind_at ARM64_RELOC_PAGEOFF12 2 false
 unfolding kind_among
 one_offset_kind = refl
 
-no_kinds : kind_at BRANCH26 2 false ∷ kind_at PAGEOFF12 2 true ∷ kind_at BRANCH26 3 true ∷ kind_at UNSIGNED 1 false ∷ kind_at 11 3 false ∷ []
+no_kinds : kind_at ARM64_RELOC_BRANCH26 2 false ∷ kind_at ARM64_RELOC_PAGEOFF12 2 true ∷ kind_at ARM64_RELOC_BRANCH26 3 true ∷ kind_at ARM64_RELOC_UNSIGNED 1 false ∷ kind_at 11 3 false ∷ []
     ≡ None ∷ None ∷ None ∷ None ∷ None ∷ []
 unfolding kind_among
 no_kinds = refl

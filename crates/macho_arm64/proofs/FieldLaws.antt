@@ -12,7 +12,7 @@ use Rattle.macho_model.specs.Meaning.{Same, address, PointsTo, IsDifference, Bra
 use Rattle.macho_arm64.specs.declared.kinds.FieldSize.TheVariants.{Bytes, Adr, JumpCall, Low12}
 use Rattle.macho_arm64.specs.Fields.{fits_word, can_hold, Holds}
 use Rattle.macho_arm64.specs.Relaxations.{IsMadeAdd}
-use Rattle.macho_arm64.specs.Stubs.{SLIDE_UNIT}
+use Rattle.macho_model.specs.Segments.{SEGMENT_PAGE}
 
 -- a number of 64 bits is itself
 signed_64 : (x : ℕ) → signed 64 x ≡ x
@@ -21,6 +21,11 @@ signed_64 x = elim (nat_lt x (2 ^ 63)) as (λ b. (if b then x else x + (2 ^ 64 -
 -- a pointer
 pub points_to : (input word value x : ℕ) → Holds (Bytes 8) input word value → Same value x → PointsTo word x
 points_to input word value x h row = omega (arith, h.says, signed_64 word)
+
+-- an offset from a start that slides too, as a pointer in a thread-local descriptor holds
+pub offsets_from : (input word value start target addend s : ℕ) → Holds (Bytes 8) input word value
+    → Same (value + start) (target + addend) → Same (word + (start + s)) (target + s + addend)
+offsets_from input word value start target addend s h row = omega (arith, h.says, signed_64 word)
 
 -- a difference, of 4 or 8 bytes
 pub is_difference : (width input word value subtrahend target addend s : ℕ) → Holds (Bytes width) input word value
@@ -34,12 +39,12 @@ branches_to input word value place x s y h row moved = record { reaches = omega 
 
 -- the page of an ADRP
 pub pages_to : (input word value place x s y : ℕ) → Holds Adr input word value → Same (value + page (address place)) (page (address x))
-    → s % SLIDE_UNIT ≡ 0 → Same (x + s) y → PagesTo (place + s) word input y
+    → s % SEGMENT_PAGE ≡ 0 → Same (x + s) y → PagesTo (place + s) word input y
 pages_to input word value place x s y h row whole moved = record { reaches = omega (arith, h.says); kept = h.kept }
 
 -- the offset of an ADD, a load or a store
 pub offsets_to : (input word value x s y : ℕ) → Holds Low12 input word value → value ≡ low (address x)
-    → s % SLIDE_UNIT ≡ 0 → Same (x + s) y → OffsetsTo word input y
+    → s % SEGMENT_PAGE ≡ 0 → Same (x + s) y → OffsetsTo word input y
 offsets_to input word value x s y h row whole moved = record { reaches = h.says ∙ omega arith; kept = h.kept }
 
 -- a distance of 4 bytes
@@ -69,7 +74,7 @@ scale_of-ldr w is =
 
 -- the load of a slot
 pub loads_from : (input word value slot s y : ℕ) → Holds Low12 input word value → is_ldr input ≡ true → value ≡ low (address slot)
-    → s % SLIDE_UNIT ≡ 0 → Same (slot + s) y → LoadsFrom word input y
+    → s % SEGMENT_PAGE ≡ 0 → Same (slot + s) y → LoadsFrom word input y
 loads_from input word value slot s y h load row whole moved =
     let still : is_ldr word ≡ true = rw (same_operation word input h.kept) load in
     let says : imm12 word * 8 ≡ value = rw (← scale_of-ldr word still) h.says in
@@ -77,7 +82,7 @@ loads_from input word value slot s y h load row whole moved =
 
 -- the load of a slot that was made an ADD, and then given the target's offset
 pub adds_to : (input add word value x s y : ℕ) → IsMadeAdd input add → Holds Low12 add word value → value ≡ low (address x)
-    → s % SLIDE_UNIT ≡ 0 → Same (x + s) y → AddsTo word input y
+    → s % SEGMENT_PAGE ≡ 0 → Same (x + s) y → AddsTo word input y
 adds_to input add word value x s y made h row whole moved =
     let still : is_add word ≡ true = rw (same_operation word add h.kept) made.add in
     let says : imm12 word * 1 ≡ value = rw (← scale_of-add word still) h.says in

@@ -3,4 +3,5 @@ pub mod KindTable
 pub mod FieldLaws
 pub mod StubLaws
 pub mod RangeLaws
+pub mod ReachLaws
 pub mod Examples

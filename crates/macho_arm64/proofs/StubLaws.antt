@@ -4,9 +4,9 @@
 -- page. The words are the same.
 use Rattle.std.proofs.Common.{◌≡◌, ℕ, ◌+◌, ◌%◌, arith}
 use Rattle.macho_model.specs.Meaning.{GoesThrough}
-use Rattle.macho_arm64.specs.Stubs.{SLIDE_UNIT}
+use Rattle.macho_model.specs.Segments.{SEGMENT_PAGE}
 
-pub goes_through : (place slot adrp ldr br s : ℕ) → GoesThrough place slot adrp ldr br → s % SLIDE_UNIT ≡ 0
+pub goes_through : (place slot adrp ldr br s : ℕ) → GoesThrough place slot adrp ldr br → s % SEGMENT_PAGE ≡ 0
     → GoesThrough (place + s) (slot + s) adrp ldr br
 goes_through place slot adrp ldr br s g whole =
     record { pages = g.pages; reaches = omega (arith, g.reaches); load = g.load; offset = omega (arith, g.offset); leaves = g.leaves }

@@ -3,8 +3,7 @@ use Rattle.std.specs.Prelude.{ℕ, ◌==◌, ◌&&◌, Bool, true, false, List, 
 use Rattle.std.specs.Option.{option_map}
 use Rattle.std.specs.Fmt.{digits}
 use Rattle.macho_records.specs.declared.relocations.RelocationInfo.{RelocationInfo}
-use Rattle.macho_model.specs.Targets.{UNSIGNED, SUBTRACTOR, BRANCH26, PAGE21, PAGEOFF12, GOT_LOAD_PAGE21, GOT_LOAD_PAGEOFF12, POINTER_TO_GOT, TLVP_LOAD_PAGE21, TLVP_LOAD_PAGEOFF12}
-use Rattle.macho_model.specs.ObjectRules.{RELOC_ADDEND}
+use Rattle.macho_records.specs.declared.constants.TheConstants.{ARM64_RELOC_UNSIGNED, ARM64_RELOC_SUBTRACTOR, ARM64_RELOC_BRANCH26, ARM64_RELOC_PAGE21, ARM64_RELOC_PAGEOFF12, ARM64_RELOC_GOT_LOAD_PAGE21, ARM64_RELOC_GOT_LOAD_PAGEOFF12, ARM64_RELOC_POINTER_TO_GOT, ARM64_RELOC_TLVP_LOAD_PAGE21, ARM64_RELOC_TLVP_LOAD_PAGEOFF12, ARM64_RELOC_ADDEND}
 use Rattle.macho_arm64.specs.declared.kinds.RelocationKind.{RelocationKind}
 use Rattle.macho_arm64.specs.declared.kinds.RelocationKind.TheVariants.{Absolute, Relative, AbsoluteLowPart, GotRelative, Got, MachoAddition, MachoSubtraction}
 use Rattle.macho_arm64.specs.declared.kinds.FieldSize.{FieldSize}
@@ -25,19 +24,19 @@ row type length pcrel kind size page implicit_addend = record {
 -- the field's content is the addend.
 abbrev pub kinds : List KindRow
 kinds =
-    row UNSIGNED 2 false Absolute (Bytes 4) false true
-    ∷ row UNSIGNED 3 false Absolute (Bytes 8) false true
-    ∷ row SUBTRACTOR 2 false MachoSubtraction (Bytes 0) false false
-    ∷ row SUBTRACTOR 3 false MachoSubtraction (Bytes 0) false false
-    ∷ row BRANCH26 2 true Relative JumpCall false false
-    ∷ row PAGE21 2 true Relative Adr true false
-    ∷ row PAGEOFF12 2 false AbsoluteLowPart Low12 false false
-    ∷ row GOT_LOAD_PAGE21 2 true GotRelative Adr true false
-    ∷ row GOT_LOAD_PAGEOFF12 2 false Got Low12 false false
-    ∷ row POINTER_TO_GOT 2 true GotRelative (Bytes 4) false false
-    ∷ row TLVP_LOAD_PAGE21 2 true Relative Adr true false
-    ∷ row TLVP_LOAD_PAGEOFF12 2 false AbsoluteLowPart Low12 false false
-    ∷ row RELOC_ADDEND 2 false MachoAddition (Bytes 0) false false
+    row ARM64_RELOC_UNSIGNED 2 false Absolute (Bytes 4) false true
+    ∷ row ARM64_RELOC_UNSIGNED 3 false Absolute (Bytes 8) false true
+    ∷ row ARM64_RELOC_SUBTRACTOR 2 false MachoSubtraction (Bytes 0) false false
+    ∷ row ARM64_RELOC_SUBTRACTOR 3 false MachoSubtraction (Bytes 0) false false
+    ∷ row ARM64_RELOC_BRANCH26 2 true Relative JumpCall false false
+    ∷ row ARM64_RELOC_PAGE21 2 true Relative Adr true false
+    ∷ row ARM64_RELOC_PAGEOFF12 2 false AbsoluteLowPart Low12 false false
+    ∷ row ARM64_RELOC_GOT_LOAD_PAGE21 2 true GotRelative Adr true false
+    ∷ row ARM64_RELOC_GOT_LOAD_PAGEOFF12 2 false Got Low12 false false
+    ∷ row ARM64_RELOC_POINTER_TO_GOT 2 true GotRelative (Bytes 4) false false
+    ∷ row ARM64_RELOC_TLVP_LOAD_PAGE21 2 true Relative Adr true false
+    ∷ row ARM64_RELOC_TLVP_LOAD_PAGEOFF12 2 false AbsoluteLowPart Low12 false false
+    ∷ row ARM64_RELOC_ADDEND 2 false MachoAddition (Bytes 0) false false
     ∷ []
 
 abbrev pub same_flag : Bool → Bool → Bool

@@ -4,7 +4,7 @@ use Rattle.std.specs.Prelude.{◌≡◌, ℕ, ◌==◌, ◌||◌, ◌&&◌, not,
 use Rattle.macho_bytes.specs.Numbers.{le_at, le_bytes}
 use Rattle.macho_bytes.specs.Texts.{put}
 use Rattle.macho_model.specs.Words.{is_add, is_ldr, imm12, base_register, written_register, REGISTER_31}
-use Rattle.macho_model.specs.Targets.{PAGE21, PAGEOFF12, GOT_LOAD_PAGE21, GOT_LOAD_PAGEOFF12, TLVP_LOAD_PAGEOFF12}
+use Rattle.macho_records.specs.declared.constants.TheConstants.{ARM64_RELOC_PAGE21, ARM64_RELOC_PAGEOFF12, ARM64_RELOC_GOT_LOAD_PAGE21, ARM64_RELOC_GOT_LOAD_PAGEOFF12, ARM64_RELOC_TLVP_LOAD_PAGEOFF12}
 use Rattle.macho_arm64.specs.declared.kinds.RelocationKindInfo.{RelocationKindInfo}
 use Rattle.macho_arm64.specs.declared.relaxation.Relaxation.{Relaxation}
 use Rattle.macho_arm64.specs.declared.relaxation.Relaxation.TheVariants as relaxation
@@ -13,14 +13,14 @@ use Rattle.macho_arm64.specs.Kinds.{kind_at}
 -- the relaxation of a reference to a defined target, by the type of its relocation
 abbrev pub relaxation_of : ℕ → Option Relaxation
 relaxation_of type =
-    if type == GOT_LOAD_PAGE21 then Some relaxation.Page
-    else if (type == GOT_LOAD_PAGEOFF12) || (type == TLVP_LOAD_PAGEOFF12) then Some relaxation.LoadToAdd
+    if type == ARM64_RELOC_GOT_LOAD_PAGE21 then Some relaxation.Page
+    else if (type == ARM64_RELOC_GOT_LOAD_PAGEOFF12) || (type == ARM64_RELOC_TLVP_LOAD_PAGEOFF12) then Some relaxation.LoadToAdd
     else None
 
 -- the kind of a relaxed reference: that of a plain page, or of a plain offset in one
 abbrev pub relaxed_kind : Relaxation → Option RelocationKindInfo
-relaxed_kind relaxation.Page = kind_at PAGE21 2 true
-relaxed_kind relaxation.LoadToAdd = kind_at PAGEOFF12 2 false
+relaxed_kind relaxation.Page = kind_at ARM64_RELOC_PAGE21 2 true
+relaxed_kind relaxation.LoadToAdd = kind_at ARM64_RELOC_PAGEOFF12 2 false
 
 -- a load that can be made an ADD: of 64 bits, and not of register 31, which an ADD takes for the stack pointer
 abbrev pub is_relaxable : ℕ → Bool

@@ -9,10 +9,6 @@ STUB_SIZE = 12
 abbrev pub ADRP_REACH : ℕ
 ADRP_REACH = 2 ^ 32
 
--- images slide by whole pages of 16 KiB
-abbrev pub SLIDE_UNIT : ℕ
-SLIDE_UNIT = 0x4000
-
 -- the address of an image's first byte before it slides: an executable leaves the first 4 GiB unmapped
 abbrev pub start_address : Bool → ℕ
 start_address executable = if executable then 2 ^ 32 else 0

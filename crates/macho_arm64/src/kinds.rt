@@ -2,7 +2,12 @@
 ghost use Rattle.std.specs.Prelude.{◌≡◌, None, Some, IfOk, OnErr};
 ghost use Rattle.macho_arm64.specs.Kinds.{kind_among, kind_of, is_row_of};
 
-use macho_records::RelocationInfo;
+use macho_records::{
+    ARM64_RELOC_ADDEND, ARM64_RELOC_BRANCH26, ARM64_RELOC_GOT_LOAD_PAGE21,
+    ARM64_RELOC_GOT_LOAD_PAGEOFF12, ARM64_RELOC_PAGE21, ARM64_RELOC_PAGEOFF12,
+    ARM64_RELOC_POINTER_TO_GOT, ARM64_RELOC_SUBTRACTOR, ARM64_RELOC_TLVP_LOAD_PAGE21,
+    ARM64_RELOC_TLVP_LOAD_PAGEOFF12, ARM64_RELOC_UNSIGNED, RelocationInfo,
+};
 
 /// How the value of a field comes from its target's address.
 #[derive(Clone, Copy, Debug, PartialEq, Eq)]
@@ -80,29 +85,6 @@ impl KindRow {
 /// The 64-bit Arm architecture of Mach-O files.
 pub struct MachOAArch64;
 
-/// The `ARM64_RELOC_` types.
-const UNSIGNED: u8 = 0;
-
-const SUBTRACTOR: u8 = 1;
-
-const BRANCH26: u8 = 2;
-
-const PAGE21: u8 = 3;
-
-const PAGEOFF12: u8 = 4;
-
-pub(crate) const GOT_LOAD_PAGE21: u8 = 5;
-
-pub(crate) const GOT_LOAD_PAGEOFF12: u8 = 6;
-
-const POINTER_TO_GOT: u8 = 7;
-
-const TLVP_LOAD_PAGE21: u8 = 8;
-
-pub(crate) const TLVP_LOAD_PAGEOFF12: u8 = 9;
-
-const ADDEND: u8 = 10;
-
 macro_rules! row {
     ($type:ident, $length:literal, $pcrel:literal => $kind:ident, $size:expr, $page:literal, $implicit:literal) => {
         KindRow {
@@ -121,19 +103,19 @@ macro_rules! row {
 
 /// Every relocation that there is: type, length, pcrel => kind, size, page, implicit addend.
 const KINDS: [KindRow; 13] = [
-    row!(UNSIGNED, 2, false => Absolute, FieldSize::Bytes(4), false, true),
-    row!(UNSIGNED, 3, false => Absolute, FieldSize::Bytes(8), false, true),
-    row!(SUBTRACTOR, 2, false => MachoSubtraction, FieldSize::Bytes(0), false, false),
-    row!(SUBTRACTOR, 3, false => MachoSubtraction, FieldSize::Bytes(0), false, false),
-    row!(BRANCH26, 2, true => Relative, FieldSize::JumpCall, false, false),
-    row!(PAGE21, 2, true => Relative, FieldSize::Adr, true, false),
-    row!(PAGEOFF12, 2, false => AbsoluteLowPart, FieldSize::Low12, false, false),
-    row!(GOT_LOAD_PAGE21, 2, true => GotRelative, FieldSize::Adr, true, false),
-    row!(GOT_LOAD_PAGEOFF12, 2, false => Got, FieldSize::Low12, false, false),
-    row!(POINTER_TO_GOT, 2, true => GotRelative, FieldSize::Bytes(4), false, false),
-    row!(TLVP_LOAD_PAGE21, 2, true => Relative, FieldSize::Adr, true, false),
-    row!(TLVP_LOAD_PAGEOFF12, 2, false => AbsoluteLowPart, FieldSize::Low12, false, false),
-    row!(ADDEND, 2, false => MachoAddition, FieldSize::Bytes(0), false, false),
+    row!(ARM64_RELOC_UNSIGNED, 2, false => Absolute, FieldSize::Bytes(4), false, true),
+    row!(ARM64_RELOC_UNSIGNED, 3, false => Absolute, FieldSize::Bytes(8), false, true),
+    row!(ARM64_RELOC_SUBTRACTOR, 2, false => MachoSubtraction, FieldSize::Bytes(0), false, false),
+    row!(ARM64_RELOC_SUBTRACTOR, 3, false => MachoSubtraction, FieldSize::Bytes(0), false, false),
+    row!(ARM64_RELOC_BRANCH26, 2, true => Relative, FieldSize::JumpCall, false, false),
+    row!(ARM64_RELOC_PAGE21, 2, true => Relative, FieldSize::Adr, true, false),
+    row!(ARM64_RELOC_PAGEOFF12, 2, false => AbsoluteLowPart, FieldSize::Low12, false, false),
+    row!(ARM64_RELOC_GOT_LOAD_PAGE21, 2, true => GotRelative, FieldSize::Adr, true, false),
+    row!(ARM64_RELOC_GOT_LOAD_PAGEOFF12, 2, false => Got, FieldSize::Low12, false, false),
+    row!(ARM64_RELOC_POINTER_TO_GOT, 2, true => GotRelative, FieldSize::Bytes(4), false, false),
+    row!(ARM64_RELOC_TLVP_LOAD_PAGE21, 2, true => Relative, FieldSize::Adr, true, false),
+    row!(ARM64_RELOC_TLVP_LOAD_PAGEOFF12, 2, false => AbsoluteLowPart, FieldSize::Low12, false, false),
+    row!(ARM64_RELOC_ADDEND, 2, false => MachoAddition, FieldSize::Bytes(0), false, false),
 ];
 
 impl MachOAArch64 {

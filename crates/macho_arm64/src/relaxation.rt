@@ -9,12 +9,12 @@ ghost use Rattle.macho_bytes.specs.Numbers.{le_at};
 ghost use Rattle.macho_arm64.specs.Relaxations.{relaxation_of, relaxed_kind, can_relax, is_relaxable, IsMadeAdd, MakesAdd, Relaxes};
 
 use crate::bytes::{put_word, word_at};
-use crate::kinds::{
-    FieldSize, GOT_LOAD_PAGE21, GOT_LOAD_PAGEOFF12, MachOAArch64, RelocationKind,
-    RelocationKindInfo, TLVP_LOAD_PAGEOFF12,
-};
+use crate::kinds::{FieldSize, MachOAArch64, RelocationKind, RelocationKindInfo};
 use crate::words::is_ldr;
-use macho_records::RelocationInfo;
+use macho_records::{
+    ARM64_RELOC_GOT_LOAD_PAGE21, ARM64_RELOC_GOT_LOAD_PAGEOFF12, ARM64_RELOC_TLVP_LOAD_PAGEOFF12,
+    RelocationInfo,
+};
 
 /// How an instruction of a reference through a slot is relaxed.
 #[derive(Clone, Copy, Debug, PartialEq, Eq)]
@@ -39,8 +39,10 @@ impl MachOAArch64 {
             return None;
         }
         match rel.r_type {
-            GOT_LOAD_PAGE21 => Some(Relaxation::Page),
-            GOT_LOAD_PAGEOFF12 | TLVP_LOAD_PAGEOFF12 => Some(Relaxation::LoadToAdd),
+            ARM64_RELOC_GOT_LOAD_PAGE21 => Some(Relaxation::Page),
+            ARM64_RELOC_GOT_LOAD_PAGEOFF12 | ARM64_RELOC_TLVP_LOAD_PAGEOFF12 => Some(
+                Relaxation::LoadToAdd,
+            ),
             _ => None,
         }
     }
