@@ -54,8 +54,8 @@ bytes_range n word value field small is =
     ]
 
 -- Whatever word holds a value, its field can hold it.
-pub holds_only : (size : FieldSize) (input word value : ℕ) → is_field size ≡ true → word < 256 ^ width_of size → (size ≡ Low12 → value < PAGE)
-    → Holds size input word value → can_hold size input value ≡ true
+pub holds_only : (size : FieldSize) (input word value : ℕ) → is_field size ≡ true → word < 256 ^ width_of size
+    → (size ≡ Low12 → value < PAGE) → Holds size input word value → can_hold size input value ≡ true
 holds_only (Bytes n) input word value field small page h = bytes_range n word value field small h.says
 holds_only Adr input word value field small page h = page_range (imm21 word) value (omega arith) h.says
 holds_only JumpCall input word value field small page h = branch_range (imm26 word) value (omega arith) h.says

@@ -2,7 +2,7 @@
 --
 -- The values are differences of addresses modulo 2 ^ 64. That of two pages is whole pages, since 2 ^ 64 is; an offset in
 -- a page is below a page. What is left of each test is the one that the definition of a reach has.
-use Rattle.std.proofs.Common.{◌≡◌, ℕ, ◌+◌, ◌-◌, ◌%◌, ◌^◌, ◌<◌, ◌≤◌, ◌==◌, nat_lt, nat_le, ◌&&◌, ◌||◌, Bool, true, false, arith, ap, sym, ◌∙◌, refl}
+use Rattle.std.proofs.Common.{◌≡◌, ℕ, ◌+◌, ◌%◌, ◌^◌, ◌<◌, ◌≤◌, ◌==◌, nat_lt, ◌&&◌, Bool, true, false, arith, ◌∙◌, refl}
 use Rattle.std.proofs.Math.Nat.{mod-eq_of_lt}
 use Rattle.std.proofs.lemmas.Bool.Decides.{nat_tests}
 use Rattle.macho_bytes.specs.Numbers.{page, low, PAGE}

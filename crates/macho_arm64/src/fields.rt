@@ -34,9 +34,10 @@ pub fn fits_instruction(size: FieldSize, word: u32) -> bool
     }
 }
 
-/// Writes a value to a field of 4 or 8 bytes, or to the immediate of the instruction at a place. The value is the number
-/// that the field then holds, modulo 2^64: a distance in bytes for a branch, a distance of pages in bytes for an ADRP, an
-/// offset in a page for an ADD, a load or a store. Nothing is written where it does not fit.
+/// Writes a value to a field of 4 or 8 bytes, or to the immediate of the instruction at a place.
+///
+/// The value is the number that the field then holds, modulo 2^64: a distance in bytes for a branch, a distance of pages
+/// in bytes for an ADRP, an offset in a page for an ADD, a load or a store. Nothing is written where it does not fit.
 pub fn write_field(
     size: FieldSize,
     bytes: &mut [u8],
@@ -55,7 +56,8 @@ pub fn write_field(
 
     // The field then holds it, and no other byte changes.
     ensures done { OnOk result (Holds size (field_at size bytes.old at) (field_at size bytes.new at) value) }
-    ensures outside { OnOk result (bytes.new ≡ put at (le_bytes (width_of size) (field_at size bytes.new at)) bytes.old) }
+    ensures outside { OnOk result
+        (bytes.new ≡ put at (le_bytes (width_of size) (field_at size bytes.new at)) bytes.old) }
 {
     if size == FieldSize::Bytes(8) {
         put_doubleword(bytes, at, value);

@@ -6,7 +6,8 @@ use Rattle.macho_arm64.proofs.bytes.put_word.Goals as goal
 
 pub returns-clause-written : goal.returns-clause-written
 unfolding le_bytes
-returns-clause-written c = put_mid-front c.args.at _ c.args.bytes.now (le_bytes 4 c.args.word) c.write_u32.new.buf refl c.requires c.write_u32.ensures
+returns-clause-written c =
+    put_mid-front c.args.at _ c.args.bytes.now (le_bytes 4 c.args.word) c.write_u32.new.buf refl c.requires c.write_u32.ensures
 
 pub returns-clause-read : goal.returns-clause-read
 returns-clause-read c =
