@@ -102,7 +102,8 @@ offset_edges : map (can_hold Low12 0x3dc00041) (0xff0 ∷ 0x1000 ∷ 8 ∷ []) �
 offset_edges = refl
 
 -- kinds, and what has none: a pcrel turned, a length of 8 bytes at a word, the type 11
-pointer_kind : kind_at ARM64_RELOC_UNSIGNED 3 false ≡ Some (record { kind = Absolute; size = Bytes 8; page = false; implicit_addend = true })
+pointer_kind : kind_at ARM64_RELOC_UNSIGNED 3 false
+    ≡ Some (record { kind = Absolute; size = Bytes 8; page = false; implicit_addend = true })
 unfolding kind_among
 pointer_kind = refl
 
@@ -110,7 +111,8 @@ one_offset_kind : kind_at ARM64_RELOC_TLVP_LOAD_PAGEOFF12 2 false ≡ kind_at AR
 unfolding kind_among
 one_offset_kind = refl
 
-no_kinds : kind_at ARM64_RELOC_BRANCH26 2 false ∷ kind_at ARM64_RELOC_PAGEOFF12 2 true ∷ kind_at ARM64_RELOC_BRANCH26 3 true ∷ kind_at ARM64_RELOC_UNSIGNED 1 false ∷ kind_at 11 3 false ∷ []
+no_kinds : kind_at ARM64_RELOC_BRANCH26 2 false ∷ kind_at ARM64_RELOC_PAGEOFF12 2 true ∷ kind_at ARM64_RELOC_BRANCH26 3 true
+    ∷ kind_at ARM64_RELOC_UNSIGNED 1 false ∷ kind_at 11 3 false ∷ []
     ≡ None ∷ None ∷ None ∷ None ∷ None ∷ []
 unfolding kind_among
 no_kinds = refl

@@ -1,5 +1,6 @@
--- What a relocated field holds: the number that its word stands for, which numbers it can hold, and what of the word is
--- no part of the number. Numbers are taken modulo 2 ^ 64. (Instructions: Arm Architecture Reference Manual, chapter C6.)
+-- What a relocated field holds: the number that its word stands for, which numbers it can hold, and what of the word
+-- is no part of the number. Numbers are taken modulo 2 ^ 64. (Instructions: Arm Architecture Reference Manual for
+-- A-profile, chapter C6.)
 use Rattle.std.specs.Prelude.{◌≡◌, ℕ, ◌*◌, ◌-◌, ◌%◌, ◌^◌, ◌==◌, nat_lt, nat_le, ◌&&◌, ◌||◌, Bool, true, List}
 use Rattle.macho_bytes.specs.Numbers.{le_at, signed, PAGE}
 use Rattle.macho_model.specs.Words.{is_adrp, imm21, is_branch, imm26, is_add, is_ldr, is_load_store, imm12, scale_of, without_imm21, without_imm26, without_imm12}
@@ -47,8 +48,8 @@ rest_of Low12 word = without_imm12 word
 abbrev pub fits_signed : ℕ → ℕ → Bool
 fits_signed n value = nat_lt value (2 ^ (n - 1)) || nat_le (2 ^ 64 - 2 ^ (n - 1)) value
 
--- The numbers that a field can hold: any in 8 bytes, a signed one of 32 bits in 4; whole pages within 4 GiB; whole words
--- within 128 MiB; an offset in a page that is a multiple of the instruction's scale.
+-- The numbers that a field can hold: any in 8 bytes, a signed one of 32 bits in 4; whole pages within 4 GiB; whole
+-- words within 128 MiB; an offset in a page that is a multiple of the instruction's scale.
 abbrev pub can_hold : FieldSize → ℕ → ℕ → Bool
 can_hold (Bytes n) word value = (n == 8) || fits_signed 32 value
 can_hold Adr word value = fits_signed 33 value && (value % PAGE == 0)

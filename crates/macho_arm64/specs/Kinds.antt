@@ -20,8 +20,8 @@ row type length pcrel kind size page implicit_addend = record {
   info = record { kind = kind; size = size; page = page; implicit_addend = implicit_addend };
 }
 
--- The relocations that there are: type, length and pcrel; then the kind, the field, whether pages are meant, and whether
--- the field's content is the addend.
+-- The relocations that there are: type, length and pcrel; then the kind, the field, whether pages are meant, and
+-- whether the field's content is the addend.
 abbrev pub kinds : List KindRow
 kinds =
     row ARM64_RELOC_UNSIGNED 2 false Absolute (Bytes 4) false true

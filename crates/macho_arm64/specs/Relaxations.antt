@@ -14,7 +14,8 @@ use Rattle.macho_arm64.specs.Kinds.{kind_at}
 abbrev pub relaxation_of : ℕ → Option Relaxation
 relaxation_of type =
     if type == ARM64_RELOC_GOT_LOAD_PAGE21 then Some relaxation.Page
-    else if (type == ARM64_RELOC_GOT_LOAD_PAGEOFF12) || (type == ARM64_RELOC_TLVP_LOAD_PAGEOFF12) then Some relaxation.LoadToAdd
+    else if type == ARM64_RELOC_GOT_LOAD_PAGEOFF12 then Some relaxation.LoadToAdd
+    else if type == ARM64_RELOC_TLVP_LOAD_PAGEOFF12 then Some relaxation.LoadToAdd
     else None
 
 -- the kind of a relaxed reference: that of a plain page, or of a plain offset in one

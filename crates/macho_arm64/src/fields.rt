@@ -36,8 +36,9 @@ pub fn fits_instruction(size: FieldSize, word: u32) -> bool
 
 /// Writes a value to a field of 4 or 8 bytes, or to the immediate of the instruction at a place.
 ///
-/// The value is the number that the field then holds, modulo 2^64: a distance in bytes for a branch, a distance of pages
-/// in bytes for an ADRP, an offset in a page for an ADD, a load or a store. Nothing is written where it does not fit.
+/// The value is the number that the field then holds, modulo 2^64: a distance in bytes for a branch, a distance of
+/// pages in bytes for an ADRP, an offset in a page for an ADD, a load or a store. Nothing is written where it does not
+/// fit.
 pub fn write_field(
     size: FieldSize,
     bytes: &mut [u8],
