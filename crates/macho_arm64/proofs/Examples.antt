@@ -2,12 +2,14 @@
 --
 -- Each fact is computed: what the word of an instruction means is what the assembler was asked for.
 use Rattle.std.proofs.Common.{◌≡◌, ℕ, ◌-◌, ◌^◌, true, false, List, [], ◌∷◌, map, filter, refl, Some, None}
+use Rattle.std.specs.Prelude.{codes}
+use Rattle.std.specs.Fmt.{digits}
 use Rattle.macho_model.specs.Words.{scale_of}
 use Rattle.macho_model.specs.Meaning.{BranchesTo, PagesTo, OffsetsTo, AddsTo, LoadsFrom, IsDistance, IsDifference, GoesThrough}
 use Rattle.macho_records.specs.declared.constants.TheConstants.{ARM64_RELOC_UNSIGNED, ARM64_RELOC_BRANCH26, ARM64_RELOC_PAGEOFF12, ARM64_RELOC_TLVP_LOAD_PAGEOFF12}
 use Rattle.macho_arm64.specs.declared.kinds.RelocationKind.TheVariants.{Absolute}
 use Rattle.macho_arm64.specs.declared.kinds.FieldSize.TheVariants.{Bytes, Adr, JumpCall, Low12}
-use Rattle.macho_arm64.specs.Kinds.{kind_among, kind_at}
+use Rattle.macho_arm64.specs.Kinds.{kind_among, kind_at, type_text}
 use Rattle.macho_arm64.specs.Fields.{fits_word, can_hold}
 use Rattle.macho_arm64.specs.Relaxations.{is_relaxable}
 
@@ -116,3 +118,11 @@ no_kinds : kind_at ARM64_RELOC_BRANCH26 2 false ∷ kind_at ARM64_RELOC_PAGEOFF1
     ≡ None ∷ None ∷ None ∷ None ∷ None ∷ []
 unfolding kind_among
 no_kinds = refl
+
+-- texts: of a type with a name, and of one without
+branch_text : type_text 2 ≡ codes "ARM64_RELOC_BRANCH26"
+branch_text = refl
+
+unknown_text : type_text 12 ≡ codes "Unknown arm64 relocation type 0xc"
+unfolding digits
+unknown_text = refl
