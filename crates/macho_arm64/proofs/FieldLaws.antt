@@ -97,8 +97,8 @@ pub add_can_hold : (input word value : ℕ) → IsMadeAdd input word → value <
 add_can_hold input word value made small = rw (scale_of-add word made.add) (grind (arith, nat_tests))
 
 -- a 64-bit load takes the offset of any slot, since a slot stands at a multiple of 8
-pub load_fits : (word : ℕ) → is_ldr word ≡ true → fits_word Low12 word ≡ true
-load_fits word load = rw (operation word 0b1111100101 load) refl
+pub slot_load_fits : (word : ℕ) → is_ldr word ≡ true → fits_word Low12 word ≡ true
+slot_load_fits word load = rw (operation word 0b1111100101 load) refl
 
-pub load_can_hold : (word slot : ℕ) → is_ldr word ≡ true → slot % 8 ≡ 0 → can_hold Low12 word (low (address slot)) ≡ true
-load_can_hold word slot load aligned = rw (scale_of-ldr word load) (grind (arith, nat_tests))
+pub slot_load_can_hold : (word slot : ℕ) → is_ldr word ≡ true → slot % 8 ≡ 0 → can_hold Low12 word (low (address slot)) ≡ true
+slot_load_can_hold word slot load aligned = rw (scale_of-ldr word load) (grind (arith, nat_tests))

@@ -1,6 +1,6 @@
 -- Relaxations: a reference through a slot to a target whose place is known needs no slot. The ADRP gives the target's
 -- own page, and the load of the slot becomes an ADD that gives the target's address.
-use Rattle.std.specs.Prelude.{◌≡◌, ℕ, ◌==◌, ◌||◌, ◌&&◌, not, Bool, true, false, if◌then◌else◌, Option, Some, None, List}
+use Rattle.std.specs.Prelude.{◌≡◌, ℕ, ◌==◌, ◌&&◌, not, Bool, true, false, if◌then◌else◌, Option, Some, None, List}
 use Rattle.macho_bytes.specs.Numbers.{le_at, le_bytes}
 use Rattle.macho_bytes.specs.Texts.{put}
 use Rattle.macho_model.specs.Words.{is_add, is_ldr, imm12, base_register, written_register, REGISTER_31}
