@@ -1,0 +1,4 @@
+pub mod Kinds
+pub mod Fields
+pub mod Relaxations
+pub mod Stubs

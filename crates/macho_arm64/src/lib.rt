@@ -1,0 +1,26 @@
+//! Relocated fields and stubs of arm64, as bytes, words and numbers.
+//!
+//! A relocation's kind says which field it is of (`kinds`); a field is bytes, or the immediate of an instruction, and
+//! is written with a value (`fields`). A reference to a slot whose target is known is made one to the target
+//! (`relaxation`). A stub goes on to an import through its slot (`stubs`).
+//!
+//! What a field and a stub mean is defined in `macho_model`. The laws that join what is written here to that meaning
+//! stand in `proofs`: `FieldLaws`, `StubLaws` and `ReachLaws`.
+#![tactic(auto)]
+
+mod bytes;
+mod fields;
+mod kinds;
+mod names;
+mod relaxation;
+mod stubs;
+#[cfg(test)]
+mod tests;
+mod words;
+
+pub use fields::{RangeFault, fits_instruction, write_field};
+pub use kinds::{FieldSize, MachOAArch64, RelocationKind, RelocationKindInfo, UnknownRelocation};
+pub use names::rel_type_to_string;
+pub use relaxation::{NotALoad, Relaxation};
+pub use stubs::{PltFault, start_memory_address, write_plt_entry};
+pub use words::is_ldr;
