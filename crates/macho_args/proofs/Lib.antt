@@ -5,3 +5,4 @@ pub mod Reading
 pub mod Moves
 pub mod Roots
 mod Rows
+pub mod Unique

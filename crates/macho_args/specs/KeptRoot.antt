@@ -15,6 +15,7 @@ keep_root path s = record s { sysroot = Some path; lib_search_path = [] }
 abbrev pub settled : List ℕ → Settings → Settings
 settled root s = record s { sysroot = Some root; lib_search_path = joined root (codes "usr/lib") ∷ s.lib_search_path }
 
+-- the root for the path that was kept is settled
 pub record IsSettled (known : Option CanonicalPaths) (path : List ℕ) (kept said : Settings) : Type 0 where
   pub root : List ℕ
   pub root_for : IsRootFor known path root

@@ -1,4 +1,5 @@
--- The options of the command line, one row for each name.
+-- The options of the command line, one row for each name. The manual page ld(1) of Apple's linker says what
+-- they mean there.
 use Rattle.std.specs.Prelude.{ℕ, List, [], ◌∷◌, codes, Option, Some, None, nat_eq, if◌then◌else◌}
 use Rattle.std.specs.Borrow.{Bor}
 use Rattle.std.specs.List.{starts_with}

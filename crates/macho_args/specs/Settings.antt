@@ -28,6 +28,7 @@ pub record Platform : Type 0 where
   pub minimum_version : ℕ
   pub sdk_version : ℕ
 
+-- one field for each field of `MachOArgs`; `map_lines` is `map`
 pub record Settings : Type 0 where
   pub output : List ℕ
   pub inputs : List Input
@@ -53,6 +54,7 @@ input_of (File word path) = file word (string_bytes path)
 input_of (Lib word name) = library word (string_bytes name)
 input_of (Framework word name) = framework word (string_bytes name)
 
+-- a platform without where its name lies in memory
 abbrev pub platform_of : PlatformVersion → Platform
 platform_of version =
     record {

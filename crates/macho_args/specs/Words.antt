@@ -29,6 +29,7 @@ pub record Read : Type 0 where
   pub settings : Settings
   pub values : ℕ
 
+-- what was read: the settings, and the number of values behind the word
 abbrev pub reading : ℕ → Settings → Read
 reading values s = record { settings = s; values = values }
 
@@ -54,6 +55,7 @@ module _ (set_root : List ℕ → Settings → Settings) where
   read_option (Some Refused) i word behind s = Err (Unsupported i)
   read_option None i word behind s = taking 0 (read_unnamed (joined_option word) i word s)
 
+  -- the word i, by the option that it names
   unfoldable pub read_word : ℕ → List ℕ → List (List ℕ) → Settings → Result Read ArgsFault
   read_word i word behind s = read_option (option_named word) i word behind s
 

@@ -1,4 +1,12 @@
-//! The options, and the names by which words choose them.
+//! The options, and the names by which words choose them (the manual page ld(1) describes Apple's).
+//!
+//! ```text
+//! -dylib                        a flag: no value
+//! -o out                        a value: the next word, whatever it is
+//! -platform_version macos 14 15 three values
+//! -L/lib, -L /lib               the value behind the two letters, or the next word
+//! main.o                        no option: an input
+//! ```
 
 ghost use Rattle.std.specs.Prelude.{◌≡◌, map};
 ghost use Rattle.std.specs.Map.{lookup};

@@ -1,4 +1,7 @@
 //! The words, read one after another.
+//!
+//! Each word is an option's name, a value of the option before it, an option with its value behind two letters,
+//! or an input. So `-o out a.o -lc` gives the output `out`, the file `a.o` of word 2 and the library `c` of word 3.
 
 ghost use Rattle.std.specs.Prelude.{◌≡◌, ◌+◌, ◌-◌, ◌<◌, ◌^◌, length, drop};
 ghost use Rattle.std.specs.Prelude.{Ok, Err, OnOk, OnErr, IfOk, IfErr, MatchResult, ◌⊎◌};
