@@ -1,0 +1,36 @@
+//! What a command line asks of the file system.
+
+ghost use Rattle.std.specs.Prelude.{◌≡◌, ℕ, Option, IfOk, IfSome};
+ghost use Rattle.std.specs.Option.{option_map};
+ghost use Rattle.std.specs.String.{string_bytes};
+ghost use Rattle.std.specs.FinMap.{get};
+ghost use Rattle.std.specs.FinSet.{contains};
+ghost use Rattle.macho_args.specs.Store.{Store, Directories, CanonicalPaths, KeepsOutside};
+
+use std::alloc::{AllocError, Global};
+
+/// A file system that tells directories and canonical paths.
+///
+/// Its meanings, for proofs: the directories and the canonical paths, where they are told, the files
+/// that it holds, where they are told, and how many reads and writes have failed.
+pub trait Paths {
+    ghost directories: { Self → Option Directories };
+
+    ghost canonical_paths: { Self → Option CanonicalPaths };
+
+    ghost holds: { Self → Option Store };
+
+    ghost faults: { Self → ℕ };
+
+    ghost write_faults: { Self → ℕ };
+
+    /// Whether the path is a directory. What can't be found out is no directory.
+    fn is_dir(&mut self, path: &str) -> bool
+        ensures told { IfSome (directories self.old) (λ known. result ≡ contains known path.now) }
+        ensures kept { KeepsOutside directories canonical_paths holds faults write_faults self.old self.new };
+
+    /// The canonical path of the path, or `None` where there is none.
+    fn canonical(&mut self, alloc: Global, path: &str) -> Result<Option<String>, AllocError>
+        ensures told { IfSome (canonical_paths self.old) (λ known. IfOk result (λ answer. option_map string_bytes answer ≡ get known path.now)) }
+        ensures kept { KeepsOutside directories canonical_paths holds faults write_faults self.old self.new };
+}
