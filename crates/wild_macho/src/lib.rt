@@ -1,0 +1,12 @@
+//! The linker's outside: the files that it reads and writes, and the places that it prints to.
+//!
+//! [`Files`] and [`Sink`] say what a device owes. [`MemoryFiles`] and [`MemorySink`] hold all in memory and fail
+//! where they are told to; [`SteadyFiles`] and [`SteadySink`] never fail; [`RealFiles`] and [`RealSink`] are the
+//! system's own.
+#![tactic(auto)]
+
+mod file_system;
+mod output;
+
+pub use crate::file_system::{FileFault, Files};
+pub use crate::output::{Sink, SinkFault};
