@@ -6,6 +6,7 @@
 #![tactic(auto)]
 
 mod file_system;
+mod held_files;
 mod output;
 
 pub use crate::file_system::{FileFault, Files};
