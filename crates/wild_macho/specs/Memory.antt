@@ -1,5 +1,5 @@
 -- The devices in memory as plain maps, sets and numbers. Clauses compare these.
-use Rattle.std.specs.Prelude.{ℕ, ◌+◌, min, List, map}
+use Rattle.std.specs.Prelude.{◌≡◌, ℕ, ◌+◌, min, true, false, List, map, take, None, IsSomeAnd}
 use Rattle.std.specs.String.{string_bytes}
 use Rattle.std.specs.Ordering.{nat_cmp}
 use Rattle.std.specs.FinMap as maps
@@ -8,6 +8,12 @@ use Rattle.macho_args.specs.Store.{Store, Directories, CanonicalPaths}
 use Rattle.wild_macho.specs.declared.held_files.HeldFile.{HeldFile}
 use Rattle.wild_macho.specs.declared.held_files.CanonicalPath.{CanonicalPath}
 use Rattle.wild_macho.specs.declared.held_files.HeldFiles.{HeldFiles}
+use Rattle.wild_macho.specs.declared.memory_files.FailingWrite.{FailingWrite}
+use Rattle.wild_macho.specs.declared.memory_files.MemoryFiles.{MemoryFiles}
+use Rattle.wild_macho.specs.declared.memory_files.SteadyFiles.{SteadyFiles}
+use Rattle.wild_macho.specs.declared.file_system.FileFault.{FileFault}
+use Rattle.wild_macho.specs.declared.file_system.FileFault.TheVariants.{Failed, OutOfMemory}
+use Rattle.wild_macho.specs.Faults.{last_count}
 
 -- the directories, the canonical paths and the files of a file system
 pub record Held : Type 0 where
@@ -35,3 +41,87 @@ held_of tree =
       canonical_paths = maps.from_entries (map canonical_entry tree.canonical_paths.items);
       files = maps.from_entries (map file_entry tree.files.items);
     }
+
+-- the same with these bytes under the path
+abbrev pub holding : Held → List ℕ → List ℕ → Held
+holding held path bytes = record held { files = maps.insert held.files path bytes }
+
+-- numbers of calls
+abbrev pub Numbers : Type 0
+Numbers = sets.FinSet nat_cmp
+
+-- A file system in memory whose calls fail where it is told: what it holds, the numbers of the reads that are to
+-- fail, those of the writes that are to fail with how many bytes each leaves, how many reads and writes there
+-- were, and how many of each have failed.
+pub record FilesInMemory : Type 0 where
+  pub held : Held
+  pub failing_reads : Numbers
+  pub failing_writes : maps.FinMap nat_cmp ℕ
+  pub reads : ℕ
+  pub writes : ℕ
+  pub faults : ℕ
+  pub write_faults : ℕ
+
+-- holds nothing, and no call is to fail
+abbrev pub fresh_files : FilesInMemory
+fresh_files =
+    record {
+      held = nothing_held;
+      failing_reads = sets.empty;
+      failing_writes = maps.empty;
+      reads = 0;
+      writes = 0;
+      faults = 0;
+      write_faults = 0;
+    }
+
+-- the number of a write with how many bytes it leaves
+abbrev pub failing_entry : FailingWrite → ℕ × ℕ
+failing_entry write = (write.number, write.left)
+
+abbrev pub memory_of : MemoryFiles → FilesInMemory
+memory_of files =
+    record {
+      held = held_of files.held;
+      failing_reads = sets.from_list files.failing_reads.items;
+      failing_writes = maps.from_entries (map failing_entry files.failing_writes.items);
+      reads = files.reads;
+      writes = files.writes;
+      faults = files.faults;
+      write_faults = files.write_faults;
+    }
+
+abbrev pub steady_of : SteadyFiles → Held
+steady_of files = held_of files.held
+
+-- the count of one call more, which stays at its last value
+abbrev pub one_more : ℕ → ℕ
+one_more count = min (count + 1) last_count
+
+-- A read that was not to fail is counted, and changes nothing else.
+abbrev pub ReadCounted : FilesInMemory → FilesInMemory → Type 0
+ReadCounted old new = (sets.contains old.failing_reads old.reads ≡ false) × (new ≡ record old { reads = one_more old.reads })
+
+-- A read fails exactly where its number is one of those that are to fail; want of memory changes nothing.
+abbrev pub ReadRefused : FileFault → FilesInMemory → FilesInMemory → Type 0
+ReadRefused Failed old new =
+    (sets.contains old.failing_reads old.reads ≡ true)
+    × (new ≡ record old { reads = one_more old.reads; faults = one_more old.faults })
+ReadRefused OutOfMemory old new = (sets.contains old.failing_reads old.reads ≡ false) × (new ≡ old)
+
+-- A write that was not to fail is counted, and its path holds the bytes.
+abbrev pub WriteCounted : FilesInMemory → FilesInMemory → List ℕ → List ℕ → Type 0
+WriteCounted old new path bytes =
+    (maps.get old.failing_writes old.writes ≡ None)
+    × (new ≡ record old { held = holding old.held path bytes; writes = one_more old.writes })
+
+-- A write fails exactly where its number is one of those that are to fail, and leaves as many of the first bytes
+-- as that one is to leave; want of memory changes nothing.
+abbrev pub WriteRefused : FileFault → FilesInMemory → FilesInMemory → List ℕ → List ℕ → Type 0
+WriteRefused Failed old new path bytes =
+    IsSomeAnd (maps.get old.failing_writes old.writes) (λ left. new ≡ record old {
+      held = holding old.held path (take left bytes);
+      writes = one_more old.writes;
+      write_faults = one_more old.write_faults;
+    })
+WriteRefused OutOfMemory old new path bytes = new ≡ old

@@ -1,12 +1,13 @@
 //! Files that a linker reads and writes.
 
-ghost use Rattle.std.specs.Prelude.{IfOk, IfErr, OnOk};
+ghost use Rattle.std.specs.Prelude.{◌≡◌, IfOk, IfErr, OnOk};
 ghost use Rattle.std.specs.Option.{option_map};
+ghost use Rattle.wild_macho.specs.declared.file_system.FileFault.TheVariants.{OutOfMemory};
 ghost use Rattle.wild_macho.specs.Faults.{CountsOn, HasCause};
 ghost use Rattle.wild_macho.specs.Devices.{ReadsFile, WritesFile, LeavesFiles, OnlyReads, OnlyWrites};
 
 use macho_args::Paths;
-use std::alloc::Global;
+use std::alloc::{AllocError, Global};
 use thiserror::Error;
 
 /// Why a file was not read or not written.
@@ -18,6 +19,14 @@ pub enum FileFault {
     /// There was no memory for the bytes. Nothing has changed.
     #[error("out of memory")]
     OutOfMemory,
+}
+
+impl From<AllocError> for FileFault {
+    ghost from_gives = { λ _ fault. fault ≡ OutOfMemory };
+
+    fn from(_error: AllocError) -> FileFault {
+        FileFault::OutOfMemory
+    }
 }
 
 /// A file system that is read and written whole files at a time.

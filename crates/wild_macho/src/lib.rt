@@ -7,7 +7,9 @@
 
 mod file_system;
 mod held_files;
+mod memory_files;
 mod output;
 
 pub use crate::file_system::{FileFault, Files};
+pub use crate::memory_files::{MemoryFiles, SteadyFiles};
 pub use crate::output::{Sink, SinkFault};
