@@ -8,8 +8,11 @@
 mod file_system;
 mod held_files;
 mod memory_files;
+mod memory_sink;
+mod numbers;
 mod output;
 
 pub use crate::file_system::{FileFault, Files};
 pub use crate::memory_files::{MemoryFiles, SteadyFiles};
+pub use crate::memory_sink::{MemorySink, SteadySink};
 pub use crate::output::{Sink, SinkFault};

@@ -12,6 +12,7 @@ ghost use Rattle.wild_macho.specs.Memory.{memory_of, steady_of, fresh_files, not
 
 use crate::file_system::{FileFault, Files};
 use crate::held_files::HeldFiles;
+use crate::numbers::is_among;
 use macho_args::Paths;
 use std::alloc::{AllocError, Global};
 use std::collections::VecDeque;
@@ -36,12 +37,6 @@ pub struct MemoryFiles {
     writes: u64,
     faults: u64,
     write_faults: u64,
-}
-
-fn is_among(numbers: &VecDeque<u64>, number: u64) -> bool
-    ensures { result ≡ sets.contains (sets.from_list {R = nat_cmp} numbers.now.items) number }
-{
-    numbers.contains(&number)
 }
 
 fn find_failing(writes: &VecDeque<FailingWrite>, number: u64) -> Option<&FailingWrite>
