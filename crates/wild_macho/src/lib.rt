@@ -11,8 +11,10 @@ mod memory_files;
 mod memory_sink;
 mod numbers;
 mod output;
+mod real;
 
 pub use crate::file_system::{FileFault, Files};
 pub use crate::memory_files::{MemoryFiles, SteadyFiles};
 pub use crate::memory_sink::{MemorySink, SteadySink};
 pub use crate::output::{Sink, SinkFault};
+pub use crate::real::{RealFiles, RealSink};
