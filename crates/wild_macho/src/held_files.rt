@@ -85,7 +85,8 @@ impl HeldFiles {
     {
         let path = String::from_str(self.alloc, path)?;
         let canonical = String::from_str(self.alloc, canonical)?;
-        self.canonical_paths.push_front(CanonicalPath { path, canonical })?;
+        self.canonical_paths
+            .push_front(CanonicalPath { path, canonical })?;
         Ok(())
     }
 
@@ -116,11 +117,7 @@ impl HeldFiles {
     }
 
     /// The canonical path of the path, if it has one.
-    pub(crate) fn canonical(
-        &self,
-        alloc: Global,
-        path: &str,
-    ) -> Result<Option<String>, AllocError>
+    pub(crate) fn canonical(&self, alloc: Global, path: &str) -> Result<Option<String>, AllocError>
         ensures { IfOk result (λ answer. option_map string_bytes answer ≡ get (held_of self.now).canonical_paths path.now) }
     {
         match find_canonical(&self.canonical_paths, path) {

@@ -121,7 +121,8 @@ impl MemoryFiles {
         ensures done { OnOk result (memory_of self.new ≡ record (memory_of self.old) { failing_writes = maps.insert (memory_of self.old).failing_writes number left }) }
         ensures kept { OnErr result (memory_of self.new ≡ memory_of self.old) }
     {
-        self.failing_writes.push_front(FailingWrite { number, left })?;
+        self.failing_writes
+            .push_front(FailingWrite { number, left })?;
         Ok(())
     }
 }

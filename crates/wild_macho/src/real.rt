@@ -21,6 +21,7 @@ const PIECE: usize = 16384;
 const NEW_FILE_MODE: u32 = 0o777;
 
 /// The system's files.
+#[derive(Drop)]
 pub struct RealFiles<'a, R> {
     rt: &'a R,
     faults: u64,
@@ -80,7 +81,11 @@ fn write_file<R: rt::Files>(rt: &R, path: &str, bytes: &[u8]) -> bool {
 }
 
 // The bytes of the file, or `None` where there is no such file.
-fn read_file<R: rt::Files>(rt: &R, alloc: Global, path: &str) -> Result<Option<Vec<u8>>, FileFault> {
+fn read_file<R: rt::Files>(
+    rt: &R,
+    alloc: Global,
+    path: &str,
+) -> Result<Option<Vec<u8>>, FileFault> {
     match fs::open(rt, path) {
         Ok(mut file) => Ok(Some(read_all(alloc, &mut file)?)),
         Err(error) if error.kind() == ErrorKind::NotFound => Ok(None),
