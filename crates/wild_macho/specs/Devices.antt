@@ -2,10 +2,15 @@
 -- held is optional: a device that tells nothing of its content goes on telling nothing.
 use Rattle.std.specs.Prelude.{◌≡◌, ℕ, List, ◌++◌, take, Option, None, Some}
 use Rattle.std.specs.Option.{option_map}
+use Rattle.std.specs.declared.vec.Vec.{Vec}
 use Rattle.std.specs.FinMap.{get, insert}
 use Rattle.macho_args.specs.Store.{Store, Directories, CanonicalPaths}
 use Rattle.wild_macho.specs.declared.file_system.FileFault.{FileFault}
 use Rattle.wild_macho.specs.declared.file_system.FileFault.TheVariants.{Failed, OutOfMemory}
+
+-- what a read answered, without where it lies in memory
+abbrev pub content_of : {Z : Type 0} → Option (Vec ℕ Z) → Option (List ℕ)
+content_of answer = option_map (λ bytes. bytes.items) answer
 
 -- A read answers the bytes of the path, and None exactly where no file stands under it.
 abbrev pub ReadsFile : Option Store → List ℕ → Option (List ℕ) → Type 0

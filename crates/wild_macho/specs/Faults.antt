@@ -1,11 +1,15 @@
 -- How often a device has failed. A count only tells that an answer of a failure has its cause outside.
-use Rattle.std.specs.Prelude.{◌≡◌, ℕ, ◌-◌, ◌^◌, ◌<◌, ◌≤◌, ◌⊎◌}
+use Rattle.std.specs.Prelude.{◌≡◌, ℕ, ◌+◌, ◌-◌, ◌^◌, ◌<◌, ◌≤◌, min, ◌⊎◌}
 use Rattle.wild_macho.specs.declared.file_system.FileFault.{FileFault}
 use Rattle.wild_macho.specs.declared.file_system.FileFault.TheVariants.{Failed, OutOfMemory}
 
 -- the last value of a count, which is a number of 64 bits: there it stays
 abbrev pub last_count : ℕ
 last_count = 2 ^ 64 - 1
+
+-- a count after one call more
+abbrev pub one_more : ℕ → ℕ
+one_more count = min (count + 1) last_count
 
 -- A count goes on: it never falls, and never passes its last value.
 pub record CountsOn (old new : ℕ) : Type 0 where

@@ -1,5 +1,5 @@
 -- The devices in memory as plain maps, sets and numbers. Clauses compare these.
-use Rattle.std.specs.Prelude.{◌≡◌, ℕ, ◌+◌, min, true, false, List, map, take, None, IsSomeAnd}
+use Rattle.std.specs.Prelude.{◌≡◌, ℕ, true, false, List, map, take, None, IsSomeAnd, Result, Ok, Err}
 use Rattle.std.specs.String.{string_bytes}
 use Rattle.std.specs.Ordering.{nat_cmp}
 use Rattle.std.specs.FinMap as maps
@@ -13,7 +13,7 @@ use Rattle.wild_macho.specs.declared.memory_files.MemoryFiles.{MemoryFiles}
 use Rattle.wild_macho.specs.declared.memory_files.SteadyFiles.{SteadyFiles}
 use Rattle.wild_macho.specs.declared.file_system.FileFault.{FileFault}
 use Rattle.wild_macho.specs.declared.file_system.FileFault.TheVariants.{Failed, OutOfMemory}
-use Rattle.wild_macho.specs.Faults.{last_count}
+use Rattle.wild_macho.specs.Faults.{one_more}
 
 -- the directories, the canonical paths and the files of a file system
 pub record Held : Type 0 where
@@ -42,9 +42,17 @@ held_of tree =
       files = maps.from_entries (map file_entry tree.files.items);
     }
 
+-- the same with one directory more
+abbrev pub with_dir : List ℕ → Held → Held
+with_dir path held = record held { directories = sets.insert held.directories path }
+
+-- the same with this canonical path for the path
+abbrev pub with_canonical : List ℕ → List ℕ → Held → Held
+with_canonical path canonical held = record held { canonical_paths = maps.insert held.canonical_paths path canonical }
+
 -- the same with these bytes under the path
-abbrev pub holding : Held → List ℕ → List ℕ → Held
-holding held path bytes = record held { files = maps.insert held.files path bytes }
+abbrev pub with_file : List ℕ → List ℕ → Held → Held
+with_file path bytes held = record held { files = maps.insert held.files path bytes }
 
 -- numbers of calls
 abbrev pub Numbers : Type 0
@@ -91,37 +99,43 @@ memory_of files =
       write_faults = files.write_faults;
     }
 
+-- What is held is changed so, and nothing else.
+abbrev pub ChangesHeld : (Held → Held) → FilesInMemory → FilesInMemory → Type 0
+ChangesHeld change old new = new ≡ record old { held = change old.held }
+
+-- One read more is to fail, and nothing else is changed.
+abbrev pub FailsRead : ℕ → FilesInMemory → FilesInMemory → Type 0
+FailsRead number old new = new ≡ record old { failing_reads = sets.insert old.failing_reads number }
+
+-- One write more is to fail and to leave so many bytes, and nothing else is changed.
+abbrev pub FailsWrite : ℕ → ℕ → FilesInMemory → FilesInMemory → Type 0
+FailsWrite number left old new = new ≡ record old { failing_writes = maps.insert old.failing_writes number left }
+
 abbrev pub steady_of : SteadyFiles → Held
 steady_of files = held_of files.held
 
--- the count of one call more, which stays at its last value
-abbrev pub one_more : ℕ → ℕ
-one_more count = min (count + 1) last_count
-
--- A read that was not to fail is counted, and changes nothing else.
-abbrev pub ReadCounted : FilesInMemory → FilesInMemory → Type 0
-ReadCounted old new = (sets.contains old.failing_reads old.reads ≡ false) × (new ≡ record old { reads = one_more old.reads })
-
--- A read fails exactly where its number is one of those that are to fail; want of memory changes nothing.
-abbrev pub ReadRefused : FileFault → FilesInMemory → FilesInMemory → Type 0
-ReadRefused Failed old new =
+-- A read fails exactly where its number is one of those that are to fail. It is counted, unless there was no
+-- memory: that changes nothing.
+abbrev pub ReadsAsTold : {A : Type 0} → FilesInMemory → FilesInMemory → Result A FileFault → Type 0
+ReadsAsTold old new (Ok _) =
+    (sets.contains old.failing_reads old.reads ≡ false)
+    × (new ≡ record old { reads = one_more old.reads })
+ReadsAsTold old new (Err Failed) =
     (sets.contains old.failing_reads old.reads ≡ true)
     × (new ≡ record old { reads = one_more old.reads; faults = one_more old.faults })
-ReadRefused OutOfMemory old new = (sets.contains old.failing_reads old.reads ≡ false) × (new ≡ old)
-
--- A write that was not to fail is counted, and its path holds the bytes.
-abbrev pub WriteCounted : FilesInMemory → FilesInMemory → List ℕ → List ℕ → Type 0
-WriteCounted old new path bytes =
-    (maps.get old.failing_writes old.writes ≡ None)
-    × (new ≡ record old { held = holding old.held path bytes; writes = one_more old.writes })
+ReadsAsTold old new (Err OutOfMemory) = (sets.contains old.failing_reads old.reads ≡ false) × (new ≡ old)
 
 -- A write fails exactly where its number is one of those that are to fail, and leaves as many of the first bytes
--- as that one is to leave; want of memory changes nothing.
-abbrev pub WriteRefused : FileFault → FilesInMemory → FilesInMemory → List ℕ → List ℕ → Type 0
-WriteRefused Failed old new path bytes =
+-- as that one is to leave; else its path holds all the bytes. It is counted, unless there was no memory: that
+-- changes nothing.
+abbrev pub WritesAsTold : {A : Type 0} → FilesInMemory → FilesInMemory → List ℕ → List ℕ → Result A FileFault → Type 0
+WritesAsTold old new path bytes (Ok _) =
+    (maps.get old.failing_writes old.writes ≡ None)
+    × (new ≡ record old { held = with_file path bytes old.held; writes = one_more old.writes })
+WritesAsTold old new path bytes (Err Failed) =
     IsSomeAnd (maps.get old.failing_writes old.writes) (λ left. new ≡ record old {
-      held = holding old.held path (take left bytes);
+      held = with_file path (take left bytes) old.held;
       writes = one_more old.writes;
       write_faults = one_more old.write_faults;
     })
-WriteRefused OutOfMemory old new path bytes = new ≡ old
+WritesAsTold old new path bytes (Err OutOfMemory) = new ≡ old

@@ -1,8 +1,9 @@
 -- The sink in memory as plain lists, sets and numbers. Clauses compare these.
-use Rattle.std.specs.Prelude.{◌≡◌, ℕ, ◌+◌, ◌<◌, ◌≤◌, ◌⊎◌, true, false, List, [], ◌++◌, length}
+use Rattle.std.specs.Prelude.{◌≡◌, ℕ, ◌+◌, ◌<◌, ◌≤◌, ◌⊎◌, true, false, List, [], ◌++◌, length, Result, Ok, Err}
 use Rattle.std.specs.FinSet as sets
 use Rattle.wild_macho.specs.declared.memory_sink.MemorySink.{MemorySink}
-use Rattle.wild_macho.specs.Memory.{Numbers, one_more}
+use Rattle.wild_macho.specs.Faults.{one_more}
+use Rattle.wild_macho.specs.Memory.{Numbers}
 
 -- A sink in memory: what it took, for how many bytes it has room in all, the numbers of the writes that are to
 -- fail, how many writes there were and how many of them have failed.
@@ -27,6 +28,10 @@ output_of sink =
       faults = sink.faults;
     }
 
+-- One write more is to fail, and nothing else is changed.
+abbrev pub FailsPiece : ℕ → Output → Output → Type 0
+FailsPiece number old new = new ≡ record old { failing_writes = sets.insert old.failing_writes number }
+
 -- A piece that was taken: its write was not to fail, it fits the room, and it stands behind all that was taken.
 pub record PieceTaken (old new : Output) (bytes : List ℕ) : Type 0 where
   pub not_to_fail : sets.contains old.failing_writes old.writes ≡ false
@@ -38,3 +43,8 @@ pub record PieceTaken (old new : Output) (bytes : List ℕ) : Type 0 where
 pub record PieceRefused (old new : Output) (bytes : List ℕ) : Type 0 where
   pub cause : (sets.contains old.failing_writes old.writes ≡ true) ⊎ (old.room < length old.taken + length bytes)
   pub counted : new ≡ record old { writes = one_more old.writes; faults = one_more old.faults }
+
+-- A piece is refused exactly where its write is to fail or passes the room.
+abbrev pub PrintsAsTold : {A E : Type 0} → Output → Output → List ℕ → Result A E → Type 0
+PrintsAsTold old new bytes (Ok _) = PieceTaken old new bytes
+PrintsAsTold old new bytes (Err _) = PieceRefused old new bytes

@@ -1,10 +1,9 @@
 //! Files that a linker reads and writes.
 
 ghost use Rattle.std.specs.Prelude.{◌≡◌, IfOk, IfErr, OnOk};
-ghost use Rattle.std.specs.Option.{option_map};
 ghost use Rattle.wild_macho.specs.declared.file_system.FileFault.TheVariants.{OutOfMemory};
 ghost use Rattle.wild_macho.specs.Faults.{CountsOn, HasCause};
-ghost use Rattle.wild_macho.specs.Devices.{ReadsFile, WritesFile, LeavesFiles, OnlyReads, OnlyWrites};
+ghost use Rattle.wild_macho.specs.Devices.{content_of, ReadsFile, WritesFile, LeavesFiles, OnlyReads, OnlyWrites};
 
 use macho_args::Paths;
 use std::alloc::{AllocError, Global};
@@ -35,7 +34,7 @@ impl From<AllocError> for FileFault {
 pub trait Files: Paths {
     /// The bytes of the file under the path, or `None` where there is no such file.
     fn read(&mut self, alloc: Global, path: &str) -> Result<Option<Vec<u8>>, FileFault>
-        ensures found { IfOk result (λ answer. ReadsFile (Self.holds self.old) path.now (option_map (λ bytes. bytes.items) answer)) }
+        ensures found { IfOk result (λ answer. ReadsFile (Self.holds self.old) path.now (content_of answer)) }
         ensures why { IfErr result (λ fault. HasCause fault (Self.faults self.old) (Self.faults self.new)) }
         ensures counted { CountsOn (Self.faults self.old) (Self.faults self.new) }
         ensures kept { OnlyReads Self.directories Self.canonical_paths Self.holds Self.write_faults self.old self.new };

@@ -7,9 +7,10 @@ ghost use Rattle.std.specs.Option.{option_map, option_copied};
 ghost use Rattle.std.specs.List.{list_any};
 ghost use Rattle.std.specs.Str.{bytes_eq};
 ghost use Rattle.std.specs.String.{string_bytes};
-ghost use Rattle.std.specs.FinMap.{get, insert};
+ghost use Rattle.std.specs.FinMap.{get};
 ghost use Rattle.std.specs.FinSet as sets;
-ghost use Rattle.wild_macho.specs.Memory.{held_of, nothing_held};
+ghost use Rattle.wild_macho.specs.Devices.{content_of};
+ghost use Rattle.wild_macho.specs.Memory.{held_of, nothing_held, with_dir, with_canonical, with_file};
 
 use std::alloc::{AllocError, Global};
 use std::collections::VecDeque;
@@ -70,7 +71,7 @@ impl HeldFiles {
 
     /// Makes the path a directory.
     pub(crate) fn add_dir(&mut self, path: &str) -> Result<(), AllocError>
-        ensures done { OnOk result (held_of self.new ≡ record (held_of self.old) { directories = sets.insert (held_of self.old).directories path.now }) }
+        ensures done { OnOk result (held_of self.new ≡ with_dir path.now (held_of self.old)) }
         ensures kept { OnErr result (held_of self.new ≡ held_of self.old) }
     {
         let directory = String::from_str(self.alloc, path)?;
@@ -80,7 +81,7 @@ impl HeldFiles {
 
     /// Sets the canonical path of the path.
     pub(crate) fn add_canonical(&mut self, path: &str, canonical: &str) -> Result<(), AllocError>
-        ensures done { OnOk result (held_of self.new ≡ record (held_of self.old) { canonical_paths = insert (held_of self.old).canonical_paths path.now canonical.now }) }
+        ensures done { OnOk result (held_of self.new ≡ with_canonical path.now canonical.now (held_of self.old)) }
         ensures kept { OnErr result (held_of self.new ≡ held_of self.old) }
     {
         let path = String::from_str(self.alloc, path)?;
@@ -92,7 +93,7 @@ impl HeldFiles {
 
     /// Makes the path hold the bytes.
     pub(crate) fn add_file(&mut self, path: &str, bytes: Vec<u8>) -> Result<(), AllocError>
-        ensures done { OnOk result (held_of self.new ≡ record (held_of self.old) { files = insert (held_of self.old).files path.now bytes.items }) }
+        ensures done { OnOk result (held_of self.new ≡ with_file path.now bytes.items (held_of self.old)) }
         ensures kept { OnErr result (held_of self.new ≡ held_of self.old) }
     {
         let path = String::from_str(self.alloc, path)?;
@@ -102,7 +103,7 @@ impl HeldFiles {
 
     /// Makes the path hold a copy of the bytes.
     pub(crate) fn write(&mut self, path: &str, bytes: &[u8]) -> Result<(), AllocError>
-        ensures done { OnOk result (held_of self.new ≡ record (held_of self.old) { files = insert (held_of self.old).files path.now bytes.now }) }
+        ensures done { OnOk result (held_of self.new ≡ with_file path.now bytes.now (held_of self.old)) }
         ensures kept { OnErr result (held_of self.new ≡ held_of self.old) }
     {
         let copy = Vec::from_slice(self.alloc, bytes)?;
@@ -128,7 +129,7 @@ impl HeldFiles {
 
     /// A copy of the bytes under the path, if it holds any.
     pub(crate) fn read(&self, alloc: Global, path: &str) -> Result<Option<Vec<u8>>, AllocError>
-        ensures { IfOk result (λ answer. option_map (λ bytes. bytes.items) answer ≡ get (held_of self.now).files path.now) }
+        ensures { IfOk result (λ answer. content_of answer ≡ get (held_of self.now).files path.now) }
     {
         match find_file(&self.files, path) {
             Some(file) => Ok(Some(Vec::from_slice(alloc, file.bytes.as_slice())?)),

@@ -7,8 +7,9 @@ ghost use Rattle.std.specs.FinMap as maps;
 ghost use Rattle.std.specs.FinSet as sets;
 ghost use Rattle.wild_macho.specs.declared.file_system.FileFault.TheVariants.{OutOfMemory};
 ghost use Rattle.wild_macho.specs.Faults.{CountsOn, HasCause};
-ghost use Rattle.wild_macho.specs.Devices.{LeavesFiles};
-ghost use Rattle.wild_macho.specs.Memory.{memory_of, steady_of, fresh_files, nothing_held, holding, failing_entry, ReadCounted, ReadRefused, WriteCounted, WriteRefused};
+ghost use Rattle.wild_macho.specs.Devices.{content_of, LeavesFiles};
+ghost use Rattle.wild_macho.specs.Memory.{memory_of, steady_of, fresh_files, nothing_held, failing_entry};
+ghost use Rattle.wild_macho.specs.Memory.{with_dir, with_canonical, with_file, ChangesHeld, FailsRead, FailsWrite, ReadsAsTold, WritesAsTold};
 
 use crate::file_system::{FileFault, Files};
 use crate::held_files::HeldFiles;
@@ -84,7 +85,7 @@ impl MemoryFiles {
 
     /// Makes the path a directory.
     pub fn add_dir(&mut self, path: &str) -> Result<(), AllocError>
-        ensures done { OnOk result (memory_of self.new ≡ record (memory_of self.old) { held = record (memory_of self.old).held { directories = sets.insert (memory_of self.old).held.directories path.now } }) }
+        ensures done { OnOk result (ChangesHeld (with_dir path.now) (memory_of self.old) (memory_of self.new)) }
         ensures kept { OnErr result (memory_of self.new ≡ memory_of self.old) }
     {
         self.held.add_dir(path)
@@ -92,7 +93,7 @@ impl MemoryFiles {
 
     /// Sets the canonical path of the path.
     pub fn add_canonical(&mut self, path: &str, canonical: &str) -> Result<(), AllocError>
-        ensures done { OnOk result (memory_of self.new ≡ record (memory_of self.old) { held = record (memory_of self.old).held { canonical_paths = maps.insert (memory_of self.old).held.canonical_paths path.now canonical.now } }) }
+        ensures done { OnOk result (ChangesHeld (with_canonical path.now canonical.now) (memory_of self.old) (memory_of self.new)) }
         ensures kept { OnErr result (memory_of self.new ≡ memory_of self.old) }
     {
         self.held.add_canonical(path, canonical)
@@ -100,7 +101,7 @@ impl MemoryFiles {
 
     /// Makes the path hold the bytes.
     pub fn add_file(&mut self, path: &str, bytes: Vec<u8>) -> Result<(), AllocError>
-        ensures done { OnOk result (memory_of self.new ≡ record (memory_of self.old) { held = holding (memory_of self.old).held path.now bytes.items }) }
+        ensures done { OnOk result (ChangesHeld (with_file path.now bytes.items) (memory_of self.old) (memory_of self.new)) }
         ensures kept { OnErr result (memory_of self.new ≡ memory_of self.old) }
     {
         self.held.add_file(path, bytes)
@@ -108,7 +109,7 @@ impl MemoryFiles {
 
     /// Makes the read of that number fail. Reads are counted from 0 since the value was made.
     pub fn fail_read(&mut self, number: u64) -> Result<(), AllocError>
-        ensures done { OnOk result (memory_of self.new ≡ record (memory_of self.old) { failing_reads = sets.insert (memory_of self.old).failing_reads number }) }
+        ensures done { OnOk result (FailsRead number (memory_of self.old) (memory_of self.new)) }
         ensures kept { OnErr result (memory_of self.new ≡ memory_of self.old) }
     {
         self.failing_reads.push_front(number)?;
@@ -118,7 +119,7 @@ impl MemoryFiles {
     /// Makes the write of that number fail, and leave the first `left` of its bytes under its path, or all where
     /// there are fewer. Writes are counted from 0 since the value was made.
     pub fn fail_write(&mut self, number: u64, left: u64) -> Result<(), AllocError>
-        ensures done { OnOk result (memory_of self.new ≡ record (memory_of self.old) { failing_writes = maps.insert (memory_of self.old).failing_writes number left }) }
+        ensures done { OnOk result (FailsWrite number left (memory_of self.old) (memory_of self.new)) }
         ensures kept { OnErr result (memory_of self.new ≡ memory_of self.old) }
     {
         self.failing_writes
@@ -149,10 +150,10 @@ impl Paths for MemoryFiles {
 
 impl Files for MemoryFiles {
     fn read(&mut self, alloc: Global, path: &str) -> Result<Option<Vec<u8>>, FileFault>
-        ensures found { IfOk result (λ answer. option_map (λ bytes. bytes.items) answer ≡ maps.get (memory_of self.old).held.files path.now) }
+        ensures found { IfOk result (λ answer. content_of answer ≡ maps.get (memory_of self.old).held.files path.now) }
         ensures why { IfErr result (λ fault. HasCause fault (memory_of self.old).faults (memory_of self.new).faults) }
         ensures counted { CountsOn (memory_of self.old).faults (memory_of self.new).faults }
-        ensures exact { MatchResult result (λ _. ReadCounted (memory_of self.old) (memory_of self.new)) (λ fault. ReadRefused fault (memory_of self.old) (memory_of self.new)) }
+        ensures exact { ReadsAsTold (memory_of self.old) (memory_of self.new) result }
     {
         if is_among(&self.failing_reads, self.reads) {
             self.reads = self.reads.saturating_add(1);
@@ -172,7 +173,7 @@ impl Files for MemoryFiles {
         ensures left { IfErr result (λ fault. LeavesFiles fault (Some (memory_of self.old).held.files) (Some (memory_of self.new).held.files) path.now bytes.now) }
         ensures why { IfErr result (λ fault. HasCause fault (memory_of self.old).write_faults (memory_of self.new).write_faults) }
         ensures counted { CountsOn (memory_of self.old).write_faults (memory_of self.new).write_faults }
-        ensures exact { MatchResult result (λ _. WriteCounted (memory_of self.old) (memory_of self.new) path.now bytes.now) (λ fault. WriteRefused fault (memory_of self.old) (memory_of self.new) path.now bytes.now) }
+        ensures exact { WritesAsTold (memory_of self.old) (memory_of self.new) path.now bytes.now result }
     {
         match left_by(&self.failing_writes, self.writes) {
             Some(left) => match self.held.write(path, front(bytes, left)) {
@@ -212,7 +213,7 @@ impl SteadyFiles {
 
     /// Makes the path a directory.
     pub fn add_dir(&mut self, path: &str) -> Result<(), AllocError>
-        ensures done { OnOk result (steady_of self.new ≡ record (steady_of self.old) { directories = sets.insert (steady_of self.old).directories path.now }) }
+        ensures done { OnOk result (steady_of self.new ≡ with_dir path.now (steady_of self.old)) }
         ensures kept { OnErr result (steady_of self.new ≡ steady_of self.old) }
     {
         self.held.add_dir(path)
@@ -220,7 +221,7 @@ impl SteadyFiles {
 
     /// Sets the canonical path of the path.
     pub fn add_canonical(&mut self, path: &str, canonical: &str) -> Result<(), AllocError>
-        ensures done { OnOk result (steady_of self.new ≡ record (steady_of self.old) { canonical_paths = maps.insert (steady_of self.old).canonical_paths path.now canonical.now }) }
+        ensures done { OnOk result (steady_of self.new ≡ with_canonical path.now canonical.now (steady_of self.old)) }
         ensures kept { OnErr result (steady_of self.new ≡ steady_of self.old) }
     {
         self.held.add_canonical(path, canonical)
@@ -228,7 +229,7 @@ impl SteadyFiles {
 
     /// Makes the path hold the bytes.
     pub fn add_file(&mut self, path: &str, bytes: Vec<u8>) -> Result<(), AllocError>
-        ensures done { OnOk result (steady_of self.new ≡ holding (steady_of self.old) path.now bytes.items) }
+        ensures done { OnOk result (steady_of self.new ≡ with_file path.now bytes.items (steady_of self.old)) }
         ensures kept { OnErr result (steady_of self.new ≡ steady_of self.old) }
     {
         self.held.add_file(path, bytes)
@@ -257,7 +258,7 @@ impl Paths for SteadyFiles {
 
 impl Files for SteadyFiles {
     fn read(&mut self, alloc: Global, path: &str) -> Result<Option<Vec<u8>>, FileFault>
-        ensures found { IfOk result (λ answer. option_map (λ bytes. bytes.items) answer ≡ maps.get (steady_of self.old).files path.now) }
+        ensures found { IfOk result (λ answer. content_of answer ≡ maps.get (steady_of self.old).files path.now) }
         ensures why { IfErr result (λ fault. fault ≡ OutOfMemory) }
         ensures kept { steady_of self.new ≡ steady_of self.old }
     {
@@ -265,7 +266,7 @@ impl Files for SteadyFiles {
     }
 
     fn write(&mut self, path: &str, bytes: &[u8]) -> Result<(), FileFault>
-        ensures done { OnOk result (steady_of self.new ≡ holding (steady_of self.old) path.now bytes.now) }
+        ensures done { OnOk result (steady_of self.new ≡ with_file path.now bytes.now (steady_of self.old)) }
         ensures why { IfErr result (λ fault. fault ≡ OutOfMemory) }
         ensures kept { OnErr result (steady_of self.new ≡ steady_of self.old) }
     {

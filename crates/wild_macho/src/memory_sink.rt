@@ -24,8 +24,7 @@ pub struct MemorySink {
 }
 
 impl MemorySink {
-    ghost use Rattle.std.specs.FinSet as sets;
-    ghost use Rattle.wild_macho.specs.MemoryOutput.{output_of, fresh_output};
+    ghost use Rattle.wild_macho.specs.MemoryOutput.{output_of, fresh_output, FailsPiece};
 
     /// Takes room for that many bytes.
     pub fn new(alloc: Global, room: usize) -> Result<MemorySink, AllocError>
@@ -50,7 +49,7 @@ impl MemorySink {
 
     /// Makes the write of that number fail. Writes are counted from 0 since the value was made.
     pub fn fail_write(&mut self, number: u64) -> Result<(), AllocError>
-        ensures done { OnOk result (output_of self.new ≡ record (output_of self.old) { failing_writes = sets.insert (output_of self.old).failing_writes number }) }
+        ensures done { OnOk result (FailsPiece number (output_of self.old) (output_of self.new)) }
         ensures kept { OnErr result (output_of self.new ≡ output_of self.old) }
     {
         self.failing_writes.push_front(number)?;
@@ -61,7 +60,7 @@ impl MemorySink {
 impl Sink for MemorySink {
     ghost use Rattle.wild_macho.specs.Faults.{CountsOn, CountRose};
     ghost use Rattle.wild_macho.specs.Devices.{TakesPrefix};
-    ghost use Rattle.wild_macho.specs.MemoryOutput.{output_of, PieceTaken, PieceRefused};
+    ghost use Rattle.wild_macho.specs.MemoryOutput.{output_of, PrintsAsTold};
 
     ghost taken = { λ sink. Some (output_of sink).taken };
 
@@ -71,7 +70,7 @@ impl Sink for MemorySink {
         ensures left { OnErr result (TakesPrefix (Some (output_of self.old).taken) (Some (output_of self.new).taken) bytes.now) }
         ensures why { OnErr result (CountRose (output_of self.old).faults (output_of self.new).faults) }
         ensures counted { CountsOn (output_of self.old).faults (output_of self.new).faults }
-        ensures exact { MatchResult result (λ _. PieceTaken (output_of self.old) (output_of self.new) bytes.now) (λ _. PieceRefused (output_of self.old) (output_of self.new) bytes.now) }
+        ensures exact { PrintsAsTold (output_of self.old) (output_of self.new) bytes.now result }
     {
         let fails = is_among(&self.failing_writes, self.writes);
         self.writes = self.writes.saturating_add(1);

@@ -1,6 +1,6 @@
 //! The system's own files and streams. They are trusted: what the system holds is told by no clause.
 
-ghost use Rattle.std.specs.Prelude.{◌≡◌, None};
+ghost use Rattle.std.specs.Prelude.{None};
 
 use crate::file_system::{FileFault, Files};
 use crate::output::{Sink, SinkFault};
