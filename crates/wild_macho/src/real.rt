@@ -1,6 +1,8 @@
 //! The system's own files and streams. They are trusted: what the system holds is told by no clause.
 
-ghost use Rattle.std.specs.Prelude.{None};
+ghost use Rattle.std.specs.Prelude.{◌≡◌, ◌<◌, None, IfOk, IfSome, vec_len};
+ghost use Rattle.std.specs.Bool.{OnTrue};
+ghost use Rattle.std.specs.Io.KnownBytes.{Appends};
 
 use crate::file_system::{FileFault, Files};
 use crate::output::{Sink, SinkFault};
@@ -36,7 +38,10 @@ pub struct RealSink<W> {
 }
 
 // Reads to the end of the file. Each turn reads a byte at least, so the turns are enough for a file below the limit.
-fn read_all<F: Read>(alloc: Global, file: &mut F) -> Result<Vec<u8>, FileFault> {
+fn read_all<F: Read>(alloc: Global, file: &mut F) -> Result<Vec<u8>, FileFault>
+    ensures whole { IfOk result (λ bytes. IfSome (F.remaining file.old) (λ rest. bytes.items ≡ rest)) }
+    ensures below { IfOk result (λ bytes. vec_len bytes < FILE_LIMIT) }
+{
     let mut bytes = Vec::new(alloc);
     let mut piece = [0u8; PIECE];
     for _ in 0..FILE_LIMIT {
@@ -53,7 +58,9 @@ fn read_all<F: Read>(alloc: Global, file: &mut F) -> Result<Vec<u8>, FileFault> 
 }
 
 // Whether the stream took all the bytes. Each turn writes a byte at least.
-fn write_all<W: Write>(stream: &mut W, bytes: &[u8]) -> bool {
+fn write_all<W: Write>(stream: &mut W, bytes: &[u8]) -> bool
+    ensures { OnTrue result (Appends (W.contents stream.old) (W.contents stream.new) bytes.now) }
+{
     let mut rest = bytes;
     for _ in bytes {
         if rest.is_empty() {
