@@ -22,7 +22,11 @@ const PIECE: usize = 16384;
 /// The permissions of a new file, before the process takes its own away: what is written is a program.
 const NEW_FILE_MODE: u32 = 0o777;
 
-/// The system's files.
+/// The system's files. It tells nothing of what the system holds.
+///
+/// A read answers `None` exactly where the system says that there is no such file. Every other error is a failed
+/// read, a path below a plain file too, and so is a file of 4 GiB or more. A write fails at an error, and where the
+/// system takes no byte. Each failure raises its count by one. A new file may be run as a program.
 #[derive(Drop)]
 pub struct RealFiles<'a, R> {
     rt: &'a R,
@@ -30,7 +34,9 @@ pub struct RealFiles<'a, R> {
     write_faults: u64,
 }
 
-/// A stream of the system, as standard output.
+/// A stream of the system, as standard output. It tells nothing of what it took.
+///
+/// A write fails at an error, and where the stream takes no byte; each failure raises the count by one.
 #[derive(Drop)]
 pub struct RealSink<W> {
     stream: W,
