@@ -15,7 +15,8 @@ consumes_more (Some all) None c xs ys p q = absurd p
 consumes_more (Some all) (Some rest) None xs ys p q = absurd q
 consumes_more (Some all) (Some rest) (Some left) xs ys p q = p ∙ ap (λ r. xs ++ r) q ∙ sym (append_assoc xs ys left)
 
-pub consumed_all : (a b c : Option (List ℕ)) (xs : List ℕ) → Consumes a b xs → Consumes b c [] → IsAtEnd c → IfSome a (λ all. xs ≡ all)
+pub consumed_all : (a b c : Option (List ℕ)) (xs : List ℕ)
+    → Consumes a b xs → Consumes b c [] → IsAtEnd c → IfSome a (λ all. xs ≡ all)
 consumed_all None b c xs p q end = tt
 consumed_all (Some all) None c xs p q end = absurd p
 consumed_all (Some all) (Some rest) None xs p q end = absurd q
@@ -44,14 +45,19 @@ pub record Written (old now : Option (List ℕ)) (bytes rest : List ℕ) : Type 
 pub written_none : (old : Option (List ℕ)) (bytes : List ℕ) → Written old old bytes bytes
 written_none old bytes = record { front = []; split = refl; appended = appends_none old }
 
-pub written_more : (old now next : Option (List ℕ)) (bytes rest : List ℕ) (n : ℕ) → Written old now bytes rest → Appends now next (take n rest) → Written old next bytes (drop n rest)
+pub written_more : (old now next : Option (List ℕ)) (bytes rest : List ℕ) (n : ℕ)
+    → Written old now bytes rest → Appends now next (take n rest) → Written old next bytes (drop n rest)
 written_more old now next bytes rest n so_far more =
     record {
       front = so_far.front ++ take n rest;
-      split = so_far.split ∙ ap (λ r. so_far.front ++ r) (sym (take-append-drop n rest)) ∙ sym (append_assoc so_far.front (take n rest) (drop n rest));
+      split =
+          so_far.split
+          ∙ ap (λ r. so_far.front ++ r) (sym (take-append-drop n rest))
+          ∙ sym (append_assoc so_far.front (take n rest) (drop n rest));
       appended = appends_more old now next so_far.front (take n rest) so_far.appended more;
     }
 
 pub written_all : (old now : Option (List ℕ)) (bytes rest : List ℕ) → rest ≡ [] → Written old now bytes rest → Appends old now bytes
 written_all old now bytes rest none so_far =
-    subst (λ (xs : List ℕ). Appends old now xs) (sym (so_far.split ∙ ap (λ r. so_far.front ++ r) none ∙ append-nil so_far.front)) so_far.appended
+    let all : bytes ≡ so_far.front = so_far.split ∙ ap (λ r. so_far.front ++ r) none ∙ append-nil so_far.front in
+    subst (λ (xs : List ℕ). Appends old now xs) (sym all) so_far.appended

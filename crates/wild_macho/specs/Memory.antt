@@ -1,5 +1,5 @@
 -- The devices in memory as plain maps, sets and numbers. Clauses compare these.
-use Rattle.std.specs.Prelude.{◌≡◌, ℕ, true, false, List, map, take, None, IsSomeAnd, Result, Ok, Err}
+use Rattle.std.specs.Prelude.{◌≡◌, ℕ, true, false, List, map, take, Option, None, Some, IsSomeAnd, Result, Ok, Err}
 use Rattle.std.specs.String.{string_bytes}
 use Rattle.std.specs.Ordering.{nat_cmp}
 use Rattle.std.specs.FinMap as maps
@@ -99,6 +99,10 @@ memory_of files =
       write_faults = files.write_faults;
     }
 
+-- the files that it tells
+abbrev pub files_in : MemoryFiles → Option Store
+files_in files = Some (memory_of files).held.files
+
 -- What is held is changed so, and nothing else.
 abbrev pub ChangesHeld : (Held → Held) → FilesInMemory → FilesInMemory → Type 0
 ChangesHeld change old new = new ≡ record old { held = change old.held }
@@ -128,7 +132,8 @@ ReadsAsTold old new (Err OutOfMemory) = (sets.contains old.failing_reads old.rea
 -- A write fails exactly where its number is one of those that are to fail, and leaves as many of the first bytes
 -- as that one is to leave; else its path holds all the bytes. It is counted, unless there was no memory: that
 -- changes nothing.
-abbrev pub WritesAsTold : {A : Type 0} → FilesInMemory → FilesInMemory → List ℕ → List ℕ → Result A FileFault → Type 0
+abbrev pub WritesAsTold : {A : Type 0} → FilesInMemory → FilesInMemory → List ℕ → List ℕ → Result A FileFault
+    → Type 0
 WritesAsTold old new path bytes (Ok _) =
     (maps.get old.failing_writes old.writes ≡ None)
     × (new ≡ record old { held = with_file path bytes old.held; writes = one_more old.writes })

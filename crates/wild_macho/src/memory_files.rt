@@ -9,7 +9,8 @@ ghost use Rattle.wild_macho.specs.declared.file_system.FileFault.TheVariants.{Ou
 ghost use Rattle.wild_macho.specs.Faults.{CountsOn, HasCause};
 ghost use Rattle.wild_macho.specs.Devices.{content_of, LeavesFiles};
 ghost use Rattle.wild_macho.specs.Memory.{memory_of, steady_of, fresh_files, nothing_held, failing_entry};
-ghost use Rattle.wild_macho.specs.Memory.{with_dir, with_canonical, with_file, ChangesHeld, FailsRead, FailsWrite, ReadsAsTold, WritesAsTold};
+ghost use Rattle.wild_macho.specs.Memory.{with_dir, with_canonical, with_file, files_in};
+ghost use Rattle.wild_macho.specs.Memory.{ChangesHeld, FailsRead, FailsWrite, ReadsAsTold, WritesAsTold};
 
 use crate::file_system::{FileFault, Files};
 use crate::held_files::HeldFiles;
@@ -133,7 +134,7 @@ impl Paths for MemoryFiles {
 
     ghost canonical_paths = { λ files. Some (memory_of files).held.canonical_paths };
 
-    ghost holds = { λ files. Some (memory_of files).held.files };
+    ghost holds = { files_in };
 
     ghost faults = { λ files. (memory_of files).faults };
 
@@ -170,7 +171,7 @@ impl Files for MemoryFiles {
     }
 
     fn write(&mut self, path: &str, bytes: &[u8]) -> Result<(), FileFault>
-        ensures left { IfErr result (λ fault. LeavesFiles fault (Some (memory_of self.old).held.files) (Some (memory_of self.new).held.files) path.now bytes.now) }
+        ensures left { IfErr result (λ fault. LeavesFiles fault (files_in self.old) (files_in self.new) path.now bytes.now) }
         ensures why { IfErr result (λ fault. HasCause fault (memory_of self.old).write_faults (memory_of self.new).write_faults) }
         ensures counted { CountsOn (memory_of self.old).write_faults (memory_of self.new).write_faults }
         ensures exact { WritesAsTold (memory_of self.old) (memory_of self.new) path.now bytes.now result }
