@@ -1,0 +1,5 @@
+//! Tests that cross crates, a module for each subject.
+#![tactic(auto)]
+
+#[cfg(test)]
+mod devices;
