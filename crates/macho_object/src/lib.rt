@@ -1,0 +1,9 @@
+//! Views of relocatable objects and dynamic libraries.
+#![tactic(auto)]
+
+mod commands;
+mod fault;
+mod header;
+
+pub use fault::ObjectFault;
+pub use macho_model::ObjectRule;
