@@ -4,6 +4,7 @@
 mod commands;
 mod fault;
 mod header;
+mod outline;
 
 pub use fault::ObjectFault;
 pub use macho_model::ObjectRule;

@@ -1,0 +1,48 @@
+-- What is known of a file whose commands were passed: where its tables stand.
+use Rattle.std.specs.Prelude.{◌≡◌, ℕ, ◌+◌, ◌*◌, ◌≤◌, ◌⊎◌, Bool, true, false, if◌then◌else◌, List, [], ◌∷◌, length}
+use Rattle.macho_bytes.specs.Layouts.{reading, size_of}
+use Rattle.macho_records.specs.Layouts.{dylib_command, segment_command, section_header, symtab_command, load_command}
+use Rattle.macho_records.specs.declared.constants.TheConstants.{LC_SYMTAB}
+use Rattle.macho_records.specs.declared.symbols.SymtabCommand.{SymtabCommand}
+use Rattle.macho_model.specs.Commands.{Command, commands_of, numbered, command_fits, place_of, segment_size}
+use Rattle.macho_model.specs.Objects.{num_sections, symtab_of}
+use Rattle.macho_model.specs.ObjectRules.{head_fits, commands_inside, has_one, tables_inside}
+use Rattle.macho_model.specs.Grammar.{EachCommand}
+use Rattle.macho_object.specs.declared.commands.Found.{Found}
+use Rattle.macho_object.specs.declared.commands.Found.TheVariants.{Nowhere, Once, Twice}
+use Rattle.macho_object.specs.declared.outline.Places.{Places}
+use Rattle.macho_object.specs.declared.outline.Outline.{Outline}
+use Rattle.macho_object.specs.Scans.{filetype_of, main_number, needed_of, command_at}
+
+-- a command that is to stand once stands nowhere, told at 0, or twice, told at the second's place
+abbrev pub IsNotOnce : Found → ℕ → Type 0
+IsNotOnce Nowhere place = place ≡ 0
+IsNotOnce (Once at) place = ⊥
+IsNotOnce (Twice second) place = place ≡ second
+
+-- the bytes that the grammar reads of a file's first command, from its start on
+abbrev pub main_size : Bool → List ℕ → ℕ → ℕ
+main_size false b at = segment_size b at
+main_size true b at = (reading load_command b at).cmdsize
+
+-- The header and the commands keep their rules, and both commands stand at these places.
+pub record HasCommands (dyn : Bool) (b : List ℕ) (p : Places) : Type 0 where
+  pub head : head_fits (filetype_of dyn) b ≡ true
+  pub inside : commands_inside b ≡ true
+  pub each : EachCommand (commands_of b) (command_fits (needed_of dyn b) b)
+  pub main_only : numbered (main_number dyn) b ≡ command_at b p.main ∷ []
+  pub symtab_only : numbered LC_SYMTAB b ≡ command_at b p.symtab ∷ []
+  pub main_room : p.main + main_size dyn b p.main ≤ length b
+  pub main_long : size_of dylib_command ≤ main_size dyn b p.main
+  pub symtab_room : p.symtab + size_of symtab_command ≤ length b
+
+-- how many sections are read: those of an object, none of a library
+abbrev pub section_count : Bool → List ℕ → ℕ
+section_count dyn b = if dyn then 0 else num_sections b
+
+-- The same, and the symbol table and the strings stand inside the file.
+pub record IsOutlined (o : Outline) : Type 0 where
+  pub commands : HasCommands o.is_dynamic o.input.now o.places
+  pub tables : tables_inside o.input.now ≡ true
+  pub symtab_is : o.symtab ≡ symtab_of o.input.now
+  pub sections_is : o.num_sections ≡ section_count o.is_dynamic o.input.now
