@@ -1,3 +1,5 @@
 pub mod Options
+pub mod Breaks
+pub mod Ends
 pub mod Passes
 pub mod Places

@@ -8,9 +8,10 @@ use Rattle.std.specs.List.{filter, All}
 use Rattle.std.proofs.lemmas.Bool.{leb-true, eqb-true}
 use Rattle.std.proofs.lemmas.List.Elements.{All-nil, All-cons, All-head, All-same, All-filter, filter_passes}
 use Rattle.macho_bytes.specs.Layouts.{reading, size_of}
-use Rattle.macho_records.specs.Layouts.{mach_header, load_command, symtab_command, dylib_command}
+use Rattle.macho_records.specs.Layouts.{mach_header, load_command, segment_command, symtab_command, dylib_command}
 use Rattle.macho_records.specs.declared.constants.TheConstants.{LC_SYMTAB}
-use Rattle.macho_model.specs.Commands.{Command, commands_of, commands_from, commands_end, numbered, header_of, command_fits}
+use Rattle.macho_model.specs.Commands.{Command, commands_of, commands_from, commands_end, numbered, header_of, command_fits, place_of, first_place}
+use Rattle.macho_model.specs.Objects.{num_sections, segment_of, section_place}
 use Rattle.macho_model.specs.ObjectRules.{head_fits, commands_inside, needed_in_object, needed_in_dylib}
 use Rattle.macho_model.specs.Grammar.{EachCommand, IsNotOne, Breaks}
 use Rattle.macho_model.specs.declared.rules.ObjectRule.TheVariants.{O3}
@@ -19,7 +20,7 @@ use Rattle.macho_object.specs.declared.commands.Found.TheVariants.{Nowhere, Once
 use Rattle.macho_object.specs.declared.commands.Tally.{Tally}
 use Rattle.macho_object.specs.declared.outline.Places.{Places}
 use Rattle.macho_object.specs.Scans.{filetype_of, main_number, needed_of, command_at, found_in, IsScanned}
-use Rattle.macho_object.specs.Outlines.{IsNotOnce, HasCommands, main_size}
+use Rattle.macho_object.specs.Outlines.{IsNotOnce, HasCommands, SectionStands, section_count, main_size}
 use Rattle.macho_object.proofs.Passes.{command_whole}
 
 -- a command found once is the only one
@@ -123,3 +124,12 @@ breaks_main true b t place s not = inl (not_one (numbered 13 b) place (rw s.main
 pub breaks_symtab : (dyn : Bool) (b : List ℕ) (t : Tally) (place : ℕ) → IsScanned dyn b t → IsNotOnce t.symtab place → Breaks dyn b O3 place
 breaks_symtab false b t place s not = inr (not_one (numbered 2 b) place (rw s.symtab_is at not))
 breaks_symtab true b t place s not = inr (not_one (numbered 2 b) place (rw s.symtab_is at not))
+
+-- each section's header stands in the segment's command
+pub sections_stand : (dyn : Bool) (b : List ℕ) (p : Places) (n k : ℕ) → HasCommands dyn b p → n ≡ section_count dyn b → k < n → SectionStands b p.main k
+unfolding num_sections segment_of section_place
+sections_stand false b p n k h is lt =
+    let place : place_of 25 b ≡ p.main = ap first_place h.main_only in
+    let count : n ≡ (reading segment_command b p.main).nsects = is ∙ ap (λ (at : ℕ). (reading segment_command b at).nsects) place in
+    record { among = omega (arith, is); place = omega (arith, place); room = omega (arith, place, count, h.main_room) }
+sections_stand true b p n k h is lt = absurd (omega (arith, is))

@@ -1,3 +1,4 @@
 pub mod Views
 pub mod Scans
 pub mod Outlines
+pub mod Checks

@@ -1,11 +1,11 @@
 -- What is known of a file whose commands were passed: where its tables stand.
-use Rattle.std.specs.Prelude.{◌≡◌, ℕ, ◌+◌, ◌*◌, ◌≤◌, ◌⊎◌, Bool, true, false, if◌then◌else◌, List, [], ◌∷◌, length}
+use Rattle.std.specs.Prelude.{◌≡◌, ℕ, ◌+◌, ◌*◌, ◌<◌, ◌≤◌, Bool, true, false, if◌then◌else◌, List, [], ◌∷◌, length}
 use Rattle.macho_bytes.specs.Layouts.{reading, size_of}
 use Rattle.macho_records.specs.Layouts.{dylib_command, segment_command, section_header, symtab_command, load_command}
 use Rattle.macho_records.specs.declared.constants.TheConstants.{LC_SYMTAB}
 use Rattle.macho_records.specs.declared.symbols.SymtabCommand.{SymtabCommand}
 use Rattle.macho_model.specs.Commands.{Command, commands_of, numbered, command_fits, place_of, segment_size}
-use Rattle.macho_model.specs.Objects.{num_sections, symtab_of}
+use Rattle.macho_model.specs.Objects.{num_sections, section_place, symtab_of}
 use Rattle.macho_model.specs.ObjectRules.{head_fits, commands_inside, has_one, tables_inside}
 use Rattle.macho_model.specs.Grammar.{EachCommand}
 use Rattle.macho_object.specs.declared.commands.Found.{Found}
@@ -40,9 +40,16 @@ pub record HasCommands (dyn : Bool) (b : List ℕ) (p : Places) : Type 0 where
 abbrev pub section_count : Bool → List ℕ → ℕ
 section_count dyn b = if dyn then 0 else num_sections b
 
+-- A section's header stands inside the file.
+pub record SectionStands (b : List ℕ) (main k : ℕ) : Type 0 where
+  pub among : k < num_sections b
+  pub place : section_place b k ≡ main + size_of segment_command + size_of section_header * k
+  pub room : section_place b k + size_of section_header ≤ length b
+
 -- The same, and the symbol table and the strings stand inside the file.
 pub record IsOutlined (o : Outline) : Type 0 where
   pub commands : HasCommands o.is_dynamic o.input.now o.places
   pub tables : tables_inside o.input.now ≡ true
   pub symtab_is : o.symtab ≡ symtab_of o.input.now
+  pub sections : (k : ℕ) → k < o.num_sections → SectionStands o.input.now o.places.main k
   pub sections_is : o.num_sections ≡ section_count o.is_dynamic o.input.now

@@ -5,6 +5,8 @@ mod commands;
 mod fault;
 mod header;
 mod outline;
+mod sections;
+mod symbols;
 
 pub use fault::ObjectFault;
 pub use macho_model::ObjectRule;
