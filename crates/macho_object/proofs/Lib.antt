@@ -1,5 +1,6 @@
 pub mod Options
 pub mod Breaks
 pub mod Ends
+pub mod Libraries
 pub mod Passes
 pub mod Places

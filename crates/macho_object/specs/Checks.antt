@@ -1,5 +1,8 @@
 -- The rules of one section, one symbol and one relocation, together: that a record keeps them all, or breaks this one.
-use Rattle.std.specs.Prelude.{◌≡◌, ℕ, Bool, true, false, List, drop, nat_lt}
+use Rattle.std.specs.Prelude.{◌≡◌, ℕ, Bool, true, false, List, drop, nat_lt, nat_le, ◌==◌, ◌&&◌, ◌||◌, if◌then◌else◌}
+use Rattle.macho_records.specs.declared.constants.TheConstants.{ARM64_RELOC_ADDEND}
+use Rattle.macho_records.specs.declared.relocations.RelocationInfo.{RelocationInfo}
+use Rattle.macho_model.specs.Objects.{num_sections, num_symbols}
 use Rattle.macho_model.specs.declared.rules.ObjectRule.{ObjectRule}
 use Rattle.macho_model.specs.declared.rules.ObjectRule.TheVariants.{O5, O6, O7, O8, O9, O10, O11, O12, O13, O14}
 use Rattle.macho_model.specs.ObjectRules.{symbol_section_exists, relocation_number_exists, data_inside, exponent_fits, value_in_section, has_nul, name_ends, relocations_inside, field_inside, thread_local_in_data, zerofill_unrelocated, global_has_name, common_fits}
@@ -20,6 +23,12 @@ SectionBreaks b k O10 = relocations_inside b k ≡ false
 SectionBreaks b k O11 = thread_local_in_data b k ≡ false
 SectionBreaks b k O12 = zerofill_unrelocated b k ≡ false
 SectionBreaks b k rule = ⊥
+
+-- what a relocation names exists; an addend that is not extern names nothing
+abbrev pub number_exists : List ℕ → RelocationInfo → Bool
+number_exists b r =
+    if r.r_extern then nat_lt r.r_symbolnum (num_symbols b)
+    else (r.r_type == ARM64_RELOC_ADDEND) || (nat_le 1 r.r_symbolnum && nat_le r.r_symbolnum (num_sections b))
 
 -- A relocation keeps the rules of relocations.
 pub record RelocationFits (b : List ℕ) (k r : ℕ) : Type 0 where

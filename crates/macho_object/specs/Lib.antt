@@ -2,3 +2,4 @@ pub mod Views
 pub mod Scans
 pub mod Outlines
 pub mod Checks
+pub mod Wholes

@@ -1,5 +1,5 @@
 -- What is known of a file whose commands were passed: where its tables stand.
-use Rattle.std.specs.Prelude.{◌≡◌, ℕ, ◌+◌, ◌*◌, ◌<◌, ◌≤◌, Bool, true, false, if◌then◌else◌, List, [], ◌∷◌, length}
+use Rattle.std.specs.Prelude.{◌≡◌, ℕ, ◌+◌, ◌*◌, ◌<◌, ◌≤◌, Bool, true, false, if◌then◌else◌, List, [], ◌∷◌, length, slice_range}
 use Rattle.macho_bytes.specs.Layouts.{reading, size_of}
 use Rattle.macho_records.specs.Layouts.{dylib_command, segment_command, section_header, symtab_command, load_command}
 use Rattle.macho_records.specs.declared.constants.TheConstants.{LC_SYMTAB}
@@ -53,3 +53,7 @@ pub record IsOutlined (o : Outline) : Type 0 where
   pub symtab_is : o.symtab ≡ symtab_of o.input.now
   pub sections : (k : ℕ) → k < o.num_sections → SectionStands o.input.now o.places.main k
   pub sections_is : o.num_sections ≡ section_count o.is_dynamic o.input.now
+
+-- the bytes of a library's command from its path's place on
+abbrev pub path_field_of : List ℕ → ℕ → List ℕ
+path_field_of b at = slice_range b (at + (reading dylib_command b at).name_offset) (at + (reading load_command b at).cmdsize)

@@ -3,10 +3,14 @@
 
 mod commands;
 mod fault;
+mod file;
 mod header;
+mod library;
 mod outline;
+mod relocations;
 mod sections;
 mod symbols;
 
+pub use file::File;
 pub use fault::ObjectFault;
 pub use macho_model::ObjectRule;

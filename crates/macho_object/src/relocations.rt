@@ -1,0 +1,106 @@
+//! Relocations of an object's sections, and the rules that each keeps.
+ghost use Rattle.std.specs.Prelude.{◌≡◌, ℕ, ◌+◌, ◌*◌, ◌^◌, nat_le, ◌<◌, ◌≤◌, true, false, OnOk, IfErr, MatchOption, length};
+ghost use Rattle.macho_model.specs.Objects.{section_at, relocation_at, relocation_place};
+ghost use Rattle.macho_model.specs.Grammar.{ObjectBreaks};
+ghost use Rattle.macho_object.specs.Outlines.{IsOutlined};
+ghost use Rattle.macho_object.specs.Checks.{SectionFits, RelocationFits, RelocationBreaks, number_exists};
+
+use crate::fault::ObjectFault;
+use crate::outline::Outline;
+use macho_model::ObjectRule;
+use macho_records::{ARM64_RELOC_ADDEND, RelocationInfo, SectionHeader};
+
+impl Outline<'_> {
+    /// Whether each relocation of an object keeps its rules.
+    pub(crate) fn check_relocations(&self) -> Result<(), ObjectFault>
+        requires outlined { IsOutlined self.now }
+        requires object { self.now.is_dynamic ≡ false }
+        requires sections { (k : ℕ) → k < self.now.num_sections → SectionFits self.now.input.now k }
+        ensures ok { OnOk result ((k r : ℕ) → k < self.now.num_sections → r < (section_at self.now.input.now k).nreloc → RelocationFits self.now.input.now k r) }
+        ensures why { IfErr result (λ f. ObjectBreaks self.now.input.now f.rule f.place) }
+    {
+        for index in 0..self.num_sections {
+            self.check_relocations_of(index)?;
+        }
+        Ok(())
+    }
+
+    /// Whether each relocation of a section keeps its rules.
+    fn check_relocations_of(&self, section: u32) -> Result<(), ObjectFault>
+        requires outlined { IsOutlined self.now }
+        requires object { self.now.is_dynamic ≡ false }
+        requires among { section < self.now.num_sections }
+        requires fits { SectionFits self.now.input.now section }
+        ensures ok { OnOk result ((r : ℕ) → r < (section_at self.now.input.now section).nreloc → RelocationFits self.now.input.now section r) }
+        ensures why { IfErr result (λ f. ObjectBreaks self.now.input.now f.rule f.place) }
+    {
+        let header = self.section(section);
+        for index in 0..header.nreloc {
+            self.check_relocation(section, header, index)?;
+        }
+        Ok(())
+    }
+
+    #[tactic(auto, using(crate::proofs::Breaks::relocation_breaks), unfolding(macho_model::specs::Objects::relocation_place, macho_model::specs::Objects::relocation_at))]
+    fn check_relocation(
+        &self,
+        section: u32,
+        header: SectionHeader,
+        index: u32,
+    ) -> Result<(), ObjectFault>
+        requires outlined { IsOutlined self.now }
+        requires object { self.now.is_dynamic ≡ false }
+        requires among { section < self.now.num_sections }
+        requires fits { SectionFits self.now.input.now section }
+        requires header { header ≡ section_at self.now.input.now section }
+        requires index { index < header.nreloc }
+        ensures ok { OnOk result (RelocationFits self.now.input.now section index) }
+        ensures why { IfErr result (λ f. ObjectBreaks self.now.input.now f.rule f.place) }
+    {
+        let place = relocation_place(header, index);
+        let Some(relocation) = RelocationInfo::read(self.input, place) else {
+            unreachable!()
+        };
+        let rule = if !self.names_target(relocation) {
+            ObjectRule::O5
+        } else if !is_inside(relocation, header) {
+            ObjectRule::O10
+        } else {
+            return Ok(());
+        };
+        Err(ObjectFault {
+            place: place as u64,
+            rule,
+        })
+    }
+
+    /// Whether a relocation's symbol or section exists; an addend that isn't extern names neither.
+    #[tactic(auto, unfolding(macho_model::specs::Objects::num_symbols))]
+    fn names_target(&self, relocation: RelocationInfo) -> bool
+        requires outlined { IsOutlined self.now }
+        requires object { self.now.is_dynamic ≡ false }
+        ensures { result ≡ number_exists self.now.input.now relocation }
+    {
+        let number = relocation.r_symbolnum;
+        if relocation.r_extern {
+            number < self.symtab.nsyms
+        } else {
+            relocation.r_type == ARM64_RELOC_ADDEND || number >= 1 && number <= self.num_sections
+        }
+    }
+}
+
+/// The place of a section's relocation.
+pub(crate) fn relocation_place(header: SectionHeader, index: u32) -> usize
+    ensures { result ≡ header.reloff + 8 * index }
+{
+    header.reloff as usize + RelocationInfo::SIZE * index as usize
+}
+
+/// Whether a relocation's bytes stand inside its section.
+fn is_inside(relocation: RelocationInfo, header: SectionHeader) -> bool
+    requires { relocation.r_length < 4 }
+    ensures { result ≡ nat_le (relocation.r_address + 2 ^ relocation.r_length) header.size }
+{
+    u64::from(relocation.r_address) + (1 << relocation.r_length) <= header.size
+}
