@@ -3,4 +3,5 @@ pub mod Breaks
 pub mod Ends
 pub mod Libraries
 pub mod Passes
+pub mod Wholes
 pub mod Places

@@ -20,7 +20,8 @@ use Rattle.macho_object.specs.declared.commands.Found.TheVariants.{Nowhere, Once
 use Rattle.macho_object.specs.declared.commands.Tally.{Tally}
 use Rattle.macho_object.specs.declared.outline.Places.{Places}
 use Rattle.macho_object.specs.Scans.{filetype_of, main_number, needed_of, command_at, found_in, IsScanned}
-use Rattle.macho_object.specs.Outlines.{IsNotOnce, HasCommands, SectionStands, section_count, main_size}
+use Rattle.macho_object.specs.Outlines.{IsNotOnce, HasCommands, SectionStands, main_size}
+use Rattle.macho_object.specs.Views.{section_count}
 use Rattle.macho_object.proofs.Passes.{command_whole}
 
 -- a command found once is the only one

@@ -12,6 +12,7 @@ use Rattle.macho_object.specs.declared.commands.Found.{Found}
 use Rattle.macho_object.specs.declared.commands.Found.TheVariants.{Nowhere, Once, Twice}
 use Rattle.macho_object.specs.declared.outline.Places.{Places}
 use Rattle.macho_object.specs.declared.outline.Outline.{Outline}
+use Rattle.macho_object.specs.Views.{section_count}
 use Rattle.macho_object.specs.Scans.{filetype_of, main_number, needed_of, command_at}
 
 -- a command that is to stand once stands nowhere, told at 0, or twice, told at the second's place
@@ -35,10 +36,6 @@ pub record HasCommands (dyn : Bool) (b : List ℕ) (p : Places) : Type 0 where
   pub main_room : p.main + main_size dyn b p.main ≤ length b
   pub main_long : size_of dylib_command ≤ main_size dyn b p.main
   pub symtab_room : p.symtab + size_of symtab_command ≤ length b
-
--- how many sections are read: those of an object, none of a library
-abbrev pub section_count : Bool → List ℕ → ℕ
-section_count dyn b = if dyn then 0 else num_sections b
 
 -- A section's header stands inside the file.
 pub record SectionStands (b : List ℕ) (main k : ℕ) : Type 0 where

@@ -3,7 +3,8 @@ ghost use Rattle.std.specs.Prelude.{◌≡◌, ◌+◌, ◌≤◌, true, false, 
 ghost use Rattle.macho_model.specs.Objects.{symtab_of};
 ghost use Rattle.macho_model.specs.ObjectRules.{tables_inside};
 ghost use Rattle.macho_model.specs.Grammar.{Breaks};
-ghost use Rattle.macho_object.specs.Outlines.{HasCommands, IsOutlined, IsNotOnce, section_count};
+ghost use Rattle.macho_object.specs.Views.{section_count};
+ghost use Rattle.macho_object.specs.Outlines.{HasCommands, IsOutlined, IsNotOnce};
 
 use crate::commands::{Found, scan};
 use crate::fault::ObjectFault;
