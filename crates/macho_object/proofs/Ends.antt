@@ -3,10 +3,9 @@
 -- A name that begins at or in front of a NUL ends: the part of it before its first NUL is shorter than all of it. A name
 -- behind the last NUL has none: it is all of what is left. So a name ends exactly where it begins in front of the place
 -- behind the last NUL.
-use Rattle.std.proofs.Common.{◌≡◌, ℕ, ◌+◌, ◌-◌, ◌*◌, ◌^◌, ◌%◌, ◌<◌, ◌≤◌, ◌==◌, ◌⊎◌, ltb, Bool, true, false, List, length, drop, get_or, slice_index, Option, Some, None, inl, inr, refl, sym, ap, ◌∙◌, arith, eq-eqb, length-take, length-drop, get_or-drop}
+use Rattle.std.proofs.Common.{◌≡◌, ℕ, ◌+◌, ◌-◌, ◌<◌, ◌≤◌, ◌==◌, ltb, true, false, List, length, drop, slice_index, Option, Some, None, inl, inr, sym, ap, ◌∙◌, arith, eq-eqb, length-take, length-drop, get_or-drop}
 use Rattle.std.specs.List.{position_or_len}
 use Rattle.std.specs.Option.{SomeIff, is_some}
-use Rattle.std.specs.Int.{next_multiple_of}
 use Rattle.std.proofs.lemmas.Bool.{cases_lt, false≢true}
 use Rattle.std.proofs.lemmas.Bool.Decides.{nat_tests}
 use Rattle.std.proofs.lemmas.List.Sums.{fails_before_first}
@@ -26,10 +25,10 @@ not_below m n h = grind (arith, nat_tests)
 nul_ends : (text : List ℕ) (k : ℕ) → k < length text → slice_index text k ≡ 0 → has_nul text ≡ true
 nul_ends text k lt is =
     let first : position_or_len (λ b. b == 0) text ≤ k =
-      elim (cases_lt k (position_or_len (λ b. b == 0) text)) [
-        | inl before ↦ absurd (false≢true (sym (fails_before_first (λ b. b == 0) text k 0 before) ∙ eq-eqb (slice_index text k) 0 is))
-        | inr at ↦ at
-      ] in
+    elim (cases_lt k (position_or_len (λ b. b == 0) text)) [
+      | inl before ↦ absurd (false≢true (sym (fails_before_first (λ b. b == 0) text k 0 before) ∙ eq-eqb (slice_index text k) 0 is))
+      | inr at ↦ at
+    ] in
     below (length (name_of text)) (length text) (omega (arith, length-take (position_or_len (λ b. b == 0) text) text))
 
 -- a text without a NUL has no end

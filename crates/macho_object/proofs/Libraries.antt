@@ -1,13 +1,13 @@
 -- A library's install name stands in the one command of that number.
-use Rattle.std.proofs.Common.{◌≡◌, ℕ, List, [], ◌∷◌, refl, ap, true, false, ◌<◌, inl, inr, length, get_or, ◌==◌, arith}
+use Rattle.std.proofs.Common.{◌≡◌, ℕ, List, [], ◌∷◌, refl, ap, true, false, ◌<◌, inr, length, get_or, ◌==◌, arith}
 use Rattle.std.proofs.lemmas.List.Elements.{All-cons, All-nil, All-same}
 use Rattle.macho_bytes.specs.Layouts.{reading}
 use Rattle.macho_bytes.specs.Texts.{name_of}
 use Rattle.macho_records.specs.Layouts.{load_command, dylib_command}
-use Rattle.macho_model.specs.Commands.{Command, numbered}
+use Rattle.macho_model.specs.Commands.{numbered}
 use Rattle.macho_model.specs.Objects.{install_name_of, first_path, num_symbols}
-use Rattle.macho_model.specs.ObjectRules.{path_ends, needed_in_dylib}
-use Rattle.macho_model.specs.Grammar.{IsDylib, DylibBreaks, EachCommand, CommandFails}
+use Rattle.macho_model.specs.ObjectRules.{path_ends}
+use Rattle.macho_model.specs.Grammar.{IsDylib, DylibBreaks}
 use Rattle.macho_model.specs.declared.rules.ObjectRule.TheVariants.{O9}
 use Rattle.macho_object.specs.declared.outline.Outline.{Outline}
 use Rattle.macho_object.specs.Scans.{command_at}
@@ -45,7 +45,7 @@ is_library o known kind path names =
       o9 = (
         λ k lt. (names k lt).ends,
         All-same (λ c. path_ends b c ≡ true) (numbered 13 b) (command_at b o.places.main ∷ []) only
-        (All-cons (λ c. path_ends b c ≡ true) (command_at b o.places.main) [] path (All-nil (λ c. path_ends b c ≡ true))),
+            (All-cons (λ c. path_ends b c ≡ true) (command_at b o.places.main) [] path (All-nil (λ c. path_ends b c ≡ true))),
       );
       o13 = λ k lt. (names k lt).global;
     }

@@ -1,5 +1,5 @@
 -- An answer that is there exactly where a test passes.
-use Rattle.std.proofs.Common.{◌≡◌, Bool, true, false, if◌then◌else◌, Option, Some, None, refl}
+use Rattle.std.proofs.Common.{◌≡◌, Bool, true, false, if◌then◌else◌, Some, None, refl}
 
 -- where it is there, the test passed, and the answer is what it was to be
 pub some_if : {X : Type 0} → (t : Bool) (x y : X) → Some x ≡ (if t then Some y else None) → (t ≡ true) × (x ≡ y)

@@ -4,7 +4,7 @@
 -- passed one fits. What was found among the passed ones is noted. One more command moves from the front of the rest
 -- to the end of the passed ones. At the end nothing is left, so the passed ones are all.
 use Rattle.std.proofs.Common.{◌≡◌, ℕ, suc, ◌+◌, ◌-◌, ◌<◌, ◌≤◌, ◌==◌, Bool, true, false, nat_le, ◌&&◌, List, [], ◌∷◌, ◌++◌, length, get_or, if◌then◌else◌, refl, sym, ap, subst, ◌∙◌, inl, inr, arith, append_assoc, length-append}
-use Rattle.std.specs.List.{filter, All}
+use Rattle.std.specs.List.{filter}
 use Rattle.std.proofs.lemmas.List.{append-nil}
 use Rattle.std.proofs.Math.Seq.{get_or-append_seam}
 use Rattle.std.proofs.lemmas.Bool.{and_parts, leb-true}
@@ -17,8 +17,7 @@ use Rattle.macho_model.specs.Commands.{Command, commands_of, commands_from, comm
 use Rattle.macho_model.specs.ObjectRules.{commands_inside, needed_in_object, needed_in_dylib}
 use Rattle.macho_model.specs.Grammar.{EachCommand, CommandFails, Breaks}
 use Rattle.macho_model.specs.declared.rules.ObjectRule.TheVariants.{O2}
-use Rattle.macho_object.specs.declared.commands.Found.{Found}
-use Rattle.macho_object.specs.declared.commands.Found.TheVariants.{Nowhere, Once, Twice}
+use Rattle.macho_object.specs.declared.commands.Found.TheVariants.{Nowhere}
 use Rattle.macho_object.specs.declared.commands.Tally.{Tally}
 use Rattle.macho_object.specs.Scans.{main_number, needed_of, command_at, found_in, found_again, found_if, IsScanned}
 

@@ -3,8 +3,8 @@
 -- Each command of the list is the one that begins at its own place, since the list was read so. Where one command of a
 -- number was found, the list of that number is this one command. As each command fits, it ends inside the file and is
 -- as long as what is read of it.
-use Rattle.std.proofs.Common.{◌≡◌, ℕ, zero, suc, ◌+◌, ◌<◌, ◌≤◌, ◌==◌, ◌⊎◌, Bool, true, false, nat_le, List, [], ◌∷◌, length, get_or, refl, sym, ap, subst, ◌∙◌, inl, inr, arith}
-use Rattle.std.specs.List.{filter, All}
+use Rattle.std.proofs.Common.{◌≡◌, ℕ, zero, suc, ◌+◌, ◌<◌, ◌≤◌, ◌==◌, ◌⊎◌, Bool, true, false, List, [], ◌∷◌, length, get_or, refl, sym, ap, ◌∙◌, inl, inr, arith}
+use Rattle.std.specs.List.{All}
 use Rattle.std.proofs.lemmas.Bool.{leb-true, eqb-true}
 use Rattle.std.proofs.lemmas.List.Elements.{All-nil, All-cons, All-head, All-same, All-filter, filter_passes}
 use Rattle.macho_bytes.specs.Layouts.{reading, size_of}
@@ -12,11 +12,10 @@ use Rattle.macho_records.specs.Layouts.{mach_header, load_command, segment_comma
 use Rattle.macho_records.specs.declared.constants.TheConstants.{LC_SYMTAB}
 use Rattle.macho_model.specs.Commands.{Command, commands_of, commands_from, commands_end, numbered, header_of, command_fits, place_of, first_place}
 use Rattle.macho_model.specs.Objects.{num_sections, segment_of, section_place}
-use Rattle.macho_model.specs.ObjectRules.{head_fits, commands_inside, needed_in_object, needed_in_dylib}
-use Rattle.macho_model.specs.Grammar.{EachCommand, IsNotOne, Breaks}
+use Rattle.macho_model.specs.ObjectRules.{head_fits}
+use Rattle.macho_model.specs.Grammar.{Breaks}
 use Rattle.macho_model.specs.declared.rules.ObjectRule.TheVariants.{O3}
-use Rattle.macho_object.specs.declared.commands.Found.{Found}
-use Rattle.macho_object.specs.declared.commands.Found.TheVariants.{Nowhere, Once, Twice}
+use Rattle.macho_object.specs.declared.commands.Found.TheVariants.{Once}
 use Rattle.macho_object.specs.declared.commands.Tally.{Tally}
 use Rattle.macho_object.specs.declared.outline.Places.{Places}
 use Rattle.macho_object.specs.Scans.{filetype_of, main_number, needed_of, command_at, found_in, IsScanned}
@@ -61,16 +60,16 @@ the_only dyn b t n at s is =
     let one = only_one (numbered n b) at is in
     let c = one.0 in
     let own_all : All (λ c. c ≡ command_at b c.at) (c ∷ []) =
-      All-same (λ c. c ≡ command_at b c.at) (c ∷ []) (numbered n b) (sym one.1) (All-filter (λ c. c.number == n) (λ c. c ≡ command_at b c.at) (commands_of b) (own_places b)) in
+    All-same (λ c. c ≡ command_at b c.at) (c ∷ []) (numbered n b) (sym one.1) (All-filter (λ c. c.number == n) (λ c. c ≡ command_at b c.at) (commands_of b) (own_places b)) in
     let own : c ≡ command_at b at = All-head (λ c. c ≡ command_at b c.at) c [] own_all ∙ ap (command_at b) one.2 in
     let only : numbered n b ≡ command_at b at ∷ [] = one.1 ∙ ap (λ c. c ∷ []) own in
     let passes : ((command_at b at).number == n) ≡ true =
-      All-head (λ c. (c.number == n) ≡ true) (command_at b at) []
-      (All-same (λ c. (c.number == n) ≡ true) (command_at b at ∷ []) (numbered n b) (sym only) (filter_passes (λ c. c.number == n) (commands_of b))) in
+    All-head (λ c. (c.number == n) ≡ true) (command_at b at) []
+    (All-same (λ c. (c.number == n) ≡ true) (command_at b at ∷ []) (numbered n b) (sym only) (filter_passes (λ c. c.number == n) (commands_of b))) in
     let fits : command_fits (needed_of dyn b) b (command_at b at) ≡ true =
-      All-head (λ c. command_fits (needed_of dyn b) b c ≡ true) (command_at b at) []
-      (All-same (λ c. command_fits (needed_of dyn b) b c ≡ true) (command_at b at ∷ []) (numbered n b) (sym only)
-      (All-filter (λ c. c.number == n) (λ c. command_fits (needed_of dyn b) b c ≡ true) (commands_of b) s.each)) in
+    All-head (λ c. command_fits (needed_of dyn b) b c ≡ true) (command_at b at) []
+    (All-same (λ c. command_fits (needed_of dyn b) b c ≡ true) (command_at b at ∷ []) (numbered n b) (sym only)
+    (All-filter (λ c. c.number == n) (λ c. command_fits (needed_of dyn b) b c ≡ true) (commands_of b) s.each)) in
     let whole = command_whole (needed_of dyn b) b (command_at b at) fits in
     record { only = only; number_is = eqb-true _ n passes; ends = whole.1; long = whole.2 }
 

@@ -1,5 +1,5 @@
 -- What the rules of an object or a library say of its names, sections, addresses and path.
-use Rattle.std.proofs.Common.{◌≡◌, ℕ, ◌+◌, ◌<◌, Bool, true, false, List, [], ◌∷◌, sym, refl, ap, ◌∙◌, arith}
+use Rattle.std.proofs.Common.{◌≡◌, Bool, true, false, [], ◌∷◌, sym, refl, ◌∙◌, arith}
 use Rattle.std.proofs.lemmas.Bool.{false≢true}
 use Rattle.std.proofs.lemmas.List.Elements.{All-head, All-same}
 use Rattle.macho_model.specs.Commands.{numbered}
@@ -8,7 +8,6 @@ use Rattle.macho_model.specs.Grammar.{IsFile}
 use Rattle.macho_object.specs.declared.outline.Outline.{Outline}
 use Rattle.macho_object.specs.Scans.{command_at}
 use Rattle.macho_object.specs.Outlines.{IsOutlined}
-use Rattle.macho_object.specs.Checks.{SectionFits, AddressFits}
 use Rattle.macho_object.specs.Wholes.{IsWhole}
 
 of_kind : (o : Outline) (dyn : Bool) → o.is_dynamic ≡ dyn → IsOutlined o → IsFile o.is_dynamic o.input.now → IsFile dyn o.input.now → IsWhole o
@@ -18,13 +17,13 @@ of_kind o false kind known file object =
       kept = file;
       names = object.o9;
       sections = λ k lt. let among = (known.sections k lt).among in
-        record {
-          data_fits = object.o6 k among;
-          exponent = object.o7 k among;
-          relocations = object.o10.0 k among;
-          thread_local = object.o11 k among;
-          zerofill = object.o12 k among;
-        };
+          record {
+            data_fits = object.o6 k among;
+            exponent = object.o7 k among;
+            relocations = object.o10.0 k among;
+            thread_local = object.o11 k among;
+            zerofill = object.o12 k among;
+          };
       addresses = λ _ k lt. record { section = object.o5.0 k lt; value = object.o8 k lt };
       path = λ other. absurd (false≢true (sym kind ∙ other));
     }
@@ -38,7 +37,7 @@ of_kind o true kind known file library =
       sections = λ k lt. let none = rw kind at known.sections_is in absurd (omega (arith, none, lt));
       addresses = λ other. absurd (false≢true (sym other ∙ kind));
       path = λ _. All-head (λ c. path_ends b c ≡ true) (command_at b o.places.main) []
-        (All-same (λ c. path_ends b c ≡ true) (command_at b o.places.main ∷ []) (numbered 13 b) (sym only) library.o9.1);
+          (All-same (λ c. path_ends b c ≡ true) (command_at b o.places.main ∷ []) (numbered 13 b) (sym only) library.o9.1);
     }
 
 -- an outlined file that keeps every rule

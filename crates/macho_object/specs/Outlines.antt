@@ -1,12 +1,11 @@
 -- What is known of a file whose commands were passed: where its tables stand.
-use Rattle.std.specs.Prelude.{◌≡◌, ℕ, ◌+◌, ◌*◌, ◌<◌, ◌≤◌, Bool, true, false, if◌then◌else◌, List, [], ◌∷◌, length, slice_range}
+use Rattle.std.specs.Prelude.{◌≡◌, ℕ, ◌+◌, ◌*◌, ◌<◌, ◌≤◌, Bool, true, false, List, [], ◌∷◌, length, slice_range}
 use Rattle.macho_bytes.specs.Layouts.{reading, size_of}
 use Rattle.macho_records.specs.Layouts.{dylib_command, segment_command, section_header, symtab_command, load_command}
 use Rattle.macho_records.specs.declared.constants.TheConstants.{LC_SYMTAB}
-use Rattle.macho_records.specs.declared.symbols.SymtabCommand.{SymtabCommand}
-use Rattle.macho_model.specs.Commands.{Command, commands_of, numbered, command_fits, place_of, segment_size}
+use Rattle.macho_model.specs.Commands.{commands_of, numbered, command_fits, segment_size}
 use Rattle.macho_model.specs.Objects.{num_sections, section_place, symtab_of}
-use Rattle.macho_model.specs.ObjectRules.{head_fits, commands_inside, has_one, tables_inside}
+use Rattle.macho_model.specs.ObjectRules.{head_fits, commands_inside, tables_inside}
 use Rattle.macho_model.specs.Grammar.{EachCommand}
 use Rattle.macho_object.specs.declared.commands.Found.{Found}
 use Rattle.macho_object.specs.declared.commands.Found.TheVariants.{Nowhere, Once, Twice}

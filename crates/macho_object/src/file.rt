@@ -6,6 +6,7 @@ ghost use Rattle.macho_object.specs.Views.{FileBytes, RelocationBytes, section_c
 
 use crate::fault::ObjectFault;
 use crate::outline::{Outline, read_outline};
+use crate::relocations::RelocationList;
 use crate::symbols::{is_in_section, is_stab};
 use macho_records::{SectionHeader, SymtabEntry, name_bytes};
 use std::marker::Model;
@@ -91,5 +92,87 @@ impl<'data> File<'data> {
             return None;
         }
         Some(self.outline.section(index))
+    }
+
+    /// A symbol's name: empty for a symbol without one, None where the index is too large and for a debugging entry.
+    pub fn symbol_name(&self, index: u32) -> Option<&'data [u8]>
+        ensures { option_copied result ≡ symbol_name_of self.now index }
+    {
+        let symbol = self.symbol(index)?;
+        if is_stab(symbol) {
+            return None;
+        }
+        Some(self.outline.name(index))
+    }
+
+    /// The first section of a name, None where there is none.
+    pub fn section_by_name(&self, name: &[u8]) -> Option<u32>
+        ensures { IsFirstNamed self.now name.now result }
+    {
+        for index in 0..self.outline.num_sections {
+            if name_bytes(&self.outline.section(index).sectname) == name {
+                return Some(index);
+            }
+        }
+        None
+    }
+
+    /// A section's bytes in the input, none for zerofill; None where the index is too large.
+    pub fn section_bytes(&self, index: u32) -> Option<&'data [u8]>
+        ensures { option_copied result ≡ of_section self.now index (section_bytes self.now.bytes index) }
+    {
+        if index >= self.outline.num_sections {
+            return None;
+        }
+        Some(self.outline.section_bytes(index))
+    }
+
+    /// A section's relocations, None where the index is too large.
+    pub fn relocations(&self, index: u32) -> Option<RelocationList<'data>>
+        ensures { result ≡ of_section self.now index (record { bytes = self.now.bytes; section = index }) }
+    {
+        if index >= self.outline.num_sections {
+            return None;
+        }
+        Some(self.outline.relocation_list(index))
+    }
+
+    /// The section that an object's symbol is defined in, None for any other symbol and for all of a library's.
+    pub fn symbol_section(&self, index: u32) -> Option<u32>
+        ensures { result ≡ of_symbol_section self.now index (section_index_of self.now index) }
+    {
+        let symbol = self.symbol(index)?;
+        if self.outline.is_dynamic || !is_in_section(symbol) {
+            return None;
+        }
+        Some(u32::from(symbol.n_sect) - 1)
+    }
+
+    /// How far a symbol stands behind the start of its section, None where `symbol_section` is None.
+    pub fn symbol_offset_in_section(&self, index: u32) -> Option<u64>
+        ensures { result ≡ of_symbol_section self.now index (symbol_offset_of self.now index) }
+    {
+        self.symbol_section(index)?;
+        Some(self.outline.symbol_offset(index))
+    }
+
+    /// A section's alignment in bytes, None where the index is too large.
+    pub fn section_alignment(&self, index: u32) -> Option<u64>
+        ensures { result ≡ of_section self.now index (2 ^ (section_at self.now.bytes index).align) }
+    {
+        if index >= self.outline.num_sections {
+            return None;
+        }
+        Some(self.outline.section_alignment(index))
+    }
+
+    /// The install name of a dynamic library, None for an object.
+    pub fn install_name(&self) -> Option<&'data [u8]>
+        ensures { option_copied result ≡ install_name_in self.now }
+    {
+        if !self.outline.is_dynamic {
+            return None;
+        }
+        self.outline.path()
     }
 }

@@ -11,6 +11,7 @@ mod relocations;
 mod sections;
 mod symbols;
 
-pub use file::File;
 pub use fault::ObjectFault;
+pub use file::File;
 pub use macho_model::ObjectRule;
+pub use relocations::RelocationList;

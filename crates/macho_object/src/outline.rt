@@ -81,11 +81,7 @@ fn once(found: Found) -> Result<usize, ObjectFault>
 
 /// The symbol table's command, if the symbols and the strings stand inside the file.
 #[tactic(auto, unfolding(macho_model::specs::Objects::symtab_of, macho_model::specs::Objects::num_symbols))]
-fn read_symtab(
-    input: &[u8],
-    is_dynamic: bool,
-    places: Places,
-) -> Result<SymtabCommand, ObjectFault>
+fn read_symtab(input: &[u8], is_dynamic: bool, places: Places) -> Result<SymtabCommand, ObjectFault>
     requires { HasCommands is_dynamic input.now places }
     ensures found { IfOk result (λ s. s ≡ symtab_of input.now) }
     ensures tables { IfOk result (λ s. tables_inside input.now ≡ true) }

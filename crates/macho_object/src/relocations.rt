@@ -2,6 +2,7 @@
 ghost use Rattle.std.specs.Prelude.{◌≡◌, ℕ, ◌+◌, ◌*◌, ◌^◌, nat_le, ◌<◌, ◌≤◌, true, false, OnOk, IfErr, MatchOption, length};
 ghost use Rattle.macho_model.specs.Objects.{section_at, relocation_at, relocation_place};
 ghost use Rattle.macho_model.specs.Grammar.{ObjectBreaks};
+ghost use Rattle.macho_object.specs.Views.{RelocationBytes, relocation_of};
 ghost use Rattle.macho_object.specs.Outlines.{IsOutlined};
 ghost use Rattle.macho_object.specs.Checks.{SectionFits, RelocationFits, RelocationBreaks, number_exists};
 
@@ -9,6 +10,7 @@ use crate::fault::ObjectFault;
 use crate::outline::Outline;
 use macho_model::ObjectRule;
 use macho_records::{ARM64_RELOC_ADDEND, RelocationInfo, SectionHeader};
+use std::marker::Model;
 
 impl Outline<'_> {
     /// Whether each relocation of an object keeps its rules.
@@ -86,6 +88,64 @@ impl Outline<'_> {
             number < self.symtab.nsyms
         } else {
             relocation.r_type == ARM64_RELOC_ADDEND || number >= 1 && number <= self.num_sections
+        }
+    }
+}
+
+/// The relocations of a section. It holds no list: each is decoded in place.
+#[derive(Drop)]
+pub struct RelocationList<'data> {
+    input: &'data [u8],
+    section: u32,
+    header: SectionHeader,
+}
+
+impl<'data> Model for RelocationList<'data> {
+    ghost use Rattle.macho_object.specs.Views.{RelocationBytes};
+
+    ghost Value = { RelocationBytes };
+
+    ghost view = { λ l. record { bytes = l.input.now; section = l.section } };
+
+    ghost use Rattle.std.specs.Prelude.{◌≡◌, true};
+    ghost use Rattle.macho_model.specs.Objects.{section_at};
+    ghost use Rattle.macho_model.specs.ObjectRules.{relocations_inside};
+
+    ghost invariant = { λ l. (l.header ≡ section_at l.input.now l.section) × (relocations_inside l.input.now l.section ≡ true) };
+}
+
+impl RelocationList<'_> {
+    /// How many relocations there are.
+    pub fn num_relocations(&self) -> u32
+        ensures { result ≡ (section_at self.now.bytes self.now.section).nreloc }
+    {
+        self.header.nreloc
+    }
+
+    /// A relocation, None where the index is too large.
+    #[tactic(auto, unfolding(macho_model::specs::Objects::relocation_place, macho_model::specs::Objects::relocation_at))]
+    pub fn get(&self, index: u32) -> Option<RelocationInfo>
+        ensures { result ≡ relocation_of self.now index }
+    {
+        if index >= self.header.nreloc {
+            return None;
+        }
+        RelocationInfo::read(self.input, relocation_place(self.header, index))
+    }
+}
+
+impl<'data> Outline<'data> {
+    /// A section's relocations.
+    pub(crate) fn relocation_list(&self, section: u32) -> RelocationList<'data>
+        requires outlined { IsOutlined self.now }
+        requires among { section < self.now.num_sections }
+        requires fits { SectionFits self.now.input.now section }
+        ensures { result ≡ record { bytes = self.now.input.now; section = section } }
+    {
+        RelocationList {
+            input: self.input,
+            section,
+            header: self.section(section),
         }
     }
 }

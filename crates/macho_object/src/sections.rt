@@ -1,6 +1,6 @@
 //! An object's sections: their headers, and the rules that each keeps.
 ghost use Rattle.std.specs.Prelude.{◌≡◌, ℕ, ◌+◌, ◌<◌, ◌≤◌, ◌*◌, ◌^◌, ◌&&◌, ◌||◌, nat_le, true, false, OnOk, IfErr, MatchOption, codes, length};
-ghost use Rattle.macho_model.specs.Objects.{section_at, section_place};
+ghost use Rattle.macho_model.specs.Objects.{section_at, section_bytes, section_place};
 ghost use Rattle.macho_model.specs.ObjectRules.{is_thread_local};
 ghost use Rattle.macho_model.specs.Grammar.{ObjectBreaks};
 ghost use Rattle.macho_model.specs.Symbols.{is_in_segment};
@@ -19,7 +19,7 @@ use macho_records::{
 /// The greatest alignment that is taken, as an exponent of 2: a page of 16 KiB.
 pub(crate) const GREATEST_EXPONENT: u32 = 14;
 
-impl Outline<'_> {
+impl<'data> Outline<'data> {
     /// The place of a section's header.
     pub(crate) fn section_place(&self, index: u32) -> usize
         requires outlined { IsOutlined self.now }
@@ -40,6 +40,33 @@ impl Outline<'_> {
             Some(header) => header,
             None => unreachable!(),
         }
+    }
+
+    /// A section's bytes in the input, none for zerofill.
+    #[tactic(auto, unfolding(macho_model::specs::Objects::section_bytes))]
+    pub(crate) fn section_bytes(&self, index: u32) -> &'data [u8]
+        requires outlined { IsOutlined self.now }
+        requires among { index < self.now.num_sections }
+        requires fits { SectionFits self.now.input.now index }
+        ensures { result.now ≡ section_bytes self.now.input.now index }
+    {
+        let header = self.section(index);
+        if header.is_no_bits() {
+            return &[];
+        }
+        let start = header.offset as usize;
+        &self.input[start..start + header.size as usize]
+    }
+
+    /// A section's alignment in bytes.
+    #[tactic(auto, using(crate::proofs::Powers::shifted))]
+    pub(crate) fn section_alignment(&self, index: u32) -> u64
+        requires outlined { IsOutlined self.now }
+        requires among { index < self.now.num_sections }
+        requires fits { SectionFits self.now.input.now index }
+        ensures { result ≡ 2 ^ (section_at self.now.input.now index).align }
+    {
+        1 << self.section(index).align
     }
 
     /// Whether each section of an object keeps its rules.

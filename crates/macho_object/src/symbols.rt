@@ -1,6 +1,6 @@
 //! Symbols: their entries and names, and the rules that each keeps.
-ghost use Rattle.std.specs.Prelude.{◌≡◌, ℕ, ◌+◌, ◌<◌, ◌≤◌, ◌^◌, ◌&&◌, ◌||◌, nat_le, nat_lt, true, false, not, OnOk, IfErr, MatchOption, drop, length, if◌then◌else◌};
-ghost use Rattle.macho_model.specs.Objects.{num_symbols, symbol_at, symbol_place, strings_of, symbol_name};
+ghost use Rattle.std.specs.Prelude.{◌≡◌, ℕ, ◌+◌, ◌-◌, ◌<◌, ◌≤◌, ◌^◌, ◌&&◌, ◌||◌, nat_le, nat_lt, true, false, not, OnOk, IfErr, MatchOption, drop, length, if◌then◌else◌};
+ghost use Rattle.macho_model.specs.Objects.{num_symbols, section_at, symbol_at, symbol_place, strings_of, symbol_name};
 ghost use Rattle.macho_model.specs.ObjectRules.{has_nul, name_ends, common_fits};
 ghost use Rattle.macho_model.specs.Grammar.{ObjectBreaks, DylibBreaks};
 ghost use Rattle.macho_model.specs.Symbols.{is_in_section};
@@ -47,6 +47,40 @@ impl<'data> Outline<'data> {
     {
         let start = self.symtab.stroff as usize;
         &self.input[start..start + self.symtab.strsize as usize]
+    }
+}
+
+impl<'data> Outline<'data> {
+    /// A symbol's name, up to its NUL; empty where it has none.
+    #[tactic(auto, unfolding(macho_model::specs::Objects::symbol_name))]
+    pub(crate) fn name(&self, index: u32) -> &'data [u8]
+        requires outlined { IsOutlined self.now }
+        requires among { index < num_symbols self.now.input.now }
+        requires named { is_stab_of (symbol_at self.now.input.now index) ≡ false }
+        requires ends { name_ends self.now.input.now index ≡ true }
+        ensures { result.now ≡ symbol_name self.now.input.now index }
+    {
+        let symbol = self.symbol(index);
+        if !symbol.has_name() {
+            return &[];
+        }
+        name_bytes(&self.strings()[symbol.n_strx as usize..])
+    }
+}
+
+impl Outline<'_> {
+    /// How far a symbol of a section stands behind its start.
+    pub(crate) fn symbol_offset(&self, index: u32) -> u64
+        requires outlined { IsOutlined self.now }
+        requires object { self.now.is_dynamic ≡ false }
+        requires among { index < num_symbols self.now.input.now }
+        requires defined { is_in_section (symbol_at self.now.input.now index) ≡ true }
+        requires fits { AddressFits self.now.input.now index }
+        ensures { result ≡ (symbol_at self.now.input.now index).n_value - (section_at self.now.input.now ((symbol_at self.now.input.now index).n_sect - 1)).addr }
+    {
+        let symbol = self.symbol(index);
+        let header = self.section(u32::from(symbol.n_sect) - 1);
+        symbol.n_value - header.addr
     }
 }
 

@@ -1,6 +1,5 @@
-use Rattle.std.proofs.Common.{arith}
 use Rattle.std.proofs.lemmas.Result.{err_from_is_err_and}
-use Rattle.macho_object.proofs.Places.{has_commands, breaks_main, breaks_symtab}
+use Rattle.macho_object.proofs.Places.{has_commands, breaks_symtab}
 use Rattle.macho_object.proofs.outline.find_commands.Goals as goal
 
 pub returns-in_err-symtab-clause-why : goal.returns-in_err-symtab-clause-why

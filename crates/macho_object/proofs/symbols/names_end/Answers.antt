@@ -1,4 +1,4 @@
-use Rattle.std.proofs.Common.{arith, eq-eqb}
+use Rattle.std.proofs.Common.{eq-eqb}
 use Rattle.std.proofs.lemmas.Bool.{eqb-true}
 use Rattle.macho_object.proofs.Ends.{names_end_at, names_end_never}
 use Rattle.macho_object.proofs.symbols.names_end.Goals as goal
