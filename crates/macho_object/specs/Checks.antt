@@ -1,5 +1,5 @@
 -- The rules of one section, one symbol and one relocation, together: that a record keeps them all, or breaks this one.
-use Rattle.std.specs.Prelude.{◌≡◌, ℕ, Bool, true, false, List, drop, nat_lt, nat_le, ◌==◌, ◌&&◌, ◌||◌, if◌then◌else◌}
+use Rattle.std.specs.Prelude.{◌≡◌, ℕ, Bool, true, false, List, drop, not, nat_lt, nat_le, ◌==◌, ◌&&◌, ◌||◌, if◌then◌else◌}
 use Rattle.macho_records.specs.declared.constants.TheConstants.{ARM64_RELOC_ADDEND}
 use Rattle.macho_records.specs.declared.relocations.RelocationInfo.{RelocationInfo}
 use Rattle.macho_model.specs.Objects.{num_sections, num_symbols}
@@ -60,7 +60,7 @@ pub record AddressFits (b : List ℕ) (k : ℕ) : Type 0 where
 -- a symbol breaks a rule on its section or its address
 abbrev pub AddressBreaks : List ℕ → ℕ → ObjectRule → Type 0
 AddressBreaks b k O5 = symbol_section_exists b k ≡ false
-AddressBreaks b k O8 = value_in_section b k ≡ false
+AddressBreaks b k O8 = (not (symbol_section_exists b k) || value_in_section b k) ≡ false
 AddressBreaks b k rule = ⊥
 
 -- An object's symbol keeps the rules of symbols.
@@ -72,7 +72,7 @@ pub record SymbolFits (b : List ℕ) (k : ℕ) : Type 0 where
 -- an object's symbol breaks a rule
 abbrev pub SymbolBreaks : List ℕ → ℕ → ObjectRule → Type 0
 SymbolBreaks b k O5 = symbol_section_exists b k ≡ false
-SymbolBreaks b k O8 = value_in_section b k ≡ false
+SymbolBreaks b k O8 = (not (symbol_section_exists b k) || value_in_section b k) ≡ false
 SymbolBreaks b k O9 = name_ends b k ≡ false
 SymbolBreaks b k O13 = global_has_name b k ≡ false
 SymbolBreaks b k O14 = common_fits b k ≡ false
