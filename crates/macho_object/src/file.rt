@@ -51,6 +51,19 @@ impl<'data> File<'data> {
         Ok(File { outline })
     }
 
+    /// Views bytes that are known to keep every rule, as those that a view was made of before. It looks at the commands
+    /// alone.
+    #[tactic(auto, using(crate::proofs::Wholes::is_whole, crate::proofs::Refusals::no_file))]
+    pub fn of_valid(input: &'data [u8], is_dynamic: bool) -> File<'data>
+        requires { IsFile is_dynamic input.now }
+        ensures { result ≡ record { bytes = input.now; is_dynamic = is_dynamic } }
+    {
+        match read_outline(input, is_dynamic) {
+            Ok(outline) => File { outline },
+            Err(_) => unreachable!(),
+        }
+    }
+
     /// Whether the bytes are viewed as a dynamic library.
     pub fn is_dynamic(&self) -> bool
         ensures kind { result ≡ self.now.is_dynamic }

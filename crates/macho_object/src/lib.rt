@@ -28,3 +28,6 @@ pub use fault::ObjectFault;
 pub use file::File;
 pub use macho_model::ObjectRule;
 pub use relocations::RelocationList;
+
+#[cfg(test)]
+mod tests;
