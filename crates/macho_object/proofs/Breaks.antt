@@ -1,37 +1,14 @@
 -- A record that breaks a rule of its own is one that the file breaks, at the record's place.
---
--- A file breaks a rule at a section, a symbol or a relocation only where the command that tells of them stands once. An
--- outlined file has both of its commands once, and sections only as an object.
-use Rattle.std.proofs.Common.{◌≡◌, ℕ, ◌<◌, Bool, true, false, List, inl, inr, refl, sym, ap, subst, ◌∙◌, arith}
-use Rattle.macho_records.specs.declared.constants.TheConstants.{LC_SEGMENT_64, LC_SYMTAB}
+use Rattle.std.proofs.Common.{◌≡◌, true, ℕ, ◌<◌, List, inl, inr}
 use Rattle.macho_model.specs.declared.rules.ObjectRule.{ObjectRule}
 use Rattle.macho_model.specs.declared.rules.ObjectRule.TheVariants.{O5, O6, O7, O8, O9, O10, O11, O12, O13, O14}
-use Rattle.macho_model.specs.Commands.{numbered}
 use Rattle.macho_model.specs.Objects.{num_sections, section_at, section_place, num_symbols, symbol_place, relocation_place}
+use Rattle.macho_records.specs.declared.constants.TheConstants.{LC_SEGMENT_64, LC_SYMTAB}
 use Rattle.macho_model.specs.ObjectRules.{has_one}
 use Rattle.macho_model.specs.Grammar.{ObjectBreaks, DylibBreaks}
-use Rattle.macho_object.specs.declared.outline.Outline.{Outline}
-use Rattle.macho_object.specs.Views.{section_count}
-use Rattle.macho_object.specs.Scans.{main_number}
-use Rattle.macho_object.specs.Outlines.{IsOutlined}
 use Rattle.macho_object.specs.Checks.{SectionBreaks, SymbolBreaks, NameBreaks, RelocationBreaks}
 
--- an outlined file has one symbol table
-pub has_symtab : (o : Outline) → IsOutlined o → has_one LC_SYMTAB o.input.now ≡ true
-has_symtab o h = rw h.commands.symtab_only refl
-
--- one with sections has one segment
-segment_by : (dyn : Bool) (b : List ℕ) (n k : ℕ) → has_one (main_number dyn) b ≡ true → n ≡ section_count dyn b → k < n → has_one LC_SEGMENT_64 b ≡ true
-segment_by true b n k one is lt = absurd (omega arith)
-segment_by false b n k one is lt = one
-
-pub has_segment : (o : Outline) → IsOutlined o → (k : ℕ) → k < o.num_sections → has_one LC_SEGMENT_64 o.input.now ≡ true
-has_segment o h k lt =
-    let one : has_one (main_number o.is_dynamic) o.input.now ≡ true = rw h.commands.main_only refl in
-    segment_by o.is_dynamic o.input.now o.num_sections k one h.sections_is lt
-
-pub section_breaks : (b : List ℕ) (rule : ObjectRule) (place k : ℕ) → has_one LC_SEGMENT_64 b ≡ true → k < num_sections b → place ≡ section_place b k
-    → SectionBreaks b k rule → ObjectBreaks b rule place
+pub section_breaks : (b : List ℕ) (rule : ObjectRule) (place k : ℕ) → has_one LC_SEGMENT_64 b ≡ true → k < num_sections b → place ≡ section_place b k → SectionBreaks b k rule → ObjectBreaks b rule place
 section_breaks b O6 place k one lt at h = (one, k, lt, at, h)
 section_breaks b O7 place k one lt at h = (one, k, lt, at, h)
 section_breaks b O10 place k one lt at h = inl (one, k, lt, at, h)
@@ -39,8 +16,7 @@ section_breaks b O11 place k one lt at h = (one, k, lt, at, h)
 section_breaks b O12 place k one lt at h = (one, k, lt, at, h)
 section_breaks b _ place k one lt at h = absurd h
 
-pub symbol_breaks : (b : List ℕ) (rule : ObjectRule) (place k : ℕ) → has_one LC_SYMTAB b ≡ true → k < num_symbols b → place ≡ symbol_place b k
-    → SymbolBreaks b k rule → ObjectBreaks b rule place
+pub symbol_breaks : (b : List ℕ) (rule : ObjectRule) (place k : ℕ) → has_one LC_SYMTAB b ≡ true → k < num_symbols b → place ≡ symbol_place b k → SymbolBreaks b k rule → ObjectBreaks b rule place
 symbol_breaks b O5 place k one lt at h = inl (one, k, lt, at, h)
 symbol_breaks b O8 place k one lt at h = (one, k, lt, at, h)
 symbol_breaks b O9 place k one lt at h = (one, k, lt, at, h)
@@ -48,23 +24,13 @@ symbol_breaks b O13 place k one lt at h = (one, k, lt, at, h)
 symbol_breaks b O14 place k one lt at h = (one, k, lt, at, h)
 symbol_breaks b _ place k one lt at h = absurd h
 
-pub name_breaks : (b : List ℕ) (rule : ObjectRule) (place k : ℕ) → has_one LC_SYMTAB b ≡ true → k < num_symbols b → place ≡ symbol_place b k
-    → NameBreaks b k rule → DylibBreaks b rule place
+pub name_breaks : (b : List ℕ) (rule : ObjectRule) (place k : ℕ) → has_one LC_SYMTAB b ≡ true → k < num_symbols b → place ≡ symbol_place b k → NameBreaks b k rule → DylibBreaks b rule place
 name_breaks b O9 place k one lt at h = inl (one, k, lt, at, h)
 name_breaks b O13 place k one lt at h = (one, k, lt, at, h)
 name_breaks b _ place k one lt at h = absurd h
 
-pub relocation_breaks : (b : List ℕ) (rule : ObjectRule) (place k r : ℕ) → has_one LC_SEGMENT_64 b ≡ true → k < num_sections b
-    → r < (section_at b k).nreloc → place ≡ relocation_place b k r → RelocationBreaks b k r rule → ObjectBreaks b rule place
+pub relocation_breaks : (b : List ℕ) (rule : ObjectRule) (place k r : ℕ) → has_one LC_SEGMENT_64 b ≡ true → k < num_sections b → r < (section_at b k).nreloc
+    → place ≡ relocation_place b k r → RelocationBreaks b k r rule → ObjectBreaks b rule place
 relocation_breaks b O5 place k r one lt more at h = inr (one, k, r, lt, more, at, h)
 relocation_breaks b O10 place k r one lt more at h = inr (one, k, r, lt, more, at, h)
 relocation_breaks b _ place k r one lt more at h = absurd h
-
--- what the checks of one record are proved by
-pub ruleset section_rules = (section_breaks, has_segment)
-
-pub ruleset symbol_rules = (symbol_breaks, has_symtab)
-
-pub ruleset name_rules = (name_breaks, has_symtab)
-
-pub ruleset relocation_rules = (relocation_breaks, has_segment)

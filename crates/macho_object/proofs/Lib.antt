@@ -4,5 +4,6 @@ pub mod Ends
 pub mod Libraries
 pub mod Passes
 pub mod Powers
+pub mod Refusals
 pub mod Wholes
 pub mod Places

@@ -110,6 +110,7 @@ has_commands dyn b t p head s main symtab =
       inside = s.inside;
       each = s.each;
       main_only = m.only;
+      one_symtab = ap (λ cs. length cs == 1) y.only;
       symtab_only = y.only;
       main_room = room.0;
       main_long = room.1;
@@ -131,5 +132,5 @@ unfolding num_sections segment_of section_place
 sections_stand false b p n k h is lt =
     let place : place_of 25 b ≡ p.main = ap first_place h.main_only in
     let count : n ≡ (reading segment_command b p.main).nsects = is ∙ ap (λ (at : ℕ). (reading segment_command b at).nsects) place in
-    record { among = omega (arith, is); place = omega (arith, place); room = omega (arith, place, count, h.main_room) }
+    record { one_segment = ap (λ cs. length cs == 1) h.main_only; among = omega (arith, is); place = omega (arith, place); room = omega (arith, place, count, h.main_room) }
 sections_stand true b p n k h is lt = absurd (omega (arith, is))

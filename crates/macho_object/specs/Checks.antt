@@ -1,8 +1,8 @@
 -- The rules of one section, one symbol and one relocation, together: that a record keeps them all, or breaks this one.
-use Rattle.std.specs.Prelude.{◌≡◌, ℕ, Bool, true, false, List, drop, nat_lt, nat_le, ◌==◌, ◌&&◌, ◌||◌, if◌then◌else◌, not}
+use Rattle.std.specs.Prelude.{◌≡◌, ℕ, ◌<◌, Bool, true, false, List, drop, not, nat_lt, nat_le, ◌==◌, ◌&&◌, ◌||◌, if◌then◌else◌}
 use Rattle.macho_records.specs.declared.constants.TheConstants.{ARM64_RELOC_ADDEND}
 use Rattle.macho_records.specs.declared.relocations.RelocationInfo.{RelocationInfo}
-use Rattle.macho_model.specs.Objects.{num_sections, num_symbols}
+use Rattle.macho_model.specs.Objects.{num_sections, section_at, num_symbols}
 use Rattle.macho_model.specs.declared.rules.ObjectRule.{ObjectRule}
 use Rattle.macho_model.specs.declared.rules.ObjectRule.TheVariants.{O5, O6, O7, O8, O9, O10, O11, O12, O13, O14}
 use Rattle.macho_model.specs.ObjectRules.{symbol_section_exists, relocation_number_exists, data_inside, exponent_fits, value_in_section, has_nul, name_ends, relocations_inside, field_inside, thread_local_in_data, zerofill_unrelocated, global_has_name, common_fits}
@@ -14,6 +14,10 @@ pub record SectionFits (b : List ℕ) (k : ℕ) : Type 0 where
   pub relocations : relocations_inside b k ≡ true
   pub thread_local : thread_local_in_data b k ≡ true
   pub zerofill : zerofill_unrelocated b k ≡ true
+
+-- each of so many sections does
+abbrev pub SectionsFit : List ℕ → ℕ → Type 0
+SectionsFit b count = (k : ℕ) → k < count → SectionFits b k
 
 -- a section breaks a rule
 abbrev pub SectionBreaks : List ℕ → ℕ → ObjectRule → Type 0
@@ -35,6 +39,10 @@ pub record RelocationFits (b : List ℕ) (k r : ℕ) : Type 0 where
   pub number : relocation_number_exists b k r ≡ true
   pub field : field_inside b k r ≡ true
 
+-- each relocation of a section does
+abbrev pub RelocationsFit : List ℕ → ℕ → Type 0
+RelocationsFit b k = (r : ℕ) → r < (section_at b k).nreloc → RelocationFits b k r
+
 -- a relocation breaks a rule
 abbrev pub RelocationBreaks : List ℕ → ℕ → ℕ → ObjectRule → Type 0
 RelocationBreaks b k r O5 = relocation_number_exists b k r ≡ false
@@ -45,6 +53,10 @@ RelocationBreaks b k r rule = ⊥
 pub record NameFits (b : List ℕ) (k : ℕ) : Type 0 where
   pub ends : name_ends b k ≡ true
   pub global : global_has_name b k ≡ true
+
+-- each symbol does
+abbrev pub NamesFit : List ℕ → Type 0
+NamesFit b = (k : ℕ) → k < num_symbols b → NameFits b k
 
 -- a symbol breaks a rule on names
 abbrev pub NameBreaks : List ℕ → ℕ → ObjectRule → Type 0
@@ -68,6 +80,10 @@ pub record SymbolFits (b : List ℕ) (k : ℕ) : Type 0 where
   pub address : AddressFits b k
   pub name : NameFits b k
   pub common : common_fits b k ≡ true
+
+-- each symbol does
+abbrev pub SymbolsFit : List ℕ → Type 0
+SymbolsFit b = (k : ℕ) → k < num_symbols b → SymbolFits b k
 
 -- an object's symbol breaks a rule
 abbrev pub SymbolBreaks : List ℕ → ℕ → ObjectRule → Type 0

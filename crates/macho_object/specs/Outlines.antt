@@ -1,11 +1,11 @@
 -- What is known of a file whose commands were passed: where its tables stand.
-use Rattle.std.specs.Prelude.{◌≡◌, ℕ, ◌+◌, ◌*◌, ◌<◌, ◌≤◌, Bool, true, false, List, [], ◌∷◌, length, slice_range}
+use Rattle.std.specs.Prelude.{◌≡◌, ℕ, ◌+◌, ◌*◌, ◌<◌, ◌≤◌, Bool, true, false, List, [], ◌∷◌, if◌then◌else◌, length, slice_range, Option, Some, None}
 use Rattle.macho_bytes.specs.Layouts.{reading, size_of}
 use Rattle.macho_records.specs.Layouts.{dylib_command, segment_command, section_header, symtab_command, load_command}
-use Rattle.macho_records.specs.declared.constants.TheConstants.{LC_SYMTAB}
+use Rattle.macho_records.specs.declared.constants.TheConstants.{LC_SEGMENT_64, LC_SYMTAB}
 use Rattle.macho_model.specs.Commands.{commands_of, numbered, command_fits, segment_size}
-use Rattle.macho_model.specs.Objects.{num_sections, section_place, symtab_of}
-use Rattle.macho_model.specs.ObjectRules.{head_fits, commands_inside, tables_inside}
+use Rattle.macho_model.specs.Objects.{install_name_of, num_sections, section_place, symtab_of}
+use Rattle.macho_model.specs.ObjectRules.{head_fits, commands_inside, has_one, tables_inside, path_ends}
 use Rattle.macho_model.specs.Grammar.{EachCommand}
 use Rattle.macho_object.specs.declared.commands.Found.{Found}
 use Rattle.macho_object.specs.declared.commands.Found.TheVariants.{Nowhere, Once, Twice}
@@ -31,13 +31,15 @@ pub record HasCommands (dyn : Bool) (b : List ℕ) (p : Places) : Type 0 where
   pub inside : commands_inside b ≡ true
   pub each : EachCommand (commands_of b) (command_fits (needed_of dyn b) b)
   pub main_only : numbered (main_number dyn) b ≡ command_at b p.main ∷ []
+  pub one_symtab : has_one LC_SYMTAB b ≡ true
   pub symtab_only : numbered LC_SYMTAB b ≡ command_at b p.symtab ∷ []
   pub main_room : p.main + main_size dyn b p.main ≤ length b
   pub main_long : size_of dylib_command ≤ main_size dyn b p.main
   pub symtab_room : p.symtab + size_of symtab_command ≤ length b
 
--- A section's header stands inside the file.
+-- A section's header stands in the one segment's command, inside the file.
 pub record SectionStands (b : List ℕ) (main k : ℕ) : Type 0 where
+  pub one_segment : has_one LC_SEGMENT_64 b ≡ true
   pub among : k < num_sections b
   pub place : section_place b k ≡ main + size_of segment_command + size_of section_header * k
   pub room : section_place b k + size_of section_header ≤ length b
@@ -53,3 +55,7 @@ pub record IsOutlined (o : Outline) : Type 0 where
 -- the bytes of a library's command from its path's place on
 abbrev pub path_field_of : List ℕ → ℕ → List ℕ
 path_field_of b at = slice_range b (at + (reading dylib_command b at).name_offset) (at + (reading load_command b at).cmdsize)
+
+-- a library's path, where a NUL ends it in its command
+abbrev pub ending_path : List ℕ → ℕ → Option (List ℕ)
+ending_path b main = if path_ends b (command_at b main) then Some (install_name_of b) else None

@@ -1,8 +1,9 @@
 -- What one pass over the load commands finds (`mach-o/loader.h`).
-use Rattle.std.specs.Prelude.{◌≡◌, ℕ, Bool, true, false, List, [], ◌∷◌}
+use Rattle.std.specs.Prelude.{◌≡◌, ℕ, Bool, true, false, if◌then◌else◌, List, [], ◌∷◌, Option, Some, None}
 use Rattle.macho_bytes.specs.Layouts.{reading}
 use Rattle.macho_records.specs.Layouts.{load_command}
 use Rattle.macho_records.specs.declared.constants.TheConstants.{LC_ID_DYLIB, LC_SEGMENT_64, LC_SYMTAB, MH_DYLIB, MH_OBJECT}
+use Rattle.macho_records.specs.declared.header.LoadCommand.{LoadCommand}
 use Rattle.macho_model.specs.Commands.{Command, commands_of, numbered, command_fits}
 use Rattle.macho_model.specs.ObjectRules.{commands_inside, needed_in_object, needed_in_dylib}
 use Rattle.macho_model.specs.Grammar.{EachCommand}
@@ -28,6 +29,11 @@ needed_of true b = needed_in_dylib
 -- the command that begins at a place
 abbrev pub command_at : List ℕ → ℕ → Command
 command_at b at = record { at = at; number = (reading load_command b at).cmd; size = (reading load_command b at).cmdsize }
+
+-- the command's record, where it is whole
+abbrev pub whole_command : Bool → List ℕ → ℕ → Option LoadCommand
+whole_command dyn b at =
+    if command_fits (needed_of dyn b) b (command_at b at) then Some (reading load_command b at) else None
 
 -- where commands stand of which there is to be one
 abbrev pub found_in : List Command → Found

@@ -5,7 +5,7 @@ ghost use Rattle.macho_records.specs.Layouts.{load_command};
 ghost use Rattle.macho_model.specs.Commands.{header_of, commands_end, command_fits};
 ghost use Rattle.macho_model.specs.ObjectRules.{commands_inside};
 ghost use Rattle.macho_model.specs.Grammar.{Breaks};
-ghost use Rattle.macho_object.specs.Scans.{needed_of, command_at, main_number, found_if, IsScanned};
+ghost use Rattle.macho_object.specs.Scans.{needed_of, command_at, whole_command, main_number, found_if, IsScanned};
 
 use crate::fault::ObjectFault;
 use macho_model::ObjectRule;
@@ -115,7 +115,7 @@ fn read_command(input: &[u8], is_dynamic: bool, at: usize, end: usize) -> Option
     requires is_end { end ≡ commands_end input.now }
     requires inside { end ≤ length input.now }
     requires before { at ≤ end }
-    ensures { result ≡ (if command_fits (needed_of is_dynamic input.now) input.now (command_at input.now at) then Some (reading load_command input.now at) else None) }
+    ensures { result ≡ whole_command is_dynamic input.now at }
 {
     let command = LoadCommand::read(input, at)?;
     let size = command.cmdsize as usize;

@@ -1,5 +1,5 @@
 //! A view of an object or of a dynamic library. It holds no list: each accessor decodes in place.
-ghost use Rattle.std.specs.Prelude.{◌≡◌, ◌^◌, IfOk, IfErr, OnOk, option_copied};
+ghost use Rattle.std.specs.Prelude.{◌≡◌, ◌^◌, IfOk, IfErr, OnOk, OnErr, option_copied};
 ghost use Rattle.macho_model.specs.Objects.{num_symbols, section_at, section_bytes};
 ghost use Rattle.macho_model.specs.Grammar.{IsFile, Breaks};
 ghost use Rattle.macho_object.specs.Views.{FileBytes, RelocationBytes, section_count, of_section, symbol_of, symbol_name_of, of_symbol_section, section_index_of, symbol_offset_of, IsFirstNamed, install_name_in};
@@ -35,10 +35,11 @@ impl<'data> File<'data> {
     /// # Errors
     ///
     /// A rule that the bytes break, and the place of the record that breaks it.
-    #[tactic(auto, using(crate::proofs::Wholes::is_whole))]
+    #[tactic(auto, using(crate::proofs::Wholes::is_whole, crate::proofs::Refusals::no_file))]
     pub fn parse_bytes(input: &'data [u8], is_dynamic: bool) -> Result<File<'data>, ObjectFault>
         ensures view { IfOk result (λ f. f ≡ record { bytes = input.now; is_dynamic = is_dynamic }) }
         ensures found { OnOk result (IsFile is_dynamic input.now) }
+        ensures only { OnErr result (¬ IsFile is_dynamic input.now) }
         ensures fault { IfErr result (λ f. Breaks is_dynamic input.now f.rule f.place) }
     {
         let outline = read_outline(input, is_dynamic)?;
@@ -48,6 +49,19 @@ impl<'data> File<'data> {
             outline.check_object()?;
         }
         Ok(File { outline })
+    }
+
+    /// Views bytes that are known to keep every rule, as those that a view was made of before. It looks at the commands
+    /// alone.
+    #[tactic(auto, using(crate::proofs::Wholes::is_whole, crate::proofs::Refusals::no_file))]
+    pub fn of_valid(input: &'data [u8], is_dynamic: bool) -> File<'data>
+        requires { IsFile is_dynamic input.now }
+        ensures { result ≡ record { bytes = input.now; is_dynamic = is_dynamic } }
+    {
+        match read_outline(input, is_dynamic) {
+            Ok(outline) => File { outline },
+            Err(_) => unreachable!(),
+        }
     }
 
     /// Whether the bytes are viewed as a dynamic library.

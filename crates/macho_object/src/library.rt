@@ -1,53 +1,23 @@
 //! A dynamic library's install name: the path in its command, up to a NUL.
-ghost use Rattle.std.specs.Prelude.{◌≡◌, ℕ, ◌+◌, ◌<◌, ◌≤◌, true, false, OnOk, IfErr, if◌then◌else◌, Some, None, option_copied, length};
-ghost use Rattle.macho_model.specs.Objects.{install_name_of};
-ghost use Rattle.macho_model.specs.ObjectRules.{path_ends};
-ghost use Rattle.macho_model.specs.Grammar.{ObjectBreaks, DylibBreaks, IsDylib, IsObject};
-ghost use Rattle.macho_object.specs.Outlines.{IsOutlined, path_field_of};
-ghost use Rattle.macho_object.specs.Scans.{command_at};
+//!
+//! The command of a library named `/a` (`mach-o/loader.h`):
+//!
+//!     0d 00 00 00 20 00 00 00 18 00 00 00   DylibCommand: 32 bytes, the path at 24
+//!     02 00 00 00 00 00 01 00 00 00 01 00   time stamp, current version, compatibility version
+//!     2f 61 00 00 00 00 00 00               `/a` and zeros
+ghost use Rattle.std.specs.Prelude.{◌≡◌, true, option_copied};
+ghost use Rattle.macho_object.specs.Outlines.{IsOutlined, path_field_of, ending_path};
 
-use crate::fault::ObjectFault;
 use crate::outline::Outline;
-use macho_model::ObjectRule;
 use macho_records::{DylibCommand, name_bytes};
 
 impl<'data> Outline<'data> {
-    /// Whether an object keeps every rule.
-    pub(crate) fn check_object(&self) -> Result<(), ObjectFault>
-        requires outlined { IsOutlined self.now }
-        requires object { self.now.is_dynamic ≡ false }
-        ensures ok { OnOk result (IsObject self.now.input.now) }
-        ensures why { IfErr result (λ f. ObjectBreaks self.now.input.now f.rule f.place) }
-    {
-        self.check_sections()?;
-        self.check_symbols()?;
-        self.check_relocations()?;
-        Ok(())
-    }
-
-    /// Whether a library keeps every rule.
-    pub(crate) fn check_library(&self) -> Result<(), ObjectFault>
-        requires outlined { IsOutlined self.now }
-        requires library { self.now.is_dynamic ≡ true }
-        ensures ok { OnOk result (IsDylib self.now.input.now) }
-        ensures why { IfErr result (λ f. DylibBreaks self.now.input.now f.rule f.place) }
-    {
-        let Some(_name) = self.path() else {
-            return Err(ObjectFault {
-                place: self.places.main as u64,
-                rule: ObjectRule::O9,
-            });
-        };
-        self.check_names()?;
-        Ok(())
-    }
-
     /// The path in a library's command, if a NUL ends it there.
     #[tactic(auto, using(crate::proofs::Libraries::install_name_is))]
     pub(crate) fn path(&self) -> Option<&'data [u8]>
         requires outlined { IsOutlined self.now }
         requires library { self.now.is_dynamic ≡ true }
-        ensures { option_copied result ≡ (if path_ends self.now.input.now (command_at self.now.input.now self.now.places.main) then Some (install_name_of self.now.input.now) else None) }
+        ensures { option_copied result ≡ ending_path self.now.input.now self.now.places.main }
     {
         let text = self.path_field();
         let name = name_bytes(text);

@@ -4,7 +4,7 @@ ghost use Rattle.macho_model.specs.Objects.{section_at, relocation_at, relocatio
 ghost use Rattle.macho_model.specs.Grammar.{ObjectBreaks};
 ghost use Rattle.macho_object.specs.Views.{RelocationBytes, relocation_of};
 ghost use Rattle.macho_object.specs.Outlines.{IsOutlined};
-ghost use Rattle.macho_object.specs.Checks.{SectionFits, RelocationFits, RelocationBreaks, number_exists};
+ghost use Rattle.macho_object.specs.Checks.{SectionFits, SectionsFit, RelocationFits, RelocationsFit, RelocationBreaks, number_exists};
 
 use crate::fault::ObjectFault;
 use crate::outline::Outline;
@@ -17,8 +17,8 @@ impl Outline<'_> {
     pub(crate) fn check_relocations(&self) -> Result<(), ObjectFault>
         requires outlined { IsOutlined self.now }
         requires object { self.now.is_dynamic ≡ false }
-        requires sections { (k : ℕ) → k < self.now.num_sections → SectionFits self.now.input.now k }
-        ensures ok { OnOk result ((k r : ℕ) → k < self.now.num_sections → r < (section_at self.now.input.now k).nreloc → RelocationFits self.now.input.now k r) }
+        requires sections { SectionsFit self.now.input.now self.now.num_sections }
+        ensures ok { OnOk result ((k : ℕ) → k < self.now.num_sections → RelocationsFit self.now.input.now k) }
         ensures why { IfErr result (λ f. ObjectBreaks self.now.input.now f.rule f.place) }
     {
         for index in 0..self.num_sections {
@@ -33,7 +33,7 @@ impl Outline<'_> {
         requires object { self.now.is_dynamic ≡ false }
         requires among { section < self.now.num_sections }
         requires fits { SectionFits self.now.input.now section }
-        ensures ok { OnOk result ((r : ℕ) → r < (section_at self.now.input.now section).nreloc → RelocationFits self.now.input.now section r) }
+        ensures ok { OnOk result (RelocationsFit self.now.input.now section) }
         ensures why { IfErr result (λ f. ObjectBreaks self.now.input.now f.rule f.place) }
     {
         let header = self.section(section);
@@ -43,7 +43,7 @@ impl Outline<'_> {
         Ok(())
     }
 
-    #[tactic(auto, using(crate::proofs::Breaks::relocation_rules), unfolding(macho_model::specs::Objects::relocation_place, macho_model::specs::Objects::relocation_at))]
+    #[tactic(auto, using(crate::proofs::Breaks::relocation_breaks), unfolding(macho_model::specs::Objects::relocation_place, macho_model::specs::Objects::relocation_at))]
     fn check_relocation(
         &self,
         section: u32,

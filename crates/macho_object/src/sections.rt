@@ -6,7 +6,7 @@ ghost use Rattle.macho_model.specs.Grammar.{ObjectBreaks};
 ghost use Rattle.macho_model.specs.Symbols.{is_in_segment};
 ghost use Rattle.macho_records.specs.Sections.{is_zerofill, type_of};
 ghost use Rattle.macho_object.specs.Outlines.{IsOutlined};
-ghost use Rattle.macho_object.specs.Checks.{SectionFits, SectionBreaks};
+ghost use Rattle.macho_object.specs.Checks.{SectionFits, SectionsFit, SectionBreaks};
 
 use crate::fault::ObjectFault;
 use crate::outline::Outline;
@@ -72,7 +72,7 @@ impl<'data> Outline<'data> {
     /// Whether each section of an object keeps its rules.
     pub(crate) fn check_sections(&self) -> Result<(), ObjectFault>
         requires { IsOutlined self.now }
-        ensures ok { OnOk result ((k : ℕ) → k < self.now.num_sections → SectionFits self.now.input.now k) }
+        ensures ok { OnOk result (SectionsFit self.now.input.now self.now.num_sections) }
         ensures why { IfErr result (λ f. ObjectBreaks self.now.input.now f.rule f.place) }
     {
         for index in 0..self.num_sections {
@@ -81,7 +81,7 @@ impl<'data> Outline<'data> {
         Ok(())
     }
 
-    #[tactic(auto, using(crate::proofs::Breaks::section_rules))]
+    #[tactic(auto, using(crate::proofs::Breaks::section_breaks))]
     fn check_section(&self, index: u32) -> Result<(), ObjectFault>
         requires outlined { IsOutlined self.now }
         requires among { index < self.now.num_sections }
@@ -101,7 +101,7 @@ impl<'data> Outline<'data> {
     fn broken_in_section(&self, index: u32) -> Option<ObjectRule>
         requires outlined { IsOutlined self.now }
         requires among { index < self.now.num_sections }
-        ensures { MatchOption result (SectionFits self.now.input.now index) (λ rule. SectionBreaks self.now.input.now index rule) }
+        ensures { MatchOption result (SectionFits self.now.input.now index) (SectionBreaks self.now.input.now index) }
     {
         let header = self.section(index);
         let length = self.input.len() as u64;

@@ -1,7 +1,7 @@
 use Rattle.std.proofs.Common.{eq-eqb}
 use Rattle.std.proofs.lemmas.Bool.{eqb-true}
 use Rattle.macho_object.proofs.Ends.{names_end_at, names_end_never}
-use Rattle.macho_object.proofs.symbols.names_end.Goals as goal
+use Rattle.macho_object.proofs.symbol_rules.names_end.Goals as goal
 
 pub returns-in-Some : goal.returns-in-Some
 returns-in-Some c =

@@ -5,7 +5,7 @@ use Rattle.macho_bytes.specs.Numbers.{rounded_up}
 use Rattle.macho_bytes.proofs.Rounding.{next_multiple_of-is}
 use Rattle.macho_object.proofs.Powers.{shifted}
 use Rattle.macho_object.proofs.Ends.{there_if_below}
-use Rattle.macho_object.proofs.symbols.rounds.Goals as goal
+use Rattle.macho_object.proofs.symbol_rules.rounds.Goals as goal
 
 rounds_is : (n e : ℕ) → e < 16 → next_multiple_of n (1 * 2 ^ e % 2 ^ 64) ≡ rounded_up (2 ^ e) n
 rounds_is n e small = ap (next_multiple_of n) (shifted e small) ∙ next_multiple_of-is n (2 ^ e) (pow_pos e)
