@@ -1,0 +1,6 @@
+pub mod Bytes
+pub mod Scalars
+pub mod Faults
+pub mod Lists
+pub mod Keys
+pub mod Documents
