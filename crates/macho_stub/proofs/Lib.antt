@@ -1,2 +1,4 @@
 pub mod Cuts
+pub mod Dashes
 pub mod Parts
+pub mod Walk

@@ -4,3 +4,4 @@ pub mod Faults
 pub mod Lists
 pub mod Keys
 pub mod Documents
+pub mod Reader

@@ -66,7 +66,7 @@ pub struct KeyLine<'data> {
 
 /// The text from its first byte that is no space.
 #[tactic(auto, unfolding(crate::specs::Bytes::unspaced))]
-fn unspaced(text: &str) -> &str
+pub fn unspaced(text: &str) -> &str
     ensures { result.now ≡ unspaced text.now }
 {
     after(text, indent(text.as_bytes()))

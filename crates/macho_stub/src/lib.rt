@@ -6,6 +6,8 @@ mod document;
 mod fault;
 mod keys;
 mod list;
+mod reader;
 mod scalar;
+mod state;
 
 pub use fault::{StubFault, StubRule};
