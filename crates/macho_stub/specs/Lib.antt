@@ -5,3 +5,4 @@ pub mod Lists
 pub mod Keys
 pub mod Documents
 pub mod Reader
+pub mod Library

@@ -5,9 +5,11 @@ mod bytes;
 mod document;
 mod fault;
 mod keys;
+mod library;
 mod list;
 mod reader;
 mod scalar;
 mod state;
 
 pub use fault::{StubFault, StubRule};
+pub use library::DefinedStubLibrary;
