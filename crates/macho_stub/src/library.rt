@@ -1,6 +1,6 @@
 //! What a library's documents must say beside the grammar, and the library that they make.
 
-ghost use Rattle.std.specs.Prelude.{◌≡◌, if◌then◌else◌, [], ◌≤◌, ◌<◌, ◌+◌, ◌++◌, ◌||◌, ℕ, length, map, IfOk, Ok};
+ghost use Rattle.std.specs.Prelude.{◌≡◌, if◌then◌else◌, [], ◌≤◌, ◌<◌, ◌+◌, ◌++◌, ◌||◌, ℕ, length, map, vec_len, IfOk, Ok};
 ghost use Rattle.std.specs.List.{list_any, flat_map};
 ghost use Rattle.std.specs.Str.{bytes_eq};
 ghost use Rattle.macho_stub.specs.Faults.{Gives};
@@ -262,4 +262,13 @@ pub fn library_of<'data>(
         symbols,
         weak_symbols,
     })
+}
+
+impl DefinedStubLibrary<'_> {
+    /// How many symbols there are, weak ones too.
+    pub fn total_symbols(&self) -> usize
+        ensures { result ≡ vec_len self.now.symbols + vec_len self.now.weak_symbols }
+    {
+        self.symbols.len() + self.weak_symbols.len()
+    }
 }
