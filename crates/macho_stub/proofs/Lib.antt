@@ -1,6 +1,11 @@
+pub mod Bind
 pub mod Cuts
 pub mod Dashes
+pub mod FoundEntries
+pub mod FoundItems
 pub mod Gather
 pub mod Parts
+pub mod Rest
 pub mod Same
+pub mod Spelled
 pub mod Walk

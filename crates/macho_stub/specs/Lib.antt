@@ -6,3 +6,4 @@ pub mod Keys
 pub mod Documents
 pub mod Reader
 pub mod Library
+pub mod Grammar
