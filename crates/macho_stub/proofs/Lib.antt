@@ -1,8 +1,10 @@
 pub mod Bind
 pub mod Cuts
 pub mod Dashes
+pub mod Found
 pub mod FoundEntries
 pub mod FoundItems
+pub mod FoundTop
 pub mod Gather
 pub mod Parts
 pub mod Rest
