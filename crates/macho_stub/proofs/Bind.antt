@@ -48,3 +48,9 @@ eq_at m n e = grind (arith, nat_tests)
 
 pub ne_at : (m n : ℕ) → eqb m n ≡ false → m ≢ n
 ne_at m n e = λ h. grind (arith, nat_tests)
+
+pub eq_true : (m n : ℕ) → m ≡ n → eqb m n ≡ true
+eq_true m n e = grind (arith, nat_tests)
+
+pub eq_false : (m n : ℕ) → m ≢ n → eqb m n ≡ false
+eq_false m n e = grind (arith, nat_tests)

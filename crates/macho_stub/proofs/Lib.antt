@@ -6,6 +6,8 @@ pub mod FoundEntries
 pub mod FoundItems
 pub mod FoundTop
 pub mod Gather
+pub mod OnlyLines
+pub mod OnlyLists
 pub mod Parts
 pub mod Rest
 pub mod Same
