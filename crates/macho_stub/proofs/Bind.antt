@@ -1,5 +1,5 @@
 -- Readings that did not fail: their steps didn't either.
-use Rattle.std.proofs.Common.{◌≡◌, ◌≢◌, ℕ, Bool, true, false, cond, not, eqb, List, Result, Ok, Err, refl, sym, ap, ◌∙◌, arith, ◌⊎◌, inl, inr}
+use Rattle.std.proofs.Common.{◌≡◌, ◌≢◌, ℕ, Bool, true, false, cond, not, eqb, ltb, ◌≤◌, List, Result, Ok, Err, refl, sym, ap, ◌∙◌, arith, ◌⊎◌, inl, inr}
 use Rattle.std.specs.Str.{bytes_eq}
 use Rattle.std.proofs.lemmas.Bool.Decides.{nat_tests}
 use Rattle.std.proofs.lemmas.Slice.Eq.{bytes_eq-Decides}
@@ -54,3 +54,6 @@ eq_true m n e = grind (arith, nat_tests)
 
 pub eq_false : (m n : ℕ) → m ≢ n → eqb m n ≡ false
 eq_false m n e = grind (arith, nat_tests)
+
+pub not_below : (m n : ℕ) → n ≤ m → ltb m n ≡ false
+not_below m n e = grind (arith, nat_tests)

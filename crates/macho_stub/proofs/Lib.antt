@@ -6,6 +6,8 @@ pub mod FoundEntries
 pub mod FoundItems
 pub mod FoundTop
 pub mod Gather
+pub mod OnlyItems
+pub mod OnlyLast
 pub mod OnlyLines
 pub mod OnlyLists
 pub mod Parts

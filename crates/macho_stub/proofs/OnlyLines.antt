@@ -85,6 +85,11 @@ top_no_dash text h = rw (top_indent text h) (no_dash text h)
     no_dash : (text : List ℕ) → belongs_to_top text ≡ false → (eqb (get_or text 0 0) dash && eqb (get_or text (0 + 1) 0) space) ≡ false
     no_dash text h = grind (arith, nat_tests)
 
+-- an entry begins with no space
+pub entry_unspaced : (line : ℕ) (text : List ℕ) (said : Entry) → entry_at line text ≡ Ok said → prefix_len is_space text ≡ 0
+unfolding indent
+entry_unspaced line text said e = top_indent text (entry_at_top line text said e)
+
 -- ---- spelled lines
 
 -- the spaces in front of what begins with none
