@@ -6,6 +6,7 @@ pub mod FoundEntries
 pub mod FoundItems
 pub mod FoundTop
 pub mod Gather
+pub mod Only
 pub mod OnlyItems
 pub mod OnlyLast
 pub mod OnlyLines
