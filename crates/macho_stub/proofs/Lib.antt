@@ -1,3 +1,4 @@
+pub mod Answered
 pub mod Bind
 pub mod Cuts
 pub mod Dashes

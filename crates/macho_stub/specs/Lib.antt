@@ -7,3 +7,4 @@ pub mod Documents
 pub mod Reader
 pub mod Library
 pub mod Grammar
+pub mod Answer

@@ -7,7 +7,6 @@ use Rattle.macho_stub.specs.declared.fault.StubRule.TheVariants.{S2, S4, S5, S6,
 use Rattle.macho_stub.specs.Faults.{Reading, broken, ◌>>=◌}
 use Rattle.macho_stub.specs.Lists.{texts}
 use Rattle.macho_stub.specs.Documents.{ItemFields, DocumentFields}
-use Rattle.macho_stub.specs.Reader.{documents_of}
 
 -- the target that is linked for
 abbrev pub target : List ℕ
@@ -114,7 +113,3 @@ library_of (main ∷ others) = do
     symbols = gathered false (main ∷ others);
     weak_symbols = gathered true (main ∷ others);
   })
-
--- What a text says: the documents of the text, and the library that they make.
-unfoldable pub answer_of : List ℕ → Reading LibraryFields
-answer_of text = documents_of text >>= library_of

@@ -1,9 +1,10 @@
 //! Reads text stubs: the `.tbd` files, version 4, that stand for libraries on arm64 macOS.
 #![tactic(auto)]
 
-ghost use Rattle.std.specs.Prelude.{◌≡◌};
+ghost use Rattle.std.specs.Prelude.{◌≡◌, IfOk, Ok};
 ghost use Rattle.macho_stub.specs.Faults.{Gives};
-ghost use Rattle.macho_stub.specs.Library.{library_fields, answer_of};
+ghost use Rattle.macho_stub.specs.Library.{LibraryFields, library_fields};
+ghost use Rattle.macho_stub.specs.Answer.{IsStub, answer_of};
 
 mod bytes;
 mod document;
@@ -22,9 +23,9 @@ pub use library::DefinedStubLibrary;
 
 use std::alloc::Global;
 
-/// Reads the stub text of a library.
-#[tactic(auto, unfolding(crate::specs::Library::answer_of))]
-pub fn parse_defined_library<'data>(
+/// The library that the documents of the text make.
+#[tactic(auto, unfolding(crate::specs::Answer::answer_of))]
+fn answer<'data>(
     alloc: Global,
     input: &'data str,
 ) -> Result<DefinedStubLibrary<'data>, StubFault>
@@ -34,4 +35,22 @@ pub fn parse_defined_library<'data>(
         Err(fault) => Err(fault),
         Ok(documents) => library::library_of(alloc, documents.as_slice()),
     }
+}
+
+/// Reads the stub text of a library.
+///
+/// Each text of the answer is a slice of the input. A refusal tells the first rule that is broken, and
+/// its line: of the rules on the text in the order of the text, and then of those on what it says.
+pub fn parse_defined_library<'data>(
+    alloc: Global,
+    input: &'data str,
+) -> Result<DefinedStubLibrary<'data>, StubFault>
+    // What is read is in the grammar and keeps the rules, and the four fields are what it says.
+    ensures found { IfOk result (λ library. IsStub input.now (library_fields library)) }
+    // What is in the grammar and keeps the rules is read, unless memory runs out.
+    ensures only { (says : LibraryFields) → IsStub input.now says → Gives library_fields result (Ok says) }
+    // A rule that is told is the first one that is broken, at its line.
+    ensures fault { Gives library_fields result (answer_of input.now) }
+{
+    answer(alloc, input)
 }

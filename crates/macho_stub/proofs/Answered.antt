@@ -1,0 +1,31 @@
+-- The answer is the one that the grammar and the rules have: reading finds what is there, and nothing else.
+use Rattle.std.proofs.Common.{◌≡◌, ℕ, List, Result, Ok, Err, sym, ap, ◌∙◌}
+use Rattle.std.specs.Prelude.{IfOk}
+use Rattle.macho_stub.specs.declared.fault.StubFault.{StubFault}
+use Rattle.macho_stub.specs.declared.fault.StubFault.TheVariants.{Rule, OutOfMemory}
+use Rattle.macho_stub.specs.Faults.{Reading, Gives, ◌>>=◌}
+use Rattle.macho_stub.specs.Reader.{documents_of}
+use Rattle.macho_stub.specs.Library.{LibraryFields, library_of}
+use Rattle.macho_stub.specs.Answer.{IsStub, answer_of}
+use Rattle.macho_stub.proofs.Bind.{bind_ok}
+use Rattle.macho_stub.proofs.Found.{documents_found}
+use Rattle.macho_stub.proofs.Only.{documents_read}
+
+answer_found : (text : List ℕ) (library : LibraryFields) → answer_of text ≡ Ok library → IsStub text library
+unfolding answer_of
+answer_found text library e =
+    let b = bind_ok (documents_of text) library_of library e in
+    record { says = b.0; in_grammar = documents_found text b.0 b.1; makes = b.2 }
+
+answer_only : (text : List ℕ) (library : LibraryFields) → IsStub text library → answer_of text ≡ Ok library
+unfolding answer_of
+answer_only text library is = ap (λ reading. reading >>= library_of) (documents_read text is.says is.in_grammar) ∙ is.makes
+
+pub found : {X : Type 0} (view : X → LibraryFields) (text : List ℕ) (result : Result X StubFault) → Gives view result (answer_of text) → IfOk result (λ library. IsStub text (view library))
+found view text (Ok library) h = answer_found text (view library) h
+found view text (Err e) h = tt
+
+pub only : {X : Type 0} (view : X → LibraryFields) (text : List ℕ) (result : Result X StubFault) (says : LibraryFields) → Gives view result (answer_of text) → IsStub text says → Gives view result (Ok says)
+only view text (Ok library) says h is = sym (answer_only text says is) ∙ h
+only view text (Err (Rule line rule)) says h is = sym (answer_only text says is) ∙ h
+only view text (Err OutOfMemory) says h is = tt
