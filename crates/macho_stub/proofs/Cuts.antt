@@ -31,16 +31,16 @@ pub run_cut : (p : ℕ → Bool) (ascii : (b : ℕ) → p b ≡ true → b < 128
 run_cut p ascii bytes utf8 =
     elim (cases_lt 0 (prefix_len p bytes)) [
       | inl some ↦
-        let n = prefix_len p bytes in
-        let last : n - 1 < n = omega arith in
-        let e : n - 1 + 1 ≡ n = omega arith in
-        let within : n - 1 < length bytes = omega (arith, prefix_len-le-length p bytes) in
-        let C : ℕ → Type 0 = λ i. IsCharBoundary bytes i in
-        subst C e (IsCharBoundary-after_ascii bytes (n - 1) utf8 within (ascii (get_or bytes (n - 1) 0) (prefix_len_passes p bytes (n - 1) 0 last)))
+          let n = prefix_len p bytes in
+          let last : n - 1 < n = omega arith in
+          let e : n - 1 + 1 ≡ n = omega arith in
+          let within : n - 1 < length bytes = omega (arith, prefix_len-le-length p bytes) in
+          let C : ℕ → Type 0 = λ i. IsCharBoundary bytes i in
+          subst C e (IsCharBoundary-after_ascii bytes (n - 1) utf8 within (ascii (get_or bytes (n - 1) 0) (prefix_len_passes p bytes (n - 1) 0 last)))
       | inr none ↦
-        let e : 0 ≡ prefix_len p bytes = omega arith in
-        let C : ℕ → Type 0 = λ i. IsCharBoundary bytes i in
-        subst C e (IsCharBoundary-start bytes utf8)
+          let e : 0 ≡ prefix_len p bytes = omega arith in
+          let C : ℕ → Type 0 = λ i. IsCharBoundary bytes i in
+          subst C e (IsCharBoundary-start bytes utf8)
     ]
 
 -- spaces, digits and zeros are ASCII

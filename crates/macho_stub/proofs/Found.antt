@@ -62,63 +62,63 @@ item_line_rest before document list line text next rest total e h =
     let by_key = cond (eqb (indent text) list.column) (within before (item_key_line document list line (unspaced text))) (outside line) in
     elim (chosen (has_dash text && eqb (indent text) list.dash) by_dash (cond (eqb (indent text) 0) by_top by_key) (Ok next) e) [
       | inl b ↦
-        let i = bind_ok (items_with_last document.line list) (then_first before document list.kind line text) next b.1 in
-        let last = last_item before document list i.0 i.1 in
-        let w = within_ok before (first_line document list.kind i.0 line text) next rest total i.2 h in
-        let r = first_line_rest before document list.kind i.0 line text w.0 rest total w.1 w.2 in
-        let at : indent text ≡ list.dash = eq_at _ _ (and_right _ _ b.0) in
-        let R : ℕ → Type 0 = λ d. AreItems document.line list.kind d (r.tree ∷ r.trees) (r.one ∷ r.says) in
-        let T : List ItemFields → Type 0 = λ items. RestTop before (with_items list.kind items document) r.tail total in
-        record {
-          entries = [];
-          after = list.item;
-          one = last.one;
-          trees = r.tree ∷ r.trees;
-          says = r.one ∷ r.says;
-          tail = r.tail;
-          lines_of = r.lines_of ∙ ap (λ d. items_then d (r.tree ∷ r.trees) r.tail) at;
-          reads = refl;
-          is_whole = last.is_whole;
-          items = subst R at r.are_items;
-          top = subst T (ap (λ (front : List ItemFields). front ++ r.one ∷ r.says) (sym last.are) ∙ append_assoc list.items (last.one ∷ []) (r.one ∷ r.says)) r.top;
-        }
-      | inr b ↦ elim (chosen (eqb (indent text) 0) by_top by_key (Ok next) b.1) [
-        | inl d ↦
-          let i = bind_ok (items_with_last document.line list) (then_top before document list.kind line text) next d.1 in
+          let i = bind_ok (items_with_last document.line list) (then_first before document list.kind line text) next b.1 in
           let last = last_item before document list i.0 i.1 in
-          let T : List ItemFields → Type 0 = λ items. RestTop before (with_items list.kind items document) (record { number = line; text = text } ∷ rest) total in
+          let w = within_ok before (first_line document list.kind i.0 line text) next rest total i.2 h in
+          let r = first_line_rest before document list.kind i.0 line text w.0 rest total w.1 w.2 in
+          let at : indent text ≡ list.dash = eq_at _ _ (and_right _ _ b.0) in
+          let R : ℕ → Type 0 = λ d. AreItems document.line list.kind d (r.tree ∷ r.trees) (r.one ∷ r.says) in
+          let T : List ItemFields → Type 0 = λ items. RestTop before (with_items list.kind items document) r.tail total in
           record {
             entries = [];
             after = list.item;
             one = last.one;
-            trees = [];
-            says = [];
-            tail = record { number = line; text = text } ∷ rest;
-            lines_of = refl;
+            trees = r.tree ∷ r.trees;
+            says = r.one ∷ r.says;
+            tail = r.tail;
+            lines_of = r.lines_of ∙ ap (λ d. items_then d (r.tree ∷ r.trees) r.tail) at;
             reads = refl;
             is_whole = last.is_whole;
-            items = tt;
-            top = subst T (sym last.are) (top_line_rest before (with_items list.kind i.0 document) line text next rest total i.2 h);
+            items = subst R at r.are_items;
+            top = subst T (ap (λ (front : List ItemFields). front ++ r.one ∷ r.says) (sym last.are) ∙ append_assoc list.items (last.one ∷ []) (r.one ∷ r.says)) r.top;
           }
+      | inr b ↦ elim (chosen (eqb (indent text) 0) by_top by_key (Ok next) b.1) [
+        | inl d ↦
+            let i = bind_ok (items_with_last document.line list) (then_top before document list.kind line text) next d.1 in
+            let last = last_item before document list i.0 i.1 in
+            let T : List ItemFields → Type 0 = λ items. RestTop before (with_items list.kind items document) (record { number = line; text = text } ∷ rest) total in
+            record {
+              entries = [];
+              after = list.item;
+              one = last.one;
+              trees = [];
+              says = [];
+              tail = record { number = line; text = text } ∷ rest;
+              lines_of = refl;
+              reads = refl;
+              is_whole = last.is_whole;
+              items = tt;
+              top = subst T (sym last.are) (top_line_rest before (with_items list.kind i.0 document) line text next rest total i.2 h);
+            }
         | inr d ↦
-          let k = not_broken_else (eqb (indent text) list.column) line S1 (within before (item_key_line document list line (unspaced text))) next d.1 in
-          let w = within_ok before (item_key_line document list line (unspaced text)) next rest total k.1 h in
-          let r = item_key_line_rest before document list line (unspaced text) w.0 rest total w.1 w.2 in
-          let column : indent text ≡ list.column = eq_at _ _ k.0 in
-          let spelled : text ≡ replicate list.column space ++ unspaced text = spelled_unspaced text ∙ ap (λ c. replicate c space ++ unspaced text) column in
-          record {
-            entries = record { number = line; head = unspaced text; more = r.more } ∷ r.keys.entries;
-            after = r.keys.after;
-            one = r.keys.one;
-            trees = r.keys.trees;
-            says = r.keys.says;
-            tail = r.keys.tail;
-            lines_of = ap (λ t. record { number = line; text = t } ∷ rest) spelled ∙ ap (λ (more : List Line). record { number = line; text = replicate list.column space ++ unspaced text } ∷ more) (r.lines_of ∙ ap (λ (tail : List Line). r.more ++ tail) r.keys.lines_of);
-            reads = (r.after, r.is_entry, r.keys.reads);
-            is_whole = r.keys.is_whole;
-            items = r.keys.items;
-            top = r.keys.top;
-          }
+            let k = not_broken_else (eqb (indent text) list.column) line S1 (within before (item_key_line document list line (unspaced text))) next d.1 in
+            let w = within_ok before (item_key_line document list line (unspaced text)) next rest total k.1 h in
+            let r = item_key_line_rest before document list line (unspaced text) w.0 rest total w.1 w.2 in
+            let column : indent text ≡ list.column = eq_at _ _ k.0 in
+            let spelled : text ≡ replicate list.column space ++ unspaced text = spelled_unspaced text ∙ ap (λ c. replicate c space ++ unspaced text) column in
+            record {
+              entries = record { number = line; head = unspaced text; more = r.more } ∷ r.keys.entries;
+              after = r.keys.after;
+              one = r.keys.one;
+              trees = r.keys.trees;
+              says = r.keys.says;
+              tail = r.keys.tail;
+              lines_of = ap (λ t. record { number = line; text = t } ∷ rest) spelled ∙ ap (λ (more : List Line). record { number = line; text = replicate list.column space ++ unspaced text } ∷ more) (r.lines_of ∙ ap (λ (tail : List Line). r.more ++ tail) r.keys.lines_of);
+              reads = (r.after, r.is_entry, r.keys.reads);
+              is_whole = r.keys.is_whole;
+              items = r.keys.items;
+              top = r.keys.top;
+            }
       ]
     ]
 
@@ -134,9 +134,9 @@ inside_line_rest before document list Keys line text next rest total e h = key_l
 inside_line_rest before document list Skipped line text next rest total e h =
     elim (chosen (belongs list text) (inside_of_document before (stays document list Skipped)) (key_line before document list line text) (Ok next) e) [
       | inl b ↦
-        let H : StateFields → Type 0 = λ s. Rest s.documents s.place rest total in
-        let r = subst H (sym (same_ok _ _ b.1)) h in
-        record { more = record { number = line; text = text } ∷ r.more; tail = r.tail; lines_of = ap (λ (more : List Line). record { number = line; text = text } ∷ more) r.lines_of; belong = (b.0, r.belong); keys = r.keys }
+          let H : StateFields → Type 0 = λ s. Rest s.documents s.place rest total in
+          let r = subst H (sym (same_ok _ _ b.1)) h in
+          record { more = record { number = line; text = text } ∷ r.more; tail = r.tail; lines_of = ap (λ (more : List Line). record { number = line; text = text } ∷ more) r.lines_of; belong = (b.0, r.belong); keys = r.keys }
       | inr b ↦ record { more = []; tail = record { number = line; text = text } ∷ rest; lines_of = refl; belong = tt; keys = key_line_rest before document list line text next rest total b.1 h }
     ]
 inside_line_rest before document list (Names names) line text next rest total e h = λ ne.
@@ -204,13 +204,15 @@ lines_run state line (text ∷ texts) total e =
     let b = bind_ok (line_step state line text) (λ next. lines_from next (line + 1) texts) total e in
     let c = not_broken (has_barred text) line S1 (cond (is_passed text) (Ok state) (content_line state.documents state.place line text)) b.0 b.1 in
     let rest = lines_run b.0 (line + 1) texts total b.2 in
-    let R : Bool → Type 0 = λ p. run state.documents state.place (cond p (content_from (line + 1) texts) (record { number = line; text = text } ∷ content_from (line + 1) texts)) ≡ Ok total in
-    ((c.0, rest.0), elim (chosen (is_passed text) (Ok state) (content_line state.documents state.place line text) (Ok b.0) c.1) [
-      | inl p ↦
-        let H : StateFields → Type 0 = λ s. run s.documents s.place (content_from (line + 1) texts) ≡ Ok total in
-        subst R (sym p.0) (subst H (sym (same_ok _ _ p.1)) rest.1)
-      | inr p ↦ subst R (sym p.0) (ap (λ (reading : Reading StateFields). reading >>= λ next. run next.documents next.place (content_from (line + 1) texts)) p.1 ∙ rest.1)
-    ])
+    let R : Bool → Type 0 = λ p. run state.documents state.place (cond p (content_from (line + 1) texts) (record { number = line; text = text } ∷ content_from (line + 1) texts)) ≡ Ok total in (
+      (c.0, rest.0),
+      elim (chosen (is_passed text) (Ok state) (content_line state.documents state.place line text) (Ok b.0) c.1) [
+        | inl p ↦
+            let H : StateFields → Type 0 = λ s. run s.documents s.place (content_from (line + 1) texts) ≡ Ok total in
+            subst R (sym p.0) (subst H (sym (same_ok _ _ p.1)) rest.1)
+        | inr p ↦ subst R (sym p.0) (ap (λ (reading : Reading StateFields). reading >>= λ next. run next.documents next.place (content_from (line + 1) texts)) p.1 ∙ rest.1)
+      ],
+    )
 
 -- what is read is in the grammar
 pub documents_found : (text : List ℕ) (says : List DocumentFields) → documents_of text ≡ Ok says → IsStubText text says

@@ -78,7 +78,7 @@ skipped_value_rest before document list line value inside rest total e h =
     elim (chosen (eqb (get_or value 0 0) open_bracket) (names_line document list line (opened line item.Unread) (drop 1 value)) (Ok (stays document list Skipped)) (Ok inside) e) [
       | inl b ↦ inl (opened_rest before document list line item.Unread value inside rest total (eq_at _ _ b.0) b.1 h)
       | inr b ↦
-        let is : stays document list Skipped ≡ inside = same_ok _ _ b.1 in
-        let H : InsideFields → Type 0 = λ i. RestInside before i rest total in
-        inr (ne_at _ _ b.0, subst H (sym is) h)
+          let is : stays document list Skipped ≡ inside = same_ok _ _ b.1 in
+          let H : InsideFields → Type 0 = λ i. RestInside before i rest total in
+          inr (ne_at _ _ b.0, subst H (sym is) h)
     ]

@@ -133,15 +133,15 @@ top_line_rest before document line text next rest total e h =
     let H : StateFields → Type 0 = λ s. Rest s.documents s.place rest total in
     elim (chosen (bytes_eq text head) (with_whole before document >>= at_head line) (cond (bytes_eq text end) (with_whole before document >>= at_end) (entry_at line text >>= at_entry before document line)) (Ok next) e) [
       | inl b ↦
-        let w = bind_ok (with_whole before document) (at_head line) next b.1 in
-        document_ends before document w.0 None (record { number = line; text = text } ∷ rest) _ total w.1 refl (document_in_front w.0 line text rest total (same_bytes text head b.0) (subst H (sym (same_ok _ _ w.2)) h))
+          let w = bind_ok (with_whole before document) (at_head line) next b.1 in
+          document_ends before document w.0 None (record { number = line; text = text } ∷ rest) _ total w.1 refl (document_in_front w.0 line text rest total (same_bytes text head b.0) (subst H (sym (same_ok _ _ w.2)) h))
       | inr b ↦ elim (chosen (bytes_eq text end) (with_whole before document >>= at_end) (entry_at line text >>= at_entry before document line) (Ok next) b.1) [
         | inl d ↦
-          let w = bind_ok (with_whole before document) at_end next d.1 in
-          document_ends before document w.0 (Some line) rest _ total w.1 (ap (λ t. record { number = line; text = t } ∷ rest) (same_bytes text end d.0)) (subst H (sym (same_ok _ _ w.2)) h)
+            let w = bind_ok (with_whole before document) at_end next d.1 in
+            document_ends before document w.0 (Some line) rest _ total w.1 (ap (λ t. record { number = line; text = t } ∷ rest) (same_bytes text end d.0)) (subst H (sym (same_ok _ _ w.2)) h)
         | inr d ↦
-          let k = bind_ok (entry_at line text) (at_entry before document line) next d.1 in
-          let i = bind_ok (top_entry document line (top_key k.0.key) k.0.value) (inside_of_document before) next k.2 in
-          entry_in_front before document line text k.0 rest total k.1 (top_entry_rest before document line text (top_key k.0.key) k.0.value i.0 rest total i.1 (subst H (sym (same_ok _ _ i.2)) h))
+            let k = bind_ok (entry_at line text) (at_entry before document line) next d.1 in
+            let i = bind_ok (top_entry document line (top_key k.0.key) k.0.value) (inside_of_document before) next k.2 in
+            entry_in_front before document line text k.0 rest total k.1 (top_entry_rest before document line text (top_key k.0.key) k.0.value i.0 rest total i.1 (subst H (sym (same_ok _ _ i.2)) h))
       ]
     ]

@@ -80,8 +80,8 @@ top_value_is_read before old new top.Unread value entry rest s v =
 top_by : List DocumentFields → OpenDocumentFields → ℕ → List Line → Bool → Bool → Reading Entry → Reading (List DocumentFields)
 top_by before document line rest is_head is_end reading =
     cond is_head (with_whole before document >>= λ whole. Ok (record { documents = whole; place = Within (stays (head_at line) None Keys) }))
-      (cond is_end (with_whole before document >>= λ whole. Ok (record { documents = whole; place = Outside }))
-        (reading >>= λ entry. within before (top_entry document line (top_key entry.key) entry.value)))
+    (cond is_end (with_whole before document >>= λ whole. Ok (record { documents = whole; place = Outside }))
+    (reading >>= λ entry. within before (top_entry document line (top_key entry.key) entry.value)))
     >>= λ next. run next.documents next.place rest
 
 top_entry_is_read : (before : List DocumentFields) (old new : OpenDocumentFields) (entry : TopEntry) (rest : List Line) → TopStarts rest → IsTopEntry entry old new
@@ -149,6 +149,7 @@ run_lines state line (text ∷ texts) all =
         → (reading >>= λ next. lines_from next (line + 1) texts) ≡ (reading >>= λ next. run next.documents next.place (content_from (line + 1) texts))
     behind ih (Ok next) = ih next
     behind ih (Err fault) = refl
+
     by_test : ((next : StateFields) → lines_from next (line + 1) texts ≡ run next.documents next.place (content_from (line + 1) texts)) → (passed : Bool)
         → (cond passed (Ok state) (content_line state.documents state.place line text) >>= λ next. lines_from next (line + 1) texts) ≡ run state.documents state.place (cond passed (content_from (line + 1) texts) (record { number = line; text = text } ∷ content_from (line + 1) texts))
     by_test ih true = ih state

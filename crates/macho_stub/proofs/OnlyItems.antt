@@ -57,8 +57,8 @@ within_run before (Err fault) rest = refl
 unfoldable pub by_tests : List DocumentFields → OpenDocumentFields → ItemListFields → ℕ → List ℕ → List Line → Bool → Bool → Bool → List ℕ → Reading (List DocumentFields)
 by_tests before document list line text rest dashed top column head =
     cond dashed (items_with_last document.line list >>= λ items. within before (first_line document list.kind items line text))
-      (cond top (items_with_last document.line list >>= λ items. top_line before (with_items list.kind items document) line text)
-        (cond column (within before (item_key_line document list line head)) (outside line)))
+    (cond top (items_with_last document.line list >>= λ items. top_line before (with_items list.kind items document) line text)
+    (cond column (within before (item_key_line document list line head)) (outside line)))
     >>= λ next. run next.documents next.place rest
 
 other_dash : (a b m n : ℕ) (d : Bool) → m ≡ n → b < n → (d && eqb m b) ≡ false
@@ -121,13 +121,13 @@ first_is_read before document kind items at gap line text head rest d =
 pub item_is_read : (before : List DocumentFields) (document : OpenDocumentFields) (kind : ItemKind) (items : List ItemFields) (at line : ℕ) (tree : ItemTree) (one : ItemFields) (rest : List Line) (is : IsItem line kind at tree one)
     → Starts (Some (record { kind = kind; items = items; dash = at; column = column_of at tree; item = no_item })) rest
     → (first_line document kind items tree.first.number (replicate at space ++ dash ∷ (replicate tree.gap space ++ tree.first.head)) >>= λ inside. run_in before inside (tree.first.more ++ entries_then (column_of at tree) tree.others rest))
-      ≡ run_keys before document (Some (record { kind = kind; items = items; dash = at; column = column_of at tree; item = is.read })) rest
+    ≡ run_keys before document (Some (record { kind = kind; items = items; dash = at; column = column_of at tree; item = is.read })) rest
 item_is_read before document kind items at line tree one rest is s =
     let list : ItemListFields = record { kind = kind; items = items; dash = at; column = column_of at tree; item = no_item } in
     let lt : at < column_of at tree = omega arith in
     let first = is.entries.1 in
     let text = replicate at space ++ dash ∷ (replicate tree.gap space ++ tree.first.head) in
     first_is_read before document kind items at tree.gap tree.first.number text tree.first.head (tree.first.more ++ entries_then (column_of at tree) tree.others rest)
-      (dash_line at tree.gap tree.first.head is.spaced (entry_unspaced tree.first.number tree.first.head first.said first.key))
+    (dash_line at tree.gap tree.first.head is.spaced (entry_unspaced tree.first.number tree.first.head first.said first.key))
     ∙ entry_is_read before document list tree.first is.entries.0 (entries_then (column_of at tree) tree.others rest) (entries_start list tree.others is.entries.0 is.read rest s is.entries.2) first
     ∙ entries_are_read before document list tree.others is.entries.0 is.read rest lt s is.entries.2

@@ -78,7 +78,7 @@ items_go_on before document list one (tree ∷ trees) (next ∷ says) rest e lt 
 pub items_are_read : (before : List DocumentFields) (document : OpenDocumentFields) (kind : ItemKind) (at : ℕ) (tree : ItemTree) (trees : List ItemTree) (one : ItemFields) (says : List ItemFields) (rest : List Line)
     → TopStarts rest → AreItems document.line kind at (tree ∷ trees) (one ∷ says)
     → (first_line document kind [] tree.first.number (replicate at space ++ dash ∷ (replicate tree.gap space ++ tree.first.head)) >>= λ inside. run_in before inside (tree.first.more ++ entries_then (column_of at tree) tree.others (items_then at trees rest)))
-      ≡ run_keys before (with_items kind (one ∷ says) document) None rest
+    ≡ run_keys before (with_items kind (one ∷ says) document) None rest
 items_are_read before document kind at tree trees one says rest s a =
     let behind : ItemListFields = record { kind = kind; items = []; dash = at; column = column_of at tree; item = a.0.read } in
     let below : at < column_of at tree = omega arith in

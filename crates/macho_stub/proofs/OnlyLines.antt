@@ -58,6 +58,7 @@ entry_no_head line text said e = by_test (bytes_eq text head) refl
   where
     head_no_entry : text ≡ head → ⊥
     head_no_entry is = no_ok line S1 said (sym (ap (entry_at line) is) ∙ e)
+
     by_test : (t : Bool) → bytes_eq text head ≡ t → bytes_eq text head ≡ false
     by_test false h = h
     by_test true h = absurd (head_no_entry (same_bytes text head h))
@@ -68,6 +69,7 @@ entry_no_end line text said e = by_test (bytes_eq text end) refl
   where
     end_no_entry : text ≡ end → ⊥
     end_no_entry is = no_ok line S1 said (sym (ap (entry_at line) is) ∙ e)
+
     by_test : (t : Bool) → bytes_eq text end ≡ t → bytes_eq text end ≡ false
     by_test false h = h
     by_test true h = absurd (end_no_entry (same_bytes text end h))

@@ -221,8 +221,8 @@ item_line documents document list line text =
       items ← items_with_last document.line list
       top_line documents (with_items list.kind items document) line text)
     else (if indent text == list.column
-      then within documents (item_key_line document list line (unspaced text))
-      else outside line))
+    then within documents (item_key_line document list line (unspaced text))
+    else outside line))
 
 -- a line where a key may stand
 abbrev pub key_line : List DocumentFields → OpenDocumentFields → Option ItemListFields → ℕ → List ℕ → Reading StateFields

@@ -36,7 +36,10 @@ pub fn is_plain_byte(byte: u8) -> bool
 pub fn plain_len(bytes: &[u8]) -> usize
     ensures { result ≡ prefix_len is_plain_byte bytes.now }
 {
-    bytes.iter().take_while(|byte| is_plain_byte(**byte)).count()
+    bytes
+        .iter()
+        .take_while(|byte| is_plain_byte(**byte))
+        .count()
 }
 
 /// How many bytes at the front may stand in a key.
@@ -79,14 +82,7 @@ pub fn has_late_control(bytes: &[u8]) -> bool
 }
 
 /// Whether a line is passed over: it is blank, or its first byte past spaces is a `#`.
-#[tactic(
-    auto,
-    unfolding(
-        crate::specs::Bytes::is_passed,
-        crate::specs::Bytes::unspaced,
-        crate::specs::Bytes::is_blank_or_comment
-    )
-)]
+#[tactic(auto, unfolding(crate::specs::Bytes::is_passed, crate::specs::Bytes::unspaced, crate::specs::Bytes::is_blank_or_comment))]
 pub fn is_passed(line: &[u8]) -> bool
     ensures { result ≡ is_passed line.now }
 {

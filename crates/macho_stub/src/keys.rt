@@ -125,7 +125,10 @@ pub fn scalar_value<'data>(line: u64, value: &'data str) -> Result<&'data str, S
 fn digits_len(bytes: &[u8]) -> usize
     ensures { result ≡ prefix_len is_ascii_digit bytes.now }
 {
-    bytes.iter().take_while(|byte| byte.is_ascii_digit()).count()
+    bytes
+        .iter()
+        .take_while(|byte| byte.is_ascii_digit())
+        .count()
 }
 
 fn zeros_len(bytes: &[u8]) -> usize
@@ -135,10 +138,7 @@ fn zeros_len(bytes: &[u8]) -> usize
 }
 
 /// The number that the value is, as its digits without zeros in front.
-#[tactic(
-    auto,
-    unfolding(crate::specs::Keys::version_value, crate::specs::Keys::number_of)
-)]
+#[tactic(auto, unfolding(crate::specs::Keys::version_value, crate::specs::Keys::number_of))]
 pub fn version_value<'data>(line: u64, value: &'data str) -> Result<&'data str, StubFault>
     ensures { Gives (λ text. text.now) result (version_value line value.now) }
 {

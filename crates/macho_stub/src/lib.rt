@@ -20,15 +20,11 @@ mod tests;
 
 pub use fault::{StubFault, StubRule};
 pub use library::DefinedStubLibrary;
-
 use std::alloc::Global;
 
 /// The library that the documents of the text make.
 #[tactic(auto, unfolding(crate::specs::Answer::answer_of))]
-fn answer<'data>(
-    alloc: Global,
-    input: &'data str,
-) -> Result<DefinedStubLibrary<'data>, StubFault>
+fn answer<'data>(alloc: Global, input: &'data str) -> Result<DefinedStubLibrary<'data>, StubFault>
     ensures { Gives library_fields result (answer_of input.now) }
 {
     match reader::documents_of(alloc, input) {

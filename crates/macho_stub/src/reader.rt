@@ -12,7 +12,8 @@ use crate::bytes::{after, byte_at, has_barred, indent, is_passed};
 use crate::document::{Document, Item, OpenDocument, head_at, no_item};
 use crate::fault::{StubFault, StubRule};
 use crate::keys::{
-    ItemKey, ItemKind, TopKey, item_key, key_line as entry_at, scalar_value, top_key, unspaced, version_value,
+    ItemKey, ItemKind, TopKey, item_key, key_line as entry_at, scalar_value, top_key, unspaced,
+    version_value,
 };
 use crate::list::{Expect, OpenList, list_part, outside};
 use crate::state::{Inside, ItemList, Mode, NameList, Place, State};
@@ -56,13 +57,15 @@ fn with_names<'data>(
             list: None,
             mode: Mode::Keys,
         },
-        Some(ItemList {
-            kind,
-            items,
-            dash,
-            column,
-            item,
-        }) => Inside {
+        Some(
+            ItemList {
+                kind,
+                items,
+                dash,
+                column,
+                item,
+            },
+        ) => Inside {
             document,
             list: Some(ItemList {
                 kind,
@@ -141,7 +144,13 @@ fn names_value<'data>(
     if byte_at(value, 0) != b'[' {
         return Err(outside(line));
     }
-    names_line(document, list, line, opened(alloc, line, key), after(value, 1))
+    names_line(
+        document,
+        list,
+        line,
+        opened(alloc, line, key),
+        after(value, 1),
+    )
 }
 
 /// Skips the value of a key.
@@ -218,10 +227,7 @@ fn item_key_line<'data>(
 }
 
 /// The column of the key behind a line's dash.
-#[tactic(
-    auto,
-    unfolding(crate::specs::Reader::key_column, crate::specs::Reader::has_dash)
-)]
+#[tactic(auto, unfolding(crate::specs::Reader::key_column, crate::specs::Reader::has_dash))]
 fn key_column(line: &str) -> usize
     requires { has_dash line.now ≡ true }
     ensures { result ≡ key_column line.now }
@@ -465,7 +471,13 @@ fn item_line<'data>(
     }
     if front == 0 {
         let items = items_with_last(alloc, document.line, list)?;
-        return top_line(alloc, documents, document.with_items(kind, items), line, text);
+        return top_line(
+            alloc,
+            documents,
+            document.with_items(kind, items),
+            line,
+            text,
+        );
     }
     if front != list.column {
         return Err(outside(line));

@@ -49,7 +49,10 @@ fn single_len(bytes: &[u8]) -> usize
 fn double_len(bytes: &[u8]) -> usize
     ensures { result ≡ prefix_len in_double bytes.now }
 {
-    bytes.iter().take_while(|byte| **byte != b'"' && **byte != b'\\').count()
+    bytes
+        .iter()
+        .take_while(|byte| **byte != b'"' && **byte != b'\\')
+        .count()
 }
 
 /// The scalar in single quotes, from behind the first.
@@ -64,7 +67,10 @@ fn single_front<'data>(text: &'data str) -> Option<Scalar<'data>>
         return None;
     }
     let (front, _rest) = text.split_at(len);
-    Some(Scalar { text: front, width: len + 2 })
+    Some(Scalar {
+        text: front,
+        width: len + 2,
+    })
 }
 
 /// The scalar in double quotes, from behind the first.
@@ -79,7 +85,10 @@ fn double_front<'data>(text: &'data str) -> Option<Scalar<'data>>
         return None;
     }
     let (front, _rest) = text.split_at(len);
-    Some(Scalar { text: front, width: len + 2 })
+    Some(Scalar {
+        text: front,
+        width: len + 2,
+    })
 }
 
 /// The scalar that the text begins with.

@@ -10,5 +10,5 @@ invariant-loop-line l = record {
   is_finite : (goal.iterator-loop-line).is_finite l.line-iterator;
   counted : l.number + (goal.iterator-loop-line).remaining l.line-iterator ≤ (goal.iterator-loop-line).remaining l.initial.line-iterator;
   number : l.number ≡ length l.yielded;
-  so_far : lines_from (state_of l.state) (l.number + 1) (drop l.number (lines l.text)) ≡ lines_from start 1 (lines l.text)
+  so_far : lines_from (state_of l.state) (l.number + 1) (drop l.number (lines l.text)) ≡ lines_from start 1 (lines l.text);
 }
