@@ -14,6 +14,7 @@ pub mod OnlyLines
 pub mod OnlyLists
 pub mod Parts
 pub mod Rest
+pub mod Ruled
 pub mod Same
 pub mod Spelled
 pub mod Walk

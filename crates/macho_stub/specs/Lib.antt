@@ -8,3 +8,4 @@ pub mod Reader
 pub mod Library
 pub mod Grammar
 pub mod Answer
+pub mod Rules

@@ -189,7 +189,8 @@ fn with_item<'data>(
 ) -> Result<Vec<&'data str>, StubFault>
     ensures { Gives (λ v. texts v.items) result (Ok (texts names.entry.items ++ picked_for_target weak (item_of item.now))) }
 {
-    if has_target(item.targets.as_slice()) {
+    let wanted = has_target(item.targets.as_slice());
+    if wanted {
         if weak {
             names.extend_from_slice(item.weak_names.as_slice())?;
         } else {
