@@ -15,6 +15,7 @@ pub mod OnlyLists
 pub mod Parts
 pub mod Rest
 pub mod Ruled
+pub mod Ruling
 pub mod Same
 pub mod Spelled
 pub mod Walk
