@@ -18,4 +18,5 @@ pub mod Ruled
 pub mod Ruling
 pub mod Same
 pub mod Spelled
+pub mod Told
 pub mod Walk

@@ -14,10 +14,10 @@ use Rattle.macho_stub.proofs.Ruled.{clash, is_false, target_held, target_test, l
 
 -- ---- readings that failed
 
-abbrev failed : {A : Type 0} → Fault → Reading A
+abbrev pub failed : {A : Type 0} → Fault → Reading A
 failed fault = Err fault
 
-same_err : {A : Type 0} (d e : Fault) → failed {A = A} d ≡ failed e → d ≡ e
+pub same_err : {A : Type 0} (d e : Fault) → failed {A = A} d ≡ failed e → d ≡ e
 same_err d e h = cc
 
 -- what a step that failed, or one behind it, tells
@@ -82,7 +82,7 @@ libraries_back line (item ∷ []) few all = ap (λ b. cond b (Ok tt) (broken lin
 libraries_back line (item ∷ other ∷ items) few all = absurd (omega arith)
 
 -- the first part of the main library's test
-main_steps : (main : DocumentFields) (r : Reading (Unit {0})) → checked_main main ≡ r
+pub main_steps : (main : DocumentFields) (r : Reading (Unit {0})) → checked_main main ≡ r
     → ((r ≡ broken main.line S5) × (Among target main.targets → ⊥))
     ⊎ (Among target main.targets × (((r ≡ broken main.line S6) × (main.current_version ≡ [])) ⊎ ((main.current_version ≢ []) × (checked_libraries main.line main.libraries ≡ r))))
 unfolding checked_main
@@ -96,7 +96,7 @@ main_steps main r e =
         ])
     ]
 
-main_sound : (main : DocumentFields) (u : Unit {0}) → checked_main main ≡ Ok u → IsSoundMain main
+pub main_sound : (main : DocumentFields) (u : Unit {0}) → checked_main main ≡ Ok u → IsSoundMain main
 main_sound main u e =
     elim (main_steps main (Ok u) e) [
       | inl s ↦ absurd (no_ok main.line S5 u (sym s.0))
@@ -115,7 +115,7 @@ main_back main s =
 
 -- ---- each document
 
-document_sound : (main document : DocumentFields) (u : Unit {0}) → checked_document main document ≡ Ok u → IsSoundDocument main document
+pub document_sound : (main document : DocumentFields) (u : Unit {0}) → checked_document main document ≡ Ok u → IsSoundDocument main document
 unfolding checked_document
 document_sound main document u e =
     let b = not_broken (not (bytes_eq document.version (codes "4"))) document.line S4 (cond (same_document document main || is_listed document.install_name main.libraries) (Ok tt) (broken document.line S9)) u e in
@@ -145,7 +145,7 @@ documents_back main (document ∷ documents) all =
 
 -- ---- the library
 
-abbrev made : DocumentFields → List DocumentFields → LibraryFields
+abbrev pub made : DocumentFields → List DocumentFields → LibraryFields
 made main documents = record { install_name = main.install_name; current_version = main.current_version; symbols = gathered false documents; weak_symbols = gathered true documents }
 
 pub library_made : (documents : List DocumentFields) (library : LibraryFields) → library_of documents ≡ Ok library → MakesLibrary documents library
