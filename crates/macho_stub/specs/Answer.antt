@@ -1,18 +1,25 @@
 -- What the reading of a stub text answers.
-use Rattle.std.specs.Prelude.{◌≡◌, ℕ, List, Ok}
-use Rattle.macho_stub.specs.Faults.{Reading, ◌>>=◌}
+use Rattle.std.specs.Prelude.{◌≡◌, ◌⊎◌, ℕ, List, Ok}
+use Rattle.macho_stub.specs.declared.fault.StubFault.{StubFault}
+use Rattle.macho_stub.specs.declared.fault.StubFault.TheVariants.{Rule, OutOfMemory}
+use Rattle.macho_stub.specs.Faults.{Reading, broken, ◌>>=◌}
 use Rattle.macho_stub.specs.Documents.{DocumentFields}
 use Rattle.macho_stub.specs.Reader.{documents_of}
 use Rattle.macho_stub.specs.Grammar.{IsStubText}
 use Rattle.macho_stub.specs.Library.{LibraryFields, library_of}
+use Rattle.macho_stub.specs.Rules.{MakesLibrary, IsTold}
 
 -- The text is in the grammar, its documents keep the rules, and they make this library.
 pub record IsStub (text : List ℕ) (library : LibraryFields) : Type 0 where
   pub says : List DocumentFields
   pub in_grammar : IsStubText text says
-  pub makes : library_of says ≡ Ok library
+  pub makes : MakesLibrary says library
 
--- What a text says: its documents, and the library that they make. The first fault is told: of the documents in the
--- order of the text, and then of what they say.
+-- A fault that is told: memory ran out; or the text is in the grammar, and the rule is the one that is told of its documents; or the reading of the text, line by line, meets the fault first.
+abbrev pub IsToldOfText : List ℕ → StubFault → Type 0
+IsToldOfText text OutOfMemory = Unit {0}
+IsToldOfText text (Rule line rule) = ((says : List DocumentFields) × IsStubText text says × IsTold rule line says) ⊎ (documents_of text ≡ broken line rule)
+
+-- The documents of a text, and then the library that they make.
 unfoldable pub answer_of : List ℕ → Reading LibraryFields
 answer_of text = documents_of text >>= library_of

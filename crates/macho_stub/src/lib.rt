@@ -1,10 +1,10 @@
 //! Reads text stubs: the `.tbd` files, version 4, that stand for libraries on arm64 macOS.
 #![tactic(auto)]
 
-ghost use Rattle.std.specs.Prelude.{◌≡◌, IfOk, Ok};
+ghost use Rattle.std.specs.Prelude.{◌≡◌, IfErr, IfOk, Ok};
 ghost use Rattle.macho_stub.specs.Faults.{Gives};
 ghost use Rattle.macho_stub.specs.Library.{LibraryFields, library_fields};
-ghost use Rattle.macho_stub.specs.Answer.{IsStub, answer_of};
+ghost use Rattle.macho_stub.specs.Answer.{IsStub, IsToldOfText, answer_of};
 
 mod bytes;
 mod document;
@@ -45,8 +45,8 @@ pub fn parse_defined_library<'data>(
     ensures found { IfOk result (λ library. IsStub input.now (library_fields library)) }
     // What is in the grammar and keeps the rules is read, unless memory runs out.
     ensures only { (says : LibraryFields) → IsStub input.now says → Gives library_fields result (Ok says) }
-    // A rule that is told is the first one that is broken, at its line.
-    ensures fault { Gives library_fields result (answer_of input.now) }
+    // A rule that is told is broken at its line, and is the first: in the text, and then in what it says.
+    ensures fault { IfErr result (IsToldOfText input.now) }
 {
     answer(alloc, input)
 }

@@ -1,5 +1,5 @@
 use Rattle.macho_stub.specs.Library.{library_fields}
-use Rattle.macho_stub.proofs.Answered.{found, only}
+use Rattle.macho_stub.proofs.Answered.{found, only, fault}
 use Rattle.macho_stub.proofs.parse_defined_library.Goals as goal
 
 pub returns-clause-found : goal.returns-clause-found
@@ -7,3 +7,6 @@ returns-clause-found c = found library_fields c.args.input.now c.answer.result c
 
 pub returns-clause-only : goal.returns-clause-only
 returns-clause-only c = λ says is. only library_fields c.args.input.now c.answer.result says c.answer.ensures is
+
+pub returns-clause-fault : goal.returns-clause-fault
+returns-clause-fault c = fault library_fields c.args.input.now c.answer.result c.answer.ensures
