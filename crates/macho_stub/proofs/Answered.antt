@@ -3,7 +3,7 @@ use Rattle.std.proofs.Common.{◌≡◌, ℕ, List, Result, Ok, Err, sym, ap, �
 use Rattle.std.specs.Prelude.{IfOk, IfErr}
 use Rattle.macho_stub.specs.declared.fault.StubFault.{StubFault}
 use Rattle.macho_stub.specs.declared.fault.StubFault.TheVariants.{Rule, OutOfMemory}
-use Rattle.macho_stub.specs.Faults.{Reading, broken, Gives, ◌>>=◌}
+use Rattle.macho_stub.specs.Faults.{broken, Gives, ◌>>=◌}
 use Rattle.macho_stub.specs.Reader.{documents_of}
 use Rattle.macho_stub.specs.Library.{LibraryFields, library_of}
 use Rattle.macho_stub.specs.Answer.{IsStub, IsToldOfText, answer_of}

@@ -1,6 +1,6 @@
 -- What is read is in the grammar. From the last line backwards: if the lines that follow a line finish the text
 -- from where it leaves the reading (`Rest`), then the line and they finish it from where the line finds it.
-use Rattle.std.proofs.Common.{◌≡◌, ◌≢◌, ℕ, ◌+◌, ◌<◌, ◌&&◌, Bool, true, false, cond, eqb, ltb, List, [], ◌∷◌, ◌++◌, length, drop, replicate, Option, Some, None, Ok, is_some, refl, sym, ap, ◌∙◌, arith, ◌⊎◌, inl, inr, get_or, subst, append_assoc}
+use Rattle.std.proofs.Common.{◌≡◌, ℕ, ◌+◌, ◌&&◌, Bool, true, false, cond, eqb, List, [], ◌∷◌, ◌++◌, replicate, Option, Some, None, Ok, refl, sym, ap, ◌∙◌, inl, inr, subst, append_assoc}
 use Rattle.std.specs.List.{AllByRecursion}
 use Rattle.std.specs.Str.{bytes_eq}
 use Rattle.std.specs.Str.Lines.{lines}
@@ -8,12 +8,12 @@ use Rattle.std.proofs.lemmas.List.{append-nil}
 use Rattle.macho_stub.specs.declared.keys.ItemKind.{ItemKind}
 use Rattle.macho_stub.specs.declared.fault.StubRule.TheVariants.{S1}
 use Rattle.macho_stub.specs.Bytes.{space, indent, unspaced, is_passed, has_barred}
-use Rattle.macho_stub.specs.Faults.{Reading, ◌>>=◌, broken, outside}
+use Rattle.macho_stub.specs.Faults.{Reading, ◌>>=◌, outside}
 use Rattle.macho_stub.specs.Documents.{ItemFields, DocumentFields, OpenDocumentFields, head_at, with_items, whole_item, whole_document}
-use Rattle.macho_stub.specs.Reader.{ItemListFields, NameListFields, ModeFields, Keys, Skipped, Names, NoItem, InsideFields, PlaceFields, Outside, Within, StateFields, stays, within, with_whole, top_line, items_with_last, item_line, item_key_line, first_line, names_line, key_line, belongs, inside_line, content_line, line_step, ended_document, ended_inside, ended, lines_from, start, documents_of, has_dash, head}
-use Rattle.macho_stub.specs.Grammar.{Line, content_from, IsStubText, entries_then, items_then, entry_then, AreItems, AreDocuments}
+use Rattle.macho_stub.specs.Reader.{ItemListFields, ModeFields, Keys, Skipped, Names, NoItem, InsideFields, PlaceFields, Outside, Within, StateFields, stays, within, with_whole, top_line, items_with_last, item_line, item_key_line, first_line, names_line, key_line, belongs, inside_line, content_line, line_step, ended_document, ended_inside, ended, lines_from, start, documents_of, has_dash, head}
+use Rattle.macho_stub.specs.Grammar.{Line, content_from, IsStubText, items_then, AreItems, AreDocuments}
 use Rattle.macho_stub.proofs.Bind.{bind_ok, chosen, not_broken, not_broken_else, same_ok, no_ok, same_bytes, eq_at}
-use Rattle.macho_stub.proofs.Rest.{run, RestOutside, RestTop, RestItem, RestKeys, RestSkipped, RestNames, RestMode, RestInside, Rest}
+use Rattle.macho_stub.proofs.Rest.{run, RestTop, RestItem, RestKeys, RestMode, RestInside, Rest}
 use Rattle.macho_stub.proofs.Spelled.{spelled_unspaced}
 use Rattle.macho_stub.proofs.FoundEntries.{names_line_rest}
 use Rattle.macho_stub.proofs.FoundItems.{item_key_line_rest, first_line_rest}

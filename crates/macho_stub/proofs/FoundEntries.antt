@@ -1,24 +1,19 @@
 -- From the reading of an entry to its tree: if what follows the entry's line finishes the text from where the
 -- entry leaves the reading, then the entry with the lines under it is one of the grammar, and what is left finishes
 -- the text from behind it.
-use Rattle.std.proofs.Common.{◌≡◌, ◌≢◌, ℕ, ◌+◌, Bool, true, false, cond, eqb, List, [], ◌∷◌, ◌++◌, length, drop, Option, Some, None, Ok, is_some, refl, sym, ap, ◌∙◌, arith, ◌⊎◌, inl, inr, get_or, subst}
-use Rattle.macho_stub.specs.declared.keys.ItemKind.{ItemKind}
+use Rattle.std.proofs.Common.{◌≡◌, ◌≢◌, ℕ, eqb, List, [], ◌++◌, drop, Option, Some, None, Ok, refl, sym, ◌⊎◌, inl, inr, get_or, subst}
 use Rattle.macho_stub.specs.declared.keys.ItemKey.{ItemKey}
 use Rattle.macho_stub.specs.declared.keys.ItemKey.TheVariants as item
-use Rattle.macho_stub.specs.declared.keys.TopKey.{TopKey}
-use Rattle.macho_stub.specs.declared.keys.TopKey.TheVariants as top
 use Rattle.macho_stub.specs.declared.list.Expect.{Expect}
 use Rattle.macho_stub.specs.declared.list.Expect.TheVariants.{AfterOpen, AfterComma, AfterName, Closed}
-use Rattle.macho_stub.specs.declared.fault.StubRule.TheVariants.{S1, S3}
+use Rattle.macho_stub.specs.declared.fault.StubRule.TheVariants.{S1}
 use Rattle.macho_stub.specs.Bytes.{open_bracket}
-use Rattle.macho_stub.specs.Faults.{Reading, ◌>>=◌, broken, outside}
 use Rattle.macho_stub.specs.Lists.{ListPart, list_part, with_front}
-use Rattle.macho_stub.specs.Keys.{Entry, entry_at, scalar_value, version_value, top_key, item_key}
-use Rattle.macho_stub.specs.Documents.{OpenItemFields, DocumentFields, OpenDocumentFields, has_key, with_key, with_top_key, has_items}
-use Rattle.macho_stub.specs.Reader.{ItemListFields, NameListFields, Keys, Skipped, Names, NoItem, InsideFields, stays, with_names, behind_expect, behind_part, names_line, opened, names_value, skipped_value, once, item_entry, item_key_line, top_entry, belongs}
-use Rattle.macho_stub.specs.Grammar.{Line, GoesOn, IsList, ItemEntry, IsItemEntry, TopEntry, Plain, Listed}
-use Rattle.macho_stub.proofs.Bind.{bind_ok, chosen, not_broken, not_broken_else, same_ok, no_ok, eq_at, ne_at}
-use Rattle.macho_stub.proofs.Rest.{RestTop, RestItem, RestBehind, RestSkipped, RestNames, RestInside}
+use Rattle.macho_stub.specs.Documents.{DocumentFields, OpenDocumentFields}
+use Rattle.macho_stub.specs.Reader.{ItemListFields, NameListFields, Skipped, InsideFields, stays, with_names, behind_expect, behind_part, names_line, opened, names_value, skipped_value}
+use Rattle.macho_stub.specs.Grammar.{Line, IsList}
+use Rattle.macho_stub.proofs.Bind.{bind_ok, chosen, not_broken_else, same_ok, eq_at, ne_at}
+use Rattle.macho_stub.proofs.Rest.{RestBehind, RestSkipped, RestNames, RestInside}
 
 -- behind a line of a flow list, whether it closes the list or not
 behind_part_rest : (before : List DocumentFields) (document : OpenDocumentFields) (list : Option ItemListFields) (began : ℕ) (key : ItemKey) (names : List (List ℕ)) (expect : Expect) (rest : List Line) (total : List DocumentFields)

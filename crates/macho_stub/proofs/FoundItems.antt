@@ -1,19 +1,18 @@
 -- From the reading of an item's lines to its tree: each key line is an entry, and a line with a dash begins an item.
-use Rattle.std.proofs.Common.{◌≡◌, ◌≢◌, ℕ, ◌+◌, ◌<◌, ◌&&◌, Bool, true, false, cond, eqb, List, [], ◌∷◌, ◌++◌, length, drop, replicate, Option, Some, None, Ok, refl, sym, ap, ◌∙◌, arith, ◌⊎◌, inl, inr, get_or, subst}
+use Rattle.std.proofs.Common.{◌≡◌, ℕ, ◌+◌, List, ◌∷◌, ◌++◌, drop, replicate, Some, Ok, refl, ap, ◌∙◌, inl, inr, subst}
 use Rattle.macho_stub.specs.declared.keys.ItemKind.{ItemKind}
 use Rattle.macho_stub.specs.declared.keys.ItemKey.{ItemKey}
 use Rattle.macho_stub.specs.declared.keys.ItemKey.TheVariants as item
 use Rattle.macho_stub.specs.declared.fault.StubRule.TheVariants.{S1, S3}
-use Rattle.macho_stub.specs.Bytes.{space, dash, open_bracket, indent, unspaced}
-use Rattle.macho_stub.specs.Faults.{Reading, ◌>>=◌, broken, outside}
-use Rattle.macho_stub.specs.Keys.{Entry, entry_at, item_key}
-use Rattle.macho_stub.specs.Documents.{ItemFields, OpenItemFields, DocumentFields, OpenDocumentFields, no_item, has_key, with_key, whole_item, with_items}
-use Rattle.macho_stub.specs.Reader.{ItemListFields, InsideFields, names_value, skipped_value, item_entry, item_key_line, has_dash, key_column, first_line, items_with_last}
-use Rattle.macho_stub.specs.Grammar.{Line, ItemEntry, IsItemEntry, ItemEntries, ItemTree, item_then, items_then, IsItem, AreItems, ItemValue, entries_then}
-use Rattle.macho_stub.proofs.Bind.{bind_ok, not_broken, not_broken_else, same_ok}
-use Rattle.macho_stub.proofs.Rest.{RestTop, RestItem, RestItems, RestInside}
-use Rattle.macho_stub.proofs.FoundEntries.{RestList, names_value_rest, skipped_value_rest}
-use Rattle.macho_stub.proofs.Spelled.{spelled_dash, spelled_unspaced}
+use Rattle.macho_stub.specs.Bytes.{space, dash, indent}
+use Rattle.macho_stub.specs.Keys.{entry_at, item_key}
+use Rattle.macho_stub.specs.Documents.{ItemFields, OpenItemFields, DocumentFields, OpenDocumentFields, no_item, has_key, with_key}
+use Rattle.macho_stub.specs.Reader.{ItemListFields, InsideFields, names_value, item_entry, item_key_line, has_dash, key_column, first_line}
+use Rattle.macho_stub.specs.Grammar.{Line, IsItemEntry, ItemEntries, ItemTree, items_then, ItemValue, entries_then}
+use Rattle.macho_stub.proofs.Bind.{bind_ok, not_broken, not_broken_else}
+use Rattle.macho_stub.proofs.Rest.{RestItem, RestItems, RestInside}
+use Rattle.macho_stub.proofs.FoundEntries.{names_value_rest, skipped_value_rest}
+use Rattle.macho_stub.proofs.Spelled.{spelled_dash}
 
 -- a key line of an item, and the lines behind it
 pub record RestItemEntry (before : List DocumentFields) (document : OpenDocumentFields) (list : ItemListFields) (line : ℕ) (text : List ℕ) (rest : List Line) (total : List DocumentFields) : Type 0 where

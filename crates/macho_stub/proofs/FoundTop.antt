@@ -1,19 +1,18 @@
 -- From the reading of a document's lines to its tree.
-use Rattle.std.proofs.Common.{◌≡◌, ◌≢◌, ℕ, ◌+◌, ◌<◌, ◌&&◌, Bool, true, false, cond, eqb, List, [], ◌∷◌, ◌++◌, length, drop, Option, Some, None, Ok, is_some, refl, sym, ap, ◌∙◌, arith, ◌⊎◌, inl, inr, get_or, subst, append_assoc}
+use Rattle.std.proofs.Common.{◌≡◌, ℕ, cond, eqb, List, [], ◌∷◌, ◌++◌, length, Option, Some, None, Ok, is_some, refl, sym, ap, ◌∙◌, inl, inr, subst, append_assoc}
 use Rattle.std.specs.Str.{bytes_eq}
-use Rattle.macho_stub.specs.declared.keys.ItemKind.{ItemKind}
 use Rattle.macho_stub.specs.declared.keys.ItemKey.TheVariants as item
 use Rattle.macho_stub.specs.declared.keys.TopKey.{TopKey}
 use Rattle.macho_stub.specs.declared.keys.TopKey.TheVariants as top
 use Rattle.macho_stub.specs.declared.fault.StubRule.TheVariants.{S1, S3}
-use Rattle.macho_stub.specs.Faults.{Reading, ◌>>=◌, broken, outside}
+use Rattle.macho_stub.specs.Faults.{Reading, ◌>>=◌, outside}
 use Rattle.macho_stub.specs.Keys.{Entry, entry_at, scalar_value, version_value, top_key}
 use Rattle.macho_stub.specs.Documents.{DocumentFields, OpenDocumentFields, head_at, has_items, with_items, whole_document}
-use Rattle.macho_stub.specs.Reader.{Keys, Skipped, NoItem, InsideFields, Outside, Within, StateFields, stays, names_value, skipped_value, top_entry, within, with_whole, top_line, head, end}
-use Rattle.macho_stub.specs.Grammar.{Line, TopEntry, Under, Plain, Listed, under_then, IsTopEntry, TopValue, top_entries_then, end_then, documents_then, DocumentTree}
+use Rattle.macho_stub.specs.Reader.{Keys, NoItem, InsideFields, Outside, Within, StateFields, stays, names_value, top_entry, within, with_whole, top_line, head, end}
+use Rattle.macho_stub.specs.Grammar.{Line, Under, Plain, Listed, under_then, TopValue, end_then}
 use Rattle.macho_stub.proofs.Bind.{bind_ok, chosen, not_broken, not_broken_else, same_ok, same_bytes, eq_at}
 use Rattle.macho_stub.proofs.Rest.{RestOutside, RestTop, RestInside, Rest}
-use Rattle.macho_stub.proofs.FoundEntries.{RestList, names_value_rest, skipped_value_rest}
+use Rattle.macho_stub.proofs.FoundEntries.{names_value_rest, skipped_value_rest}
 
 -- a key line of a document, and the lines behind it
 record RestTopValue (before : List DocumentFields) (document : OpenDocumentFields) (line : ℕ) (text : List ℕ) (key : TopKey) (value : List ℕ) (rest : List Line) (total : List DocumentFields) : Type 0 where

@@ -1,5 +1,5 @@
 -- What is in the grammar is read: documents, and the whole text.
-use Rattle.std.proofs.Common.{◌≡◌, ◌≢◌, ℕ, ◌+◌, ◌<◌, Bool, true, false, cond, eqb, List, [], ◌∷◌, ◌++◌, length, drop, replicate, Option, Some, None, Ok, Err, is_some, refl, sym, ap, ◌∙◌, arith, subst, append_assoc}
+use Rattle.std.proofs.Common.{◌≡◌, ℕ, ◌+◌, Bool, true, false, cond, eqb, List, [], ◌∷◌, ◌++◌, length, replicate, Option, Some, None, Ok, Err, is_some, refl, sym, ap, ◌∙◌, append_assoc}
 use Rattle.std.specs.List.{AllByRecursion}
 use Rattle.std.specs.Str.{bytes_eq}
 use Rattle.std.specs.Str.Lines.{lines}
@@ -13,13 +13,13 @@ use Rattle.macho_stub.specs.declared.fault.StubRule.TheVariants.{S3}
 use Rattle.macho_stub.specs.Bytes.{space, dash, is_passed, has_barred}
 use Rattle.macho_stub.specs.Faults.{Reading, ◌>>=◌, outside, broken}
 use Rattle.macho_stub.specs.Keys.{Entry, entry_at, scalar_value, version_value, top_key}
-use Rattle.macho_stub.specs.Documents.{ItemFields, DocumentFields, OpenDocumentFields, head_at, has_items, with_items, whole_document}
-use Rattle.macho_stub.specs.Reader.{Keys, Skipped, NoItem, InsideFields, Outside, Within, StateFields, stays, with_names, names_value, skipped_value, top_entry, first_line, within, with_whole, top_line, head, end, belongs_to_top, content_line, line_step, lines_from, ended, start, documents_of}
-use Rattle.macho_stub.specs.Grammar.{Line, content_from, Under, Plain, Listed, under_then, TopEntry, IsListUnder, IsSkippedUnder, AreItemsUnder, TopValue, IsTopEntry, TopEntries, top_entries_then, DocumentTree, end_then, documents_then, IsDocument, AreDocuments, IsStubText, items_then, entries_then, column_of}
-use Rattle.macho_stub.proofs.Bind.{eq_true, eq_false}
+use Rattle.macho_stub.specs.Documents.{ItemFields, DocumentFields, OpenDocumentFields, head_at, with_items, whole_document}
+use Rattle.macho_stub.specs.Reader.{Keys, NoItem, Outside, Within, StateFields, stays, with_names, names_value, skipped_value, top_entry, first_line, within, with_whole, top_line, end, belongs_to_top, content_line, line_step, lines_from, start, documents_of}
+use Rattle.macho_stub.specs.Grammar.{Line, content_from, Under, Plain, Listed, under_then, TopEntry, IsListUnder, IsSkippedUnder, AreItemsUnder, TopValue, IsTopEntry, TopEntries, top_entries_then, DocumentTree, end_then, documents_then, AreDocuments, IsStubText, items_then, entries_then, column_of}
+use Rattle.macho_stub.proofs.Bind.{eq_true}
 use Rattle.macho_stub.proofs.Rest.{run}
 use Rattle.macho_stub.proofs.OnlyLines.{entry_at_top, entry_no_head, entry_no_end}
-use Rattle.macho_stub.proofs.OnlyLists.{run_in, run_keys, Starts, names_value_is_read, skipped_value_is_read}
+use Rattle.macho_stub.proofs.OnlyLists.{run_in, run_keys, names_value_is_read, skipped_value_is_read}
 use Rattle.macho_stub.proofs.OnlyItems.{within_run}
 use Rattle.macho_stub.proofs.OnlyLast.{TopStarts, items_are_read}
 

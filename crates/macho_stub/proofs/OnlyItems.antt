@@ -1,6 +1,6 @@
 -- What is in the grammar is read: items. Each line of an item is a key in the column of its keys, each item begins
 -- with a dash in the column of the list's dashes, and the list ends at a line in column 0, or with the text.
-use Rattle.std.proofs.Common.{◌≡◌, ◌≢◌, ℕ, ◌+◌, ◌<◌, ◌≤◌, ◌&&◌, Bool, true, false, cond, eqb, ltb, List, [], ◌∷◌, ◌++◌, length, drop, replicate, get_or, Option, Some, None, Ok, Err, refl, sym, ap, ◌∙◌, arith, subst, append_assoc}
+use Rattle.std.proofs.Common.{◌≡◌, ℕ, ◌+◌, ◌<◌, ◌&&◌, Bool, true, false, cond, eqb, ltb, List, [], ◌∷◌, ◌++◌, drop, replicate, Some, Ok, Err, refl, sym, ap, ◌∙◌, arith}
 use Rattle.std.specs.List.{prefix_len}
 use Rattle.std.proofs.lemmas.Bool.Decides.{nat_tests}
 use Rattle.macho_stub.specs.declared.keys.ItemKind.{ItemKind}
@@ -10,12 +10,12 @@ use Rattle.macho_stub.specs.declared.fault.StubRule.TheVariants.{S3}
 use Rattle.macho_stub.specs.Bytes.{is_space, space, dash, indent, unspaced}
 use Rattle.macho_stub.specs.Faults.{Reading, ◌>>=◌, outside, broken}
 use Rattle.macho_stub.specs.Keys.{Entry, entry_at, item_key}
-use Rattle.macho_stub.specs.Documents.{ItemFields, OpenItemFields, DocumentFields, OpenDocumentFields, no_item, has_key, with_key, whole_item, with_items}
-use Rattle.macho_stub.specs.Reader.{ItemListFields, Keys, InsideFields, Within, StateFields, stays, with_names, names_value, item_entry, item_key_line, has_dash, key_column, first_line, items_with_last, within, with_whole, top_line, item_line, belongs, belongs_to_top, content_line, ended}
-use Rattle.macho_stub.specs.Grammar.{Line, ItemEntry, GivesNames, ItemValue, IsItemEntry, ItemEntries, entry_then, entries_then, ItemTree, column_of, item_then, items_then, IsItem, AreItems}
+use Rattle.macho_stub.specs.Documents.{ItemFields, OpenItemFields, DocumentFields, OpenDocumentFields, no_item, has_key, with_items}
+use Rattle.macho_stub.specs.Reader.{ItemListFields, InsideFields, names_value, item_entry, item_key_line, has_dash, key_column, first_line, items_with_last, within, top_line, item_line}
+use Rattle.macho_stub.specs.Grammar.{Line, ItemEntry, GivesNames, ItemValue, IsItemEntry, ItemEntries, entries_then, ItemTree, column_of, IsItem}
 use Rattle.macho_stub.proofs.Bind.{eq_true, eq_false, not_below}
 use Rattle.macho_stub.proofs.Rest.{run}
-use Rattle.macho_stub.proofs.OnlyLines.{entry_unspaced, top_indent, top_no_dash, spelled_indent, spelled_rest, DashLine, dash_line}
+use Rattle.macho_stub.proofs.OnlyLines.{entry_unspaced, spelled_indent, spelled_rest, DashLine, dash_line}
 use Rattle.macho_stub.proofs.OnlyLists.{run_in, run_keys, Starts, names_value_is_read, skipped_value_is_read}
 
 -- ---- entries

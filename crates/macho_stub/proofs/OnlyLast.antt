@@ -1,12 +1,12 @@
 -- What is in the grammar is read: lists of items. Behind an item stands the next one's dash, or the list has ended.
-use Rattle.std.proofs.Common.{◌≡◌, ◌≢◌, ℕ, ◌+◌, ◌<◌, ◌≤◌, ◌&&◌, Bool, true, false, cond, eqb, ltb, List, [], ◌∷◌, ◌++◌, length, drop, replicate, get_or, Option, Some, None, Ok, refl, sym, ap, ◌∙◌, arith, subst, append_assoc}
+use Rattle.std.proofs.Common.{◌≡◌, ℕ, ◌<◌, ◌&&◌, true, false, eqb, List, [], ◌∷◌, ◌++◌, replicate, Some, None, Ok, ap, ◌∙◌, arith, append_assoc}
 use Rattle.macho_stub.specs.declared.keys.ItemKind.{ItemKind}
 use Rattle.macho_stub.specs.Bytes.{space, dash, indent, unspaced}
-use Rattle.macho_stub.specs.Faults.{Reading, ◌>>=◌, outside}
-use Rattle.macho_stub.specs.Documents.{ItemFields, OpenItemFields, DocumentFields, OpenDocumentFields, no_item, whole_item, with_items}
-use Rattle.macho_stub.specs.Reader.{ItemListFields, Keys, InsideFields, Within, StateFields, stays, item_key_line, has_dash, first_line, items_with_last, within, with_whole, top_line, item_line, belongs, belongs_to_top, content_line, ended, ended_document}
-use Rattle.macho_stub.specs.Grammar.{Line, ItemTree, column_of, entries_then, item_then, items_then, IsItem, AreItems}
-use Rattle.macho_stub.proofs.Bind.{eq_true, eq_false, not_below}
+use Rattle.macho_stub.specs.Faults.{◌>>=◌}
+use Rattle.macho_stub.specs.Documents.{ItemFields, DocumentFields, OpenDocumentFields, whole_item, with_items}
+use Rattle.macho_stub.specs.Reader.{ItemListFields, has_dash, first_line, items_with_last, within, with_whole, top_line, item_line}
+use Rattle.macho_stub.specs.Grammar.{Line, ItemTree, column_of, entries_then, items_then, AreItems}
+use Rattle.macho_stub.proofs.Bind.{eq_true, not_below}
 use Rattle.macho_stub.proofs.Rest.{run}
 use Rattle.macho_stub.proofs.OnlyLines.{entry_unspaced, top_indent, top_no_dash, DashLine, dash_line}
 use Rattle.macho_stub.proofs.OnlyLists.{run_in, run_keys, Starts}

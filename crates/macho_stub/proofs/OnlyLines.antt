@@ -1,6 +1,6 @@
 -- Where the lines of a tree begin: a key, a head and an end belong to no skipped value above them, and a line that
 -- is spelled with spaces, a dash and more spaces reads back as these.
-use Rattle.std.proofs.Common.{◌≡◌, ◌≢◌, ℕ, zero, suc, ◌+◌, ◌<◌, ◌≤◌, ◌&&◌, ◌||◌, not, Bool, true, false, cond, eqb, ltb, List, [], ◌∷◌, ◌++◌, length, get_or, take, drop, replicate, Ok, refl, sym, ap, ◌∙◌, arith, ◌⊎◌, inl, inr, subst, add-one}
+use Rattle.std.proofs.Common.{◌≡◌, ◌≢◌, ℕ, zero, suc, ◌+◌, ◌<◌, ◌&&◌, ◌||◌, not, Bool, true, false, cond, eqb, List, [], ◌∷◌, ◌++◌, get_or, take, drop, replicate, Ok, refl, sym, ap, ◌∙◌, arith}
 use Rattle.std.specs.List.{prefix_len}
 use Rattle.std.specs.Str.{bytes_eq}
 use Rattle.std.proofs.lemmas.Bool.Decides.{nat_tests}
@@ -8,7 +8,6 @@ use Rattle.std.proofs.Math.Numerals.{one-add}
 use Rattle.std.proofs.lemmas.List.{drop-drop}
 use Rattle.macho_stub.specs.declared.fault.StubRule.TheVariants.{S1}
 use Rattle.macho_stub.specs.Bytes.{is_space, space, dash, colon, is_key_byte, indent, unspaced}
-use Rattle.macho_stub.specs.Faults.{Reading, broken}
 use Rattle.macho_stub.specs.Keys.{Entry, entry_at, entry_behind}
 use Rattle.macho_stub.specs.Reader.{head, end, belongs_to_top, has_dash, key_column}
 use Rattle.macho_stub.proofs.Bind.{not_broken, no_ok, same_bytes}

@@ -1,16 +1,15 @@
 -- What is in the grammar is read: flow lists and skipped values. The lines of a tree, in front of others, take the
 -- reading to where it stands behind the tree.
-use Rattle.std.proofs.Common.{◌≡◌, ◌≢◌, ℕ, ◌+◌, ◌<◌, Bool, true, false, cond, eqb, ltb, List, [], ◌∷◌, ◌++◌, length, drop, get_or, Option, Some, None, Ok, refl, sym, ap, ◌∙◌, arith, ◌⊎◌, inl, inr, subst}
+use Rattle.std.proofs.Common.{◌≡◌, ◌≢◌, ℕ, true, false, cond, List, [], ◌∷◌, ◌++◌, drop, Option, Ok, refl, ap, ◌∙◌, inl, inr}
 use Rattle.std.specs.List.{AllByRecursion}
 use Rattle.macho_stub.specs.declared.keys.ItemKey.{ItemKey}
 use Rattle.macho_stub.specs.declared.keys.ItemKey.TheVariants as item
 use Rattle.macho_stub.specs.declared.list.Expect.{Expect}
 use Rattle.macho_stub.specs.declared.list.Expect.TheVariants.{AfterOpen, AfterComma, AfterName, Closed}
-use Rattle.macho_stub.specs.Bytes.{open_bracket}
 use Rattle.macho_stub.specs.Faults.{Reading, ◌>>=◌, outside}
 use Rattle.macho_stub.specs.Lists.{ListPart, list_part, with_front}
 use Rattle.macho_stub.specs.Documents.{DocumentFields, OpenDocumentFields}
-use Rattle.macho_stub.specs.Reader.{ItemListFields, NameListFields, Keys, Skipped, Names, InsideFields, Within, StateFields, stays, with_names, behind_expect, behind_part, names_line, opened, names_value, skipped_value, within, belongs, content_line, key_line}
+use Rattle.macho_stub.specs.Reader.{ItemListFields, Keys, Skipped, Names, InsideFields, Within, stays, with_names, behind_expect, behind_part, names_line, opened, names_value, skipped_value, within, belongs, key_line}
 use Rattle.macho_stub.specs.Grammar.{Line, GoesOn, IsList, IsSkipped}
 use Rattle.macho_stub.proofs.Bind.{eq_true, eq_false}
 use Rattle.macho_stub.proofs.Rest.{run}

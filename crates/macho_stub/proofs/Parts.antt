@@ -1,13 +1,13 @@
 -- Reading the tokens of a line one after the other, as a loop does.
 -- The reading goes byte by byte, and passes the bytes of a token by a count; so from the next token on it is
 -- the reading of what follows the token (`list_part_skip`). What was read before stands in front (`goes_on`).
-use Rattle.std.proofs.Common.{◌≡◌, ℕ, zero, suc, ◌+◌, ◌-◌, ◌<◌, ◌≤◌, List, [], ◌∷◌, ◌++◌, length, drop, Result, Ok, Err, refl, sym, ap, ◌∙◌, append_assoc, arith, Bool, true, false, eqb}
+use Rattle.std.proofs.Common.{◌≡◌, ℕ, zero, suc, ◌-◌, ◌<◌, List, [], ◌∷◌, ◌++◌, length, drop, Ok, Err, refl, sym, ap, ◌∙◌, append_assoc, arith, Bool, true, false, eqb}
 use Rattle.std.proofs.lemmas.List.{append-nil}
 use Rattle.std.proofs.lemmas.Bool.Decides.{nat_tests}
 use Rattle.macho_stub.specs.declared.list.Expect.{Expect}
 use Rattle.macho_stub.specs.declared.fault.StubFault.{StubFault}
 use Rattle.macho_stub.specs.declared.fault.StubFault.TheVariants.{Rule, OutOfMemory}
-use Rattle.macho_stub.specs.Faults.{Fault, Reading, ◌>>=◌, Fails, broken}
+use Rattle.macho_stub.specs.Faults.{Reading, Fails, broken}
 use Rattle.macho_stub.specs.Lists.{TokenSpan, ListPart, names_of, token_front, behind, list_part, with_front}
 
 abbrev done : {A : Type 0} → A → Reading A

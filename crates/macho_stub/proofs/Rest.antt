@@ -1,6 +1,6 @@
 -- What lines must be that finish a text from where the reading stands: trees for what is still open there, and
 -- documents behind them. Each relation says which documents the text then has, `total`, behind those `before`.
-use Rattle.std.proofs.Common.{◌≡◌, ◌≢◌, ℕ, Bool, true, List, [], ◌∷◌, ◌++◌, Option, Some, None, Ok}
+use Rattle.std.proofs.Common.{◌≡◌, ◌≢◌, ℕ, true, List, [], ◌∷◌, ◌++◌, Option, Some, None, Ok}
 use Rattle.std.specs.List.{AllByRecursion}
 use Rattle.macho_stub.specs.declared.keys.ItemKind.{ItemKind}
 use Rattle.macho_stub.specs.declared.keys.ItemKey.{ItemKey}
@@ -8,7 +8,7 @@ use Rattle.macho_stub.specs.declared.list.Expect.TheVariants.{Closed}
 use Rattle.macho_stub.specs.Faults.{Reading, ◌>>=◌}
 use Rattle.macho_stub.specs.Lists.{ListPart}
 use Rattle.macho_stub.specs.Documents.{ItemFields, OpenItemFields, DocumentFields, OpenDocumentFields, with_items, whole_item, whole_document}
-use Rattle.macho_stub.specs.Reader.{ItemListFields, NameListFields, ModeFields, Keys, Skipped, Names, NoItem, InsideFields, PlaceFields, Outside, Within, StateFields, with_names, belongs, content_line, ended}
+use Rattle.macho_stub.specs.Reader.{ItemListFields, ModeFields, Keys, Skipped, Names, NoItem, InsideFields, PlaceFields, Outside, Within, with_names, belongs, content_line, ended}
 use Rattle.macho_stub.specs.Grammar.{Line, GoesOn, ItemEntry, entries_then, ItemEntries, ItemTree, items_then, AreItems, TopEntry, top_entries_then, TopEntries, DocumentTree, end_then, documents_then, AreDocuments}
 
 -- the reading of the lines with content

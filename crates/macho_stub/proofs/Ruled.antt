@@ -1,17 +1,12 @@
 -- The tests that are computed decide the rules: each says yes exactly where its rule holds. So the documents make
 -- a library exactly where it is computed, and the fault that is computed is the one that is told.
-use Rattle.std.proofs.Common.{◌≡◌, ◌≢◌, ℕ, ◌+◌, ◌<◌, ◌≤◌, ◌&&◌, ◌||◌, not, Bool, true, false, cond, eqb, List, [], ◌∷◌, ◌++◌, length, Ok, Err, refl, sym, ap, ◌∙◌, arith, ◌⊎◌, inl, inr, subst}
-use Rattle.std.specs.List.{AllByRecursion, list_any}
+use Rattle.std.proofs.Common.{◌≡◌, ℕ, ◌&&◌, ◌||◌, Bool, true, false, List, [], ◌∷◌, refl, ap, ◌∙◌, ◌⊎◌, inl, inr}
+use Rattle.std.specs.List.{list_any}
 use Rattle.std.specs.Str.{bytes_eq}
-use Rattle.std.specs.Prelude.{codes}
-use Rattle.std.proofs.lemmas.Bool.Decides.{nat_tests}
-use Rattle.macho_stub.specs.declared.fault.StubRule.{StubRule}
-use Rattle.macho_stub.specs.declared.fault.StubRule.TheVariants.{S1, S2, S3, S4, S5, S6, S7, S8, S9}
-use Rattle.macho_stub.specs.Faults.{Fault, Reading, ◌>>=◌, broken}
 use Rattle.macho_stub.specs.Documents.{ItemFields, DocumentFields}
-use Rattle.macho_stub.specs.Library.{target, has_target, all_same, same_names, same_item, same_items, same_document, is_listed, LibraryFields, gathered, checked_libraries, checked_main, checked_document, checked_documents, library_of}
-use Rattle.macho_stub.specs.Rules.{Among, IsListed, SaySame, IsSoundMain, IsSoundDocument, MakesLibrary, IsFirstUnsound, IsToldOf, IsTold}
-use Rattle.macho_stub.proofs.Bind.{bind_ok, chosen, not_broken, not_broken_else, same_ok, no_ok, same_bytes, bytes_same, eq_at, ne_at, eq_true}
+use Rattle.macho_stub.specs.Library.{target, has_target, all_same, same_names, same_item, same_items, same_document, is_listed}
+use Rattle.macho_stub.specs.Rules.{Among, IsListed, SaySame}
+use Rattle.macho_stub.proofs.Bind.{same_bytes, bytes_same}
 
 -- ---- tests
 

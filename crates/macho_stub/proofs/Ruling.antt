@@ -1,16 +1,16 @@
 -- The documents make a library exactly where it is computed, and the fault that is computed is the one that is told.
-use Rattle.std.proofs.Common.{◌≡◌, ◌≢◌, ℕ, zero, suc, ◌+◌, ◌<◌, ◌≤◌, ◌&&◌, ◌||◌, not, Bool, true, false, cond, eqb, List, [], ◌∷◌, ◌++◌, length, Ok, Err, refl, sym, ap, ◌∙◌, arith, ◌⊎◌, inl, inr, subst}
+use Rattle.std.proofs.Common.{◌≡◌, ◌≢◌, ℕ, ◌≤◌, ◌||◌, not, Bool, true, false, cond, eqb, List, [], ◌∷◌, length, Ok, Err, refl, sym, ap, ◌∙◌, arith, ◌⊎◌, inl, inr, subst}
 use Rattle.std.specs.List.{AllByRecursion}
 use Rattle.std.specs.Str.{bytes_eq}
 use Rattle.std.specs.Prelude.{codes}
 use Rattle.macho_stub.specs.declared.fault.StubRule.{StubRule}
-use Rattle.macho_stub.specs.declared.fault.StubRule.TheVariants.{S1, S2, S3, S4, S5, S6, S7, S8, S9}
+use Rattle.macho_stub.specs.declared.fault.StubRule.TheVariants.{S2, S4, S5, S6, S7, S8, S9}
 use Rattle.macho_stub.specs.Faults.{Fault, Reading, ◌>>=◌, broken}
 use Rattle.macho_stub.specs.Documents.{ItemFields, DocumentFields}
 use Rattle.macho_stub.specs.Library.{target, has_target, same_document, is_listed, LibraryFields, gathered, checked_libraries, checked_main, checked_document, checked_documents, library_of}
-use Rattle.macho_stub.specs.Rules.{Among, IsListed, SaySame, IsSoundMain, IsSoundDocument, MakesLibrary, IsFirstUnsound, IsToldOf, IsTold}
-use Rattle.macho_stub.proofs.Bind.{bind_ok, chosen, not_broken, same_ok, no_ok, same_bytes, bytes_same, eq_at, ne_at, eq_true, eq_false}
-use Rattle.macho_stub.proofs.Ruled.{clash, is_false, target_held, target_test, listed, listed_back, document_same, document_test}
+use Rattle.macho_stub.specs.Rules.{Among, IsSoundMain, IsSoundDocument, MakesLibrary}
+use Rattle.macho_stub.proofs.Bind.{bind_ok, chosen, not_broken, same_ok, no_ok, same_bytes, bytes_same, eq_at, ne_at, eq_false}
+use Rattle.macho_stub.proofs.Ruled.{clash, target_held, target_test, listed, listed_back, document_same, document_test}
 
 -- ---- readings that failed
 
@@ -89,11 +89,13 @@ unfolding checked_main
 main_steps main r e =
     elim (chosen (not (has_target main.targets)) (broken main.line S5) (cond (eqb (length main.current_version) 0) (broken main.line S6) (checked_libraries main.line main.libraries)) r e) [
       | inl b ↦ inl (sym b.1, λ a. clash (has_target main.targets) (target_test main.targets a) (not_not (has_target main.targets) b.0))
-      | inr b ↦ inr (target_held main.targets (not_not_false (has_target main.targets) b.0),
+      | inr b ↦ inr (
+        target_held main.targets (not_not_false (has_target main.targets) b.0),
         elim (chosen (eqb (length main.current_version) 0) (broken main.line S6) (checked_libraries main.line main.libraries) r b.1) [
           | inl d ↦ inl (sym d.1, empty_is main.current_version (eq_at _ _ d.0))
           | inr d ↦ inr (empty_length main.current_version (ne_at _ _ d.0), d.1)
-        ])
+        ],
+      )
     ]
 
 pub main_sound : (main : DocumentFields) (u : Unit {0}) → checked_main main ≡ Ok u → IsSoundMain main
@@ -177,8 +179,8 @@ pub library_back : (documents : List DocumentFields) (library : LibraryFields) �
 library_back documents library m =
     let E : List DocumentFields → Type 0 = λ ds. AllByRecursion (IsSoundDocument m.main) ds in
     let same : made m.main documents ≡ library =
-      ap (λ x. record { install_name = x; current_version = m.main.current_version; symbols = gathered false documents; weak_symbols = gathered true documents }) (sym m.install_name)
-      ∙ ap (λ x. record { install_name = library.install_name; current_version = x; symbols = gathered false documents; weak_symbols = gathered true documents }) (sym m.current_version)
-      ∙ ap (λ x. record { install_name = library.install_name; current_version = library.current_version; symbols = x; weak_symbols = gathered true documents }) (sym m.symbols)
-      ∙ ap (λ x. record { install_name = library.install_name; current_version = library.current_version; symbols = library.symbols; weak_symbols = x }) (sym m.weak_symbols) in
+    ap (λ x. record { install_name = x; current_version = m.main.current_version; symbols = gathered false documents; weak_symbols = gathered true documents }) (sym m.install_name)
+    ∙ ap (λ x. record { install_name = library.install_name; current_version = x; symbols = gathered false documents; weak_symbols = gathered true documents }) (sym m.current_version)
+    ∙ ap (λ x. record { install_name = library.install_name; current_version = library.current_version; symbols = x; weak_symbols = gathered true documents }) (sym m.symbols)
+    ∙ ap (λ x. record { install_name = library.install_name; current_version = library.current_version; symbols = library.symbols; weak_symbols = x }) (sym m.weak_symbols) in
     ap library_of m.first ∙ made_back m.main m.others m.sound (subst E m.first m.each) ∙ ap (λ ds. done (made m.main ds)) (sym m.first) ∙ ap done same

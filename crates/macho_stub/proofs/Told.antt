@@ -1,18 +1,17 @@
 -- The fault that is computed of what documents say is the one that is told: the tests are made in the order of the
 -- rules, and each that comes later is made only where the earlier ones hold.
-use Rattle.std.proofs.Common.{◌≡◌, ◌≢◌, ℕ, ◌+◌, ◌<◌, ◌≤◌, ◌||◌, not, Bool, true, false, cond, eqb, List, [], ◌∷◌, ◌++◌, length, Ok, Err, refl, sym, ap, ◌∙◌, arith, ◌⊎◌, inl, inr, subst}
-use Rattle.std.specs.List.{AllByRecursion}
+use Rattle.std.proofs.Common.{◌≡◌, ◌≢◌, ℕ, ◌<◌, ◌||◌, not, Bool, true, false, cond, List, [], ◌∷◌, length, Ok, refl, sym, ap, arith, ◌⊎◌, inl, inr, subst}
 use Rattle.std.specs.Str.{bytes_eq}
 use Rattle.std.specs.Prelude.{codes}
 use Rattle.macho_stub.specs.declared.fault.StubRule.{StubRule}
-use Rattle.macho_stub.specs.declared.fault.StubRule.TheVariants.{S1, S2, S3, S4, S5, S6, S7, S8, S9}
-use Rattle.macho_stub.specs.Faults.{Fault, Reading, ◌>>=◌, broken}
+use Rattle.macho_stub.specs.declared.fault.StubRule.TheVariants.{S2, S4, S5, S6, S7, S8, S9}
+use Rattle.macho_stub.specs.Faults.{◌>>=◌, broken}
 use Rattle.macho_stub.specs.Documents.{ItemFields, DocumentFields}
-use Rattle.macho_stub.specs.Library.{target, has_target, same_document, is_listed, LibraryFields, checked_libraries, checked_main, checked_document, checked_documents, library_of}
-use Rattle.macho_stub.specs.Rules.{Among, IsListed, SaySame, IsSoundMain, IsSoundDocument, IsFirstUnsound, IsToldOf, IsTold}
-use Rattle.macho_stub.proofs.Bind.{bind_ok, chosen, not_broken, same_ok, no_ok, same_bytes, bytes_same}
-use Rattle.macho_stub.proofs.Ruled.{clash, target_held, target_test, listed_back, document_test}
-use Rattle.macho_stub.proofs.Ruling.{failed, same_err, bind_err, made, main_steps, main_sound, document_sound}
+use Rattle.macho_stub.specs.Library.{target, has_target, same_document, is_listed, checked_libraries, checked_main, checked_document, checked_documents, library_of}
+use Rattle.macho_stub.specs.Rules.{Among, IsListed, SaySame, IsFirstUnsound, IsToldOf, IsTold}
+use Rattle.macho_stub.proofs.Bind.{chosen, no_ok, same_bytes, bytes_same}
+use Rattle.macho_stub.proofs.Ruled.{clash, target_test, listed_back, document_test}
+use Rattle.macho_stub.proofs.Ruling.{same_err, bind_err, made, main_steps, main_sound, document_sound}
 
 -- two faults that are one
 same_told : {A : Type 0} (l m : ℕ) (r s : StubRule) → broken {A = A} l r ≡ broken m s → (l ≡ m) × (r ≡ s)
@@ -71,9 +70,9 @@ document_told main document line rule e =
       | inr b ↦ elim (chosen (same_document document main || is_listed document.install_name main.libraries) (Ok tt) (broken document.line S9) (broken line rule) b.1) [
         | inl d ↦ absurd (ok_not_told tt line rule d.1)
         | inr d ↦
-          let t = same_told document.line line S9 rule d.1 in
-          let n = neither (same_document document main) (is_listed document.install_name main.libraries) d.0 in
-          inr (sym t.1, sym t.0, same_bytes _ _ (not_is_false _ b.0), (λ s. clash (same_document document main) (document_test document main s) n.0), (λ l. clash (is_listed document.install_name main.libraries) (listed_back document.install_name main.libraries l) n.1))
+            let t = same_told document.line line S9 rule d.1 in
+            let n = neither (same_document document main) (is_listed document.install_name main.libraries) d.0 in
+            inr (sym t.1, sym t.0, same_bytes _ _ (not_is_false _ b.0), (λ s. clash (same_document document main) (document_test document main s) n.0), (λ l. clash (is_listed document.install_name main.libraries) (listed_back document.install_name main.libraries l) n.1))
       ]
     ]
 
@@ -90,12 +89,12 @@ documents_told main (document ∷ documents) line rule e =
     elim (bind_err (checked_document main document) (λ _. checked_documents main documents) line rule e) [
       | inl b ↦ record { document = document; first = record { earlier = []; later = documents; parts = refl; sound = tt }; here = b }
       | inr b ↦
-        let r = documents_told main documents line rule b.2 in
-        record {
-          document = r.document;
-          first = record { earlier = document ∷ r.first.earlier; later = r.first.later; parts = ap (λ (ds : List DocumentFields). document ∷ ds) r.first.parts; sound = (document_sound main document b.0 b.1, r.first.sound) };
-          here = r.here;
-        }
+          let r = documents_told main documents line rule b.2 in
+          record {
+            document = r.document;
+            first = record { earlier = document ∷ r.first.earlier; later = r.first.later; parts = ap (λ (ds : List DocumentFields). document ∷ ds) r.first.parts; sound = (document_sound main document b.0 b.1, r.first.sound) };
+            here = r.here;
+          }
     ]
 
 -- ---- all documents
@@ -111,11 +110,11 @@ library_told (main ∷ others) line rule e =
       | inr b ↦ elim (bind_err (checked_documents main documents) (λ _. Ok (made main documents)) line rule b.2) [
         | inr d ↦ absurd (ok_not_told _ line rule d.2)
         | inl d ↦
-          let f = documents_told main documents line rule d in
-          let sound = main_sound main b.0 b.1 in
-          elim (document_told main f.document line rule f.here) [
-            | inl t ↦ subst P (sym t.0) (sound, f.document, f.first, t.1, t.2)
-            | inr t ↦ subst P (sym t.0) (sound, f.document, f.first, t.1, t.2, t.3, t.4)
-          ]
+            let f = documents_told main documents line rule d in
+            let sound = main_sound main b.0 b.1 in
+            elim (document_told main f.document line rule f.here) [
+              | inl t ↦ subst P (sym t.0) (sound, f.document, f.first, t.1, t.2)
+              | inr t ↦ subst P (sym t.0) (sound, f.document, f.first, t.1, t.2, t.3, t.4)
+            ]
       ]
     ]

@@ -1,5 +1,5 @@
 -- What the reading of a stub text answers.
-use Rattle.std.specs.Prelude.{◌≡◌, ◌⊎◌, ℕ, List, Ok}
+use Rattle.std.specs.Prelude.{◌≡◌, ◌⊎◌, ℕ, List}
 use Rattle.macho_stub.specs.declared.fault.StubFault.{StubFault}
 use Rattle.macho_stub.specs.declared.fault.StubFault.TheVariants.{Rule, OutOfMemory}
 use Rattle.macho_stub.specs.Faults.{Reading, broken, ◌>>=◌}

@@ -1,5 +1,5 @@
 -- What items and documents say: as far as they were read, and whole.
-use Rattle.std.specs.Prelude.{ℕ, Bool, true, false, List, [], map, Option, Some, None, Ok, Err, is_some, unwrap_or}
+use Rattle.std.specs.Prelude.{ℕ, Bool, false, List, [], map, Option, Some, None, Ok, is_some, unwrap_or}
 use Rattle.std.specs.Option.{option_map}
 use Rattle.std.specs.Borrow.{Bor}
 use Rattle.macho_stub.specs.declared.document.Item.{Item}

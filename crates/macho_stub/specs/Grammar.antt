@@ -1,6 +1,6 @@
 -- The grammar of a stub text: documents, mappings, items and lists as trees, each with the lines that it stands on.
 -- A tree is spelled in front of the lines that follow it. `number` is a line's number in the text, counted from 1.
-use Rattle.std.specs.Prelude.{◌≡◌, ◌≢◌, ℕ, ◌+◌, ◌<◌, ◌⊎◌, Bool, true, false, not, List, [], ◌∷◌, ◌++◌, length, drop, replicate, Option, Some, None, Ok, is_some, nat_lt, slice_index, if◌then◌else◌}
+use Rattle.std.specs.Prelude.{◌≡◌, ◌≢◌, ℕ, ◌+◌, ◌<◌, ◌⊎◌, Bool, true, false, List, [], ◌∷◌, ◌++◌, length, drop, replicate, Option, Some, None, Ok, is_some, nat_lt, slice_index, if◌then◌else◌}
 use Rattle.std.specs.List.{AllByRecursion}
 use Rattle.std.specs.Str.Lines.{lines}
 use Rattle.macho_stub.specs.declared.keys.ItemKind.{ItemKind}

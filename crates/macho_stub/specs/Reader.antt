@@ -1,5 +1,5 @@
 -- Reading a stub text line by line.
-use Rattle.std.specs.Prelude.{ℕ, ◌+◌, Bool, true, false, ◌&&◌, ◌||◌, not, List, [], ◌∷◌, ◌++◌, map, length, drop, Option, Some, None, Ok, Err, is_some, ◌==◌, nat_lt, slice_index, if◌then◌else◌, codes}
+use Rattle.std.specs.Prelude.{ℕ, ◌+◌, Bool, ◌&&◌, ◌||◌, List, [], ◌∷◌, ◌++◌, map, length, drop, Option, Some, None, Ok, is_some, ◌==◌, nat_lt, slice_index, if◌then◌else◌, codes}
 use Rattle.std.specs.Option.{option_map}
 use Rattle.std.specs.Str.{bytes_eq}
 use Rattle.std.specs.Str.Lines.{lines}
@@ -22,7 +22,7 @@ use Rattle.macho_stub.specs.declared.state.State.{State}
 use Rattle.macho_stub.specs.Bytes.{space, dash, open_bracket, indent, unspaced, is_passed, has_barred}
 use Rattle.macho_stub.specs.Faults.{Reading, broken, outside, ◌>>=◌}
 use Rattle.macho_stub.specs.Lists.{ListPart, part_of, list_part, with_front}
-use Rattle.macho_stub.specs.Keys.{Entry, entry_at, scalar_value, version_value, top_key, item_key}
+use Rattle.macho_stub.specs.Keys.{entry_at, scalar_value, version_value, top_key, item_key}
 use Rattle.macho_stub.specs.Documents.{ItemFields, OpenItemFields, DocumentFields, OpenDocumentFields, open_item_of, items_of, document_of, open_document_of, no_item, head_at, has_key, with_key, with_top_key, has_items, with_items, whole_item, whole_document}
 
 -- A list of items that is being read: the items before, the column of its dashes, the column of the keys of its last item, and that item.

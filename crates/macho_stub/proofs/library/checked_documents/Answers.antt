@@ -1,4 +1,4 @@
-use Rattle.std.proofs.Common.{◌≡◌, ◌+◌, map, arith, add-one}
+use Rattle.std.proofs.Common.{map, arith, add-one}
 use Rattle.std.proofs.lemmas.Result.{err_from_is_err_and}
 use Rattle.macho_stub.specs.Documents.{document_of}
 use Rattle.macho_stub.specs.Library.{checked_documents}

@@ -1,7 +1,5 @@
-use Rattle.std.proofs.Common.{◌≡◌, ◌+◌, ℕ, List, Bor, sym, arith, add-one}
-use Rattle.std.specs.List.{list_any}
+use Rattle.std.proofs.Common.{ℕ, List, Bor, sym, arith, add-one}
 use Rattle.std.specs.Str.{bytes_eq}
-use Rattle.macho_stub.specs.Lists.{texts}
 use Rattle.macho_stub.proofs.Same.{sought_more, found_at}
 use Rattle.macho_stub.proofs.library.is_among.Goals as goal
 

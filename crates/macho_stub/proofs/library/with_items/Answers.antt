@@ -1,4 +1,4 @@
-use Rattle.std.proofs.Common.{◌≡◌, ◌+◌, ◌++◌, arith, add-one}
+use Rattle.std.proofs.Common.{◌≡◌, ◌++◌, arith, add-one}
 use Rattle.macho_stub.specs.Lists.{texts}
 use Rattle.macho_stub.specs.Documents.{item_of}
 use Rattle.macho_stub.specs.Library.{picked_for_target}

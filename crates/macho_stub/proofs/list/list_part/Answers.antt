@@ -1,4 +1,4 @@
-use Rattle.std.proofs.Common.{◌≡◌, ◌++◌, ℕ, ◌<◌, List, length, Ok, sym, ap, ◌∙◌, arith}
+use Rattle.std.proofs.Common.{◌≡◌, ◌++◌}
 use Rattle.std.proofs.lemmas.Result.{err_from_is_err_and}
 use Rattle.macho_stub.specs.Lists.{texts, token_of, names_of, list_part, with_front}
 use Rattle.macho_stub.proofs.Parts.{ok_is, some_left, none_left, goes_on, ends_at_token, ends_at_order, is_done}

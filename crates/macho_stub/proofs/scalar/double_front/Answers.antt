@@ -1,4 +1,4 @@
-use Rattle.std.proofs.Common.{arith, ◌+◌, ◌-◌, ℕ, ◌≡◌}
+use Rattle.std.proofs.Common.{arith, ◌+◌, ◌-◌, ◌≡◌}
 use Rattle.macho_stub.proofs.Cuts.{cut_behind}
 use Rattle.macho_stub.proofs.scalar.double_front.Goals as goal
 
