@@ -2,6 +2,7 @@ pub mod Answered
 pub mod Bind
 pub mod Cuts
 pub mod Dashes
+pub mod Fine
 pub mod Found
 pub mod FoundEntries
 pub mod FoundItems
