@@ -11,6 +11,7 @@ use Rattle.macho_stub.specs.declared.fault.StubRule.{StubRule}
 use Rattle.macho_stub.proofs.Bind.{bind_ok}
 use Rattle.macho_stub.proofs.Ruling.{bind_err, library_made, library_back}
 use Rattle.macho_stub.proofs.Told.{library_told}
+use Rattle.macho_stub.proofs.Stops.{breaks_off}
 use Rattle.macho_stub.proofs.Found.{documents_found}
 use Rattle.macho_stub.proofs.Only.{documents_read}
 
@@ -28,7 +29,7 @@ answer_told : (text : List ℕ) (line : ℕ) (rule : StubRule) → answer_of tex
 unfolding answer_of
 answer_told text line rule e =
     elim (bind_err (documents_of text) library_of line rule e) [
-      | inl b ↦ inr b
+      | inl b ↦ inr (breaks_off text line rule b)
       | inr b ↦ inl (b.0, documents_found text b.0 b.1, library_told b.0 line rule b.2)
     ]
 

@@ -19,5 +19,6 @@ pub mod Ruled
 pub mod Ruling
 pub mod Same
 pub mod Spelled
+pub mod Stops
 pub mod Told
 pub mod Walk

@@ -15,7 +15,7 @@ use Rattle.macho_stub.specs.Faults.{Reading, ◌>>=◌, outside, broken}
 use Rattle.macho_stub.specs.Keys.{Entry, entry_at, scalar_value, version_value, top_key}
 use Rattle.macho_stub.specs.Documents.{ItemFields, DocumentFields, OpenDocumentFields, head_at, with_items, whole_document}
 use Rattle.macho_stub.specs.Reader.{Keys, NoItem, Outside, Within, StateFields, stays, with_names, names_value, skipped_value, top_entry, first_line, within, with_whole, top_line, end, belongs_to_top, content_line, line_step, lines_from, start, documents_of}
-use Rattle.macho_stub.specs.Grammar.{Line, content_from, Under, Plain, Listed, under_then, TopEntry, IsListUnder, IsSkippedUnder, AreItemsUnder, TopValue, IsTopEntry, TopEntries, top_entries_then, DocumentTree, end_then, documents_then, AreDocuments, IsStubText, items_then, entries_then, column_of}
+use Rattle.macho_stub.specs.Grammar.{Line, content_from, Under, Plain, Listed, under_then, TopEntry, IsListUnder, IsSkippedUnder, AreItemsUnder, TopValue, IsTopEntry, TopEntries, top_entries_then, DocumentTree, end_then, documents_then, AreDocuments, IsStubText, IsStubLines, items_then, entries_then, column_of}
 use Rattle.macho_stub.proofs.Bind.{eq_true}
 use Rattle.macho_stub.proofs.Rest.{run}
 use Rattle.macho_stub.proofs.OnlyLines.{entry_at_top, entry_no_head, entry_no_end}
@@ -156,7 +156,9 @@ run_lines state line (text ∷ texts) all =
     by_test ih false = behind ih (content_line state.documents state.place line text)
 
 -- what is in the grammar is read
+pub lines_read : (texts : List (List ℕ)) (says : List DocumentFields) → IsStubLines texts says → lines_from start 1 texts ≡ Ok says
+lines_read texts says is = run_lines start 1 texts is.clean ∙ ap (run [] Outside) is.lines_of ∙ documents_are_read [] is.trees says is.documents
+
 pub documents_read : (text : List ℕ) (says : List DocumentFields) → IsStubText text says → documents_of text ≡ Ok says
 unfolding documents_of
-documents_read text says is =
-    run_lines start 1 (lines text) is.clean ∙ ap (run [] Outside) is.lines_of ∙ documents_are_read [] is.trees says is.documents
+documents_read text says is = lines_read (lines text) says is

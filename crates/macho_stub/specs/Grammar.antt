@@ -210,9 +210,13 @@ AreDocuments [] (one ∷ says) = ⊥
 AreDocuments (tree ∷ trees) [] = ⊥
 AreDocuments (tree ∷ trees) (one ∷ says) = IsDocument tree one × AreDocuments trees says
 
--- The text is documents that say this, and passed-over lines: no line has a byte that may stand nowhere, and the lines with content are those of the documents.
-pub record IsStubText (text : List ℕ) (says : List DocumentFields) : Type 0 where
-  pub clean : AllByRecursion (λ line. has_barred line ≡ false) (lines text)
+-- The lines are documents that say this, and passed-over lines: no line has a byte that may stand nowhere, and the lines with content are those of the documents.
+pub record IsStubLines (texts : List (List ℕ)) (says : List DocumentFields) : Type 0 where
+  pub clean : AllByRecursion (λ line. has_barred line ≡ false) texts
   pub trees : List DocumentTree
-  pub lines_of : content_from 1 (lines text) ≡ documents_then trees
+  pub lines_of : content_from 1 texts ≡ documents_then trees
   pub documents : AreDocuments trees says
+
+-- The text is documents that say this.
+abbrev pub IsStubText : List ℕ → List DocumentFields → Type 0
+IsStubText text says = IsStubLines (lines text) says
