@@ -23,7 +23,8 @@ answer_found text library e =
 
 answer_only : (text : List ℕ) (library : LibraryFields) → IsStub text library → answer_of text ≡ Ok library
 unfolding answer_of
-answer_only text library is = ap (λ reading. reading >>= library_of) (documents_read text is.says is.in_grammar) ∙ library_back is.says library is.makes
+answer_only text library is = ap (λ reading. reading >>= library_of) (documents_read text is.says is.in_grammar)
+    ∙ library_back is.says library is.makes
 
 answer_told : (text : List ℕ) (line : ℕ) (rule : StubRule) → answer_of text ≡ broken line rule → IsToldOfText text (Rule line rule)
 unfolding answer_of
@@ -33,16 +34,19 @@ answer_told text line rule e =
       | inr b ↦ inl (b.0, documents_found text b.0 b.1, library_told b.0 line rule b.2)
     ]
 
-pub found : {X : Type 0} (view : X → LibraryFields) (text : List ℕ) (result : Result X StubFault) → Gives view result (answer_of text) → IfOk result (λ library. IsStub text (view library))
+pub found : {X : Type 0} (view : X → LibraryFields) (text : List ℕ) (result : Result X StubFault) → Gives view result (answer_of text)
+    → IfOk result (λ library. IsStub text (view library))
 found view text (Ok library) h = answer_found text (view library) h
 found view text (Err e) h = tt
 
-pub only : {X : Type 0} (view : X → LibraryFields) (text : List ℕ) (result : Result X StubFault) (says : LibraryFields) → Gives view result (answer_of text) → IsStub text says → Gives view result (Ok says)
+pub only : {X : Type 0} (view : X → LibraryFields) (text : List ℕ) (result : Result X StubFault) (says : LibraryFields)
+    → Gives view result (answer_of text) → IsStub text says → Gives view result (Ok says)
 only view text (Ok library) says h is = sym (answer_only text says is) ∙ h
 only view text (Err (Rule line rule)) says h is = sym (answer_only text says is) ∙ h
 only view text (Err OutOfMemory) says h is = tt
 
-pub fault : {X : Type 0} (view : X → LibraryFields) (text : List ℕ) (result : Result X StubFault) → Gives view result (answer_of text) → IfErr result (IsToldOfText text)
+pub fault : {X : Type 0} (view : X → LibraryFields) (text : List ℕ) (result : Result X StubFault) → Gives view result (answer_of text)
+    → IfErr result (IsToldOfText text)
 fault view text (Ok library) h = tt
 fault view text (Err (Rule line rule)) h = answer_told text line rule h
 fault view text (Err OutOfMemory) h = tt

@@ -17,12 +17,14 @@ chosen true x y z e = inl (refl, e)
 chosen false x y z e = inr (refl, e)
 
 -- a choice whose first way fails
-pub not_broken : {A : Type 0} (b : Bool) (line : ℕ) (rule : StubRule) (r : Reading A) (y : A) → cond b (broken line rule) r ≡ Ok y → (b ≡ false) × (r ≡ Ok y)
+pub not_broken : {A : Type 0} (b : Bool) (line : ℕ) (rule : StubRule) (r : Reading A) (y : A) → cond b (broken line rule) r ≡ Ok y
+    → (b ≡ false) × (r ≡ Ok y)
 not_broken true line rule r y e = absurd cc
 not_broken false line rule r y e = (refl, e)
 
 -- a choice whose second way fails
-pub not_broken_else : {A : Type 0} (b : Bool) (line : ℕ) (rule : StubRule) (r : Reading A) (y : A) → cond b r (broken line rule) ≡ Ok y → (b ≡ true) × (r ≡ Ok y)
+pub not_broken_else : {A : Type 0} (b : Bool) (line : ℕ) (rule : StubRule) (r : Reading A) (y : A) → cond b r (broken line rule) ≡ Ok y
+    → (b ≡ true) × (r ≡ Ok y)
 not_broken_else true line rule r y e = (refl, e)
 not_broken_else false line rule r y e = absurd cc
 

@@ -18,16 +18,23 @@ plain_past_ascii b h = grind (arith, nat_tests)
 
 -- behind its plain bytes a text may be cut
 pub plain_cut : (bytes : List ℕ) → IsCharBoundary bytes (prefix_len is_plain_byte bytes)
-plain_cut bytes = (prefix_len-le-length is_plain_byte bytes, λ lt high. absurd (omega (arith, plain_past_ascii (get_or bytes (prefix_len is_plain_byte bytes) 0) (prefix_len_stops is_plain_byte bytes 0 lt))))
+plain_cut bytes = (
+  prefix_len-le-length is_plain_byte bytes,
+  λ lt high. absurd
+      (omega (arith, plain_past_ascii (get_or bytes (prefix_len is_plain_byte bytes) 0) (prefix_len_stops is_plain_byte bytes 0 lt))),
+)
 
 -- behind a byte of ASCII a text may be cut, and it has that byte
-pub cut_behind : (bytes : List ℕ) (i b : ℕ) → IsUtf8 bytes → get_or bytes i 0 ≡ b → 0 < b → b < 128 → (i < length bytes) × IsCharBoundary bytes (i + 1)
+pub cut_behind : (bytes : List ℕ) (i b : ℕ) → IsUtf8 bytes → get_or bytes i 0 ≡ b → 0 < b → b < 128 → (i < length bytes)
+    × IsCharBoundary bytes (i + 1)
 cut_behind bytes i b utf8 is positive ascii =
-    let within : i < length bytes = elim (cases_lt i (length bytes)) [ inl lt ↦ lt | inr past ↦ absurd (omega (arith, get_or_past bytes i 0 past)) ] in
+    let within : i < length bytes = elim (cases_lt i (length bytes))
+    [ inl lt ↦ lt | inr past ↦ absurd (omega (arith, get_or_past bytes i 0 past)) ] in
     (within, IsCharBoundary-after_ascii bytes i utf8 within (omega arith))
 
 -- Behind a run of ASCII a text may be cut.
-pub run_cut : (p : ℕ → Bool) (ascii : (b : ℕ) → p b ≡ true → b < 128) (bytes : List ℕ) → IsUtf8 bytes → IsCharBoundary bytes (prefix_len p bytes)
+pub run_cut : (p : ℕ → Bool) (ascii : (b : ℕ) → p b ≡ true → b < 128) (bytes : List ℕ) → IsUtf8 bytes
+    → IsCharBoundary bytes (prefix_len p bytes)
 run_cut p ascii bytes utf8 =
     elim (cases_lt 0 (prefix_len p bytes)) [
       | inl some ↦
@@ -36,7 +43,8 @@ run_cut p ascii bytes utf8 =
           let e : n - 1 + 1 ≡ n = omega arith in
           let within : n - 1 < length bytes = omega (arith, prefix_len-le-length p bytes) in
           let C : ℕ → Type 0 = λ i. IsCharBoundary bytes i in
-          subst C e (IsCharBoundary-after_ascii bytes (n - 1) utf8 within (ascii (get_or bytes (n - 1) 0) (prefix_len_passes p bytes (n - 1) 0 last)))
+          subst C e (IsCharBoundary-after_ascii bytes (n - 1) utf8 within
+          (ascii (get_or bytes (n - 1) 0) (prefix_len_passes p bytes (n - 1) 0 last)))
       | inr none ↦
           let e : 0 ≡ prefix_len p bytes = omega arith in
           let C : ℕ → Type 0 = λ i. IsCharBoundary bytes i in

@@ -16,4 +16,5 @@ unfolding key_column indent
 column_cut line utf8 h =
     let cut = cut_behind line (indent line) 45 utf8 (dash_at line h) (omega arith) (omega arith) in
     let rest = drop (indent line + 1) line in
-    IsCharBoundary-from_rest line (indent line + 1) (indent rest) cut.1.0 (run_cut is_space space_ascii rest (IsUtf8-drop line (indent line + 1) utf8 cut.1))
+    IsCharBoundary-from_rest line (indent line + 1) (indent rest) cut.1.0
+    (run_cut is_space space_ascii rest (IsUtf8-drop line (indent line + 1) utf8 cut.1))

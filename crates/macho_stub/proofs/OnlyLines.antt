@@ -18,13 +18,16 @@ use Rattle.macho_stub.proofs.Bind.{not_broken, no_ok, same_bytes}
 no_key : (line : ℕ) (text : List ℕ) (said : Entry) → prefix_len is_key_byte text ≡ 0 → entry_at line text ≡ Ok said → ⊥
 unfolding entry_at
 no_key line text said none e =
-    let b = not_broken (eqb (prefix_len is_key_byte text) 0 || not (eqb (get_or text (prefix_len is_key_byte text) 0) colon)) line S1 (entry_behind line (take (prefix_len is_key_byte text) text) (drop (prefix_len is_key_byte text + 1) text)) said e in
+    let b = not_broken (eqb (prefix_len is_key_byte text) 0 || not (eqb (get_or text (prefix_len is_key_byte text) 0) colon)) line S1
+    (entry_behind line (take (prefix_len is_key_byte text) text) (drop (prefix_len is_key_byte text + 1) text)) said e in
     absurd (grind (arith, nat_tests))
 
-no_colon : (line : ℕ) (text : List ℕ) (said : Entry) → get_or text (prefix_len is_key_byte text) 0 ≢ colon → entry_at line text ≡ Ok said → ⊥
+no_colon : (line : ℕ) (text : List ℕ) (said : Entry) → get_or text (prefix_len is_key_byte text) 0 ≢ colon → entry_at line text ≡ Ok said
+    → ⊥
 unfolding entry_at
 no_colon line text said none e =
-    let b = not_broken (eqb (prefix_len is_key_byte text) 0 || not (eqb (get_or text (prefix_len is_key_byte text) 0) colon)) line S1 (entry_behind line (take (prefix_len is_key_byte text) text) (drop (prefix_len is_key_byte text + 1) text)) said e in
+    let b = not_broken (eqb (prefix_len is_key_byte text) 0 || not (eqb (get_or text (prefix_len is_key_byte text) 0) colon)) line S1
+    (entry_behind line (take (prefix_len is_key_byte text) text) (drop (prefix_len is_key_byte text + 1) text)) said e in
     absurd (grind (arith, nat_tests))
 
 -- a key begins with no space
@@ -38,7 +41,8 @@ entry_first line b text said e = λ s. no_key line (b ∷ text) said (space_ends
 -- and not with a dash and a space
 dash_ends : (b c : ℕ) (text : List ℕ) → b ≡ dash → c ≡ space → get_or (b ∷ c ∷ text) (prefix_len is_key_byte (b ∷ c ∷ text)) 0 ≡ space
 unfolding is_key_byte
-dash_ends b c text e f = ap (λ d. get_or (d ∷ c ∷ text) (prefix_len is_key_byte (d ∷ c ∷ text)) 0) e ∙ ap (λ d. get_or (dash ∷ d ∷ text) (prefix_len is_key_byte (dash ∷ d ∷ text)) 0) f
+dash_ends b c text e f = ap (λ d. get_or (d ∷ c ∷ text) (prefix_len is_key_byte (d ∷ c ∷ text)) 0) e
+    ∙ ap (λ d. get_or (dash ∷ d ∷ text) (prefix_len is_key_byte (dash ∷ d ∷ text)) 0) f
 
 entry_second : (line b c : ℕ) (text : List ℕ) (said : Entry) → entry_at line (b ∷ c ∷ text) ≡ Ok said → b ≡ dash → c ≢ space
 entry_second line b c text said e is = λ s. no_colon line (b ∷ c ∷ text) said (λ k. absurd (omega (arith, dash_ends b c text is s))) e
@@ -48,7 +52,8 @@ pub entry_at_top : (line : ℕ) (text : List ℕ) (said : Entry) → entry_at li
 unfolding belongs_to_top
 entry_at_top line [] said e = refl
 entry_at_top line (b ∷ []) said e = let n = entry_first line b [] said e in grind (arith, nat_tests)
-entry_at_top line (b ∷ c ∷ text) said e = let n = entry_first line b (c ∷ text) said e in let m = entry_second line b c text said e in grind (arith, nat_tests)
+entry_at_top line (b ∷ c ∷ text) said e = let n = entry_first line b (c ∷ text) said e in let m = entry_second line b c text said e in
+    grind (arith, nat_tests)
 
 -- and is no head, and no end
 pub entry_no_head : (line : ℕ) (text : List ℕ) (said : Entry) → entry_at line text ≡ Ok said → bytes_eq text head ≡ false
@@ -117,7 +122,8 @@ first_space : (gap : ℕ) (head : List ℕ) → 0 < gap → get_or (replicate ga
 first_space zero head h = absurd (omega arith)
 first_space (suc gap) head h = refl
 
-pub dash_line : (at gap : ℕ) (head : List ℕ) → 0 < gap → prefix_len is_space head ≡ 0 → DashLine at gap (replicate at space ++ dash ∷ (replicate gap space ++ head)) head
+pub dash_line : (at gap : ℕ) (head : List ℕ) → 0 < gap → prefix_len is_space head ≡ 0
+    → DashLine at gap (replicate at space ++ dash ∷ (replicate gap space ++ head)) head
 unfolding indent has_dash key_column
 dash_line at gap head some unspaced =
     let tail = replicate gap space ++ head in
@@ -127,7 +133,8 @@ dash_line at gap head some unspaced =
     let s : get_or text (at + 1) 0 ≡ space = spelled_at at 1 (dash ∷ tail) ∙ first_space gap head some in
     let r : drop (at + 1) text ≡ tail = sym (drop-drop 1 at text) ∙ ap (drop 1) (spelled_rest at (dash ∷ tail)) in
     let g : prefix_len is_space tail ≡ gap = spelled_indent gap head unspaced in
-    let c : prefix_len is_space text + 1 + prefix_len is_space (drop (prefix_len is_space text + 1) text) ≡ at + 1 + gap = rw (i, r, g) refl in
+    let c : prefix_len is_space text + 1 + prefix_len is_space (drop (prefix_len is_space text + 1) text)
+    ≡ at + 1 + gap = rw (i, r, g) refl in
     record {
       indented = i;
       dashed = rw (i, d, s) refl;

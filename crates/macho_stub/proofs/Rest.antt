@@ -25,7 +25,8 @@ pub record RestOutside (before : List DocumentFields) (rest : List Line) (total 
   pub all : total ≡ before ++ says
 
 -- inside a document, where a key of its own may stand
-pub record RestTop (before : List DocumentFields) (document : OpenDocumentFields) (rest : List Line) (total : List DocumentFields) : Type 0 where
+pub record RestTop (before : List DocumentFields) (document : OpenDocumentFields) (rest : List Line) (total : List DocumentFields) : Type
+    0 where
   pub entries : List TopEntry
   pub after : OpenDocumentFields
   pub ended_at : Option ℕ
@@ -39,7 +40,8 @@ pub record RestTop (before : List DocumentFields) (document : OpenDocumentFields
   pub all : total ≡ before ++ whole ∷ says
 
 -- inside an item, where a key of the item may stand
-pub record RestItem (before : List DocumentFields) (document : OpenDocumentFields) (list : ItemListFields) (rest : List Line) (total : List DocumentFields) : Type 0 where
+pub record RestItem (before : List DocumentFields) (document : OpenDocumentFields) (list : ItemListFields) (rest : List Line)
+    (total : List DocumentFields) : Type 0 where
   pub entries : List ItemEntry
   pub after : OpenItemFields
   pub one : ItemFields
@@ -58,7 +60,8 @@ RestKeys before document None rest total = RestTop before document rest total
 RestKeys before document (Some list) rest total = RestItem before document list rest total
 
 -- in a skipped value
-pub record RestSkipped (before : List DocumentFields) (document : OpenDocumentFields) (list : Option ItemListFields) (rest : List Line) (total : List DocumentFields) : Type 0 where
+pub record RestSkipped (before : List DocumentFields) (document : OpenDocumentFields) (list : Option ItemListFields) (rest : List Line)
+    (total : List DocumentFields) : Type 0 where
   pub more : List Line
   pub tail : List Line
   pub lines_of : rest ≡ more ++ tail
@@ -70,7 +73,8 @@ abbrev pub RestBehind : List DocumentFields → InsideFields → List Line → L
 RestBehind before inside rest total = RestKeys before inside.document inside.list rest total
 
 -- in a flow list
-pub record RestNames (before : List DocumentFields) (document : OpenDocumentFields) (list : Option ItemListFields) (key : ItemKey) (part : ListPart) (rest : List Line) (total : List DocumentFields) : Type 0 where
+pub record RestNames (before : List DocumentFields) (document : OpenDocumentFields) (list : Option ItemListFields) (key : ItemKey)
+    (part : ListPart) (rest : List Line) (total : List DocumentFields) : Type 0 where
   pub names : List (List ℕ)
   pub more : List Line
   pub tail : List Line
@@ -79,7 +83,8 @@ pub record RestNames (before : List DocumentFields) (document : OpenDocumentFiel
   pub keys : RestBehind before (with_names document list key names) tail total
 
 -- behind other items, where an item must stand
-pub record RestItems (before : List DocumentFields) (document : OpenDocumentFields) (kind : ItemKind) (items : List ItemFields) (at : ℕ) (rest : List Line) (total : List DocumentFields) : Type 0 where
+pub record RestItems (before : List DocumentFields) (document : OpenDocumentFields) (kind : ItemKind) (items : List ItemFields) (at : ℕ)
+    (rest : List Line) (total : List DocumentFields) : Type 0 where
   pub tree : ItemTree
   pub trees : List ItemTree
   pub one : ItemFields
@@ -90,10 +95,12 @@ pub record RestItems (before : List DocumentFields) (document : OpenDocumentFiel
   pub top : RestTop before (with_items kind (items ++ one ∷ says) document) tail total
 
 -- inside a document
-abbrev pub RestMode : List DocumentFields → OpenDocumentFields → Option ItemListFields → ModeFields → List Line → List DocumentFields → Type 0
+abbrev pub RestMode : List DocumentFields → OpenDocumentFields → Option ItemListFields → ModeFields → List Line → List DocumentFields
+    → Type 0
 RestMode before document list Keys rest total = RestKeys before document list rest total
 RestMode before document list Skipped rest total = RestSkipped before document list rest total
-RestMode before document list (Names names) rest total = names.part.expect ≢ Closed → RestNames before document list names.key names.part rest total
+RestMode before document list (Names names) rest total = names.part.expect ≢ Closed
+    → RestNames before document list names.key names.part rest total
 RestMode before document list (NoItem kind line) rest total = (at : ℕ) × RestItems before document kind [] at rest total
 
 abbrev pub RestInside : List DocumentFields → InsideFields → List Line → List DocumentFields → Type 0

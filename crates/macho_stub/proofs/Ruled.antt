@@ -33,7 +33,8 @@ pub among : (name : List ℕ) (names : List (List ℕ)) → list_any (λ other. 
 among name [] h = absurd cc
 among name (other ∷ names) h = by_first (bytes_eq other name) refl (λ k. among name names k) h
   where
-    by_first : (b : Bool) → bytes_eq other name ≡ b → (list_any (λ o. bytes_eq o name) names ≡ true → Among name names) → (b || list_any (λ o. bytes_eq o name) names) ≡ true → (other ≡ name) ⊎ Among name names
+    by_first : (b : Bool) → bytes_eq other name ≡ b → (list_any (λ o. bytes_eq o name) names ≡ true → Among name names)
+        → (b || list_any (λ o. bytes_eq o name) names) ≡ true → (other ≡ name) ⊎ Among name names
     by_first true e ih k = inl (same_bytes other name e)
     by_first false e ih k = inr (ih k)
 
@@ -59,7 +60,8 @@ unfolding is_listed
 listed name [] h = absurd cc
 listed name (item ∷ items) h = by_first (list_any (λ o. bytes_eq o name) item.names) refl (λ k. listed name items k) h
   where
-    by_first : (b : Bool) → list_any (λ o. bytes_eq o name) item.names ≡ b → (is_listed name items ≡ true → IsListed name items) → (b || is_listed name items) ≡ true → Among name item.names ⊎ IsListed name items
+    by_first : (b : Bool) → list_any (λ o. bytes_eq o name) item.names ≡ b → (is_listed name items ≡ true → IsListed name items)
+        → (b || is_listed name items) ≡ true → Among name item.names ⊎ IsListed name items
     by_first true e ih k = inl (among name item.names e)
     by_first false e ih k = inr (ih k)
 
@@ -76,7 +78,8 @@ listed_back name (item ∷ items) (inr h) = or_right (list_any (λ o. bytes_eq o
 -- ---- what is the same
 
 -- a test of sameness that is right for the elements is right for lists
-all_same_is : {X : Type 0} (same : X → X → Bool) → ((x y : X) → same x y ≡ true → x ≡ y) → (xs ys : List X) → all_same same xs ys ≡ true → xs ≡ ys
+all_same_is : {X : Type 0} (same : X → X → Bool) → ((x y : X) → same x y ≡ true → x ≡ y) → (xs ys : List X) → all_same same xs ys ≡ true
+    → xs ≡ ys
 unfolding all_same
 all_same_is same is [] [] h = refl
 all_same_is same is [] (y ∷ ys) h = absurd cc
@@ -105,7 +108,8 @@ item_same a b h =
     let q = and_true (same_names a.targets b.targets) (same_names a.names b.names) p.0 in
     ap (λ (t : List (List ℕ)). record a { targets = t }) (names_same a.targets b.targets q.0)
     ∙ ap (λ (t : List (List ℕ)). record { targets = b.targets; names = t; weak_names = a.weak_names }) (names_same a.names b.names q.1)
-    ∙ ap (λ (t : List (List ℕ)). record { targets = b.targets; names = b.names; weak_names = t }) (names_same a.weak_names b.weak_names p.1)
+    ∙ ap (λ (t : List (List ℕ)). record { targets = b.targets; names = b.names; weak_names = t })
+    (names_same a.weak_names b.weak_names p.1)
 
 item_refl : (a : ItemFields) → same_item a a ≡ true
 unfolding same_item
@@ -138,7 +142,13 @@ document_same a b h =
     ap (λ x. record a { version = x }) v ∙ ap (λ x. record a { version = b.version; targets = x }) t
     ∙ ap (λ x. record a { version = b.version; targets = b.targets; install_name = x }) i
     ∙ ap (λ x. record a { version = b.version; targets = b.targets; install_name = b.install_name; current_version = x }) c
-    ∙ ap (λ x. record a { version = b.version; targets = b.targets; install_name = b.install_name; current_version = b.current_version; libraries = x }) l
+    ∙ ap (λ x. record a {
+      version = b.version;
+      targets = b.targets;
+      install_name = b.install_name;
+      current_version = b.current_version;
+      libraries = x;
+    }) l
     ∙ ap (λ x. record b { line = a.line; exports = x; reexports = a.reexports }) e
     ∙ ap (λ x. record b { line = a.line; reexports = x }) r
 
@@ -146,4 +156,7 @@ pub document_test : (a b : DocumentFields) → SaySame a b → same_document a b
 unfolding same_document
 document_test a b is =
     ap (λ (d : DocumentFields). same_document d b) is
-    ∙ both_true _ _ (both_true _ _ (both_true _ _ (both_true _ _ (both_true _ _ (both_true _ _ (bytes_same b.version b.version refl) (names_refl b.targets)) (bytes_same b.install_name b.install_name refl)) (bytes_same b.current_version b.current_version refl)) (items_refl b.libraries)) (items_refl b.exports)) (items_refl b.reexports)
+    ∙ both_true _ _ (both_true _ _
+    (both_true _ _ (both_true _ _ (both_true _ _ (both_true _ _ (bytes_same b.version b.version refl) (names_refl b.targets))
+    (bytes_same b.install_name b.install_name refl)) (bytes_same b.current_version b.current_version refl)) (items_refl b.libraries))
+    (items_refl b.exports)) (items_refl b.reexports)

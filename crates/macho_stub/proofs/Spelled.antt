@@ -16,7 +16,9 @@ spaces_then : (line : List ℕ) → line ≡ replicate (prefix_len is_space line
 spaces_then [] = refl
 spaces_then (b ∷ line) = by_first (spaces_then line) (is_space b) refl
   where
-    by_first : line ≡ replicate (prefix_len is_space line) space ++ drop (prefix_len is_space line) line → (t : Bool) → is_space b ≡ t → b ∷ line ≡ replicate (cond t (1 + prefix_len is_space line) 0) space ++ drop (cond t (1 + prefix_len is_space line) 0) (b ∷ line)
+    by_first : line ≡ replicate (prefix_len is_space line) space ++ drop (prefix_len is_space line) line → (t : Bool) → is_space b ≡ t
+        → b ∷ line ≡ replicate (cond t (1 + prefix_len is_space line) 0) space ++ drop (cond t (1 + prefix_len is_space line) 0)
+        (b ∷ line)
     by_first ih true e = rw one-add (ap (λ c. c ∷ line) (eq_at b space e) ∙ ap (λ (more : List ℕ). space ∷ more) ih)
     by_first ih false e = refl
 
@@ -50,13 +52,18 @@ spelled_dash line h =
     let both = dash_and_space line h in
     let i = prefix_len is_space line in
     let rest = drop (i + 1) line in
-    let within : i < length line = elim (cases_lt i (length line)) [ inl lt ↦ lt | inr past ↦ absurd (omega (arith, get_or_past line i 0 past, both.0)) ] in
+    let within : i < length line = elim (cases_lt i (length line))
+    [ inl lt ↦ lt | inr past ↦ absurd (omega (arith, get_or_past line i 0 past, both.0)) ] in
     let first : get_or rest 0 0 ≡ space = get_or-drop (i + 1) line 0 0 ∙ ap (λ k. get_or line k 0) (omega arith) ∙ both.1 in
-    let at_dash : drop i line ≡ dash ∷ rest = drop-cons line i 0 within ∙ ap (λ b. b ∷ drop (suc i) line) both.0 ∙ ap (λ k. dash ∷ drop k line) (sym (add-one i)) in
-    let tail : drop (prefix_len is_space rest) rest ≡ drop (i + 1 + prefix_len is_space rest) line = drop-drop (prefix_len is_space rest) (i + 1) line in
+    let at_dash : drop i line ≡ dash ∷ rest = drop-cons line i 0 within ∙ ap (λ b. b ∷ drop (suc i) line) both.0
+    ∙ ap (λ k. dash ∷ drop k line) (sym (add-one i)) in
+    let tail : drop (prefix_len is_space rest) rest
+    ≡ drop (i + 1 + prefix_len is_space rest) line = drop-drop (prefix_len is_space rest) (i + 1) line in
     record {
       gap = prefix_len is_space rest;
       some = some_space rest first;
       column = refl;
-      spelled = spaces_then line ∙ ap (λ (more : List ℕ). replicate i space ++ more) (at_dash ∙ ap (λ (more : List ℕ). dash ∷ more) (spaces_then rest ∙ ap (λ (more : List ℕ). replicate (prefix_len is_space rest) space ++ more) tail));
+      spelled = spaces_then line ∙ ap (λ (more : List ℕ). replicate i space ++ more)
+          (at_dash ∙ ap (λ (more : List ℕ). dash ∷ more)
+          (spaces_then rest ∙ ap (λ (more : List ℕ). replicate (prefix_len is_space rest) space ++ more) tail));
     }

@@ -24,30 +24,31 @@ record Stop (state : StateFields) (at : ℕ) (texts : List (List ℕ)) (line : �
   here : (rule ≡ S2) ⊎ (line ≡ at + length first)
 
 -- lines that fail stop at one, or at the end
-stop_of : (state : StateFields) (at : ℕ) (texts : List (List ℕ)) (line : ℕ) (rule : StubRule) → GoodState state → lines_from state at texts ≡ broken line rule → Stop state at texts line rule ⊎ Unit {0}
+stop_of : (state : StateFields) (at : ℕ) (texts : List (List ℕ)) (line : ℕ) (rule : StubRule) → GoodState state
+    → lines_from state at texts ≡ broken line rule → Stop state at texts line rule ⊎ Unit {0}
 unfolding lines_from
 stop_of state at [] line rule g e = inr tt
 stop_of state at (text ∷ texts) line rule g e =
     let fine = line_step_fine state at text g in
     elim (bind_err (line_step state at text) (λ next. lines_from next (at + 1) texts) line rule e) [
       | inl b ↦ inl (record {
-          first = [];
-          next = text;
-          rest = texts;
-          parts = refl;
-          fails = λ more. ap (λ reading. reading >>= λ next. lines_from next (at + 1) more) b;
-          here = elim (fine.err (record { line = line; rule = rule }) b) [ inl r ↦ inl r | inr l ↦ inr (omega arith) ];
-        })
+        first = [];
+        next = text;
+        rest = texts;
+        parts = refl;
+        fails = λ more. ap (λ reading. reading >>= λ next. lines_from next (at + 1) more) b;
+        here = elim (fine.err (record { line = line; rule = rule }) b) [ inl r ↦ inl r | inr l ↦ inr (omega arith) ];
+      })
       | inr b ↦ elim (stop_of b.0 (at + 1) texts line rule (fine.ok b.0 b.1) b.2) [
         | inr u ↦ inr tt
         | inl s ↦ inl (record {
-            first = text ∷ s.first;
-            next = s.next;
-            rest = s.rest;
-            parts = ap (λ (more : List (List ℕ)). text ∷ more) s.parts;
-            fails = λ more. ap (λ reading. reading >>= λ next. lines_from next (at + 1) (s.first ++ s.next ∷ more)) b.1 ∙ s.fails more;
-            here = elim s.here [ inl r ↦ inl r | inr l ↦ inr (omega arith) ];
-          })
+          first = text ∷ s.first;
+          next = s.next;
+          rest = s.rest;
+          parts = ap (λ (more : List (List ℕ)). text ∷ more) s.parts;
+          fails = λ more. ap (λ reading. reading >>= λ next. lines_from next (at + 1) (s.first ++ s.next ∷ more)) b.1 ∙ s.fails more;
+          here = elim s.here [ inl r ↦ inl r | inr l ↦ inr (omega arith) ];
+        })
       ]
     ]
 
@@ -57,13 +58,13 @@ breaks_off text line rule e = record {
   fault = e;
   place = elim (stop_of start 1 (lines text) line rule tt e) [
     | inl s ↦ inl (record {
-        first = s.first;
-        next = s.next;
-        rest = s.rest;
-        parts = s.parts;
-        stuck = λ more says is. no_ok line rule says (sym (s.fails more) ∙ lines_read (s.first ++ s.next ∷ more) says is);
-        here = elim s.here [ inl r ↦ inl r | inr l ↦ inr (omega arith) ];
-      })
+      first = s.first;
+      next = s.next;
+      rest = s.rest;
+      parts = s.parts;
+      stuck = λ more says is. no_ok line rule says (sym (s.fails more) ∙ lines_read (s.first ++ s.next ∷ more) says is);
+      here = elim s.here [ inl r ↦ inl r | inr l ↦ inr (omega arith) ];
+    })
     | inr u ↦ inr (λ says is. no_ok line rule says (sym e ∙ documents_read text says is))
   ];
 }

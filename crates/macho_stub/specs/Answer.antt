@@ -18,7 +18,8 @@ pub record IsStub (text : List ℕ) (library : LibraryFields) : Type 0 where
   pub in_grammar : IsStubText text says
   pub makes : MakesLibrary says library
 
--- The reading of lines stops at one: whatever lines come behind it, the text is not one of stubs. The line is told, counted from 1, but where a key is lacking above it.
+-- The reading of lines stops at one: whatever lines come behind it, the text is not one of stubs. The line is told,
+-- counted from 1, but where a key is lacking above it.
 pub record StopsAt (texts : List (List ℕ)) (line : ℕ) (rule : StubRule) : Type 0 where
   pub first : List (List ℕ)
   pub next : List ℕ
@@ -32,10 +33,12 @@ pub record BreaksOff (text : List ℕ) (line : ℕ) (rule : StubRule) : Type 0 w
   pub fault : documents_of text ≡ broken line rule
   pub place : StopsAt (lines text) line rule ⊎ ((says : List DocumentFields) → IsStubText text says → ⊥)
 
--- A fault that is told: memory ran out; or the text is in the grammar, and the rule is the one that is told of its documents; or the reading of the text breaks off.
+-- A fault that is told: memory ran out; or the text is in the grammar, and the rule is the one that is told of its
+-- documents; or the reading of the text breaks off.
 abbrev pub IsToldOfText : List ℕ → StubFault → Type 0
 IsToldOfText text OutOfMemory = Unit {0}
-IsToldOfText text (Rule line rule) = ((says : List DocumentFields) × IsStubText text says × IsTold rule line says) ⊎ BreaksOff text line rule
+IsToldOfText text (Rule line rule) = ((says : List DocumentFields) × IsStubText text says × IsTold rule line says)
+    ⊎ BreaksOff text line rule
 
 -- The documents of a text, and then the library that they make.
 unfoldable pub answer_of : List ℕ → Reading LibraryFields

@@ -62,7 +62,8 @@ is_mark b =
 unfoldable pub is_plain_byte : ℕ → Bool
 is_plain_byte b = nat_lt space b && not (b == delete) && not (is_mark b)
 
--- Behind the byte `last`, the bytes have a control character past ASCII, U+0080 to U+009F: in UTF-8 it is 0xC2 and a byte below 0xA0.
+-- Behind the byte `last`, the bytes have a control character past ASCII, U+0080 to U+009F: in UTF-8 it is 0xC2 and
+-- a byte below 0xA0.
 unfoldable pub has_late_control_after : ℕ → List ℕ → Bool
 has_late_control_after last [] = false
 has_late_control_after last (b ∷ bytes) = (last == 0xC2 && nat_lt b 0xA0) || has_late_control_after b bytes

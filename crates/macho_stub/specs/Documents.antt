@@ -49,7 +49,12 @@ pub record OpenDocumentFields : Type 0 where
   pub reexports : Option (List ItemFields)
 
 abbrev pub item_of : Item → ItemFields
-item_of item = record { targets = texts item.targets.items; names = texts item.names.items; weak_names = texts item.weak_names.items }
+item_of item = record {
+  targets = texts item.targets.items;
+  names = texts item.names.items;
+  weak_names = texts
+      item.weak_names.items;
+}
 
 abbrev pub open_item_of : OpenItem → OpenItemFields
 open_item_of item = record {
@@ -91,7 +96,16 @@ no_item = record { targets = None; names = None; weak_names = None }
 
 -- a document of which the head was read
 abbrev pub head_at : ℕ → OpenDocumentFields
-head_at line = record { line = line; version = None; targets = None; install_name = None; current_version = None; libraries = None; exports = None; reexports = None }
+head_at line = record {
+  line = line;
+  version = None;
+  targets = None;
+  install_name = None;
+  current_version = None;
+  libraries = None;
+  exports = None;
+  reexports = None;
+}
 
 -- the item has the key
 abbrev pub has_key : ItemKey → OpenItemFields → Bool

@@ -24,7 +24,8 @@ pub record Line : Type 0 where
 abbrev pub content_from : ℕ → List (List ℕ) → List Line
 content_from number [] = []
 content_from number (text ∷ texts) =
-    if is_passed text then content_from (number + 1) texts else record { number = number; text = text } ∷ content_from (number + 1) texts
+    if is_passed text then content_from (number + 1) texts else record { number = number; text = text } ∷ content_from
+    (number + 1) texts
 
 -- ---- flow lists
 
@@ -32,7 +33,8 @@ content_from number (text ∷ texts) =
 abbrev pub GoesOn : ListPart → List Line → List (List ℕ) → Type 0
 GoesOn part [] names = (part.expect ≡ Closed) × (part.names ≡ names)
 GoesOn part (line ∷ more) names =
-    (part.expect ≢ Closed) × (next : ListPart) × (with_front part.names (list_part line.number part.expect 0 line.text) ≡ Ok next) × GoesOn next more names
+    (part.expect ≢ Closed) × (next : ListPart)
+    × (with_front part.names (list_part line.number part.expect 0 line.text) ≡ Ok next) × GoesOn next more names
 
 -- The value, at the line of this number, and the lines under it are a flow list of these names.
 pub record IsList (number : ℕ) (value : List ℕ) (more : List Line) (names : List (List ℕ)) : Type 0 where
@@ -44,7 +46,8 @@ pub record IsList (number : ℕ) (value : List ℕ) (more : List Line) (names : 
 -- The value and the lines under it are skipped: a flow list, or any other value with the lines that belong to it.
 abbrev pub IsSkipped : (List ℕ → Bool) → ℕ → List ℕ → List Line → Type 0
 IsSkipped belongs number value more =
-    ((names : List (List ℕ)) × IsList number value more names) ⊎ ((slice_index value 0 ≢ open_bracket) × AllByRecursion (λ line. belongs line.text ≡ true) more)
+    ((names : List (List ℕ)) × IsList number value more names)
+    ⊎ ((slice_index value 0 ≢ open_bracket) × AllByRecursion (λ line. belongs line.text ≡ true) more)
 
 -- ---- items
 
@@ -56,7 +59,8 @@ pub record ItemEntry : Type 0 where
 
 -- its lines, with the key in this column, in front of others
 abbrev pub entry_then : ℕ → ItemEntry → List Line → List Line
-entry_then column entry rest = record { number = entry.number; text = replicate column space ++ entry.head } ∷ (entry.more ++ rest)
+entry_then column entry rest = record { number = entry.number; text = replicate column space ++ entry.head } ∷
+    (entry.more ++ rest)
 
 abbrev pub entries_then : ℕ → List ItemEntry → List Line → List Line
 entries_then column [] rest = rest
@@ -75,7 +79,8 @@ pub record GivesNames (key : ItemKey) (value : List ℕ) (entry : ItemEntry) (ol
 
 -- The value of a key of an item, in this column, takes what is known of the item from `old` to `new`.
 abbrev pub ItemValue : ℕ → ItemKey → List ℕ → ItemEntry → OpenItemFields → OpenItemFields → Type 0
-ItemValue column item.Unread value entry old new = IsSkipped (is_deeper column) entry.number value entry.more × (new ≡ old)
+ItemValue column item.Unread value entry old new = IsSkipped (is_deeper column) entry.number value entry.more
+    × (new ≡ old)
 ItemValue column item.Targets value entry old new = GivesNames item.Targets value entry old new
 ItemValue column item.Names value entry old new = GivesNames item.Names value entry old new
 ItemValue column item.WeakNames value entry old new = GivesNames item.WeakNames value entry old new
@@ -88,7 +93,8 @@ pub record IsItemEntry (kind : ItemKind) (column : ℕ) (entry : ItemEntry) (old
 
 abbrev pub ItemEntries : ItemKind → ℕ → List ItemEntry → OpenItemFields → OpenItemFields → Type 0
 ItemEntries kind column [] old new = new ≡ old
-ItemEntries kind column (entry ∷ entries) old new = (mid : OpenItemFields) × IsItemEntry kind column entry old mid × ItemEntries kind column entries mid new
+ItemEntries kind column (entry ∷ entries) old new = (mid : OpenItemFields) × IsItemEntry kind column entry old mid
+    × ItemEntries kind column entries mid new
 
 -- An item: a dash, spaces, the first entry, and the other entries in the column of the first one's key.
 pub record ItemTree : Type 0 where
@@ -103,7 +109,11 @@ column_of at tree = at + 1 + tree.gap
 -- its lines, with the dash in this column, in front of others
 abbrev pub item_then : ℕ → ItemTree → List Line → List Line
 item_then at tree rest =
-    record { number = tree.first.number; text = replicate at space ++ dash ∷ (replicate tree.gap space ++ tree.first.head) }
+    record {
+      number = tree.first.number;
+      text = replicate at space ++ dash ∷
+          (replicate tree.gap space ++ tree.first.head);
+    }
     ∷ (tree.first.more ++ entries_then (column_of at tree) tree.others rest)
 
 abbrev pub items_then : ℕ → List ItemTree → List Line → List Line
@@ -142,7 +152,8 @@ pub record TopEntry : Type 0 where
 
 abbrev pub top_entries_then : List TopEntry → List Line → List Line
 top_entries_then [] rest = rest
-top_entries_then (entry ∷ entries) rest = record { number = entry.number; text = entry.head } ∷ under_then entry.under (top_entries_then entries rest)
+top_entries_then (entry ∷ entries) rest = record { number = entry.number; text = entry.head } ∷ under_then entry.under
+    (top_entries_then entries rest)
 
 -- a key that is skipped
 abbrev pub IsSkippedUnder : ℕ → List ℕ → Under → Type 0
@@ -160,18 +171,24 @@ AreItemsUnder line kind (Plain more) says = ⊥
 AreItemsUnder line kind (Listed at []) says = ⊥
 AreItemsUnder line kind (Listed at (tree ∷ trees)) says = AreItems line kind at (tree ∷ trees) says
 
--- The value of a key of a document takes what is known of the document from `old` to `new`. No key that is read stands twice.
+-- The value of a key of a document takes what is known of the document from `old` to `new`. No key that is read
+-- stands twice.
 abbrev pub TopValue : TopKey → List ℕ → TopEntry → OpenDocumentFields → OpenDocumentFields → Type 0
 TopValue top.Version value entry old new =
-    (is_some old.version ≡ false) × (entry.under ≡ Plain []) × (version : List ℕ) × (version_value entry.number value ≡ Ok version) × (new ≡ record old { version = Some version })
+    (is_some old.version ≡ false) × (entry.under ≡ Plain []) × (version : List ℕ)
+    × (version_value entry.number value ≡ Ok version) × (new ≡ record old { version = Some version })
 TopValue top.Targets value entry old new =
-    (is_some old.targets ≡ false) × (names : List (List ℕ)) × IsListUnder entry.number value entry.under names × (new ≡ record old { targets = Some names })
+    (is_some old.targets ≡ false) × (names : List (List ℕ)) × IsListUnder entry.number value entry.under names
+    × (new ≡ record old { targets = Some names })
 TopValue top.InstallName value entry old new =
-    (is_some old.install_name ≡ false) × (entry.under ≡ Plain []) × (text : List ℕ) × (scalar_value entry.number value ≡ Ok text) × (new ≡ record old { install_name = Some text })
+    (is_some old.install_name ≡ false) × (entry.under ≡ Plain []) × (text : List ℕ)
+    × (scalar_value entry.number value ≡ Ok text) × (new ≡ record old { install_name = Some text })
 TopValue top.CurrentVersion value entry old new =
-    (is_some old.current_version ≡ false) × (entry.under ≡ Plain []) × (text : List ℕ) × (scalar_value entry.number value ≡ Ok text) × (new ≡ record old { current_version = Some text })
+    (is_some old.current_version ≡ false) × (entry.under ≡ Plain []) × (text : List ℕ)
+    × (scalar_value entry.number value ≡ Ok text) × (new ≡ record old { current_version = Some text })
 TopValue (top.Items kind) value entry old new =
-    (has_items kind old ≡ false) × (length value ≡ 0) × (says : List ItemFields) × AreItemsUnder old.line kind entry.under says × (new ≡ with_items kind says old)
+    (has_items kind old ≡ false) × (length value ≡ 0) × (says : List ItemFields)
+    × AreItemsUnder old.line kind entry.under says × (new ≡ with_items kind says old)
 TopValue top.Unread value entry old new = IsSkippedUnder entry.number value entry.under × (new ≡ old)
 
 -- an entry of a document
@@ -182,7 +199,8 @@ pub record IsTopEntry (entry : TopEntry) (old new : OpenDocumentFields) : Type 0
 
 abbrev pub TopEntries : List TopEntry → OpenDocumentFields → OpenDocumentFields → Type 0
 TopEntries [] old new = new ≡ old
-TopEntries (entry ∷ entries) old new = (mid : OpenDocumentFields) × IsTopEntry entry old mid × TopEntries entries mid new
+TopEntries (entry ∷ entries) old new = (mid : OpenDocumentFields) × IsTopEntry entry old mid
+    × TopEntries entries mid new
 
 -- A document: the number of its head's line, its entries, and the number of the line that ends it, if one does.
 pub record DocumentTree : Type 0 where
@@ -196,7 +214,8 @@ end_then (Some number) rest = record { number = number; text = end } ∷ rest
 
 abbrev pub documents_then : List DocumentTree → List Line
 documents_then [] = []
-documents_then (tree ∷ trees) = record { number = tree.number; text = head } ∷ top_entries_then tree.entries (end_then tree.ended_at (documents_then trees))
+documents_then (tree ∷ trees) = record { number = tree.number; text = head } ∷ top_entries_then tree.entries
+    (end_then tree.ended_at (documents_then trees))
 
 -- A document that says this: no key that it must have is lacking.
 pub record IsDocument (tree : DocumentTree) (says : DocumentFields) : Type 0 where
@@ -210,7 +229,8 @@ AreDocuments [] (one ∷ says) = ⊥
 AreDocuments (tree ∷ trees) [] = ⊥
 AreDocuments (tree ∷ trees) (one ∷ says) = IsDocument tree one × AreDocuments trees says
 
--- The lines are documents that say this, and passed-over lines: no line has a byte that may stand nowhere, and the lines with content are those of the documents.
+-- The lines are documents that say this, and passed-over lines: no line has a byte that may stand nowhere, and the
+-- lines with content are those of the documents.
 pub record IsStubLines (texts : List (List ℕ)) (says : List DocumentFields) : Type 0 where
   pub clean : AllByRecursion (λ line. has_barred line ≡ false) texts
   pub trees : List DocumentTree

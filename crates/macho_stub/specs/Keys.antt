@@ -31,7 +31,8 @@ entry_behind line key rest =
 -- A key of letters, digits and dashes, a colon, and the line's end or spaces and a value.
 unfoldable pub entry_at : ℕ → List ℕ → Reading Entry
 entry_at line bytes =
-    if prefix_len is_key_byte bytes == 0 || not (slice_index bytes (prefix_len is_key_byte bytes) == colon) then outside line
+    if prefix_len is_key_byte bytes == 0 || not (slice_index bytes (prefix_len is_key_byte bytes) == colon) then
+    outside line
     else entry_behind line (take (prefix_len is_key_byte bytes) bytes) (drop (prefix_len is_key_byte bytes + 1) bytes)
 
 -- a scalar with nothing behind it
@@ -53,7 +54,8 @@ number_of digits = drop (prefix_len is_zero digits) digits
 -- the value is digits alone
 unfoldable pub version_value : ℕ → List ℕ → Reading (List ℕ)
 version_value line value =
-    if prefix_len is_ascii_digit value == 0 || not (is_tail (drop (prefix_len is_ascii_digit value) value)) then outside line
+    if prefix_len is_ascii_digit value == 0 || not (is_tail (drop (prefix_len is_ascii_digit value) value)) then
+    outside line
     else Ok (number_of (take (prefix_len is_ascii_digit value) value))
 
 -- the keys of a document that are read

@@ -27,7 +27,8 @@ picked_for_target weak item = if has_target item.targets then picked weak item e
 
 -- those of a document: its exports before its reexports
 abbrev pub picked_of_document : Bool → DocumentFields → List (List ℕ)
-picked_of_document weak document = flat_map (picked_for_target weak) document.exports ++ flat_map (picked_for_target weak) document.reexports
+picked_of_document weak document = flat_map (picked_for_target weak) document.exports ++ flat_map
+    (picked_for_target weak) document.reexports
 
 -- those of all documents
 unfoldable pub gathered : Bool → List DocumentFields → List (List ℕ)
@@ -69,7 +70,8 @@ same_items left right = all_same same_item left right
 -- the documents say the same
 unfoldable pub same_document : DocumentFields → DocumentFields → Bool
 same_document a b =
-    bytes_eq a.version b.version && same_names a.targets b.targets && bytes_eq a.install_name b.install_name && bytes_eq a.current_version b.current_version
+    bytes_eq a.version b.version && same_names a.targets b.targets && bytes_eq a.install_name b.install_name &&
+    bytes_eq a.current_version b.current_version
     && same_items a.libraries b.libraries && same_items a.exports b.exports && same_items a.reexports b.reexports
 
 -- an item lists the library
@@ -86,13 +88,15 @@ checked_libraries line (item ∷ other ∷ items) = broken line S7
 unfoldable pub checked_main : DocumentFields → Reading (Unit {0})
 checked_main main =
     if not (has_target main.targets) then broken main.line S5
-    else (if length main.current_version == 0 then broken main.line S6 else checked_libraries main.line main.libraries)
+    else (if length main.current_version == 0 then broken main.line S6 else checked_libraries main.line
+    main.libraries)
 
 -- A document has version 4, and it says what the main one says or is one of its reexported libraries.
 unfoldable pub checked_document : DocumentFields → DocumentFields → Reading (Unit {0})
 checked_document main document =
     if not (bytes_eq document.version (codes "4")) then broken document.line S4
-    else (if same_document document main || is_listed document.install_name main.libraries then Ok tt else broken document.line S9)
+    else (if same_document document main || is_listed document.install_name main.libraries then Ok tt else broken
+    document.line S9)
 
 -- each of the documents, in their order
 unfoldable pub checked_documents : DocumentFields → List DocumentFields → Reading (Unit {0})

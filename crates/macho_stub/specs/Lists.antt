@@ -45,7 +45,8 @@ token_front line (b ∷ bytes) =
     else (if b == comma then Ok (mark Comma 1)
     else (if b == close_bracket then Ok (mark Close 1) else name_token line (scalar_front (b ∷ bytes))))
 
--- What stands behind a token: a comma stands behind a scalar alone, a scalar behind the bracket or a comma, and nothing behind the closing bracket.
+-- What stands behind a token: a comma stands behind a scalar alone, a scalar behind the bracket or a comma, and
+-- nothing behind the closing bracket.
 unfoldable pub behind : ℕ → Expect → TokenKind → Reading Expect
 behind line expect Gap = Ok expect
 behind line AfterOpen Comma = outside line

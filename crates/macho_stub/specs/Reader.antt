@@ -25,7 +25,8 @@ use Rattle.macho_stub.specs.Lists.{ListPart, part_of, list_part, with_front}
 use Rattle.macho_stub.specs.Keys.{entry_at, scalar_value, version_value, top_key, item_key}
 use Rattle.macho_stub.specs.Documents.{ItemFields, OpenItemFields, DocumentFields, OpenDocumentFields, open_item_of, items_of, document_of, open_document_of, no_item, head_at, has_key, with_key, with_top_key, has_items, with_items, whole_item, whole_document}
 
--- A list of items that is being read: the items before, the column of its dashes, the column of the keys of its last item, and that item.
+-- A list of items that is being read: the items before, the column of its dashes, the column of the keys of its
+-- last item, and that item.
 pub record ItemListFields : Type 0 where
   pub kind : ItemKind
   pub items : List ItemFields
@@ -39,14 +40,16 @@ pub record NameListFields : Type 0 where
   pub key : ItemKey
   pub part : ListPart
 
--- What the next line may be: a key, a line of a skipped value, a line of a flow list, or the first item under a key of items that stands at a line.
+-- What the next line may be: a key, a line of a skipped value, a line of a flow list, or the first item under a key
+-- of items that stands at a line.
 pub data ModeFields : Type 0 where
   Keys : ModeFields
   Skipped : ModeFields
   Names : NameListFields → ModeFields
   NoItem : ItemKind → ℕ → ModeFields
 
--- Inside a document: the document so far, the list of items that is being read, if one is, and what the next line may be.
+-- Inside a document: the document so far, the list of items that is being read, if one is, and what the next line
+-- may be.
 pub record InsideFields : Type 0 where
   pub document : OpenDocumentFields
   pub list : Option ItemListFields
@@ -62,7 +65,14 @@ pub record StateFields : Type 0 where
   pub place : PlaceFields
 
 abbrev pub item_list_of : ItemList → ItemListFields
-item_list_of list = record { kind = list.kind; items = items_of list.items.items; dash = list.dash; column = list.column; item = open_item_of list.item }
+item_list_of list = record {
+  kind = list.kind;
+  items = items_of list.items.items;
+  dash = list.dash;
+  column =
+      list.column;
+  item = open_item_of list.item;
+}
 
 abbrev pub name_list_of : NameList → NameListFields
 name_list_of list = record { began = list.began; key = list.key; part = part_of list.part }
@@ -74,7 +84,11 @@ mode_of (mode.Names list) = Names (name_list_of list)
 mode_of (mode.NoItem kind line) = NoItem kind line
 
 abbrev pub inside_of : Inside → InsideFields
-inside_of inside = record { document = open_document_of inside.document; list = option_map item_list_of inside.list; mode = mode_of inside.mode }
+inside_of inside = record {
+  document = open_document_of inside.document;
+  list = option_map item_list_of inside.list;
+  mode = mode_of inside.mode;
+}
 
 abbrev pub place_of : Place → PlaceFields
 place_of place.Outside = Outside
@@ -106,21 +120,26 @@ stays document list mode = record { document = document; list = list; mode = mod
 -- the flow list of a key has ended
 abbrev pub with_names : OpenDocumentFields → Option ItemListFields → ItemKey → List (List ℕ) → InsideFields
 with_names document None key names = stays (with_top_key key names document) None Keys
-with_names document (Some list) key names = stays document (Some (record list { item = with_key key names list.item })) Keys
+with_names document (Some list) key names = stays document
+    (Some (record list { item = with_key key names list.item })) Keys
 
 -- behind a line of a flow list, by what stands before the next token
 abbrev pub behind_expect : OpenDocumentFields → Option ItemListFields → ℕ → ItemKey → ListPart → Expect → InsideFields
 behind_expect document list began key part Closed = with_names document list key part.names
-behind_expect document list began key part AfterOpen = stays document list (Names (record { began = began; key = key; part = part }))
-behind_expect document list began key part AfterComma = stays document list (Names (record { began = began; key = key; part = part }))
-behind_expect document list began key part AfterName = stays document list (Names (record { began = began; key = key; part = part }))
+behind_expect document list began key part AfterOpen = stays document list
+    (Names (record { began = began; key = key; part = part }))
+behind_expect document list began key part AfterComma = stays document list
+    (Names (record { began = began; key = key; part = part }))
+behind_expect document list began key part AfterName = stays document list
+    (Names (record { began = began; key = key; part = part }))
 
 -- behind a line of a flow list
 abbrev pub behind_part : OpenDocumentFields → Option ItemListFields → ℕ → ItemKey → ListPart → InsideFields
 behind_part document list began key part = behind_expect document list began key part part.expect
 
 -- a line of a flow list
-unfoldable pub names_line : OpenDocumentFields → Option ItemListFields → ℕ → NameListFields → List ℕ → Reading InsideFields
+unfoldable pub names_line : OpenDocumentFields → Option ItemListFields → ℕ → NameListFields → List ℕ
+    → Reading InsideFields
 names_line document list line names text = do
   part ← with_front names.part.names (list_part line names.part.expect 0 text)
   Ok (behind_part document list names.began names.key part)
@@ -132,12 +151,14 @@ opened line key = record { began = line; key = key; part = record { names = []; 
 -- the value of a key that is read as a flow list
 unfoldable pub names_value : OpenDocumentFields → Option ItemListFields → ℕ → ItemKey → List ℕ → Reading InsideFields
 names_value document list line key value =
-    if slice_index value 0 == open_bracket then names_line document list line (opened line key) (drop 1 value) else outside line
+    if slice_index value 0 == open_bracket then names_line document list line (opened line key) (drop 1 value) else
+    outside line
 
 -- the value of a key that is skipped
 unfoldable pub skipped_value : OpenDocumentFields → Option ItemListFields → ℕ → List ℕ → Reading InsideFields
 skipped_value document list line value =
-    if slice_index value 0 == open_bracket then names_line document list line (opened line item.Unread) (drop 1 value) else Ok (stays document list Skipped)
+    if slice_index value 0 == open_bracket then names_line document list line (opened line item.Unread) (drop 1 value)
+    else Ok (stays document list Skipped)
 
 -- the value of a key that must not have come before
 abbrev pub once : {A : Type 0} → ℕ → Bool → Reading A → Reading A
@@ -146,9 +167,12 @@ once line had reading = if had then broken line S3 else reading
 -- a key of an item
 abbrev pub item_entry : OpenDocumentFields → ItemListFields → ℕ → ItemKey → List ℕ → Reading InsideFields
 item_entry document list line item.Unread value = skipped_value document (Some list) line value
-item_entry document list line item.Targets value = once line (has_key item.Targets list.item) (names_value document (Some list) line item.Targets value)
-item_entry document list line item.Names value = once line (has_key item.Names list.item) (names_value document (Some list) line item.Names value)
-item_entry document list line item.WeakNames value = once line (has_key item.WeakNames list.item) (names_value document (Some list) line item.WeakNames value)
+item_entry document list line item.Targets value = once line (has_key item.Targets list.item)
+    (names_value document (Some list) line item.Targets value)
+item_entry document list line item.Names value = once line (has_key item.Names list.item)
+    (names_value document (Some list) line item.Names value)
+item_entry document list line item.WeakNames value = once line (has_key item.WeakNames list.item)
+    (names_value document (Some list) line item.WeakNames value)
 
 -- a line, or what stands behind its dash, with a key of an item
 unfoldable pub item_key_line : OpenDocumentFields → ItemListFields → ℕ → List ℕ → Reading InsideFields
@@ -164,7 +188,9 @@ key_column line = indent line + 1 + indent (drop (indent line + 1) line)
 unfoldable pub first_line : OpenDocumentFields → ItemKind → List ItemFields → ℕ → List ℕ → Reading InsideFields
 first_line document kind items line text =
     if has_dash text
-    then item_key_line document (record { kind = kind; items = items; dash = indent text; column = key_column text; item = no_item }) line (drop (key_column text) text)
+    then item_key_line document (record
+    { kind = kind; items = items; dash = indent text; column = key_column text; item = no_item }) line
+    (drop (key_column text) text)
     else outside line
 
 -- a key of a document
@@ -172,14 +198,16 @@ abbrev pub top_entry : OpenDocumentFields → ℕ → TopKey → List ℕ → Re
 top_entry document line top.Version value = once line (is_some document.version) (do
   version ← version_value line value
   Ok (stays (record document { version = Some version }) None Keys))
-top_entry document line top.Targets value = once line (is_some document.targets) (names_value document None line item.Targets value)
+top_entry document line top.Targets value = once line (is_some document.targets)
+    (names_value document None line item.Targets value)
 top_entry document line top.InstallName value = once line (is_some document.install_name) (do
   text ← scalar_value line value
   Ok (stays (record document { install_name = Some text }) None Keys))
 top_entry document line top.CurrentVersion value = once line (is_some document.current_version) (do
   text ← scalar_value line value
   Ok (stays (record document { current_version = Some text }) None Keys))
-top_entry document line (top.Items kind) value = once line (has_items kind document) (if length value == 0 then Ok (stays document None (NoItem kind line)) else outside line)
+top_entry document line (top.Items kind) value = once line (has_items kind document)
+    (if length value == 0 then Ok (stays document None (NoItem kind line)) else outside line)
 top_entry document line top.Unread value = skipped_value document None line value
 
 -- the documents before, and inside this one
@@ -211,8 +239,10 @@ items_with_last line list = do
   item ← whole_item line list.kind list.item
   Ok (list.items ++ item ∷ [])
 
--- A line behind the keys of an item: a dash in the column of the list's dashes begins the next item, a line at column 0 ends the list, and a line in the column of the item's keys is one of them.
-unfoldable pub item_line : List DocumentFields → OpenDocumentFields → ItemListFields → ℕ → List ℕ → Reading StateFields
+-- A line behind the keys of an item: a dash in the column of the list's dashes begins the next item, a line at
+-- column 0 ends the list, and a line in the column of the item's keys is one of them.
+unfoldable pub item_line : List DocumentFields → OpenDocumentFields → ItemListFields → ℕ → List ℕ
+    → Reading StateFields
 item_line documents document list line text =
     if has_dash text && indent text == list.dash then (do
       items ← items_with_last document.line list
@@ -225,7 +255,8 @@ item_line documents document list line text =
     else outside line))
 
 -- a line where a key may stand
-abbrev pub key_line : List DocumentFields → OpenDocumentFields → Option ItemListFields → ℕ → List ℕ → Reading StateFields
+abbrev pub key_line : List DocumentFields → OpenDocumentFields → Option ItemListFields → ℕ → List ℕ
+    → Reading StateFields
 key_line documents document None line text = top_line documents document line text
 key_line documents document (Some list) line text = item_line documents document list line text
 
@@ -235,33 +266,42 @@ belongs None text = belongs_to_top text
 belongs (Some list) text = nat_lt list.column (indent text)
 
 -- a line inside a document
-abbrev pub inside_line : List DocumentFields → OpenDocumentFields → Option ItemListFields → ModeFields → ℕ → List ℕ → Reading StateFields
+abbrev pub inside_line : List DocumentFields → OpenDocumentFields → Option ItemListFields → ModeFields → ℕ → List ℕ
+    → Reading StateFields
 inside_line documents document list Keys line text = key_line documents document list line text
 inside_line documents document list Skipped line text =
-    if belongs list text then Ok (record { documents = documents; place = Within (stays document list Skipped) }) else key_line documents document list line text
-inside_line documents document list (Names names) line text = within documents (names_line document list line names text)
-inside_line documents document list (NoItem kind at) line text = within documents (first_line document kind [] line text)
+    if belongs list text then Ok (record { documents = documents; place = Within (stays document list Skipped) }) else
+    key_line documents document list line text
+inside_line documents document list (Names names) line text = within documents
+    (names_line document list line names text)
+inside_line documents document list (NoItem kind at) line text = within documents
+    (first_line document kind [] line text)
 
 -- a line with content
 abbrev pub content_line : List DocumentFields → PlaceFields → ℕ → List ℕ → Reading StateFields
 content_line documents Outside line text =
-    if bytes_eq text head then Ok (record { documents = documents; place = Within (stays (head_at line) None Keys) }) else outside line
-content_line documents (Within inside) line text = inside_line documents inside.document inside.list inside.mode line text
+    if bytes_eq text head then Ok (record { documents = documents; place = Within (stays (head_at line) None Keys) })
+    else outside line
+content_line documents (Within inside) line text = inside_line documents inside.document inside.list inside.mode line
+    text
 
 -- any line
 unfoldable pub line_step : StateFields → ℕ → List ℕ → Reading StateFields
 line_step state line text =
-    if has_barred text then outside line else (if is_passed text then Ok state else content_line state.documents state.place line text)
+    if has_barred text then outside line else
+    (if is_passed text then Ok state else content_line state.documents state.place line text)
 
 -- the document that the text ends in, behind its keys
-abbrev pub ended_document : List DocumentFields → OpenDocumentFields → Option ItemListFields → Reading (List DocumentFields)
+abbrev pub ended_document : List DocumentFields → OpenDocumentFields → Option ItemListFields
+    → Reading (List DocumentFields)
 ended_document documents document None = with_whole documents document
 ended_document documents document (Some list) = do
   items ← items_with_last document.line list
   with_whole documents (with_items list.kind items document)
 
 -- where the text ends inside a document
-abbrev pub ended_inside : List DocumentFields → OpenDocumentFields → Option ItemListFields → ModeFields → Reading (List DocumentFields)
+abbrev pub ended_inside : List DocumentFields → OpenDocumentFields → Option ItemListFields → ModeFields
+    → Reading (List DocumentFields)
 ended_inside documents document list Keys = ended_document documents document list
 ended_inside documents document list Skipped = ended_document documents document list
 ended_inside documents document list (Names names) = outside names.began

@@ -20,7 +20,8 @@ IsListed name (item ∷ items) = Among name item.names ⊎ IsListed name items
 abbrev pub SaySame : DocumentFields → DocumentFields → Type 0
 SaySame a b = a ≡ record b { line = a.line }
 
--- The main library is for the target, has a current version, and has at most one group of reexported libraries, which is for the target.
+-- The main library is for the target, has a current version, and has at most one group of reexported libraries,
+-- which is for the target.
 pub record IsSoundMain (main : DocumentFields) : Type 0 where
   pub for_target : Among target main.targets
   pub versioned : main.current_version ≢ []
@@ -32,7 +33,8 @@ pub record IsSoundDocument (main document : DocumentFields) : Type 0 where
   pub version : document.version ≡ codes "4"
   pub belongs : SaySame document main ⊎ IsListed document.install_name main.libraries
 
--- The documents keep the rules, the first is the main library, and the library is what they say: by document, the symbols of the exports before those of the reexports, of the items for the target.
+-- The documents keep the rules, the first is the main library, and the library is what they say: by document, the
+-- symbols of the exports before those of the reexports, of the items for the target.
 pub record MakesLibrary (documents : List DocumentFields) (library : LibraryFields) : Type 0 where
   pub main : DocumentFields
   pub others : List DocumentFields
@@ -51,17 +53,22 @@ pub record IsFirstUnsound (main document : DocumentFields) (documents : List Doc
   pub parts : documents ≡ earlier ++ document ∷ later
   pub sound : AllByRecursion (IsSoundDocument main) earlier
 
--- The rule that is told of a main library and all the documents, at the line: of the main library's rules the first, and then of the first document that isn't sound the version first.
+-- The rule that is told of a main library and all the documents, at the line: of the main library's rules the
+-- first, and then of the first document that isn't sound the version first.
 abbrev pub IsToldOf : StubRule → ℕ → DocumentFields → List DocumentFields → Type 0
 IsToldOf S5 line main documents = (line ≡ main.line) × (Among target main.targets → ⊥)
 IsToldOf S6 line main documents = (line ≡ main.line) × Among target main.targets × (main.current_version ≡ [])
-IsToldOf S7 line main documents = (line ≡ main.line) × Among target main.targets × (main.current_version ≢ []) × (1 < length main.libraries)
+IsToldOf S7 line main documents = (line ≡ main.line) × Among target main.targets × (main.current_version ≢ [])
+    × (1 < length main.libraries)
 IsToldOf S8 line main documents =
-    (line ≡ main.line) × Among target main.targets × (main.current_version ≢ []) × (item : ItemFields) × (main.libraries ≡ item ∷ []) × (Among target item.targets → ⊥)
+    (line ≡ main.line) × Among target main.targets × (main.current_version ≢ []) × (item : ItemFields)
+    × (main.libraries ≡ item ∷ []) × (Among target item.targets → ⊥)
 IsToldOf S4 line main documents =
-    IsSoundMain main × (document : DocumentFields) × IsFirstUnsound main document documents × (line ≡ document.line) × (document.version ≢ codes "4")
+    IsSoundMain main × (document : DocumentFields) × IsFirstUnsound main document documents × (line ≡ document.line)
+    × (document.version ≢ codes "4")
 IsToldOf S9 line main documents =
-    IsSoundMain main × (document : DocumentFields) × IsFirstUnsound main document documents × (line ≡ document.line) × (document.version ≡ codes "4")
+    IsSoundMain main × (document : DocumentFields) × IsFirstUnsound main document documents × (line ≡ document.line)
+    × (document.version ≡ codes "4")
     × (SaySame document main → ⊥) × (IsListed document.install_name main.libraries → ⊥)
 IsToldOf S1 line main documents = ⊥
 IsToldOf S2 line main documents = ⊥

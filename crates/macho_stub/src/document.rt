@@ -203,7 +203,8 @@ impl<'data> OpenDocument<'data> {
 
     /// The document with the list of items.
     pub fn with_items(mut self, kind: ItemKind, items: Vec<Item<'data>>) -> OpenDocument<'data>
-        ensures { open_document_of result ≡ with_items kind (items_of items.entry.items) (open_document_of self.entry) }
+        ensures { open_document_of result
+            ≡ with_items kind (items_of items.entry.items) (open_document_of self.entry) }
     {
         match kind {
             ItemKind::Libraries => self.libraries = Some(items),

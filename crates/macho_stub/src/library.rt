@@ -187,7 +187,8 @@ fn with_item<'data>(
     item: &Item<'data>,
     weak: bool,
 ) -> Result<Vec<&'data str>, StubFault>
-    ensures { Gives (λ v. texts v.items) result (Ok (texts names.entry.items ++ picked_for_target weak (item_of item.now))) }
+    ensures { Gives (λ v. texts v.items) result
+        (Ok (texts names.entry.items ++ picked_for_target weak (item_of item.now))) }
 {
     let wanted = has_target(item.targets.as_slice());
     if wanted {
@@ -206,7 +207,8 @@ fn with_items<'data>(
     items: &[Item<'data>],
     weak: bool,
 ) -> Result<Vec<&'data str>, StubFault>
-    ensures { Gives (λ v. texts v.items) result (Ok (texts names.entry.items ++ flat_map (picked_for_target weak) (items_of items.now))) }
+    ensures { Gives (λ v. texts v.items) result
+        (Ok (texts names.entry.items ++ flat_map (picked_for_target weak) (items_of items.now))) }
 {
     for item in items {
         names = with_item(names, item, weak)?;
@@ -220,7 +222,8 @@ fn with_document<'data>(
     document: &Document<'data>,
     weak: bool,
 ) -> Result<Vec<&'data str>, StubFault>
-    ensures { Gives (λ v. texts v.items) result (Ok (texts names.entry.items ++ picked_of_document weak (document_of document.now))) }
+    ensures { Gives (λ v. texts v.items) result
+        (Ok (texts names.entry.items ++ picked_of_document weak (document_of document.now))) }
 {
     let names = with_items(names, document.exports.as_slice(), weak)?;
     with_items(names, document.reexports.as_slice(), weak)

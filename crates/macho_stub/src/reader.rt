@@ -49,7 +49,8 @@ fn with_names<'data>(
     key: ItemKey,
     names: Vec<&'data str>,
 ) -> Inside<'data>
-    ensures { inside_of result ≡ with_names (open_document_of document.entry) (option_map item_list_of list.entry) key (texts names.entry.items) }
+    ensures { inside_of result ≡ with_names (open_document_of document.entry) (option_map item_list_of list.entry) key
+        (texts names.entry.items) }
 {
     match list {
         None => Inside {
@@ -87,7 +88,8 @@ fn behind_part<'data>(
     key: ItemKey,
     part: OpenList<'data>,
 ) -> Inside<'data>
-    ensures { inside_of result ≡ behind_part (open_document_of document.entry) (option_map item_list_of list.entry) began key (part_of part.entry) }
+    ensures { inside_of result ≡ behind_part (open_document_of document.entry) (option_map item_list_of list.entry)
+        began key (part_of part.entry) }
 {
     match part.expect {
         Expect::Closed => with_names(document, list, key, part.names),
@@ -108,7 +110,9 @@ fn names_line<'data>(
     names: NameList<'data>,
     text: &'data str,
 ) -> Result<Inside<'data>, StubFault>
-    ensures { Gives inside_of result (names_line (open_document_of document.entry) (option_map item_list_of list.entry) line (name_list_of names.entry) text.now) }
+    ensures { Gives inside_of result
+        (names_line (open_document_of document.entry) (option_map item_list_of list.entry) line
+        (name_list_of names.entry) text.now) }
 {
     let NameList { began, key, part } = names;
     let part = list_part(line, part, text)?;
@@ -139,7 +143,8 @@ fn names_value<'data>(
     key: ItemKey,
     value: &'data str,
 ) -> Result<Inside<'data>, StubFault>
-    ensures { Gives inside_of result (names_value (open_document_of document.entry) (option_map item_list_of list.entry) line key value.now) }
+    ensures { Gives inside_of result
+        (names_value (open_document_of document.entry) (option_map item_list_of list.entry) line key value.now) }
 {
     if byte_at(value, 0) != b'[' {
         return Err(outside(line));
@@ -162,7 +167,8 @@ fn skipped_value<'data>(
     line: u64,
     value: &'data str,
 ) -> Result<Inside<'data>, StubFault>
-    ensures { Gives inside_of result (skipped_value (open_document_of document.entry) (option_map item_list_of list.entry) line value.now) }
+    ensures { Gives inside_of result
+        (skipped_value (open_document_of document.entry) (option_map item_list_of list.entry) line value.now) }
 {
     if byte_at(value, 0) == b'[' {
         return names_line(
@@ -199,7 +205,8 @@ fn item_entry<'data>(
     key: ItemKey,
     value: &'data str,
 ) -> Result<Inside<'data>, StubFault>
-    ensures { Gives inside_of result (item_entry (open_document_of document.entry) (item_list_of list.entry) line key value.now) }
+    ensures { Gives inside_of result
+        (item_entry (open_document_of document.entry) (item_list_of list.entry) line key value.now) }
 {
     if let ItemKey::Unread = key {
         return skipped_value(alloc, document, Some(list), line, value);
@@ -219,7 +226,8 @@ fn item_key_line<'data>(
     line: u64,
     text: &'data str,
 ) -> Result<Inside<'data>, StubFault>
-    ensures { Gives inside_of result (item_key_line (open_document_of document.entry) (item_list_of list.entry) line text.now) }
+    ensures { Gives inside_of result
+        (item_key_line (open_document_of document.entry) (item_list_of list.entry) line text.now) }
 {
     let entry = entry_at(line, text)?;
     let key = item_key(list.kind, entry.key);
@@ -246,7 +254,8 @@ fn first_line<'data>(
     line: u64,
     text: &'data str,
 ) -> Result<Inside<'data>, StubFault>
-    ensures { Gives inside_of result (first_line (open_document_of document.entry) kind (items_of items.entry.items) line text.now) }
+    ensures { Gives inside_of result
+        (first_line (open_document_of document.entry) kind (items_of items.entry.items) line text.now) }
 {
     if !has_dash(text) {
         return Err(outside(line));
@@ -344,7 +353,8 @@ fn current_version_entry<'data>(
     line: u64,
     value: &'data str,
 ) -> Result<Inside<'data>, StubFault>
-    ensures { Gives inside_of result (top_entry (open_document_of document.entry) line TopKey.CurrentVersion value.now) }
+    ensures { Gives inside_of result
+        (top_entry (open_document_of document.entry) line TopKey.CurrentVersion value.now) }
 {
     if document.current_version.is_some() {
         return Err(twice(line));
@@ -365,7 +375,8 @@ fn items_entry<'data>(
     kind: ItemKind,
     value: &'data str,
 ) -> Result<Inside<'data>, StubFault>
-    ensures { Gives inside_of result (top_entry (open_document_of document.entry) line (TopKey.Items kind) value.now) }
+    ensures { Gives inside_of result
+        (top_entry (open_document_of document.entry) line (TopKey.Items kind) value.now) }
 {
     if document.has_items(kind) {
         return Err(twice(line));
@@ -387,7 +398,8 @@ fn with_whole<'data>(
     mut documents: Vec<Document<'data>>,
     document: OpenDocument<'data>,
 ) -> Result<Vec<Document<'data>>, StubFault>
-    ensures { Gives (λ v. map document_of v.items) result (with_whole (map document_of documents.entry.items) (open_document_of document.entry)) }
+    ensures { Gives (λ v. map document_of v.items) result
+        (with_whole (map document_of documents.entry.items) (open_document_of document.entry)) }
 {
     documents.push(document.whole(alloc)?)?;
     Ok(documents)
@@ -395,7 +407,8 @@ fn with_whole<'data>(
 
 /// Where the reading is inside a document, behind other documents.
 fn within<'data>(documents: Vec<Document<'data>>, inside: Inside<'data>) -> State<'data>
-    ensures { state_of result ≡ record { documents = map document_of documents.entry.items; place = Within (inside_of inside.entry) } }
+    ensures { state_of result ≡ record
+        { documents = map document_of documents.entry.items; place = Within (inside_of inside.entry) } }
 {
     State {
         documents,
@@ -412,7 +425,8 @@ fn top_line<'data>(
     line: u64,
     text: &'data str,
 ) -> Result<State<'data>, StubFault>
-    ensures { Gives state_of result (top_line (map document_of documents.entry.items) (open_document_of document.entry) line text.now) }
+    ensures { Gives state_of result
+        (top_line (map document_of documents.entry.items) (open_document_of document.entry) line text.now) }
 {
     if text == HEAD {
         let documents = with_whole(alloc, documents, document)?;
@@ -460,7 +474,9 @@ fn item_line<'data>(
     line: u64,
     text: &'data str,
 ) -> Result<State<'data>, StubFault>
-    ensures { Gives state_of result (item_line (map document_of documents.entry.items) (open_document_of document.entry) (item_list_of list.entry) line text.now) }
+    ensures { Gives state_of result
+        (item_line (map document_of documents.entry.items) (open_document_of document.entry) (item_list_of list.entry)
+        line text.now) }
 {
     let front = indent(text.as_bytes());
     let kind = list.kind;
@@ -495,7 +511,9 @@ fn key_line<'data>(
     line: u64,
     text: &'data str,
 ) -> Result<State<'data>, StubFault>
-    ensures { Gives state_of result (key_line (map document_of documents.entry.items) (open_document_of document.entry) (option_map item_list_of list.entry) line text.now) }
+    ensures { Gives state_of result
+        (key_line (map document_of documents.entry.items) (open_document_of document.entry)
+        (option_map item_list_of list.entry) line text.now) }
 {
     match list {
         None => top_line(alloc, documents, document, line, text),
@@ -521,7 +539,8 @@ fn inside_line<'data>(
     line: u64,
     text: &'data str,
 ) -> Result<State<'data>, StubFault>
-    ensures { Gives state_of result (content_line (map document_of documents.entry.items) (Within (inside_of inside.entry)) line text.now) }
+    ensures { Gives state_of result
+        (content_line (map document_of documents.entry.items) (Within (inside_of inside.entry)) line text.now) }
 {
     let Inside {
         document,
@@ -560,7 +579,8 @@ fn content_line<'data>(
     line: u64,
     text: &'data str,
 ) -> Result<State<'data>, StubFault>
-    ensures { Gives state_of result (content_line (map document_of state.entry.documents.items) (place_of state.entry.place) line text.now) }
+    ensures { Gives state_of result
+        (content_line (map document_of state.entry.documents.items) (place_of state.entry.place) line text.now) }
 {
     let State { documents, place } = state;
     match place {
@@ -601,7 +621,9 @@ fn ended_document<'data>(
     document: OpenDocument<'data>,
     list: Option<ItemList<'data>>,
 ) -> Result<Vec<Document<'data>>, StubFault>
-    ensures { Gives (λ v. map document_of v.items) result (ended_document (map document_of documents.entry.items) (open_document_of document.entry) (option_map item_list_of list.entry)) }
+    ensures { Gives (λ v. map document_of v.items) result
+        (ended_document (map document_of documents.entry.items) (open_document_of document.entry)
+        (option_map item_list_of list.entry)) }
 {
     match list {
         None => with_whole(alloc, documents, document),
@@ -631,7 +653,8 @@ fn ended_inside<'data>(
     documents: Vec<Document<'data>>,
     inside: Inside<'data>,
 ) -> Result<Vec<Document<'data>>, StubFault>
-    ensures { Gives (λ v. map document_of v.items) result (ended (map document_of documents.entry.items) (Within (inside_of inside.entry))) }
+    ensures { Gives (λ v. map document_of v.items) result
+        (ended (map document_of documents.entry.items) (Within (inside_of inside.entry))) }
 {
     let Inside {
         document,
@@ -647,7 +670,8 @@ fn ended_inside<'data>(
 
 /// The documents, where the text ends.
 fn ended<'data>(alloc: Global, state: State<'data>) -> Result<Vec<Document<'data>>, StubFault>
-    ensures { Gives (λ v. map document_of v.items) result (ended (map document_of state.entry.documents.items) (place_of state.entry.place)) }
+    ensures { Gives (λ v. map document_of v.items) result
+        (ended (map document_of state.entry.documents.items) (place_of state.entry.place)) }
 {
     let State { documents, place } = state;
     match place {

@@ -6,4 +6,5 @@ use Rattle.macho_stub.specs.Library.{picked_of_document}
 use Rattle.macho_stub.proofs.library.gathered.Given as goal
 
 abbrev pub invariant-loop-document : goal.invariant-loop-document
-invariant-loop-document l = texts l.names.items ++ flat_map (picked_of_document l.weak) (drop l.document-index (map document_of l.documents)) ≡ flat_map (picked_of_document l.weak) (map document_of l.documents)
+invariant-loop-document l = texts l.names.items ++ flat_map (picked_of_document l.weak)
+    (drop l.document-index (map document_of l.documents)) ≡ flat_map (picked_of_document l.weak) (map document_of l.documents)

@@ -5,4 +5,5 @@ use Rattle.macho_stub.specs.Lists.{texts}
 use Rattle.macho_stub.proofs.library.is_among.Given as goal
 
 abbrev pub invariant-loop-other : goal.invariant-loop-other
-invariant-loop-other l = list_any (λ other. bytes_eq other l.name) (drop l.other-index (texts l.names)) ≡ list_any (λ other. bytes_eq other l.name) (texts l.names)
+invariant-loop-other l = list_any (λ other. bytes_eq other l.name) (drop l.other-index (texts l.names))
+    ≡ list_any (λ other. bytes_eq other l.name) (texts l.names)

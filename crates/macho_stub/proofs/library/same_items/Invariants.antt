@@ -4,4 +4,5 @@ use Rattle.macho_stub.specs.Library.{all_same, same_item}
 use Rattle.macho_stub.proofs.library.same_items.Given as goal
 
 abbrev pub invariant-loop-i : goal.invariant-loop-i
-invariant-loop-i l = all_same same_item (drop l.i (items_of l.left)) (drop l.i (items_of l.right)) ≡ all_same same_item (items_of l.left) (items_of l.right)
+invariant-loop-i l = all_same same_item (drop l.i (items_of l.left)) (drop l.i (items_of l.right))
+    ≡ all_same same_item (items_of l.left) (items_of l.right)

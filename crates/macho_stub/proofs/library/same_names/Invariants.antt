@@ -5,4 +5,5 @@ use Rattle.macho_stub.specs.Library.{all_same}
 use Rattle.macho_stub.proofs.library.same_names.Given as goal
 
 abbrev pub invariant-loop-i : goal.invariant-loop-i
-invariant-loop-i l = all_same bytes_eq (drop l.i (texts l.left)) (drop l.i (texts l.right)) ≡ all_same bytes_eq (texts l.left) (texts l.right)
+invariant-loop-i l = all_same bytes_eq (drop l.i (texts l.left)) (drop l.i (texts l.right))
+    ≡ all_same bytes_eq (texts l.left) (texts l.right)
