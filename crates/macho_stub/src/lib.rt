@@ -1,4 +1,21 @@
 //! Reads text stubs: the `.tbd` files, version 4, that stand for libraries on arm64 macOS.
+//!
+//! ```text
+//! --- !tapi-tbd                              head of a document; the first is the main library
+//! tbd-version:     4
+//! targets:         [ x86_64-macos,           flow list, over any number of lines
+//!                    arm64e-macos ]
+//! install-name:    '/usr/lib/libSystem.B.dylib'
+//! current-version: 1351                      scalar: plain, in single or in double quotes
+//! exports:                                   list of items, their dashes in one column
+//!   - targets:         [ arm64e-macos ]
+//!     symbols:         [ _exit, _write ]     gathered, since the targets hold arm64e-macos
+//!     objc-classes:    [ Skipped ]           a key that isn't read is skipped with its value
+//! ...                                        end of a document
+//! ```
+//!
+//! Its library is `/usr/lib/libSystem.B.dylib`, version `1351`, with the symbols `_exit` and `_write`.
+//! The text is read once, line by line, and each text of the answer is a slice of it.
 #![tactic(auto)]
 
 ghost use Rattle.std.specs.Prelude.{◌≡◌, IfErr, IfOk, Ok};

@@ -1,4 +1,12 @@
-//! Reads a stub text line by line.
+//! Reads a stub text line by line. Each line is a step from one state of the reading to the next:
+//!
+//! ```text
+//! outside ── head ──> inside a document, where a key may stand
+//!   key with a scalar                     the same, with the key
+//!   key with a flow list                  in the list, until its bracket closes
+//!   key that is skipped                   in its value, as long as lines belong to it
+//!   key with items ── dash ──>            inside an item, where its keys may stand
+//! ```
 
 ghost use Rattle.std.specs.Prelude.{◌≡◌, ◌≤◌, ◌<◌, ◌+◌, ◌-◌, ◌++◌, ◌∷◌, [], ℕ, true, length, drop, map, slice_index, Some, None, Ok, is_some};
 ghost use Rattle.std.specs.Option.{option_map};
