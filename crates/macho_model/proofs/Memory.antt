@@ -4,7 +4,7 @@
 -- where the file has one, zero behind. A text that stands in the file part of a segment is therefore held at the
 -- segment's address plus its offset there, and so is each number that its bytes make, since a number of w bytes reads
 -- no byte but those. The slide is added to the address alone.
-use Rattle.std.proofs.Common.{◌≡◌, ℕ, ◌+◌, ◌-◌, ◌<◌, ◌≤◌, nat_lt, if◌then◌else◌, false, List, [], length, drop, slice_range, slice_index, get_or, refl, sym, ap, ◌∙◌, arith, inr}
+use Rattle.std.proofs.Common.{◌≡◌, ℕ, ◌+◌, ◌-◌, ◌<◌, ◌≤◌, nat_lt, if◌then◌else◌, false, List, [], length, drop, slice_range, slice_index, get_or, refl, sym, ap, subst, ◌∙◌, arith, inl, inr}
 use Rattle.std.specs.Prelude.{Contains}
 use Rattle.std.proofs.lemmas.Bool.{lt-ltb}
 use Rattle.std.proofs.lemmas.Bool.Decides.{nat_tests}
@@ -102,3 +102,17 @@ number_is_held b s choice segment w i none one fits small inside =
     held =
         text_is_held b s choice segment i (slice_range b (segment.fileoff + i) (segment.fileoff + i + w)) none one (omega (arith, long)) small
         (record { within = omega (arith, long); same = ap (λ (e : ℕ). slice_range b (segment.fileoff + i) (segment.fileoff + i + e)) long })
+
+-- the byte at an address behind the slide, and where no segment has one
+pub memory_found : (b : List ℕ) (s x v : ℕ) (choice : Choice) → s ≤ x → tables_of b ≡ [] → IsSegmentByte b (x - s) v → Holds b s choice x v
+memory_found b s x v choice behind none byte =
+    let here : x - s + s ≡ x = omega (arith, behind) in
+    subst (λ y. Holds b s choice y v) here (unchained_byte b s choice (x - s) v none byte)
+
+pub memory_lacks : (b : List ℕ) (s x v : ℕ) (choice : Choice) → tables_of b ≡ [] → (IsSegmentByte b (x - s) v → ⊥) → Holds b s choice x v → ⊥
+memory_lacks b s x v choice none lacks held =
+    let here : held.a ≡ x - s = omega (arith, held.slid) in
+    elim held.byte [
+      | inl chained ↦ uncovered b none held.a chained.word_at chained.covers
+      | inr plain ↦ lacks (subst (λ y. IsSegmentByte b y v) here plain.1)
+    ]

@@ -9,6 +9,7 @@ mod placed;
 mod rules;
 mod targets;
 
+pub use mapped::{memory_byte, segment_byte};
 pub use placed::{
     Counts, Linkedit, PlacedCommon, PlacedSection, PlacedSegment, Range64, Slot, Stub,
 };
