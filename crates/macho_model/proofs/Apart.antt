@@ -3,7 +3,7 @@
 -- Each segment begins where the one before it ends, or behind; so, step by step, behind the end of every earlier one.
 -- An address in two segments would lie behind the end of one and before it. Hence a segment's byte is determined, and so
 -- is the word that the file has at an address, since a segment's file part is in its memory.
-use Rattle.std.proofs.Common.{◌≡◌, ℕ, zero, suc, ◌+◌, ◌-◌, ◌<◌, ◌≤◌, nat_lt, nat_le, not, if◌then◌else◌, true, List, [], ◌∷◌, length, get_or, slice_index, map, refl, sym, ap, subst, ◌∙◌, arith, inl, inr, All}
+use Rattle.std.proofs.Common.{◌≡◌, ℕ, zero, suc, ◌+◌, ◌-◌, ◌<◌, ◌≤◌, nat_lt, not, if◌then◌else◌, List, length, get_or, slice_index, sym, ap, subst, ◌∙◌, arith, inl, inr}
 use Rattle.std.specs.Prelude.{Contains, AllPairs}
 use Rattle.std.proofs.lemmas.Bool.{cases_lt, leb-true}
 use Rattle.std.proofs.lemmas.List.{get_or_default, get_or-map, length-map}

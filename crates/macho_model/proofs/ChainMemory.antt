@@ -3,8 +3,8 @@
 -- The word that the loader makes of a chain word stands in memory at the address of the word plus the slide, as far as
 -- no chain word of a greater address begins: from there on that one's bytes are the ones. Outside all chain words a byte
 -- of memory is a segment's, at every slide and for every choice alike; so memory there is what it is at slide 0, moved.
-use Rattle.std.proofs.Common.{◌≡◌, ℕ, ◌+◌, ◌-◌, ◌^◌, ◌<◌, ◌≤◌, ◌⊎◌, List, [], ◌++◌, length, take, slice_index, get_or, refl, sym, ap, subst, ◌∙◌, arith, inl, inr}
-use Rattle.std.proofs.lemmas.List.{length-take, get_or-take, append-nil}
+use Rattle.std.proofs.Common.{◌≡◌, ℕ, ◌+◌, ◌-◌, ◌^◌, ◌<◌, ◌≤◌, ◌⊎◌, List, [], length, take, slice_index, get_or, refl, sym, ap, subst, ◌∙◌, arith, inl, inr}
+use Rattle.std.proofs.lemmas.List.{length-take, get_or-take}
 use Rattle.byteorder.specs.Numbers.{length-bytes_low_first, little_number-reads_back}
 use Rattle.macho_bytes.specs.Numbers.{le_at, le_bytes}
 use Rattle.macho_model.specs.Chain.{WORD_SIZE, OnChainOf}
@@ -33,7 +33,7 @@ fixed_text_is_held b s choice a value n fixed short apart k within =
     get_or-take n (le_bytes WORD_SIZE value) k 0 below ∙ ap (λ (j : ℕ). get_or (le_bytes WORD_SIZE value) j 0) (sym place) in
     rw (here, byte)
     (fixed_byte_is_held b s choice a value (a + k) fixed (omega arith) (omega arith)
-    (λ other covers. elim (apart other covers.0) [ | inl le ↦ le | inr behind ↦ absurd (omega (arith, covers.1, covers.2)) ]))
+    (λ other covers. elim (apart other covers.0) [ inl le ↦ le | inr behind ↦ absurd (omega (arith, covers.1, covers.2)) ]))
 
 -- THE whole word, where no other one begins inside it.
 pub fixed_word_is_held : (b : List ℕ) (s : ℕ) (choice : Choice) (a value : ℕ) → IsFixed b s choice a value → value < 2 ^ 64

@@ -3,11 +3,9 @@
 -- A list is closed where it has the word of each page start, and with each of its addresses whose word leads on, the
 -- address that it leads to. The chain is the least set with these rules, so it lies within any such list: by the rule
 -- that put an address on the chain, the first finds it among the starts, and the second next to one found before.
-use Rattle.std.proofs.Common.{◌≡◌, ◌≢◌, ℕ, ◌+◌, ◌*◌, ◌-◌, ◌<◌, ◌≤◌, nat_le, ◌==◌, Bool, true, false, not, ◌&&◌, ◌||◌, List, [], ◌∷◌, length, slice_index, refl, sym, subst, arith}
-use Rattle.std.specs.Prelude.{Contains}
+use Rattle.std.proofs.Common.{◌≡◌, ℕ, ◌+◌, ◌*◌, ◌-◌, ◌<◌, ◌≤◌, nat_le, ◌==◌, Bool, true, false, not, ◌&&◌, ◌||◌, List, [], ◌∷◌, length, slice_index, refl, sym, subst}
 use Rattle.std.specs.List.{list_all, list_any}
 use Rattle.std.proofs.lemmas.Bool.{le-leb}
-use Rattle.std.proofs.lemmas.Bool.Decides.{nat_tests}
 use Rattle.std.proofs.lemmas.List.Elements.{All-contains}
 use Rattle.macho_bytes.specs.Numbers.{le_at}
 use Rattle.macho_model.specs.Images.{NO_START, CHAIN_PAGE}
@@ -40,8 +38,6 @@ leads_on b addresses a s =
 
 abbrev pub is_closed : List ChainSegment → List ℕ → List ℕ → Bool
 is_closed segments b addresses = list_all (has_starts addresses) segments && list_all (λ a. list_all (leads_on b addresses a) segments) addresses
-
-
 
 -- what holds of all of a list holds of what is among it
 pub among_passes : (p : ℕ → Bool) (xs : List ℕ) (a : ℕ) → list_all p xs ≡ true → is_among xs a ≡ true → p a ≡ true

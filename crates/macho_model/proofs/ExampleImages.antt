@@ -1,6 +1,6 @@
 -- Small images written out by hand, for the computed facts of this folder.
 use Rattle.std.proofs.Common.{ℕ, List, [], ◌∷◌, ◌++◌, replicate}
-use Rattle.std.specs.Prelude.{codes, length, ◌+◌, ◌*◌, ◌-◌, ◌^◌}
+use Rattle.std.specs.Prelude.{codes, length, ◌+◌, ◌*◌, ◌^◌}
 use Rattle.macho_model.proofs.Examples.{words8, words, halves, name16}
 
 -- The smallest image: `__PAGEZERO`, `__TEXT` with one section, the entry point and the dynamic linker, four commands of

@@ -1,6 +1,6 @@
 -- Small links written out by hand, for the computed facts of this folder.
 use Rattle.std.proofs.Common.{ℕ, List, [], ◌∷◌, ◌++◌, None, true, false, ◌/◌}
-use Rattle.std.specs.Prelude.{codes, length, ◌+◌, ◌*◌}
+use Rattle.std.specs.Prelude.{codes, length, ◌+◌}
 use Rattle.macho_model.specs.Links.{Input, Object, Stub, Link, SectionId}
 use Rattle.macho_model.specs.Resolution.{SymbolId}
 use Rattle.macho_model.proofs.Examples.{words8, words, halves, name16, object_b}

@@ -1,5 +1,5 @@
 -- The smallest link and its placement, with the parts that the changes of it turn.
-use Rattle.std.proofs.Common.{ℕ, List, [], ◌∷◌, None}
+use Rattle.std.proofs.Common.{ℕ, [], ◌∷◌, None}
 use Rattle.std.specs.Prelude.{codes, Option}
 use Rattle.macho_records.specs.declared.header.SectionHeader.{SectionHeader}
 use Rattle.macho_model.specs.declared.placed.Counts.{Counts}
@@ -19,7 +19,17 @@ link_a = executable_of (Object object_a ∷ [])
 -- its sizes: the entry point and the dynamic linker are 56 bytes of commands, and nothing else is built
 abbrev pub counts_a : Counts
 counts_a = record {
-  commands = 56; padding = 0; initializers = 0; unwind = 0; imports = 0; import_size = 4; name_bytes = 0; trie = 0; symbols = 0; strings = 0; identifier = 0;
+  commands = 56;
+  padding = 0;
+  initializers = 0;
+  unwind = 0;
+  imports = 0;
+  import_size = 4;
+  name_bytes = 0;
+  trie = 0;
+  symbols = 0;
+  strings = 0;
+  identifier = 0;
 }
 
 -- a range of nothing
@@ -40,8 +50,18 @@ section_a address = record { file = 0; section = 0; segment = 1; address = addre
 
 abbrev pub header_a : SectionHeader
 header_a = record {
-  sectname = name16 (codes "__text"); segname = name16 (codes "__TEXT"); addr = 0x100000138; size = 8; offset = 0x138; align = 2; reloff = 0; nreloc = 0;
-  flags = 0x80000400; reserved1 = 0; reserved2 = 0; reserved3 = 0;
+  sectname = name16 (codes "__text");
+  segname = name16 (codes "__TEXT");
+  addr = 0x100000138;
+  size = 8;
+  offset = 0x138;
+  align = 2;
+  reloff = 0;
+  nreloc = 0;
+  flags = 0x80000400;
+  reserved1 = 0;
+  reserved2 = 0;
+  reserved3 = 0;
 }
 
 -- a placement with a base, an address of the section, a size of `__TEXT` and a template

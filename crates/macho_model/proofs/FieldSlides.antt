@@ -2,17 +2,14 @@
 --
 -- Its word is the same at every slide, since no chain word covers it; its place and whatever it compares it with move by
 -- the slide. So what it says at slide 0 it says at the other one, kind by kind.
-use Rattle.std.proofs.Common.{◌≡◌, ℕ, ◌+◌, ◌-◌, ◌*◌, ◌%◌, ◌<◌, ◌≤◌, ◌||◌, ◌&&◌, Bool, true, false, List, length, get_or, refl, sym, ap, subst, ◌∙◌, arith, inl, inr, Option, Some, None, All}
-use Rattle.std.specs.Prelude.{Contains, is_some}
+use Rattle.std.proofs.Common.{◌≡◌, ℕ, ◌+◌, ◌%◌, ◌<◌, ◌||◌, ◌&&◌, Bool, true, false, List, get_or, refl, subst, arith, Option, Some, None}
+use Rattle.std.specs.Prelude.{is_some}
 use Rattle.macho_model.specs.declared.placed.PlacedSection.{PlacedSection}
-use Rattle.macho_model.specs.declared.placed.PlacedCommon.{PlacedCommon}
-use Rattle.macho_model.specs.declared.placed.Slot.{Slot}
-use Rattle.macho_model.specs.declared.placed.Stub.{Stub}
 use Rattle.macho_model.specs.declared.targets.Target.{Target}
 use Rattle.macho_model.specs.declared.targets.Target.TheVariants as target
 use Rattle.macho_model.specs.Links.{Link, SectionId}
 use Rattle.macho_model.specs.Targets.{is_import, is_defined}
-use Rattle.macho_model.specs.Fields.{Field, fields_of, content_of}
+use Rattle.macho_model.specs.Fields.{Field, content_of}
 use Rattle.macho_model.specs.Placement.{Placed, id_of}
 use Rattle.macho_model.specs.Memory.{Choice, Covers, HoldsNumber}
 use Rattle.macho_model.specs.Stands.{IsAt, CallIsAt, LoadIsAt, LoadSays, SlotAt, StubAt, SubtrahendIsAt, Kind, Pointer, Difference, Branch, Page, Offset, SlotPage, SlotOffset, SlotDistance, NoKind, kind_of, Says, Denotes}
@@ -119,8 +116,8 @@ number_moves b s c d w x n uncovered h =
       text = h.text;
       long = h.long;
       held = λ k within.
-        let here : x + s + k ≡ x + k + s = omega arith in
-        rw here (memory_moves b s c d (x + k) (get_or h.text k 0) (uncovered k (omega (arith, within, h.long))) (h.held k within));
+          let here : x + s + k ≡ x + k + s = omega arith in
+          rw here (memory_moves b s c d (x + k) (get_or h.text k 0) (uncovered k (omega (arith, within, h.long))) (h.held k within));
       is = h.is;
     }
 
@@ -135,5 +132,5 @@ denotes_at_every_slide l b p s c d q f whole moves uncovered h =
       word = h.word;
       held = number_moves b s c d f.width (q.address + f.offset) h.word uncovered (subst (λ x. HoldsNumber b 0 c f.width x h.word) zero_slide h.held);
       says = says_at_every_slide l p c d (id_of q) f (q.address + f.offset) h.word (content_of l (id_of q) f.relocation) s (kind_of f.type (is_some f.subtrahend)) whole moves
-        (subst (λ x. Says l p 0 c (id_of q) f x h.word (content_of l (id_of q) f.relocation) (kind_of f.type (is_some f.subtrahend))) zero_slide h.says);
+          (subst (λ x. Says l p 0 c (id_of q) f x h.word (content_of l (id_of q) f.relocation) (kind_of f.type (is_some f.subtrahend))) zero_slide h.says);
     }

@@ -7,7 +7,6 @@ use Rattle.std.proofs.Common.{◌≡◌, ◌≢◌, ℕ, ◌+◌, ◌-◌, ◌<�
 use Rattle.std.specs.Prelude.{Contains}
 use Rattle.std.specs.List.{list_all}
 use Rattle.std.proofs.lemmas.Bool.{leb-true, le-leb}
-use Rattle.std.proofs.lemmas.Bool.Decides.{nat_tests}
 use Rattle.std.proofs.lemmas.List.{get_or_default}
 use Rattle.std.proofs.lemmas.List.Elements.{All-contains, Contains-get_or}
 use Rattle.macho_model.specs.declared.rules.LoadRule.{LoadRule}
@@ -20,7 +19,7 @@ use Rattle.macho_model.specs.Images.{segments_named, Table, tables_of, fixups_he
 use Rattle.macho_model.specs.Chain.{ChainSegment, chain_segments, OnPageChain}
 use Rattle.macho_model.specs.LoadRules.{image_head_fits, needed_in_image, protections_fit, file_part_inside, segment_is_paged, segment_ends, begins_behind, text_holds_commands, table_fits, import_fits}
 use Rattle.macho_model.specs.Loader.{WordFits, EachNeighbour, segment_commands, IsAccepted}
-use Rattle.macho_model.proofs.EachBelow.{each_below, not_false, true_or_false, and_left, and_right, and_both, is_equal, equal_is, same_number, other_number, all_pass, pass_all, below_pass, pass_below}
+use Rattle.macho_model.proofs.EachBelow.{each_below, true_or_false, and_left, and_right, and_both, is_equal, equal_is, same_number, other_number, all_pass, pass_all, below_pass, pass_below}
 
 -- what an accepted image keeps, rule by rule: the fields of `IsAccepted`
 abbrev pub LoadKeeps : List ℕ → LoadRule → Type 0
@@ -75,8 +74,6 @@ load_test b L8 = nat_le (length (tables_of b)) 1 && list_all (table_fits b) (tab
 load_test b L9 = list_all (λ t. each_below (fixups_header b t).imports_count (import_fits b t)) (tables_of b)
 load_test b L10 = true
 
-
-
 -- a rule that has a test: each but the last
 abbrev pub HasTest : LoadRule → Type 0
 HasTest L10 = ⊥
@@ -85,34 +82,30 @@ HasTest rule = Unit {0}
 -- a test that is true shows its rule
 pub load_test_shows : (b : List ℕ) (rule : LoadRule) → HasTest rule → load_test b rule ≡ true → LoadKeeps b rule
 load_test_shows b L1 some h = h
-load_test_shows b L2 some h =
-    (
-      and_left (commands_inside b) (list_all (command_fits (needed_in_image b) b) (commands_of b)) h,
-      all_pass (command_fits (needed_in_image b) b) (commands_of b)
+load_test_shows b L2 some h = (
+  and_left (commands_inside b) (list_all (command_fits (needed_in_image b) b) (commands_of b)) h,
+  all_pass (command_fits (needed_in_image b) b) (commands_of b)
       (and_right (commands_inside b) (list_all (command_fits (needed_in_image b) b) (commands_of b)) h),
-    )
+)
 load_test_shows b L3 some h = all_pass (protections_fit b) (segment_commands b) h
 load_test_shows b L4 some h = all_pass (file_part_inside b) (segment_commands b) h
 load_test_shows b L5 some h = all_pass (segment_is_paged b) (segment_commands b) h
-load_test_shows b L6 some h =
-    (
-      all_pass (segment_ends b) (segment_commands b)
+load_test_shows b L6 some h = (
+  all_pass (segment_ends b) (segment_commands b)
       (and_left (list_all (segment_ends b) (segment_commands b)) (each_neighbour (segment_commands b) (begins_behind b)) h),
-      neighbours_pass (segment_commands b) (begins_behind b)
+  neighbours_pass (segment_commands b) (begins_behind b)
       (and_right (list_all (segment_ends b) (segment_commands b)) (each_neighbour (segment_commands b) (begins_behind b)) h),
-    )
-load_test_shows b L7 some h =
-    (
-      is_equal (length (segments_named TEXT b)) 1
+)
+load_test_shows b L7 some h = (
+  is_equal (length (segments_named TEXT b)) 1
       (and_left (length (segments_named TEXT b) == 1) (list_all (text_holds_commands b) (segments_named TEXT b)) h),
-      all_pass (text_holds_commands b) (segments_named TEXT b)
+  all_pass (text_holds_commands b) (segments_named TEXT b)
       (and_right (length (segments_named TEXT b) == 1) (list_all (text_holds_commands b) (segments_named TEXT b)) h),
-    )
-load_test_shows b L8 some h =
-    (
-      leb-true (length (tables_of b)) 1 (and_left (nat_le (length (tables_of b)) 1) (list_all (table_fits b) (tables_of b)) h),
-      all_pass (table_fits b) (tables_of b) (and_right (nat_le (length (tables_of b)) 1) (list_all (table_fits b) (tables_of b)) h),
-    )
+)
+load_test_shows b L8 some h = (
+  leb-true (length (tables_of b)) 1 (and_left (nat_le (length (tables_of b)) 1) (list_all (table_fits b) (tables_of b)) h),
+  all_pass (table_fits b) (tables_of b) (and_right (nat_le (length (tables_of b)) 1) (list_all (table_fits b) (tables_of b)) h),
+)
 load_test_shows b L9 some h =
     λ t k one within. below_pass (fixups_header b t).imports_count (import_fits b t)
     (All-contains (λ x. each_below (fixups_header b x).imports_count (import_fits b x) ≡ true) (tables_of b) t
@@ -211,8 +204,6 @@ is_accepted b h words =
 pub record LoadBreaksAlone (b : List ℕ) (rule : LoadRule) : Type 0 where
   pub broken : LoadKeeps b rule → ⊥
   pub others : (other : LoadRule) → HasTest other → load_number other ≢ load_number rule → LoadKeeps b other
-
-
 
 -- An example whose tests are all true but one breaks that rule alone.
 pub load_breaks_alone : (b : List ℕ) (rule : LoadRule) → load_verdict b ≡ load_all_but rule → LoadBreaksAlone b rule

@@ -3,9 +3,8 @@
 -- A rule speaks of each section, symbol, relocation or command, which are finitely many, so it has a test that is true
 -- exactly where the rule is kept. An object is what keeps every rule. So the tests, computed, show of an example that
 -- it is an object, or which rule it breaks, and that it keeps the others.
-use Rattle.std.proofs.Common.{◌≡◌, ◌≢◌, ℕ, ◌+◌, ◌<◌, ◌==◌, Bool, true, false, not, ◌&&◌, List, [], ◌∷◌, length, get_or, map, refl, sym, ap, ◌∙◌, arith, All}
+use Rattle.std.proofs.Common.{◌≡◌, ◌≢◌, ℕ, ◌==◌, Bool, true, false, not, ◌&&◌, List, [], ◌∷◌, get_or, map, refl, sym, ap, ◌∙◌}
 use Rattle.std.specs.List.{list_all}
-use Rattle.std.proofs.lemmas.Bool.Decides.{nat_tests}
 use Rattle.macho_records.specs.declared.constants.TheConstants.{LC_SEGMENT_64, LC_SYMTAB, MH_OBJECT}
 use Rattle.macho_model.specs.declared.rules.ObjectRule.{ObjectRule}
 use Rattle.macho_model.specs.declared.rules.ObjectRule.TheVariants.{O1, O2, O3, O4, O5, O6, O7, O8, O9, O10, O11, O12, O13, O14}
@@ -13,7 +12,7 @@ use Rattle.macho_model.specs.Commands.{commands_of, command_fits}
 use Rattle.macho_model.specs.Objects.{num_sections, section_at, num_symbols}
 use Rattle.macho_model.specs.ObjectRules.{head_fits, commands_inside, needed_in_object, has_one, tables_inside, symbol_section_exists, relocation_number_exists, data_inside, exponent_fits, value_in_section, name_ends, relocations_inside, field_inside, thread_local_in_data, zerofill_unrelocated, global_has_name, common_fits}
 use Rattle.macho_model.specs.Grammar.{EachSection, EachSymbol, EachRelocation, EachCommand, IsObject}
-use Rattle.macho_model.proofs.EachBelow.{each_below, not_false, true_or_false, and_left, and_right, and_both, is_equal, equal_is, same_number, other_number, all_pass, pass_all, below_pass, pass_below}
+use Rattle.macho_model.proofs.EachBelow.{each_below, true_or_false, and_left, and_right, and_both, same_number, other_number, all_pass, pass_all, below_pass, pass_below}
 
 -- what an object keeps, rule by rule: the fields of `IsObject`
 abbrev pub Keeps : List ℕ → ObjectRule → Type 0
@@ -35,8 +34,20 @@ Keeps b O14 = EachSymbol b (common_fits b)
 pub keeps_all : (b : List ℕ) → ((rule : ObjectRule) → Keeps b rule) → IsObject b
 keeps_all b h =
     record {
-      o1 = h O1; o2 = h O2; o3 = h O3; o4 = h O4; o5 = h O5; o6 = h O6; o7 = h O7;
-      o8 = h O8; o9 = h O9; o10 = h O10; o11 = h O11; o12 = h O12; o13 = h O13; o14 = h O14;
+      o1 = h O1;
+      o2 = h O2;
+      o3 = h O3;
+      o4 = h O4;
+      o5 = h O5;
+      o6 = h O6;
+      o7 = h O7;
+      o8 = h O8;
+      o9 = h O9;
+      o10 = h O10;
+      o11 = h O11;
+      o12 = h O12;
+      o13 = h O13;
+      o14 = h O14;
     }
 
 pub all_kept : (b : List ℕ) → IsObject b → (rule : ObjectRule) → Keeps b rule
@@ -88,30 +99,27 @@ keeps_test b O14 = each_below (num_symbols b) (common_fits b)
 -- a test that is true shows its rule
 pub test_shows : (b : List ℕ) (rule : ObjectRule) → keeps_test b rule ≡ true → Keeps b rule
 test_shows b O1 h = h
-test_shows b O2 h =
-    (
-      and_left (commands_inside b) (list_all (command_fits (needed_in_object b) b) (commands_of b)) h,
-      all_pass (command_fits (needed_in_object b) b) (commands_of b)
+test_shows b O2 h = (
+  and_left (commands_inside b) (list_all (command_fits (needed_in_object b) b) (commands_of b)) h,
+  all_pass (command_fits (needed_in_object b) b) (commands_of b)
       (and_right (commands_inside b) (list_all (command_fits (needed_in_object b) b) (commands_of b)) h),
-    )
+)
 test_shows b O3 h = (and_left (has_one LC_SEGMENT_64 b) (has_one LC_SYMTAB b) h, and_right (has_one LC_SEGMENT_64 b) (has_one LC_SYMTAB b) h)
 test_shows b O4 h = h
-test_shows b O5 h =
-    (
-      below_pass (num_symbols b) (symbol_section_exists b)
+test_shows b O5 h = (
+  below_pass (num_symbols b) (symbol_section_exists b)
       (and_left (each_below (num_symbols b) (symbol_section_exists b)) (each_relocation b (relocation_number_exists b)) h),
-      relocations_pass b (relocation_number_exists b)
+  relocations_pass b (relocation_number_exists b)
       (and_right (each_below (num_symbols b) (symbol_section_exists b)) (each_relocation b (relocation_number_exists b)) h),
-    )
+)
 test_shows b O6 h = below_pass (num_sections b) (data_inside b) h
 test_shows b O7 h = below_pass (num_sections b) (exponent_fits b) h
 test_shows b O8 h = below_pass (num_symbols b) (value_in_section b) h
 test_shows b O9 h = below_pass (num_symbols b) (name_ends b) h
-test_shows b O10 h =
-    (
-      below_pass (num_sections b) (relocations_inside b) (and_left (each_below (num_sections b) (relocations_inside b)) (each_relocation b (field_inside b)) h),
-      relocations_pass b (field_inside b) (and_right (each_below (num_sections b) (relocations_inside b)) (each_relocation b (field_inside b)) h),
-    )
+test_shows b O10 h = (
+  below_pass (num_sections b) (relocations_inside b) (and_left (each_below (num_sections b) (relocations_inside b)) (each_relocation b (field_inside b)) h),
+  relocations_pass b (field_inside b) (and_right (each_below (num_sections b) (relocations_inside b)) (each_relocation b (field_inside b)) h),
+)
 test_shows b O11 h = below_pass (num_sections b) (thread_local_in_data b) h
 test_shows b O12 h = below_pass (num_sections b) (zerofill_unrelocated b) h
 test_shows b O13 h = below_pass (num_symbols b) (global_has_name b) h
@@ -214,8 +222,6 @@ is_object b h =
 pub record BreaksAlone (b : List ℕ) (rule : ObjectRule) : Type 0 where
   pub broken : Keeps b rule → ⊥
   pub others : (other : ObjectRule) → number other ≢ number rule → Keeps b other
-
-
 
 -- An example whose tests are all true but one breaks that rule alone.
 pub breaks_alone : (b : List ℕ) (rule : ObjectRule) → verdict b ≡ all_but rule → BreaksAlone b rule

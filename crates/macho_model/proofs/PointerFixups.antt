@@ -3,24 +3,23 @@
 -- The loader makes of a word that moves with the image its target plus the base and the slide; where target and base are
 -- the place of the pointer's target plus its addend, at slide 0, that is where the target is at the slide. Of a word that
 -- binds it makes the import's address plus addends, whatever the slide. In both the new word is what memory holds.
-use Rattle.std.proofs.Common.{◌≡◌, ℕ, ◌+◌, ◌*◌, ◌%◌, ◌^◌, ◌<◌, ◌≤◌, ◌⊎◌, Bool, true, false, List, [], get_or, refl, sym, ap, subst, ◌∙◌, arith, Option, Some, None}
-use Rattle.std.specs.Prelude.{Contains, is_some}
+use Rattle.std.proofs.Common.{◌≡◌, ℕ, ◌+◌, ◌*◌, ◌%◌, ◌^◌, ◌≤◌, ◌⊎◌, true, false, List, [], get_or, refl, arith, Some}
+use Rattle.std.specs.Prelude.{is_some}
 use Rattle.std.proofs.Math.Nat.{mod-lt}
 use Rattle.macho_model.specs.declared.placed.PlacedSection.{PlacedSection}
 use Rattle.macho_model.specs.declared.placed.Slot.{Slot}
-use Rattle.macho_model.specs.declared.targets.Target.{Target}
 use Rattle.macho_model.specs.declared.targets.Target.TheVariants as target
 use Rattle.macho_model.specs.Links.{Link}
 use Rattle.macho_model.specs.Needs.{imports_of, import_library}
 use Rattle.macho_model.specs.Targets.{is_defined}
-use Rattle.macho_model.specs.Fields.{Field, content_of}
+use Rattle.macho_model.specs.Fields.{Field}
 use Rattle.macho_model.specs.Images.{base_of}
 use Rattle.macho_model.specs.Meaning.{Same, PointsTo}
 use Rattle.macho_model.specs.Placement.{Placed, id_of}
 use Rattle.macho_model.specs.Chain.{WORD_SIZE, chain_segments, IsFileWord, OnChainOf}
 use Rattle.macho_model.specs.Loader.{is_bind}
-use Rattle.macho_model.specs.Memory.{Choice, chosen, rebase_target, rebase_high, IsBound, Becomes, IsFixed, HoldsNumber}
-use Rattle.macho_model.specs.Stands.{IsAt, Kind, Pointer, kind_of, is_template_offset, PointerSays, Says, Denotes, SlotStands}
+use Rattle.macho_model.specs.Memory.{Choice, chosen, rebase_target, rebase_high, IsBound, HoldsNumber}
+use Rattle.macho_model.specs.Stands.{IsAt, Pointer, kind_of, is_template_offset, Denotes, SlotStands}
 use Rattle.macho_model.proofs.ChainMemory.{fixed_word_is_held}
 use Rattle.macho_model.proofs.FieldSlides.{defined_moves}
 

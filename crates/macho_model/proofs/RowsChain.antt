@@ -2,19 +2,17 @@
 --
 -- The chain of the image of two pages has three words: the first page's start, the one two steps of four bytes behind
 -- it, and the second page's start. Each is on it by its rule; no other is, since these three are closed under both.
-use Rattle.std.proofs.Common.{◌≡◌, ℕ, ◌+◌, ◌-◌, ◌^◌, ◌==◌, if◌then◌else◌, Bool, true, false, List, [], ◌∷◌, ◌++◌, refl, sym, subst, arith, All}
-use Rattle.std.specs.List.{list_all}
+use Rattle.std.proofs.Common.{◌≡◌, ℕ, ◌==◌, if◌then◌else◌, true, false, List, [], ◌∷◌, refl, subst, arith}
 use Rattle.macho_bytes.specs.Numbers.{le_at, le_bytes, row_bytes}
 use Rattle.macho_bytes.specs.Layouts.{reading}
-use Rattle.macho_model.specs.Commands.{header_of, commands_from, commands_of, commands_end}
+use Rattle.macho_model.specs.Commands.{header_of, commands_from, commands_of}
 use Rattle.macho_model.specs.Images.{segments_of, mapped_segments, base_of, libraries_of, tables_of}
 use Rattle.macho_model.specs.Chain.{ChainSegment, chain_segments, IsFileWord, next_of, OnChain, OnChainOf}
 use Rattle.macho_model.specs.Chain as chain
-use Rattle.macho_model.specs.Loader.{is_bind, ordinal_of, WordFits, IsAccepted}
+use Rattle.macho_model.specs.Loader.{is_bind, ordinal_of, IsAccepted}
 use Rattle.macho_model.specs.Memory.{rebase_target, rebase_high, bind_addend}
-use Rattle.macho_model.proofs.Examples.{words8, words, halves, name16, changed}
-use Rattle.macho_model.proofs.ExampleImages.{image_with_fixups, one_page, two_pages, overlapping, rebase, bind}
-use Rattle.macho_model.proofs.EachBelow.{true_or_false}
+use Rattle.macho_model.proofs.Examples.{words8, words, halves, name16}
+use Rattle.macho_model.proofs.ExampleImages.{image_with_fixups, two_pages, rebase, bind}
 use Rattle.macho_model.proofs.LoaderTests.{is_accepted}
 use Rattle.macho_model.proofs.RowsLoader.{verdict_of_two_pages, chain_segments_of_two_pages}
 use Rattle.macho_model.proofs.ChainSets.{is_closed, is_among, chain_within}

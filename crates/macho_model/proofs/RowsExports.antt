@@ -1,5 +1,5 @@
 -- What export lists contain, and how sections are classed, by computing.
-use Rattle.std.proofs.Common.{◌≡◌, ℕ, Bool, true, false, List, [], ◌∷◌, ◌++◌, refl, map}
+use Rattle.std.proofs.Common.{◌≡◌, ℕ, true, false, List, [], ◌∷◌, ◌++◌, refl, map}
 use Rattle.std.specs.Prelude.{codes}
 use Rattle.macho_model.specs.ExportLists.{entries_of, all_entries, plain_entries, listed, matches}
 

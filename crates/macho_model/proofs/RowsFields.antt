@@ -1,6 +1,6 @@
 -- What relocated words say at their places, by computing, each at slide 0 and at another slide of whole pages. Words and
 -- immediates are those of the Arm Architecture Reference Manual (chapter C6).
-use Rattle.std.proofs.Common.{◌≡◌, ℕ, ◌+◌, ◌-◌, ◌^◌, Bool, true, false, List, [], ◌∷◌, refl}
+use Rattle.std.proofs.Common.{◌≡◌, ℕ, ◌+◌, ◌-◌, ◌^◌, true, false, [], ◌∷◌, refl}
 use Rattle.macho_bytes.specs.Numbers.{le_at, signed}
 use Rattle.macho_bytes.specs.Layouts.{reading}
 use Rattle.macho_records.specs.Relocations.{relocation_info}

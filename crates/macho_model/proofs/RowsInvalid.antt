@@ -1,19 +1,17 @@
 -- Links that are not valid: for each part of validity a small link that breaks it. By computing from the bytes.
-use Rattle.std.proofs.Common.{◌≡◌, ℕ, ◌+◌, ◌*◌, ◌-◌, ◌^◌, ◌<◌, ◌≤◌, ◌⊎◌, ◌%◌, ◌==◌, Bool, true, false, List, [], ◌∷◌, ◌++◌, length, refl, ap, subst, arith, inl, inr, All, Some, None}
+use Rattle.std.proofs.Common.{◌≡◌, ℕ, ◌+◌, ◌^◌, ◌≤◌, ◌%◌, ◌==◌, true, false, List, [], ◌∷◌, ◌++◌, length, refl, ap, arith, All, Some}
 use Rattle.std.specs.Prelude.{Contains, is_some, codes}
 use Rattle.std.proofs.lemmas.List.Elements.{All-from_recursion}
 use Rattle.macho_bytes.specs.Numbers.{le_at, le_bytes, row_bytes}
 use Rattle.macho_bytes.specs.Layouts.{reading}
-use Rattle.macho_model.specs.declared.targets.Limit.{Limit}
 use Rattle.macho_model.specs.declared.targets.Limit.TheVariants as limit
 use Rattle.macho_model.specs.declared.rules.UnwindRule.TheVariants.{U2}
-use Rattle.macho_model.specs.declared.placed.Counts.{Counts}
 use Rattle.macho_model.specs.Commands.{header_of, commands_from, commands_of, commands_end}
 use Rattle.macho_model.specs.Objects.{segment_of, num_sections, section_place, section_at, section_bytes, symtab_of, num_symbols, symbol_place, symbol_at, strings_of, symbol_name, relocation_place, relocation_at}
 use Rattle.macho_model.specs.ExportLists.{plain_entries, all_entries, entries_of}
-use Rattle.macho_model.specs.Links.{Link, Object, SectionId, header_at, sections_of, carried_of, template_exponent, placed_exponent}
+use Rattle.macho_model.specs.Links.{Link, Object, header_at, sections_of, carried_of, template_exponent, placed_exponent}
 use Rattle.macho_model.specs.Resolution.{symbols_of, strong_of, weak_of, commons_of, greatest_of, libraries_with, definition_of, chosen_commons}
-use Rattle.macho_model.specs.Needs.{Use, ByRelocation, name_used, initializer_sections, unwind_sections, relocation_in, uses_of, imports_of, libraries_needed}
+use Rattle.macho_model.specs.Needs.{ByRelocation, name_used, initializer_sections, unwind_sections, relocation_in, uses_of, imports_of, libraries_needed}
 use Rattle.macho_model.specs.Targets.{target_of, target_of_relocation, slots_of, stubs_of}
 use Rattle.macho_model.specs.Fields.{Field, fields_of}
 use Rattle.macho_model.specs.Stands.{kind_of}
@@ -23,9 +21,8 @@ use Rattle.macho_model.specs.Limits.{limited}
 use Rattle.macho_model.specs.Faults.{entry_is_defined}
 use Rattle.macho_model.specs.Valid.{field_fits}
 use Rattle.macho_model.proofs.Examples.{words8, words, halves, name16, object_a, object_b, changed, header_b, relocation_b}
-use Rattle.macho_model.proofs.ExampleLinks.{entry, text_object, asks, defines_strongly, defines_weakly, finds_addresses, asks_too_much, executable_of, doubled, unsupported, section, symbol}
+use Rattle.macho_model.proofs.ExampleLinks.{entry, text_object, asks, defines_strongly, defines_weakly, finds_addresses, asks_too_much, executable_of, doubled, unsupported, section}
 use Rattle.macho_model.proofs.ExamplePlacement.{link_a, counts_a}
-use Rattle.macho_model.proofs.EachBelow.{true_or_false}
 use Rattle.macho_model.proofs.RowsLinks.{two_strong_ones}
 
 -- two strong definitions of one name

@@ -1,6 +1,6 @@
 -- What the definitions of the loader say of small images, by computing: segments, libraries, tables and page starts; and
 -- each rule of the loader, kept by the examples and broken alone by a change of one.
-use Rattle.std.proofs.Common.{◌≡◌, ℕ, ◌+◌, ◌*◌, ◌-◌, ◌^◌, Bool, List, [], ◌∷◌, refl, map, length}
+use Rattle.std.proofs.Common.{◌≡◌, ℕ, ◌+◌, ◌-◌, ◌^◌, List, [], ◌∷◌, refl, map, length}
 use Rattle.std.specs.Prelude.{codes, All}
 use Rattle.std.specs.List.{AllByRecursion}
 use Rattle.std.proofs.lemmas.List.Elements.{All-weaker, All-from_recursion}
@@ -8,9 +8,9 @@ use Rattle.macho_bytes.specs.Numbers.{le_at, le_bytes, row_bytes}
 use Rattle.macho_bytes.specs.Layouts.{reading}
 use Rattle.macho_model.specs.declared.rules.LoadRule.{LoadRule}
 use Rattle.macho_model.specs.declared.rules.LoadRule.TheVariants.{L1, L2, L3, L4, L5, L6, L7, L8, L9}
-use Rattle.macho_model.specs.Commands.{Command, header_of, commands_from, commands_of, commands_end}
-use Rattle.macho_model.specs.Images.{Table, segments_of, mapped_segments, base_of, libraries_of, tables_of}
-use Rattle.macho_model.specs.Chain.{ChainSegment, chain_segments}
+use Rattle.macho_model.specs.Commands.{header_of, commands_from, commands_of, commands_end}
+use Rattle.macho_model.specs.Images.{segments_of, mapped_segments, base_of, libraries_of, tables_of}
+use Rattle.macho_model.specs.Chain.{chain_segments}
 use Rattle.macho_model.specs.Loader.{IsAccepted}
 use Rattle.macho_model.proofs.Examples.{words8, words, halves, name16, changed}
 use Rattle.macho_model.proofs.ExampleImages.{smallest, image_with_fixups, one_page, two_pages}

@@ -1,12 +1,11 @@
 -- What the definitions of objects say of small inputs, by computing.
-use Rattle.std.proofs.Common.{◌≡◌, ℕ, Bool, true, false, List, [], ◌∷◌, refl, length}
+use Rattle.std.proofs.Common.{◌≡◌, [], ◌∷◌, refl}
 use Rattle.std.specs.Prelude.{codes}
 use Rattle.macho_bytes.specs.Numbers.{le_at, le_bytes, row_bytes}
 use Rattle.macho_bytes.specs.Layouts.{reading}
-use Rattle.macho_model.specs.Commands.{Command, header_of, commands_from, commands_of, commands_end}
-use Rattle.macho_model.specs.Objects.{segment_of, num_sections, section_place, section_at, section_bytes, symtab_of, num_symbols, symbol_place, symbol_at, strings_of, symbol_name}
-use Rattle.macho_model.specs.ObjectRules.{commands_inside, tables_inside}
-use Rattle.macho_model.proofs.Examples.{words8, words, halves, name16, object_a}
+use Rattle.macho_model.specs.Commands.{header_of, commands_from, commands_of}
+use Rattle.macho_model.specs.Objects.{section_place, section_at, section_bytes, symtab_of, symbol_place, symbol_at, strings_of, symbol_name}
+use Rattle.macho_model.proofs.Examples.{words8, words, name16, object_a}
 
 -- the commands, by place, number and size
 commands_of_object : commands_of object_a ≡ record { at = 32; number = 0x19; size = 152 } ∷ record { at = 184; number = 2; size = 24 } ∷ []

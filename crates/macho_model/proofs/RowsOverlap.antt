@@ -2,8 +2,8 @@
 --
 -- The word at 0x10 of the data leads one step of four bytes on, to 0x14, so both are on the chain. In memory the upper
 -- one stands whole, and the lower one gives its first four bytes alone.
-use Rattle.std.proofs.Common.{◌≡◌, ℕ, ◌+◌, ◌-◌, ◌%◌, ◌^◌, ◌≤◌, ◌⊎◌, Bool, true, false, List, [], ◌∷◌, ◌++◌, take, refl, sym, subst, arith, inl, inr}
-use Rattle.std.specs.Prelude.{codes, Contains}
+use Rattle.std.proofs.Common.{◌≡◌, ℕ, ◌+◌, ◌%◌, ◌^◌, ◌≤◌, ◌⊎◌, true, false, List, [], ◌∷◌, take, refl, subst, arith}
+use Rattle.std.specs.Prelude.{Contains}
 use Rattle.std.proofs.lemmas.Bool.Decides.{nat_tests}
 use Rattle.std.proofs.Math.Nat.{mod-lt}
 use Rattle.macho_bytes.specs.Numbers.{le_at, le_bytes, row_bytes}
@@ -12,7 +12,7 @@ use Rattle.macho_model.specs.Commands.{header_of, commands_from, commands_of, co
 use Rattle.macho_model.specs.Images.{segments_of, mapped_segments, base_of, libraries_of, tables_of}
 use Rattle.macho_model.specs.Chain.{ChainSegment, chain_segments, IsFileWord, OnChain, OnPageChain, OnChainOf}
 use Rattle.macho_model.specs.Chain as chain
-use Rattle.macho_model.specs.Loader.{WordFits, IsAccepted}
+use Rattle.macho_model.specs.Loader.{IsAccepted}
 use Rattle.macho_model.specs.Memory.{Choice, IsFixed, HoldsText, HoldsNumber}
 use Rattle.macho_model.proofs.Examples.{words8, words, halves, name16, changed}
 use Rattle.macho_model.proofs.ExampleImages.{image_with_fixups, one_page, two_pages, overlapping, rebase, bind}

@@ -3,27 +3,26 @@
 -- The section stands behind the 312 bytes of header and commands, at 0x100000138; all other parts are empty. Each part
 -- of the relation is shown of every placement of this shape as far as it asks something of the shape's numbers; so a
 -- change of one number breaks the part that asks, and keeps the others by the same lemmas.
-use Rattle.std.proofs.Common.{◌≡◌, ℕ, zero, suc, ◌+◌, ◌*◌, ◌-◌, ◌%◌, ◌<◌, ◌≤◌, ◌⊎◌, ◌==◌, nat_le, ◌^◌, ◌&&◌, ◌||◌, not, Bool, false, ◌≢◌, List, [], ◌∷◌, length, get_or, map, refl, sym, ap, subst, ◌∙◌, arith, inl, inr, None, Some, All, true}
-use Rattle.std.specs.Prelude.{Option, is_some, AllPairs, Contains}
+use Rattle.std.proofs.Common.{◌≡◌, ℕ, zero, suc, ◌+◌, ◌%◌, ◌≤◌, ◌⊎◌, ◌==◌, nat_le, ◌^◌, ◌&&◌, ◌||◌, not, Bool, false, ◌≢◌, List, [], ◌∷◌, length, get_or, map, refl, sym, ap, ◌∙◌, arith, inl, inr, None, Some, All, true}
+use Rattle.std.specs.Prelude.{Option, is_some, AllPairs}
 use Rattle.std.specs.List.{AllByRecursion}
 use Rattle.std.proofs.lemmas.Bool.{leb-true, le-leb}
-use Rattle.std.proofs.lemmas.List.Elements.{All-nil, All-cons, All-from_recursion, All-head, All-weaker, All-get_or}
+use Rattle.std.proofs.lemmas.List.Elements.{All-nil, All-cons, All-from_recursion, All-weaker}
 use Rattle.std.proofs.lemmas.List.Kept.{AllPairs-cons}
 use Rattle.std.proofs.lemmas.List.Sorted.{IsPermutation-refl, length_permutation}
-use Rattle.macho_bytes.specs.Numbers.{le_at, le_bytes, row_bytes}
 use Rattle.macho_records.specs.Sections.{is_zerofill}
 use Rattle.macho_model.specs.declared.placed.Range64.{Range64}
 use Rattle.macho_model.specs.declared.placed.PlacedSegment.{PlacedSegment}
 use Rattle.macho_model.specs.declared.placed.PlacedSection.{PlacedSection}
 use Rattle.macho_model.specs.Links.{SectionId, header_at, carried_of, placed_exponent}
-use Rattle.macho_model.specs.Segments.{SEGMENT_PAGE, base_of_link, segment_rank}
+use Rattle.macho_model.specs.Segments.{base_of_link, segment_rank}
 use Rattle.macho_model.specs.WrittenSum.{written_sum_of}
-use Rattle.macho_model.specs.Placement.{Placed, Span, AreApart, spans_with, spans_of, SectionLies, TableLies, end_of_segments, IsWholeList, IsAligned, IsInSegment, IsPaged, Follows, EachFollows, IsInOrder, HoldsTemplate, TemplateHolds, template_sections, LiesIn, IsPlaced, id_of, section_span, head_span, range_span, linkedit_span, linkedit_ranges}
+use Rattle.macho_model.specs.Placement.{Placed, Span, AreApart, spans_with, spans_of, SectionLies, TableLies, end_of_segments, IsWholeList, IsAligned, IsInSegment, IsPaged, Follows, EachFollows, IsInOrder, TemplateHolds, template_sections, LiesIn, IsPlaced, id_of, section_span, head_span, range_span, linkedit_span, linkedit_ranges}
 use Rattle.macho_model.proofs.EachBelow.{true_or_false, and_left, and_right, and_both, either, or_first, or_second, is_equal, equal_is, same_number, other_number}
 use Rattle.macho_model.proofs.Examples.{name16}
 use Rattle.macho_model.proofs.ExampleLinks.{section}
-use Rattle.macho_model.proofs.ExamplePlacement.{link_a, counts_a, nothing, pagezero_a, text_a, section_a, header_a, placed_with, placed_a}
-use Rattle.macho_model.proofs.FactsA.{section_of_a, carried_a, exponent_a, commons_a, slots_a, stubs_a, ranks_a, sum_a}
+use Rattle.macho_model.proofs.ExamplePlacement.{link_a, counts_a, nothing, pagezero_a, text_a, section_a, placed_with, placed_a}
+use Rattle.macho_model.proofs.FactsA.{section_of_a, carried_a, exponent_a, commons_a, slots_a, stubs_a, sum_a}
 
 -- The parts of the relation.
 pub data PlacementPart : Type 0 where
@@ -101,7 +100,7 @@ module _ (base address size : ℕ) (template : Option Range64) where
     init_offsets = (omega arith, inl refl);
     unwind = (omega arith, inl refl);
     linkedit = All-from_recursion (TableLies (placed_with base address size template)) (linkedit_ranges (placed_with base address size template))
-      (inl refl, (inl refl, (inl refl, (inl refl, (inl refl, tt)))));
+        (inl refl, (inl refl, (inl refl, (inl refl, (inl refl, tt)))));
   }
 
   -- the empty ranges are apart from everything
@@ -141,7 +140,7 @@ module _ (base address size : ℕ) (template : Option Range64) where
   in_order : size % 0x4000 ≡ 0 → 0x4000 ≤ size → IsInOrder link_a (placed_with base address size template)
   in_order paged long = record {
     paged = All-from_recursion IsPaged (pagezero_a ∷ text_a size ∷ [])
-      (record { address = refl; size = refl; file_offset = refl; file_size = omega arith }, (record { address = refl; size = paged; file_offset = refl; file_size = long }, tt));
+        (record { address = refl; size = refl; file_offset = refl; file_size = omega arith }, (record { address = refl; size = paged; file_offset = refl; file_size = long }, tt));
     follow = each_follows;
   }
 
@@ -213,7 +212,7 @@ beside_needed : (base address size : ℕ) (template : Option Range64) → AreApa
 beside_needed base address size template h =
     elim (rw section_of_a at h) [
       | inl empty ↦ absurd (omega (arith, empty))
-      | inr rest ↦ elim rest [ | inl empty ↦ absurd (omega (arith, empty)) | inr both ↦ both ]
+      | inr rest ↦ elim rest [ inl empty ↦ absurd (omega (arith, empty)) | inr both ↦ both ]
     ]
 
 no_template_sections : (base address size : ℕ) (template : Option Range64) → template_sections link_a (placed_with base address size template) ≡ []
@@ -311,7 +310,7 @@ part_alone : (c : PlacementChange) → map (asks c.base c.address c.size c.templ
 part_alone c h =
     record {
       broken = λ holds. true_or_false (asks c.base c.address c.size c.template c.part) (part_asks c.base c.address c.size c.template c.part holds)
-        (answer c.part ∙ same_number (part_number c.part));
+          (answer c.part ∙ same_number (part_number c.part));
       others = λ other apart. part_holds c.base c.address c.size c.template other (answer other ∙ other_number (part_number other) (part_number c.part) apart);
     }
   where

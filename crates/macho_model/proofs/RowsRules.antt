@@ -1,6 +1,6 @@
 -- Each rule of objects on a small example: an object that keeps them all, and for each rule a change of it that breaks
 -- this rule alone. All by computing from the bytes.
-use Rattle.std.proofs.Common.{◌≡◌, ℕ, ◌+◌, ◌*◌, ◌-◌, ◌^◌, List, [], ◌∷◌, refl}
+use Rattle.std.proofs.Common.{◌≡◌, ℕ, ◌+◌, ◌-◌, ◌^◌, List, [], ◌∷◌, refl}
 use Rattle.std.specs.Prelude.{codes, All}
 use Rattle.std.specs.List.{AllByRecursion}
 use Rattle.std.proofs.lemmas.List.Elements.{All-weaker, All-from_recursion}
@@ -12,7 +12,7 @@ use Rattle.macho_model.specs.Commands.{header_of, commands_from, commands_of, co
 use Rattle.macho_model.specs.Objects.{segment_of, num_sections, section_place, section_at, symtab_of, num_symbols, symbol_place, symbol_at, strings_of, relocation_place, relocation_at}
 use Rattle.macho_model.specs.Grammar.{IsObject}
 use Rattle.macho_model.proofs.Examples.{words8, words, halves, name16, object_a, object_b, changed, header_b, relocation_b, symbol_b}
-use Rattle.macho_model.proofs.ObjectTests.{verdict, all_but, all_pass_verdict, is_object, BreaksAlone, breaks_alone}
+use Rattle.macho_model.proofs.ObjectTests.{verdict, all_but, is_object, BreaksAlone, breaks_alone}
 
 -- the two examples are objects
 pub a_is_object : IsObject object_a

@@ -3,7 +3,7 @@
 -- Its one section stands in the file at 0x138, in the file part of `__TEXT`, which has no chain word; so memory holds
 -- the section's bytes at its placed address plus the slide. There are no fields, commons, slots or stubs. Memory has one
 -- byte at an address of the one mapped segment, so another byte there is not held.
-use Rattle.std.proofs.Common.{◌≡◌, ℕ, ◌+◌, ◌*◌, ◌-◌, ◌%◌, ◌<◌, ◌≤◌, nat_lt, if◌then◌else◌, true, List, [], ◌∷◌, length, get_or, slice_index, refl, sym, ap, subst, ◌∙◌, arith, inl, inr, All}
+use Rattle.std.proofs.Common.{◌≡◌, ℕ, ◌+◌, ◌-◌, ◌<◌, ◌≤◌, nat_lt, if◌then◌else◌, List, [], ◌∷◌, slice_index, refl, subst, arith, inl, inr, All}
 use Rattle.std.specs.Prelude.{Contains, codes}
 use Rattle.std.proofs.lemmas.Bool.{lt-ltb}
 use Rattle.std.proofs.lemmas.List.Elements.{All-nil, All-cons, All-contains, All-head}
@@ -11,20 +11,14 @@ use Rattle.macho_bytes.specs.Numbers.{le_at, le_bytes, row_bytes}
 use Rattle.macho_bytes.specs.Layouts.{reading}
 use Rattle.macho_bytes.specs.Texts.{Stands}
 use Rattle.macho_records.specs.declared.header.SegmentCommand.{SegmentCommand}
-use Rattle.macho_model.specs.declared.placed.PlacedSection.{PlacedSection}
-use Rattle.macho_model.specs.declared.placed.PlacedCommon.{PlacedCommon}
-use Rattle.macho_model.specs.declared.placed.Slot.{Slot}
 use Rattle.macho_model.specs.declared.targets.Target.TheVariants as target
-use Rattle.macho_model.specs.Commands.{header_of, commands_from, commands_of, commands_end}
-use Rattle.macho_model.specs.Objects.{section_bytes}
-use Rattle.macho_model.specs.Links.{header_at}
+use Rattle.macho_model.specs.Commands.{header_of, commands_from, commands_of}
 use Rattle.macho_model.specs.Fields.{fields_of}
-use Rattle.macho_model.specs.Images.{segments_of, mapped_segments, base_of, tables_of}
-use Rattle.macho_model.specs.Memory.{Choice, Holds, HoldsText, IsSegmentByte}
+use Rattle.macho_model.specs.Images.{segments_of, mapped_segments, tables_of}
+use Rattle.macho_model.specs.Memory.{Choice, Holds, HoldsText}
 use Rattle.macho_model.specs.Placement.{Placed, id_of}
-use Rattle.macho_model.specs.Stands.{IsOutsideField, Denotes, SectionStands, CommonStands, SlotStands, StubStands, LeadsThrough, ImageStands, IsLinked}
-use Rattle.macho_model.proofs.Examples.{words8, words, name16, object_a, changed}
-use Rattle.macho_model.proofs.ExampleLinks.{section}
+use Rattle.macho_model.specs.Stands.{IsOutsideField, Denotes, SectionStands, CommonStands, SlotStands, StubStands, ImageStands, IsLinked}
+use Rattle.macho_model.proofs.Examples.{words8, words, name16, changed}
 use Rattle.macho_model.proofs.ExampleImages.{smallest}
 use Rattle.macho_model.proofs.ExamplePlacement.{link_a, counts_a, section_a, placed_a}
 use Rattle.macho_model.proofs.FactsA.{section_of_a, bytes_of_a, fields_a}
@@ -36,8 +30,17 @@ use Rattle.macho_model.proofs.RowsPlacement.{a_is_placed}
 -- `__TEXT` of the smallest image
 text_segment : SegmentCommand
 text_segment = record {
-  cmd = 0x19; cmdsize = 152; segname = name16 (codes "__TEXT"); vmaddr = 0x100000000; vmsize = 0x4000; fileoff = 0; filesize = 0x4000; maxprot = 5; initprot = 5;
-  nsects = 1; flags = 0;
+  cmd = 0x19;
+  cmdsize = 152;
+  segname = name16 (codes "__TEXT");
+  vmaddr = 0x100000000;
+  vmsize = 0x4000;
+  fileoff = 0;
+  filesize = 0x4000;
+  maxprot = 5;
+  initprot = 5;
+  nsects = 1;
+  flags = 0;
 }
 
 one_segment : mapped_segments smallest ≡ text_segment ∷ []
@@ -62,9 +65,9 @@ section_stands : (s : ℕ) (choice : Choice) → SectionStands link_a smallest p
 section_stands s choice =
     record {
       bytes = λ i within outside.
-        let small : i < 8 = rw section_of_a at within in
-        let here : 0x100000138 + i + s ≡ 0x100000138 + s + i = omega arith in
-        rw (here, bytes_of_a) (code_is_held s choice i small);
+          let small : i < 8 = rw section_of_a at within in
+          let here : 0x100000138 + i + s ≡ 0x100000138 + s + i = omega arith in
+          rw (here, bytes_of_a) (code_is_held s choice i small);
       fields = rw fields_a (All-nil (Denotes link_a smallest placed_a s choice (section_a 0x100000138)));
     }
 
@@ -73,7 +76,7 @@ pub smallest_stands : (s : ℕ) (choice : Choice) → ImageStands link_a smalles
 smallest_stands s choice =
     record {
       sections = All-cons (SectionStands link_a smallest placed_a s choice) (section_a 0x100000138) [] (section_stands s choice)
-        (All-nil (SectionStands link_a smallest placed_a s choice));
+          (All-nil (SectionStands link_a smallest placed_a s choice));
       commons = All-nil (CommonStands link_a smallest s choice);
       through = record { slots = All-nil (SlotStands link_a smallest placed_a s choice); stubs = All-nil (StubStands smallest placed_a s choice) };
     }
@@ -156,10 +159,9 @@ no_target_no_image s choice stands =
 
 -- and the other two parts of it hold
 pub slot_alone : (s : ℕ) (choice : Choice) → All (SectionStands link_a smallest with_slot s choice) with_slot.sections × All (CommonStands link_a smallest s choice) with_slot.commons
-slot_alone s choice =
-    (
-      All-cons (SectionStands link_a smallest with_slot s choice) (section_a 0x100000138) []
+slot_alone s choice = (
+  All-cons (SectionStands link_a smallest with_slot s choice) (section_a 0x100000138) []
       (record { bytes = (section_stands s choice).bytes; fields = rw fields_a (All-nil (Denotes link_a smallest with_slot s choice (section_a 0x100000138))) })
       (All-nil (SectionStands link_a smallest with_slot s choice)),
-      All-nil (CommonStands link_a smallest s choice),
-    )
+  All-nil (CommonStands link_a smallest s choice),
+)

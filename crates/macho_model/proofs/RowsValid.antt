@@ -2,18 +2,17 @@
 --
 -- It has one section without relocations and one symbol, so most parts speak of nothing. A name has at most as many
 -- strong definitions as there are symbols. Its written sum is far below the greatest.
-use Rattle.std.proofs.Common.{◌≡◌, ℕ, zero, suc, ◌+◌, ◌*◌, ◌<◌, ◌≤◌, ◌&&◌, Bool, true, false, List, [], ◌∷◌, length, get_or, map, refl, sym, ap, subst, ◌∙◌, arith, inl, inr, All, Some, None}
-use Rattle.std.specs.Prelude.{Contains, filter, is_some, codes}
-use Rattle.std.proofs.lemmas.List.Elements.{All-nil, All-cons, All-contains, All-head}
+use Rattle.std.proofs.Common.{◌≡◌, ℕ, ◌≤◌, ◌&&◌, Bool, true, false, List, [], ◌∷◌, length, get_or, refl, sym, ap, subst, arith}
+use Rattle.std.specs.Prelude.{Contains, filter, is_some}
+use Rattle.std.proofs.lemmas.List.Elements.{All-nil, All-cons, All-contains}
 use Rattle.macho_model.specs.declared.targets.Limit.{Limit}
 use Rattle.macho_model.specs.declared.targets.Limit.TheVariants as limit
 use Rattle.macho_model.specs.Links.{SectionId, header_at, carried_of}
-use Rattle.macho_model.specs.Resolution.{SymbolId, is_strong, has_name, strong_of, definition_of, symbols_of}
-use Rattle.macho_model.specs.Needs.{Use, uses_of, initializer_sections, unwind_sections}
+use Rattle.macho_model.specs.Resolution.{is_strong, has_name, strong_of, definition_of}
+use Rattle.macho_model.specs.Needs.{uses_of, initializer_sections, unwind_sections}
 use Rattle.macho_model.specs.Consumed.{initializer_section_fits, whole_entries}
 use Rattle.macho_model.specs.Limits.{limited}
 use Rattle.macho_model.specs.Valid.{IsValid}
-use Rattle.macho_model.proofs.EachBelow.{true_or_false}
 use Rattle.macho_model.proofs.ExampleLinks.{section, symbol}
 use Rattle.macho_model.proofs.ExamplePlacement.{link_a, counts_a}
 use Rattle.macho_model.proofs.FactsA.{section_of_a, carried_a, symbols_a, uses_a, fields_a, initializers_a, unwind_a, listed_a, entry_a, numbers_a, limits_a, sum_a}
@@ -21,9 +20,9 @@ use Rattle.macho_model.proofs.FactsA.{section_of_a, carried_a, symbols_a, uses_a
 -- a list of one, filtered
 at_most_one : {X : Type 0} (p : X → Bool) (x : X) → length (filter p (x ∷ [])) ≤ 1
 at_most_one p x = elim (p x) as (λ b. p x ≡ b → length (filter p (x ∷ [])) ≤ 1) [
-    | true ↦ λ h. rw h (omega arith)
-    | false ↦ λ h. rw h (omega arith)
-  ] refl
+  | true ↦ λ h. rw h (omega arith)
+  | false ↦ λ h. rw h (omega arith)
+] refl
 
 single : (name : List ℕ) → length (strong_of link_a name) ≤ 1
 unfolding strong_of

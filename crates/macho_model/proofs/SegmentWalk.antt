@@ -3,11 +3,11 @@
 -- The walk stands at the place where command i begins: what is left of the list is what the bytes say from there on. A
 -- command is at least its head long and ends inside the file, so the next place is there too. A mapped segment is one of
 -- the commands of segments; so a byte that none of the commands has is no segment's byte.
-use Rattle.std.proofs.Common.{◌≡◌, ℕ, zero, suc, ◌+◌, ◌-◌, ◌<◌, ◌≤◌, ◌==◌, ◌&&◌, nat_le, nat_lt, not, Bool, true, false, List, [], ◌∷◌, length, get_or, take, drop, map, refl, sym, ap, subst, ◌∙◌, arith, All, inl, inr, Some, None, if◌then◌else◌}
+use Rattle.std.proofs.Common.{◌≡◌, ℕ, zero, suc, ◌+◌, ◌-◌, ◌<◌, ◌≤◌, ◌==◌, ◌&&◌, nat_le, not, Bool, true, false, List, [], ◌∷◌, length, get_or, take, drop, map, refl, sym, ap, subst, ◌∙◌, arith, All, inl, inr, Some, None, if◌then◌else◌}
 use Rattle.std.specs.Prelude.{Contains, filter, is_some, unwrap_or}
 use Rattle.std.proofs.lemmas.Bool.{leb-true, cases_lt}
-use Rattle.std.proofs.lemmas.List.{get_or-map, length-map, get_or-drop, drop-drop, get_or_default}
-use Rattle.std.proofs.lemmas.List.Elements.{All-filter, filter_passes, All-map, All-contains, All-more, All-get_or}
+use Rattle.std.proofs.lemmas.List.{get_or-map, length-map, get_or-drop, drop-drop}
+use Rattle.std.proofs.lemmas.List.Elements.{All-filter, filter_passes, All-map, All-contains, All-get_or}
 use Rattle.byteorder.specs.Endian.{little_number}
 use Rattle.byteorder.specs.Numbers.{little_from-take}
 use Rattle.macho_bytes.specs.Numbers.{le_at}
@@ -15,8 +15,7 @@ use Rattle.macho_bytes.specs.Layouts.{reading, read_of, size_of}
 use Rattle.macho_records.specs.Layouts.{mach_header, load_command, segment_command}
 use Rattle.macho_records.specs.declared.header.SegmentCommand.{SegmentCommand}
 use Rattle.macho_records.specs.declared.constants.TheConstants.{LC_SEGMENT_64}
-use Rattle.macho_model.specs.Commands.{Command, header_of, commands_from, commands_of, commands_end, command_fits, segment_size}
-use Rattle.macho_model.specs.ObjectRules.{commands_inside}
+use Rattle.macho_model.specs.Commands.{Command, header_of, commands_from, commands_of, commands_end, command_fits}
 use Rattle.macho_model.specs.Segments.{PAGEZERO}
 use Rattle.macho_model.specs.Images.{segments_of, mapped_segments, is_named}
 use Rattle.macho_model.specs.LoadRules.{segment_in, needed_in_image}
@@ -113,8 +112,8 @@ found_byte b c a v one is_segment has =
     record {
       segment = segment_in b c;
       one = contains_filter (λ s. not (is_named PAGEZERO s)) (map (segment_in b) (filter (λ x. x.number == LC_SEGMENT_64) (commands_of b))) (segment_in b c)
-        (rw has.mapped refl)
-        (contains_map (segment_in b) (filter (λ x. x.number == LC_SEGMENT_64) (commands_of b)) c (contains_filter (λ x. x.number == LC_SEGMENT_64) (commands_of b) c is_segment one));
+          (rw has.mapped refl)
+          (contains_map (segment_in b) (filter (λ x. x.number == LC_SEGMENT_64) (commands_of b)) c (contains_filter (λ x. x.number == LC_SEGMENT_64) (commands_of b) c is_segment one));
       from = has.from;
       to = has.to;
       is = has.is;

@@ -3,11 +3,10 @@
 -- A branch, a distance and a difference compare a place or a target with another: adding the slide to both sides of an
 -- equation modulo 2 ^ 64 keeps it. A page compares pages of 4 KiB: a slide of whole pages moves the page of an address by
 -- just the slide, and leaves the offset in it alone.
-use Rattle.std.proofs.Common.{◌≡◌, ℕ, ◌+◌, ◌*◌, ◌-◌, ◌%◌, ◌/◌, ◌^◌, ◌<◌, ◌≤◌, refl, sym, ap, subst, ◌∙◌, arith}
-use Rattle.std.proofs.lemmas.Nat.{div-add-mod'}
+use Rattle.std.proofs.Common.{◌≡◌, ℕ, ◌+◌, ◌*◌, ◌%◌, ◌^◌, refl, sym, ap, ◌∙◌, arith}
 use Rattle.macho_bytes.specs.Numbers.{signed, page, low}
 use Rattle.macho_model.specs.Words.{imm21, imm26}
-use Rattle.macho_model.specs.Meaning.{Same, address, PointsTo, IsDifference, BranchesTo, PagesTo, OffsetsTo, AddsTo, LoadsFrom, IsDistance, GoesThrough}
+use Rattle.macho_model.specs.Meaning.{Same, address, IsDifference, BranchesTo, PagesTo, OffsetsTo, AddsTo, LoadsFrom, IsDistance, GoesThrough}
 
 -- both sides of an equation modulo 2 ^ 64 move alike
 pub same_slides : (x y s : ℕ) → Same x y → Same (x + s) (y + s)

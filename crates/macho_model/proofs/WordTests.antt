@@ -2,7 +2,7 @@
 --
 -- The rule asks for a segment that holds the word, of finitely many, and of each segment that has a word there that its
 -- import exists. So it has a test, and of a chain within a closed list of addresses it is enough to test those.
-use Rattle.std.proofs.Common.{◌≡◌, ℕ, suc, ◌+◌, ◌*◌, ◌-◌, ◌<◌, ◌≤◌, nat_le, nat_lt, Bool, true, false, not, ◌&&◌, ◌||◌, List, [], ◌∷◌, length, get_or, refl, sym, subst, arith, All}
+use Rattle.std.proofs.Common.{◌≡◌, ℕ, suc, ◌+◌, ◌*◌, ◌<◌, ◌≤◌, nat_le, nat_lt, Bool, true, false, not, ◌&&◌, ◌||◌, List, [], ◌∷◌, length, get_or, refl, sym, subst, arith}
 use Rattle.std.specs.Prelude.{Contains}
 use Rattle.std.specs.List.{list_all, list_any}
 use Rattle.std.proofs.lemmas.Bool.{leb-true, le-leb, ltb-true, lt-ltb}
@@ -10,10 +10,10 @@ use Rattle.std.proofs.lemmas.List.Elements.{All-contains, Contains-get_or}
 use Rattle.std.proofs.lemmas.List.Folds.{list_any_at}
 use Rattle.macho_records.specs.declared.header.SegmentCommand.{SegmentCommand}
 use Rattle.macho_model.specs.Images.{mapped_segments, tables_of, CHAIN_PAGE}
-use Rattle.macho_model.specs.Chain.{ChainSegment, chain_segments, IsFileWord, WORD_SIZE, OnPageChain}
+use Rattle.macho_model.specs.Chain.{ChainSegment, chain_segments, WORD_SIZE, OnPageChain}
 use Rattle.macho_model.specs.Loader.{is_bind, ordinal_of, is_writable, import_count, WordFits}
 use Rattle.macho_model.proofs.EachBelow.{each_below, below_pass, true_or_false, and_left, and_right, and_both, or_right, neither, not_true, all_pass, pass_all}
-use Rattle.macho_model.proofs.ChainSets.{is_among, among_passes, word_in, stands_in, is_page_closed, page_within, page_has_start}
+use Rattle.macho_model.proofs.ChainSets.{among_passes, word_in, stands_in, is_page_closed, page_within, page_has_start}
 
 -- a segment holds a word: it may be written to, and the word stands in its file part
 abbrev pub holds_word : ℕ → SegmentCommand → Bool
@@ -76,9 +76,9 @@ word_fits b s page a h =
           from = leb-true x.vmaddr a (and_right w f two);
           to = leb-true (a + WORD_SIZE) (x.vmaddr + x.filesize) (and_right (w && f) t h);
           page_from = leb-true (s.address + CHAIN_PAGE * page) a
-            (and_left (nat_le (s.address + CHAIN_PAGE * page) a) (nat_le (a + WORD_SIZE) (s.address + CHAIN_PAGE * (page + 1))) in_page);
+              (and_left (nat_le (s.address + CHAIN_PAGE * page) a) (nat_le (a + WORD_SIZE) (s.address + CHAIN_PAGE * (page + 1))) in_page);
           page_to = leb-true (a + WORD_SIZE) (s.address + CHAIN_PAGE * (page + 1))
-            (and_right (nat_le (s.address + CHAIN_PAGE * page) a) (nat_le (a + WORD_SIZE) (s.address + CHAIN_PAGE * (page + 1))) in_page);
+              (and_right (nat_le (s.address + CHAIN_PAGE * page) a) (nat_le (a + WORD_SIZE) (s.address + CHAIN_PAGE * (page + 1))) in_page);
           import = λ word stands binds. exists stands.segment word (imports stands.segment stands.one) stands.from stands.to stands.is binds;
         }
 
@@ -104,11 +104,12 @@ fits_word b s page a fits =
           | true ↦ λ whole.
               elim (is_bind (word_in b x a)) as (λ t. is_bind (word_in b x a) ≡ t → (not t || nat_lt (ordinal_of (word_in b x a)) (import_count b (tables_of b))) ≡ true) [
                 | true ↦ λ binds. lt-ltb (ordinal_of (word_in b x a)) (import_count b (tables_of b)) (fits.import (word_in b x a) (record {
-                    segment = x; one = one;
-                    from = leb-true x.address a (and_left (nat_le x.address a) (nat_le (a + WORD_SIZE) (x.address + x.file_size)) whole);
-                    to = leb-true (a + WORD_SIZE) (x.address + x.file_size) (and_right (nat_le x.address a) (nat_le (a + WORD_SIZE) (x.address + x.file_size)) whole);
-                    is = refl;
-                  }) binds)
+                  segment = x;
+                  one = one;
+                  from = leb-true x.address a (and_left (nat_le x.address a) (nat_le (a + WORD_SIZE) (x.address + x.file_size)) whole);
+                  to = leb-true (a + WORD_SIZE) (x.address + x.file_size) (and_right (nat_le x.address a) (nat_le (a + WORD_SIZE) (x.address + x.file_size)) whole);
+                  is = refl;
+                }) binds)
                 | false ↦ λ _. refl
               ] refl
           | false ↦ λ _. refl

@@ -7,7 +7,7 @@ ghost use Rattle.macho_model.specs.Images.{tables_of};
 ghost use Rattle.macho_model.specs.Walks.{AreCommandsWhole, EndsInside, SegmentHas, CommandHas};
 
 use byteorder::{ByteOrder, LittleEndian};
-use macho_records::{name_bytes, SegmentCommand, LC_SEGMENT_64};
+use macho_records::{LC_SEGMENT_64, SegmentCommand, name_bytes};
 
 /// The byte of the file at a sum of offsets, 0 behind its end.
 fn file_byte(bytes: &[u8], start: u64, offset: u64) -> u8
