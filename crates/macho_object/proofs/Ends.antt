@@ -46,13 +46,15 @@ begins_behind strings from n none le =
     (λ i lt is. none (n + i) (omega arith) (omega (arith, length-drop n strings)) (sym (get_or-drop n strings i 0) ∙ is))
 
 -- the last NUL
-pub names_end_at : (strings : List ℕ) (last : ℕ) → last < length strings → slice_index strings last ≡ 0 → NoneFrom strings (last + 1) → NamesEnd strings (last + 1)
+pub names_end_at : (strings : List ℕ) (last : ℕ) → last < length strings → slice_index strings last ≡ 0 → NoneFrom strings (last + 1)
+    → NamesEnd strings (last + 1)
 names_end_at strings last lt is none =
     record {
       test = λ n. elim (cases_lt n (last + 1)) [
         | inl before ↦
             let place : n + (last - n) ≡ last = omega arith in
-            let here : slice_index (drop n strings) (last - n) ≡ 0 = get_or-drop n strings (last - n) 0 ∙ ap (slice_index strings) place ∙ is in
+            let here : slice_index (drop n strings) (last - n) ≡ 0 = get_or-drop n strings (last - n) 0 ∙ ap (slice_index strings) place
+            ∙ is in
             nul_ends (drop n strings) (last - n) (omega (arith, length-drop n strings)) here ∙ sym (below n (last + 1) before)
         | inr behind ↦ begins_behind strings (last + 1) n none behind ∙ sym (not_below n (last + 1) behind)
       ];

@@ -25,7 +25,8 @@ unfolding install_name_of
 install_name_is b main only = ap (first_path b) only
 
 -- a path that does not end breaks the rule of names
-pub path_breaks : (b : List ℕ) (main : ℕ) → numbered 13 b ≡ command_at b main ∷ [] → path_ends b (command_at b main) ≡ false → DylibBreaks b O9 main
+pub path_breaks : (b : List ℕ) (main : ℕ) → numbered 13 b ≡ command_at b main ∷ [] → path_ends b (command_at b main) ≡ false
+    → DylibBreaks b O9 main
 path_breaks b main only fails =
     inr (0, command_at b main, omega (arith, ap length only), ap (λ cs. get_or cs 0 (command_at b main)) only, refl, fails)
 

@@ -41,15 +41,18 @@ found_in-if : (q : Bool) (cs : List Command) (c : Command) → found_in (cs ++ (
 found_in-if true cs c = found_in-more cs c
 found_in-if false cs c = ap found_in (append-nil cs)
 
-found_in-filter : (p : Command → Bool) (cs : List Command) (c : Command) → found_in (filter p (cs ++ c ∷ [])) ≡ found_if (p c) (found_in (filter p cs)) c.at
+found_in-filter : (p : Command → Bool) (cs : List Command) (c : Command)
+    → found_in (filter p (cs ++ c ∷ [])) ≡ found_if (p c) (found_in (filter p cs)) c.at
 found_in-filter p cs c = ap found_in (filter-append p cs (c ∷ [])) ∙ found_in-if (p c) (filter p cs) c
 
 -- what it says that a command fits
 pub command_whole : (needed : Command → ℕ) (b : List ℕ) (c : Command) → command_fits needed b c ≡ true
     → (size_of load_command ≤ c.size) × (c.at + c.size ≤ commands_end b) × (needed c ≤ c.size)
 command_whole needed b c fits =
-    let outer = and_parts (nat_le (size_of load_command) c.size && nat_le (c.at + c.size) (commands_end b)) (nat_le (needed c) c.size) fits in
-    let inner = and_parts (nat_le (size_of load_command) c.size) (nat_le (c.at + c.size) (commands_end b)) outer.0 in
+    let head = nat_le (size_of load_command) c.size in
+    let ends = nat_le (c.at + c.size) (commands_end b) in
+    let outer = and_parts (head && ends) (nat_le (needed c) c.size) fits in
+    let inner = and_parts head ends outer.0 in
     (leb-true _ _ inner.0, leb-true _ _ inner.1, leb-true _ _ outer.1)
 
 -- nothing is passed at first
@@ -58,7 +61,14 @@ pub passes_none : (dyn : Bool) (b : List ℕ) (n : ℕ) (t : Tally) → n ≡ (h
 unfolding commands_of commands_end
 passes_none dyn b n t is main symtab =
     let e : (header_of b).ncmds ≡ n - 0 = omega (arith, is) in
-    record { passed = []; all = ap (λ (k : ℕ). commands_from b (size_of mach_header) k) e; within = omega arith; each = All-nil (λ c. command_fits (needed_of dyn b) b c ≡ true); main_is = main; symtab_is = symtab }
+    record {
+      passed = [];
+      all = ap (λ (k : ℕ). commands_from b (size_of mach_header) k) e;
+      within = omega arith;
+      each = All-nil (λ c. command_fits (needed_of dyn b) b c ≡ true);
+      main_is = main;
+      symtab_is = symtab;
+    }
 
 -- one more command is passed
 pub passes_one : (dyn : Bool) (b : List ℕ) (n i at : ℕ) (t next : Tally) → IsPassed dyn b (n - i) at t → i < n
@@ -77,8 +87,10 @@ passes_one dyn b n i at t next p lt fits main symtab =
       all = all ∙ sym (append_assoc p.passed (c ∷ []) rest);
       within = (command_whole (needed_of dyn b) b c fits).1;
       each = All-push (λ c. command_fits (needed_of dyn b) b c ≡ true) p.passed c p.each fits;
-      main_is = main ∙ ap (λ f. found_if (c.number == main_number dyn) f at) p.main_is ∙ sym (found_in-filter (λ c. c.number == main_number dyn) p.passed c);
-      symtab_is = symtab ∙ ap (λ f. found_if (c.number == LC_SYMTAB) f at) p.symtab_is ∙ sym (found_in-filter (λ c. c.number == LC_SYMTAB) p.passed c);
+      main_is = main ∙ ap (λ f. found_if (c.number == main_number dyn) f at) p.main_is
+          ∙ sym (found_in-filter (λ c. c.number == main_number dyn) p.passed c);
+      symtab_is = symtab ∙ ap (λ f. found_if (c.number == LC_SYMTAB) f at) p.symtab_is
+          ∙ sym (found_in-filter (λ c. c.number == LC_SYMTAB) p.passed c);
     }
 
 -- the same, as the command was read
@@ -94,7 +106,8 @@ passes_read dyn b n i at t next h p lt fits is =
     subst P (sym is) (passes_one dyn b n i at t next p lt fits)
 
 -- the command at the place reached is one of the file's
-fails_here : (b : List ℕ) (n i at : ℕ) (passed : List Command) (test : Command → Bool) → commands_of b ≡ passed ++ commands_from b at (n - i) → i < n
+fails_here : (b : List ℕ) (n i at : ℕ) (passed : List Command) (test : Command → Bool)
+    → commands_of b ≡ passed ++ commands_from b at (n - i) → i < n
     → test (command_at b at) ≡ false → CommandFails (commands_of b) at test
 unfolding commands_from
 fails_here b n i at passed test is lt fails =
@@ -122,7 +135,8 @@ breaks_front false b outside = inl (refl, outside)
 breaks_front true b outside = inl (refl, outside)
 
 -- all are passed
-pub passes_all : (dyn : Bool) (b : List ℕ) (n i at : ℕ) (t : Tally) → IsPassed dyn b (n - i) at t → n ≤ i → commands_inside b ≡ true → IsScanned dyn b t
+pub passes_all : (dyn : Bool) (b : List ℕ) (n i at : ℕ) (t : Tally) → IsPassed dyn b (n - i) at t → n ≤ i → commands_inside b ≡ true
+    → IsScanned dyn b t
 unfolding commands_from
 passes_all dyn b n i at t p le inside =
     let e : n - i ≡ 0 = omega arith in

@@ -60,12 +60,14 @@ the_only dyn b t n at s is =
     let one = only_one (numbered n b) at is in
     let c = one.0 in
     let own_all : All (λ c. c ≡ command_at b c.at) (c ∷ []) =
-    All-same (λ c. c ≡ command_at b c.at) (c ∷ []) (numbered n b) (sym one.1) (All-filter (λ c. c.number == n) (λ c. c ≡ command_at b c.at) (commands_of b) (own_places b)) in
+    All-same (λ c. c ≡ command_at b c.at) (c ∷ []) (numbered n b) (sym one.1)
+    (All-filter (λ c. c.number == n) (λ c. c ≡ command_at b c.at) (commands_of b) (own_places b)) in
     let own : c ≡ command_at b at = All-head (λ c. c ≡ command_at b c.at) c [] own_all ∙ ap (command_at b) one.2 in
     let only : numbered n b ≡ command_at b at ∷ [] = one.1 ∙ ap (λ c. c ∷ []) own in
     let passes : ((command_at b at).number == n) ≡ true =
     All-head (λ c. (c.number == n) ≡ true) (command_at b at) []
-    (All-same (λ c. (c.number == n) ≡ true) (command_at b at ∷ []) (numbered n b) (sym only) (filter_passes (λ c. c.number == n) (commands_of b))) in
+    (All-same (λ c. (c.number == n) ≡ true) (command_at b at ∷ []) (numbered n b) (sym only)
+    (filter_passes (λ c. c.number == n) (commands_of b))) in
     let fits : command_fits (needed_of dyn b) b (command_at b at) ≡ true =
     All-head (λ c. command_fits (needed_of dyn b) b c ≡ true) (command_at b at) []
     (All-same (λ c. command_fits (needed_of dyn b) b c ≡ true) (command_at b at ∷ []) (numbered n b) (sym only)
@@ -86,7 +88,8 @@ needed_main true b c number long inside own =
     let size : c.size ≡ (reading load_command b c.at).cmdsize = ap (λ c. c.size) own in
     (omega arith, omega arith)
 
-needed_symtab : (dyn : Bool) (b : List ℕ) (c : Command) → c.number ≡ LC_SYMTAB → needed_of dyn b c ≤ c.size → size_of symtab_command ≤ c.size
+needed_symtab : (dyn : Bool) (b : List ℕ) (c : Command) → c.number ≡ LC_SYMTAB → needed_of dyn b c ≤ c.size
+    → size_of symtab_command ≤ c.size
 needed_symtab false b c number long =
     let other : (c.number == 25) ≡ false = ap (λ (n : ℕ). n == 25) number in
     let test : (c.number == 2) ≡ true = ap (λ (n : ℕ). n == 2) number in
@@ -117,20 +120,22 @@ has_commands dyn b t p head s main symtab =
       symtab_room = omega (arith, y.ends, long);
     }
 
--- where one of both does not stand once, the rule of the commands that stand once is broken
-pub breaks_main : (dyn : Bool) (b : List ℕ) (t : Tally) (place : ℕ) → IsScanned dyn b t → IsNotOnce t.main place → Breaks dyn b O3 place
-breaks_main false b t place s not = inl (not_one (numbered 25 b) place (rw s.main_is at not))
-breaks_main true b t place s not = inl (not_one (numbered 13 b) place (rw s.main_is at not))
-
+-- where the symbol table does not stand once, the rule of the commands that stand once is broken
 pub breaks_symtab : (dyn : Bool) (b : List ℕ) (t : Tally) (place : ℕ) → IsScanned dyn b t → IsNotOnce t.symtab place → Breaks dyn b O3 place
 breaks_symtab false b t place s not = inr (not_one (numbered 2 b) place (rw s.symtab_is at not))
 breaks_symtab true b t place s not = inr (not_one (numbered 2 b) place (rw s.symtab_is at not))
 
 -- each section's header stands in the segment's command
-pub sections_stand : (dyn : Bool) (b : List ℕ) (p : Places) (n k : ℕ) → HasCommands dyn b p → n ≡ section_count dyn b → k < n → SectionStands b p.main k
+pub sections_stand : (dyn : Bool) (b : List ℕ) (p : Places) (n k : ℕ) → HasCommands dyn b p → n ≡ section_count dyn b → k < n
+    → SectionStands b p.main k
 unfolding num_sections segment_of section_place
 sections_stand false b p n k h is lt =
     let place : place_of 25 b ≡ p.main = ap first_place h.main_only in
     let count : n ≡ (reading segment_command b p.main).nsects = is ∙ ap (λ (at : ℕ). (reading segment_command b at).nsects) place in
-    record { one_segment = ap (λ cs. length cs == 1) h.main_only; among = omega (arith, is); place = omega (arith, place); room = omega (arith, place, count, h.main_room) }
+    record {
+      one_segment = ap (λ cs. length cs == 1) h.main_only;
+      among = omega (arith, is);
+      place = omega (arith, place);
+      room = omega (arith, place, count, h.main_room);
+    }
 sections_stand true b p n k h is lt = absurd (omega (arith, is))

@@ -10,7 +10,8 @@ use Rattle.macho_object.specs.Scans.{command_at}
 use Rattle.macho_object.specs.Outlines.{IsOutlined}
 use Rattle.macho_object.specs.Wholes.{IsWhole}
 
-of_kind : (o : Outline) (dyn : Bool) → o.is_dynamic ≡ dyn → IsOutlined o → IsFile o.is_dynamic o.input.now → IsFile dyn o.input.now → IsWhole o
+of_kind : (o : Outline) (dyn : Bool) → o.is_dynamic ≡ dyn → IsOutlined o → IsFile o.is_dynamic o.input.now → IsFile dyn o.input.now
+    → IsWhole o
 of_kind o false kind known file object =
     record {
       outlined = known;

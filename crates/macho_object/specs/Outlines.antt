@@ -44,7 +44,7 @@ pub record SectionStands (b : List ℕ) (main k : ℕ) : Type 0 where
   pub place : section_place b k ≡ main + size_of segment_command + size_of section_header * k
   pub room : section_place b k + size_of section_header ≤ length b
 
--- The same, and the symbol table and the strings stand inside the file.
+-- The header and the commands keep their rules, and the symbol table and the strings stand inside the file.
 pub record IsOutlined (o : Outline) : Type 0 where
   pub commands : HasCommands o.is_dynamic o.input.now o.places
   pub tables : tables_inside o.input.now ≡ true
@@ -54,7 +54,8 @@ pub record IsOutlined (o : Outline) : Type 0 where
 
 -- the bytes of a library's command from its path's place on
 abbrev pub path_field_of : List ℕ → ℕ → List ℕ
-path_field_of b at = slice_range b (at + (reading dylib_command b at).name_offset) (at + (reading load_command b at).cmdsize)
+path_field_of b at =
+    slice_range b (at + (reading dylib_command b at).name_offset) (at + (reading load_command b at).cmdsize)
 
 -- a library's path, where a NUL ends it in its command
 abbrev pub ending_path : List ℕ → ℕ → Option (List ℕ)

@@ -31,11 +31,13 @@ symbol_of f k = if nat_lt k (num_symbols f.bytes) then Some (symbol_at f.bytes k
 
 -- the name of a symbol that is there and no debugging entry
 abbrev pub symbol_name_of : FileBytes → ℕ → Option (List ℕ)
-symbol_name_of f k = if nat_lt k (num_symbols f.bytes) && not (is_stab_of (symbol_at f.bytes k)) then Some (symbol_name f.bytes k) else None
+symbol_name_of f k =
+    if nat_lt k (num_symbols f.bytes) && not (is_stab_of (symbol_at f.bytes k)) then Some (symbol_name f.bytes k) else None
 
 -- an answer about the section that an object's symbol is defined in
 abbrev pub of_symbol_section : {X : Type 0} → FileBytes → ℕ → X → Option X
-of_symbol_section f k answer = if not f.is_dynamic && (nat_lt k (num_symbols f.bytes) && is_in_section (symbol_at f.bytes k)) then Some answer else None
+of_symbol_section f k answer =
+    if not f.is_dynamic && (nat_lt k (num_symbols f.bytes) && is_in_section (symbol_at f.bytes k)) then Some answer else None
 
 -- that section, counted from 0
 abbrev pub section_index_of : FileBytes → ℕ → ℕ
@@ -47,14 +49,16 @@ symbol_offset_of f k = (symbol_at f.bytes k).n_value - (section_at f.bytes (sect
 
 -- the first section of a name, where there is one
 abbrev pub IsFirstNamed : FileBytes → List ℕ → Option ℕ → Type 0
-IsFirstNamed f name None = (j : ℕ) → j < section_count f.is_dynamic f.bytes → has_section_name name (section_at f.bytes j) ≡ false
+IsFirstNamed f name None =
+    (j : ℕ) → j < section_count f.is_dynamic f.bytes → has_section_name name (section_at f.bytes j) ≡ false
 IsFirstNamed f name (Some k) =
     (k < section_count f.is_dynamic f.bytes) × (has_section_name name (section_at f.bytes k) ≡ true)
     × ((j : ℕ) → j < k → has_section_name name (section_at f.bytes j) ≡ false)
 
 -- a relocation of a section, where it is there
 abbrev pub relocation_of : RelocationBytes → ℕ → Option RelocationInfo
-relocation_of l r = if nat_lt r (section_at l.bytes l.section).nreloc then Some (relocation_at l.bytes l.section r) else None
+relocation_of l r =
+    if nat_lt r (section_at l.bytes l.section).nreloc then Some (relocation_at l.bytes l.section r) else None
 
 -- the install name of a library
 abbrev pub install_name_in : FileBytes → Option (List ℕ)

@@ -111,7 +111,8 @@ impl<'data> Model for RelocationList<'data> {
     ghost use Rattle.macho_model.specs.Objects.{section_at};
     ghost use Rattle.macho_model.specs.ObjectRules.{relocations_inside};
 
-    ghost invariant = { λ l. (l.header ≡ section_at l.input.now l.section) × (relocations_inside l.input.now l.section ≡ true) };
+    ghost invariant = { λ l. (l.header ≡ section_at l.input.now l.section)
+        × (relocations_inside l.input.now l.section ≡ true) };
 }
 
 impl RelocationList<'_> {

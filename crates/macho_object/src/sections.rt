@@ -123,7 +123,8 @@ impl<'data> Outline<'data> {
 
 /// Whether a section's data stands in a file of this length, and its addresses end at 2^64 at most.
 fn data_fits(header: SectionHeader, length: u64) -> bool
-    ensures { result ≡ ((is_zerofill header || nat_le (header.offset + header.size) length) && nat_le (header.addr + header.size) (2 ^ 64)) }
+    ensures { result ≡ ((is_zerofill header || nat_le (header.offset + header.size) length)
+        && nat_le (header.addr + header.size) (2 ^ 64)) }
 {
     let offset = u64::from(header.offset);
     let in_file = header.is_no_bits() || offset <= length && header.size <= length - offset;

@@ -155,7 +155,8 @@ fn names_end(strings: &[u8]) -> usize
 
 /// Whether a common's alignment is one that is taken, and its rounded size is below 2^64. Any other symbol passes.
 fn common_fits(symbol: SymtabEntry) -> bool
-    ensures { result ≡ (not (is_common_of symbol) || (nat_le (common_exponent_of symbol) 14 && nat_lt (common_size_of symbol) (2 ^ 64))) }
+    ensures { result ≡ (not (is_common_of symbol)
+        || (nat_le (common_exponent_of symbol) 14 && nat_lt (common_size_of symbol) (2 ^ 64))) }
 {
     if !symbol.is_undefined() || symbol.is_local() || symbol.n_value == 0 {
         return true;

@@ -66,7 +66,8 @@ impl<'data> Outline<'data> {
         requires among { index < num_symbols self.now.input.now }
         requires defined { is_in_section (symbol_at self.now.input.now index) ≡ true }
         requires fits { AddressFits self.now.input.now index }
-        ensures { result ≡ (symbol_at self.now.input.now index).n_value - (section_at self.now.input.now ((symbol_at self.now.input.now index).n_sect - 1)).addr }
+        ensures { result ≡ (symbol_at self.now.input.now index).n_value
+            - (section_at self.now.input.now ((symbol_at self.now.input.now index).n_sect - 1)).addr }
     {
         let symbol = self.symbol(index);
         let header = self.section(u32::from(symbol.n_sect) - 1);

@@ -4,7 +4,8 @@ use Rattle.macho_object.proofs.outline.find_commands.Goals as goal
 
 pub returns-in_err-symtab-clause-why : goal.returns-in_err-symtab-clause-why
 returns-in_err-symtab-clause-why c =
-    let p = err_from_is_err_and c.from_residual-in_err-symtab.result c.from_residual-in_err-symtab.ensures.1 in rw (p.1, p.2, c.in_err-symtab.ensures.rule)
+    let p = err_from_is_err_and c.from_residual-in_err-symtab.result c.from_residual-in_err-symtab.ensures.1 in
+    rw (p.1, p.2, c.in_err-symtab.ensures.rule)
     (breaks_symtab c.args.is_dynamic c.args.input.now c.in_ok-tally.tally _ c.in_ok-tally.ensures.found c.in_err-symtab.ensures.why)
 
 pub returns-clause-found : goal.returns-clause-found
