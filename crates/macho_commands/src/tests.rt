@@ -12,6 +12,6 @@ fn entry_and_dynamic_linker(rt: HostRuntime) {
     assert_eq!(rt; commands_size(&commands), 56);
     let mut out = [0xff; 60];
     write_commands(&commands, &mut out, 2);
-    assert!(rt; out[2..58] == EXPECTED);
-    assert!(rt; out[..2] == [0xff; 2] && out[58..] == [0xff; 2]);
+    assert!(rt; out[2..58] == EXPECTED[..]);
+    assert!(rt; out[0] == 0xff && out[1] == 0xff && out[58] == 0xff && out[59] == 0xff);
 }
