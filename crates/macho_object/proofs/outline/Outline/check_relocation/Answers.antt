@@ -17,4 +17,4 @@ pub is_inside-requires : goal.is_inside-requires
 is_inside-requires c =
     let b = c.args.self.now.input.now in
     let at = c.relocation_place-place.result in
-    short_read b at _ (some_if (nat_le (at + size_of relocation_info) (length b)) _ (reading relocation_info b at) c.in-Some.ensures).1
+    short_read b at _ (some_if (nat_le (at + size_of relocation_info) (length b)) _ (reading relocation_info b at) c.in-Some.ensures.done).1
