@@ -1,0 +1,52 @@
+-- The answer is the one that the grammar and the rules have: reading finds what is there, and nothing else.
+use Rattle.std.proofs.Common.{◌≡◌, ℕ, List, Result, Ok, Err, sym, ap, ◌∙◌, inl, inr}
+use Rattle.std.specs.Prelude.{IfOk, IfErr}
+use Rattle.macho_stub.specs.declared.fault.StubFault.{StubFault}
+use Rattle.macho_stub.specs.declared.fault.StubFault.TheVariants.{Rule, OutOfMemory}
+use Rattle.macho_stub.specs.Faults.{broken, Gives, ◌>>=◌}
+use Rattle.macho_stub.specs.Reader.{documents_of}
+use Rattle.macho_stub.specs.Library.{LibraryFields, library_of}
+use Rattle.macho_stub.specs.Answer.{IsStub, IsToldOfText, answer_of}
+use Rattle.macho_stub.specs.declared.fault.StubRule.{StubRule}
+use Rattle.macho_stub.proofs.Bind.{bind_ok}
+use Rattle.macho_stub.proofs.Ruling.{bind_err, library_made, library_back}
+use Rattle.macho_stub.proofs.Told.{library_told}
+use Rattle.macho_stub.proofs.Stops.{breaks_off}
+use Rattle.macho_stub.proofs.Found.{documents_found}
+use Rattle.macho_stub.proofs.Only.{documents_read}
+
+answer_found : (text : List ℕ) (library : LibraryFields) → answer_of text ≡ Ok library → IsStub text library
+unfolding answer_of
+answer_found text library e =
+    let b = bind_ok (documents_of text) library_of library e in
+    record { says = b.0; in_grammar = documents_found text b.0 b.1; makes = library_made b.0 library b.2 }
+
+answer_only : (text : List ℕ) (library : LibraryFields) → IsStub text library → answer_of text ≡ Ok library
+unfolding answer_of
+answer_only text library is = ap (λ reading. reading >>= library_of) (documents_read text is.says is.in_grammar)
+    ∙ library_back is.says library is.makes
+
+answer_told : (text : List ℕ) (line : ℕ) (rule : StubRule) → answer_of text ≡ broken line rule → IsToldOfText text (Rule line rule)
+unfolding answer_of
+answer_told text line rule e =
+    elim (bind_err (documents_of text) library_of line rule e) [
+      | inl b ↦ inr (breaks_off text line rule b)
+      | inr b ↦ inl (b.0, documents_found text b.0 b.1, library_told b.0 line rule b.2)
+    ]
+
+pub found : {X : Type 0} (view : X → LibraryFields) (text : List ℕ) (result : Result X StubFault) → Gives view result (answer_of text)
+    → IfOk result (λ library. IsStub text (view library))
+found view text (Ok library) h = answer_found text (view library) h
+found view text (Err e) h = tt
+
+pub only : {X : Type 0} (view : X → LibraryFields) (text : List ℕ) (result : Result X StubFault) (says : LibraryFields)
+    → Gives view result (answer_of text) → IsStub text says → Gives view result (Ok says)
+only view text (Ok library) says h is = sym (answer_only text says is) ∙ h
+only view text (Err (Rule line rule)) says h is = sym (answer_only text says is) ∙ h
+only view text (Err OutOfMemory) says h is = tt
+
+pub fault : {X : Type 0} (view : X → LibraryFields) (text : List ℕ) (result : Result X StubFault) → Gives view result (answer_of text)
+    → IfErr result (IsToldOfText text)
+fault view text (Ok library) h = tt
+fault view text (Err (Rule line rule)) h = answer_told text line rule h
+fault view text (Err OutOfMemory) h = tt

@@ -1,0 +1,20 @@
+-- Where the key behind a dash begins, the line may be cut: the dash is ASCII, and so are the spaces behind it.
+use Rattle.std.proofs.Common.{◌≡◌, ℕ, ◌+◌, true, List, get_or, drop, arith}
+use Rattle.std.specs.Str.{IsUtf8, IsCharBoundary}
+use Rattle.std.proofs.lemmas.Str.{IsUtf8-drop, IsCharBoundary-from_rest}
+use Rattle.std.proofs.lemmas.Bool.Decides.{nat_tests}
+use Rattle.macho_stub.specs.Bytes.{is_space, indent}
+use Rattle.macho_stub.specs.Reader.{has_dash, key_column}
+use Rattle.macho_stub.proofs.Cuts.{cut_behind, run_cut, space_ascii}
+
+dash_at : (line : List ℕ) → has_dash line ≡ true → get_or line (indent line) 0 ≡ 45
+unfolding has_dash
+dash_at line h = grind (arith, nat_tests)
+
+pub column_cut : (line : List ℕ) → IsUtf8 line → has_dash line ≡ true → IsCharBoundary line (key_column line)
+unfolding key_column indent
+column_cut line utf8 h =
+    let cut = cut_behind line (indent line) 45 utf8 (dash_at line h) (omega arith) (omega arith) in
+    let rest = drop (indent line + 1) line in
+    IsCharBoundary-from_rest line (indent line + 1) (indent rest) cut.1.0
+    (run_cut is_space space_ascii rest (IsUtf8-drop line (indent line + 1) utf8 cut.1))

@@ -1,0 +1,162 @@
+-- The tests that are computed decide the rules: each says yes exactly where its rule holds. So the documents make
+-- a library exactly where it is computed, and the fault that is computed is the one that is told.
+use Rattle.std.proofs.Common.{◌≡◌, ℕ, ◌&&◌, ◌||◌, Bool, true, false, List, [], ◌∷◌, refl, ap, ◌∙◌, ◌⊎◌, inl, inr}
+use Rattle.std.specs.List.{list_any}
+use Rattle.std.specs.Str.{bytes_eq}
+use Rattle.macho_stub.specs.Documents.{ItemFields, DocumentFields}
+use Rattle.macho_stub.specs.Library.{target, has_target, all_same, same_names, same_item, same_items, same_document, is_listed}
+use Rattle.macho_stub.specs.Rules.{Among, IsListed, SaySame}
+use Rattle.macho_stub.proofs.Bind.{same_bytes, bytes_same}
+
+-- ---- tests
+
+and_true : (a b : Bool) → (a && b) ≡ true → (a ≡ true) × (b ≡ true)
+and_true true b h = (refl, h)
+and_true false b h = absurd cc
+
+both_true : (a b : Bool) → a ≡ true → b ≡ true → (a && b) ≡ true
+both_true a b h k = ap (λ x. x && b) h ∙ k
+
+-- a test that is true where it isn't false
+is_true : (b : Bool) → (b ≡ false → ⊥) → b ≡ true
+is_true true h = refl
+is_true false h = absurd (h refl)
+
+pub is_false : (b : Bool) → (b ≡ true → ⊥) → b ≡ false
+is_false true h = absurd (h refl)
+is_false false h = refl
+
+pub clash : (b : Bool) → b ≡ true → b ≡ false → ⊥
+clash b h k = cc
+
+pub among : (name : List ℕ) (names : List (List ℕ)) → list_any (λ other. bytes_eq other name) names ≡ true → Among name names
+among name [] h = absurd cc
+among name (other ∷ names) h = by_first (bytes_eq other name) refl (λ k. among name names k) h
+  where
+    by_first : (b : Bool) → bytes_eq other name ≡ b → (list_any (λ o. bytes_eq o name) names ≡ true → Among name names)
+        → (b || list_any (λ o. bytes_eq o name) names) ≡ true → (other ≡ name) ⊎ Among name names
+    by_first true e ih k = inl (same_bytes other name e)
+    by_first false e ih k = inr (ih k)
+
+pub among_back : (name : List ℕ) (names : List (List ℕ)) → Among name names → list_any (λ other. bytes_eq other name) names ≡ true
+among_back name [] h = absurd h
+among_back name (other ∷ names) (inl e) = ap (λ b. b || list_any (λ o. bytes_eq o name) names) (bytes_same other name e)
+among_back name (other ∷ names) (inr h) = or_right (bytes_eq other name) (among_back name names h)
+  where
+    or_right : (b : Bool) {r : Bool} → r ≡ true → (b || r) ≡ true
+    or_right true h = refl
+    or_right false h = h
+
+pub target_held : (targets : List (List ℕ)) → has_target targets ≡ true → Among target targets
+unfolding has_target
+target_held targets h = among target targets h
+
+pub target_test : (targets : List (List ℕ)) → Among target targets → has_target targets ≡ true
+unfolding has_target
+target_test targets h = among_back target targets h
+
+pub listed : (name : List ℕ) (items : List ItemFields) → is_listed name items ≡ true → IsListed name items
+unfolding is_listed
+listed name [] h = absurd cc
+listed name (item ∷ items) h = by_first (list_any (λ o. bytes_eq o name) item.names) refl (λ k. listed name items k) h
+  where
+    by_first : (b : Bool) → list_any (λ o. bytes_eq o name) item.names ≡ b → (is_listed name items ≡ true → IsListed name items)
+        → (b || is_listed name items) ≡ true → Among name item.names ⊎ IsListed name items
+    by_first true e ih k = inl (among name item.names e)
+    by_first false e ih k = inr (ih k)
+
+pub listed_back : (name : List ℕ) (items : List ItemFields) → IsListed name items → is_listed name items ≡ true
+unfolding is_listed
+listed_back name [] h = absurd h
+listed_back name (item ∷ items) (inl a) = ap (λ b. b || is_listed name items) (among_back name item.names a)
+listed_back name (item ∷ items) (inr h) = or_right (list_any (λ o. bytes_eq o name) item.names) (listed_back name items h)
+  where
+    or_right : (b : Bool) {r : Bool} → r ≡ true → (b || r) ≡ true
+    or_right true h = refl
+    or_right false h = h
+
+-- ---- what is the same
+
+-- a test of sameness that is right for the elements is right for lists
+all_same_is : {X : Type 0} (same : X → X → Bool) → ((x y : X) → same x y ≡ true → x ≡ y) → (xs ys : List X) → all_same same xs ys ≡ true
+    → xs ≡ ys
+unfolding all_same
+all_same_is same is [] [] h = refl
+all_same_is same is [] (y ∷ ys) h = absurd cc
+all_same_is same is (x ∷ xs) [] h = absurd cc
+all_same_is {X} same is (x ∷ xs) (y ∷ ys) h =
+    let b = and_true (same x y) (all_same same xs ys) h in
+    ap (λ z. z ∷ xs) (is x y b.0) ∙ ap (λ (zs : List X). y ∷ zs) (all_same_is same is xs ys b.1)
+
+all_same_refl : {X : Type 0} (same : X → X → Bool) → ((x : X) → same x x ≡ true) → (xs : List X) → all_same same xs xs ≡ true
+unfolding all_same
+all_same_refl same is [] = refl
+all_same_refl same is (x ∷ xs) = both_true (same x x) (all_same same xs xs) (is x) (all_same_refl same is xs)
+
+names_same : (xs ys : List (List ℕ)) → same_names xs ys ≡ true → xs ≡ ys
+unfolding same_names
+names_same xs ys h = all_same_is bytes_eq same_bytes xs ys h
+
+names_refl : (xs : List (List ℕ)) → same_names xs xs ≡ true
+unfolding same_names
+names_refl xs = all_same_refl bytes_eq (λ x. bytes_same x x refl) xs
+
+item_same : (a b : ItemFields) → same_item a b ≡ true → a ≡ b
+unfolding same_item
+item_same a b h =
+    let p = and_true (same_names a.targets b.targets && same_names a.names b.names) (same_names a.weak_names b.weak_names) h in
+    let q = and_true (same_names a.targets b.targets) (same_names a.names b.names) p.0 in
+    ap (λ (t : List (List ℕ)). record a { targets = t }) (names_same a.targets b.targets q.0)
+    ∙ ap (λ (t : List (List ℕ)). record { targets = b.targets; names = t; weak_names = a.weak_names }) (names_same a.names b.names q.1)
+    ∙ ap (λ (t : List (List ℕ)). record { targets = b.targets; names = b.names; weak_names = t })
+    (names_same a.weak_names b.weak_names p.1)
+
+item_refl : (a : ItemFields) → same_item a a ≡ true
+unfolding same_item
+item_refl a = both_true _ _ (both_true _ _ (names_refl a.targets) (names_refl a.names)) (names_refl a.weak_names)
+
+items_same : (xs ys : List ItemFields) → same_items xs ys ≡ true → xs ≡ ys
+unfolding same_items
+items_same xs ys h = all_same_is same_item item_same xs ys h
+
+items_refl : (xs : List ItemFields) → same_items xs xs ≡ true
+unfolding same_items
+items_refl xs = all_same_refl same_item item_refl xs
+
+pub document_same : (a b : DocumentFields) → same_document a b ≡ true → SaySame a b
+unfolding same_document
+document_same a b h =
+    let p6 = and_true _ (same_items a.reexports b.reexports) h in
+    let p5 = and_true _ (same_items a.exports b.exports) p6.0 in
+    let p4 = and_true _ (same_items a.libraries b.libraries) p5.0 in
+    let p3 = and_true _ (bytes_eq a.current_version b.current_version) p4.0 in
+    let p2 = and_true _ (bytes_eq a.install_name b.install_name) p3.0 in
+    let p1 = and_true (bytes_eq a.version b.version) (same_names a.targets b.targets) p2.0 in
+    let v = same_bytes a.version b.version p1.0 in
+    let t = names_same a.targets b.targets p1.1 in
+    let i = same_bytes a.install_name b.install_name p2.1 in
+    let c = same_bytes a.current_version b.current_version p3.1 in
+    let l = items_same a.libraries b.libraries p4.1 in
+    let e = items_same a.exports b.exports p5.1 in
+    let r = items_same a.reexports b.reexports p6.1 in
+    ap (λ x. record a { version = x }) v ∙ ap (λ x. record a { version = b.version; targets = x }) t
+    ∙ ap (λ x. record a { version = b.version; targets = b.targets; install_name = x }) i
+    ∙ ap (λ x. record a { version = b.version; targets = b.targets; install_name = b.install_name; current_version = x }) c
+    ∙ ap (λ x. record a {
+      version = b.version;
+      targets = b.targets;
+      install_name = b.install_name;
+      current_version = b.current_version;
+      libraries = x;
+    }) l
+    ∙ ap (λ x. record b { line = a.line; exports = x; reexports = a.reexports }) e
+    ∙ ap (λ x. record b { line = a.line; reexports = x }) r
+
+pub document_test : (a b : DocumentFields) → SaySame a b → same_document a b ≡ true
+unfolding same_document
+document_test a b is =
+    ap (λ (d : DocumentFields). same_document d b) is
+    ∙ both_true _ _ (both_true _ _
+    (both_true _ _ (both_true _ _ (both_true _ _ (both_true _ _ (bytes_same b.version b.version refl) (names_refl b.targets))
+    (bytes_same b.install_name b.install_name refl)) (bytes_same b.current_version b.current_version refl)) (items_refl b.libraries))
+    (items_refl b.exports)) (items_refl b.reexports)

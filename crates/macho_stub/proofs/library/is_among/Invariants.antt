@@ -1,0 +1,9 @@
+use Rattle.std.proofs.Common.{◌≡◌, drop}
+use Rattle.std.specs.List.{list_any}
+use Rattle.std.specs.Str.{bytes_eq}
+use Rattle.macho_stub.specs.Lists.{texts}
+use Rattle.macho_stub.proofs.library.is_among.Given as goal
+
+abbrev pub invariant-loop-other : goal.invariant-loop-other
+invariant-loop-other l = list_any (λ other. bytes_eq other l.name) (drop l.other-index (texts l.names))
+    ≡ list_any (λ other. bytes_eq other l.name) (texts l.names)
