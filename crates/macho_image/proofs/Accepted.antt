@@ -4,17 +4,18 @@
 -- segments: one that maps nothing and one that begins the file, is as long in memory as in the file, and stands behind
 -- the first one's addresses. None is a fixup table, so no word is on the chain. Each rule then speaks of these records,
 -- and holds by arithmetic.
-use Rattle.std.proofs.Common.{◌≡◌, ℕ, zero, suc, ◌+◌, ◌*◌, ◌-◌, ◌%◌, ◌^◌, ◌<◌, ◌≤◌, Bool, true, false, List, [], ◌∷◌, ◌++◌, length, get_or, refl, sym, ap, subst, ◌∙◌, arith, Bor, All, ◌&&◌, nat_le}
+use Rattle.std.proofs.Common.{◌≡◌, ℕ, zero, suc, ◌+◌, ◌*◌, ◌%◌, ◌^◌, ◌≤◌, Bool, true, List, [], ◌∷◌, length, refl, sym, ap, subst, ◌∙◌, arith, Bor, ◌&&◌, nat_le}
 use Rattle.std.proofs.lemmas.Bool.{le-leb}
 use Rattle.std.proofs.lemmas.List.Elements.{All-same, All-from_recursion, All-nil}
-use Rattle.macho_bytes.specs.Layouts.{reading, size_of}
-use Rattle.macho_records.specs.Layouts.{mach_header, segment_command}
+use Rattle.macho_bytes.specs.Layouts.{reading}
+use Rattle.macho_records.specs.Layouts.{segment_command, entry_point_command}
+use Rattle.macho_records.specs.declared.commands.EntryPointCommand.{EntryPointCommand}
 use Rattle.macho_records.specs.declared.header.MachHeader.{MachHeader}
 use Rattle.macho_records.specs.declared.header.SectionHeader.{SectionHeader}
 use Rattle.macho_records.specs.declared.header.SegmentCommand.{SegmentCommand}
-use Rattle.macho_records.specs.declared.constants.TheConstants.{LC_SEGMENT_64, LC_MAIN, LC_LOAD_DYLINKER, LC_DYLD_CHAINED_FIXUPS}
+use Rattle.macho_records.specs.declared.constants.TheConstants.{LC_SEGMENT_64, LC_MAIN, LC_LOAD_DYLINKER}
 use Rattle.macho_model.specs.Commands as found
-use Rattle.macho_model.specs.Images.{segments_of, mapped_segments, tables_of, base_of, segments_named}
+use Rattle.macho_model.specs.Images.{segments_of, mapped_segments, tables_of, segments_named, entries_of_file}
 use Rattle.macho_model.specs.Segments.{TEXT, SEGMENT_PAGE, PAGEZERO_SIZE}
 use Rattle.macho_model.proofs.PageChains.{no_page_chain}
 use Rattle.macho_model.specs.ObjectRules.{commands_inside}
@@ -23,16 +24,8 @@ use Rattle.macho_model.specs.LoadRules.{image_head_fits, needed_in_image, protec
 use Rattle.macho_model.specs.Loader.{IsAccepted, segment_commands, EachNeighbour}
 use Rattle.macho_commands.specs.Records.{segment_record}
 use Rattle.macho_commands.specs.Commands.{commands_size}
-use Rattle.macho_commands.specs.Reading.{ListIsFound, placed_commands}
-use Rattle.macho_image.specs.Shape.{pagezero_segment, text_segment, TEXT_PROTECTION, commands_of_image, header_of_image}
-
--- The bytes have the header and the commands of such an image, of n bytes.
-pub record HasHead (b : List ℕ) (n entry : ℕ) (none headers : Bor (List SectionHeader)) : Type 0 where
-  pub size : length b ≡ n
-  pub empty : none.now ≡ []
-  pub header : reading mach_header b 0 ≡ header_of_image (commands_size (commands_of_image n entry none headers))
-  pub commands : ListIsFound b 32 (commands_of_image n entry none headers)
-  pub room : 32 + commands_size (commands_of_image n entry none headers) ≤ n
+use Rattle.macho_image.specs.Composed.{HasHead}
+use Rattle.macho_image.specs.Shape.{pagezero_segment, text_segment, TEXT_PROTECTION, commands_of_image}
 
 -- the records of the two segments
 abbrev pub pagezero_record : SegmentCommand
@@ -194,3 +187,13 @@ accepted b n entry none headers h pages high = record {
 
     tables : tables_of b ≡ []
     tables = tables-are b n entry none headers h
+
+-- where the image begins
+pub entries-are : (b : List ℕ) (n entry : ℕ) (none headers : Bor (List SectionHeader)) → HasHead b n entry none headers → entries_of_file b ≡ entry ∷ []
+unfolding entries_of_file
+entries-are b n entry none headers h =
+    let at : ℕ = 104 + (72 + 80 * length headers.now) in
+    let place : at ≡ 32 + (72 + 80 * length none.now) + (72 + 80 * length headers.now) = omega (arith, ap length h.empty) in
+    rw (commands-are b n entry none headers h)
+    (ap (λ (k : ℕ). (reading entry_point_command b k).entryoff ∷ []) place
+    ∙ ap (λ (r : EntryPointCommand). r.entryoff ∷ []) h.commands.each.1.1.0.says)

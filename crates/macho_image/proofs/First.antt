@@ -4,7 +4,7 @@
 -- relocation, no section is consumed and no list was given, so the walk has no use: nothing needs a slot or a stub. No
 -- symbol is a common. A section in `__TEXT` has no thread-local type, since the object's rules put those in `__DATA`; so
 -- each is placed at its own alignment.
-use Rattle.std.proofs.Common.{◌≡◌, ℕ, zero, suc, ◌+◌, ◌<◌, Bool, true, false, ◌&&◌, ◌||◌, not, max, if◌then◌else◌, List, [], ◌∷◌, ◌++◌, length, get_or, map, refl, sym, ap, subst, ◌∙◌, arith}
+use Rattle.std.proofs.Common.{◌≡◌, ℕ, suc, ◌<◌, Bool, true, false, ◌&&◌, ◌||◌, not, max, if◌then◌else◌, List, [], ◌∷◌, length, get_or, map, refl, sym, ap, subst, ◌∙◌, arith}
 use Rattle.std.specs.Prelude.{filter, ◌==◌, codes}
 use Rattle.macho_model.specs.Symbols.{is_in_segment}
 use Rattle.std.specs.List.{range_with_len, flat_map}
@@ -13,24 +13,24 @@ use Rattle.std.proofs.lemmas.List.FromFn.{length-range_with_len, get_or-range_wi
 use Rattle.macho_records.specs.declared.header.SectionHeader.{SectionHeader}
 use Rattle.macho_records.specs.Symbols.{is_common_of}
 use Rattle.macho_records.specs.Sections.{segment_name_of, type_of}
-use Rattle.macho_model.specs.ObjectRules.{thread_local_in_data, is_thread_local}
+use Rattle.macho_model.specs.ObjectRules.{is_thread_local}
 use Rattle.macho_model.specs.Grammar.{IsObject}
 use Rattle.macho_model.specs.Objects.{num_sections, section_at, num_symbols, symbol_at}
-use Rattle.macho_model.specs.Links.{Link, Object, SectionId, object_of, header_at, sections_of, carried_of, is_carried, is_consumed, is_initializers, is_unwind_entries, is_template, template_exponent, placed_exponent}
+use Rattle.macho_model.specs.Links.{Link, SectionId, object_of, header_at, sections_of, carried_of, is_carried, is_consumed, is_initializers, is_unwind_entries, is_template, template_exponent, placed_exponent}
 use Rattle.macho_model.specs.Resolution.{SymbolId, symbols_of, chosen_commons, entry_at, defines}
-use Rattle.macho_model.specs.Needs.{ByRelocation, uses_of, carried_uses, initializer_sections, unwind_sections, relocations_of}
+use Rattle.macho_model.specs.Needs.{ByRelocation, uses_of, carried_uses, initializer_sections, unwind_sections}
 use Rattle.macho_model.specs.Targets.{slots_of, stubs_of}
 use Rattle.macho_model.specs.ExportLists.{plain_entries, all_entries}
 use Rattle.macho_model.specs.Segments.{TEXT}
 use Rattle.macho_image.specs.declared.carried.Carried.{Carried}
-use Rattle.macho_image.specs.First.{id_of_carried, IsPlain, IsFirst, IsPlainObject, HasOneObject}
+use Rattle.macho_image.specs.First.{id_of_carried, IsFirst, IsPlainObject, HasOneObject}
 use Rattle.macho_image.proofs.Placed.{map-at, filter_none, no_carried}
 
 -- a section and a symbol of the only file
-abbrev first_section : ℕ → SectionId
+abbrev pub first_section : ℕ → SectionId
 first_section k = record { file = 0; section = k }
 
-abbrev first_symbol : ℕ → SymbolId
+abbrev pub first_symbol : ℕ → SymbolId
 first_symbol k = record { file = 0; symbol = k }
 
 filter-map_step : {X Y : Type 0} (f : X → Y) (test : Y → Bool) (x : X) (xs : List X) (b : Bool) → test (f x) ≡ b
@@ -38,7 +38,7 @@ filter-map_step : {X Y : Type 0} (f : X → Y) (test : Y → Bool) (x : X) (xs :
 filter-map_step f test x xs true e rest = rw (e, rest) refl
 filter-map_step f test x xs false e rest = rw (e, rest) refl
 
-filter-map : {X Y : Type 0} (f : X → Y) (test : Y → Bool) (xs : List X) → filter test (map f xs) ≡ map f (filter (λ x. test (f x)) xs)
+pub filter-map : {X Y : Type 0} (f : X → Y) (test : Y → Bool) (xs : List X) → filter test (map f xs) ≡ map f (filter (λ x. test (f x)) xs)
 filter-map f test [] = refl
 filter-map f test (x ∷ xs) = filter-map_step f test x xs (test (f x)) refl (filter-map f test xs)
 
@@ -54,11 +54,11 @@ flat_map_none f (x ∷ xs) none = rw (none 0 x (omega arith), flat_map_none f xs
 pub object-is : (l : Link) (b : List ℕ) → HasOneObject l b → object_of l 0 ≡ b
 object-is l b one = rw one.inputs refl
 
-sections-are : (l : Link) (b : List ℕ) → HasOneObject l b → sections_of l ≡ map first_section (range_with_len 0 (num_sections b))
+pub sections-are : (l : Link) (b : List ℕ) → HasOneObject l b → sections_of l ≡ map first_section (range_with_len 0 (num_sections b))
 unfolding sections_of
 sections-are l b one = rw one.inputs (append-nil (map first_section (range_with_len 0 (num_sections b))))
 
-symbols-are : (l : Link) (b : List ℕ) → HasOneObject l b → symbols_of l ≡ map first_symbol (range_with_len 0 (num_symbols b))
+pub symbols-are : (l : Link) (b : List ℕ) → HasOneObject l b → symbols_of l ≡ map first_symbol (range_with_len 0 (num_symbols b))
 unfolding symbols_of
 symbols-are l b one = rw one.inputs (append-nil (map first_symbol (range_with_len 0 (num_symbols b))))
 
@@ -124,7 +124,7 @@ no_uses_carried l b cs one plain =
     ap (λ (n : ℕ). map (ByRelocation (get_or (map id_of_carried cs) k d)) (range_with_len 0 n)) none)
 
 -- so there is no use at all
-no_uses : (l : Link) (b : List ℕ) (cs : List Carried) → HasOneObject l b → IsPlainObject b cs → uses_of l ≡ []
+pub no_uses : (l : Link) (b : List ℕ) (cs : List Carried) → HasOneObject l b → IsPlainObject b cs → uses_of l ≡ []
 unfolding uses_of initializer_sections unwind_sections plain_entries all_entries
 no_uses l b cs one plain =
     rw (no_uses_carried l b cs one plain, no_consumed l b cs is_initializers one plain, no_consumed l b cs is_unwind_entries one plain, one.lists) refl

@@ -3,7 +3,7 @@
 -- Its only mapped segment has as many bytes in memory as in the file, and begins the file. A section's bytes stand in
 -- the file at its address less the base; so memory holds them at its address plus the slide. No section has a
 -- relocation, so none has a field; and there are no commons, slots or stubs.
-use Rattle.std.proofs.Common.{◌≡◌, ℕ, suc, ◌+◌, ◌*◌, ◌-◌, ◌<◌, ◌≤◌, List, [], ◌∷◌, ◌++◌, length, get_or, slice_index, map, refl, sym, ap, subst, ◌∙◌, arith, All, Bor}
+use Rattle.std.proofs.Common.{◌≡◌, ℕ, ◌+◌, ◌-◌, ◌<◌, ◌≤◌, List, [], length, get_or, slice_index, refl, sym, ap, subst, ◌∙◌, arith, All, Bor}
 use Rattle.std.specs.Prelude.{Contains}
 use Rattle.std.proofs.lemmas.List.Elements.{All-nil}
 use Rattle.macho_bytes.specs.Texts.{Stands}
@@ -12,19 +12,20 @@ use Rattle.macho_records.specs.declared.header.SegmentCommand.{SegmentCommand}
 use Rattle.macho_model.specs.declared.placed.PlacedSection.{PlacedSection}
 use Rattle.macho_model.specs.Objects.{section_bytes}
 use Rattle.macho_model.specs.Links.{Link, SectionId, object_of, header_at}
-use Rattle.macho_model.specs.Fields.{Field, fields_of}
-use Rattle.macho_model.specs.Images.{mapped_segments, tables_of}
+use Rattle.macho_model.specs.Fields.{fields_of}
+use Rattle.macho_model.specs.Images.{mapped_segments}
 use Rattle.macho_model.specs.Segments.{PAGEZERO_SIZE}
 use Rattle.macho_model.specs.Memory.{Choice, Holds, HoldsText}
 use Rattle.macho_model.specs.Placement.{id_of}
 use Rattle.macho_model.specs.Stands.{IsOutsideField, Denotes, SectionStands, CommonStands, SlotStands, StubStands, ImageStands}
 use Rattle.macho_model.proofs.Memory.{text_is_held}
 use Rattle.macho_image.specs.declared.carried.Carried.{Carried}
-use Rattle.macho_image.specs.Places.{IsPlaceOf, Places}
-use Rattle.macho_image.specs.First.{id_of_carried, IsPlain, IsFirst}
+use Rattle.macho_image.specs.Places.{Places}
+use Rattle.macho_image.specs.First.{IsFirst}
 use Rattle.macho_image.specs.Shape.{placed_of_image}
 use Rattle.macho_image.specs.Parts.{section_part}
-use Rattle.macho_image.proofs.Accepted.{HasHead, text_record, mapped-are, tables-are}
+use Rattle.macho_image.specs.Composed.{HasHead}
+use Rattle.macho_image.proofs.Accepted.{text_record, mapped-are, tables-are}
 use Rattle.macho_image.proofs.Placed.{IsAtPlace, at_place, header-at, size-at, no_carried}
 
 -- a section without relocations has no fields

@@ -4,3 +4,11 @@ pub mod Placed
 pub mod Held
 pub mod First
 pub mod Scans
+pub mod Adds
+pub mod LastPart
+pub mod Entries
+pub mod NamesSeen
+pub mod Composing
+pub mod Alone
+pub mod Built
+pub mod Whole

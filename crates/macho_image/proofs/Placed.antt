@@ -4,14 +4,12 @@
 -- are apart. Everything else is empty. The segments are the first 4 GiB and the text behind them. The text is as long as
 -- front and sections, rounded up to a page; the written sum counts each section's size and twice its padding, the load
 -- commands, and two pages for each segment, which is more.
-use Rattle.std.proofs.Common.{◌≡◌, ℕ, zero, suc, ◌+◌, ◌*◌, ◌-◌, ◌/◌, ◌%◌, ◌^◌, ◌<◌, ◌≤◌, ◌⊎◌, Bool, true, false, List, [], ◌∷◌, ◌++◌, length, get_or, map, take, inl, inr, refl, sym, ap, subst, ◌∙◌, arith, All, not, ◌&&◌, if◌then◌else◌}
-use Rattle.std.specs.Prelude.{◌==◌, sum_by, AllPairs, filter, Contains, bytes_eq, codes}
+use Rattle.std.proofs.Common.{◌≡◌, ℕ, zero, suc, ◌+◌, ◌-◌, ◌%◌, ◌^◌, ◌<◌, ◌≤◌, Bool, true, false, List, [], ◌∷◌, ◌++◌, length, get_or, map, inl, inr, refl, sym, ap, subst, ◌∙◌, arith, All, not, ◌&&◌, if◌then◌else◌}
+use Rattle.std.specs.Prelude.{◌==◌, sum_by, AllPairs, filter, bytes_eq, codes}
 use Rattle.macho_bytes.specs.Texts.{name_of}
 use Rattle.macho_records.specs.Sections.{is_zerofill, segment_name_of}
-use Rattle.std.specs.Borrow.{Bor}
-use Rattle.std.proofs.lemmas.Bool.{cases_lt}
-use Rattle.std.proofs.lemmas.List.{ext_get_or, length-map, append-nil, append_assoc, length-append, length_push}
-use Rattle.std.proofs.lemmas.List.Elements.{All-nil, All-from_recursion, All-map}
+use Rattle.std.proofs.lemmas.List.{ext_get_or, length-map, append-nil, append_assoc, length-append}
+use Rattle.std.proofs.lemmas.List.Elements.{All-nil, All-from_recursion}
 use Rattle.std.proofs.lemmas.List.Sums.{sum_by-cons}
 use Rattle.std.proofs.lemmas.List.Kept.{AllPairs-cons}
 use Rattle.std.proofs.lemmas.List.Quantifiers.{all_pairs_push}
@@ -20,7 +18,7 @@ use Rattle.macho_records.specs.declared.header.SectionHeader.{SectionHeader}
 use Rattle.macho_model.specs.declared.placed.PlacedSection.{PlacedSection}
 use Rattle.macho_model.specs.declared.placed.PlacedSegment.{PlacedSegment}
 use Rattle.macho_model.specs.Links.{Link, SectionId, header_at, carried_of, is_template, placed_exponent}
-use Rattle.macho_model.specs.Placement.{Placed, Span, AreApart, range_span, linkedit_span, id_of, section_span, spans_of, spans_with, head_span, SectionLies, template_sections, TableLies, linkedit_ranges, IsPaged, Follows, EachFollows, IsWholeList, IsPlaced}
+use Rattle.macho_model.specs.Placement.{Placed, Span, AreApart, range_span, linkedit_span, id_of, section_span, spans_of, spans_with, head_span, SectionLies, template_sections, TableLies, linkedit_ranges, IsPaged, Follows, EachFollows, IsPlaced}
 use Rattle.macho_model.specs.WrittenSum.{section_cost, content_sum, command_sum, unsigned_sum, written_sum_of}
 use Rattle.macho_model.specs.Segments.{PAGEZERO_SIZE, SEGMENT_PAGE, TEXT, segment_rank, segment_names_of, one_if}
 use Rattle.macho_image.specs.declared.carried.Carried.{Carried}
@@ -181,7 +179,7 @@ costs-from l (c ∷ cs) plain =
     let rest = costs-from l cs (λ k d lt. plain (suc k) d (omega arith)) in
     omega (arith, here, rest, sum_by-cons (section_cost l) (id_of_carried c) (map id_of_carried cs), sum_by-cons cost_of c cs)
 
-costs-are : (l : Link) (cs : List Carried) → IsFirst l cs → sum_by (section_cost l) (carried_of l) ≡ sum_by cost_of cs
+pub costs-are : (l : Link) (cs : List Carried) → IsFirst l cs → sum_by (section_cost l) (carried_of l) ≡ sum_by cost_of cs
 costs-are l cs first = ap (sum_by (section_cost l)) first.list ∙ costs-from l cs first.plain
 
 -- the text segment is no longer than the written sum

@@ -1,5 +1,5 @@
 -- The sizes of a link that are known before addresses are. A part that isn't built yet counts nothing.
-use Rattle.std.specs.Prelude.{ℕ, ◌+◌}
+use Rattle.std.specs.Prelude.{◌+◌}
 use Rattle.macho_model.specs.declared.placed.Counts.{Counts}
 use Rattle.macho_model.specs.Links.{Link}
 

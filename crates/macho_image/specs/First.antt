@@ -1,10 +1,9 @@
 -- What the first links are: one object whose carried sections stand in `__TEXT` and have no relocations.
-use Rattle.std.specs.Prelude.{◌≡◌, ℕ, ◌+◌, ◌<◌, Bool, true, false, List, [], ◌∷◌, length, map, filter, get_or}
+use Rattle.std.specs.Prelude.{◌≡◌, ℕ, ◌<◌, true, false, List, [], ◌∷◌, length, map, filter, get_or}
 use Rattle.std.specs.List.{range_with_len}
 use Rattle.macho_records.specs.declared.header.SectionHeader.{SectionHeader}
 use Rattle.macho_records.specs.Symbols.{is_common_of}
 use Rattle.macho_records.specs.Sections.{is_zerofill, segment_name_of}
-use Rattle.macho_model.specs.declared.placed.Counts.{Counts}
 use Rattle.macho_model.specs.Objects.{num_sections, section_at, num_symbols, symbol_at}
 use Rattle.macho_model.specs.Links.{Link, Object, SectionId, header_at, carried_of, is_carried, is_consumed, is_template, placed_exponent}
 use Rattle.macho_model.specs.Resolution.{chosen_commons}

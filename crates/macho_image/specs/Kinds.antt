@@ -1,5 +1,5 @@
 -- What a section of an object is to a link.
-use Rattle.std.specs.Prelude.{◌≡◌, Bool, true, false}
+use Rattle.std.specs.Prelude.{◌≡◌, true, false}
 use Rattle.macho_records.specs.declared.header.SectionHeader.{SectionHeader}
 use Rattle.macho_model.specs.Links.{is_carried, is_consumed, is_initializers, is_unwind_entries}
 use Rattle.macho_image.specs.declared.scan.Kind.{Kind}

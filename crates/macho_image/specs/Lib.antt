@@ -5,3 +5,11 @@ pub mod Counts
 pub mod Parts
 pub mod Unbuilt
 pub mod Kinds
+pub mod Linkers
+pub mod Refusals
+pub mod Linked
+pub mod Definitions
+pub mod Paths
+pub mod Headers
+pub mod Composed
+pub mod LaidOut

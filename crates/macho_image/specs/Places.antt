@@ -1,5 +1,5 @@
 -- Places of sections behind a front: what a list of places keeps.
-use Rattle.std.specs.Prelude.{◌≡◌, ℕ, ◌+◌, ◌*◌, ◌-◌, ◌%◌, ◌^◌, ◌<◌, ◌≤◌, List, length, get_or, sum_by, All}
+use Rattle.std.specs.Prelude.{◌≡◌, ℕ, ◌+◌, ◌*◌, ◌%◌, ◌^◌, ◌<◌, ◌≤◌, List, length, get_or, sum_by, All}
 use Rattle.macho_model.specs.WrittenSum.{padding_of}
 use Rattle.macho_model.specs.declared.placed.PlacedSection.{PlacedSection}
 use Rattle.macho_image.specs.declared.carried.Carried.{Carried}
@@ -36,3 +36,17 @@ pub record Places (front : ℕ) (carried : List Carried) (places : List PlacedSe
       → (get_or places j p).address + (get_or carried j c).header.size ≤ (get_or places k q).address
   pub bound : front ≤ end
   pub within : end ≤ front + sum_by cost_of carried
+
+-- a place whose file offset fits the field that tells it
+pub record IsInFile (q : PlacedSection) : Type 0 where
+  pub from : BASE ≤ q.address
+  pub to : q.address < BASE + 2 ^ 32
+
+-- some place is of a section
+abbrev pub HasPlace : List PlacedSection → ℕ → Type 0
+HasPlace places section = (k : ℕ) × (k < length places) × ((d : PlacedSection) → (get_or places k d).section ≡ section)
+
+-- a section has a place at an address
+abbrev pub IsPlaceIn : List PlacedSection → ℕ → ℕ → Type 0
+IsPlaceIn places section address =
+    (k : ℕ) × (k < length places) × ((d : PlacedSection) → ((get_or places k d).section ≡ section) × ((get_or places k d).address ≡ address))

@@ -1,8 +1,6 @@
 -- The shape of an executable of one text segment: its two segments, its header and its load commands.
-use Rattle.std.specs.Prelude.{◌≡◌, ℕ, ◌+◌, List, [], ◌∷◌, ◌++◌, length, codes, replicate, None}
+use Rattle.std.specs.Prelude.{ℕ, List, [], ◌∷◌, ◌++◌, length, codes, replicate, None}
 use Rattle.std.specs.Borrow.{Bor}
-use Rattle.macho_bytes.specs.Layouts.{reading}
-use Rattle.macho_records.specs.Layouts.{mach_header}
 use Rattle.macho_records.specs.declared.constants.TheConstants.{MH_MAGIC_64, CPU_TYPE_ARM64, MH_EXECUTE}
 use Rattle.macho_records.specs.declared.header.MachHeader.{MachHeader}
 use Rattle.macho_records.specs.declared.header.SectionHeader.{SectionHeader}
@@ -35,15 +33,15 @@ abbrev pub commands_of_image : ℕ → ℕ → Bor (List SectionHeader) → Bor 
 commands_of_image n entry none headers =
     Segment pagezero_segment 0 0 none ∷ Segment (text_segment n) TEXT_PROTECTION 0 headers ∷ EntryPoint entry ∷ Dylinker ∷ []
 
--- the header in front of so many bytes of commands
-abbrev pub header_of_image : ℕ → MachHeader
-header_of_image size = record {
+-- the header in front of load commands
+abbrev pub header_of_image : List Command → MachHeader
+header_of_image commands = record {
   magic = MH_MAGIC_64;
   cputype = CPU_TYPE_ARM64;
   cpusubtype = 0;
   filetype = MH_EXECUTE;
-  ncmds = 4;
-  sizeofcmds = size;
+  ncmds = length commands;
+  sizeofcmds = commands_size commands;
   flags = EXECUTABLE_FLAGS;
   reserved = 0;
 }

@@ -2,9 +2,21 @@
 #![tactic(auto)]
 
 mod carried;
+mod compose;
+mod entry;
 mod fault;
+mod headers;
+mod layout;
+mod link;
+mod linker;
+mod names;
+mod paths;
 mod place;
 mod scan;
+mod size;
+mod write;
 
 pub use fault::{InputFault, LinkError, Unbuilt};
+pub use link::{ExportName, ImportName, LinkedImage};
+pub use linker::{InputView, Linker};
 pub use macho_layout::Placement;

@@ -3,6 +3,7 @@
 ghost use Rattle.std.specs.Prelude.{◌≡◌, ◌<◌, ℕ, false, OnOk, IfOk, IfErr};
 ghost use Rattle.macho_model.specs.Objects.{num_sections, section_at, num_symbols, symbol_at};
 ghost use Rattle.macho_records.specs.Symbols.{is_common_of};
+ghost use Rattle.macho_model.specs.Links.{is_carried};
 ghost use Rattle.macho_image.specs.First.{HasSections, HasNoCommon, IsPlainHeader};
 ghost use Rattle.macho_image.specs.Kinds.{IsOfKind};
 ghost use Rattle.macho_image.specs.Unbuilt.{AsksFor, AsksForPart, IsNotPlain};
@@ -70,6 +71,16 @@ fn kind_of(header: SectionHeader) -> Kind
     } else {
         Kind::Carried
     }
+}
+
+/// Whether a section goes into the image as it is.
+pub(crate) fn is_carried(header: SectionHeader) -> bool
+    ensures { result ≡ is_carried header }
+{
+    let name = name_bytes(&header.sectname);
+    !header.should_exclude()
+        && name != b"__mod_init_func".as_slice()
+        && name != b"__compact_unwind".as_slice()
 }
 
 /// Whether a carried section is in `__TEXT`, has bytes in the file and no relocations.

@@ -1,6 +1,5 @@
-use Rattle.std.proofs.Common.{ap, sym, refl, ◌∙◌, List, arith}
+use Rattle.std.proofs.Common.{ap, sym, refl, ◌∙◌}
 use Rattle.macho_model.specs.Links.{is_carried, is_consumed}
-use Rattle.macho_image.specs.declared.carried.Carried.{Carried}
 use Rattle.macho_model.specs.Objects.{section_at}
 use Rattle.macho_image.proofs.Scans.{section_is, section_found, section_passed, asks, list_is, sections_below}
 use Rattle.macho_image.proofs.scan.carried_sections.Goals as goal

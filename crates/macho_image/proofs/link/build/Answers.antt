@@ -1,0 +1,70 @@
+use Rattle.std.proofs.Common.{◌-◌, ◌+◌, ◌*◌, ◌<◌, ◌^◌, List, All, length, refl, subst, sym, arith}
+use Rattle.macho_records.specs.declared.header.SectionHeader.{SectionHeader}
+use Rattle.macho_model.specs.declared.placed.PlacedSection.{PlacedSection}
+use Rattle.macho_image.specs.Places.{IsInFile, HasPlace, IsPlaceIn}
+use Rattle.macho_image.specs.Parts.{IsWritable}
+use Rattle.macho_image.specs.Composed.{StandBehind, IsComposed}
+use Rattle.macho_image.proofs.Built.{in_file, low, writable, stand_behind, has_place, entry_near, entry_inside, image_alone}
+use Rattle.macho_image.proofs.link.build.Goals as goal
+
+pub image_headers-requires-clause-inside : goal.image_headers-requires-clause-inside
+image_headers-requires-clause-inside c =
+    let laid = c.in_ok-sections.field-0 in
+    subst (All IsInFile) (sym c.deref.ensures.value)
+    (in_file c.args.file.now.bytes c.args.carried.now laid.sections.items laid.end laid.size c.in_ok-sections.ensures)
+
+pub entry_address-start-requires-clause-placed : goal.entry_address-start-requires-clause-placed
+entry_address-start-requires-clause-placed c =
+    let laid = c.in_ok-sections.field-0 in
+    subst (λ (ps : List PlacedSection). HasPlace ps c.args.entry.section) (sym c.deref-2.ensures.value)
+    (has_place c.args.file.now.bytes c.args.carried.now laid.sections.items laid.end laid.size c.args.entry c.in_ok-sections.ensures c.requires.entry)
+
+pub entry_address-start-requires-clause-room : goal.entry_address-start-requires-clause-room
+entry_address-start-requires-clause-room c =
+    let laid = c.in_ok-sections.field-0 in
+    entry_near c.args.file.now.bytes c.args.carried.now laid.sections.items laid.end laid.size c.args.entry c.in_ok-sections.ensures c.requires.entry
+
+pub entry_address-start-requires-clause-low : goal.entry_address-start-requires-clause-low
+entry_address-start-requires-clause-low c =
+    let laid = c.in_ok-sections.field-0 in
+    subst (All (λ q. q.address < 2 ^ 63)) (sym c.deref-2.ensures.value)
+    (low c.args.file.now.bytes c.args.carried.now laid.sections.items laid.end laid.size c.in_ok-sections.ensures)
+
+pub overflow_sub-start : goal.overflow_sub-start
+overflow_sub-start c =
+    let laid = c.in_ok-sections.field-0 in
+    let place = subst (λ (ps : List PlacedSection). IsPlaceIn ps c.args.entry.section (c.entry_address-start.result - c.args.entry.offset)) c.deref-2.ensures.value
+    c.entry_address-start.ensures.0 in
+    let inside = entry_inside c.args.file.now.bytes c.args.carried.now laid.sections.items laid.end laid.size c.args.entry.section
+    (c.entry_address-start.result - c.args.entry.offset) c.in_ok-sections.ensures place in
+    omega (arith, inside)
+
+pub compose-requires-clause-writable : goal.compose-requires-clause-writable
+compose-requires-clause-writable c =
+    let laid = c.in_ok-sections.field-0 in
+    subst (All (IsWritable c.args.file.now.bytes laid.size)) (sym c.deref-4.ensures.value)
+    (writable c.args.file.now.bytes c.args.carried.now laid.sections.items laid.end laid.size c.in_ok-sections.ensures)
+
+pub compose-requires-clause-behind : goal.compose-requires-clause-behind
+compose-requires-clause-behind c =
+    let laid = c.in_ok-sections.field-0 in
+    let b = c.args.file.now.bytes in
+    let stand = stand_behind b c.args.carried.now laid.sections.items laid.end laid.size c.in_ok-headers.headers.items c.in_ok-sections.ensures
+    c.in_ok-headers.ensures.count in
+    subst (λ (hs : List SectionHeader). StandBehind b (32 + (72 + (72 + 80 * length hs) + 24 + 32)) c.deref-4.result.now) (sym c.deref-3.ensures.value)
+    (subst (StandBehind b (32 + (72 + (72 + 80 * length c.in_ok-headers.headers.items) + 24 + 32))) (sym c.deref-4.ensures.value) stand)
+
+pub returns : goal.returns
+returns c =
+    let laid = c.in_ok-sections.field-0 in
+    let b = c.args.file.now.bytes in
+    let address = c.entry_address-start.result in
+    let headers = c.in_ok-headers.headers.items in
+    let place = subst (λ (ps : List PlacedSection). IsPlaceIn ps c.args.entry.section (address - c.args.entry.offset)) c.deref-2.ensures.value
+    c.entry_address-start.ensures.0 in
+    let made = subst (λ (hs : List SectionHeader). IsComposed c.in_ok-bytes.bytes.items laid.size (address - 4294967296) hs b laid.sections.items)
+    c.deref-3.ensures.value
+    (subst (λ (ps : List PlacedSection). IsComposed c.in_ok-bytes.bytes.items laid.size (address - 4294967296) c.deref-3.result.now b ps) c.deref-4.ensures.value
+    c.in_ok-bytes.ensures) in
+    image_alone b c.args.carried.now laid.sections.items laid.end laid.size c.args.entry address headers _ c.in_ok-sections.ensures c.in_ok-headers.ensures.count place
+    c.entry_address-start.ensures.1 made c.in_ok-placement_of.ensures c.new.ensures.items c.new-2.ensures.items c.new-3.ensures.items refl

@@ -1,0 +1,10 @@
+use Rattle.std.proofs.Common.{◌∙◌, sym, ap}
+use Rattle.macho_model.specs.Links.{Link}
+use Rattle.macho_image.proofs.Whole.{nothing_defined, entry_refused}
+use Rattle.macho_image.proofs.linker.Linker.link_image.Goals as goal
+
+pub returns-in_default-clause-why : goal.returns-in_default-clause-why
+returns-in_default-clause-why c =
+    let l = c.args.self.now in
+    entry_refused l c.deref.result.now c.entry_not_defined.result c.entry_not_defined.ensures (c.deref.ensures.value ∙ ap (λ (k : Link). k.entry) c.self.view_is)
+    (sym (ap (λ (k : Link). k.executable) c.self.view_is) ∙ c.if-not-self.false) (nothing_defined l l.entry c.in_default.ensures)

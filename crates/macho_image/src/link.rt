@@ -1,0 +1,181 @@
+//! The link: from what was gathered to the bytes of an image.
+ghost use Rattle.std.specs.Prelude.{◌≡◌, false, Some, IfOk, IfErr};
+ghost use Rattle.macho_image.specs.First.{IsPlainObject};
+ghost use Rattle.macho_image.specs.Places.{IsPlaceable};
+ghost use Rattle.macho_image.specs.Definitions.{LiesInCarried};
+ghost use Rattle.macho_image.specs.LaidOut.{IsLaidOut};
+ghost use Rattle.macho_image.specs.Linked.{IsImageOf, IsImageAlone};
+ghost use Rattle.macho_image.specs.Refusals.{RefusalStands, StandsAlone, IsEntryRefusal};
+
+use crate::carried::Carried;
+use crate::compose::compose;
+use crate::entry::{Entry, find_entry};
+use crate::fault::{LinkError, Unbuilt};
+use crate::headers::image_headers;
+use crate::layout::{entry_address, file_size, placement_of};
+use crate::linker::Linker;
+use crate::names::check_names;
+use crate::place::{BASE, PlacedSections, place_sections};
+use crate::scan::{carried_sections, check_commons};
+use crate::size::is_placeable;
+use macho_layout::{PlacedSection, Placement};
+use macho_model::Target;
+use macho_object::File;
+use std::alloc::{AllocError, Global};
+
+/// An imported name.
+#[derive(Drop)]
+pub struct ImportName {
+    /// Its library, counted from 1.
+    pub library: u32,
+    /// The name.
+    pub name: Vec<u8>,
+}
+
+/// An exported name.
+#[derive(Drop)]
+pub struct ExportName {
+    /// The name.
+    pub name: Vec<u8>,
+    /// What it leads to.
+    pub target: Target,
+    /// Whether another definition may stand in its place.
+    pub weak: bool,
+}
+
+/// A linked image, and what is told of it.
+#[derive(Drop)]
+pub struct LinkedImage {
+    /// The bytes of the file.
+    pub bytes: Vec<u8>,
+    /// Where each part stands.
+    pub placement: Placement,
+    /// The install names of the libraries that the image needs, in order.
+    pub libraries: Vec<Vec<u8>>,
+    /// The imported names, in the order of their first need.
+    pub imports: Vec<ImportName>,
+    /// The exported names.
+    pub exports: Vec<ExportName>,
+    /// How many words the loader fixes up.
+    pub fixups: u64,
+}
+
+impl Linker {
+    /// Links: places the parts, writes the image and answers both.
+    ///
+    /// # Errors
+    ///
+    /// The rule that the inputs break, and where; see `LinkError`.
+    pub fn link_image(&self, alloc: Global, uuid: [u8; 16]) -> Result<LinkedImage, LinkError>
+        ensures done { IfOk result (IsImageOf self.now) }
+        ensures why { IfErr result (RefusalStands self.now) }
+    {
+        let _no_command_tells_it = uuid;
+        if !self.executable {
+            return Err(LinkError::Unbuilt {
+                what: Unbuilt::Dylib,
+            });
+        }
+        let Some(bytes) = self.only_object() else {
+            return Err(entry_not_defined(alloc, &self.entry));
+        };
+        let file = File::of_valid(bytes, false);
+        match find_entry(&file, &self.entry) {
+            Some(entry) => link_object(alloc, &file, entry),
+            None => Err(entry_not_defined(alloc, &self.entry)),
+        }
+    }
+}
+
+/// The refusal of an entry that isn't defined.
+fn entry_not_defined(alloc: Global, name: &[u8]) -> LinkError
+    ensures { IsEntryRefusal name.now result }
+{
+    match name.to_vec(alloc) {
+        Ok(name) => LinkError::EntryNotDefined { name },
+        Err(_) => LinkError::OutOfMemory,
+    }
+}
+
+/// Links one object that begins at a place of its own.
+fn link_object(alloc: Global, file: &File<'_>, entry: Entry) -> Result<LinkedImage, LinkError>
+    requires object { file.now.is_dynamic ≡ false }
+    requires entry { LiesInCarried file.now.bytes (Some entry) }
+    ensures done { IfOk result (IsImageAlone file.now.bytes entry) }
+    ensures why { IfErr result (StandsAlone file.now.bytes) }
+{
+    check_names(alloc, file)?;
+    let carried = plain_sections(alloc, file)?;
+    Ok(build(alloc, file, &carried, entry)?)
+}
+
+/// The carried sections of an object that asks for nothing that isn't built yet.
+fn plain_sections(alloc: Global, file: &File<'_>) -> Result<Vec<Carried>, LinkError>
+    requires object { file.now.is_dynamic ≡ false }
+    ensures found { IfOk result (λ carried. IsPlainObject file.now.bytes carried.items) }
+    ensures small { IfOk result (λ carried. IsPlaceable carried.items) }
+    ensures why { IfErr result (StandsAlone file.now.bytes) }
+{
+    let _object = file.is_dynamic();
+    let carried = carried_sections(alloc, file)?;
+    if let Err(what) = check_commons(file) {
+        return Err(LinkError::Unbuilt { what });
+    }
+    if !is_placeable(&carried) {
+        return Err(LinkError::Unbuilt {
+            what: Unbuilt::Size,
+        });
+    }
+    Ok(carried)
+}
+
+/// Sections with their places, and the bytes of the file that holds them.
+#[derive(Drop)]
+struct LaidOut {
+    sections: Vec<PlacedSection>,
+    end: u64,
+    size: u64,
+}
+
+/// Gives the sections places, and the file its size.
+fn lay_out(alloc: Global, file: &File<'_>, carried: &[Carried]) -> Result<LaidOut, AllocError>
+    requires object { file.now.is_dynamic ≡ false }
+    requires plain { IsPlainObject file.now.bytes carried.now }
+    requires small { IsPlaceable carried.now }
+    ensures { IfOk result (λ laid. IsLaidOut file.now.bytes carried.now laid.sections.items laid.end laid.size) }
+{
+    let _object = file.is_dynamic();
+    let PlacedSections { sections, end } = place_sections(alloc, carried)?;
+    Ok(LaidOut {
+        sections,
+        end,
+        size: file_size(end),
+    })
+}
+
+/// Places the sections, writes the image, and answers both.
+fn build(
+    alloc: Global,
+    file: &File<'_>,
+    carried: &[Carried],
+    entry: Entry,
+) -> Result<LinkedImage, AllocError>
+    requires object { file.now.is_dynamic ≡ false }
+    requires plain { IsPlainObject file.now.bytes carried.now }
+    requires small { IsPlaceable carried.now }
+    requires entry { LiesInCarried file.now.bytes (Some entry) }
+    ensures { IfOk result (IsImageAlone file.now.bytes entry) }
+{
+    let LaidOut { sections, size, .. } = lay_out(alloc, file, carried)?;
+    let headers = image_headers(alloc, carried, &sections)?;
+    let start = entry_address(&sections, entry) - BASE;
+    let bytes = compose(alloc, file, &headers, &sections, size, start)?;
+    Ok(LinkedImage {
+        bytes,
+        placement: placement_of(alloc, size, sections, headers)?,
+        libraries: Vec::new(alloc),
+        imports: Vec::new(alloc),
+        exports: Vec::new(alloc),
+        fixups: 0,
+    })
+}
