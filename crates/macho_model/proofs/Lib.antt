@@ -1,3 +1,5 @@
+pub mod ByteReads
+pub mod NthWalk
 pub mod Unchained
 pub mod Memory
 pub mod PageChains

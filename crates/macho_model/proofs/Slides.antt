@@ -56,7 +56,7 @@ offset_slides word input x s whole h = record { reaches = h.reaches ∙ sym (low
 
 pub adds_slides : (word input x s : ℕ) → s % 4096 ≡ 0 → AddsTo word input x → AddsTo word input (x + s)
 adds_slides word input x s whole h =
-    record { add = h.add; base = h.base; written = h.written; reaches = h.reaches ∙ sym (low_slides x s whole) }
+    record { load = h.load; add = h.add; base = h.base; written = h.written; reaches = h.reaches ∙ sym (low_slides x s whole) }
 
 pub loads_slides : (word input slot s : ℕ) → s % 4096 ≡ 0 → LoadsFrom word input slot → LoadsFrom word input (slot + s)
 loads_slides word input slot s whole h = record { load = h.load; reaches = h.reaches ∙ sym (low_slides slot s whole); kept = h.kept }

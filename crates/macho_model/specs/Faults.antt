@@ -18,8 +18,9 @@ use Rattle.macho_model.specs.Segments.{SEGMENT_PAGE, segment_name, may_hold_poin
 use Rattle.macho_model.specs.Placement.{Placed, IsPlaced}
 use Rattle.macho_model.specs.Rows.{is_supported, share_byte, are_pair}
 use Rattle.macho_model.specs.Consumed.{initializer_section_fits, initializer_slot_fits, is_plain_pointer, is_section_target, entry_count, whole_entries, keeps}
+use Rattle.macho_model.specs.Stands.{SectionAt}
 use Rattle.macho_model.specs.Limits.{PassesLimit, IsTooLarge}
-use Rattle.macho_model.specs.Values.{section_id, FieldOf, PlacedAt, is_pointer, needs_fixup, BadRebase, BadRange}
+use Rattle.macho_model.specs.Values.{section_id, FieldOf, fits_signed, is_pointer, needs_fixup, BadRebase, BadRange}
 
 -- A refusal, seen without memory.
 pub data LinkFault : Type 0 where
@@ -74,15 +75,11 @@ IsBadInitializer l s offset =
     ⊎ ((slot : ℕ) × (POINTER_SIZE * slot + POINTER_SIZE ≤ (header_at l s).size) × (offset ≡ POINTER_SIZE * slot) × (initializer_slot_fits l s slot ≡ false))
     ⊎ ((r : ℕ) × (r < (header_at l s).nreloc) × (offset ≡ (relocation_in l s r).r_address) × ((offset % POINTER_SIZE == 0) ≡ false))
 
--- an addend, read as signed, fits 32 bits
-abbrev pub fits_32_signed : ℕ → Bool
-fits_32_signed x = nat_lt x (2 ^ 31) || nat_le (2 ^ 64 - 2 ^ 31) x
-
 -- a pointer is in a segment that may hold none; or its word crosses a page or is not at a multiple of four
 abbrev pub BadPlace : Link → SectionId → Field → Option Placed → Type 0
 BadPlace l s f None = may_hold_pointers (segment_name l s) ≡ false
 BadPlace l s f (Some p) =
-    (address : ℕ) × PlacedAt p s address × ((SEGMENT_PAGE < (address + f.offset) % SEGMENT_PAGE + 8) ⊎ (1 ≤ (address + f.offset) % 4))
+    (address : ℕ) × SectionAt p s.file s.section address × ((SEGMENT_PAGE < (address + f.offset) % SEGMENT_PAGE + 8) ⊎ (1 ≤ (address + f.offset) % 4))
 
 -- the last part of a path, without the slashes at its end
 abbrev pub SLASH : ℕ
@@ -121,7 +118,7 @@ FaultStands l counts (OverlappingFields file section first second) =
     × (share_byte l (section_id file section) first second ≡ true) × (are_pair l (section_id file section) first second ≡ false)
 FaultStands l counts (BindAddend file section relocation addend) =
     (f : Field) × FieldOf l (section_id file section) relocation f × (is_pointer f ≡ true) × (is_import f.target ≡ true) × (addend ≡ f.addend)
-    × (fits_32_signed addend ≡ false)
+    × (fits_signed 32 addend ≡ false)
 FaultStands l counts (FixupPlace file section relocation placement) =
     (f : Field) × FieldOf l (section_id file section) relocation f × (needs_fixup l (section_id file section) f ≡ true)
     × BadPlace l (section_id file section) f placement

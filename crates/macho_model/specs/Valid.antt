@@ -19,8 +19,8 @@ use Rattle.macho_model.specs.Stands.{Kind, Pointer, Difference, Branch, Page, Of
 use Rattle.macho_model.specs.Rows.{is_supported, share_byte, are_pair}
 use Rattle.macho_model.specs.Consumed.{initializer_section_fits, initializer_slot_fits, entry_count, whole_entries, keeps}
 use Rattle.macho_model.specs.Limits.{limited}
-use Rattle.macho_model.specs.Values.{needs_fixup}
-use Rattle.macho_model.specs.Faults.{entry_is_defined, fits_32_signed}
+use Rattle.macho_model.specs.Values.{fits_signed, needs_fixup}
+use Rattle.macho_model.specs.Faults.{entry_is_defined}
 
 -- a number modulo 2 ^ 64, read as signed, is below 2 ^ 23 in size
 abbrev pub is_small : ℕ → Bool
@@ -42,7 +42,7 @@ stands_at_multiple l s m f = nat_le m (2 ^ placed_exponent l s) && (f.offset % m
 abbrev pub stays_inside : Link → Target → ℕ → Bool
 stays_inside l (target.Section file section offset) addend = nat_le ((offset + addend) % 2 ^ 64) (header_at l (record { file = file; section = section })).size
 stays_inside l (target.Common id) addend = nat_le addend (common_size_of (entry_at l (common_of l id)))
-stays_inside l (target.Import id) addend = fits_32_signed addend
+stays_inside l (target.Import id) addend = fits_signed 32 addend
 stays_inside l target.Base addend = addend == 0
 stays_inside l t addend = false
 

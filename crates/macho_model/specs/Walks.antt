@@ -1,19 +1,49 @@
 -- What the plain walks over an image's commands say.
-use Rattle.std.specs.Prelude.{◌≡◌, ℕ, ◌+◌, ◌-◌, ◌<◌, ◌≤◌, ◌==◌, nat_lt, if◌then◌else◌, true, false, List, length, slice_index}
+use Rattle.std.specs.Prelude.{◌≡◌, ℕ, ◌+◌, ◌-◌, ◌<◌, ◌≤◌, ◌==◌, nat_lt, if◌then◌else◌, ◌&&◌, not, Bool, true, false, List, length, get_or, filter, slice_index}
 use Rattle.macho_bytes.specs.Layouts.{reading}
 use Rattle.macho_records.specs.Layouts.{load_command, segment_command}
 use Rattle.macho_records.specs.declared.header.SegmentCommand.{SegmentCommand}
-use Rattle.macho_records.specs.declared.constants.TheConstants.{LC_SEGMENT_64}
+use Rattle.macho_records.specs.declared.constants.TheConstants.{LC_DYLD_CHAINED_FIXUPS, LC_LOAD_DYLIB, LC_SEGMENT_64}
 use Rattle.macho_model.specs.Commands.{Command, commands_of, command_fits}
 use Rattle.macho_model.specs.ObjectRules.{commands_inside}
 use Rattle.macho_model.specs.Grammar.{EachCommand}
-use Rattle.macho_model.specs.Segments.{PAGEZERO}
+use Rattle.macho_model.specs.Segments.{PAGEZERO, TEXT}
 use Rattle.macho_model.specs.Images.{is_named}
-use Rattle.macho_model.specs.LoadRules.{needed_in_image}
+use Rattle.macho_model.specs.LoadRules.{needed_in_image, segment_in}
+use Rattle.macho_model.specs.declared.segment_rules.SegmentNumbers.{SegmentNumbers}
+use Rattle.macho_model.specs.declared.walk.Listed.{Listed}
+use Rattle.macho_model.specs.declared.walk.Listed.TheVariants as list
 
 -- the command that stands at a place
 abbrev pub command_at : List ℕ → ℕ → Command
 command_at b at = record { at = at; number = (reading load_command b at).cmd; size = (reading load_command b at).cmdsize }
+
+-- a command is one of a list
+abbrev pub is_listed : Listed → List ℕ → Command → Bool
+is_listed list.All b c = true
+is_listed list.Segments b c = c.number == LC_SEGMENT_64
+is_listed list.Mapped b c = (c.number == LC_SEGMENT_64) && not (is_named PAGEZERO (segment_in b c))
+is_listed list.Texts b c = (c.number == LC_SEGMENT_64) && is_named TEXT (segment_in b c)
+is_listed list.Tables b c = c.number == LC_DYLD_CHAINED_FIXUPS
+is_listed list.Libraries b c = c.number == LC_LOAD_DYLIB
+
+-- the load commands of a list
+unfoldable pub listed : Listed → List ℕ → List Command
+listed which b = filter (is_listed which b) (commands_of b)
+
+-- a command of a list, by its number in it, stands at a place
+pub record IsNth (which : Listed) (b : List ℕ) (number place : ℕ) : Type 0 where
+  pub within : number < length (listed which b)
+  pub is : get_or (listed which b) number (command_at b place) ≡ command_at b place
+
+-- the numbers that were read of a segment's command
+pub record SaysSegment (r : SegmentNumbers) (s : SegmentCommand) : Type 0 where
+  pub address : r.address ≡ s.vmaddr
+  pub size : r.size ≡ s.vmsize
+  pub file_offset : r.file_offset ≡ s.fileoff
+  pub file_size : r.file_size ≡ s.filesize
+  pub most : r.most ≡ s.maxprot
+  pub first : r.first ≡ s.initprot
 
 -- the load commands of an image are whole: the loader's second rule
 pub record AreCommandsWhole (b : List ℕ) : Type 0 where

@@ -6,8 +6,11 @@
 
 mod mapped;
 mod placed;
+mod reads;
 mod rules;
+mod segment_rules;
 mod targets;
+mod walk;
 
 pub use mapped::{memory_byte, segment_byte};
 pub use placed::{
