@@ -1,5 +1,6 @@
 pub mod ByteReads
 pub mod NthWalk
+pub mod ListedLaws
 pub mod Unchained
 pub mod Memory
 pub mod PageChains

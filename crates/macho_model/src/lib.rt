@@ -9,6 +9,7 @@ mod placed;
 mod reads;
 mod rules;
 mod segment_rules;
+mod table_rules;
 mod targets;
 mod walk;
 
