@@ -11,18 +11,12 @@ use Rattle.macho_bytes.specs.Numbers.{le_at}
 use Rattle.macho_model.specs.Images.{NO_START, CHAIN_PAGE}
 use Rattle.macho_model.specs.Chain.{ChainSegment, WORD_SIZE, STRIDE, IsFileWord, next_of, OnChain, OnPageChain}
 use Rattle.macho_model.specs.Chain as chain
+use Rattle.macho_model.specs.WordTests.{word_in, stands_in}
 use Rattle.macho_model.proofs.EachBelow.{each_below, true_or_false, and_left, and_right, and_both, or_right, neither, not_true, is_equal, unequal_is, all_pass, below_pass}
 
 -- an address is among some
 abbrev pub is_among : List ℕ → ℕ → Bool
 is_among addresses a = list_any (λ y. y == a) addresses
-
--- the word at an address in a segment, and whether it stands whole in its file part
-abbrev pub word_in : List ℕ → ChainSegment → ℕ → ℕ
-word_in b s a = le_at WORD_SIZE b (s.file_offset + (a - s.address))
-
-abbrev pub stands_in : ChainSegment → ℕ → Bool
-stands_in s a = nat_le s.address a && nat_le (a + WORD_SIZE) (s.address + s.file_size)
 
 -- the list has the first word of each page
 abbrev pub has_start : List ℕ → ChainSegment → ℕ → Bool

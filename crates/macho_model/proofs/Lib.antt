@@ -1,6 +1,8 @@
 pub mod ByteReads
 pub mod NthWalk
 pub mod ListedLaws
+pub mod WordWalk
+pub mod RuleWalk
 pub mod Unchained
 pub mod Memory
 pub mod PageChains
@@ -9,7 +11,7 @@ pub mod ObjectTests
 pub mod LoaderTests
 pub mod ChainSets
 pub mod ChainMemory
-pub mod WordTests
+pub mod WordFitting
 pub mod Examples
 pub mod ExampleLinks
 pub mod ExampleImages

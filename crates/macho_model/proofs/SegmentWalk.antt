@@ -86,7 +86,7 @@ commands_stand b at zero k d within = absurd (omega (arith, within))
 commands_stand b at (suc n) zero d within = refl
 commands_stand b at (suc n) (suc k) d within = commands_stand b (at + (reading load_command b at).cmdsize) n k d (omega (arith, within))
 
-at_its_place : (b : List ℕ) (k : ℕ) (d : Command) → k < length (commands_of b) → get_or (commands_of b) k d ≡ command_at b (get_or (commands_of b) k d).at
+pub at_its_place : (b : List ℕ) (k : ℕ) (d : Command) → k < length (commands_of b) → get_or (commands_of b) k d ≡ command_at b (get_or (commands_of b) k d).at
 unfolding commands_of
 at_its_place b k d within = commands_stand b (size_of mach_header) (header_of b).ncmds k d (omega (arith, within, length-commands_from b (size_of mach_header) (header_of b).ncmds))
 

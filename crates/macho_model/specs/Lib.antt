@@ -20,6 +20,8 @@ pub mod LoadRules
 pub mod Loader
 pub mod Memory
 pub mod Walks
+pub mod Asked
+pub mod WordTests
 pub mod Stands
 pub mod Exports
 pub mod Rows

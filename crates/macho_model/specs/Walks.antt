@@ -1,6 +1,7 @@
 -- What the plain walks over an image's commands say.
-use Rattle.std.specs.Prelude.{◌≡◌, ℕ, ◌+◌, ◌-◌, ◌<◌, ◌≤◌, ◌*◌, ◌%◌, ◌^◌, ◌==◌, nat_le, nat_lt, ◌||◌, if◌then◌else◌, ◌&&◌, not, Bool, true, false, List, length, get_or, map, filter, slice_index}
+use Rattle.std.specs.Prelude.{◌≡◌, ℕ, ◌+◌, ◌-◌, ◌<◌, ◌≤◌, ◌*◌, ◌%◌, ◌^◌, ◌==◌, nat_le, nat_lt, ◌||◌, if◌then◌else◌, ◌&&◌, not, Bool, true, false, List, [], length, get_or, map, filter, slice_index}
 use Rattle.std.specs.List.{list_all, range_with_len}
+use Rattle.macho_bytes.specs.Numbers.{le_at}
 use Rattle.macho_bytes.specs.Layouts.{reading, size_of}
 use Rattle.macho_records.specs.Layouts.{load_command, segment_command, chained_fixups_header}
 use Rattle.macho_records.specs.declared.header.SegmentCommand.{SegmentCommand}
@@ -9,8 +10,9 @@ use Rattle.macho_model.specs.Commands.{Command, commands_of, command_fits}
 use Rattle.macho_model.specs.ObjectRules.{commands_inside}
 use Rattle.macho_model.specs.Grammar.{EachCommand}
 use Rattle.macho_model.specs.Segments.{PAGEZERO, TEXT}
-use Rattle.macho_model.specs.Images.{is_named, segments_of, base_of, Table, table_of_command, fixups_header, starts_count, segment_starts, import_entry_size, IMPORT_FORMAT, IMPORT_ADDEND_FORMAT, CHAIN_PAGE}
+use Rattle.macho_model.specs.Images.{is_named, segments_of, base_of, Table, table_of_command, fixups_header, starts_count, segment_starts, page_starts, tables_of, import_entry_size, IMPORT_FORMAT, IMPORT_ADDEND_FORMAT, CHAIN_PAGE}
 use Rattle.macho_model.specs.LoadRules.{needed_in_image, segment_in, starts_fit, POINTER_FORMAT}
+use Rattle.macho_model.specs.Chain.{ChainSegment, chain_segment, starts_in_tables, chain_segments, IsFileWord, next_of, WORD_SIZE, STRIDE, OnPageChain}
 use Rattle.macho_model.specs.declared.segment_rules.SegmentNumbers.{SegmentNumbers}
 use Rattle.macho_model.specs.declared.table_rules.FixupTable.{FixupTable}
 use Rattle.macho_model.specs.declared.walk.Listed.{Listed}
@@ -111,3 +113,43 @@ pub record SegmentHas (b : List ℕ) (s : SegmentCommand) (a v : ℕ) : Type 0 w
 pub record CommandHas (b : List ℕ) (place a v : ℕ) : Type 0 where
   pub is_segment : ((command_at b place).number == LC_SEGMENT_64) ≡ true
   pub has : SegmentHas b (reading segment_command b place) a v
+
+-- a segment has a word at an address, whole in its file part
+pub record HasWord (b : List ℕ) (s : SegmentCommand) (a word : ℕ) : Type 0 where
+  pub from : s.vmaddr ≤ a
+  pub to : a + WORD_SIZE ≤ s.vmaddr + s.filesize
+  pub is : word ≡ le_at WORD_SIZE b (s.fileoff + (a - s.vmaddr))
+
+-- the segment of a command has a word at an address that leads on by so many bytes
+pub record StepOf (b : List ℕ) (place a n : ℕ) : Type 0 where
+  pub word : ℕ
+  pub has : HasWord b (segment_in b (command_at b place)) a word
+  pub goes : 1 ≤ next_of word
+  pub is : n ≡ STRIDE * next_of word
+
+-- and a segment by its number
+pub record StepIn (b : List ℕ) (number a n : ℕ) : Type 0 where
+  pub place : ℕ
+  pub nth : IsNth list.Segments b number place
+  pub step : StepOf b place a n
+
+-- a chain leads from one address to another
+pub data Leads (b : List ℕ) : ℕ → ℕ → Type 0 where
+  here : (a : ℕ) → Leads b a a
+  on : (a word c : ℕ) → IsFileWord (chain_segments b) b a word → 1 ≤ next_of word → Leads b (a + STRIDE * next_of word) c → Leads b a c
+
+-- the page starts of a segment in a table, and in the first table of the file
+abbrev pub starts_in : List ℕ → Table → ℕ → List ℕ
+starts_in b t k = if nat_lt k (starts_count b t) then page_starts b t k else []
+
+abbrev pub starts_of : List ℕ → ℕ → List ℕ
+starts_of b k = starts_in_tables b (tables_of b) k
+
+-- the segment of a command, as chains see it
+abbrev pub chain_segment_at : List ℕ → ℕ → ℕ → ChainSegment
+chain_segment_at b number place = chain_segment b (number, segment_in b (command_at b place))
+
+-- an address is on no chain of the segment with a number
+abbrev pub IsOffSegment : List ℕ → ℕ → ℕ → Type 0
+IsOffSegment b number a =
+    (place : ℕ) → IsNth list.Segments b number place → (page : ℕ) → OnPageChain (chain_segments b) b (chain_segment_at b number place) page a → ⊥

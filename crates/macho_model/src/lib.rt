@@ -4,6 +4,8 @@
 //! types that they speak of. None of them holds a collection, so a contract sees each as it is.
 #![tactic(auto)]
 
+mod chain_words;
+mod loader_rules;
 mod mapped;
 mod placed;
 mod reads;
@@ -12,6 +14,7 @@ mod segment_rules;
 mod table_rules;
 mod targets;
 mod walk;
+mod word_rules;
 
 pub use mapped::{memory_byte, segment_byte};
 pub use placed::{

@@ -12,23 +12,9 @@ use Rattle.macho_records.specs.declared.header.SegmentCommand.{SegmentCommand}
 use Rattle.macho_model.specs.Images.{mapped_segments, tables_of, CHAIN_PAGE}
 use Rattle.macho_model.specs.Chain.{ChainSegment, chain_segments, WORD_SIZE, OnPageChain}
 use Rattle.macho_model.specs.Loader.{is_bind, ordinal_of, is_writable, import_count, WordFits}
+use Rattle.macho_model.specs.WordTests.{word_in, stands_in, holds_word, import_exists, stands_in_page, word_fits_test}
 use Rattle.macho_model.proofs.EachBelow.{each_below, below_pass, true_or_false, and_left, and_right, and_both, or_right, neither, not_true, all_pass, pass_all}
-use Rattle.macho_model.proofs.ChainSets.{among_passes, word_in, stands_in, is_page_closed, page_within, page_has_start}
-
--- a segment holds a word: it may be written to, and the word stands in its file part
-abbrev pub holds_word : ℕ → SegmentCommand → Bool
-holds_word a s = is_writable s && nat_le s.vmaddr a && nat_le (a + WORD_SIZE) (s.vmaddr + s.filesize)
-
--- the import of a word exists, where a segment has a word there and it binds one
-abbrev pub import_exists : List ℕ → ℕ → ChainSegment → Bool
-import_exists b a s = not (stands_in s a) || not (is_bind (word_in b s a)) || nat_lt (ordinal_of (word_in b s a)) (import_count b (tables_of b))
-
--- a word stands in a page
-abbrev pub stands_in_page : ChainSegment → ℕ → ℕ → Bool
-stands_in_page s page a = nat_le (s.address + CHAIN_PAGE * page) a && nat_le (a + WORD_SIZE) (s.address + CHAIN_PAGE * (page + 1))
-
-abbrev pub word_fits_test : List ℕ → ChainSegment → ℕ → ℕ → Bool
-word_fits_test b s page a = (stands_in_page s page a && list_any (holds_word a) (mapped_segments b)) && list_all (import_exists b a) (chain_segments b)
+use Rattle.macho_model.proofs.ChainSets.{among_passes, is_page_closed, page_within, page_has_start}
 
 -- an element that passes is found, and back
 pub any_found : {X : Type 0} (p : X → Bool) (xs : List X) → list_any p xs ≡ true → (x : X) × Contains xs x × (p x ≡ true)
