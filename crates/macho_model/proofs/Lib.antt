@@ -3,6 +3,7 @@ pub mod NthWalk
 pub mod ListedLaws
 pub mod WordWalk
 pub mod RuleWalk
+pub mod UnfitWords
 pub mod Unchained
 pub mod Memory
 pub mod PageChains

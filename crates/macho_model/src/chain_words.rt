@@ -16,7 +16,7 @@ use crate::table_rules::{count_of_pages, count_of_starts, offset_of_starts, star
 use crate::walk::{Listed, count_of, nth};
 
 /// A page without a chain: `DYLD_CHAINED_PTR_START_NONE` of mach-o/fixup-chains.h.
-const NO_START: u16 = 0xffff;
+pub(crate) const NO_START: u16 = 0xffff;
 /// The bytes of a page of a chain.
 pub(crate) const CHAIN_PAGE: u128 = 0x4000;
 

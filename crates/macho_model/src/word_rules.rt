@@ -1,15 +1,16 @@
 //! Whether the words of the chains fit: the loader's last rule, asked of each word that a page's start leads to.
 ghost use Rattle.std.specs.Prelude.{◌≡◌, ◌≤◌, ◌<◌, ◌+◌, ◌*◌, ℕ, true, false, length, Some, None};
 ghost use Rattle.std.specs.List.{list_all, list_any};
-ghost use Rattle.macho_model.specs.LoadRules.{segment_in};
+ghost use Rattle.macho_model.specs.LoadRules.{segment_in, file_part_inside};
 ghost use Rattle.macho_model.specs.Images.{mapped_segments, tables_of};
 ghost use Rattle.macho_model.specs.Chain.{chain_segments};
-ghost use Rattle.macho_model.specs.Loader.{is_bind, ordinal_of, import_count, WordFits};
-ghost use Rattle.macho_model.specs.Walks.{command_at, IsNth, Leads, starts_of, chain_segment_at};
-ghost use Rattle.macho_model.specs.WordTests.{holds_word, import_exists, word_fits_test, NthLacks, NthImportExists};
+ghost use Rattle.macho_model.specs.Loader.{is_bind, ordinal_of, import_count, segment_commands, WordFails};
+ghost use Rattle.macho_model.specs.Grammar.{EachCommand};
+ghost use Rattle.macho_model.specs.Walks.{command_at, IsNth, starts_of, chain_segment_at};
+ghost use Rattle.macho_model.specs.WordTests.{holds_word, import_exists, word_fits_test, NthLacks, NthImportExists, UnfitFrom, FitFrom, UnfitOnPage, FitOnPage, FitOnNth, EachWordFits};
 ghost use Rattle.macho_model.specs.declared.walk.Listed.TheVariants as list;
 
-use crate::chain_words::{CHAIN_PAGE, step_in, word_of};
+use crate::chain_words::{CHAIN_PAGE, NO_START, pages_of, start_of, step_in, word_of};
 use crate::segment_rules::segment_at;
 use crate::table_rules::table_at;
 use crate::walk::{Listed, count_of, nth};
@@ -118,3 +119,78 @@ fn fits(bytes: &[u8], number: u32, place: u64, page: u16, address: u128) -> bool
         && imports_are_there
 }
 
+/// The offset in its segment of the first word that does not fit, of those that the word at an offset leads to.
+fn unfit_from(bytes: &[u8], number: u32, place: u64, page: u16, offset: u64) -> Option<u64>
+    requires { offset < 4294967296 }
+    ensures found { (x : ℕ) → result ≡ Some x → UnfitFrom bytes.now number place page offset x }
+    ensures only { result ≡ None → FitFrom bytes.now number place page offset }
+{
+    let address = segment_at(bytes, place).address as u128 + offset as u128;
+    if !fits(bytes, number, place, page, address) {
+        return Some(offset);
+    }
+    for other in 0..count_of(bytes) {
+        if let Some(step) = step_in(bytes, other, address) {
+            if let Some(unfit) = unfit_from(bytes, number, place, page, offset + step) {
+                return Some(unfit);
+            }
+        }
+    }
+    None
+}
+
+/// The offset in its segment of the first word of a page's chain that does not fit.
+fn unfit_on_page(bytes: &[u8], number: u32, place: u64, page: u16) -> Option<u64>
+    requires { page < length (starts_of bytes.now number) }
+    ensures found { (x : ℕ) → result ≡ Some x → UnfitOnPage bytes.now number place page x }
+    ensures only { result ≡ None → FitOnPage bytes.now number place page }
+{
+    let start = start_of(bytes, number, page);
+    if start == NO_START {
+        return None;
+    }
+    let first = 16384 * page as u64 + start as u64;
+    unfit_from(bytes, number, place, page, first)
+}
+
+/// The file offset of the first word of a segment's chains that does not fit.
+fn unfit_on_segment(bytes: &[u8], number: u32, place: u64) -> Option<u64>
+    requires nth { IsNth list.Segments bytes.now number place }
+    requires inside { file_part_inside bytes.now (command_at bytes.now place) ≡ true }
+    ensures found { (x : ℕ) → result ≡ Some x → WordFails bytes.now x }
+    ensures only { result ≡ None → (page : ℕ) → FitOnPage bytes.now number place page }
+{
+    let start = segment_at(bytes, place).file_offset;
+    for page in 0..pages_of(bytes, number) {
+        if let Some(offset) = unfit_on_page(bytes, number, place, page) {
+            return Some(start + offset);
+        }
+    }
+    None
+}
+
+/// The same of the segment with a number.
+fn unfit_on_nth(bytes: &[u8], number: u32) -> Option<u64>
+    requires { EachCommand (segment_commands bytes.now) (file_part_inside bytes.now) }
+    ensures found { (x : ℕ) → result ≡ Some x → WordFails bytes.now x }
+    ensures only { result ≡ None → FitOnNth bytes.now number }
+{
+    match nth(bytes, Listed::Segments, number) {
+        Some(place) => unfit_on_segment(bytes, number, place),
+        None => None,
+    }
+}
+
+/// The file offset of the first chain word that does not fit.
+pub(crate) fn first_unfit_word(bytes: &[u8]) -> Option<u64>
+    requires { EachCommand (segment_commands bytes.now) (file_part_inside bytes.now) }
+    ensures found { (x : ℕ) → result ≡ Some x → WordFails bytes.now x }
+    ensures only { result ≡ None → EachWordFits bytes.now }
+{
+    for number in 0..count_of(bytes) {
+        if let Some(place) = unfit_on_nth(bytes, number) {
+            return Some(place);
+        }
+    }
+    None
+}
