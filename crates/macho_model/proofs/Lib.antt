@@ -4,6 +4,7 @@ pub mod ListedLaws
 pub mod WordWalk
 pub mod RuleWalk
 pub mod UnfitWords
+pub mod BrokenRules
 pub mod Unchained
 pub mod Memory
 pub mod PageChains

@@ -1,12 +1,19 @@
 -- What the plain functions that look for a broken rule of the loader ask of the commands.
-use Rattle.std.specs.Prelude.{◌≡◌, ℕ, ◌+◌, ◌<◌, Bool, true, false, List, Contains}
+use Rattle.std.specs.Prelude.{◌≡◌, ℕ, ◌+◌, ◌<◌, ◌≤◌, Bool, true, false, List, length, Contains, All}
 use Rattle.macho_model.specs.declared.loader_rules.Asked.{Asked}
 use Rattle.macho_model.specs.declared.loader_rules.Asked.TheVariants as asked
 use Rattle.macho_model.specs.declared.walk.Listed.{Listed}
 use Rattle.macho_model.specs.declared.walk.Listed.TheVariants as list
-use Rattle.macho_model.specs.Commands.{Command, command_fits}
-use Rattle.macho_model.specs.Images.{Table, table_of_command, tables_of, fixups_header, import_place}
-use Rattle.macho_model.specs.LoadRules.{needed_in_image, segment_in, protections_fit, file_part_inside, segment_is_paged, segment_ends, begins_behind, text_holds_commands, table_fits, import_fits}
+use Rattle.macho_model.specs.Commands.{Command, commands_of, command_fits}
+use Rattle.macho_model.specs.Images.{Table, table_of_command, tables_of, fixups_header, import_place, segments_named}
+use Rattle.macho_model.specs.LoadRules.{image_head_fits, needed_in_image, segment_in, protections_fit, file_part_inside, segment_is_paged, segment_ends, begins_behind, text_holds_commands, table_fits, import_fits}
+use Rattle.macho_model.specs.declared.rules.LoadRule.{LoadRule}
+use Rattle.macho_model.specs.declared.rules.LoadRule.TheVariants.{L1, L2, L3, L4, L5, L6, L7, L8, L9, L10}
+use Rattle.macho_model.specs.ObjectRules.{commands_inside}
+use Rattle.macho_model.specs.Grammar.{EachCommand}
+use Rattle.macho_model.specs.Segments.{TEXT}
+use Rattle.macho_model.specs.Chain.{ChainSegment, chain_segments, OnPageChain}
+use Rattle.macho_model.specs.Loader.{WordFits, EachNeighbour, segment_commands}
 use Rattle.macho_model.specs.Walks.{command_at, IsNth, table_there}
 
 -- the commands that are asked
@@ -55,3 +62,16 @@ TableImportsFit b number = (place : ℕ) → IsNth list.Tables b number place �
 
 abbrev pub EachImportFits : List ℕ → Type 0
 EachImportFits b = (t : Table) (k : ℕ) → Contains (tables_of b) t → k < (fixups_header b t).imports_count → import_fits b t k ≡ true
+
+-- what an accepted image keeps, rule by rule: the fields of `IsAccepted`
+abbrev pub LoadKeeps : List ℕ → LoadRule → Type 0
+LoadKeeps b L1 = image_head_fits b ≡ true
+LoadKeeps b L2 = (commands_inside b ≡ true) × EachCommand (commands_of b) (command_fits (needed_in_image b) b)
+LoadKeeps b L3 = EachCommand (segment_commands b) (protections_fit b)
+LoadKeeps b L4 = EachCommand (segment_commands b) (file_part_inside b)
+LoadKeeps b L5 = EachCommand (segment_commands b) (segment_is_paged b)
+LoadKeeps b L6 = EachCommand (segment_commands b) (segment_ends b) × EachNeighbour (segment_commands b) (begins_behind b)
+LoadKeeps b L7 = (length (segments_named TEXT b) ≡ 1) × All (λ s. text_holds_commands b s ≡ true) (segments_named TEXT b)
+LoadKeeps b L8 = (length (tables_of b) ≤ 1) × All (λ t. table_fits b t ≡ true) (tables_of b)
+LoadKeeps b L9 = (t : Table) (k : ℕ) → Contains (tables_of b) t → k < (fixups_header b t).imports_count → import_fits b t k ≡ true
+LoadKeeps b L10 = (s : ChainSegment) (page a : ℕ) → Contains (chain_segments b) s → OnPageChain (chain_segments b) b s page a → WordFits b s page a

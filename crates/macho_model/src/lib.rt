@@ -4,6 +4,7 @@
 //! types that they speak of. None of them holds a collection, so a contract sees each as it is.
 #![tactic(auto)]
 
+mod accept;
 mod chain_words;
 mod loader_rules;
 mod mapped;
@@ -16,6 +17,8 @@ mod targets;
 mod walk;
 mod word_rules;
 
+pub use accept::{LoadFault, first_broken_rule};
+pub use chain_words::is_on_chain;
 pub use mapped::{memory_byte, segment_byte};
 pub use placed::{
     Counts, Linkedit, PlacedCommon, PlacedSection, PlacedSegment, Range64, Slot, Stub,
