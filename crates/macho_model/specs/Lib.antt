@@ -22,6 +22,7 @@ pub mod Memory
 pub mod Walks
 pub mod Asked
 pub mod WordTests
+pub mod Loaded
 pub mod Stands
 pub mod Exports
 pub mod Rows

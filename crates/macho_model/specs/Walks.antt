@@ -91,28 +91,15 @@ parts_inside b t =
     && nat_le ((fixups_header b t).imports_offset + import_entry_size (fixups_header b t).imports_format * (fixups_header b t).imports_count) t.size
     && nat_le (fixups_header b t).symbols_offset t.size
 
--- the load commands of an image are whole: the loader's second rule
-pub record AreCommandsWhole (b : List ℕ) : Type 0 where
-  pub inside : commands_inside b ≡ true
-  pub each : EachCommand (commands_of b) (command_fits (needed_in_image b) b)
-
--- a command ends inside the file, and so does what is needed of it
-pub record EndsInside (b : List ℕ) (place : ℕ) : Type 0 where
-  pub head : place + 8 ≤ length b
-  pub end : place + (command_at b place).size ≤ length b
-  pub needed : place + needed_in_image b (command_at b place) ≤ length b
-
 -- a segment has a byte at an address: one of the file, or zero behind its file bytes
 pub record SegmentHas (b : List ℕ) (s : SegmentCommand) (a v : ℕ) : Type 0 where
-  pub mapped : is_named PAGEZERO s ≡ false
   pub from : s.vmaddr ≤ a
   pub to : a < s.vmaddr + s.vmsize
   pub is : v ≡ (if nat_lt (a - s.vmaddr) s.filesize then slice_index b (s.fileoff + (a - s.vmaddr)) else 0)
 
--- the command at a place is of a segment that has a byte at an address
-pub record CommandHas (b : List ℕ) (place a v : ℕ) : Type 0 where
-  pub is_segment : ((command_at b place).number == LC_SEGMENT_64) ≡ true
-  pub has : SegmentHas b (reading segment_command b place) a v
+-- the mapped segment with a number, if there is one, has no byte at an address
+abbrev pub NthLacksByte : List ℕ → ℕ → ℕ → Type 0
+NthLacksByte b number a = (place : ℕ) → IsNth list.Mapped b number place → (v : ℕ) → SegmentHas b (segment_in b (command_at b place)) a v → ⊥
 
 -- a segment has a word at an address, whole in its file part
 pub record HasWord (b : List ℕ) (s : SegmentCommand) (a word : ℕ) : Type 0 where

@@ -6,6 +6,7 @@
 
 mod accept;
 mod chain_words;
+mod fixed;
 mod loader_rules;
 mod mapped;
 mod placed;
