@@ -31,8 +31,16 @@ four_bytes b at = omega (arith, byte b at 0, byte b at 1, byte b at 2, byte b at
 
 pub le_at_four : (b : List ℕ) (at : ℕ) → le_at 4 b at ≡ le_at 2 b (at + 0) + 65536 * le_at 2 b (at + 2)
 le_at_four b at =
-    omega (arith, four_bytes b at, le_at_two b (at + 0), le_at_two b (at + 2), same_byte b (at + 0 + 0) (at + 0) (omega arith),
-    same_byte b (at + 0 + 1) (at + 1) (omega arith), same_byte b (at + 2 + 0) (at + 2) (omega arith), same_byte b (at + 2 + 1) (at + 3) (omega arith))
+    omega (
+      arith,
+      four_bytes b at,
+      le_at_two b (at + 0),
+      le_at_two b (at + 2),
+      same_byte b (at + 0 + 0) (at + 0) (omega arith),
+      same_byte b (at + 0 + 1) (at + 1) (omega arith),
+      same_byte b (at + 2 + 0) (at + 2) (omega arith),
+      same_byte b (at + 2 + 1) (at + 3) (omega arith),
+    )
 
 eight_bytes : (b : List ℕ) (at : ℕ) → le_at 8 b at ≡ le_at 4 b at + 4294967296 * (slice_index b (at + 4) + 256 * slice_index b (at + 5) + 65536 * slice_index b (at + 6) + 16777216 * slice_index b (at + 7))
 unfolding le_at
@@ -41,8 +49,16 @@ eight_bytes b at = omega (arith, byte b at 4, byte b at 5, byte b at 6, byte b a
 pub le_at_eight : (b : List ℕ) (at : ℕ) → le_at 8 b at ≡ le_at 4 b (at + 0) + 4294967296 * le_at 4 b (at + 4)
 le_at_eight b at =
     let start : le_at 4 b (at + 0) ≡ le_at 4 b at = ap (λ (k : ℕ). le_at 4 b k) (omega arith) in
-    omega (arith, eight_bytes b at, start, four_bytes b (at + 4), same_byte b (at + 4 + 0) (at + 4) (omega arith), same_byte b (at + 4 + 1) (at + 5) (omega arith),
-    same_byte b (at + 4 + 2) (at + 6) (omega arith), same_byte b (at + 4 + 3) (at + 7) (omega arith))
+    omega (
+      arith,
+      eight_bytes b at,
+      start,
+      four_bytes b (at + 4),
+      same_byte b (at + 4 + 0) (at + 4) (omega arith),
+      same_byte b (at + 4 + 1) (at + 5) (omega arith),
+      same_byte b (at + 4 + 2) (at + 6) (omega arith),
+      same_byte b (at + 4 + 3) (at + 7) (omega arith),
+    )
 
 -- a number behind the end is 0
 number_behind : (w i : ℕ) (xs : List ℕ) → length xs ≤ i → little_from i w xs ≡ 0

@@ -28,7 +28,7 @@ one_more p (x ∷ xs) (suc i) c lt is =
     let same : suc i + 1 ≡ suc (i + 1) = omega arith in
     ap (λ n. passing p n (x ∷ xs)) same
     ∙ elim (p x) as (λ t. length (if t then x ∷ filter p (take (i + 1) xs) else filter p (take (i + 1) xs))
-        ≡ length (if t then x ∷ filter p (take i xs) else filter p (take i xs)) + (if p c then 1 else 0)) [
+    ≡ length (if t then x ∷ filter p (take i xs) else filter p (take i xs)) + (if p c then 1 else 0)) [
       | true ↦ omega (arith, rest)
       | false ↦ rest
     ]

@@ -60,8 +60,14 @@ neighbour_fails b number place next first second fails =
 pub second_text : (b : List ℕ) (place : ℕ) → IsNth list.Texts b 1 place → TextIsNotOne b place
 second_text b place nth =
     let same = texts_listed b in
-    inr (1, command_at b place, omega arith, subst (λ cs. 1 < length cs) same nth.within,
-    subst (λ cs. get_or cs 1 (command_at b place) ≡ command_at b place) same nth.is, refl)
+    inr (
+      1,
+      command_at b place,
+      omega arith,
+      subst (λ cs. 1 < length cs) same nth.within,
+      subst (λ cs. get_or cs 1 (command_at b place) ≡ command_at b place) same nth.is,
+      refl,
+    )
 
 empty_list : {X : Type 0} (xs : List X) → length xs ≤ 0 → xs ≡ []
 empty_list [] h = refl

@@ -135,7 +135,9 @@ fn is_on_page(bytes: &[u8], number: u32, place: u64, page: u16, address: u64) ->
     if start == NO_START {
         return false;
     }
-    let first = segment_at(bytes, place).address as u128 + CHAIN_PAGE * page as u128 + start as u128;
+    let first = segment_at(bytes, place).address as u128
+        + CHAIN_PAGE * page as u128
+        + start as u128;
     reaches(bytes, first, address as u128)
 }
 

@@ -19,7 +19,9 @@ fn rebased(bytes: &[u8], slide: u64, word: u64) -> u64
 {
     let target = word & 0xf_ffff_ffff;
     let high = (word >> 36) & 0xff;
-    let own = target.wrapping_add(high << 56).wrapping_add(base_address(bytes));
+    let own = target
+        .wrapping_add(high << 56)
+        .wrapping_add(base_address(bytes));
     own.wrapping_add(slide)
 }
 
@@ -98,7 +100,13 @@ fn made(bytes: &[u8], slide: u64, addresses: &[u64], word: u64) -> Option<u64>
 }
 
 /// What the loader makes of the word that the segment with a number has at an address.
-fn made_of_nth(bytes: &[u8], number: u32, slide: u64, addresses: &[u64], word_at: u64) -> Option<u64>
+fn made_of_nth(
+    bytes: &[u8],
+    number: u32,
+    slide: u64,
+    addresses: &[u64],
+    word_at: u64,
+) -> Option<u64>
     ensures found { (v : ℕ) → result ≡ Some v → (choice : Choice) → Gives bytes.now addresses.now choice → IsMade bytes.now slide choice word_at v }
     ensures only { result ≡ None → NthMakesNothing bytes.now number slide addresses.now word_at }
 {

@@ -26,3 +26,6 @@ pub use placed::{
 };
 pub use rules::{LoadRule, ObjectRule, UnwindRule};
 pub use targets::{Limit, Site, Target};
+
+#[cfg(test)]
+mod tests;

@@ -253,7 +253,11 @@ fn name_is_ended(bytes: &[u8], place: u64, offset: u32) -> bool
     ensures { result ≡ has_nul (drop offset (table_names bytes.now (table_there bytes.now place))) }
 {
     let table = table_at(bytes, place);
-    let names = range_from(bytes, table.at + table.symbols as u64, table.at + table.size);
+    let names = range_from(
+        bytes,
+        table.at + table.symbols as u64,
+        table.at + table.size,
+    );
     let offset = (offset as usize).min(names.len());
     let name = &names[offset..];
     name_bytes(name).len() < name.len()

@@ -22,7 +22,10 @@ fn holds(bytes: &[u8], place: u64, address: u128) -> bool
     let segment = segment_at(bytes, place);
     let start = segment.address as u128;
     let is_writable = (segment.first >> 1) & 1 == 1;
-    is_writable && start <= address && address <= u128::MAX - 8 && address + 8 <= start + segment.file_size as u128
+    is_writable
+        && start <= address
+        && address <= u128::MAX - 8
+        && address + 8 <= start + segment.file_size as u128
 }
 
 /// Whether the mapped segment with a number holds a word.
