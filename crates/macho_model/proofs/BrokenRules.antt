@@ -2,7 +2,7 @@
 --
 -- A command that fails its test is one of those that are to pass it. The segments named `__TEXT` are those of their
 -- commands, so there are as many, and so are the fixup tables.
-use Rattle.std.proofs.Common.{◌≡◌, ℕ, ◌+◌, ◌<◌, ◌≤◌, Bool, true, false, List, [], ◌∷◌, length, get_or, map, refl, sym, ap, subst, ◌∙◌, arith, All, inl, inr}
+use Rattle.std.proofs.Common.{◌≡◌, ℕ, ◌≤◌, Bool, true, List, length, map, sym, ap, subst, ◌∙◌, arith, All, inl, inr}
 use Rattle.std.proofs.lemmas.List.{get_or-map, length-map}
 use Rattle.std.proofs.lemmas.List.Elements.{All-map}
 use Rattle.macho_records.specs.declared.header.SegmentCommand.{SegmentCommand}
@@ -13,7 +13,7 @@ use Rattle.macho_model.specs.declared.walk.Listed.TheVariants as list
 use Rattle.macho_model.specs.Commands.{Command, commands_of, command_fits}
 use Rattle.macho_model.specs.Grammar.{EachCommand, CommandFails}
 use Rattle.macho_model.specs.Segments.{TEXT}
-use Rattle.macho_model.specs.Images.{segments_named, Table, table_of_command, tables_of}
+use Rattle.macho_model.specs.Images.{segments_named, table_of_command, tables_of}
 use Rattle.macho_model.specs.LoadRules.{needed_in_image, segment_in, text_holds_commands, table_fits}
 use Rattle.macho_model.specs.Loader.{text_commands, fixup_commands, NeighbourFails, EachNeighbour, TextIsNotOne, SecondTable, IsAccepted, ImageBreaks}
 use Rattle.macho_model.specs.Walks.{listed}
@@ -22,7 +22,7 @@ use Rattle.macho_model.proofs.EachBelow.{true_or_false}
 use Rattle.macho_model.proofs.ListedLaws.{all_listed, texts_listed, texts_are}
 
 -- one that fails is not among those that pass
-fails_not_each : (cs : List Command) (place : ℕ) (test : Command → Bool) → CommandFails cs place test → EachCommand cs test → ⊥
+pub fails_not_each : (cs : List Command) (place : ℕ) (test : Command → Bool) → CommandFails cs place test → EachCommand cs test → ⊥
 fails_not_each cs place test (k, c, within, is, told, fails) each =
     true_or_false (test c) (subst (λ x. test x ≡ true) is (each k c within)) fails
 

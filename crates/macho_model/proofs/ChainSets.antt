@@ -3,11 +3,10 @@
 -- A list is closed where it has the word of each page start, and with each of its addresses whose word leads on, the
 -- address that it leads to. The chain is the least set with these rules, so it lies within any such list: by the rule
 -- that put an address on the chain, the first finds it among the starts, and the second next to one found before.
-use Rattle.std.proofs.Common.{◌≡◌, ℕ, ◌+◌, ◌*◌, ◌-◌, ◌<◌, ◌≤◌, nat_le, ◌==◌, Bool, true, false, not, ◌&&◌, ◌||◌, List, [], ◌∷◌, length, slice_index, refl, sym, subst}
+use Rattle.std.proofs.Common.{◌≡◌, ℕ, ◌+◌, ◌*◌, ◌<◌, ◌≤◌, nat_le, ◌==◌, Bool, true, false, not, ◌&&◌, ◌||◌, List, [], ◌∷◌, length, slice_index, refl, sym, subst}
 use Rattle.std.specs.List.{list_all, list_any}
 use Rattle.std.proofs.lemmas.Bool.{le-leb}
 use Rattle.std.proofs.lemmas.List.Elements.{All-contains}
-use Rattle.macho_bytes.specs.Numbers.{le_at}
 use Rattle.macho_model.specs.Images.{NO_START, CHAIN_PAGE}
 use Rattle.macho_model.specs.Chain.{ChainSegment, WORD_SIZE, STRIDE, IsFileWord, next_of, OnChain, OnPageChain}
 use Rattle.macho_model.specs.Chain as chain

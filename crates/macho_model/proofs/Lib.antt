@@ -5,6 +5,7 @@ pub mod WordWalk
 pub mod RuleWalk
 pub mod UnfitWords
 pub mod BrokenRules
+pub mod BrokenInputs
 pub mod LoadedMemory
 pub mod Unchained
 pub mod Memory

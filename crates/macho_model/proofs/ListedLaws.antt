@@ -1,19 +1,19 @@
 -- The lists of commands that the walks are over, as the definitions have them, and what a command by its number says.
-use Rattle.std.proofs.Common.{◌≡◌, ℕ, zero, suc, ◌+◌, ◌-◌, ◌<◌, ◌≤◌, ◌==◌, nat_le, Bool, true, false, ◌&&◌, not, if◌then◌else◌, List, [], ◌∷◌, length, get_or, map, refl, sym, ap, subst, ◌∙◌, arith}
+use Rattle.std.proofs.Common.{◌≡◌, ℕ, zero, suc, ◌-◌, ◌<◌, ◌≤◌, ◌==◌, nat_le, Bool, true, false, ◌&&◌, not, if◌then◌else◌, List, [], ◌∷◌, length, get_or, map, refl, sym, ap, ◌∙◌, arith}
 use Rattle.std.specs.Prelude.{filter}
 use Rattle.std.proofs.lemmas.Bool.{le-leb}
 use Rattle.std.proofs.lemmas.Bool.Decides.{nat_tests}
-use Rattle.std.proofs.lemmas.List.{get_or-map, length-map, get_or_default}
+use Rattle.std.proofs.lemmas.List.{get_or-map, length-map}
 use Rattle.macho_records.specs.declared.header.SegmentCommand.{SegmentCommand}
-use Rattle.macho_records.specs.declared.constants.TheConstants.{LC_SEGMENT_64, LC_DYLD_CHAINED_FIXUPS, LC_LOAD_DYLIB}
+use Rattle.macho_records.specs.declared.constants.TheConstants.{LC_SEGMENT_64, LC_LOAD_DYLIB}
 use Rattle.macho_model.specs.declared.walk.Listed.{Listed}
 use Rattle.macho_model.specs.declared.walk.Listed.TheVariants as list
 use Rattle.macho_model.specs.Commands.{Command, commands_of, numbered}
 use Rattle.macho_model.specs.Segments.{PAGEZERO, TEXT}
-use Rattle.macho_model.specs.Images.{is_named, segments_of, mapped_segments, segments_named, base_of, first_address, libraries_of, Table, table_of_command, tables_of}
+use Rattle.macho_model.specs.Images.{is_named, segments_of, mapped_segments, segments_named, base_of, first_address, libraries_of, table_of_command, tables_of}
 use Rattle.macho_model.specs.LoadRules.{segment_in}
 use Rattle.macho_model.specs.Loader.{segment_commands, text_commands, fixup_commands}
-use Rattle.macho_model.specs.Walks.{command_at, is_listed, listed, IsNth, segment_address}
+use Rattle.macho_model.specs.Walks.{command_at, listed, IsNth, segment_address}
 
 -- two filters are one
 two_filters : {X : Type 0} (p q : X → Bool) (xs : List X) → filter (λ x. p x && q x) xs ≡ filter q (filter p xs)

@@ -4,20 +4,18 @@
 -- the greatest. What the loader makes of it is found by trying each segment that has the word and each fixup table that
 -- has its import: any choice that gives the addresses chooses just these. Where no chain word covers, the byte is a
 -- mapped segment's, found by trying each.
-use Rattle.std.proofs.Common.{◌≡◌, ℕ, ◌+◌, ◌-◌, ◌%◌, ◌^◌, ◌<◌, ◌≤◌, Bool, true, false, List, [], ◌∷◌, length, get_or, map, slice_index, refl, sym, ap, subst, ◌∙◌, arith, Some, None, inl, inr}
+use Rattle.std.proofs.Common.{◌≡◌, ℕ, ◌+◌, ◌-◌, ◌<◌, ◌≤◌, List, length, get_or, slice_index, refl, sym, ap, subst, ◌∙◌, arith, Some, None, inl, inr}
 use Rattle.std.specs.Prelude.{Contains, is_some}
 use Rattle.std.specs.List.{slice_get}
-use Rattle.std.proofs.lemmas.Bool.{cases_lt}
-use Rattle.std.proofs.lemmas.List.{length-map, get_or_default}
+use Rattle.std.proofs.lemmas.List.{length-map}
 use Rattle.macho_bytes.specs.Numbers.{le_bytes}
-use Rattle.macho_records.specs.declared.header.SegmentCommand.{SegmentCommand}
 use Rattle.macho_model.specs.declared.walk.Listed.TheVariants as list
-use Rattle.macho_model.specs.Commands.{Command, header_of}
+use Rattle.macho_model.specs.Commands.{header_of}
 use Rattle.macho_model.specs.LoadRules.{segment_in}
-use Rattle.macho_model.specs.Images.{mapped_segments, Table, table_of_command, tables_of, fixups_header, import_entry, import_name, import_library_name}
-use Rattle.macho_model.specs.Chain.{chain_segments, IsFileWord, WORD_SIZE, OnChainOf}
+use Rattle.macho_model.specs.Images.{mapped_segments, table_of_command, tables_of}
+use Rattle.macho_model.specs.Chain.{WORD_SIZE}
 use Rattle.macho_model.specs.Loader.{is_bind, ordinal_of}
-use Rattle.macho_model.specs.Memory.{Choice, chosen, IsBound, Becomes, Covers, IsFixed, IsChainByte, IsSegmentByte, Holds}
+use Rattle.macho_model.specs.Memory.{Choice, IsBound, Becomes, Covers, IsFixed, IsSegmentByte, Holds}
 use Rattle.macho_model.specs.Walks.{command_at, listed, IsNth, HasWord, SegmentHas, NthLacksByte, table_there}
 use Rattle.macho_model.specs.Loaded.{Gives, CoversLast, IsUncovered, IsMade, IsWordByte, BoundIn, BoundByNth, MakesNothing, NthMakesNothing}
 use Rattle.macho_model.proofs.EachBelow.{true_or_false}

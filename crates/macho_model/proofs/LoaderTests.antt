@@ -3,7 +3,7 @@
 -- These rules speak of each command, table or import, which are finitely many, so each has a test that is true exactly
 -- where the rule is kept. The last rule speaks of each word on the chain, and is shown apart. So the tests, computed,
 -- show of an example that it is accepted, or which rule it breaks, and that it keeps the others.
-use Rattle.std.proofs.Common.{◌≡◌, ◌≢◌, ℕ, ◌+◌, ◌-◌, ◌<◌, ◌≤◌, nat_le, ◌==◌, Bool, true, false, not, ◌&&◌, List, [], ◌∷◌, length, get_or, map, refl, sym, ap, ◌∙◌, arith, All}
+use Rattle.std.proofs.Common.{◌≡◌, ◌≢◌, ℕ, ◌+◌, ◌-◌, nat_le, ◌==◌, Bool, true, false, not, ◌&&◌, List, [], ◌∷◌, length, get_or, map, refl, sym, ap, ◌∙◌, arith}
 use Rattle.std.specs.Prelude.{Contains}
 use Rattle.std.specs.List.{list_all}
 use Rattle.std.proofs.lemmas.Bool.{leb-true, le-leb}
@@ -13,9 +13,8 @@ use Rattle.macho_model.specs.declared.rules.LoadRule.{LoadRule}
 use Rattle.macho_model.specs.declared.rules.LoadRule.TheVariants.{L1, L2, L3, L4, L5, L6, L7, L8, L9, L10}
 use Rattle.macho_model.specs.Commands.{Command, commands_of, command_fits}
 use Rattle.macho_model.specs.ObjectRules.{commands_inside}
-use Rattle.macho_model.specs.Grammar.{EachCommand}
 use Rattle.macho_model.specs.Segments.{TEXT}
-use Rattle.macho_model.specs.Images.{segments_named, Table, tables_of, fixups_header}
+use Rattle.macho_model.specs.Images.{segments_named, tables_of, fixups_header}
 use Rattle.macho_model.specs.Chain.{ChainSegment, chain_segments, OnPageChain}
 use Rattle.macho_model.specs.LoadRules.{image_head_fits, needed_in_image, protections_fit, file_part_inside, segment_is_paged, segment_ends, begins_behind, text_holds_commands, table_fits, import_fits}
 use Rattle.macho_model.specs.Loader.{WordFits, EachNeighbour, segment_commands, IsAccepted}

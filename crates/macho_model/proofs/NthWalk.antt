@@ -4,12 +4,12 @@
 -- Of the first i commands so many are of the list as were counted. The command at the walk's place is number i; if it is
 -- of the list, its number there is that count, since a filter keeps the order. Behind the last command all of the list
 -- have passed, so its length is the count. The place stays below 2 ^ 64: each size is below 2 ^ 32, and so is the count.
-use Rattle.std.proofs.Common.{◌≡◌, ℕ, zero, suc, ◌+◌, ◌*◌, ◌-◌, ◌<◌, ◌≤◌, ◌==◌, Bool, true, false, if◌then◌else◌, List, [], ◌∷◌, length, get_or, take, drop, refl, sym, ap, subst, ◌∙◌, arith}
+use Rattle.std.proofs.Common.{◌≡◌, ℕ, zero, suc, ◌+◌, ◌*◌, ◌-◌, ◌<◌, ◌≤◌, Bool, true, false, if◌then◌else◌, List, [], ◌∷◌, length, get_or, take, refl, sym, ap, subst, ◌∙◌, arith}
 use Rattle.std.specs.Prelude.{filter}
 use Rattle.macho_bytes.specs.Numbers.{le_at}
-use Rattle.macho_bytes.specs.Layouts.{reading, size_of}
+use Rattle.macho_bytes.specs.Layouts.{reading}
 use Rattle.macho_model.specs.declared.walk.Listed.{Listed}
-use Rattle.macho_model.specs.Commands.{Command, header_of, commands_of}
+use Rattle.macho_model.specs.Commands.{header_of, commands_of}
 use Rattle.macho_model.specs.Walks.{command_at, is_listed, listed, IsNth}
 use Rattle.macho_model.proofs.SegmentWalk.{StandsAt, walk_begins, walk_goes_on, command_here, length-commands}
 

@@ -3,7 +3,7 @@
 -- Each command of a list has a number below the count of all. So where those with each number pass, all pass; and one
 -- that is found by its number and fails is one of the list. The same holds of neighbours, of the one `__TEXT` and of the
 -- one fixup table, which are told by the commands with the numbers 0 and 1.
-use Rattle.std.proofs.Common.{◌≡◌, ℕ, zero, suc, ◌+◌, ◌<◌, ◌≤◌, Bool, true, false, List, [], ◌∷◌, length, get_or, refl, sym, ap, subst, ◌∙◌, arith, inl, inr, map, All}
+use Rattle.std.proofs.Common.{◌≡◌, ℕ, ◌+◌, ◌<◌, ◌≤◌, true, false, List, [], ◌∷◌, length, get_or, refl, sym, ap, subst, ◌∙◌, arith, inl, inr, map, All}
 use Rattle.std.specs.Prelude.{Contains}
 use Rattle.std.specs.List.{list_any, list_all}
 use Rattle.std.proofs.lemmas.List.{get_or_default, length-map}
@@ -12,14 +12,14 @@ use Rattle.std.proofs.lemmas.List.Folds.{list_any_none, list_all_at}
 use Rattle.macho_model.specs.declared.loader_rules.Asked.{Asked}
 use Rattle.macho_model.specs.declared.walk.Listed.{Listed}
 use Rattle.macho_model.specs.declared.walk.Listed.TheVariants as list
-use Rattle.macho_model.specs.Commands.{Command, header_of, commands_of}
-use Rattle.macho_model.specs.Grammar.{EachCommand, CommandFails}
+use Rattle.macho_model.specs.Commands.{Command, header_of}
+use Rattle.macho_model.specs.Grammar.{EachCommand}
 use Rattle.macho_model.specs.LoadRules.{begins_behind, segment_in, import_fits}
 use Rattle.macho_model.specs.Loader.{segment_commands, text_commands, fixup_commands, EachNeighbour, NeighbourFails, TextIsNotOne, SecondTable, ImportFails, import_count}
-use Rattle.macho_model.specs.Walks.{command_at, is_listed, listed, IsNth, table_there, chain_segment_at}
+use Rattle.macho_model.specs.Walks.{command_at, listed, IsNth, table_there, chain_segment_at}
 use Rattle.macho_model.specs.Asked.{list_of, test_of, NumberPasses, NeighbourPasses, BadImport, ImportsFit, TableImportsFit, EachImportFits}
 use Rattle.macho_model.specs.WordTests.{holds_word, import_exists, NthLacks, NthImportExists}
-use Rattle.macho_model.specs.Images.{Table, table_of_command, tables_of, fixups_header, mapped_segments}
+use Rattle.macho_model.specs.Images.{table_of_command, tables_of, fixups_header, mapped_segments}
 use Rattle.macho_model.specs.Chain.{chain_segments}
 use Rattle.macho_model.proofs.ListedLaws.{texts_listed, tables_are, mapped_are, nth_image}
 use Rattle.macho_model.proofs.WordWalk.{few_listed_of, nth_exists, nth_one, chain_at, count_of_chain}

@@ -3,25 +3,12 @@
 -- The walk stands at the place where command i begins: what is left of the list is what the bytes say from there on. The
 -- first of what is left is the command at the place, and the next one begins where it ends. So each command of the list
 -- is what the bytes say at its place.
-use Rattle.std.proofs.Common.{◌≡◌, ℕ, zero, suc, ◌+◌, ◌-◌, ◌<◌, ◌≤◌, ◌==◌, ◌&&◌, nat_le, not, Bool, true, false, List, [], ◌∷◌, length, get_or, take, drop, map, refl, sym, ap, subst, ◌∙◌, arith, All, inl, inr, Some, None, if◌then◌else◌}
-use Rattle.std.specs.Prelude.{Contains, filter, is_some, unwrap_or}
-use Rattle.std.proofs.lemmas.Bool.{leb-true, cases_lt}
-use Rattle.std.proofs.lemmas.List.{get_or-map, length-map, get_or-drop, drop-drop}
-use Rattle.std.proofs.lemmas.List.Elements.{All-filter, filter_passes, All-map, All-contains, All-get_or}
-use Rattle.byteorder.specs.Endian.{little_number}
-use Rattle.byteorder.specs.Numbers.{little_from-take}
-use Rattle.macho_bytes.specs.Numbers.{le_at}
-use Rattle.macho_bytes.specs.Layouts.{reading, read_of, size_of}
-use Rattle.macho_records.specs.Layouts.{mach_header, load_command, segment_command}
-use Rattle.macho_records.specs.declared.header.SegmentCommand.{SegmentCommand}
-use Rattle.macho_records.specs.declared.constants.TheConstants.{LC_SEGMENT_64}
-use Rattle.macho_model.specs.Commands.{Command, header_of, commands_from, commands_of, commands_end, command_fits}
-use Rattle.macho_model.specs.Segments.{PAGEZERO}
-use Rattle.macho_model.specs.Images.{segments_of, mapped_segments, is_named}
-use Rattle.macho_model.specs.LoadRules.{segment_in, needed_in_image}
-use Rattle.macho_model.specs.Memory.{IsSegmentByte}
+use Rattle.std.proofs.Common.{◌≡◌, ℕ, zero, suc, ◌+◌, ◌-◌, ◌<◌, List, ◌∷◌, length, get_or, drop, refl, sym, ap, ◌∙◌, arith}
+use Rattle.std.proofs.lemmas.List.{get_or-drop, drop-drop}
+use Rattle.macho_bytes.specs.Layouts.{reading, size_of}
+use Rattle.macho_records.specs.Layouts.{mach_header, load_command}
+use Rattle.macho_model.specs.Commands.{Command, header_of, commands_from, commands_of}
 use Rattle.macho_model.specs.Walks.{command_at}
-use Rattle.macho_model.proofs.EachBelow.{true_or_false, and_left, and_right, equal_is}
 
 -- the number of commands
 length-commands_from : (b : List ℕ) (at n : ℕ) → length (commands_from b at n) ≡ n

@@ -3,13 +3,11 @@
 -- A word that does not fit is told where it stands. One that fits is in its page, so a step from it stays near the page,
 -- and it is one of finitely many. All that it leads to are itself and what its steps lead to, whatever segment they are
 -- read in; so where it fits and those fit, all fit. The words of the page's chain are those that its start leads to.
-use Rattle.std.proofs.Common.{◌≡◌, ◌≢◌, ℕ, ◌+◌, ◌*◌, ◌-◌, ◌^◌, ◌<◌, ◌≤◌, nat_le, Bool, true, false, ◌&&◌, List, length, get_or, slice_index, refl, sym, ap, subst, ◌∙◌, arith, All, inl, inr}
-use Rattle.std.specs.Prelude.{Contains}
+use Rattle.std.proofs.Common.{◌≡◌, ℕ, ◌+◌, ◌*◌, ◌-◌, ◌^◌, ◌<◌, ◌≤◌, nat_le, Bool, true, false, ◌&&◌, List, length, slice_index, refl, sym, ap, subst, ◌∙◌, arith, inl, inr}
 use Rattle.std.specs.List.{list_all, list_any}
 use Rattle.std.proofs.lemmas.Bool.{leb-true, cases_lt}
-use Rattle.std.proofs.lemmas.List.{get_or_default}
 use Rattle.macho_model.specs.declared.walk.Listed.TheVariants as list
-use Rattle.macho_model.specs.Commands.{Command, header_of}
+use Rattle.macho_model.specs.Commands.{header_of}
 use Rattle.macho_model.specs.Grammar.{EachCommand}
 use Rattle.macho_model.specs.Images.{NO_START, CHAIN_PAGE, mapped_segments}
 use Rattle.macho_model.specs.LoadRules.{segment_in, file_part_inside}

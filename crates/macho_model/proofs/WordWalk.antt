@@ -3,7 +3,7 @@
 -- The segments as chains see them are numbered as their commands are. So a word of the file at an address is a word that
 -- a numbered segment has there, and it leads on by as many bytes. A chain leads upwards only. The words of a page's chain
 -- are those that its start leads to, and the chain is made of the pages' chains.
-use Rattle.std.proofs.Common.{◌≡◌, ◌≢◌, ℕ, zero, suc, ◌+◌, ◌*◌, ◌-◌, ◌<◌, ◌≤◌, ◌==◌, nat_lt, Bool, true, false, not, if◌then◌else◌, List, [], ◌∷◌, length, get_or, map, slice_index, refl, sym, ap, subst, ◌∙◌, arith, All, Some, None, inl, inr}
+use Rattle.std.proofs.Common.{◌≡◌, ◌≢◌, ℕ, suc, ◌+◌, ◌*◌, ◌-◌, ◌<◌, ◌≤◌, ◌==◌, nat_lt, Bool, true, false, if◌then◌else◌, List, [], ◌∷◌, length, get_or, map, slice_index, refl, sym, ap, subst, ◌∙◌, arith, All, Some, inl, inr}
 use Rattle.std.proofs.lemmas.Bool.{cases_lt}
 use Rattle.std.specs.Prelude.{Contains, filter, unwrap_or}
 use Rattle.std.specs.List.{enumerate_from, range_with_len}
@@ -15,7 +15,7 @@ use Rattle.macho_records.specs.declared.header.SegmentCommand.{SegmentCommand}
 use Rattle.macho_model.specs.declared.walk.Listed.{Listed}
 use Rattle.macho_model.specs.declared.walk.Listed.TheVariants as list
 use Rattle.macho_model.specs.Commands.{Command, header_of, commands_of}
-use Rattle.macho_model.specs.Images.{segments_of, Table, table_of_command, tables_of, starts_count, starts_offset, segment_starts, page_start, NO_START, CHAIN_PAGE}
+use Rattle.macho_model.specs.Images.{segments_of, Table, table_of_command, starts_count, starts_offset, segment_starts, page_start, NO_START, CHAIN_PAGE}
 use Rattle.macho_model.specs.LoadRules.{segment_in}
 use Rattle.macho_model.specs.Chain.{ChainSegment, chain_segment, chain_segments, starts_in_tables, IsFileWord, next_of, WORD_SIZE, STRIDE, OnChain, OnPageChain}
 use Rattle.macho_model.specs.Chain as chain

@@ -1,5 +1,5 @@
 -- When each refusal of a link stands. A refusal is told only where it stands, and an image only where none does.
-use Rattle.std.specs.Prelude.{◌≡◌, ℕ, ◌+◌, ◌*◌, ◌-◌, ◌%◌, ◌^◌, ◌<◌, ◌≤◌, ◌⊎◌, ◌==◌, nat_le, nat_lt, ◌||◌, not, Bool, true, false, List, length, get_or, Option, Some, None, Contains, IsNone, reverse, take_while, drop, codes}
+use Rattle.std.specs.Prelude.{◌≡◌, ℕ, ◌+◌, ◌*◌, ◌%◌, ◌<◌, ◌≤◌, ◌⊎◌, ◌==◌, ◌||◌, not, Bool, true, false, List, length, get_or, Option, Some, None, Contains, IsNone, reverse, take_while, drop, codes}
 use Rattle.std.specs.List.{list_any}
 use Rattle.std.specs.Str.{bytes_eq}
 use Rattle.macho_model.specs.declared.rules.UnwindRule.{UnwindRule}

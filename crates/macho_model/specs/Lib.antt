@@ -32,3 +32,4 @@ pub mod Values
 pub mod Fixups
 pub mod Faults
 pub mod Valid
+pub mod Laws

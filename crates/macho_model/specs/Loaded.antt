@@ -1,5 +1,5 @@
 -- What the plain functions say that read the memory of a loaded image byte by byte.
-use Rattle.std.specs.Prelude.{◌≡◌, ℕ, ◌+◌, ◌-◌, ◌%◌, ◌^◌, ◌<◌, ◌≤◌, List, slice_index, Option, Some, Contains}
+use Rattle.std.specs.Prelude.{◌≡◌, ℕ, ◌+◌, ◌%◌, ◌^◌, ◌<◌, ◌≤◌, List, slice_index, Some, Contains}
 use Rattle.std.specs.List.{slice_get}
 use Rattle.macho_bytes.specs.Numbers.{le_bytes}
 use Rattle.macho_model.specs.declared.walk.Listed.TheVariants as list

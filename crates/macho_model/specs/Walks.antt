@@ -1,17 +1,15 @@
 -- What the plain walks over an image's commands say.
-use Rattle.std.specs.Prelude.{◌≡◌, ℕ, ◌+◌, ◌-◌, ◌<◌, ◌≤◌, ◌*◌, ◌%◌, ◌^◌, ◌==◌, nat_le, nat_lt, ◌||◌, if◌then◌else◌, ◌&&◌, not, Bool, true, false, List, [], length, get_or, map, filter, slice_index}
+use Rattle.std.specs.Prelude.{◌≡◌, ℕ, ◌+◌, ◌-◌, ◌<◌, ◌≤◌, ◌*◌, ◌%◌, ◌^◌, ◌==◌, nat_le, nat_lt, ◌||◌, if◌then◌else◌, ◌&&◌, not, Bool, true, List, [], length, get_or, map, filter, slice_index}
 use Rattle.std.specs.List.{list_all, range_with_len}
 use Rattle.macho_bytes.specs.Numbers.{le_at}
 use Rattle.macho_bytes.specs.Layouts.{reading, size_of}
-use Rattle.macho_records.specs.Layouts.{load_command, segment_command, chained_fixups_header}
+use Rattle.macho_records.specs.Layouts.{load_command, chained_fixups_header}
 use Rattle.macho_records.specs.declared.header.SegmentCommand.{SegmentCommand}
 use Rattle.macho_records.specs.declared.constants.TheConstants.{LC_DYLD_CHAINED_FIXUPS, LC_LOAD_DYLIB, LC_SEGMENT_64}
-use Rattle.macho_model.specs.Commands.{Command, commands_of, command_fits}
-use Rattle.macho_model.specs.ObjectRules.{commands_inside}
-use Rattle.macho_model.specs.Grammar.{EachCommand}
+use Rattle.macho_model.specs.Commands.{Command, commands_of}
 use Rattle.macho_model.specs.Segments.{PAGEZERO, TEXT}
 use Rattle.macho_model.specs.Images.{is_named, segments_of, base_of, Table, table_of_command, fixups_header, starts_count, segment_starts, page_starts, tables_of, import_entry_size, IMPORT_FORMAT, IMPORT_ADDEND_FORMAT, CHAIN_PAGE}
-use Rattle.macho_model.specs.LoadRules.{needed_in_image, segment_in, starts_fit, POINTER_FORMAT}
+use Rattle.macho_model.specs.LoadRules.{segment_in, starts_fit, POINTER_FORMAT}
 use Rattle.macho_model.specs.Chain.{ChainSegment, chain_segment, starts_in_tables, chain_segments, IsFileWord, next_of, WORD_SIZE, STRIDE, OnPageChain}
 use Rattle.macho_model.specs.declared.segment_rules.SegmentNumbers.{SegmentNumbers}
 use Rattle.macho_model.specs.declared.table_rules.FixupTable.{FixupTable}

@@ -7,6 +7,7 @@
 mod accept;
 mod chain_words;
 mod fixed;
+mod laws;
 mod loader_rules;
 mod mapped;
 mod placed;
@@ -20,6 +21,7 @@ mod word_rules;
 
 pub use accept::{LoadFault, first_broken_rule};
 pub use chain_words::is_on_chain;
+pub use laws::{memory_moves_by_the_slide, segments_are_apart, what_breaks_a_rule_is_refused};
 pub use mapped::{memory_byte, segment_byte};
 pub use placed::{
     Counts, Linkedit, PlacedCommon, PlacedSection, PlacedSegment, Range64, Slot, Stub,

@@ -1,8 +1,7 @@
 -- Either a step leads on to the end, or none does, and a chain leads upwards only.
-use Rattle.std.proofs.Common.{◌≡◌, ℕ, ◌+◌, ◌-◌, ◌<◌, ◌≤◌, refl, sym, ap, subst, ◌∙◌, arith, Some, None}
+use Rattle.std.proofs.Common.{◌+◌, refl, sym, subst, arith}
 use Rattle.std.proofs.lemmas.Bool.Decides.{nat_tests}
-use Rattle.std.specs.Prelude.{unwrap_or, is_some}
-use Rattle.macho_model.specs.Walks.{StepIn, Leads}
+use Rattle.macho_model.specs.Walks.{Leads}
 use Rattle.macho_model.proofs.WordWalk.{step_leads, leads_here, leads_no_lower, leads_nowhere, one_leads_nowhere, some_is}
 use Rattle.macho_model.proofs.chain_words.+reaches.Goals as goal
 use Rattle.macho_model.proofs.chain_words.+reaches.Goals.{in-Some+else-step-to, else-step-to-via-then-step-to+else-reaches, else-step-to-via-else-step-to, in_default}

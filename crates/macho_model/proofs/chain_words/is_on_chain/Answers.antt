@@ -1,5 +1,5 @@
 -- A segment has the address on its chain, or none has.
-use Rattle.std.proofs.Common.{ℕ, ◌<◌, ◌+◌, refl, arith}
+use Rattle.std.proofs.Common.{arith}
 use Rattle.macho_model.specs.Walks.{IsOffSegment}
 use Rattle.macho_model.proofs.WordWalk.{on_no_segment, one_more_below}
 use Rattle.macho_model.proofs.chain_words.is_on_chain.Goals as goal

@@ -1,5 +1,5 @@
 -- The segment with the number is the one whose command was found.
-use Rattle.std.proofs.Common.{ℕ, refl, sym, subst, arith}
+use Rattle.std.proofs.Common.{refl, subst}
 use Rattle.macho_model.specs.declared.walk.Listed.TheVariants as list
 use Rattle.macho_model.specs.Chain.{OnPageChain, chain_segments}
 use Rattle.macho_model.specs.Walks.{chain_segment_at}

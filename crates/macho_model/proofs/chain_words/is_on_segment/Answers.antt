@@ -1,9 +1,9 @@
 -- A page has the address on its chain, or none has; a page's chain is of a page with a start.
-use Rattle.std.proofs.Common.{ℕ, ◌<◌, ◌+◌, refl, arith}
+use Rattle.std.proofs.Common.{arith}
 use Rattle.macho_model.specs.Chain.{chain_segments}
 use Rattle.macho_model.specs.Walks.{chain_segment_at}
 use Rattle.macho_model.proofs.ChainSets.{page_has_start}
-use Rattle.macho_model.proofs.WordWalk.{on_chain_of, one_more_below}
+use Rattle.macho_model.proofs.WordWalk.{on_chain_of}
 use Rattle.macho_model.proofs.chain_words.is_on_segment.Goals as goal
 
 pub returns-then-is_on_page-clause-found : goal.returns-then-is_on_page-clause-found

@@ -1,5 +1,5 @@
 -- A table has the import, or none has.
-use Rattle.std.proofs.Common.{◌≡◌, ℕ, ◌<◌, ◌+◌, refl, sym, subst, arith, inl, inr}
+use Rattle.std.proofs.Common.{◌≡◌, refl, subst, arith, inl, inr}
 use Rattle.std.proofs.lemmas.Bool.{cases_lt}
 use Rattle.macho_model.specs.Memory.{IsBound}
 use Rattle.macho_model.specs.Loaded.{BoundByNth}

@@ -1,5 +1,5 @@
 -- A segment has a word that the loader makes something of, or none has.
-use Rattle.std.proofs.Common.{ℕ, arith}
+use Rattle.std.proofs.Common.{arith}
 use Rattle.macho_model.specs.Loaded.{NthMakesNothing}
 use Rattle.macho_model.proofs.WordWalk.{one_more_below}
 use Rattle.macho_model.proofs.LoadedMemory.{made_lacks}

@@ -1,5 +1,5 @@
 -- None so far has it.
-use Rattle.std.proofs.Common.{ℕ, ◌<◌, ◌-◌}
+use Rattle.std.proofs.Common.{ℕ, ◌<◌}
 use Rattle.macho_model.specs.Loaded.{NthMakesNothing}
 use Rattle.macho_model.proofs.fixed.fixed_value.Given as goal
 

@@ -1,5 +1,5 @@
 -- The segment with the number has one word at the address, or none.
-use Rattle.std.proofs.Common.{ℕ, refl}
+use Rattle.std.proofs.Common.{refl}
 use Rattle.macho_model.proofs.LoadedMemory.{none_is_some, made_found, nth_makes_nothing, nth_has_no_word}
 use Rattle.macho_model.proofs.fixed.made_of_nth.Goals as goal
 

@@ -1,6 +1,5 @@
 -- The commands with the numbers 0 and 1 tell whether there is one.
-use Rattle.std.proofs.Common.{◌≡◌, ℕ, refl, ap, subst}
-use Rattle.std.specs.Prelude.{unwrap_or}
+use Rattle.std.proofs.Common.{refl, subst}
 use Rattle.macho_model.specs.Loader.{TextIsNotOne}
 use Rattle.macho_model.proofs.RuleWalk.{second_text, no_text, one_text}
 use Rattle.macho_model.proofs.WordWalk.{some_is}

@@ -1,5 +1,5 @@
 -- The two segments are those whose commands were found.
-use Rattle.std.proofs.Common.{◌≡◌, ◌+◌, ℕ, true, refl, sym, subst, ◌∙◌}
+use Rattle.std.proofs.Common.{◌≡◌, ◌+◌, true, refl, sym, subst, ◌∙◌}
 use Rattle.macho_model.specs.declared.walk.Listed.TheVariants as list
 use Rattle.macho_model.specs.Loader.{segment_commands, NeighbourFails}
 use Rattle.macho_model.specs.LoadRules.{begins_behind}

@@ -1,6 +1,6 @@
 -- Memory is the covering chain word's byte, or where none covers the segment's.
-use Rattle.std.proofs.Common.{◌≤◌, refl, arith}
-use Rattle.macho_model.proofs.LoadedMemory.{word_byte_held, word_byte_lacks, segment_byte_held, segment_byte_lacks, below_slide}
+use Rattle.std.proofs.Common.{refl, arith}
+use Rattle.macho_model.proofs.LoadedMemory.{word_byte_held, word_byte_lacks, segment_byte_held, segment_byte_lacks}
 use Rattle.macho_model.proofs.mapped.memory_byte.Goals as goal
 
 pub overflow_sub-own-in-Some : goal.overflow_sub-own-in-Some

@@ -1,5 +1,5 @@
 -- None so far has it.
-use Rattle.std.proofs.Common.{ℕ, ◌<◌, ◌-◌}
+use Rattle.std.proofs.Common.{ℕ, ◌<◌}
 use Rattle.macho_model.specs.Walks.{NthLacksByte}
 use Rattle.macho_model.proofs.mapped.segment_byte.Given as goal
 

@@ -1,5 +1,5 @@
 -- The segment with the number is the one whose command was found.
-use Rattle.std.proofs.Common.{refl, sym}
+use Rattle.std.proofs.Common.{refl}
 use Rattle.macho_model.proofs.ListedLaws.{address_found, address_missing}
 use Rattle.macho_model.proofs.table_rules.address_of.Goals as goal
 

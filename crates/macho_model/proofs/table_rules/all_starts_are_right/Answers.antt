@@ -1,5 +1,5 @@
 -- One that fails makes the answer false; at the end all have passed.
-use Rattle.std.proofs.Common.{ℕ, sym, ◌∙◌, arith}
+use Rattle.std.proofs.Common.{sym, ◌∙◌, arith}
 use Rattle.macho_model.specs.Images.{starts_count}
 use Rattle.macho_model.specs.LoadRules.{starts_fit}
 use Rattle.macho_model.specs.Walks.{table_there}

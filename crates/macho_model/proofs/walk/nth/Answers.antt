@@ -1,5 +1,5 @@
 -- The walk stands at a command; what has passed of the list is counted.
-use Rattle.std.proofs.Common.{◌≡◌, ℕ, ◌<◌, ◌≤◌, ◌+◌, arith, sym, ap, subst, ◌∙◌}
+use Rattle.std.proofs.Common.{◌+◌, arith, sym, ap, subst, ◌∙◌}
 use Rattle.std.specs.Prelude.{unwrap_or}
 use Rattle.macho_model.specs.Walks.{IsNth}
 use Rattle.macho_model.proofs.NthWalk.{Passed, none_passed, listed_passed, other_passed, nth_here, all_passed}

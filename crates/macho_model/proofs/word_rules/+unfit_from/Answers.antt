@@ -1,5 +1,5 @@
 -- The word fails, or one that a step leads to, or all fit.
-use Rattle.std.proofs.Common.{ℕ, ◌+◌, ◌<◌, false, true, refl, sym, subst, ◌∙◌, arith}
+use Rattle.std.proofs.Common.{◌+◌, false, true, refl, subst, arith}
 use Rattle.macho_model.specs.WordTests.{UnfitFrom, FitFrom}
 use Rattle.macho_model.proofs.WordWalk.{some_is}
 use Rattle.macho_model.proofs.UnfitWords.{unfit_here, unfit_behind, fit_from, test_at, step_from, step_back, one_fits}

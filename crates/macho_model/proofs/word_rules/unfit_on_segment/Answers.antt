@@ -1,5 +1,5 @@
 -- A page has a word that does not fit, or each fits; a page's chain is of a page with a start.
-use Rattle.std.proofs.Common.{ℕ, ◌<◌, ◌+◌, refl, arith}
+use Rattle.std.proofs.Common.{◌+◌, refl, arith}
 use Rattle.macho_model.specs.Chain.{chain_segments}
 use Rattle.macho_model.specs.Walks.{chain_segment_at}
 use Rattle.macho_model.proofs.ChainSets.{page_has_start}
