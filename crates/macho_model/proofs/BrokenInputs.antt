@@ -23,8 +23,10 @@ relocation_fails b place test (one, k, r, within, among, told, fails) each = tru
 
 not_one : (n : ℕ) (b : List ℕ) (place : ℕ) → IsNotOne n b place → has_one n b ≡ true → ⊥
 not_one n b place (inl (none, told)) one =
-    let count = is_equal (length (numbered n b)) 1 one in let empty = ap (λ (cs : List Command). length cs) none in omega (arith, count, empty)
-not_one n b place (inr (k, c, least, within, is, told)) one = let count = is_equal (length (numbered n b)) 1 one in omega (arith, count, least, within)
+    let count = is_equal (length (numbered n b)) 1 one in let empty = ap (λ (cs : List Command). length cs) none in omega
+    (arith, count, empty)
+not_one n b place (inr (k, c, least, within, is, told)) one =
+    let count = is_equal (length (numbered n b)) 1 one in omega (arith, count, least, within)
 
 pub breaks_no_object : (b : List ℕ) (rule : ObjectRule) (place : ℕ) → ObjectBreaks b rule place → IsObject b → ⊥
 breaks_no_object b O1 place h o = true_or_false _ o.o1 h.1

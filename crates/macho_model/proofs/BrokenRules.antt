@@ -26,8 +26,10 @@ pub fails_not_each : (cs : List Command) (place : ℕ) (test : Command → Bool)
 fails_not_each cs place test (k, c, within, is, told, fails) each =
     true_or_false (test c) (subst (λ x. test x ≡ true) is (each k c within)) fails
 
-neighbours_fail : (cs : List Command) (place : ℕ) (test : Command → Command → Bool) → NeighbourFails cs place test → EachNeighbour cs test → ⊥
-neighbours_fail cs place test (k, c, d, within, first, second, told, fails) each = true_or_false (test c d) (each k c d within first second) fails
+neighbours_fail : (cs : List Command) (place : ℕ) (test : Command → Command → Bool) → NeighbourFails cs place test → EachNeighbour cs test
+    → ⊥
+neighbours_fail cs place test (k, c, d, within, first, second, told, fails) each =
+    true_or_false (test c d) (each k c d within first second) fails
 
 -- the segments named `__TEXT`, by their commands
 pub texts_by_command : (b : List ℕ) → segments_named TEXT b ≡ map (segment_in b) (text_commands b)
@@ -42,7 +44,8 @@ not_one_text b place (inl (none, at)) one =
 not_one_text b place (inr (k, c, least, within, is, told)) one = let count = count_of_texts b in omega (arith, count, least, within, one)
 
 -- what holds of each image of a command holds of the commands, and back
-of_commands : {X : Type 0} (f : Command → X) (test : X → Bool) (cs : List Command) → All (λ x. test x ≡ true) (map f cs) → EachCommand cs (λ c. test (f c))
+of_commands : {X : Type 0} (f : Command → X) (test : X → Bool) (cs : List Command) → All (λ x. test x ≡ true) (map f cs)
+    → EachCommand cs (λ c. test (f c))
 of_commands f test cs each k d within =
     let long = length-map cs f in
     subst (λ x. test x ≡ true) (get_or-map f cs k d (f d) within) (each k (f d) (omega (arith, within, long)))
@@ -77,10 +80,12 @@ breaks_not_accepted b L9 place (t, k, one, within, told, fails) a = true_or_fals
 breaks_not_accepted b L10 place (x, s, page, one, on, told, unfit) a = unfit (a.l10 s page x one on)
 
 -- the second rule, by the list of all commands
-pub whole_kept : (b : List ℕ) → EachCommand (listed list.All b) (test_of asked.Whole b) → EachCommand (commands_of b) (command_fits (needed_in_image b) b)
+pub whole_kept : (b : List ℕ) → EachCommand (listed list.All b) (test_of asked.Whole b)
+    → EachCommand (commands_of b) (command_fits (needed_in_image b) b)
 whole_kept b each = subst (λ cs. EachCommand cs (command_fits (needed_in_image b) b)) (all_listed b) each
 
-pub whole_broken : (b : List ℕ) (place : ℕ) → CommandFails (listed list.All b) place (test_of asked.Whole b) → CommandFails (commands_of b) place (command_fits (needed_in_image b) b)
+pub whole_broken : (b : List ℕ) (place : ℕ) → CommandFails (listed list.All b) place (test_of asked.Whole b)
+    → CommandFails (commands_of b) place (command_fits (needed_in_image b) b)
 whole_broken b place fails = subst (λ cs. CommandFails cs place (command_fits (needed_in_image b) b)) (all_listed b) fails
 
 -- the seventh, by the commands of the segments named `__TEXT`

@@ -25,7 +25,9 @@ pub le_at_two : (b : List ℕ) (at : ℕ) → le_at 2 b at ≡ slice_index b (at
 unfolding le_at
 le_at_two b at = omega (arith, byte b at 0, byte b at 1)
 
-four_bytes : (b : List ℕ) (at : ℕ) → le_at 4 b at ≡ slice_index b (at + 0) + 256 * slice_index b (at + 1) + 65536 * slice_index b (at + 2) + 16777216 * slice_index b (at + 3)
+four_bytes : (b : List ℕ) (at : ℕ)
+    → le_at 4 b at ≡ slice_index b (at + 0) + 256 * slice_index b (at + 1) + 65536 * slice_index b (at + 2) + 16777216 * slice_index b
+    (at + 3)
 unfolding le_at
 four_bytes b at = omega (arith, byte b at 0, byte b at 1, byte b at 2, byte b at 3)
 
@@ -42,7 +44,9 @@ le_at_four b at =
       same_byte b (at + 2 + 1) (at + 3) (omega arith),
     )
 
-eight_bytes : (b : List ℕ) (at : ℕ) → le_at 8 b at ≡ le_at 4 b at + 4294967296 * (slice_index b (at + 4) + 256 * slice_index b (at + 5) + 65536 * slice_index b (at + 6) + 16777216 * slice_index b (at + 7))
+eight_bytes : (b : List ℕ) (at : ℕ)
+    → le_at 8 b at ≡ le_at 4 b at + 4294967296 * (slice_index b (at + 4) + 256 * slice_index b (at + 5) + 65536 * slice_index b (at + 6)
+    + 16777216 * slice_index b (at + 7))
 unfolding le_at
 eight_bytes b at = omega (arith, byte b at 4, byte b at 5, byte b at 6, byte b at 7)
 

@@ -20,11 +20,13 @@ two_filters : {X : Type 0} (p q : X → Bool) (xs : List X) → filter (λ x. p 
 two_filters p q [] = refl
 two_filters p q (x ∷ xs) =
     let rest = two_filters p q xs in
-    elim (p x) as (λ t. (if t && q x then x ∷ filter (λ y. p y && q y) xs else filter (λ y. p y && q y) xs) ≡ filter q (if t then x ∷ filter p xs else filter p xs)) [
-      | true ↦ elim (q x) as (λ t. (if t then x ∷ filter (λ y. p y && q y) xs else filter (λ y. p y && q y) xs) ≡ (if t then x ∷ filter q (filter p xs) else filter q (filter p xs))) [
-        | true ↦ ap (λ ys. x ∷ ys) rest
-        | false ↦ rest
-      ]
+    elim (p x) as (λ t. (if t && q x then x ∷ filter (λ y. p y && q y) xs else filter (λ y. p y && q y) xs) ≡ filter q
+    (if t then x ∷ filter p xs else filter p xs)) [
+      | true ↦ elim (q x) as (λ t. (if t then x ∷ filter (λ y. p y && q y) xs else filter (λ y. p y && q y) xs) ≡
+          (if t then x ∷ filter q (filter p xs) else filter q (filter p xs))) [
+            | true ↦ ap (λ ys. x ∷ ys) rest
+            | false ↦ rest
+          ]
       | false ↦ rest
     ]
 
@@ -37,7 +39,8 @@ filter_map : {X Y : Type 0} (f : X → Y) (p : Y → Bool) (xs : List X) → fil
 filter_map f p [] = refl
 filter_map f p (x ∷ xs) =
     let rest = filter_map f p xs in
-    elim (p (f x)) as (λ t. (if t then f x ∷ filter p (map f xs) else filter p (map f xs)) ≡ map f (if t then x ∷ filter (λ y. p (f y)) xs else filter (λ y. p (f y)) xs)) [
+    elim (p (f x)) as (λ t. (if t then f x ∷ filter p (map f xs) else filter p (map f xs)) ≡ map f
+    (if t then x ∷ filter (λ y. p (f y)) xs else filter (λ y. p (f y)) xs)) [
       | true ↦ ap (λ ys. f x ∷ ys) rest
       | false ↦ rest
     ]
@@ -69,7 +72,8 @@ pub mapped_are : (b : List ℕ) → mapped_segments b ≡ map (segment_in b) (li
 unfolding mapped_segments segments_of listed
 mapped_are b =
     filter_map (segment_in b) (λ s. not (is_named PAGEZERO s)) (segment_commands b)
-    ∙ ap (λ cs. map (segment_in b) cs) (sym (two_filters (λ c. c.number == LC_SEGMENT_64) (λ c. not (is_named PAGEZERO (segment_in b c))) (commands_of b)))
+    ∙ ap (λ cs. map (segment_in b) cs) (sym (two_filters (λ c. c.number == LC_SEGMENT_64) (λ c. not (is_named PAGEZERO (segment_in b c)))
+    (commands_of b)))
 
 pub segments_are : (b : List ℕ) → segments_of b ≡ map (segment_in b) (listed list.Segments b)
 unfolding segments_of listed
@@ -93,11 +97,13 @@ nth_image f which b number place d nth =
     get_or-map f (listed which b) number (command_at b place) d nth.within ∙ ap f nth.is
 
 -- the address of a segment by its number, and of the first byte of `__TEXT`
-pub address_found : (b : List ℕ) (number place address : ℕ) → IsNth list.Segments b number place → address ≡ (segment_in b (command_at b place)).vmaddr
+pub address_found : (b : List ℕ) (number place address : ℕ) → IsNth list.Segments b number place
+    → address ≡ (segment_in b (command_at b place)).vmaddr
     → address ≡ segment_address b number
 address_found b number place address nth is =
     is ∙ sym (ap (λ (segments : List SegmentCommand). get_or (map (λ s. s.vmaddr) segments) number 0) (segments_are b)
-    ∙ get_or-map (λ (s : SegmentCommand). s.vmaddr) (map (segment_in b) (listed list.Segments b)) number (segment_in b (command_at b place)) 0
+    ∙ get_or-map (λ (s : SegmentCommand). s.vmaddr) (map (segment_in b) (listed list.Segments b)) number
+    (segment_in b (command_at b place)) 0
     (omega (arith, nth.within, length-map (listed list.Segments b) (segment_in b)))
     ∙ ap (λ (s : SegmentCommand). s.vmaddr) (nth_image (segment_in b) list.Segments b number place (segment_in b (command_at b place)) nth))
 
@@ -111,14 +117,17 @@ address_missing b number past =
     sym (none_behind (map (λ s. s.vmaddr) (segments_of b)) number
     (omega (arith, past, count_of_segments b, length-map (segments_of b) (λ (s : SegmentCommand). s.vmaddr))))
 
-first_is : (b : List ℕ) (cs : List Command) (c : Command) → 0 < length cs → get_or cs 0 c ≡ c → (segment_in b c).vmaddr ≡ first_address (map (segment_in b) cs)
+first_is : (b : List ℕ) (cs : List Command) (c : Command) → 0 < length cs → get_or cs 0 c ≡ c
+    → (segment_in b c).vmaddr ≡ first_address (map (segment_in b) cs)
 first_is b [] c some is = absurd (omega (arith, some))
 first_is b (x ∷ cs) c some is = ap (λ (y : Command). (segment_in b y).vmaddr) (sym is)
 
-pub base_found : (b : List ℕ) (place address : ℕ) → IsNth list.Texts b 0 place → address ≡ (segment_in b (command_at b place)).vmaddr → address ≡ base_of b
+pub base_found : (b : List ℕ) (place address : ℕ) → IsNth list.Texts b 0 place → address ≡ (segment_in b (command_at b place)).vmaddr
+    → address ≡ base_of b
 unfolding base_of
 base_found b place address nth is =
-    is ∙ first_is b (listed list.Texts b) (command_at b place) nth.within nth.is ∙ ap (λ (segments : List SegmentCommand). first_address segments) (sym (texts_are b))
+    is ∙ first_is b (listed list.Texts b) (command_at b place) nth.within nth.is ∙ ap
+    (λ (segments : List SegmentCommand). first_address segments) (sym (texts_are b))
 
 no_first : (b : List ℕ) (cs : List Command) → length cs ≤ 0 → 0 ≡ first_address (map (segment_in b) cs)
 no_first b [] none = refl
@@ -126,11 +135,14 @@ no_first b (x ∷ cs) none = absurd (omega (arith, none))
 
 pub base_missing : (b : List ℕ) → length (listed list.Texts b) ≤ 0 → 0 ≡ base_of b
 unfolding base_of
-base_missing b none = no_first b (listed list.Texts b) none ∙ ap (λ (segments : List SegmentCommand). first_address segments) (sym (texts_are b))
+base_missing b none =
+    no_first b (listed list.Texts b) none ∙ ap (λ (segments : List SegmentCommand). first_address segments) (sym (texts_are b))
 
 -- a list has so many elements where it has one at the place before
-pub many_listed : (which : Listed) (b : List ℕ) (count place : ℕ) → 1 ≤ count → IsNth which b (count - 1) place → nat_le count (length (listed which b)) ≡ true
+pub many_listed : (which : Listed) (b : List ℕ) (count place : ℕ) → 1 ≤ count → IsNth which b (count - 1) place
+    → nat_le count (length (listed which b)) ≡ true
 many_listed which b count place some nth = le-leb count (length (listed which b)) (omega (arith, nth.within, some))
 
-pub few_listed : (which : Listed) (b : List ℕ) (count : ℕ) → 1 ≤ count → length (listed which b) ≤ count - 1 → nat_le count (length (listed which b)) ≡ false
+pub few_listed : (which : Listed) (b : List ℕ) (count : ℕ) → 1 ≤ count → length (listed which b) ≤ count - 1
+    → nat_le count (length (listed which b)) ≡ false
 few_listed which b count some past = grind (arith, nat_tests)

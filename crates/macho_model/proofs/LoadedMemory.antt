@@ -24,15 +24,20 @@ use Rattle.macho_model.proofs.RuleWalk.{table_contains}
 use Rattle.macho_model.proofs.WordWalk.{nth_exists, nth_one, few_listed_of, segment_has_word, word_in_segment, some_is}
 
 -- a mapped segment by its command, and back
-pub byte_found : (b : List ℕ) (number place a v : ℕ) → IsNth list.Mapped b number place → SegmentHas b (segment_in b (command_at b place)) a v → IsSegmentByte b a v
+pub byte_found : (b : List ℕ) (number place a v : ℕ) → IsNth list.Mapped b number place
+    → SegmentHas b (segment_in b (command_at b place)) a v → IsSegmentByte b a v
 byte_found b number place a v nth has =
     record { segment = segment_in b (command_at b place); one = one; from = has.from; to = has.to; is = has.is }
   where
     one : Contains (mapped_segments b) (segment_in b (command_at b place))
     one =
         let long = length-map (listed list.Mapped b) (segment_in b) in
-        subst (λ xs. Contains xs (segment_in b (command_at b place))) (sym (mapped_are b))
-        (number, omega (arith, nth.within, long), nth_image (segment_in b) list.Mapped b number place (segment_in b (command_at b place)) nth)
+        subst (λ xs. Contains xs (segment_in b (command_at b place))) (sym (mapped_are b)) (
+          number,
+          omega (arith, nth.within, long),
+          nth_image (segment_in b) list.Mapped b number place (segment_in b (command_at b place))
+              nth,
+        )
 
 pub byte_lacks : (b : List ℕ) (a v : ℕ) → ((k : ℕ) → k < (header_of b).ncmds → NthLacksByte b k a) → IsSegmentByte b a v → ⊥
 byte_lacks b a v none byte = of byte.one
@@ -40,7 +45,8 @@ byte_lacks b a v none byte = of byte.one
     of : Contains (mapped_segments b) byte.segment → ⊥
     of (k, within, is) =
         let same = mapped_are b in
-        let there = nth_exists list.Mapped b k (subst (λ n. k < n) (length-map (listed list.Mapped b) (segment_in b)) (subst (λ xs. k < length xs) same within)) in
+        let there = nth_exists list.Mapped b k (subst (λ n. k < n) (length-map (listed list.Mapped b) (segment_in b))
+        (subst (λ xs. k < length xs) same within)) in
         let here : byte.segment ≡ segment_in b (command_at b there.0) =
         sym is ∙ ap (λ xs. get_or xs k byte.segment) same ∙ nth_image (segment_in b) list.Mapped b k there.0 byte.segment there.1 in
         let has : SegmentHas b byte.segment a v = record { from = byte.from; to = byte.to; is = byte.is } in
@@ -51,13 +57,21 @@ pub none_is_some : (w : ℕ) → None ≡ Some w → ⊥
 none_is_some w h = true_or_false (is_some (Some w)) refl (sym (ap (λ o. is_some o) h))
 
 -- what a word that binds becomes, for any choice that gives the addresses
-pub bound_found : (b : List ℕ) (number : ℕ) (addresses : List ℕ) (word v : ℕ) (choice : Choice) → BoundByNth b number addresses word v → Gives b addresses choice
+pub bound_found : (b : List ℕ) (number : ℕ) (addresses : List ℕ) (word v : ℕ) (choice : Choice) → BoundByNth b number addresses word v
+    → Gives b addresses choice
     → IsBound b choice word v
 bound_found b number addresses word v choice by gives =
     let t = table_there b by.place in
     let n = by.bound in
     let one = table_contains b number by.place by.nth in
-    record { table = t; one = one; import = n.import; address = n.address; chooses = gives t (ordinal_of word) one n.import ∙ n.has; is = n.is }
+    record {
+      table = t;
+      one = one;
+      import = n.import;
+      address = n.address;
+      chooses = gives t (ordinal_of word) one n.import ∙ n.has;
+      is = n.is;
+    }
 
 pub bound_lacks : (b : List ℕ) (addresses : List ℕ) (word v : ℕ) (choice : Choice)
     → ((k u : ℕ) → k < (header_of b).ncmds → BoundByNth b k addresses word u → ⊥) → Gives b addresses choice → IsBound b choice word v → ⊥
@@ -66,12 +80,14 @@ bound_lacks b addresses word v choice none gives bound = of bound.one
     of : Contains (tables_of b) bound.table → ⊥
     of (k, within, is) =
         let same = tables_are b in
-        let there = nth_exists list.Tables b k (subst (λ n. k < n) (length-map (listed list.Tables b) (table_of_command b)) (subst (λ ts. k < length ts) same within)) in
+        let there = nth_exists list.Tables b k (subst (λ n. k < n) (length-map (listed list.Tables b) (table_of_command b))
+        (subst (λ ts. k < length ts) same within)) in
         let here : bound.table ≡ table_there b there.0 =
         sym is ∙ ap (λ ts. get_or ts k bound.table) same ∙ nth_image (table_of_command b) list.Tables b k there.0 bound.table there.1 in
         let has : slice_get addresses (ordinal_of word) ≡ Some bound.address =
         sym (gives bound.table (ordinal_of word) bound.one bound.import) ∙ bound.chooses in
-        let by : BoundIn b bound.table addresses word v = record { import = bound.import; address = bound.address; has = has; is = bound.is } in
+        let by : BoundIn b bound.table addresses word v = record
+        { import = bound.import; address = bound.address; has = has; is = bound.is } in
         none k v (omega (arith, there.1.within, few_listed_of list.Tables b))
         (record { place = there.0; nth = there.1; bound = subst (λ t. BoundIn b t addresses word v) here by })
 
@@ -81,7 +97,8 @@ pub made_found : (b : List ℕ) (number place s : ℕ) (choice : Choice) (a word
 made_found b number place s choice a word v nth has becomes =
     record { word = word; stands = segment_has_word b number place a word nth has; becomes = becomes }
 
-pub made_lacks : (b : List ℕ) (s : ℕ) (addresses : List ℕ) (a v : ℕ) (choice : Choice) → ((k : ℕ) → k < (header_of b).ncmds → NthMakesNothing b k s addresses a)
+pub made_lacks : (b : List ℕ) (s : ℕ) (addresses : List ℕ) (a v : ℕ) (choice : Choice)
+    → ((k : ℕ) → k < (header_of b).ncmds → NthMakesNothing b k s addresses a)
     → Gives b addresses choice → IsMade b s choice a v → ⊥
 made_lacks b s addresses a v choice none gives made =
     let w = word_in_segment b a made.word made.stands in
@@ -89,7 +106,8 @@ made_lacks b s addresses a v choice none gives made =
 
 -- of the segment with a number, which has this word and no other
 pub nth_makes_nothing : (b : List ℕ) (number found s : ℕ) (addresses : List ℕ) (a word : ℕ) → IsNth list.Segments b number found
-    → ((w : ℕ) → HasWord b (segment_in b (command_at b found)) a w → Some word ≡ Some w) → MakesNothing b s addresses word → NthMakesNothing b number s addresses a
+    → ((w : ℕ) → HasWord b (segment_in b (command_at b found)) a w → Some word ≡ Some w) → MakesNothing b s addresses word →
+    NthMakesNothing b number s addresses a
 nth_makes_nothing b number found s addresses a word nth only nothing place w other has =
     let same = nth_one list.Segments b number place found other nth in
     let here = only w (subst (λ p. HasWord b (segment_in b (command_at b p)) a w) same has) in
@@ -105,7 +123,8 @@ nth_has_no_word b number found s addresses a nth none place w other has =
 own_address : (x s a : ℕ) → x ≡ a + s → a ≡ x - s
 own_address x s a h = omega (arith, h)
 
-pub word_byte_held : (b : List ℕ) (s x word_at v : ℕ) (choice : Choice) → s ≤ x → CoversLast b word_at (x - s) → IsWordByte b s choice word_at (x - s - word_at) v
+pub word_byte_held : (b : List ℕ) (s x word_at v : ℕ) (choice : Choice) → s ≤ x → CoversLast b word_at (x - s)
+    → IsWordByte b s choice word_at (x - s - word_at) v
     → Holds b s choice x v
 word_byte_held b s x word_at v choice behind c byte =
     record {
@@ -142,10 +161,12 @@ word_byte_lacks b s x word_at v choice c lacks held =
         let byte : IsWordByte b s choice at (x - s - at) v = record { value = value; made = made; is = is } in
         lacks (subst (λ w. IsWordByte b s choice w (x - s - w) v) same byte)
 
-pub segment_byte_held : (b : List ℕ) (s x v : ℕ) (choice : Choice) → s ≤ x → IsUncovered b (x - s) → IsSegmentByte b (x - s) v → Holds b s choice x v
+pub segment_byte_held : (b : List ℕ) (s x v : ℕ) (choice : Choice) → s ≤ x → IsUncovered b (x - s) → IsSegmentByte b (x - s) v
+    → Holds b s choice x v
 segment_byte_held b s x v choice behind none byte = record { a = x - s; slid = omega (arith, behind); byte = inr (none, byte) }
 
-pub segment_byte_lacks : (b : List ℕ) (s x v : ℕ) (choice : Choice) → IsUncovered b (x - s) → (IsSegmentByte b (x - s) v → ⊥) → Holds b s choice x v → ⊥
+pub segment_byte_lacks : (b : List ℕ) (s x v : ℕ) (choice : Choice) → IsUncovered b (x - s) → (IsSegmentByte b (x - s) v → ⊥)
+    → Holds b s choice x v → ⊥
 segment_byte_lacks b s x v choice none lacks held =
     let here : held.a ≡ x - s = own_address x s held.a held.slid in
     elim held.byte [

@@ -45,7 +45,8 @@ among {X = X} p (x ∷ xs) zero c lt is passes =
     let here : p x ≡ true = subst (λ y. p y ≡ true) (sym is) passes in rw here (record { within = omega arith; is = is })
 among {X = X} p (x ∷ xs) (suc i) c lt is passes =
     let rest = among p xs i c (omega (arith, lt)) is passes in
-    elim (p x) as (λ t. IsAmong (if t then x ∷ filter p xs else filter p xs) (length (if t then x ∷ filter p (take i xs) else filter p (take i xs))) c) [
+    elim (p x) as (λ t. IsAmong (if t then x ∷ filter p xs else filter p xs)
+    (length (if t then x ∷ filter p (take i xs) else filter p (take i xs))) c) [
       | true ↦ record { within = omega (arith, rest.within); is = rest.is }
       | false ↦ rest
     ]
@@ -71,7 +72,8 @@ pub size_is : (b : List ℕ) (place size : ℕ) → size ≡ le_at 4 b (place + 
 unfolding reading
 size_is b place size h = sym h
 
-one_passed : (which : Listed) (b : List ℕ) (number i place left size after : ℕ) → i < (header_of b).ncmds → Passed which b number i place left
+one_passed : (which : Listed) (b : List ℕ) (number i place left size after : ℕ) → i < (header_of b).ncmds
+    → Passed which b number i place left
     → size ≡ le_at 4 b (place + 4) → size ≤ 4294967295 → (if is_listed which b (command_at b place) then 1 else 0) + after ≡ left
     → Passed which b number (i + 1) (place + size) after
 one_passed which b number i place left size after within passed read small counts =
@@ -83,13 +85,15 @@ one_passed which b number i place left size after within passed read small count
       near = omega (arith, passed.near, small);
     }
 
-pub listed_passed : (which : Listed) (b : List ℕ) (number i place left size : ℕ) → i < (header_of b).ncmds → Passed which b number i place left
+pub listed_passed : (which : Listed) (b : List ℕ) (number i place left size : ℕ) → i < (header_of b).ncmds
+    → Passed which b number i place left
     → size ≡ le_at 4 b (place + 4) → size ≤ 4294967295 → is_listed which b (command_at b place) ≡ true → 1 ≤ left
     → Passed which b number (i + 1) (place + size) (left - 1)
 listed_passed which b number i place left size within passed read small is some =
     one_passed which b number i place left size (left - 1) within passed read small (rw is (omega (arith, some)))
 
-pub other_passed : (which : Listed) (b : List ℕ) (number i place left size : ℕ) → i < (header_of b).ncmds → Passed which b number i place left
+pub other_passed : (which : Listed) (b : List ℕ) (number i place left size : ℕ) → i < (header_of b).ncmds
+    → Passed which b number i place left
     → size ≡ le_at 4 b (place + 4) → size ≤ 4294967295 → is_listed which b (command_at b place) ≡ false
     → Passed which b number (i + 1) (place + size) left
 other_passed which b number i place left size within passed read small is =
@@ -103,7 +107,11 @@ nth_here which b number i place within passed is =
     let here = command_here b i place (command_at b place) within passed.stands in
     let found = among (is_listed which b) (commands_of b) i (command_at b place) (omega (arith, within, length-commands b)) here is in
     let count : passing (is_listed which b) i (commands_of b) ≡ number = omega (arith, passed.so_far) in
-    record { within = omega (arith, found.within, count); is = subst (λ n. get_or (filter (is_listed which b) (commands_of b)) n (command_at b place) ≡ command_at b place) count found.is }
+    record {
+      within = omega (arith, found.within, count);
+      is = subst
+          (λ n. get_or (filter (is_listed which b) (commands_of b)) n (command_at b place) ≡ command_at b place) count found.is;
+    }
 
 -- all have passed
 pub all_passed : (which : Listed) (b : List ℕ) (number i place left : ℕ) → (header_of b).ncmds ≤ i → Passed which b number i place left

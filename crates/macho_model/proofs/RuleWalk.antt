@@ -27,7 +27,8 @@ use Rattle.macho_model.proofs.EachBelow.{pass_all}
 use Rattle.macho_model.proofs.WordFitting.{found_any}
 
 -- a command by its number, whatever stands behind the last
-at_number : (which : Listed) (b : List ℕ) (number place : ℕ) (d : Command) → IsNth which b number place → get_or (listed which b) number d ≡ command_at b place
+at_number : (which : Listed) (b : List ℕ) (number place : ℕ) (d : Command) → IsNth which b number place
+    → get_or (listed which b) number d ≡ command_at b place
 at_number which b number place d nth = get_or_default (listed which b) number d (command_at b place) nth.within ∙ nth.is
 
 pub each_by_number : (b : List ℕ) (what : Asked) → ((k : ℕ) → k < (header_of b).ncmds → NumberPasses b what k)
@@ -37,11 +38,13 @@ each_by_number b what pass k d lt =
     subst (λ c. test_of what b c ≡ true) (sym (at_number (list_of what) b k there.0 d there.1))
     (pass k (omega (arith, lt, few_listed_of (list_of what) b)) there.0 there.1)
 
-pub neighbours_by_number : (b : List ℕ) → ((k : ℕ) → k < (header_of b).ncmds → NeighbourPasses b k) → EachNeighbour (segment_commands b) (begins_behind b)
+pub neighbours_by_number : (b : List ℕ) → ((k : ℕ) → k < (header_of b).ncmds → NeighbourPasses b k)
+    → EachNeighbour (segment_commands b) (begins_behind b)
 unfolding listed
 neighbours_by_number b pass k c d lt at_k at_next = listed_neighbours lt at_k at_next
   where
-    listed_neighbours : k + 1 < length (listed list.Segments b) → get_or (listed list.Segments b) k c ≡ c → get_or (listed list.Segments b) (k + 1) d ≡ d → begins_behind b c d ≡ true
+    listed_neighbours : k + 1 < length (listed list.Segments b) → get_or (listed list.Segments b) k c ≡ c
+        → get_or (listed list.Segments b) (k + 1) d ≡ d → begins_behind b c d ≡ true
     listed_neighbours within at_first at_second =
         let first = nth_exists list.Segments b k (omega (arith, within)) in
         let second = nth_exists list.Segments b (k + 1) within in
@@ -96,7 +99,8 @@ table_contains b number place nth =
     subst (λ ts. Contains ts (table_there b place)) (sym same)
     (number, omega (arith, nth.within, long), nth_image (table_of_command b) list.Tables b number place (table_there b place) nth)
 
-pub import_fails : (b : List ℕ) (number table place : ℕ) → IsNth list.Tables b number table → BadImport b (table_there b table) place → ImportFails b place
+pub import_fails : (b : List ℕ) (number table place : ℕ) → IsNth list.Tables b number table → BadImport b (table_there b table) place
+    → ImportFails b place
 import_fails b number table place nth bad =
     (table_there b table, bad.number, table_contains b number table nth, bad.among, bad.is, bad.fails)
 
@@ -108,11 +112,13 @@ same_table b number place table nth other fit =
 pub each_import : (b : List ℕ) → ((k : ℕ) → k < (header_of b).ncmds → TableImportsFit b k) → EachImportFits b
 each_import b fit t k (number, within, is) among =
     let same = tables_are b in
-    let there = nth_exists list.Tables b number (subst (λ n. number < n) (length-map (listed list.Tables b) (table_of_command b)) (subst (λ ts. number < length ts) same within)) in
+    let there = nth_exists list.Tables b number (subst (λ n. number < n) (length-map (listed list.Tables b) (table_of_command b))
+    (subst (λ ts. number < length ts) same within)) in
     let here : table_there b there.0 ≡ t =
     sym (nth_image (table_of_command b) list.Tables b number there.0 t there.1) ∙ sym (ap (λ ts. get_or ts number t) same) ∙ is in
     subst (λ x. import_fits b x k ≡ true) here
-    (fit number (omega (arith, there.1.within, few_listed_of list.Tables b)) there.0 there.1 k (subst (λ x. k < (fixups_header b x).imports_count) (sym here) among))
+    (fit number (omega (arith, there.1.within, few_listed_of list.Tables b)) there.0 there.1 k
+    (subst (λ x. k < (fixups_header b x).imports_count) (sym here) among))
 
 -- how many imports there are, by the first table
 first_count : (b : List ℕ) (cs : List Command) (c : Command) → 0 < length cs → get_or cs 0 c ≡ c
@@ -120,7 +126,8 @@ first_count : (b : List ℕ) (cs : List Command) (c : Command) → 0 < length cs
 first_count b [] c some is = absurd (omega (arith, some))
 first_count b (x ∷ cs) c some is = ap (λ (y : Command). (fixups_header b (table_of_command b y)).imports_count) is
 
-pub import_count_found : (b : List ℕ) (place : ℕ) → IsNth list.Tables b 0 place → import_count b (tables_of b) ≡ (fixups_header b (table_there b place)).imports_count
+pub import_count_found : (b : List ℕ) (place : ℕ) → IsNth list.Tables b 0 place
+    → import_count b (tables_of b) ≡ (fixups_header b (table_there b place)).imports_count
 import_count_found b place nth =
     ap (λ ts. import_count b ts) (tables_are b) ∙ first_count b (listed list.Tables b) (command_at b place) nth.within nth.is
 
@@ -141,17 +148,20 @@ held_by b number place a nth holds =
     (found_any (holds_word a) (map (segment_in b) (listed list.Mapped b)) s
     (number, omega (arith, nth.within, long), nth_image (segment_in b) list.Mapped b number place s nth) holds)
 
-pub held_by_none : (b : List ℕ) (a : ℕ) → ((k : ℕ) → k < (header_of b).ncmds → NthLacks b k a) → list_any (holds_word a) (mapped_segments b) ≡ false
+pub held_by_none : (b : List ℕ) (a : ℕ) → ((k : ℕ) → k < (header_of b).ncmds → NthLacks b k a)
+    → list_any (holds_word a) (mapped_segments b) ≡ false
 held_by_none b a none =
     let all : All (λ s. holds_word a s ≡ false) (map (segment_in b) (listed list.Mapped b)) =
     All-map (λ s. holds_word a s ≡ false) (segment_in b) (listed list.Mapped b) (λ k d lt.
     let there = nth_exists list.Mapped b k lt in
     subst (λ c. holds_word a (segment_in b c) ≡ false) (sym (at_number list.Mapped b k there.0 d there.1))
     (none k (omega (arith, lt, few_listed_of list.Mapped b)) there.0 there.1)) in
-    subst (λ xs. list_any (holds_word a) xs ≡ false) (sym (mapped_are b)) (list_any_none (holds_word a) (map (segment_in b) (listed list.Mapped b)) all)
+    subst (λ xs. list_any (holds_word a) xs ≡ false) (sym (mapped_are b))
+    (list_any_none (holds_word a) (map (segment_in b) (listed list.Mapped b)) all)
 
 -- an import that does not exist in the segment of a command, or all that do
-pub import_lacks : (b : List ℕ) (number place a : ℕ) → IsNth list.Segments b number place → import_exists b a (chain_segment_at b 0 place) ≡ false
+pub import_lacks : (b : List ℕ) (number place a : ℕ) → IsNth list.Segments b number place
+    → import_exists b a (chain_segment_at b 0 place) ≡ false
     → list_all (import_exists b a) (chain_segments b) ≡ false
 import_lacks b number place a nth fails =
     let s = chain_segment_at b number place in
@@ -159,7 +169,8 @@ import_lacks b number place a nth fails =
     list_all_at (import_exists b a) (chain_segments b) number s (omega (arith, nth.within, long))
     (subst (λ x. import_exists b a x ≡ false) (sym (chain_at b number place s nth)) fails)
 
-pub imports_exist : (b : List ℕ) (a : ℕ) → ((k : ℕ) → k < (header_of b).ncmds → NthImportExists b k a) → list_all (import_exists b a) (chain_segments b) ≡ true
+pub imports_exist : (b : List ℕ) (a : ℕ) → ((k : ℕ) → k < (header_of b).ncmds → NthImportExists b k a)
+    → list_all (import_exists b a) (chain_segments b) ≡ true
 imports_exist b a each =
     pass_all (import_exists b a) (chain_segments b) (λ k d lt.
     let there = nth_exists list.Segments b k (omega (arith, lt, count_of_chain b)) in

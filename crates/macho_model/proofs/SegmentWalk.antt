@@ -29,12 +29,14 @@ unfolding commands_of
 walk_begins b = ap (λ k. commands_from b (size_of mach_header) k) (omega arith)
 
 -- the commands from a place on, where there is one
-from_one : (b : List ℕ) (place n m : ℕ) → n ≡ suc m → commands_from b place n ≡ command_at b place ∷ commands_from b (place + (command_at b place).size) m
+from_one : (b : List ℕ) (place n m : ℕ) → n ≡ suc m
+    → commands_from b place n ≡ command_at b place ∷ commands_from b (place + (command_at b place).size) m
 unfolding commands_from
 from_one b place n m is = rw is refl
 
 -- command i stands at the place
-pub command_here : (b : List ℕ) (i place : ℕ) (d : Command) → i < (header_of b).ncmds → StandsAt b i place → get_or (commands_of b) i d ≡ command_at b place
+pub command_here : (b : List ℕ) (i place : ℕ) (d : Command) → i < (header_of b).ncmds → StandsAt b i place
+    → get_or (commands_of b) i d ≡ command_at b place
 command_here b i place d within stands =
     let same : (header_of b).ncmds - i ≡ suc ((header_of b).ncmds - i - 1) = omega (arith, within) in
     let first = stands ∙ from_one b place ((header_of b).ncmds - i) ((header_of b).ncmds - i - 1) same in
@@ -43,21 +45,27 @@ command_here b i place d within stands =
     sym (ap (λ k. get_or (commands_of b) k d) place_i) ∙ sym at_i ∙ ap (λ xs. get_or xs 0 d) first
 
 -- the next place
-pub walk_goes_on : (b : List ℕ) (i place : ℕ) → i < (header_of b).ncmds → StandsAt b i place → StandsAt b (i + 1) (place + (command_at b place).size)
+pub walk_goes_on : (b : List ℕ) (i place : ℕ) → i < (header_of b).ncmds → StandsAt b i place
+    → StandsAt b (i + 1) (place + (command_at b place).size)
 walk_goes_on b i place within stands =
     let same : (header_of b).ncmds - i ≡ suc ((header_of b).ncmds - i - 1) = omega (arith, within) in
     let first = stands ∙ from_one b place ((header_of b).ncmds - i) ((header_of b).ncmds - i - 1) same in
     let less : (header_of b).ncmds - i - 1 ≡ (header_of b).ncmds - (i + 1) = omega (arith, within) in
-    let one : drop 1 (drop i (commands_of b)) ≡ drop (i + 1) (commands_of b) = drop-drop 1 i (commands_of b) ∙ ap (λ k. drop k (commands_of b)) (omega arith) in
+    let one : drop 1 (drop i (commands_of b)) ≡ drop (i + 1) (commands_of b) = drop-drop 1 i (commands_of b) ∙ ap
+    (λ k. drop k (commands_of b)) (omega arith) in
     sym one ∙ ap (λ xs. drop 1 xs) first ∙ ap (λ k. commands_from b (place + (command_at b place).size) k) less
 
 -- a command of the list is what stands at its place
-commands_stand : (b : List ℕ) (at n k : ℕ) (d : Command) → k < n → get_or (commands_from b at n) k d ≡ command_at b (get_or (commands_from b at n) k d).at
+commands_stand : (b : List ℕ) (at n k : ℕ) (d : Command) → k < n
+    → get_or (commands_from b at n) k d ≡ command_at b (get_or (commands_from b at n) k d).at
 unfolding commands_from
 commands_stand b at zero k d within = absurd (omega (arith, within))
 commands_stand b at (suc n) zero d within = refl
 commands_stand b at (suc n) (suc k) d within = commands_stand b (at + (reading load_command b at).cmdsize) n k d (omega (arith, within))
 
-pub at_its_place : (b : List ℕ) (k : ℕ) (d : Command) → k < length (commands_of b) → get_or (commands_of b) k d ≡ command_at b (get_or (commands_of b) k d).at
+pub at_its_place : (b : List ℕ) (k : ℕ) (d : Command) → k < length (commands_of b)
+    → get_or (commands_of b) k d ≡ command_at b (get_or (commands_of b) k d).at
 unfolding commands_of
-at_its_place b k d within = commands_stand b (size_of mach_header) (header_of b).ncmds k d (omega (arith, within, length-commands_from b (size_of mach_header) (header_of b).ncmds))
+at_its_place b k d within =
+    commands_stand b (size_of mach_header) (header_of b).ncmds k d
+    (omega (arith, within, length-commands_from b (size_of mach_header) (header_of b).ncmds))

@@ -21,12 +21,14 @@ use Rattle.macho_model.proofs.WordFitting.{word_fits, fits_word}
 use Rattle.macho_model.proofs.WordWalk.{step_leads, step_of_word, page_chain_found, page_chain_none, from_start, numbered_segment, few_listed_of, chain_contains, nth_one}
 
 -- a word that passes ends in its page
-pub in_page : (b : List ℕ) (number place page offset : ℕ) → word_fits_test b (chain_segment_at b number place) page (address_in b place offset) ≡ true
+pub in_page : (b : List ℕ) (number place page offset : ℕ)
+    → word_fits_test b (chain_segment_at b number place) page (address_in b place offset) ≡ true
     → offset + 8 ≤ 16384 * (page + 1)
 in_page b number place page offset h =
     let s = chain_segment_at b number place in
     let a = address_in b place offset in
-    let both = and_left (stands_in_page s page a && list_any (holds_word a) (mapped_segments b)) (list_all (import_exists b a) (chain_segments b)) h in
+    let both = and_left (stands_in_page s page a && list_any (holds_word a) (mapped_segments b))
+    (list_all (import_exists b a) (chain_segments b)) h in
     let page_holds = and_left (stands_in_page s page a) (list_any (holds_word a) (mapped_segments b)) both in
     let end = leb-true (a + WORD_SIZE) (s.address + CHAIN_PAGE * (page + 1))
     (and_right (nat_le (s.address + CHAIN_PAGE * page) a) (nat_le (a + WORD_SIZE) (s.address + CHAIN_PAGE * (page + 1))) page_holds) in
@@ -38,7 +40,8 @@ step_goes b number a n step = let s = step.step in let goes = s.goes in let is =
 
 -- a word that fails
 pub unfit_here : (b : List ℕ) (number place page offset : ℕ) → offset < 2 ^ 32
-    → word_fits_test b (chain_segment_at b number place) page (address_in b place offset) ≡ false → UnfitFrom b number place page offset offset
+    → word_fits_test b (chain_segment_at b number place) page (address_in b place offset) ≡ false → UnfitFrom b number place page offset
+    offset
 unfit_here b number place page offset small fails =
     record {
       leads = walks.Leads.here (address_in b place offset);
@@ -62,13 +65,16 @@ unfit_behind b other number place page offset n x step unfit =
 
 -- a word that passes, and so do all that its steps lead to
 fit_all : (b : List ℕ) (s : ChainSegment) (page a c : ℕ) → word_fits_test b s page a ≡ true
-    → ((other n d : ℕ) → other < (header_of b).ncmds → StepIn b other a n → Leads b (a + n) d → WordFits b s page d) → Leads b a c → WordFits b s page c
+    → ((other n d : ℕ) → other < (header_of b).ncmds → StepIn b other a n → Leads b (a + n) d → WordFits b s page d) → Leads b a c →
+    WordFits b s page c
 fit_all b s page _ _ passes rest (walks.Leads.here a) = word_fits b s page a passes
 fit_all b s page _ _ passes rest (walks.Leads.on a word c stands goes leads) =
     let step = step_of_word b a word stands goes in rest step.0 (STRIDE * next_of word) c step.1 step.2 leads
 
-pub fit_from : (b : List ℕ) (number place page offset : ℕ) → word_fits_test b (chain_segment_at b number place) page (address_in b place offset) ≡ true
-    → ((other n : ℕ) → other < (header_of b).ncmds → StepIn b other (address_in b place offset) n → FitFrom b number place page (offset + n))
+pub fit_from : (b : List ℕ) (number place page offset : ℕ)
+    → word_fits_test b (chain_segment_at b number place) page (address_in b place offset) ≡ true
+    → ((other n : ℕ) → other < (header_of b).ncmds → StepIn b other (address_in b place offset) n → FitFrom b number place page
+    (offset + n))
     → FitFrom b number place page offset
 fit_from b number place page offset passes rest a leads =
     fit_all b (chain_segment_at b number place) page (address_in b place offset) a passes
@@ -76,15 +82,18 @@ fit_from b number place page offset passes rest a leads =
 
 -- of a page: its start, and what it leads to
 start_address : (b : List ℕ) (number place page start : ℕ) → start ≡ slice_index (starts_of b number) page
-    → address_in b place (16384 * page + start) ≡ (segment_in b (command_at b place)).vmaddr + CHAIN_PAGE * page + slice_index (starts_of b number) page
+    → address_in b place (16384 * page + start) ≡ (segment_in b (command_at b place)).vmaddr + CHAIN_PAGE * page + slice_index
+    (starts_of b number) page
 start_address b number place page start is = omega (arith, is)
 
-pub unfit_on_page : (b : List ℕ) (number place page start x : ℕ) → page < length (starts_of b number) → start ≡ slice_index (starts_of b number) page
+pub unfit_on_page : (b : List ℕ) (number place page start x : ℕ) → page < length (starts_of b number)
+    → start ≡ slice_index (starts_of b number) page
     → (start ≡ NO_START → ⊥) → UnfitFrom b number place page (16384 * page + start) x → UnfitOnPage b number place page x
 unfit_on_page b number place page start x within is some unfit =
     record {
       on = page_chain_found b number place page (address_in b place x) (segment_in b (command_at b place)).vmaddr start within is some refl
-          (subst (λ a. Leads b a (address_in b place x)) (start_address b number place page start is ∙ sym (ap (λ n. (segment_in b (command_at b place)).vmaddr + CHAIN_PAGE * page + n) is)) unfit.leads);
+          (subst (λ a. Leads b a (address_in b place x)) (start_address b number place page start is ∙ sym
+          (ap (λ n. (segment_in b (command_at b place)).vmaddr + CHAIN_PAGE * page + n) is)) unfit.leads);
       unfit = unfit.unfit;
       small = unfit.small;
     }
@@ -148,10 +157,12 @@ one_fits b number place page offset i before here k n within step =
     ]
 
 -- the file bytes of a segment begin inside the file
-pub begins_inside : (b : List ℕ) (place : ℕ) → file_part_inside b (command_at b place) ≡ true → (segment_in b (command_at b place)).fileoff ≤ length b
+pub begins_inside : (b : List ℕ) (place : ℕ) → file_part_inside b (command_at b place) ≡ true
+    → (segment_in b (command_at b place)).fileoff ≤ length b
 begins_inside b place h =
     let s = segment_in b (command_at b place) in
-    let end = leb-true (s.fileoff + s.filesize) (length b) (and_left (nat_le (s.fileoff + s.filesize) (length b)) (nat_le s.filesize s.vmsize) h) in
+    let end = leb-true (s.fileoff + s.filesize) (length b) (and_left (nat_le (s.fileoff + s.filesize) (length b))
+    (nat_le s.filesize s.vmsize) h) in
     omega (arith, end)
 
 pub same_segment_fits : (b : List ℕ) (number place found page : ℕ) → IsNth list.Segments b number place → IsNth list.Segments b number found

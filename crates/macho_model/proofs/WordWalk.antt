@@ -30,7 +30,8 @@ few_kept : {X : Type 0} (p : X → Bool) (xs : List X) → length (filter p xs) 
 few_kept p [] = omega arith
 few_kept p (x ∷ xs) =
     let rest = few_kept p xs in
-    elim (p x) as (λ t. length (if t then x ∷ filter p xs else filter p xs) ≤ suc (length xs)) [ true ↦ omega (arith, rest) | false ↦ omega (arith, rest) ]
+    elim (p x) as (λ t. length (if t then x ∷ filter p xs else filter p xs) ≤ suc (length xs))
+    [ true ↦ omega (arith, rest) | false ↦ omega (arith, rest) ]
 
 pub few_listed_of : (which : Listed) (b : List ℕ) → length (listed which b) ≤ (header_of b).ncmds
 unfolding listed
@@ -49,7 +50,8 @@ nth_exists which b number within =
 
 pub nth_one : (which : Listed) (b : List ℕ) (number p q : ℕ) → IsNth which b number p → IsNth which b number q → p ≡ q
 nth_one which b number p q first second =
-    ap (λ (c : Command). c.at) (sym first.is ∙ get_or_default (listed which b) number (command_at b p) (command_at b q) first.within ∙ second.is)
+    ap (λ (c : Command). c.at) (sym first.is ∙ get_or_default (listed which b) number (command_at b p) (command_at b q) first.within ∙
+    second.is)
 
 -- a segment as chains see it, by its number
 pub chain_at : (b : List ℕ) (number place : ℕ) (d : ChainSegment) → IsNth list.Segments b number place
@@ -60,7 +62,8 @@ chain_at b number place d nth =
     let within : number < length (segments_of b) = omega (arith, nth.within, count_of_segments b) in
     let long = length-enumerate_from 0 (segments_of b) in
     let from_zero : 0 + number ≡ number = omega arith in
-    let is : get_or (segments_of b) number s ≡ s = ap (λ (xs : List SegmentCommand). get_or xs number s) (segments_are b) ∙ nth_image (segment_in b) list.Segments b number place s nth in
+    let is : get_or (segments_of b) number s ≡ s = ap (λ (xs : List SegmentCommand). get_or xs number s) (segments_are b) ∙ nth_image
+    (segment_in b) list.Segments b number place s nth in
     get_or-map (chain_segment b) (enumerate_from 0 (segments_of b)) number (number, s) d (omega (arith, within, long))
     ∙ ap (chain_segment b) (get_or-enumerate_from 0 (segments_of b) number (number, s) within)
     ∙ ap (λ (k : ℕ). chain_segment b (k, get_or (segments_of b) number s)) from_zero
@@ -68,11 +71,17 @@ chain_at b number place d nth =
 
 pub count_of_chain : (b : List ℕ) → length (chain_segments b) ≡ length (listed list.Segments b)
 unfolding chain_segments
-count_of_chain b = length-map (enumerate_from 0 (segments_of b)) (chain_segment b) ∙ length-enumerate_from 0 (segments_of b) ∙ count_of_segments b
+count_of_chain b =
+    length-map (enumerate_from 0 (segments_of b)) (chain_segment b) ∙ length-enumerate_from 0 (segments_of b) ∙ count_of_segments b
 
-pub chain_contains : (b : List ℕ) (number place : ℕ) → IsNth list.Segments b number place → Contains (chain_segments b) (chain_segment b (number, segment_in b (command_at b place)))
-chain_contains b number place nth =
-    (number, omega (arith, nth.within, count_of_chain b), chain_at b number place (chain_segment b (number, segment_in b (command_at b place))) nth)
+pub chain_contains : (b : List ℕ) (number place : ℕ) → IsNth list.Segments b number place
+    → Contains (chain_segments b) (chain_segment b (number, segment_in b (command_at b place)))
+chain_contains b number place nth = (
+  number,
+  omega (arith, nth.within, count_of_chain b),
+  chain_at b number place
+      (chain_segment b (number, segment_in b (command_at b place))) nth,
+)
 
 -- each segment of the chain has a number and a place
 pub record IsNumbered (b : List ℕ) (s : ChainSegment) : Type 0 where
@@ -96,13 +105,16 @@ pub record WordIn (b : List ℕ) (a word : ℕ) : Type 0 where
 pub word_in_segment : (b : List ℕ) (a word : ℕ) → IsFileWord (chain_segments b) b a word → WordIn b a word
 word_in_segment b a word stands = of stands.segment stands.from stands.to stands.is (numbered_segment b stands.segment stands.one)
   where
-    of : (s : ChainSegment) → s.address ≤ a → a + WORD_SIZE ≤ s.address + s.file_size → word ≡ le_at WORD_SIZE b (s.file_offset + (a - s.address))
+    of : (s : ChainSegment) → s.address ≤ a → a + WORD_SIZE ≤ s.address + s.file_size
+        → word ≡ le_at WORD_SIZE b (s.file_offset + (a - s.address))
         → IsNumbered b s → WordIn b a word
     of s from to is n =
-        let whole = subst (λ (x : ChainSegment). (x.address ≤ a) × (a + WORD_SIZE ≤ x.address + x.file_size) × (word ≡ le_at WORD_SIZE b (x.file_offset + (a - x.address)))) n.is (from, to, is) in
+        let whole = subst (λ (x : ChainSegment). (x.address ≤ a) × (a + WORD_SIZE ≤ x.address + x.file_size) ×
+        (word ≡ le_at WORD_SIZE b (x.file_offset + (a - x.address)))) n.is (from, to, is) in
         record { number = n.number; place = n.place; nth = n.nth; has = record { from = whole.0; to = whole.1; is = whole.2 } }
 
-pub segment_has_word : (b : List ℕ) (number place a word : ℕ) → IsNth list.Segments b number place → HasWord b (segment_in b (command_at b place)) a word
+pub segment_has_word : (b : List ℕ) (number place a word : ℕ) → IsNth list.Segments b number place
+    → HasWord b (segment_in b (command_at b place)) a word
     → IsFileWord (chain_segments b) b a word
 segment_has_word b number place a word nth has =
     record {
@@ -117,19 +129,25 @@ segment_has_word b number place a word nth has =
 pub step_of_word : (b : List ℕ) (a word : ℕ) → IsFileWord (chain_segments b) b a word → 1 ≤ next_of word
     → (number : ℕ) × (number < (header_of b).ncmds) × StepIn b number a (STRIDE * next_of word)
 step_of_word b a word stands goes =
-    let w = word_in_segment b a word stands in
-    (w.number, omega (arith, w.nth.within, few_listed_of list.Segments b), record { place = w.place; nth = w.nth; step = record { word = word; has = w.has; goes = goes; is = refl } })
+    let w = word_in_segment b a word stands in (
+      w.number,
+      omega (arith, w.nth.within, few_listed_of list.Segments b),
+      record
+          { place = w.place; nth = w.nth; step = record { word = word; has = w.has; goes = goes; is = refl } },
+    )
 
 pub step_leads : (b : List ℕ) (number a n c : ℕ) → StepIn b number a n → Leads b (a + n) c → Leads b a c
 step_leads b number a n c step leads =
     let s = step.step in
-    walks.Leads.on a s.word c (segment_has_word b number step.place a s.word step.nth s.has) s.goes (subst (λ m. Leads b (a + m) c) s.is leads)
+    walks.Leads.on a s.word c (segment_has_word b number step.place a s.word step.nth s.has) s.goes
+    (subst (λ m. Leads b (a + m) c) s.is leads)
 
 -- the step that a word makes, and no other
 pub some_is : {X : Type 0} (x y : X) → Some x ≡ Some y → x ≡ y
 some_is x y h = ap (λ o. unwrap_or o y) h
 
-pub step_found : (b : List ℕ) (place a word steps n : ℕ) → HasWord b (segment_in b (command_at b place)) a word → steps ≡ next_of word → 1 ≤ steps
+pub step_found : (b : List ℕ) (place a word steps n : ℕ) → HasWord b (segment_in b (command_at b place)) a word → steps ≡ next_of word
+    → 1 ≤ steps
     → Some (4 * steps) ≡ Some n → StepOf b place a n
 step_found b place a word steps n has is some this =
     record { word = word; has = has; goes = omega (arith, some, is); is = sym (some_is (4 * steps) n this) ∙ ap (λ k. 4 * k) is }
@@ -155,14 +173,17 @@ leads_up b _ _ (walks.Leads.here a) = omega arith
 leads_up b _ _ (walks.Leads.on a word c stands goes rest) = let up = leads_up b (a + STRIDE * next_of word) c rest in omega (arith, up)
 
 -- where no segment leads on, a chain leads to no other address
-pub leads_nowhere : (b : List ℕ) (a c : ℕ) → a < c → ((number n : ℕ) → number < (header_of b).ncmds → StepIn b number a n → Leads b (a + n) c → ⊥) → Leads b a c → ⊥
+pub leads_nowhere : (b : List ℕ) (a c : ℕ) → a < c
+    → ((number n : ℕ) → number < (header_of b).ncmds → StepIn b number a n → Leads b (a + n) c → ⊥) → Leads b a c → ⊥
 leads_nowhere b _ _ before none (walks.Leads.here a) = absurd (omega (arith, before))
 leads_nowhere b _ _ before none (walks.Leads.on a word c stands goes rest) =
     let step = step_of_word b a word stands goes in none step.0 (STRIDE * next_of word) step.1 step.2 rest
 
 -- one word more at the end
-pub leads_more : (b : List ℕ) (a c word : ℕ) → Leads b a c → IsFileWord (chain_segments b) b c word → 1 ≤ next_of word → Leads b a (c + STRIDE * next_of word)
-leads_more b _ _ word (walks.Leads.here a) stands goes = walks.Leads.on a word (a + STRIDE * next_of word) stands goes (walks.Leads.here (a + STRIDE * next_of word))
+pub leads_more : (b : List ℕ) (a c word : ℕ) → Leads b a c → IsFileWord (chain_segments b) b c word → 1 ≤ next_of word
+    → Leads b a (c + STRIDE * next_of word)
+leads_more b _ _ word (walks.Leads.here a) stands goes =
+    walks.Leads.on a word (a + STRIDE * next_of word) stands goes (walks.Leads.here (a + STRIDE * next_of word))
 leads_more b _ _ word (walks.Leads.on a first c at_a goes_a rest) stands goes =
     walks.Leads.on a first (c + STRIDE * next_of word) at_a goes_a (leads_more b (a + STRIDE * next_of first) c word rest stands goes)
 
@@ -177,12 +198,14 @@ pub record FromStart (b : List ℕ) (s : ChainSegment) (page a : ℕ) : Type 0 w
   pub leads : Leads b (page_first s page) a
 
 pub from_start : (b : List ℕ) (s : ChainSegment) (page a : ℕ) → OnPageChain (chain_segments b) b s page a → FromStart b s page a
-from_start b s page _ (chain.OnPageChain.first within starts) = record { within = within; starts = starts; leads = walks.Leads.here (page_first s page) }
+from_start b s page _ (chain.OnPageChain.first within starts) =
+    record { within = within; starts = starts; leads = walks.Leads.here (page_first s page) }
 from_start b s page _ (chain.OnPageChain.next a word on stands goes) =
     let before = from_start b s page a on in
     record { within = before.within; starts = before.starts; leads = leads_more b (page_first s page) a word before.leads stands goes }
 
-pub leads_on_page : (b : List ℕ) (s : ChainSegment) (page a c : ℕ) → OnPageChain (chain_segments b) b s page a → Leads b a c → OnPageChain (chain_segments b) b s page c
+pub leads_on_page : (b : List ℕ) (s : ChainSegment) (page a c : ℕ) → OnPageChain (chain_segments b) b s page a → Leads b a c
+    → OnPageChain (chain_segments b) b s page c
 leads_on_page b s page _ _ on (walks.Leads.here a) = on
 leads_on_page b s page _ _ on (walks.Leads.on a word c stands goes rest) =
     leads_on_page b s page (a + STRIDE * next_of word) c (chain.OnPageChain.next a word on stands goes) rest
@@ -198,7 +221,8 @@ pub record OnSomePage (b : List ℕ) (a : ℕ) : Type 0 where
   pub on : OnPageChain (chain_segments b) b segment page a
 
 pub on_some_page : (b : List ℕ) (a : ℕ) → OnChain (chain_segments b) b a → OnSomePage b a
-on_some_page b _ (chain.OnChain.first s page one within starts) = record { segment = s; page = page; one = one; on = chain.OnPageChain.first within starts }
+on_some_page b _ (chain.OnChain.first s page one within starts) =
+    record { segment = s; page = page; one = one; on = chain.OnPageChain.first within starts }
 on_some_page b _ (chain.OnChain.next a word on stands goes) =
     let before = on_some_page b a on in
     record { segment = before.segment; page = before.page; one = before.one; on = chain.OnPageChain.next a word before.on stands goes }
@@ -240,16 +264,19 @@ starts_missing b k none = ap (λ ts. starts_in_tables b ts k) (tables_are b) ∙
 pub length_starts : (b : List ℕ) (t : Table) (k : ℕ) → nat_lt k (starts_count b t) ≡ true → (starts_offset b t k == 0) ≡ false
     → length (starts_in b t k) ≡ (segment_starts b t k).page_count
 length_starts b t k within some =
-    rw (within, some) (length-map (range_with_len 0 (segment_starts b t k).page_count) (page_start b t k) ∙ length-range_with_len 0 (segment_starts b t k).page_count)
+    rw (within, some) (length-map (range_with_len 0 (segment_starts b t k).page_count) (page_start b t k) ∙ length-range_with_len 0
+    (segment_starts b t k).page_count)
 
-pub start_is : (b : List ℕ) (t : Table) (k page : ℕ) → page < length (starts_in b t k) → page_start b t k page ≡ slice_index (starts_in b t k) page
+pub start_is : (b : List ℕ) (t : Table) (k page : ℕ) → page < length (starts_in b t k)
+    → page_start b t k page ≡ slice_index (starts_in b t k) page
 start_is b t k page within =
     cases (nat_lt k (starts_count b t)) (starts_offset b t k == 0) within
   where
     ones : List ℕ
     ones = map (page_start b t k) (range_with_len 0 (segment_starts b t k).page_count)
 
-    cases : (x y : Bool) → page < length (if x then (if y then [] else ones) else []) → page_start b t k page ≡ slice_index (if x then (if y then [] else ones) else []) page
+    cases : (x y : Bool) → page < length (if x then (if y then [] else ones) else [])
+        → page_start b t k page ≡ slice_index (if x then (if y then [] else ones) else []) page
     cases true true lt = absurd (omega (arith, lt))
     cases false y lt = absurd (omega (arith, lt))
     cases true false lt =
@@ -270,7 +297,8 @@ on_no_segment b a none on =
 
 pub on_chain_of : (b : List ℕ) (number place page a : ℕ) → IsNth list.Segments b number place
     → OnPageChain (chain_segments b) b (chain_segment_at b number place) page a → OnChain (chain_segments b) b a
-on_chain_of b number place page a nth on = page_on_chain (chain_segments b) b (chain_segment_at b number place) page a (chain_contains b number place nth) on
+on_chain_of b number place page a nth on =
+    page_on_chain (chain_segments b) b (chain_segment_at b number place) page a (chain_contains b number place nth) on
 
 -- one more of what has passed
 pub one_more_below : {P : ℕ → Type 0} (i : ℕ) → ((k : ℕ) → k < i → P k) → P i → (k : ℕ) → k < i + 1 → P k
@@ -278,7 +306,8 @@ one_more_below {P = P} i before here k within =
     elim (cases_lt k i) [ inl lt ↦ before k lt | inr le ↦ let same : i ≡ k = omega (arith, le, within) in subst P same here ]
 
 -- a page's chain, by the words that are read
-pub page_chain_found : (b : List ℕ) (number place page a address start : ℕ) → page < length (starts_of b number) → start ≡ slice_index (starts_of b number) page
+pub page_chain_found : (b : List ℕ) (number place page a address start : ℕ) → page < length (starts_of b number)
+    → start ≡ slice_index (starts_of b number) page
     → (start ≡ NO_START → ⊥) → address ≡ (segment_in b (command_at b place)).vmaddr → Leads b (address + CHAIN_PAGE * page + start) a
     → OnPageChain (chain_segments b) b (chain_segment_at b number place) page a
 page_chain_found b number place page a address start within is some at leads =

@@ -10,11 +10,11 @@ use Rattle.macho_model.specs.LoadRules.{image_head_fits, needed_in_image, segmen
 use Rattle.macho_model.specs.declared.rules.LoadRule.{LoadRule}
 use Rattle.macho_model.specs.declared.rules.LoadRule.TheVariants.{L1, L2, L3, L4, L5, L6, L7, L8, L9, L10}
 use Rattle.macho_model.specs.ObjectRules.{commands_inside}
-use Rattle.macho_model.specs.Grammar.{EachCommand}
+use Rattle.macho_model.specs.Grammar.{EachCommand, CommandFails}
 use Rattle.macho_model.specs.Segments.{TEXT}
 use Rattle.macho_model.specs.Chain.{ChainSegment, chain_segments, OnPageChain}
-use Rattle.macho_model.specs.Loader.{WordFits, EachNeighbour, segment_commands}
-use Rattle.macho_model.specs.Walks.{command_at, IsNth, table_there}
+use Rattle.macho_model.specs.Loader.{WordFits, EachNeighbour, NeighbourFails, segment_commands}
+use Rattle.macho_model.specs.Walks.{command_at, listed, IsNth, table_there}
 
 -- the commands that are asked
 abbrev pub list_of : Asked → Listed
@@ -39,6 +39,13 @@ test_of asked.Table b c = table_fits b (table_of_command b c)
 -- the command with a number, if there is one, passes
 abbrev pub NumberPasses : List ℕ → Asked → ℕ → Type 0
 NumberPasses b what number = (place : ℕ) → IsNth (list_of what) b number place → test_of what b (command_at b place) ≡ true
+
+-- a command that is asked fails, and a segment begins before the end of the one before it; each told at its place
+abbrev pub AskedFails : List ℕ → Asked → ℕ → Type 0
+AskedFails b what place = CommandFails (listed (list_of what) b) place (test_of what b)
+
+abbrev pub BeginsBefore : List ℕ → ℕ → Type 0
+BeginsBefore b place = NeighbourFails (segment_commands b) place (begins_behind b)
 
 -- the segments with a number and the next one, if there are both, stand in order
 abbrev pub NeighbourPasses : List ℕ → ℕ → Type 0
@@ -74,4 +81,5 @@ LoadKeeps b L6 = EachCommand (segment_commands b) (segment_ends b) × EachNeighb
 LoadKeeps b L7 = (length (segments_named TEXT b) ≡ 1) × All (λ s. text_holds_commands b s ≡ true) (segments_named TEXT b)
 LoadKeeps b L8 = (length (tables_of b) ≤ 1) × All (λ t. table_fits b t ≡ true) (tables_of b)
 LoadKeeps b L9 = (t : Table) (k : ℕ) → Contains (tables_of b) t → k < (fixups_header b t).imports_count → import_fits b t k ≡ true
-LoadKeeps b L10 = (s : ChainSegment) (page a : ℕ) → Contains (chain_segments b) s → OnPageChain (chain_segments b) b s page a → WordFits b s page a
+LoadKeeps b L10 =
+    (s : ChainSegment) (page a : ℕ) → Contains (chain_segments b) s → OnPageChain (chain_segments b) b s page a → WordFits b s page a

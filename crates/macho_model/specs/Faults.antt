@@ -56,7 +56,8 @@ names_symbol l (ByName name) = false
 -- a file uses a global name that has no definition
 abbrev pub IsUndefined : Link → List ℕ → ℕ → Type 0
 IsUndefined l name file =
-    (u : Use) × (s : SymbolId) × Contains (uses_of l) u × (names_symbol l u ≡ true) × (symbol_used l u ≡ Some s) × (is_global (entry_at l s) ≡ true) × (name_at l s ≡ name)
+    (u : Use) × (s : SymbolId) × Contains (uses_of l) u × (names_symbol l u ≡ true) × (symbol_used l u ≡ Some s) ×
+    (is_global (entry_at l s) ≡ true) × (name_at l s ≡ name)
     × (s.file ≡ file) × IsNone (definition_of l name)
 
 -- an entry breaks a rule; a section that is cut is told at the entry that is cut
@@ -72,14 +73,16 @@ entry_is_defined l = not l.executable || is_section_target (target_of_name l l.e
 abbrev pub IsBadInitializer : Link → SectionId → ℕ → Type 0
 IsBadInitializer l s offset =
     ((initializer_section_fits l s ≡ false) × (offset ≡ 0))
-    ⊎ ((slot : ℕ) × (POINTER_SIZE * slot + POINTER_SIZE ≤ (header_at l s).size) × (offset ≡ POINTER_SIZE * slot) × (initializer_slot_fits l s slot ≡ false))
+    ⊎ ((slot : ℕ) × (POINTER_SIZE * slot + POINTER_SIZE ≤ (header_at l s).size) × (offset ≡ POINTER_SIZE * slot) ×
+    (initializer_slot_fits l s slot ≡ false))
     ⊎ ((r : ℕ) × (r < (header_at l s).nreloc) × (offset ≡ (relocation_in l s r).r_address) × ((offset % POINTER_SIZE == 0) ≡ false))
 
 -- a pointer is in a segment that may hold none; or its word crosses a page or is not at a multiple of four
 abbrev pub BadPlace : Link → SectionId → Field → Option Placed → Type 0
 BadPlace l s f None = may_hold_pointers (segment_name l s) ≡ false
 BadPlace l s f (Some p) =
-    (address : ℕ) × SectionAt p s.file s.section address × ((SEGMENT_PAGE < (address + f.offset) % SEGMENT_PAGE + 8) ⊎ (1 ≤ (address + f.offset) % 4))
+    (address : ℕ) × SectionAt p s.file s.section address × ((SEGMENT_PAGE < (address + f.offset) % SEGMENT_PAGE + 8) ⊎
+    (1 ≤ (address + f.offset) % 4))
 
 -- the last part of a path, without the slashes at its end
 abbrev pub SLASH : ℕ
@@ -117,7 +120,8 @@ FaultStands l counts (OverlappingFields file section first second) =
     Contains (carried_of l) (section_id file section) × (first < second) × (second < (header_at l (section_id file section)).nreloc)
     × (share_byte l (section_id file section) first second ≡ true) × (are_pair l (section_id file section) first second ≡ false)
 FaultStands l counts (BindAddend file section relocation addend) =
-    (f : Field) × FieldOf l (section_id file section) relocation f × (is_pointer f ≡ true) × (is_import f.target ≡ true) × (addend ≡ f.addend)
+    (f : Field) × FieldOf l (section_id file section) relocation f × (is_pointer f ≡ true) × (is_import f.target ≡ true) ×
+    (addend ≡ f.addend)
     × (fits_signed 32 addend ≡ false)
 FaultStands l counts (FixupPlace file section relocation placement) =
     (f : Field) × FieldOf l (section_id file section) relocation f × (needs_fixup l (section_id file section) f ≡ true)

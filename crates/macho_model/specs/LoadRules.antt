@@ -56,7 +56,8 @@ file_part_inside b c =
 -- L5: a segment is made of whole pages
 abbrev pub segment_is_paged : List ℕ → Command → Bool
 segment_is_paged b c =
-    ((segment_in b c).vmaddr % SEGMENT_PAGE == 0) && ((segment_in b c).vmsize % SEGMENT_PAGE == 0) && ((segment_in b c).fileoff % SEGMENT_PAGE == 0)
+    ((segment_in b c).vmaddr % SEGMENT_PAGE == 0) && ((segment_in b c).vmsize % SEGMENT_PAGE == 0) &&
+    ((segment_in b c).fileoff % SEGMENT_PAGE == 0)
 
 -- L6: a segment ends at 2 ^ 64 at most, and the one behind it does not begin before that
 abbrev pub segment_ends : List ℕ → Command → Bool
@@ -78,7 +79,8 @@ abbrev pub starts_fit : List ℕ → Table → ℕ → Bool
 starts_fit b t k =
     (starts_offset b t k == 0)
     || (nat_le ((fixups_header b t).starts_offset + starts_offset b t k + size_of chained_starts_in_segment) t.size
-    && nat_le ((fixups_header b t).starts_offset + starts_offset b t k + size_of chained_starts_in_segment + 2 * (segment_starts b t k).page_count) t.size
+    && nat_le ((fixups_header b t).starts_offset + starts_offset b t k + size_of chained_starts_in_segment + 2 *
+    (segment_starts b t k).page_count) t.size
     && ((segment_starts b t k).page_size == CHAIN_PAGE) && ((segment_starts b t k).pointer_format == POINTER_FORMAT)
     && (((segment_starts b t k).segment_offset + base_of b) % 2 ^ 64 == get_or (map (λ s. s.vmaddr) (segments_of b)) k 0))
 
@@ -89,7 +91,8 @@ table_fits b t =
     && (((fixups_header b t).imports_format == IMPORT_FORMAT) || ((fixups_header b t).imports_format == IMPORT_ADDEND_FORMAT))
     && ((fixups_header b t).symbols_format == 0) && nat_le ((fixups_header b t).starts_offset + 4) t.size
     && nat_le ((fixups_header b t).starts_offset + 4 + 4 * starts_count b t) t.size && nat_le (starts_count b t) (length (segments_of b))
-    && nat_le ((fixups_header b t).imports_offset + import_entry_size (fixups_header b t).imports_format * (fixups_header b t).imports_count) t.size
+    && nat_le ((fixups_header b t).imports_offset + import_entry_size (fixups_header b t).imports_format *
+    (fixups_header b t).imports_count) t.size
     && nat_le (fixups_header b t).symbols_offset t.size && list_all (starts_fit b t) (range_with_len 0 (starts_count b t))
 
 -- L9: an import's library is one of the image's, and its name ends in the table

@@ -8,7 +8,7 @@ use Rattle.macho_model.specs.Chain.{chain_segments, IsFileWord, WORD_SIZE}
 use Rattle.macho_model.specs.Loader.{is_bind, ordinal_of}
 use Rattle.macho_model.specs.LoadRules.{segment_in}
 use Rattle.macho_model.specs.Walks.{command_at, IsNth, HasWord, table_there}
-use Rattle.macho_model.specs.Memory.{Choice, chosen, Becomes, Covers, bind_addend}
+use Rattle.macho_model.specs.Memory.{Choice, chosen, IsBound, Becomes, Covers, Holds, bind_addend}
 
 -- A choice of import addresses has these addresses, by the numbers of the imports in the image's table, and no others.
 abbrev pub Gives : List ℕ → List ℕ → Choice → Type 0
@@ -59,4 +59,34 @@ MakesNothing b s addresses word = (v : ℕ) (choice : Choice) → Gives b addres
 -- and none of the word that the segment with a number has at an address
 abbrev pub NthMakesNothing : List ℕ → ℕ → ℕ → List ℕ → ℕ → Type 0
 NthMakesNothing b number s addresses a =
-    (place word : ℕ) → IsNth list.Segments b number place → HasWord b (segment_in b (command_at b place)) a word → MakesNothing b s addresses word
+    (place word : ℕ) → IsNth list.Segments b number place → HasWord b (segment_in b (command_at b place)) a word → MakesNothing b s
+    addresses word
+
+-- of each choice that gives these addresses: memory holds a byte, or none
+abbrev pub HoldsFor : List ℕ → ℕ → List ℕ → ℕ → ℕ → Type 0
+HoldsFor b s addresses x v = (choice : Choice) → Gives b addresses choice → Holds b s choice x v
+
+abbrev pub HoldsNothing : List ℕ → ℕ → List ℕ → ℕ → Type 0
+HoldsNothing b s addresses x = (v : ℕ) (choice : Choice) → Gives b addresses choice → Holds b s choice x v → ⊥
+
+-- the loader makes a value of the word at an address, or none
+abbrev pub IsMadeFor : List ℕ → ℕ → List ℕ → ℕ → ℕ → Type 0
+IsMadeFor b s addresses a v = (choice : Choice) → Gives b addresses choice → IsMade b s choice a v
+
+abbrev pub IsNeverMade : List ℕ → ℕ → List ℕ → ℕ → Type 0
+IsNeverMade b s addresses a = (v : ℕ) (choice : Choice) → Gives b addresses choice → IsMade b s choice a v → ⊥
+
+-- that word has a byte, or none
+abbrev pub IsByteFor : List ℕ → ℕ → List ℕ → ℕ → ℕ → ℕ → Type 0
+IsByteFor b s addresses word_at at v = (choice : Choice) → Gives b addresses choice → IsWordByte b s choice word_at at v
+
+abbrev pub HasNoByte : List ℕ → ℕ → List ℕ → ℕ → ℕ → Type 0
+HasNoByte b s addresses word_at at =
+    (v : ℕ) (choice : Choice) → Gives b addresses choice → IsWordByte b s choice word_at at v → ⊥
+
+-- a word binds an import and becomes a value, or none
+abbrev pub BindsFor : List ℕ → List ℕ → ℕ → ℕ → Type 0
+BindsFor b addresses word v = (choice : Choice) → Gives b addresses choice → IsBound b choice word v
+
+abbrev pub BindsNothing : List ℕ → List ℕ → ℕ → Type 0
+BindsNothing b addresses word = (v : ℕ) (choice : Choice) → Gives b addresses choice → IsBound b choice word v → ⊥

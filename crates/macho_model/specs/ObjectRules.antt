@@ -41,7 +41,8 @@ has_one n b = length (numbered n b) == 1
 -- O4: both tables stand inside the file
 abbrev pub tables_inside : List ℕ → Bool
 tables_inside b =
-    nat_le ((symtab_of b).symoff + size_of symtab_entry * num_symbols b) (length b) && nat_le ((symtab_of b).stroff + (symtab_of b).strsize) (length b)
+    nat_le ((symtab_of b).symoff + size_of symtab_entry * num_symbols b) (length b) && nat_le
+    ((symtab_of b).stroff + (symtab_of b).strsize) (length b)
 
 -- O5, of a symbol: its section exists
 abbrev pub symbol_section_exists : List ℕ → ℕ → Bool

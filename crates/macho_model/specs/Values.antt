@@ -53,7 +53,8 @@ BadRebase l p (site.Field file section relocation) =
     (f : Field) × (x : ℕ) × FieldOf l (section_id file section) relocation f × (needs_fixup l (section_id file section) f ≡ true)
     × (is_import f.target ≡ false) × IsAt l p 0 no_choice f.target x × IsNotEncodable p ((x + f.addend) % 2 ^ 64)
 BadRebase l p (site.Slot index) =
-    (t : Target) × (x : ℕ) × (index < length (slots_of l)) × (get_or (slots_of l) index t ≡ t) × (is_import t ≡ false) × IsAt l p 0 no_choice t x
+    (t : Target) × (x : ℕ) × (index < length (slots_of l)) × (get_or (slots_of l) index t ≡ t) × (is_import t ≡ false) × IsAt l p 0
+    no_choice t x
     × IsNotEncodable p x
 BadRebase l p (site.Stub index) = ⊥
 

@@ -51,10 +51,14 @@ pub record SaysSegment (r : SegmentNumbers) (s : SegmentCommand) : Type 0 where
 abbrev pub segment_address : List ℕ → ℕ → ℕ
 segment_address b k = get_or (map (λ s. s.vmaddr) (segments_of b)) k 0
 
--- the fixup table of the command at a place, and the numbers that were read of it
+-- the segment and the fixup table of the command at a place
+abbrev pub segment_there : List ℕ → ℕ → SegmentCommand
+segment_there b place = segment_in b (command_at b place)
+
 abbrev pub table_there : List ℕ → ℕ → Table
 table_there b place = table_of_command b (command_at b place)
 
+-- the numbers that were read of a table
 pub record SaysTable (b : List ℕ) (t : Table) (r : FixupTable) : Type 0 where
   pub at : r.at ≡ t.at
   pub size : r.size ≡ t.size
@@ -86,7 +90,8 @@ abbrev pub parts_inside : List ℕ → Table → Bool
 parts_inside b t =
     nat_le ((fixups_header b t).starts_offset + 4) t.size && nat_le ((fixups_header b t).starts_offset + 4 + 4 * starts_count b t) t.size
     && nat_le (starts_count b t) (length (segments_of b))
-    && nat_le ((fixups_header b t).imports_offset + import_entry_size (fixups_header b t).imports_format * (fixups_header b t).imports_count) t.size
+    && nat_le ((fixups_header b t).imports_offset + import_entry_size (fixups_header b t).imports_format *
+    (fixups_header b t).imports_count) t.size
     && nat_le (fixups_header b t).symbols_offset t.size
 
 -- a segment has a byte at an address: one of the file, or zero behind its file bytes
@@ -97,7 +102,8 @@ pub record SegmentHas (b : List ℕ) (s : SegmentCommand) (a v : ℕ) : Type 0 w
 
 -- the mapped segment with a number, if there is one, has no byte at an address
 abbrev pub NthLacksByte : List ℕ → ℕ → ℕ → Type 0
-NthLacksByte b number a = (place : ℕ) → IsNth list.Mapped b number place → (v : ℕ) → SegmentHas b (segment_in b (command_at b place)) a v → ⊥
+NthLacksByte b number a =
+    (place : ℕ) → IsNth list.Mapped b number place → (v : ℕ) → SegmentHas b (segment_in b (command_at b place)) a v → ⊥
 
 -- a segment has a word at an address, whole in its file part
 pub record HasWord (b : List ℕ) (s : SegmentCommand) (a word : ℕ) : Type 0 where
@@ -134,7 +140,9 @@ starts_of b k = starts_in_tables b (tables_of b) k
 abbrev pub chain_segment_at : List ℕ → ℕ → ℕ → ChainSegment
 chain_segment_at b number place = chain_segment b (number, segment_in b (command_at b place))
 
--- an address is on no chain of the segment with a number
+-- an address is on the chain of a page of a segment, by number and place of its command; or on none of the segment's
+abbrev pub IsOnPage : List ℕ → ℕ → ℕ → ℕ → ℕ → Type 0
+IsOnPage b number place page a = OnPageChain (chain_segments b) b (chain_segment_at b number place) page a
+
 abbrev pub IsOffSegment : List ℕ → ℕ → ℕ → Type 0
-IsOffSegment b number a =
-    (place : ℕ) → IsNth list.Segments b number place → (page : ℕ) → OnPageChain (chain_segments b) b (chain_segment_at b number place) page a → ⊥
+IsOffSegment b number a = (place : ℕ) → IsNth list.Segments b number place → (page : ℕ) → IsOnPage b number place page a → ⊥

@@ -24,14 +24,16 @@ holds_word a s = is_writable s && nat_le s.vmaddr a && nat_le (a + WORD_SIZE) (s
 
 -- the import of a word exists, where a segment has a word there and it binds one
 abbrev pub import_exists : List ℕ → ℕ → ChainSegment → Bool
-import_exists b a s = not (stands_in s a) || not (is_bind (word_in b s a)) || nat_lt (ordinal_of (word_in b s a)) (import_count b (tables_of b))
+import_exists b a s =
+    not (stands_in s a) || not (is_bind (word_in b s a)) || nat_lt (ordinal_of (word_in b s a)) (import_count b (tables_of b))
 
 -- a word stands in a page
 abbrev pub stands_in_page : ChainSegment → ℕ → ℕ → Bool
 stands_in_page s page a = nat_le (s.address + CHAIN_PAGE * page) a && nat_le (a + WORD_SIZE) (s.address + CHAIN_PAGE * (page + 1))
 
 abbrev pub word_fits_test : List ℕ → ChainSegment → ℕ → ℕ → Bool
-word_fits_test b s page a = (stands_in_page s page a && list_any (holds_word a) (mapped_segments b)) && list_all (import_exists b a) (chain_segments b)
+word_fits_test b s page a =
+    (stands_in_page s page a && list_any (holds_word a) (mapped_segments b)) && list_all (import_exists b a) (chain_segments b)
 
 -- the mapped segment with a number, if there is one, does not hold a word; and the import of a word exists in the segment
 -- with a number, if there is one
@@ -62,7 +64,8 @@ pub record UnfitOnPage (b : List ℕ) (number place page x : ℕ) : Type 0 where
 
 abbrev pub FitOnPage : List ℕ → ℕ → ℕ → ℕ → Type 0
 FitOnPage b number place page =
-    (a : ℕ) → OnPageChain (chain_segments b) b (chain_segment_at b number place) page a → WordFits b (chain_segment_at b number place) page a
+    (a : ℕ) → OnPageChain (chain_segments b) b (chain_segment_at b number place) page a → WordFits b (chain_segment_at b number place)
+    page a
 
 -- each word of the segment with a number fits, if there is one, and each word of the file
 abbrev pub FitOnNth : List ℕ → ℕ → Type 0

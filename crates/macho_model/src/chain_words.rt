@@ -5,9 +5,8 @@
 //! numbers of 128 bits here, so that no sum passes them.
 ghost use Rattle.std.specs.Prelude.{◌≡◌, ◌≤◌, ◌<◌, ◌+◌, ◌*◌, ◌-◌, ℕ, true, false, length, slice_index, Some, None};
 ghost use Rattle.macho_bytes.specs.Numbers.{bits};
-ghost use Rattle.macho_model.specs.LoadRules.{segment_in};
-ghost use Rattle.macho_model.specs.Chain.{next_of, OnPageChain, OnChainOf, chain_segments};
-ghost use Rattle.macho_model.specs.Walks.{command_at, IsNth, HasWord, StepOf, StepIn, Leads, starts_of, starts_in, table_there, chain_segment_at, IsOffSegment};
+ghost use Rattle.macho_model.specs.Chain.{next_of, OnChainOf};
+ghost use Rattle.macho_model.specs.Walks.{segment_there, IsNth, HasWord, StepOf, StepIn, Leads, starts_of, starts_in, table_there, IsOnPage, IsOffSegment};
 ghost use Rattle.macho_model.specs.declared.walk.Listed.TheVariants as list;
 
 use crate::reads::u64_from;
@@ -22,8 +21,8 @@ pub(crate) const CHAIN_PAGE: u128 = 0x4000;
 
 /// The word that a segment has at an address, if it stands whole in its file part.
 pub(crate) fn word_of(bytes: &[u8], place: u64, address: u128) -> Option<u64>
-    ensures found { (w : ℕ) → result ≡ Some w → HasWord bytes.now (segment_in bytes.now (command_at bytes.now place)) address w }
-    ensures only { (w : ℕ) → HasWord bytes.now (segment_in bytes.now (command_at bytes.now place)) address w → result ≡ Some w }
+    ensures found { (w : ℕ) → result ≡ Some w → HasWord bytes.now (segment_there bytes.now place) address w }
+    ensures only { (w : ℕ) → HasWord bytes.now (segment_there bytes.now place) address w → result ≡ Some w }
 {
     let segment = segment_at(bytes, place);
     let start = segment.address as u128;
@@ -128,8 +127,8 @@ pub(crate) fn start_of(bytes: &[u8], number: u32, page: u16) -> u16
 fn is_on_page(bytes: &[u8], number: u32, place: u64, page: u16, address: u64) -> bool
     requires nth { IsNth list.Segments bytes.now number place }
     requires among { page < length (starts_of bytes.now number) }
-    ensures found { result ≡ true → OnPageChain (chain_segments bytes.now) bytes.now (chain_segment_at bytes.now number place) page address }
-    ensures only { result ≡ false → OnPageChain (chain_segments bytes.now) bytes.now (chain_segment_at bytes.now number place) page address → ⊥ }
+    ensures found { result ≡ true → IsOnPage bytes.now number place page address }
+    ensures only { result ≡ false → IsOnPage bytes.now number place page address → ⊥ }
 {
     let start = start_of(bytes, number, page);
     if start == NO_START {
@@ -145,7 +144,7 @@ fn is_on_page(bytes: &[u8], number: u32, place: u64, page: u16, address: u64) ->
 fn is_on_segment(bytes: &[u8], number: u32, place: u64, address: u64) -> bool
     requires nth { IsNth list.Segments bytes.now number place }
     ensures found { result ≡ true → OnChainOf bytes.now address }
-    ensures only { result ≡ false → (page : ℕ) → OnPageChain (chain_segments bytes.now) bytes.now (chain_segment_at bytes.now number place) page address → ⊥ }
+    ensures only { result ≡ false → (page : ℕ) → IsOnPage bytes.now number place page address → ⊥ }
 {
     for page in 0..pages_of(bytes, number) {
         if is_on_page(bytes, number, place, page, address) {

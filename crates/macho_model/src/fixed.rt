@@ -2,9 +2,9 @@
 ghost use Rattle.std.specs.Prelude.{◌≡◌, false, ℕ, Some, None};
 ghost use Rattle.macho_model.specs.Images.{entry_addend};
 ghost use Rattle.macho_model.specs.Loader.{is_bind};
-ghost use Rattle.macho_model.specs.Memory.{Choice, IsBound, Becomes, bind_addend};
+ghost use Rattle.macho_model.specs.Memory.{Choice, Becomes, bind_addend};
 ghost use Rattle.macho_model.specs.Walks.{table_there};
-ghost use Rattle.macho_model.specs.Loaded.{Gives, BoundIn, BoundByNth, MakesIt, MakesNothing, NthMakesNothing, IsMade};
+ghost use Rattle.macho_model.specs.Loaded.{BindsFor, BindsNothing, BoundIn, BoundByNth, MakesIt, MakesNothing, NthMakesNothing, IsMadeFor, IsNeverMade};
 
 use crate::chain_words::word_of;
 use crate::reads::u32_from;
@@ -76,8 +76,8 @@ fn bound_by_nth(bytes: &[u8], number: u32, addresses: &[u64], word: u64) -> Opti
 
 /// What a word that binds becomes.
 fn bound(bytes: &[u8], addresses: &[u64], word: u64) -> Option<u64>
-    ensures found { (v : ℕ) → result ≡ Some v → (choice : Choice) → Gives bytes.now addresses.now choice → IsBound bytes.now choice word v }
-    ensures only { result ≡ None → (v : ℕ) (choice : Choice) → Gives bytes.now addresses.now choice → IsBound bytes.now choice word v → ⊥ }
+    ensures found { (v : ℕ) → result ≡ Some v → BindsFor bytes.now addresses.now word v }
+    ensures only { result ≡ None → BindsNothing bytes.now addresses.now word }
 {
     for number in 0..count_of(bytes) {
         if let Some(value) = bound_by_nth(bytes, number, addresses, word) {
@@ -107,7 +107,7 @@ fn made_of_nth(
     addresses: &[u64],
     word_at: u64,
 ) -> Option<u64>
-    ensures found { (v : ℕ) → result ≡ Some v → (choice : Choice) → Gives bytes.now addresses.now choice → IsMade bytes.now slide choice word_at v }
+    ensures found { (v : ℕ) → result ≡ Some v → IsMadeFor bytes.now slide addresses.now word_at v }
     ensures only { result ≡ None → NthMakesNothing bytes.now number slide addresses.now word_at }
 {
     match nth(bytes, Listed::Segments, number) {
@@ -121,8 +121,8 @@ fn made_of_nth(
 
 /// What the loader makes of the word at an address, None where there is no word or where its import has no address.
 pub(crate) fn fixed_value(bytes: &[u8], slide: u64, addresses: &[u64], word_at: u64) -> Option<u64>
-    ensures found { (v : ℕ) → result ≡ Some v → (choice : Choice) → Gives bytes.now addresses.now choice → IsMade bytes.now slide choice word_at v }
-    ensures only { result ≡ None → (v : ℕ) (choice : Choice) → Gives bytes.now addresses.now choice → IsMade bytes.now slide choice word_at v → ⊥ }
+    ensures found { (v : ℕ) → result ≡ Some v → IsMadeFor bytes.now slide addresses.now word_at v }
+    ensures only { result ≡ None → IsNeverMade bytes.now slide addresses.now word_at }
 {
     for number in 0..count_of(bytes) {
         if let Some(value) = made_of_nth(bytes, number, slide, addresses, word_at) {

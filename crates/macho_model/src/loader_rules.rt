@@ -2,11 +2,11 @@
 //!
 //! Each function answers the place of a record that breaks its rule, or None where none does.
 ghost use Rattle.std.specs.Prelude.{◌≡◌, ◌≤◌, ◌<◌, ℕ, length, Some, None};
-ghost use Rattle.macho_model.specs.Grammar.{EachCommand, CommandFails};
+ghost use Rattle.macho_model.specs.Grammar.{EachCommand};
 ghost use Rattle.macho_model.specs.LoadRules.{begins_behind};
-ghost use Rattle.macho_model.specs.Loader.{segment_commands, text_commands, fixup_commands, EachNeighbour, NeighbourFails, TextIsNotOne, SecondTable, ImportFails};
+ghost use Rattle.macho_model.specs.Loader.{segment_commands, text_commands, fixup_commands, EachNeighbour, TextIsNotOne, SecondTable, ImportFails};
 ghost use Rattle.macho_model.specs.Walks.{command_at, listed, table_there};
-ghost use Rattle.macho_model.specs.Asked.{test_of, list_of, NumberPasses, NeighbourPasses, BadImport, ImportsFit, TableImportsFit, EachImportFits};
+ghost use Rattle.macho_model.specs.Asked.{test_of, list_of, AskedFails, BeginsBefore, NumberPasses, NeighbourPasses, BadImport, ImportsFit, TableImportsFit, EachImportFits};
 
 use crate::segment_rules::{
     ends_below, file_bytes_are_inside, follows, holds_commands, is_paged, is_whole,
@@ -65,7 +65,7 @@ impl Asked {
 
 /// The place of the command with a number among those that are asked, if it fails.
 fn failing(bytes: &[u8], asked: Asked, number: u32) -> Option<u64>
-    ensures found { (place : ℕ) → result ≡ Some place → CommandFails (listed (list_of asked) bytes.now) place (test_of asked bytes.now) }
+    ensures found { (place : ℕ) → result ≡ Some place → AskedFails bytes.now asked place }
     ensures only { result ≡ None → NumberPasses bytes.now asked number }
 {
     match nth(bytes, asked.list(), number) {
@@ -82,7 +82,7 @@ fn failing(bytes: &[u8], asked: Asked, number: u32) -> Option<u64>
 
 /// The place of the first command that is asked and fails.
 pub(crate) fn first_failing(bytes: &[u8], asked: Asked) -> Option<u64>
-    ensures found { (place : ℕ) → result ≡ Some place → CommandFails (listed (list_of asked) bytes.now) place (test_of asked bytes.now) }
+    ensures found { (place : ℕ) → result ≡ Some place → AskedFails bytes.now asked place }
     ensures only { result ≡ None → EachCommand (listed (list_of asked) bytes.now) (test_of asked bytes.now) }
 {
     for number in 0..count_of(bytes) {
@@ -96,7 +96,7 @@ pub(crate) fn first_failing(bytes: &[u8], asked: Asked) -> Option<u64>
 /// The place of the segment behind the one with a number, if it does not begin behind that one's end.
 fn overlapping(bytes: &[u8], number: u32) -> Option<u64>
     requires { number < 4294967295 }
-    ensures found { (place : ℕ) → result ≡ Some place → NeighbourFails (segment_commands bytes.now) place (begins_behind bytes.now) }
+    ensures found { (place : ℕ) → result ≡ Some place → BeginsBefore bytes.now place }
     ensures only { result ≡ None → NeighbourPasses bytes.now number }
 {
     match nth(bytes, Listed::Segments, number) {
@@ -116,7 +116,7 @@ fn overlapping(bytes: &[u8], number: u32) -> Option<u64>
 
 /// The place of the first segment that does not begin behind the end of the one before it.
 pub(crate) fn first_overlapping(bytes: &[u8]) -> Option<u64>
-    ensures found { (place : ℕ) → result ≡ Some place → NeighbourFails (segment_commands bytes.now) place (begins_behind bytes.now) }
+    ensures found { (place : ℕ) → result ≡ Some place → BeginsBefore bytes.now place }
     ensures only { result ≡ None → EachNeighbour (segment_commands bytes.now) (begins_behind bytes.now) }
 {
     for number in 0..count_of(bytes) {

@@ -5,11 +5,10 @@
 //! the word at the greater address.
 ghost use Rattle.std.specs.Prelude.{◌≡◌, ◌<◌, ℕ, Some, None, slice_index};
 ghost use Rattle.macho_bytes.specs.Numbers.{le_bytes};
-ghost use Rattle.macho_model.specs.LoadRules.{segment_in};
 ghost use Rattle.macho_model.specs.Chain.{WORD_SIZE};
-ghost use Rattle.macho_model.specs.Memory.{Choice, Holds, IsSegmentByte};
-ghost use Rattle.macho_model.specs.Walks.{command_at, SegmentHas, NthLacksByte};
-ghost use Rattle.macho_model.specs.Loaded.{Gives, CoversLast, IsUncovered, IsWordByte};
+ghost use Rattle.macho_model.specs.Memory.{IsSegmentByte};
+ghost use Rattle.macho_model.specs.Walks.{segment_there, SegmentHas, NthLacksByte};
+ghost use Rattle.macho_model.specs.Loaded.{CoversLast, IsUncovered, HoldsFor, HoldsNothing, IsByteFor, HasNoByte};
 
 use crate::chain_words::is_on_chain;
 use crate::fixed::fixed_value;
@@ -19,8 +18,8 @@ use crate::walk::{Listed, count_of, nth};
 
 /// The byte that the segment of a command has at an address, None where it has none.
 fn byte_of_segment(bytes: &[u8], place: u64, address: u64) -> Option<u8>
-    ensures found { (v : ℕ) → result ≡ Some v → SegmentHas bytes.now (segment_in bytes.now (command_at bytes.now place)) address v }
-    ensures only { result ≡ None → (v : ℕ) → SegmentHas bytes.now (segment_in bytes.now (command_at bytes.now place)) address v → ⊥ }
+    ensures found { (v : ℕ) → result ≡ Some v → SegmentHas bytes.now (segment_there bytes.now place) address v }
+    ensures only { result ≡ None → (v : ℕ) → SegmentHas bytes.now (segment_there bytes.now place) address v → ⊥ }
 {
     let segment = segment_at(bytes, place);
     if address < segment.address {
@@ -88,8 +87,8 @@ fn byte_of(value: u64, at: u64) -> u8
 /// The byte of the chain word at an address, None where the loader makes nothing of it.
 fn byte_of_word(bytes: &[u8], slide: u64, addresses: &[u64], word_at: u64, at: u64) -> Option<u8>
     requires { at < 8 }
-    ensures found { (v : ℕ) → result ≡ Some v → (choice : Choice) → Gives bytes.now addresses.now choice → IsWordByte bytes.now slide choice word_at at v }
-    ensures only { result ≡ None → (v : ℕ) (choice : Choice) → Gives bytes.now addresses.now choice → IsWordByte bytes.now slide choice word_at at v → ⊥ }
+    ensures found { (v : ℕ) → result ≡ Some v → IsByteFor bytes.now slide addresses.now word_at at v }
+    ensures only { result ≡ None → HasNoByte bytes.now slide addresses.now word_at at }
 {
     match fixed_value(bytes, slide, addresses, word_at) {
         Some(value) => Some(byte_of(value, at)),
@@ -100,8 +99,8 @@ fn byte_of_word(bytes: &[u8], slide: u64, addresses: &[u64], word_at: u64, at: u
 /// The byte that memory has at an address, where the image is loaded at a slide and its imports, by their numbers, are at
 /// these addresses; None where nothing is mapped, or where a chain word covers that the loader makes nothing of.
 pub fn memory_byte(bytes: &[u8], slide: u64, addresses: &[u64], address: u64) -> Option<u8>
-    ensures found { (v : ℕ) → result ≡ Some v → (choice : Choice) → Gives bytes.now addresses.now choice → Holds bytes.now slide choice address v }
-    ensures only { result ≡ None → (v : ℕ) (choice : Choice) → Gives bytes.now addresses.now choice → Holds bytes.now slide choice address v → ⊥ }
+    ensures found { (v : ℕ) → result ≡ Some v → HoldsFor bytes.now slide addresses.now address v }
+    ensures only { result ≡ None → HoldsNothing bytes.now slide addresses.now address }
 {
     if address < slide {
         return None;

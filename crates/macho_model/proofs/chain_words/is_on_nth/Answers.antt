@@ -11,7 +11,8 @@ returns-in-Some-clause-only c is place nth page on =
     let found = c.in-Some.ensures.found c.in-Some.place refl in
     let same = nth_one list.Segments c.args.bytes.now c.args.number place c.in-Some.place nth found in
     c.is_on_segment.ensures.only is page
-    (subst (λ p. OnPageChain (chain_segments c.args.bytes.now) c.args.bytes.now (chain_segment_at c.args.bytes.now c.args.number p) page c.args.address) same on)
+    (subst (λ p. OnPageChain (chain_segments c.args.bytes.now) c.args.bytes.now (chain_segment_at c.args.bytes.now c.args.number p) page
+    c.args.address) same on)
 
 pub is_on_segment-requires : goal.is_on_segment-requires
 is_on_segment-requires c = record { nth = c.in-Some.ensures.found c.in-Some.place refl }

@@ -5,4 +5,5 @@ use Rattle.macho_model.specs.Walks.{chain_segment_at}
 use Rattle.macho_model.proofs.chain_words.is_on_segment.Given as goal
 
 abbrev pub invariant-loop-page : goal.invariant-loop-page
-invariant-loop-page l = (k : ℕ) → k < l.page → OnPageChain (chain_segments l.bytes) l.bytes (chain_segment_at l.bytes l.number l.place) k l.address → ⊥
+invariant-loop-page l =
+    (k : ℕ) → k < l.page → OnPageChain (chain_segments l.bytes) l.bytes (chain_segment_at l.bytes l.number l.place) k l.address → ⊥

@@ -6,7 +6,8 @@ use Rattle.macho_model.proofs.chain_words.pages_of.Goals as goal
 pub returns-in-Some : goal.returns-in-Some
 returns-in-Some c =
     c.pages_in.ensures
-    ∙ sym (ap (λ (xs : List ℕ). length xs) (starts_found c.args.bytes.now c.args.number c.in-Some.table (c.in-Some.ensures.found c.in-Some.table refl)))
+    ∙ sym (ap (λ (xs : List ℕ). length xs) (starts_found c.args.bytes.now c.args.number c.in-Some.table
+    (c.in-Some.ensures.found c.in-Some.table refl)))
 
 pub returns-in-None : goal.returns-in-None
 returns-in-None c = sym (ap (λ (xs : List ℕ). length xs) (starts_missing c.args.bytes.now c.args.number (c.in-None.ensures.only refl)))

@@ -8,7 +8,8 @@ pub returns-in-Some : goal.returns-in-Some
 returns-in-Some c =
     let same = starts_found c.args.bytes.now c.args.number c.in-Some.table (c.in-Some.ensures.found c.in-Some.table refl) in
     c.start_of_page.ensures
-    ∙ start_is c.args.bytes.now (table_there c.args.bytes.now c.in-Some.table) c.args.number c.args.page (subst (λ xs. c.args.page < length xs) same c.requires)
+    ∙ start_is c.args.bytes.now (table_there c.args.bytes.now c.in-Some.table) c.args.number c.args.page
+    (subst (λ xs. c.args.page < length xs) same c.requires)
     ∙ sym (ap (λ (xs : List ℕ). slice_index xs c.args.page) same)
 
 pub returns-in-None : goal.returns-in-None

@@ -9,4 +9,5 @@ returns-in-Some-clause-found c n is =
 
 pub returns-in-Some-clause-only : goal.returns-in-Some-clause-only
 returns-in-Some-clause-only c n step =
-    c.step_of.ensures.only n (step_at c.args.bytes.now c.args.number c.in-Some.place c.args.address n (c.in-Some.ensures.found c.in-Some.place refl) step)
+    c.step_of.ensures.only n (step_at c.args.bytes.now c.args.number c.in-Some.place c.args.address n
+    (c.in-Some.ensures.found c.in-Some.place refl) step)

@@ -19,7 +19,8 @@ loop-number-preserved c k v within by =
       | inl lt ↦ c.loop-number.invariant k v lt by
       | inr le ↦
           let same : k ≡ c.loop-number.number = omega (arith, le, within) in
-          c.in_default.not-Some v (c.bound_by_nth.ensures.only v (subst (λ j. BoundByNth c.args.bytes.now j c.args.addresses.now c.args.word v) same by))
+          c.in_default.not-Some v (c.bound_by_nth.ensures.only v
+          (subst (λ j. BoundByNth c.args.bytes.now j c.args.addresses.now c.args.word v) same by))
     ]
 
 pub returns-clause-only : goal.returns-clause-only

@@ -12,5 +12,7 @@ returns-in-Some-clause-found c v is =
 
 pub returns-in-Some-clause-only : goal.returns-in-Some-clause-only
 returns-in-Some-clause-only c v by =
-    let same = nth_one list.Tables c.args.bytes.now c.args.number by.place c.in-Some.table by.nth (c.in-Some.ensures.found c.in-Some.table refl) in
-    c.bound_in.ensures.only v (subst (λ p. BoundIn c.args.bytes.now (table_there c.args.bytes.now p) c.args.addresses.now c.args.word v) same by.bound)
+    let same = nth_one list.Tables c.args.bytes.now c.args.number by.place c.in-Some.table by.nth
+    (c.in-Some.ensures.found c.in-Some.table refl) in
+    c.bound_in.ensures.only v (subst (λ p. BoundIn c.args.bytes.now (table_there c.args.bytes.now p) c.args.addresses.now c.args.word v)
+    same by.bound)

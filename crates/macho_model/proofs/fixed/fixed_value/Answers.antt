@@ -7,7 +7,8 @@ use Rattle.macho_model.proofs.fixed.fixed_value.Goals as goal
 
 pub loop-number-preserved : goal.loop-number-preserved
 loop-number-preserved c =
-    one_more_below {P = λ k. NthMakesNothing c.args.bytes.now k c.args.slide c.args.addresses.now c.args.word_at} c.loop-number.number c.loop-number.invariant
+    one_more_below {P = λ k. NthMakesNothing c.args.bytes.now k c.args.slide c.args.addresses.now c.args.word_at} c.loop-number.number
+    c.loop-number.invariant
     (c.made_of_nth.ensures.only c.in_default.is)
 
 pub returns-clause-only : goal.returns-clause-only

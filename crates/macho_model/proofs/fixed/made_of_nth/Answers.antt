@@ -6,7 +6,8 @@ use Rattle.macho_model.proofs.fixed.made_of_nth.Goals as goal
 pub returns-in-Some-word_of-clause-found : goal.returns-in-Some-word_of-clause-found
 returns-in-Some-word_of-clause-found c v is choice gives =
     made_found c.args.bytes.now c.args.number c.in-Some.place c.args.slide choice c.args.word_at c.in-Some-word_of.word v
-    (c.in-Some.ensures.found c.in-Some.place refl) (c.in-Some-word_of.ensures.found c.in-Some-word_of.word refl) (c.made.ensures.found v is choice gives)
+    (c.in-Some.ensures.found c.in-Some.place refl) (c.in-Some-word_of.ensures.found c.in-Some-word_of.word refl)
+    (c.made.ensures.found v is choice gives)
 
 pub returns-in-Some-word_of-clause-only : goal.returns-in-Some-word_of-clause-only
 returns-in-Some-word_of-clause-only c is =

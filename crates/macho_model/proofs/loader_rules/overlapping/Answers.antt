@@ -12,9 +12,11 @@ pub returns-then-follows-clause-only : goal.returns-then-follows-clause-only
 returns-then-follows-clause-only c _ place next first second =
     let b = c.args.bytes.now in
     let same_first = nth_one list.Segments b c.args.number c.in-Some.place place (c.in-Some.ensures.found c.in-Some.place refl) first in
-    let same_second = nth_one list.Segments b (c.args.number + 1) c.in-Some-nth.next next (c.in-Some-nth.ensures.found c.in-Some-nth.next refl) second in
+    let same_second = nth_one list.Segments b (c.args.number + 1) c.in-Some-nth.next next
+    (c.in-Some-nth.ensures.found c.in-Some-nth.next refl) second in
     subst (λ p. begins_behind b (command_at b p) (command_at b next) ≡ true) same_first
-    (subst (λ q. begins_behind b (command_at b c.in-Some.place) (command_at b q) ≡ true) same_second (sym c.follows.ensures ∙ c.if-follows.true))
+    (subst (λ q. begins_behind b (command_at b c.in-Some.place) (command_at b q) ≡ true) same_second
+    (sym c.follows.ensures ∙ c.if-follows.true))
 
 pub returns-else-follows-clause-found : goal.returns-else-follows-clause-found
 returns-else-follows-clause-found c place is =

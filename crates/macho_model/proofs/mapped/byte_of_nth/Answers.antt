@@ -14,5 +14,7 @@ returns-in-Some-clause-found c v is =
 
 pub returns-in-Some-clause-only : goal.returns-in-Some-clause-only
 returns-in-Some-clause-only c is place nth v has =
-    let same = nth_one list.Mapped c.args.bytes.now c.args.number place c.in-Some.place nth (c.in-Some.ensures.found c.in-Some.place refl) in
-    c.byte_of_segment.ensures.only is v (subst (λ p. SegmentHas c.args.bytes.now (segment_in c.args.bytes.now (command_at c.args.bytes.now p)) c.args.address v) same has)
+    let same = nth_one list.Mapped c.args.bytes.now c.args.number place c.in-Some.place nth
+    (c.in-Some.ensures.found c.in-Some.place refl) in
+    c.byte_of_segment.ensures.only is v (subst (λ p. SegmentHas c.args.bytes.now
+    (segment_in c.args.bytes.now (command_at c.args.bytes.now p)) c.args.address v) same has)

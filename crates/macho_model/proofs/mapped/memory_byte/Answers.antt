@@ -16,7 +16,8 @@ byte_of_word-requires c =
 pub returns-in-Some-clause-found : goal.returns-in-Some-clause-found
 returns-in-Some-clause-found c v is choice gives =
     let behind = c.if-address-slide.false in
-    word_byte_held c.args.bytes.now c.args.slide c.args.address c.in-Some.word_at v choice (omega (arith, behind)) (c.in-Some.ensures.found c.in-Some.word_at refl)
+    word_byte_held c.args.bytes.now c.args.slide c.args.address c.in-Some.word_at v choice (omega (arith, behind))
+    (c.in-Some.ensures.found c.in-Some.word_at refl)
     (c.byte_of_word.ensures.found v is choice gives)
 
 pub returns-in-Some-clause-only : goal.returns-in-Some-clause-only
@@ -32,4 +33,5 @@ returns-in-None-clause-found c v is choice gives =
 
 pub returns-in-None-clause-only : goal.returns-in-None-clause-only
 returns-in-None-clause-only c is v choice gives held =
-    segment_byte_lacks c.args.bytes.now c.args.slide c.args.address v choice (c.in-None.ensures.only refl) (c.segment_byte.ensures.only is v) held
+    segment_byte_lacks c.args.bytes.now c.args.slide c.args.address v choice (c.in-None.ensures.only refl)
+    (c.segment_byte.ensures.only is v) held

@@ -6,4 +6,5 @@ use Rattle.macho_model.proofs.table_rules.has_many.Goals as goal
 pub returns-in-Some : goal.returns-in-Some
 returns-in-Some c =
     let some = c.if-count-eq0.false in
-    sym (many_listed c.args.list c.args.bytes.now c.args.count c.in-Some._place (grind (arith, some)) (c.in-Some.ensures.found c.in-Some._place refl))
+    sym (many_listed c.args.list c.args.bytes.now c.args.count c.in-Some._place (grind (arith, some))
+    (c.in-Some.ensures.found c.in-Some._place refl))

@@ -25,12 +25,17 @@ loop-i-preserved c =
     elim c.if-is_listed.branch [
       | then-is_listed+else-left-eq0 w ↦
           let some = w.if-left-eq0.false in
-          subst (λ n. Passed c.args.list c.args.bytes.now c.args.number (c.loop-i.i + 1) (c.loop-i.place + c.u32_from.result) n) (sym w.left-is)
-          (listed_passed c.args.list c.args.bytes.now c.args.number c.loop-i.i c.loop-i.place c.loop-i.left c.u32_from.result (omega (arith, count, within))
-          c.loop-i.invariant c.u32_from.ensures (omega (arith, c.u32_from.type_inv)) (sym c.is_listed.ensures ∙ w.if-is_listed.true) (grind (arith, some)))
+          subst (λ n. Passed c.args.list c.args.bytes.now c.args.number (c.loop-i.i + 1) (c.loop-i.place + c.u32_from.result) n)
+          (sym w.left-is)
+          (listed_passed c.args.list c.args.bytes.now c.args.number c.loop-i.i c.loop-i.place c.loop-i.left c.u32_from.result
+          (omega (arith, count, within))
+          c.loop-i.invariant c.u32_from.ensures (omega (arith, c.u32_from.type_inv)) (sym c.is_listed.ensures ∙ w.if-is_listed.true)
+          (grind (arith, some)))
       | else-is_listed w ↦
-          subst (λ n. Passed c.args.list c.args.bytes.now c.args.number (c.loop-i.i + 1) (c.loop-i.place + c.u32_from.result) n) (sym w.left-is)
-          (other_passed c.args.list c.args.bytes.now c.args.number c.loop-i.i c.loop-i.place c.loop-i.left c.u32_from.result (omega (arith, count, within))
+          subst (λ n. Passed c.args.list c.args.bytes.now c.args.number (c.loop-i.i + 1) (c.loop-i.place + c.u32_from.result) n)
+          (sym w.left-is)
+          (other_passed c.args.list c.args.bytes.now c.args.number c.loop-i.i c.loop-i.place c.loop-i.left c.u32_from.result
+          (omega (arith, count, within))
           c.loop-i.invariant c.u32_from.ensures (omega (arith, c.u32_from.type_inv)) (sym c.is_listed.ensures ∙ w.if-is_listed.false))
     ]
 
@@ -38,4 +43,5 @@ pub returns-clause-only : goal.returns-clause-only
 returns-clause-only c none =
     let count = c.count_of-i-end.ensures in
     let past = c.loop-i-test.false in
-    all_passed c.args.list c.args.bytes.now c.args.number c.loop-i.i c.loop-i.place c.loop-i.left (omega (arith, count, past)) c.loop-i.invariant
+    all_passed c.args.list c.args.bytes.now c.args.number c.loop-i.i c.loop-i.place c.loop-i.left (omega (arith, count, past))
+    c.loop-i.invariant

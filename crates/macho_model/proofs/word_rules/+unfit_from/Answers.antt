@@ -16,8 +16,10 @@ returns-then-not-fits-clause-found t c x is =
 pub returns-in-Some-unfit_from-clause-found : goal.returns-in-Some-unfit_from-clause-found
 returns-in-Some-unfit_from-clause-found t c x is =
     subst (λ y. UnfitFrom c.args.bytes.now c.args.number c.args.place c.args.page c.args.offset y) (some_is c.in-Some-unfit_from.unfit x is)
-    (unfit_behind c.args.bytes.now c.loop-other.other c.args.number c.args.place c.args.page c.args.offset c.in-Some.step c.in-Some-unfit_from.unfit
-    (step_from c.args.bytes.now c.loop-other.other c.args.place c.args.offset c.segment_at.result.address c.in-Some.step c.segment_at.ensures.address
+    (unfit_behind c.args.bytes.now c.loop-other.other c.args.number c.args.place c.args.page c.args.offset c.in-Some.step
+    c.in-Some-unfit_from.unfit
+    (step_from c.args.bytes.now c.loop-other.other c.args.place c.args.offset c.segment_at.result.address c.in-Some.step
+    c.segment_at.ensures.address
     (c.in-Some.ensures.found c.in-Some.step refl))
     (c.in-Some-unfit_from.ensures.found c.in-Some-unfit_from.unfit refl))
 
@@ -26,12 +28,14 @@ loop-other-preserved t c =
     one_fits c.args.bytes.now c.args.number c.args.place c.args.page c.args.offset c.loop-other.other c.loop-other.invariant
     (elim c.match-step_in.branch [
       | in-Some+in_default-unfit_from w ↦ λ n step.
-          let here = step_back c.args.bytes.now c.loop-other.other c.args.place c.args.offset c.segment_at.result.address n c.segment_at.ensures.address step in
+          let here = step_back c.args.bytes.now c.loop-other.other c.args.place c.args.offset c.segment_at.result.address n
+          c.segment_at.ensures.address step in
           let same = some_is w.in-Some.step n (w.in-Some.ensures.only n here) in
           subst (λ m. FitFrom c.args.bytes.now c.args.number c.args.place c.args.page (c.args.offset + m)) same
           (w.unfit_from.ensures.only w.in_default-unfit_from.is)
       | in_default w ↦ λ n step.
-          let here = step_back c.args.bytes.now c.loop-other.other c.args.place c.args.offset c.segment_at.result.address n c.segment_at.ensures.address step in
+          let here = step_back c.args.bytes.now c.loop-other.other c.args.place c.args.offset c.segment_at.result.address n
+          c.segment_at.ensures.address step in
           absurd (w.in_default.not-Some n (c.step_in.ensures.only n here))
     ])
 

@@ -9,4 +9,5 @@ decreases-unfit_from l = 16384 * (l.page + 1) - l.offset
 
 abbrev pub invariant-loop-other : goal.invariant-loop-other
 invariant-loop-other l =
-    (k n : ℕ) → k < l.other → StepIn l.bytes k (address_in l.bytes l.place l.offset) n → FitFrom l.bytes l.number l.place l.page (l.offset + n)
+    (k n : ℕ) → k < l.other → StepIn l.bytes k (address_in l.bytes l.place l.offset) n → FitFrom l.bytes l.number l.place l.page
+    (l.offset + n)

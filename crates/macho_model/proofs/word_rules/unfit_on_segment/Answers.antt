@@ -16,7 +16,8 @@ overflow_add-result c =
 
 pub returns-in-Some-clause-found : goal.returns-in-Some-clause-found
 returns-in-Some-clause-found c x is =
-    word_fails c.args.bytes.now c.args.number c.args.place c.loop-page.page c.in-Some.offset c.segment_at-start.result.file_offset x c.requires.nth
+    word_fails c.args.bytes.now c.args.number c.args.place c.loop-page.page c.in-Some.offset c.segment_at-start.result.file_offset x
+    c.requires.nth
     c.segment_at-start.ensures.file_offset (some_is (c.segment_at-start.result.file_offset + c.in-Some.offset) x is)
     (c.in-Some.ensures.found c.in-Some.offset refl)
 
@@ -24,5 +25,6 @@ pub returns-clause-only : goal.returns-clause-only
 returns-clause-only c _ page a on =
     let past = c.loop-page-test.false in
     let end = c.pages_of-page-end.ensures in
-    let among = page_has_start (chain_segments c.args.bytes.now) c.args.bytes.now (chain_segment_at c.args.bytes.now c.args.number c.args.place) page a on in
+    let among = page_has_start (chain_segments c.args.bytes.now) c.args.bytes.now
+    (chain_segment_at c.args.bytes.now c.args.number c.args.place) page a on in
     c.loop-page.invariant page (omega (arith, past, end, among)) a on
