@@ -29,6 +29,7 @@ pub mod RowsPlacement
 pub mod RowsStands
 pub mod RowsValid
 pub mod RowsInvalid
+pub mod RowsNotValid
 pub mod Slides
 pub mod Apart
 pub mod SegmentWalk
