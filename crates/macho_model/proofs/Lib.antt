@@ -36,6 +36,7 @@ pub mod SegmentWalk
 pub mod FieldSlides
 pub mod PointerFixups
 pub mod RowsObjects
+pub mod RowsDylibs
 pub mod RowsLinks
 pub mod RowsFields
 pub mod RowsExports
