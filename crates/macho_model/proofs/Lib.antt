@@ -40,4 +40,5 @@ pub mod RowsDylibs
 pub mod RowsLinks
 pub mod RowsFields
 pub mod RowsExports
+pub mod RowsTemplate
 pub mod RowsRules

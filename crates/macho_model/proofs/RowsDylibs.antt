@@ -2,10 +2,10 @@
 --
 -- Each rule has a test, of finitely many commands and symbols; the tests are all true exactly where the bytes are a
 -- library. So a change whose tests are all true but one breaks that rule and no other.
-use Rattle.std.proofs.Common.{◌≡◌, ℕ, ◌+◌, Bool, true, false, ◌&&◌, ◌==◌, not, List, [], ◌∷◌, ◌++◌, get_or, replicate, map, refl, ap, ◌∙◌, sym, All}
+use Rattle.std.proofs.Common.{◌≡◌, ℕ, Bool, true, false, ◌&&◌, ◌==◌, not, List, [], ◌∷◌, ◌++◌, get_or, replicate, map, refl, ap, ◌∙◌, All}
 use Rattle.std.specs.Prelude.{codes}
 use Rattle.std.specs.List.{list_all, AllByRecursion}
-use Rattle.std.proofs.lemmas.List.Elements.{All-weaker, All-from_recursion}
+use Rattle.std.proofs.lemmas.List.Elements.{All-from_recursion}
 use Rattle.macho_bytes.specs.Numbers.{le_at, le_bytes, row_bytes}
 use Rattle.macho_bytes.specs.Layouts.{reading}
 use Rattle.macho_records.specs.declared.constants.TheConstants.{LC_ID_DYLIB, LC_SYMTAB, MH_DYLIB}
