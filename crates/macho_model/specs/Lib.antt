@@ -33,3 +33,4 @@ pub mod Fixups
 pub mod Faults
 pub mod Valid
 pub mod Laws
+pub mod SlideLaws

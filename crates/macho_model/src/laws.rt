@@ -1,4 +1,5 @@
 //! Laws of the definitions: each is the contract of a function that does nothing.
+ghost use Rattle.macho_model.specs.SlideLaws.{FieldsMove, PointersMove, ImportPointersBind};
 ghost use Rattle.macho_model.specs.Laws.{BrokenIsRefused, BrokenIsNoObject, BrokenIsNoDylib, UnchainedIsEmpty, MemoryMoves, MemoryMovesBack, SegmentsAreApart};
 
 /// A file that breaks a rule is not taken, as an object, as a library or as an image.
@@ -18,4 +19,11 @@ pub fn memory_moves_by_the_slide()
 /// Two mapped segments of an accepted image share no address.
 pub fn segments_are_apart()
     ensures { SegmentsAreApart }
+{}
+
+/// A field that denotes at slide 0 denotes at every slide of whole 16 KiB, by itself or by its chain word.
+pub fn fields_denote_at_every_slide()
+    ensures plain { FieldsMove }
+    ensures moved { PointersMove }
+    ensures bound { ImportPointersBind }
 {}

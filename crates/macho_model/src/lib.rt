@@ -21,7 +21,10 @@ mod word_rules;
 
 pub use accept::{LoadFault, first_broken_rule};
 pub use chain_words::is_on_chain;
-pub use laws::{memory_moves_by_the_slide, segments_are_apart, what_breaks_a_rule_is_refused};
+pub use laws::{
+    fields_denote_at_every_slide, memory_moves_by_the_slide, segments_are_apart,
+    what_breaks_a_rule_is_refused,
+};
 pub use mapped::{memory_byte, segment_byte};
 pub use placed::{
     Counts, Linkedit, PlacedCommon, PlacedSection, PlacedSegment, Range64, Slot, Stub,
