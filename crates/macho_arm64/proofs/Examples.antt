@@ -29,7 +29,7 @@ page_forward = record { reaches = refl; kept = refl }
 
 -- ldr x0, [x0] made add x0, x0, 0x123; the same load kept, of a slot at 0x10 in its page
 load_made_add : AddsTo 0x91048c00 0xf9400000 0x100000123
-load_made_add = record { add = refl; base = refl; written = refl; reaches = refl }
+load_made_add = record { load = refl; add = refl; base = refl; written = refl; reaches = refl }
 
 load_of_slot : LoadsFrom 0xf9400800 0xf9400000 0x100000010
 load_of_slot = record { load = refl; reaches = refl; kept = refl }

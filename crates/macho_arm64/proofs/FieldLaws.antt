@@ -81,13 +81,13 @@ loads_from input word value slot s y h load row whole moved =
     record { load = still; reaches = omega arith; kept = h.kept }
 
 -- the load of a slot that was made an ADD, and then given the target's offset
-pub adds_to : (input add word value x s y : ℕ) → IsMadeAdd input add → Holds Low12 add word value → value ≡ low (address x)
+pub adds_to : (input add word value x s y : ℕ) → is_ldr input ≡ true → IsMadeAdd input add → Holds Low12 add word value → value ≡ low (address x)
     → s % SEGMENT_PAGE ≡ 0 → Same (x + s) y → AddsTo word input y
-adds_to input add word value x s y made h row whole moved =
+adds_to input add word value x s y load made h row whole moved =
     let still : is_add word ≡ true = rw (same_operation word add h.kept) made.add in
     let says : imm12 word * 1 ≡ value = rw (← scale_of-add word still) h.says in
     let registers : bits 0 10 word ≡ bits 0 10 add = same_registers word add h.kept in
-    record { add = still; base = omega arith; written = omega arith; reaches = omega arith }
+    record { load = load; add = still; base = omega arith; written = omega arith; reaches = omega arith }
 
 -- an ADD that a load was made takes any offset in a page
 pub add_fits : (input word : ℕ) → IsMadeAdd input word → fits_word Low12 word ≡ true

@@ -98,3 +98,11 @@ pass_below n test h = pass_all test (range_with_len 0 n) each
         let within : k < n = omega arith in
         let same : get_or (range_with_len 0 n) k d ≡ k = get_or-range_with_len 0 n k d within ∙ omega arith in
         subst (λ j. test j ≡ true) (sym same) (h k within)
+
+-- a number that fails
+pub fails_below : (n : ℕ) (test : ℕ → Bool) (k : ℕ) → k < n → test k ≡ false → each_below n test ≡ false
+fails_below n test k within fails = not_so (each_below n test) (λ all. true_or_false (test k) (below_pass n test all k within) fails)
+  where
+    not_so : (t : Bool) → (t ≡ true → ⊥) → t ≡ false
+    not_so true h = absurd (h refl)
+    not_so false h = refl

@@ -2,7 +2,7 @@
 --
 -- Its word is the same at every slide, since no chain word covers it; its place and whatever it compares it with move by
 -- the slide. So what it says at slide 0 it says at the other one, kind by kind.
-use Rattle.std.proofs.Common.{◌≡◌, ℕ, ◌+◌, ◌%◌, ◌<◌, ◌||◌, ◌&&◌, Bool, true, false, List, get_or, refl, subst, arith, Option, Some, None}
+use Rattle.std.proofs.Common.{◌≡◌, ℕ, ◌+◌, ◌%◌, ◌<◌, ◌||◌, true, false, List, get_or, refl, subst, arith, Option, Some, None}
 use Rattle.std.specs.Prelude.{is_some}
 use Rattle.macho_model.specs.declared.placed.PlacedSection.{PlacedSection}
 use Rattle.macho_model.specs.declared.targets.Target.{Target}
@@ -13,6 +13,7 @@ use Rattle.macho_model.specs.Fields.{Field, content_of}
 use Rattle.macho_model.specs.Placement.{Placed, id_of}
 use Rattle.macho_model.specs.Memory.{Choice, Covers, HoldsNumber}
 use Rattle.macho_model.specs.Stands.{IsAt, CallIsAt, LoadIsAt, LoadSays, SlotAt, StubAt, SubtrahendIsAt, Kind, Pointer, Difference, Branch, Page, Offset, SlotPage, SlotOffset, SlotDistance, NoKind, kind_of, Says, Denotes}
+use Rattle.macho_model.specs.SlideLaws.{subtrahend_moves, targets_move}
 use Rattle.macho_model.proofs.EachBelow.{true_or_false, and_left, and_right}
 use Rattle.macho_model.proofs.ChainMemory.{memory_moves}
 use Rattle.macho_model.proofs.Slides.{branch_slides, difference_slides, distance_slides, page_of_slides, offset_slides, adds_slides, loads_slides}
@@ -63,22 +64,6 @@ load_says_moves l p c d target.Base word input s whole moves h =
     (h.0 + s, defined_moves l p c d target.Base h.0 s refl h.1, adds_slides word input h.0 s whole h.2)
 load_says_moves l p c d (target.Absolute value) word input s whole moves h = absurd (true_or_false false moves refl)
 load_says_moves l p c d target.None word input s whole moves h = absurd (true_or_false false moves refl)
-
--- the targets of a field move: that of its kind, and its subtrahend
-abbrev pub subtrahend_moves : Option Target → Bool
-subtrahend_moves None = false
-subtrahend_moves (Some t) = is_defined t
-
-abbrev pub targets_move : Field → Kind → Bool
-targets_move f Pointer = false
-targets_move f Difference = is_defined f.target && subtrahend_moves f.subtrahend
-targets_move f Branch = is_defined f.target || is_import f.target
-targets_move f Page = is_defined f.target
-targets_move f Offset = is_defined f.target
-targets_move f SlotPage = is_defined f.target || is_import f.target
-targets_move f SlotOffset = is_defined f.target || is_import f.target
-targets_move f SlotDistance = true
-targets_move f NoKind = true
 
 subtrahend_at : (l : Link) (p : Placed) (c d : Choice) (t : Option Target) (y s : ℕ) → subtrahend_moves t ≡ true → SubtrahendIsAt l p 0 c t y → SubtrahendIsAt l p s d t (y + s)
 subtrahend_at l p c d None y s moves h = h

@@ -3,7 +3,7 @@
 -- These rules speak of each command, table or import, which are finitely many, so each has a test that is true exactly
 -- where the rule is kept. The last rule speaks of each word on the chain, and is shown apart. So the tests, computed,
 -- show of an example that it is accepted, or which rule it breaks, and that it keeps the others.
-use Rattle.std.proofs.Common.{◌≡◌, ◌≢◌, ℕ, ◌+◌, ◌-◌, ◌<◌, ◌≤◌, nat_le, ◌==◌, Bool, true, false, not, ◌&&◌, List, [], ◌∷◌, length, get_or, map, refl, sym, ap, ◌∙◌, arith, All}
+use Rattle.std.proofs.Common.{◌≡◌, ◌≢◌, ℕ, ◌+◌, ◌-◌, nat_le, ◌==◌, Bool, true, false, not, ◌&&◌, List, [], ◌∷◌, length, get_or, map, refl, sym, ap, ◌∙◌, arith}
 use Rattle.std.specs.Prelude.{Contains}
 use Rattle.std.specs.List.{list_all}
 use Rattle.std.proofs.lemmas.Bool.{leb-true, le-leb}
@@ -13,27 +13,15 @@ use Rattle.macho_model.specs.declared.rules.LoadRule.{LoadRule}
 use Rattle.macho_model.specs.declared.rules.LoadRule.TheVariants.{L1, L2, L3, L4, L5, L6, L7, L8, L9, L10}
 use Rattle.macho_model.specs.Commands.{Command, commands_of, command_fits}
 use Rattle.macho_model.specs.ObjectRules.{commands_inside}
-use Rattle.macho_model.specs.Grammar.{EachCommand}
 use Rattle.macho_model.specs.Segments.{TEXT}
-use Rattle.macho_model.specs.Images.{segments_named, Table, tables_of, fixups_header}
+use Rattle.macho_model.specs.Images.{segments_named, tables_of, fixups_header}
 use Rattle.macho_model.specs.Chain.{ChainSegment, chain_segments, OnPageChain}
 use Rattle.macho_model.specs.LoadRules.{image_head_fits, needed_in_image, protections_fit, file_part_inside, segment_is_paged, segment_ends, begins_behind, text_holds_commands, table_fits, import_fits}
 use Rattle.macho_model.specs.Loader.{WordFits, EachNeighbour, segment_commands, IsAccepted}
+use Rattle.macho_model.specs.Asked.{LoadKeeps}
 use Rattle.macho_model.proofs.EachBelow.{each_below, true_or_false, and_left, and_right, and_both, is_equal, equal_is, same_number, other_number, all_pass, pass_all, below_pass, pass_below}
 
--- what an accepted image keeps, rule by rule: the fields of `IsAccepted`
-abbrev pub LoadKeeps : List ℕ → LoadRule → Type 0
-LoadKeeps b L1 = image_head_fits b ≡ true
-LoadKeeps b L2 = (commands_inside b ≡ true) × EachCommand (commands_of b) (command_fits (needed_in_image b) b)
-LoadKeeps b L3 = EachCommand (segment_commands b) (protections_fit b)
-LoadKeeps b L4 = EachCommand (segment_commands b) (file_part_inside b)
-LoadKeeps b L5 = EachCommand (segment_commands b) (segment_is_paged b)
-LoadKeeps b L6 = EachCommand (segment_commands b) (segment_ends b) × EachNeighbour (segment_commands b) (begins_behind b)
-LoadKeeps b L7 = (length (segments_named TEXT b) ≡ 1) × All (λ s. text_holds_commands b s ≡ true) (segments_named TEXT b)
-LoadKeeps b L8 = (length (tables_of b) ≤ 1) × All (λ t. table_fits b t ≡ true) (tables_of b)
-LoadKeeps b L9 = (t : Table) (k : ℕ) → Contains (tables_of b) t → k < (fixups_header b t).imports_count → import_fits b t k ≡ true
-LoadKeeps b L10 = (s : ChainSegment) (page a : ℕ) → Contains (chain_segments b) s → OnPageChain (chain_segments b) b s page a → WordFits b s page a
-
+-- an image that keeps each rule is accepted
 pub accepted_keeping : (b : List ℕ) → ((rule : LoadRule) → LoadKeeps b rule) → IsAccepted b
 accepted_keeping b h =
     record { l1 = h L1; l2 = h L2; l3 = h L3; l4 = h L4; l5 = h L5; l6 = h L6; l7 = h L7; l8 = h L8; l9 = h L9; l10 = h L10 }

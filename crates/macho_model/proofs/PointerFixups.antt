@@ -3,7 +3,7 @@
 -- The loader makes of a word that moves with the image its target plus the base and the slide; where target and base are
 -- the place of the pointer's target plus its addend, at slide 0, that is where the target is at the slide. Of a word that
 -- binds it makes the import's address plus addends, whatever the slide. In both the new word is what memory holds.
-use Rattle.std.proofs.Common.{◌≡◌, ℕ, ◌+◌, ◌*◌, ◌%◌, ◌^◌, ◌≤◌, ◌⊎◌, true, false, List, [], get_or, refl, arith, Some}
+use Rattle.std.proofs.Common.{◌≡◌, ℕ, ◌+◌, ◌*◌, ◌%◌, ◌^◌, true, false, List, [], get_or, refl, arith, Some}
 use Rattle.std.specs.Prelude.{is_some}
 use Rattle.std.proofs.Math.Nat.{mod-lt}
 use Rattle.macho_model.specs.declared.placed.PlacedSection.{PlacedSection}
@@ -16,19 +16,12 @@ use Rattle.macho_model.specs.Fields.{Field}
 use Rattle.macho_model.specs.Images.{base_of}
 use Rattle.macho_model.specs.Meaning.{Same, PointsTo}
 use Rattle.macho_model.specs.Placement.{Placed, id_of}
-use Rattle.macho_model.specs.Chain.{WORD_SIZE, chain_segments, IsFileWord, OnChainOf}
-use Rattle.macho_model.specs.Loader.{is_bind}
-use Rattle.macho_model.specs.Memory.{Choice, chosen, rebase_target, rebase_high, IsBound, HoldsNumber}
+use Rattle.macho_model.specs.Chain.{WORD_SIZE}
+use Rattle.macho_model.specs.Memory.{Choice, chosen, rebase_target, rebase_high, HoldsNumber}
 use Rattle.macho_model.specs.Stands.{IsAt, Pointer, kind_of, is_template_offset, Denotes, SlotStands}
+use Rattle.macho_model.specs.SlideLaws.{MovesAt, BindsAt}
 use Rattle.macho_model.proofs.ChainMemory.{fixed_word_is_held}
 use Rattle.macho_model.proofs.FieldSlides.{defined_moves}
-
--- a chain word that moves with the image, and in which no other one begins
-pub record MovesAt (b : List ℕ) (a word : ℕ) : Type 0 where
-  pub on : OnChainOf b a
-  pub stands : IsFileWord (chain_segments b) b a word
-  pub rebases : is_bind word ≡ false
-  pub alone : (other : ℕ) → OnChainOf b other → (other ≤ a) ⊎ (a + WORD_SIZE ≤ other)
 
 -- what it becomes
 abbrev pub moved_value : List ℕ → ℕ → ℕ → ℕ
@@ -71,16 +64,7 @@ slot_denotes l b p c slot word x h moves at same s choice =
       points = moved_same (rebase_target word + rebase_high word * 2 ^ 56 + base_of b) x s same;
     }
 
--- a chain word that binds an import of the link, with an addend, for every choice, and in which no other one begins
-pub record BindsAt (l : Link) (b : List ℕ) (a id addend : ℕ) : Type 0 where
-  pub on : OnChainOf b a
-  pub word : ℕ
-  pub stands : IsFileWord (chain_segments b) b a word
-  pub binds : is_bind word ≡ true
-  pub alone : (other : ℕ) → OnChainOf b other → (other ≤ a) ⊎ (a + WORD_SIZE ≤ other)
-  pub bound : (choice : Choice) (x : ℕ) → chosen choice (import_library l (get_or (imports_of l) id [])) (get_or (imports_of l) id []) ≡ Some x
-      → IsBound b choice word ((x + addend) % 2 ^ 64)
-
+-- and of one that binds an import
 pub bound_is_held : (l : Link) (b : List ℕ) (a id addend : ℕ) → BindsAt l b a id addend → (s : ℕ) (choice : Choice) (x : ℕ)
     → chosen choice (import_library l (get_or (imports_of l) id [])) (get_or (imports_of l) id []) ≡ Some x
     → HoldsNumber b s choice WORD_SIZE (a + s) ((x + addend) % 2 ^ 64)

@@ -16,7 +16,7 @@ use Rattle.macho_model.proofs.ExampleImages.{image_with_fixups, two_pages, rebas
 use Rattle.macho_model.proofs.LoaderTests.{is_accepted}
 use Rattle.macho_model.proofs.RowsLoader.{verdict_of_two_pages, chain_segments_of_two_pages}
 use Rattle.macho_model.proofs.ChainSets.{is_closed, is_among, chain_within}
-use Rattle.macho_model.proofs.WordTests.{pages_pass, words_fit}
+use Rattle.macho_model.proofs.WordFitting.{pages_pass, words_fit}
 
 -- the number of eight bytes
 abbrev pub word8_of : List ℕ → ℕ

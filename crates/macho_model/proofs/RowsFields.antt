@@ -77,7 +77,7 @@ a_scaled_offset = record { reaches = refl; kept = refl }
 -- `ldr x0, [x0]` (`00 00 40 f9`) of a slot, made an ADD of a target with the low bits 0x123: `00 8c 04 91`
 pub a_load_made_an_add : AddsTo (word_of 0x00 0x8c 0x04 0x91) (word_of 0x00 0x00 0x40 0xf9) (0x100002123 + slide)
 unfolding le_at
-a_load_made_an_add = record { add = refl; base = refl; written = refl; reaches = refl }
+a_load_made_an_add = record { load = refl; add = refl; base = refl; written = refl; reaches = refl }
 
 -- and kept, with a slot that ends in 0x010: `00 08 40 f9`
 pub a_load_of_a_slot : LoadsFrom (word_of 0x00 0x08 0x40 0xf9) (word_of 0x00 0x00 0x40 0xf9) (0x100004010 + slide)

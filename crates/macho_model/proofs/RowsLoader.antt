@@ -1,6 +1,6 @@
 -- What the definitions of the loader say of small images, by computing: segments, libraries, tables and page starts; and
 -- each rule of the loader, kept by the examples and broken alone by a change of one.
-use Rattle.std.proofs.Common.{◌≡◌, ℕ, ◌+◌, ◌-◌, ◌^◌, List, [], ◌∷◌, refl, map, length}
+use Rattle.std.proofs.Common.{◌≡◌, ℕ, ◌+◌, ◌-◌, ◌^◌, List, [], ◌∷◌, ◌++◌, replicate, refl, map, length}
 use Rattle.std.specs.Prelude.{codes, All}
 use Rattle.std.specs.List.{AllByRecursion}
 use Rattle.std.proofs.lemmas.List.Elements.{All-weaker, All-from_recursion}
@@ -89,6 +89,18 @@ load_changes =
     ∷ record { rule = L6; at = 176 + 32; text = words8 ((2 ^ 64 - 0x4000) ∷ []) }
     -- `__TEXT` without file bytes for the commands
     ∷ record { rule = L7; at = 104 + 48; text = words8 (319 ∷ []) }
+    -- `__DATA` named `__TEXT` too, as it may be accessed for
+    ∷ record {
+      rule = L7;
+      at = 176 + 8;
+      text = name16 (codes "__TEXT") ++ words8 (0x100004000 ∷ 0x8000 ∷ 0x4000 ∷ 32 ∷ []) ++ words (5 ∷ 5 ∷ []);
+    }
+    -- two fixup tables, the first in place of the library, and no imports
+    ∷ record {
+      rule = L8;
+      at = 248;
+      text = words (0x80000034 ∷ 56 ∷ 320 ∷ 83 ∷ []) ++ replicate 40 0 ++ words (0x80000034 ∷ 16 ∷ 320 ∷ 83 ∷ []) ++ words (0 ∷ 28 ∷ 72 ∷ 76 ∷ 0 ∷ []);
+    }
     -- a table that passes the file; another version, import format, page size, pointer format; starts of another address
     ∷ record { rule = L8; at = 304 + 12; text = words (16097 ∷ []) }
     ∷ record { rule = L8; at = 320; text = words (1 ∷ []) }
@@ -108,7 +120,7 @@ load_changes =
 -- what the tests say of each change
 load_verdicts : AllByRecursion (λ c. load_verdict (changed_image c) ≡ load_all_but c.rule) load_changes
 unfolding load_verdict tables_of base_of segments_of commands_of commands_from commands_end header_of libraries_of reading le_at row_bytes le_bytes words8 words halves name16 image_with_fixups one_page changed
-load_verdicts = (refl, (refl, (refl, (refl, (refl, (refl, (refl, (refl, (refl, (refl, (refl, (refl, (refl, (refl, (refl, (refl, (refl, (refl, (refl, (refl, (refl, (refl, (refl, tt)))))))))))))))))))))))
+load_verdicts = (refl, (refl, (refl, (refl, (refl, (refl, (refl, (refl, (refl, (refl, (refl, (refl, (refl, (refl, (refl, (refl, (refl, (refl, (refl, (refl, (refl, (refl, (refl, (refl, (refl, tt)))))))))))))))))))))))))
 
 -- Each change breaks its rule, and no other one that has a test.
 pub each_load_change_breaks_its_rule : All (λ c. LoadBreaksAlone (changed_image c) c.rule) load_changes

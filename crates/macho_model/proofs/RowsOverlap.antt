@@ -20,7 +20,8 @@ use Rattle.macho_model.proofs.EachBelow.{true_or_false}
 use Rattle.macho_model.proofs.LoaderTests.{load_verdict, load_all_pass}
 use Rattle.macho_model.proofs.ChainSets.{is_closed, is_among, chain_within}
 use Rattle.macho_model.proofs.ChainMemory.{fixed_text_is_held, fixed_word_is_held}
-use Rattle.macho_model.proofs.WordTests.{word_fits_test, fits_word}
+use Rattle.macho_model.specs.WordTests.{word_fits_test}
+use Rattle.macho_model.proofs.WordFitting.{fits_word}
 
 abbrev pub data_of_page : ChainSegment
 data_of_page = record { address = 0x100004000; file_offset = 0x4000; file_size = 32; starts = 0x10 ∷ [] }

@@ -1,5 +1,5 @@
 -- When each refusal of a link stands. A refusal is told only where it stands, and an image only where none does.
-use Rattle.std.specs.Prelude.{◌≡◌, ℕ, ◌+◌, ◌*◌, ◌-◌, ◌%◌, ◌^◌, ◌<◌, ◌≤◌, ◌⊎◌, ◌==◌, nat_le, nat_lt, ◌||◌, not, Bool, true, false, List, length, get_or, Option, Some, None, Contains, IsNone, reverse, take_while, drop, codes}
+use Rattle.std.specs.Prelude.{◌≡◌, ℕ, ◌+◌, ◌*◌, ◌%◌, ◌<◌, ◌≤◌, ◌⊎◌, ◌==◌, ◌||◌, not, Bool, true, false, List, length, get_or, Option, Some, None, Contains, IsNone, reverse, take_while, drop, codes}
 use Rattle.std.specs.List.{list_any}
 use Rattle.std.specs.Str.{bytes_eq}
 use Rattle.macho_model.specs.declared.rules.UnwindRule.{UnwindRule}
@@ -18,8 +18,9 @@ use Rattle.macho_model.specs.Segments.{SEGMENT_PAGE, segment_name, may_hold_poin
 use Rattle.macho_model.specs.Placement.{Placed, IsPlaced}
 use Rattle.macho_model.specs.Rows.{is_supported, share_byte, are_pair}
 use Rattle.macho_model.specs.Consumed.{initializer_section_fits, initializer_slot_fits, is_plain_pointer, is_section_target, entry_count, whole_entries, keeps}
+use Rattle.macho_model.specs.Stands.{SectionAt}
 use Rattle.macho_model.specs.Limits.{PassesLimit, IsTooLarge}
-use Rattle.macho_model.specs.Values.{section_id, FieldOf, PlacedAt, is_pointer, needs_fixup, BadRebase, BadRange}
+use Rattle.macho_model.specs.Values.{section_id, FieldOf, fits_signed, is_pointer, needs_fixup, BadRebase, BadRange}
 
 -- A refusal, seen without memory.
 pub data LinkFault : Type 0 where
@@ -55,7 +56,8 @@ names_symbol l (ByName name) = false
 -- a file uses a global name that has no definition
 abbrev pub IsUndefined : Link → List ℕ → ℕ → Type 0
 IsUndefined l name file =
-    (u : Use) × (s : SymbolId) × Contains (uses_of l) u × (names_symbol l u ≡ true) × (symbol_used l u ≡ Some s) × (is_global (entry_at l s) ≡ true) × (name_at l s ≡ name)
+    (u : Use) × (s : SymbolId) × Contains (uses_of l) u × (names_symbol l u ≡ true) × (symbol_used l u ≡ Some s) ×
+    (is_global (entry_at l s) ≡ true) × (name_at l s ≡ name)
     × (s.file ≡ file) × IsNone (definition_of l name)
 
 -- an entry breaks a rule; a section that is cut is told at the entry that is cut
@@ -71,18 +73,16 @@ entry_is_defined l = not l.executable || is_section_target (target_of_name l l.e
 abbrev pub IsBadInitializer : Link → SectionId → ℕ → Type 0
 IsBadInitializer l s offset =
     ((initializer_section_fits l s ≡ false) × (offset ≡ 0))
-    ⊎ ((slot : ℕ) × (POINTER_SIZE * slot + POINTER_SIZE ≤ (header_at l s).size) × (offset ≡ POINTER_SIZE * slot) × (initializer_slot_fits l s slot ≡ false))
+    ⊎ ((slot : ℕ) × (POINTER_SIZE * slot + POINTER_SIZE ≤ (header_at l s).size) × (offset ≡ POINTER_SIZE * slot) ×
+    (initializer_slot_fits l s slot ≡ false))
     ⊎ ((r : ℕ) × (r < (header_at l s).nreloc) × (offset ≡ (relocation_in l s r).r_address) × ((offset % POINTER_SIZE == 0) ≡ false))
-
--- an addend, read as signed, fits 32 bits
-abbrev pub fits_32_signed : ℕ → Bool
-fits_32_signed x = nat_lt x (2 ^ 31) || nat_le (2 ^ 64 - 2 ^ 31) x
 
 -- a pointer is in a segment that may hold none; or its word crosses a page or is not at a multiple of four
 abbrev pub BadPlace : Link → SectionId → Field → Option Placed → Type 0
 BadPlace l s f None = may_hold_pointers (segment_name l s) ≡ false
 BadPlace l s f (Some p) =
-    (address : ℕ) × PlacedAt p s address × ((SEGMENT_PAGE < (address + f.offset) % SEGMENT_PAGE + 8) ⊎ (1 ≤ (address + f.offset) % 4))
+    (address : ℕ) × SectionAt p s.file s.section address × ((SEGMENT_PAGE < (address + f.offset) % SEGMENT_PAGE + 8) ⊎
+    (1 ≤ (address + f.offset) % 4))
 
 -- the last part of a path, without the slashes at its end
 abbrev pub SLASH : ℕ
@@ -120,8 +120,9 @@ FaultStands l counts (OverlappingFields file section first second) =
     Contains (carried_of l) (section_id file section) × (first < second) × (second < (header_at l (section_id file section)).nreloc)
     × (share_byte l (section_id file section) first second ≡ true) × (are_pair l (section_id file section) first second ≡ false)
 FaultStands l counts (BindAddend file section relocation addend) =
-    (f : Field) × FieldOf l (section_id file section) relocation f × (is_pointer f ≡ true) × (is_import f.target ≡ true) × (addend ≡ f.addend)
-    × (fits_32_signed addend ≡ false)
+    (f : Field) × FieldOf l (section_id file section) relocation f × (is_pointer f ≡ true) × (is_import f.target ≡ true) ×
+    (addend ≡ f.addend)
+    × (fits_signed 32 addend ≡ false)
 FaultStands l counts (FixupPlace file section relocation placement) =
     (f : Field) × FieldOf l (section_id file section) relocation f × (needs_fixup l (section_id file section) f ≡ true)
     × BadPlace l (section_id file section) f placement

@@ -20,6 +20,9 @@ pub mod LoadRules
 pub mod Loader
 pub mod Memory
 pub mod Walks
+pub mod Asked
+pub mod WordTests
+pub mod Loaded
 pub mod Stands
 pub mod Exports
 pub mod Rows
@@ -29,3 +32,5 @@ pub mod Values
 pub mod Fixups
 pub mod Faults
 pub mod Valid
+pub mod Laws
+pub mod SlideLaws

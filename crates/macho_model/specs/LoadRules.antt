@@ -6,7 +6,7 @@ use Rattle.macho_bytes.specs.Texts.{name_of}
 use Rattle.macho_bytes.specs.Layouts.{reading, size_of}
 use Rattle.macho_records.specs.Layouts.{mach_header, segment_command, symtab_command, dylib_command, dylinker_command, rpath_command, uuid_command, build_version_command, linkedit_data_command, entry_point_command, chained_fixups_header, chained_starts_in_segment}
 use Rattle.macho_records.specs.declared.header.SegmentCommand.{SegmentCommand}
-use Rattle.macho_records.specs.declared.constants.TheConstants.{CPU_TYPE_ARM64, LC_BUILD_VERSION, LC_CODE_SIGNATURE, LC_DYLD_CHAINED_FIXUPS, LC_DYLD_EXPORTS_TRIE, LC_ID_DYLIB, LC_LOAD_DYLIB, LC_LOAD_DYLINKER, LC_MAIN, LC_RPATH, LC_SEGMENT_64, LC_SYMTAB, LC_UUID, MH_DYLIB, MH_EXECUTE, MH_MAGIC_64}
+use Rattle.macho_records.specs.declared.constants.TheConstants.{CPU_TYPE_ARM64, LC_BUILD_VERSION, LC_CODE_SIGNATURE, LC_DYLD_CHAINED_FIXUPS, LC_DYLD_EXPORTS_TRIE, LC_ID_DYLIB, LC_LOAD_DYLIB, LC_LOAD_DYLINKER, LC_MAIN, LC_RPATH, LC_SEGMENT_64, LC_SYMTAB, LC_UUID, MH_DYLIB, MH_EXECUTE, MH_MAGIC_64, VM_PROT_EXECUTE, VM_PROT_READ, VM_PROT_WRITE}
 use Rattle.macho_model.specs.Commands.{Command, header_of, commands_end, segment_size}
 use Rattle.macho_model.specs.ObjectRules.{has_nul}
 use Rattle.macho_model.specs.Segments.{PAGEZERO, TEXT, LINKEDIT, SEGMENT_PAGE}
@@ -32,10 +32,12 @@ needed_in_image b c =
     else if (c.number == LC_CODE_SIGNATURE) || (c.number == LC_DYLD_EXPORTS_TRIE) || (c.number == LC_DYLD_CHAINED_FIXUPS)
     then size_of linkedit_data_command else 0
 
--- what a segment of a name may be accessed for: 1 to read, 2 to write, 4 to execute
+-- what a segment of a name may be accessed for (`mach/vm_prot.h`)
 abbrev pub loaded_protection_of : List ℕ → ℕ
 loaded_protection_of name =
-    if bytes_eq name PAGEZERO then 0 else if bytes_eq name TEXT then 5 else if bytes_eq name LINKEDIT then 1 else 3
+    if bytes_eq name PAGEZERO then 0
+    else if bytes_eq name TEXT then VM_PROT_READ + VM_PROT_EXECUTE
+    else if bytes_eq name LINKEDIT then VM_PROT_READ else VM_PROT_READ + VM_PROT_WRITE
 
 abbrev pub segment_in : List ℕ → Command → SegmentCommand
 segment_in b c = reading segment_command b c.at
@@ -54,7 +56,8 @@ file_part_inside b c =
 -- L5: a segment is made of whole pages
 abbrev pub segment_is_paged : List ℕ → Command → Bool
 segment_is_paged b c =
-    ((segment_in b c).vmaddr % SEGMENT_PAGE == 0) && ((segment_in b c).vmsize % SEGMENT_PAGE == 0) && ((segment_in b c).fileoff % SEGMENT_PAGE == 0)
+    ((segment_in b c).vmaddr % SEGMENT_PAGE == 0) && ((segment_in b c).vmsize % SEGMENT_PAGE == 0) &&
+    ((segment_in b c).fileoff % SEGMENT_PAGE == 0)
 
 -- L6: a segment ends at 2 ^ 64 at most, and the one behind it does not begin before that
 abbrev pub segment_ends : List ℕ → Command → Bool
@@ -76,7 +79,8 @@ abbrev pub starts_fit : List ℕ → Table → ℕ → Bool
 starts_fit b t k =
     (starts_offset b t k == 0)
     || (nat_le ((fixups_header b t).starts_offset + starts_offset b t k + size_of chained_starts_in_segment) t.size
-    && nat_le ((fixups_header b t).starts_offset + starts_offset b t k + size_of chained_starts_in_segment + 2 * (segment_starts b t k).page_count) t.size
+    && nat_le ((fixups_header b t).starts_offset + starts_offset b t k + size_of chained_starts_in_segment + 2 *
+    (segment_starts b t k).page_count) t.size
     && ((segment_starts b t k).page_size == CHAIN_PAGE) && ((segment_starts b t k).pointer_format == POINTER_FORMAT)
     && (((segment_starts b t k).segment_offset + base_of b) % 2 ^ 64 == get_or (map (λ s. s.vmaddr) (segments_of b)) k 0))
 
@@ -87,7 +91,8 @@ table_fits b t =
     && (((fixups_header b t).imports_format == IMPORT_FORMAT) || ((fixups_header b t).imports_format == IMPORT_ADDEND_FORMAT))
     && ((fixups_header b t).symbols_format == 0) && nat_le ((fixups_header b t).starts_offset + 4) t.size
     && nat_le ((fixups_header b t).starts_offset + 4 + 4 * starts_count b t) t.size && nat_le (starts_count b t) (length (segments_of b))
-    && nat_le ((fixups_header b t).imports_offset + import_entry_size (fixups_header b t).imports_format * (fixups_header b t).imports_count) t.size
+    && nat_le ((fixups_header b t).imports_offset + import_entry_size (fixups_header b t).imports_format *
+    (fixups_header b t).imports_count) t.size
     && nat_le (fixups_header b t).symbols_offset t.size && list_all (starts_fit b t) (range_with_len 0 (starts_count b t))
 
 -- L9: an import's library is one of the image's, and its name ends in the table

@@ -35,8 +35,9 @@ pub record OffsetsTo (word input x : ℕ) : Type 0 where
   pub reaches : imm12 word * scale_of word ≡ low (address x)
   pub kept : without_imm12 word ≡ without_imm12 input
 
--- a load of a slot was made an ADD that gives the address itself, in the same two registers
+-- a 64-bit load of a slot was made an ADD that gives the address itself, in the same two registers
 pub record AddsTo (word input x : ℕ) : Type 0 where
+  pub load : is_ldr input ≡ true
   pub add : is_add word ≡ true
   pub base : base_register word ≡ base_register input
   pub written : written_register word ≡ written_register input

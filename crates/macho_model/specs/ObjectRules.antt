@@ -5,7 +5,7 @@ use Rattle.macho_bytes.specs.Texts.{name_of}
 use Rattle.macho_bytes.specs.Layouts.{reading, size_of}
 use Rattle.macho_records.specs.Layouts.{mach_header, symtab_command, symtab_entry, dylib_command}
 use Rattle.macho_records.specs.Relocations.{relocation_info}
-use Rattle.macho_records.specs.declared.constants.TheConstants.{ARM64_RELOC_ADDEND, CPU_TYPE_ARM64, LC_ID_DYLIB, LC_SEGMENT_64, LC_SYMTAB, MH_MAGIC_64}
+use Rattle.macho_records.specs.declared.constants.TheConstants.{ARM64_RELOC_ADDEND, CPU_TYPE_ARM64, LC_ID_DYLIB, LC_SEGMENT_64, LC_SYMTAB, MH_MAGIC_64, S_THREAD_LOCAL_REGULAR, S_THREAD_LOCAL_VARIABLES, S_THREAD_LOCAL_ZEROFILL}
 use Rattle.macho_records.specs.Symbols.{common_exponent_of, common_size_of, is_common_of, is_external_of, is_stab_of}
 use Rattle.macho_model.specs.Symbols.{is_in_section, is_in_segment}
 use Rattle.macho_records.specs.Sections.{is_zerofill, type_of}
@@ -41,7 +41,8 @@ has_one n b = length (numbered n b) == 1
 -- O4: both tables stand inside the file
 abbrev pub tables_inside : List ℕ → Bool
 tables_inside b =
-    nat_le ((symtab_of b).symoff + size_of symtab_entry * num_symbols b) (length b) && nat_le ((symtab_of b).stroff + (symtab_of b).strsize) (length b)
+    nat_le ((symtab_of b).symoff + size_of symtab_entry * num_symbols b) (length b) && nat_le
+    ((symtab_of b).stroff + (symtab_of b).strsize) (length b)
 
 -- O5, of a symbol: its section exists
 abbrev pub symbol_section_exists : List ℕ → ℕ → Bool
@@ -94,7 +95,7 @@ field_inside b k r = nat_le ((relocation_at b k r).r_address + 2 ^ (relocation_a
 
 -- O11: a thread-local section is in `__DATA`
 abbrev pub is_thread_local : ℕ → Bool
-is_thread_local type = (type == 0x11) || (type == 0x12) || (type == 0x13)
+is_thread_local type = (type == S_THREAD_LOCAL_REGULAR) || (type == S_THREAD_LOCAL_ZEROFILL) || (type == S_THREAD_LOCAL_VARIABLES)
 
 abbrev pub thread_local_in_data : List ℕ → ℕ → Bool
 thread_local_in_data b k = not (is_thread_local (type_of (section_at b k))) || is_in_segment (codes "__DATA") (section_at b k)

@@ -19,8 +19,8 @@ use Rattle.macho_model.specs.Stands.{Kind, Pointer, Difference, Branch, Page, Of
 use Rattle.macho_model.specs.Rows.{is_supported, share_byte, are_pair}
 use Rattle.macho_model.specs.Consumed.{initializer_section_fits, initializer_slot_fits, entry_count, whole_entries, keeps}
 use Rattle.macho_model.specs.Limits.{limited}
-use Rattle.macho_model.specs.Values.{needs_fixup}
-use Rattle.macho_model.specs.Faults.{entry_is_defined, fits_32_signed}
+use Rattle.macho_model.specs.Values.{fits_signed, needs_fixup}
+use Rattle.macho_model.specs.Faults.{entry_is_defined}
 
 -- a number modulo 2 ^ 64, read as signed, is below 2 ^ 23 in size
 abbrev pub is_small : ℕ → Bool
@@ -40,9 +40,10 @@ stands_at_multiple l s m f = nat_le m (2 ^ placed_exponent l s) && (f.offset % m
 
 -- an address plus an addend lies in its section or common, or at its end; an import's addend fits 32 bits
 abbrev pub stays_inside : Link → Target → ℕ → Bool
-stays_inside l (target.Section file section offset) addend = nat_le ((offset + addend) % 2 ^ 64) (header_at l (record { file = file; section = section })).size
+stays_inside l (target.Section file section offset) addend =
+    nat_le ((offset + addend) % 2 ^ 64) (header_at l (record { file = file; section = section })).size
 stays_inside l (target.Common id) addend = nat_le addend (common_size_of (entry_at l (common_of l id)))
-stays_inside l (target.Import id) addend = fits_32_signed addend
+stays_inside l (target.Import id) addend = fits_signed 32 addend
 stays_inside l target.Base addend = addend == 0
 stays_inside l t addend = false
 
@@ -80,7 +81,8 @@ pub record IsValid (l : Link) (counts : Counts) : Type 0 where
   pub apart : (s : SectionId) (q r : ℕ) → Contains (carried_of l) s → q < r → r < (header_at l s).nreloc
       → (share_byte l s q r ≡ false) ⊎ (are_pair l s q r ≡ true)
   -- each field fits
-  pub fields : (s : SectionId) → Contains (carried_of l) s → All (λ f. field_fits l s f (kind_of f.type (is_some f.subtrahend)) ≡ true) (fields_of l s)
+  pub fields : (s : SectionId) → Contains (carried_of l) s
+      → All (λ f. field_fits l s f (kind_of f.type (is_some f.subtrahend)) ≡ true) (fields_of l s)
   -- initializers and unwind entries keep their rules
   pub initializers : All (λ s. initializer_section_fits l s ≡ true) (initializer_sections l)
   pub slots : (s : SectionId) (slot : ℕ) → Contains (initializer_sections l) s → POINTER_SIZE * slot + POINTER_SIZE ≤ (header_at l s).size

@@ -7,22 +7,17 @@ use Rattle.macho_model.specs.declared.targets.Site.{Site}
 use Rattle.macho_model.specs.declared.targets.Site.TheVariants as site
 use Rattle.macho_model.specs.declared.targets.Target.{Target}
 use Rattle.macho_model.specs.declared.targets.Target.TheVariants as target
-use Rattle.macho_model.specs.declared.placed.PlacedSection.{PlacedSection}
 use Rattle.macho_model.specs.declared.placed.Stub.{Stub}
 use Rattle.macho_model.specs.Links.{Link, SectionId, carried_of}
 use Rattle.macho_model.specs.Targets.{is_import, slots_of}
 use Rattle.macho_model.specs.Fields.{Field, fields_of, content_of}
 use Rattle.macho_model.specs.Words.{scale_of}
-use Rattle.macho_model.specs.Placement.{Placed, id_of}
+use Rattle.macho_model.specs.Placement.{Placed}
 use Rattle.macho_model.specs.Memory.{Choice}
-use Rattle.macho_model.specs.Stands.{Kind, Pointer, Difference, Branch, Page, Offset, SlotPage, SlotOffset, SlotDistance, NoKind, kind_of, is_template_offset, IsAt, SlotAt, CallIsAt, LoadIsAt, SubtrahendIsAt}
+use Rattle.macho_model.specs.Stands.{Kind, Pointer, Difference, Branch, Page, Offset, SlotPage, SlotOffset, SlotDistance, NoKind, kind_of, is_template_offset, SectionAt, IsAt, SlotAt, CallIsAt, LoadIsAt, SubtrahendIsAt}
 
 abbrev pub section_id : ℕ → ℕ → SectionId
 section_id file section = record { file = file; section = section }
-
--- the address of a placed section
-abbrev pub PlacedAt : Placed → SectionId → ℕ → Type 0
-PlacedAt p s address = (q : PlacedSection) × Contains p.sections q × (id_of q ≡ s) × (q.address ≡ address)
 
 -- a field that is a pointer of 8 bytes
 abbrev pub is_pointer : Field → Bool
@@ -58,7 +53,8 @@ BadRebase l p (site.Field file section relocation) =
     (f : Field) × (x : ℕ) × FieldOf l (section_id file section) relocation f × (needs_fixup l (section_id file section) f ≡ true)
     × (is_import f.target ≡ false) × IsAt l p 0 no_choice f.target x × IsNotEncodable p ((x + f.addend) % 2 ^ 64)
 BadRebase l p (site.Slot index) =
-    (t : Target) × (x : ℕ) × (index < length (slots_of l)) × (get_or (slots_of l) index t ≡ t) × (is_import t ≡ false) × IsAt l p 0 no_choice t x
+    (t : Target) × (x : ℕ) × (index < length (slots_of l)) × (get_or (slots_of l) index t ≡ t) × (is_import t ≡ false) × IsAt l p 0
+    no_choice t x
     × IsNotEncodable p x
 BadRebase l p (site.Stub index) = ⊥
 
@@ -98,7 +94,7 @@ DoesNotFit l p s f place input NoKind = ⊥
 -- a field's value does not fit it; or a stub's slot is out of its reach
 abbrev pub BadRange : Link → Placed → Site → Type 0
 BadRange l p (site.Field file section relocation) =
-    (f : Field) × (address : ℕ) × FieldOf l (section_id file section) relocation f × PlacedAt p (section_id file section) address
+    (f : Field) × (address : ℕ) × FieldOf l (section_id file section) relocation f × SectionAt p file section address
     × DoesNotFit l p (section_id file section) f (address + f.offset) (content_of l (section_id file section) relocation)
     (kind_of f.type (is_some f.subtrahend))
 BadRange l p (site.Slot index) = ⊥

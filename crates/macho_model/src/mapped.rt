@@ -1,88 +1,113 @@
-//! The memory of an image that has no fixups, read byte by byte: a plain and slow walk over the load commands.
+//! The memory of a loaded image, read byte by byte: plain and slow.
 //!
-//! Each segment but `__PAGEZERO` is mapped at its address plus the slide: its file bytes, then zeros.
-ghost use Rattle.std.specs.Prelude.{◌≡◌, ◌≤◌, ◌+◌, ℕ, length, true, slice_index, Some, None, List, []};
-ghost use Rattle.macho_model.specs.Memory.{Choice, Holds, IsSegmentByte};
-ghost use Rattle.macho_model.specs.Images.{tables_of};
-ghost use Rattle.macho_model.specs.Walks.{AreCommandsWhole, EndsInside, SegmentHas, CommandHas};
+//! Each segment but `__PAGEZERO` is mapped at its address plus the slide: its file bytes, then zeros. In place of the
+//! eight bytes of each word on the chain stands what the loader makes of it; where two such words share bytes, those of
+//! the word at the greater address.
+ghost use Rattle.std.specs.Prelude.{◌≡◌, ◌<◌, ℕ, Some, None, slice_index};
+ghost use Rattle.macho_bytes.specs.Numbers.{le_bytes};
+ghost use Rattle.macho_model.specs.Chain.{WORD_SIZE};
+ghost use Rattle.macho_model.specs.Memory.{IsSegmentByte};
+ghost use Rattle.macho_model.specs.Walks.{segment_there, SegmentHas, NthLacksByte};
+ghost use Rattle.macho_model.specs.Loaded.{CoversLast, IsUncovered, HoldsFor, HoldsNothing, IsByteFor, HasNoByte};
 
-use byteorder::{ByteOrder, LittleEndian};
-use macho_records::{LC_SEGMENT_64, SegmentCommand, name_bytes};
+use crate::chain_words::is_on_chain;
+use crate::fixed::fixed_value;
+use crate::reads::file_byte;
+use crate::segment_rules::segment_at;
+use crate::walk::{Listed, count_of, nth};
 
-/// The byte of the file at a sum of offsets, 0 behind its end.
-fn file_byte(bytes: &[u8], start: u64, offset: u64) -> u8
-    ensures { result ≡ slice_index bytes.now (start + offset) }
+/// The byte that the segment of a command has at an address, None where it has none.
+fn byte_of_segment(bytes: &[u8], place: u64, address: u64) -> Option<u8>
+    ensures found { (v : ℕ) → result ≡ Some v → SegmentHas bytes.now (segment_there bytes.now place) address v }
+    ensures only { result ≡ None → (v : ℕ) → SegmentHas bytes.now (segment_there bytes.now place) address v → ⊥ }
 {
-    match start.checked_add(offset) {
-        Some(at) if at < bytes.len() as u64 => bytes[at as usize],
-        _ => 0,
-    }
-}
-
-/// The byte that the segment has at an address, None where it has none.
-#[tactic(auto)]
-fn byte_of_segment(bytes: &[u8], segment: &SegmentCommand, address: u64) -> Option<u8>
-    ensures found { (v : ℕ) → result ≡ Some v → SegmentHas bytes.now segment.now address v }
-    ensures only { result ≡ None → (v : ℕ) → SegmentHas bytes.now segment.now address v → ⊥ }
-{
-    if name_bytes(&segment.segname) == b"__PAGEZERO".as_slice() || address < segment.vmaddr {
+    let segment = segment_at(bytes, place);
+    if address < segment.address {
         return None;
     }
-    let offset = address - segment.vmaddr;
-    if offset >= segment.vmsize {
+    let offset = address - segment.address;
+    if offset >= segment.size {
         return None;
     }
-    if offset >= segment.filesize {
+    if offset >= segment.file_size {
         return Some(0);
     }
-    Some(file_byte(bytes, segment.fileoff, offset))
+    Some(file_byte(bytes, segment.file_offset, offset))
 }
 
-/// The byte that the segment of the command at a place has at an address, None where it has none.
-#[tactic(auto, unfolding(macho_bytes::specs::Layouts::reading, macho_bytes::specs::Numbers::le_at))]
-fn byte_of_command(bytes: &[u8], place: usize, address: u64) -> Option<u8>
-    requires inside { EndsInside bytes.now place }
-    ensures found { (v : ℕ) → result ≡ Some v → CommandHas bytes.now place address v }
-    ensures only { result ≡ None → (v : ℕ) → CommandHas bytes.now place address v → ⊥ }
+/// The byte that the mapped segment with a number has at an address.
+fn byte_of_nth(bytes: &[u8], number: u32, address: u64) -> Option<u8>
+    ensures found { (v : ℕ) → result ≡ Some v → IsSegmentByte bytes.now address v }
+    ensures only { result ≡ None → NthLacksByte bytes.now number address }
 {
-    if LittleEndian::read_u32(&bytes[place..]) != LC_SEGMENT_64 {
-        return None;
-    }
-    match SegmentCommand::read(bytes, place) {
-        Some(segment) => byte_of_segment(bytes, &segment, address),
+    match nth(bytes, Listed::Mapped, number) {
+        Some(place) => byte_of_segment(bytes, place, address),
         None => None,
     }
 }
 
 /// The byte that a mapped segment has at an address of the file's own, None where none has one.
-#[tactic(auto, using(crate::proofs::SegmentWalk::head_inside))]
 pub fn segment_byte(bytes: &[u8], address: u64) -> Option<u8>
-    requires whole { AreCommandsWhole bytes.now }
     ensures found { (v : ℕ) → result ≡ Some v → IsSegmentByte bytes.now address v }
     ensures only { result ≡ None → (v : ℕ) → IsSegmentByte bytes.now address v → ⊥ }
 {
-    let count = LittleEndian::read_u32(&bytes[16..]);
-    let mut place = 32usize;
-    for i in 0..count {
-        if let Some(byte) = byte_of_command(bytes, place, address) {
+    for number in 0..count_of(bytes) {
+        if let Some(byte) = byte_of_nth(bytes, number, address) {
             return Some(byte);
         }
-        let size = LittleEndian::read_u32(&bytes[place + 4..]);
-        place += size as usize;
     }
     None
 }
 
-/// The byte that memory has at an address, where the image is loaded at a slide and has no fixup table; None where
-/// nothing is mapped.
-pub fn memory_byte(bytes: &[u8], slide: u64, address: u64) -> Option<u8>
-    requires whole { AreCommandsWhole bytes.now }
-    requires unchained { tables_of bytes.now ≡ [] }
-    ensures found { (v : ℕ) → result ≡ Some v → (choice : Choice) → Holds bytes.now slide choice address v }
-    ensures only { result ≡ None → (v : ℕ) (choice : Choice) → Holds bytes.now slide choice address v → ⊥ }
+/// The address of the chain word that covers an address: of several, the greatest.
+fn covering(bytes: &[u8], address: u64) -> Option<u64>
+    ensures found { (x : ℕ) → result ≡ Some x → CoversLast bytes.now x address }
+    ensures only { result ≡ None → IsUncovered bytes.now address }
+{
+    for back in 0..8u64 {
+        if back > address {
+            return None;
+        }
+        if is_on_chain(bytes, address - back) {
+            return Some(address - back);
+        }
+    }
+    None
+}
+
+/// The byte of a number by its place, the lowest first.
+#[tactic(auto, unfolding(macho_bytes::specs::Numbers::le_bytes))]
+fn byte_of(value: u64, at: u64) -> u8
+    requires { at < 8 }
+    ensures { result ≡ slice_index (le_bytes WORD_SIZE value) at }
+{
+    value.to_le_bytes()[at as usize]
+}
+
+/// The byte of the chain word at an address, None where the loader makes nothing of it.
+fn byte_of_word(bytes: &[u8], slide: u64, addresses: &[u64], word_at: u64, at: u64) -> Option<u8>
+    requires { at < 8 }
+    ensures found { (v : ℕ) → result ≡ Some v → IsByteFor bytes.now slide addresses.now word_at at v }
+    ensures only { result ≡ None → HasNoByte bytes.now slide addresses.now word_at at }
+{
+    match fixed_value(bytes, slide, addresses, word_at) {
+        Some(value) => Some(byte_of(value, at)),
+        None => None,
+    }
+}
+
+/// The byte that memory has at an address, where the image is loaded at a slide and its imports, by their numbers, are at
+/// these addresses; None where nothing is mapped, or where a chain word covers that the loader makes nothing of.
+pub fn memory_byte(bytes: &[u8], slide: u64, addresses: &[u64], address: u64) -> Option<u8>
+    ensures found { (v : ℕ) → result ≡ Some v → HoldsFor bytes.now slide addresses.now address v }
+    ensures only { result ≡ None → HoldsNothing bytes.now slide addresses.now address }
 {
     if address < slide {
         return None;
     }
-    segment_byte(bytes, address - slide)
+    let own = address - slide;
+    match covering(bytes, own) {
+        Some(word_at) => byte_of_word(bytes, slide, addresses, word_at, own - word_at),
+        None => segment_byte(bytes, own),
+    }
 }

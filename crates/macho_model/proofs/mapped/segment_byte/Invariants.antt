@@ -1,6 +1,7 @@
-use Rattle.macho_model.proofs.SegmentWalk.{Walked}
+-- None so far has it.
+use Rattle.std.proofs.Common.{ℕ, ◌<◌}
+use Rattle.macho_model.specs.Walks.{NthLacksByte}
 use Rattle.macho_model.proofs.mapped.segment_byte.Given as goal
 
--- the walk stands before command i, and none of the commands so far has the byte
-abbrev pub invariant-loop-i : goal.invariant-loop-i
-invariant-loop-i l = Walked l.bytes l.address l.i l.place
+abbrev pub invariant-loop-number : goal.invariant-loop-number
+invariant-loop-number l = (k : ℕ) → k < l.number → NthLacksByte l.bytes k l.address
