@@ -5,3 +5,6 @@ pub mod Counts
 pub mod Parts
 pub mod Unbuilt
 pub mod Kinds
+pub mod Linkers
+pub mod Refusals
+pub mod Linked

@@ -1,0 +1,51 @@
+-- What a linker holds: the arguments that matter to it, and its inputs in order.
+use Rattle.std.specs.Prelude.{◌≡◌, ℕ, ◌<◌, nat_lt, if◌then◌else◌, not, List, [], ◌∷◌, ◌++◌, length, map, Bool, false, Option, None, Some}
+use Rattle.std.specs.Option.{option_map}
+use Rattle.std.specs.String.{string_bytes}
+use Rattle.std.specs.declared.vec.Vec.{Vec}
+use Rattle.macho_args.specs.Settings.{Settings, Platform, install_name_of}
+use Rattle.macho_model.specs.Links.{Link, Input, Object}
+
+-- the versions that are written: the least one of the system, and that of the SDK
+abbrev pub versions_of : Platform → ℕ × ℕ
+versions_of p = (p.minimum_version, p.sdk_version)
+
+-- what is linked by arguments, before an input is added
+abbrev pub link_of : Settings → Link
+link_of s = record {
+  executable = not s.dylib;
+  output = s.output;
+  entry = s.entry;
+  install_name = install_name_of s;
+  rpaths = s.rpaths;
+  versions = option_map versions_of s.platform_version;
+  dead_strip_dylibs = s.dead_strip_dylibs;
+  headerpad = s.headerpad_max_install_names;
+  inputs = [];
+  export_lists = [];
+}
+
+-- the arguments ask for nothing that a linker doesn't do yet: no run path, version, room for longer names, identifier, map
+-- or made objects
+pub record IsPlainly (s : Settings) : Type 0 where
+  pub rpaths : s.rpaths ≡ []
+  pub versions : s.platform_version ≡ None
+  pub headerpad : s.headerpad_max_install_names ≡ false
+  pub uuid : s.uuid ≡ None
+  pub map_lines : s.map_lines ≡ false
+  pub generate : s.generate ≡ None
+
+-- a link with an input more
+abbrev pub with_input : Link → Input → Link
+with_input l input = record {
+  executable = l.executable;
+  output = l.output;
+  entry = l.entry;
+  install_name = l.install_name;
+  rpaths = l.rpaths;
+  versions = l.versions;
+  dead_strip_dylibs = l.dead_strip_dylibs;
+  headerpad = l.headerpad;
+  inputs = l.inputs ++ input ∷ [];
+  export_lists = l.export_lists;
+}
