@@ -5,14 +5,18 @@
 //! system's own.
 #![tactic(auto)]
 
+mod fault;
 mod file_system;
+mod heads;
 mod held_files;
 mod memory_files;
 mod memory_sink;
 mod numbers;
 mod output;
 mod real;
+mod words;
 
+pub use crate::fault::{Fault, InputKind};
 pub use crate::file_system::{FileFault, Files};
 pub use crate::memory_files::{MemoryFiles, SteadyFiles};
 pub use crate::memory_sink::{MemorySink, SteadySink};
