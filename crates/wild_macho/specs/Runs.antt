@@ -1,7 +1,7 @@
 -- What a run answers, when each of its faults may come, and what it leaves.
 use Rattle.std.specs.Prelude.{◌≡◌, ℕ, ◌<◌, ◌⊎◌, true, false, List, Contains, Option, None, Some}
 use Rattle.macho_args.specs.Settings.{Settings, file}
-use Rattle.macho_args.specs.Store.{Store}
+use Rattle.macho_args.specs.Store.{Store, Directories, CanonicalPaths}
 use Rattle.macho_args.specs.declared.fault.ArgsFault.{ArgsFault}
 use Rattle.macho_args.specs.declared.fault.ArgsFault.TheVariants as words
 use Rattle.macho_model.specs.Links.{Link}
@@ -38,6 +38,14 @@ pub record Failures : Type 0 where
   pub reads : ℕ
   pub writes : ℕ
   pub prints : ℕ
+
+abbrev pub failures : ℕ → ℕ → ℕ → Failures
+failures reads writes prints = record { reads = reads; writes = writes; prints = prints }
+
+-- no directory and no canonical path changes
+pub record KeepsPaths {D : Type 0} (directories : D → Option Directories) (canonical_paths : D → Option CanonicalPaths) (old new : D) : Type 0 where
+  pub same_directories : directories new ≡ directories old
+  pub same_canonical_paths : canonical_paths new ≡ canonical_paths old
 
 -- An object is refused: it breaks the rule that is told, at the place that is told.
 abbrev pub InputRefused : List ℕ → LinkError → Type 0
