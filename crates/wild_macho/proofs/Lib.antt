@@ -1,3 +1,4 @@
 pub mod Lookups
 pub mod Streams
 pub mod Spellings
+pub mod Jobs
