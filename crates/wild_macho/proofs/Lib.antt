@@ -2,3 +2,5 @@ pub mod Lookups
 pub mod Streams
 pub mod Spellings
 pub mod Jobs
+pub mod Determined
+pub mod Sure

@@ -6,6 +6,7 @@ use Rattle.macho_args.specs.declared.fault.ArgsFault.{ArgsFault}
 use Rattle.macho_args.specs.declared.fault.ArgsFault.TheVariants as words
 use Rattle.macho_model.specs.Links.{Link}
 use Rattle.macho_model.specs.Faults.{bad_name}
+use Rattle.macho_model.specs.Grammar.{IsObject}
 use Rattle.macho_image.specs.declared.fault.LinkError.{LinkError}
 use Rattle.macho_image.specs.declared.fault.LinkError.TheVariants as error
 use Rattle.macho_image.specs.declared.link.LinkedImage.{LinkedImage}
@@ -49,7 +50,7 @@ pub record KeepsPaths {D : Type 0} (directories : D → Option Directories) (can
 
 -- An object is refused: it breaks the rule that is told, at the place that is told.
 abbrev pub InputRefused : List ℕ → LinkError → Type 0
-InputRefused bytes (error.BadInput fault) = InputBreaks bytes fault
+InputRefused bytes (error.BadInput fault) = InputBreaks bytes fault × (IsObject bytes → ⊥)
 InputRefused bytes refusal = ⊥
 
 -- A link is refused: its paths can't be written, which is found before an input is read; or what is told of it stands.
@@ -135,6 +136,10 @@ pub record NoneFailed (old new : Failures) : Type 0 where
   pub writes : old.writes < last_count
   pub prints : old.prints < last_count
 
--- Nothing stands against a link: of its refusals only want of memory may come.
-abbrev pub NothingStands : Link → Type 0
-NothingStands l = (refusal : LinkError) → RefusalStands l refusal → refusal ≡ error.OutOfMemory
+-- A job against which nothing stands: its paths can be written, and of the link's refusals only want of memory may come.
+pub record IsSure (words : List (List ℕ)) (files : Store) : Type 0 where
+  pub link : Link
+  pub output : List ℕ
+  pub job : JobOf words (Some files) link output
+  pub named : bad_name link ≡ false
+  pub nothing_stands : (refusal : LinkError) → RefusalStands link refusal → refusal ≡ error.OutOfMemory

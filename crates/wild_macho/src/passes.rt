@@ -14,7 +14,7 @@ ghost use Rattle.wild_macho.specs.Faults.{CountsOn};
 ghost use Rattle.wild_macho.specs.Job.{Links, JobOf};
 ghost use Rattle.wild_macho.specs.Reading.{IsOneFile};
 ghost use Rattle.wild_macho.specs.Runs.{Failures, JobFails, RunFails, IsEarly, IsMade, IsWritten, HasImage, LeavesImage, LeavesNothing, status_of};
-ghost use Rattle.wild_macho.specs.Runs.{failures, KeepsPaths};
+ghost use Rattle.wild_macho.specs.Runs.{failures, KeepsPaths, IsSure, NoneFailed};
 
 use crate::fault::Fault;
 use crate::file_system::{FileFault, Files};
@@ -65,6 +65,12 @@ pub fn run<F: Files, O: Sink, E: Sink>(alloc: Global, words: &[String], files: &
     ensures reads { CountsOn (F.faults files.old) (F.faults files.new) }
     ensures writes { CountsOn (F.write_faults files.old) (F.write_faults files.new) }
     ensures silent { out.new ≡ out.old }
+
+    // Where a job has nothing against it and no device fails, it is done; or memory ran out.
+    ensures complete { (m : Store) → F.holds files.old ≡ Some m → IsSure (texts_of words.now) m
+        → NoneFailed (failures (F.faults files.old) (F.write_faults files.old) (O.faults out.old))
+            (failures (F.faults files.new) (F.write_faults files.new) (O.faults out.new))
+        → (result.status ≡ 0) ⊎ (result.status ≡ 5) }
 {
     let ran = run_words(alloc, words, files);
     if let Some(fault) = &ran.fault {
