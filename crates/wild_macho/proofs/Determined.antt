@@ -4,14 +4,14 @@
 -- with `-`. So two lists of items with the same words are the same, by induction; and if words that are taken begin with
 -- the words of some items, they go on with items. Then no word behind items is unknown: the next item begins with it, so
 -- it is `-o` with a value behind it, or a path, and a second path would be a second input.
-use Rattle.std.proofs.Common.{◌≡◌, ℕ, ◌+◌, ◌<◌, ◌≤◌, arith, refl, ap, sym, subst, ◌∙◌, inl, inr, ◌⊎◌, true, false, nat_eq, Bool, codes, length-append}
-use Rattle.std.proofs.Common.{List, [], ◌∷◌, ◌++◌, length, map, Option, Some, None, Contains, IfSome, zero, suc}
-use Rattle.std.specs.List.{AllByRecursion, starts_with}
+use Rattle.std.proofs.Common.{◌≡◌, ℕ, ◌+◌, ◌≤◌, arith, refl, ap, sym, subst, ◌∙◌, inl, inr, ◌⊎◌, true, false}
+use Rattle.std.proofs.Common.{List, [], ◌∷◌, ◌++◌, length}
+use Rattle.std.specs.List.{AllByRecursion}
 use Rattle.std.proofs.lemmas.List.{append-nil}
 use Rattle.macho_args.specs.Settings.{Settings}
 use Rattle.macho_args.specs.declared.fault.ArgsFault.{ArgsFault}
 use Rattle.macho_args.specs.declared.fault.ArgsFault.TheVariants as refusals
-use Rattle.wild_macho.specs.CommandLine.{Item, Output, Path, spelled, spelled_all, inputs_of, IsItem, AreItems, settings_by, WordsSay, WordsBreak, StandsBehind, output_option, has_dash, has_no_dash, IsUnknown}
+use Rattle.wild_macho.specs.CommandLine.{Item, Output, Path, spelled_all, inputs_of, IsItem, settings_by, WordsSay, WordsBreak, StandsBehind, output_option, has_dash, has_no_dash}
 
 -- a path is no option
 no-option : (path : List ℕ) → has_no_dash path → output_option ≡ path → ⊥
@@ -47,9 +47,9 @@ nothing-spelled (Path path ∷ zs) is = absurd (let none : ⊥ = cc in none)
 pub said-once : (words : List (List ℕ)) (s t : Settings) → WordsSay words s → WordsSay words t → s ≡ t
 said-once words s t one other =
     let found = goes-on one.items other.items [] one.taken.each other.taken.each
-          (sym one.spelling ∙ (other.spelling ∙ sym (append-nil (spelled_all other.items)))) in
+    (sym one.spelling ∙ (other.spelling ∙ sym (append-nil (spelled_all other.items)))) in
     let same : one.items ≡ other.items
-          = found.1 ∙ (ap (λ (zs : List Item). other.items ++ zs) (nothing-spelled found.0 found.2) ∙ append-nil other.items) in
+    = found.1 ∙ (ap (λ (zs : List Item). other.items ++ zs) (nothing-spelled found.0 found.2) ∙ append-nil other.items) in
     one.made ∙ (ap settings_by same ∙ sym other.made)
 
 -- how many inputs items have, whatever their indexes
@@ -78,7 +78,7 @@ next-word : (words : List (List ℕ)) (s : Settings) (index : ℕ) → WordsSay 
 next-word words s index said w =
     let found = goes-on said.items w.items (w.word ∷ w.behind) said.taken.each w.taken.each (sym said.spelling ∙ w.spelling) in
     let count : length (inputs_of 0 said.items) ≡ length (inputs_of 0 w.items) + length (inputs_of 0 found.0)
-          = ap (λ (xs : List Item). length (inputs_of 0 xs)) found.1 ∙ count-append 0 w.items found.0 in
+    = ap (λ (xs : List Item). length (inputs_of 0 xs)) found.1 ∙ count-append 0 w.items found.0 in
     few (next-item found.0 w.word w.behind found.3 found.2) count said.taken.one_input
   where
     few : {A B : Type 0} {n m k : ℕ} → A ⊎ (B × (1 ≤ n)) → k ≡ m + n → k ≤ 1 → A ⊎ (B × (m ≤ 0))

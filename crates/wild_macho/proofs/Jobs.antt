@@ -3,7 +3,7 @@
 -- The first input of a list with one file at most is all of the list. Its bytes are those that were read under its path,
 -- so the link that has them as its only input is what the settings link. A read that gave bytes found them in the store,
 -- where it is told.
-use Rattle.std.proofs.Common.{◌≡◌, ℕ, refl, ap, sym, subst, ◌∙◌, true, List, [], ◌∷◌, length, map, Option, Some, None, Contains, String, Global, Result, Ok, Err, OnOk, lit<}
+use Rattle.std.proofs.Common.{◌≡◌, ℕ, refl, ap, sym, subst, ◌∙◌, true, List, [], ◌∷◌, map, Option, Some, None, Contains, String, Global, Result, Ok, Err, OnOk, lit<}
 use Rattle.std.specs.List.{AllZip, slice_get}
 use Rattle.std.specs.String.{string_bytes}
 use Rattle.macho_args.specs.Settings.{Settings, Input, input_of, file}

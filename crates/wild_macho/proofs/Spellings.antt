@@ -5,7 +5,7 @@
 -- follows the last one: an output path becomes the output, and a path is an input more, whose word's index is the number
 -- of the words in front of it. Where no item can be read, the word at the place is the first that breaks its row, since
 -- all words in front of it spell items.
-use Rattle.std.proofs.Common.{◌≡◌, ℕ, suc, ◌+◌, ◌<◌, ◌≤◌, arith, refl, ap, sym, subst, ◌∙◌, inl, inr, add-one, add-zero, true, false, nat_eq}
+use Rattle.std.proofs.Common.{◌≡◌, ℕ, suc, ◌+◌, ◌<◌, ◌≤◌, arith, refl, ap, sym, subst, ◌∙◌, inl, inr, add-one, true, false, nat_eq}
 use Rattle.std.proofs.Common.{List, [], ◌∷◌, ◌++◌, length, drop, get_or, append_assoc, length-append, map, String, codes, Bool}
 use Rattle.std.proofs.Math.Seq.{drop-cons}
 use Rattle.std.proofs.Math.ListN.{drop_of_length-le}
@@ -19,7 +19,7 @@ use Rattle.macho_args.specs.Settings.{Settings, Input, input_of, file, fresh}
 use Rattle.macho_args.specs.declared.fields.InputSpec.{InputSpec}
 use Rattle.macho_args.specs.declared.fault.ArgsFault.TheVariants.{MissingValue, Unknown}
 use Rattle.macho_image.specs.Linkers.{IsPlainly}
-use Rattle.wild_macho.specs.CommandLine.{Item, Output, Path, spelled, spelled_all, output_of, inputs_of, IsItem, AreItems, settings_by, WordsSay, WordsBreak, StandsBehind, output_option, has_no_dash, IsUnknown}
+use Rattle.wild_macho.specs.CommandLine.{Item, Output, Path, spelled, spelled_all, output_of, inputs_of, IsItem, AreItems, settings_by, WordsSay, WordsBreak, StandsBehind, output_option, has_no_dash}
 use Rattle.wild_macho.specs.Reading.{HasRead, IsOption, IsPath, IsOneFile}
 
 -- the word at a place, and those behind it
@@ -119,7 +119,7 @@ read-path words place s path r here plain none =
     (record {
       each = each-more r.items (Path path) r.taken.each plain;
       one_input = let long : length (inputs_of 0 (r.items ++ Path path ∷ [])) ≡ length (inputs_of 0 r.items) + 1
-            = ap length (inputs-more 0 r.items (Path path)) ∙ length-append (inputs_of 0 r.items) _ in
+          = ap length (inputs-more 0 r.items (Path path)) ∙ length-append (inputs_of 0 r.items) _ in
           omega (arith, long, ap (λ (t : Settings). length t.inputs) r.made);
     })
     (ap (λ (t : Settings). let u : Settings = record t { inputs = t.inputs ++ file place path ∷ [] } in u) r.made

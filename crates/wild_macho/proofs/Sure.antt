@@ -4,12 +4,12 @@
 -- them the link. Each cause of a fault then meets what is known of the job: an input's path is held, its bytes begin as
 -- an object and are one, no refusal of the link stands, and no count rose. Only want of memory is left.
 use Rattle.std.proofs.Common.{◌≡◌, ℕ, ◌<◌, arith, refl, ap, sym, subst, ◌∙◌, inl, inr, ◌⊎◌, true, false, Bool, zero, suc}
-use Rattle.std.proofs.Common.{List, [], ◌∷◌, length, map, get_or, Option, Some, None, Contains, IfSome}
+use Rattle.std.proofs.Common.{List, [], ◌∷◌, Option, Some, None, Contains, IfSome}
 use Rattle.std.specs.List.{AllZip}
 use Rattle.std.specs.FinMap.{get}
 use Rattle.macho_args.specs.Settings.{Settings, Input, file, library, framework}
 use Rattle.macho_args.specs.Store.{Store}
-use Rattle.macho_model.specs.Links.{Link, Object}
+use Rattle.macho_model.specs.Links.{Link}
 use Rattle.macho_model.specs.Grammar.{IsObject}
 use Rattle.macho_model.specs.Faults.{bad_name}
 use Rattle.macho_image.specs.declared.fault.LinkError.{LinkError}
@@ -18,10 +18,10 @@ use Rattle.macho_image.specs.Linkers.{link_of}
 use Rattle.macho_image.specs.Refusals.{RefusalStands}
 use Rattle.wild_macho.specs.declared.fault.Fault.{Fault}
 use Rattle.wild_macho.specs.declared.fault.Fault.TheVariants as fault
-use Rattle.wild_macho.specs.Faults.{CountRose, last_count}
+use Rattle.wild_macho.specs.Faults.{last_count}
 use Rattle.wild_macho.specs.Heads.{has_object_head}
 use Rattle.wild_macho.specs.CommandLine.{WordsSay}
-use Rattle.wild_macho.specs.Job.{HeldAt, IsInput, Links, JobOf, linking}
+use Rattle.wild_macho.specs.Job.{IsInput, Links, linking}
 use Rattle.wild_macho.specs.Runs.{Failures, NoneFailed, IsSure, JobFails, LinkRefused, WordsFail, RunFails, status_of}
 use Rattle.wild_macho.proofs.Determined.{said-once, unbroken}
 

@@ -1,5 +1,5 @@
 -- What the words of a command line say. The words spell items: an output path behind `-o`, or the path of an input.
-use Rattle.std.specs.Prelude.{◌≡◌, ℕ, ◌+◌, ◌<◌, ◌≤◌, ◌⊎◌, true, false, nat_eq, List, [], ◌∷◌, ◌++◌, length, codes}
+use Rattle.std.specs.Prelude.{◌≡◌, ℕ, ◌+◌, ◌≤◌, ◌⊎◌, true, false, nat_eq, List, [], ◌∷◌, ◌++◌, length, codes}
 use Rattle.std.specs.List.{AllByRecursion, starts_with}
 use Rattle.macho_args.specs.declared.fault.ArgsFault.{ArgsFault}
 use Rattle.macho_args.specs.declared.fault.ArgsFault.TheVariants.{MissingValue, Unknown}

@@ -2,8 +2,6 @@
 use Rattle.std.specs.Prelude.{◌≡◌, ℕ, ◌<◌, ◌⊎◌, true, false, List, Contains, Option, None, Some}
 use Rattle.macho_args.specs.Settings.{Settings, file}
 use Rattle.macho_args.specs.Store.{Store, Directories, CanonicalPaths}
-use Rattle.macho_args.specs.declared.fault.ArgsFault.{ArgsFault}
-use Rattle.macho_args.specs.declared.fault.ArgsFault.TheVariants as words
 use Rattle.macho_model.specs.Links.{Link}
 use Rattle.macho_model.specs.Faults.{bad_name}
 use Rattle.macho_model.specs.Grammar.{IsObject}

@@ -20,6 +20,7 @@ const ARCHIVE: [u8; 8] = *b"!<arch>\n";
 
 /// `FAT_MAGIC` and `FAT_MAGIC_64` of mach-o/fat.h, their highest byte first.
 const UNIVERSAL: [u8; 4] = [0xca, 0xfe, 0xba, 0xbe];
+
 const UNIVERSAL_64: [u8; 4] = [0xca, 0xfe, 0xba, 0xbf];
 
 /// Whether the bytes begin as an object.

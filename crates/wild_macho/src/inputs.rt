@@ -21,7 +21,12 @@ use macho_image::Linker;
 use std::alloc::Global;
 
 /// Reads the inputs of the arguments, and adds them to the linker in the order of their words.
-pub(crate) fn add_inputs<F: Files>(alloc: Global, args: &MachOArgs, files: &mut F, linker: &mut Linker) -> Result<(), Fault>
+pub(crate) fn add_inputs<F: Files>(
+    alloc: Global,
+    args: &MachOArgs,
+    files: &mut F,
+    linker: &mut Linker,
+) -> Result<(), Fault>
     requires one { IsOneFile (settings_of args.now).inputs }
     requires empty { linker.old ≡ link_of (settings_of args.now) }
     ensures added { OnOk result (Links (F.holds files.old) (settings_of args.now) linker.new) }
@@ -41,7 +46,12 @@ pub(crate) fn add_inputs<F: Files>(alloc: Global, args: &MachOArgs, files: &mut 
 }
 
 // The bytes of an input, which begin as an object.
-fn read_input<F: Files>(alloc: Global, files: &mut F, word: u32, path: &str) -> Result<Vec<u8>, Fault>
+fn read_input<F: Files>(
+    alloc: Global,
+    files: &mut F,
+    word: u32,
+    path: &str,
+) -> Result<Vec<u8>, Fault>
     ensures held { IfOk result (λ bytes. HeldAt (F.holds files.old) path.now bytes.items) }
     ensures head { IfOk result (λ bytes. has_object_head bytes.items ≡ true) }
     ensures why { IfErr result (λ fault. (s : Settings) (old new : Failures) → Contains s.inputs (file word path.now)

@@ -19,7 +19,6 @@ mod output;
 mod passes;
 mod real;
 mod report;
-
 mod words;
 
 pub use crate::fault::{Fault, InputKind};
@@ -27,5 +26,5 @@ pub use crate::file_system::{FileFault, Files};
 pub use crate::memory_files::{MemoryFiles, SteadyFiles};
 pub use crate::memory_sink::{MemorySink, SteadySink};
 pub use crate::output::{Sink, SinkFault};
-pub use crate::real::{RealFiles, RealSink};
 pub use crate::passes::{Ran, run};
+pub use crate::real::{RealFiles, RealSink};

@@ -45,7 +45,13 @@ pub struct Ran {
 ///
 /// The words are `-o` with a path, and the path of one object; the last `-o` stands. A plain link prints nothing to
 /// `out`. A fault is printed to `err` as one line; where that fails, the answer stays the same.
-pub fn run<F: Files, O: Sink, E: Sink>(alloc: Global, words: &[String], files: &mut F, out: &mut O, err: &mut E) -> Ran
+pub fn run<F: Files, O: Sink, E: Sink>(
+    alloc: Global,
+    words: &[String],
+    files: &mut F,
+    out: &mut O,
+    err: &mut E,
+) -> Ran
     requires { length words.now < 2 ^ 32 - 1 }
 
     // The status is that of the fault, and 0 exactly where there is none.
@@ -69,7 +75,7 @@ pub fn run<F: Files, O: Sink, E: Sink>(alloc: Global, words: &[String], files: &
     // Where a job has nothing against it and no device fails, it is done; or memory ran out.
     ensures complete { (m : Store) → F.holds files.old ≡ Some m → IsSure (texts_of words.now) m
         → NoneFailed (failures (F.faults files.old) (F.write_faults files.old) (O.faults out.old))
-            (failures (F.faults files.new) (F.write_faults files.new) (O.faults out.new))
+        (failures (F.faults files.new) (F.write_faults files.new) (O.faults out.new))
         → (result.status ≡ 0) ⊎ (result.status ≡ 5) }
 {
     let ran = run_words(alloc, words, files);

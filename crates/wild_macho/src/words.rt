@@ -44,7 +44,12 @@ fn begins_with(word: &str, text: &str) -> bool
 }
 
 // Reads the item that begins at a place, and gives the place behind it.
-fn read_item(alloc: Global, args: &mut MachOArgs, words: &[String], place: usize) -> Result<usize, ArgsFault>
+fn read_item(
+    alloc: Global,
+    args: &mut MachOArgs,
+    words: &[String],
+    place: usize,
+) -> Result<usize, ArgsFault>
     requires few { length words.now < 2 ^ 32 - 1 }
     requires within { place < length words.now }
     requires read { HasRead (texts_of words.now) place (settings_of args.old) }
@@ -63,7 +68,12 @@ fn read_item(alloc: Global, args: &mut MachOArgs, words: &[String], place: usize
 }
 
 // Reads the path of an input.
-fn read_path(alloc: Global, args: &mut MachOArgs, words: &[String], place: usize) -> Result<usize, ArgsFault>
+fn read_path(
+    alloc: Global,
+    args: &mut MachOArgs,
+    words: &[String],
+    place: usize,
+) -> Result<usize, ArgsFault>
     requires few { length words.now < 2 ^ 32 - 1 }
     requires within { place < length words.now }
     requires read { HasRead (texts_of words.now) place (settings_of args.old) }
@@ -76,12 +86,20 @@ fn read_path(alloc: Global, args: &mut MachOArgs, words: &[String], place: usize
         return Err(ArgsFault::Unknown { word: place as u32 });
     }
     let path = String::from_str(alloc, words[place].as_str())?;
-    args.inputs.push(InputSpec::File { word: place as u32, path })?;
+    args.inputs.push(InputSpec::File {
+        word: place as u32,
+        path,
+    })?;
     Ok(place + 1)
 }
 
 // Reads the output path behind its option.
-fn read_output(alloc: Global, args: &mut MachOArgs, words: &[String], place: usize) -> Result<usize, ArgsFault>
+fn read_output(
+    alloc: Global,
+    args: &mut MachOArgs,
+    words: &[String],
+    place: usize,
+) -> Result<usize, ArgsFault>
     requires few { length words.now < 2 ^ 32 - 1 }
     requires within { place < length words.now }
     requires read { HasRead (texts_of words.now) place (settings_of args.old) }

@@ -237,7 +237,10 @@ fn a_failed_write_leaves_the_first_bytes(rt: HostRuntime) -> Result<(), Fail> {
         let answer = ran(rt.alloc(), &["in.o"], &mut files, &mut err)?;
         assert_eq!(rt; answer.status, 4);
         assert!(rt; matches!(answer.fault, Some(Fault::Write)));
-        assert_eq!(rt; err.bytes(), b"wild_macho: cannot write the output\n".as_slice());
+        assert_eq!(rt;
+            err.bytes(),
+            b"wild_macho: cannot write the output\n".as_slice()
+        );
         let image = answer.image.ok_or("no image")?;
         assert_eq!(rt; image.bytes.len(), 16384);
         let first = Some(front(&image.bytes, left as usize));

@@ -1,6 +1,5 @@
 -- A write that failed left what it says.
-use Rattle.std.proofs.Common.{refl, subst, ◌∙◌}
-use Rattle.wild_macho.specs.Devices.{LeavesFiles}
+use Rattle.std.proofs.Common.{refl}
 use Rattle.wild_macho.proofs.passes.write_image.Goals as goal
 
 pub returns-in-Err-Failed-clause-image : goal.returns-in-Err-Failed-clause-image

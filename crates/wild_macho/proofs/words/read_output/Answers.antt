@@ -1,5 +1,5 @@
 -- The word behind `-o` is the output path.
-use Rattle.std.proofs.Common.{◌+◌, inr, ap, sym, ◌∙◌, arith}
+use Rattle.std.proofs.Common.{◌+◌, inr, sym, ◌∙◌, arith}
 use Rattle.macho_args.specs.Settings.{settings_of}
 use Rattle.macho_args.specs.Words.{texts_of}
 use Rattle.wild_macho.proofs.Spellings.{text-value, text-count, read-output, missing-value}

@@ -1,5 +1,5 @@
 -- A path is an input, where there is none yet.
-use Rattle.std.proofs.Common.{◌+◌, ◌∷◌, ◌≤◌, length, inr, sym, ap, ◌∙◌, arith}
+use Rattle.std.proofs.Common.{◌≤◌, length, inr, ap, ◌∙◌, arith}
 use Rattle.std.proofs.lemmas.List.{length-map}
 use Rattle.std.proofs.lemmas.Bool.Decides.{nat_tests}
 use Rattle.macho_args.specs.Settings.{settings_of, input_of}
