@@ -23,7 +23,8 @@ use Rattle.wild_macho.specs.CommandLine.{Item, Output, Path, spelled, spelled_al
 use Rattle.wild_macho.specs.Reading.{HasRead, IsOption, IsPath, IsOneFile}
 
 -- the word at a place, and those behind it
-pub text-behind : {A : Type 0} (words : List (String A)) (place : ℕ) (word : String A) → place < length words → word ≡ get_or words place word
+pub text-behind : {A : Type 0} (words : List (String A)) (place : ℕ) (word : String A) → place < length words
+    → word ≡ get_or words place word
     → drop place (texts_of words) ≡ string_bytes word ∷ drop (place + 1) (texts_of words)
 text-behind words place word within is =
     drop-map string_bytes place words
@@ -67,7 +68,8 @@ each-more [] item all this = (this, tt)
 each-more (first ∷ items) item all this = (all.0, each-more items item all.1 this)
 
 -- an output path more
-output-settings : (items : List Item) (path : List ℕ) → settings_by (items ++ Output path ∷ []) ≡ record (settings_by items) { output = path }
+output-settings : (items : List Item) (path : List ℕ)
+    → settings_by (items ++ Output path ∷ []) ≡ record (settings_by items) { output = path }
 output-settings items path =
     ap (λ (o : List ℕ). let s : Settings = record fresh { output = o; inputs = inputs_of 0 (items ++ Output path ∷ []) } in s)
     (output-more fresh.output items (Output path))
@@ -106,7 +108,8 @@ read-output words place s path r here value =
     (here ∙ ap (λ ws. output_option ∷ ws) (value ∙ ap (λ n. path ∷ drop n words) (omega arith))) refl
     (record {
       each = each-more r.items (Output path) r.taken.each tt;
-      one_input = subst (λ (is : List Input). length is ≤ 1) (sym (inputs-more 0 r.items (Output path) ∙ append-nil (inputs_of 0 r.items))) r.taken.one_input;
+      one_input = subst (λ (is : List Input). length is ≤ 1)
+          (sym (inputs-more 0 r.items (Output path) ∙ append-nil (inputs_of 0 r.items))) r.taken.one_input;
     })
     (ap (λ (t : Settings). let u : Settings = record t { output = path } in u) r.made ∙ sym (output-settings r.items path))
 
@@ -136,7 +139,8 @@ read-input words place s path inputs r (text, there, plain) here none more =
     subst P (sym more) (read-path words place s path r here (subst has_no_dash same plain) none)
 
 -- an input more, as a linker's arguments hold it
-pub pushed : (old next : List InputSpec) (spec : InputSpec) → next ≡ old ++ spec ∷ [] → map input_of next ≡ map input_of old ++ input_of spec ∷ []
+pub pushed : (old next : List InputSpec) (spec : InputSpec)
+    → next ≡ old ++ spec ∷ [] → map input_of next ≡ map input_of old ++ input_of spec ∷ []
 pushed old next spec is = ap (map input_of) is ∙ map-append input_of old (spec ∷ [])
 
 -- The word at the place, behind what was read.
@@ -195,7 +199,8 @@ one-file index (Path path ∷ items) few = last (inputs_of (index + 1) items) fe
 pub all-read : (words : List (List ℕ)) (place : ℕ) (s : Settings) → HasRead words place s → length words ≤ place → WordsSay words s
 all-read words place s r end = record {
   items = r.items;
-  spelling = r.spelling ∙ (ap (λ ws. spelled_all r.items ++ ws) (drop_of_length-le words {i = place} end) ∙ append-nil (spelled_all r.items));
+  spelling = r.spelling
+      ∙ (ap (λ ws. spelled_all r.items ++ ws) (drop_of_length-le words {i = place} end) ∙ append-nil (spelled_all r.items));
   taken = r.taken;
   made = r.made;
 }

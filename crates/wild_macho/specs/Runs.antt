@@ -42,7 +42,8 @@ abbrev pub failures : ℕ → ℕ → ℕ → Failures
 failures reads writes prints = record { reads = reads; writes = writes; prints = prints }
 
 -- no directory and no canonical path changes
-pub record KeepsPaths {D : Type 0} (directories : D → Option Directories) (canonical_paths : D → Option CanonicalPaths) (old new : D) : Type 0 where
+pub record KeepsPaths {D : Type 0} (directories : D → Option Directories) (canonical_paths : D → Option CanonicalPaths)
+    (old new : D) : Type 0 where
   pub same_directories : directories new ≡ directories old
   pub same_canonical_paths : canonical_paths new ≡ canonical_paths old
 
@@ -69,7 +70,8 @@ JobFails s told old new (Input word refusal) =
     × (has_object_head bytes ≡ true) × InputRefused bytes refusal
 JobFails s told old new (LinkFault refusal) = LinkRefused told s refusal
 JobFails s told old new (Words fault) = ⊥
-JobFails s told old new (Read word) = (path : List ℕ) × Contains s.inputs (file word path) × CountRose old.reads new.reads
+JobFails s told old new (Read word) =
+    (path : List ℕ) × Contains s.inputs (file word path) × CountRose old.reads new.reads
 JobFails s told old new Write = CountRose old.writes new.writes
 JobFails s told old new Print = CountRose old.prints new.prints
 JobFails s told old new OutOfMemory = Unit {0}
@@ -107,9 +109,10 @@ pub record IsMade (told : Option Store) (s : Settings) (image : LinkedImage) : T
   pub links : Links told s link
   pub is_image : IsImageOf link image
 
--- THE image of a run: that of the job of the words and of the store before the run, which has a link and an output path;
--- and what stands under the paths after the run.
-pub record HasImage (words : List (List ℕ)) (old new : Option Store) (fault : Option Fault) (image : LinkedImage) : Type 0 where
+-- THE image of a run: that of the job of the words and of the store before the run, which has a link and an output
+-- path; and what stands under the paths after the run.
+pub record HasImage (words : List (List ℕ)) (old new : Option Store) (fault : Option Fault) (image : LinkedImage)
+    : Type 0 where
   pub link : Link
   pub output : List ℕ
   pub job : JobOf words old link output
@@ -134,7 +137,8 @@ pub record NoneFailed (old new : Failures) : Type 0 where
   pub writes : old.writes < last_count
   pub prints : old.prints < last_count
 
--- A job against which nothing stands: its paths can be written, and of the link's refusals only want of memory may come.
+-- A job against which nothing stands: its paths can be written, and of the link's refusals only want of memory may
+-- come.
 pub record IsSure (words : List (List ℕ)) (files : Store) : Type 0 where
   pub link : Link
   pub output : List ℕ

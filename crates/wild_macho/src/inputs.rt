@@ -30,8 +30,8 @@ pub(crate) fn add_inputs<F: Files>(
     requires one { IsOneFile (settings_of args.now).inputs }
     requires empty { linker.old ≡ link_of (settings_of args.now) }
     ensures added { OnOk result (Links (F.holds files.old) (settings_of args.now) linker.new) }
-    ensures why { IfErr result (λ fault. (old new : Failures) → old.reads ≡ F.faults files.old → new.reads ≡ F.faults files.new
-        → JobFails (settings_of args.now) (F.holds files.old) old new fault) }
+    ensures why { IfErr result (λ fault. (old new : Failures)
+        → old.reads ≡ F.faults files.old → new.reads ≡ F.faults files.new → JobFails (settings_of args.now) (F.holds files.old) old new fault) }
     ensures early { IfErr result IsEarly }
     ensures counted { CountsOn (F.faults files.old) (F.faults files.new) }
     ensures kept { OnlyReads F.directories F.canonical_paths F.holds F.write_faults files.old files.new }
@@ -55,7 +55,8 @@ fn read_input<F: Files>(
     ensures held { IfOk result (λ bytes. HeldAt (F.holds files.old) path.now bytes.items) }
     ensures head { IfOk result (λ bytes. has_object_head bytes.items ≡ true) }
     ensures why { IfErr result (λ fault. (s : Settings) (old new : Failures) → Contains s.inputs (file word path.now)
-        → old.reads ≡ F.faults files.old → new.reads ≡ F.faults files.new → JobFails s (F.holds files.old) old new fault) }
+        → old.reads ≡ F.faults files.old → new.reads ≡ F.faults files.new
+        → JobFails s (F.holds files.old) old new fault) }
     ensures early { IfErr result IsEarly }
     ensures counted { CountsOn (F.faults files.old) (F.faults files.new) }
     ensures kept { OnlyReads F.directories F.canonical_paths F.holds F.write_faults files.old files.new }

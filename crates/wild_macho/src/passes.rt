@@ -66,11 +66,12 @@ pub fn run<F: Files, O: Sink, E: Sink>(
         (failures (F.faults files.old) (F.write_faults files.old) (O.faults out.old))
         (failures (F.faults files.new) (F.write_faults files.new) (O.faults out.new))) }
 
-    // Directories and canonical paths stay, no count falls, and nothing is printed to `out`.
+    // Directories and canonical paths stay, no count falls; nothing is printed to `out`, and without a fault to `err`.
     ensures paths { KeepsPaths F.directories F.canonical_paths files.old files.new }
     ensures reads { CountsOn (F.faults files.old) (F.faults files.new) }
     ensures writes { CountsOn (F.write_faults files.old) (F.write_faults files.new) }
     ensures silent { out.new ≡ out.old }
+    ensures quiet { result.fault ≡ None → err.new ≡ err.old }
 
     // Where a job has nothing against it and no device fails, it is done; or memory ran out.
     ensures complete { (m : Store) → F.holds files.old ≡ Some m → IsSure (texts_of words.now) m
@@ -91,7 +92,8 @@ fn run_words<F: Files>(alloc: Global, words: &[String], files: &mut F) -> Ran
     ensures status { result.status ≡ status_of result.fault }
     ensures image { MatchOption result.image (LeavesNothing result.fault (F.holds files.old) (F.holds files.new))
         (HasImage (texts_of words.now) (F.holds files.old) (F.holds files.new) result.fault) }
-    ensures why { IfSome result.fault (λ fault. (old new : Failures) → old.reads ≡ F.faults files.old → new.reads ≡ F.faults files.new
+    ensures why { IfSome result.fault (λ fault. (old new : Failures)
+        → old.reads ≡ F.faults files.old → new.reads ≡ F.faults files.new
         → old.writes ≡ F.write_faults files.old → new.writes ≡ F.write_faults files.new
         → RunFails (texts_of words.now) (F.holds files.old) old new fault) }
     ensures paths { KeepsPaths F.directories F.canonical_paths files.old files.new }
@@ -111,7 +113,8 @@ fn run_args<F: Files>(alloc: Global, args: &MachOArgs, files: &mut F) -> Ran
     ensures status { result.status ≡ status_of result.fault }
     ensures image { MatchOption result.image (LeavesNothing result.fault (F.holds files.old) (F.holds files.new))
         (IsWritten (settings_of args.now) (F.holds files.old) (F.holds files.new) result.fault) }
-    ensures why { IfSome result.fault (λ fault. (old new : Failures) → old.reads ≡ F.faults files.old → new.reads ≡ F.faults files.new
+    ensures why { IfSome result.fault (λ fault. (old new : Failures)
+        → old.reads ≡ F.faults files.old → new.reads ≡ F.faults files.new
         → old.writes ≡ F.write_faults files.old → new.writes ≡ F.write_faults files.new
         → JobFails (settings_of args.now) (F.holds files.old) old new fault) }
     ensures paths { KeepsPaths F.directories F.canonical_paths files.old files.new }
@@ -129,7 +132,8 @@ fn link_args<F: Files>(alloc: Global, args: &MachOArgs, files: &mut F) -> Result
     requires plainly { IsPlainly (settings_of args.now) }
     requires one { IsOneFile (settings_of args.now).inputs }
     ensures made { IfOk result (IsMade (F.holds files.old) (settings_of args.now)) }
-    ensures why { IfErr result (λ fault. (old new : Failures) → old.reads ≡ F.faults files.old → new.reads ≡ F.faults files.new
+    ensures why { IfErr result (λ fault. (old new : Failures)
+        → old.reads ≡ F.faults files.old → new.reads ≡ F.faults files.new
         → JobFails (settings_of args.now) (F.holds files.old) old new fault) }
     ensures early { IfErr result IsEarly }
     ensures counted { CountsOn (F.faults files.old) (F.faults files.new) }
@@ -144,7 +148,8 @@ fn link_args<F: Files>(alloc: Global, args: &MachOArgs, files: &mut F) -> Result
 fn make_linker(alloc: Global, args: &MachOArgs) -> Result<Linker, Fault>
     requires plainly { IsPlainly (settings_of args.now) }
     ensures made { IfOk result (λ linker. linker ≡ link_of (settings_of args.now)) }
-    ensures why { IfErr result (λ fault. (told : Option Store) (old new : Failures) → JobFails (settings_of args.now) told old new fault) }
+    ensures why { IfErr result (λ fault. (told : Option Store) (old new : Failures)
+        → JobFails (settings_of args.now) told old new fault) }
     ensures early { IfErr result IsEarly }
 {
     match Linker::new(alloc, args) {
@@ -156,8 +161,8 @@ fn make_linker(alloc: Global, args: &MachOArgs) -> Result<Linker, Fault>
 // Links.
 fn link(alloc: Global, linker: &Linker) -> Result<LinkedImage, Fault>
     ensures done { IfOk result (IsImageOf linker.now) }
-    ensures why { IfErr result (λ fault. (s : Settings) (told : Option Store) (old new : Failures) → Links told s linker.now
-        → JobFails s told old new fault) }
+    ensures why { IfErr result (λ fault. (s : Settings) (told : Option Store) (old new : Failures)
+        → Links told s linker.now → JobFails s told old new fault) }
     ensures early { IfErr result IsEarly }
 {
     match linker.link_image(alloc, NO_UUID) {
@@ -170,9 +175,10 @@ fn link(alloc: Global, linker: &Linker) -> Result<LinkedImage, Fault>
 fn write_image<F: Files>(files: &mut F, output: &str, image: LinkedImage) -> Ran
     ensures status { result.status ≡ status_of result.fault }
     ensures image { MatchOption result.image (LeavesNothing result.fault (F.holds files.old) (F.holds files.new))
-        (λ written. (written ≡ image) × LeavesImage result.fault (F.holds files.old) (F.holds files.new) output.now image.bytes.items) }
-    ensures why { IfSome result.fault (λ fault. (s : Settings) (told : Option Store) (old new : Failures) → old.writes ≡ F.write_faults files.old
-        → new.writes ≡ F.write_faults files.new → JobFails s told old new fault) }
+        (λ written. (written ≡ image)
+        × LeavesImage result.fault (F.holds files.old) (F.holds files.new) output.now image.bytes.items) }
+    ensures why { IfSome result.fault (λ fault. (s : Settings) (told : Option Store) (old new : Failures)
+        → old.writes ≡ F.write_faults files.old → new.writes ≡ F.write_faults files.new → JobFails s told old new fault) }
     ensures counted { CountsOn (F.write_faults files.old) (F.write_faults files.new) }
     ensures kept { OnlyWrites F.directories F.canonical_paths F.faults files.old files.new }
 {
@@ -193,7 +199,6 @@ fn write_image<F: Files>(files: &mut F, output: &str, image: LinkedImage) -> Ran
 
 // The answer without an image.
 fn refused(fault: Fault) -> Ran
-    requires { IsEarly fault }
     ensures status { result.status ≡ status_of result.fault }
     ensures image { result.image ≡ None }
     ensures fault { result.fault ≡ Some fault }

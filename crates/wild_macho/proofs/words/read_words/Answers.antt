@@ -5,4 +5,5 @@ use Rattle.wild_macho.proofs.Spellings.{asks-nothing}
 use Rattle.wild_macho.proofs.words.read_words.Goals as goal
 
 pub returns-clause-plainly : goal.returns-clause-plainly
-returns-clause-plainly c = asks-nothing (texts_of c.args.words.now) c.loop-place.place (settings_of c.loop-place.args) c.loop-place.invariant.0
+returns-clause-plainly c =
+    asks-nothing (texts_of c.args.words.now) c.loop-place.place (settings_of c.loop-place.args) c.loop-place.invariant.0
