@@ -4,3 +4,4 @@ pub mod Spellings
 pub mod Jobs
 pub mod Determined
 pub mod Sure
+pub mod JobRows
