@@ -1,0 +1,48 @@
+#!/usr/bin/env bash
+# Links the example and reads the executable with LLVM's tools: neither may complain, and what they read is what is
+# wanted. Where no such tool is installed, the reading is skipped.
+top=$(cd "$(dirname "$0")/.." && pwd) || exit 1
+folder=$(mktemp -d) || exit 1
+trap 'rm -rf "$folder"' EXIT
+image=$folder/hello
+
+fail() {
+    echo "first_link: $1" >&2
+    exit 1
+}
+
+# An installed tool by its name, with or without a version behind it.
+tool() {
+    for name in "$1" "$1"-{14..23}; do
+        command -v "$name" && return
+    done
+    return 1
+}
+
+"$top/link" -o "$image" "$top/examples/hello/hello.o" || fail "the link ended with status $?"
+[ -x "$image" ] || fail "no executable was written"
+
+readobj=$(tool llvm-readobj) && objdump=$(tool llvm-objdump) || {
+    echo "first_link: linked; the reading is SKIPPED, since llvm-readobj or llvm-objdump isn't installed"
+    exit 0
+}
+"$readobj" --file-headers --sections --macho-segment "$image" >"$folder/read" 2>"$folder/complaints" ||
+    fail "llvm-readobj failed: $(cat "$folder/complaints")"
+"$objdump" --macho --private-headers --disassemble "$image" >"$folder/dump" 2>>"$folder/complaints" ||
+    fail "llvm-objdump failed: $(cat "$folder/complaints")"
+[ -s "$folder/complaints" ] && fail "a tool complains: $(cat "$folder/complaints")"
+
+# Each line is sought in what the tools read.
+wanted() {
+    tr -s ' \t' ' ' <"$folder/$1" | grep -qF -- "$2" || fail "$1 lacks '$2'"
+}
+
+wanted read 'FileType: Executable (0x2)'
+wanted read 'NumOfLoadCommands: 4'
+wanted read 'SizeOfLoadCommands: 280'
+wanted read 'Flags [ (0x200085)'
+wanted read 'Address: 0x100000138'
+wanted dump 'entryoff 312'
+wanted dump 'name /usr/lib/dyld (offset 12)'
+wanted dump 'ret'
+echo "first_link: linked and read"

@@ -1,0 +1,38 @@
+-- What a file is, by its first bytes.
+use Rattle.std.specs.Prelude.{ℕ, ◌&&◌, ◌||◌, nat_eq, if◌then◌else◌, Bool, List, [], ◌∷◌, ◌++◌, codes, drop}
+use Rattle.std.specs.List.{starts_with}
+use Rattle.wild_macho.specs.declared.fault.InputKind.{InputKind}
+use Rattle.wild_macho.specs.declared.fault.InputKind.TheVariants.{Archive, Universal, Other}
+
+-- `mach-o/loader.h`: the magic number of a 64-bit file, its lowest byte first
+abbrev pub MAGIC : List ℕ
+MAGIC = 0xcf ∷ 0xfa ∷ 0xed ∷ 0xfe ∷ []
+
+-- `mach-o/loader.h`: MH_OBJECT, the type of an object, and where a header has its file type
+abbrev pub OBJECT_TYPE : List ℕ
+OBJECT_TYPE = 1 ∷ 0 ∷ 0 ∷ 0 ∷ []
+
+abbrev pub TYPE_PLACE : ℕ
+TYPE_PLACE = 12
+
+-- the bytes begin as an object
+abbrev pub has_object_head : List ℕ → Bool
+has_object_head bytes = starts_with nat_eq bytes MAGIC && starts_with nat_eq (drop TYPE_PLACE bytes) OBJECT_TYPE
+
+-- `ar.h`: an archive begins with a line of text; `mach-o/fat.h`: a universal file with one of two numbers, the highest
+-- byte first
+abbrev pub ARCHIVE : List ℕ
+ARCHIVE = codes "!<arch>" ++ 10 ∷ []
+
+abbrev pub UNIVERSAL : List ℕ
+UNIVERSAL = 0xca ∷ 0xfe ∷ 0xba ∷ 0xbe ∷ []
+
+abbrev pub UNIVERSAL_64 : List ℕ
+UNIVERSAL_64 = 0xca ∷ 0xfe ∷ 0xba ∷ 0xbf ∷ []
+
+-- what a file is that is no input
+abbrev pub kind_of : List ℕ → InputKind
+kind_of bytes =
+    if starts_with nat_eq bytes ARCHIVE then Archive
+    else if starts_with nat_eq bytes UNIVERSAL || starts_with nat_eq bytes UNIVERSAL_64 then Universal
+    else Other

@@ -1,0 +1,250 @@
+//! Whole runs over files in memory: objects written out, the image of one of them, and each refusal with its line.
+
+use std::alloc::Global;
+use std::test::Fail;
+use wild_macho::{
+    Fault, Files, InputKind, MemoryFiles, MemorySink, Ran, SteadyFiles, SteadySink, run,
+};
+
+/// A function `_main` of two instructions, without relocations.
+const OBJECT: [u8; 240] = [
+    // 0: header: arm64 object, 2 commands of 176 bytes
+    0xcf, 0xfa, 0xed, 0xfe, 0x0c, 0, 0, 1, 0, 0, 0, 0, 1, 0, 0, 0, //
+    2, 0, 0, 0, 176, 0, 0, 0, 0, 0, 0, 0, 0, 0, 0, 0, //
+    // 32: LC_SEGMENT_64 of 152 bytes, 8 bytes at 208, one section
+    0x19, 0, 0, 0, 152, 0, 0, 0, 0, 0, 0, 0, 0, 0, 0, 0, //
+    0, 0, 0, 0, 0, 0, 0, 0, 0, 0, 0, 0, 0, 0, 0, 0, //
+    8, 0, 0, 0, 0, 0, 0, 0, 208, 0, 0, 0, 0, 0, 0, 0, //
+    8, 0, 0, 0, 0, 0, 0, 0, 7, 0, 0, 0, 7, 0, 0, 0, //
+    1, 0, 0, 0, 0, 0, 0, 0, //
+    // 104: `__text` of `__TEXT`: 8 bytes at 208, exponent 2, flags 0x80000400
+    0x5f, 0x5f, 0x74, 0x65, 0x78, 0x74, 0, 0, 0, 0, 0, 0, 0, 0, 0, 0, //
+    0x5f, 0x5f, 0x54, 0x45, 0x58, 0x54, 0, 0, 0, 0, 0, 0, 0, 0, 0, 0, //
+    0, 0, 0, 0, 0, 0, 0, 0, 8, 0, 0, 0, 0, 0, 0, 0, //
+    208, 0, 0, 0, 2, 0, 0, 0, 0, 0, 0, 0, 0, 0, 0, 0, //
+    0, 4, 0, 0x80, 0, 0, 0, 0, 0, 0, 0, 0, 0, 0, 0, 0, //
+    // 184: LC_SYMTAB: one symbol at 216, 8 bytes of names at 232
+    2, 0, 0, 0, 24, 0, 0, 0, 216, 0, 0, 0, 1, 0, 0, 0, 232, 0, 0, 0, 8, 0, 0, 0, //
+    // 208: mov w0, #0; ret
+    0, 0, 0x80, 0x52, 0xc0, 3, 0x5f, 0xd6, //
+    // 216: the name at 1, global, at 0 in section 1
+    1, 0, 0, 0, 0x0f, 1, 0, 0, 0, 0, 0, 0, 0, 0, 0, 0, //
+    // 232: the names: `_main`
+    0, 0x5f, 0x6d, 0x61, 0x69, 0x6e, 0, 0, //
+];
+
+/// The image of that object, up to the end of its code. Zeros follow up to 16,384 bytes.
+const IMAGE: [u8; 320] = [
+    // 0: header: arm64 executable, 4 commands of 280 bytes, flags 0x200085
+    0xcf, 0xfa, 0xed, 0xfe, 0x0c, 0, 0, 1, 0, 0, 0, 0, 2, 0, 0, 0, //
+    4, 0, 0, 0, 0x18, 1, 0, 0, 0x85, 0, 0x20, 0, 0, 0, 0, 0, //
+    // 32: LC_SEGMENT_64 of 72 bytes: `__PAGEZERO`, 4 GiB of nothing
+    0x19, 0, 0, 0, 72, 0, 0, 0, 0x5f, 0x5f, 0x50, 0x41, 0x47, 0x45, 0x5a, 0x45, //
+    0x52, 0x4f, 0, 0, 0, 0, 0, 0, 0, 0, 0, 0, 0, 0, 0, 0, //
+    0, 0, 0, 0, 1, 0, 0, 0, 0, 0, 0, 0, 0, 0, 0, 0, //
+    0, 0, 0, 0, 0, 0, 0, 0, 0, 0, 0, 0, 0, 0, 0, 0, //
+    0, 0, 0, 0, 0, 0, 0, 0, //
+    // 104: LC_SEGMENT_64 of 152 bytes: `__TEXT` at 0x100000000, the whole file, protection 5, one section
+    0x19, 0, 0, 0, 152, 0, 0, 0, 0x5f, 0x5f, 0x54, 0x45, 0x58, 0x54, 0, 0, //
+    0, 0, 0, 0, 0, 0, 0, 0, 0, 0, 0, 0, 1, 0, 0, 0, //
+    0, 0x40, 0, 0, 0, 0, 0, 0, 0, 0, 0, 0, 0, 0, 0, 0, //
+    0, 0x40, 0, 0, 0, 0, 0, 0, 5, 0, 0, 0, 5, 0, 0, 0, //
+    1, 0, 0, 0, 0, 0, 0, 0, //
+    // 176: `__text` of `__TEXT`: 8 bytes at 0x100000138, file offset 0x138, exponent 2, flags 0x80000400
+    0x5f, 0x5f, 0x74, 0x65, 0x78, 0x74, 0, 0, 0, 0, 0, 0, 0, 0, 0, 0, //
+    0x5f, 0x5f, 0x54, 0x45, 0x58, 0x54, 0, 0, 0, 0, 0, 0, 0, 0, 0, 0, //
+    0x38, 1, 0, 0, 1, 0, 0, 0, 8, 0, 0, 0, 0, 0, 0, 0, //
+    0x38, 1, 0, 0, 2, 0, 0, 0, 0, 0, 0, 0, 0, 0, 0, 0, //
+    0, 4, 0, 0x80, 0, 0, 0, 0, 0, 0, 0, 0, 0, 0, 0, 0, //
+    // 256: LC_MAIN: entry offset 0x138
+    0x28, 0, 0, 0x80, 24, 0, 0, 0, 0x38, 1, 0, 0, 0, 0, 0, 0, 0, 0, 0, 0, 0, 0, 0, 0, //
+    // 280: LC_LOAD_DYLINKER: `/usr/lib/dyld` at 12
+    0x0e, 0, 0, 0, 32, 0, 0, 0, 12, 0, 0, 0, 0x2f, 0x75, 0x73, 0x72, //
+    0x2f, 0x6c, 0x69, 0x62, 0x2f, 0x64, 0x79, 0x6c, 0x64, 0, 0, 0, 0, 0, 0, 0, //
+    // 312: the code
+    0, 0, 0x80, 0x52, 0xc0, 3, 0x5f, 0xd6, //
+];
+
+/// The object's second name in place of `_main`.
+const START: [u8; 6] = *b"_start";
+
+/// Files that are no object, and their kinds.
+const OTHERS: [(&str, &[u8], InputKind); 5] = [
+    ("lib.a", b"!<arch>\n", InputKind::Archive),
+    ("fat", b"\xca\xfe\xba\xbe\0\0\0\x01", InputKind::Universal),
+    ("fat64", b"\xca\xfe\xba\xbf\0\0\0\x01", InputKind::Universal),
+    ("short", b"abc", InputKind::Other),
+    (
+        "dylib",
+        b"\xcf\xfa\xed\xfe\x0c\0\0\x01\0\0\0\0\x06\0\0\0",
+        InputKind::Other,
+    ),
+];
+
+/// Words that are refused, with the status and the line that is printed.
+const REFUSED: [(&[&str], u8, &str); 12] = [
+    (&["-x"], 2, "bad word 0: Unknown"),
+    (&["-o"], 2, "bad word 0: MissingValue"),
+    (&["in.o", "-o"], 2, "bad word 1: MissingValue"),
+    (&["-o", "-o", "in.o", "in.o"], 2, "bad word 3: Unknown"),
+    (&["in.o", "-dylib"], 2, "bad word 1: Unknown"),
+    (&[], 1, "entry symbol _main is not defined"),
+    (&["start.o"], 1, "entry symbol _main is not defined"),
+    (&["gone.o"], 1, "cannot find gone.o"),
+    (&["bad.o"], 1, "bad.o: rule O1 at 0"),
+    (&["cut.o", "-o", "out"], 1, "cut.o: rule O4 at 184"),
+    (
+        &["short"],
+        1,
+        "short: not an arm64 object, dynamic library or stub",
+    ),
+    (&["in.o", "-o", "a/.."], 1, "bad name"),
+];
+
+// Runs the words over the files, and gives the answer.
+fn ran<F: Files, E: wild_macho::Sink>(
+    alloc: Global,
+    texts: &[&str],
+    files: &mut F,
+    err: &mut E,
+) -> Result<Ran, Fail> {
+    let mut words = Vec::new(alloc);
+    for text in texts {
+        words.push(String::from_str(alloc, text)?)?;
+    }
+    if words.len() > 9 {
+        return Err(Fail::from("too many words"));
+    }
+    Ok(run(alloc, &words, files, &mut SteadySink::new(), err))
+}
+
+// The files of the rows.
+fn add_files(files: &mut MemoryFiles, alloc: Global) -> Result<(), Fail> {
+    files.add_file("in.o", Vec::from_slice(alloc, &OBJECT)?)?;
+    let mut start = OBJECT;
+    start[233..239].copy_from_slice(&START);
+    files.add_file("start.o", Vec::from_slice(alloc, &start)?)?;
+    let mut bad = OBJECT;
+    bad[4] = 7;
+    files.add_file("bad.o", Vec::from_slice(alloc, &bad)?)?;
+    files.add_file("cut.o", Vec::from_slice(alloc, &OBJECT[..239])?)?;
+    for (path, bytes, _kind) in OTHERS {
+        files.add_file(path, Vec::from_slice(alloc, bytes)?)?;
+    }
+    Ok(())
+}
+
+// The first bytes, and those behind them.
+fn front(bytes: &[u8], count: usize) -> &[u8] {
+    bytes.get(..count).unwrap_or(bytes)
+}
+
+fn behind(bytes: &[u8], count: usize) -> &[u8] {
+    bytes.get(count..).unwrap_or(bytes)
+}
+
+// Whether the file under the path is these bytes.
+fn holds<F: Files>(
+    files: &mut F,
+    alloc: Global,
+    path: &str,
+    want: Option<&[u8]>,
+) -> Result<bool, Fail> {
+    let held = files.read(alloc, path)?;
+    Ok(match (&held, want) {
+        (Some(bytes), Some(want)) => bytes.as_slice() == want,
+        (None, None) => true,
+        _ => false,
+    })
+}
+
+#[test]
+fn an_object_becomes_an_executable(rt: HostRuntime) -> Result<(), Fail> {
+    let mut files = SteadyFiles::new(rt.alloc());
+    files.add_file("in.o", Vec::from_slice(rt.alloc(), &OBJECT)?)?;
+    let words = ["-o", "first", "in.o", "-o", "out"];
+    let answer = ran(rt.alloc(), &words, &mut files, &mut SteadySink::new())?;
+    assert_eq!(rt; answer.status, 0);
+    assert!(rt; answer.fault.is_none());
+    let image = answer.image.ok_or("no image")?;
+    assert_eq!(rt; image.bytes.len(), 16384);
+    assert!(rt; front(&image.bytes, 320) == IMAGE.as_slice());
+    assert!(rt; behind(&image.bytes, 320).iter().all(|byte| *byte == 0));
+    let whole = Some(image.bytes.as_slice());
+    assert!(rt; holds(&mut files, rt.alloc(), "out", whole)?);
+    assert!(rt; holds(&mut files, rt.alloc(), "first", None)?);
+    assert!(rt; holds(&mut files, rt.alloc(), "a.out", None)?);
+    Ok(())
+}
+
+#[test]
+fn each_refusal_has_its_status_and_its_line(rt: HostRuntime) -> Result<(), Fail> {
+    for (words, status, line) in REFUSED {
+        let mut files = MemoryFiles::new(rt.alloc());
+        add_files(&mut files, rt.alloc())?;
+        let mut err = MemorySink::new(rt.alloc(), 200)?;
+        let answer = ran(rt.alloc(), words, &mut files, &mut err)?;
+        assert_eq!(rt; answer.status, status, "{line}");
+        assert!(rt; answer.image.is_none());
+        let printed = format!(in rt.alloc(); "wild_macho: {line}\n")?;
+        assert_eq!(rt; err.bytes(), printed.as_bytes(), "{line}");
+        assert!(rt; holds(&mut files, rt.alloc(), "a.out", None)?);
+    }
+    Ok(())
+}
+
+#[test]
+fn a_file_that_is_no_object_is_told_with_its_kind(rt: HostRuntime) -> Result<(), Fail> {
+    for (path, _bytes, wanted) in OTHERS {
+        let mut files = MemoryFiles::new(rt.alloc());
+        add_files(&mut files, rt.alloc())?;
+        let words = ["-o", "out", path];
+        let answer = ran(rt.alloc(), &words, &mut files, &mut SteadySink::new())?;
+        assert_eq!(rt; answer.status, 1);
+        match answer.fault {
+            Some(Fault::UnknownKind { word, kind }) => {
+                assert_eq!(rt; word, 2);
+                assert_eq!(rt; kind, wanted, "{path}");
+            }
+            _ => return Err(Fail::from("another fault")),
+        }
+    }
+    Ok(())
+}
+
+#[test]
+fn a_failed_read_writes_nothing(rt: HostRuntime) -> Result<(), Fail> {
+    let mut files = MemoryFiles::new(rt.alloc());
+    add_files(&mut files, rt.alloc())?;
+    files.fail_read(0)?;
+    let mut err = MemorySink::new(rt.alloc(), 200)?;
+    err.fail_write(1)?;
+    let answer = ran(rt.alloc(), &["in.o"], &mut files, &mut err)?;
+    assert_eq!(rt; answer.status, 3);
+    assert!(rt; matches!(answer.fault, Some(Fault::Read { word: 0 })));
+    assert_eq!(rt; err.bytes(), b"wild_macho: ".as_slice());
+    assert!(rt; holds(&mut files, rt.alloc(), "a.out", None)?);
+    Ok(())
+}
+
+#[test]
+fn a_failed_write_leaves_the_first_bytes(rt: HostRuntime) -> Result<(), Fail> {
+    for left in [0, 8192, 16383] {
+        let mut files = MemoryFiles::new(rt.alloc());
+        add_files(&mut files, rt.alloc())?;
+        files.fail_write(0, left)?;
+        let mut err = MemorySink::new(rt.alloc(), 200)?;
+        let answer = ran(rt.alloc(), &["in.o"], &mut files, &mut err)?;
+        assert_eq!(rt; answer.status, 4);
+        assert!(rt; matches!(answer.fault, Some(Fault::Write)));
+        assert_eq!(rt;
+            err.bytes(),
+            b"wild_macho: cannot write the output\n".as_slice()
+        );
+        let image = answer.image.ok_or("no image")?;
+        assert_eq!(rt; image.bytes.len(), 16384);
+        let first = Some(front(&image.bytes, left as usize));
+        assert!(rt; holds(&mut files, rt.alloc(), "a.out", first)?);
+    }
+    Ok(())
+}
