@@ -15,11 +15,14 @@ use Rattle.macho_image.specs.declared.fault.LinkError.TheVariants as error
 use Rattle.macho_image.specs.declared.fault.Unbuilt.{Unbuilt}
 use Rattle.macho_image.specs.declared.fault.Unbuilt.TheVariants as part
 use Rattle.macho_image.specs.Counts.{counts_of}
+use Rattle.macho_image.specs.declared.branch.Branch.{Branch}
+use Rattle.macho_image.specs.Branches.{HasAllBranches}
 use Rattle.macho_image.specs.Places.{cost_of}
 use Rattle.macho_image.specs.First.{id_of_carried, IsFirst, IsPlainObject, HasOneObject}
 use Rattle.macho_image.specs.Unbuilt.{AsksForPart, AsksFor}
 use Rattle.macho_image.specs.Refusals.{BUILT_SECTIONS, BUILT_SUM, IsUnbuilt, RefusalStands, StandsAlone}
-use Rattle.macho_image.proofs.First.{object-is, is_first}
+use Rattle.macho_image.proofs.First.{object-is}
+use Rattle.macho_image.proofs.FirstLinks.{is_first}
 use Rattle.macho_image.proofs.Placed.{costs-are}
 
 -- the file of a link of one object
@@ -56,9 +59,9 @@ too_large l cs first (inl many) = inl (omega (arith, many, ap length first.list,
 too_large l cs first (inr costly) = inr (past l cs first costly)
 
 -- sections that are too many, or cost too much
-pub size_alone : (b : List ℕ) (cs : List Carried) → IsObject b → IsPlainObject b cs → (BUILT_SECTIONS < length cs) ⊎ (BUILT_SUM < sum_by cost_of cs)
+pub size_alone : (b : List ℕ) (cs : List Carried) (xss : List (List Branch)) → IsObject b → IsPlainObject b cs → HasAllBranches b cs xss → (BUILT_SECTIONS < length cs) ⊎ (BUILT_SUM < sum_by cost_of cs)
     → StandsAlone b (error.Unbuilt part.Size)
-size_alone b cs object plain large = record { stands = λ l one. too_large l cs (is_first l b cs one object plain) large }
+size_alone b cs xss object plain branches large = record { stands = λ l one. too_large l cs (is_first l b cs xss one object plain branches) large }
 
 -- an error that was handed on
 pub err_with : {X E : Type 0} (r : Result X E) (e : E) (P : E → Type 0) → IsErrAnd r (λ x. x ≡ e) → P e → IfErr r P

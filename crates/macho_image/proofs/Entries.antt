@@ -26,7 +26,7 @@ use Rattle.macho_model.specs.Resolution.{SymbolId, same_symbol, commons_of, chos
 use Rattle.macho_model.specs.Targets.{own_target, target_of_definition}
 use Rattle.macho_model.specs.Consumed.{is_section_target}
 use Rattle.macho_image.specs.First.{HasOneObject}
-use Rattle.macho_image.specs.Definitions.{in_carried, defines_name, IsDefinitionOf, IsEntry}
+use Rattle.macho_image.specs.Definitions.{LiesInCarried, in_carried, defines_name, IsDefinitionOf, IsEntry}
 use Rattle.macho_image.specs.declared.entry.Entry.{Entry}
 use Rattle.macho_image.proofs.First.{first_symbol, filter-map, object-is, symbols-are}
 use Rattle.macho_image.proofs.Placed.{filter_none}
@@ -85,7 +85,7 @@ others l name =
 begins : (xs : List ℕ) (k : ℕ) (other : Option Definition) → BeginsWith xs k → first_or (map Symbol (map first_symbol xs)) other ≡ Some (Symbol (first_symbol k))
 begins xs k other b = rw b.is refl
 
-definition-found : (l : Link) (b name : List ℕ) (k : ℕ) → HasOneObject l b → IsDefinitionOf b name (Some k) → definition_of l name ≡ Some (Symbol (first_symbol k))
+pub definition-found : (l : Link) (b name : List ℕ) (k : ℕ) → HasOneObject l b → IsDefinitionOf b name (Some k) → definition_of l name ≡ Some (Symbol (first_symbol k))
 unfolding definition_of
 definition-found l b name k one (inl (j, same, first)) =
     rw (strong-are l b name one)
@@ -115,19 +115,19 @@ by_parts l s false false out a c = rw (out, a, c) refl
 no_section : (l : Link) (s : SymbolId) → stands_in_carried l s ≡ false → is_section_target (own_target l s) ≡ false
 no_section l s out = by_parts l s (is_absolute (entry_at l s)) (is_common_of (entry_at l s)) out refl refl
 
-and_left : (p q : Bool) → (p && q) ≡ true → p ≡ true
+pub and_left : (p q : Bool) → (p && q) ≡ true → p ≡ true
 and_left true q e = refl
 and_left false q e = absurd cc
 
-and_right : (p q : Bool) → (p && q) ≡ true → q ≡ true
+pub and_right : (p q : Bool) → (p && q) ≡ true → q ≡ true
 and_right true q e = e
 and_right false q e = absurd cc
 
-and_none : (p q : Bool) → q ≡ false → (p && q) ≡ false
+pub and_none : (p q : Bool) → q ≡ false → (p && q) ≡ false
 and_none true q e = e
 and_none false q e = refl
 
-and_first : (p q : Bool) → p ≡ false → (p && q) ≡ false
+pub and_first : (p q : Bool) → p ≡ false → (p && q) ≡ false
 and_first p q e = rw e refl
 
 -- a common is undefined, so it stands in no section
@@ -166,14 +166,14 @@ others_lead l b name (s ∷ xs) one is =
     rw is (no_section l s (and_first (is_in_section (entry_at l s)) _ out))
 
 -- what a symbol's own target is, by the object's bytes
-abbrev own_by : Link → ℕ → List ℕ → Target
+abbrev pub own_by : Link → ℕ → List ℕ → Target
 own_by l k o =
     if in_carried o k then target.Section 0 ((symbol_at o k).n_sect - 1) ((symbol_at o k).n_value - (section_at o ((symbol_at o k).n_sect - 1)).addr)
     else if is_absolute (symbol_at o k) then target.Absolute (symbol_at o k).n_value
     else if is_common_of (symbol_at o k) then target.Common (position_or_len (same_symbol (first_symbol k)) (chosen_commons l))
     else target.None
 
-own-is : (l : Link) (b : List ℕ) (k : ℕ) → HasOneObject l b → own_target l (first_symbol k) ≡ own_by l k b
+pub own-is : (l : Link) (b : List ℕ) (k : ℕ) → HasOneObject l b → own_target l (first_symbol k) ≡ own_by l k b
 own-is l b k one = ap (own_by l k) (object-is l b one)
 
 -- a name without a definition, or with one that isn't in a carried section, leads to no section
@@ -190,24 +190,21 @@ entry_elsewhere b name k found out = record {
   lies = tt;
 }
 
-implied : (p q : Bool) → (not p || q) ≡ true → p ≡ true → q ≡ true
+pub implied : (p q : Bool) → (not p || q) ≡ true → p ≡ true → q ≡ true
 implied true q e f = e
 implied false q e f = absurd cc
 
-at_most : (a b : ℕ) → nat_le a b ≡ true → a ≤ b
+pub at_most : (a b : ℕ) → nat_le a b ≡ true → a ≤ b
 at_most a b e = leb_yes (passes (nat_le a b) e)
 
--- the place of a definition in a carried section
-pub entry_some : (b name : List ℕ) (k : ℕ) (e : Entry) → IsObject b → k < num_symbols b → IsDefinitionOf b name (Some k) → in_carried b k ≡ true
-    → e.section ≡ (symbol_at b k).n_sect - 1 → e.offset ≡ (symbol_at b k).n_value - (section_at b ((symbol_at b k).n_sect - 1)).addr → IsEntry b name (Some e)
-entry_some b name k e object among found carried section offset = record {
-  leads = λ l one. ap (target_of_definition l name) (definition-found l b name k one found) ∙ own-is l b k one ∙ rw (carried, section, offset) refl;
-  lies = (
-    rw section exists,
-    rw section (and_right (is_in_section (symbol_at b k)) (is_carried (section_at b ((symbol_at b k).n_sect - 1))) carried),
-    rw (section, offset) inside,
-  );
-}
+-- a symbol in a carried section lies in it
+pub lies_at : (b : List ℕ) (k : ℕ) (e : Entry) → IsObject b → k < num_symbols b → in_carried b k ≡ true → e.section ≡ (symbol_at b k).n_sect - 1
+    → e.offset ≡ (symbol_at b k).n_value - (section_at b ((symbol_at b k).n_sect - 1)).addr → LiesInCarried b (Some e)
+lies_at b k e object among carried section offset = (
+  rw section exists,
+  rw section (and_right (is_in_section (symbol_at b k)) (is_carried (section_at b ((symbol_at b k).n_sect - 1))) carried),
+  rw (section, offset) inside,
+)
   where
     own : SymtabEntry
     own = symbol_at b k
@@ -229,6 +226,14 @@ entry_some b name k e object among found carried section offset = record {
         let h = section_at b (own.n_sect - 1) in
         let both = implied (is_in_section own) (nat_le h.addr own.n_value && nat_le own.n_value (h.addr + h.size)) (object.o8 k among) defined in
         omega (arith, at_most own.n_value (h.addr + h.size) (and_right (nat_le h.addr own.n_value) (nat_le own.n_value (h.addr + h.size)) both))
+
+-- the place of a definition in a carried section
+pub entry_some : (b name : List ℕ) (k : ℕ) (e : Entry) → IsObject b → k < num_symbols b → IsDefinitionOf b name (Some k) → in_carried b k ≡ true
+    → e.section ≡ (symbol_at b k).n_sect - 1 → e.offset ≡ (symbol_at b k).n_value - (section_at b ((symbol_at b k).n_sect - 1)).addr → IsEntry b name (Some e)
+entry_some b name k e object among found carried section offset = record {
+  leads = λ l one. ap (target_of_definition l name) (definition-found l b name k one found) ∙ own-is l b k one ∙ rw (carried, section, offset) refl;
+  lies = lies_at b k e object among carried section offset;
+}
 
 -- an answer that is there where a test holds
 pub none_if : {X : Type 0} (p : Bool) (x : X) → None ≡ (if p then Some x else None) → p ≡ false

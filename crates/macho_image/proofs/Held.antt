@@ -1,37 +1,38 @@
 -- A first link's image stands in memory.
 --
--- Its only mapped segment has as many bytes in memory as in the file, and begins the file. A section's bytes stand in
--- the file at its address less the base; so memory holds them at its address plus the slide. No section has a
--- relocation, so none has a field; and there are no commons, slots or stubs.
-use Rattle.std.proofs.Common.{◌≡◌, ℕ, ◌+◌, ◌-◌, ◌<◌, ◌≤◌, List, [], length, get_or, slice_index, refl, sym, ap, subst, ◌∙◌, arith, All, Bor}
+-- Its only mapped segment has as many bytes in memory as in the file, and begins the file. A section's part stands in the
+-- file at its address less the base; so memory holds it at its address plus the slide, and the section stands with its
+-- branches. There are no commons, slots or stubs.
+use Rattle.std.proofs.Common.{◌≡◌, ℕ, ◌+◌, ◌^◌, ◌<◌, ◌≤◌, List, [], length, get_or, refl, sym, ap, subst, ◌∙◌, arith, All, Bor}
 use Rattle.std.specs.Prelude.{Contains}
+use Rattle.std.specs.Bool.{passes}
+use Rattle.std.proofs.Math.Facts.{leb_yes}
 use Rattle.std.proofs.lemmas.List.Elements.{All-nil}
-use Rattle.macho_bytes.specs.Texts.{Stands}
+use Rattle.macho_bytes.specs.Texts.{Part, Stands}
 use Rattle.macho_records.specs.declared.header.SectionHeader.{SectionHeader}
 use Rattle.macho_records.specs.declared.header.SegmentCommand.{SegmentCommand}
 use Rattle.macho_model.specs.declared.placed.PlacedSection.{PlacedSection}
-use Rattle.macho_model.specs.Objects.{section_bytes}
-use Rattle.macho_model.specs.Links.{Link, SectionId, object_of, header_at}
-use Rattle.macho_model.specs.Fields.{fields_of}
+use Rattle.macho_model.specs.Grammar.{IsObject}
+use Rattle.macho_model.specs.ObjectRules.{field_inside}
+use Rattle.macho_model.specs.Objects.{num_sections, section_at, section_bytes, relocation_at}
+use Rattle.macho_model.specs.Links.{Link}
 use Rattle.macho_model.specs.Images.{mapped_segments}
 use Rattle.macho_model.specs.Segments.{PAGEZERO_SIZE}
-use Rattle.macho_model.specs.Memory.{Choice, Holds, HoldsText}
-use Rattle.macho_model.specs.Placement.{id_of}
-use Rattle.macho_model.specs.Stands.{IsOutsideField, Denotes, SectionStands, CommonStands, SlotStands, StubStands, ImageStands}
+use Rattle.macho_model.specs.Memory.{Choice, HoldsText}
+use Rattle.macho_model.specs.Stands.{SectionStands, CommonStands, SlotStands, StubStands, ImageStands}
 use Rattle.macho_model.proofs.Memory.{text_is_held}
+use Rattle.macho_image.specs.declared.branch.Branch.{Branch}
 use Rattle.macho_image.specs.declared.carried.Carried.{Carried}
-use Rattle.macho_image.specs.Places.{Places}
-use Rattle.macho_image.specs.First.{IsFirst}
-use Rattle.macho_image.specs.Shape.{placed_of_image}
-use Rattle.macho_image.specs.Parts.{section_part}
+use Rattle.macho_image.specs.First.{HasOneObject}
+use Rattle.macho_image.specs.Branches.{WORD, HasBranches, HasAllBranches}
+use Rattle.macho_image.specs.Setting.{IsSectionPart, AreSectionParts}
 use Rattle.macho_image.specs.Composed.{HasHead}
+use Rattle.macho_image.specs.Places.{front_of, IsPlaceOf, Places}
+use Rattle.macho_image.specs.Shape.{placed_of_image}
 use Rattle.macho_image.proofs.Accepted.{text_record, mapped-are, tables-are}
-use Rattle.macho_image.proofs.Placed.{IsAtPlace, at_place, header-at, size-at, no_carried}
-
--- a section without relocations has no fields
-no_fields : (l : Link) (s : SectionId) → (header_at l s).nreloc ≡ 0 → fields_of l s ≡ []
-unfolding fields_of
-no_fields l s none = rw none refl
+use Rattle.macho_image.proofs.Placed.{no_carried}
+use Rattle.macho_image.proofs.Unsupported.{form_length}
+use Rattle.macho_image.proofs.Denoting.{section_with_branches}
 
 -- the text segment is the one that is mapped
 mapped : (b : List ℕ) (n entry : ℕ) (none headers : Bor (List SectionHeader)) → HasHead b n entry none headers
@@ -39,53 +40,77 @@ mapped : (b : List ℕ) (n entry : ℕ) (none headers : Bor (List SectionHeader)
 mapped b n entry none headers h =
     subst (λ (segments : List SegmentCommand). Contains segments (text_record n (length headers.now))) (sym (mapped-are b n entry none headers h)) (0, omega arith, refl)
 
--- a section stands in memory
-section_stands : (l : Link) (b object : List ℕ) (n entry : ℕ) (none headers : Bor (List SectionHeader)) (front end : ℕ) (c : Carried) (q : PlacedSection)
-    (sections : List PlacedSection) (s : ℕ) (choice : Choice) → HasHead b n entry none headers → IsAtPlace l front end c q → PAGEZERO_SIZE ≤ front
-    → end ≤ PAGEZERO_SIZE + n → object_of l 0 ≡ object → length (section_bytes object q.section) ≡ c.header.size → Stands b (section_part object q)
-    → SectionStands l b (placed_of_image n sections headers.now) s choice q
-section_stands l b object n entry none headers front end c q sections s choice head here low high is long stands = record {
-  bytes = bytes;
-  fields = rw no (All-nil (Denotes l b (placed_of_image n sections headers.now) s choice q));
-}
-  where
-    no : fields_of l (id_of q) ≡ []
-    no = no_fields l (id_of q) (ap (λ (x : SectionHeader). x.nreloc) (header-at l front end c q here) ∙ here.plain.relocations)
+-- a text of the file is held
+part_held : (out : List ℕ) (n entry : ℕ) (none headers : Bor (List SectionHeader)) (at : ℕ) (text : List ℕ) (s : ℕ) (choice : Choice) → HasHead out n entry none headers
+    → Stands out (record { at = at; text = text }) → at + length text ≤ n → HoldsText out s choice (PAGEZERO_SIZE + at + s) text
+part_held out n entry none headers at text s choice head stands inside =
+    text_is_held out s choice (text_record n (length headers.now)) at text (tables-are out n entry none headers head) (mapped out n entry none headers head)
+    inside (omega arith) (subst (λ (a : ℕ). Stands out (record { at = a; text = text })) (omega arith) stands)
 
-    held : HoldsText b s choice (PAGEZERO_SIZE + (q.address - PAGEZERO_SIZE) + s) (section_bytes object q.section)
-    held =
-        text_is_held b s choice (text_record n (length headers.now)) (q.address - PAGEZERO_SIZE) (section_bytes object q.section) (tables-are b n entry none headers head)
-        (mapped b n entry none headers head) (omega (arith, long, here.place.to, here.place.from)) (omega arith) (moved stands)
-      where
-        moved : Stands b (section_part object q) → Stands b (record { at = 0 + (q.address - PAGEZERO_SIZE); text = section_bytes object q.section })
-        moved st = subst (λ (a : ℕ). Stands b (record { at = a; text = section_bytes object q.section })) (omega arith) st
-
-    object-is : object_of l q.file ≡ object
-    object-is = ap (object_of l) here.place.file ∙ is
-
-    bytes : (i : ℕ) → i < (header_at l (id_of q)).size → All (IsOutsideField i) (fields_of l (id_of q))
-        → Holds b s choice (q.address + i + s) (slice_index (section_bytes (object_of l q.file) q.section) i)
-    bytes i lt outside =
-        let at : q.address + i + s ≡ PAGEZERO_SIZE + (q.address - PAGEZERO_SIZE) + s + i = omega (arith, here.place.from) in
-        rw (at, object-is) (held i (omega (arith, long, size-at l front end c q here)))
+-- a branch lies in its section's bytes
+pub branch_inside : (b : List ℕ) (k : ℕ) (xs : List Branch) (r : ℕ) (d : Branch) → IsObject b → k < num_sections b → HasBranches b k (section_at b k).nreloc xs
+    → length (section_bytes b k) ≡ (section_at b k).size → r < length xs → (get_or xs r d).at + WORD ≤ length (section_bytes b k)
+branch_inside b k xs r d object among has long lt =
+    let below : r < (section_at b k).nreloc = omega (arith, lt, has.count) in
+    let is = has.each r d below in
+    let inside = leb_yes (passes (field_inside b k r) (object.o10.1 k r among below)) in
+    let width : 2 ^ (relocation_at b k r).r_length ≡ WORD = ap (λ (n : ℕ). 2 ^ n) (form_length (relocation_at b k r) is.form) in
+    omega (arith, is.at, inside, width, long)
 
 -- THE image stands, at every slide and for every choice
-pub stands : (l : Link) (b object : List ℕ) (n entry : ℕ) (none headers : Bor (List SectionHeader)) (front end : ℕ) (cs : List Carried)
-    (ps : List PlacedSection) (s : ℕ) (choice : Choice) → IsFirst l cs → HasHead b n entry none headers → Places front cs ps end → PAGEZERO_SIZE ≤ front
-    → end ≤ PAGEZERO_SIZE + n → object_of l 0 ≡ object
-    → ((k : ℕ) (c : Carried) → k < length cs → length (section_bytes object (get_or cs k c).section) ≡ (get_or cs k c).header.size)
-    → All (λ q. Stands b (section_part object q)) ps → ImageStands l b (placed_of_image n ps headers.now) s choice
-stands l b object n entry none headers front end cs ps s choice first head places low high is long each = record {
-  sections = λ k q lt. section_stands l b object n entry none headers front end (get_or cs k no_carried) (get_or ps k q) ps s choice head
-      (at_place l front end cs ps first places k q lt) low high is (sized k q lt) (each k q lt);
-  commons = All-nil (CommonStands l b s choice);
+pub stands : (l : Link) (out b : List ℕ) (n entry : ℕ) (none given : Bor (List SectionHeader)) (headers : List SectionHeader) (end : ℕ) (cs : List Carried)
+    (xss : List (List Branch)) (ps : List PlacedSection) (parts : List Part) (s : ℕ) (choice : Choice) → HasOneObject l b → IsObject b → HasAllBranches b cs xss
+    → HasHead out n entry none given → Places (front_of (length cs)) cs ps end → end ≤ PAGEZERO_SIZE + n
+    → ((k : ℕ) → k < length cs → (get_or cs k no_carried).section < num_sections b)
+    → ((k : ℕ) → k < length cs → length (section_bytes b (get_or cs k no_carried).section) ≡ (section_at b (get_or cs k no_carried).section).size)
+    → ((k : ℕ) (q : PlacedSection) → k < length ps → (get_or ps k q).address + (section_at b (get_or cs k no_carried).section).size ≤ end)
+    → AreSectionParts b ps xss (length ps) parts → All (Stands out) parts → ImageStands l out (placed_of_image n ps headers) s choice
+stands l out b n entry none given headers end cs xss ps parts s choice one object branches head places high exist long ends are each = record {
+  sections = section;
+  commons = All-nil (CommonStands l out s choice);
   through = record {
-    slots = All-nil (SlotStands l b (placed_of_image n ps headers.now) s choice);
-    stubs = All-nil (StubStands b (placed_of_image n ps headers.now) s choice);
+    slots = All-nil (SlotStands l out (placed_of_image n ps headers) s choice);
+    stubs = All-nil (StubStands out (placed_of_image n ps headers) s choice);
   };
 }
   where
-    sized : (k : ℕ) (q : PlacedSection) → k < length ps → length (section_bytes object (get_or ps k q).section) ≡ (get_or cs k no_carried).header.size
-    sized k q lt =
-        let here = at_place l front end cs ps first places k q lt in
-        ap (λ (m : ℕ). length (section_bytes object m)) here.place.section ∙ long k no_carried (omega (arith, places.count))
+    section : (k : ℕ) (q : PlacedSection) → k < length ps → SectionStands l out (placed_of_image n ps headers) s choice (get_or ps k q)
+    section k q lt =
+        section_with_branches l out b n xs ps headers p part.text s choice one has (λ i d below. (places.each i no_carried d (omega (arith, below, places.count))).file) place.file
+        longs is.set (λ r d below. branch_inside b p.section xs r d object among has longs below) held
+      where
+        within : k < length cs
+        within = omega (arith, lt, places.count)
+
+        p : PlacedSection
+        p = get_or ps k q
+
+        xs : List Branch
+        xs = get_or xss k []
+
+        part : Part
+        part = get_or parts k (record { at = 0; text = [] })
+
+        place : IsPlaceOf (front_of (length cs)) (get_or cs k no_carried) p end
+        place = places.each k no_carried q within
+
+        is : IsSectionPart b ps p xs part
+        is = are.each k q [] (record { at = 0; text = [] }) lt
+
+        has : HasBranches b p.section (section_at b p.section).nreloc xs
+        has = subst (λ (i : ℕ). HasBranches b i (section_at b i).nreloc xs) (sym place.section) (branches.each k no_carried [] within)
+
+        among : p.section < num_sections b
+        among = omega (arith, place.section, exist k within)
+
+        longs : length (section_bytes b p.section) ≡ (section_at b p.section).size
+        longs = subst (λ (i : ℕ). length (section_bytes b i) ≡ (section_at b i).size) (sym place.section) (long k within)
+
+        length_is : length part.text ≡ (section_at b (get_or cs k no_carried).section).size
+        length_is = is.set.long ∙ longs ∙ ap (λ (i : ℕ). (section_at b i).size) place.section
+
+        held : HoldsText out s choice (p.address + s) part.text
+        held =
+            subst (λ (x : ℕ). HoldsText out s choice x part.text) (omega (arith, is.at, place.from))
+            (part_held out n entry none given part.at part.text s choice head (each k (record { at = 0; text = [] }) (omega (arith, lt, are.count)))
+            (omega (arith, is.at, length_is, ends k q lt, high, place.from)))

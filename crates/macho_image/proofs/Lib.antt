@@ -12,3 +12,13 @@ pub mod Composing
 pub mod Alone
 pub mod Built
 pub mod Whole
+pub mod Leading
+pub mod Uses
+pub mod FirstLinks
+pub mod Set
+pub mod Unsupported
+pub mod Gathering
+pub mod Written
+pub mod Denoting
+pub mod Laid
+pub mod Unreached

@@ -3,21 +3,11 @@
 -- The table of the first n symbols gives each name that one of them defines to such a symbol, and no other name to
 -- anything. So a name that isn't in it is new: no earlier symbol defines it. And one that is in it is defined twice.
 use Rattle.std.proofs.Common.{◌≡◌, ℕ, ◌+◌, ◌<◌, Bool, true, false, cond, List, Option, Some, None, Bor, IsSome, is_some, inl, inr, refl, sym, ap, subst, ◌∙◌, arith}
-use Rattle.std.specs.Prelude.{bytes_eq}
 use Rattle.std.proofs.lemmas.Bool.{cases_lt}
 use Rattle.std.proofs.lemmas.Slice.Eq.{bytes_eq-Decides}
 use Rattle.macho_model.specs.Objects.{num_symbols, symbol_name}
 use Rattle.macho_image.specs.Definitions.{is_object_definition, NamesMeet}
-
--- two borrowed texts are the same
-abbrev pub same_text : Bor (List ℕ) → Bor (List ℕ) → Bool
-same_text x y = bytes_eq x.now y.now
-
--- a look-up of the names that the first n symbols define
-pub record SeenNames (b : List ℕ) (n : ℕ) (find : Bor (List ℕ) → Option ℕ) : Type 0 where
-  pub known : (k : ℕ) (q : Bor (List ℕ)) → k < n → is_object_definition b k ≡ true → q.now ≡ symbol_name b k → IsSome (find q)
-  pub from : (q : Bor (List ℕ)) (k : ℕ) → find q ≡ Some k → (k < n) × (is_object_definition b k ≡ true) × (symbol_name b k ≡ q.now)
-  pub differ : (j k : ℕ) → j < k → k < n → is_object_definition b j ≡ true → is_object_definition b k ≡ true → symbol_name b j ≡ symbol_name b k → ⊥
+use Rattle.macho_image.specs.Names.{same_text, SeenNames}
 
 -- no symbol was looked at
 pub seen_none : (b : List ℕ) (find : Bor (List ℕ) → Option ℕ) → ((q : Bor (List ℕ)) → find q ≡ None) → SeenNames b 0 find

@@ -2,7 +2,7 @@
 --
 -- The numbers of the first n + 1 sections are those of the first n and n itself, so the carried ones among them are those
 -- found so far, and section n where it is carried.
-use Rattle.std.proofs.Common.{◌≡◌, ℕ, ◌+◌, ◌<◌, Bool, true, false, List, [], ◌∷◌, ◌++◌, length, get_or, inl, inr, refl, sym, ap, subst, ◌∙◌, arith, cond, ◌≤◌, nat_lt, if◌then◌else◌, Some, None}
+use Rattle.std.proofs.Common.{◌≡◌, ℕ, ◌+◌, ◌<◌, Bool, true, false, List, [], ◌∷◌, ◌++◌, length, get_or, inl, inr, refl, sym, ap, subst, ◌∙◌, arith, cond, nat_lt, if◌then◌else◌, Some, None}
 use Rattle.std.specs.Prelude.{filter}
 use Rattle.std.specs.List.{range_with_len}
 use Rattle.std.proofs.lemmas.Bool.{cases_lt}
@@ -87,7 +87,6 @@ section_is f k x h e = by_test (nat_lt k (section_count f.is_dynamic f.bytes)) e
 -- a carried section that isn't plain asks for a part
 pub asks : (b : List ℕ) (k : ℕ) (h : SectionHeader) (what : Unbuilt) → k < num_sections b → h ≡ section_at b k → is_carried h ≡ true → IsNotPlain h what
     → AsksForPart b what
-asks b k h part.Relocation lt is carried lacks = (k, lt, ap is_carried (sym is) ∙ carried, subst (λ (x : SectionHeader). 1 ≤ x.nreloc) is lacks)
 asks b k h part.Segment lt is carried lacks = inl (k, lt, ap is_carried (sym is) ∙ carried, subst IsElsewhere is lacks)
 asks b k h _ lt is carried lacks = absurd lacks
 

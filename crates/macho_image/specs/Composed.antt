@@ -3,12 +3,15 @@ use Rattle.std.specs.Prelude.{◌≡◌, ℕ, ◌+◌, ◌<◌, ◌≤◌, List,
 use Rattle.std.specs.Borrow.{Bor}
 use Rattle.macho_bytes.specs.Layouts.{reading}
 use Rattle.macho_bytes.specs.Images.{IsImage}
-use Rattle.macho_bytes.specs.Texts.{Stands, end_of}
+use Rattle.macho_bytes.specs.Texts.{Part, end_of}
 use Rattle.macho_records.specs.Layouts.{mach_header}
 use Rattle.macho_records.specs.declared.header.SectionHeader.{SectionHeader}
 use Rattle.macho_model.specs.Segments.{PAGEZERO_SIZE}
 use Rattle.macho_model.specs.declared.placed.PlacedSection.{PlacedSection}
+use Rattle.macho_commands.specs.declared.command.Command.{Command}
 use Rattle.macho_commands.specs.Commands.{commands_size}
+use Rattle.macho_image.specs.declared.branch.Branch.{Branch}
+use Rattle.macho_image.specs.Setting.{AreSectionParts}
 use Rattle.macho_commands.specs.Reading.{ListIsFound}
 use Rattle.macho_image.specs.Shape.{commands_of_image, header_of_image}
 use Rattle.macho_image.specs.Parts.{section_part, parts_of_image}
@@ -27,11 +30,17 @@ pub record StandBehind (object : List ℕ) (front : ℕ) (places : List PlacedSe
   pub order : (j k : ℕ) (d : PlacedSection) → j < k → k < length places
       → end_of (section_part object (get_or places j d)) ≤ (section_part object (get_or places k d)).at
 
--- THE bytes of an image: header and commands read back, each section stands at its place, and all else is zero.
-pub record IsComposed (b : List ℕ) (n entry : ℕ) (headers : List SectionHeader) (object : List ℕ) (places : List PlacedSection) : Type 0 where
+-- Bytes were written: they are an image of header, commands and the parts of the sections.
+pub record IsWritten (commands : List Command) (object : List ℕ) (places : List PlacedSection) (xss : List (List Branch)) (n : ℕ) (b : List ℕ) : Type 0 where
+  pub parts : List Part
+  pub are : AreSectionParts object places xss (length places) parts
+  pub image : IsImage n (parts_of_image commands parts) b
+
+-- THE bytes of an image: header and commands read back, each section stands at its place with its branches set, and all else
+-- is zero.
+pub record IsComposed (b : List ℕ) (n entry : ℕ) (headers : List SectionHeader) (object : List ℕ) (places : List PlacedSection) (xss : List (List Branch)) : Type 0 where
   pub none : Bor (List SectionHeader)
   pub given : Bor (List SectionHeader)
   pub headers_are : given.now ≡ headers
   pub head : HasHead b n entry none given
-  pub sections : All (λ q. Stands b (section_part object q)) places
-  pub image : IsImage n (parts_of_image (commands_of_image n entry none given) object places) b
+  pub written : IsWritten (commands_of_image n entry none given) object places xss n b

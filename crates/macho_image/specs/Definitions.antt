@@ -54,11 +54,6 @@ pub record IsEntry (b name : List ℕ) (found : Option Entry) : Type 0 where
   pub leads : (l : Link) → HasOneObject l b → LeadsTo l name found
   pub lies : LiesInCarried b found
 
--- no two symbols define one name
-abbrev pub NamesDiffer : List ℕ → Type 0
-NamesDiffer b =
-    (j k : ℕ) → j < k → k < num_symbols b → is_object_definition b j ≡ true → is_object_definition b k ≡ true → symbol_name b j ≡ symbol_name b k → ⊥
-
 -- two symbols define one name
 abbrev pub NamesMeet : List ℕ → Type 0
 NamesMeet b =

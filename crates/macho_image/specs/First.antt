@@ -22,7 +22,6 @@ pub record IsPlain (l : Link) (c : Carried) : Type 0 where
   pub filled : is_zerofill c.header ≡ false
   pub template : is_template c.header ≡ false
   pub exponent : placed_exponent l (id_of_carried c) ≡ c.header.align
-  pub relocations : c.header.nreloc ≡ 0
 
 -- a link whose carried sections are these, and which needs nothing else
 pub record IsFirst (l : Link) (carried : List Carried) : Type 0 where
@@ -33,11 +32,10 @@ pub record IsFirst (l : Link) (carried : List Carried) : Type 0 where
   pub slots : slots_of l ≡ []
   pub stubs : stubs_of l ≡ []
 
--- a section that is carried and plain: in `__TEXT`, with bytes in the file and without relocations
+-- a section that is carried and plain: in `__TEXT`, with bytes in the file
 pub record IsPlainHeader (h : SectionHeader) : Type 0 where
   pub text : segment_name_of h ≡ TEXT
   pub filled : is_zerofill h ≡ false
-  pub relocations : h.nreloc ≡ 0
 
 -- one of the first n sections of an object, found as carried
 pub record IsFound (b : List ℕ) (n : ℕ) (c : Carried) : Type 0 where

@@ -13,3 +13,8 @@ pub mod Paths
 pub mod Headers
 pub mod Composed
 pub mod LaidOut
+pub mod Names
+pub mod Referents
+pub mod Branches
+pub mod Setting
+pub mod Unwritten

@@ -37,6 +37,13 @@ pub record IsImageOf (l : Link) (image : LinkedImage) : Type 0 where
   pub fixups : image.fixups ≡ 0
   pub exports : image.exports.items ≡ []
 
+-- an image that needs no library, imports and exports nothing and has no chain word
+pub record IsBare (image : LinkedImage) : Type 0 where
+  pub libraries : image.libraries.items ≡ []
+  pub imports : image.imports.items ≡ []
+  pub exports : image.exports.items ≡ []
+  pub fixups : image.fixups ≡ 0
+
 -- an image of an object that begins at a place of it: the image of each link of this object alone whose entry leads there
 pub record IsImageAlone (b : List ℕ) (e : Entry) (image : LinkedImage) : Type 0 where
   pub alone : (l : Link) → HasOneObject l b → target_of_name l l.entry ≡ target.Section 0 e.section e.offset → IsImageOf l image

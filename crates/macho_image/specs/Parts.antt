@@ -1,5 +1,5 @@
 -- The parts of an image of one text segment: header, load commands, and the carried sections at their file offsets.
-use Rattle.std.specs.Prelude.{ℕ, ◌-◌, ◌<◌, ◌≤◌, List, ◌∷◌, ◌++◌, map, All, AllPairs}
+use Rattle.std.specs.Prelude.{ℕ, ◌-◌, ◌<◌, ◌≤◌, List, ◌∷◌, ◌++◌, All, AllPairs}
 use Rattle.macho_bytes.specs.Texts.{Part, end_of, Apart}
 use Rattle.macho_bytes.specs.Images.{IsImage}
 use Rattle.macho_bytes.specs.Layouts.{spelling}
@@ -17,12 +17,12 @@ header_part commands = record { at = 0; text = spelling mach_header (header_of_i
 abbrev pub commands_part : List Command → Part
 commands_part commands = record { at = 32; text = commands_text commands }
 
--- a placed section of an object, with the object's bytes of it
+-- a placed section of an object, with the object's bytes of it, before its branches are set
 abbrev pub section_part : List ℕ → PlacedSection → Part
 section_part object q = record { at = q.address - PAGEZERO_SIZE; text = section_bytes object q.section }
 
-abbrev pub parts_of_image : List Command → List ℕ → List PlacedSection → List Part
-parts_of_image commands object sections = header_part commands ∷ commands_part commands ∷ map (section_part object) sections
+abbrev pub parts_of_image : List Command → List Part → List Part
+parts_of_image commands sections = header_part commands ∷ commands_part commands ∷ sections
 
 -- parts that share no byte and lie in so many bytes
 pub record PartsFit (n : ℕ) (parts : List Part) : Type 0 where

@@ -1,5 +1,5 @@
 -- What an object asks for that isn't built yet: where each such refusal stands.
-use Rattle.std.specs.Prelude.{◌≡◌, ℕ, ◌<◌, ◌≤◌, ◌⊎◌, Bool, true, List}
+use Rattle.std.specs.Prelude.{◌≡◌, ℕ, ◌<◌, ◌⊎◌, Bool, true, List}
 use Rattle.macho_records.specs.declared.header.SectionHeader.{SectionHeader}
 use Rattle.macho_records.specs.Sections.{is_zerofill, segment_name_of}
 use Rattle.macho_records.specs.Symbols.{is_common_of}
@@ -7,6 +7,7 @@ use Rattle.macho_model.specs.Objects.{num_sections, section_at, num_symbols, sym
 use Rattle.macho_model.specs.Links.{is_carried, is_consumed, is_initializers, is_unwind_entries}
 use Rattle.macho_model.specs.Segments.{TEXT}
 use Rattle.macho_image.specs.Definitions.{NamesMeet}
+use Rattle.macho_image.specs.Branches.{SomeRelocation, HasLaterType, SharesBytes, UsesUndefined}
 use Rattle.macho_image.specs.declared.fault.LinkError.{LinkError}
 use Rattle.macho_image.specs.declared.fault.LinkError.TheVariants as error
 use Rattle.macho_image.specs.declared.fault.Unbuilt.{Unbuilt}
@@ -30,8 +31,8 @@ SomeCommon b = (k : ℕ) × (k < num_symbols b) × (is_common_of (symbol_at b k)
 
 -- an object asks for a part
 abbrev pub AsksForPart : List ℕ → Unbuilt → Type 0
-AsksForPart b part.Relocation = SomeCarried b (λ h. 1 ≤ h.nreloc)
-AsksForPart b part.Name = NamesMeet b
+AsksForPart b part.Relocation = SomeRelocation b (HasLaterType b) ⊎ SomeRelocation b (SharesBytes b)
+AsksForPart b part.Name = NamesMeet b ⊎ SomeRelocation b (UsesUndefined b)
 AsksForPart b part.Segment = SomeCarried b IsElsewhere ⊎ SomeCommon b
 AsksForPart b part.Initializer = SomeConsumed b is_initializers
 AsksForPart b part.Unwind = SomeConsumed b is_unwind_entries
@@ -45,6 +46,5 @@ AsksFor b fault = ⊥
 
 -- what a header is lacking to be plain
 abbrev pub IsNotPlain : SectionHeader → Unbuilt → Type 0
-IsNotPlain h part.Relocation = 1 ≤ h.nreloc
 IsNotPlain h part.Segment = IsElsewhere h
 IsNotPlain h what = ⊥

@@ -16,7 +16,7 @@ pub(crate) struct Entry {
 }
 
 /// The carried section that a symbol stands in.
-fn carried_section(file: &File<'_>, index: u32) -> Option<u32>
+pub(crate) fn carried_section(file: &File<'_>, index: u32) -> Option<u32>
     requires object { file.now.is_dynamic ≡ false }
     requires among { index < num_symbols file.now.bytes }
     ensures { result ≡ (if in_carried file.now.bytes index then Some ((symbol_at file.now.bytes index).n_sect - 1) else None) }

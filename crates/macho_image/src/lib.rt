@@ -1,6 +1,7 @@
 //! The linker: from objects to the bytes of an image.
 #![tactic(auto)]
 
+mod branch;
 mod carried;
 mod compose;
 mod entry;
@@ -12,7 +13,9 @@ mod linker;
 mod names;
 mod paths;
 mod place;
+mod referent;
 mod scan;
+mod setting;
 mod size;
 mod write;
 

@@ -1,25 +1,27 @@
 //! The link: from what was gathered to the bytes of an image.
-ghost use Rattle.std.specs.Prelude.{◌≡◌, false, Some, IfOk, IfErr};
+ghost use Rattle.std.specs.Prelude.{◌≡◌, false, Some, map, IfOk, IfErr};
 ghost use Rattle.macho_image.specs.First.{IsPlainObject};
 ghost use Rattle.macho_image.specs.Places.{IsPlaceable};
 ghost use Rattle.macho_image.specs.Definitions.{LiesInCarried};
 ghost use Rattle.macho_image.specs.LaidOut.{IsLaidOut};
-ghost use Rattle.macho_image.specs.Linked.{IsImageOf, IsImageAlone};
+ghost use Rattle.macho_image.specs.Linked.{IsImageOf, IsImageAlone, IsBare};
+ghost use Rattle.macho_image.specs.Branches.{HasAllBranches};
 ghost use Rattle.macho_image.specs.Refusals.{RefusalStands, StandsAlone, IsEntryRefusal};
 
+use crate::branch::{Branch, all_branches};
 use crate::carried::Carried;
-use crate::compose::compose;
+use crate::compose::{Unwritten, compose};
 use crate::entry::{Entry, find_entry};
 use crate::fault::{LinkError, Unbuilt};
 use crate::headers::image_headers;
 use crate::layout::{entry_address, file_size, placement_of};
 use crate::linker::Linker;
-use crate::names::check_names;
+use crate::names::defined_names;
 use crate::place::{BASE, PlacedSections, place_sections};
 use crate::scan::{carried_sections, check_commons};
 use crate::size::is_placeable;
 use macho_layout::{PlacedSection, Placement};
-use macho_model::Target;
+use macho_model::{Site, Target};
 use macho_object::File;
 use std::alloc::{AllocError, Global};
 
@@ -104,27 +106,27 @@ fn link_object(alloc: Global, file: &File<'_>, entry: Entry) -> Result<LinkedIma
     ensures done { IfOk result (IsImageAlone file.now.bytes entry) }
     ensures why { IfErr result (StandsAlone file.now.bytes) }
 {
-    check_names(alloc, file)?;
+    let _object = file.is_dynamic();
+    let names = defined_names(alloc, file)?;
     let carried = plain_sections(alloc, file)?;
-    Ok(build(alloc, file, &carried, entry)?)
+    let branches = all_branches(alloc, file, &names, &carried)?;
+    if !is_placeable(&carried) {
+        return Err(LinkError::Unbuilt {
+            what: Unbuilt::Size,
+        });
+    }
+    build(alloc, file, &carried, &branches, entry)
 }
 
 /// The carried sections of an object that asks for nothing that isn't built yet.
 fn plain_sections(alloc: Global, file: &File<'_>) -> Result<Vec<Carried>, LinkError>
     requires object { file.now.is_dynamic ≡ false }
     ensures found { IfOk result (λ carried. IsPlainObject file.now.bytes carried.items) }
-    ensures small { IfOk result (λ carried. IsPlaceable carried.items) }
     ensures why { IfErr result (StandsAlone file.now.bytes) }
 {
-    let _object = file.is_dynamic();
     let carried = carried_sections(alloc, file)?;
     if let Err(what) = check_commons(file) {
         return Err(LinkError::Unbuilt { what });
-    }
-    if !is_placeable(&carried) {
-        return Err(LinkError::Unbuilt {
-            what: Unbuilt::Size,
-        });
     }
     Ok(carried)
 }
@@ -153,29 +155,55 @@ fn lay_out(alloc: Global, file: &File<'_>, carried: &[Carried]) -> Result<LaidOu
     })
 }
 
-/// Places the sections, writes the image, and answers both.
+/// Places the sections, writes the image, and answers both; or the placement by which a branch can't reach.
 fn build(
     alloc: Global,
     file: &File<'_>,
     carried: &[Carried],
+    branches: &[Vec<Branch>],
     entry: Entry,
-) -> Result<LinkedImage, AllocError>
+) -> Result<LinkedImage, LinkError>
     requires object { file.now.is_dynamic ≡ false }
     requires plain { IsPlainObject file.now.bytes carried.now }
     requires small { IsPlaceable carried.now }
+    requires branches { HasAllBranches file.now.bytes carried.now (map (λ xs. xs.items) branches.now) }
     requires entry { LiesInCarried file.now.bytes (Some entry) }
-    ensures { IfOk result (IsImageAlone file.now.bytes entry) }
+    ensures done { IfOk result (IsImageAlone file.now.bytes entry) }
+    ensures why { IfErr result (StandsAlone file.now.bytes) }
 {
     let LaidOut { sections, size, .. } = lay_out(alloc, file, carried)?;
     let headers = image_headers(alloc, carried, &sections)?;
     let start = entry_address(&sections, entry) - BASE;
-    let bytes = compose(alloc, file, &headers, &sections, size, start)?;
-    Ok(LinkedImage {
+    match compose(alloc, file, &headers, &sections, branches, size, start) {
+        Ok(bytes) => {
+            let placement = placement_of(alloc, size, sections, headers)?;
+            Ok(image_of(alloc, bytes, placement))
+        }
+        Err(Unwritten::OutOfMemory) => Err(LinkError::OutOfMemory),
+        Err(Unwritten::OutOfReach { section, branch }) => {
+            let at = Site::Field {
+                file: 0,
+                section: carried[section as usize].section,
+                relocation: branch,
+            };
+            let placement = placement_of(alloc, size, sections, headers)?;
+            Err(LinkError::RelocationRange { at, placement })
+        }
+    }
+}
+
+/// An image that needs no library, imports and exports nothing and has no fixup.
+fn image_of(alloc: Global, bytes: Vec<u8>, placement: Placement) -> LinkedImage
+    ensures bytes { result.bytes.items ≡ bytes.items }
+    ensures placement { result.placement ≡ placement }
+    ensures bare { IsBare result }
+{
+    LinkedImage {
         bytes,
-        placement: placement_of(alloc, size, sections, headers)?,
+        placement,
         libraries: Vec::new(alloc),
         imports: Vec::new(alloc),
         exports: Vec::new(alloc),
         fixups: 0,
-    })
+    }
 }

@@ -1,6 +1,8 @@
 //! Names: that no two symbols define one.
-ghost use Rattle.std.specs.Prelude.{◌≡◌, false, IfErr, OnOk};
-ghost use Rattle.macho_image.specs.Definitions.{NamesDiffer};
+ghost use Rattle.std.specs.Prelude.{◌≡◌, false, IfErr, IfOk};
+ghost use Rattle.std.specs.HashMap.{get};
+ghost use Rattle.macho_model.specs.Objects.{num_symbols};
+ghost use Rattle.macho_image.specs.Names.{same_text, SeenNames};
 ghost use Rattle.macho_image.specs.Unbuilt.{AsksFor};
 
 use crate::entry::defined_name;
@@ -9,10 +11,13 @@ use indexmap::IndexMap;
 use macho_object::File;
 use std::alloc::Global;
 
-/// Whether each name is defined by one symbol.
-pub(crate) fn check_names(alloc: Global, file: &File<'_>) -> Result<(), LinkError>
+/// The names that symbols define, each with its symbol; no two symbols define one name.
+pub(crate) fn defined_names<'data>(
+    alloc: Global,
+    file: &File<'data>,
+) -> Result<IndexMap<&'data [u8], u32>, LinkError>
     requires object { file.now.is_dynamic ≡ false }
-    ensures ok { OnOk result (NamesDiffer file.now.bytes) }
+    ensures found { IfOk result (λ names. SeenNames file.now.bytes (num_symbols file.now.bytes) (get same_text names)) }
     ensures why { IfErr result (AsksFor file.now.bytes) }
 {
     let mut symbols: IndexMap<&[u8], u32> = IndexMap::new(alloc);
@@ -25,5 +30,5 @@ pub(crate) fn check_names(alloc: Global, file: &File<'_>) -> Result<(), LinkErro
             }
         }
     }
-    Ok(())
+    Ok(symbols)
 }

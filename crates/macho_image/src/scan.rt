@@ -83,16 +83,13 @@ pub(crate) fn is_carried(header: SectionHeader) -> bool
         && name != b"__compact_unwind".as_slice()
 }
 
-/// Whether a carried section is in `__TEXT`, has bytes in the file and no relocations.
+/// Whether a carried section is in `__TEXT` and has bytes in the file.
 fn check_plain(header: SectionHeader) -> Result<(), Unbuilt>
     ensures ok { OnOk result (IsPlainHeader header) }
     ensures why { IfErr result (IsNotPlain header) }
 {
     if name_bytes(&header.segname) != b"__TEXT".as_slice() || header.is_no_bits() {
         return Err(Unbuilt::Segment);
-    }
-    if header.nreloc != 0 {
-        return Err(Unbuilt::Relocation);
     }
     Ok(())
 }

@@ -3,17 +3,21 @@
 //!     0                 header            32 bytes
 //!     32                load commands     one behind the other
 //!     address - base    section           the bytes of each carried section, at its place
-ghost use Rattle.std.specs.Prelude.{◌≡◌, ◌+◌, ◌<◌, ◌≤◌, ◌^◌, [], ◌∷◌, false, length, map, All};
-ghost use Rattle.macho_bytes.specs.Images.{IsImage, zeros};
+ghost use Rattle.std.specs.Prelude.{◌≡◌, ◌+◌, ◌<◌, ◌≤◌, ◌^◌, [], ◌∷◌, false, length, map, All, OnOk, IfErr};
+ghost use Rattle.macho_model.specs.Objects.{section_bytes};
+ghost use Rattle.macho_bytes.specs.Images.{zeros};
 ghost use Rattle.macho_bytes.specs.Layouts.{ReadsBack};
 ghost use Rattle.macho_records.specs.Layouts.{mach_header};
 ghost use Rattle.macho_commands.specs.Commands.{Fits, commands_text, commands_size};
 ghost use Rattle.macho_commands.specs.Reading.{ListIsReadable};
 ghost use Rattle.macho_image.specs.Shape.{header_of_image};
-ghost use Rattle.macho_image.specs.Parts.{header_part, commands_part, section_part, parts_of_image, Adds, IsWritable};
-ghost use Rattle.macho_image.specs.Composed.{StandBehind};
+ghost use Rattle.macho_image.specs.Parts.{header_part, commands_part, Adds, IsWritable};
+ghost use Rattle.macho_image.specs.Setting.{AreSettable, EachSettable, WritesSection, WritesSections, CannotReach, SectionCannotReach};
+ghost use Rattle.macho_image.specs.Composed.{StandBehind, IsWritten};
 
+use crate::branch::Branch;
 use crate::place::BASE;
+use crate::setting::set_branches;
 use macho_commands::{Command, commands_size, write_commands};
 use macho_layout::PlacedSection;
 use macho_object::File;
@@ -57,52 +61,84 @@ fn write_load_commands(commands: &[Command<'_>], out: &mut [u8])
     write_commands(commands, out, MachHeader::SIZE);
 }
 
-/// Writes the bytes of a section at its place.
-fn write_section(file: &File<'_>, place: PlacedSection, out: &mut [u8])
+/// Writes the bytes of a section at its place, and sets its branches. An error is the number of a branch that can't reach.
+fn write_section(
+    file: &File<'_>,
+    places: &[PlacedSection],
+    place: PlacedSection,
+    branches: &[Branch],
+    out: &mut [u8],
+) -> Result<(), u32>
     requires object { file.now.is_dynamic ≡ false }
     requires writable { IsWritable file.now.bytes (length out.old) place }
-    ensures added { Adds out.old out.new (section_part file.now.bytes place ∷ []) }
+    requires settable { AreSettable (section_bytes file.now.bytes place.section) places.now branches.now }
+    requires few { length branches.now < 2 ^ 32 }
+    requires low { All (λ q. q.address < 2 ^ 63) places.now }
+    requires here { place.address < 2 ^ 63 }
+    ensures done { OnOk result (WritesSection out.old out.new file.now.bytes places.now place branches.now) }
     ensures long { length out.new ≡ length out.old }
+    ensures why { IfErr result (CannotReach places.now place.address branches.now) }
 {
     let Some(bytes) = file.section_bytes(place.section) else {
         unreachable!()
     };
     let at = (place.address - BASE) as usize;
-    out[at..at + bytes.len()].copy_from_slice(bytes);
+    let slot = &mut out[at..at + bytes.len()];
+    slot.copy_from_slice(bytes);
+    set_branches(places, place.address, branches, slot)
 }
 
-/// Writes the bytes of all sections.
-fn write_sections(file: &File<'_>, places: &[PlacedSection], out: &mut [u8])
+/// Writes the bytes of all sections. An error tells a section and a branch of it that can't reach.
+fn write_sections(
+    file: &File<'_>,
+    places: &[PlacedSection],
+    branches: &[Vec<Branch>],
+    out: &mut [u8],
+) -> Result<(), (u32, u32)>
     requires object { file.now.is_dynamic ≡ false }
     requires writable { All (IsWritable file.now.bytes (length out.old)) places.now }
-    ensures added { Adds out.old out.new (map (section_part file.now.bytes) places.now) }
+    requires settable { EachSettable file.now.bytes places.now (map (λ xs. xs.items) branches.now) }
+    requires both { length branches.now ≡ length places.now }
+    requires few { length places.now ≤ 255 }
+    requires low { All (λ q. q.address < 2 ^ 63) places.now }
+    ensures done { OnOk result (WritesSections out.old out.new file.now.bytes places.now (map (λ xs. xs.items) branches.now) (length places.now)) }
     ensures long { length out.new ≡ length out.old }
+    ensures why { IfErr result (λ far. SectionCannotReach places.now (map (λ xs. xs.items) branches.now) far.0 far.1) }
 {
-    for place in places {
-        write_section(file, *place, out);
+    for index in 0..places.len() {
+        if let Err(branch) = write_section(file, places, places[index], &branches[index], out) {
+            return Err((index as u32, branch));
+        }
     }
+    Ok(())
 }
 
-/// Writes all parts of an image into zeros.
+/// Writes all parts of an image into zeros. An error tells a section and a branch of it that can't reach.
 pub(crate) fn write_image(
     commands: &[Command<'_>],
     file: &File<'_>,
     places: &[PlacedSection],
+    branches: &[Vec<Branch>],
     out: &mut [u8],
-)
+) -> Result<(), (u32, u32)>
     requires object { file.now.is_dynamic ≡ false }
     requires writable { All (IsWritable file.now.bytes (length out.old)) places.now }
+    requires settable { EachSettable file.now.bytes places.now (map (λ xs. xs.items) branches.now) }
+    requires both { length branches.now ≡ length places.now }
+    requires some { length places.now ≤ 255 }
+    requires low { All (λ q. q.address < 2 ^ 63) places.now }
     requires zeros { out.old ≡ zeros (length out.old) }
     requires fit { All Fits commands.now }
     requires small { commands_size commands.now < 2 ^ 32 }
     requires few { length commands.now < 2 ^ 32 }
     requires behind { StandBehind file.now.bytes (32 + commands_size commands.now) places.now }
     requires room { 32 + commands_size commands.now ≤ length out.old }
-    ensures image { IsImage (length out.old) (parts_of_image commands.now file.now.bytes places.now) out.new }
+    ensures image { OnOk result (IsWritten commands.now file.now.bytes places.now (map (λ xs. xs.items) branches.now) (length out.old) out.new) }
     ensures header { ReadsBack mach_header (header_of_image commands.now) }
     ensures commands { ListIsReadable commands.now }
+    ensures why { IfErr result (λ far. SectionCannotReach places.now (map (λ xs. xs.items) branches.now) far.0 far.1) }
 {
     write_header(commands, out);
     write_load_commands(commands, out);
-    write_sections(file, places, out);
+    write_sections(file, places, branches, out)
 }

@@ -1,10 +1,14 @@
-use Rattle.std.proofs.Common.{◌-◌, ◌+◌, ◌*◌, ◌<◌, ◌^◌, List, All, length, refl, subst, sym, arith}
+use Rattle.std.proofs.Common.{ℕ, ◌-◌, ◌+◌, ◌*◌, ◌<◌, ◌^◌, List, All, length, map, refl, subst, sym, arith}
 use Rattle.macho_records.specs.declared.header.SectionHeader.{SectionHeader}
 use Rattle.macho_model.specs.declared.placed.PlacedSection.{PlacedSection}
 use Rattle.macho_image.specs.Places.{IsInFile, HasPlace, IsPlaceIn}
 use Rattle.macho_image.specs.Parts.{IsWritable}
+use Rattle.macho_image.specs.Setting.{EachSettable, SectionCannotReach}
+use Rattle.macho_image.specs.Unwritten.{IsUnwritten}
 use Rattle.macho_image.specs.Composed.{StandBehind, IsComposed}
-use Rattle.macho_image.proofs.Built.{in_file, low, writable, stand_behind, has_place, entry_near, entry_inside, image_alone}
+use Rattle.macho_image.proofs.Laid.{in_file, low, writable, stand_behind, has_place, entry_near, entry_inside}
+use Rattle.macho_image.proofs.Built.{image_alone, settable}
+use Rattle.macho_image.proofs.Unreached.{out_of_reach}
 use Rattle.macho_image.proofs.link.build.Goals as goal
 
 pub image_headers-requires-clause-inside : goal.image_headers-requires-clause-inside
@@ -45,6 +49,19 @@ compose-requires-clause-writable c =
     subst (All (IsWritable c.args.file.now.bytes laid.size)) (sym c.deref-4.ensures.value)
     (writable c.args.file.now.bytes c.args.carried.now laid.sections.items laid.end laid.size c.in_ok-sections.ensures)
 
+pub compose-requires-clause-settable : goal.compose-requires-clause-settable
+compose-requires-clause-settable c =
+    let laid = c.in_ok-sections.field-0 in
+    let xss = map (λ xs. xs.items) c.args.branches.now in
+    subst (λ (ps : List PlacedSection). EachSettable c.args.file.now.bytes ps xss) (sym c.deref-4.ensures.value)
+    (settable c.args.file.now.bytes c.args.carried.now xss laid.sections.items laid.end laid.size c.in_ok-sections.ensures c.requires.branches)
+
+pub compose-requires-clause-low : goal.compose-requires-clause-low
+compose-requires-clause-low c =
+    let laid = c.in_ok-sections.field-0 in
+    subst (All (λ q. q.address < 2 ^ 63)) (sym c.deref-4.ensures.value)
+    (low c.args.file.now.bytes c.args.carried.now laid.sections.items laid.end laid.size c.in_ok-sections.ensures)
+
 pub compose-requires-clause-behind : goal.compose-requires-clause-behind
 compose-requires-clause-behind c =
     let laid = c.in_ok-sections.field-0 in
@@ -54,17 +71,32 @@ compose-requires-clause-behind c =
     subst (λ (hs : List SectionHeader). StandBehind b (32 + (72 + (72 + 80 * length hs) + 24 + 32)) c.deref-4.result.now) (sym c.deref-3.ensures.value)
     (subst (StandBehind b (32 + (72 + (72 + 80 * length c.in_ok-headers.headers.items) + 24 + 32))) (sym c.deref-4.ensures.value) stand)
 
-pub returns : goal.returns
-returns c =
+pub returns-in_ok-placement-in-Ok-clause-done : goal.returns-in_ok-placement-in-Ok-clause-done
+returns-in_ok-placement-in-Ok-clause-done c =
     let laid = c.in_ok-sections.field-0 in
     let b = c.args.file.now.bytes in
+    let xss = map (λ xs. xs.items) c.args.branches.now in
     let address = c.entry_address-start.result in
     let headers = c.in_ok-headers.headers.items in
+    let image = c.image_of.result in
     let place = subst (λ (ps : List PlacedSection). IsPlaceIn ps c.args.entry.section (address - c.args.entry.offset)) c.deref-2.ensures.value
     c.entry_address-start.ensures.0 in
-    let made = subst (λ (hs : List SectionHeader). IsComposed c.in_ok-bytes.bytes.items laid.size (address - 4294967296) hs b laid.sections.items)
+    let made = subst (λ (hs : List SectionHeader). IsComposed c.in-Ok.bytes.items laid.size (address - 4294967296) hs b laid.sections.items xss)
     c.deref-3.ensures.value
-    (subst (λ (ps : List PlacedSection). IsComposed c.in_ok-bytes.bytes.items laid.size (address - 4294967296) c.deref-3.result.now b ps) c.deref-4.ensures.value
-    c.in_ok-bytes.ensures) in
-    image_alone b c.args.carried.now laid.sections.items laid.end laid.size c.args.entry address headers _ c.in_ok-sections.ensures c.in_ok-headers.ensures.count place
-    c.entry_address-start.ensures.1 made c.in_ok-placement_of.ensures c.new.ensures.items c.new-2.ensures.items c.new-3.ensures.items refl
+    (subst (λ (ps : List PlacedSection). IsComposed c.in-Ok.bytes.items laid.size (address - 4294967296) c.deref-3.result.now b ps xss) c.deref-4.ensures.value
+    c.in-Ok.ensures.done) in
+    image_alone b c.args.carried.now xss laid.sections.items laid.end laid.size c.args.entry address headers image c.in_ok-sections.ensures c.requires.branches
+    c.in_ok-headers.ensures.count place c.entry_address-start.ensures.1
+    (subst (λ (bytes : List ℕ). IsComposed bytes laid.size (address - 4294967296) headers b laid.sections.items xss) (sym c.image_of.ensures.bytes) made)
+    (rw c.image_of.ensures.placement c.in_ok-placement-in-Ok.ensures) c.image_of.ensures.bare
+
+pub returns-in_ok-placement-in-Err-OutOfReach-clause-why : goal.returns-in_ok-placement-in-Err-OutOfReach-clause-why
+returns-in_ok-placement-in-Err-OutOfReach-clause-why c =
+    let laid = c.in_ok-sections.field-0 in
+    let k = c.in-Err-OutOfReach.section in
+    let xss = map (λ xs. xs.items) c.args.branches.now in
+    let told = subst (IsUnwritten c.deref-4.result.now xss) c.in-Err-OutOfReach.field-0-is c.in-Err-OutOfReach.ensures.why in
+    let far = subst (λ (ps : List PlacedSection). SectionCannotReach ps xss k c.in-Err-OutOfReach.branch) c.deref-4.ensures.value told in
+    out_of_reach c.args.file.now.bytes c.args.carried.now xss laid.sections.items c.in_ok-headers.headers.items laid.end laid.size k c.in-Err-OutOfReach.branch _
+    c.in_ok-placement-in-Err-OutOfReach.placement c.in_ok-sections.ensures c.requires.branches c.in_ok-headers.ensures.count far refl
+    c.in_ok-placement-in-Err-OutOfReach.ensures

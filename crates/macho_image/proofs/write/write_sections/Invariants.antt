@@ -1,8 +1,8 @@
-use Rattle.std.proofs.Common.{◌≡◌, length, map, take}
-use Rattle.macho_image.specs.Parts.{section_part, Adds}
+use Rattle.std.proofs.Common.{◌≡◌, length, map}
+use Rattle.macho_image.specs.Setting.{WritesSections}
 use Rattle.macho_image.proofs.write.write_sections.Given as goal
 
 -- the sections so far are written
-abbrev pub invariant-loop-place : goal.invariant-loop-place
-invariant-loop-place l =
-    Adds l.initial.out l.out (map (section_part l.file.bytes) (take l.place-index l.places)) × (length l.out ≡ length l.initial.out)
+abbrev pub invariant-loop-index : goal.invariant-loop-index
+invariant-loop-index l =
+    WritesSections l.initial.out l.out l.file.bytes l.places (map (λ xs. xs.items) l.branches) l.index × (length l.out ≡ length l.initial.out)

@@ -1,6 +1,6 @@
 use Rattle.std.specs.HashMap.{get}
-use Rattle.macho_image.proofs.NamesSeen.{same_text, SeenNames}
-use Rattle.macho_image.proofs.names.check_names.Given as goal
+use Rattle.macho_image.specs.Names.{same_text, SeenNames}
+use Rattle.macho_image.proofs.names.defined_names.Given as goal
 
 -- the names that the symbols so far define, each once
 abbrev pub invariant-loop-index : goal.invariant-loop-index
