@@ -65,6 +65,52 @@ const IMAGE: [u8; 320] = [
     0, 0, 0x80, 0x52, 0xc0, 3, 0x5f, 0xd6, //
 ];
 
+/// Two functions, `_main` and `_f`, the first of which branches to the second.
+const CALLS: [u8; 276] = [
+    // 0: header: arm64 object, 2 commands of 176 bytes
+    0xcf, 0xfa, 0xed, 0xfe, 0x0c, 0, 0, 1, 0, 0, 0, 0, 1, 0, 0, 0, //
+    2, 0, 0, 0, 176, 0, 0, 0, 0, 0, 0, 0, 0, 0, 0, 0, //
+    // 32: LC_SEGMENT_64 of 152 bytes, 12 bytes at 208, one section
+    0x19, 0, 0, 0, 152, 0, 0, 0, 0, 0, 0, 0, 0, 0, 0, 0, //
+    0, 0, 0, 0, 0, 0, 0, 0, 0, 0, 0, 0, 0, 0, 0, 0, //
+    12, 0, 0, 0, 0, 0, 0, 0, 208, 0, 0, 0, 0, 0, 0, 0, //
+    12, 0, 0, 0, 0, 0, 0, 0, 7, 0, 0, 0, 7, 0, 0, 0, //
+    1, 0, 0, 0, 0, 0, 0, 0, //
+    // 104: `__text` of `__TEXT`: 12 bytes at 208, exponent 2, one relocation at 224, flags 0x80000400
+    0x5f, 0x5f, 0x74, 0x65, 0x78, 0x74, 0, 0, 0, 0, 0, 0, 0, 0, 0, 0, //
+    0x5f, 0x5f, 0x54, 0x45, 0x58, 0x54, 0, 0, 0, 0, 0, 0, 0, 0, 0, 0, //
+    0, 0, 0, 0, 0, 0, 0, 0, 12, 0, 0, 0, 0, 0, 0, 0, //
+    208, 0, 0, 0, 2, 0, 0, 0, 224, 0, 0, 0, 1, 0, 0, 0, //
+    0, 4, 0, 0x80, 0, 0, 0, 0, 0, 0, 0, 0, 0, 0, 0, 0, //
+    // 184: LC_SYMTAB: two symbols at 232, 12 bytes of names at 264
+    2, 0, 0, 0, 24, 0, 0, 0, 232, 0, 0, 0, 2, 0, 0, 0, 8, 1, 0, 0, 12, 0, 0, 0, //
+    // 208: bl; ret; ret
+    0, 0, 0, 0x94, 0xc0, 3, 0x5f, 0xd6, 0xc0, 3, 0x5f, 0xd6, 0, 0, 0, 0, //
+    // 224: at 0: symbol 1, relative, of 4 bytes, by symbol, type 2
+    0, 0, 0, 0, 1, 0, 0, 0x2d, //
+    // 232: the name at 1, global, at 0 in section 1; the name at 7, global, at 8 in section 1
+    1, 0, 0, 0, 0x0f, 1, 0, 0, 0, 0, 0, 0, 0, 0, 0, 0, //
+    7, 0, 0, 0, 0x0f, 1, 0, 0, 8, 0, 0, 0, 0, 0, 0, 0, //
+    // 264: the names: `_main` and `_f`
+    0, 0x5f, 0x6d, 0x61, 0x69, 0x6e, 0, 0x5f, 0x66, 0, 0, 0, //
+];
+
+/// The code of its image: two words ahead.
+const CALLED: [u8; 12] = [2, 0, 0, 0x94, 0xc0, 3, 0x5f, 0xd6, 0xc0, 3, 0x5f, 0xd6];
+
+/// Places in it, and bytes by which its branch can't be taken: the instruction is an ADRP; the relocation isn't relative,
+/// has 8 bytes, has type 11; the symbol is absolute.
+const NOT_SUPPORTED: [(usize, u8); 5] = [
+    (211, 0x90),
+    (231, 0x2c),
+    (231, 0x2f),
+    (231, 0xbd),
+    (252, 3),
+];
+
+/// Places in it, and bytes for what isn't built yet: a page's type; a symbol that nothing defines.
+const NOT_BUILT: [(usize, u8); 2] = [(231, 0x3d), (252, 1)];
+
 /// The object's second name in place of `_main`.
 const START: [u8; 6] = *b"_start";
 
@@ -189,6 +235,64 @@ fn each_refusal_has_its_status_and_its_line(rt: HostRuntime) -> Result<(), Fail>
         let printed = format!(in rt.alloc(); "wild_macho: {line}\n")?;
         assert_eq!(rt; err.bytes(), printed.as_bytes(), "{line}");
         assert!(rt; holds(&mut files, rt.alloc(), "a.out", None)?);
+    }
+    Ok(())
+}
+
+// Runs one object, with a byte of it changed.
+fn ran_with<E: wild_macho::Sink>(
+    alloc: Global,
+    place: usize,
+    byte: u8,
+    err: &mut E,
+) -> Result<Ran, Fail> {
+    let mut object = CALLS;
+    let one = object.get_mut(place).ok_or("no such place")?;
+    *one = byte;
+    let mut files = SteadyFiles::new(alloc);
+    files.add_file("calls.o", Vec::from_slice(alloc, &object)?)?;
+    ran(alloc, &["calls.o"], &mut files, err)
+}
+
+#[test]
+fn a_branch_goes_to_its_symbol(rt: HostRuntime) -> Result<(), Fail> {
+    // as it is; to a local symbol; as a B in place of a BL
+    for (place, byte) in [(236, 0x0f), (252, 0x0e), (211, 0x14)] {
+        let mut want = CALLED;
+        if place == 211 {
+            want[3] = byte;
+        }
+        let answer = ran_with(rt.alloc(), place, byte, &mut SteadySink::new())?;
+        assert_eq!(rt; answer.status, 0, "{place}");
+        let image = answer.image.ok_or("no image")?;
+        assert!(rt; front(behind(&image.bytes, 312), 12) == want.as_slice());
+    }
+    Ok(())
+}
+
+#[test]
+fn a_relocation_without_a_row_is_told(rt: HostRuntime) -> Result<(), Fail> {
+    for (place, byte) in NOT_SUPPORTED {
+        let mut err = MemorySink::new(rt.alloc(), 200)?;
+        let answer = ran_with(rt.alloc(), place, byte, &mut err)?;
+        assert_eq!(rt; answer.status, 1, "{place}");
+        let line = b"wild_macho: calls.o: section 0, relocation 0: unsupported\n";
+        assert_eq!(rt; err.bytes(), line.as_slice(), "{place} {byte}");
+    }
+    Ok(())
+}
+
+#[test]
+fn what_is_not_built_yet_is_told(rt: HostRuntime) -> Result<(), Fail> {
+    for (place, byte) in NOT_BUILT {
+        let mut err = MemorySink::new(rt.alloc(), 200)?;
+        let answer = ran_with(rt.alloc(), place, byte, &mut err)?;
+        assert_eq!(rt; answer.status, 1, "{place}");
+        assert_eq!(rt;
+            err.bytes(),
+            b"wild_macho: calls.o: not built yet\n".as_slice(),
+            "{place} {byte}"
+        );
     }
     Ok(())
 }
