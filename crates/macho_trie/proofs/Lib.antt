@@ -1,0 +1,4 @@
+pub mod Terminals
+pub mod Edges
+pub mod Finding
+pub mod LookupRows

@@ -1,0 +1,8 @@
+//! The exports trie of a Mach-O file: the names that an image exports, and what stands for each.
+#![tactic(auto)]
+
+mod lookup;
+#[cfg(test)]
+mod tests;
+
+pub use lookup::{Export, trie_lookup};
