@@ -1,5 +1,5 @@
 -- What an exports trie says of a name (`mach-o/loader.h`, `EXPORT_SYMBOL_FLAGS_..`).
-use Rattle.std.specs.Prelude.{ℕ, ◌/◌, ◌%◌, ◌==◌, Bool, List}
+use Rattle.std.specs.Prelude.{◌≢◌, ℕ, ◌<◌, ◌/◌, ◌%◌, ◌==◌, Bool, List, length, slice_index}
 use Rattle.macho_trie.specs.declared.lookup.Export.{Export}
 use Rattle.macho_trie.specs.declared.lookup.Export.TheVariants.{Value, Reexport}
 
@@ -19,3 +19,7 @@ is_reexport flags = flags / REEXPORT % 2 == 1
 abbrev pub exported_of : Export → Exported
 exported_of (Value flags address) = as_value flags address
 exported_of (Reexport flags ordinal name) = as_reexport flags ordinal name.now
+
+-- a name that can be spelled up to a NUL
+abbrev pub HasNoNul : List ℕ → Type 0
+HasNoNul name = (k : ℕ) → k < length name → slice_index name k ≢ 0

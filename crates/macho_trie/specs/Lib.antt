@@ -1,3 +1,4 @@
 pub mod Exports
 pub mod Nodes
 pub mod Lookup
+pub mod Symbols

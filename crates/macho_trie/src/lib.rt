@@ -2,6 +2,7 @@
 #![tactic(auto)]
 
 mod lookup;
+mod symbols;
 #[cfg(test)]
 mod tests;
 
