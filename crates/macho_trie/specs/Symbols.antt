@@ -1,5 +1,5 @@
 -- The register of exported names: each with what stands for it, in the order in which they were pushed.
-use Rattle.std.specs.Prelude.{ℕ, List, map}
+use Rattle.std.specs.Prelude.{ℕ, ◌<◌, ◌≤◌, List, length, slice_index, map}
 use Rattle.macho_trie.specs.Exports.{Exported, REEXPORT, as_value, as_reexport}
 use Rattle.macho_trie.specs.declared.symbols.Symbols.{Symbols}
 use Rattle.macho_trie.specs.declared.symbols.Symbol.{Symbol}
@@ -15,3 +15,11 @@ symbol_of s = (s.name.items, said_of s.says)
 
 abbrev pub symbols_of : Symbols → List (List ℕ × Exported)
 symbols_of s = map symbol_of s.items.items
+
+-- the names alone
+abbrev pub names_of : Symbols → List (List ℕ)
+names_of s = map (λ i. i.name.items) s.items.items
+
+-- A name of bytes without a NUL.
+pub record IsPlain (name : List ℕ) : Type 0 where
+  pub plain : (k : ℕ) → k < length name → (1 ≤ slice_index name k) × (slice_index name k < 256)

@@ -1,8 +1,10 @@
 //! The exports trie of a Mach-O file: the names that an image exports, and what stands for each.
 #![tactic(auto)]
 
+mod build;
 mod lookup;
 mod symbols;
+mod table;
 #[cfg(test)]
 mod tests;
 
