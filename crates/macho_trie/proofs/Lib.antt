@@ -6,3 +6,4 @@ pub mod Building
 pub mod Arriving
 pub mod Closing
 pub mod Rooting
+pub mod Sorting

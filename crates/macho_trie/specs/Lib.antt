@@ -5,3 +5,4 @@ pub mod Symbols
 pub mod Trees
 pub mod Tables
 pub mod Building
+pub mod Sorting

@@ -3,6 +3,7 @@
 
 mod build;
 mod lookup;
+mod sort;
 mod symbols;
 mod table;
 #[cfg(test)]
