@@ -7,3 +7,5 @@ pub mod Arriving
 pub mod Closing
 pub mod Rooting
 pub mod Sorting
+pub mod Leading
+pub mod Stepping

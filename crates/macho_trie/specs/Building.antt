@@ -138,6 +138,12 @@ pub record ArrivedAs (names : List (List ℕ)) (symbol : ℕ) (before : List Row
   pub opened : AreOpenAt names symbol rows now
   pub built : names_open (name_at names symbol) (trees_of names rows) now ≡ names_open (name_at names symbol) (trees_of names before) was
 
+-- The node of the name before another one is the deepest open one, and the tree has that other one too.
+pub record StepsAs (names : List (List ℕ)) (above symbol : ℕ) (before : List Row) (was : List Open) (rows : List Row) (now : List Open) : Type 0 where
+  pub opened : AreOpenAt names symbol rows now
+  pub built : names_open (name_at names symbol) (trees_of names rows) now
+      ≡ (name_at names above, above) ∷ names_open (name_at names above) (trees_of names before) was
+
 -- The root is the one open node, and its children are all trees.
 pub record IsRoot (names : List (List ℕ)) (symbol : ℕ) (terminal : Bool) (rows : List Row) (node : Open) (nodes : List Open) : Type 0 where
   pub here : symbol < length names

@@ -4,11 +4,16 @@ use Rattle.std.specs.List.{AllPairs}
 use Rattle.std.specs.Cmp.Lexicographic.{slice_cmp}
 use Rattle.std.specs.Ordering.{nat_cmp}
 use Rattle.std.specs.declared.cmp.Ordering.TheVariants.{Less}
+use Rattle.macho_trie.specs.Exports.{HasNoNul}
 use Rattle.macho_trie.specs.Tables.{name_at}
 
 -- no two names are equal
 abbrev pub AreDistinct : List (List ℕ) → Type 0
 AreDistinct names = AllPairs (λ x y. x ≢ y) names
+
+-- no name has a NUL
+abbrev pub HaveNoNul : List (List ℕ) → Type 0
+HaveNoNul names = (k : ℕ) → k < length names → HasNoNul (name_at names k)
 
 -- the name and the symbol at a place of a list
 abbrev pub pair_at : List (List ℕ × ℕ) → ℕ → List ℕ × ℕ

@@ -3,11 +3,17 @@
 //! The nodes on the way to the least name so far are open. With `_foobar` and `_fop` in the tree, these are the root, the
 //! node `_fo` and the node `_foobar`. The next name `_foo` leaves that way at `_foo`: the node `_foobar` is closed, its row is
 //! put in front of the others, and it hangs at a new node `_foo`, where the name ends.
-ghost use Rattle.std.specs.Prelude.{◌≡◌, ℕ, ◌+◌, ◌<◌, ◌≤◌, ◌++◌, [], ◌∷◌, List, ◌^◌, OnOk, IfOk, length, false, true, reverse};
+ghost use Rattle.std.specs.Prelude.{◌≡◌, ℕ, ◌+◌, ◌<◌, ◌≤◌, ◌++◌, [], ◌∷◌, List, ◌^◌, OnOk, IfOk, length, map, false, true, reverse};
 ghost use Rattle.macho_trie.specs.Symbols.{names_of, IsPlain};
-ghost use Rattle.macho_trie.specs.Tables.{name_at};
-ghost use Rattle.macho_trie.specs.Building.{names_in, rows_in, open_in, root_node, deepest, AreClosing, AreClosed, ClosedAs, AreReady, AreOpenAt, AreRoot, ArrivedAs, RootedAs, adopted};
+ghost use Rattle.macho_trie.specs.Exports.{HasNoNul};
+ghost use Rattle.macho_trie.specs.Tables.{name_at, IsTable};
+ghost use Rattle.macho_trie.specs.Sorting.{AreSorted, HaveNoNul};
+ghost use Rattle.std.specs.Cmp.Lexicographic.{slice_cmp};
+ghost use Rattle.std.specs.Ordering.{nat_cmp};
+ghost use Rattle.std.specs.declared.cmp.Ordering.TheVariants.{Less};
+ghost use Rattle.macho_trie.specs.Building.{names_in, rows_in, open_in, root_node, deepest, AreClosing, AreClosed, ClosedAs, AreReady, AreOpenAt, AreRoot, ArrivedAs, RootedAs, StepsAs, adopted};
 
+use crate::sort::shared_length;
 use crate::symbols::Symbols;
 use crate::table::Row;
 use std::alloc::{AllocError, Global};
@@ -119,14 +125,30 @@ impl<'s> Builder<'s> {
         Ok(())
     }
 
+    /// Goes on from a name's node to that of the lesser name before it.
+    fn step(&mut self, next: &[u8], above: usize, name: &[u8], symbol: usize) -> Result<(), AllocError>
+        requires opened { AreOpenAt (names_in self.old) above (rows_in self.old) (open_in self.old) }
+        requires next { next.now ≡ name_at (names_in self.old) above }
+        requires plain { HasNoNul next.now }
+        requires name { name.now ≡ name_at (names_in self.old) symbol }
+        requires here { symbol < length (names_in self.old) }
+        requires less { slice_cmp nat_cmp name.now next.now ≡ Less }
+        ensures done { OnOk result (StepsAs (names_in self.new) above symbol (rows_in self.old) (open_in self.old) (rows_in self.new) (open_in self.new)) }
+        ensures names { OnOk result (names_in self.new ≡ names_in self.old) }
+    {
+        let shared = shared_length(name, next);
+        self.close_to(above, shared)?;
+        self.arrive(symbol, shared, name.len())
+    }
+
     /// Closes all nodes. Answers the rows, the root first.
-    pub(crate) fn finish(mut self, symbol: usize, size: usize) -> Result<Vec<Row>, AllocError>
+    fn finish(mut self, name: &[u8], symbol: usize) -> Result<Vec<Row>, AllocError>
         requires opened { AreOpenAt (names_in self) symbol (rows_in self) (open_in self) }
-        requires plain { IsPlain (name_at (names_in self) symbol) }
-        requires long { size ≡ length (name_at (names_in self) symbol) }
+        requires name { name.now ≡ name_at (names_in self) symbol }
+        requires plain { HasNoNul name.now }
         ensures { IfOk result (λ rows. RootedAs (names_in self.entry) symbol true (rows_in self.entry) (open_in self.entry) rows.items) }
     {
-        if size == 0 {
+        if name.is_empty() {
             return self.close_root(symbol, true);
         }
         self.close_to(symbol, 0)?;
@@ -154,4 +176,25 @@ impl<'s> Builder<'s> {
         rows.reverse();
         Ok(rows)
     }
+}
+
+/// The rows of the radix tree of sorted names, the root first.
+pub(crate) fn table_of(alloc: Global, symbols: &Symbols, sorted: &[(&[u8], usize)]) -> Result<Vec<Row>, AllocError>
+    requires sorted { AreSorted (names_of symbols.now) (map (λ p. (p.0.now, p.1)) sorted.now) }
+    requires plain { HaveNoNul (names_of symbols.now) }
+    requires some { 1 ≤ length sorted.now }
+    ensures { IfOk result (λ rows. IsTable (names_of symbols.now) rows.items) }
+{
+    let mut builder = Builder::new(alloc, symbols)?;
+    let mut left = sorted.len() - 1;
+    let (name, symbol) = sorted[left];
+    builder.arrive(symbol, 0, name.len())?;
+    while left != 0 {
+        let (next, above) = sorted[left];
+        left -= 1;
+        let (name, symbol) = sorted[left];
+        builder.step(next, above, name, symbol)?;
+    }
+    let (name, symbol) = sorted[0];
+    builder.finish(name, symbol)
 }
