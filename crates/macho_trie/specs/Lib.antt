@@ -1,6 +1,7 @@
 pub mod Exports
 pub mod Nodes
 pub mod Lookup
+pub mod Says
 pub mod Symbols
 pub mod Trees
 pub mod Tables

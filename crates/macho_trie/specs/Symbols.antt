@@ -1,17 +1,8 @@
 -- The register of exported names: each with what stands for it, in the order in which they were pushed.
 use Rattle.std.specs.Prelude.{ℕ, ◌<◌, ◌≤◌, List, length, slice_index, map}
-use Rattle.macho_trie.specs.Exports.{Exported, REEXPORT, as_value, as_reexport}
+use Rattle.macho_trie.specs.Exports.{Exported}
+use Rattle.macho_trie.specs.Says.{symbol_of}
 use Rattle.macho_trie.specs.declared.symbols.Symbols.{Symbols}
-use Rattle.macho_trie.specs.declared.symbols.Symbol.{Symbol}
-use Rattle.macho_trie.specs.declared.symbols.Says.{Says}
-use Rattle.macho_trie.specs.declared.symbols.Says.TheVariants.{Value, Reexport}
-
-abbrev pub said_of : Says → Exported
-said_of (Value flags address) = as_value flags address
-said_of (Reexport ordinal name) = as_reexport REEXPORT ordinal name.items
-
-abbrev pub symbol_of : Symbol → List ℕ × Exported
-symbol_of s = (s.name.items, said_of s.says)
 
 abbrev pub symbols_of : Symbols → List (List ℕ × Exported)
 symbols_of s = map symbol_of s.items.items

@@ -1,7 +1,7 @@
 //! The names to be exported, each with what stands for it.
-ghost use Rattle.std.specs.Prelude.{◌≡◌, ℕ, ◌<◌, ◌++◌, [], ◌∷◌, List, OnOk, OnErr, length, false, slice_index};
-ghost use Rattle.macho_trie.specs.Exports.{is_reexport, HasNoNul, as_value, as_reexport};
-ghost use Rattle.macho_trie.specs.Symbols.{symbols_of, said_of};
+ghost use Rattle.std.specs.Prelude.{◌<◌, List, length};
+ghost use Rattle.std.specs.List.{All};
+ghost use Rattle.macho_trie.specs.Says.{said_of, IsSound};
 
 use std::alloc::{AllocError, Global};
 
@@ -9,6 +9,7 @@ use std::alloc::{AllocError, Global};
 #[derive(Drop)]
 pub struct Symbols {
     pub(crate) items: Vec<Symbol>,
+    ghost sound: { All (λ s. IsSound (said_of s.says)) items.items },
 }
 
 /// A name, and what stands for it.
@@ -26,6 +27,10 @@ pub(crate) enum Says {
 }
 
 impl Symbols {
+    ghost use Rattle.std.specs.Prelude.{◌≡◌, ℕ, ◌++◌, [], ◌∷◌, OnOk, OnErr, false};
+    ghost use Rattle.macho_trie.specs.Exports.{REEXPORT, is_reexport, HasNoNul, as_value, as_reexport};
+    ghost use Rattle.macho_trie.specs.Symbols.{symbols_of};
+
     /// No names.
     pub fn new(alloc: Global) -> Symbols
         ensures { symbols_of result ≡ [] }
@@ -49,7 +54,7 @@ impl Symbols {
     /// `AllocError`: there is no memory, and nothing is added.
     pub fn push_reexport(&mut self, name: &[u8], ordinal: u64, import_name: &[u8]) -> Result<(), AllocError>
         requires { HasNoNul import_name.now }
-        ensures done { OnOk result (symbols_of self.new ≡ symbols_of self.old ++ (name.now, as_reexport 8 ordinal import_name.now) ∷ []) }
+        ensures done { OnOk result (symbols_of self.new ≡ symbols_of self.old ++ (name.now, as_reexport REEXPORT ordinal import_name.now) ∷ []) }
         ensures kept { OnErr result (symbols_of self.new ≡ symbols_of self.old) }
     {
         let there = Vec::from_slice(*self.items.allocator(), import_name)?;
@@ -57,6 +62,7 @@ impl Symbols {
     }
 
     fn add(&mut self, name: &[u8], says: Says) -> Result<(), AllocError>
+        requires { IsSound (said_of says) }
         ensures done { OnOk result (symbols_of self.new ≡ symbols_of self.old ++ (name.now, said_of says) ∷ []) }
         ensures kept { OnErr result (symbols_of self.new ≡ symbols_of self.old) }
     {
