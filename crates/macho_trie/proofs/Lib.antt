@@ -9,3 +9,5 @@ pub mod Rooting
 pub mod Sorting
 pub mod Leading
 pub mod Stepping
+pub mod Cursor
+pub mod Sizes

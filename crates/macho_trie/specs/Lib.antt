@@ -7,3 +7,5 @@ pub mod Trees
 pub mod Tables
 pub mod Building
 pub mod Sorting
+pub mod Encoding
+pub mod Layouts

@@ -1,6 +1,6 @@
 -- The table of a trie: its nodes in preorder, each with the number of its edges. So the children of a node are the first
 -- trees that the rows behind it spell.
-use Rattle.std.specs.Prelude.{◌≡◌, ◌↔◌, ℕ, zero, suc, ◌+◌, ◌<◌, ◌≤◌, if◌then◌else◌, List, [], ◌∷◌, length, slice_range, slice_index_or, Option, Some, None}
+use Rattle.std.specs.Prelude.{◌≡◌, ◌↔◌, ℕ, zero, suc, ◌+◌, ◌<◌, ◌≤◌, if◌then◌else◌, false, drop, List, [], ◌∷◌, length, slice_range, slice_index_or, Option, Some, None}
 use Rattle.macho_trie.specs.Trees.{Edges, no_edge, edge, LeadsTo, edge_count, node_count, AreRadix}
 use Rattle.macho_trie.specs.declared.table.Row.{Row}
 
@@ -51,3 +51,14 @@ pub record IsTable (names : List (List ℕ)) (rows : List Row) : Type 0 where
   pub root : trees_of names rows ≡ edge [] symbol below no_edge
   pub radix : AreRadix below
   pub leads : (name : List ℕ) (s : ℕ) → LeadsTo (trees_of names rows) name s ↔ ((s < length names) × (name_at names s ≡ name))
+
+-- the row at a place of a table
+abbrev pub row_at : List Row → ℕ → Row
+row_at rows i = slice_index_or rows i (record { symbol = 0; is_terminal = false; children = 0; start = 0; length = 0; rows = 0 })
+
+-- the trees that the rows from a place on spell, and those of a row's children
+abbrev pub trees_from : List (List ℕ) → List Row → ℕ → Edges
+trees_from names rows i = trees_of names (drop i rows)
+
+abbrev pub children_at : List (List ℕ) → List Row → ℕ → Edges
+children_at names rows i = first_edges (row_at rows i).children (trees_from names rows (i + 1))

@@ -2,6 +2,7 @@
 #![tactic(auto)]
 
 mod build;
+mod layout;
 mod lookup;
 mod sort;
 mod symbols;

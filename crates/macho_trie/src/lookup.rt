@@ -20,7 +20,7 @@ use macho_records::read_uleb;
 use memchr::memchr;
 
 /// The bit of the flags that makes an export a reexport (`EXPORT_SYMBOL_FLAGS_REEXPORT`).
-const REEXPORT: u64 = 8;
+pub(crate) const REEXPORT: u64 = 8;
 
 /// What an exports trie says of a name.
 #[derive(Clone, Copy, Debug, PartialEq, Eq)]
