@@ -11,3 +11,5 @@ pub mod Leading
 pub mod Stepping
 pub mod Cursor
 pub mod Sizes
+pub mod Widths
+pub mod Looks

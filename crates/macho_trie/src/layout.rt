@@ -1,5 +1,5 @@
 //! The sizes and places of a trie's nodes, and their bytes.
-ghost use Rattle.std.specs.Prelude.{◌≡◌, ℕ, ◌+◌, ◌<◌, ◌≤◌, ◌++◌, List, OnOk, IfOk, SomeIff, length, slice_index};
+ghost use Rattle.std.specs.Prelude.{◌≡◌, ℕ, ◌+◌, ◌<◌, ◌≤◌, ◌++◌, List, [], OnOk, IfOk, length, slice_index, sum};
 ghost use Rattle.macho_trie.specs.Symbols.{names_of, symbols_of};
 ghost use Rattle.macho_trie.specs.Tables.{children_at, symbol_at};
 ghost use Rattle.macho_trie.specs.Layouts.{names_at, says_at, size_at, tree_at, IsLaid, AreTerminals, ArePlaces, AreLaidOut, IsNarrow, AreWidened, needed};
@@ -21,7 +21,7 @@ pub(crate) struct Layout<'a> {
 }
 
 /// A sum of sizes. Bytes that pass the address space find no memory.
-fn sum(first: usize, second: usize) -> Result<usize, AllocError>
+fn added(first: usize, second: usize) -> Result<usize, AllocError>
     ensures { IfOk result (λ n. n ≡ first + second) }
 {
     first.checked_add(second).ok_or(AllocError)
@@ -39,8 +39,8 @@ impl<'a> Layout<'a> {
         let mut child = row + 1;
         for edge in 0..self.rows[row].children {
             let at = self.rows[child];
-            let label = sum(at.length, 1)?;
-            size = sum(size, sum(label, widths[child])?)?;
+            let label = added(at.length, 1)?;
+            size = added(size, added(label, widths[child])?)?;
             child += at.rows + 1;
         }
         Ok(size)
@@ -55,7 +55,7 @@ impl<'a> Layout<'a> {
             return Ok(1);
         }
         let part = export_size(&self.symbols.items[row.symbol].says)?;
-        sum(uleb_size(part as u64), part)
+        added(uleb_size(part as u64), part)
     }
 
     /// The same of all nodes.
@@ -81,11 +81,59 @@ impl<'a> Layout<'a> {
         let mut place = 0;
         for row in 0..self.rows.len() {
             places.push(place)?;
-            let front = sum(terminals[row], 1)?;
-            place = sum(place, sum(front, self.edges_size(row, widths)?)?)?;
+            let front = added(terminals[row], 1)?;
+            place = added(place, added(front, self.edges_size(row, widths)?)?)?;
         }
         places.push(place)?;
         Ok(places)
+    }
+
+    /// The places of all nodes under the least widths, and the place after the last one.
+    ///
+    /// Each width begins at 1. A look over all edges puts those that are too narrow on a list, and each on the list gets the
+    /// width that it needs. That moves the nodes after it, so another look follows, until one finds no edge.
+    pub(crate) fn lay_out(&self, alloc: Global) -> Result<Vec<usize>, AllocError>
+        requires { IsLaid self.now }
+        ensures { IfOk result (λ v. AreLaidOut self.now v.items) }
+    {
+        let terminals = self.terminals(alloc)?;
+        let mut widths = vec![in alloc; 1; self.rows.len()]?;
+        'looks: loop {
+            let places = self.places(alloc, &terminals, &widths)?;
+            let narrow = narrow_edges(alloc, &places, &widths)?;
+            if narrow.is_empty() {
+                return Ok(places);
+            }
+            widen(&mut widths, &places, &narrow);
+        }
+    }
+}
+
+/// The edges, by the rows of their children, whose width is less than their child's place needs.
+fn narrow_edges(alloc: Global, places: &[usize], widths: &[usize]) -> Result<Vec<usize>, AllocError>
+    requires { length widths.now ≤ length places.now }
+    ensures all { IfOk result (λ v. All (IsNarrow places.now widths.now) v.items) }
+    ensures none { IfOk result (λ v. v.items ≡ [] → (k : ℕ) → 1 ≤ k → k < length widths.now → needed places.now k ≤ slice_index widths.now k) }
+{
+    let mut narrow = Vec::new(alloc);
+    for child in 1..widths.len() {
+        if widths[child] < uleb_size(places[child] as u64) {
+            narrow.push(child)?;
+        }
+    }
+    Ok(narrow)
+}
+
+/// Gives each of these edges the width that its child's place needs.
+fn widen(widths: &mut [usize], places: &[usize], narrow: &[usize])
+    requires narrow { All (IsNarrow places.now widths.old) narrow.now }
+    requires some { 1 ≤ length narrow.now }
+    requires places { length widths.old ≤ length places.now }
+    ensures widened { AreWidened places.now widths.old widths.new }
+    ensures grows { sum widths.old < sum widths.new }
+{
+    for child in narrow {
+        widths[*child] = uleb_size(places[*child] as u64);
     }
 }
 
@@ -94,10 +142,10 @@ fn export_size(says: &Says) -> Result<usize, AllocError>
     ensures { IfOk result (λ n. n ≡ length (export_bytes (said_of says.now))) }
 {
     match says {
-        Says::Value { flags, address } => sum(uleb_size(*flags), uleb_size(*address)),
+        Says::Value { flags, address } => added(uleb_size(*flags), uleb_size(*address)),
         Says::Reexport { ordinal, name } => {
-            let library = sum(uleb_size(REEXPORT), uleb_size(*ordinal))?;
-            sum(library, sum(name.len(), 1)?)
+            let library = added(uleb_size(REEXPORT), uleb_size(*ordinal))?;
+            added(library, added(name.len(), 1)?)
         }
     }
 }

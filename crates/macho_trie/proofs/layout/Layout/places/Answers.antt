@@ -29,7 +29,7 @@ loop-row-preserved c =
         c.loop-row.invariant.here
         ∙ sym (map-range_with_len_more (place_of (size_at c.args.self.now) (slice_index c.args.widths.now) (tree_at c.args.self.now)) 0 c.loop-row.row c.loop-row.row
         (omega arith));
-      here = omega (arith, c.in_ok-place.ensures, c.in_ok-sum.ensures, c.in_ok-front.ensures, c.in_ok-edges_size.ensures, c.loop-row.invariant.here, terminal,
+      here = omega (arith, c.in_ok-place.ensures, c.in_ok-added.ensures, c.in_ok-front.ensures, c.in_ok-edges_size.ensures, c.loop-row.invariant.here, terminal,
         place_more (size_at c.args.self.now) (slice_index c.args.widths.now) c.loop-row.row (names_at c.args.self.now) c.args.self.now.rows.now c.requires.sound within);
     }
 

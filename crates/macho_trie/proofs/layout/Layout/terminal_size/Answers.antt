@@ -13,4 +13,4 @@ returns c =
         (omega (arith, c.requires, length-map c.args.self.now.symbols.now.items.items (λ i. i.name.items))) in
     let size = terminal_is (says_at c.args.self.now) c.args.row _ c.in_ok-part.part c.uleb_size.result marked
         (is ∙ ap (λ s. said_of s.says) (sym c.index.ensures)) c.in_ok-part.ensures c.uleb_size.ensures in
-    IfOk-weaker c.sum.result _ _ (λ n h. h ∙ size) c.sum.ensures
+    IfOk-weaker c.added.result _ _ (λ n h. h ∙ size) c.added.ensures
