@@ -13,3 +13,4 @@ pub mod Cursor
 pub mod Sizes
 pub mod Widths
 pub mod Looks
+pub mod Spells

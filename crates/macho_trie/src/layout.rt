@@ -138,7 +138,7 @@ fn widen(widths: &mut [usize], places: &[usize], narrow: &[usize])
 }
 
 /// The bytes of a terminal part.
-fn export_size(says: &Says) -> Result<usize, AllocError>
+pub(crate) fn export_size(says: &Says) -> Result<usize, AllocError>
     ensures { IfOk result (λ n. n ≡ length (export_bytes (said_of says.now))) }
 {
     match says {

@@ -5,6 +5,7 @@ mod build;
 mod layout;
 mod lookup;
 mod sort;
+mod spelling;
 mod symbols;
 mod table;
 #[cfg(test)]
