@@ -14,3 +14,6 @@ pub mod Sizes
 pub mod Widths
 pub mod Looks
 pub mod Spells
+pub mod Readback
+pub mod Following
+pub mod Standing

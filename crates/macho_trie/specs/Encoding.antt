@@ -66,3 +66,16 @@ AreWide size width tree = (k : ℕ) → 1 ≤ k → k < node_count tree → leng
 pub record AreLeast (size : Option ℕ → ℕ) (width : ℕ → ℕ) (tree : Edges) : Type 0 where
   pub consistent : (k : ℕ) → 1 ≤ k → k < node_count tree → width k ≡ length (uleb_of (place_of size width tree k))
   pub least : (other : ℕ → ℕ) → AreWide size other tree → (k : ℕ) → 1 ≤ k → k < node_count tree → width k ≤ other k
+
+-- The bytes are the exports trie of some symbols: the nodes in preorder of the radix tree of their names, with the least
+-- widths, each at its place.
+pub record IsExportsTrie (symbols : List (List ℕ × Exported)) (bytes : List ℕ) : Type 0 where
+  pub symbol : Option ℕ
+  pub below : Edges
+  pub radix : AreRadix below
+  pub names : (name : List ℕ) (s : ℕ) → LeadsTo (edge [] symbol below no_edge) name s
+      ↔ ((s < length symbols) × ((slice_index_or symbols s ([], as_value 0 0)).0 ≡ name))
+  pub width : ℕ → ℕ
+  pub least : AreLeast (terminal_size (says_of symbols)) width (edge [] symbol below no_edge)
+  pub text : bytes ≡ tree_bytes (says_of symbols) (place_of (terminal_size (says_of symbols)) width (edge [] symbol below no_edge)) 0
+      (edge [] symbol below no_edge)

@@ -9,3 +9,4 @@ pub mod Building
 pub mod Sorting
 pub mod Encoding
 pub mod Layouts
+pub mod Tries

@@ -8,6 +8,7 @@ mod sort;
 mod spelling;
 mod symbols;
 mod table;
+mod trie;
 #[cfg(test)]
 mod tests;
 
