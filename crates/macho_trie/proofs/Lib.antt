@@ -17,3 +17,4 @@ pub mod Spells
 pub mod Readback
 pub mod Following
 pub mod Standing
+pub mod Encodes

@@ -1,0 +1,32 @@
+use Rattle.std.proofs.Common.{◌≡◌, ◌<◌, length, arith, ap, sym, ◌∙◌}
+use Rattle.macho_trie.specs.Symbols.{symbols_of, names_of}
+use Rattle.macho_trie.specs.Tries.{IsSizeOf}
+use Rattle.macho_trie.specs.declared.layout.Layout.{Layout}
+use Rattle.macho_trie.proofs.Encodes.{places_long, size_is, covers, no_larger}
+use Rattle.macho_trie.proofs.trie.Trie.compute_byte_size.Goals as goal
+
+pub index-requires : goal.index-requires
+index-requires c =
+    let l : Layout = record { symbols = c.args.symbols; rows = c.deref.result } in
+    omega (arith, c.len.ensures, c.args.self.now.rows.ok.0, c.in_ok-places.places.ok.0, places_long l c.in_ok-places.places.items c.in_ok-places.ensures,
+    ap length c.deref.ensures.value)
+
+pub returns-clause-size : goal.returns-clause-size
+returns-clause-size c =
+    let l : Layout = record { symbols = c.args.symbols; rows = c.deref.result } in
+    size_is c.args.self.now l c.in_ok-places.places.items c.len.result c.index.result.now _ c.deref.ensures.value c.in_ok-places.ensures
+    (omega (arith, c.len.ensures, c.args.self.now.rows.ok.0)) c.index.ensures
+
+pub returns-clause-covers : goal.returns-clause-covers
+returns-clause-covers c others m h b =
+    let l : Layout = record { symbols = c.args.symbols; rows = c.deref.result } in
+    covers c.args.self.now (names_of c.args.symbols.now) (symbols_of c.args.symbols.now) others c.index.result.now m
+    (size_is c.args.self.now l c.in_ok-places.places.items c.len.result c.index.result.now _ c.deref.ensures.value c.in_ok-places.ensures
+    (omega (arith, c.len.ensures, c.args.self.now.rows.ok.0)) c.index.ensures) h b
+
+pub returns-clause-reserves : goal.returns-clause-reserves
+returns-clause-reserves c others m r b =
+    let l : Layout = record { symbols = c.args.symbols; rows = c.deref.result } in
+    covers c.args.self.now (names_of c.args.symbols.now) (symbols_of c.args.symbols.now) others c.index.result.now m
+    (size_is c.args.self.now l c.in_ok-places.places.items c.len.result c.index.result.now _ c.deref.ensures.value c.in_ok-places.ensures
+    (omega (arith, c.len.ensures, c.args.self.now.rows.ok.0)) c.index.ensures) (no_larger (symbols_of c.args.symbols.now) others r) b
