@@ -19,7 +19,7 @@ use Rattle.macho_trie.specs.Trees.{Edges, no_edge, edge, LeadsTo, edge_count, no
 use Rattle.macho_trie.specs.Tables.{name_at, trees_of, AreRows, IsTable}
 use Rattle.macho_trie.specs.Encoding.{export_bytes, terminal_bytes, says_of, edges_bytes, node_bytes, tree_bytes, node_sizes, place_of, total_of, terminal_size, AreLeast, IsExportsTrie}
 use Rattle.macho_trie.specs.Layouts.{names_at, says_at, size_at, tree_at, ArePlaces, AreLaidOut}
-use Rattle.macho_trie.specs.Tries.{IsTrieOf, IsSizeOf, AreNoLarger, Reserves, AreReserved}
+use Rattle.macho_trie.specs.Tries.{IsTrieOf, IsSizeOf, IsShortest, AreNoLarger, Reserves, AreReserved}
 use Rattle.macho_trie.specs.declared.layout.Layout.{Layout}
 use Rattle.macho_trie.specs.declared.symbols.Symbols.{Symbols}
 use Rattle.macho_trie.specs.declared.symbols.Symbol.{Symbol}
@@ -72,6 +72,18 @@ covers trie names symbols others n m a h b =
     let wider = least-grows (terminal_size (says_of others)) (terminal_size (says_of symbols)) b.width a.width tree (larger symbols others h) b.least a.least in
     omega (arith, a.total, b.total,
     total-grows (terminal_size (says_of others)) (terminal_size (says_of symbols)) b.width a.width tree (larger symbols others h) wider)
+
+pub only_size : (trie : Trie) (names : List (List ℕ)) (symbols : List (List ℕ × Exported)) (n m : ℕ) → IsSizeOf trie names symbols n
+    → IsSizeOf trie names symbols m → m ≡ n
+only_size trie names symbols n m a b =
+    omega (arith, covers trie names symbols symbols n m a (λ s. omega arith) b, covers trie names symbols symbols m n b (λ s. omega arith) a)
+
+pub shortest : (trie : Trie) (names : List (List ℕ)) (symbols : List (List ℕ × Exported)) (n : ℕ) → IsSizeOf trie names symbols n
+    → IsShortest trie names symbols n
+shortest trie names symbols n a other wide =
+    omega (arith, a.total,
+    total-grows (terminal_size (says_of symbols)) (terminal_size (says_of symbols)) a.width other (trees_of names trie.rows.items) (λ m. omega arith)
+    (a.least.least other wide))
 
 short_flags : (flags : ℕ) → flags < 128 → length (uleb_of flags) ≡ 1
 unfolding uleb_of
@@ -141,7 +153,7 @@ bytes_same says p q i (edge label symbol below rest) h =
     (bytes_same says p q (i + (node_count below + 1)) rest (λ j a b. h j (omega arith) (omega arith)))
 
 -- names of the register
-names_long : (s : Symbols) → length (names_of s) ≡ length (symbols_of s)
+pub names_long : (s : Symbols) → length (names_of s) ≡ length (symbols_of s)
 names_long s = length-map s.items.items (λ i. i.name.items) ∙ sym (length-map s.items.items symbol_of)
 
 names_each : (items : List Symbol) (k : ℕ) → name_at (map (λ i. i.name.items) items) k ≡ (get_or (map symbol_of items) k ([], as_value 0 0)).0
@@ -209,7 +221,7 @@ no_rows : (trie : Trie) (names : List (List ℕ)) → IsTrieOf trie names → le
 no_rows trie [] t none = t
 no_rows trie (name ∷ names) t none = absurd (omega arith)
 
-no_bytes : (trie : Trie) (l : Layout) (places out : List ℕ) → IsTrieOf trie (names_at l) → l.rows.now ≡ trie.rows.items → length (names_at l) ≡ 0
+pub no_bytes : (trie : Trie) (l : Layout) (places out : List ℕ) → IsTrieOf trie (names_at l) → l.rows.now ≡ trie.rows.items → length (names_at l) ≡ 0
     → out ≡ tree_bytes (says_at l) (slice_index places) 0 (tree_at l) → out ≡ []
 no_bytes trie l places out t same none is =
     is ∙ ap (λ (rs : List Row). tree_bytes (says_at l) (slice_index places) 0 (trees_of (names_at l) rs)) (same ∙ no_rows trie (names_at l) t none)

@@ -2,7 +2,8 @@
 use Rattle.std.specs.Prelude.{◌≡◌, ◌⊎◌, ◌↔◌, ℕ, ◌+◌, ◌-◌, ◌^◌, ◌<◌, ◌≤◌, List, [], ◌∷◌, length, Option, Some}
 use Rattle.macho_trie.specs.Exports.{Exported, as_value, as_reexport}
 use Rattle.macho_trie.specs.Tables.{trees_of, IsTable}
-use Rattle.macho_trie.specs.Encoding.{says_of, terminal_bytes, terminal_size, total_of, AreLeast}
+use Rattle.macho_trie.specs.Encoding.{says_of, terminal_bytes, terminal_size, total_of, AreWide, AreLeast}
+use Rattle.macho_trie.specs.Trees.{Edges}
 use Rattle.macho_trie.specs.declared.trie.Trie.{Trie}
 
 -- the trie is that of some names: no rows for no names, else a table of their radix tree
@@ -10,11 +11,21 @@ abbrev pub IsTrieOf : Trie → List (List ℕ) → Type 0
 IsTrieOf trie [] = trie.rows.items ≡ []
 IsTrieOf trie (name ∷ names) = IsTable (name ∷ names) trie.rows.items
 
+-- the tree that a trie is of, with its names
+abbrev pub tree_of : Trie → List (List ℕ) → Edges
+tree_of trie names = trees_of names trie.rows.items
+
 -- A number is the size of a trie's bytes for some symbols, under the least widths.
 pub record IsSizeOf (trie : Trie) (names : List (List ℕ)) (symbols : List (List ℕ × Exported)) (n : ℕ) : Type 0 where
   pub width : ℕ → ℕ
-  pub least : AreLeast (terminal_size (says_of symbols)) width (trees_of names trie.rows.items)
-  pub total : n ≡ total_of (terminal_size (says_of symbols)) width (trees_of names trie.rows.items)
+  pub least : AreLeast (terminal_size (says_of symbols)) width (tree_of trie names)
+  pub total : n ≡ total_of (terminal_size (says_of symbols)) width (tree_of trie names)
+
+-- no widths that are wide enough give fewer bytes
+abbrev pub IsShortest : Trie → List (List ℕ) → List (List ℕ × Exported) → ℕ → Type 0
+IsShortest trie names symbols n =
+    (other : ℕ → ℕ) → AreWide (terminal_size (says_of symbols)) other (tree_of trie names)
+    → n ≤ total_of (terminal_size (says_of symbols)) other (tree_of trie names)
 
 -- no terminal part of the first symbols is longer than that of the second ones
 abbrev pub AreNoLarger : List (List ℕ × Exported) → List (List ℕ × Exported) → Type 0

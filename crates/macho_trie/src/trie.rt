@@ -20,7 +20,7 @@ pub struct Trie {
 }
 
 impl Trie {
-    ghost use Rattle.macho_trie.specs.Tries.{IsTrieOf, IsSizeOf, AreNoLarger, AreReserved};
+    ghost use Rattle.macho_trie.specs.Tries.{IsTrieOf, IsSizeOf, IsShortest, AreNoLarger, AreReserved};
 
     /// The tree of a register's names, by one sort of them.
     pub fn new(alloc: Global, symbols: &Symbols) -> Result<Trie, AllocError>
@@ -43,6 +43,8 @@ impl Trie {
     pub fn compute_byte_size(&self, alloc: Global, symbols: &Symbols) -> Result<usize, AllocError>
         requires { IsTrieOf self.now (names_of symbols.now) }
         ensures size { IfOk result (λ n. IsSizeOf self.now (names_of symbols.now) (symbols_of symbols.now) n) }
+        ensures only { IfOk result (λ n. (m : ℕ) → IsSizeOf self.now (names_of symbols.now) (symbols_of symbols.now) m → m ≡ n) }
+        ensures shortest { IfOk result (IsShortest self.now (names_of symbols.now) (symbols_of symbols.now)) }
         ensures covers { IfOk result (λ n. (others : List (List ℕ × Exported)) (m : ℕ) → AreNoLarger others (symbols_of symbols.now) → IsSizeOf self.now (names_of symbols.now) others m → m ≤ n) }
         ensures reserves { IfOk result (λ n. (others : List (List ℕ × Exported)) (m : ℕ) → AreReserved (symbols_of symbols.now) others → IsSizeOf self.now (names_of symbols.now) others m → m ≤ n) }
     {
@@ -54,8 +56,8 @@ impl Trie {
     /// The bytes of the trie, none for no symbols. The register has the names that the trie was made of, in the same order.
     pub fn encode(&self, alloc: Global, symbols: &Symbols) -> Result<Vec<u8>, AllocError>
         requires { IsTrieOf self.now (names_of symbols.now) }
-        ensures empty { names_of symbols.now ≡ [] → IfOk result (λ v. v.items ≡ []) }
-        ensures tree { 1 ≤ length (names_of symbols.now) → IfOk result (λ v. IsExportsTrie (symbols_of symbols.now) v.items) }
+        ensures empty { symbols_of symbols.now ≡ [] → IfOk result (λ v. v.items ≡ []) }
+        ensures tree { 1 ≤ length (symbols_of symbols.now) → IfOk result (λ v. IsExportsTrie (symbols_of symbols.now) v.items) }
         ensures length { IfOk result (λ v. IsSizeOf self.now (names_of symbols.now) (symbols_of symbols.now) (length v.items)) }
         ensures found { IfOk result (λ v. (name : List ℕ) (x : Exported) → Contains (symbols_of symbols.now) (name, x) → trie_finds v.items name x) }
         ensures only { IfOk result (λ v. (name : List ℕ) (x : Exported) → trie_finds v.items name x → Contains (symbols_of symbols.now) (name, x)) }

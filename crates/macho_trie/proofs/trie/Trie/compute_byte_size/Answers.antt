@@ -2,7 +2,7 @@ use Rattle.std.proofs.Common.{◌≡◌, ◌<◌, length, arith, ap, sym, ◌∙
 use Rattle.macho_trie.specs.Symbols.{symbols_of, names_of}
 use Rattle.macho_trie.specs.Tries.{IsSizeOf}
 use Rattle.macho_trie.specs.declared.layout.Layout.{Layout}
-use Rattle.macho_trie.proofs.Encodes.{places_long, size_is, covers, no_larger}
+use Rattle.macho_trie.proofs.Encodes.{places_long, size_is, only_size, shortest, covers, no_larger}
 use Rattle.macho_trie.proofs.trie.Trie.compute_byte_size.Goals as goal
 
 pub index-requires : goal.index-requires
@@ -16,6 +16,20 @@ returns-clause-size c =
     let l : Layout = record { symbols = c.args.symbols; rows = c.deref.result } in
     size_is c.args.self.now l c.in_ok-places.places.items c.len.result c.index.result.now _ c.deref.ensures.value c.in_ok-places.ensures
     (omega (arith, c.len.ensures, c.args.self.now.rows.ok.0)) c.index.ensures
+
+pub returns-clause-only : goal.returns-clause-only
+returns-clause-only c m b =
+    let l : Layout = record { symbols = c.args.symbols; rows = c.deref.result } in
+    only_size c.args.self.now (names_of c.args.symbols.now) (symbols_of c.args.symbols.now) c.index.result.now m
+    (size_is c.args.self.now l c.in_ok-places.places.items c.len.result c.index.result.now _ c.deref.ensures.value c.in_ok-places.ensures
+    (omega (arith, c.len.ensures, c.args.self.now.rows.ok.0)) c.index.ensures) b
+
+pub returns-clause-shortest : goal.returns-clause-shortest
+returns-clause-shortest c =
+    let l : Layout = record { symbols = c.args.symbols; rows = c.deref.result } in
+    shortest c.args.self.now (names_of c.args.symbols.now) (symbols_of c.args.symbols.now) c.index.result.now
+    (size_is c.args.self.now l c.in_ok-places.places.items c.len.result c.index.result.now _ c.deref.ensures.value c.in_ok-places.ensures
+    (omega (arith, c.len.ensures, c.args.self.now.rows.ok.0)) c.index.ensures)
 
 pub returns-clause-covers : goal.returns-clause-covers
 returns-clause-covers c others m h b =
