@@ -3,13 +3,13 @@
 -- Two names that are equal up to a depth have the same ways up to it, so what is known of the open nodes above that depth
 -- holds for both. The lesser name leaves the way there, at a byte below that of the closed child, or ends there. At the
 -- end only the root is open, and its row is the first of the table.
-use Rattle.std.proofs.Common.{◌≡◌, ◌⊎◌, ℕ, zero, suc, ◌+◌, ◌-◌, ◌<◌, ◌≤◌, nat_lt, if◌then◌else◌, Bool, true, false, List, [], ◌∷◌, ◌++◌, length, take, drop, slice_index, slice_range, get_or, Option, Some, None, IsSome, refl, sym, ap, subst, append_assoc, ◌∙◌, arith, inl, inr, add-one}
+use Rattle.std.proofs.Common.{◌≡◌, ℕ, ◌<◌, ◌≤◌, nat_lt, if◌then◌else◌, true, false, List, [], ◌∷◌, ◌++◌, length, take, slice_index, refl, sym, ap, subst, ◌∙◌, arith, inl, inr}
 use Rattle.std.proofs.lemmas.Bool.{cases_lt, lt-ltb}
 use Rattle.std.proofs.lemmas.Bool.Decides.{nat_tests}
-use Rattle.std.proofs.lemmas.List.{append-nil, take-take, get_or-take, take_all}
-use Rattle.macho_trie.specs.Trees.{Edges, no_edge, edge, edge_count, node_count, IsLabel, BeginsAbove, AreRadix}
-use Rattle.macho_trie.specs.Tables.{first_edges, later_edges, name_at, label_of, symbol_at, trees_of, IsRow, AreRows}
-use Rattle.macho_trie.specs.Building.{ending, names_along, names_open, IsGroup, AreAbove, BeginsWith, IsOpenAt, IsClosing, IsClosed, IsReady, closed_row, hanging_depth, adopted, arrived, AreOpenAt, AreClosing, AreClosed, AreReady, root_node}
+use Rattle.std.proofs.lemmas.List.{take-take, get_or-take}
+use Rattle.macho_trie.specs.Trees.{Edges, no_edge, edge, edge_count, BeginsAbove}
+use Rattle.macho_trie.specs.Tables.{first_edges, later_edges, name_at, trees_of}
+use Rattle.macho_trie.specs.Building.{names_along, names_open, AreAbove, BeginsWith, IsOpenAt, IsClosing, IsClosed, IsReady, arrived, AreOpenAt, AreClosing, AreReady, root_node}
 use Rattle.macho_trie.proofs.Building.{node_count-rows}
 use Rattle.macho_trie.specs.declared.table.Row.{Row}
 use Rattle.macho_trie.specs.declared.build.Open.{Open}
@@ -49,7 +49,8 @@ names_above_same n m shared depth trees (node ∷ nodes) same low a =
     ap (λ (w : List ℕ). names_along w (first_edges node.children trees) ++ names_open n (later_edges node.children trees) nodes) way
     ∙ ap (λ (xs : List (List ℕ × ℕ)). names_along (take node.depth m) (first_edges node.children trees) ++ xs) rest
 
-pub names_same : (n m : List ℕ) (shared : ℕ) (trees : Edges) (node : Open) (nodes : List Open) → take shared n ≡ take shared m → node.depth ≤ shared
+pub names_same : (n m : List ℕ) (shared : ℕ) (trees : Edges) (node : Open) (nodes : List Open) → take shared n ≡ take shared m
+    → node.depth ≤ shared
     → AreAbove n node.depth (later_edges node.children trees) nodes → names_open n trees (node ∷ nodes) ≡ names_open m trees (node ∷ nodes)
 names_same n m shared trees node nodes same low a =
     let way = same_way n m shared node.depth same low in
@@ -74,7 +75,8 @@ begins_some c (edge label symbol below rest) h = omega arith
 
 -- a closed node is ready for the lesser name that leaves the way there
 pub ready : (names : List (List ℕ)) (name : List ℕ) (symbol least : ℕ) (rows : List Row) (node : Open) (nodes : List Open)
-    → IsClosed names symbol least rows node nodes → node.depth ≡ least → IsLess name (name_at names symbol) least → IsReady names name rows node nodes
+    → IsClosed names symbol least rows node nodes → node.depth ≡ least → IsLess name (name_at names symbol) least
+    → IsReady names name rows node nodes
 ready names name symbol least rows node nodes c here l =
     let count = begins_some (slice_index (name_at names symbol) node.depth) (first_edges node.children (trees_of names rows)) c.begins in
     let Byte : ℕ → Type 0 = λ d. slice_index name d < slice_index (name_at names symbol) d in
@@ -83,10 +85,10 @@ ready names name symbol least rows node nodes c here l =
       within = omega (arith, l.within);
       group = c.group;
       begins = λ h. begins_above (slice_index name node.depth) (slice_index (name_at names symbol) node.depth)
-        (first_edges node.children (trees_of names rows)) c.begins (subst Byte (sym here) (l.less (omega arith)));
+          (first_edges node.children (trees_of names rows)) c.begins (subst Byte (sym here) (l.less (omega arith)));
       some = inl (omega (arith, c.group.children));
       above = above_same (name_at names symbol) name least node.depth (later_edges node.children (trees_of names rows)) nodes
-        (sym l.same) (omega arith) c.above;
+          (sym l.same) (omega arith) c.above;
     }
 
 pub names_ready : (names : List (List ℕ)) (name : List ℕ) (symbol least : ℕ) (rows : List Row) (node : Open) (nodes : List Open)
@@ -97,8 +99,16 @@ names_ready names name symbol least rows node nodes c here l =
 
 -- the name's own node is the deepest one then
 arrives_at : (names : List (List ℕ)) (symbol : ℕ) (rows : List Row) (node : Open) (nodes : List Open) → symbol < length names
-    → IsReady names (name_at names symbol) rows node nodes → node.depth ≡ length (name_at names symbol) → IsOpenAt names symbol rows node nodes
-arrives_at names symbol rows node nodes here r whole = record { here = here; sound = r.sound; depth = whole; group = r.group; above = r.above }
+    → IsReady names (name_at names symbol) rows node nodes → node.depth ≡ length (name_at names symbol)
+    → IsOpenAt names symbol rows node nodes
+arrives_at names symbol rows node nodes here r whole = record {
+  here = here;
+  sound = r.sound;
+  depth = whole;
+  group = r.group;
+  above =
+      r.above;
+}
 
 arrives_new : (names : List (List ℕ)) (symbol : ℕ) (rows : List Row) (node : Open) (nodes : List Open) → symbol < length names
     → IsReady names (name_at names symbol) rows node nodes → node.depth < length (name_at names symbol)
@@ -112,7 +122,8 @@ arrives_new names symbol rows node nodes here r deep = record {
 }
 
 pub arrives : (names : List (List ℕ)) (symbol : ℕ) (rows : List Row) (nodes : List Open) → symbol < length names
-    → AreReady names (name_at names symbol) rows nodes → AreOpenAt names symbol rows (arrived (length (name_at names symbol)) (length rows) nodes)
+    → AreReady names (name_at names symbol) rows nodes → AreOpenAt names symbol rows (arrived (length (name_at names symbol)) (length
+    rows) nodes)
 arrives names symbol rows [] here r = absurd r
 arrives names symbol rows (node ∷ nodes) here r =
     elim (cases_lt node.depth (length (name_at names symbol))) [
@@ -121,12 +132,15 @@ arrives names symbol rows (node ∷ nodes) here r =
           (arrives_at names symbol rows node nodes here r (omega (arith, r.within)))
     ]
 
-pub names_arrived : (name : List ℕ) (count : ℕ) (trees : Edges) (nodes : List Open) → names_open name trees (arrived (length name) count nodes) ≡ names_open name trees nodes
+pub names_arrived : (name : List ℕ) (count : ℕ) (trees : Edges) (nodes : List Open) → names_open name trees (arrived (length name)
+    count nodes) ≡ names_open name trees nodes
 names_arrived name count trees [] = refl
 names_arrived name count trees (node ∷ nodes) =
     elim (nat_lt node.depth (length name)) as (λ b. names_open name trees
-    (if b then record { depth = length name; children = 0; opened = count } ∷ node ∷ nodes else node ∷ nodes) ≡ names_open name trees (node ∷ nodes)) [
-      true ↦ refl | false ↦ refl
+    (if b then record { depth = length name; children = 0; opened = count } ∷ node ∷ nodes else node ∷ nodes) ≡ names_open name trees
+    (node ∷ nodes)) [
+      | true ↦ refl
+      | false ↦ refl
     ]
 
 -- the root alone, before the first name
@@ -154,7 +168,8 @@ closing_at names symbol least rows (node ∷ nodes) o deep = record {
   above = o.above;
 }
 
-pub closing_on : (names : List (List ℕ)) (symbol least : ℕ) (rows : List Row) (node : Open) (nodes : List Open) → IsClosed names symbol least rows node nodes
+pub closing_on : (names : List (List ℕ)) (symbol least : ℕ) (rows : List Row) (node : Open) (nodes : List Open)
+    → IsClosed names symbol least rows node nodes
     → least < node.depth → IsClosing names symbol false least rows node nodes
 closing_on names symbol least rows node nodes c deep = record {
   here = c.here;

@@ -4,14 +4,14 @@
 -- tree with that node as its root, in front of the trees of the nodes above. It hangs at the next open node, or at a new
 -- one where the next name leaves the way. The names at the trees stay the same, but for the one that ends at the node.
 -- A name that is less takes the way up to where both are equal, and its node is then the deepest one.
-use Rattle.std.proofs.Common.{◌≡◌, ◌⊎◌, ℕ, zero, suc, ◌+◌, ◌-◌, ◌<◌, ◌≤◌, nat_lt, if◌then◌else◌, Bool, true, false, List, [], ◌∷◌, ◌++◌, length, take, drop, slice_index, slice_range, get_or, Option, Some, None, IsSome, refl, sym, ap, subst, append_assoc, ◌∙◌, arith, inl, inr, add-one}
+use Rattle.std.proofs.Common.{◌≡◌, ◌⊎◌, ℕ, zero, suc, ◌+◌, ◌-◌, ◌<◌, ◌≤◌, nat_lt, Bool, true, false, List, [], ◌∷◌, ◌++◌, length, take, drop, slice_index, slice_range, Option, IsSome, refl, sym, ap, subst, append_assoc, ◌∙◌, arith, inl, inr}
 use Rattle.std.proofs.lemmas.Bool.{cases_lt, lt-ltb}
 use Rattle.std.proofs.lemmas.Bool.Decides.{nat_tests}
 use Rattle.std.proofs.lemmas.List.{append-nil, take-take, drop-take, get_or-take, get_or-drop, length-take, length-drop, take-append-drop}
 use Rattle.macho_trie.specs.Symbols.{IsPlain}
 use Rattle.macho_trie.specs.Trees.{Edges, no_edge, edge, edge_count, node_count, IsLabel, BeginsAbove, AreRadix}
-use Rattle.macho_trie.specs.Tables.{first_edges, later_edges, name_at, label_of, symbol_at, trees_of, IsRow, AreRows}
-use Rattle.macho_trie.specs.Building.{ending, names_along, names_open, IsGroup, AreAbove, BeginsWith, IsOpenAt, IsClosing, IsClosed, IsReady, closed_row, hanging_depth, adopted, arrived, AreOpenAt, AreClosing, AreClosed, AreReady}
+use Rattle.macho_trie.specs.Tables.{first_edges, later_edges, name_at, symbol_at, trees_of, AreRows}
+use Rattle.macho_trie.specs.Building.{ending, names_along, names_open, IsGroup, AreAbove, BeginsWith, IsClosing, IsClosed, closed_row, hanging_depth, adopted, AreClosed}
 use Rattle.macho_trie.specs.declared.table.Row.{Row}
 use Rattle.macho_trie.specs.declared.build.Open.{Open}
 
@@ -42,13 +42,14 @@ later-more k label symbol below rest =
     ap (λ (n : ℕ). later_edges n (edge label symbol below rest)) next
 
 -- the parts of a name up to two depths
-way-part : (name : List ℕ) (start depth : ℕ) → start ≤ depth → take start name ++ slice_range name start (start + (depth - start)) ≡ take depth name
+way-part : (name : List ℕ) (start depth : ℕ) → start ≤ depth → take start name ++ slice_range name start (start + (depth - start)) ≡
+    take depth name
 way-part name start depth low =
     let to : start + (depth - start) ≡ depth = omega arith in
     let front : take start (take depth name) ≡ take start name = take-take start depth name low in
     let back : drop start (take depth name) ≡ slice_range name start (start + (depth - start))
-        = ap (λ (k : ℕ). drop start (take k name)) (sym to) ∙ drop-take start (depth - start) name
-        ∙ ap (λ (k : ℕ). take k (drop start name)) (omega arith) in
+    = ap (λ (k : ℕ). drop start (take k name)) (sym to) ∙ drop-take start (depth - start) name
+    ∙ ap (λ (k : ℕ). take k (drop start name)) (omega arith) in
     ap (λ (xs : List ℕ). xs ++ slice_range name start (start + (depth - start))) (sym front)
     ∙ ap (λ (ys : List ℕ). take start (take depth name) ++ ys) (sym back) ∙ take-append-drop start (take depth name)
 
@@ -66,30 +67,41 @@ is_label name start depth plain low within = record { some = omega (arith, long)
     long = omega (arith, length-take (start + (depth - start) - start) (drop start name), length-drop start name)
 
     each : (k : ℕ) → k < length (slice_range name start (start + (depth - start)))
-        → (1 ≤ slice_index (slice_range name start (start + (depth - start))) k) × (slice_index (slice_range name start (start + (depth - start))) k < 256)
+        → (1 ≤ slice_index (slice_range name start (start + (depth - start))) k) × (slice_index (slice_range name start (start + (depth
+        - start))) k < 256)
     each k h =
         let same = label_index name start depth k (omega (arith, long)) in
         let byte = plain.plain (start + k) (omega (arith, long)) in
         (omega (arith, same, byte.0), omega (arith, same, byte.1))
 
-label_begins : (name : List ℕ) (start depth : ℕ) → start < depth → slice_index (slice_range name start (start + (depth - start))) 0 ≡ slice_index name start
+label_begins : (name : List ℕ) (start depth : ℕ) → start < depth → slice_index (slice_range name start (start + (depth - start))) 0 ≡
+    slice_index name start
 label_begins name start depth low =
     label_index name start depth 0 (omega arith) ∙ ap (λ (k : ℕ). slice_index name k) (omega arith)
 
 -- a group by what its edges are
 group_by : (node : Open) (trees group : Edges) → first_edges node.children trees ≡ group → edge_count group ≡ node.children
     → node_count (later_edges node.children trees) ≡ node.opened → AreRadix group → IsGroup node trees
-group_by node trees group is count opened radix = record { children = ap edge_count is ∙ count; opened = opened; radix = subst AreRadix (sym is) radix }
+group_by node trees group is count opened radix = record {
+  children = ap edge_count is
+      ∙ count;
+  opened = opened;
+  radix = subst AreRadix (sym is) radix;
+}
 
 -- the row of a closed node is sound
 row_sound : (names : List (List ℕ)) (symbol : ℕ) (terminal : Bool) (least start : ℕ) (rows : List Row) (node : Open) (nodes : List Open)
-    → IsClosing names symbol terminal least rows node nodes → start ≤ node.depth → AreRows names (closed_row symbol terminal start (length rows) node ∷ rows)
-row_sound names symbol terminal least start rows node nodes c low = (record {
-  symbol = c.here;
-  label = omega (arith, c.within);
-  children = c.group.children;
-  rows = omega (arith, c.group.opened, node_count-split node.children (trees_of names rows), node_count-rows names rows);
-}, c.sound)
+    → IsClosing names symbol terminal least rows node nodes → start ≤ node.depth → AreRows names (closed_row symbol terminal start
+    (length rows) node ∷ rows)
+row_sound names symbol terminal least start rows node nodes c low = (
+  record {
+    symbol = c.here;
+    label = omega (arith, c.within);
+    children = c.group.children;
+    rows = omega (arith, c.group.opened, node_count-split node.children (trees_of names rows), node_count-rows names rows);
+  },
+  c.sound,
+)
 
 -- the label, the end and the children of a closed node
 node_ends : (symbol : ℕ) (terminal : Bool) (start count : ℕ) (name : List ℕ) (node : Open) (trees : Edges)
@@ -112,11 +124,11 @@ closes_below names symbol terminal least rows node next nodes c plain low =
     let label : List ℕ = slice_range name next.depth (next.depth + (node.depth - next.depth)) in
     let mark : Option ℕ = symbol_at (closed_row symbol terminal next.depth (length rows) node) in
     let more : first_edges (next.children + 1) (edge label mark (first_edges node.children trees) (later_edges node.children trees))
-        ≡ edge label mark (first_edges node.children trees) (first_edges next.children (later_edges node.children trees))
-        = first-more next.children label mark (first_edges node.children trees) (later_edges node.children trees) in
+    ≡ edge label mark (first_edges node.children trees) (first_edges next.children (later_edges node.children trees))
+    = first-more next.children label mark (first_edges node.children trees) (later_edges node.children trees) in
     let later : later_edges (next.children + 1) (edge label mark (first_edges node.children trees) (later_edges node.children trees))
-        ≡ later_edges next.children (later_edges node.children trees)
-        = later-more next.children label mark (first_edges node.children trees) (later_edges node.children trees) in
+    ≡ later_edges next.children (later_edges node.children trees)
+    = later-more next.children label mark (first_edges node.children trees) (later_edges node.children trees) in
     let first_byte : slice_index label 0 ≡ slice_index name next.depth = label_begins name next.depth node.depth deep in
     let Begins : Edges → Type 0 = λ es. BeginsWith (slice_index name next.depth) es in
     let Above : Edges → Type 0 = λ es. AreAbove name next.depth es nodes in
@@ -126,12 +138,13 @@ closes_below names symbol terminal least rows node next nodes c plain low =
       sound = row_sound names symbol terminal least next.depth rows node (next ∷ nodes) c (omega arith);
       deep = low;
       within = omega (arith, c.within);
-      group = group_by _ _ _ more (omega (arith, group.children)) (ap node_count later ∙ group.opened)
-        (is_label name next.depth node.depth plain deep c.within,
-          node_ends symbol terminal next.depth (length rows) name node trees c.ends c.group,
-          c.group.radix,
-          subst After (sym first_byte) above.2,
-          group.radix);
+      group = group_by _ _ _ more (omega (arith, group.children)) (ap node_count later ∙ group.opened) (
+        is_label name next.depth node.depth plain deep c.within,
+        node_ends symbol terminal next.depth (length rows) name node trees c.ends c.group,
+        c.group.radix,
+        subst After (sym first_byte) above.2,
+        group.radix,
+      );
       begins = subst Begins (sym more) first_byte;
       ends = elim above.3 [ inl some ↦ inr (omega arith) | inr top ↦ inl (omega arith) ];
       above = subst Above (sym later) above.4;
@@ -156,8 +169,13 @@ closes_anew names symbol terminal least rows node next nodes c plain low =
       group = record {
         children = refl;
         opened = c.group.opened;
-        radix = (is_label name least node.depth plain c.deep c.within,
-          node_ends symbol terminal least (length rows) name node trees c.ends c.group, c.group.radix, tt, tt);
+        radix = (
+          is_label name least node.depth plain c.deep c.within,
+          node_ends symbol terminal least (length rows) name node trees c.ends c.group,
+          c.group.radix,
+          tt,
+          tt,
+        );
       };
       begins = first_byte;
       ends = inl refl;
@@ -167,7 +185,8 @@ closes_anew names symbol terminal least rows node next nodes c plain low =
 -- closing keeps what is known
 pub closes : (names : List (List ℕ)) (symbol : ℕ) (terminal : Bool) (least : ℕ) (rows : List Row) (node : Open) (nodes : List Open)
     → IsClosing names symbol terminal least rows node nodes → IsPlain (name_at names symbol)
-    → AreClosed names symbol least (closed_row symbol terminal (hanging_depth least nodes) (length rows) node ∷ rows) (adopted least node.opened nodes)
+    → AreClosed names symbol least (closed_row symbol terminal (hanging_depth least nodes) (length rows) node ∷ rows) (adopted least
+    node.opened nodes)
 closes names symbol terminal least rows node [] c plain = absurd (let above = c.above in omega (arith, above.0, c.deep))
 closes names symbol terminal least rows node (next ∷ nodes) c plain =
     elim (cases_lt next.depth least) [
@@ -193,11 +212,14 @@ names_below names symbol terminal rows node next nodes low =
     let beside : List (List ℕ × ℕ) = names_along (take next.depth name) (first_edges next.children (later_edges node.children trees)) in
     let above : List (List ℕ × ℕ) = names_open name (later_edges next.children (later_edges node.children trees)) nodes in
     ap (λ (es : Edges). names_along (take next.depth name) es
-    ++ names_open name (later_edges (next.children + 1) (edge label mark (first_edges node.children trees) (later_edges node.children trees))) nodes) more
+    ++ names_open name (later_edges (next.children + 1) (edge label mark (first_edges node.children trees) (later_edges node.children
+    trees))) nodes) more
     ∙ ap (λ (es : Edges). names_along (take next.depth name)
-    (edge label mark (first_edges node.children trees) (first_edges next.children (later_edges node.children trees))) ++ names_open name es nodes) later
+    (edge label mark (first_edges node.children trees) (first_edges next.children (later_edges node.children trees))) ++ names_open
+    name es nodes) later
     ∙ ap (λ (w : List ℕ). (ending w mark ++ (names_along w (first_edges node.children trees) ++ beside)) ++ above) way
-    ∙ append_assoc (ending (take node.depth name) mark) (names_along (take node.depth name) (first_edges node.children trees) ++ beside) above
+    ∙ append_assoc (ending (take node.depth name) mark) (names_along (take node.depth name) (first_edges node.children trees) ++
+    beside) above
     ∙ ap (λ (xs : List (List ℕ × ℕ)). ending (take node.depth name) mark ++ xs)
     (append_assoc (names_along (take node.depth name) (first_edges node.children trees)) beside above)
 
@@ -221,7 +243,8 @@ names_anew names symbol terminal least rows node next nodes low =
 
 pub names_closed : (names : List (List ℕ)) (symbol : ℕ) (terminal : Bool) (least : ℕ) (rows : List Row) (node : Open) (nodes : List Open)
     → IsClosing names symbol terminal least rows node nodes
-    → names_open (name_at names symbol) (trees_of names (closed_row symbol terminal (hanging_depth least nodes) (length rows) node ∷ rows)) (adopted least node.opened nodes)
+    → names_open (name_at names symbol) (trees_of names (closed_row symbol terminal (hanging_depth least nodes) (length rows) node ∷
+    rows)) (adopted least node.opened nodes)
     ≡ ending (take node.depth (name_at names symbol)) (symbol_at (closed_row symbol terminal 0 (length rows) node))
     ++ names_open (name_at names symbol) (trees_of names rows) (node ∷ nodes)
 names_closed names symbol terminal least rows node [] c = absurd (let above = c.above in omega (arith, above.0, c.deep))

@@ -2,7 +2,7 @@
 --
 -- The names along a way are those that end at an edge's child, those below it, and those at the edges after it. A name
 -- that leads to a symbol is in one of the three, with the way in front, and what is in one of them leads there.
-use Rattle.std.proofs.Common.{◌≡◌, ◌⊎◌, ◌↔◌, ℕ, ◌<◌, List, [], ◌∷◌, ◌++◌, length, get_or, Option, Some, None, Contains, refl, sym, ap, subst, append_assoc, ◌∙◌, arith, inl, inr}
+use Rattle.std.proofs.Common.{◌≡◌, ℕ, List, [], ◌∷◌, ◌++◌, get_or, Option, Some, None, Contains, refl, sym, ap, subst, append_assoc, ◌∙◌, arith, inl, inr}
 use Rattle.std.proofs.lemmas.List.{append-nil}
 use Rattle.std.proofs.lemmas.List.Elements.{Contains-append_left, Contains-append_right, Contains-append_cases}
 use Rattle.macho_trie.specs.Trees.{Edges, no_edge, edge, LeadsTo}
@@ -23,20 +23,31 @@ ending_is way (Some s) p (k, within, is) =
 pub leads_in : (way : List ℕ) (es : Edges) (left : List ℕ) (s : ℕ) → LeadsTo es left s → Contains (names_along way es) (way ++ left, s)
 leads_in way no_edge left s h = absurd h
 leads_in way (edge label mark below rest) left s (inl (more, is, inl (end, marked))) =
-    let whole : way ++ label ≡ way ++ left = ap (λ (xs : List ℕ). way ++ xs) (sym (append-nil label) ∙ ap (λ (xs : List ℕ). label ++ xs) (sym end) ∙ sym is) in
+    let whole : way ++ label ≡ way ++ left = ap (λ (xs : List ℕ). way ++ xs) (sym (append-nil label)
+    ∙ ap (λ (xs : List ℕ). label ++ xs) (sym end) ∙ sym is) in
     let C : List ℕ → Type 0 = λ w. Contains (names_along way (edge label mark below rest)) (w, s) in
-    subst C whole (Contains-append_left (ending (way ++ label) mark) (names_along (way ++ label) below ++ names_along way rest) (way ++ label, s)
+    subst C whole (Contains-append_left (ending (way ++ label) mark) (names_along (way ++ label) below ++ names_along way rest) (
+      way ++
+          label,
+      s,
+    )
     (ending_has (way ++ label) mark s marked))
 leads_in way (edge label mark below rest) left s (inl (more, is, inr further)) =
     let whole : (way ++ label) ++ more ≡ way ++ left = append_assoc way label more ∙ ap (λ (xs : List ℕ). way ++ xs) (sym is) in
     let C : List ℕ → Type 0 = λ w. Contains (names_along way (edge label mark below rest)) (w, s) in
-    subst C whole (Contains-append_right (ending (way ++ label) mark) (names_along (way ++ label) below ++ names_along way rest) ((way ++ label) ++ more, s)
-    (Contains-append_left (names_along (way ++ label) below) (names_along way rest) ((way ++ label) ++ more, s) (leads_in (way ++ label) below more s further)))
+    subst C whole (Contains-append_right (ending (way ++ label) mark) (names_along (way ++ label) below ++ names_along way rest) (
+      (way
+          ++ label) ++ more,
+      s,
+    )
+    (Contains-append_left (names_along (way ++ label) below) (names_along way rest) ((way ++ label) ++ more, s) (leads_in (way ++
+    label) below more s further)))
 leads_in way (edge label mark below rest) left s (inr other) =
     Contains-append_right (ending (way ++ label) mark) (names_along (way ++ label) below ++ names_along way rest) (way ++ left, s)
     (Contains-append_right (names_along (way ++ label) below) (names_along way rest) (way ++ left, s) (leads_in way rest left s other))
 
-pub in_leads : (way : List ℕ) (es : Edges) (p : List ℕ × ℕ) → Contains (names_along way es) p → (left : List ℕ) × (p.0 ≡ way ++ left) × LeadsTo es left p.1
+pub in_leads : (way : List ℕ) (es : Edges) (p : List ℕ × ℕ) → Contains (names_along way es) p
+    → (left : List ℕ) × (p.0 ≡ way ++ left) × LeadsTo es left p.1
 in_leads way no_edge p (k, within, is) = absurd (omega arith)
 in_leads way (edge label mark below rest) p c =
     elim (Contains-append_cases (ending (way ++ label) mark) (names_along (way ++ label) below ++ names_along way rest) p c) [

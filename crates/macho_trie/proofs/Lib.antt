@@ -18,3 +18,4 @@ pub mod Readback
 pub mod Following
 pub mod Standing
 pub mod Encodes
+pub mod EncodingRows

@@ -4,19 +4,16 @@
 -- them is at most that under those, so what it needs is at most what they give. So widths that are raised to what the
 -- present places need stay at most any that are wide enough. They also stay at most what the present places need, since
 -- places only grow. When no edge is too narrow, each width is what its place needs.
-use Rattle.std.proofs.Common.{◌≡◌, ◌⊎◌, ℕ, zero, suc, ◌+◌, ◌-◌, ◌*◌, ◌<◌, ◌≤◌, List, [], ◌∷◌, ◌++◌, length, take, sum, map, slice_index, get_or, replicate, Option, refl, sym, ap, subst, ◌∙◌, arith, inl, inr}
-use Rattle.std.specs.List.{sum_by, range_with_len, All, slice_set}
-use Rattle.std.proofs.Math.ListN.{set}
-use Rattle.std.proofs.lemmas.Bool.{cases_lt, cases_eq}
-use Rattle.std.proofs.lemmas.List.{get_or-set_same, get_or-set_other, length-set}
-use Rattle.std.proofs.lemmas.List.Sums.{sum_by-cons, sum_by-set}
+use Rattle.std.proofs.Common.{◌≡◌, ◌⊎◌, ℕ, zero, suc, ◌+◌, ◌*◌, ◌<◌, ◌≤◌, List, [], ◌∷◌, ◌++◌, length, take, sum, map, slice_index, replicate, Option, sym, ap, ◌∙◌, arith, inl, inr}
+use Rattle.std.specs.List.{range_with_len}
+use Rattle.std.proofs.lemmas.List.Sums.{sum_by-cons}
 use Rattle.std.proofs.lemmas.List.FromFn.{get_or-map-range_with_len, length-map-range_with_len}
 use Rattle.macho_bytes.specs.Uleb.{uleb_of}
 use Rattle.macho_bytes.proofs.Ulebs.{length-uleb_of, uleb_of-grows}
 use Rattle.macho_trie.specs.Trees.{Edges, no_edge, edge, node_count}
 use Rattle.macho_trie.specs.Encoding.{edges_size, node_sizes, place_of, total_of, AreWide, AreLeast}
 use Rattle.macho_trie.proofs.Sizes.{length-node_sizes}
-use Rattle.macho_trie.specs.Layouts.{needed, IsNarrow, AreWidened}
+use Rattle.macho_trie.specs.Layouts.{needed, AreWidened}
 
 -- each number of a list is at most that of another one
 abbrev pub AreAtMost : List ℕ → List ℕ → Type 0
@@ -37,7 +34,14 @@ sum_take-at_most : (k : ℕ) (xs ys : List ℕ) → AreAtMost xs ys → sum (tak
 sum_take-at_most zero xs ys a = omega arith
 sum_take-at_most (suc k) [] ys a = omega arith
 sum_take-at_most (suc k) (x ∷ xs) [] a = absurd a
-sum_take-at_most (suc k) (x ∷ xs) (y ∷ ys) a = omega (arith, a.0, sum_take-at_most k xs ys a.1, sum_cons x (take k xs), sum_cons y (take k ys))
+sum_take-at_most (suc k) (x ∷ xs) (y ∷ ys) a = omega (
+  arith,
+  a.0,
+  sum_take-at_most k xs ys a.1,
+  sum_cons x (take k xs),
+  sum_cons y
+      (take k ys),
+)
 
 sum-at_most : (xs ys : List ℕ) → AreAtMost xs ys → sum xs ≤ sum ys
 sum-at_most [] ys a = omega arith
@@ -45,10 +49,16 @@ sum-at_most (x ∷ xs) [] a = absurd a
 sum-at_most (x ∷ xs) (y ∷ ys) a = omega (arith, a.0, sum-at_most xs ys a.1, sum_cons x xs, sum_cons y ys)
 
 -- wider edges make no node smaller
-edges_size-grows : (w v : ℕ → ℕ) (i : ℕ) (es : Edges) → ((j : ℕ) → i ≤ j → j < i + node_count es → w j ≤ v j) → edges_size w i es ≤ edges_size v i es
+edges_size-grows : (w v : ℕ → ℕ) (i : ℕ) (es : Edges) → ((j : ℕ) → i ≤ j → j < i + node_count es → w j ≤ v j)
+    → edges_size w i es ≤ edges_size v i es
 edges_size-grows w v i no_edge h = omega arith
 edges_size-grows w v i (edge label symbol below rest) h =
-    omega (arith, h i (omega arith) (omega arith), edges_size-grows w v (i + (node_count below + 1)) rest (λ j a b. h j (omega arith) (omega arith)))
+    omega (
+      arith,
+      h i (omega arith) (omega arith),
+      edges_size-grows w v (i + (node_count below + 1)) rest (λ j a b. h j (omega arith)
+          (omega arith)),
+    )
 
 length-sizes : (size : Option ℕ → ℕ) (w : ℕ → ℕ) (i : ℕ) (es : Edges) → length (node_sizes size w i es) ≡ node_count es
 length-sizes size w i es = length-node_sizes size w i es
@@ -68,13 +78,15 @@ pub place-grows : (size more : Option ℕ → ℕ) (w v : ℕ → ℕ) (tree : E
     → ((j : ℕ) → 1 ≤ j → j < node_count tree → w j ≤ v j) → place_of size w tree k ≤ place_of more v tree k
 unfolding place_of
 place-grows size more w v tree k s h =
-    sum_take-at_most k (node_sizes size w 0 tree) (node_sizes more v 0 tree) (node_sizes-grow size more w v 0 tree s (λ j a b. h j (omega arith) (omega arith)))
+    sum_take-at_most k (node_sizes size w 0 tree) (node_sizes more v 0 tree) (node_sizes-grow size more w v 0 tree s (λ j a b. h j
+    (omega arith) (omega arith)))
 
 pub total-grows : (size more : Option ℕ → ℕ) (w v : ℕ → ℕ) (tree : Edges) → ((m : Option ℕ) → size m ≤ more m)
     → ((j : ℕ) → 1 ≤ j → j < node_count tree → w j ≤ v j) → total_of size w tree ≤ total_of more v tree
 unfolding total_of
 total-grows size more w v tree s h =
-    sum-at_most (node_sizes size w 0 tree) (node_sizes more v 0 tree) (node_sizes-grow size more w v 0 tree s (λ j a b. h j (omega arith) (omega arith)))
+    sum-at_most (node_sizes size w 0 tree) (node_sizes more v 0 tree) (node_sizes-grow size more w v 0 tree s (λ j a b. h j (omega
+    arith) (omega arith)))
 
 -- What is known of widths on the way: they are at most what the present places need, and at most any that are wide enough.
 pub record AreLow (size : Option ℕ → ℕ) (tree : Edges) (widths : List ℕ) : Type 0 where
@@ -136,11 +148,15 @@ least_at_end size tree places widths l at wide = record {
 }
 
 -- greater terminal parts have no lesser widths, and no lesser size
-pub least-grows : (size more : Option ℕ → ℕ) (w v : ℕ → ℕ) (tree : Edges) → ((m : Option ℕ) → size m ≤ more m) → AreLeast size w tree → AreLeast more v tree
+pub least-grows : (size more : Option ℕ → ℕ) (w v : ℕ → ℕ) (tree : Edges) → ((m : Option ℕ) → size m ≤ more m) → AreLeast size w tree
+    → AreLeast more v tree
     → (k : ℕ) → 1 ≤ k → k < node_count tree → w k ≤ v k
 least-grows size more w v tree s a b =
-    a.least v (λ k some within. omega (arith, b.consistent k some within,
-    uleb_of-grows (place_of size v tree k) (place_of more v tree k) (place-grows size more v v tree k s (λ j x y. omega arith))))
+    a.least v (λ k some within. omega (
+      arith,
+      b.consistent k some within,
+      uleb_of-grows (place_of size v tree k) (place_of more v tree k) (place-grows size more v v tree k s (λ j x y. omega arith)),
+    ))
 
 -- the sum of small widths
 pub sum_few : (widths : List ℕ) → ((k : ℕ) → slice_index widths k ≤ 10) → sum widths ≤ 10 * length widths
@@ -155,7 +171,8 @@ pub record AreWidening (places was now : List ℕ) : Type 0 where
 
 -- the places of a list, at the nodes
 pub place_at : (f : ℕ → ℕ) (places : List ℕ) (n k : ℕ) → places ≡ map f (range_with_len 0 (n + 1)) → k < n + 1 → slice_index places k ≡ f k
-place_at f places n k is within = ap (λ (xs : List ℕ). slice_index xs k) is ∙ get_or-map-range_with_len f 0 (n + 1) k k 0 within (omega arith)
+place_at f places n k is within = ap (λ (xs : List ℕ). slice_index xs k) is ∙ get_or-map-range_with_len f 0 (n + 1) k k 0 within (omega
+    arith)
 
 pub length-places : (f : ℕ → ℕ) (places : List ℕ) (n : ℕ) → places ≡ map f (range_with_len 0 (n + 1)) → length places ≡ n + 1
 length-places f places n is = ap length is ∙ length-map-range_with_len f 0 (n + 1)

@@ -1,6 +1,6 @@
 -- How a table is built from its last row to its first: the nodes on the way to the least name so far are open, the deepest
 -- first, and have their children among the trees of the rows that are done.
-use Rattle.std.specs.Prelude.{◌≡◌, ◌⊎◌, ℕ, ◌+◌, ◌-◌, ◌<◌, ◌≤◌, nat_lt, if◌then◌else◌, Bool, true, false, List, [], ◌∷◌, ◌++◌, length, take, slice_index, Option, Some, None, option_to_list, reverse}
+use Rattle.std.specs.Prelude.{◌≡◌, ◌⊎◌, ℕ, ◌+◌, ◌-◌, ◌<◌, ◌≤◌, nat_lt, if◌then◌else◌, Bool, true, false, List, [], ◌∷◌, ◌++◌, length, take, slice_index, Option, Some, None, reverse}
 use Rattle.macho_trie.specs.Trees.{Edges, no_edge, edge, edge_count, node_count, BeginsAbove, AreRadix}
 use Rattle.macho_trie.specs.Tables.{first_edges, later_edges, name_at, trees_of, AreRows}
 use Rattle.macho_trie.specs.declared.table.Row.{Row}
@@ -52,7 +52,8 @@ pub record IsOpenAt (names : List (List ℕ)) (symbol : ℕ) (rows : List Row) (
   pub above : AreAbove (name_at names symbol) node.depth (later_edges node.children (trees_of names rows)) nodes
 
 -- The deepest open node may be closed: the name ends there, or no name ends and two edges begin.
-pub record IsClosing (names : List (List ℕ)) (symbol : ℕ) (terminal : Bool) (least : ℕ) (rows : List Row) (node : Open) (nodes : List Open) : Type 0 where
+pub record IsClosing (names : List (List ℕ)) (symbol : ℕ) (terminal : Bool) (least : ℕ) (rows : List Row) (node : Open) (nodes : List
+    Open) : Type 0 where
   pub here : symbol < length names
   pub sound : AreRows names rows
   pub deep : least < node.depth
@@ -128,18 +129,21 @@ AreReady names name rows [] = ⊥
 AreReady names name rows (node ∷ nodes) = IsReady names name rows node nodes
 
 -- A node is closed: what is known then, and the names in the tree, with the one that ends at the node.
-pub record ClosedAs (names : List (List ℕ)) (symbol : ℕ) (terminal : Bool) (least : ℕ) (before : List Row) (was : List Open) (rows : List Row) (now : List Open) : Type 0 where
+pub record ClosedAs (names : List (List ℕ)) (symbol : ℕ) (terminal : Bool) (least : ℕ) (before : List Row) (was : List Open) (rows :
+    List Row) (now : List Open) : Type 0 where
   pub closed : AreClosed names symbol least rows now
   pub built : names_open (name_at names symbol) (trees_of names rows) now
       ≡ (if terminal then (name_at names symbol, symbol) ∷ [] else []) ++ names_open (name_at names symbol) (trees_of names before) was
 
 -- The node of a name is the deepest open one, and the names in the tree are the same.
-pub record ArrivedAs (names : List (List ℕ)) (symbol : ℕ) (before : List Row) (was : List Open) (rows : List Row) (now : List Open) : Type 0 where
+pub record ArrivedAs (names : List (List ℕ)) (symbol : ℕ) (before : List Row) (was : List Open) (rows : List Row) (now : List Open) :
+    Type 0 where
   pub opened : AreOpenAt names symbol rows now
   pub built : names_open (name_at names symbol) (trees_of names rows) now ≡ names_open (name_at names symbol) (trees_of names before) was
 
 -- The node of the name before another one is the deepest open one, and the tree has that other one too.
-pub record StepsAs (names : List (List ℕ)) (above symbol : ℕ) (before : List Row) (was : List Open) (rows : List Row) (now : List Open) : Type 0 where
+pub record StepsAs (names : List (List ℕ)) (above symbol : ℕ) (before : List Row) (was : List Open) (rows : List Row) (now : List Open)
+    : Type 0 where
   pub opened : AreOpenAt names symbol rows now
   pub built : names_open (name_at names symbol) (trees_of names rows) now
       ≡ (name_at names above, above) ∷ names_open (name_at names above) (trees_of names before) was
@@ -159,7 +163,8 @@ AreRoot names symbol terminal rows [] = ⊥
 AreRoot names symbol terminal rows (node ∷ nodes) = IsRoot names symbol terminal rows node nodes
 
 -- All nodes are closed: the rows spell one radix tree, with the names that were in the tree and the one that ends at the root.
-pub record RootedAs (names : List (List ℕ)) (symbol : ℕ) (terminal : Bool) (before : List Row) (was : List Open) (rows : List Row) : Type 0 where
+pub record RootedAs (names : List (List ℕ)) (symbol : ℕ) (terminal : Bool) (before : List Row) (was : List Open) (rows : List Row) :
+    Type 0 where
   pub sound : AreRows names rows
   pub mark : Option ℕ
   pub below : Edges
@@ -184,3 +189,29 @@ root_node = record { depth = 0; children = 0; opened = 0 }
 abbrev pub deepest : List Open → ℕ
 deepest [] = 0
 deepest (node ∷ nodes) = node.depth
+
+-- the same between a builder before a call and after it
+abbrev pub Closes : ℕ → Bool → ℕ → Builder → Builder → Type 0
+Closes symbol terminal least old new = ClosedAs (names_in new) symbol terminal least (rows_in old) (open_in old) (rows_in new) (open_in new)
+
+abbrev pub Arrives : ℕ → Builder → Builder → Type 0
+Arrives symbol old new = ArrivedAs (names_in new) symbol (rows_in old) (open_in old) (rows_in new) (open_in new)
+
+abbrev pub Steps : ℕ → ℕ → Builder → Builder → Type 0
+Steps above symbol old new = StepsAs (names_in new) above symbol (rows_in old) (open_in old) (rows_in new) (open_in new)
+
+abbrev pub IsRooted : ℕ → Bool → Builder → List Row → Type 0
+IsRooted symbol terminal old rows = RootedAs (names_in old) symbol terminal (rows_in old) (open_in old) rows
+
+-- what is known of a builder's open nodes
+abbrev pub MayClose : ℕ → Bool → ℕ → Builder → Type 0
+MayClose symbol terminal least b = AreClosing (names_in b) symbol terminal least (rows_in b) (open_in b)
+
+abbrev pub IsAt : ℕ → Builder → Type 0
+IsAt symbol b = AreOpenAt (names_in b) symbol (rows_in b) (open_in b)
+
+abbrev pub IsReadyFor : ℕ → Builder → Type 0
+IsReadyFor symbol b = AreReady (names_in b) (name_at (names_in b) symbol) (rows_in b) (open_in b)
+
+abbrev pub IsAtRoot : ℕ → Bool → Builder → Type 0
+IsAtRoot symbol terminal b = AreRoot (names_in b) symbol terminal (rows_in b) (open_in b)

@@ -1,11 +1,11 @@
 -- A table with its symbols: the tree that it spells, the sizes of its terminal parts, and places of its nodes.
 use Rattle.std.specs.Prelude.{◌≡◌, ◌⊎◌, ℕ, ◌+◌, ◌<◌, ◌≤◌, List, length, map, slice_index, Option}
-use Rattle.std.specs.List.{range_with_len, All}
+use Rattle.std.specs.List.{range_with_len}
 use Rattle.macho_bytes.specs.Uleb.{uleb_of}
 use Rattle.macho_trie.specs.Exports.{Exported}
 use Rattle.macho_trie.specs.Symbols.{symbols_of, names_of}
 use Rattle.macho_trie.specs.Trees.{Edges}
-use Rattle.macho_trie.specs.Tables.{trees_of, row_at, symbol_at, AreRows}
+use Rattle.macho_trie.specs.Tables.{trees_of, row_at, symbol_at, AreRows, children_at}
 use Rattle.macho_trie.specs.Encoding.{says_of, terminal_size, place_of, AreLeast}
 use Rattle.macho_trie.specs.declared.layout.Layout.{Layout}
 
@@ -25,6 +25,10 @@ size_at l = terminal_size (says_at l)
 abbrev pub IsLaid : Layout → Type 0
 IsLaid l = AreRows (names_at l) l.rows.now
 
+-- the children of a row
+abbrev pub children_of : Layout → ℕ → Edges
+children_of l row = children_at (names_at l) l.rows.now row
+
 -- the sizes of all terminal parts, in the order of the rows
 abbrev pub AreTerminals : Layout → List ℕ → Type 0
 AreTerminals l sizes = sizes ≡ map (λ k. size_at l (symbol_at (row_at l.rows.now k))) (range_with_len 0 (length l.rows.now))
@@ -39,9 +43,13 @@ pub record AreLaidOut (l : Layout) (places : List ℕ) : Type 0 where
   pub least : AreLeast (size_at l) width (tree_at l)
   pub placed : ArePlaces l width places
 
--- the bytes that a place needs, and edges whose children's places need more than they have
+-- the bytes that a place needs
 abbrev pub needed : List ℕ → ℕ → ℕ
 needed places k = length (uleb_of (slice_index places k))
+
+-- no edge is too narrow
+abbrev pub NoneNarrow : List ℕ → List ℕ → Type 0
+NoneNarrow places widths = (k : ℕ) → 1 ≤ k → k < length widths → needed places k ≤ slice_index widths k
 
 -- An edge is too narrow.
 pub record IsNarrow (places widths : List ℕ) (k : ℕ) : Type 0 where
@@ -52,4 +60,5 @@ pub record IsNarrow (places widths : List ℕ) (k : ℕ) : Type 0 where
 -- Widths after some edges were widened to what they need.
 pub record AreWidened (places was now : List ℕ) : Type 0 where
   pub long : length now ≡ length was
-  pub each : (k : ℕ) → (slice_index now k ≡ slice_index was k) ⊎ ((slice_index was k < slice_index now k) × (1 ≤ k) × (slice_index now k ≡ needed places k))
+  pub each : (k : ℕ) → (slice_index now k ≡ slice_index was k) ⊎ ((slice_index was k < slice_index now k) × (1 ≤ k) × (slice_index now
+      k ≡ needed places k))

@@ -1,5 +1,6 @@
 -- What a trie promises for the register whose names it was made of.
-use Rattle.std.specs.Prelude.{◌≡◌, ◌⊎◌, ◌↔◌, ℕ, ◌+◌, ◌-◌, ◌^◌, ◌<◌, ◌≤◌, List, [], ◌∷◌, length, Option, Some}
+use Rattle.std.specs.Prelude.{◌≡◌, ℕ, ◌-◌, ◌^◌, ◌<◌, ◌≤◌, List, [], ◌∷◌, length, Some, Contains}
+use Rattle.macho_trie.specs.Lookup.{trie_finds}
 use Rattle.macho_trie.specs.Exports.{Exported, as_value, as_reexport}
 use Rattle.macho_trie.specs.Tables.{trees_of, IsTable}
 use Rattle.macho_trie.specs.Encoding.{says_of, terminal_bytes, terminal_size, total_of, AreWide, AreLeast}
@@ -29,7 +30,8 @@ IsShortest trie names symbols n =
 
 -- no terminal part of the first symbols is longer than that of the second ones
 abbrev pub AreNoLarger : List (List ℕ × Exported) → List (List ℕ × Exported) → Type 0
-AreNoLarger symbols others = (s : ℕ) → length (terminal_bytes (Some (says_of symbols s))) ≤ length (terminal_bytes (Some (says_of others s)))
+AreNoLarger symbols others = (s : ℕ) → length (terminal_bytes (Some (says_of symbols s))) ≤ length (terminal_bytes (Some (says_of
+    others s)))
 
 -- The first one holds the place of the second one: the greatest address for any address whose flags are below 128, a reexport
 -- for itself.
@@ -42,3 +44,20 @@ Reserves (as_reexport flags ordinal name) other = other ≡ as_reexport flags or
 pub record AreReserved (symbols others : List (List ℕ × Exported)) : Type 0 where
   pub count : length others ≡ length symbols
   pub each : (s : ℕ) → s < length symbols → Reserves (says_of symbols s) (says_of others s)
+
+-- room for any symbols whose terminal parts are nowhere longer
+abbrev pub IsRoomFor : Trie → List (List ℕ) → List (List ℕ × Exported) → ℕ → Type 0
+IsRoomFor trie names symbols n = (others : List (List ℕ × Exported)) (m : ℕ) → AreNoLarger others symbols
+    → IsSizeOf trie names others m → m ≤ n
+
+-- room for any symbols whose places these hold
+abbrev pub IsReservedFor : Trie → List (List ℕ) → List (List ℕ × Exported) → ℕ → Type 0
+IsReservedFor trie names symbols n = (others : List (List ℕ × Exported)) (m : ℕ) → AreReserved symbols others
+    → IsSizeOf trie names others m → m ≤ n
+
+-- look-up finds what each of the symbols says, and finds nothing else
+abbrev pub FindsAll : List (List ℕ × Exported) → List ℕ → Type 0
+FindsAll symbols bytes = (name : List ℕ) (x : Exported) → Contains symbols (name, x) → trie_finds bytes name x
+
+abbrev pub FindsOnly : List (List ℕ × Exported) → List ℕ → Type 0
+FindsOnly symbols bytes = (name : List ℕ) (x : Exported) → trie_finds bytes name x → Contains symbols (name, x)

@@ -11,7 +11,8 @@ ghost use Rattle.macho_trie.specs.Sorting.{AreSorted, HaveNoNul};
 ghost use Rattle.std.specs.Cmp.Lexicographic.{slice_cmp};
 ghost use Rattle.std.specs.Ordering.{nat_cmp};
 ghost use Rattle.std.specs.declared.cmp.Ordering.TheVariants.{Less};
-ghost use Rattle.macho_trie.specs.Building.{names_in, rows_in, open_in, root_node, deepest, AreClosing, AreClosed, ClosedAs, AreReady, AreOpenAt, AreRoot, ArrivedAs, RootedAs, StepsAs, adopted};
+ghost use Rattle.macho_trie.specs.Building.{names_in, rows_in, open_in, root_node, deepest, adopted, MayClose, Closes, IsAt};
+ghost use Rattle.macho_trie.specs.Building.{IsReadyFor, Arrives, Steps, IsAtRoot, IsRooted};
 
 use crate::sort::shared_length;
 use crate::symbols::Symbols;
@@ -43,16 +44,24 @@ impl<'s> Builder<'s> {
         ensures names { IfOk result (λ b. names_in b ≡ names_of symbols.now) }
     {
         let mut nodes = Vec::new(alloc);
-        nodes.push(Open { depth: 0, children: 0, opened: 0 })?;
-        Ok(Builder { symbols, rows: Vec::new(alloc), nodes })
+        nodes.push(Open {
+            depth: 0,
+            children: 0,
+            opened: 0,
+        })?;
+        Ok(Builder {
+            symbols,
+            rows: Vec::new(alloc),
+            nodes,
+        })
     }
 
     /// Closes the deepest node. It hangs at the next open node, or at a new one of the least depth where that is deeper.
     /// Answers that depth.
     fn close(&mut self, symbol: usize, is_terminal: bool, least: usize) -> Result<usize, AllocError>
-        requires closing { AreClosing (names_in self.old) symbol is_terminal least (rows_in self.old) (open_in self.old) }
+        requires closing { MayClose symbol is_terminal least self.old }
         requires plain { IsPlain (name_at (names_in self.old) symbol) }
-        ensures closed { OnOk result (ClosedAs (names_in self.new) symbol is_terminal least (rows_in self.old) (open_in self.old) (rows_in self.new) (open_in self.new)) }
+        ensures closed { OnOk result (Closes symbol is_terminal least self.old self.new) }
         ensures names { OnOk result (names_in self.new ≡ names_in self.old) }
         ensures depth { IfOk result (λ d. (d ≡ deepest (open_in self.new)) × (d < deepest (open_in self.old))) }
     {
@@ -83,7 +92,11 @@ impl<'s> Builder<'s> {
     {
         if next.depth < least {
             self.nodes.push(next)?;
-            self.nodes.push(Open { depth: least, children: 1, opened })?;
+            self.nodes.push(Open {
+                depth: least,
+                children: 1,
+                opened,
+            })?;
         } else {
             self.nodes.push(Open {
                 children: next.children + 1,
@@ -95,10 +108,10 @@ impl<'s> Builder<'s> {
 
     /// Closes all nodes below a depth, from a name's own node on, so that a node of that depth is the deepest.
     pub(crate) fn close_to(&mut self, symbol: usize, least: usize) -> Result<(), AllocError>
-        requires opened { AreOpenAt (names_in self.old) symbol (rows_in self.old) (open_in self.old) }
+        requires opened { IsAt symbol self.old }
         requires plain { IsPlain (name_at (names_in self.old) symbol) }
         requires above { least < length (name_at (names_in self.old) symbol) }
-        ensures closed { OnOk result (ClosedAs (names_in self.new) symbol true least (rows_in self.old) (open_in self.old) (rows_in self.new) (open_in self.new)) }
+        ensures closed { OnOk result (Closes symbol true least self.old self.new) }
         ensures depth { OnOk result (deepest (open_in self.new) ≡ least) }
         ensures names { OnOk result (names_in self.new ≡ names_in self.old) }
     {
@@ -110,30 +123,45 @@ impl<'s> Builder<'s> {
     }
 
     /// Goes on to the node of a name, which is a new one where the deepest node lies above it.
-    pub(crate) fn arrive(&mut self, symbol: usize, depth: usize, size: usize) -> Result<(), AllocError>
+    pub(crate) fn arrive(
+        &mut self,
+        symbol: usize,
+        depth: usize,
+        size: usize,
+    ) -> Result<(), AllocError>
         requires here { symbol < length (names_in self.old) }
-        requires ready { AreReady (names_in self.old) (name_at (names_in self.old) symbol) (rows_in self.old) (open_in self.old) }
+        requires ready { IsReadyFor symbol self.old }
         requires depth { depth ≡ deepest (open_in self.old) }
         requires long { size ≡ length (name_at (names_in self.old) symbol) }
-        ensures done { OnOk result (ArrivedAs (names_in self.new) symbol (rows_in self.old) (open_in self.old) (rows_in self.new) (open_in self.new)) }
+        ensures done { OnOk result (Arrives symbol self.old self.new) }
         ensures names { OnOk result (names_in self.new ≡ names_in self.old) }
     {
         if depth < size {
             let opened = self.rows.len();
-            self.nodes.push(Open { depth: size, children: 0, opened })?;
+            self.nodes.push(Open {
+                depth: size,
+                children: 0,
+                opened,
+            })?;
         }
         Ok(())
     }
 
     /// Goes on from a name's node to that of the lesser name before it.
-    fn step(&mut self, next: &[u8], above: usize, name: &[u8], symbol: usize) -> Result<(), AllocError>
-        requires opened { AreOpenAt (names_in self.old) above (rows_in self.old) (open_in self.old) }
+    fn step(
+        &mut self,
+        next: &[u8],
+        above: usize,
+        name: &[u8],
+        symbol: usize,
+    ) -> Result<(), AllocError>
+        requires opened { IsAt above self.old }
         requires next { next.now ≡ name_at (names_in self.old) above }
         requires plain { HasNoNul next.now }
         requires name { name.now ≡ name_at (names_in self.old) symbol }
         requires here { symbol < length (names_in self.old) }
         requires less { slice_cmp nat_cmp name.now next.now ≡ Less }
-        ensures done { OnOk result (StepsAs (names_in self.new) above symbol (rows_in self.old) (open_in self.old) (rows_in self.new) (open_in self.new)) }
+        ensures done { OnOk result (Steps above symbol self.old self.new) }
         ensures names { OnOk result (names_in self.new ≡ names_in self.old) }
     {
         let shared = shared_length(name, next);
@@ -143,10 +171,10 @@ impl<'s> Builder<'s> {
 
     /// Closes all nodes. Answers the rows, the root first.
     fn finish(mut self, name: &[u8], symbol: usize) -> Result<Vec<Row>, AllocError>
-        requires opened { AreOpenAt (names_in self) symbol (rows_in self) (open_in self) }
+        requires opened { IsAt symbol self }
         requires name { name.now ≡ name_at (names_in self) symbol }
         requires plain { HasNoNul name.now }
-        ensures { IfOk result (λ rows. RootedAs (names_in self.entry) symbol true (rows_in self.entry) (open_in self.entry) rows.items) }
+        ensures { IfOk result (λ rows. IsRooted symbol true self.entry rows.items) }
     {
         if name.is_empty() {
             return self.close_root(symbol, true);
@@ -157,13 +185,17 @@ impl<'s> Builder<'s> {
 
     /// Closes the root, and answers all rows from the first on.
     fn close_root(mut self, symbol: usize, is_terminal: bool) -> Result<Vec<Row>, AllocError>
-        requires { AreRoot (names_in self) symbol is_terminal (rows_in self) (open_in self) }
-        ensures { IfOk result (λ rows. RootedAs (names_in self.entry) symbol is_terminal (rows_in self.entry) (open_in self.entry) rows.items) }
+        requires { IsAtRoot symbol is_terminal self }
+        ensures { IfOk result (λ rows. IsRooted symbol is_terminal self.entry rows.items) }
     {
         let Some(root) = self.nodes.pop() else {
             unreachable!()
         };
-        let Builder { symbols: _, mut rows, nodes: _ } = self;
+        let Builder {
+            symbols: _,
+            mut rows,
+            nodes: _,
+        } = self;
         let below = rows.len() - root.opened;
         rows.push(Row {
             symbol,
@@ -179,7 +211,11 @@ impl<'s> Builder<'s> {
 }
 
 /// The rows of the radix tree of sorted names, the root first.
-pub(crate) fn table_of(alloc: Global, symbols: &Symbols, sorted: &[(&[u8], usize)]) -> Result<Vec<Row>, AllocError>
+pub(crate) fn table_of(
+    alloc: Global,
+    symbols: &Symbols,
+    sorted: &[(&[u8], usize)],
+) -> Result<Vec<Row>, AllocError>
     requires sorted { AreSorted (names_of symbols.now) (map (λ p. (p.0.now, p.1)) sorted.now) }
     requires plain { HaveNoNul (names_of symbols.now) }
     requires some { 1 ≤ length sorted.now }

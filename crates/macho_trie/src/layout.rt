@@ -1,9 +1,10 @@
 //! The sizes and places of a trie's nodes, and their bytes.
 ghost use Rattle.std.specs.Prelude.{◌≡◌, ℕ, ◌+◌, ◌<◌, ◌≤◌, ◌++◌, List, [], OnOk, IfOk, length, slice_index, sum};
-ghost use Rattle.macho_trie.specs.Symbols.{names_of, symbols_of};
-ghost use Rattle.macho_trie.specs.Tables.{children_at, symbol_at};
-ghost use Rattle.macho_trie.specs.Layouts.{names_at, says_at, size_at, tree_at, IsLaid, AreTerminals, ArePlaces, AreLaidOut, IsNarrow, AreWidened, needed};
-ghost use Rattle.macho_trie.specs.Encoding.{edges_size, export_bytes, terminal_size};
+ghost use Rattle.macho_trie.specs.Symbols.{names_of};
+ghost use Rattle.macho_trie.specs.Tables.{symbol_at};
+ghost use Rattle.macho_trie.specs.Layouts.{names_at, size_at, children_of, IsLaid, AreTerminals, ArePlaces, AreLaidOut};
+ghost use Rattle.macho_trie.specs.Layouts.{IsNarrow, NoneNarrow, AreWidened};
+ghost use Rattle.macho_trie.specs.Encoding.{edges_size, export_bytes};
 ghost use Rattle.macho_trie.specs.Says.{said_of};
 ghost use Rattle.std.specs.List.{All};
 
@@ -33,7 +34,7 @@ impl<'a> Layout<'a> {
         requires sound { IsLaid self.now }
         requires here { row < length self.now.rows.now }
         requires widths { length widths.now ≡ length self.now.rows.now }
-        ensures { IfOk result (λ n. n ≡ edges_size (slice_index widths.now) (row + 1) (children_at (names_at self.now) self.now.rows.now row)) }
+        ensures { IfOk result (λ n. n ≡ edges_size (slice_index widths.now) (row + 1) (children_of self.now row)) }
     {
         let mut size = 0;
         let mut child = row + 1;
@@ -71,7 +72,12 @@ impl<'a> Layout<'a> {
     }
 
     /// The places of all nodes, and the place after the last one.
-    fn places(&self, alloc: Global, terminals: &[usize], widths: &[usize]) -> Result<Vec<usize>, AllocError>
+    fn places(
+        &self,
+        alloc: Global,
+        terminals: &[usize],
+        widths: &[usize],
+    ) -> Result<Vec<usize>, AllocError>
         requires sound { IsLaid self.now }
         requires terminals { AreTerminals self.now terminals.now }
         requires widths { length widths.now ≡ length self.now.rows.now }
@@ -113,7 +119,7 @@ impl<'a> Layout<'a> {
 fn narrow_edges(alloc: Global, places: &[usize], widths: &[usize]) -> Result<Vec<usize>, AllocError>
     requires { length widths.now ≤ length places.now }
     ensures all { IfOk result (λ v. All (IsNarrow places.now widths.now) v.items) }
-    ensures none { IfOk result (λ v. v.items ≡ [] → (k : ℕ) → 1 ≤ k → k < length widths.now → needed places.now k ≤ slice_index widths.now k) }
+    ensures none { IfOk result (λ v. v.items ≡ [] → NoneNarrow places.now widths.now) }
 {
     let mut narrow = Vec::new(alloc);
     for child in 1..widths.len() {

@@ -8,8 +8,12 @@ mod sort;
 mod spelling;
 mod symbols;
 mod table;
-mod trie;
 #[cfg(test)]
 mod tests;
+mod trie;
+#[cfg(test)]
+mod trie_tests;
 
 pub use lookup::{Export, trie_lookup};
+pub use symbols::Symbols;
+pub use trie::Trie;

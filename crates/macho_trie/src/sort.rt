@@ -7,7 +7,10 @@ use crate::symbols::Symbols;
 use std::alloc::{AllocError, Global};
 
 /// All names in rising order of their bytes, each with the number of its symbol.
-pub(crate) fn sorted_names(alloc: Global, symbols: &Symbols) -> Result<Vec<(&[u8], usize)>, AllocError>
+pub(crate) fn sorted_names(
+    alloc: Global,
+    symbols: &Symbols,
+) -> Result<Vec<(&[u8], usize)>, AllocError>
     requires { AreDistinct (names_of symbols.now) }
     ensures { IfOk result (λ v. AreSorted (names_of symbols.now) (map (λ p. (p.0.now, p.1)) v.items)) }
 {

@@ -8,9 +8,9 @@
 //!     02 00 03   00                         19: flags 0, address 3, no edge
 ghost use Rattle.std.specs.Prelude.{◌≡◌, ℕ, ◌+◌, ◌<◌, ◌≤◌, ◌++◌, ◌∷◌, List, OnOk, IfOk, length, slice_index};
 ghost use Rattle.std.specs.Option.{option_map};
-ghost use Rattle.macho_trie.specs.Tables.{children_at, symbol_at, name_at, label_of};
+ghost use Rattle.macho_trie.specs.Tables.{symbol_at, name_at, label_of};
 ghost use Rattle.macho_bytes.specs.Uleb.{uleb_of};
-ghost use Rattle.macho_trie.specs.Layouts.{names_at, says_at, tree_at, IsLaid};
+ghost use Rattle.macho_trie.specs.Layouts.{names_at, says_at, tree_at, children_of, IsLaid};
 ghost use Rattle.macho_trie.specs.Encoding.{edges_bytes, export_bytes, terminal_bytes, tree_bytes};
 ghost use Rattle.macho_trie.specs.Says.{said_of};
 
@@ -58,7 +58,7 @@ impl<'a> Layout<'a> {
         requires sound { IsLaid self.now }
         requires here { row < length self.now.rows.now }
         requires places { length self.now.rows.now ≤ length places.now }
-        ensures { OnOk result (out.new.items ≡ out.old.items ++ edges_bytes (slice_index places.now) (row + 1) (children_at (names_at self.now) self.now.rows.now row)) }
+        ensures { OnOk result (out.new.items ≡ out.old.items ++ edges_bytes (slice_index places.now) (row + 1) (children_of self.now row)) }
     {
         let mut child = row + 1;
         for edge in 0..self.rows[row].children {

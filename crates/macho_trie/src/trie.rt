@@ -20,7 +20,7 @@ pub struct Trie {
 }
 
 impl Trie {
-    ghost use Rattle.macho_trie.specs.Tries.{IsTrieOf, IsSizeOf, IsShortest, AreNoLarger, AreReserved};
+    ghost use Rattle.macho_trie.specs.Tries.{IsTrieOf, IsSizeOf, IsShortest, IsRoomFor, IsReservedFor, FindsAll, FindsOnly};
 
     /// The tree of a register's names, by one sort of them.
     pub fn new(alloc: Global, symbols: &Symbols) -> Result<Trie, AllocError>
@@ -30,7 +30,9 @@ impl Trie {
     {
         let sorted = sorted_names(alloc, symbols)?;
         if sorted.is_empty() {
-            return Ok(Trie { rows: Vec::new(alloc) });
+            return Ok(Trie {
+                rows: Vec::new(alloc),
+            });
         }
         let rows = table_of(alloc, symbols, &sorted)?;
         Ok(Trie { rows })
@@ -45,10 +47,13 @@ impl Trie {
         ensures size { IfOk result (λ n. IsSizeOf self.now (names_of symbols.now) (symbols_of symbols.now) n) }
         ensures only { IfOk result (λ n. (m : ℕ) → IsSizeOf self.now (names_of symbols.now) (symbols_of symbols.now) m → m ≡ n) }
         ensures shortest { IfOk result (IsShortest self.now (names_of symbols.now) (symbols_of symbols.now)) }
-        ensures covers { IfOk result (λ n. (others : List (List ℕ × Exported)) (m : ℕ) → AreNoLarger others (symbols_of symbols.now) → IsSizeOf self.now (names_of symbols.now) others m → m ≤ n) }
-        ensures reserves { IfOk result (λ n. (others : List (List ℕ × Exported)) (m : ℕ) → AreReserved (symbols_of symbols.now) others → IsSizeOf self.now (names_of symbols.now) others m → m ≤ n) }
+        ensures covers { IfOk result (IsRoomFor self.now (names_of symbols.now) (symbols_of symbols.now)) }
+        ensures reserves { IfOk result (IsReservedFor self.now (names_of symbols.now) (symbols_of symbols.now)) }
     {
-        let layout = Layout { symbols, rows: &self.rows };
+        let layout = Layout {
+            symbols,
+            rows: &self.rows,
+        };
         let places = layout.lay_out(alloc)?;
         Ok(places[self.rows.len()])
     }
@@ -59,10 +64,13 @@ impl Trie {
         ensures empty { symbols_of symbols.now ≡ [] → IfOk result (λ v. v.items ≡ []) }
         ensures tree { 1 ≤ length (symbols_of symbols.now) → IfOk result (λ v. IsExportsTrie (symbols_of symbols.now) v.items) }
         ensures length { IfOk result (λ v. IsSizeOf self.now (names_of symbols.now) (symbols_of symbols.now) (length v.items)) }
-        ensures found { IfOk result (λ v. (name : List ℕ) (x : Exported) → Contains (symbols_of symbols.now) (name, x) → trie_finds v.items name x) }
-        ensures only { IfOk result (λ v. (name : List ℕ) (x : Exported) → trie_finds v.items name x → Contains (symbols_of symbols.now) (name, x)) }
+        ensures found { IfOk result (λ v. FindsAll (symbols_of symbols.now) v.items) }
+        ensures only { IfOk result (λ v. FindsOnly (symbols_of symbols.now) v.items) }
     {
-        let layout = Layout { symbols, rows: &self.rows };
+        let layout = Layout {
+            symbols,
+            rows: &self.rows,
+        };
         let places = layout.lay_out(alloc)?;
         layout.spell(alloc, &places)
     }

@@ -1,6 +1,5 @@
-use Rattle.std.proofs.Common.{◌≡◌, length, ap, ◌∙◌, sym, arith, rules}
+use Rattle.std.proofs.Common.{◌≡◌, length, ap, arith, rules}
 use Rattle.macho_trie.specs.Building.{names_in, rows_in, open_in}
-use Rattle.macho_trie.specs.Tables.{name_at}
 use Rattle.macho_trie.proofs.Rooting.{root_of_opened, root_of_closed}
 use Rattle.macho_trie.proofs.build.Builder.finish.Goals as goal
 
@@ -12,5 +11,6 @@ close_root-requires c =
 
 pub close_root-requires-2 : goal.close_root-requires-2
 close_root-requires-2 c =
-    root_of_closed (names_in c.close_to.new.self) c.args.symbol (rows_in c.close_to.new.self) (open_in c.close_to.new.self) c.in_ok-close_to.ensures.closed.closed
+    root_of_closed (names_in c.close_to.new.self) c.args.symbol (rows_in c.close_to.new.self) (open_in c.close_to.new.self)
+    c.in_ok-close_to.ensures.closed.closed
     c.in_ok-close_to.ensures.depth

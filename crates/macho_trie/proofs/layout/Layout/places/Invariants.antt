@@ -1,4 +1,4 @@
-use Rattle.std.proofs.Common.{◌≡◌, ℕ, map, slice_index}
+use Rattle.std.proofs.Common.{◌≡◌, map, slice_index}
 use Rattle.std.specs.List.{range_with_len}
 use Rattle.macho_trie.specs.Encoding.{place_of}
 use Rattle.macho_trie.specs.Layouts.{size_at, tree_at}

@@ -1,4 +1,4 @@
-use Rattle.std.proofs.Common.{◌≡◌, ◌-◌, ◌<◌, ◌≤◌, length, slice_index, arith}
+use Rattle.std.proofs.Common.{◌-◌, slice_index, arith}
 use Rattle.macho_trie.specs.Tables.{row_at}
 use Rattle.macho_trie.specs.Layouts.{names_at}
 use Rattle.macho_trie.proofs.Spells.{spelling_first, spelling_more, spelling_at, spelling_last}
@@ -45,11 +45,13 @@ overflow_add-child-in-loop-edge-2 c =
 pub loop-edge-preserved : goal.loop-edge-preserved
 loop-edge-preserved c =
     spelling_more (names_at c.args.self.now) c.args.self.now.rows.now (slice_index c.args.places.now) c.args.row
-    ((row_at c.args.self.now.rows.now c.args.row).children - c.loop-edge.edge) _ c.loop-edge.child c.args.out.now.items c.loop-edge.out.items
+    ((row_at c.args.self.now.rows.now c.args.row).children - c.loop-edge.edge) _ c.loop-edge.child c.args.out.now.items
+    c.loop-edge.out.items
     c.write_edge.new.out.items c.requires.sound (omega arith) c.loop-edge.invariant c.in_ok-write_edge.ensures
 
 pub returns : goal.returns
 returns c =
     spelling_last (names_at c.args.self.now) c.args.self.now.rows.now (slice_index c.args.places.now) c.args.row
-    ((row_at c.args.self.now.rows.now c.args.row).children - c.loop-edge.edge) c.loop-edge.child c.args.out.now.items c.loop-edge.out.items (omega arith)
+    ((row_at c.args.self.now.rows.now c.args.row).children - c.loop-edge.edge) c.loop-edge.child c.args.out.now.items
+    c.loop-edge.out.items (omega arith)
     c.loop-edge.invariant

@@ -6,4 +6,5 @@ use Rattle.macho_trie.proofs.layout.Layout.write_edges.Given as goal
 
 abbrev pub invariant-loop-edge : goal.invariant-loop-edge
 invariant-loop-edge l =
-    IsSpelling (names_at l.self) l.self.rows.now (slice_index l.places) l.row ((row_at l.self.rows.now l.row).children - l.edge) l.child l.fn.out.items l.out.items
+    IsSpelling (names_at l.self) l.self.rows.now (slice_index l.places) l.row ((row_at l.self.rows.now l.row).children - l.edge)
+    l.child l.fn.out.items l.out.items

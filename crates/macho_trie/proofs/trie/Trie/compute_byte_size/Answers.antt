@@ -1,6 +1,5 @@
-use Rattle.std.proofs.Common.{◌≡◌, ◌<◌, length, arith, ap, sym, ◌∙◌}
+use Rattle.std.proofs.Common.{length, arith, ap}
 use Rattle.macho_trie.specs.Symbols.{symbols_of, names_of}
-use Rattle.macho_trie.specs.Tries.{IsSizeOf}
 use Rattle.macho_trie.specs.declared.layout.Layout.{Layout}
 use Rattle.macho_trie.proofs.Encodes.{places_long, size_is, only_size, shortest, covers, no_larger}
 use Rattle.macho_trie.proofs.trie.Trie.compute_byte_size.Goals as goal
@@ -8,8 +7,14 @@ use Rattle.macho_trie.proofs.trie.Trie.compute_byte_size.Goals as goal
 pub index-requires : goal.index-requires
 index-requires c =
     let l : Layout = record { symbols = c.args.symbols; rows = c.deref.result } in
-    omega (arith, c.len.ensures, c.args.self.now.rows.ok.0, c.in_ok-places.places.ok.0, places_long l c.in_ok-places.places.items c.in_ok-places.ensures,
-    ap length c.deref.ensures.value)
+    omega (
+      arith,
+      c.len.ensures,
+      c.args.self.now.rows.ok.0,
+      c.in_ok-places.places.ok.0,
+      places_long l c.in_ok-places.places.items c.in_ok-places.ensures,
+      ap length c.deref.ensures.value,
+    )
 
 pub returns-clause-size : goal.returns-clause-size
 returns-clause-size c =
