@@ -19,7 +19,7 @@ use Rattle.macho_trie.specs.Trees.{Edges, no_edge, edge, LeadsTo, edge_count, no
 use Rattle.macho_trie.specs.Tables.{name_at, trees_of, IsTable}
 use Rattle.macho_trie.specs.Encoding.{export_bytes, terminal_bytes, says_of, edges_bytes, node_bytes, tree_bytes, node_sizes, place_of, total_of, terminal_size, AreLeast, IsExportsTrie}
 use Rattle.macho_trie.specs.Layouts.{names_at, says_at, size_at, tree_at, AreLaidOut}
-use Rattle.macho_trie.specs.Tries.{IsTrieOf, IsSizeOf, IsShortest, AreNoLarger, Reserves, AreReserved}
+use Rattle.macho_trie.specs.Tries.{IsTrieOf, IsSizeOf, IsShortest, IsRoomFor, AreNoLarger, Reserves, AreReserved}
 use Rattle.macho_trie.specs.declared.layout.Layout.{Layout}
 use Rattle.macho_trie.specs.declared.symbols.Symbols.{Symbols}
 use Rattle.macho_trie.specs.declared.symbols.Symbol.{Symbol}
@@ -82,6 +82,15 @@ covers trie names symbols others n m a h b =
       b.total,
       total-grows (terminal_size (says_of others)) (terminal_size (says_of symbols)) b.width a.width tree (larger symbols others h) wider,
     )
+
+pub is_room : (trie : Trie) (names : List (List ℕ)) (symbols : List (List ℕ × Exported)) (n : ℕ) → IsSizeOf trie names symbols n
+    → IsRoomFor trie names symbols n
+is_room trie names symbols n a = record {
+  size = λ others m h b. covers trie names symbols others n m a h b;
+  widths = λ others narrow wide h b c.
+      least-grows (terminal_size (says_of others)) (terminal_size (says_of symbols)) narrow wide (trees_of names trie.rows.items) (larger
+      symbols others h) b c;
+}
 
 pub only_size : (trie : Trie) (names : List (List ℕ)) (symbols : List (List ℕ × Exported)) (n m : ℕ) → IsSizeOf trie names symbols n
     → IsSizeOf trie names symbols m → m ≡ n

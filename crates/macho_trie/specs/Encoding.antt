@@ -44,8 +44,8 @@ edges_size width i (edge label symbol below rest) = length label + 1 + width i +
 abbrev pub node_sizes : (Option ℕ → ℕ) → (ℕ → ℕ) → ℕ → Edges → List ℕ
 node_sizes size width i no_edge = []
 node_sizes size width i (edge label symbol below rest) =
-    (size symbol + 1 + edges_size width (i + 1) below) ∷ (node_sizes size width (i + 1) below ++ node_sizes size width (i + (node_count
-    below + 1)) rest)
+    (size symbol + 1 + edges_size width (i + 1) below)
+    ∷ (node_sizes size width (i + 1) below ++ node_sizes size width (i + (node_count below + 1)) rest)
 
 -- where a node stands, and the size of all nodes
 unfoldable pub place_of : (Option ℕ → ℕ) → (ℕ → ℕ) → Edges → ℕ → ℕ

@@ -60,5 +60,5 @@ pub record IsNarrow (places widths : List ℕ) (k : ℕ) : Type 0 where
 -- Widths after some edges were widened to what they need.
 pub record AreWidened (places was now : List ℕ) : Type 0 where
   pub long : length now ≡ length was
-  pub each : (k : ℕ) → (slice_index now k ≡ slice_index was k) ⊎ ((slice_index was k < slice_index now k) × (1 ≤ k) × (slice_index now
-      k ≡ needed places k))
+  pub each : (k : ℕ) → (slice_index now k ≡ slice_index was k)
+      ⊎ ((slice_index was k < slice_index now k) × (1 ≤ k) × (slice_index now k ≡ needed places k))

@@ -22,8 +22,8 @@ ended_name bytes = if nat_lt (length (name_of bytes)) (length bytes) then Some (
 
 -- flags and a number, and the bytes behind them: an address, or an ordinal with a name up to a NUL
 abbrev pub export_with : ℕ → ℕ → List ℕ → Option Exported
-export_with flags number rest = if is_reexport flags then option_map (as_reexport flags number) (ended_name rest) else Some (as_value
-    flags number)
+export_with flags number rest =
+    if is_reexport flags then option_map (as_reexport flags number) (ended_name rest) else Some (as_value flags number)
 
 -- what a terminal part says, all of it inside the part
 unfoldable pub export_in : List ℕ → Option Exported

@@ -30,8 +30,8 @@ symbol_at row = if row.is_terminal then Some row.symbol else None
 abbrev pub trees_of : List (List ℕ) → List Row → Edges
 trees_of names [] = no_edge
 trees_of names (row ∷ rows) =
-    edge (label_of names row) (symbol_at row) (first_edges row.children (trees_of names rows)) (later_edges row.children (trees_of
-    names rows))
+    edge (label_of names row) (symbol_at row) (first_edges row.children (trees_of names rows))
+    (later_edges row.children (trees_of names rows))
 
 -- A row before the trees of those behind it: its edge's label is in a name, and its children are there.
 pub record IsRow (names : List (List ℕ)) (row : Row) (behind : Edges) : Type 0 where

@@ -4,7 +4,7 @@ use Rattle.macho_trie.specs.Lookup.{trie_finds}
 use Rattle.macho_trie.specs.Exports.{Exported, as_value, as_reexport}
 use Rattle.macho_trie.specs.Tables.{trees_of, IsTable}
 use Rattle.macho_trie.specs.Encoding.{says_of, terminal_bytes, terminal_size, total_of, AreWide, AreLeast}
-use Rattle.macho_trie.specs.Trees.{Edges}
+use Rattle.macho_trie.specs.Trees.{Edges, node_count}
 use Rattle.macho_trie.specs.declared.trie.Trie.{Trie}
 
 -- the trie is that of some names: no rows for no names, else a table of their radix tree
@@ -30,8 +30,8 @@ IsShortest trie names symbols n =
 
 -- no terminal part of the first symbols is longer than that of the second ones
 abbrev pub AreNoLarger : List (List ℕ × Exported) → List (List ℕ × Exported) → Type 0
-AreNoLarger symbols others = (s : ℕ) → length (terminal_bytes (Some (says_of symbols s))) ≤ length (terminal_bytes (Some (says_of
-    others s)))
+AreNoLarger symbols others =
+    (s : ℕ) → length (terminal_bytes (Some (says_of symbols s))) ≤ length (terminal_bytes (Some (says_of others s)))
 
 -- The first one holds the place of the second one: the greatest address for any address whose flags are below 128, a reexport
 -- for itself.
@@ -45,15 +45,18 @@ pub record AreReserved (symbols others : List (List ℕ × Exported)) : Type 0 w
   pub count : length others ≡ length symbols
   pub each : (s : ℕ) → s < length symbols → Reserves (says_of symbols s) (says_of others s)
 
--- room for any symbols whose terminal parts are nowhere longer
-abbrev pub IsRoomFor : Trie → List (List ℕ) → List (List ℕ × Exported) → ℕ → Type 0
-IsRoomFor trie names symbols n = (others : List (List ℕ × Exported)) (m : ℕ) → AreNoLarger others symbols
-    → IsSizeOf trie names others m → m ≤ n
+-- Room for any symbols whose terminal parts are nowhere longer: they have no greater size, and no wider edge.
+pub record IsRoomFor (trie : Trie) (names : List (List ℕ)) (symbols : List (List ℕ × Exported)) (n : ℕ) : Type 0 where
+  pub size : (others : List (List ℕ × Exported)) (m : ℕ) → AreNoLarger others symbols → IsSizeOf trie names others m → m ≤ n
+  pub widths : (others : List (List ℕ × Exported)) (narrow wide : ℕ → ℕ) → AreNoLarger others symbols
+      → AreLeast (terminal_size (says_of others)) narrow (tree_of trie names) → AreLeast (terminal_size (says_of symbols)) wide
+      (tree_of trie names)
+      → (k : ℕ) → 1 ≤ k → k < node_count (tree_of trie names) → narrow k ≤ wide k
 
 -- room for any symbols whose places these hold
 abbrev pub IsReservedFor : Trie → List (List ℕ) → List (List ℕ × Exported) → ℕ → Type 0
-IsReservedFor trie names symbols n = (others : List (List ℕ × Exported)) (m : ℕ) → AreReserved symbols others
-    → IsSizeOf trie names others m → m ≤ n
+IsReservedFor trie names symbols n =
+    (others : List (List ℕ × Exported)) (m : ℕ) → AreReserved symbols others → IsSizeOf trie names others m → m ≤ n
 
 -- look-up finds what each of the symbols says, and finds nothing else
 abbrev pub FindsAll : List (List ℕ × Exported) → List ℕ → Type 0

@@ -4,6 +4,8 @@
 mod build;
 mod layout;
 mod lookup;
+#[cfg(test)]
+mod plain;
 mod sort;
 mod spelling;
 mod symbols;

@@ -5,6 +5,7 @@ ghost use Rattle.macho_trie.specs.Exports.{HasNoNul};
 ghost use Rattle.macho_trie.specs.Tries.{IsTrieOf};
 ghost use Rattle.std.specs.Prelude.{IsTrue, IfOk, IfSome};
 
+use crate::plain::{Entry, plain_bytes};
 use crate::{Export, Symbols, Trie, trie_lookup};
 use std::alloc::{AllocError, Global};
 use std::test::Fail;
@@ -137,6 +138,33 @@ fn deep_and_broad_tries(rt: HostRuntime) -> Result<(), Fail> {
     let bytes = bytes_of(alloc, &broad)?;
     for byte in 1..=255u8 {
         assert!(rt; is_value(trie_lookup(&bytes, &[byte]), u64::from(byte)));
+    }
+    Ok(())
+}
+
+/// Small sets of names, of letters that an arithmetic sequence gives.
+#[test]
+fn small_tries_are_those_of_the_plain_way(rt: HostRuntime) -> Result<(), Fail> {
+    let alloc = rt.alloc();
+    let mut state = 1u32;
+    for round in 0..60u64 {
+        let mut symbols = Symbols::new(alloc);
+        let mut entries: Vec<Entry> = Vec::new(alloc);
+        for address in 0..(round % 15) {
+            let mut name = Vec::new(alloc);
+            state = state.wrapping_mul(1_664_525).wrapping_add(1_013_904_223);
+            for letter in 0..(state >> 28) {
+                name.push(b'a' + ((state >> (2 * letter % 24)) % 3) as u8)?;
+            }
+            if !entries.iter().any(|entry| entry.0 == name) {
+                symbols.push(&name, address << (3 * (round % 20)), 0)?;
+                entries.push((name, address << (3 * (round % 20))))?;
+            }
+        }
+        if !entries.is_empty() {
+            let bytes = bytes_of(alloc, &symbols)?;
+            assert_eq!(rt; bytes.as_slice(), plain_bytes(alloc, &entries)?.as_slice());
+        }
     }
     Ok(())
 }

@@ -1,7 +1,7 @@
 use Rattle.std.proofs.Common.{length, arith, ap}
 use Rattle.macho_trie.specs.Symbols.{symbols_of, names_of}
 use Rattle.macho_trie.specs.declared.layout.Layout.{Layout}
-use Rattle.macho_trie.proofs.Encodes.{places_long, size_is, only_size, shortest, covers, no_larger}
+use Rattle.macho_trie.proofs.Encodes.{places_long, size_is, only_size, shortest, covers, is_room, no_larger}
 use Rattle.macho_trie.proofs.trie.Trie.compute_byte_size.Goals as goal
 
 pub index-requires : goal.index-requires
@@ -37,11 +37,11 @@ returns-clause-shortest c =
     (omega (arith, c.len.ensures, c.args.self.now.rows.ok.0)) c.index.ensures)
 
 pub returns-clause-covers : goal.returns-clause-covers
-returns-clause-covers c others m h b =
+returns-clause-covers c =
     let l : Layout = record { symbols = c.args.symbols; rows = c.deref.result } in
-    covers c.args.self.now (names_of c.args.symbols.now) (symbols_of c.args.symbols.now) others c.index.result.now m
+    is_room c.args.self.now (names_of c.args.symbols.now) (symbols_of c.args.symbols.now) c.index.result.now
     (size_is c.args.self.now l c.in_ok-places.places.items c.len.result c.index.result.now _ c.deref.ensures.value c.in_ok-places.ensures
-    (omega (arith, c.len.ensures, c.args.self.now.rows.ok.0)) c.index.ensures) h b
+    (omega (arith, c.len.ensures, c.args.self.now.rows.ok.0)) c.index.ensures)
 
 pub returns-clause-reserves : goal.returns-clause-reserves
 returns-clause-reserves c others m r b =
