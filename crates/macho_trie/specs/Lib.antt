@@ -1,0 +1,12 @@
+pub mod Exports
+pub mod Nodes
+pub mod Lookup
+pub mod Says
+pub mod Symbols
+pub mod Trees
+pub mod Tables
+pub mod Building
+pub mod Sorting
+pub mod Encoding
+pub mod Layouts
+pub mod Tries

@@ -1,0 +1,157 @@
+//! The sizes and places of a trie's nodes, and their bytes.
+ghost use Rattle.std.specs.Prelude.{◌≡◌, ℕ, ◌+◌, ◌<◌, ◌≤◌, ◌++◌, List, [], OnOk, IfOk, length, slice_index, sum};
+ghost use Rattle.macho_trie.specs.Symbols.{names_of};
+ghost use Rattle.macho_trie.specs.Tables.{symbol_at};
+ghost use Rattle.macho_trie.specs.Layouts.{names_at, size_at, children_of, IsLaid, AreTerminals, ArePlaces, AreLaidOut};
+ghost use Rattle.macho_trie.specs.Layouts.{IsNarrow, NoneNarrow, AreWidened};
+ghost use Rattle.macho_trie.specs.Encoding.{edges_size, export_bytes};
+ghost use Rattle.macho_trie.specs.Says.{said_of};
+ghost use Rattle.std.specs.List.{All};
+
+use crate::lookup::REEXPORT;
+use crate::symbols::{Says, Symbols};
+use crate::table::Row;
+use macho_records::uleb_size;
+use std::alloc::{AllocError, Global};
+
+/// A table with the symbols that its rows name.
+#[derive(Clone, Copy)]
+pub(crate) struct Layout<'a> {
+    pub(crate) symbols: &'a Symbols,
+    pub(crate) rows: &'a [Row],
+}
+
+/// A sum of sizes. Bytes that pass the address space find no memory.
+fn added(first: usize, second: usize) -> Result<usize, AllocError>
+    ensures { IfOk result (λ n. n ≡ first + second) }
+{
+    first.checked_add(second).ok_or(AllocError)
+}
+
+impl<'a> Layout<'a> {
+    /// The bytes of a node's edges, where the places of children have these widths.
+    fn edges_size(&self, row: usize, widths: &[usize]) -> Result<usize, AllocError>
+        requires sound { IsLaid self.now }
+        requires here { row < length self.now.rows.now }
+        requires widths { length widths.now ≡ length self.now.rows.now }
+        ensures { IfOk result (λ n. n ≡ edges_size (slice_index widths.now) (row + 1) (children_of self.now row)) }
+    {
+        let mut size = 0;
+        let mut child = row + 1;
+        for edge in 0..self.rows[row].children {
+            let at = self.rows[child];
+            let label = added(at.length, 1)?;
+            size = added(size, added(label, widths[child])?)?;
+            child += at.rows + 1;
+        }
+        Ok(size)
+    }
+
+    /// The bytes of a node's terminal part and its size.
+    fn terminal_size(&self, row: Row) -> Result<usize, AllocError>
+        requires { row.symbol < length (names_at self.now) }
+        ensures { IfOk result (λ n. n ≡ size_at self.now (symbol_at row)) }
+    {
+        if !row.is_terminal {
+            return Ok(1);
+        }
+        let part = export_size(&self.symbols.items[row.symbol].says)?;
+        added(uleb_size(part as u64), part)
+    }
+
+    /// The same of all nodes.
+    fn terminals(&self, alloc: Global) -> Result<Vec<usize>, AllocError>
+        requires { IsLaid self.now }
+        ensures { IfOk result (λ v. AreTerminals self.now v.items) }
+    {
+        let mut sizes = Vec::new(alloc);
+        for row in 0..self.rows.len() {
+            sizes.push(self.terminal_size(self.rows[row])?)?;
+        }
+        Ok(sizes)
+    }
+
+    /// The places of all nodes, and the place after the last one.
+    fn places(
+        &self,
+        alloc: Global,
+        terminals: &[usize],
+        widths: &[usize],
+    ) -> Result<Vec<usize>, AllocError>
+        requires sound { IsLaid self.now }
+        requires terminals { AreTerminals self.now terminals.now }
+        requires widths { length widths.now ≡ length self.now.rows.now }
+        ensures { IfOk result (λ v. ArePlaces self.now (slice_index widths.now) v.items) }
+    {
+        let mut places = Vec::new(alloc);
+        let mut place = 0;
+        for row in 0..self.rows.len() {
+            places.push(place)?;
+            let front = added(terminals[row], 1)?;
+            place = added(place, added(front, self.edges_size(row, widths)?)?)?;
+        }
+        places.push(place)?;
+        Ok(places)
+    }
+
+    /// The places of all nodes under the least widths, and the place after the last one.
+    ///
+    /// Each width begins at 1. A look over all edges puts those that are too narrow on a list, and each on the list gets the
+    /// width that it needs. That moves the nodes after it, so another look follows, until one finds no edge.
+    pub(crate) fn lay_out(&self, alloc: Global) -> Result<Vec<usize>, AllocError>
+        requires { IsLaid self.now }
+        ensures { IfOk result (λ v. AreLaidOut self.now v.items) }
+    {
+        let terminals = self.terminals(alloc)?;
+        let mut widths = vec![in alloc; 1; self.rows.len()]?;
+        'looks: loop {
+            let places = self.places(alloc, &terminals, &widths)?;
+            let narrow = narrow_edges(alloc, &places, &widths)?;
+            if narrow.is_empty() {
+                return Ok(places);
+            }
+            widen(&mut widths, &places, &narrow);
+        }
+    }
+}
+
+/// The edges, by the rows of their children, whose width is less than their child's place needs.
+fn narrow_edges(alloc: Global, places: &[usize], widths: &[usize]) -> Result<Vec<usize>, AllocError>
+    requires { length widths.now ≤ length places.now }
+    ensures all { IfOk result (λ v. All (IsNarrow places.now widths.now) v.items) }
+    ensures none { IfOk result (λ v. v.items ≡ [] → NoneNarrow places.now widths.now) }
+{
+    let mut narrow = Vec::new(alloc);
+    for child in 1..widths.len() {
+        if widths[child] < uleb_size(places[child] as u64) {
+            narrow.push(child)?;
+        }
+    }
+    Ok(narrow)
+}
+
+/// Gives each of these edges the width that its child's place needs.
+fn widen(widths: &mut [usize], places: &[usize], narrow: &[usize])
+    requires narrow { All (IsNarrow places.now widths.old) narrow.now }
+    requires some { 1 ≤ length narrow.now }
+    requires places { length widths.old ≤ length places.now }
+    ensures widened { AreWidened places.now widths.old widths.new }
+    ensures grows { sum widths.old < sum widths.new }
+{
+    for child in narrow {
+        widths[*child] = uleb_size(places[*child] as u64);
+    }
+}
+
+/// The bytes of a terminal part.
+pub(crate) fn export_size(says: &Says) -> Result<usize, AllocError>
+    ensures { IfOk result (λ n. n ≡ length (export_bytes (said_of says.now))) }
+{
+    match says {
+        Says::Value { flags, address } => added(uleb_size(*flags), uleb_size(*address)),
+        Says::Reexport { ordinal, name } => {
+            let library = added(uleb_size(REEXPORT), uleb_size(*ordinal))?;
+            added(library, added(name.len(), 1)?)
+        }
+    }
+}

@@ -1,0 +1,102 @@
+//! The bytes of a trie.
+//!
+//! The trie of `_foo` at 2 and `_fop` at 3, node by node:
+//!
+//!     00   01   5f 66 6f 00 07               0: one edge, `_fo` to 7
+//!     00   02   6f 00 0f   70 00 13          7: two edges, `o` to 15 and `p` to 19
+//!     02 00 02   00                         15: flags 0, address 2, no edge
+//!     02 00 03   00                         19: flags 0, address 3, no edge
+ghost use Rattle.std.specs.Prelude.{◌≡◌, ℕ, ◌+◌, ◌<◌, ◌≤◌, ◌++◌, ◌∷◌, List, OnOk, IfOk, length, slice_index};
+ghost use Rattle.std.specs.Option.{option_map};
+ghost use Rattle.macho_trie.specs.Tables.{symbol_at, name_at, label_of};
+ghost use Rattle.macho_bytes.specs.Uleb.{uleb_of};
+ghost use Rattle.macho_trie.specs.Layouts.{names_at, says_at, tree_at, children_of, IsLaid};
+ghost use Rattle.macho_trie.specs.Encoding.{edges_bytes, export_bytes, terminal_bytes, tree_bytes};
+ghost use Rattle.macho_trie.specs.Says.{said_of};
+
+use crate::layout::{Layout, export_size};
+use crate::lookup::REEXPORT;
+use crate::symbols::Says;
+use crate::table::Row;
+use macho_records::write_uleb;
+use std::alloc::{AllocError, Global};
+
+impl<'a> Layout<'a> {
+    /// The bytes of all nodes, in preorder, at these places.
+    pub(crate) fn spell(&self, alloc: Global, places: &[usize]) -> Result<Vec<u8>, AllocError>
+        requires sound { IsLaid self.now }
+        requires places { length self.now.rows.now ≤ length places.now }
+        ensures { IfOk result (λ v. v.items ≡ tree_bytes (says_at self.now) (slice_index places.now) 0 (tree_at self.now)) }
+    {
+        let mut out = Vec::new(alloc);
+        for row in 0..self.rows.len() {
+            let node = self.rows[row];
+            self.write_terminal(&mut out, node)?;
+            out.push(node.children)?;
+            self.write_edges(&mut out, row, places)?;
+        }
+        Ok(out)
+    }
+
+    /// Appends a terminal part behind its size.
+    fn write_terminal(&self, out: &mut Vec<u8>, row: Row) -> Result<(), AllocError>
+        requires { row.symbol < length (names_at self.now) }
+        ensures { OnOk result (out.new.items ≡ out.old.items ++ terminal_bytes (option_map (says_at self.now) (symbol_at row))) }
+    {
+        if !row.is_terminal {
+            out.push(0)?;
+            return Ok(());
+        }
+        let says = &self.symbols.items[row.symbol].says;
+        let part = export_size(says)?;
+        write_uleb(out, part as u64)?;
+        write_export(out, says)
+    }
+
+    /// Appends the edges of a node.
+    fn write_edges(&self, out: &mut Vec<u8>, row: usize, places: &[usize]) -> Result<(), AllocError>
+        requires sound { IsLaid self.now }
+        requires here { row < length self.now.rows.now }
+        requires places { length self.now.rows.now ≤ length places.now }
+        ensures { OnOk result (out.new.items ≡ out.old.items ++ edges_bytes (slice_index places.now) (row + 1) (children_of self.now row)) }
+    {
+        let mut child = row + 1;
+        for edge in 0..self.rows[row].children {
+            let at = self.rows[child];
+            self.write_edge(out, at, places[child])?;
+            child += at.rows + 1;
+        }
+        Ok(())
+    }
+
+    /// Appends the label of a row's edge, a NUL and the place of the row.
+    fn write_edge(&self, out: &mut Vec<u8>, row: Row, place: usize) -> Result<(), AllocError>
+        requires symbol { row.symbol < length (names_at self.now) }
+        requires label { row.start + row.length ≤ length (name_at (names_at self.now) row.symbol) }
+        ensures { OnOk result (out.new.items ≡ out.old.items ++ (label_of (names_at self.now) row ++ (0 ∷ uleb_of place))) }
+    {
+        let name = self.symbols.items[row.symbol].name.as_slice();
+        out.extend_from_slice(&name[row.start..row.start + row.length])?;
+        out.push(0)?;
+        write_uleb(out, place as u64)
+    }
+}
+
+/// Appends what a terminal part says.
+fn write_export(out: &mut Vec<u8>, says: &Says) -> Result<(), AllocError>
+    ensures { OnOk result (out.new.items ≡ out.old.items ++ export_bytes (said_of says.now)) }
+{
+    match says {
+        Says::Value { flags, address } => {
+            write_uleb(out, *flags)?;
+            write_uleb(out, *address)
+        }
+        Says::Reexport { ordinal, name } => {
+            write_uleb(out, REEXPORT)?;
+            write_uleb(out, *ordinal)?;
+            out.extend_from_slice(name)?;
+            out.push(0)?;
+            Ok(())
+        }
+    }
+}

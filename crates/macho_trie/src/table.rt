@@ -1,0 +1,16 @@
+//! The table of a trie: its nodes in preorder.
+
+/// A node. Its edge's label is a part of the name of a symbol below it.
+#[derive(Clone, Copy)]
+pub(crate) struct Row {
+    /// The first symbol whose name goes through the node.
+    pub(crate) symbol: usize,
+    /// Whether that name ends here.
+    pub(crate) is_terminal: bool,
+    pub(crate) children: u8,
+    /// Where the label begins in the name.
+    pub(crate) start: usize,
+    pub(crate) length: usize,
+    /// The rows below the node. So the row after its subtree is that many and one further on.
+    pub(crate) rows: usize,
+}
