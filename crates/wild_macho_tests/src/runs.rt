@@ -2,8 +2,9 @@
 
 use std::alloc::Global;
 use std::test::Fail;
+use std::{env, fs, process};
 use wild_macho::{
-    Fault, Files, InputKind, MemoryFiles, MemorySink, Ran, SteadyFiles, SteadySink, run,
+    Fault, Files, InputKind, MemoryFiles, MemorySink, Ran, RealFiles, SteadyFiles, SteadySink, run,
 };
 
 /// A function `_main` of two instructions, without relocations.
@@ -350,5 +351,21 @@ fn a_failed_write_leaves_the_first_bytes(rt: HostRuntime) -> Result<(), Fail> {
         let first = Some(front(&image.bytes, left as usize));
         assert!(rt; holds(&mut files, rt.alloc(), "a.out", first)?);
     }
+    Ok(())
+}
+
+#[test]
+fn an_output_path_that_is_a_folder_is_a_failed_write(rt: HostRuntime) -> Result<(), Fail> {
+    let folder = env::temp_dir(&rt)?;
+    let id = process::id(rt.process());
+    let path = format!(in rt.alloc(); "{}/wild_macho_runs_{id}.o", folder.as_str())?;
+    let mut files = RealFiles::new(&rt);
+    files.write(path.as_str(), &OBJECT)?;
+    let words = ["-o", folder.as_str(), path.as_str()];
+    let answer = ran(rt.alloc(), &words, &mut files, &mut SteadySink::new())?;
+    fs::remove_file(&rt, path)?;
+    assert_eq!(rt; answer.status, 4);
+    assert!(rt; matches!(answer.fault, Some(Fault::Write)));
+    assert!(rt; answer.image.is_some());
     Ok(())
 }
