@@ -29,7 +29,7 @@ use Rattle.macho_image.proofs.Placed.{costs-are}
 one_file : (l : Link) (b : List ℕ) → HasOneObject l b → 0 < length l.inputs
 one_file l b one = rw one.inputs (omega arith)
 
-part_alone : (b : List ℕ) (what : Unbuilt) → AsksForPart b what → (l : Link) → HasOneObject l b → RefusalStands l (error.Unbuilt what)
+pub part_alone : (b : List ℕ) (what : Unbuilt) → AsksForPart b what → (l : Link) → HasOneObject l b → RefusalStands l (error.Unbuilt what)
 part_alone b part.Relocation asks l one = (0, one_file l b one, subst (λ (o : List ℕ). AsksForPart o part.Relocation) (sym (object-is l b one)) asks)
 part_alone b part.Name asks l one = (0, one_file l b one, subst (λ (o : List ℕ). AsksForPart o part.Name) (sym (object-is l b one)) asks)
 part_alone b part.Segment asks l one = (0, one_file l b one, subst (λ (o : List ℕ). AsksForPart o part.Segment) (sym (object-is l b one)) asks)

@@ -26,7 +26,7 @@ use Rattle.macho_image.proofs.First.{object-is}
 use Rattle.macho_image.proofs.Entries.{and_left, and_right, own_by, own-is, definition-found, lies_at}
 
 -- a test that can't be passed fails
-fails : (b : Bool) → (b ≡ true → ⊥) → b ≡ false
+pub fails : (b : Bool) → (b ≡ true → ⊥) → b ≡ false
 fails true no_pass = absurd (no_pass refl)
 fails false no_pass = refl
 

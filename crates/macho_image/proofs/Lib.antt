@@ -22,3 +22,6 @@ pub mod Written
 pub mod Denoting
 pub mod Laid
 pub mod Unreached
+pub mod FineTargets
+pub mod Near
+pub mod Answered

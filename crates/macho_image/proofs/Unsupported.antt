@@ -123,7 +123,7 @@ pub word-is : (l : Link) (b : List ℕ) (k r : ℕ) → HasOneObject l b → (re
 word-is l b k r one four =
     content-is l b k r one ∙ ap (λ (n : ℕ). le_at (2 ^ n) (section_bytes b k) (relocation_at b k r).r_address) four
 
-type-is : (l : Link) (b : List ℕ) (k r : ℕ) → HasOneObject l b → (relocation_at b k r).r_type ≡ ARM64_RELOC_BRANCH26
+pub type-is : (l : Link) (b : List ℕ) (k r : ℕ) → HasOneObject l b → (relocation_at b k r).r_type ≡ ARM64_RELOC_BRANCH26
     → (relocation_in l (first_section k) r).r_type ≡ ARM64_RELOC_BRANCH26
 type-is l b k r one type = ap (λ (x : RelocationInfo). x.r_type) (relocation-is l b k r one) ∙ type
 

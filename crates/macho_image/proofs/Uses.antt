@@ -86,7 +86,7 @@ section_no_import : (l : Link) (s : SectionId) (p : Bool) → is_carried (header
 section_no_import l s true is = rw is refl
 section_no_import l s false is = rw is refl
 
-relocation_no_import : (l : Link) (b : List ℕ) (s : SectionId) (r : ℕ) → HasOneObject l b → is_import (target_of_relocation l s r) ≡ false
+pub relocation_no_import : (l : Link) (b : List ℕ) (s : SectionId) (r : ℕ) → HasOneObject l b → is_import (target_of_relocation l s r) ≡ false
 unfolding target_of_relocation
 relocation_no_import l b s r one = either (relocation_in l s r).r_extern
   where
@@ -112,7 +112,7 @@ all_flat_map : {X Y : Type 0} (P : Y → Type 0) (g : X → List Y) (xs : List X
 all_flat_map P g [] each = All-nil P
 all_flat_map P g (x ∷ xs) each = All-append P (g x) (flat_map g xs) (each 0 x (omega arith)) (all_flat_map P g xs (λ k d lt. each (suc k) d (omega arith)))
 
-filter_map_none : {X Y : Type 0} (f : X → Option Y) (xs : List X) → All (λ x. f x ≡ None) xs → filter_map f xs ≡ []
+pub filter_map_none : {X Y : Type 0} (f : X → Option Y) (xs : List X) → All (λ x. f x ≡ None) xs → filter_map f xs ≡ []
 filter_map_none f [] none = refl
 filter_map_none f (x ∷ xs) none = rw (none 0 x (omega arith), filter_map_none f xs (λ k d lt. none (suc k) d (omega arith))) refl
 

@@ -18,3 +18,4 @@ pub mod Referents
 pub mod Branches
 pub mod Setting
 pub mod Unwritten
+pub mod Answered

@@ -1,0 +1,68 @@
+-- The sections of a placement are near each other.
+--
+-- A section lies in its segment. Segments stand one behind the other, so each ends where the last one ends or before;
+-- and that is no farther from the base than the written sum. Two whole words in a range of 2 ^ 26 bytes reach each other
+-- by a branch: modulo 2 ^ 64 their difference is at most 2 ^ 26, or that near to 2 ^ 64, and a branch reaches 2 ^ 27.
+use Rattle.std.proofs.Common.{◌≡◌, ℕ, zero, suc, ◌+◌, ◌%◌, ◌^◌, ◌<◌, ◌≤◌, ◌&&◌, not, if◌then◌else◌, Bool, true, false, arith, subst, refl}
+use Rattle.std.proofs.Common.{List, [], ◌∷◌, length, get_or}
+use Rattle.std.specs.Prelude.{◌==◌, Contains}
+use Rattle.std.proofs.lemmas.Bool.Decides.{nat_tests}
+use Rattle.macho_records.specs.Sections.{is_zerofill}
+use Rattle.macho_model.specs.declared.placed.Counts.{Counts}
+use Rattle.macho_model.specs.declared.placed.PlacedSegment.{PlacedSegment}
+use Rattle.macho_model.specs.declared.placed.PlacedSection.{PlacedSection}
+use Rattle.macho_model.specs.Links.{Link, header_at}
+use Rattle.macho_model.specs.Placement.{Placed, id_of, SectionLies, IsPaged, EachFollows, end_of_segments, IsPlaced}
+use Rattle.macho_model.specs.Values.{branch_reaches}
+use Rattle.macho_model.specs.WrittenSum.{written_sum_of}
+
+-- each of the later segments follows the one before it too
+later_follow : (l : Link) (s : PlacedSegment) (segments : List PlacedSegment) → EachFollows l (s ∷ segments) → EachFollows l segments
+later_follow l s segments follow k a b lt at_a at_b =
+    let next : suc (k + 1) ≡ suc k + 1 = omega arith in
+    follow (suc k) a b (omega arith) at_a (subst (λ (n : ℕ). get_or (s ∷ segments) n b ≡ b) next at_b)
+
+-- the first of segments ends where the last one does, or before
+first_before_end : (l : Link) (s : PlacedSegment) (segments : List PlacedSegment) (end : ℕ) → EachFollows l (s ∷ segments)
+    → s.address + s.size ≤ end_of_segments (s ∷ segments) end
+first_before_end l s [] end follow = omega arith
+first_before_end l s (t ∷ segments) end follow =
+    let later = first_before_end l t segments (s.address + s.size) (later_follow l s (t ∷ segments) follow) in
+    omega (arith, later, (follow 0 s t (omega arith) refl refl).address)
+
+-- so does each
+before_end : (l : Link) (segments : List PlacedSegment) (end k : ℕ) (s : PlacedSegment) → EachFollows l segments → k < length segments
+    → get_or segments k s ≡ s → s.address + s.size ≤ end_of_segments segments end
+before_end l [] end k s follow lt at = absurd (omega arith)
+before_end l (t ∷ segments) end zero s follow lt at =
+    subst (λ (x : PlacedSegment). x.address + x.size ≤ end_of_segments (t ∷ segments) end) at (first_before_end l t segments end follow)
+before_end l (t ∷ segments) end (suc k) s follow lt at =
+    before_end l segments (t.address + t.size) k s (later_follow l t segments follow) (omega arith) at
+
+if_at_most : (b : Bool) (m n : ℕ) → m ≤ n → (if b then m else n) ≤ n
+if_at_most true m n le = le
+if_at_most false m n le = omega arith
+
+-- A section ends no farther from the base than the written sum.
+pub section_inside : (l : Link) (counts : Counts) (p : Placed) (q : PlacedSection) → IsPlaced l counts p → Contains p.sections q
+    → q.address + (header_at l (id_of q)).size ≤ p.base + written_sum_of l counts
+section_inside l counts p q placed among =
+    let lies = subst (SectionLies l p) among.2 (placed.in_segment.sections among.0 q among.1) in
+    ends_inside lies.0 lies.1 lies.2 lies.4.to
+  where
+    in_file : Bool
+    in_file = not (is_zerofill (header_at l (id_of q))) && not ((header_at l (id_of q)).size == 0)
+
+    ends_inside : (s : PlacedSegment) → q.segment < length p.segments → get_or p.segments q.segment s ≡ s
+        → q.address + (header_at l (id_of q)).size ≤ s.address + (if in_file then s.file_size else s.size)
+        → q.address + (header_at l (id_of q)).size ≤ p.base + written_sum_of l counts
+    ends_inside s lt at to =
+        let paged = subst IsPaged at (placed.in_order.paged q.segment s lt) in
+        let part = if_at_most in_file s.file_size s.size paged.file_size in
+        let segment = before_end l p.segments p.base q.segment s placed.in_order.follow lt at in
+        omega (arith, to, part, segment, placed.within_sum)
+
+-- A branch reaches from each whole word behind the first 4 GiB to each other, within 2 ^ 26 bytes.
+pub reaches : (x y : ℕ) → 2 ^ 32 ≤ x → x ≤ 2 ^ 32 + 2 ^ 26 → 2 ^ 32 ≤ y → y ≤ 2 ^ 32 + 2 ^ 26 → x % 4 ≡ 0 → y % 4 ≡ 0
+    → branch_reaches x y ≡ true
+reaches x y x_from x_to y_from y_to x_whole y_whole = grind (arith, nat_tests)
