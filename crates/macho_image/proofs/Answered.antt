@@ -3,9 +3,8 @@
 -- Its relocations are supported and of no type that isn't built, so they are branches, each to a place of a carried section
 -- or to the image's base. In a placement that a refusal keeps all of these are within the written sum behind the base, which is
 -- at most 64 MiB; and they are multiples of four. So each branch reaches its target.
-use Rattle.std.proofs.Common.{◌≡◌, ℕ, zero, suc, ◌+◌, ◌-◌, ◌%◌, ◌^◌, ◌<◌, ◌≤◌, Bool, true, false, not, ◌&&◌, ◌||◌, nat_le, nat_lt, if◌then◌else◌, List, [], ◌∷◌, length, get_or, map, Option, Some, None, is_some, inl, inr, refl, sym, ap, subst, ◌∙◌, arith, All}
+use Rattle.std.proofs.Common.{◌≡◌, ℕ, zero, suc, ◌+◌, ◌-◌, ◌%◌, ◌^◌, ◌<◌, ◌≤◌, Bool, true, false, not, ◌&&◌, ◌||◌, nat_le, nat_lt, if◌then◌else◌, List, length, get_or, is_some, inl, inr, refl, sym, ap, subst, ◌∙◌, arith, All}
 use Rattle.std.specs.Prelude.{filter, Contains, ◌==◌}
-use Rattle.std.specs.List.{range_with_len}
 use Rattle.std.specs.Bool.{passes}
 use Rattle.std.proofs.Math.Facts.{leb_yes}
 use Rattle.std.proofs.Math.Pow.{mod-mod-pow}
@@ -22,8 +21,6 @@ use Rattle.macho_model.specs.declared.targets.Target.{Target}
 use Rattle.macho_model.specs.declared.targets.Target.TheVariants as target
 use Rattle.macho_model.specs.declared.targets.Site.{Site}
 use Rattle.macho_model.specs.declared.targets.Site.TheVariants as site
-use Rattle.macho_model.specs.declared.placed.PlacedSection.{PlacedSection}
-use Rattle.macho_model.specs.Grammar.{IsObject}
 use Rattle.macho_model.specs.Objects.{num_sections, num_symbols, section_at, symbol_at, relocation_at}
 use Rattle.macho_model.specs.ObjectRules.{field_inside}
 use Rattle.macho_model.specs.Links.{Link, SectionId, header_at, sections_of, carried_of, is_carried, placed_exponent}
@@ -36,7 +33,7 @@ use Rattle.macho_model.specs.Stands.{SectionAt, CallIsAt, Branch, kind_of}
 use Rattle.macho_model.specs.Rows.{has_form, is_supported, may_be_called}
 use Rattle.macho_model.specs.Words.{is_branch}
 use Rattle.macho_model.specs.Valid.{stands_at_multiple, is_multiple}
-use Rattle.macho_model.specs.Values.{section_id, no_choice, branch_reaches, FieldOf, DoesNotFit, BadRange}
+use Rattle.macho_model.specs.Values.{section_id, no_choice, branch_reaches, DoesNotFit, BadRange}
 use Rattle.macho_layout.specs.Placements.{placed_of}
 use Rattle.macho_image.specs.declared.fault.LinkError.{LinkError}
 use Rattle.macho_image.specs.declared.fault.LinkError.TheVariants as error
@@ -158,7 +155,7 @@ call l a k r lt carried below = record {
     low =
         elim (cases_lt ARM64_RELOC_ADDEND (relocation_at b k r).r_type) [
           | inl high ↦ absurd (differ (sym supported ∙ no_such_type l (first_section k) r
-            (subst (λ (x : RelocationInfo). ARM64_RELOC_ADDEND < x.r_type) (sym (relocation-is l b k r a.alone)) high)))
+              (subst (λ (x : RelocationInfo). ARM64_RELOC_ADDEND < x.r_type) (sym (relocation-is l b k r a.alone)) high)))
           | inr is_low ↦ is_low
         ]
 

@@ -2,10 +2,9 @@
 --
 -- No input is a library, so nothing leads to an import; where no symbol is a common, nothing leads to one. A symbol that
 -- defines a name is one of the object's own.
-use Rattle.std.proofs.Common.{◌≡◌, ℕ, ◌+◌, ◌-◌, ◌<◌, ◌≤◌, Bool, true, false, not, ◌&&◌, ◌||◌, if◌then◌else◌, List, [], ◌∷◌, length, get_or, map, Option, Some, None, refl, sym, ap, subst, ◌∙◌, arith, All}
-use Rattle.std.specs.Prelude.{filter, Contains, bytes_eq, ◌==◌}
-use Rattle.std.specs.List.{range_with_len, filter_map}
-use Rattle.std.proofs.lemmas.List.Elements.{All-filter, All-map}
+use Rattle.std.proofs.Common.{◌≡◌, ℕ, ◌-◌, ◌<◌, Bool, true, false, ◌&&◌, ◌||◌, if◌then◌else◌, List, [], ◌∷◌, get_or, map, Option, Some, None, refl, sym, ap, subst, arith, All}
+use Rattle.std.specs.Prelude.{bytes_eq, ◌==◌}
+use Rattle.std.proofs.lemmas.List.Elements.{All-filter}
 use Rattle.macho_records.specs.Symbols.{is_common_of}
 use Rattle.macho_records.specs.declared.constants.TheConstants.{ARM64_RELOC_BRANCH26}
 use Rattle.macho_model.specs.declared.targets.Target.{Target}
@@ -20,7 +19,7 @@ use Rattle.macho_model.specs.Targets.{own_target, target_of_definition, target_o
 use Rattle.macho_image.specs.First.{HasOneObject, HasNoCommon}
 use Rattle.macho_image.specs.Definitions.{in_carried, LiesInCarried}
 use Rattle.macho_image.specs.Referents.{only_symbol}
-use Rattle.macho_image.proofs.First.{object-is, symbols-are, first_symbol, numbered}
+use Rattle.macho_image.proofs.First.{symbols-are, first_symbol, numbered}
 use Rattle.macho_image.proofs.Entries.{and_none, own_by, own-is, lies_at}
 use Rattle.macho_image.proofs.Uses.{no_libraries, relocation_no_import, filter_map_none}
 

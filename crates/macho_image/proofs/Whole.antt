@@ -2,9 +2,9 @@
 --
 -- It holds one object or none. With none, no name is defined, so the entry isn't. With one, the link is that object's alone:
 -- what was shown of every such link holds of this one, and the entry leads where it was found.
-use Rattle.std.proofs.Common.{◌≡◌, ℕ, Bool, true, false, not, ◌||◌, if◌then◌else◌, List, [], Some, None, refl, ap, ◌∙◌}
-use Rattle.std.specs.Prelude.{Result, Ok, Err, IfOk, bytes_eq}
-use Rattle.macho_model.specs.Links.{Link}
+use Rattle.std.proofs.Common.{◌≡◌, ℕ, Bool, true, false, not, ◌||◌, if◌then◌else◌, List, [], ◌∷◌, Some, None, refl, ap, ◌∙◌}
+use Rattle.std.specs.Prelude.{Result, Ok, Err, IfOk, IfErr, bytes_eq}
+use Rattle.macho_model.specs.Links.{Link, Object}
 use Rattle.macho_model.specs.Resolution.{symbols_of, strong_of, weak_of, greatest_of, commons_of, libraries_with, definition_of, ImageBase, DSO_HANDLE}
 use Rattle.macho_model.specs.Targets.{target_of_definition, target_of_name}
 use Rattle.macho_model.specs.Consumed.{is_section_target}
@@ -15,8 +15,10 @@ use Rattle.macho_image.specs.declared.fault.LinkError.TheVariants as error
 use Rattle.macho_image.specs.First.{HasOneObject}
 use Rattle.macho_image.specs.Definitions.{IsEntry}
 use Rattle.macho_image.specs.Linked.{IsImageOf, IsImageAlone}
-use Rattle.macho_image.specs.Refusals.{RefusalStands, IsEntryRefusal}
+use Rattle.macho_image.specs.Refusals.{RefusalStands, StandsAlone, IsEntryRefusal}
+use Rattle.macho_image.specs.Answered.{IsAnswered}
 use Rattle.macho_image.proofs.Entries.{own_name}
+use Rattle.macho_image.proofs.Answered.{only_memory}
 
 -- without an input no name leads to a section
 no_definition : (l : Link) (name : List ℕ) → l.inputs ≡ [] → definition_of l name ≡ (if bytes_eq name DSO_HANDLE then Some ImageBase else None)
@@ -47,3 +49,10 @@ pub image_of : (l : Link) (b : List ℕ) (e : Entry) (r : Result LinkedImage Lin
     → IfOk r (IsImageAlone b e) → IfOk r (IsImageOf l)
 image_of l b e (Ok image) one entry alone = alone.alone l one (entry.leads l one)
 image_of l b e (Err error) one entry alone = tt
+
+-- a refusal of the only object of a link that is answered
+pub answered_alone : (l : Link) (b : List ℕ) (r : Result LinkedImage LinkError) → IfErr r (StandsAlone b) → l.inputs ≡ Object b ∷ [] → IsAnswered l
+    → IfErr r (λ e. e ≡ error.OutOfMemory)
+answered_alone l b (Ok image) stands is a = tt
+answered_alone l b (Err e) stands is a =
+    only_memory l e a (stands.stands l (record { executable = a.alone.executable; inputs = is; lists = a.alone.lists }))

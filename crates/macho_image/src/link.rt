@@ -5,7 +5,9 @@ ghost use Rattle.macho_image.specs.Places.{IsPlaceable};
 ghost use Rattle.macho_image.specs.Definitions.{LiesInCarried};
 ghost use Rattle.macho_image.specs.LaidOut.{IsLaidOut};
 ghost use Rattle.macho_image.specs.Linked.{IsImageOf, IsImageAlone, IsBare};
+ghost use Rattle.macho_image.specs.Answered.{IsAnswered};
 ghost use Rattle.macho_image.specs.Branches.{HasAllBranches};
+ghost use Rattle.macho_image.specs.declared.fault.LinkError.TheVariants.{OutOfMemory};
 ghost use Rattle.macho_image.specs.Refusals.{RefusalStands, StandsAlone, IsEntryRefusal};
 
 use crate::branch::{Branch, all_branches};
@@ -71,6 +73,7 @@ impl Linker {
     pub fn link_image(&self, alloc: Global, uuid: [u8; 16]) -> Result<LinkedImage, LinkError>
         ensures done { IfOk result (IsImageOf self.now) }
         ensures why { IfErr result (RefusalStands self.now) }
+        ensures answered { IsAnswered self.now → IfErr result (λ e. e ≡ OutOfMemory) }
     {
         let _no_command_tells_it = uuid;
         if !self.executable {

@@ -16,13 +16,14 @@ use Rattle.macho_image.specs.declared.fault.LinkError.{LinkError}
 use Rattle.macho_image.specs.declared.fault.LinkError.TheVariants as error
 use Rattle.macho_image.specs.Linkers.{link_of}
 use Rattle.macho_image.specs.Refusals.{RefusalStands}
+use Rattle.macho_image.proofs.Answered.{only_memory}
 use Rattle.wild_macho.specs.declared.fault.Fault.{Fault}
 use Rattle.wild_macho.specs.declared.fault.Fault.TheVariants as fault
 use Rattle.wild_macho.specs.Faults.{last_count}
 use Rattle.wild_macho.specs.Heads.{has_object_head}
 use Rattle.wild_macho.specs.CommandLine.{WordsSay}
 use Rattle.wild_macho.specs.Job.{IsInput, Links, linking}
-use Rattle.wild_macho.specs.Runs.{Failures, NoneFailed, IsSure, JobFails, LinkRefused, WordsFail, RunFails, status_of}
+use Rattle.wild_macho.specs.Runs.{Failures, NoneFailed, IsSure, IsAnsweredJob, JobFails, LinkRefused, WordsFail, RunFails, status_of}
 use Rattle.wild_macho.proofs.Determined.{said-once, unbroken}
 
 one-text : (files : Store) (path a b : List ℕ) → get files path ≡ Some a → get files path ≡ Some b → a ≡ b
@@ -157,3 +158,13 @@ sure-status words files told old new (Some f) status is why tells sure calm =
     let P : Option Store → Type 0 = λ t. RunFails words t old new f in
     let memory : f ≡ fault.OutOfMemory = run-fault words files old new f sure calm (subst P tells why) in
     inr (is ∙ ap (λ (g : Fault). status_of (Some g)) memory)
+
+-- nothing stands against a job that is answered
+pub sure_of : (words : List (List ℕ)) (files : Store) → IsAnsweredJob words files → IsSure words files
+sure_of words files job = record {
+  link = job.link;
+  output = job.output;
+  job = job.job;
+  named = job.named;
+  nothing_stands = λ refusal stands. only_memory job.link refusal job.answered stands;
+}

@@ -11,6 +11,7 @@ use Rattle.macho_image.specs.declared.link.LinkedImage.{LinkedImage}
 use Rattle.macho_image.specs.Linkers.{link_of}
 use Rattle.macho_image.specs.Linked.{IsImageOf}
 use Rattle.macho_image.specs.Refusals.{InputBreaks, RefusalStands}
+use Rattle.macho_image.specs.Answered.{IsAnswered}
 use Rattle.wild_macho.specs.declared.fault.Fault.{Fault}
 use Rattle.wild_macho.specs.declared.fault.Fault.TheVariants.{MissingFile, UnknownKind, Input, Link as LinkFault, Words, Read, Write, Print, OutOfMemory}
 use Rattle.wild_macho.specs.Faults.{CountRose, last_count}
@@ -145,3 +146,11 @@ pub record IsSure (words : List (List ℕ)) (files : Store) : Type 0 where
   pub job : JobOf words (Some files) link output
   pub named : bad_name link ≡ false
   pub nothing_stands : (refusal : LinkError) → RefusalStands link refusal → refusal ≡ error.OutOfMemory
+
+-- A job that is answered wherever there is memory: its paths can be written, and its link is one that is answered.
+pub record IsAnsweredJob (words : List (List ℕ)) (files : Store) : Type 0 where
+  pub link : Link
+  pub output : List ℕ
+  pub job : JobOf words (Some files) link output
+  pub named : bad_name link ≡ false
+  pub answered : IsAnswered link

@@ -14,7 +14,7 @@ ghost use Rattle.wild_macho.specs.Faults.{CountsOn};
 ghost use Rattle.wild_macho.specs.Job.{Links, JobOf};
 ghost use Rattle.wild_macho.specs.Reading.{IsOneFile};
 ghost use Rattle.wild_macho.specs.Runs.{Failures, JobFails, RunFails, IsEarly, IsMade, IsWritten, HasImage, LeavesImage, LeavesNothing, status_of};
-ghost use Rattle.wild_macho.specs.Runs.{failures, KeepsPaths, IsSure, NoneFailed};
+ghost use Rattle.wild_macho.specs.Runs.{failures, KeepsPaths, IsSure, IsAnsweredJob, NoneFailed};
 
 use crate::fault::Fault;
 use crate::file_system::{FileFault, Files};
@@ -75,6 +75,12 @@ pub fn run<F: Files, O: Sink, E: Sink>(
 
     // Where a job has nothing against it and no device fails, it is done; or memory ran out.
     ensures complete { (m : Store) → F.holds files.old ≡ Some m → IsSure (texts_of words.now) m
+        → NoneFailed (failures (F.faults files.old) (F.write_faults files.old) (O.faults out.old))
+        (failures (F.faults files.new) (F.write_faults files.new) (O.faults out.new))
+        → (result.status ≡ 0) ⊎ (result.status ≡ 5) }
+
+    // So is a job of one object that keeps the rules, with its entry and branches that are supported and at multiples of four.
+    ensures answered { (m : Store) → F.holds files.old ≡ Some m → IsAnsweredJob (texts_of words.now) m
         → NoneFailed (failures (F.faults files.old) (F.write_faults files.old) (O.faults out.old))
         (failures (F.faults files.new) (F.write_faults files.new) (O.faults out.new))
         → (result.status ≡ 0) ⊎ (result.status ≡ 5) }

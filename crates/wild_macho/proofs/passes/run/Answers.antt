@@ -3,7 +3,7 @@
 use Rattle.std.proofs.Common.{refl}
 use Rattle.std.proofs.lemmas.Option.{IfSome_then}
 use Rattle.macho_args.specs.Words.{texts_of}
-use Rattle.wild_macho.proofs.Sure.{sure-status}
+use Rattle.wild_macho.proofs.Sure.{sure-status, sure_of}
 use Rattle.wild_macho.proofs.passes.run.Goals as goal
 
 pub returns-in-Some-clause-why : goal.returns-in-Some-clause-why
@@ -15,3 +15,6 @@ returns-in-Some-clause-complete g c =
     λ files tells sure calm.
     sure-status (texts_of c.args.words.now) files (g.F.Paths.holds c.args.files.now) _ _ c.run_words-ran.result.fault
     c.run_words-ran.result.status c.run_words-ran.ensures.status (returns-in-Some-clause-why g c) tells sure calm
+
+pub returns-in-Some-clause-answered : goal.returns-in-Some-clause-answered
+returns-in-Some-clause-answered g c = λ files tells job calm. returns-in-Some-clause-complete g c files tells (sure_of (texts_of c.args.words.now) files job) calm
