@@ -25,3 +25,4 @@ pub mod Unreached
 pub mod FineTargets
 pub mod Near
 pub mod Answered
+pub mod RowsAnswered

@@ -5,3 +5,4 @@ pub mod Jobs
 pub mod Determined
 pub mod Sure
 pub mod JobRows
+pub mod AnsweredRow
