@@ -1,1 +1,5 @@
 pub mod Words
+pub mod Runs
+pub mod Tables
+pub mod Cuts
+pub mod Calls

@@ -1,6 +1,14 @@
 //! Chained fixups: the words that the loader writes anew, and the table that says where each page's chain begins.
 #![tactic(auto)]
 
+mod bytes;
+mod imports;
+mod run;
+mod starts;
+mod table;
 mod words;
 
+pub use imports::ImportEntry;
+pub use run::{Fixup, FixupSegment};
+pub use table::{table_size, write_chained_fixup_table};
 pub use words::{FixupKind, NotEncodable, write_bind_encoding, write_rebase_encoding};

@@ -1,0 +1,7 @@
+pub mod Cuts
+pub mod FirstWords
+pub mod EntryTexts
+pub mod SegmentTexts
+pub mod PutOrder
+pub mod SegmentWrites
+pub mod TableTexts
