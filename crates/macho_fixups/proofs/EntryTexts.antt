@@ -3,7 +3,7 @@
 -- An entry is its word, and in the format with addends its addend behind it: two puts next to each other are one. All
 -- entries of a format have one size, so entry k begins k sizes behind the first, and each is put where those before
 -- it end.
-use Rattle.std.proofs.Common.{◌≡◌, ℕ, ◌+◌, ◌*◌, ◌<◌, ◌≤◌, ◌==◌, true, false, List, ◌++◌, length, get_or, take, arith, refl, sym, ap, ◌∙◌, if◌then◌else◌}
+use Rattle.std.proofs.Common.{◌≡◌, ℕ, ◌+◌, ◌*◌, ◌<◌, ◌≤◌, ◌==◌, true, false, List, ◌++◌, length, get_or, take, arith, refl, sym, ap, ◌∙◌}
 use Rattle.std.proofs.lemmas.Bool.Decides.{nat_tests}
 use Rattle.std.proofs.Math.Nat.{mul-add, mul-le-mul_left}
 use Rattle.std.specs.List.{flat_map}

@@ -5,3 +5,4 @@ pub mod SegmentTexts
 pub mod PutOrder
 pub mod SegmentWrites
 pub mod TableTexts
+pub mod ExampleTables

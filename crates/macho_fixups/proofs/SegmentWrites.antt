@@ -3,10 +3,9 @@
 -- So far both are put. An offset more and a text more, each where those before it end, are put too: the two puts at
 -- the two places share no byte, so their order does not matter, and each joins the one that it touches. The run of
 -- fixups is passed in step: those that are passed lie below every later segment, since segments do not overlap.
-use Rattle.std.proofs.Common.{◌≡◌, ℕ, zero, suc, ◌+◌, ◌*◌, ◌-◌, ◌/◌, ◌^◌, ◌<◌, ◌≤◌, ◌==◌, ◌⊎◌, List, [], ◌∷◌, ◌++◌, length, get_or, take, arith, refl, sym, ap, subst, ◌∙◌, inl, inr, true, false, if◌then◌else◌}
+use Rattle.std.proofs.Common.{◌≡◌, ℕ, suc, ◌+◌, ◌*◌, ◌-◌, ◌^◌, ◌<◌, ◌≤◌, ◌==◌, List, [], ◌∷◌, ◌++◌, length, get_or, take, arith, refl, sym, ap, subst, ◌∙◌, inl, inr, true, false, if◌then◌else◌}
 use Rattle.std.specs.Prelude.{All, sum_by}
 use Rattle.std.specs.List.{flat_map}
-use Rattle.std.proofs.Math.Nat.{mul-add}
 use Rattle.std.proofs.lemmas.Bool.{cases_lt}
 use Rattle.std.proofs.lemmas.Bool.Decides.{nat_tests}
 use Rattle.std.proofs.lemmas.List.{length-append, append-nil, append_assoc, take_more, take_all, get_or_default}
@@ -16,7 +15,6 @@ use Rattle.macho_bytes.specs.Texts.{put}
 use Rattle.macho_bytes.proofs.Numbers.{little_is_sound}
 use Rattle.macho_bytes.proofs.Puts.{put-put, put_nothing, length-put}
 use Rattle.macho_bytes.proofs.Tables.{flat_map-more}
-use Rattle.macho_model.specs.Images.{CHAIN_PAGE}
 use Rattle.macho_fixups.specs.declared.run.Fixup.{Fixup}
 use Rattle.macho_fixups.specs.declared.run.FixupSegment.{FixupSegment}
 use Rattle.macho_fixups.specs.Runs.{AreSegments, pages_of}

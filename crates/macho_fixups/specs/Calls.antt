@@ -1,11 +1,10 @@
 -- What the writer of the table asks.
-use Rattle.std.specs.Prelude.{◌≡◌, ℕ, ◌+◌, ◌*◌, ◌^◌, ◌<◌, ◌≤◌, ◌⊎◌, List, length, All, sum_by, ℤ, pos}
-use Rattle.macho_model.specs.Images.{import_entry_size, IMPORT_FORMAT, IMPORT_ADDEND_FORMAT}
+use Rattle.std.specs.Prelude.{◌≡◌, ℕ, ◌^◌, ◌<◌, ◌≤◌, ◌⊎◌, List, length, All, sum_by, pos}
+use Rattle.macho_model.specs.Images.{IMPORT_FORMAT, IMPORT_ADDEND_FORMAT}
 use Rattle.macho_fixups.specs.declared.run.Fixup.{Fixup}
 use Rattle.macho_fixups.specs.declared.run.FixupSegment.{FixupSegment}
 use Rattle.macho_fixups.specs.declared.imports.ImportEntry.{ImportEntry}
 use Rattle.macho_fixups.specs.Runs.{AreFixups, AreSegments, pages_of}
-use Rattle.macho_fixups.specs.Tables.{table_room}
 
 -- the pages of all segments
 abbrev pub all_pages : List Fixup → List FixupSegment → ℕ

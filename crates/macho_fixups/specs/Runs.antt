@@ -1,5 +1,5 @@
 -- What both writers ask of fixups and segments, and the pages that have a chain. Pages have 16 KiB.
-use Rattle.std.specs.Prelude.{◌≡◌, ℕ, ◌+◌, ◌-◌, ◌/◌, ◌%◌, ◌^◌, ◌<◌, ◌≤◌, ◌⊎◌, ◌==◌, ◌&&◌, nat_le, nat_lt, max, if◌then◌else◌, Bool, true, List, [], ◌∷◌, length, All, Contains}
+use Rattle.std.specs.Prelude.{◌≡◌, ℕ, ◌+◌, ◌-◌, ◌/◌, ◌%◌, ◌^◌, ◌≤◌, ◌⊎◌, ◌==◌, ◌&&◌, nat_le, nat_lt, max, if◌then◌else◌, Bool, List, [], ◌∷◌, All, Contains}
 use Rattle.std.specs.List.{AllPairs}
 use Rattle.macho_model.specs.Images.{NO_START, CHAIN_PAGE}
 use Rattle.macho_model.specs.Chain.{WORD_SIZE, STRIDE}

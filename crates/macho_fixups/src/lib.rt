@@ -6,6 +6,8 @@ mod imports;
 mod run;
 mod starts;
 mod table;
+#[cfg(test)]
+mod tests;
 mod words;
 
 pub use imports::ImportEntry;

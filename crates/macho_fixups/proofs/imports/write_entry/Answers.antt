@@ -1,4 +1,3 @@
-use Rattle.std.proofs.Common.{ℕ, ◌≡◌, arith, ap, ◌∙◌}
 use Rattle.macho_fixups.proofs.EntryTexts.{long_entry, short_entry}
 use Rattle.macho_fixups.proofs.imports.write_entry.Goals as goal
 

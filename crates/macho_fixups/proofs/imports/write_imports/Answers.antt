@@ -1,5 +1,5 @@
 use Rattle.std.proofs.Common.{arith}
-use Rattle.macho_fixups.proofs.EntryTexts.{entries_begin, entry_room, entries_go_on, entries_end}
+use Rattle.macho_fixups.proofs.EntryTexts.{entries_begin, entries_go_on}
 use Rattle.macho_fixups.proofs.imports.write_imports.Goals as goal
 
 pub loop-entry-init : goal.loop-entry-init

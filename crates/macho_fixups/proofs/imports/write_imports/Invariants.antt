@@ -1,5 +1,3 @@
-use Rattle.std.proofs.Common.{◌≡◌, ◌+◌, ◌*◌, take}
-use Rattle.macho_model.specs.Images.{import_entry_size}
 use Rattle.macho_fixups.proofs.EntryTexts.{EntriesSoFar}
 use Rattle.macho_fixups.proofs.imports.write_imports.Given as goal
 

@@ -1,5 +1,4 @@
-use Rattle.std.proofs.Common.{ℕ, ◌+◌, ◌*◌, ◌/◌, ◌-◌, ◌≤◌, ◌<◌, ◌≡◌, length, arith, refl, subst, ap, sym, ◌∙◌}
-use Rattle.macho_model.specs.Images.{CHAIN_PAGE}
+use Rattle.std.proofs.Common.{ℕ, ◌+◌, ◌≡◌, arith, subst}
 use Rattle.macho_fixups.specs.Cuts.{IsCut}
 use Rattle.macho_fixups.proofs.Cuts.{two_cuts, pages_of-none, pages_of-last, last_page, pages_fit}
 use Rattle.macho_fixups.proofs.run.run_of.Goals as goal

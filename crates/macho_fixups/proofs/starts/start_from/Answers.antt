@@ -1,5 +1,4 @@
-use Rattle.std.proofs.Common.{ℕ, ◌+◌, ◌*◌, ◌/◌, ◌-◌, ◌≤◌, ◌<◌, ◌≡◌, length, get_or, arith, refl, sym, inl, inr}
-use Rattle.std.proofs.lemmas.Bool.{cases_lt}
+use Rattle.std.proofs.Common.{arith}
 use Rattle.macho_fixups.proofs.FirstWords.{no_start_at_end, no_start_behind, start_here}
 use Rattle.macho_fixups.proofs.starts.start_from.Goals as goal
 

@@ -1,4 +1,4 @@
-use Rattle.std.proofs.Common.{ℕ, ◌≡◌, ◌+◌, ◌*◌, arith, subst, refl, sym}
+use Rattle.std.proofs.Common.{ℕ, ◌≡◌, ◌+◌, ◌*◌, arith, subst, refl}
 use Rattle.macho_model.specs.Images.{CHAIN_PAGE}
 use Rattle.macho_fixups.specs.Cuts.{IsCut}
 use Rattle.macho_fixups.proofs.FirstWords.{pages_begin, pages_go_on, pages_end, next_cut}

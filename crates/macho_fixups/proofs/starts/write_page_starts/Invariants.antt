@@ -1,4 +1,4 @@
-use Rattle.std.proofs.Common.{◌≡◌, ◌+◌, ◌*◌}
+use Rattle.std.proofs.Common.{◌+◌, ◌*◌}
 use Rattle.macho_model.specs.Images.{CHAIN_PAGE}
 use Rattle.macho_fixups.specs.Cuts.{IsCut}
 use Rattle.macho_fixups.proofs.FirstWords.{PagesSoFar}

@@ -1,4 +1,4 @@
-use Rattle.std.proofs.Common.{arith, refl}
+use Rattle.std.proofs.Common.{arith}
 use Rattle.macho_fixups.proofs.SegmentTexts.{nothing_told, segment_told}
 use Rattle.macho_fixups.proofs.starts.write_starts.Goals as goal
 

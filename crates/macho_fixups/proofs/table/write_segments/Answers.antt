@@ -1,4 +1,4 @@
-use Rattle.std.proofs.Common.{ℕ, List, length, ◌≡◌, ◌≤◌, ◌+◌, arith, ap, sym, subst}
+use Rattle.std.proofs.Common.{ℕ, arith, ap}
 use Rattle.macho_fixups.specs.Tables.{segment_size, image_starts_size, starts_size}
 use Rattle.macho_fixups.proofs.SegmentWrites.{segments_begin, segment_done, segments_end, has_room, no_segment}
 use Rattle.macho_fixups.proofs.table.write_segments.Goals as goal
