@@ -6,3 +6,5 @@ pub mod PutOrder
 pub mod SegmentWrites
 pub mod TableTexts
 pub mod ExampleTables
+pub mod Places
+pub mod ChainWrites

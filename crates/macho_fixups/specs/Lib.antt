@@ -2,4 +2,5 @@ pub mod Words
 pub mod Runs
 pub mod Tables
 pub mod Cuts
+pub mod Chains
 pub mod Calls

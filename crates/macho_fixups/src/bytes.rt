@@ -27,3 +27,11 @@ pub(crate) fn put_text(out: &mut [u8], at: usize, text: &[u8])
 {
     out[at..at + text.len()].copy_from_slice(text);
 }
+
+pub(crate) fn put_u64(out: &mut [u8], at: usize, number: u64)
+    requires { at + 8 ≤ length out.old }
+    ensures written { out.new ≡ put at (le_bytes 8 number) out.old }
+    ensures long { length (le_bytes 8 number) ≡ 8 }
+{
+    LittleEndian::write_u64(&mut out[at..], number);
+}

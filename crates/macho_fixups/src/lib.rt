@@ -2,6 +2,7 @@
 #![tactic(auto)]
 
 mod bytes;
+mod chains;
 mod imports;
 mod run;
 mod starts;
@@ -10,6 +11,7 @@ mod table;
 mod tests;
 mod words;
 
+pub use chains::write_chains;
 pub use imports::ImportEntry;
 pub use run::{Fixup, FixupSegment};
 pub use table::{table_size, write_chained_fixup_table};

@@ -71,7 +71,7 @@ pub fn write_bind_encoding(ordinal: u64, addend: u64, next: u64) -> Result<[u8; 
 
 /// The word that moves with the image, None where it has no room for the target.
 #[tactic(auto, unfolding(crate::specs::Words::word_of))]
-fn rebase_word(target: u64, next: u64) -> Option<u64>
+pub(crate) fn rebase_word(target: u64, next: u64) -> Option<u64>
     requires { next < STEPS }
     ensures done { IfSome result (λ word. word ≡ word_of (Rebase target) next) }
     ensures says { IfSome result (λ word. IsWordOf (Rebase target) next word) }
@@ -86,7 +86,7 @@ fn rebase_word(target: u64, next: u64) -> Option<u64>
 
 /// The word that binds an import, None where it has no room for the addend.
 #[tactic(auto, unfolding(crate::specs::Words::word_of))]
-fn bind_word(ordinal: u64, addend: u64, next: u64) -> Option<u64>
+pub(crate) fn bind_word(ordinal: u64, addend: u64, next: u64) -> Option<u64>
     requires ordinal { ordinal < 2 ^ 24 }
     requires next { next < STEPS }
     ensures done { IfSome result (λ word. word ≡ word_of (Bind ordinal addend) next) }
