@@ -16,7 +16,7 @@ use Rattle.macho_bytes.proofs.Puts.{length-put, put_stands, stands_beside, get_o
 use Rattle.macho_model.specs.Chain.{WORD_SIZE}
 use Rattle.macho_fixups.specs.declared.run.Fixup.{Fixup}
 use Rattle.macho_fixups.specs.declared.run.FixupSegment.{FixupSegment}
-use Rattle.macho_fixups.specs.Words.{has_word, word_of}
+use Rattle.macho_fixups.specs.Words.{has_word, word_of, IsWordOf}
 use Rattle.macho_fixups.specs.Runs.{AreFixups, AreSegments}
 use Rattle.macho_fixups.specs.Chains.{place_of, step_of, word_part, AreWritten, HaveWords, HaveRoom, IsSegmentOf, ArePassed}
 use Rattle.macho_fixups.proofs.SegmentWrites.{no_segment}
@@ -35,7 +35,7 @@ pub record WordsSoFar (segments : List FixupSegment) (fixups : List Fixup) (m i 
 pub words_begin : (segments : List FixupSegment) (fixups : List Fixup) (out : List ℕ) → WordsSoFar segments fixups 0 0 out out
 words_begin segments fixups out =
     record {
-      written = record { size = refl; each = λ k d none. absurd (omega arith); outside = λ i all. refl };
+      written = record { size = refl; words = λ k d none. absurd (omega arith); each = λ k d none. absurd (omega arith); outside = λ i all. refl };
       words = record { each = λ k d none. absurd (omega arith) };
       passed = λ k d le lt. record { each = λ j e none. absurd (omega arith) };
     }
@@ -49,19 +49,25 @@ word_room segments fixups d i m n lt room one =
     omega (arith, place_of-at segments (get_or fixups i d).address m no_segment one, holds.0, holds.1, inside)
 
 -- one word more
-pub word_goes_on : (segments : List FixupSegment) (fixups : List Fixup) (d : Fixup) (i old m place word : ℕ) (before out now : List ℕ)
+pub word_goes_on : (segments : List FixupSegment) (fixups : List Fixup) (d : Fixup) (i old m place steps word : ℕ) (before out now : List ℕ)
     → i < length fixups → AreFixups segments fixups → AreSegments segments → HaveRoom segments fixups (length before)
     → WordsSoFar segments fixups old i before out → IsSegmentOf segments (get_or fixups i d).address m
     → place ≡ place_of segments (get_or fixups i d).address → has_word (get_or fixups i d).kind ≡ true
-    → word ≡ word_of (get_or fixups i d).kind (step_of fixups i) → now ≡ put place (le_bytes WORD_SIZE word) out
+    → steps ≡ step_of fixups i → word ≡ word_of (get_or fixups i d).kind steps → IsWordOf (get_or fixups i d).kind steps word → now ≡ put place (le_bytes WORD_SIZE word) out
     → WordsSoFar segments fixups m (i + 1) before now
-word_goes_on segments fixups d i old m place word before out now lt run order room so_far one at has is put_now =
+word_goes_on segments fixups d i old m place steps word before out now lt run order room so_far one at has stepped as_steps as_said put_now =
     record {
-      written = record { size = omega (arith, size, so_far.written.size); each = each; outside = outside };
+      written = record { size = omega (arith, size, so_far.written.size); words = fields; each = each; outside = outside };
       words = record { each = words };
       passed = λ k e le within. record { each = λ j s below. omega (arith, one.passed j s below, later k e le within) };
     }
   where
+    is : word ≡ word_of (get_or fixups i d).kind (step_of fixups i)
+    is = as_steps ∙ ap (λ (n : ℕ). word_of (get_or fixups i d).kind n) stepped
+
+    says : IsWordOf (get_or fixups i d).kind (step_of fixups i) word
+    says = subst (λ (n : ℕ). IsWordOf (get_or fixups i d).kind n word) stepped as_said
+
     part : Part
     part = word_part segments fixups i (get_or fixups i d)
 
@@ -89,6 +95,17 @@ word_goes_on segments fixups d i old m place word before out now lt run order ro
       | inr here ↦
           let same : k ≡ i = omega arith in
           ap (λ (j : ℕ). has_word (get_or fixups j e).kind) same ∙ ap (λ (f : Fixup). has_word f.kind) (own e) ∙ has
+    ]
+
+    fields : (k : ℕ) (e : Fixup) → k < i + 1
+        → IsWordOf (get_or fixups k e).kind (step_of fixups k) (word_of (get_or fixups k e).kind (step_of fixups k))
+    fields k e less = elim (cases_lt k i) [
+      | inl early ↦ so_far.written.words k e early
+      | inr here ↦
+          let same : i ≡ k = omega arith in
+          subst (λ (j : ℕ). IsWordOf (get_or fixups j e).kind (step_of fixups j) (word_of (get_or fixups j e).kind (step_of fixups j))) same
+          (subst (λ (f : Fixup). IsWordOf f.kind (step_of fixups i) (word_of f.kind (step_of fixups i))) (sym (own e))
+          (subst (λ (w : ℕ). IsWordOf (get_or fixups i d).kind (step_of fixups i) w) is says))
     ]
 
     apart : (k : ℕ) (e : Fixup) → k < i → (end_of (word_part segments fixups k (get_or fixups k e)) ≤ part.at) ⊎ (end_of part ≤ place_of segments (get_or fixups k e).address)

@@ -81,7 +81,7 @@ start_of-none (f ∷ fixups) number none =
     rw no (start_of-none fixups number (λ j e lt. none (suc j) e (omega arith)))
 
 -- no count of pages is above the whole
-pages_of-above : (s : FixupSegment) (fixups : List Fixup) (k : ℕ) (d : Fixup) → k < length fixups
+pub pages_of-above : (s : FixupSegment) (fixups : List Fixup) (k : ℕ) (d : Fixup) → k < length fixups
     → pages_with s (get_or fixups k d) ≤ pages_of s fixups
 unfolding pages_of
 pages_of-above s [] k d lt = absurd (omega arith)
@@ -110,7 +110,7 @@ pages_with-out s f out =
     outside false h = refl
 
 -- one inside counts those up to its own
-pages_with-in : (s : FixupSegment) (f : Fixup) → s.address ≤ f.address → f.address < s.address + s.file_size
+pub pages_with-in : (s : FixupSegment) (f : Fixup) → s.address ≤ f.address → f.address < s.address + s.file_size
     → pages_with s f ≡ f.address / CHAIN_PAGE - s.address / CHAIN_PAGE + 1
 pages_with-in s f low high =
     let a : nat_le s.address f.address ≡ true = grind (arith, nat_tests) in

@@ -8,3 +8,4 @@ pub mod TableTexts
 pub mod ExampleTables
 pub mod Places
 pub mod ChainWrites
+pub mod RunChain

@@ -105,24 +105,22 @@ one_left segments a m one passed =
       | inr from ↦ omega (arith, n.within)
     ]
 
+-- the segment of a number that has an address is the one that is found
+pub numbered : (segments : List FixupSegment) (s : FixupSegment) (a : ℕ) → AreSegments segments → (n : HasNumber segments s) → Holds s a
+    → IsSegmentOf segments a n.number
+numbered segments s a order n holds =
+    record {
+      within = n.within;
+      holds = λ d. subst (λ (t : FixupSegment). Holds t a) (sym (n.is d)) holds;
+      passed = λ j e lt. omega (arith, order.in_order j n.number e lt n.within, order.sizes j e (omega (arith, n.within)),
+          ap (λ (t : FixupSegment). t.address) (n.is e), holds.0);
+    }
+
 -- the number of the segment that has an address
 pub segment_number : (segments : List FixupSegment) (a : ℕ) → AreSegments segments → ((s : FixupSegment) × Contains segments s × Holds s a)
     → (m : ℕ) × IsSegmentOf segments a m
 segment_number segments a order one =
-    let n = number_of segments one.0 one.1 in (
-      n.number,
-      record {
-        within = n.within;
-        holds = λ d. subst (λ (t : FixupSegment). Holds t a) (sym (n.is d)) one.2;
-        passed = λ j e lt. omega (
-          arith,
-          order.in_order j n.number e lt n.within,
-          order.sizes j e (omega (arith, n.within)),
-          ap (λ (t : FixupSegment). t.address) (n.is e),
-          one.2.0,
-        );
-      },
-    )
+    let n = number_of segments one.0 one.1 in (n.number, numbered segments one.0 a order n one.2)
 
 -- one segment more is passed
 pub one_passed : (segments : List FixupSegment) (m a : ℕ) (d : FixupSegment) → m < length segments → ArePassed segments m a

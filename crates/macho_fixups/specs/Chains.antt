@@ -1,13 +1,14 @@
 -- The words of a run of fixups in the file: where each stands, and how far it leads on.
-use Rattle.std.specs.Prelude.{◌≡◌, ℕ, ◌+◌, ◌-◌, ◌/◌, ◌<◌, ◌≤◌, ◌==◌, nat_lt, if◌then◌else◌, true, false, List, [], ◌∷◌, length, map, get_or, slice_index, All, Contains}
+use Rattle.std.specs.Prelude.{◌≡◌, ℕ, ◌+◌, ◌-◌, ◌/◌, ◌<◌, ◌≤◌, ◌==◌, nat_lt, if◌then◌else◌, true, false, List, [], ◌∷◌, length, map, get_or, slice_index, All, Contains, ◌↔◌}
+use Rattle.std.specs.List.{range_with_len}
 use Rattle.macho_bytes.specs.Numbers.{le_bytes}
 use Rattle.macho_bytes.specs.Texts.{Part, Stands, IsOutside}
 use Rattle.macho_model.specs.Images.{CHAIN_PAGE}
-use Rattle.macho_model.specs.Chain.{WORD_SIZE, STRIDE}
+use Rattle.macho_model.specs.Chain.{WORD_SIZE, STRIDE, ChainSegment, IsFileWord, OnChain}
 use Rattle.macho_fixups.specs.declared.run.Fixup.{Fixup}
 use Rattle.macho_fixups.specs.declared.run.FixupSegment.{FixupSegment}
-use Rattle.macho_fixups.specs.Words.{has_word, word_of}
-use Rattle.macho_fixups.specs.Runs.{Holds, is_in}
+use Rattle.macho_fixups.specs.Words.{has_word, word_of, IsWordOf}
+use Rattle.macho_fixups.specs.Runs.{Holds, is_in, pages_of, start_of}
 
 -- the place in the file of an address of a segment's file part
 unfoldable pub place_of : List FixupSegment → ℕ → ℕ
@@ -30,9 +31,10 @@ abbrev pub word_part : List FixupSegment → List Fixup → ℕ → Fixup → Pa
 word_part segments fixups k f =
     record { at = place_of segments f.address; text = le_bytes WORD_SIZE (word_of f.kind (step_of fixups k)) }
 
--- The words of the first n fixups are written: each stands, and every byte outside them is as before.
+-- The words of the first n fixups are written: each says what is asked, each stands, and every byte outside them is as before.
 pub record AreWritten (segments : List FixupSegment) (fixups : List Fixup) (n : ℕ) (before now : List ℕ) : Type 0 where
   pub size : length now ≡ length before
+  pub words : (k : ℕ) (d : Fixup) → k < n → IsWordOf (get_or fixups k d).kind (step_of fixups k) (word_of (get_or fixups k d).kind (step_of fixups k))
   pub each : (k : ℕ) (d : Fixup) → k < n → Stands now (word_part segments fixups k (get_or fixups k d))
   pub outside : (i : ℕ) → ((k : ℕ) (d : Fixup) → k < n → IsOutside i (word_part segments fixups k (get_or fixups k d)))
       → slice_index now i ≡ slice_index before i
@@ -61,3 +63,25 @@ pub record IsSegmentOf (segments : List FixupSegment) (a m : ℕ) : Type 0 where
 -- the first m segments are behind an address
 pub record ArePassed (segments : List FixupSegment) (m a : ℕ) : Type 0 where
   pub each : (j : ℕ) (e : FixupSegment) → j < m → (get_or segments j e).address + (get_or segments j e).file_size ≤ a
+
+-- all words stand in a file
+pub record AllStand (segments : List FixupSegment) (fixups : List Fixup) (b : List ℕ) : Type 0 where
+  pub each : (k : ℕ) (d : Fixup) → k < length fixups → Stands b (word_part segments fixups k (get_or fixups k d))
+
+-- the starts of a segment's pages, up to the last one with a fixup
+abbrev pub starts_in : List Fixup → FixupSegment → List ℕ
+starts_in fixups s = map (λ page. start_of fixups (s.address / CHAIN_PAGE + page)) (range_with_len 0 (pages_of s fixups))
+
+-- a segment with these starts, as chains see it
+abbrev pub chain_seen : List Fixup → FixupSegment → ChainSegment
+chain_seen fixups s = record { address = s.address; file_offset = s.file_offset; file_size = s.file_size; starts = starts_in fixups s }
+
+-- an address is that of a fixup
+abbrev pub IsAddressOf : List Fixup → ℕ → Type 0
+IsAddressOf fixups a = (f : Fixup) × Contains fixups f × (f.address ≡ a)
+
+-- In every file in which the words stand, and whose page starts are those of the run, the chain is the run.
+pub record ChainIsRun (segments : List FixupSegment) (fixups : List Fixup) : Type 0 where
+  pub set : (b : List ℕ) (a : ℕ) → AllStand segments fixups b → OnChain (map (chain_seen fixups) segments) b a ↔ IsAddressOf fixups a
+  pub says : (b : List ℕ) (k word : ℕ) (d : Fixup) → AllStand segments fixups b → k < length fixups
+      → IsFileWord (map (chain_seen fixups) segments) b (get_or fixups k d).address word → IsWordOf (get_or fixups k d).kind (step_of fixups k) word

@@ -7,9 +7,9 @@ ghost use Rattle.macho_bytes.specs.Numbers.{le_bytes};
 ghost use Rattle.macho_bytes.specs.Texts.{put};
 ghost use Rattle.macho_model.specs.Chain.{WORD_SIZE};
 ghost use Rattle.macho_fixups.specs.declared.run.FixupSegment.{FixupSegment};
-ghost use Rattle.macho_fixups.specs.Words.{has_word, FitsOrdinal, word_of, STEPS};
+ghost use Rattle.macho_fixups.specs.Words.{has_word, FitsOrdinal, IsWordOf, word_of, STEPS};
 ghost use Rattle.macho_fixups.specs.Runs.{AreFixups, AreSegments, Holds};
-ghost use Rattle.macho_fixups.specs.Chains.{place_of, step_of, step_between, AreWritten, HaveWords, IsFirstRefused, HaveRoom, IsSegmentOf, ArePassed};
+ghost use Rattle.macho_fixups.specs.Chains.{place_of, step_of, step_between, AreWritten, HaveWords, IsFirstRefused, HaveRoom, IsSegmentOf, ArePassed, ChainIsRun};
 
 use crate::bytes::put_u64;
 use crate::run::{CHAIN_PAGE, Fixup, FixupSegment};
@@ -32,6 +32,7 @@ pub fn write_chains(
     requires room { HaveRoom segments.now fixups.now (length out.old) }
     ensures found { OnOk result (HaveWords fixups.now (length fixups.now)) }
     ensures done { OnOk result (AreWritten segments.now fixups.now (length fixups.now) out.old out.new) }
+    ensures chain { OnOk result (ChainIsRun segments.now fixups.now) }
     ensures why { IfErr result (λ e. IsFirstRefused fixups.now e.index) }
     ensures kept { IfErr result (λ e. AreWritten segments.now fixups.now e.index out.old out.new) }
 {
@@ -107,6 +108,7 @@ fn word_for(kind: FixupKind, next: u64) -> Option<u64>
     requires ordinal { FitsOrdinal kind }
     requires next { next < STEPS }
     ensures done { IfSome result (λ word. word ≡ word_of kind next) }
+    ensures says { IfSome result (λ word. IsWordOf kind next word) }
     ensures found { IfSome result (λ word. has_word kind ≡ true) }
     ensures why { IfNone result (has_word kind ≡ false) }
 {
