@@ -2,17 +2,18 @@
 --
 -- Each condition on a list holds of it where it holds of its head and of its tail, so on these lists it is a row of
 -- facts on numerals.
-use Rattle.std.proofs.Common.{◌≡◌, ◌+◌, ◌%◌, ◌^◌, ◌≤◌, ◌⊎◌, List, [], ◌∷◌, arith, rules}
+use Rattle.std.proofs.Common.{ℕ, ◌≡◌, ◌+◌, ◌%◌, ◌^◌, ◌≤◌, ◌⊎◌, List, [], ◌∷◌, arith, rules}
 use Rattle.std.specs.List.{All, AllPairs, Contains}
 use Rattle.std.proofs.lemmas.List.Elements.{All-nil, All-cons, All-contains_itself}
 use Rattle.std.proofs.lemmas.List.Kept.{AllPairs-cons}
 use Rattle.macho_model.specs.Images.{CHAIN_PAGE}
 use Rattle.macho_model.specs.Chain.{WORD_SIZE, STRIDE}
 use Rattle.macho_fixups.specs.Words.{FitsOrdinal}
-use Rattle.macho_fixups.specs.declared.words.FixupKind.TheVariants.{Rebase}
+use Rattle.macho_fixups.specs.declared.words.FixupKind.TheVariants.{Rebase, Bind}
 use Rattle.macho_fixups.specs.declared.run.Fixup.{Fixup}
 use Rattle.macho_fixups.specs.declared.run.FixupSegment.{FixupSegment}
 use Rattle.macho_fixups.specs.Runs.{AreFixups, AreSegments, Holds, pages_of}
+use Rattle.macho_fixups.specs.Chains.{HaveRoom}
 use Rattle.macho_fixups.specs.Calls.{FitsTable}
 
 -- a fact of each element, as a row
@@ -78,3 +79,45 @@ fits_table = record {
   pages = all (λ (s : FixupSegment). pages_of s fixups ≤ 65535) segments (search rules);
   above = all (λ (s : FixupSegment). (pages_of s fixups ≡ 0) ⊎ (0x100000000 ≤ s.address)) segments (search rules);
 }
+
+-- three pointers on two pages of one segment
+abbrev pub pointers : List Fixup
+pointers =
+    record { address = 0x100004000; kind = Rebase 0x278 }
+    ∷ record { address = 0x100004008; kind = Bind 1 5 }
+    ∷ record { address = 0x100008000; kind = Rebase 0x280 }
+    ∷ []
+
+abbrev pub data_segment : FixupSegment
+data_segment = record { address = 0x100004000; size = 0x8000; file_offset = 0; file_size = 0x4008 }
+
+abbrev pub data_segments : List FixupSegment
+data_segments = data_segment ∷ []
+
+pub are_pointers : AreFixups data_segments pointers
+are_pointers = record {
+  sorted = all_pairs (λ (f : Fixup). λ (g : Fixup). f.address + WORD_SIZE ≤ g.address) pointers (search rules);
+  steps = all (λ (f : Fixup). f.address % STRIDE ≡ 0) pointers (search rules);
+  in_page = all (λ (f : Fixup). f.address % CHAIN_PAGE + WORD_SIZE ≤ CHAIN_PAGE) pointers (search rules);
+  in_segment = all (λ (f : Fixup). (s : FixupSegment) × Contains data_segments s × Holds s f.address) pointers
+      ((data_segment, here, search rules), ((data_segment, here, search rules), ((data_segment, here, search rules), tt)));
+  ordinals = all (λ (f : Fixup). FitsOrdinal f.kind) pointers (search rules);
+}
+  where
+    here : Contains data_segments data_segment
+    here = All-contains_itself data_segments 0 data_segment (omega arith)
+
+pub is_data : AreSegments data_segments
+is_data = record {
+  in_order = all_pairs (λ (s : FixupSegment). λ (t : FixupSegment). s.address + s.size ≤ t.address) data_segments (search rules);
+  paged = all (λ (s : FixupSegment). s.address % CHAIN_PAGE ≡ 0) data_segments (search rules);
+  apart = all_pairs (λ (s : FixupSegment). λ (t : FixupSegment). (s.file_offset + s.file_size ≤ t.file_offset) ⊎ (t.file_offset + t.file_size ≤ s.file_offset))
+      data_segments (search rules);
+  sizes = all (λ (s : FixupSegment). s.file_size ≤ s.size) data_segments (search rules);
+  ends = all (λ (s : FixupSegment). (s.address + s.size ≤ 2 ^ 64) × (s.file_offset + s.file_size ≤ 2 ^ 64)) data_segments (search rules);
+}
+
+pub has_room : (n : ℕ) → n ≡ 0x4008 → HaveRoom data_segments pointers n
+has_room n is =
+    all (λ (s : FixupSegment). (f : Fixup) → Contains pointers f → Holds s f.address → s.file_offset + s.file_size ≤ n) data_segments
+    ((λ f one holds. omega arith), tt)

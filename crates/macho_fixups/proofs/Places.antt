@@ -112,8 +112,13 @@ numbered segments s a order n holds =
     record {
       within = n.within;
       holds = λ d. subst (λ (t : FixupSegment). Holds t a) (sym (n.is d)) holds;
-      passed = λ j e lt. omega (arith, order.in_order j n.number e lt n.within, order.sizes j e (omega (arith, n.within)),
-          ap (λ (t : FixupSegment). t.address) (n.is e), holds.0);
+      passed = λ j e lt. omega (
+        arith,
+        order.in_order j n.number e lt n.within,
+        order.sizes j e (omega (arith, n.within)),
+        ap (λ (t : FixupSegment). t.address) (n.is e),
+        holds.0,
+      );
     }
 
 -- the number of the segment that has an address

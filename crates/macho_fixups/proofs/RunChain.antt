@@ -3,8 +3,8 @@
 -- A page start is the offset of the page's first fixup, so the first rule gives the address of a fixup. The word of a
 -- fixup leads to the next fixup of its page or nowhere, so the second rule does too. The other way, by the number of
 -- a fixup: the first of its page is at the page's start, and another one is where the word before it leads to.
-use Rattle.std.proofs.Common.{◌≡◌, ◌≢◌, ℕ, zero, suc, ◌+◌, ◌*◌, ◌-◌, ◌/◌, ◌%◌, ◌<◌, ◌≤◌, ◌⊎◌, ◌==◌, nat_lt, true, false, List, [], ◌∷◌, length, map, get_or, slice_index, arith, refl, sym, ap, subst, ◌∙◌, inl, inr, if◌then◌else◌}
-use Rattle.std.specs.Prelude.{All, Contains}
+use Rattle.std.proofs.Common.{◌≡◌, ◌≢◌, ℕ, zero, suc, ◌+◌, ◌*◌, ◌-◌, ◌/◌, ◌%◌, ◌<◌, ◌≤◌, ◌==◌, nat_lt, true, false, List, [], ◌∷◌, length, map, get_or, slice_index, arith, refl, sym, ap, subst, ◌∙◌, inl, inr, if◌then◌else◌}
+use Rattle.std.specs.Prelude.{Contains}
 use Rattle.std.specs.List.{range_with_len}
 use Rattle.std.proofs.lemmas.Bool.{cases_lt}
 use Rattle.std.proofs.lemmas.Bool.Decides.{nat_tests}
@@ -21,7 +21,7 @@ use Rattle.macho_fixups.specs.declared.run.Fixup.{Fixup}
 use Rattle.macho_fixups.specs.declared.run.FixupSegment.{FixupSegment}
 use Rattle.macho_fixups.specs.Words.{IsWordOf, word_of}
 use Rattle.macho_fixups.specs.Runs.{AreFixups, AreSegments, Holds, pages_of, start_of}
-use Rattle.macho_fixups.specs.Chains.{place_of, step_of, step_between, word_part, starts_in, chain_seen, AllStand, IsAddressOf, ChainIsRun}
+use Rattle.macho_fixups.specs.Chains.{place_of, step_of, step_between, starts_in, chain_seen, AllStand, ChainIsRun}
 use Rattle.macho_fixups.proofs.Cuts.{pages_of-above, pages_with-in, start_of-here}
 use Rattle.macho_fixups.proofs.SegmentWrites.{no_segment}
 use Rattle.macho_fixups.proofs.Places.{place_of-at, numbered, number_of}
@@ -56,8 +56,8 @@ unfolding start_of
 start_of-found [] number d some = absurd (some refl)
 start_of-found (f ∷ fixups) number d some =
     elim (f.address / CHAIN_PAGE == number)
-      as (λ b. (f.address / CHAIN_PAGE == number) ≡ b
-      → (if b then f.address % CHAIN_PAGE else start_of fixups number) ≢ NO_START → HasFirst (f ∷ fixups) number d) [
+    as (λ b. (f.address / CHAIN_PAGE == number) ≡ b
+    → (if b then f.address % CHAIN_PAGE else start_of fixups number) ≢ NO_START → HasFirst (f ∷ fixups) number d) [
       | true ↦ λ yes _. record { k = 0; within = omega arith; on = grind (arith, nat_tests); at = rw yes refl }
       | false ↦ λ other there.
           let rest = start_of-found fixups number d there in
@@ -72,11 +72,11 @@ seen_of : (segments : List FixupSegment) (fixups : List Fixup) (g : ChainSegment
 seen_of segments fixups g one =
     All-contains (IsSeen segments fixups) (map (chain_seen fixups) segments) g
     (λ k d lt.
-      let within : k < length segments = omega (arith, length-map segments (chain_seen fixups)) in (
-        get_or segments k no_segment,
-        All-contains_itself segments k no_segment within,
-        get_or-map (chain_seen fixups) segments k no_segment d within,
-      )) one
+    let within : k < length segments = omega (arith, length-map segments (chain_seen fixups)) in (
+      get_or segments k no_segment,
+      All-contains_itself segments k no_segment within,
+      get_or-map (chain_seen fixups) segments k no_segment d within,
+    )) one
 
 is_seen : (segments : List FixupSegment) (fixups : List Fixup) (s : FixupSegment) → Contains segments s
     → Contains (map (chain_seen fixups) segments) (chain_seen fixups s)
@@ -286,8 +286,8 @@ chain_is_run segments fixups run order words =
         λ one. back b a stand one.0 one.1 one.2,
       );
       says = λ b k word d stand lt w.
-        subst (λ (v : ℕ). IsWordOf (get_or fixups k d).kind (step_of fixups k) v) (sym (word_is segments fixups b k word d order words stand lt w))
-        (words k d lt);
+          subst (λ (v : ℕ). IsWordOf (get_or fixups k d).kind (step_of fixups k) v) (sym (word_is segments fixups b k word d order words stand lt w))
+          (words k d lt);
     }
   where
     no_fixup : Fixup

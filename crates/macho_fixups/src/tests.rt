@@ -1,9 +1,13 @@
 //! Words and tables from bytes written out by hand.
 
+ghost use Rattle.std.specs.Prelude.{◌≡◌, IfOk, vec_len};
+
 use crate::{
-    Fixup, FixupKind, FixupSegment, ImportEntry, NotEncodable, table_size, write_bind_encoding,
-    write_chained_fixup_table, write_rebase_encoding,
+    Fixup, FixupKind, FixupSegment, NotEncodable, table_size, write_bind_encoding,
+    write_chained_fixup_table, write_chains, write_rebase_encoding,
 };
+use std::alloc::{AllocError, Global};
+use std::test::Fail;
 
 #[test]
 fn words_of_both_kinds(rt: HostRuntime) {
@@ -59,4 +63,44 @@ fn one_page_of_four_segments(rt: HostRuntime) {
     write_chained_fixup_table(&mut out, &SEGMENTS, 0x1_0000_0000, &FIXUPS, 1, &[], &[]);
     assert!(rt; out[0..72] == TABLE[..]);
     assert!(rt; out[72..200] == [0; 128]);
+}
+
+const POINTERS: [Fixup; 3] = [
+    Fixup {
+        address: 0x1_0000_4000,
+        kind: FixupKind::Rebase { target: 0x278 },
+    },
+    Fixup {
+        address: 0x1_0000_4008,
+        kind: FixupKind::Bind {
+            ordinal: 1,
+            addend: 5,
+        },
+    },
+    Fixup {
+        address: 0x1_0000_8000,
+        kind: FixupKind::Rebase { target: 0x280 },
+    },
+];
+
+const DATA: [FixupSegment; 1] = [FixupSegment {
+    address: 0x1_0000_4000,
+    size: 0x8000,
+    file_offset: 0,
+    file_size: 0x4008,
+}];
+
+fn zeros(alloc: Global, length: usize) -> Result<Vec<u8>, AllocError>
+    ensures { IfOk result (λ bytes. vec_len bytes ≡ length) }
+{
+    vec![in alloc; 0u8; length]
+}
+
+#[test]
+fn three_pointers_on_two_pages(rt: HostRuntime) -> Result<(), Fail> {
+    let mut out = zeros(rt.alloc(), 0x4008)?;
+    assert!(rt; write_chains(&POINTERS, &DATA, &mut out).is_ok());
+    assert!(rt; out[0..16] == b"\x78\x02\0\0\0\0\x10\0\x01\0\0\x05\0\0\0\x80"[..]);
+    assert!(rt; out[0x4000..0x4008] == b"\x80\x02\0\0\0\0\0\0"[..]);
+    Ok(())
 }

@@ -1,4 +1,4 @@
-use Rattle.std.proofs.Common.{ℕ, length, arith}
+use Rattle.std.proofs.Common.{length, arith}
 use Rattle.macho_fixups.proofs.ChainWrites.{word_room, word_goes_on}
 use Rattle.macho_fixups.proofs.RunChain.{chain_is_run}
 use Rattle.macho_fixups.proofs.chains.write_chains.Goals as goal
