@@ -178,3 +178,15 @@ last_page fixups s begin end e front some within = omega (arith, front.above (en
 -- the pages up to an address end within 64 bits
 pub pages_fit : (a s : ℕ) → a < 2 ^ 64 → s / CHAIN_PAGE ≤ a / CHAIN_PAGE → (s / CHAIN_PAGE + (a / CHAIN_PAGE - s / CHAIN_PAGE + 1)) * CHAIN_PAGE ≤ 2 ^ 64
 pages_fit a s fits le = omega (arith, fits, le)
+
+-- a segment with pages has bytes
+pub pages_of-no_bytes : (s : FixupSegment) (fixups : List Fixup) → 0 < pages_of s fixups → 0 < s.file_size
+pages_of-no_bytes s fixups some =
+    elim (cases_lt 0 s.file_size) [
+      | inl bytes ↦ bytes
+      | inr none ↦
+          let empty : pages_of s fixups ≤ 0 = pages_of-below s fixups 0 (λ k d lt. elim (cases_lt (get_or fixups k d).address s.address) [
+            | inl low ↦ omega (arith, pages_with-out s (get_or fixups k d) (inl low))
+            | inr high ↦ omega (arith, pages_with-out s (get_or fixups k d) (inr (omega arith)))
+          ]) in absurd (omega (arith, empty, some))
+    ]

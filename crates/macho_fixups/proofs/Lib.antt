@@ -9,3 +9,5 @@ pub mod ExampleTables
 pub mod Places
 pub mod ChainWrites
 pub mod RunChain
+pub mod StartReading
+pub mod TableReading

@@ -3,4 +3,5 @@ pub mod Runs
 pub mod Tables
 pub mod Cuts
 pub mod Chains
+pub mod Readings
 pub mod Calls

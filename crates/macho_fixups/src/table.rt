@@ -14,6 +14,7 @@ ghost use Rattle.macho_model.specs.Images.{import_entry_size};
 ghost use Rattle.macho_fixups.specs.Runs.{AreSorted, AreSegments, pages_of};
 ghost use Rattle.macho_fixups.specs.Cuts.{AreBelow};
 ghost use Rattle.macho_fixups.specs.Tables.{image_starts_text, image_starts_size, offsets_text, segment_text, segment_size, table_room, table_text, names_place};
+ghost use Rattle.macho_fixups.specs.Readings.{TableReadsBack};
 ghost use Rattle.macho_fixups.specs.Calls.{AreEntries, FitsTable, all_pages};
 
 use crate::bytes::{put_text, put_u32};
@@ -53,6 +54,7 @@ pub fn write_chained_fixup_table(
     requires room { table_room (length imports.now) (import_entry_size format) (length names.now) (all_pages fixups.now segments.now) ≤ length out.old }
     ensures written { out.new ≡ put 0 (table_text base fixups.now segments.now format imports.now names.now) (replicate (length out.old) 0) }
     ensures long { length (table_text base fixups.now segments.now format imports.now names.now) ≤ length out.old }
+    ensures read { TableReadsBack base fixups.now segments.now format imports.now names.now }
 {
     out.fill(0);
     write_parts(out, segments, base, fixups, format, imports, names);
@@ -73,6 +75,7 @@ fn write_parts(
     requires room { names_place fixups.now segments.now format imports.now + length names.now ≤ length out.old }
     ensures written { out.new ≡ put 0 (table_text base fixups.now segments.now format imports.now names.now) out.old }
     ensures long { length (table_text base fixups.now segments.now format imports.now names.now) ≡ names_place fixups.now segments.now format imports.now + length names.now }
+    ensures read { TableReadsBack base fixups.now segments.now format imports.now names.now }
 {
     let imports_at = write_image_starts(out, STARTS_AT, segments, base, fixups);
     write_imports(out, imports_at, format, imports);

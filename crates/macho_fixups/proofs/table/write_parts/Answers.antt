@@ -1,12 +1,13 @@
-use Rattle.std.proofs.Common.{ℕ, ◌*◌, length, ◌≡◌, ◌+◌, arith, ap, sym, ◌∙◌}
+use Rattle.std.proofs.Common.{ℕ, ◌*◌, length, ◌≡◌, ◌+◌, arith, ap, sym, ◌∙◌, subst}
 use Rattle.std.specs.List.{flat_map}
 use Rattle.macho_bytes.specs.Texts.{put}
-use Rattle.macho_bytes.specs.Layouts.{spelling}
+use Rattle.macho_bytes.specs.Layouts.{spelling, ReadsBack}
 use Rattle.macho_records.specs.Layouts.{chained_fixups_header}
 use Rattle.macho_model.specs.Images.{import_entry_size}
 use Rattle.macho_records.specs.declared.fixups.ChainedFixupsHeader.{ChainedFixupsHeader}
 use Rattle.macho_fixups.specs.Tables.{image_starts_text, image_starts_size, entry_text, table_header, table_text}
 use Rattle.macho_fixups.proofs.TableTexts.{joined, joined_long, header_long, names_near}
+use Rattle.macho_fixups.proofs.TableReading.{table_reads_back}
 use Rattle.macho_fixups.proofs.table.write_parts.Goals as goal
 
 pub overflow_cast-header-2 : goal.overflow_cast-header-2
@@ -61,3 +62,18 @@ returns-clause-long c =
       c.write_imports.ensures.long,
       header_long (table_header c.args.fixups.now c.args.segments.now c.args.format c.args.imports.now),
     )
+
+pub returns-clause-read : goal.returns-clause-read
+returns-clause-read c =
+    let at_imports : c.write_image_starts-imports_at.result ≡ 28 + image_starts_size c.args.fixups.now c.args.segments.now =
+    c.write_image_starts-imports_at.ensures.behind in
+    let at_names : c.write_image_starts-imports_at.result + c.entry_size.result * length c.args.imports.now
+    ≡ 28 + image_starts_size c.args.fixups.now c.args.segments.now + import_entry_size c.args.format * length c.args.imports.now =
+    ap (λ (n : ℕ). n + c.entry_size.result * length c.args.imports.now) at_imports
+    ∙ ap (λ (n : ℕ). 28 + image_starts_size c.args.fixups.now c.args.segments.now + n * length c.args.imports.now) c.entry_size.ensures in
+    let header = table_header c.args.fixups.now c.args.segments.now c.args.format c.args.imports.now in
+    let same = ap (λ (n : ℕ). record header { imports_offset = c.write_image_starts-imports_at.result; symbols_offset = n }) at_names
+    ∙ ap (λ (n : ℕ). record header { imports_offset = n }) at_imports in
+    table_reads_back c.args.base c.args.fixups.now c.args.segments.now c.args.format c.args.imports.now c.args.names.now c.requires.fits
+    (subst (λ (h : ChainedFixupsHeader). ReadsBack chained_fixups_header h) same c.write.ensures.back)
+    c.write_image_starts-imports_at.ensures.long (omega (arith, returns-clause-long c))

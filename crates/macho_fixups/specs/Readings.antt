@@ -1,0 +1,23 @@
+-- What the loader reads of a table, wherever in a file it stands (`mach-o/fixup-chains.h`).
+use Rattle.std.specs.Prelude.{◌≡◌, ℕ, ◌+◌, ◌<◌, List, length, get_or}
+use Rattle.macho_bytes.specs.Texts.{Stands}
+use Rattle.macho_model.specs.Images.{Table, fixups_header, starts_count, page_starts}
+use Rattle.macho_fixups.specs.declared.run.Fixup.{Fixup}
+use Rattle.macho_fixups.specs.declared.run.FixupSegment.{FixupSegment}
+use Rattle.macho_fixups.specs.declared.imports.ImportEntry.{ImportEntry}
+use Rattle.macho_fixups.specs.Tables.{table_header, table_text, names_place}
+use Rattle.macho_fixups.specs.Chains.{starts_in}
+
+-- The header, the number of segments, the page starts of each, and the names are those given.
+pub record IsRead (b : List ℕ) (t : Table) (fixups : List Fixup) (segments : List FixupSegment) (format : ℕ) (imports : List ImportEntry) (names : List ℕ)
+    : Type 0 where
+  pub header : fixups_header b t ≡ table_header fixups segments format imports
+  pub count : starts_count b t ≡ length segments
+  pub starts : (k : ℕ) (d : FixupSegment) → k < length segments → page_starts b t k ≡ starts_in fixups (get_or segments k d)
+  pub texts : Stands b (record { at = t.at + names_place fixups segments format imports; text = names })
+
+-- So they are read in every file in which the table stands.
+pub record TableReadsBack (base : ℕ) (fixups : List Fixup) (segments : List FixupSegment) (format : ℕ) (imports : List ImportEntry) (names : List ℕ)
+    : Type 0 where
+  pub read : (b : List ℕ) (t : Table) → Stands b (record { at = t.at; text = table_text base fixups segments format imports names })
+      → IsRead b t fixups segments format imports names
