@@ -4,12 +4,13 @@
 -- starts begin at 28. There the offsets of the segments stand, and each leads to what is told of its segment: the
 -- record says how many pages there are, and their starts are read as they were written.
 use Rattle.std.proofs.Common.{◌≡◌, ℕ, ◌+◌, ◌*◌, ◌/◌, ◌^◌, ◌<◌, ◌≤◌, ◌==◌, Bool, true, false, List, [], ◌++◌, length, map, get_or, take, arith, refl, sym, ap, subst, ◌∙◌, inl, inr, if◌then◌else◌}
-use Rattle.std.specs.Prelude.{sum_by}
-use Rattle.std.specs.List.{flat_map, range_with_len}
+use Rattle.std.specs.Prelude.{sum_by, ◌↔◌}
+use Rattle.std.specs.List.{flat_map, range_with_len, enumerate_from}
+use Rattle.macho_model.specs.Chain.{ChainSegment, OnChain}
 use Rattle.std.proofs.lemmas.Bool.{cases_lt}
 use Rattle.std.proofs.lemmas.Bool.Decides.{nat_tests}
 use Rattle.std.proofs.lemmas.List.{length-append, ext_get_or, get_or-map, length-map}
-use Rattle.std.proofs.lemmas.List.FromFn.{length-range_with_len, get_or-range_with_len}
+use Rattle.std.proofs.lemmas.List.FromFn.{length-range_with_len, get_or-range_with_len, length-enumerate_from, get_or-enumerate_from}
 use Rattle.macho_bytes.specs.Numbers.{little, le_at, le_bytes}
 use Rattle.macho_bytes.specs.Texts.{Stands}
 use Rattle.macho_bytes.specs.Layouts.{spelling, ReadsBack}
@@ -24,11 +25,11 @@ use Rattle.macho_fixups.specs.declared.run.FixupSegment.{FixupSegment}
 use Rattle.macho_fixups.specs.declared.imports.ImportEntry.{ImportEntry}
 use Rattle.macho_fixups.specs.Runs.{pages_of, start_of}
 use Rattle.macho_fixups.specs.Tables.{offsets_text, segment_text, segment_size, starts_record, page_starts_text, image_starts_text, image_starts_size, entry_text, table_header, table_text, names_place}
-use Rattle.macho_fixups.specs.Chains.{starts_in}
+use Rattle.macho_fixups.specs.Chains.{starts_in, chain_seen, IsAddressOf}
 use Rattle.macho_fixups.specs.Calls.{FitsTable}
-use Rattle.macho_fixups.specs.Readings.{IsRead, TableReadsBack}
+use Rattle.macho_fixups.specs.Readings.{IsRead, TableReadsBack, told_segment, told_segments}
 use Rattle.macho_fixups.proofs.Cuts.{pages_of-no_bytes}
-use Rattle.macho_fixups.proofs.SegmentWrites.{offset_at, sum_bound, length-offsets}
+use Rattle.macho_fixups.proofs.SegmentWrites.{no_segment, offset_at, sum_bound, length-offsets}
 use Rattle.macho_fixups.proofs.TableTexts.{header_long}
 use Rattle.macho_fixups.proofs.StartReading.{text_some, record_long, offset_stands, text_stands, start_stands}
 
@@ -112,6 +113,31 @@ starts_read base at fixups segments b t k d fits place offsets texts lt =
         ∙ same_map (page_start b t k) (λ (p : ℕ). start_of fixups (s.address / CHAIN_PAGE + p)) pages
         (λ page less. start_stands b fixups (segment_starts_place b t k + 22) (s.address / CHAIN_PAGE) pages page behind less)
 
+-- segments with the starts that are told are those with the starts of the run
+told_are : (b : List ℕ) (t : Table) (fixups : List Fixup) (segments : List FixupSegment)
+    → ((k : ℕ) (d : FixupSegment) → k < length segments → page_starts b t k ≡ starts_in fixups (get_or segments k d))
+    → told_segments b t segments ≡ map (chain_seen fixups) segments
+told_are b t fixups segments starts =
+    ext_get_or (chain_seen fixups no_segment) (told_segments b t segments) (map (chain_seen fixups) segments)
+    (long ∙ sym (length-map segments (chain_seen fixups))) at
+  where
+    long : length (told_segments b t segments) ≡ length segments
+    long = length-map (enumerate_from 0 segments) (told_segment b t) ∙ length-enumerate_from 0 segments
+
+    at : (i : ℕ) → i < length (told_segments b t segments)
+        → get_or (told_segments b t segments) i (chain_seen fixups no_segment) ≡ get_or (map (chain_seen fixups) segments) i (chain_seen fixups no_segment)
+    at i lt =
+        let within : i < length segments = omega (arith, lt, long) in
+        let number : 0 + i ≡ i = omega arith in
+        let s : FixupSegment = get_or segments i no_segment in
+        get_or-map (told_segment b t) (enumerate_from 0 segments) i (0, no_segment) (chain_seen fixups no_segment)
+        (omega (arith, within, length-enumerate_from 0 segments))
+        ∙ ap (told_segment b t) (get_or-enumerate_from 0 segments i (0, no_segment) within)
+        ∙ ap (λ (n : ℕ). told_segment b t (n, s)) number
+        ∙ ap (λ (x : List ℕ). let g : ChainSegment = record { address = s.address; file_offset = s.file_offset; file_size = s.file_size; starts = x } in g)
+        (starts i no_segment within)
+        ∙ sym (get_or-map (chain_seen fixups) segments i no_segment (chain_seen fixups no_segment) within)
+
 -- THE table reads back.
 pub table_reads_back : (base : ℕ) (fixups : List Fixup) (segments : List FixupSegment) (format : ℕ) (imports : List ImportEntry) (names : List ℕ)
     → FitsTable base fixups segments → ReadsBack chained_fixups_header (table_header fixups segments format imports)
@@ -144,15 +170,20 @@ table_reads_back base fixups segments format imports names fits back long whole 
         let behind_count = stands-back b (t.at + 28) (t.at + 28 + 4) (le_bytes 4 (length segments))
         (offsets_text (4 + 4 * length segments) fixups segments ++ flat_map (segment_text base fixups) segments)
         (omega (arith, little_is_sound.long 4 (length segments))) starts in
+        let each : (k : ℕ) (d : FixupSegment) → k < length segments → page_starts b t k ≡ starts_in fixups (get_or segments k d) =
+        λ k d lt. starts_read base (t.at + 28) fixups segments b t k d fits place
+        (stands-front b (t.at + 28 + 4) (offsets_text (4 + 4 * length segments) fixups segments) _ behind_count)
+        (stands-back b (t.at + 28 + 4) (t.at + 28 + 4 + 4 * length segments) (offsets_text (4 + 4 * length segments) fixups segments) _
+        (omega (arith, length-offsets (4 + 4 * length segments) fixups segments)) behind_count) lt in
+        let told = told_are b t fixups segments each in
         record {
           header = header_is;
           count = ap (le_at 4 b) place
               ∙ number-stands little little_is_sound 4 (length segments) b (t.at + 28) (omega (arith, fits.count))
               (stands-front b (t.at + 28) (le_bytes 4 (length segments)) _ starts);
-          starts = λ k d lt. starts_read base (t.at + 28) fixups segments b t k d fits place
-              (stands-front b (t.at + 28 + 4) (offsets_text (4 + 4 * length segments) fixups segments) _ behind_count)
-              (stands-back b (t.at + 28 + 4) (t.at + 28 + 4 + 4 * length segments) (offsets_text (4 + 4 * length segments) fixups segments) _
-              (omega (arith, length-offsets (4 + 4 * length segments) fixups segments)) behind_count) lt;
+          starts = each;
+          told = told;
+          chain = λ run stand a. subst (λ (g : List ChainSegment). OnChain g b a ↔ IsAddressOf fixups a) (sym told) (run.set b a stand);
           texts = stands-back b (t.at + 28 + length image) (t.at + names_place fixups segments format imports) entries names
               (omega (
                 arith,
