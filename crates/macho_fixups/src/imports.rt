@@ -1,11 +1,11 @@
 //! The table of imports.
-ghost use Rattle.std.specs.Prelude.{◌≡◌, ◌+◌, ◌*◌, ◌<◌, ◌≤◌, ◌^◌, length};
+ghost use Rattle.std.specs.Prelude.{◌≡◌, ◌+◌, ◌*◌, ◌<◌, ◌≤◌, ◌^◌, length, All};
 ghost use Rattle.std.specs.Int.{w32, cast_unsigned};
 ghost use Rattle.std.specs.List.{flat_map};
 ghost use Rattle.macho_bytes.specs.Texts.{put};
 ghost use Rattle.macho_model.specs.Images.{import_entry_size};
 ghost use Rattle.macho_fixups.specs.Tables.{entry_text, entry_word};
-ghost use Rattle.macho_fixups.specs.Calls.{AreEntries};
+ghost use Rattle.macho_fixups.specs.Calls.{AreEntries, EntryFits};
 
 use crate::bytes::put_u32;
 
@@ -36,6 +36,7 @@ pub(crate) fn write_imports(out: &mut [u8], at: usize, format: u32, imports: &[I
     requires room { at + import_entry_size format * length imports.now ≤ length out.old }
     ensures written { out.new ≡ put at (flat_map (entry_text format) imports.now) out.old }
     ensures long { length (flat_map (entry_text format) imports.now) ≡ import_entry_size format * length imports.now }
+    ensures fits { All EntryFits imports.now }
 {
     let mut place = at;
     for entry in imports {
@@ -49,23 +50,27 @@ fn write_entry(out: &mut [u8], at: usize, format: u32, entry: ImportEntry)
     requires room { at + import_entry_size format ≤ length out.old }
     ensures written { out.new ≡ put at (entry_text format entry) out.old }
     ensures long { length (entry_text format entry) ≡ import_entry_size format }
+    ensures fits { EntryFits entry }
 {
+    let addend = addend_word(&entry);
     put_u32(out, at, entry_word(entry));
     if format == IMPORT_ADDEND_FORMAT {
-        put_u32(out, at + 4, addend_word(&entry));
+        put_u32(out, at + 4, addend);
     }
 }
 
 fn entry_word(entry: ImportEntry) -> u32
     requires { entry.name_offset < 2 ^ 23 }
-    ensures { result ≡ entry_word entry }
+    ensures is { result ≡ entry_word entry }
+    ensures small { entry.library < 256 }
 {
     u32::from(entry.library) + (entry.name_offset << 9)
 }
 
 /// The bits of a signed addend.
 fn addend_word(entry: &ImportEntry) -> u32
-    ensures { result ≡ cast_unsigned w32 entry.now.addend }
+    ensures is { result ≡ cast_unsigned w32 entry.now.addend }
+    ensures small { cast_unsigned w32 entry.now.addend < 2 ^ 32 }
 {
     entry.addend.cast_unsigned()
 }
