@@ -10,4 +10,5 @@ pub mod Places
 pub mod ChainWrites
 pub mod RunChain
 pub mod StartReading
+pub mod EntryReading
 pub mod TableReading

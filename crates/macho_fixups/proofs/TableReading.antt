@@ -4,7 +4,7 @@
 -- starts begin at 28. There the offsets of the segments stand, and each leads to what is told of its segment: the
 -- record says how many pages there are, and their starts are read as they were written.
 use Rattle.std.proofs.Common.{◌≡◌, ℕ, ◌+◌, ◌*◌, ◌/◌, ◌^◌, ◌<◌, ◌≤◌, ◌==◌, Bool, true, false, List, [], ◌++◌, length, map, get_or, take, arith, refl, sym, ap, subst, ◌∙◌, inl, inr, if◌then◌else◌}
-use Rattle.std.specs.Prelude.{sum_by, ◌↔◌}
+use Rattle.std.specs.Prelude.{sum_by, ◌↔◌, All}
 use Rattle.std.specs.List.{flat_map, range_with_len, enumerate_from}
 use Rattle.macho_model.specs.Chain.{ChainSegment, OnChain}
 use Rattle.std.proofs.lemmas.Bool.{cases_lt}
@@ -26,11 +26,12 @@ use Rattle.macho_fixups.specs.declared.imports.ImportEntry.{ImportEntry}
 use Rattle.macho_fixups.specs.Runs.{pages_of, start_of}
 use Rattle.macho_fixups.specs.Tables.{offsets_text, segment_text, segment_size, starts_record, page_starts_text, image_starts_text, image_starts_size, entry_text, table_header, table_text, names_place}
 use Rattle.macho_fixups.specs.Chains.{starts_in, chain_seen, IsAddressOf}
-use Rattle.macho_fixups.specs.Calls.{FitsTable}
+use Rattle.macho_fixups.specs.Calls.{FitsTable, AreEntries, EntryFits}
 use Rattle.macho_fixups.specs.Readings.{IsRead, TableReadsBack, told_segment, told_segments}
 use Rattle.macho_fixups.proofs.Cuts.{pages_of-no_bytes}
 use Rattle.macho_fixups.proofs.SegmentWrites.{no_segment, offset_at, sum_bound, length-offsets}
 use Rattle.macho_fixups.proofs.TableTexts.{header_long}
+use Rattle.macho_fixups.proofs.EntryReading.{entry_read}
 use Rattle.macho_fixups.proofs.StartReading.{text_some, record_long, offset_stands, text_stands, start_stands}
 
 -- lists of numbers that agree at each place
@@ -140,12 +141,12 @@ told_are b t fixups segments starts =
 
 -- THE table reads back.
 pub table_reads_back : (base : ℕ) (fixups : List Fixup) (segments : List FixupSegment) (format : ℕ) (imports : List ImportEntry) (names : List ℕ)
-    → FitsTable base fixups segments → ReadsBack chained_fixups_header (table_header fixups segments format imports)
+    → FitsTable base fixups segments → AreEntries format imports → All EntryFits imports → ReadsBack chained_fixups_header (table_header fixups segments format imports)
     → length (image_starts_text base fixups segments) ≡ image_starts_size fixups segments
     → length (names) + names_place fixups segments format imports ≡ length (table_text base fixups segments format imports names)
     → TableReadsBack base fixups segments format imports names
 unfolding table_text image_starts_text
-table_reads_back base fixups segments format imports names fits back long whole =
+table_reads_back base fixups segments format imports names fits known entry_fits back long whole =
     record { read = λ b t stands. read b t stands }
   where
     header : ChainedFixupsHeader
@@ -184,6 +185,10 @@ table_reads_back base fixups segments format imports names fits back long whole 
           starts = each;
           told = told;
           chain = λ run stand a. subst (λ (g : List ChainSegment). OnChain g b a ↔ IsAddressOf fixups a) (sym told) (run.set b a stand);
+          entries = λ k d lt. entry_read b t format (28 + image_starts_size fixups segments) imports k d (table_header fixups segments format imports)
+              header_is refl refl known entry_fits
+              (stands-front b (t.at + (28 + image_starts_size fixups segments)) entries names
+              (stands-back b (t.at + 28) (t.at + (28 + image_starts_size fixups segments)) image (entries ++ names) (omega (arith, long)) rest)) lt;
           texts = stands-back b (t.at + 28 + length image) (t.at + names_place fixups segments format imports) entries names
               (omega (
                 arith,

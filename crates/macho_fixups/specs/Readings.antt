@@ -2,7 +2,10 @@
 use Rattle.std.specs.Prelude.{◌≡◌, ℕ, ◌+◌, ◌<◌, ◌↔◌, List, length, map, get_or}
 use Rattle.std.specs.List.{enumerate_from}
 use Rattle.macho_bytes.specs.Texts.{Stands}
-use Rattle.macho_model.specs.Images.{Table, fixups_header, starts_count, page_starts}
+use Rattle.std.specs.Int.{w32, cast_unsigned}
+use Rattle.macho_bytes.specs.Numbers.{signed}
+use Rattle.macho_model.specs.Images.{Table, fixups_header, starts_count, page_starts, import_entry}
+use Rattle.macho_model.specs.Images as images
 use Rattle.macho_model.specs.Chain.{ChainSegment, OnChain}
 use Rattle.macho_fixups.specs.declared.run.Fixup.{Fixup}
 use Rattle.macho_fixups.specs.declared.run.FixupSegment.{FixupSegment}
@@ -17,6 +20,10 @@ told_segment b t (k, s) = record { address = s.address; file_offset = s.file_off
 abbrev pub told_segments : List ℕ → Table → List FixupSegment → List ChainSegment
 told_segments b t segments = map (told_segment b t) (enumerate_from 0 segments)
 
+-- an entry as the loader sees it; its addend is a number modulo 2 ^ 64
+abbrev pub entry_seen : ImportEntry → images.ImportEntry
+entry_seen e = record { library = e.library; name_offset = e.name_offset; addend = signed 32 (cast_unsigned w32 e.addend) }
+
 -- The header, the number of segments, the page starts of each, and the names are those given.
 pub record IsRead (b : List ℕ) (t : Table) (fixups : List Fixup) (segments : List FixupSegment) (format : ℕ) (imports : List ImportEntry) (names : List ℕ)
     : Type 0 where
@@ -26,6 +33,7 @@ pub record IsRead (b : List ℕ) (t : Table) (fixups : List Fixup) (segments : L
   -- so where the words of the run stand too, the chain is the run
   pub told : told_segments b t segments ≡ map (chain_seen fixups) segments
   pub chain : ChainIsRun segments fixups → AllStand segments fixups b → (a : ℕ) → OnChain (told_segments b t segments) b a ↔ IsAddressOf fixups a
+  pub entries : (k : ℕ) (d : ImportEntry) → k < length imports → import_entry b t k ≡ entry_seen (get_or imports k d)
   pub texts : Stands b (record { at = t.at + names_place fixups segments format imports; text = names })
 
 -- So they are read in every file in which the table stands.

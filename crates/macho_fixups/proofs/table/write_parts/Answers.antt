@@ -75,5 +75,5 @@ returns-clause-read c =
     let same = ap (λ (n : ℕ). record header { imports_offset = c.write_image_starts-imports_at.result; symbols_offset = n }) at_names
     ∙ ap (λ (n : ℕ). record header { imports_offset = n }) at_imports in
     table_reads_back c.args.base c.args.fixups.now c.args.segments.now c.args.format c.args.imports.now c.args.names.now c.requires.fits
-    (subst (λ (h : ChainedFixupsHeader). ReadsBack chained_fixups_header h) same c.write.ensures.back)
+    c.requires.entries c.write_imports.ensures.fits (subst (λ (h : ChainedFixupsHeader). ReadsBack chained_fixups_header h) same c.write.ensures.back)
     c.write_image_starts-imports_at.ensures.long (omega (arith, returns-clause-long c))
