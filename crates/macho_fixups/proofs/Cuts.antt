@@ -90,7 +90,7 @@ pages_of-above s (f ∷ fixups) (suc k) d lt =
     omega (arith, pages_of-above s fixups k d (omega arith), le-max_right (pages_with s f) (pages_of s fixups))
 
 -- and the whole is no more than a bound of them
-pages_of-below : (s : FixupSegment) (fixups : List Fixup) (p : ℕ)
+pub pages_of-below : (s : FixupSegment) (fixups : List Fixup) (p : ℕ)
     → ((k : ℕ) (d : Fixup) → k < length fixups → pages_with s (get_or fixups k d) ≤ p) → pages_of s fixups ≤ p
 unfolding pages_of
 pages_of-below s [] p each = omega arith
@@ -98,7 +98,7 @@ pages_of-below s (f ∷ fixups) p each =
     max-le (each 0 f (omega arith)) (pages_of-below s fixups p (λ k d lt. each (suc k) d (omega arith)))
 
 -- a fixup outside a segment counts none of its pages
-pages_with-out : (s : FixupSegment) (f : Fixup) → (f.address < s.address) ⊎ (s.address + s.file_size ≤ f.address) → pages_with s f ≡ 0
+pub pages_with-out : (s : FixupSegment) (f : Fixup) → (f.address < s.address) ⊎ (s.address + s.file_size ≤ f.address) → pages_with s f ≡ 0
 pages_with-out s f out =
     let no : is_in s f.address ≡ false = elim out [
       | inl low ↦ let t : nat_le s.address f.address ≡ false = grind (arith, nat_tests) in rw t refl

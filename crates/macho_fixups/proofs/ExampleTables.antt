@@ -2,7 +2,7 @@
 --
 -- Each condition on a list holds of it where it holds of its head and of its tail, so on these lists it is a row of
 -- facts on numerals.
-use Rattle.std.proofs.Common.{ℕ, ◌≡◌, ◌+◌, ◌%◌, ◌^◌, ◌≤◌, ◌⊎◌, List, [], ◌∷◌, arith, rules}
+use Rattle.std.proofs.Common.{◌<◌, pos, negsuc, refl, inr, ℕ, ◌≡◌, ◌+◌, ◌%◌, ◌^◌, ◌≤◌, ◌⊎◌, List, [], ◌∷◌, arith, rules}
 use Rattle.std.specs.List.{All, AllPairs, Contains}
 use Rattle.std.proofs.lemmas.List.Elements.{All-nil, All-cons, All-contains_itself}
 use Rattle.std.proofs.lemmas.List.Kept.{AllPairs-cons}
@@ -14,7 +14,8 @@ use Rattle.macho_fixups.specs.declared.run.Fixup.{Fixup}
 use Rattle.macho_fixups.specs.declared.run.FixupSegment.{FixupSegment}
 use Rattle.macho_fixups.specs.Runs.{AreFixups, AreSegments, Holds, pages_of}
 use Rattle.macho_fixups.specs.Chains.{HaveRoom}
-use Rattle.macho_fixups.specs.Calls.{FitsTable}
+use Rattle.macho_fixups.specs.declared.imports.ImportEntry.{ImportEntry}
+use Rattle.macho_fixups.specs.Calls.{FitsTable, AreEntries}
 
 -- a fact of each element, as a row
 abbrev pub Each : {X : Type 0} → (X → Type 0) → List X → Type 0
@@ -121,3 +122,14 @@ pub has_room : (n : ℕ) → n ≡ 0x4008 → HaveRoom data_segments pointers n
 has_room n is =
     all (λ (s : FixupSegment). (f : Fixup) → Contains pointers f → Holds s f.address → s.file_offset + s.file_size ≤ n) data_segments
     ((λ f one holds. omega arith), tt)
+
+abbrev pub exits : List ImportEntry
+exits = record { library = 1; name_offset = 0; addend = pos 0 } ∷ record { library = 1; name_offset = 0; addend = negsuc 7 } ∷ []
+
+pub are_exits : AreEntries 2 exits
+are_exits = record {
+  known = inr refl;
+  plain = λ e. absurd (omega arith);
+  count = omega arith;
+  names = all (λ (e : ImportEntry). e.name_offset < 2 ^ 23) exits (search rules);
+}

@@ -12,3 +12,4 @@ pub mod RunChain
 pub mod StartReading
 pub mod EntryReading
 pub mod TableReading
+pub mod Bounds

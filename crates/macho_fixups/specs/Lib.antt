@@ -4,4 +4,5 @@ pub mod Tables
 pub mod Cuts
 pub mod Chains
 pub mod Readings
+pub mod Laws
 pub mod Calls

@@ -2,8 +2,9 @@
 
 ghost use Rattle.std.specs.Prelude.{◌≡◌, IfOk, vec_len};
 
+use crate::imports::write_imports;
 use crate::{
-    Fixup, FixupKind, FixupSegment, NotEncodable, table_size, write_bind_encoding,
+    Fixup, FixupKind, FixupSegment, ImportEntry, NotEncodable, table_size, write_bind_encoding,
     write_chained_fixup_table, write_chains, write_rebase_encoding,
 };
 use std::alloc::{AllocError, Global};
@@ -103,4 +104,25 @@ fn three_pointers_on_two_pages(rt: HostRuntime) -> Result<(), Fail> {
     assert!(rt; out[0..16] == b"\x78\x02\0\0\0\0\x10\0\x01\0\0\x05\0\0\0\x80"[..]);
     assert!(rt; out[0x4000..0x4008] == b"\x80\x02\0\0\0\0\0\0"[..]);
     Ok(())
+}
+
+/// `_exit` of the first library, plain and less 8.
+const EXIT: [ImportEntry; 2] = [
+    ImportEntry {
+        library: 1,
+        name_offset: 0,
+        addend: 0,
+    },
+    ImportEntry {
+        library: 1,
+        name_offset: 0,
+        addend: -8,
+    },
+];
+
+#[test]
+fn import_entries_with_addends(rt: HostRuntime) {
+    let mut out = [0xff; 16];
+    write_imports(&mut out, 0, 2, &EXIT);
+    assert!(rt; out == *b"\x01\0\0\0\0\0\0\0\x01\0\0\0\xf8\xff\xff\xff");
 }
