@@ -1,0 +1,15 @@
+pub mod Cuts
+pub mod FirstWords
+pub mod EntryTexts
+pub mod SegmentTexts
+pub mod PutOrder
+pub mod SegmentWrites
+pub mod TableTexts
+pub mod ExampleTables
+pub mod Places
+pub mod ChainWrites
+pub mod RunChain
+pub mod StartReading
+pub mod EntryReading
+pub mod TableReading
+pub mod Bounds

@@ -1,0 +1,13 @@
+use Rattle.std.proofs.Common.{refl}
+use Rattle.macho_bytes.specs.Numbers.{le_bytes}
+use Rattle.macho_bytes.proofs.Numbers.{little_is_sound}
+use Rattle.macho_bytes.proofs.Writes.{put_mid-front}
+use Rattle.macho_fixups.proofs.bytes.put_u32.Goals as goal
+
+pub returns-clause-written : goal.returns-clause-written
+unfolding le_bytes
+returns-clause-written c =
+    put_mid-front c.args.at _ c.args.out.now (le_bytes 4 c.args.number) c.write_u32.new.buf refl c.requires c.write_u32.ensures
+
+pub returns-clause-long : goal.returns-clause-long
+returns-clause-long c = little_is_sound.long 4 c.args.number

@@ -1,0 +1,58 @@
+use Rattle.std.proofs.Common.{ℕ, arith, ap}
+use Rattle.macho_fixups.specs.Tables.{segment_size, image_starts_size, starts_size}
+use Rattle.macho_fixups.proofs.SegmentWrites.{segments_begin, segment_done, segments_end, has_room, no_segment}
+use Rattle.macho_fixups.proofs.table.write_segments.Goals as goal
+
+pub loop-segment-init : goal.loop-segment-init
+unfolding image_starts_size
+loop-segment-init c = segments_begin c.args.base c.args.at c.args.fixups.now c.args.segments.now c.args.out.now (omega (arith, c.requires.room))
+
+pub offset_word-requires : goal.offset_word-requires
+unfolding image_starts_size
+offset_word-requires c =
+    (has_room c.args.base c.args.at c.args.fixups.now c.args.segments.now no_segment c.loop-segment.slot c.loop-segment.place c.loop-segment.next
+    c.loop-segment.segment-index c.args.out.now c.loop-segment.out c.loop-segment-test.true c.requires.fits.count c.requires.fits.pages c.requires.room
+    c.loop-segment.invariant).near
+
+pub put_u32-requires : goal.put_u32-requires
+unfolding image_starts_size
+put_u32-requires c =
+    let room = has_room c.args.base c.args.at c.args.fixups.now c.args.segments.now no_segment c.loop-segment.slot c.loop-segment.place c.loop-segment.next
+    c.loop-segment.segment-index c.args.out.now c.loop-segment.out c.loop-segment-test.true c.requires.fits.count c.requires.fits.pages c.requires.room
+    c.loop-segment.invariant in
+    omega (arith, room.offset, c.loop-segment.auto.out)
+
+pub write_starts-requires-clause-room : goal.write_starts-requires-clause-room
+unfolding image_starts_size segment_size
+write_starts-requires-clause-room c =
+    let room = has_room c.args.base c.args.at c.args.fixups.now c.args.segments.now no_segment c.loop-segment.slot c.loop-segment.place c.loop-segment.next
+    c.loop-segment.segment-index c.args.out.now c.loop-segment.out c.loop-segment-test.true c.requires.fits.count c.requires.fits.pages c.requires.room
+    c.loop-segment.invariant in
+    omega (arith, room.text, c.loop-segment.auto.out, c.put_u32.auto.out, ap (λ (p : ℕ). starts_size p) c.run_of-run.ensures.counted)
+
+pub loop-segment-preserved : goal.loop-segment-preserved
+unfolding image_starts_size
+loop-segment-preserved c =
+    segment_done c.args.base c.args.at c.args.fixups.now c.args.segments.now _ c.loop-segment.slot c.loop-segment.place c.loop-segment.next
+    c.loop-segment.segment-index c.run_of-run.result.end c.offset_word.result c.run_of-run.result.pages c.starts_size-place.result c.args.out.now
+    c.loop-segment.out c.put_u32.new.out c.write_starts.new.out c.loop-segment-test.true c.requires.fits.order c.requires.room
+    c.loop-segment.invariant c.run_of-run.ensures.end_at c.run_of-run.ensures.counted c.offset_word.ensures c.write_starts.ensures.long
+    c.put_u32.ensures.written c.write_starts.ensures.written c.starts_size-place.ensures
+
+pub returns-clause-written : goal.returns-clause-written
+unfolding image_starts_size
+returns-clause-written c =
+    (segments_end c.args.base c.args.at c.args.fixups.now c.args.segments.now c.loop-segment.slot c.loop-segment.place c.loop-segment.next
+    c.loop-segment.segment-index c.args.out.now c.loop-segment.out c.loop-segment-test.false c.requires.room c.loop-segment.invariant).0
+
+pub returns-clause-long : goal.returns-clause-long
+unfolding image_starts_size
+returns-clause-long c =
+    (segments_end c.args.base c.args.at c.args.fixups.now c.args.segments.now c.loop-segment.slot c.loop-segment.place c.loop-segment.next
+    c.loop-segment.segment-index c.args.out.now c.loop-segment.out c.loop-segment-test.false c.requires.room c.loop-segment.invariant).1
+
+pub returns-clause-behind : goal.returns-clause-behind
+unfolding image_starts_size
+returns-clause-behind c =
+    (segments_end c.args.base c.args.at c.args.fixups.now c.args.segments.now c.loop-segment.slot c.loop-segment.place c.loop-segment.next
+    c.loop-segment.segment-index c.args.out.now c.loop-segment.out c.loop-segment-test.false c.requires.room c.loop-segment.invariant).2

@@ -1,0 +1,84 @@
+//! The sorted run of fixups, and the part of it that stands in a segment.
+ghost use Rattle.std.specs.Prelude.{◌≡◌, ◌+◌, ◌*◌, ◌/◌, ◌^◌, ◌<◌, ◌≤◌, length, nat_lt};
+ghost use Rattle.macho_fixups.specs.Runs.{AreSorted, pages_of};
+ghost use Rattle.macho_model.specs.Images.{CHAIN_PAGE};
+ghost use Rattle.macho_fixups.specs.Cuts.{IsSkip, AreBelow, IsCut, IsRunOf};
+
+use crate::words::FixupKind;
+
+/// The bytes of a page of a chain.
+pub(crate) const CHAIN_PAGE: u64 = 0x4000;
+
+/// A word that the loader writes anew.
+#[derive(Clone, Copy, Debug, PartialEq, Eq)]
+pub struct Fixup {
+    /// The address of its first byte.
+    pub address: u64,
+    /// What the loader makes of it.
+    pub kind: FixupKind,
+}
+
+/// A segment, as fixups see it.
+#[derive(Clone, Copy, Debug, PartialEq, Eq)]
+pub struct FixupSegment {
+    /// The address of its first byte.
+    pub address: u64,
+    /// Its bytes in memory.
+    pub size: u64,
+    /// The place of its first byte in the file.
+    pub file_offset: u64,
+    /// Its bytes in the file.
+    pub file_size: u64,
+}
+
+/// The number of the first fixup, from one on, that isn't below `base + size`.
+pub(crate) fn skip_below(fixups: &[Fixup], from: usize, base: u64, size: u64) -> usize
+    requires { from ≤ length fixups.now }
+    ensures { IsSkip fixups.now from (base + size) result }
+{
+    let mut next = from;
+    while next < fixups.len() && is_below(&fixups[next], base, size) {
+        next += 1;
+    }
+    next
+}
+
+fn is_below(fixup: &Fixup, base: u64, size: u64) -> bool
+    ensures { result ≡ nat_lt fixup.now.address (base + size) }
+{
+    let address = fixup.address;
+    address < base || address - base < size
+}
+
+/// The part of the run that stands in a segment.
+#[derive(Clone, Copy)]
+pub(crate) struct SegmentRun {
+    /// The number of its first fixup.
+    pub(crate) begin: usize,
+    /// The number behind its last one.
+    pub(crate) end: usize,
+    /// The pages of the segment up to that of its last fixup.
+    pub(crate) pages: u64,
+}
+
+/// The part of the run that stands in a segment, sought from a fixup on.
+pub(crate) fn run_of(fixups: &[Fixup], from: usize, segment: &FixupSegment) -> SegmentRun
+    requires sorted { AreSorted fixups.now }
+    requires from { from ≤ length fixups.now }
+    requires below { AreBelow fixups.now from segment.now.address }
+    ensures { IsRunOf fixups.now segment.now result }
+{
+    let segment = *segment;
+    let begin = skip_below(fixups, from, segment.address, 0);
+    let end = skip_below(fixups, begin, segment.address, segment.file_size);
+    if begin == end {
+        return SegmentRun {
+            begin,
+            end,
+            pages: 0,
+        };
+    }
+    let last = fixups[end - 1].address;
+    let pages = last / CHAIN_PAGE - segment.address / CHAIN_PAGE + 1;
+    SegmentRun { begin, end, pages }
+}
