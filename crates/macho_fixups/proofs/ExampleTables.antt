@@ -118,6 +118,16 @@ is_data = record {
   ends = all (λ (s : FixupSegment). (s.address + s.size ≤ 2 ^ 64) × (s.file_offset + s.file_size ≤ 2 ^ 64)) data_segments (search rules);
 }
 
+pub fits_two_pages : FitsTable 0x100000000 pointers data_segments
+unfolding pages_of
+fits_two_pages = record {
+  run = are_pointers;
+  order = is_data;
+  count = omega arith;
+  pages = all (λ (s : FixupSegment). pages_of s pointers ≤ 65535) data_segments (search rules);
+  above = all (λ (s : FixupSegment). (pages_of s pointers ≡ 0) ⊎ (0x100000000 ≤ s.address)) data_segments (search rules);
+}
+
 pub has_room : (n : ℕ) → n ≡ 0x4008 → HaveRoom data_segments pointers n
 has_room n is =
     all (λ (s : FixupSegment). (f : Fixup) → Contains pointers f → Holds s f.address → s.file_offset + s.file_size ≤ n) data_segments

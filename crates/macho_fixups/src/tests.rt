@@ -106,6 +106,17 @@ fn three_pointers_on_two_pages(rt: HostRuntime) -> Result<(), Fail> {
     Ok(())
 }
 
+/// One segment, its offset, and its record with the starts of two pages.
+const STARTS: [u8; 34] = *b"\x01\0\0\0\x08\0\0\0\
+    \x1a\0\0\0\x00\x40\x06\0\x00\x40\0\0\0\0\0\0\0\0\0\0\x02\0\0\0\0\0";
+
+#[test]
+fn starts_of_two_pages(rt: HostRuntime) {
+    let mut out = [0xff; 200];
+    write_chained_fixup_table(&mut out, &DATA, 0x1_0000_0000, &POINTERS, 1, &[], &[]);
+    assert!(rt; out[28..62] == STARTS[..]);
+}
+
 /// `_exit` of the first library, plain and less 8.
 const EXIT: [ImportEntry; 2] = [
     ImportEntry {
