@@ -1,5 +1,7 @@
 //! Whole runs over files in memory: objects written out, the image of one of them, and each refusal with its line.
 
+use macho_args::MachOArgs;
+use macho_image::{LinkError, Linker, Unbuilt};
 use std::alloc::Global;
 use std::test::Fail;
 use std::{env, fs, process};
@@ -367,5 +369,29 @@ fn an_output_path_that_is_a_folder_is_a_failed_write(rt: HostRuntime) -> Result<
     assert_eq!(rt; answer.status, 4);
     assert!(rt; matches!(answer.fault, Some(Fault::Write)));
     assert!(rt; answer.image.is_some());
+    Ok(())
+}
+
+#[test]
+fn a_linker_links_again_after_a_refusal(rt: HostRuntime) -> Result<(), Fail> {
+    let args = MachOArgs::new(rt.alloc())?;
+    let mut linker = Linker::new(rt.alloc(), &args).ok().ok_or("no linker")?;
+    let object = Vec::from_slice(rt.alloc(), &CALLS)?;
+    assert!(rt; linker.add_object(object).is_ok());
+    let first = linker.link_image(rt.alloc(), [0; 16]).ok();
+    let first = first.ok_or("no image")?;
+    let second = Vec::from_slice(rt.alloc(), &OBJECT)?;
+    assert!(rt;
+        matches!(
+            linker.add_object(second),
+            Err(LinkError::Unbuilt {
+                what: Unbuilt::Input
+            })
+        )
+    );
+    assert_eq!(rt; linker.num_inputs(), 1);
+    let again = linker.link_image(rt.alloc(), [0; 16]).ok();
+    let again = again.ok_or("no second image")?;
+    assert!(rt; first.bytes == again.bytes);
     Ok(())
 }
