@@ -103,7 +103,7 @@ pub record IsCall (l : Link) (b : List ℕ) (k r : ℕ) : Type 0 where
   pub fine : IsFine b (target_of_relocation l (first_section k) r)
   pub defined : is_defined (target_of_relocation l (first_section k) r) ≡ true
 
-row-is : (l : Link) (s : SectionId) (r : ℕ) → (relocation_in l s r).r_type ≡ ARM64_RELOC_BRANCH26
+pub row-is : (l : Link) (s : SectionId) (r : ℕ) → (relocation_in l s r).r_type ≡ ARM64_RELOC_BRANCH26
     → is_supported l s r ≡ (has_form (relocation_in l s r) 2 true true && is_branch (content_of l s r) && may_be_called l s r)
 unfolding is_supported
 row-is l s r type = rw type refl

@@ -52,7 +52,7 @@ target_at l b cs ps headers end n e address s choice h place behind =
     )
 
 -- no library is needed
-no_libraries_needed : (l : Link) (b : List ℕ) → HasOneObject l b → libraries_needed l ≡ []
+pub no_libraries_needed : (l : Link) (b : List ℕ) → HasOneObject l b → libraries_needed l ≡ []
 unfolding libraries_needed
 no_libraries_needed l b one = rw one.inputs refl
 

@@ -63,7 +63,7 @@ none_passes test n fail =
 abbrev definitions : List ℕ → List ℕ → Bool → List ℕ
 definitions b name weakly = filter (defines_name b name weakly) (range_with_len 0 (num_symbols b))
 
-strong-are : (l : Link) (b name : List ℕ) → HasOneObject l b → strong_of l name ≡ map first_symbol (definitions b name false)
+pub strong-are : (l : Link) (b name : List ℕ) → HasOneObject l b → strong_of l name ≡ map first_symbol (definitions b name false)
 unfolding strong_of
 strong-are l b name one =
     ap (filter (λ s. is_strong l s && has_name l name s)) (symbols-are l b one)

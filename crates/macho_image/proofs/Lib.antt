@@ -26,3 +26,7 @@ pub mod FineTargets
 pub mod Near
 pub mod Answered
 pub mod RowsAnswered
+pub mod ClearNames
+pub mod ClearFields
+pub mod ClearLimits
+pub mod Clear

@@ -237,6 +237,7 @@ placed l front end n cs ps headers first places count is few high near pages = r
       (record { address = refl; size = pages; file_offset = refl; file_size = omega arith }, tt),
     );
     follow = two_follow l pagezero_segment (text_segment n) (follows l n);
+    begins = (text_segment n, (1, omega arith, refl), refl, rw first.executable refl);
   };
   template = no_template l front end n cs ps headers first places;
   within_sum = omega (arith, within l front end n cs ps first places few is near);

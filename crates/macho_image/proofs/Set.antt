@@ -2,7 +2,7 @@
 --
 -- A put of four bytes leaves every other byte. The branch shares no byte with the ones before it; so their words stand, and
 -- its own four bytes were still the input's. A byte outside all branches is outside this one too.
-use Rattle.std.proofs.Common.{◌≡◌, ℕ, zero, suc, ◌+◌, ◌-◌, ◌%◌, ◌^◌, ◌<◌, ◌≤◌, ◌⊎◌, false, List, [], ◌∷◌, length, get_or, slice_index, inl, inr, refl, sym, ap, subst, ◌∙◌, arith}
+use Rattle.std.proofs.Common.{◌≡◌, ℕ, zero, suc, ◌+◌, ◌-◌, ◌%◌, ◌^◌, ◌<◌, ◌≤◌, ◌⊎◌, true, false, List, [], ◌∷◌, length, get_or, slice_index, inl, inr, refl, sym, ap, subst, ◌∙◌, arith}
 use Rattle.std.specs.Prelude.{slice_range}
 use Rattle.std.proofs.lemmas.Bool.{cases_lt}
 use Rattle.macho_bytes.specs.Numbers.{le_at, le_bytes}
@@ -59,9 +59,9 @@ word_still places address xs n old mid x set apart inside =
 pub set_more : (places : List PlacedSection) (address : ℕ) (xs : List Branch) (n : ℕ) (old mid new : List ℕ) (x : Branch) (to value : ℕ)
     → IsSet places address xs n old mid → ((d : Branch) → get_or xs n d ≡ x) → ((q : ℕ) (d : Branch) → q < n → AreApart (get_or xs q d).at x.at)
     → ((q : ℕ) (d : Branch) → q < n → (get_or xs q d).at + WORD ≤ length old)
-    → x.at + WORD ≤ length old → IsAddressOf places x.target to → value ≡ less to (address + x.at) → Holds JumpCall (le_at WORD mid x.at) (le_at WORD new x.at) value
-    → new ≡ put x.at (le_bytes WORD (le_at WORD new x.at)) mid → IsSet places address xs (n + 1) old new
-set_more places address xs n old mid new x to value set here apart before inside target is holds put_is = record {
+    → x.at + WORD ≤ length old → IsAddressOf places x.target to → value ≡ less to (address + x.at) → branch_reaches (address + x.at) to ≡ true
+    → Holds JumpCall (le_at WORD mid x.at) (le_at WORD new x.at) value → new ≡ put x.at (le_bytes WORD (le_at WORD new x.at)) mid → IsSet places address xs (n + 1) old new
+set_more places address xs n old mid new x to value set here apart before inside target is reaches holds put_is = record {
   long = same_length ∙ set.long;
   words = λ r d lt. elim (cases_lt r n) [
     | inl less_than ↦ earlier r d less_than
@@ -98,7 +98,7 @@ set_more places address xs n old mid new x to value set here apart before inside
         let same : le_at WORD mid p ≡ le_at WORD new p =
         same_number WORD p mid new (omega (arith, before r d lt, set.long)) (omega (arith, before r d lt, set.long, same_length))
         (λ i from to. sym (untouched i (apart_byte p i (apart r d lt) from to))) in
-        record { to = w.to; target = w.target; holds = subst (λ (k : ℕ). Holds JumpCall (le_at WORD old p) k (less w.to (address + p))) same w.holds }
+        record { to = w.to; target = w.target; reaches = w.reaches; holds = subst (λ (k : ℕ). Holds JumpCall (le_at WORD old p) k (less w.to (address + p))) same w.holds }
 
     own : IsSetBranch places address x old new
     own =
@@ -106,6 +106,7 @@ set_more places address xs n old mid new x to value set here apart before inside
         record {
           to = to;
           target = target;
+          reaches = reaches;
           holds = subst (λ (v : ℕ). Holds JumpCall (le_at WORD old x.at) (le_at WORD new x.at) v) is
               (subst (λ (k : ℕ). Holds JumpCall k (le_at WORD new x.at) value) still holds);
         }
@@ -119,6 +120,10 @@ any_default (x ∷ xs) (suc k) d e lt = any_default xs k d e (omega arith)
 -- the distance that is written
 pub distance_is : (to from : ℕ) → to < 2 ^ 64 → from < 2 ^ 64 → (to + (2 ^ 64 - from)) % 2 ^ 64 ≡ less to from
 distance_is to from a b = omega arith
+
+-- a branch that could be written reaches
+pub reaches_from : (word x to value : ℕ) → value ≡ less to x → can_hold JumpCall word value ≡ true → branch_reaches x to ≡ true
+reaches_from word x to value is room = sym (branch_can_hold word x to) ∙ ap (can_hold JumpCall word) (sym is) ∙ room
 
 -- a branch that could not be written can't reach
 pub far_from : (places : List PlacedSection) (address : ℕ) (xs : List Branch) (n word : ℕ) (x : Branch) (to value : ℕ) → n < length xs

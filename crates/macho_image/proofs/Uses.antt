@@ -116,21 +116,6 @@ pub filter_map_none : {X Y : Type 0} (f : X → Option Y) (xs : List X) → All 
 filter_map_none f [] none = refl
 filter_map_none f (x ∷ xs) none = rw (none 0 x (omega arith), filter_map_none f xs (λ k d lt. none (suc k) d (omega arith))) refl
 
--- the uses of the carried sections
-uses_of_section : (l : Link) (b : List ℕ) (cs : List Carried) (xss : List (List Branch)) (k : ℕ) → HasOneObject l b → IsPlainObject b cs → HasAllBranches b cs xss
-    → k < length cs → All (NeedsNothing l) (carried_uses l (id_of_carried (get_or cs k no_carried)))
-uses_of_section l b cs xss k one plain branches lt =
-    let c = get_or cs k no_carried in
-    let s = id_of_carried c in
-    let has = branches.each k no_carried [] lt in
-    let count : (header_at l s).nreloc ≡ (section_at b c.section).nreloc = ap (λ (h : SectionHeader). h.nreloc) (first-header l b one c.section) in
-    All-map (NeedsNothing l) (ByRelocation s) (range_with_len 0 (header_at l s).nreloc)
-    (λ i d below. let within : i < (header_at l s).nreloc = omega (arith, below, length-range_with_len 0 (header_at l s).nreloc) in
-    let number : get_or (range_with_len 0 (header_at l s).nreloc) i d ≡ i = get_or-range_with_len 0 (header_at l s).nreloc i d within ∙ omega arith in
-    let type : (relocation_in l s i).r_type ≡ ARM64_RELOC_BRANCH26 =
-    ap (λ (o : List ℕ). (relocation_at o c.section i).r_type) (object-is l b one) ∙ (has.each i no_branch (omega (arith, within, count))).type in
-    subst (λ (r : ℕ). NeedsNothing l (ByRelocation s r)) (sym number) (branch_needs_nothing l b s i one type))
-
 no_more : (us : List Use) → us ++ [] ++ [] ++ [] ≡ us
 no_more us = append-nil (us ++ [] ++ []) ∙ append-nil (us ++ []) ∙ append-nil us
 
@@ -145,14 +130,33 @@ uses-are l b cs one plain =
     )
     (no_more (flat_map (carried_uses l) (map id_of_carried cs)))
 
+-- what holds of the relocations of the carried sections holds of each use
+pub each_use : (P : Use → Type 0) (l : Link) (b : List ℕ) (cs : List Carried) → HasOneObject l b → IsPlainObject b cs
+    → ((k r : ℕ) → k < length cs → r < (section_at b (get_or cs k no_carried).section).nreloc → P (ByRelocation (id_of_carried (get_or cs k no_carried)) r))
+    → All P (uses_of l)
+each_use P l b cs one plain each =
+    subst (All P) (sym (uses-are l b cs one plain))
+    (all_flat_map P (carried_uses l) (map id_of_carried cs)
+    (λ k d lt. let within : k < length cs = omega (arith, length-map cs id_of_carried) in
+    subst (λ (s : SectionId). All P (carried_uses l s)) (sym (map-at id_of_carried cs k no_carried d within)) (of_section k within)))
+  where
+    of_section : (k : ℕ) → k < length cs → All P (carried_uses l (id_of_carried (get_or cs k no_carried)))
+    of_section k lt =
+        let s = id_of_carried (get_or cs k no_carried) in
+        let count = ap (λ (h : SectionHeader). h.nreloc) (first-header l b one (get_or cs k no_carried).section) in
+        All-map P (ByRelocation s) (range_with_len 0 (header_at l s).nreloc)
+        (λ i d below. let within : i < (header_at l s).nreloc = omega (arith, below, length-range_with_len 0 (header_at l s).nreloc) in
+        let number : get_or (range_with_len 0 (header_at l s).nreloc) i d ≡ i = get_or-range_with_len 0 (header_at l s).nreloc i d within ∙ omega arith in
+        subst (λ (r : ℕ). P (ByRelocation s r)) (sym number) (each k i lt (omega (arith, within, count))))
+
 uses_need_nothing : (l : Link) (b : List ℕ) (cs : List Carried) (xss : List (List Branch)) → HasOneObject l b → IsPlainObject b cs → HasAllBranches b cs xss
     → All (NeedsNothing l) (uses_of l)
 uses_need_nothing l b cs xss one plain branches =
-    subst (All (NeedsNothing l)) (sym (uses-are l b cs one plain))
-    (all_flat_map (NeedsNothing l) (carried_uses l) (map id_of_carried cs)
-    (λ k d lt. let within : k < length cs = omega (arith, length-map cs id_of_carried) in
-    subst (λ (s : SectionId). All (NeedsNothing l) (carried_uses l s)) (sym (map-at id_of_carried cs k no_carried d within))
-    (uses_of_section l b cs xss k one plain branches within)))
+    each_use (NeedsNothing l) l b cs one plain
+    (λ k r lt below. let c = get_or cs k no_carried in
+    let has = branches.each k no_carried [] lt in
+    branch_needs_nothing l b (id_of_carried c) r one
+    (ap (λ (o : List ℕ). (relocation_at o c.section r).r_type) (object-is l b one) ∙ (has.each r no_branch below).type))
 
 pub no_slots : (l : Link) (b : List ℕ) (cs : List Carried) (xss : List (List Branch)) → HasOneObject l b → IsPlainObject b cs → HasAllBranches b cs xss → slots_of l ≡ []
 unfolding slots_of

@@ -59,3 +59,7 @@ abbrev pub NamesMeet : List ℕ → Type 0
 NamesMeet b =
     (j : ℕ) × (k : ℕ) × (j < k) × (k < num_symbols b) × (is_object_definition b j ≡ true) × (is_object_definition b k ≡ true)
     × (symbol_name b j ≡ symbol_name b k)
+
+-- no two symbols define one name
+pub record NamesDiffer (b : List ℕ) : Type 0 where
+  pub differ : NamesMeet b → ⊥

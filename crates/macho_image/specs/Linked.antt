@@ -9,6 +9,7 @@ use Rattle.macho_model.specs.Needs.{imports_of, libraries_needed}
 use Rattle.macho_model.specs.Targets.{target_of_name}
 use Rattle.macho_model.specs.Memory.{Choice}
 use Rattle.macho_model.specs.Stands.{IsAt, IsLinked}
+use Rattle.macho_model.specs.Faults.{bad_name, NoneStands}
 use Rattle.macho_layout.specs.Placements.{placed_of}
 use Rattle.macho_image.specs.declared.link.LinkedImage.{LinkedImage}
 use Rattle.macho_image.specs.declared.linker.InputView.{InputView}
@@ -47,6 +48,11 @@ pub record IsBare (image : LinkedImage) : Type 0 where
 -- an image of an object that begins at a place of it: the image of each link of this object alone whose entry leads there
 pub record IsImageAlone (b : List ℕ) (e : Entry) (image : LinkedImage) : Type 0 where
   pub alone : (l : Link) → HasOneObject l b → target_of_name l l.entry ≡ target.Section 0 e.section e.offset → IsImageOf l image
+
+-- such an image comes only where no refusal stands: in each of these links, and in its placement
+pub record IsClearAlone (b : List ℕ) (e : Entry) (image : LinkedImage) : Type 0 where
+  pub alone : (l : Link) → HasOneObject l b → target_of_name l l.entry ≡ target.Section 0 e.section e.offset → bad_name l ≡ false
+      → NoneStands l (counts_of l) (placed_of image.placement)
 
 -- a view shows an input: an object or a dynamic library by its bytes
 abbrev pub Shows : Input → InputView → Type 0

@@ -1,5 +1,5 @@
 -- What a linker holds: the arguments that matter to it, and its inputs in order.
-use Rattle.std.specs.Prelude.{◌≡◌, ℕ, not, [], ◌∷◌, ◌++◌, false, None}
+use Rattle.std.specs.Prelude.{◌≡◌, ℕ, Bool, List, not, [], ◌∷◌, ◌++◌, false, None}
 use Rattle.std.specs.Option.{option_map}
 use Rattle.macho_args.specs.Settings.{Settings, Platform, install_name_of}
 use Rattle.macho_model.specs.Links.{Link, Input}
@@ -32,6 +32,21 @@ pub record IsPlainly (s : Settings) : Type 0 where
   pub uuid : s.uuid ≡ None
   pub map_lines : s.map_lines ≡ false
   pub generate : s.generate ≡ None
+
+-- the link that a linker holds, by its fields
+abbrev pub held_link : Bool → Bool → List ℕ → List ℕ → List ℕ → List Input → Link
+held_link executable dead_strip_dylibs output entry install_name inputs = record {
+  executable = executable;
+  output = output;
+  entry = entry;
+  install_name = install_name;
+  rpaths = [];
+  versions = None;
+  dead_strip_dylibs = dead_strip_dylibs;
+  headerpad = false;
+  inputs = inputs;
+  export_lists = [];
+}
 
 -- a link with an input more
 abbrev pub with_input : Link → Input → Link

@@ -31,10 +31,11 @@ pub record AreSettable (bytes : List ℕ) (places : List PlacedSection) (xs : Li
   pub each : (r : ℕ) (d : Branch) → r < length xs → IsSettable bytes places (get_or xs r d)
   pub apart : (q r : ℕ) (d : Branch) → q < r → r < length xs → AreApart (get_or xs q d).at (get_or xs r d).at
 
--- a branch of a section at an address is set: it goes as far as its target is away, and is the same instruction
+-- a branch of a section at an address is set: it reaches its target, goes as far as that is away, and is the same instruction
 pub record IsSetBranch (places : List PlacedSection) (address : ℕ) (x : Branch) (old new : List ℕ) : Type 0 where
   pub to : ℕ
   pub target : IsAddressOf places x.target to
+  pub reaches : branch_reaches (address + x.at) to ≡ true
   pub holds : Holds JumpCall (le_at WORD old x.at) (le_at WORD new x.at) (less to (address + x.at))
 
 -- The first n branches of a section at an address are set, and every other byte stands.

@@ -1,10 +1,15 @@
 //! The link: from what was gathered to the bytes of an image.
-ghost use Rattle.std.specs.Prelude.{◌≡◌, false, Some, map, IfOk, IfErr};
+ghost use Rattle.std.specs.Prelude.{◌≡◌, ◌≤◌, false, Some, map, IfOk, IfErr};
 ghost use Rattle.macho_image.specs.First.{IsPlainObject};
 ghost use Rattle.macho_image.specs.Places.{IsPlaceable};
-ghost use Rattle.macho_image.specs.Definitions.{LiesInCarried};
+ghost use Rattle.macho_image.specs.Definitions.{LiesInCarried, NamesDiffer};
+ghost use Rattle.macho_image.specs.Counts.{counts_of};
+ghost use Rattle.macho_layout.specs.Placements.{placed_of};
+ghost use Rattle.macho_model.specs.Objects.{num_symbols};
+ghost use Rattle.macho_model.specs.Limits.{GREATEST_SYMBOLS};
+ghost use Rattle.macho_model.specs.Faults.{NoneStands};
 ghost use Rattle.macho_image.specs.LaidOut.{IsLaidOut};
-ghost use Rattle.macho_image.specs.Linked.{IsImageOf, IsImageAlone, IsBare};
+ghost use Rattle.macho_image.specs.Linked.{IsImageOf, IsImageAlone, IsClearAlone, IsBare};
 ghost use Rattle.macho_image.specs.Answered.{IsAnswered};
 ghost use Rattle.macho_image.specs.Branches.{HasAllBranches};
 ghost use Rattle.macho_image.specs.declared.fault.LinkError.TheVariants.{OutOfMemory};
@@ -72,6 +77,7 @@ impl Linker {
     /// The rule that the inputs break, and where; see `LinkError`.
     pub fn link_image(&self, alloc: Global, uuid: [u8; 16]) -> Result<LinkedImage, LinkError>
         ensures done { IfOk result (IsImageOf self.now) }
+        ensures only { IfOk result (λ image. NoneStands self.now (counts_of self.now) (placed_of image.placement)) }
         ensures why { IfErr result (RefusalStands self.now) }
         ensures answered { IsAnswered self.now → IfErr result (λ e. e ≡ OutOfMemory) }
     {
@@ -107,6 +113,7 @@ fn link_object(alloc: Global, file: &File<'_>, entry: Entry) -> Result<LinkedIma
     requires object { file.now.is_dynamic ≡ false }
     requires entry { LiesInCarried file.now.bytes (Some entry) }
     ensures done { IfOk result (IsImageAlone file.now.bytes entry) }
+    ensures only { IfOk result (IsClearAlone file.now.bytes entry) }
     ensures why { IfErr result (StandsAlone file.now.bytes) }
 {
     let _object = file.is_dynamic();
@@ -170,8 +177,11 @@ fn build(
     requires plain { IsPlainObject file.now.bytes carried.now }
     requires small { IsPlaceable carried.now }
     requires branches { HasAllBranches file.now.bytes carried.now (map (λ xs. xs.items) branches.now) }
+    requires names { NamesDiffer file.now.bytes }
+    requires few { num_symbols file.now.bytes ≤ GREATEST_SYMBOLS }
     requires entry { LiesInCarried file.now.bytes (Some entry) }
     ensures done { IfOk result (IsImageAlone file.now.bytes entry) }
+    ensures only { IfOk result (IsClearAlone file.now.bytes entry) }
     ensures why { IfErr result (StandsAlone file.now.bytes) }
 {
     let LaidOut { sections, size, .. } = lay_out(alloc, file, carried)?;

@@ -27,15 +27,17 @@ pub struct Linker {
 }
 
 impl Model for Linker {
-    ghost use Rattle.std.specs.Prelude.{length, false, map, None, ◌≤◌, All, [], ◌∷◌};
+    ghost use Rattle.std.specs.Prelude.{◌≡◌, length, false, map, ◌≤◌, All, []};
     ghost use Rattle.macho_model.specs.Links.{Link, Object};
     ghost use Rattle.macho_model.specs.Grammar.{IsObject};
+    ghost use Rattle.macho_model.specs.Faults.{bad_name};
+    ghost use Rattle.macho_image.specs.Linkers.{held_link};
 
     ghost Value = { Link };
 
-    ghost view = { λ l. record { executable = l.executable; output = l.output.items; entry = l.entry.items; install_name = l.install_name.items; rpaths = []; versions = None; dead_strip_dylibs = l.dead_strip_dylibs; headerpad = false; inputs = map (λ bytes. Object bytes.items) l.inputs.items; export_lists = [] } };
+    ghost view = { λ l. held_link l.executable l.dead_strip_dylibs l.output.items l.entry.items l.install_name.items (map (λ bytes. Object bytes.items) l.inputs.items) };
 
-    ghost invariant = { λ l. All (λ bytes. IsObject bytes.items) l.inputs.items × (length l.inputs.items ≤ 1) };
+    ghost invariant = { λ l. All (λ bytes. IsObject bytes.items) l.inputs.items × (length l.inputs.items ≤ 1) × (bad_name (held_link l.executable l.dead_strip_dylibs l.output.items l.entry.items l.install_name.items []) ≡ false) };
 }
 
 /// An input as the linker owns it.

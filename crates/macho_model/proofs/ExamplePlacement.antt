@@ -39,11 +39,12 @@ nothing = record { start = 0; end = 0 }
 abbrev pub no_tables : Linkedit
 no_tables = record { fixups = nothing; trie = nothing; symtab = nothing; strtab = nothing; signature = nothing }
 
-abbrev pub pagezero_a : PlacedSegment
-pagezero_a = record { name = name16 (codes "__PAGEZERO"); address = 0; size = 0x100000000; file_offset = 0; file_size = 0 }
+-- the addresses in front of `__TEXT`, and `__TEXT` from an address on
+abbrev pub pagezero_to : ℕ → PlacedSegment
+pagezero_to start = record { name = name16 (codes "__PAGEZERO"); address = 0; size = start; file_offset = 0; file_size = 0 }
 
-abbrev pub text_a : ℕ → PlacedSegment
-text_a size = record { name = name16 (codes "__TEXT"); address = 0x100000000; size = size; file_offset = 0; file_size = 0x4000 }
+abbrev pub text_from : ℕ → ℕ → PlacedSegment
+text_from start size = record { name = name16 (codes "__TEXT"); address = start; size = size; file_offset = 0; file_size = 0x4000 }
 
 abbrev pub section_a : ℕ → PlacedSection
 section_a address = record { file = 0; section = 0; segment = 1; address = address }
@@ -64,11 +65,11 @@ header_a = record {
   reserved3 = 0;
 }
 
--- a placement with a base, an address of the section, a size of `__TEXT` and a template
-abbrev pub placed_with : ℕ → ℕ → ℕ → Option Range64 → Placed
-placed_with base address size template = record {
+-- a placement with a base, a start of `__TEXT`, an address of the section, a size of `__TEXT` and a template
+abbrev pub placed_with : ℕ → ℕ → ℕ → ℕ → Option Range64 → Placed
+placed_with base start address size template = record {
   base = base;
-  segments = pagezero_a ∷ text_a size ∷ [];
+  segments = pagezero_to start ∷ text_from start size ∷ [];
   sections = section_a address ∷ [];
   commons = [];
   slots = [];
@@ -82,4 +83,4 @@ placed_with base address size template = record {
 
 -- the placement of the smallest image
 abbrev pub placed_a : Placed
-placed_a = placed_with 0x100000000 0x100000138 0x4000 None
+placed_a = placed_with 0x100000000 0x100000000 0x100000138 0x4000 None

@@ -23,13 +23,13 @@ pub mod RowsLoader
 pub mod RowsChain
 pub mod RowsMemory
 pub mod RowsOverlap
+pub mod RowsAccepted
 pub mod ExamplePlacement
 pub mod FactsA
 pub mod RowsPlacement
 pub mod RowsStands
+pub mod ValidTests
 pub mod RowsValid
-pub mod RowsInvalid
-pub mod RowsNotValid
 pub mod Slides
 pub mod Apart
 pub mod SegmentWalk

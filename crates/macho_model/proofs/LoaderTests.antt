@@ -180,13 +180,15 @@ each_load_rule b h last L8 = h L8 tt
 each_load_rule b h last L9 = h L9 tt
 each_load_rule b h last L10 = last
 
+-- where all tests are true, each rule with a test is kept
+pub load_kept : (b : List ℕ) → load_verdict b ≡ load_all_pass → (rule : LoadRule) → HasTest rule → LoadKeeps b rule
+load_kept b h rule some =
+    load_test_shows b rule some (sym (load_verdict_at b rule) ∙ ap (λ (v : List Bool). get_or v (load_number rule) false) h ∙ at_load_rule (λ r. true) rule)
+
 -- An example whose tests are all true, and whose chain words fit, is accepted.
 pub is_accepted : (b : List ℕ) → load_verdict b ≡ load_all_pass
     → ((s : ChainSegment) (page a : ℕ) → Contains (chain_segments b) s → OnPageChain (chain_segments b) b s page a → WordFits b s page a) → IsAccepted b
-is_accepted b h words =
-    accepted_keeping b
-    (each_load_rule b (λ rule some. load_test_shows b rule some
-    (sym (load_verdict_at b rule) ∙ ap (λ (v : List Bool). get_or v (load_number rule) false) h ∙ at_load_rule (λ r. true) rule)) words)
+is_accepted b h words = accepted_keeping b (each_load_rule b (load_kept b h) words)
 
 -- one rule with a test is broken, and all others with tests are kept
 pub record LoadBreaksAlone (b : List ℕ) (rule : LoadRule) : Type 0 where

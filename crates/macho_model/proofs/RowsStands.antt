@@ -12,13 +12,18 @@ use Rattle.macho_bytes.specs.Layouts.{reading}
 use Rattle.macho_bytes.specs.Texts.{Stands}
 use Rattle.macho_records.specs.declared.header.SegmentCommand.{SegmentCommand}
 use Rattle.macho_model.specs.declared.targets.Target.TheVariants as target
-use Rattle.macho_model.specs.Commands.{header_of, commands_from, commands_of}
+use Rattle.macho_records.specs.Symbols.{common_size_of}
+use Rattle.macho_model.specs.Commands.{header_of, commands_from, commands_of, commands_end}
+use Rattle.macho_model.specs.Objects.{segment_of, num_sections, section_place, section_at, section_bytes, symtab_of, num_symbols, symbol_place, symbol_at, strings_of, symbol_name}
+use Rattle.macho_model.specs.Links.{Link, Object, sections_of, carried_of}
+use Rattle.macho_model.specs.Resolution.{entry_at, symbols_of, strong_of, weak_of, commons_of, greatest_of, libraries_with, definition_of, chosen_commons}
 use Rattle.macho_model.specs.Fields.{fields_of}
 use Rattle.macho_model.specs.Images.{segments_of, mapped_segments, tables_of}
 use Rattle.macho_model.specs.Memory.{Choice, Holds, HoldsText}
-use Rattle.macho_model.specs.Placement.{Placed, id_of}
-use Rattle.macho_model.specs.Stands.{IsOutsideField, Denotes, SectionStands, CommonStands, SlotStands, StubStands, ImageStands, IsLinked}
-use Rattle.macho_model.proofs.Examples.{words8, words, name16, changed}
+use Rattle.macho_model.specs.Placement.{Placed, id_of, common_of}
+use Rattle.macho_model.specs.Stands.{IsOutsideField, Denotes, SectionStands, CommonStands, SlotStands, StubStands, LeadsThrough, ImageStands, IsLinked}
+use Rattle.macho_model.proofs.Examples.{words8, words, halves, name16, changed, object_b}
+use Rattle.macho_model.proofs.ExampleLinks.{executable_of}
 use Rattle.macho_model.proofs.ExampleImages.{smallest}
 use Rattle.macho_model.proofs.ExamplePlacement.{link_a, counts_a, section_a, placed_a}
 use Rattle.macho_model.proofs.FactsA.{section_of_a, bytes_of_a, fields_a}
@@ -126,18 +131,41 @@ other_byte : slice_index other_code 0x138 ≡ 1
 unfolding row_bytes le_bytes words8 words name16 smallest changed other_code
 other_byte = refl
 
-pub other_code_does_not_stand : (s : ℕ) (choice : Choice) → ImageStands link_a other_code placed_a s choice → ⊥
+other_code_does_not_stand : (s : ℕ) (choice : Choice) → All (SectionStands link_a other_code placed_a s choice) placed_a.sections → ⊥
 unfolding text_segment
-other_code_does_not_stand s choice stands =
-    let first = All-head (SectionStands link_a other_code placed_a s choice) (section_a 0x100000138) [] stands.sections in
+other_code_does_not_stand s choice sections =
+    let first = All-head (SectionStands link_a other_code placed_a s choice) (section_a 0x100000138) [] sections in
     let outside : All (IsOutsideField 0) (fields_of link_a (id_of (section_a 0x100000138))) = rw fields_a (All-nil (IsOutsideField 0)) in
     let held = first.bytes 0 (rw section_of_a (omega arith)) outside in
     let zero_there : Holds other_code s choice (0x100000138 + 0 + s) 0 = rw bytes_of_a at held in
     let is = one_byte other_code text_segment s choice 0x138 0 other_tables other_segment (omega arith) zero_there in
     omega (arith, is, other_byte)
 
--- A common at an address that is not mapped: `commons` fails.
-pub unmapped_is_not_held : (s : ℕ) (choice : Choice) (v : ℕ) → Holds smallest s choice (0 + s) v → ⊥
+-- One part of standing fails, and the other two hold.
+pub data StandsPart : Type 0 where
+  Sections : StandsPart
+  Commons : StandsPart
+  Through : StandsPart
+
+abbrev pub StandsKeeps : Link → List ℕ → Placed → ℕ → Choice → StandsPart → Type 0
+StandsKeeps l b p s choice Sections = All (SectionStands l b p s choice) p.sections
+StandsKeeps l b p s choice Commons = All (CommonStands l b s choice) p.commons
+StandsKeeps l b p s choice Through = LeadsThrough l b p s choice
+
+pub record StandsAlone (l : Link) (b : List ℕ) (p : Placed) (part : StandsPart) : Type 0 where
+  pub broken : (s : ℕ) (choice : Choice) → StandsKeeps l b p s choice part → ⊥
+  pub others : (s : ℕ) (choice : Choice) (other : StandsPart) → (other ≡ part → ⊥) → StandsKeeps l b p s choice other
+
+pub sections_alone : StandsAlone link_a other_code placed_a Sections
+sections_alone = record { broken = other_code_does_not_stand; others = others }
+  where
+    others : (s : ℕ) (choice : Choice) (other : StandsPart) → (other ≡ Sections → ⊥) → StandsKeeps link_a other_code placed_a s choice other
+    others s choice Sections apart = absurd (apart refl)
+    others s choice Commons apart = All-nil (CommonStands link_a other_code s choice)
+    others s choice Through apart = record { slots = All-nil (SlotStands link_a other_code placed_a s choice); stubs = All-nil (StubStands other_code placed_a s choice) }
+
+-- A common of four bytes at an address that is not mapped: `commons` fails, and the other parts speak of nothing.
+unmapped_is_not_held : (s : ℕ) (choice : Choice) (v : ℕ) → Holds smallest s choice (0 + s) v → ⊥
 unfolding text_segment
 unmapped_is_not_held s choice v held =
     elim held.byte [
@@ -149,19 +177,45 @@ unmapped_is_not_held s choice v held =
           omega (arith, from, plain.1.from, held.slid)
     ]
 
+abbrev pub alone_b : Link
+alone_b = executable_of (Object object_b ∷ [])
+
+abbrev pub with_common : Placed
+with_common = record placed_a { sections = []; commons = record { id = 0; address = 0 } ∷ [] }
+
+four_bytes : common_size_of (entry_at alone_b (common_of alone_b 0)) ≡ 4
+unfolding header_of commands_from commands_of commands_end segment_of num_sections section_place section_at section_bytes symtab_of num_symbols symbol_place symbol_at strings_of symbol_name sections_of carried_of symbols_of strong_of weak_of commons_of greatest_of libraries_with definition_of chosen_commons le_at le_bytes row_bytes reading words8 words halves name16 object_b
+four_bytes = refl
+
+pub commons_alone : StandsAlone alone_b smallest with_common Commons
+commons_alone =
+    record {
+      broken = λ s choice commons. let here = All-head (CommonStands alone_b smallest s choice) (record { id = 0; address = 0 }) [] commons in
+          let four = four_bytes in
+          unmapped_is_not_held s choice 0 (here 0 (omega (arith, four)));
+      others = others;
+    }
+  where
+    others : (s : ℕ) (choice : Choice) (other : StandsPart) → (other ≡ Commons → ⊥) → StandsKeeps alone_b smallest with_common s choice other
+    others s choice Sections apart = All-nil (SectionStands alone_b smallest with_common s choice)
+    others s choice Commons apart = absurd (apart refl)
+    others s choice Through apart = record { slots = All-nil (SlotStands alone_b smallest with_common s choice); stubs = All-nil (StubStands smallest with_common s choice) }
+
 -- A slot whose target is nowhere: `through` fails.
 abbrev pub with_slot : Placed
 with_slot = record placed_a { slots = record { target = target.None; address = 0x100000138 } ∷ [] }
 
-pub no_target_no_image : (s : ℕ) (choice : Choice) → ImageStands link_a smallest with_slot s choice → ⊥
-no_target_no_image s choice stands =
-    (All-head (SlotStands link_a smallest with_slot s choice) (record { target = target.None; address = 0x100000138 }) [] stands.through.slots).at
-
--- and the other two parts of it hold
-pub slot_alone : (s : ℕ) (choice : Choice) → All (SectionStands link_a smallest with_slot s choice) with_slot.sections × All (CommonStands link_a smallest s choice) with_slot.commons
-slot_alone s choice = (
-  All-cons (SectionStands link_a smallest with_slot s choice) (section_a 0x100000138) []
-      (record { bytes = (section_stands s choice).bytes; fields = rw fields_a (All-nil (Denotes link_a smallest with_slot s choice (section_a 0x100000138))) })
-      (All-nil (SectionStands link_a smallest with_slot s choice)),
-  All-nil (CommonStands link_a smallest s choice),
-)
+pub through_alone : StandsAlone link_a smallest with_slot Through
+through_alone =
+    record {
+      broken = λ s choice through. (All-head (SlotStands link_a smallest with_slot s choice) (record { target = target.None; address = 0x100000138 }) [] through.slots).at;
+      others = others;
+    }
+  where
+    others : (s : ℕ) (choice : Choice) (other : StandsPart) → (other ≡ Through → ⊥) → StandsKeeps link_a smallest with_slot s choice other
+    others s choice Sections apart =
+        All-cons (SectionStands link_a smallest with_slot s choice) (section_a 0x100000138) []
+        (record { bytes = (section_stands s choice).bytes; fields = rw fields_a (All-nil (Denotes link_a smallest with_slot s choice (section_a 0x100000138))) })
+        (All-nil (SectionStands link_a smallest with_slot s choice))
+    others s choice Commons apart = All-nil (CommonStands link_a smallest s choice)
+    others s choice Through apart = absurd (apart refl)

@@ -1,78 +1,134 @@
--- The smallest link is valid, and each part of that is broken by a link that differs.
---
--- It has one section without relocations and one symbol, so most parts speak of nothing. A name has at most as many
--- strong definitions as there are symbols. Its written sum is far below the greatest.
-use Rattle.std.proofs.Common.{◌≡◌, ℕ, ◌≤◌, ◌&&◌, Bool, true, false, List, [], ◌∷◌, length, get_or, refl, sym, ap, subst, arith}
-use Rattle.std.specs.Prelude.{Contains, filter, is_some}
-use Rattle.std.proofs.lemmas.List.Elements.{All-nil, All-cons, All-contains}
-use Rattle.macho_model.specs.declared.targets.Limit.{Limit}
-use Rattle.macho_model.specs.declared.targets.Limit.TheVariants as limit
-use Rattle.macho_model.specs.Links.{SectionId, header_at, carried_of}
-use Rattle.macho_model.specs.Resolution.{is_strong, has_name, strong_of, definition_of}
-use Rattle.macho_model.specs.Needs.{uses_of, initializer_sections, unwind_sections}
-use Rattle.macho_model.specs.Consumed.{initializer_section_fits, whole_entries}
-use Rattle.macho_model.specs.Limits.{limited}
+-- The smallest link is valid, and each part of that is broken by a link that differs from it: alone, save that a name without
+-- definition takes its relocation with it. By computing the tests of each part from the bytes.
+use Rattle.std.proofs.Common.{◌≡◌, ℕ, ◌+◌, ◌^◌, ◌/◌, ◌||◌, List, [], ◌∷◌, ◌++◌, length, refl}
+use Rattle.std.specs.Prelude.{codes, All}
+use Rattle.std.specs.List.{AllByRecursion}
+use Rattle.std.proofs.lemmas.List.Elements.{All-weaker, All-from_recursion}
+use Rattle.macho_bytes.specs.Numbers.{le_at, le_bytes, row_bytes}
+use Rattle.macho_bytes.specs.Layouts.{reading}
+use Rattle.macho_model.specs.declared.placed.Counts.{Counts}
+use Rattle.macho_model.specs.Commands.{header_of, commands_from, commands_of, commands_end}
+use Rattle.macho_model.specs.Objects.{segment_of, num_sections, section_place, section_at, section_bytes, symtab_of, num_symbols, symbol_place, symbol_at, strings_of, symbol_name, relocation_place, relocation_at}
+use Rattle.macho_model.specs.ExportLists.{plain_entries, all_entries, entries_of}
+use Rattle.macho_model.specs.Links.{Link, Object, sections_of, carried_of, template_exponent, placed_exponent}
+use Rattle.macho_model.specs.Resolution.{symbols_of, strong_of, weak_of, commons_of, greatest_of, libraries_with, definition_of, chosen_commons}
+use Rattle.macho_model.specs.Needs.{initializer_sections, unwind_sections, uses_of, imports_of, libraries_needed}
+use Rattle.macho_model.specs.Targets.{target_of, target_of_relocation, slots_of, stubs_of}
+use Rattle.macho_model.specs.Fields.{fields_of}
+use Rattle.macho_model.specs.Rows.{is_supported}
+use Rattle.macho_model.specs.Segments.{other_segments, segment_rank, segment_names_of, output_keys_of, output_count}
+use Rattle.macho_model.specs.WrittenSum.{content_sum, command_sum, unsigned_sum, written_sum_of}
+use Rattle.macho_model.specs.Consumed.{personality_targets, entries_of_link}
 use Rattle.macho_model.specs.Valid.{IsValid}
-use Rattle.macho_model.proofs.ExampleLinks.{section, symbol}
+use Rattle.macho_model.proofs.EachBelow.{true_or_false}
+use Rattle.macho_model.proofs.Examples.{words8, words, halves, name16, object_a}
+use Rattle.macho_model.proofs.ExampleLinks.{entry, text_object, executable_of}
 use Rattle.macho_model.proofs.ExamplePlacement.{link_a, counts_a}
-use Rattle.macho_model.proofs.FactsA.{section_of_a, carried_a, symbols_a, uses_a, fields_a, initializers_a, unwind_a, listed_a, entry_a, numbers_a, limits_a, sum_a}
+use Rattle.macho_model.proofs.ValidTests.{ValidPart, Single, Used, Listed, Begun, Supported, NonOverlapping, Fitting, Initializers, Slots, AtSlots, Whole, Unwind, Limits, Sum, ValidKeeps, valid_verdict, verdict_but, is_part, valid_answer, shows_valid_test, is_valid_by_tests, ValidBreaksAlone, valid_breaks_alone}
 
--- a list of one, filtered
-at_most_one : {X : Type 0} (p : X → Bool) (x : X) → length (filter p (x ∷ [])) ≤ 1
-at_most_one p x = elim (p x) as (λ b. p x ≡ b → length (filter p (x ∷ [])) ≤ 1) [
-  | true ↦ λ h. rw h (omega arith)
-  | false ↦ λ h. rw h (omega arith)
-] refl
+-- a global symbol at the start of the first section, and its name
+abbrev pub main_entry : List ℕ
+main_entry = entry 1 0x0f 1 0 0
 
-single : (name : List ℕ) → length (strong_of link_a name) ≤ 1
-unfolding strong_of
-single name = rw symbols_a (at_most_one (λ s. is_strong link_a s && has_name link_a name s) (symbol 0 0))
+abbrev pub main_name : List ℕ
+main_name = 0 ∷ codes "_main" ++ 0 ∷ []
 
--- a carried section has no relocations
-none_of_a : (s : SectionId) → Contains (carried_of link_a) s → (header_at link_a s).nreloc ≡ 0
-none_of_a s one =
-    All-contains (λ x. (header_at link_a x).nreloc ≡ 0) (section 0 0 ∷ []) s
-    (All-cons (λ x. (header_at link_a x).nreloc ≡ 0) (section 0 0) [] (rw section_of_a refl) (All-nil (λ x. (header_at link_a x).nreloc ≡ 0)))
-    (subst (λ xs. Contains xs s) carried_a one)
+-- a call of `_f`, which nothing defines
+unfoldable pub calls_nothing : List ℕ
+calls_nothing =
+    text_object (words (0x94000000 ∷ 0xd65f03c0 ∷ [])) (words (0 ∷ 0x2d000001 ∷ [])) (main_entry ++ entry 7 0x01 0 0 0) (main_name ++ codes "_f" ++ 0 ∷ [])
 
-no_element : {X : Type 0} (xs : List X) (x : X) → xs ≡ [] → Contains xs x → ⊥
-no_element xs x none one = let long = ap (λ ys. length ys) none in omega (arith, long, one.1)
+-- a call's relocation over an instruction that is no branch; and two of them at one branch
+unfoldable pub calls_over_a_return : List ℕ
+calls_over_a_return = text_object (words (0xd65f03c0 ∷ 0xd65f03c0 ∷ [])) (words (0 ∷ 0x2d000000 ∷ [])) main_entry main_name
 
--- a number is at most its limit, where it is one that is
-below : (p q : ℕ × ℕ) → p ≡ q → q.0 ≤ q.1 → p.0 ≤ p.1
-below p q is h = subst (λ (x : ℕ × ℕ). x.0 ≤ x.1) (sym is) h
+unfoldable pub calls_twice : List ℕ
+calls_twice = text_object (words (0x94000000 ∷ 0xd65f03c0 ∷ [])) (words (0 ∷ 0x2d000000 ∷ 0 ∷ 0x2d000000 ∷ [])) main_entry main_name
 
-limits : (what : Limit) → (limited link_a counts_a what).0 ≤ (limited link_a counts_a what).1
-limits limit.Segments = below (limited link_a counts_a limit.Segments) (get_or numbers_a 0 (0, 0)) (ap (λ (xs : List (ℕ × ℕ)). get_or xs 0 (0, 0)) limits_a) (omega arith)
-limits limit.Libraries = below (limited link_a counts_a limit.Libraries) (get_or numbers_a 1 (0, 0)) (ap (λ (xs : List (ℕ × ℕ)). get_or xs 1 (0, 0)) limits_a) (omega arith)
-limits limit.Sections = below (limited link_a counts_a limit.Sections) (get_or numbers_a 2 (0, 0)) (ap (λ (xs : List (ℕ × ℕ)). get_or xs 2 (0, 0)) limits_a) (omega arith)
-limits limit.Personalities = below (limited link_a counts_a limit.Personalities) (get_or numbers_a 3 (0, 0)) (ap (λ (xs : List (ℕ × ℕ)). get_or xs 3 (0, 0)) limits_a) (omega arith)
-limits limit.Imports = below (limited link_a counts_a limit.Imports) (get_or numbers_a 4 (0, 0)) (ap (λ (xs : List (ℕ × ℕ)). get_or xs 4 (0, 0)) limits_a) (omega arith)
-limits limit.NameBytes = below (limited link_a counts_a limit.NameBytes) (get_or numbers_a 5 (0, 0)) (ap (λ (xs : List (ℕ × ℕ)). get_or xs 5 (0, 0)) limits_a) (omega arith)
-limits limit.Symbols = below (limited link_a counts_a limit.Symbols) (get_or numbers_a 6 (0, 0)) (ap (λ (xs : List (ℕ × ℕ)). get_or xs 6 (0, 0)) limits_a) (omega arith)
-limits limit.Pages = below (limited link_a counts_a limit.Pages) (get_or numbers_a 7 (0, 0)) (ap (λ (xs : List (ℕ × ℕ)). get_or xs 7 (0, 0)) limits_a) (omega arith)
+-- a pointer that moves with the image, in `__TEXT`, where the loader may not write
+unfoldable pub with_pointer : List ℕ
+with_pointer = text_object (words (0 ∷ 0 ∷ [])) (words (0 ∷ 0x0e000000 ∷ [])) main_entry main_name
 
--- a carried section is the one section
-the_one : (s : SectionId) → Contains (carried_of link_a) s → section 0 0 ≡ s
-the_one s one =
-    All-contains (λ x. section 0 0 ≡ x) (section 0 0 ∷ []) s (All-cons (λ x. section 0 0 ≡ x) (section 0 0) [] refl (All-nil (λ x. section 0 0 ≡ x)))
-    (subst (λ xs. Contains xs s) carried_a one)
+-- An object with a second section, of a name, a segment, flags, content and relocations: header 32, segment 232, symbol table
+-- 24, then from 288 on the text of 8 bytes, the content, relocations, one symbol and the strings.
+unfoldable pub data_object : List ℕ → List ℕ → ℕ → List ℕ → List ℕ → List ℕ
+data_object name segment flags content relocations =
+    words (0xfeedfacf ∷ 0x0100000c ∷ 0 ∷ 1 ∷ 2 ∷ 256 ∷ 0x2000 ∷ 0 ∷ [])
+    ++ words (0x19 ∷ 232 ∷ []) ++ name16 [] ++ words8 (0 ∷ (8 + length content) ∷ 288 ∷ (8 + length content) ∷ []) ++ words (7 ∷ 7 ∷ 2 ∷ 0 ∷ [])
+    ++ name16 (codes "__text") ++ name16 (codes "__TEXT") ++ words8 (0 ∷ 8 ∷ []) ++ words (288 ∷ 2 ∷ 0 ∷ 0 ∷ 0x80000400 ∷ 0 ∷ 0 ∷ 0 ∷ [])
+    ++ name16 name ++ name16 segment ++ words8 (8 ∷ length content ∷ [])
+    ++ words (296 ∷ 3 ∷ (296 + length content) ∷ (length relocations / 8) ∷ flags ∷ 0 ∷ 0 ∷ 0 ∷ [])
+    ++ words (2 ∷ 24 ∷ (296 + length content + length relocations) ∷ 1 ∷ (312 + length content + length relocations) ∷ 7 ∷ [])
+    ++ words (0x52800000 ∷ 0xd65f03c0 ∷ []) ++ content ++ relocations ++ main_entry ++ main_name
+
+-- initializers by flags, content and relocations; and unwind entries by content
+unfoldable pub initializers_object : ℕ → List ℕ → List ℕ → List ℕ
+initializers_object flags content relocations = data_object (codes "__mod_init_func") (codes "__DATA") flags content relocations
+
+unfoldable pub unwind_object : List ℕ → List ℕ
+unwind_object content = data_object (codes "__compact_unwind") (codes "__LD") 0x02000000 content []
 
 -- THE smallest link is valid.
 pub a_is_valid : IsValid link_a counts_a
-a_is_valid = record {
-  single = single;
-  used = λ u name one is. absurd (no_element (uses_of link_a) u uses_a one);
-  listed = rw listed_a (All-nil (λ name. is_some (definition_of link_a name) ≡ true));
-  entry = entry_a;
-  supported = λ s r one within. absurd (omega (arith, within, none_of_a s one));
-  apart = λ s q r one before within. absurd (omega (arith, within, none_of_a s one));
-  fields = λ s one. rw (← the_one s one) (rw fields_a (All-nil _));
-  initializers = rw initializers_a (All-nil (λ s. initializer_section_fits link_a s ≡ true));
-  slots = λ s slot one within. absurd (no_element (initializer_sections link_a) s initializers_a one);
-  placed = λ s r one within. absurd (no_element (initializer_sections link_a) s initializers_a one);
-  whole = rw unwind_a (All-nil (λ s. whole_entries link_a s ≡ true));
-  unwind = λ s e rule one within. absurd (no_element (unwind_sections link_a) s unwind_a one);
-  limits = limits;
-  sum = rw sum_a (omega arith);
-}
+unfolding valid_verdict header_of commands_from commands_of commands_end segment_of num_sections section_place section_at section_bytes symtab_of num_symbols symbol_place symbol_at strings_of symbol_name relocation_place relocation_at sections_of carried_of template_exponent placed_exponent symbols_of strong_of weak_of commons_of greatest_of libraries_with definition_of chosen_commons initializer_sections unwind_sections uses_of imports_of libraries_needed target_of target_of_relocation slots_of stubs_of fields_of is_supported plain_entries all_entries entries_of other_segments segment_rank segment_names_of output_keys_of output_count content_sum command_sum unsigned_sum written_sum_of personality_targets entries_of_link le_at le_bytes row_bytes reading words8 words halves name16 object_a entry text_object data_object calls_nothing calls_over_a_return calls_twice with_pointer initializers_object unwind_object
+a_is_valid = is_valid_by_tests link_a counts_a refl
+
+-- one initializer, `_main`: a link that is valid
+pub initializer_is_valid : IsValid (executable_of (Object (initializers_object 9 (words8 (0 ∷ [])) (words (0 ∷ 0x0e000000 ∷ []))) ∷ [])) counts_a
+unfolding valid_verdict header_of commands_from commands_of commands_end segment_of num_sections section_place section_at section_bytes symtab_of num_symbols symbol_place symbol_at strings_of symbol_name relocation_place relocation_at sections_of carried_of template_exponent placed_exponent symbols_of strong_of weak_of commons_of greatest_of libraries_with definition_of chosen_commons initializer_sections unwind_sections uses_of imports_of libraries_needed target_of target_of_relocation slots_of stubs_of fields_of is_supported plain_entries all_entries entries_of other_segments segment_rank segment_names_of output_keys_of output_count content_sum command_sum unsigned_sum written_sum_of personality_targets entries_of_link le_at le_bytes row_bytes reading words8 words halves name16 object_a entry text_object data_object calls_nothing calls_over_a_return calls_twice with_pointer initializers_object unwind_object
+initializer_is_valid = is_valid_by_tests (executable_of (Object (initializers_object 9 (words8 (0 ∷ [])) (words (0 ∷ 0x0e000000 ∷ []))) ∷ [])) counts_a refl
+
+-- A link that differs from a valid one, and the part that it breaks.
+pub record ValidChange : Type 0 where
+  pub part : ValidPart
+  pub link : Link
+  pub counts : Counts
+
+-- an executable of one object
+abbrev pub alone : ValidPart → List ℕ → ValidChange
+alone part object = record { part = part; link = executable_of (Object object ∷ []); counts = counts_a }
+
+abbrev pub valid_changes : List ValidChange
+valid_changes =
+    -- `_main` strong in two objects
+    record { part = Single; link = executable_of (Object object_a ∷ Object object_a ∷ []); counts = counts_a }
+    -- an exported name, and an entry, without a definition
+    ∷ record { part = Listed; link = record link_a { export_lists = codes "_nope" ∷ [] }; counts = counts_a }
+    ∷ record { part = Begun; link = record link_a { entry = codes "_x" }; counts = counts_a }
+    -- the four objects above
+    ∷ alone Supported calls_over_a_return ∷ alone NonOverlapping calls_twice ∷ alone Fitting with_pointer
+    -- initializers in a section of another type; one that isn't 0 before; a relocation between two of them
+    ∷ alone Initializers (initializers_object 0 (words8 (0 ∷ [])) (words (0 ∷ 0x0e000000 ∷ [])))
+    ∷ alone Slots (initializers_object 9 (words8 (1 ∷ [])) (words (0 ∷ 0x0e000000 ∷ [])))
+    ∷ alone AtSlots (initializers_object 9 (words8 (0 ∷ [])) (words (0 ∷ 0x0e000000 ∷ 4 ∷ 0x0e000000 ∷ [])))
+    -- half of an unwind entry; one without a relocation for its start
+    ∷ alone Whole (unwind_object (words8 (0 ∷ 0 ∷ [])))
+    ∷ alone Unwind (unwind_object (words8 (0 ∷ 0 ∷ 0 ∷ 0 ∷ [])))
+    -- one byte of imported names too many; padding of 1 GiB
+    ∷ record { part = Limits; link = link_a; counts = record counts_a { name_bytes = 2 ^ 23 + 1 } }
+    ∷ record { part = Sum; link = link_a; counts = record counts_a { padding = 2 ^ 30 } }
+    ∷ []
+
+-- what the tests say of each change
+valid_verdicts : AllByRecursion (λ c. valid_verdict c.link c.counts ≡ verdict_but (is_part c.part)) valid_changes
+unfolding valid_verdict header_of commands_from commands_of commands_end segment_of num_sections section_place section_at section_bytes symtab_of num_symbols symbol_place symbol_at strings_of symbol_name relocation_place relocation_at sections_of carried_of template_exponent placed_exponent symbols_of strong_of weak_of commons_of greatest_of libraries_with definition_of chosen_commons initializer_sections unwind_sections uses_of imports_of libraries_needed target_of target_of_relocation slots_of stubs_of fields_of is_supported plain_entries all_entries entries_of other_segments segment_rank segment_names_of output_keys_of output_count content_sum command_sum unsigned_sum written_sum_of personality_targets entries_of_link le_at le_bytes row_bytes reading words8 words halves name16 object_a entry text_object data_object calls_nothing calls_over_a_return calls_twice with_pointer initializers_object unwind_object
+valid_verdicts = (refl, (refl, (refl, (refl, (refl, (refl, (refl, (refl, (refl, (refl, (refl, (refl, (refl, tt)))))))))))))
+
+-- Each change breaks its part of validity, and no other one.
+pub each_valid_change_breaks_its_part : All (λ c. ValidBreaksAlone c.link c.counts c.part) valid_changes
+each_valid_change_breaks_its_part =
+    All-weaker (λ c. valid_verdict c.link c.counts ≡ verdict_but (is_part c.part)) (λ c. ValidBreaksAlone c.link c.counts c.part)
+    (λ c is. valid_breaks_alone c.link c.counts c.part is) valid_changes
+    (All-from_recursion (λ c. valid_verdict c.link c.counts ≡ verdict_but (is_part c.part)) valid_changes valid_verdicts)
+
+-- A call of a function that no input has breaks two parts: its name isn't defined, and so the call isn't supported.
+abbrev pub undefined : Link
+undefined = executable_of (Object calls_nothing ∷ [])
+
+undefined_verdict : valid_verdict undefined counts_a ≡ verdict_but (λ q. is_part Used q || is_part Supported q)
+unfolding valid_verdict header_of commands_from commands_of commands_end segment_of num_sections section_place section_at section_bytes symtab_of num_symbols symbol_place symbol_at strings_of symbol_name relocation_place relocation_at sections_of carried_of template_exponent placed_exponent symbols_of strong_of weak_of commons_of greatest_of libraries_with definition_of chosen_commons initializer_sections unwind_sections uses_of imports_of libraries_needed target_of target_of_relocation slots_of stubs_of fields_of is_supported plain_entries all_entries entries_of other_segments segment_rank segment_names_of output_keys_of output_count content_sum command_sum unsigned_sum written_sum_of personality_targets entries_of_link le_at le_bytes row_bytes reading words8 words halves name16 object_a entry text_object data_object calls_nothing calls_over_a_return calls_twice with_pointer initializers_object unwind_object
+undefined_verdict = refl
+
+pub undefined_is_not_used : ValidKeeps undefined counts_a Used → ⊥
+undefined_is_not_used kept =
+    true_or_false _ (shows_valid_test undefined counts_a Used kept) (valid_answer undefined counts_a (λ q. is_part Used q || is_part Supported q) undefined_verdict Used)

@@ -172,9 +172,14 @@ pub record Follows (l : Link) (s t : PlacedSegment) : Type 0 where
 abbrev pub EachFollows : Link → List PlacedSegment → Type 0
 EachFollows l segments = (k : ℕ) (s t : PlacedSegment) → k + 1 < length segments → get_or segments k s ≡ s → get_or segments (k + 1) t ≡ t → Follows l s t
 
+-- `__TEXT`, which the header stands in, begins at the image's base; so does all that is mapped
+abbrev pub TextBegins : Link → List PlacedSegment → Type 0
+TextBegins l segments = (s : PlacedSegment) × Contains segments s × (is_segment_named TEXT s ≡ true) × (s.address ≡ base_of_link l)
+
 pub record IsInOrder (l : Link) (p : Placed) : Type 0 where
   pub paged : All IsPaged p.segments
   pub follow : EachFollows l p.segments
+  pub begins : TextBegins l p.segments
 
 -- a range of addresses holds another
 abbrev pub HoldsSpan : Range64 → Span → Type 0
@@ -214,7 +219,7 @@ pub record IsPlaced (l : Link) (counts : Counts) (p : Placed) : Type 0 where
   pub in_segment : IsInSegment l p
   -- no two parts share an address
   pub apart : AllPairs AreApart (spans_of l counts p)
-  -- segments stand one behind the other, in the order of their names
+  -- segments stand one behind the other, in the order of their names, and `__TEXT` begins at the base
   pub in_order : IsInOrder l p
   -- thread-local initial values stand together, apart from all else
   pub template : TemplateHolds l counts p p.template

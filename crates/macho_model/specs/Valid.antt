@@ -68,22 +68,22 @@ field_fits l s f NoKind = true
 abbrev pub VALID_SUM : ℕ
 VALID_SUM = 64 * 2 ^ 20
 
--- A valid link.
-pub record IsValid (l : Link) (counts : Counts) : Type 0 where
-  -- no name has two strong definitions
+-- Names: each that is used, listed or begun at is defined, and none has two strong definitions. A relocation whose name has
+-- no definition has no target, and so is not supported either.
+pub record NamesAreDefined (l : Link) : Type 0 where
   pub single : (name : List ℕ) → length (strong_of l name) ≤ 1
-  -- each name that is used, listed or begun at is defined
   pub used : (u : Use) (name : List ℕ) → Contains (uses_of l) u → name_used l u ≡ Some name → is_some (definition_of l name) ≡ true
   pub listed : All (λ name. is_some (definition_of l name) ≡ true) (plain_entries l.export_lists)
   pub entry : entry_is_defined l ≡ true
-  -- each relocation is supported, and two of them share a byte only as a pair
+
+-- Relocations: each is supported, and two of them share a byte only as a pair.
+pub record RelocationsAreSupported (l : Link) : Type 0 where
   pub supported : (s : SectionId) (r : ℕ) → Contains (carried_of l) s → r < (header_at l s).nreloc → is_supported l s r ≡ true
   pub apart : (s : SectionId) (q r : ℕ) → Contains (carried_of l) s → q < r → r < (header_at l s).nreloc
       → (share_byte l s q r ≡ false) ⊎ (are_pair l s q r ≡ true)
-  -- each field fits
-  pub fields : (s : SectionId) → Contains (carried_of l) s
-      → All (λ f. field_fits l s f (kind_of f.type (is_some f.subtrahend)) ≡ true) (fields_of l s)
-  -- initializers and unwind entries keep their rules
+
+-- Initializers and unwind entries keep their rules.
+pub record ConsumedKeepRules (l : Link) : Type 0 where
   pub initializers : All (λ s. initializer_section_fits l s ≡ true) (initializer_sections l)
   pub slots : (s : SectionId) (slot : ℕ) → Contains (initializer_sections l) s → POINTER_SIZE * slot + POINTER_SIZE ≤ (header_at l s).size
       → initializer_slot_fits l s slot ≡ true
@@ -91,6 +91,18 @@ pub record IsValid (l : Link) (counts : Counts) : Type 0 where
       → ((relocation_in l s r).r_address % POINTER_SIZE == 0) ≡ true
   pub whole : All (λ s. whole_entries l s ≡ true) (unwind_sections l)
   pub unwind : (s : SectionId) (e : ℕ) (rule : UnwindRule) → Contains (unwind_sections l) s → e < entry_count l s → keeps l s e rule ≡ true
-  -- no number passes its limit
+
+-- Numbers: none passes its limit, and the written sum is small.
+pub record NumbersAreSmall (l : Link) (counts : Counts) : Type 0 where
   pub limits : (what : Limit) → (limited l counts what).0 ≤ (limited l counts what).1
   pub sum : written_sum_of l counts ≤ VALID_SUM
+
+-- A valid link.
+pub record IsValid (l : Link) (counts : Counts) : Type 0 where
+  pub names : NamesAreDefined l
+  pub relocations : RelocationsAreSupported l
+  -- each field fits
+  pub fields : (s : SectionId) → Contains (carried_of l) s
+      → All (λ f. field_fits l s f (kind_of f.type (is_some f.subtrahend)) ≡ true) (fields_of l s)
+  pub consumed : ConsumedKeepRules l
+  pub numbers : NumbersAreSmall l counts

@@ -114,6 +114,37 @@ const NOT_SUPPORTED: [(usize, u8); 5] = [
 /// Places in it, and bytes for what isn't built yet: a page's type; a symbol that nothing defines.
 const NOT_BUILT: [(usize, u8); 2] = [(231, 0x3d), (252, 1)];
 
+/// Two relocations behind the object of two functions: branches to symbol 1 at 0 and at 4.
+const TWO_BRANCHES: [u8; 16] = [0, 0, 0, 0, 1, 0, 0, 0x2d, 4, 0, 0, 0, 1, 0, 0, 0x2d];
+
+/// Places in that object, and bytes, by which it has those two: they stand at 276, and there are two of them.
+const HAS_TWO: [(usize, u8); 3] = [(160, 0x14), (161, 1), (164, 2)];
+
+/// Places in it, and bytes, with the line of the refusal that comes first. The second relocation stands at a `ret`. `_f` at 10
+/// can't be reached by whole words; an ADRP at 0 is no branch; without its first letter `_main` has no definition.
+const FIRST_TOLD: [(&[(usize, u8)], &str); 4] = [
+    // one branch alone
+    (
+        &[(160, 224), (161, 0), (164, 1), (256, 10)],
+        "calls.o: section 0, relocation 0: out of range",
+    ),
+    // a relocation without a row is told before a value that doesn't fit
+    (
+        &[(256, 10)],
+        "calls.o: section 0, relocation 1: unsupported",
+    ),
+    // of two without a row the first
+    (
+        &[(211, 0x90)],
+        "calls.o: section 0, relocation 0: unsupported",
+    ),
+    // a missing entry before all of them
+    (
+        &[(265, 0x2d), (211, 0x90), (256, 10)],
+        "entry symbol _main is not defined",
+    ),
+];
+
 /// The object's second name in place of `_main`.
 const START: [u8; 6] = *b"_start";
 
@@ -281,6 +312,34 @@ fn a_relocation_without_a_row_is_told(rt: HostRuntime) -> Result<(), Fail> {
         assert_eq!(rt; answer.status, 1, "{place}");
         let line = b"wild_macho: calls.o: section 0, relocation 0: unsupported\n";
         assert_eq!(rt; err.bytes(), line.as_slice(), "{place} {byte}");
+    }
+    Ok(())
+}
+
+// The object with two relocations, and with bytes of it changed.
+fn calls_with(alloc: Global, changes: &[(usize, u8)]) -> Result<Vec<u8>, Fail> {
+    let mut object = Vec::from_slice(alloc, &CALLS)?;
+    for byte in TWO_BRANCHES {
+        object.push(byte)?;
+    }
+    for (place, byte) in HAS_TWO.iter().chain(changes) {
+        let one = object.get_mut(*place).ok_or("no such place")?;
+        *one = *byte;
+    }
+    Ok(object)
+}
+
+#[test]
+fn of_several_refusals_the_first_is_told(rt: HostRuntime) -> Result<(), Fail> {
+    for (changes, line) in FIRST_TOLD {
+        let mut files = SteadyFiles::new(rt.alloc());
+        files.add_file("calls.o", calls_with(rt.alloc(), changes)?)?;
+        let mut err = MemorySink::new(rt.alloc(), 200)?;
+        let answer = ran(rt.alloc(), &["calls.o"], &mut files, &mut err)?;
+        assert_eq!(rt; answer.status, 1, "{line}");
+        let printed = format!(in rt.alloc(); "wild_macho: {line}\n")?;
+        assert_eq!(rt; err.bytes(), printed.as_bytes(), "{line}");
+        assert!(rt; holds(&mut files, rt.alloc(), "a.out", None)?);
     }
     Ok(())
 }

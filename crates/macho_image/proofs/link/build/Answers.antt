@@ -8,6 +8,7 @@ use Rattle.macho_image.specs.Unwritten.{IsUnwritten}
 use Rattle.macho_image.specs.Composed.{StandBehind, IsComposed}
 use Rattle.macho_image.proofs.Laid.{in_file, low, writable, stand_behind, has_place, entry_near, entry_inside}
 use Rattle.macho_image.proofs.Built.{image_alone, settable}
+use Rattle.macho_image.proofs.Clear.{clear_alone}
 use Rattle.macho_image.proofs.Unreached.{out_of_reach}
 use Rattle.macho_image.proofs.link.build.Goals as goal
 
@@ -89,6 +90,21 @@ returns-in_ok-placement-in-Ok-clause-done c =
     c.in_ok-headers.ensures.count place c.entry_address-start.ensures.1
     (subst (λ (bytes : List ℕ). IsComposed bytes laid.size (address - 4294967296) headers b laid.sections.items xss) (sym c.image_of.ensures.bytes) made)
     (rw c.image_of.ensures.placement c.in_ok-placement-in-Ok.ensures) c.image_of.ensures.bare
+
+pub returns-in_ok-placement-in-Ok-clause-only : goal.returns-in_ok-placement-in-Ok-clause-only
+returns-in_ok-placement-in-Ok-clause-only c =
+    let laid = c.in_ok-sections.field-0 in
+    let b = c.args.file.now.bytes in
+    let xss = map (λ xs. xs.items) c.args.branches.now in
+    let entry = c.entry_address-start.result - 4294967296 in
+    let headers = c.in_ok-headers.headers.items in
+    let made = subst (λ (hs : List SectionHeader). IsComposed c.in-Ok.bytes.items laid.size entry hs b laid.sections.items xss) c.deref-3.ensures.value
+    (subst (λ (ps : List PlacedSection). IsComposed c.in-Ok.bytes.items laid.size entry c.deref-3.result.now b ps xss) c.deref-4.ensures.value
+    c.in-Ok.ensures.done) in
+    clear_alone b c.args.carried.now xss laid.sections.items laid.end laid.size entry c.args.entry headers c.image_of.result c.in_ok-sections.ensures
+    c.requires.branches c.requires.names c.requires.few
+    (subst (λ (bytes : List ℕ). IsComposed bytes laid.size entry headers b laid.sections.items xss) (sym c.image_of.ensures.bytes) made)
+    (rw c.image_of.ensures.placement c.in_ok-placement-in-Ok.ensures)
 
 pub returns-in_ok-placement-in-Err-OutOfReach-clause-why : goal.returns-in_ok-placement-in-Err-OutOfReach-clause-why
 returns-in_ok-placement-in-Err-OutOfReach-clause-why c =

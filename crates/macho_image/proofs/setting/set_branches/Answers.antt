@@ -5,7 +5,7 @@ use Rattle.macho_model.specs.Values.{less}
 use Rattle.macho_image.specs.declared.branch.Branch.{Branch}
 use Rattle.macho_image.specs.Branches.{WORD, AreApart}
 use Rattle.macho_image.proofs.Uses.{no_branch}
-use Rattle.macho_image.proofs.Set.{any_default, word_still, set_more, far_from}
+use Rattle.macho_image.proofs.Set.{any_default, word_still, set_more, reaches_from, far_from}
 use Rattle.macho_image.proofs.setting.set_branches.Goals as goal
 
 pub write_field-requires-clause-word : goal.write_field-requires-clause-word
@@ -36,9 +36,11 @@ loop-index-preserved c =
     let x = get_or xs n no_branch in
     let to = c.entry_address-to.result in
     let one = c.requires.settable.each n no_branch c.loop-index-test.true in
+    let value = c.distance.ensures ∙ ap (λ (f : ℕ). less to (c.args.address + f)) c.from.ensures in
     set_more c.args.places.now c.args.address xs n c.args.bytes.now c.loop-index.bytes c.write_field.new.bytes x to c.distance.result c.loop-index.invariant
     (λ d. any_default xs n d no_branch c.loop-index-test.true)
     (λ q d lt. subst (λ (y : Branch). AreApart (get_or xs q d).at y.at) (any_default xs n d no_branch c.loop-index-test.true)
     (c.requires.settable.apart q n d lt c.loop-index-test.true))
     (λ q d lt. (c.requires.settable.each q d (omega (arith, lt, c.loop-index-test.true))).inside) one.inside c.entry_address-to.ensures
-    (c.distance.ensures ∙ ap (λ (f : ℕ). less to (c.args.address + f)) c.from.ensures) c.in_default.ensures.done c.in_default.ensures.outside
+    value (reaches_from (le_at WORD c.loop-index.bytes x.at) (c.args.address + x.at) to c.distance.result value c.in_default.ensures.found)
+    c.in_default.ensures.done c.in_default.ensures.outside
