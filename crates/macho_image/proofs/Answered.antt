@@ -4,7 +4,10 @@
 -- or to the image's base. In a placement that a refusal keeps all of these are within the written sum behind the base, which is
 -- at most 64 MiB; and they are multiples of four. So each branch reaches its target.
 use Rattle.std.proofs.Common.{◌≡◌, ℕ, zero, suc, ◌+◌, ◌-◌, ◌%◌, ◌^◌, ◌<◌, ◌≤◌, Bool, true, false, not, ◌&&◌, ◌||◌, nat_le, nat_lt, if◌then◌else◌, List, length, get_or, is_some, inl, inr, refl, sym, ap, subst, ◌∙◌, arith, All}
-use Rattle.std.specs.Prelude.{filter, Contains, ◌==◌}
+use Rattle.std.specs.Prelude.{filter, Contains, ◌==◌, map, bytes_eq}
+use Rattle.std.proofs.lemmas.List.Sorted.{Contains-permutation}
+use Rattle.std.proofs.lemmas.Slice.Eq.{bytes_eq-Decides}
+use Rattle.macho_records.specs.Sections.{segment_name_of}
 use Rattle.std.specs.Bool.{passes}
 use Rattle.std.proofs.Math.Facts.{leb_yes}
 use Rattle.std.proofs.Math.Pow.{mod-mod-pow}
@@ -28,7 +31,9 @@ use Rattle.macho_model.specs.Needs.{relocation_in, relocations_of}
 use Rattle.macho_model.specs.Targets.{target_of, target_of_relocation, is_defined, is_import}
 use Rattle.macho_model.specs.Fields.{Field, fields_of, field_of, content_of, follows, is_prefix_type}
 use Rattle.macho_model.specs.WrittenSum.{written_sum_of}
-use Rattle.macho_model.specs.Placement.{Placed, id_of}
+use Rattle.macho_model.specs.Segments.{TEXT, segment_name}
+use Rattle.macho_model.specs.declared.placed.PlacedSection.{PlacedSection}
+use Rattle.macho_model.specs.Placement.{Placed, IsPlaced, id_of}
 use Rattle.macho_model.specs.Stands.{SectionAt, CallIsAt, Branch, kind_of}
 use Rattle.macho_model.specs.Rows.{has_form, is_supported, may_be_called}
 use Rattle.macho_model.specs.Words.{is_branch}
@@ -41,7 +46,7 @@ use Rattle.macho_image.specs.declared.fault.Unbuilt.TheVariants as part
 use Rattle.macho_image.specs.Counts.{counts_of}
 use Rattle.macho_image.specs.First.{HasOneObject, HasNoCommon}
 use Rattle.macho_image.specs.Branches.{is_later_type}
-use Rattle.macho_image.specs.Refusals.{BUILT_SUM, IsKept, RefusalStands}
+use Rattle.macho_image.specs.Refusals.{BUILT_SUM, RefusalStands}
 use Rattle.macho_image.specs.Answered.{INSTRUCTION, IsAnswered}
 use Rattle.macho_image.specs.Referents.{only_symbol}
 use Rattle.macho_image.proofs.First.{first_section, sections-are, first-header, numbered}
@@ -51,7 +56,8 @@ use Rattle.macho_image.proofs.Leading.{fails}
 use Rattle.macho_image.proofs.Alone.{part_alone}
 use Rattle.macho_image.proofs.Unsupported.{is_among_carried, relocation-is, target-is, type-is, no_such_type, type_from, form_length, form_extern}
 use Rattle.macho_image.proofs.FineTargets.{IsFine, target_fine, no_stubs_alone}
-use Rattle.macho_image.proofs.Near.{section_inside, reaches}
+use Rattle.macho_image.proofs.Near.{section_inside, section_behind, reaches}
+use Rattle.macho_image.proofs.Placed.{map-at}
 
 from_all : {X : Type 0} (P : X → Type 0) (xs : List X) (x : X) → All P xs → Contains xs x → P x
 from_all P xs x all among = subst P among.2 (all among.0 x among.1)
@@ -197,6 +203,31 @@ of_four (suc (suc j)) n big is =
     let two : suc (suc j) ≡ j + 2 = omega arith in
     sym (mod-mod-pow n j 2) ∙ ap (λ (m : ℕ). m % 4) (ap (λ (i : ℕ). n % 2 ^ i) (sym two) ∙ is)
 
+-- the only object's carried sections are in `__TEXT`
+carried_text : (l : Link) (a : IsAnswered l) (k : ℕ) → k < num_sections a.object → is_carried (section_at a.object k) ≡ true
+    → segment_name_of (section_at a.object k) ≡ TEXT
+carried_text l a k lt carried = by (bytes_eq name TEXT) refl
+  where
+    name : List ℕ
+    name = segment_name_of (section_at a.object k)
+
+    by : (t : Bool) → bytes_eq name TEXT ≡ t → name ≡ TEXT
+    by true e = (bytes_eq-Decides name TEXT).0 e
+    by false e =
+        absurd (a.built part.Segment (part_alone a.object part.Segment (inl (k, lt, carried, inl (λ is. differ (sym ((bytes_eq-Decides name TEXT).1 is) ∙ e)))) l a.alone))
+
+-- a placed section is a carried one
+placed_text : (l : Link) (a : IsAnswered l) (p : Placed) (q : PlacedSection) → IsPlaced l (counts_of l) p → Contains p.sections q → segment_name l (id_of q) ≡ TEXT
+placed_text l a p q kept among =
+    let mapped : Contains (map id_of p.sections) (id_of q) = (
+      among.0,
+      omega (arith, among.1, length-map p.sections id_of),
+      map-at id_of p.sections among.0 q (id_of q) among.1 ∙ ap id_of among.2,
+    ) in
+    let own = from_all (IsOwnCarried a.object) (carried_of l) (id_of q) (all_carried l a.object a.alone)
+    (Contains-permutation (map id_of p.sections) (carried_of l) (id_of q) kept.whole_list.sections mapped) in
+    ap (segment_name l) own.3 ∙ ap segment_name_of (first-header l a.object a.alone own.0) ∙ carried_text l a own.0 own.1 own.2
+
 -- where a section of a kept placement is
 pub record IsNear (l : Link) (file section address : ℕ) : Type 0 where
   pub from : 2 ^ 32 ≤ address
@@ -210,15 +241,15 @@ sum_small l a =
       | inr within ↦ omega (arith, within)
     ]
 
-base-is : (l : Link) (a : IsAnswered l) (p : Placed) → IsKept l p → p.base ≡ 2 ^ 32
-base-is l a p kept = kept.placed.base ∙ rw a.alone.executable refl
+base-is : (l : Link) (a : IsAnswered l) (p : Placed) → IsPlaced l (counts_of l) p → p.base ≡ 2 ^ 32
+base-is l a p kept = kept.base ∙ rw a.alone.executable refl
 
-section_near : (l : Link) (a : IsAnswered l) (p : Placed) (file section address : ℕ) → IsKept l p → SectionAt p file section address → IsNear l file section address
+section_near : (l : Link) (a : IsAnswered l) (p : Placed) (file section address : ℕ) → IsPlaced l (counts_of l) p → SectionAt p file section address → IsNear l file section address
 section_near l a p file section address kept (q, among, of_file, of_section, at) = record {
-  from = omega (arith, base-is l a p kept, from_all (λ q. p.base ≤ q.address) p.sections q kept.behind among, at);
-  to = omega (arith, base-is l a p kept, section_inside l (counts_of l) p q kept.placed among, sum_small l a, at, ap (λ (s : SectionId). (header_at l s).size) id);
+  from = omega (arith, base-is l a p kept, section_behind l (counts_of l) p q kept among (placed_text l a p q kept among), at);
+  to = omega (arith, base-is l a p kept, section_inside l (counts_of l) p q kept among, sum_small l a, at, ap (λ (s : SectionId). (header_at l s).size) id);
   multiple = ap (λ (s : SectionId). address % 2 ^ placed_exponent l s) (sym id) ∙ ap (λ (n : ℕ). n % 2 ^ placed_exponent l (id_of q)) (sym at)
-      ∙ from_all (λ q. q.address % 2 ^ placed_exponent l (id_of q) ≡ 0) p.sections q kept.placed.aligned.sections among;
+      ∙ from_all (λ q. q.address % 2 ^ placed_exponent l (id_of q) ≡ 0) p.sections q kept.aligned.sections among;
 }
   where
     id : id_of q ≡ section_id file section
@@ -241,7 +272,7 @@ word_in l file section address offset near inside big even =
     record { from = omega (arith, near.from); to = omega (arith, near.to, inside); multiple = omega (arith, whole, even) }
 
 -- where the target of a call is
-target_near : (l : Link) (a : IsAnswered l) (p : Placed) (t : Target) (x : ℕ) → IsKept l p → IsFine a.object t → is_defined t ≡ true
+target_near : (l : Link) (a : IsAnswered l) (p : Placed) (t : Target) (x : ℕ) → IsPlaced l (counts_of l) p → IsFine a.object t → is_defined t ≡ true
     → is_multiple l INSTRUCTION t 0 ≡ true → CallIsAt l p 0 no_choice t x → IsWord (x + 0)
 target_near l a p (target.Section file section offset) x kept (first, lies) defined multiple (address, at, is) =
     let near = section_near l a p file section address kept at in
@@ -265,7 +296,7 @@ IsOutside l p relocation address s f =
     SectionAt p s.file s.section address
     × DoesNotFit l p s f (address + f.offset) (content_of l s relocation) (kind_of f.type (is_some f.subtrahend))
 
-in_reach : (l : Link) (a : IsAnswered l) (p : Placed) (k r relocation address : ℕ) → IsKept l p → k < num_sections a.object
+in_reach : (l : Link) (a : IsAnswered l) (p : Placed) (k r relocation address : ℕ) → IsPlaced l (counts_of l) p → k < num_sections a.object
     → is_carried (section_at a.object k) ≡ true → r < (section_at a.object k).nreloc → Contains (fields_of l (first_section k)) (field_of l (first_section k) r)
     → IsOutside l p relocation address (first_section k) (field_of l (first_section k) r) → ⊥
 in_reach l a p k r relocation address kept lt carried below among (at, outside) =
@@ -310,7 +341,7 @@ in_reach l a p k r relocation address kept lt carried below among (at, outside) 
         (is_zero (f.offset % 4) (and_right (nat_le 4 (2 ^ placed_exponent l s)) (f.offset % 4 == 0) stands))
 
 -- no kept placement has a field out of range
-no_range : (l : Link) (a : IsAnswered l) (p : Placed) (at : Site) → IsKept l p → BadRange l p at → ⊥
+no_range : (l : Link) (a : IsAnswered l) (p : Placed) (at : Site) → IsPlaced l (counts_of l) p → BadRange l p at → ⊥
 no_range l a p (site.Field file section relocation) kept (f, address, of, at, outside) =
     let own = from_all (IsOwnCarried a.object) (carried_of l) (section_id file section) (all_carried l a.object a.alone) of.0 in
     let field = from_all (IsFieldAt l (section_id file section)) (fields_of l (section_id file section)) f (all_fields l (section_id file section)) of.1 in
@@ -326,7 +357,7 @@ no_range l a p (site.Field file section relocation) kept (f, address, of, at, ou
 no_range l a p (site.Slot index) kept bad = absurd bad
 no_range l a p (site.Stub index) kept (stub, x, lt, is, slot, far) =
     let none : length p.stubs ≡ 0 =
-    sym (length-map p.stubs (λ s. target.Import s.import)) ∙ ap length (kept.placed.whole_list.stubs ∙ no_stubs_alone l a.object a.alone) in
+    sym (length-map p.stubs (λ s. target.Import s.import)) ∙ ap length (kept.whole_list.stubs ∙ no_stubs_alone l a.object a.alone) in
     omega (arith, lt, none)
 
 -- THE refusals of such a link

@@ -9,7 +9,8 @@ use Rattle.macho_model.specs.declared.targets.Site.TheVariants as site
 use Rattle.macho_model.specs.declared.placed.PlacedSection.{PlacedSection}
 use Rattle.macho_model.specs.Objects.{num_sections, section_at}
 use Rattle.macho_model.specs.Links.{Link, is_carried}
-use Rattle.macho_model.specs.Placement.{Placed}
+use Rattle.macho_model.specs.Placement.{Placed, IsPlaced}
+use Rattle.macho_image.specs.Counts.{counts_of}
 use Rattle.macho_model.specs.Stands.{SectionAt}
 use Rattle.macho_model.specs.Values.{branch_reaches, no_choice, FieldOf, BadRange}
 use Rattle.macho_layout.specs.Placements.{placed_of}
@@ -23,14 +24,14 @@ use Rattle.macho_image.specs.Shape.{placed_of_image}
 use Rattle.macho_image.specs.LaidOut.{IsLaidOut}
 use Rattle.macho_image.specs.Branches.{HasBranches, HasAllBranches}
 use Rattle.macho_image.specs.Setting.{CannotReach, SectionCannotReach}
-use Rattle.macho_image.specs.Refusals.{IsKept, StandsAlone}
+use Rattle.macho_image.specs.Refusals.{StandsAlone}
 use Rattle.macho_image.proofs.First.{first_section}
 use Rattle.macho_image.proofs.FirstLinks.{is_first}
 use Rattle.macho_image.proofs.Uses.{no_branch}
 use Rattle.macho_image.proofs.Unsupported.{is_among_carried}
 use Rattle.macho_image.proofs.Denoting.{field_by, field_at, field_count, target_in}
 use Rattle.macho_image.proofs.Placed.{no_place, no_carried, placed}
-use Rattle.macho_image.proofs.Laid.{carried_at, in_file}
+use Rattle.macho_image.proofs.Laid.{carried_at}
 
 -- a branch is a field of the link
 is_field : (l : Link) (b : List ℕ) (k r : ℕ) (xs : List Branch) → HasOneObject l b → HasBranches b k (section_at b k).nreloc xs → k < num_sections b
@@ -49,13 +50,10 @@ pub out_of_reach : (b : List ℕ) (cs : List Carried) (xss : List (List Branch))
     → section ≡ (get_or cs k no_carried).section → placed_of placement ≡ placed_of_image n ps headers
     → StandsAlone b (error.RelocationRange (site.Field 0 section r) placement)
 out_of_reach b cs xss ps headers end n k r section placement h branches count unreached is shown = record {
-  stands = λ l one. subst (λ (p : Placed). BadRange l p (site.Field 0 section r) × IsKept l p) (sym shown) (
+  stands = λ l one. subst (λ (p : Placed). BadRange l p (site.Field 0 section r) × IsPlaced l (counts_of l) p) (sym shown) (
     subst (λ (i : ℕ). BadRange l (placed_of_image n ps headers) (site.Field 0 i r)) (sym is) (far l one),
-    record {
-      placed = placed l (front_of (length cs)) end n cs ps headers (is_first l b cs xss one h.object h.plain branches) h.places count refl h.small.few h.holds h.near
-          h.pages;
-      behind = λ i d lt. (in_file b cs ps end n h i d lt).from;
-    },
+    placed l (front_of (length cs)) end n cs ps headers (is_first l b cs xss one h.object h.plain branches) h.places count refl h.small.few h.holds h.near
+        h.pages,
   );
 }
   where

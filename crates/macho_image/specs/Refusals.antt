@@ -1,9 +1,9 @@
 -- When each refusal of a linker stands, and what it leaves.
-use Rattle.std.specs.Prelude.{◌≡◌, ℕ, ◌*◌, ◌^◌, ◌<◌, ◌≤◌, ◌⊎◌, true, false, List, length, All}
+use Rattle.std.specs.Prelude.{◌≡◌, ℕ, ◌*◌, ◌^◌, ◌<◌, ◌≤◌, ◌⊎◌, true, false, List, length}
 use Rattle.macho_model.specs.Grammar.{IsObject, ObjectBreaks}
 use Rattle.macho_model.specs.Links.{Link, object_of, carried_of}
 use Rattle.macho_model.specs.WrittenSum.{written_sum_of}
-use Rattle.macho_model.specs.Placement.{Placed, IsPlaced}
+use Rattle.macho_model.specs.Placement.{IsPlaced}
 use Rattle.macho_model.specs.Faults as model
 use Rattle.macho_layout.specs.Placements.{placed_of}
 use Rattle.macho_image.specs.declared.fault.LinkError.{LinkError}
@@ -29,12 +29,6 @@ IsUnbuilt l part.Size = (BUILT_SECTIONS < length (carried_of l)) ⊎ (BUILT_SUM 
 IsUnbuilt l part.Dylib = l.executable ≡ false
 IsUnbuilt l what = (file : ℕ) × (file < length l.inputs) × AsksForPart (object_of l file) what
 
--- A placement that a refusal keeps: one of the link, whose sections stand at or behind its base. With the written sum, which
--- bounds its end, no two of them are far apart.
-pub record IsKept (l : Link) (p : Placed) : Type 0 where
-  pub placed : IsPlaced l (counts_of l) p
-  pub behind : All (λ q. p.base ≤ q.address) p.sections
-
 -- THE refusal of a link stands: its rule is broken by what is linked, and a placement that it keeps is a placement of the
 -- link. Want of memory is free; the names and the inputs were looked at before.
 abbrev pub RefusalStands : Link → LinkError → Type 0
@@ -42,7 +36,7 @@ RefusalStands l (error.EntryNotDefined name) = model.FaultStands l (counts_of l)
 RefusalStands l (error.UnsupportedRelocation file section relocation) =
     model.FaultStands l (counts_of l) (model.UnsupportedRelocation file section relocation)
 RefusalStands l (error.RelocationRange at placement) =
-    model.FaultStands l (counts_of l) (model.RelocationRange at (placed_of placement)) × IsKept l (placed_of placement)
+    model.FaultStands l (counts_of l) (model.RelocationRange at (placed_of placement)) × IsPlaced l (counts_of l) (placed_of placement)
 RefusalStands l error.BadName = ⊥
 RefusalStands l (error.BadInput fault) = ⊥
 RefusalStands l (error.Unbuilt what) = IsUnbuilt l what
