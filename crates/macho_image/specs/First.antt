@@ -1,4 +1,4 @@
--- What the first links are: one object whose carried sections stand in `__TEXT` and have no relocations.
+-- What the first links are: one object whose carried sections stand in `__TEXT`.
 use Rattle.std.specs.Prelude.{◌≡◌, ℕ, ◌<◌, true, false, List, [], ◌∷◌, length, map, filter, get_or}
 use Rattle.std.specs.List.{range_with_len}
 use Rattle.macho_records.specs.declared.header.SectionHeader.{SectionHeader}

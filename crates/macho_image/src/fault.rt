@@ -18,7 +18,7 @@ pub enum InputFault {
 /// A part of linking that isn't built yet, and that the inputs ask for.
 #[derive(Clone, Copy, Debug, PartialEq, Eq)]
 pub enum Unbuilt {
-    /// A carried section has a relocation of another type than a branch's, or two that share a byte.
+    /// A carried section has a relocation of another known type than a branch's, or two that share a byte.
     Relocation,
     /// Two global definitions have one name, or a global symbol that is called has none.
     Name,

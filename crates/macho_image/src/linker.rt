@@ -82,7 +82,8 @@ impl Linker {
     ///
     /// # Errors
     ///
-    /// `BadInput` where the bytes break a rule of objects. A refused object is dropped.
+    /// `BadInput` where the bytes break a rule of objects, `Unbuilt` where the linker has an object already, `OutOfMemory`. A
+    /// refused object is dropped.
     pub fn add_object(&mut self, bytes: Vec<u8>) -> Result<u32, LinkError>
         ensures added { IfOk result (λ file. (file ≡ length self.old.inputs) × (self.new ≡ with_input self.old (Object bytes.items))) }
         ensures found { OnOk result (IsObject bytes.items) }

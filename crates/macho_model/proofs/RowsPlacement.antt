@@ -2,7 +2,7 @@
 --
 -- The section stands behind the 312 bytes of header and commands, at 0x100000138; all other parts are empty. Each part
 -- of the relation is shown of every placement of this shape as far as it asks something of the shape's numbers; so a
--- change of one number breaks the part that asks, and keeps the others by the same lemmas.
+-- change of these numbers breaks the part that asks, and keeps the others by the same lemmas.
 use Rattle.std.proofs.Common.{◌≡◌, ℕ, zero, suc, ◌+◌, ◌%◌, ◌≤◌, ◌⊎◌, ◌==◌, nat_le, ◌^◌, ◌&&◌, ◌||◌, not, Bool, false, ◌≢◌, List, [], ◌∷◌, length, get_or, map, refl, sym, ap, ◌∙◌, arith, inl, inr, None, Some, All, true}
 use Rattle.std.specs.Prelude.{Option, is_some, AllPairs}
 use Rattle.std.specs.List.{AllByRecursion}
@@ -266,7 +266,7 @@ part_asks base start address size (Some r) Template h =
     let some = h.some in absurd (omega arith)
 part_asks base start address size template WithinSum h = le-leb (start + size) (base + 66806) (rw sum_a at h)
 
--- THE changes: which number is turned, and which part that breaks.
+-- THE changes: to which numbers, and which part that breaks.
 pub record PlacementChange : Type 0 where
   pub part : PlacementPart
   pub base : ℕ

@@ -3,7 +3,7 @@
 -- Its one section stands in the file at 0x138, in the file part of `__TEXT`, which has no chain word; so memory holds
 -- the section's bytes at its placed address plus the slide. There are no fields, commons, slots or stubs. Memory has one
 -- byte at an address of the one mapped segment, so another byte there is not held.
-use Rattle.std.proofs.Common.{◌≡◌, ℕ, ◌+◌, ◌-◌, ◌<◌, ◌≤◌, nat_lt, if◌then◌else◌, List, [], ◌∷◌, slice_index, refl, subst, arith, inl, inr, All}
+use Rattle.std.proofs.Common.{◌≡◌, ℕ, zero, suc, ◌++◌, ◌+◌, ◌-◌, ◌<◌, ◌≤◌, nat_lt, if◌then◌else◌, List, [], ◌∷◌, slice_index, refl, subst, arith, inl, inr, All}
 use Rattle.std.specs.Prelude.{Contains, codes}
 use Rattle.std.proofs.lemmas.Bool.{lt-ltb}
 use Rattle.std.proofs.lemmas.List.Elements.{All-nil, All-cons, All-contains, All-head}
@@ -14,16 +14,17 @@ use Rattle.macho_records.specs.declared.header.SegmentCommand.{SegmentCommand}
 use Rattle.macho_model.specs.declared.targets.Target.TheVariants as target
 use Rattle.macho_records.specs.Symbols.{common_size_of}
 use Rattle.macho_model.specs.Commands.{header_of, commands_from, commands_of, commands_end}
-use Rattle.macho_model.specs.Objects.{segment_of, num_sections, section_place, section_at, section_bytes, symtab_of, num_symbols, symbol_place, symbol_at, strings_of, symbol_name}
-use Rattle.macho_model.specs.Links.{Link, Object, sections_of, carried_of}
+use Rattle.macho_model.specs.Objects.{segment_of, num_sections, section_place, section_at, section_bytes, symtab_of, num_symbols, symbol_place, symbol_at, strings_of, symbol_name, relocation_place, relocation_at}
+use Rattle.macho_model.specs.Links.{Link, Object, object_of, header_at, sections_of, carried_of}
+use Rattle.macho_model.specs.Targets.{target_of, target_of_relocation}
 use Rattle.macho_model.specs.Resolution.{entry_at, symbols_of, strong_of, weak_of, commons_of, greatest_of, libraries_with, definition_of, chosen_commons}
 use Rattle.macho_model.specs.Fields.{fields_of}
 use Rattle.macho_model.specs.Images.{segments_of, mapped_segments, tables_of}
 use Rattle.macho_model.specs.Memory.{Choice, Holds, HoldsText}
 use Rattle.macho_model.specs.Placement.{Placed, id_of, common_of}
 use Rattle.macho_model.specs.Stands.{IsOutsideField, Denotes, SectionStands, CommonStands, SlotStands, StubStands, LeadsThrough, ImageStands, IsLinked}
-use Rattle.macho_model.proofs.Examples.{words8, words, halves, name16, changed, object_b}
-use Rattle.macho_model.proofs.ExampleLinks.{executable_of}
+use Rattle.macho_model.proofs.Examples.{words8, words, halves, name16, changed}
+use Rattle.macho_model.proofs.ExampleLinks.{executable_of, entry, text_object, section}
 use Rattle.macho_model.proofs.ExampleImages.{smallest}
 use Rattle.macho_model.proofs.ExamplePlacement.{link_a, counts_a, section_a, placed_a}
 use Rattle.macho_model.proofs.FactsA.{section_of_a, bytes_of_a, fields_a}
@@ -164,7 +165,7 @@ sections_alone = record { broken = other_code_does_not_stand; others = others }
     others s choice Commons apart = All-nil (CommonStands link_a other_code s choice)
     others s choice Through apart = record { slots = All-nil (SlotStands link_a other_code placed_a s choice); stubs = All-nil (StubStands other_code placed_a s choice) }
 
--- A common of four bytes at an address that is not mapped: `commons` fails, and the other parts speak of nothing.
+-- a byte at an address that is not mapped
 unmapped_is_not_held : (s : ℕ) (choice : Choice) (v : ℕ) → Holds smallest s choice (0 + s) v → ⊥
 unfolding text_segment
 unmapped_is_not_held s choice v held =
@@ -177,29 +178,83 @@ unmapped_is_not_held s choice v held =
           omega (arith, from, plain.1.from, held.slid)
     ]
 
-abbrev pub alone_b : Link
-alone_b = executable_of (Object object_b ∷ [])
+-- The object with a common `_c` of four bytes beside: it stands in zeros behind the code.
+unfoldable pub object_c : List ℕ
+object_c = text_object (words (0x52800000 ∷ 0xd65f03c0 ∷ [])) [] (entry 1 0x0f 1 0 0 ++ entry 7 0x01 0 0x200 4) (0 ∷ codes "_main" ++ 0 ∷ codes "_c" ++ 0 ∷ [])
 
-abbrev pub with_common : Placed
-with_common = record placed_a { sections = []; commons = record { id = 0; address = 0 } ∷ [] }
+abbrev pub link_c : Link
+link_c = executable_of (Object object_c ∷ [])
 
-four_bytes : common_size_of (entry_at alone_b (common_of alone_b 0)) ≡ 4
-unfolding header_of commands_from commands_of commands_end segment_of num_sections section_place section_at section_bytes symtab_of num_symbols symbol_place symbol_at strings_of symbol_name sections_of carried_of symbols_of strong_of weak_of commons_of greatest_of libraries_with definition_of chosen_commons le_at le_bytes row_bytes reading words8 words halves name16 object_b
-four_bytes = refl
+-- the smallest image's placement, with the common at an address
+abbrev pub placed_c : ℕ → Placed
+placed_c address = record placed_a { commons = record { id = 0; address = address } ∷ [] }
 
-pub commons_alone : StandsAlone alone_b smallest with_common Commons
+facts_c : (common_size_of (entry_at link_c (common_of link_c 0)) ≡ 4) × ((header_at link_c (section 0 0)).size ≡ 8) × (fields_of link_c (section 0 0) ≡ [])
+    × (section_bytes (object_of link_c 0) 0 ≡ code)
+unfolding header_of commands_from commands_of commands_end segment_of num_sections section_place section_at section_bytes symtab_of num_symbols symbol_place symbol_at strings_of symbol_name sections_of carried_of symbols_of strong_of weak_of commons_of greatest_of libraries_with definition_of chosen_commons target_of target_of_relocation fields_of relocation_place relocation_at le_at le_bytes row_bytes reading words8 words halves name16 entry text_object object_c
+facts_c = (refl, refl, refl, refl)
+
+zeros_stand : Stands smallest (record { at = 0x200; text = 0 ∷ 0 ∷ 0 ∷ 0 ∷ [] })
+unfolding row_bytes le_bytes words8 words name16 smallest
+zeros_stand = record { within = omega arith; same = refl }
+
+zeros_are_held : (s : ℕ) (choice : Choice) → HoldsText smallest s choice (0x100000200 + s) (0 ∷ 0 ∷ 0 ∷ 0 ∷ [])
+unfolding text_segment
+zeros_are_held s choice =
+    text_is_held smallest s choice text_segment 0x200 (0 ∷ 0 ∷ 0 ∷ 0 ∷ []) no_tables (rw one_segment (0, omega arith, refl)) (omega arith) (omega arith) zeros_stand
+
+zero_at : (i : ℕ) → i < 4 → slice_index (0 ∷ 0 ∷ 0 ∷ 0 ∷ []) i ≡ 0
+zero_at zero lt = refl
+zero_at (suc zero) lt = refl
+zero_at (suc (suc zero)) lt = refl
+zero_at (suc (suc (suc zero))) lt = refl
+zero_at (suc (suc (suc (suc i)))) lt = absurd (omega (arith, lt))
+
+section_c_stands : (address s : ℕ) (choice : Choice) → All (SectionStands link_c smallest (placed_c address) s choice) (placed_c address).sections
+section_c_stands address s choice =
+    All-cons (SectionStands link_c smallest (placed_c address) s choice) (section_a 0x100000138) []
+    (record {
+      bytes = λ i within outside.
+          let small : i < 8 = rw facts_c.1 at within in
+          let here : 0x100000138 + i + s ≡ 0x100000138 + s + i = omega arith in
+          rw (here, facts_c.3) (code_is_held s choice i small);
+      fields = rw facts_c.2 (All-nil (Denotes link_c smallest (placed_c address) s choice (section_a 0x100000138)));
+    })
+    (All-nil (SectionStands link_c smallest (placed_c address) s choice))
+
+nothing_through : (address s : ℕ) (choice : Choice) → LeadsThrough link_c smallest (placed_c address) s choice
+nothing_through address s choice = record {
+  slots = All-nil (SlotStands link_c smallest (placed_c address) s choice);
+  stubs = All-nil (StubStands smallest (placed_c address) s choice);
+}
+
+-- Its image stands.
+pub common_stands : (s : ℕ) (choice : Choice) → ImageStands link_c smallest (placed_c 0x100000200) s choice
+common_stands s choice = record {
+  sections = section_c_stands 0x100000200 s choice;
+  commons = All-cons (CommonStands link_c smallest s choice) (record { id = 0; address = 0x100000200 }) []
+      (λ i within. let small : i < 4 = rw facts_c.0 at within in
+      let here : 0x100000200 + i + s ≡ 0x100000200 + s + i = omega arith in
+      let zero = zero_at i small in
+      rw here (subst (Holds smallest s choice (0x100000200 + s + i)) zero (zeros_are_held s choice i small)))
+      (All-nil (CommonStands link_c smallest s choice));
+  through = nothing_through 0x100000200 s choice;
+}
+
+-- The same with the common at an address that is not mapped: `commons` fails.
+pub commons_alone : StandsAlone link_c smallest (placed_c 0) Commons
 commons_alone =
     record {
-      broken = λ s choice commons. let here = All-head (CommonStands alone_b smallest s choice) (record { id = 0; address = 0 }) [] commons in
-          let four = four_bytes in
+      broken = λ s choice commons. let here = All-head (CommonStands link_c smallest s choice) (record { id = 0; address = 0 }) [] commons in
+          let four = facts_c.0 in
           unmapped_is_not_held s choice 0 (here 0 (omega (arith, four)));
       others = others;
     }
   where
-    others : (s : ℕ) (choice : Choice) (other : StandsPart) → (other ≡ Commons → ⊥) → StandsKeeps alone_b smallest with_common s choice other
-    others s choice Sections apart = All-nil (SectionStands alone_b smallest with_common s choice)
+    others : (s : ℕ) (choice : Choice) (other : StandsPart) → (other ≡ Commons → ⊥) → StandsKeeps link_c smallest (placed_c 0) s choice other
+    others s choice Sections apart = section_c_stands 0 s choice
     others s choice Commons apart = absurd (apart refl)
-    others s choice Through apart = record { slots = All-nil (SlotStands alone_b smallest with_common s choice); stubs = All-nil (StubStands smallest with_common s choice) }
+    others s choice Through apart = nothing_through 0 s choice
 
 -- A slot whose target is nowhere: `through` fails.
 abbrev pub with_slot : Placed

@@ -15,7 +15,7 @@ use Rattle.macho_model.specs.Needs.{Use, ByRelocation, ByInitializer, ByPersonal
 use Rattle.macho_model.specs.Targets.{target_of_name, is_import}
 use Rattle.macho_model.specs.Fields.{Field}
 use Rattle.macho_model.specs.Segments.{SEGMENT_PAGE, segment_name, may_hold_pointers}
-use Rattle.macho_model.specs.Placement.{Placed, IsPlaced}
+use Rattle.macho_model.specs.Placement.{Placed}
 use Rattle.macho_model.specs.Rows.{is_supported, share_byte, are_pair}
 use Rattle.macho_model.specs.Consumed.{initializer_section_fits, initializer_slot_fits, is_plain_pointer, is_section_target, entry_count, whole_entries, keeps}
 use Rattle.macho_model.specs.Stands.{SectionAt}
@@ -131,11 +131,6 @@ FaultStands l counts (ImageTooLarge placement) = IsTooLarge l counts placement
 FaultStands l counts (RebaseTarget at placement) = BadRebase l placement at
 FaultStands l counts (RelocationRange at placement) = BadRange l placement at
 FaultStands l counts BadName = bad_name l ≡ true
-
--- the placement that a refusal keeps meets the placement relation
-abbrev pub KeepsPlaced : Link → Counts → Option Placed → Type 0
-KeepsPlaced l counts None = Unit {0}
-KeepsPlaced l counts (Some p) = IsPlaced l counts p
 
 -- the placement that a refusal keeps, if it keeps one
 abbrev pub kept_placement : LinkFault → Option Placed

@@ -172,7 +172,7 @@ pub record Follows (l : Link) (s t : PlacedSegment) : Type 0 where
 abbrev pub EachFollows : Link → List PlacedSegment → Type 0
 EachFollows l segments = (k : ℕ) (s t : PlacedSegment) → k + 1 < length segments → get_or segments k s ≡ s → get_or segments (k + 1) t ≡ t → Follows l s t
 
--- `__TEXT`, which the header stands in, begins at the image's base; so does all that is mapped
+-- `__TEXT` begins at the image's base, so that all segments behind it stand there or later
 abbrev pub TextBegins : Link → List PlacedSegment → Type 0
 TextBegins l segments = (s : PlacedSegment) × Contains segments s × (is_segment_named TEXT s ≡ true) × (s.address ≡ base_of_link l)
 

@@ -1,4 +1,4 @@
--- Valid links: those that are answered by an image wherever there is memory.
+-- Valid links: those that a linker owes an image, wherever there is memory.
 use Rattle.std.specs.Prelude.{◌≡◌, ℕ, ◌+◌, ◌*◌, ◌-◌, ◌%◌, ◌^◌, ◌<◌, ◌≤◌, ◌⊎◌, ◌==◌, nat_le, nat_lt, ◌&&◌, ◌||◌, not, Bool, true, false, List, length, All, Contains, Some, is_some}
 use Rattle.macho_model.specs.declared.rules.UnwindRule.{UnwindRule}
 use Rattle.macho_model.specs.declared.targets.Limit.{Limit}
@@ -69,7 +69,7 @@ abbrev pub VALID_SUM : ℕ
 VALID_SUM = 64 * 2 ^ 20
 
 -- Names: each that is used, listed or begun at is defined, and none has two strong definitions. A relocation whose name has
--- no definition has no target, and so is not supported either.
+-- no definition has no target, and so breaks another part too: that of relocations, of initializers or of unwind entries.
 pub record NamesAreDefined (l : Link) : Type 0 where
   pub single : (name : List ℕ) → length (strong_of l name) ≤ 1
   pub used : (u : Use) (name : List ℕ) → Contains (uses_of l) u → name_used l u ≡ Some name → is_some (definition_of l name) ≡ true
