@@ -1,5 +1,6 @@
 pub mod Cuts
 pub mod FirstWords
+pub mod PagePasses
 pub mod EntryTexts
 pub mod SegmentTexts
 pub mod PutOrder
