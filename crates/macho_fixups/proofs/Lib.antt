@@ -7,6 +7,7 @@ pub mod PutOrder
 pub mod SegmentWrites
 pub mod TableTexts
 pub mod ExampleTables
+pub mod ExampleImages
 pub mod Places
 pub mod ChainWrites
 pub mod RunChain
