@@ -1,6 +1,6 @@
 -- The conditions on an image with four fixups, on the first and the third page of its last segment.
 use Rattle.std.proofs.Common.{◌≡◌, ◌<◌, ◌≤◌, ◌⊎◌, ◌+◌, ◌%◌, ◌^◌, ℕ, pos, negsuc, refl, inr, List, [], ◌∷◌, arith, rules}
-use Rattle.std.specs.List.{All, AllPairs, Contains}
+use Rattle.std.specs.List.{Contains}
 use Rattle.std.proofs.lemmas.List.Elements.{All-contains_itself}
 use Rattle.macho_model.specs.Images.{CHAIN_PAGE}
 use Rattle.macho_model.specs.Chain.{WORD_SIZE, STRIDE}
