@@ -84,7 +84,7 @@ IsAddressOf fixups a = (f : Fixup) × Contains fixups f × (f.address ≡ a)
 abbrev pub address_of : List Fixup → ℕ → Fixup → ℕ
 address_of fixups k d = (get_or fixups k d).address
 
--- So many steps from a fixup: they lead to the next fixup where it is on the same page. Where the page has no further one, there are none.
+-- So many steps from a fixup: they lead to the next fixup, on the same page. There are none where the page has no further one.
 pub record IsStepOf (fixups : List Fixup) (k : ℕ) (d : Fixup) (steps : ℕ) : Type 0 where
   pub next : 1 ≤ steps → (k + 1 < length fixups) × (address_of fixups k d + STRIDE * steps ≡ address_of fixups (k + 1) d)
   pub page : 1 ≤ steps → address_of fixups (k + 1) d / CHAIN_PAGE ≡ address_of fixups k d / CHAIN_PAGE

@@ -25,7 +25,8 @@ names_open name trees [] = []
 names_open name trees (node ∷ nodes) =
     names_along (take node.depth name) (first_edges node.children trees) ++ names_open name (later_edges node.children trees) nodes
 
--- A row while the table is built. Its end isn't known yet, so the row after its subtree is told by the number of rows from there to the end.
+-- A row while the table is built. Its end isn't known yet, so the row after its subtree is told by the number of rows from
+-- there to the end.
 pub record IsClosedRow (names : List (List ℕ)) (r : Row) (behind : Edges) : Type 0 where
   pub row : IsRow names r behind
   pub after : r.after ≡ node_count (later_edges r.children behind)

@@ -77,7 +77,11 @@ pub record AreLowWidths (l : Layout) (widths : List ℕ) : Type 0 where
 abbrev pub AreGrown : List ℕ → List ℕ → Type 0
 AreGrown was now = (now ≡ was) ⊎ (sum was < sum now)
 
--- An edge whose child has a place has grown by some bytes: where it is wide enough, by none, and else to the width that is needed.
+-- where the first edge of a list is too narrow, there are more bytes of them
+abbrev pub FirstGrows : List ℕ → List ℕ → List ℕ → List ℕ → Type 0
+FirstGrows places list was now = 1 ≤ length list → IsNarrow places was (slice_index list 0) → sum was < sum now
+
+-- An edge whose child has a place has grown by some bytes: by none where it is wide enough, else to the width that is needed.
 pub record IsLookedAt (place child growth : ℕ) (was now : List ℕ) : Type 0 where
   pub only : now ≡ set was child (slice_index was child + growth)
   pub enough : length (uleb_of place) ≤ slice_index was child + growth

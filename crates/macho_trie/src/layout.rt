@@ -3,7 +3,7 @@ ghost use Rattle.std.specs.Prelude.{◌≡◌, ℕ, ◌+◌, ◌<◌, ◌≤◌,
 ghost use Rattle.macho_trie.specs.Symbols.{names_of};
 ghost use Rattle.macho_trie.specs.Tables.{symbol_at};
 ghost use Rattle.macho_trie.specs.Layouts.{names_at, size_at, children_of, IsLaid, AreTerminals, ArePlaces, AreLaidOut};
-ghost use Rattle.macho_trie.specs.Layouts.{tree_at, IsNarrow, NoneNarrow, AreListed, AreLowWidths, AreGrown, IsLookedAt};
+ghost use Rattle.macho_trie.specs.Layouts.{tree_at, IsNarrow, NoneNarrow, AreListed, AreLowWidths, AreGrown, FirstGrows, IsLookedAt};
 ghost use Rattle.macho_trie.specs.Encoding.{edges_size, export_bytes};
 ghost use Rattle.macho_trie.specs.Trees.{IsOneTree};
 ghost use Rattle.macho_trie.specs.Says.{said_of};
@@ -162,7 +162,7 @@ impl<'a> Layout<'a> {
         requires list { AreListed (length self.now.rows.now) list.now }
         ensures low { OnOk result (AreLowWidths self.now widths.new) }
         ensures grown { OnOk result (AreGrown widths.old widths.new) }
-        ensures first { OnOk result (1 ≤ length list.now → IsNarrow places.now widths.old (slice_index list.now 0) → sum widths.old < sum widths.new) }
+        ensures first { OnOk result (FirstGrows places.now list.now widths.old widths.new) }
     {
         let mut growth = 0;
         for child in list {
