@@ -4,7 +4,7 @@
 -- sorted no later fixup is below either: so the run is cut there. The pages up to the last fixup of a segment are the
 -- greatest count among its fixups: all counts are at most that of the last, since page numbers grow with addresses.
 -- The first fixup of a page, if there is one, is where the run is cut in front of the page.
-use Rattle.std.proofs.Common.{◌≡◌, ℕ, zero, suc, ◌+◌, ◌*◌, ◌-◌, ◌/◌, ◌%◌, ◌^◌, ◌<◌, ◌≤◌, ◌==◌, ◌⊎◌, ◌&&◌, nat_le, nat_lt, Bool, true, false, List, [], ◌∷◌, length, get_or, arith, refl, ap, subst, ◌∙◌, inl, inr}
+use Rattle.std.proofs.Common.{◌≡◌, ℕ, zero, suc, ◌+◌, ◌-◌, ◌/◌, ◌%◌, ◌<◌, ◌≤◌, ◌==◌, ◌⊎◌, ◌&&◌, nat_le, nat_lt, Bool, true, false, List, [], ◌∷◌, length, get_or, arith, refl, ap, ◌∙◌, inl, inr}
 use Rattle.std.proofs.Math.Nat.{le-max_left, le-max_right, max-le}
 use Rattle.std.proofs.lemmas.Bool.{cases_lt}
 use Rattle.std.proofs.lemmas.Bool.Decides.{nat_tests}
@@ -124,60 +124,6 @@ pages_of-none s fixups n front behind =
       | inl early ↦ omega (arith, pages_with-out s (get_or fixups k d) (inl (front.below k d early)))
       | inr late ↦ omega (arith, pages_with-out s (get_or fixups k d) (inr (behind.above k d late lt)))
     ]) in omega (arith, none)
-
--- a segment with fixups has the pages up to that of the last one
-pub pages_of-last : (s : FixupSegment) (fixups : List Fixup) (begin end : ℕ) (e : Fixup) → AreSorted fixups → IsCut fixups begin s.address
-    → IsCut fixups end (s.address + s.file_size) → begin < end
-    → (get_or fixups (end - 1) e).address / CHAIN_PAGE - s.address / CHAIN_PAGE + 1 ≡ pages_of s fixups
-pages_of-last s fixups begin end e sorted front behind some =
-    let last : Fixup = get_or fixups (end - 1) e in
-    let low : s.address ≤ (get_or fixups (end - 1) e).address = front.above (end - 1) e (omega arith) (omega (arith, behind.within)) in
-    let high : (get_or fixups (end - 1) e).address < s.address + s.file_size = behind.below (end - 1) e (omega arith) in
-    let own = pages_with-in s (get_or fixups (end - 1) e) low high in
-    let le = pages_of-above s fixups (end - 1) e (omega (arith, behind.within)) in
-    let ge : pages_of s fixups ≤ (get_or fixups (end - 1) e).address / CHAIN_PAGE - s.address / CHAIN_PAGE + 1 =
-    pages_of-below s fixups _ each in
-    omega (arith, own, le, ge)
-  where
-    each : (k : ℕ) (d : Fixup) → k < length fixups
-        → pages_with s (get_or fixups k d) ≤ (get_or fixups (end - 1) e).address / CHAIN_PAGE - s.address / CHAIN_PAGE + 1
-    each k d lt =
-        elim (cases_lt k begin) [
-          | inl early ↦ omega (arith, pages_with-out s (get_or fixups k d) (inl (front.below k d early)))
-          | inr from ↦ elim (cases_lt k end) [
-            | inr late ↦ omega (arith, pages_with-out s (get_or fixups k d) (inr (behind.above k d late lt)))
-            | inl before ↦
-                let within = pages_with-in s (get_or fixups k d) (front.above k d from lt) (behind.below k d before) in
-                let order : (get_or fixups k d).address ≤ (get_or fixups (end - 1) d).address = upto k d before lt in
-                let same : (get_or fixups (end - 1) d).address ≡ (get_or fixups (end - 1) e).address =
-                ap (λ (f : Fixup). f.address) (get_or_default fixups (end - 1) d e (omega (arith, behind.within))) in
-                omega (arith, within, order, same)
-          ]
-        ]
-      where
-        upto : (k : ℕ) (d : Fixup) → k < end → k < length fixups → (get_or fixups k d).address ≤ (get_or fixups (end - 1) d).address
-        upto k d before lt = elim (cases_lt k (end - 1)) [
-          | inl less ↦ omega (arith, sorted k (end - 1) d less (omega (arith, behind.within)))
-          | inr at ↦ let same : k ≡ end - 1 = omega arith in omega (arith, ap (λ (j : ℕ). (get_or fixups j d).address) same)
-        ]
-
--- what two searches, one behind the other, find of a segment
-pub two_cuts : (fixups : List Fixup) (s : FixupSegment) (from begin end : ℕ) → AreSorted fixups → AreBelow fixups from s.address
-    → IsSkip fixups from (s.address + 0) begin → IsSkip fixups begin (s.address + s.file_size) end
-    → IsCut fixups begin s.address × IsCut fixups end (s.address + s.file_size)
-two_cuts fixups s from begin end sorted below first second =
-    let zero_more : s.address + 0 ≡ s.address = omega arith in
-    let front = cut_of fixups from s.address begin sorted below (subst (λ (b : ℕ). IsSkip fixups from b begin) zero_more first) in
-    (front, cut_of fixups begin (s.address + s.file_size) end sorted (below_cut fixups begin s.address (s.address + s.file_size) front (omega arith)) second)
-
--- the last fixup of a segment is on none of the pages in front of it
-pub last_page : (fixups : List Fixup) (s : FixupSegment) (begin end : ℕ) (e : Fixup) → IsCut fixups begin s.address → begin < end → end ≤ length fixups
-    → s.address / CHAIN_PAGE ≤ (get_or fixups (end - 1) e).address / CHAIN_PAGE
-last_page fixups s begin end e front some within = omega (arith, front.above (end - 1) e (omega arith) (omega arith))
-
--- the pages up to an address end within 64 bits
-pub pages_fit : (a s : ℕ) → a < 2 ^ 64 → s / CHAIN_PAGE ≤ a / CHAIN_PAGE → (s / CHAIN_PAGE + (a / CHAIN_PAGE - s / CHAIN_PAGE + 1)) * CHAIN_PAGE ≤ 2 ^ 64
-pages_fit a s fits le = omega (arith, fits, le)
 
 -- a segment with pages has bytes
 pub pages_of-no_bytes : (s : FixupSegment) (fixups : List Fixup) → 0 < pages_of s fixups → 0 < s.file_size

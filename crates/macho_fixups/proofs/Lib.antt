@@ -1,11 +1,13 @@
 pub mod Cuts
 pub mod FirstWords
+pub mod PagePasses
 pub mod EntryTexts
 pub mod SegmentTexts
 pub mod PutOrder
 pub mod SegmentWrites
 pub mod TableTexts
 pub mod ExampleTables
+pub mod ExampleImages
 pub mod Places
 pub mod ChainWrites
 pub mod RunChain

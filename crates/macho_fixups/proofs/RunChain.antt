@@ -21,7 +21,7 @@ use Rattle.macho_fixups.specs.declared.run.Fixup.{Fixup}
 use Rattle.macho_fixups.specs.declared.run.FixupSegment.{FixupSegment}
 use Rattle.macho_fixups.specs.Words.{IsWordOf, word_of}
 use Rattle.macho_fixups.specs.Runs.{AreFixups, AreSegments, Holds, pages_of, start_of}
-use Rattle.macho_fixups.specs.Chains.{place_of, step_of, step_between, starts_in, chain_seen, AllStand, ChainIsRun}
+use Rattle.macho_fixups.specs.Chains.{place_of, step_of, step_between, starts_in, chain_seen, AllStand, IsStepOf, ChainIsRun}
 use Rattle.macho_fixups.proofs.Cuts.{pages_of-above, pages_with-in, start_of-here}
 use Rattle.macho_fixups.proofs.SegmentWrites.{no_segment}
 use Rattle.macho_fixups.proofs.Places.{place_of-at, numbered, number_of}
@@ -275,6 +275,41 @@ found segments fixups b d run order words stand (suc k) lt =
         (chain.OnChain.next (get_or fixups k d).address word on
         (word_there segments fixups b k d run order words stand within) (omega (arith, goes, some)))
 
+-- the steps of a fixup are those to the next one of its page
+steps_lead : (segments : List FixupSegment) (fixups : List Fixup) (k : ℕ) (d : Fixup) → AreFixups segments fixups → k < length fixups
+    → IsStepOf fixups k d (step_of fixups k)
+steps_lead segments fixups k d run lt = record {
+  next = λ some. leads fixups k d segments run lt some;
+  page = λ some. same_page (leads fixups k d segments run lt some).0 some;
+  last = λ none more. other_page more none;
+}
+  where
+    between : k + 1 < length fixups → step_of fixups k ≡ step_between (get_or fixups k d).address (get_or fixups (k + 1) d).address
+    between more = step_of-next fixups k d more
+
+    other : k + 1 < length fixups → ((get_or fixups k d).address / CHAIN_PAGE ≡ (get_or fixups (k + 1) d).address / CHAIN_PAGE → ⊥) → step_of fixups k ≡ 0
+    other more apart =
+        let no : ((get_or fixups k d).address / CHAIN_PAGE == (get_or fixups (k + 1) d).address / CHAIN_PAGE) ≡ false = grind (arith, nat_tests) in
+        between more ∙ rw no refl
+
+    same_page : k + 1 < length fixups → 1 ≤ step_of fixups k → (get_or fixups (k + 1) d).address / CHAIN_PAGE ≡ (get_or fixups k d).address / CHAIN_PAGE
+    same_page more some = elim (cases_lt ((get_or fixups k d).address / CHAIN_PAGE) ((get_or fixups (k + 1) d).address / CHAIN_PAGE)) [
+      | inl less ↦ absurd (omega (arith, some, other more (λ e. omega (arith, e, less))))
+      | inr high ↦ omega (arith, high, run.sorted k (k + 1) d (omega arith) more)
+    ]
+
+    other_page : k + 1 < length fixups → step_of fixups k ≡ 0 → (get_or fixups k d).address / CHAIN_PAGE < (get_or fixups (k + 1) d).address / CHAIN_PAGE
+    other_page more none = elim (cases_lt ((get_or fixups k d).address / CHAIN_PAGE) ((get_or fixups (k + 1) d).address / CHAIN_PAGE)) [
+      | inl less ↦ less
+      | inr high ↦
+          let ordered = run.sorted k (k + 1) d (omega arith) more in
+          let yes : ((get_or fixups k d).address / CHAIN_PAGE == (get_or fixups (k + 1) d).address / CHAIN_PAGE) ≡ true =
+          (let same : (get_or fixups k d).address / CHAIN_PAGE ≡ (get_or fixups (k + 1) d).address / CHAIN_PAGE = omega (arith, high, ordered) in
+          grind (arith, nat_tests)) in
+          let steps : step_of fixups k ≡ ((get_or fixups (k + 1) d).address - (get_or fixups k d).address) / STRIDE = between more ∙ rw yes refl in
+          absurd (omega (arith, steps, none, ordered))
+    ]
+
 -- THE chain is the run.
 pub chain_is_run : (segments : List FixupSegment) (fixups : List Fixup) → AreFixups segments fixups → AreSegments segments → AreWords fixups
     → ChainIsRun segments fixups
@@ -288,6 +323,10 @@ chain_is_run segments fixups run order words =
       says = λ b k word d stand lt w.
           subst (λ (v : ℕ). IsWordOf (get_or fixups k d).kind (step_of fixups k) v) (sym (word_is segments fixups b k word d order words stand lt w))
           (words k d lt);
+      onward = λ b k word d stand lt w.
+          let goes : step_of fixups k ≡ next_of word =
+          sym (ap (λ (v : ℕ). next_of v) (word_is segments fixups b k word d order words stand lt w) ∙ (words k d lt).leads) in
+          subst (λ (n : ℕ). IsStepOf fixups k d n) goes (steps_lead segments fixups k d run lt);
     }
   where
     no_fixup : Fixup

@@ -195,24 +195,31 @@ segments_go_on base at fixups segments d slot place next i end offset before out
         ∙ ap (put (at + 4) (old ++ le_bytes 4 offset)) (put-put start place texts_now text before (omega (arith, so_far.ends, so_far.long))
         (omega (arith, long, so_far.ends, room, fits)))
 
--- the same, of what the passes over a segment say
+-- the same, of what the pass over a segment says: its text is written, and then its offset
 pub segment_done : (base at : ℕ) (fixups : List Fixup) (segments : List FixupSegment) (d : FixupSegment) (slot place next i end offset pages size : ℕ)
     (before out a b : List ℕ) → i < length segments → AreSegments segments
-    → at + (4 + 4 * length segments + sum_by (segment_size fixups) segments) ≤ length before
+    → at + (4 + 4 * length segments + sum_by (segment_size fixups) segments) ≤ length before → length out ≡ length before
     → SegmentsSoFar base at fixups segments slot place next i before out
     → IsCut fixups end ((get_or segments i d).address + (get_or segments i d).file_size) → pages ≡ pages_of (get_or segments i d) fixups
     → offset ≡ (if pages == 0 then 0 else place - at) → length (starts_text base fixups (get_or segments i d) pages) ≡ starts_size pages
-    → a ≡ put slot (le_bytes 4 offset) out → b ≡ put place (starts_text base fixups (get_or segments i d) pages) a → size ≡ starts_size pages
+    → a ≡ put place (starts_text base fixups (get_or segments i d) pages) out → b ≡ put slot (le_bytes 4 offset) a → size ≡ starts_size pages
     → SegmentsSoFar base at fixups segments (slot + 4) (place + size) end (i + 1) before b
 unfolding segment_text segment_size
-segment_done base at fixups segments d slot place next i end offset pages size before out a b lt order room so_far cut counted is long first second sized =
+segment_done base at fixups segments d slot place next i end offset pages size before out a b lt order room kept so_far cut counted is long first second sized =
     let moved : place + starts_size (pages_of (get_or segments i d) fixups) ≡ place + size =
     ap (λ (n : ℕ). place + n) (sym (sized ∙ ap (λ (p : ℕ). starts_size p) counted)) in
+    let text : List ℕ = starts_text base fixups (get_or segments i d) pages in
+    let fits = segment_room fixups segments i d lt in
+    let whole : place + length text ≤ length out
+    = omega (arith, kept, so_far.ends, room, fits, long, ap (λ (p : ℕ). starts_size p) counted) in
+    let swapped : b ≡ put place text (put slot (le_bytes 4 offset) out)
+    = second ∙ ap (put slot (le_bytes 4 offset)) first
+    ∙ put_swap slot place (le_bytes 4 offset) text out (omega (arith, little_is_sound.long 4 offset, so_far.slots, so_far.ends, lt)) whole in
     subst (λ (n : ℕ). SegmentsSoFar base at fixups segments (slot + 4) n end (i + 1) before b) moved
-    (segments_go_on base at fixups segments d slot place next i end offset before out a b lt order room so_far cut
+    (segments_go_on base at fixups segments d slot place next i end offset before out (put slot (le_bytes 4 offset) out) b lt order room so_far cut
     (is ∙ ap (λ (p : ℕ). if p == 0 then 0 else place - at) counted)
-    (ap (λ (p : ℕ). length (starts_text base fixups (get_or segments i d) p)) (sym counted) ∙ long ∙ ap (λ (p : ℕ). starts_size p) counted) first
-    (second ∙ ap (λ (p : ℕ). put place (starts_text base fixups (get_or segments i d) p) a) counted))
+    (ap (λ (p : ℕ). length (starts_text base fixups (get_or segments i d) p)) (sym counted) ∙ long ∙ ap (λ (p : ℕ). starts_size p) counted) refl
+    (swapped ∙ ap (λ (p : ℕ). put place (starts_text base fixups (get_or segments i d) p) (put slot (le_bytes 4 offset) out)) counted))
 
 -- the places that a segment is written to lie inside, and its distance is small
 pub record HasRoom (at slot place : ℕ) (fixups : List Fixup) (segments : List FixupSegment) (i : ℕ) (d : FixupSegment) (n : ℕ) : Type 0 where

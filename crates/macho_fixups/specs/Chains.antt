@@ -1,10 +1,10 @@
 -- The words of a run of fixups in the file: where each stands, and how far it leads on.
-use Rattle.std.specs.Prelude.{◌≡◌, ℕ, ◌+◌, ◌-◌, ◌/◌, ◌<◌, ◌≤◌, ◌==◌, nat_lt, if◌then◌else◌, true, false, List, [], ◌∷◌, length, map, get_or, slice_index, All, Contains, ◌↔◌}
+use Rattle.std.specs.Prelude.{◌≡◌, ℕ, ◌+◌, ◌-◌, ◌*◌, ◌/◌, ◌<◌, ◌≤◌, ◌==◌, nat_lt, if◌then◌else◌, true, false, List, [], ◌∷◌, length, map, get_or, slice_index, All, Contains, ◌↔◌}
 use Rattle.std.specs.List.{range_with_len}
 use Rattle.macho_bytes.specs.Numbers.{le_bytes}
 use Rattle.macho_bytes.specs.Texts.{Part, Stands, IsOutside}
 use Rattle.macho_model.specs.Images.{CHAIN_PAGE}
-use Rattle.macho_model.specs.Chain.{WORD_SIZE, STRIDE, ChainSegment, IsFileWord, OnChain}
+use Rattle.macho_model.specs.Chain.{WORD_SIZE, STRIDE, ChainSegment, IsFileWord, next_of, OnChain}
 use Rattle.macho_fixups.specs.declared.run.Fixup.{Fixup}
 use Rattle.macho_fixups.specs.declared.run.FixupSegment.{FixupSegment}
 use Rattle.macho_fixups.specs.Words.{has_word, word_of, IsWordOf}
@@ -80,8 +80,21 @@ chain_seen fixups s = record { address = s.address; file_offset = s.file_offset;
 abbrev pub IsAddressOf : List Fixup → ℕ → Type 0
 IsAddressOf fixups a = (f : Fixup) × Contains fixups f × (f.address ≡ a)
 
+-- the address of a fixup by its number, and its page
+abbrev pub address_of : List Fixup → ℕ → Fixup → ℕ
+address_of fixups k d = (get_or fixups k d).address
+
+-- So many steps from a fixup: they lead to the next fixup, on the same page. There are none where the page has no further one.
+pub record IsStepOf (fixups : List Fixup) (k : ℕ) (d : Fixup) (steps : ℕ) : Type 0 where
+  pub next : 1 ≤ steps → (k + 1 < length fixups) × (address_of fixups k d + STRIDE * steps ≡ address_of fixups (k + 1) d)
+  pub page : 1 ≤ steps → address_of fixups (k + 1) d / CHAIN_PAGE ≡ address_of fixups k d / CHAIN_PAGE
+  pub last : steps ≡ 0 → k + 1 < length fixups → address_of fixups k d / CHAIN_PAGE < address_of fixups (k + 1) d / CHAIN_PAGE
+
 -- In every file in which the words stand, and whose page starts are those of the run, the chain is the run.
 pub record ChainIsRun (segments : List FixupSegment) (fixups : List Fixup) : Type 0 where
   pub set : (b : List ℕ) (a : ℕ) → AllStand segments fixups b → OnChain (map (chain_seen fixups) segments) b a ↔ IsAddressOf fixups a
   pub says : (b : List ℕ) (k word : ℕ) (d : Fixup) → AllStand segments fixups b → k < length fixups
       → IsFileWord (map (chain_seen fixups) segments) b (get_or fixups k d).address word → IsWordOf (get_or fixups k d).kind (step_of fixups k) word
+  -- so a page's chain goes through its fixups in the order of their addresses, each once
+  pub onward : (b : List ℕ) (k word : ℕ) (d : Fixup) → AllStand segments fixups b → k < length fixups
+      → IsFileWord (map (chain_seen fixups) segments) b (get_or fixups k d).address word → IsStepOf fixups k d (next_of word)

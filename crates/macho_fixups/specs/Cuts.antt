@@ -1,6 +1,5 @@
 -- Where a sorted run of fixups is cut: in front of an address.
-use Rattle.std.specs.Prelude.{◌≡◌, ℕ, ◌+◌, ◌*◌, ◌/◌, ◌^◌, ◌<◌, ◌≤◌, List, length, get_or}
-use Rattle.macho_model.specs.Images.{CHAIN_PAGE}
+use Rattle.std.specs.Prelude.{◌≡◌, ℕ, ◌+◌, ◌<◌, ◌≤◌, List, length, get_or}
 use Rattle.macho_fixups.specs.declared.run.Fixup.{Fixup}
 use Rattle.macho_fixups.specs.declared.run.FixupSegment.{FixupSegment}
 use Rattle.macho_fixups.specs.declared.run.SegmentRun.{SegmentRun}
@@ -27,10 +26,15 @@ pub record IsCut (fixups : List Fixup) (n bound : ℕ) : Type 0 where
   pub below : (k : ℕ) (d : Fixup) → k < n → (get_or fixups k d).address < bound
   pub above : (k : ℕ) (d : Fixup) → n ≤ k → k < length fixups → bound ≤ (get_or fixups k d).address
 
--- the fixups of a segment are those from one number to another
+-- a fixup is next, and it is below an address
+abbrev pub IsNextBelow : List Fixup → ℕ → ℕ → Type 0
+IsNextBelow fixups next bound = (next < length fixups) × ((d : Fixup) → (get_or fixups next d).address < bound)
+
+-- none is, or it isn't below
+abbrev pub IsNoneBelow : List Fixup → ℕ → ℕ → Type 0
+IsNoneBelow fixups next bound = (d : Fixup) → next < length fixups → bound ≤ (get_or fixups next d).address
+
+-- the fixups of a segment end in front of a number, and its pages up to the last one are so many
 pub record IsRunOf (fixups : List Fixup) (s : FixupSegment) (run : SegmentRun) : Type 0 where
-  pub begin_at : IsCut fixups run.begin s.address
   pub end_at : IsCut fixups run.end (s.address + s.file_size)
-  pub onward : run.begin ≤ run.end
   pub counted : run.pages ≡ pages_of s fixups
-  pub room : 1 ≤ run.pages → (s.address / CHAIN_PAGE + run.pages) * CHAIN_PAGE ≤ 2 ^ 64

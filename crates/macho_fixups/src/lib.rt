@@ -3,6 +3,8 @@
 
 mod bytes;
 mod chains;
+#[cfg(test)]
+mod image_tests;
 mod imports;
 mod laws;
 mod run;

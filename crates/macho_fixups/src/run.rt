@@ -1,8 +1,6 @@
 //! The sorted run of fixups, and the part of it that stands in a segment.
-ghost use Rattle.std.specs.Prelude.{◌≡◌, ◌+◌, ◌*◌, ◌/◌, ◌^◌, ◌<◌, ◌≤◌, length, nat_lt};
-ghost use Rattle.macho_fixups.specs.Runs.{AreSorted, pages_of};
-ghost use Rattle.macho_model.specs.Images.{CHAIN_PAGE};
-ghost use Rattle.macho_fixups.specs.Cuts.{IsSkip, AreBelow, IsCut, IsRunOf};
+ghost use Rattle.std.specs.Prelude.{◌≡◌, ◌+◌, ◌≤◌, length, nat_lt, true, false};
+ghost use Rattle.macho_fixups.specs.Cuts.{IsSkip, IsNextBelow, IsNoneBelow};
 
 use crate::words::FixupKind;
 
@@ -50,35 +48,19 @@ fn is_below(fixup: &Fixup, base: u64, size: u64) -> bool
     address < base || address - base < size
 }
 
+/// Whether a fixup is left that stands below the end of a segment's file part.
+pub(crate) fn has_next(fixups: &[Fixup], next: usize, segment: &FixupSegment) -> bool
+    ensures some { result ≡ true → IsNextBelow fixups.now next (segment.now.address + segment.now.file_size) }
+    ensures none { result ≡ false → IsNoneBelow fixups.now next (segment.now.address + segment.now.file_size) }
+{
+    next < fixups.len() && is_below(&fixups[next], segment.address, segment.file_size)
+}
+
 /// The part of the run that stands in a segment.
 #[derive(Clone, Copy)]
 pub(crate) struct SegmentRun {
-    /// The number of its first fixup.
-    pub(crate) begin: usize,
-    /// The number behind its last one.
+    /// The number behind its last fixup.
     pub(crate) end: usize,
     /// The pages of the segment up to that of its last fixup.
     pub(crate) pages: u64,
-}
-
-/// The part of the run that stands in a segment, sought from a fixup on.
-pub(crate) fn run_of(fixups: &[Fixup], from: usize, segment: &FixupSegment) -> SegmentRun
-    requires sorted { AreSorted fixups.now }
-    requires from { from ≤ length fixups.now }
-    requires below { AreBelow fixups.now from segment.now.address }
-    ensures { IsRunOf fixups.now segment.now result }
-{
-    let segment = *segment;
-    let begin = skip_below(fixups, from, segment.address, 0);
-    let end = skip_below(fixups, begin, segment.address, segment.file_size);
-    if begin == end {
-        return SegmentRun {
-            begin,
-            end,
-            pages: 0,
-        };
-    }
-    let last = fixups[end - 1].address;
-    let pages = last / CHAIN_PAGE - segment.address / CHAIN_PAGE + 1;
-    SegmentRun { begin, end, pages }
 }

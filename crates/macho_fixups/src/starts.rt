@@ -1,14 +1,14 @@
 //! The starts of the chains: for each segment a record, and for each of its pages the offset of the first word.
-ghost use Rattle.std.specs.Prelude.{◌≡◌, ◌+◌, ◌*◌, ◌/◌, ◌<◌, ◌≤◌, ◌^◌, ◌⊎◌, length, sum_by, All};
+ghost use Rattle.std.specs.Prelude.{◌≡◌, ◌+◌, ◌*◌, ◌/◌, ◌%◌, ◌<◌, ◌≤◌, ◌^◌, ◌⊎◌, length, sum_by, All};
 ghost use Rattle.std.specs.List.{flat_map};
 ghost use Rattle.macho_bytes.specs.Texts.{put};
 ghost use Rattle.macho_model.specs.Images.{CHAIN_PAGE};
 ghost use Rattle.macho_fixups.specs.Runs.{AreSorted, AreSegments, pages_of, start_of};
-ghost use Rattle.macho_fixups.specs.Cuts.{IsCut};
+ghost use Rattle.macho_fixups.specs.Cuts.{IsCut, AreBelow, IsRunOf};
 ghost use Rattle.macho_fixups.specs.Tables.{page_starts_text, starts_size, starts_text};
 
 use crate::bytes::{put_u16, put_u32};
-use crate::run::{CHAIN_PAGE, Fixup, FixupSegment, SegmentRun, run_of, skip_below};
+use crate::run::{CHAIN_PAGE, Fixup, FixupSegment, SegmentRun, has_next, skip_below};
 use macho_records::ChainedStartsInSegment;
 
 /// A page without a chain (`DYLD_CHAINED_PTR_START_NONE`).
@@ -28,7 +28,9 @@ pub(crate) fn starts_size(pages: u64) -> usize
     }
 }
 
-/// Writes what is told of a segment at a place; the other bytes stay.
+/// Writes what is told of a segment at a place, with the number of a fixup that isn't behind its first one; the other
+/// bytes stay. The starts are written first, with the fixups passed once, and the record in front of them when their
+/// number is known.
 #[tactic(auto, unfolding(crate::specs::Tables::starts_text))]
 pub(crate) fn write_starts(
     out: &mut [u8],
@@ -36,66 +38,72 @@ pub(crate) fn write_starts(
     segment: &FixupSegment,
     base: u64,
     fixups: &[Fixup],
-    run: &SegmentRun,
-)
+    from: usize,
+) -> SegmentRun
     requires sorted { AreSorted fixups.now }
-    requires begin { IsCut fixups.now run.now.begin (segment.now.address / CHAIN_PAGE * CHAIN_PAGE) }
-    requires pages { run.now.pages ≤ 65535 }
-    requires last { 1 ≤ run.now.pages → (segment.now.address / CHAIN_PAGE + run.now.pages) * CHAIN_PAGE ≤ 2 ^ 64 }
-    requires above { (run.now.pages ≡ 0) ⊎ (base ≤ segment.now.address) }
-    requires room { at + starts_size run.now.pages ≤ length out.old }
-    ensures written { out.new ≡ put at (starts_text base fixups.now segment.now run.now.pages) out.old }
-    ensures long { length (starts_text base fixups.now segment.now run.now.pages) ≡ starts_size run.now.pages }
+    requires from { from ≤ length fixups.now }
+    requires below { AreBelow fixups.now from segment.now.address }
+    requires paged { segment.now.address % CHAIN_PAGE ≡ 0 }
+    requires ends { segment.now.address + segment.now.file_size ≤ 2 ^ 64 }
+    requires pages { pages_of segment.now fixups.now ≤ 65535 }
+    requires above { (pages_of segment.now fixups.now ≡ 0) ⊎ (base ≤ segment.now.address) }
+    requires room { at + starts_size (pages_of segment.now fixups.now) ≤ length out.old }
+    ensures run { IsRunOf fixups.now segment.now result }
+    ensures written { out.new ≡ put at (starts_text base fixups.now segment.now result.pages) out.old }
+    ensures long { length (starts_text base fixups.now segment.now result.pages) ≡ starts_size result.pages }
 {
-    let pages = run.pages;
-    if pages == 0 {
-        return;
+    let begin = skip_below(fixups, from, segment.address, 0);
+    if !has_next(fixups, begin, segment) {
+        return SegmentRun {
+            end: begin,
+            pages: 0,
+        };
     }
+    let behind = at + ChainedStartsInSegment::SIZE;
+    let run = write_page_starts(out, behind, segment, fixups, begin);
     let record = ChainedStartsInSegment {
-        size: (22 + 2 * pages) as u32,
+        size: (22 + 2 * run.pages) as u32,
         page_size: CHAIN_PAGE as u16,
         pointer_format: POINTER_FORMAT,
         segment_offset: segment.address - base,
         max_valid_pointer: 0,
-        page_count: pages as u16,
+        page_count: run.pages as u16,
     };
     record.write(out, at);
-    let first = segment.address / CHAIN_PAGE;
-    write_page_starts(
-        out,
-        at + ChainedStartsInSegment::SIZE,
-        fixups,
-        run.begin,
-        first,
-        pages,
-    );
+    run
 }
 
-/// Writes the starts of so many pages from a number on, with the number of the first fixup that isn't in front of them.
+/// Writes the starts of a segment's pages up to that of its last fixup, with the number of its first one.
 #[tactic(auto, unfolding(crate::specs::Tables::page_starts_text))]
 fn write_page_starts(
     out: &mut [u8],
     at: usize,
+    segment: &FixupSegment,
     fixups: &[Fixup],
-    from: usize,
-    first: u64,
-    pages: u64,
-)
+    begin: usize,
+) -> SegmentRun
     requires sorted { AreSorted fixups.now }
-    requires from { IsCut fixups.now from (first * CHAIN_PAGE) }
-    requires last { (first + pages) * CHAIN_PAGE ≤ 2 ^ 64 }
-    requires room { at + 2 * pages ≤ length out.old }
-    ensures written { out.new ≡ put at (page_starts_text fixups.now first pages) out.old }
-    ensures long { length (page_starts_text fixups.now first pages) ≡ 2 * pages }
+    requires begin { IsCut fixups.now begin segment.now.address }
+    requires paged { segment.now.address % CHAIN_PAGE ≡ 0 }
+    requires ends { segment.now.address + segment.now.file_size ≤ 2 ^ 64 }
+    requires room { at + 2 * pages_of segment.now fixups.now ≤ length out.old }
+    ensures run { IsRunOf fixups.now segment.now result }
+    ensures written { out.new ≡ put at (page_starts_text fixups.now (segment.now.address / CHAIN_PAGE) result.pages) out.old }
+    ensures long { length (page_starts_text fixups.now (segment.now.address / CHAIN_PAGE) result.pages) ≡ 2 * result.pages }
 {
-    let mut next = from;
+    let mut next = begin;
     let mut place = at;
-    for page in 0..pages {
-        let number = first + page;
+    let mut pages = 0;
+    'pages: while has_next(fixups, next, segment) {
+        let number = segment.address / CHAIN_PAGE + pages;
         put_u16(out, place, start_from(fixups, next, number));
+        let page = number * CHAIN_PAGE;
+        let left = segment.file_size - (page - segment.address);
+        next = skip_below(fixups, next, page, left.min(CHAIN_PAGE));
         place += 2;
-        next = skip_below(fixups, next, number * CHAIN_PAGE, CHAIN_PAGE);
+        pages += 1;
     }
+    SegmentRun { end: next, pages }
 }
 
 /// The start of a page, with the number of the first fixup that isn't in front of it.

@@ -19,7 +19,7 @@ ghost use Rattle.macho_fixups.specs.Calls.{AreEntries, FitsTable, all_pages};
 
 use crate::bytes::{put_text, put_u32};
 use crate::imports::{ImportEntry, entry_size, write_imports};
-use crate::run::{Fixup, FixupSegment, run_of};
+use crate::run::{Fixup, FixupSegment};
 use crate::starts::{starts_size, write_starts};
 use macho_records::ChainedFixupsHeader;
 
@@ -112,7 +112,7 @@ fn write_image_starts(
     write_segments(out, at, segments, base, fixups)
 }
 
-/// Writes the offsets of the segments, and behind them what is told of each.
+/// Writes the offsets of the segments, and behind them what is told of each, in one pass over the run.
 fn write_segments(
     out: &mut [u8],
     at: usize,
@@ -130,9 +130,8 @@ fn write_segments(
     let mut place = at + 4 + 4 * segments.len();
     let mut next = 0;
     for segment in segments {
-        let run = run_of(fixups, next, segment);
+        let run = write_starts(out, place, segment, base, fixups, next);
         put_u32(out, slot, offset_word(run.pages, place - at));
-        write_starts(out, place, segment, base, fixups, &run);
         slot += 4;
         place += starts_size(run.pages);
         next = run.end;

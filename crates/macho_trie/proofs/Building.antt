@@ -10,8 +10,8 @@ use Rattle.std.proofs.lemmas.Bool.Decides.{nat_tests}
 use Rattle.std.proofs.lemmas.List.{append-nil, take-take, drop-take, get_or-take, get_or-drop, length-take, length-drop, take-append-drop}
 use Rattle.macho_trie.specs.Symbols.{IsPlain}
 use Rattle.macho_trie.specs.Trees.{Edges, no_edge, edge, edge_count, node_count, IsLabel, BeginsAbove, AreRadix}
-use Rattle.macho_trie.specs.Tables.{first_edges, later_edges, name_at, symbol_at, trees_of, AreRows}
-use Rattle.macho_trie.specs.Building.{ending, names_along, names_open, IsGroup, AreAbove, BeginsWith, IsClosing, IsClosed, closed_row, hanging_depth, adopted, AreClosed}
+use Rattle.macho_trie.specs.Tables.{first_edges, later_edges, name_at, symbol_at, trees_of}
+use Rattle.macho_trie.specs.Building.{ending, names_along, names_open, IsGroup, AreAbove, BeginsWith, IsClosing, IsClosed, closed_row, hanging_depth, adopted, AreClosed, AreClosedRows}
 use Rattle.macho_trie.specs.declared.table.Row.{Row}
 use Rattle.macho_trie.specs.declared.build.Open.{Open}
 
@@ -91,29 +91,26 @@ group_by node trees group is count opened radix = record {
 
 -- the row of a closed node is sound
 row_sound : (names : List (List ℕ)) (symbol : ℕ) (terminal : Bool) (least start : ℕ) (rows : List Row) (node : Open) (nodes : List Open)
-    → IsClosing names symbol terminal least rows node nodes → start ≤ node.depth → AreRows names (closed_row symbol terminal start
-    (length rows) node ∷ rows)
+    → IsClosing names symbol terminal least rows node nodes → start ≤ node.depth → AreClosedRows names (closed_row symbol terminal start node ∷ rows)
 row_sound names symbol terminal least start rows node nodes c low = (
   record {
-    symbol = c.here;
-    label = omega (arith, c.within);
-    children = c.group.children;
-    rows = omega (arith, c.group.opened, node_count-split node.children (trees_of names rows), node_count-rows names rows);
+    row = record { symbol = c.here; label = omega (arith, c.within); children = c.group.children };
+    after = sym c.group.opened;
   },
   c.sound,
 )
 
 -- the label, the end and the children of a closed node
-node_ends : (symbol : ℕ) (terminal : Bool) (start count : ℕ) (name : List ℕ) (node : Open) (trees : Edges)
+node_ends : (symbol : ℕ) (terminal : Bool) (start : ℕ) (name : List ℕ) (node : Open) (trees : Edges)
     → ((terminal ≡ true) × (node.depth ≡ length name)) ⊎ ((terminal ≡ false) × (2 ≤ node.children)) → IsGroup node trees
-    → IsSome (symbol_at (closed_row symbol terminal start count node)) ⊎ (2 ≤ edge_count (first_edges node.children trees))
-node_ends symbol terminal start count name node trees (inl marked) g = inl (rw marked.0 refl)
-node_ends symbol terminal start count name node trees (inr two) g = inr (omega (arith, two.1, g.children))
+    → IsSome (symbol_at (closed_row symbol terminal start node)) ⊎ (2 ≤ edge_count (first_edges node.children trees))
+node_ends symbol terminal start name node trees (inl marked) g = inl (rw marked.0 refl)
+node_ends symbol terminal start name node trees (inr two) g = inr (omega (arith, two.1, g.children))
 
 -- closed below the next open node
 closes_below : (names : List (List ℕ)) (symbol : ℕ) (terminal : Bool) (least : ℕ) (rows : List Row) (node next : Open) (nodes : List Open)
     → IsClosing names symbol terminal least rows node (next ∷ nodes) → IsPlain (name_at names symbol) → least ≤ next.depth
-    → IsClosed names symbol least (closed_row symbol terminal next.depth (length rows) node ∷ rows)
+    → IsClosed names symbol least (closed_row symbol terminal next.depth node ∷ rows)
     (record { depth = next.depth; children = next.children + 1; opened = next.opened }) nodes
 closes_below names symbol terminal least rows node next nodes c plain low =
     let above = c.above in
@@ -122,7 +119,7 @@ closes_below names symbol terminal least rows node next nodes c plain low =
     let name : List ℕ = name_at names symbol in
     let trees : Edges = trees_of names rows in
     let label : List ℕ = slice_range name next.depth (next.depth + (node.depth - next.depth)) in
-    let mark : Option ℕ = symbol_at (closed_row symbol terminal next.depth (length rows) node) in
+    let mark : Option ℕ = symbol_at (closed_row symbol terminal next.depth node) in
     let more : first_edges (next.children + 1) (edge label mark (first_edges node.children trees) (later_edges node.children trees))
     ≡ edge label mark (first_edges node.children trees) (first_edges next.children (later_edges node.children trees))
     = first-more next.children label mark (first_edges node.children trees) (later_edges node.children trees) in
@@ -140,7 +137,7 @@ closes_below names symbol terminal least rows node next nodes c plain low =
       within = omega (arith, c.within);
       group = group_by _ _ _ more (omega (arith, group.children)) (ap node_count later ∙ group.opened) (
         is_label name next.depth node.depth plain deep c.within,
-        node_ends symbol terminal next.depth (length rows) name node trees c.ends c.group,
+        node_ends symbol terminal next.depth name node trees c.ends c.group,
         c.group.radix,
         subst After (sym first_byte) above.2,
         group.radix,
@@ -153,7 +150,7 @@ closes_below names symbol terminal least rows node next nodes c plain low =
 -- closed below a new open node
 closes_anew : (names : List (List ℕ)) (symbol : ℕ) (terminal : Bool) (least : ℕ) (rows : List Row) (node next : Open) (nodes : List Open)
     → IsClosing names symbol terminal least rows node (next ∷ nodes) → IsPlain (name_at names symbol) → next.depth < least
-    → IsClosed names symbol least (closed_row symbol terminal least (length rows) node ∷ rows)
+    → IsClosed names symbol least (closed_row symbol terminal least node ∷ rows)
     (record { depth = least; children = 1; opened = node.opened }) (next ∷ nodes)
 closes_anew names symbol terminal least rows node next nodes c plain low =
     let above = c.above in
@@ -171,7 +168,7 @@ closes_anew names symbol terminal least rows node next nodes c plain low =
         opened = c.group.opened;
         radix = (
           is_label name least node.depth plain c.deep c.within,
-          node_ends symbol terminal least (length rows) name node trees c.ends c.group,
+          node_ends symbol terminal least name node trees c.ends c.group,
           c.group.radix,
           tt,
           tt,
@@ -185,7 +182,7 @@ closes_anew names symbol terminal least rows node next nodes c plain low =
 -- closing keeps what is known
 pub closes : (names : List (List ℕ)) (symbol : ℕ) (terminal : Bool) (least : ℕ) (rows : List Row) (node : Open) (nodes : List Open)
     → IsClosing names symbol terminal least rows node nodes → IsPlain (name_at names symbol)
-    → AreClosed names symbol least (closed_row symbol terminal (hanging_depth least nodes) (length rows) node ∷ rows) (adopted least
+    → AreClosed names symbol least (closed_row symbol terminal (hanging_depth least nodes) node ∷ rows) (adopted least
     node.opened nodes)
 closes names symbol terminal least rows node [] c plain = absurd (let above = c.above in omega (arith, above.0, c.deep))
 closes names symbol terminal least rows node (next ∷ nodes) c plain =
@@ -197,15 +194,15 @@ closes names symbol terminal least rows node (next ∷ nodes) c plain =
 -- the names, when a node is closed
 names_below : (names : List (List ℕ)) (symbol : ℕ) (terminal : Bool) (rows : List Row) (node next : Open) (nodes : List Open)
     → next.depth ≤ node.depth
-    → names_open (name_at names symbol) (trees_of names (closed_row symbol terminal next.depth (length rows) node ∷ rows))
+    → names_open (name_at names symbol) (trees_of names (closed_row symbol terminal next.depth node ∷ rows))
     (record { depth = next.depth; children = next.children + 1; opened = next.opened } ∷ nodes)
-    ≡ ending (take node.depth (name_at names symbol)) (symbol_at (closed_row symbol terminal next.depth (length rows) node))
+    ≡ ending (take node.depth (name_at names symbol)) (symbol_at (closed_row symbol terminal next.depth node))
     ++ names_open (name_at names symbol) (trees_of names rows) (node ∷ next ∷ nodes)
 names_below names symbol terminal rows node next nodes low =
     let name : List ℕ = name_at names symbol in
     let trees : Edges = trees_of names rows in
     let label : List ℕ = slice_range name next.depth (next.depth + (node.depth - next.depth)) in
-    let mark : Option ℕ = symbol_at (closed_row symbol terminal next.depth (length rows) node) in
+    let mark : Option ℕ = symbol_at (closed_row symbol terminal next.depth node) in
     let more = first-more next.children label mark (first_edges node.children trees) (later_edges node.children trees) in
     let later = later-more next.children label mark (first_edges node.children trees) (later_edges node.children trees) in
     let way : take next.depth name ++ label ≡ take node.depth name = way-part name next.depth node.depth low in
@@ -225,15 +222,15 @@ names_below names symbol terminal rows node next nodes low =
 
 names_anew : (names : List (List ℕ)) (symbol : ℕ) (terminal : Bool) (least : ℕ) (rows : List Row) (node next : Open) (nodes : List Open)
     → least ≤ node.depth
-    → names_open (name_at names symbol) (trees_of names (closed_row symbol terminal least (length rows) node ∷ rows))
+    → names_open (name_at names symbol) (trees_of names (closed_row symbol terminal least node ∷ rows))
     (record { depth = least; children = 1; opened = node.opened } ∷ next ∷ nodes)
-    ≡ ending (take node.depth (name_at names symbol)) (symbol_at (closed_row symbol terminal least (length rows) node))
+    ≡ ending (take node.depth (name_at names symbol)) (symbol_at (closed_row symbol terminal least node))
     ++ names_open (name_at names symbol) (trees_of names rows) (node ∷ next ∷ nodes)
 names_anew names symbol terminal least rows node next nodes low =
     let name : List ℕ = name_at names symbol in
     let trees : Edges = trees_of names rows in
     let label : List ℕ = slice_range name least (least + (node.depth - least)) in
-    let mark : Option ℕ = symbol_at (closed_row symbol terminal least (length rows) node) in
+    let mark : Option ℕ = symbol_at (closed_row symbol terminal least node) in
     let way : take least name ++ label ≡ take node.depth name = way-part name least node.depth low in
     let above : List (List ℕ × ℕ) = names_open name (later_edges node.children trees) (next ∷ nodes) in
     ap (λ (w : List ℕ). (ending w mark ++ (names_along w (first_edges node.children trees) ++ [])) ++ above) way
@@ -243,9 +240,9 @@ names_anew names symbol terminal least rows node next nodes low =
 
 pub names_closed : (names : List (List ℕ)) (symbol : ℕ) (terminal : Bool) (least : ℕ) (rows : List Row) (node : Open) (nodes : List Open)
     → IsClosing names symbol terminal least rows node nodes
-    → names_open (name_at names symbol) (trees_of names (closed_row symbol terminal (hanging_depth least nodes) (length rows) node ∷
+    → names_open (name_at names symbol) (trees_of names (closed_row symbol terminal (hanging_depth least nodes) node ∷
     rows)) (adopted least node.opened nodes)
-    ≡ ending (take node.depth (name_at names symbol)) (symbol_at (closed_row symbol terminal 0 (length rows) node))
+    ≡ ending (take node.depth (name_at names symbol)) (symbol_at (closed_row symbol terminal 0 node))
     ++ names_open (name_at names symbol) (trees_of names rows) (node ∷ nodes)
 names_closed names symbol terminal least rows node [] c = absurd (let above = c.above in omega (arith, above.0, c.deep))
 names_closed names symbol terminal least rows node (next ∷ nodes) c =

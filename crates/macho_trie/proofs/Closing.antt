@@ -5,14 +5,14 @@
 -- with rising bytes.
 use Rattle.std.proofs.Common.{◌≡◌, ◌⊎◌, ℕ, ◌+◌, ◌<◌, ◌≤◌, if◌then◌else◌, Bool, true, false, List, [], ◌∷◌, ◌++◌, length, take, reverse, max, slice_index, refl, sym, ap, subst, ◌∙◌, arith, inl, inr}
 use Rattle.std.proofs.lemmas.Bool.Decides.{nat_tests}
-use Rattle.std.proofs.lemmas.List.{reverse-append, length-reverse, take_all}
+use Rattle.std.proofs.lemmas.List.{reverse-append, take_all}
 use Rattle.macho_trie.specs.Symbols.{IsPlain}
 use Rattle.macho_trie.specs.Trees.{Edges, no_edge, edge, edge_count, BeginsAbove, AreRadix}
 use Rattle.macho_trie.specs.Tables.{first_edges, later_edges, name_at, symbol_at, trees_of}
 use Rattle.macho_trie.specs.Building.{ending, names_open, IsGroup, IsClosing, closed_row, hanging_depth, adopted, AreClosing, AreClosed, ClosedAs}
 use Rattle.macho_trie.specs.declared.table.Row.{Row}
 use Rattle.macho_trie.specs.declared.build.Open.{Open}
-use Rattle.macho_trie.proofs.Building.{node_count-split, node_count-rows, closes, names_closed}
+use Rattle.macho_trie.proofs.Building.{closes, names_closed}
 
 -- rising first bytes are few
 count_above : (byte : ℕ) (es : Edges) → byte < 256 → AreRadix es → BeginsAbove byte es → edge_count es + byte ≤ 255
@@ -55,31 +55,20 @@ pub next_depth : (names : List (List ℕ)) (symbol : ℕ) (terminal : Bool) (lea
     → IsClosing names symbol terminal least rows node (next ∷ nodes) → next.depth < node.depth
 next_depth names symbol terminal least rows node next nodes c = c.above.0
 
-pub opened_before : (names : List (List ℕ)) (rows : List Row) (node : Open) → IsGroup node (trees_of names (reverse rows))
-    → node.opened ≤ length rows
-opened_before names rows node g =
-    omega (
-      arith,
-      g.opened,
-      node_count-split node.children (trees_of names (reverse rows)),
-      node_count-rows names (reverse rows),
-      length-reverse rows,
-    )
-
 -- the name that ends at the node that is closed
-ending_is : (name : List ℕ) (symbol : ℕ) (terminal : Bool) (count : ℕ) (node : Open)
+ending_is : (name : List ℕ) (symbol : ℕ) (terminal : Bool) (node : Open)
     → ((terminal ≡ true) × (node.depth ≡ length name)) ⊎ ((terminal ≡ false) × (2 ≤ node.children))
-    → ending (take node.depth name) (symbol_at (closed_row symbol terminal 0 count node)) ≡ (if terminal then (name, symbol) ∷ [] else [])
-ending_is name symbol terminal count node (inl whole) =
+    → ending (take node.depth name) (symbol_at (closed_row symbol terminal 0 node)) ≡ (if terminal then (name, symbol) ∷ [] else [])
+ending_is name symbol terminal node (inl whole) =
     let all : take node.depth name ≡ name = take_all node.depth name (omega (arith, whole.1)) in
     rw whole.0 (ap (λ (n : List ℕ). (n, symbol) ∷ []) all)
-ending_is name symbol terminal count node (inr none) = rw none.0 refl
+ending_is name symbol terminal node (inr none) = rw none.0 refl
 
 -- the state after a node is closed
 closed_front : (names : List (List ℕ)) (symbol : ℕ) (terminal : Bool) (least : ℕ) (rows after : List Row) (node next : Open) (back now
     : List Open)
     → IsClosing names symbol terminal least (reverse rows) node (next ∷ reverse back) → IsPlain (name_at names symbol)
-    → after ≡ rows ++ closed_row symbol terminal (max next.depth least) (length rows) node ∷ []
+    → after ≡ rows ++ closed_row symbol terminal (max next.depth least) node ∷ []
     → now ≡ adopted least node.opened (next ∷ reverse back)
     → (AreClosed names symbol least (reverse after) now)
     × (names_open (name_at names symbol) (trees_of names (reverse after)) now
@@ -87,21 +76,19 @@ closed_front : (names : List (List ℕ)) (symbol : ℕ) (terminal : Bool) (least
     ++ names_open (name_at names symbol) (trees_of names (reverse rows)) (node ∷ next ∷ reverse back))
 closed_front names symbol terminal least rows after node next back now c plain pushed adopts =
     let start : max next.depth least ≡ hanging_depth least (next ∷ reverse back) = grind (arith, nat_tests) in
-    let count : length rows ≡ length (reverse rows) = sym (length-reverse rows) in
-    let all : reverse after ≡ closed_row symbol terminal (hanging_depth least (next ∷ reverse back)) (length (reverse rows)) node ∷
+    let all : reverse after ≡ closed_row symbol terminal (hanging_depth least (next ∷ reverse back)) node ∷
     reverse rows
     = reverse-last rows after _ pushed
-    ∙ ap (λ (s : ℕ). closed_row symbol terminal s (length rows) node ∷ reverse rows) start
-    ∙ ap (λ (n : ℕ). closed_row symbol terminal (hanging_depth least (next ∷ reverse back)) n node ∷ reverse rows) count in
+    ∙ ap (λ (s : ℕ). closed_row symbol terminal s node ∷ reverse rows) start in
     let C : List Row × List Open → Type 0 = λ p. AreClosed names symbol least p.0 p.1 in
     let is : (let p : List Row × List Open = (reverse after, now) in p)
     ≡ (
-      closed_row symbol terminal (hanging_depth least (next ∷ reverse back)) (length (reverse rows)) node ∷ reverse rows,
+      closed_row symbol terminal (hanging_depth least (next ∷ reverse back)) node ∷ reverse rows,
       adopted least node.opened (next ∷ reverse back),
     )
     = pair all adopts in
     let names_are = names_closed names symbol terminal least (reverse rows) node (next ∷ reverse back) c in
-    let end = ending_is (name_at names symbol) symbol terminal (length (reverse rows)) node c.ends in (
+    let end = ending_is (name_at names symbol) symbol terminal node c.ends in (
       subst C (sym is) (closes names symbol terminal least (reverse rows) node (next ∷ reverse back) c plain),
       ap (λ (p : List Row × List Open). names_open (name_at names symbol) (trees_of names p.0) p.1) is
           ∙ names_are
@@ -113,22 +100,21 @@ closed_front names symbol terminal least rows after node next back now c plain p
     pair p q = cc
 
 -- the same, from the ends of the lists
-pub closed_after : (names same : List (List ℕ)) (symbol : ℕ) (terminal : Bool) (least start count : ℕ) (rows pushed after : List Row)
+pub closed_after : (names same : List (List ℕ)) (symbol : ℕ) (terminal : Bool) (least start : ℕ) (rows pushed after : List Row)
     (all mid back now : List Open)
     (node next : Open) → all ≡ mid ++ node ∷ [] → mid ≡ back ++ next ∷ []
     → AreClosing names symbol terminal least (reverse rows) (reverse all) → IsPlain (name_at names symbol)
-    → start ≡ max next.depth least → count ≡ length rows → pushed ≡ rows ++ closed_row symbol terminal start count node ∷ []
+    → start ≡ max next.depth least → pushed ≡ rows ++ closed_row symbol terminal start node ∷ []
     → after ≡ pushed
     → now ≡ adopted least node.opened (next ∷ reverse back) → same ≡ names
     → ClosedAs same symbol terminal least (reverse rows) (reverse all) (reverse after) now
-closed_after names same symbol terminal least start count rows pushed after all mid back now node next last before c plain start_is
-    count_is row_is after_is adopts names_is =
+closed_after names same symbol terminal least start rows pushed after all mid back now node next last before c plain start_is
+    row_is after_is adopts names_is =
     let is : reverse all ≡ node ∷ next ∷ reverse back
     = reverse-last mid all node last ∙ ap (λ (xs : List Open). node ∷ xs) (reverse-last back mid next before) in
     let at = last_two names symbol terminal least (reverse rows) all mid back node next last before c in
-    let put : after ≡ rows ++ closed_row symbol terminal (max next.depth least) (length rows) node ∷ []
-    = after_is ∙ row_is ∙ ap (λ (s : ℕ). rows ++ closed_row symbol terminal s count node ∷ []) start_is
-    ∙ ap (λ (n : ℕ). rows ++ closed_row symbol terminal (max next.depth least) n node ∷ []) count_is in
+    let put : after ≡ rows ++ closed_row symbol terminal (max next.depth least) node ∷ []
+    = after_is ∙ row_is ∙ ap (λ (s : ℕ). rows ++ closed_row symbol terminal s node ∷ []) start_is in
     let both = closed_front names symbol terminal least rows after node next back now at plain put adopts in
     let C : List Open → Type 0 = λ os. ClosedAs names symbol terminal least (reverse rows) os (reverse after) now in
     let N : List (List ℕ) → Type 0 = λ ns. ClosedAs ns symbol terminal least (reverse rows) (reverse all) (reverse after) now in

@@ -7,7 +7,7 @@ use Rattle.std.proofs.Common.{◌≡◌, ℕ, zero, suc, ◌+◌, ◌<◌, ◌�
 use Rattle.std.proofs.lemmas.Bool.{cases_lt}
 use Rattle.std.proofs.lemmas.List.{drop-drop, drop_all, length-drop}
 use Rattle.macho_trie.specs.Trees.{Edges, no_edge, edge, edge_count, node_count}
-use Rattle.macho_trie.specs.Tables.{first_edges, later_edges, label_of, symbol_at, trees_of, IsRow, AreRows}
+use Rattle.macho_trie.specs.Tables.{first_edges, later_edges, label_of, symbol_at, trees_of, row_at, IsRow, SpellTrees, AreRows}
 use Rattle.macho_trie.specs.declared.table.Row.{Row}
 use Rattle.macho_trie.proofs.Building.{node_count-split, node_count-rows}
 
@@ -39,7 +39,7 @@ later_rows (suc fuel) names (row ∷ rows) (suc k) short =
     ∙ ap (λ (n : ℕ). trees_of names (drop n (row ∷ rows))) (sym all)
 
 -- a row among all
-pub row_sound : (names : List (List ℕ)) (rows : List Row) (c : ℕ) (d : Row) → AreRows names rows → c < length rows
+pub row_sound : (names : List (List ℕ)) (rows : List Row) (c : ℕ) (d : Row) → SpellTrees names rows → c < length rows
     → IsRow names (get_or rows c d) (trees_at names rows (c + 1))
 row_sound names [] c d sound within = absurd (omega arith)
 row_sound names (row ∷ rows) zero d sound within = sound.0
@@ -56,60 +56,60 @@ trees_cons names rows c d within =
     ∙ ap (λ (n : ℕ). trees_of names (get_or rows c d ∷ drop n rows)) next
 
 -- the trees beside a row's subtree
-pub trees_beside : (names : List (List ℕ)) (rows : List Row) (c : ℕ) (row : Row) → IsRow names row (trees_at names rows (c + 1))
-    → later_edges row.children (trees_at names rows (c + 1)) ≡ trees_at names rows (c + (row.rows + 1))
-trees_beside names rows c row sound =
-    let place : c + 1 + node_count (first_edges row.children (trees_at names rows (c + 1))) ≡ c + (row.rows + 1) = omega (
-      arith,
-      sound.rows,
-    ) in
+pub trees_beside : (names : List (List ℕ)) (rows : List Row) (c : ℕ) (row : Row)
+    → row.after ≡ c + 1 + node_count (first_edges row.children (trees_at names rows (c + 1)))
+    → later_edges row.children (trees_at names rows (c + 1)) ≡ trees_at names rows (row.after)
+trees_beside names rows c row after =
     later_rows (length (drop (c + 1) rows)) names (drop (c + 1) rows) row.children (omega arith)
     ∙ ap (λ (rs : List Row). trees_of names rs) (drop-drop (node_count (first_edges row.children (trees_at names rows (c + 1)))) (c +
     1) rows)
-    ∙ ap (λ (n : ℕ). trees_at names rows n) place
+    ∙ ap (λ (n : ℕ). trees_at names rows n) (sym after)
 
 -- An edge is left: the row at hand is there, its tree is the first, and the others are further on.
 pub record IsCursor (names : List (List ℕ)) (rows : List Row) (k c : ℕ) (row : Row) : Type 0 where
   pub within : c < length rows
   pub sound : IsRow names row (trees_at names rows (c + 1))
+  pub after : row.after ≡ c + 1 + node_count (first_edges row.children (trees_at names rows (c + 1)))
   pub is : first_edges (suc k) (trees_at names rows c)
       ≡ edge (label_of names row) (symbol_at row) (first_edges row.children (trees_at names rows (c + 1))) (first_edges k (trees_at
-      names rows (c + (row.rows + 1))))
-  pub count : edge_count (first_edges k (trees_at names rows (c + (row.rows + 1)))) ≡ k
-  pub next : c + (row.rows + 1) ≤ length rows
+      names rows (row.after)))
+  pub count : edge_count (first_edges k (trees_at names rows (row.after))) ≡ k
+  pub next : row.after ≤ length rows
 
 first-none : (k : ℕ) → first_edges k no_edge ≡ no_edge
 first-none zero = refl
 first-none (suc k) = refl
 
-pub cursor : (names : List (List ℕ)) (rows : List Row) (k c : ℕ) (d : Row) → AreRows names rows
+pub cursor : (names : List (List ℕ)) (rows : List Row) (k c : ℕ) → AreRows names rows
     → edge_count (first_edges (suc k) (trees_at names rows c)) ≡ suc k
-    → IsCursor names rows k c (get_or rows c d)
-cursor names rows k c d sound count =
+    → IsCursor names rows k c (row_at rows c)
+cursor names rows k c sound count =
     elim (cases_lt c (length rows)) [
       | inr past ↦
           let none : first_edges (suc k) (trees_at names rows c) ≡ no_edge
           = ap (λ (rs : List Row). first_edges (suc k) (trees_of names rs)) (drop_all c rows past) in
           absurd (omega (arith, ap edge_count none))
       | inl within ↦
-          let row : Row = get_or rows c d in
-          let here : IsRow names row (trees_at names rows (c + 1)) = row_sound names rows c d sound within in
-          let beside : later_edges row.children (trees_at names rows (c + 1)) ≡ trees_at names rows (c + (row.rows + 1))
-          = trees_beside names rows c row here in
+          let row : Row = row_at rows c in
+          let here : IsRow names row (trees_at names rows (c + 1)) = row_sound names rows c _ sound.trees within in
+          let after : row.after ≡ c + 1 + node_count (first_edges row.children (trees_at names rows (c + 1))) = sound.after c within in
+          let beside : later_edges row.children (trees_at names rows (c + 1)) ≡ trees_at names rows (row.after)
+          = trees_beside names rows c row after in
           let is : first_edges (suc k) (trees_at names rows c)
           ≡ edge (label_of names row) (symbol_at row) (first_edges row.children (trees_at names rows (c + 1)))
-          (first_edges k (trees_at names rows (c + (row.rows + 1))))
-          = ap (λ (es : Edges). first_edges (suc k) es) (trees_cons names rows c d within)
+          (first_edges k (trees_at names rows (row.after)))
+          = ap (λ (es : Edges). first_edges (suc k) es) (trees_cons names rows c _ within)
           ∙ ap (λ (es : Edges). edge (label_of names row) (symbol_at row) (first_edges row.children (trees_at names rows (c + 1)))
           (first_edges k es)) beside in
           record {
             within = within;
             sound = here;
+            after = after;
             is = is;
             count = omega (arith, ap edge_count is, count);
             next = omega (
               arith,
-              here.rows,
+              after,
               node_count-split row.children (trees_at names rows (c + 1)),
               node_count-rows names (drop (c + 1) rows),
               length-drop (c + 1) rows,

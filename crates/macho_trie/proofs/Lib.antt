@@ -5,6 +5,7 @@ pub mod LookupRows
 pub mod Building
 pub mod Arriving
 pub mod Closing
+pub mod Numbering
 pub mod Rooting
 pub mod Sorting
 pub mod Leading
@@ -12,6 +13,7 @@ pub mod Stepping
 pub mod Cursor
 pub mod Sizes
 pub mod Widths
+pub mod Raising
 pub mod Looks
 pub mod Spells
 pub mod Readback

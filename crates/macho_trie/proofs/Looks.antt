@@ -1,14 +1,17 @@
 -- The looks over all edges, until none is too narrow.
 --
--- A look has the places under the present widths. Where it finds no narrow edge, the widths are the least. Else it widens
--- some, which keeps what is known of them, and their sum rises. It is at most ten for each row, so the looks come to an end.
-use Rattle.std.proofs.Common.{◌≡◌, ℕ, ◌-◌, ◌*◌, ◌<◌, ◌≤◌, List, [], ◌∷◌, length, sum, slice_index, refl, ap, subst, ◌∙◌, arith}
+-- A look has the places under the present widths. Where it finds no narrow edge, the widths are the least. Else they go on the
+-- list, and the first of them grows. To work off the list keeps what is known of the widths, and their sum rises whenever one of
+-- them grows. It is at most ten for each row. Where none grows, no place is another one, so the list comes out empty. So both come
+-- to an end. Nothing is said of the edges that aren't on the list: that none is too narrow is seen by the last look.
+use Rattle.std.proofs.Common.{◌≡◌, ◌⊎◌, ℕ, ◌+◌, ◌-◌, ◌*◌, ◌<◌, ◌≤◌, List, [], ◌∷◌, length, map, sum, slice_index, refl, sym, ap, subst, ◌∙◌, arith, inl, inr}
+use Rattle.std.specs.List.{All, range_with_len}
 use Rattle.macho_trie.specs.Trees.{node_count}
 use Rattle.macho_trie.specs.Encoding.{place_of}
-use Rattle.macho_trie.specs.Layouts.{names_at, size_at, tree_at, ArePlaces, AreLaidOut, AreWidened, needed}
+use Rattle.macho_trie.specs.Layouts.{names_at, size_at, tree_at, ArePlaces, AreLaidOut, AreLow, AreLowWidths, AreListed, AreGrown, IsNarrow, needed}
 use Rattle.macho_trie.specs.declared.layout.Layout.{Layout}
 use Rattle.macho_trie.proofs.Building.{node_count-rows}
-use Rattle.macho_trie.proofs.Widths.{AreLow, low_more, least_at_end, sum_few, place_at, length-places}
+use Rattle.macho_trie.proofs.Widths.{least_at_end, sum_few, place_at, length-places}
 
 -- the widths of a look, which the code has in several slices
 pub record AreSeen (l : Layout) (widths seen placed : List ℕ) (places : List ℕ) : Type 0 where
@@ -59,16 +62,6 @@ none_narrow l widths seen placed places s long low wide = record {
           ap (λ (xs : List ℕ). slice_index xs k) s.seen_is,
         )
 
-pub still_low : (l : Layout) (widths seen placed places now : List ℕ) → AreSeen l widths seen placed places
-    → length widths ≡ length l.rows.now
-    → AreLow (size_at l) (tree_at l) widths → AreWidened placed seen now → (AreLow (size_at l) (tree_at l) now) × (length now ≡ length
-    l.rows.now)
-still_low l widths seen placed places now s long low w =
-    let P : List ℕ → Type 0 = λ ps. AreWidened ps widths now in
-    let W : List ℕ → Type 0 = λ ws. AreWidened placed ws now in
-    let both : AreWidened places widths now = subst P s.placed_is (subst W s.seen_is w) in
-    (low_more (size_at l) (tree_at l) places widths now low both (seen_at l widths seen placed places s), both.long ∙ long)
-
 pub fewer_left : (l : Layout) (widths now : List ℕ) → length now ≡ length l.rows.now → AreLow (size_at l) (tree_at l) now
     → sum widths < sum now
     → 10 * length l.rows.now - sum now < 10 * length l.rows.now - sum widths
@@ -80,3 +73,72 @@ fewer_left l widths now long low more =
 pub nothing_in : (xs : List ℕ) → length xs ≡ 0 → xs ≡ []
 nothing_in [] none = refl
 nothing_in (x ∷ xs) none = absurd (omega arith)
+
+-- what is left of a list counts once
+abbrev pub rank : List ℕ → ℕ
+rank [] = 0
+rank (x ∷ xs) = 1
+
+pub rank-some : (xs : List ℕ) → 1 ≤ length xs → rank xs ≡ 1
+rank-some [] some = absurd (omega arith)
+rank-some (x ∷ xs) some = refl
+
+rank-low : (xs : List ℕ) → rank xs ≤ 1
+rank-low [] = omega arith
+rank-low (x ∷ xs) = omega arith
+
+-- one round over the list
+pub list_grows : (first was now places placed list seen : List ℕ) → ((was ≡ first) × IsNarrow places was (slice_index list 0)) ⊎ (sum first < sum was)
+    → placed ≡ places → seen ≡ list → 1 ≤ length list
+    → (1 ≤ length seen → IsNarrow placed was (slice_index seen 0) → sum was < sum now) → AreGrown was now → sum first < sum now
+list_grows first was now places placed list seen (inl same) placed_is seen_is some head grown =
+    let N : List ℕ × List ℕ → Type 0 = λ p. IsNarrow p.0 was (slice_index p.1 0) in
+    let both : (let p : List ℕ × List ℕ = (places, list) in p) ≡ (placed, seen) = cc in
+    omega (arith, ap sum same.0, head (omega (arith, ap length seen_is)) (subst N both same.1))
+list_grows first was now places placed list seen (inr more) placed_is seen_is some head grown =
+    elim grown [ inl same ↦ omega (arith, more, ap sum same) | inr less ↦ omega (arith, more, less) ]
+
+pub list_ends : (l : Layout) (was now places moved seen moved_seen list next : List ℕ) → AreLowWidths l now → 1 ≤ length list
+    → ArePlaces l (slice_index was) places → ArePlaces l (slice_index now) moved → seen ≡ places → moved_seen ≡ moved
+    → (seen ≡ moved_seen → next ≡ []) → AreGrown was now
+    → 2 * (10 * length l.rows.now - sum now) + rank next < 2 * (10 * length l.rows.now - sum was) + rank list
+list_ends l was now places moved seen moved_seen list next low some at to seen_is moved_is none (inl same) =
+    let all : places ≡ moved = at ∙ ap (λ (ws : List ℕ). map (place_of (size_at l) (slice_index ws) (tree_at l)) (range_with_len 0 (length l.rows.now + 1))) (sym same) ∙ sym to in
+    omega (arith, ap sum same, ap rank (none (seen_is ∙ all ∙ sym moved_is)), rank-some list some)
+list_ends l was now places moved seen moved_seen list next low some at to seen_is moved_is none (inr more) =
+    omega (arith, fewer_left l was now low.long low.low more, rank-low next)
+
+pub moved_listed : (l : Layout) (now moved seen list : List ℕ) → ArePlaces l (slice_index now) moved → seen ≡ moved → AreListed (length seen - 1) list
+    → AreListed (length l.rows.now) list
+moved_listed l now moved seen list to seen_is listed =
+    let same : length seen - 1 ≡ length l.rows.now
+    = omega (arith, ap length seen_is, length-places (place_of (size_at l) (slice_index now) (tree_at l)) moved (length l.rows.now) to) in
+    let L : ℕ → Type 0 = λ n. AreListed n list in
+    subst L same listed
+
+-- the list that a look has made
+pub record AreReady (l : Layout) (at places list : List ℕ) : Type 0 where
+  pub placed : ArePlaces l (slice_index at) places
+  pub low : AreLowWidths l at
+  pub listed : AreListed (length l.rows.now) list
+  pub narrow : IsNarrow places at (slice_index list 0)
+  pub some : 1 ≤ length list
+
+pub ready : (l : Layout) (widths seen placed places at list : List ℕ) → AreSeen l widths seen placed places → AreLowWidths l widths → at ≡ widths
+    → 1 ≤ length list → All (IsNarrow placed seen) list → AreListed (length seen) list → AreReady l at places list
+ready l widths seen placed places at list s low at_is some all listed =
+    let P : List ℕ → Type 0 = λ ws. ArePlaces l (slice_index ws) places in
+    let W : List ℕ → Type 0 = λ ws. AreLowWidths l ws in
+    let L : ℕ → Type 0 = λ n. AreListed n list in
+    let N : List ℕ × List ℕ → Type 0 = λ p. IsNarrow p.0 p.1 (slice_index list 0) in
+    let both : (let p : List ℕ × List ℕ = (placed, seen) in p) ≡ (places, at) = pair s.placed_is (s.seen_is ∙ sym at_is) in
+    record {
+      placed = subst P (sym at_is) s.under;
+      low = subst W (sym at_is) low;
+      listed = subst L (ap length s.seen_is ∙ low.long) listed;
+      narrow = subst N both (all 0 0 some);
+      some = some;
+    }
+  where
+    pair : {A B : Type 0} {a b : A} {c d : B} → a ≡ b → c ≡ d → (let r : A × B = (a, c) in r ≡ (b, d))
+    pair p q = cc

@@ -10,7 +10,7 @@ use Rattle.macho_trie.specs.Exports.{Exported, as_value}
 use Rattle.macho_trie.specs.Says.{symbol_of, said_of}
 use Rattle.macho_trie.specs.declared.symbols.Symbol.{Symbol}
 use Rattle.macho_trie.specs.Trees.{Edges, no_edge, edge, edge_count, node_count}
-use Rattle.macho_trie.specs.Tables.{first_edges, later_edges, label_of, symbol_at, trees_of, name_at, row_at, trees_from, children_at, IsRow, AreRows}
+use Rattle.macho_trie.specs.Tables.{first_edges, later_edges, label_of, symbol_at, trees_of, name_at, row_at, trees_from, children_at, IsRow, SpellTrees, AreRows}
 use Rattle.macho_trie.specs.Encoding.{edges_size, node_sizes, place_of, says_of, export_bytes, terminal_size}
 use Rattle.macho_trie.specs.declared.table.Row.{Row}
 use Rattle.macho_trie.proofs.Building.{node_count-rows}
@@ -28,13 +28,12 @@ label_length names row behind r =
 -- one edge more is counted
 pub edge_more : (names : List (List ℕ)) (rows : List Row) (width : ℕ → ℕ) (k c size whole : ℕ) (row : Row) → IsCursor names rows k c row
     → size + edges_size width c (first_edges (suc k) (trees_from names rows c)) ≡ whole
-    → size + (row.length + 1 + width c) + edges_size width (c + (row.rows + 1)) (first_edges k (trees_from names rows (c + (row.rows +
-    1)))) ≡ whole
+    → size + (row.length + 1 + width c) + edges_size width row.after (first_edges k (trees_from names rows row.after)) ≡ whole
 edge_more names rows width k c size whole row at same =
     let all = ap (λ (es : Edges). edges_size width c es) at.is in
     let label = label_length names row (trees_from names rows (c + 1)) at.sound in
-    let next : node_count (first_edges row.children (trees_from names rows (c + 1))) + 1 ≡ row.rows + 1 = omega (arith, at.sound.rows) in
-    let later = ap (λ (n : ℕ). edges_size width (c + n) (first_edges k (trees_from names rows (c + (row.rows + 1))))) next in
+    let next : c + (node_count (first_edges row.children (trees_from names rows (c + 1))) + 1) ≡ row.after = omega (arith, at.after) in
+    let later = ap (λ (n : ℕ). edges_size width n (first_edges k (trees_from names rows row.after))) next in
     omega (arith, all, label, later, same)
 
 -- the loop over the edges of a row
@@ -47,18 +46,18 @@ pub record IsCounted (names : List (List ℕ)) (rows : List Row) (width : ℕ �
 pub counted_first : (names : List (List ℕ)) (rows : List Row) (width : ℕ → ℕ) (row left : ℕ) → AreRows names rows → row < length rows
     → left ≡ (row_at rows row).children → IsCounted names rows width row left (row + 1) 0
 counted_first names rows width row left sound here all =
-    let at = row_sound names rows row _ sound here in
+    let at = row_sound names rows row _ sound.trees here in
     let C : ℕ → Type 0 = λ n. IsCounted names rows width row n (row + 1) 0 in
     subst C (sym all) (record { within = omega arith; count = at.children; sum = omega arith })
 
 pub counted_more : (names : List (List ℕ)) (rows : List Row) (width : ℕ → ℕ) (row left k child size : ℕ) → AreRows names rows → left ≡ suc k
     → IsCounted names rows width row left child size
-    → IsCounted names rows width row k (child + ((row_at rows child).rows + 1)) (size + ((row_at rows child).length + 1 + width child))
+    → IsCounted names rows width row k (row_at rows child).after (size + ((row_at rows child).length + 1 + width child))
 counted_more names rows width row left k child size sound is c =
     let Count : ℕ → Type 0 = λ n. edge_count (first_edges n (trees_from names rows child)) ≡ n in
     let Sum : ℕ → Type 0 = λ n. size + edges_size width child (first_edges n (trees_from names rows child)) ≡ edges_size width (row +
     1) (children_at names rows row) in
-    let at = cursor names rows k child _ sound (subst Count is c.count) in
+    let at = cursor names rows k child sound (subst Count is c.count) in
     record {
       within = at.next;
       count = at.count;
@@ -71,7 +70,7 @@ pub counted_at : (names : List (List ℕ)) (rows : List Row) (width : ℕ → �
 counted_at names rows width row left child size sound some c =
     let is : left ≡ suc (left - 1) = omega arith in
     let Count : ℕ → Type 0 = λ n. edge_count (first_edges n (trees_from names rows child)) ≡ n in
-    cursor names rows (left - 1) child _ sound (subst Count is c.count)
+    cursor names rows (left - 1) child sound (subst Count is c.count)
 
 -- the sizes of a row's tree and of those behind it are those of all: the row's own, and then those of the rows behind
 edges_size-split : (width : ℕ → ℕ) (i k : ℕ) (es : Edges)
@@ -117,7 +116,7 @@ node_sizes-row size width i names row rows r =
     (node_sizes-split size width (i + 1) row.children (trees_of names rows))
 
 -- the sizes of the nodes from a row on
-node_sizes-drop : (size : Option ℕ → ℕ) (width : ℕ → ℕ) (i c : ℕ) (names : List (List ℕ)) (rows : List Row) → AreRows names rows
+node_sizes-drop : (size : Option ℕ → ℕ) (width : ℕ → ℕ) (i c : ℕ) (names : List (List ℕ)) (rows : List Row) → SpellTrees names rows
     → drop c (node_sizes size width i (trees_of names rows)) ≡ node_sizes size width (i + c) (trees_of names (drop c rows))
 node_sizes-drop size width i zero names rows sound = ap (λ (n : ℕ). node_sizes size width n (trees_of names rows)) (omega arith)
 node_sizes-drop size width i (suc c) names [] sound = refl
@@ -132,14 +131,14 @@ pub node_size_at : (size : Option ℕ → ℕ) (width : ℕ → ℕ) (c : ℕ) (
     → slice_index (node_sizes size width 0 (trees_of names rows)) c
     ≡ size (symbol_at (row_at rows c)) + 1 + edges_size width (c + 1) (children_at names rows c)
 node_size_at size width c names rows sound within =
-    let here = row_sound names rows c _ sound within in
+    let here = row_sound names rows c _ sound.trees within in
     let same : 0 + c ≡ c = omega arith in
     let front : get_or (drop c (node_sizes size width 0 (trees_of names rows))) 0 0 ≡ get_or (node_sizes size width 0 (trees_of names
     rows)) c 0
     = get_or-drop c (node_sizes size width 0 (trees_of names rows)) 0 0 ∙ ap (λ (n : ℕ). get_or (node_sizes size width 0 (trees_of
     names rows)) n 0) (omega arith) in
     sym front
-    ∙ ap (λ (xs : List ℕ). get_or xs 0 0) (node_sizes-drop size width 0 c names rows sound)
+    ∙ ap (λ (xs : List ℕ). get_or xs 0 0) (node_sizes-drop size width 0 c names rows sound.trees)
     ∙ ap (λ (n : ℕ). get_or (node_sizes size width n (trees_of names (drop c rows))) 0 0) same
     ∙ ap (λ (es : Edges). get_or (node_sizes size width c es) 0 0) (trees_cons names rows c _ within)
     ∙ ap (λ (xs : List ℕ). get_or xs 0 0) (node_sizes-row size width c names (row_at rows c) (drop (c + 1) rows) here)

@@ -16,14 +16,13 @@ use Rattle.macho_trie.proofs.Cursor.{cursor, row_sound, trees_cons, IsCursor}
 -- one edge more is written
 edge_spelled : (names : List (List ℕ)) (rows : List Row) (place : ℕ → ℕ) (k c : ℕ) (row : Row) → IsCursor names rows k c row
     → edges_bytes place c (first_edges (suc k) (trees_from names rows c))
-    ≡ (label_of names row ++ (0 ∷ uleb_of (place c))) ++ edges_bytes place (c + (row.rows + 1)) (first_edges k (trees_from names rows
-    (c + (row.rows + 1))))
+    ≡ (label_of names row ++ (0 ∷ uleb_of (place c))) ++ edges_bytes place row.after (first_edges k (trees_from names rows row.after))
 edge_spelled names rows place k c row at =
-    let next : node_count (first_edges row.children (trees_from names rows (c + 1))) + 1 ≡ row.rows + 1 = omega (arith, at.sound.rows) in
-    let rest : Edges = first_edges k (trees_from names rows (c + (row.rows + 1))) in
+    let next : c + (node_count (first_edges row.children (trees_from names rows (c + 1))) + 1) ≡ row.after = omega (arith, at.after) in
+    let rest : Edges = first_edges k (trees_from names rows row.after) in
     ap (λ (es : Edges). edges_bytes place c es) at.is
-    ∙ ap (λ (n : ℕ). label_of names row ++ (0 ∷ (uleb_of (place c) ++ edges_bytes place (c + n) rest))) next
-    ∙ sym (append_assoc (label_of names row) (0 ∷ uleb_of (place c)) (edges_bytes place (c + (row.rows + 1)) rest))
+    ∙ ap (λ (n : ℕ). label_of names row ++ (0 ∷ (uleb_of (place c) ++ edges_bytes place n rest))) next
+    ∙ sym (append_assoc (label_of names row) (0 ∷ uleb_of (place c)) (edges_bytes place row.after rest))
 
 -- The edges of a row that are left, behind what is written.
 pub record IsSpelling (names : List (List ℕ)) (rows : List Row) (place : ℕ → ℕ) (row left child : ℕ) (before written : List ℕ) : Type 0
@@ -37,7 +36,7 @@ pub spelling_first : (names : List (List ℕ)) (rows : List Row) (place : ℕ �
     → row < length rows
     → left ≡ (row_at rows row).children → IsSpelling names rows place row left (row + 1) before before
 spelling_first names rows place row left before sound here all =
-    let at = row_sound names rows row _ sound here in
+    let at = row_sound names rows row _ sound.trees here in
     let S : ℕ → Type 0 = λ n. IsSpelling names rows place row n (row + 1) before before in
     subst S (sym all) (record { within = omega arith; count = at.children; text = refl })
 
@@ -45,14 +44,13 @@ pub spelling_more : (names : List (List ℕ)) (rows : List Row) (place : ℕ →
     → AreRows names rows
     → left ≡ suc k → IsSpelling names rows place row left child before written
     → more ≡ written ++ (label_of names (row_at rows child) ++ (0 ∷ uleb_of (place child)))
-    → IsSpelling names rows place row k (child + ((row_at rows child).rows + 1)) before more
+    → IsSpelling names rows place row k (row_at rows child).after before more
 spelling_more names rows place row left k child before written more sound is s more_is =
     let Count : ℕ → Type 0 = λ n. edge_count (first_edges n (trees_from names rows child)) ≡ n in
     let Text : ℕ → Type 0 = λ n. written ++ edges_bytes place child (first_edges n (trees_from names rows child))
     ≡ before ++ edges_bytes place (row + 1) (children_at names rows row) in
-    let at = cursor names rows k child _ sound (subst Count is s.count) in
-    let rest : List ℕ = edges_bytes place (child + ((row_at rows child).rows + 1)) (first_edges k (trees_from names rows (child +
-    ((row_at rows child).rows + 1)))) in
+    let at = cursor names rows k child sound (subst Count is s.count) in
+    let rest : List ℕ = edges_bytes place (row_at rows child).after (first_edges k (trees_from names rows (row_at rows child).after)) in
     let one : List ℕ = label_of names (row_at rows child) ++ (0 ∷ uleb_of (place child)) in
     record {
       within = at.next;
@@ -67,7 +65,7 @@ pub spelling_at : (names : List (List ℕ)) (rows : List Row) (place : ℕ → �
 spelling_at names rows place row left child before written sound some s =
     let is : left ≡ suc (left - 1) = omega arith in
     let Count : ℕ → Type 0 = λ n. edge_count (first_edges n (trees_from names rows child)) ≡ n in
-    cursor names rows (left - 1) child _ sound (subst Count is s.count)
+    cursor names rows (left - 1) child sound (subst Count is s.count)
 
 pub spelling_last : (names : List (List ℕ)) (rows : List Row) (place : ℕ → ℕ) (row left child : ℕ) (before written : List ℕ) → left ≡ 0
     → IsSpelling names rows place row left child before written → written ≡ before ++ edges_bytes place (row + 1) (children_at names
@@ -117,7 +115,7 @@ pub node_spelled : (says : ℕ → Exported) (place : ℕ → ℕ) (i : ℕ) (na
     → more ≡ counted ++ edges_bytes place (i + 1) (children_at names rows i)
     → more ++ tree_bytes says place (i + 1) (trees_from names rows (i + 1)) ≡ whole
 node_spelled says place i names rows whole written terminal counted more sound within same terminal_is counted_is more_is =
-    let at = row_sound names rows i _ sound within in
+    let at = row_sound names rows i _ sound.trees within in
     let rest : List ℕ = tree_bytes says place (i + 1) (trees_from names rows (i + 1)) in
     let part : List ℕ = terminal_bytes (option_map says (symbol_at (row_at rows i))) in
     let edges : List ℕ = edges_bytes place (i + 1) (children_at names rows i) in

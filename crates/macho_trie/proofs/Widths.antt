@@ -13,7 +13,7 @@ use Rattle.macho_bytes.proofs.Ulebs.{length-uleb_of, uleb_of-grows}
 use Rattle.macho_trie.specs.Trees.{Edges, no_edge, edge, node_count}
 use Rattle.macho_trie.specs.Encoding.{edges_size, node_sizes, place_of, total_of, AreWide, AreLeast}
 use Rattle.macho_trie.proofs.Sizes.{length-node_sizes}
-use Rattle.macho_trie.specs.Layouts.{needed, AreWidened}
+use Rattle.macho_trie.specs.Layouts.{needed, AreLow}
 
 -- each number of a list is at most that of another one
 abbrev pub AreAtMost : List ℕ → List ℕ → Type 0
@@ -88,12 +88,6 @@ total-grows size more w v tree s h =
     sum-at_most (node_sizes size w 0 tree) (node_sizes more v 0 tree) (node_sizes-grow size more w v 0 tree s (λ j a b. h j (omega
     arith) (omega arith)))
 
--- What is known of widths on the way: they are at most what the present places need, and at most any that are wide enough.
-pub record AreLow (size : Option ℕ → ℕ) (tree : Edges) (widths : List ℕ) : Type 0 where
-  pub few : (k : ℕ) → slice_index widths k ≤ 10
-  pub low : (k : ℕ) → 1 ≤ k → k < node_count tree → slice_index widths k ≤ length (uleb_of (place_of size (slice_index widths) tree k))
-  pub least : (other : ℕ → ℕ) → AreWide size other tree → (k : ℕ) → 1 ≤ k → k < node_count tree → slice_index widths k ≤ other k
-
 ones : (n k : ℕ) → slice_index (replicate n 1) k ≤ 1
 ones zero k = omega arith
 ones (suc n) zero = omega arith
@@ -106,36 +100,43 @@ low_first size tree n = record {
   least = λ other wide k some within. omega (arith, ones n k, (length-uleb_of (place_of size other tree k)).0, wide k some within);
 }
 
-pub low_more : (size : Option ℕ → ℕ) (tree : Edges) (places was now : List ℕ) → AreLow size tree was → AreWidened places was now
-    → ((k : ℕ) → k < node_count tree → slice_index places k ≡ place_of size (slice_index was) tree k) → AreLow size tree now
-low_more size tree places was now l w at = record { few = few; low = low; least = least }
+-- One width is raised to what its child's place needs under the present widths.
+pub low_raised : (size : Option ℕ → ℕ) (tree : Edges) (was now : List ℕ) (c : ℕ) → AreLow size tree was
+    → ((k : ℕ) → (slice_index now k ≡ slice_index was k)
+    ⊎ ((slice_index was k ≤ slice_index now k) × (k ≡ c) × (slice_index now k ≡ length (uleb_of (place_of size (slice_index was) tree c)))))
+    → AreLow size tree now
+low_raised size tree was now c l w = record { few = few; low = low; least = least }
   where
     few : (k : ℕ) → slice_index now k ≤ 10
-    few k = elim (w.each k) [
+    few k = elim (w k) [
       | inl same ↦ omega (arith, l.few k)
-      | inr wider ↦ omega (arith, wider.2, (length-uleb_of (slice_index places k)).1)
+      | inr wider ↦ omega (arith, wider.2, (length-uleb_of (place_of size (slice_index was) tree c)).1)
     ]
 
     more : (k : ℕ) → slice_index was k ≤ slice_index now k
-    more k = elim (w.each k) [ inl same ↦ omega arith | inr wider ↦ omega (arith, wider.0) ]
+    more k = elim (w k) [ inl same ↦ omega arith | inr wider ↦ wider.0 ]
 
     grown : (k : ℕ) → length (uleb_of (place_of size (slice_index was) tree k)) ≤ length (uleb_of (place_of size (slice_index now) tree k))
     grown k = uleb_of-grows (place_of size (slice_index was) tree k) (place_of size (slice_index now) tree k)
         (place-grows size size (slice_index was) (slice_index now) tree k (λ m. omega arith) (λ j a b. more j))
 
+    needs : (k : ℕ) → k ≡ c → slice_index now k ≡ length (uleb_of (place_of size (slice_index was) tree c))
+        → slice_index now k ≡ length (uleb_of (place_of size (slice_index was) tree k))
+    needs k here is = is ∙ ap (λ (n : ℕ). length (uleb_of (place_of size (slice_index was) tree n))) (sym here)
+
     low : (k : ℕ) → 1 ≤ k → k < node_count tree → slice_index now k ≤ length (uleb_of (place_of size (slice_index now) tree k))
-    low k some within = elim (w.each k) [
+    low k some within = elim (w k) [
       | inl same ↦ omega (arith, l.low k some within, grown k)
-      | inr wider ↦ omega (arith, wider.2, grown k, ap (λ (n : ℕ). length (uleb_of n)) (at k within))
+      | inr wider ↦ omega (arith, needs k wider.1 wider.2, grown k)
     ]
 
     least : (other : ℕ → ℕ) → AreWide size other tree → (k : ℕ) → 1 ≤ k → k < node_count tree → slice_index now k ≤ other k
-    least other wide k some within = elim (w.each k) [
+    least other wide k some within = elim (w k) [
       | inl same ↦ omega (arith, l.least other wide k some within)
       | inr wider ↦
           let less = uleb_of-grows (place_of size (slice_index was) tree k) (place_of size other tree k)
           (place-grows size size (slice_index was) other tree k (λ m. omega arith) (λ j a b. l.least other wide j a b)) in
-          omega (arith, wider.2, less, wide k some within, ap (λ (n : ℕ). length (uleb_of n)) (at k within))
+          omega (arith, needs k wider.1 wider.2, less, wide k some within)
     ]
 
 -- no edge is too narrow
@@ -162,12 +163,6 @@ least-grows size more w v tree s a b =
 pub sum_few : (widths : List ℕ) → ((k : ℕ) → slice_index widths k ≤ 10) → sum widths ≤ 10 * length widths
 sum_few [] few = omega arith
 sum_few (w ∷ widths) few = omega (arith, sum_cons w widths, few 0, sum_few widths (λ k. few (suc k)))
-
--- What is known of widths while a list is worked off: each is as it was, or it was widened to what it needs. They are all as
--- they were, or their sum is greater.
-pub record AreWidening (places was now : List ℕ) : Type 0 where
-  pub widened : AreWidened places was now
-  pub grown : (now ≡ was) ⊎ (sum was < sum now)
 
 -- the places of a list, at the nodes
 pub place_at : (f : ℕ → ℕ) (places : List ℕ) (n k : ℕ) → places ≡ map f (range_with_len 0 (n + 1)) → k < n + 1 → slice_index places k ≡ f k

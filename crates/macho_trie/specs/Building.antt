@@ -1,8 +1,8 @@
 -- How a table is built from its last row to its first: the nodes on the way to the least name so far are open, the deepest
 -- first, and have their children among the trees of the rows that are done.
-use Rattle.std.specs.Prelude.{◌≡◌, ◌⊎◌, ℕ, ◌+◌, ◌-◌, ◌<◌, ◌≤◌, nat_lt, if◌then◌else◌, Bool, true, false, List, [], ◌∷◌, ◌++◌, length, take, slice_index, Option, Some, None, reverse}
+use Rattle.std.specs.Prelude.{◌≡◌, ◌⊎◌, ℕ, ◌+◌, ◌-◌, ◌<◌, ◌≤◌, nat_lt, if◌then◌else◌, Bool, true, false, List, [], ◌∷◌, ◌++◌, length, map, take, slice_index, Option, Some, None, reverse}
 use Rattle.macho_trie.specs.Trees.{Edges, no_edge, edge, edge_count, node_count, BeginsAbove, AreRadix}
-use Rattle.macho_trie.specs.Tables.{first_edges, later_edges, name_at, trees_of, AreRows}
+use Rattle.macho_trie.specs.Tables.{first_edges, later_edges, name_at, trees_of, IsRow, AreRows}
 use Rattle.macho_trie.specs.declared.table.Row.{Row}
 use Rattle.macho_trie.specs.declared.build.Open.{Open}
 use Rattle.macho_trie.specs.declared.build.Builder.{Builder}
@@ -25,6 +25,23 @@ names_open name trees [] = []
 names_open name trees (node ∷ nodes) =
     names_along (take node.depth name) (first_edges node.children trees) ++ names_open name (later_edges node.children trees) nodes
 
+-- A row while the table is built. Its end isn't known yet, so the row after its subtree is told by the number of rows from
+-- there to the end.
+pub record IsClosedRow (names : List (List ℕ)) (r : Row) (behind : Edges) : Type 0 where
+  pub row : IsRow names r behind
+  pub after : r.after ≡ node_count (later_edges r.children behind)
+
+abbrev pub AreClosedRows : List (List ℕ) → List Row → Type 0
+AreClosedRows names [] = Unit {0}
+AreClosedRows names (row ∷ rows) = IsClosedRow names row (trees_of names rows) × AreClosedRows names rows
+
+-- the rows of a table of so many, each with the row after its subtree by its number
+abbrev pub numbered : ℕ → Row → Row
+numbered count row = record row { after = count - row.after }
+
+abbrev pub numbered_rows : ℕ → List Row → List Row
+numbered_rows count rows = map (numbered count) rows
+
 -- The closed children of an open node are the first trees.
 pub record IsGroup (node : Open) (trees : Edges) : Type 0 where
   pub children : edge_count (first_edges node.children trees) ≡ node.children
@@ -46,7 +63,7 @@ BeginsWith byte (edge label symbol below rest) = slice_index label 0 ≡ byte
 -- The names from one on are in the tree, and its node is the deepest open one.
 pub record IsOpenAt (names : List (List ℕ)) (symbol : ℕ) (rows : List Row) (node : Open) (nodes : List Open) : Type 0 where
   pub here : symbol < length names
-  pub sound : AreRows names rows
+  pub sound : AreClosedRows names rows
   pub depth : node.depth ≡ length (name_at names symbol)
   pub group : IsGroup node (trees_of names rows)
   pub above : AreAbove (name_at names symbol) node.depth (later_edges node.children (trees_of names rows)) nodes
@@ -55,7 +72,7 @@ pub record IsOpenAt (names : List (List ℕ)) (symbol : ℕ) (rows : List Row) (
 pub record IsClosing (names : List (List ℕ)) (symbol : ℕ) (terminal : Bool) (least : ℕ) (rows : List Row) (node : Open) (nodes : List
     Open) : Type 0 where
   pub here : symbol < length names
-  pub sound : AreRows names rows
+  pub sound : AreClosedRows names rows
   pub deep : least < node.depth
   pub within : node.depth ≤ length (name_at names symbol)
   pub group : IsGroup node (trees_of names rows)
@@ -65,7 +82,7 @@ pub record IsClosing (names : List (List ℕ)) (symbol : ℕ) (terminal : Bool) 
 -- The deepest open node lies on the way to the name, its child there is closed, and so are all deeper nodes.
 pub record IsClosed (names : List (List ℕ)) (symbol least : ℕ) (rows : List Row) (node : Open) (nodes : List Open) : Type 0 where
   pub here : symbol < length names
-  pub sound : AreRows names rows
+  pub sound : AreClosedRows names rows
   pub deep : least ≤ node.depth
   pub within : node.depth < length (name_at names symbol)
   pub group : IsGroup node (trees_of names rows)
@@ -73,15 +90,15 @@ pub record IsClosed (names : List (List ℕ)) (symbol least : ℕ) (rows : List 
   pub ends : (node.depth ≡ least) ⊎ (2 ≤ node.children)
   pub above : AreAbove (name_at names symbol) node.depth (later_edges node.children (trees_of names rows)) nodes
 
--- the row of a node that is closed behind so many rows, with the label of its edge from a depth on
-abbrev pub closed_row : ℕ → Bool → ℕ → ℕ → Open → Row
-closed_row symbol terminal start count node = record {
+-- the row of a node that is closed, with the label of its edge from a depth on
+abbrev pub closed_row : ℕ → Bool → ℕ → Open → Row
+closed_row symbol terminal start node = record {
   symbol = symbol;
   is_terminal = terminal;
   children = node.children;
   start = start;
   length = node.depth - start;
-  rows = count - node.opened;
+  after = node.opened;
 }
 
 -- the depth at which a closed node hangs: that of the next open node, or the least one where that is deeper
@@ -98,7 +115,7 @@ adopted least opened (node ∷ nodes) =
 
 -- The deepest open node lies on the way to a name that is less than those in the tree.
 pub record IsReady (names : List (List ℕ)) (name : List ℕ) (rows : List Row) (node : Open) (nodes : List Open) : Type 0 where
-  pub sound : AreRows names rows
+  pub sound : AreClosedRows names rows
   pub within : node.depth ≤ length name
   pub group : IsGroup node (trees_of names rows)
   pub begins : node.depth < length name → BeginsAbove (slice_index name node.depth) (first_edges node.children (trees_of names rows))
@@ -151,7 +168,7 @@ pub record StepsAs (names : List (List ℕ)) (above symbol : ℕ) (before : List
 -- The root is the one open node, and its children are all trees.
 pub record IsRoot (names : List (List ℕ)) (symbol : ℕ) (terminal : Bool) (rows : List Row) (node : Open) (nodes : List Open) : Type 0 where
   pub here : symbol < length names
-  pub sound : AreRows names rows
+  pub sound : AreClosedRows names rows
   pub depth : node.depth ≡ 0
   pub group : IsGroup node (trees_of names rows)
   pub alone : nodes ≡ []

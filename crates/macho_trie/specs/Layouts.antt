@@ -1,12 +1,12 @@
 -- A table with its symbols: the tree that it spells, the sizes of its terminal parts, and places of its nodes.
-use Rattle.std.specs.Prelude.{◌≡◌, ◌⊎◌, ℕ, ◌+◌, ◌<◌, ◌≤◌, List, length, map, slice_index, Option}
-use Rattle.std.specs.List.{range_with_len}
+use Rattle.std.specs.Prelude.{◌≡◌, ◌⊎◌, ℕ, ◌+◌, ◌<◌, ◌≤◌, List, length, map, sum, get_or, set, slice_index, Option}
+use Rattle.std.specs.List.{range_with_len, AllPairs}
 use Rattle.macho_bytes.specs.Uleb.{uleb_of}
 use Rattle.macho_trie.specs.Exports.{Exported}
 use Rattle.macho_trie.specs.Symbols.{symbols_of, names_of}
-use Rattle.macho_trie.specs.Trees.{Edges}
+use Rattle.macho_trie.specs.Trees.{Edges, node_count}
 use Rattle.macho_trie.specs.Tables.{trees_of, row_at, symbol_at, AreRows, children_at}
-use Rattle.macho_trie.specs.Encoding.{says_of, terminal_size, place_of, AreLeast}
+use Rattle.macho_trie.specs.Encoding.{says_of, terminal_size, place_of, AreWide, AreLeast}
 use Rattle.macho_trie.specs.declared.layout.Layout.{Layout}
 
 abbrev pub names_at : Layout → List (List ℕ)
@@ -57,8 +57,32 @@ pub record IsNarrow (places widths : List ℕ) (k : ℕ) : Type 0 where
   pub within : k < length widths
   pub narrow : slice_index widths k < needed places k
 
--- Widths after some edges were widened to what they need.
-pub record AreWidened (places was now : List ℕ) : Type 0 where
-  pub long : length now ≡ length was
-  pub each : (k : ℕ) → (slice_index now k ≡ slice_index was k)
-      ⊎ ((slice_index was k < slice_index now k) × (1 ≤ k) × (slice_index now k ≡ needed places k))
+-- Children on a list, by their rows, in rising order: none is the root.
+pub record AreListed (count : ℕ) (list : List ℕ) : Type 0 where
+  pub child : (k d : ℕ) → k < length list → (1 ≤ get_or list k d) × (get_or list k d < count)
+  pub rising : AllPairs (λ i j. i < j) list
+
+-- What is known of widths on the way: they are at most what the present places need, and at most any that are wide enough.
+pub record AreLow (size : Option ℕ → ℕ) (tree : Edges) (widths : List ℕ) : Type 0 where
+  pub few : (k : ℕ) → slice_index widths k ≤ 10
+  pub low : (k : ℕ) → 1 ≤ k → k < node_count tree → slice_index widths k ≤ length (uleb_of (place_of size (slice_index widths) tree k))
+  pub least : (other : ℕ → ℕ) → AreWide size other tree → (k : ℕ) → 1 ≤ k → k < node_count tree → slice_index widths k ≤ other k
+
+-- the same of a table's widths, one for each row
+pub record AreLowWidths (l : Layout) (widths : List ℕ) : Type 0 where
+  pub long : length widths ≡ length l.rows.now
+  pub low : AreLow (size_at l) (tree_at l) widths
+
+-- widths are as they were, or there are more bytes of them
+abbrev pub AreGrown : List ℕ → List ℕ → Type 0
+AreGrown was now = (now ≡ was) ⊎ (sum was < sum now)
+
+-- where the first edge of a list is too narrow, there are more bytes of them
+abbrev pub FirstGrows : List ℕ → List ℕ → List ℕ → List ℕ → Type 0
+FirstGrows places list was now = 1 ≤ length list → IsNarrow places was (slice_index list 0) → sum was < sum now
+
+-- An edge whose child has a place has grown by some bytes: by none where it is wide enough, else to the width that is needed.
+pub record IsLookedAt (place child growth : ℕ) (was now : List ℕ) : Type 0 where
+  pub only : now ≡ set was child (slice_index was child + growth)
+  pub enough : length (uleb_of place) ≤ slice_index was child + growth
+  pub need : (growth ≡ 0) ⊎ (slice_index was child + growth ≡ length (uleb_of place))

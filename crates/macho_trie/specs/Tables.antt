@@ -38,11 +38,26 @@ pub record IsRow (names : List (List ℕ)) (row : Row) (behind : Edges) : Type 0
   pub symbol : row.symbol < length names
   pub label : row.start + row.length ≤ length (name_at names row.symbol)
   pub children : edge_count (first_edges row.children behind) ≡ row.children
-  pub rows : row.rows ≡ node_count (first_edges row.children behind)
 
-abbrev pub AreRows : List (List ℕ) → List Row → Type 0
-AreRows names [] = Unit {0}
-AreRows names (row ∷ rows) = IsRow names row (trees_of names rows) × AreRows names rows
+abbrev pub SpellTrees : List (List ℕ) → List Row → Type 0
+SpellTrees names [] = Unit {0}
+SpellTrees names (row ∷ rows) = IsRow names row (trees_of names rows) × SpellTrees names rows
+
+-- the row at a place of a table
+abbrev pub row_at : List Row → ℕ → Row
+row_at rows i = slice_index_or rows i (record { symbol = 0; is_terminal = false; children = 0; start = 0; length = 0; after = 0 })
+
+-- the trees that the rows from a place on spell, and those of a row's children
+abbrev pub trees_from : List (List ℕ) → List Row → ℕ → Edges
+trees_from names rows i = trees_of names (drop i rows)
+
+abbrev pub children_at : List (List ℕ) → List Row → ℕ → Edges
+children_at names rows i = first_edges (row_at rows i).children (trees_from names rows (i + 1))
+
+-- Rows of a table: they spell trees, and each tells the row after its subtree.
+pub record AreRows (names : List (List ℕ)) (rows : List Row) : Type 0 where
+  pub trees : SpellTrees names rows
+  pub after : (i : ℕ) → i < length rows → (row_at rows i).after ≡ i + 1 + node_count (children_at names rows i)
 
 -- A table of the radix tree of some names: its first row is the root, and each name leads to its symbol and no other.
 pub record IsTable (names : List (List ℕ)) (rows : List Row) : Type 0 where
@@ -52,14 +67,3 @@ pub record IsTable (names : List (List ℕ)) (rows : List Row) : Type 0 where
   pub root : trees_of names rows ≡ edge [] symbol below no_edge
   pub radix : AreRadix below
   pub leads : (name : List ℕ) (s : ℕ) → LeadsTo (trees_of names rows) name s ↔ ((s < length names) × (name_at names s ≡ name))
-
--- the row at a place of a table
-abbrev pub row_at : List Row → ℕ → Row
-row_at rows i = slice_index_or rows i (record { symbol = 0; is_terminal = false; children = 0; start = 0; length = 0; rows = 0 })
-
--- the trees that the rows from a place on spell, and those of a row's children
-abbrev pub trees_from : List (List ℕ) → List Row → ℕ → Edges
-trees_from names rows i = trees_of names (drop i rows)
-
-abbrev pub children_at : List (List ℕ) → List Row → ℕ → Edges
-children_at names rows i = first_edges (row_at rows i).children (trees_from names rows (i + 1))

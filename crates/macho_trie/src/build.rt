@@ -9,9 +9,10 @@ ghost use Rattle.macho_trie.specs.Exports.{HasNoNul};
 ghost use Rattle.macho_trie.specs.Tables.{name_at, IsTable};
 ghost use Rattle.macho_trie.specs.Sorting.{AreSorted, HaveNoNul};
 ghost use Rattle.std.specs.Cmp.Lexicographic.{slice_cmp};
+ghost use Rattle.std.specs.List.{All};
 ghost use Rattle.std.specs.Ordering.{nat_cmp};
 ghost use Rattle.std.specs.declared.cmp.Ordering.TheVariants.{Less};
-ghost use Rattle.macho_trie.specs.Building.{names_in, rows_in, open_in, root_node, deepest, adopted, MayClose, Closes, IsAt};
+ghost use Rattle.macho_trie.specs.Building.{numbered_rows, names_in, rows_in, open_in, root_node, deepest, adopted, MayClose, Closes, IsAt};
 ghost use Rattle.macho_trie.specs.Building.{IsReadyFor, Arrives, Steps, IsAtRoot, IsRooted};
 
 use crate::sort::shared_length;
@@ -29,7 +30,8 @@ pub(crate) struct Open {
     pub(crate) opened: usize,
 }
 
-/// The rows of closed nodes, the last first, and the open nodes, the root first.
+/// The rows of closed nodes, the last first, and the open nodes, the root first. The end isn't known yet, so each row has in
+/// place of the row after its subtree the number of rows from there to the end.
 #[derive(Drop)]
 pub(crate) struct Builder<'s> {
     pub(crate) symbols: &'s Symbols,
@@ -78,7 +80,7 @@ impl<'s> Builder<'s> {
             children: node.children as u8,
             start,
             length: node.depth - start,
-            rows: self.rows.len() - node.opened,
+            after: node.opened,
         })?;
         self.adopt(next, least, node.opened)?;
         Ok(start)
@@ -196,17 +198,28 @@ impl<'s> Builder<'s> {
             mut rows,
             nodes: _,
         } = self;
-        let below = rows.len() - root.opened;
         rows.push(Row {
             symbol,
             is_terminal,
             children: root.children as u8,
             start: 0,
             length: 0,
-            rows: below,
+            after: root.opened,
         })?;
         rows.reverse();
+        number_ends(&mut rows);
         Ok(rows)
+    }
+}
+
+/// Tells the row after each subtree by its number, where the rows from there to the end were counted.
+fn number_ends(rows: &mut [Row])
+    requires { All (λ row. row.after ≤ length rows.old) rows.old }
+    ensures { rows.new ≡ numbered_rows (length rows.old) rows.old }
+{
+    let count = rows.len();
+    for place in 0..count {
+        rows[place].after = count - rows[place].after;
     }
 }
 

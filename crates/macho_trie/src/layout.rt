@@ -1,10 +1,11 @@
 //! The sizes and places of a trie's nodes, and their bytes.
-ghost use Rattle.std.specs.Prelude.{◌≡◌, ℕ, ◌+◌, ◌<◌, ◌≤◌, ◌++◌, List, [], OnOk, IfOk, length, slice_index, sum};
+ghost use Rattle.std.specs.Prelude.{◌≡◌, ℕ, ◌+◌, ◌<◌, ◌≤◌, ◌++◌, ◌-◌, List, [], OnOk, IfOk, length, slice_index, sum};
 ghost use Rattle.macho_trie.specs.Symbols.{names_of};
 ghost use Rattle.macho_trie.specs.Tables.{symbol_at};
 ghost use Rattle.macho_trie.specs.Layouts.{names_at, size_at, children_of, IsLaid, AreTerminals, ArePlaces, AreLaidOut};
-ghost use Rattle.macho_trie.specs.Layouts.{IsNarrow, NoneNarrow, AreWidened};
+ghost use Rattle.macho_trie.specs.Layouts.{tree_at, IsNarrow, NoneNarrow, AreListed, AreLowWidths, AreGrown, FirstGrows, IsLookedAt};
 ghost use Rattle.macho_trie.specs.Encoding.{edges_size, export_bytes};
+ghost use Rattle.macho_trie.specs.Trees.{IsOneTree};
 ghost use Rattle.macho_trie.specs.Says.{said_of};
 ghost use Rattle.std.specs.List.{All};
 
@@ -42,7 +43,7 @@ impl<'a> Layout<'a> {
             let at = self.rows[child];
             let label = added(at.length, 1)?;
             size = added(size, added(label, widths[child])?)?;
-            child += at.rows + 1;
+            child = at.after;
         }
         Ok(size)
     }
@@ -96,29 +97,102 @@ impl<'a> Layout<'a> {
 
     /// The places of all nodes under the least widths, and the place after the last one.
     ///
-    /// Each width begins at 1. A look over all edges puts those that are too narrow on a list, and each on the list gets the
-    /// width that it needs. That moves the nodes after it, so another look follows, until one finds no edge.
+    /// Each width begins at 1. One look goes over all edges. Those that it finds too narrow go on a list, which is worked off,
+    /// and another look follows, until one finds no edge.
     pub(crate) fn lay_out(&self, alloc: Global) -> Result<Vec<usize>, AllocError>
-        requires { IsLaid self.now }
+        requires sound { IsLaid self.now }
+        requires root { IsOneTree (tree_at self.now) }
         ensures { IfOk result (λ v. AreLaidOut self.now v.items) }
     {
         let terminals = self.terminals(alloc)?;
         let mut widths = vec![in alloc; 1; self.rows.len()]?;
         'looks: loop {
             let places = self.places(alloc, &terminals, &widths)?;
-            let narrow = narrow_edges(alloc, &places, &widths)?;
-            if narrow.is_empty() {
+            let list = narrow_edges(alloc, &places, &widths)?;
+            if list.is_empty() {
                 return Ok(places);
             }
-            widen(&mut widths, &places, &narrow);
+            self.work_off(alloc, &terminals, places, list, &mut widths)?;
         }
     }
+
+    /// Works off a list of edges to look at. Wider edges move the nodes after theirs, and the edges whose child lies there
+    /// are looked at again.
+    fn work_off(
+        &self,
+        alloc: Global,
+        terminals: &[usize],
+        before: Vec<usize>,
+        narrow: Vec<usize>,
+        widths: &mut [usize],
+    ) -> Result<(), AllocError>
+        requires sound { IsLaid self.now }
+        requires root { IsOneTree (tree_at self.now) }
+        requires terminals { AreTerminals self.now terminals.now }
+        requires places { ArePlaces self.now (slice_index widths.old) before.items }
+        requires low { AreLowWidths self.now widths.old }
+        requires list { AreListed (length self.now.rows.now) narrow.items }
+        requires some { IsNarrow before.items widths.old (slice_index narrow.items 0) }
+        requires length { 1 ≤ length narrow.items }
+        ensures low { OnOk result (AreLowWidths self.now widths.new) }
+        ensures grown { OnOk result (sum widths.old < sum widths.new) }
+    {
+        let mut places = before;
+        let mut list = narrow;
+        'list: while !list.is_empty() {
+            self.widen(widths, &places, &list)?;
+            let moved = self.places(alloc, terminals, widths)?;
+            list = moved_edges(alloc, &places, &moved)?;
+            places = moved;
+        }
+        Ok(())
+    }
+
+    /// Looks at the edges of a list, from the first child on. One that is too narrow gets the width that the place of its
+    /// child needs under the present widths: as many bytes behind its former place as edges in front of it have grown.
+    fn widen(
+        &self,
+        widths: &mut [usize],
+        places: &[usize],
+        list: &[usize],
+    ) -> Result<(), AllocError>
+        requires root { IsOneTree (tree_at self.now) }
+        requires places { ArePlaces self.now (slice_index widths.old) places.now }
+        requires low { AreLowWidths self.now widths.old }
+        requires list { AreListed (length self.now.rows.now) list.now }
+        ensures low { OnOk result (AreLowWidths self.now widths.new) }
+        ensures grown { OnOk result (AreGrown widths.old widths.new) }
+        ensures first { OnOk result (FirstGrows places.now list.now widths.old widths.new) }
+    {
+        let mut growth = 0;
+        for child in list {
+            let place = added(places[*child], growth)?;
+            growth = added(growth, widen_edge(widths, *child, place))?;
+        }
+        Ok(())
+    }
+}
+
+/// Looks at an edge whose child has a place. Where it is too narrow, it gets the width that the place needs.
+/// Answers by how many bytes it has grown.
+fn widen_edge(widths: &mut [usize], child: usize, place: usize) -> usize
+    requires { child < length widths.old }
+    ensures { IsLookedAt place child result widths.old widths.new }
+{
+    let width = widths[child];
+    let needed = uleb_size(place as u64);
+    if needed <= width {
+        return 0;
+    }
+    widths[child] = needed;
+    needed - width
 }
 
 /// The edges, by the rows of their children, whose width is less than their child's place needs.
 fn narrow_edges(alloc: Global, places: &[usize], widths: &[usize]) -> Result<Vec<usize>, AllocError>
     requires { length widths.now ≤ length places.now }
     ensures all { IfOk result (λ v. All (IsNarrow places.now widths.now) v.items) }
+    ensures list { IfOk result (λ v. AreListed (length widths.now) v.items) }
     ensures none { IfOk result (λ v. v.items ≡ [] → NoneNarrow places.now widths.now) }
 {
     let mut narrow = Vec::new(alloc);
@@ -130,17 +204,20 @@ fn narrow_edges(alloc: Global, places: &[usize], widths: &[usize]) -> Result<Vec
     Ok(narrow)
 }
 
-/// Gives each of these edges the width that its child's place needs.
-fn widen(widths: &mut [usize], places: &[usize], narrow: &[usize])
-    requires narrow { All (IsNarrow places.now widths.old) narrow.now }
-    requires some { 1 ≤ length narrow.now }
-    requires places { length widths.old ≤ length places.now }
-    ensures widened { AreWidened places.now widths.old widths.new }
-    ensures grows { sum widths.old < sum widths.new }
+/// The edges, by the rows of their children, whose child has another place than before. The last place is behind all nodes.
+fn moved_edges(alloc: Global, before: &[usize], places: &[usize]) -> Result<Vec<usize>, AllocError>
+    requires same { length before.now ≡ length places.now }
+    requires some { 1 ≤ length places.now }
+    ensures list { IfOk result (λ v. AreListed (length places.now - 1) v.items) }
+    ensures none { before.now ≡ places.now → IfOk result (λ v. v.items ≡ []) }
 {
-    for child in narrow {
-        widths[*child] = uleb_size(places[*child] as u64);
+    let mut moved = Vec::new(alloc);
+    for child in 1..places.len() - 1 {
+        if places[child] != before[child] {
+            moved.push(child)?;
+        }
     }
+    Ok(moved)
 }
 
 /// The bytes of a terminal part.

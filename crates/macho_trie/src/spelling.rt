@@ -64,7 +64,7 @@ impl<'a> Layout<'a> {
         for edge in 0..self.rows[row].children {
             let at = self.rows[child];
             self.write_edge(out, at, places[child])?;
-            child += at.rows + 1;
+            child = at.after;
         }
         Ok(())
     }

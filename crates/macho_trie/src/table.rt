@@ -11,6 +11,6 @@ pub(crate) struct Row {
     /// Where the label begins in the name.
     pub(crate) start: usize,
     pub(crate) length: usize,
-    /// The rows below the node. So the row after its subtree is that many and one further on.
-    pub(crate) rows: usize,
+    /// The row after its subtree.
+    pub(crate) after: usize,
 }

@@ -1,33 +1,74 @@
-use Rattle.std.proofs.Common.{ℕ, ◌≡◌, ◌+◌, ◌*◌, arith, subst, refl}
+use Rattle.std.proofs.Common.{ℕ, ◌/◌, length, arith, refl, sym, ap, ◌∙◌}
+use Rattle.macho_bytes.specs.Texts.{put}
 use Rattle.macho_model.specs.Images.{CHAIN_PAGE}
-use Rattle.macho_fixups.specs.Cuts.{IsCut}
-use Rattle.macho_fixups.proofs.FirstWords.{pages_begin, pages_go_on, pages_end, next_cut}
+use Rattle.macho_fixups.specs.Runs.{pages_of}
+use Rattle.macho_fixups.specs.Tables.{page_starts_text}
+use Rattle.macho_fixups.proofs.FirstWords.{pages_begin, pages_go_on, pages_end}
+use Rattle.macho_fixups.proofs.PagePasses.{pages_first, next_page, pages_more, all_passed}
 use Rattle.macho_fixups.proofs.starts.write_page_starts.Goals as goal
 
-pub loop-page-init : goal.loop-page-init
-loop-page-init c =
-    let at_first : c.args.first * CHAIN_PAGE ≡ (c.args.first + 0) * CHAIN_PAGE = omega arith in (
-      pages_begin c.args.fixups.now c.args.first c.args.pages c.args.at c.args.out.now (omega arith),
-      subst (λ (b : ℕ). IsCut c.args.fixups.now c.args.from b) at_first c.requires.from,
-    )
+pub pages-init : goal.pages-init
+pages-init c = record {
+  so_far = pages_begin c.args.fixups.now (c.args.segment.now.address / CHAIN_PAGE) (pages_of c.args.segment.now c.args.fixups.now) c.args.at c.args.out.now
+      (omega (arith, c.requires.room));
+  passed = pages_first c.args.fixups.now c.args.segment.now c.args.begin c.requires.paged c.requires.begin;
+}
 
-pub loop-page-preserved : goal.loop-page-preserved
-loop-page-preserved c =
-    let next : c.args.first + c.loop-page.page + 1 ≡ c.args.first + (c.loop-page.page + 1) = omega arith in (
-      pages_go_on c.args.fixups.now c.args.first c.args.pages c.args.at c.loop-page.place _ c.loop-page.page c.start_from.result c.args.out.now
-          c.loop-page.out c.put_u16.new.out c.loop-page-test.true c.requires.room c.loop-page.invariant.0 c.start_from.ensures refl
-          c.put_u16.ensures.written,
-      subst (λ (n : ℕ). IsCut c.args.fixups.now c.skip_below-next.result (n * CHAIN_PAGE)) next
-          (next_cut c.args.fixups.now c.loop-page.next (c.args.first + c.loop-page.page) c.skip_below-next.result c.requires.sorted
-          c.loop-page.invariant.1 c.skip_below-next.ensures),
-    )
+pub put_u16-requires : goal.put_u16-requires
+put_u16-requires c =
+    let p = next_page c.args.fixups.now c.args.segment.now c.pages.next c.pages.pages c.requires.paged c.pages.invariant.passed
+    (c.has_next.ensures.some c.pages-test.true) in
+    omega (arith, p.more, c.pages.invariant.so_far.here, c.requires.room, c.pages.auto.out)
+
+pub overflow_mul-page : goal.overflow_mul-page
+overflow_mul-page c =
+    let p = next_page c.args.fixups.now c.args.segment.now c.pages.next c.pages.pages c.requires.paged c.pages.invariant.passed
+    (c.has_next.ensures.some c.pages-test.true) in
+    omega (arith, p.left, c.requires.ends)
+
+pub overflow_sub-left-in-pages : goal.overflow_sub-left-in-pages
+overflow_sub-left-in-pages c =
+    let p = next_page c.args.fixups.now c.args.segment.now c.pages.next c.pages.pages c.requires.paged c.pages.invariant.passed
+    (c.has_next.ensures.some c.pages-test.true) in
+    omega (arith, p.left)
+
+pub pages-smaller : goal.pages-smaller
+pages-smaller c =
+    let p = next_page c.args.fixups.now c.args.segment.now c.pages.next c.pages.pages c.requires.paged c.pages.invariant.passed
+    (c.has_next.ensures.some c.pages-test.true) in
+    omega (arith, p.more)
+
+pub pages-preserved : goal.pages-preserved
+pages-preserved c =
+    let p = next_page c.args.fixups.now c.args.segment.now c.pages.next c.pages.pages c.requires.paged c.pages.invariant.passed
+    (c.has_next.ensures.some c.pages-test.true) in
+    record {
+      so_far = pages_go_on c.args.fixups.now (c.args.segment.now.address / CHAIN_PAGE) (pages_of c.args.segment.now c.args.fixups.now) c.args.at
+          c.pages.place _ c.pages.pages c.start_from.result c.args.out.now c.pages.out c.put_u16.new.out (omega (arith, p.more)) c.requires.room
+          c.pages.invariant.so_far c.start_from.ensures refl c.put_u16.ensures.written;
+      passed = pages_more c.args.fixups.now c.args.segment.now c.pages.next c.pages.pages c.skip_below-next.result _ _ c.min.result c.requires.sorted p
+          refl refl c.min.ensures c.skip_below-next.ensures;
+    }
+
+pub returns-clause-run : goal.returns-clause-run
+returns-clause-run c =
+    let all = all_passed c.args.fixups.now c.args.segment.now c.pages.next c.pages.pages c.requires.sorted c.pages.invariant.passed
+    (c.has_next.ensures.none c.pages-test.false) in
+    record { end_at = all.0; counted = all.1 }
 
 pub returns-clause-written : goal.returns-clause-written
 returns-clause-written c =
-    (pages_end c.args.fixups.now c.args.first c.args.pages c.args.at c.loop-page.place c.loop-page.page c.args.out.now c.loop-page.out
-    (omega (arith, c.loop-page-test.false)) c.loop-page.invariant.0).0
+    let all = all_passed c.args.fixups.now c.args.segment.now c.pages.next c.pages.pages c.requires.sorted c.pages.invariant.passed
+    (c.has_next.ensures.none c.pages-test.false) in
+    let end = pages_end c.args.fixups.now (c.args.segment.now.address / CHAIN_PAGE) (pages_of c.args.segment.now c.args.fixups.now) c.args.at
+    c.pages.place c.pages.pages c.args.out.now c.pages.out all.1 c.pages.invariant.so_far in
+    end.0 ∙ ap (λ (n : ℕ). put c.args.at (page_starts_text c.args.fixups.now (c.args.segment.now.address / CHAIN_PAGE) n) c.args.out.now) (sym all.1)
 
 pub returns-clause-long : goal.returns-clause-long
 returns-clause-long c =
-    (pages_end c.args.fixups.now c.args.first c.args.pages c.args.at c.loop-page.place c.loop-page.page c.args.out.now c.loop-page.out
-    (omega (arith, c.loop-page-test.false)) c.loop-page.invariant.0).1
+    let all = all_passed c.args.fixups.now c.args.segment.now c.pages.next c.pages.pages c.requires.sorted c.pages.invariant.passed
+    (c.has_next.ensures.none c.pages-test.false) in
+    let end = pages_end c.args.fixups.now (c.args.segment.now.address / CHAIN_PAGE) (pages_of c.args.segment.now c.args.fixups.now) c.args.at
+    c.pages.place c.pages.pages c.args.out.now c.pages.out all.1 c.pages.invariant.so_far in
+    let same = ap (λ (n : ℕ). length (page_starts_text c.args.fixups.now (c.args.segment.now.address / CHAIN_PAGE) n)) all.1 in
+    omega (arith, end.1, all.1, same)

@@ -1,5 +1,5 @@
-use Rattle.std.proofs.Common.{ℕ, arith, ap}
-use Rattle.macho_fixups.specs.Tables.{segment_size, image_starts_size, starts_size}
+use Rattle.std.proofs.Common.{arith}
+use Rattle.macho_fixups.specs.Tables.{segment_size, image_starts_size}
 use Rattle.macho_fixups.proofs.SegmentWrites.{segments_begin, segment_done, segments_end, has_room, no_segment}
 use Rattle.macho_fixups.proofs.table.write_segments.Goals as goal
 
@@ -20,24 +20,24 @@ put_u32-requires c =
     let room = has_room c.args.base c.args.at c.args.fixups.now c.args.segments.now no_segment c.loop-segment.slot c.loop-segment.place c.loop-segment.next
     c.loop-segment.segment-index c.args.out.now c.loop-segment.out c.loop-segment-test.true c.requires.fits.count c.requires.fits.pages c.requires.room
     c.loop-segment.invariant in
-    omega (arith, room.offset, c.loop-segment.auto.out)
+    omega (arith, room.offset, c.loop-segment.auto.out, c.write_starts-run.auto.out)
 
-pub write_starts-requires-clause-room : goal.write_starts-requires-clause-room
+pub write_starts-run-requires-clause-room : goal.write_starts-run-requires-clause-room
 unfolding image_starts_size segment_size
-write_starts-requires-clause-room c =
+write_starts-run-requires-clause-room c =
     let room = has_room c.args.base c.args.at c.args.fixups.now c.args.segments.now no_segment c.loop-segment.slot c.loop-segment.place c.loop-segment.next
     c.loop-segment.segment-index c.args.out.now c.loop-segment.out c.loop-segment-test.true c.requires.fits.count c.requires.fits.pages c.requires.room
     c.loop-segment.invariant in
-    omega (arith, room.text, c.loop-segment.auto.out, c.put_u32.auto.out, ap (λ (p : ℕ). starts_size p) c.run_of-run.ensures.counted)
+    omega (arith, room.text, c.loop-segment.auto.out)
 
 pub loop-segment-preserved : goal.loop-segment-preserved
 unfolding image_starts_size
 loop-segment-preserved c =
     segment_done c.args.base c.args.at c.args.fixups.now c.args.segments.now _ c.loop-segment.slot c.loop-segment.place c.loop-segment.next
-    c.loop-segment.segment-index c.run_of-run.result.end c.offset_word.result c.run_of-run.result.pages c.starts_size-place.result c.args.out.now
-    c.loop-segment.out c.put_u32.new.out c.write_starts.new.out c.loop-segment-test.true c.requires.fits.order c.requires.room
-    c.loop-segment.invariant c.run_of-run.ensures.end_at c.run_of-run.ensures.counted c.offset_word.ensures c.write_starts.ensures.long
-    c.put_u32.ensures.written c.write_starts.ensures.written c.starts_size-place.ensures
+    c.loop-segment.segment-index c.write_starts-run.result.end c.offset_word.result c.write_starts-run.result.pages c.starts_size-place.result c.args.out.now
+    c.loop-segment.out c.write_starts-run.new.out c.put_u32.new.out c.loop-segment-test.true c.requires.fits.order c.requires.room
+    c.loop-segment.auto.out c.loop-segment.invariant c.write_starts-run.ensures.run.end_at c.write_starts-run.ensures.run.counted c.offset_word.ensures
+    c.write_starts-run.ensures.long c.write_starts-run.ensures.written c.put_u32.ensures.written c.starts_size-place.ensures
 
 pub returns-clause-written : goal.returns-clause-written
 unfolding image_starts_size

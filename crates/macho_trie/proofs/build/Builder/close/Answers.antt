@@ -1,7 +1,7 @@
 use Rattle.std.proofs.Common.{ap, arith}
 use Rattle.macho_trie.specs.Building.{names_in, rows_in, open_in}
 use Rattle.macho_trie.specs.Symbols.{names_of}
-use Rattle.macho_trie.proofs.Closing.{few_children, last_two, next_group, opened_before, closed_after}
+use Rattle.macho_trie.proofs.Closing.{few_children, last_two, next_group, closed_after}
 use Rattle.macho_trie.proofs.build.Builder.close.Goals as goal
 
 pub overflow_cast-node : goal.overflow_cast-node
@@ -11,14 +11,6 @@ overflow_cast-node c =
     c.pop.new.self.items c.pop-2.new.self.items c.in-Some.node c.in-Some-pop.next c.in-Some.ensures.items c.in-Some-pop.ensures.items
     c.requires.closing in
     omega (arith, few_children c.in-Some.node _ at.group)
-
-pub overflow_sub-len : goal.overflow_sub-len
-overflow_sub-len c =
-    let at = last_two (names_in c.args.self.now) c.args.symbol c.args.is_terminal c.args.least (rows_in c.args.self.now)
-    c.args.self.now.nodes.items
-    c.pop.new.self.items c.pop-2.new.self.items c.in-Some.node c.in-Some-pop.next c.in-Some.ensures.items c.in-Some-pop.ensures.items
-    c.requires.closing in
-    omega (arith, opened_before (names_in c.args.self.now) c.args.self.now.rows.items c.in-Some.node at.group)
 
 pub adopt-requires : goal.adopt-requires
 adopt-requires c =
@@ -31,11 +23,11 @@ adopt-requires c =
 pub returns-clause-closed : goal.returns-clause-closed
 returns-clause-closed c =
     closed_after (names_in c.args.self.now) (names_in c.adopt.new.self) c.args.symbol c.args.is_terminal c.args.least
-    c.max-start.result c.len.result
+    c.max-start.result
     c.args.self.now.rows.items c.push.new.self.items c.adopt.new.self.rows.items c.args.self.now.nodes.items c.pop.new.self.items
     c.pop-2.new.self.items
     (open_in c.adopt.new.self) c.in-Some.node c.in-Some-pop.next c.in-Some.ensures.items c.in-Some-pop.ensures.items c.requires.closing
     c.requires.plain
-    c.max-start.ensures (omega (arith, c.len.ensures, c.args.self.now.rows.ok.0)) c.in_ok-push.ensures.items (ap (λ v. v.items)
+    c.max-start.ensures c.in_ok-push.ensures.items (ap (λ v. v.items)
     c.in_ok-adopt.ensures.same.0) c.in_ok-adopt.ensures.done
     (ap (λ s. names_of s.now) c.in_ok-adopt.ensures.same.1)

@@ -24,20 +24,6 @@ bounds-widths-child c =
           c.loop-edge.size c.requires.sound (omega arith) c.loop-edge.invariant).within,
     )
 
-pub overflow_add-child-in-loop-edge : goal.overflow_add-child-in-loop-edge
-overflow_add-child-in-loop-edge c =
-    let at = counted_at (names_of c.args.self.now.symbols.now) c.args.self.now.rows.now (slice_index c.args.widths.now) c.args.row _
-    c.loop-edge.child
-    c.loop-edge.size c.requires.sound (omega arith) c.loop-edge.invariant in
-    omega (arith, at.next)
-
-pub overflow_add-child-in-loop-edge-2 : goal.overflow_add-child-in-loop-edge-2
-overflow_add-child-in-loop-edge-2 c =
-    let at = counted_at (names_of c.args.self.now.symbols.now) c.args.self.now.rows.now (slice_index c.args.widths.now) c.args.row _
-    c.loop-edge.child
-    c.loop-edge.size c.requires.sound (omega arith) c.loop-edge.invariant in
-    omega (arith, at.next)
-
 pub loop-edge-preserved : goal.loop-edge-preserved
 loop-edge-preserved c =
     let more = counted_more (names_of c.args.self.now.symbols.now) c.args.self.now.rows.now (slice_index c.args.widths.now) c.args.row
@@ -46,6 +32,6 @@ loop-edge-preserved c =
     c.loop-edge.child c.loop-edge.size c.requires.sound (omega arith) c.loop-edge.invariant in
     let S : ℕ → Type 0 = λ n. IsCounted (names_of c.args.self.now.symbols.now) c.args.self.now.rows.now (slice_index c.args.widths.now)
     c.args.row
-    ((row_at c.args.self.now.rows.now c.args.row).children - (c.loop-edge.edge + 1)) (c.loop-edge.child + ((row_at
-    c.args.self.now.rows.now c.loop-edge.child).rows + 1)) n in
+    ((row_at c.args.self.now.rows.now c.args.row).children - (c.loop-edge.edge + 1)) (row_at
+    c.args.self.now.rows.now c.loop-edge.child).after n in
     subst S (omega arith) more

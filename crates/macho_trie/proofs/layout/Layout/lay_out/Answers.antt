@@ -1,9 +1,9 @@
 use Rattle.std.proofs.Common.{length, sum, ap, sym, subst, ◌∙◌, arith, List, ℕ}
 use Rattle.std.proofs.lemmas.List.{length-replicate, with_items_is}
-use Rattle.macho_trie.specs.Layouts.{size_at, tree_at}
-use Rattle.macho_trie.proofs.Widths.{AreLow, low_first}
-use Rattle.macho_trie.proofs.Looks.{seen_by, seen_short, none_narrow, still_low, fewer_left, nothing_in}
+use Rattle.macho_trie.specs.Layouts.{size_at, tree_at, AreLow, AreLowWidths}
 use Rattle.std.proofs.lemmas.Bool.{eqb-true}
+use Rattle.macho_trie.proofs.Widths.{low_first}
+use Rattle.macho_trie.proofs.Looks.{seen_by, seen_short, none_narrow, fewer_left, nothing_in}
 use Rattle.macho_trie.proofs.layout.Layout.lay_out.Goals as goal
 
 pub looks-init : goal.looks-init
@@ -11,8 +11,10 @@ looks-init c =
     let is = c.in_ok-widths.ensures.items_if_clones_equal (λ y e. e) in
     let A : List ℕ → Type 0 = λ ws. AreLow (size_at c.args.self.now) (tree_at c.args.self.now) ws in
     record {
-      long = ap length is ∙ length-replicate (length c.args.self.now.rows.now) 1;
-      low = subst A (sym is) (low_first (size_at c.args.self.now) (tree_at c.args.self.now) (length c.args.self.now.rows.now));
+      low = record {
+        long = ap length is ∙ length-replicate (length c.args.self.now.rows.now) 1;
+        low = subst A (sym is) (low_first (size_at c.args.self.now) (tree_at c.args.self.now) (length c.args.self.now.rows.now));
+      };
     }
 
 pub narrow_edges-requires : goal.narrow_edges-requires
@@ -22,7 +24,7 @@ narrow_edges-requires c =
     c.in_ok-places.places.items c.deref-in-looks.ensures.value c.deref-in-looks-3.ensures.value c.deref-in-looks-2.ensures.value
     c.in_ok-places.ensures in
     seen_short c.args.self.now c.looks.widths.items c.deref-in-looks-3.result.now c.deref-in-looks-2.result.now
-    c.in_ok-places.places.items seen c.looks.invariant.long
+    c.in_ok-places.places.items seen c.looks.invariant.low.long
 
 pub returns-then-is_empty : goal.returns-then-is_empty
 returns-then-is_empty c =
@@ -32,46 +34,27 @@ returns-then-is_empty c =
     c.in_ok-places.ensures in
     none_narrow c.args.self.now c.looks.widths.items c.deref-in-looks-3.result.now c.deref-in-looks-2.result.now
     c.in_ok-places.places.items seen
-    c.looks.invariant.long c.looks.invariant.low (c.in_ok-narrow.ensures.none
-    (let none = eqb-true _ 0 (sym c.is_empty.ensures ∙ c.if-is_empty.true) in nothing_in c.in_ok-narrow.narrow.items (omega (
+    c.looks.invariant.low.long c.looks.invariant.low.low (c.in_ok-list.ensures.none
+    (let none = eqb-true _ 0 (sym c.is_empty.ensures ∙ c.if-is_empty.true) in nothing_in c.in_ok-list.list.items (omega (
       arith,
       none,
-      c.in_ok-narrow.narrow.ok.0,
+      c.in_ok-list.list.ok.0,
     ))))
-
-pub widen-requires-clause-places : goal.widen-requires-clause-places
-widen-requires-clause-places c =
-    let seen = seen_by c.args.self.now c.looks.widths.items c.deref-in-looks.result.now c.deref_mut.result.now c.deref-in-looks-4.result.now
-    c.in_ok-places.places.items c.deref-in-looks.ensures.value c.deref_mut.ensures.value c.deref-in-looks-4.ensures.value
-    c.in_ok-places.ensures in
-    seen_short c.args.self.now c.looks.widths.items c.deref_mut.result.now c.deref-in-looks-4.result.now c.in_ok-places.places.items
-    seen c.looks.invariant.long
 
 pub looks-smaller : goal.looks-smaller
 looks-smaller c =
-    let seen = seen_by c.args.self.now c.looks.widths.items c.deref-in-looks.result.now c.deref_mut.result.now c.deref-in-looks-4.result.now
-    c.in_ok-places.places.items c.deref-in-looks.ensures.value c.deref_mut.ensures.value c.deref-in-looks-4.ensures.value
-    c.in_ok-places.ensures in
-    let low = still_low c.args.self.now c.looks.widths.items c.deref_mut.result.now c.deref-in-looks-4.result.now
-    c.in_ok-places.places.items c.widen.new.widths
-    seen c.looks.invariant.long c.looks.invariant.low c.widen.ensures.widened in
-    let same = with_items_is c.looks.widths c.widen.new.widths (omega (arith, low.1, c.looks.invariant.long, c.looks.widths.ok.0)) in
-    let less = fewer_left c.args.self.now c.looks.widths.items c.widen.new.widths low.1 low.0 (omega (
+    let low = c.in_ok-work_off.ensures.low in
+    let same = with_items_is c.looks.widths c.work_off.new.widths (omega (arith, low.long, c.looks.invariant.low.long, c.looks.widths.ok.0)) in
+    let less = fewer_left c.args.self.now c.looks.widths.items c.work_off.new.widths low.long low.low (omega (
       arith,
-      c.widen.ensures.grows,
-      ap
-          sum c.deref_mut.ensures.value,
+      c.in_ok-work_off.ensures.grown,
+      ap sum c.deref_mut.ensures.value,
     )) in
     omega (arith, ap sum same, less)
 
 pub looks-preserved : goal.looks-preserved
 looks-preserved c =
-    let seen = seen_by c.args.self.now c.looks.widths.items c.deref-in-looks.result.now c.deref_mut.result.now c.deref-in-looks-4.result.now
-    c.in_ok-places.places.items c.deref-in-looks.ensures.value c.deref_mut.ensures.value c.deref-in-looks-4.ensures.value
-    c.in_ok-places.ensures in
-    let low = still_low c.args.self.now c.looks.widths.items c.deref_mut.result.now c.deref-in-looks-4.result.now
-    c.in_ok-places.places.items c.widen.new.widths
-    seen c.looks.invariant.long c.looks.invariant.low c.widen.ensures.widened in
-    let same = with_items_is c.looks.widths c.widen.new.widths (omega (arith, low.1, c.looks.invariant.long, c.looks.widths.ok.0)) in
-    let A : List ℕ → Type 0 = λ ws. AreLow (size_at c.args.self.now) (tree_at c.args.self.now) ws in
-    record { long = ap length same ∙ low.1; low = subst A (sym same) low.0 }
+    let low = c.in_ok-work_off.ensures.low in
+    let same = with_items_is c.looks.widths c.work_off.new.widths (omega (arith, low.long, c.looks.invariant.low.long, c.looks.widths.ok.0)) in
+    let W : List ℕ → Type 0 = λ ws. AreLowWidths c.args.self.now ws in
+    record { low = subst W (sym same) low }

@@ -1,12 +1,10 @@
-use Rattle.std.proofs.Common.{◌≡◌, ◌-◌, ◌*◌, length, sum}
-use Rattle.macho_trie.specs.Layouts.{size_at, tree_at}
-use Rattle.macho_trie.proofs.Widths.{AreLow}
+use Rattle.std.proofs.Common.{◌-◌, ◌*◌, length, sum}
+use Rattle.macho_trie.specs.Layouts.{AreLowWidths}
 use Rattle.macho_trie.proofs.layout.Layout.lay_out.Given as goal
 
 abbrev pub invariant-looks : goal.invariant-looks
 invariant-looks l = record {
-  long : length l.widths.items ≡ length l.self.rows.now;
-  low : AreLow (size_at l.self) (tree_at l.self) l.widths.items;
+  low : AreLowWidths l.self l.widths.items;
 }
 
 -- the widths' sum rises with each look, and each width is at most ten

@@ -6,7 +6,7 @@ use Rattle.macho_trie.proofs.Spells.{node_spelled}
 use Rattle.macho_trie.proofs.layout.Layout.spell.Goals as goal
 
 pub write_terminal-requires : goal.write_terminal-requires
-write_terminal-requires c = (row_sound (names_at c.args.self.now) c.args.self.now.rows.now c.loop-row.row _ c.requires.sound (omega
+write_terminal-requires c = (row_sound (names_at c.args.self.now) c.args.self.now.rows.now c.loop-row.row _ c.requires.sound.trees (omega
     arith)).symbol
 
 pub loop-row-preserved : goal.loop-row-preserved

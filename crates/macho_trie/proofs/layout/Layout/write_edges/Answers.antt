@@ -30,18 +30,6 @@ write_edge-requires-clause-label c =
     (spelling_at (names_at c.args.self.now) c.args.self.now.rows.now (slice_index c.args.places.now) c.args.row _ c.loop-edge.child
     c.args.out.now.items c.loop-edge.out.items c.requires.sound (omega arith) c.loop-edge.invariant).sound.label
 
-pub overflow_add-child-in-loop-edge : goal.overflow_add-child-in-loop-edge
-overflow_add-child-in-loop-edge c =
-    let at = spelling_at (names_at c.args.self.now) c.args.self.now.rows.now (slice_index c.args.places.now) c.args.row _ c.loop-edge.child
-    c.args.out.now.items c.loop-edge.out.items c.requires.sound (omega arith) c.loop-edge.invariant in
-    omega (arith, at.next)
-
-pub overflow_add-child-in-loop-edge-2 : goal.overflow_add-child-in-loop-edge-2
-overflow_add-child-in-loop-edge-2 c =
-    let at = spelling_at (names_at c.args.self.now) c.args.self.now.rows.now (slice_index c.args.places.now) c.args.row _ c.loop-edge.child
-    c.args.out.now.items c.loop-edge.out.items c.requires.sound (omega arith) c.loop-edge.invariant in
-    omega (arith, at.next)
-
 pub loop-edge-preserved : goal.loop-edge-preserved
 loop-edge-preserved c =
     spelling_more (names_at c.args.self.now) c.args.self.now.rows.now (slice_index c.args.places.now) c.args.row

@@ -1,0 +1,7 @@
+use Rattle.macho_trie.specs.Layouts.{size_at, tree_at}
+use Rattle.macho_trie.proofs.Raising.{AreWidening}
+use Rattle.macho_trie.proofs.layout.Layout.widen.Given as goal
+
+-- the edges so far were looked at
+abbrev pub invariant-loop-child : goal.invariant-loop-child
+invariant-loop-child l = AreWidening (size_at l.self) (tree_at l.self) l.places l.list l.initial.widths l.widths l.child-index l.growth
