@@ -3,6 +3,7 @@ pub mod Bind
 pub mod Cuts
 pub mod Dashes
 pub mod Fine
+pub mod Finish
 pub mod Found
 pub mod FoundEntries
 pub mod FoundItems
