@@ -6,6 +6,7 @@ use Rattle.std.specs.List.{prefix_len, list_any}
 use Rattle.std.proofs.lemmas.Bool.Decides.{nat_tests}
 use Rattle.macho_stub.proofs.Bind.{eq_true, eq_false, not_below}
 use Rattle.macho_stub.proofs.Fine.{GoodList, GoodMode, GoodPlace, GoodState}
+use Rattle.macho_stub.proofs.Joined.{IsLine, AreLines, spaces_line}
 use Rattle.macho_stub.proofs.OnlyLines.{spelled_indent, spelled_rest, spelled_at}
 use Rattle.macho_stub.specs.declared.keys.ItemKind.{ItemKind}
 use Rattle.macho_stub.specs.declared.keys.ItemKind.TheVariants.{Libraries, Exports, Reexports}
@@ -26,14 +27,16 @@ pub record Finishes (state : StateFields) (line : ℕ) : Type 0 where
   pub more : List (List ℕ)
   pub says : List DocumentFields
   pub is : lines_from state line more ≡ Ok says
+  pub are : AreLines more
 
-pub step_then : (state next : StateFields) (line : ℕ) (text : List ℕ) → line_step state line text ≡ Ok next → Finishes next (line + 1)
-    → Finishes state line
+pub step_then : (state next : StateFields) (line : ℕ) (text : List ℕ) → line_step state line text ≡ Ok next → IsLine text
+    → Finishes next (line + 1) → Finishes state line
 unfolding lines_from
-step_then state next line text e f = record {
+step_then state next line text e l f = record {
   more = text ∷ f.more;
   says = f.says;
   is = ap (λ reading. reading >>= λ s. lines_from s (line + 1) f.more) e ∙ f.is;
+  are = (l, f.are);
 }
 
 -- where keys of a document may stand, or a skipped value goes on
@@ -78,8 +81,8 @@ all_there : (before : List DocumentFields) (document : OpenDocumentFields) (skip
     (t : List (List ℕ)) → document.version ≡ Some v → document.targets ≡ Some t → document.install_name ≡ Some i
     → Finishes (at_top before document skipped) line
 unfolding lines_from with_whole whole_document
-all_there before document true line v i t ev et ei = record { more = []; says = before ++ whole v i t document ∷ []; is = rw (ev, et, ei) refl }
-all_there before document false line v i t ev et ei = record { more = []; says = before ++ whole v i t document ∷ []; is = rw (ev, et, ei) refl }
+all_there before document true line v i t ev et ei = record { more = []; says = before ++ whole v i t document ∷ []; is = rw (ev, et, ei) refl; are = tt }
+all_there before document false line v i t ev et ei = record { more = []; says = before ++ whole v i t document ∷ []; is = rw (ev, et, ei) refl; are = tt }
 
 abbrev with_name : OpenDocumentFields → OpenDocumentFields
 with_name document = record document { install_name = Some (codes "a") }
@@ -114,21 +117,21 @@ name_lacks : (before : List DocumentFields) (document : OpenDocumentFields) (ski
     → Finishes (at_top before document skipped) line
 name_lacks before document skipped line v t (Some i) ev et ei = all_there before document skipped line v i t ev et ei
 name_lacks before document skipped line v t None ev et ei =
-    step_then _ (at_top before (with_name document) false) line name_line (name_steps before document skipped line ei)
+    step_then _ (at_top before (with_name document) false) line name_line (name_steps before document skipped line ei) refl
     (all_there before (with_name document) false (line + 1) v (codes "a") t ev et refl)
 
 targets_lack : (before : List DocumentFields) (document : OpenDocumentFields) (skipped : Bool) (line : ℕ) (v : List ℕ)
     (t : Option (List (List ℕ))) → document.version ≡ Some v → document.targets ≡ t → Finishes (at_top before document skipped) line
 targets_lack before document skipped line v (Some t) ev et = name_lacks before document skipped line v t document.install_name ev et refl
 targets_lack before document skipped line v None ev et =
-    step_then _ (at_top before (with_targets document) false) line targets_line (targets_steps before document skipped line et)
+    step_then _ (at_top before (with_targets document) false) line targets_line (targets_steps before document skipped line et) refl
     (name_lacks before (with_targets document) false (line + 1) v [] document.install_name ev refl refl)
 
 version_lacks : (before : List DocumentFields) (document : OpenDocumentFields) (skipped : Bool) (line : ℕ) (v : Option (List ℕ))
     → document.version ≡ v → Finishes (at_top before document skipped) line
 version_lacks before document skipped line (Some v) ev = targets_lack before document skipped line v document.targets ev refl
 version_lacks before document skipped line None ev =
-    step_then _ (at_top before (with_version document) false) line version_line (version_steps before document skipped line ev)
+    step_then _ (at_top before (with_version document) false) line version_line (version_steps before document skipped line ev) refl
     (targets_lack before (with_version document) false (line + 1) (codes "4") document.targets refl refl)
 
 pub top_finishes : (before : List DocumentFields) (document : OpenDocumentFields) (skipped : Bool) (line : ℕ)
@@ -226,7 +229,7 @@ pub item_done : (before : List DocumentFields) (document : OpenDocumentFields) (
     (items : List ItemFields) → items_with_last document.line list ≡ Ok items → Finishes (at_item before document list skipped) line
 item_done before document list skipped line items e =
     step_then _ (at_top before (with_items list.kind items document) true) line spare_line
-    (spare_steps before document list skipped line items e) (top_finishes before (with_items list.kind items document) true (line + 1))
+    (spare_steps before document list skipped line items e) refl (top_finishes before (with_items list.kind items document) true (line + 1))
 
 pub item_whole : (line : ℕ) (list : ItemListFields) (t : List (List ℕ)) (n : Option (List (List ℕ))) (k : ItemKind)
     → list.item.targets ≡ Some t → list.item.names ≡ n → list.kind ≡ k → ((k ≡ Libraries) → n ≡ None → ⊥)
@@ -244,7 +247,7 @@ names_lack before document list skipped line t None Libraries et en ek below =
     let next = item_with_names list in
     let w = item_whole document.line next t (Some []) Libraries et refl ek (λ e n. cc) in
     step_then _ (at_item before document next false) line (replicate list.column space ++ libraries_line)
-    (item_libraries_step before document list skipped line ek en below) (item_done before document next false (line + 1) w.0 w.1)
+    (item_libraries_step before document list skipped line ek en below) (spaces_line list.column libraries_line refl) (item_done before document next false (line + 1) w.0 w.1)
 names_lack before document list skipped line t (Some n) Libraries et en ek below =
     let w = item_whole document.line list t (Some n) Libraries et en ek (λ e n. cc) in
     item_done before document list skipped line w.0 w.1
@@ -262,7 +265,7 @@ item_targets_lack before document list skipped line (Some t) et below = names_la
 item_targets_lack before document list skipped line None et below =
     let next = item_with_targets list in
     step_then _ (at_item before document next false) line (replicate list.column space ++ targets_line)
-    (item_targets_step before document list skipped line et below)
+    (item_targets_step before document list skipped line et below) (spaces_line list.column targets_line refl)
     (names_lack before document next false (line + 1) [] list.item.names list.kind refl refl refl below)
 
 pub item_finishes : (before : List DocumentFields) (document : OpenDocumentFields) (list : ItemListFields) (skipped : Bool) (line : ℕ)
@@ -324,16 +327,16 @@ mode_finishes : (before : List DocumentFields) (document : OpenDocumentFields) (
 mode_finishes before document list Keys line g m = keys_finish before document list false line g
 mode_finishes before document list Skipped line g m = keys_finish before document list true line g
 mode_finishes before document list (Names names) line g m =
-    step_then _ _ line close_line (close_steps before document list names line m)
+    step_then _ _ line close_line (close_steps before document list names line m) refl
     (closed_finishes before document list names.key (names.part.names ++ []) (line + 1) g)
 mode_finishes before document list (NoItem kind at) line g m =
-    step_then _ _ line dash_text (dash_steps before document list kind at line)
+    step_then _ _ line dash_text (dash_steps before document list kind at line) refl
     (item_finishes before document (begun kind) true (line + 1) (omega arith))
 
 place_finishes : (before : List DocumentFields) (place : PlaceFields) (line : ℕ) → GoodPlace place
     → Finishes (record { documents = before; place = place }) line
 unfolding lines_from
-place_finishes before Outside line g = record { more = []; says = before; is = refl }
+place_finishes before Outside line g = record { more = []; says = before; is = refl; are = tt }
 place_finishes before (Within inside) line g = mode_finishes before inside.document inside.list inside.mode line g.0 g.1
 
 -- each good state has lines that finish the text

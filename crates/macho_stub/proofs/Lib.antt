@@ -5,6 +5,7 @@ pub mod Dashes
 pub mod Fine
 pub mod Finish
 pub mod Found
+pub mod Joined
 pub mod FoundEntries
 pub mod FoundItems
 pub mod FoundTop
@@ -15,6 +16,7 @@ pub mod OnlyLast
 pub mod OnlyLines
 pub mod OnlyLists
 pub mod Parts
+pub mod Reached
 pub mod Rest
 pub mod Ruled
 pub mod Ruling
