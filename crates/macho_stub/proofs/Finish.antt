@@ -7,7 +7,7 @@ use Rattle.std.proofs.lemmas.Bool.Decides.{nat_tests}
 use Rattle.macho_stub.proofs.Bind.{eq_true, eq_false, not_below}
 use Rattle.macho_stub.proofs.Fine.{GoodList, GoodMode, GoodPlace, GoodState}
 use Rattle.macho_stub.proofs.Joined.{IsLine, AreLines, spaces_line}
-use Rattle.macho_stub.proofs.OnlyLines.{spelled_indent, spelled_rest, spelled_at}
+use Rattle.macho_stub.proofs.OnlyLines.{top_indent, spelled_indent, spelled_rest, spelled_at}
 use Rattle.macho_stub.specs.declared.keys.ItemKind.{ItemKind}
 use Rattle.macho_stub.specs.declared.keys.ItemKind.TheVariants.{Libraries, Exports, Reexports}
 use Rattle.macho_stub.specs.declared.keys.ItemKey.{ItemKey}
@@ -152,47 +152,49 @@ spare_steps before document list true line items e = rw (e, not_below list.colum
 spare_steps before document list false line items e = rw e refl
 
 -- a line in the column of the keys of an item
-item_text_barred : (n : ℕ) (text : List ℕ) → has_barred (replicate n space ++ text) ≡ has_barred text
+pub item_text_barred : (n : ℕ) (text : List ℕ) → has_barred (replicate n space ++ text) ≡ has_barred text
 unfolding has_barred
 item_text_barred zero text = refl
 item_text_barred (suc n) text = item_text_barred n text
 
-item_text_passed : (n : ℕ) (text : List ℕ) → prefix_len is_space text ≡ 0
+pub item_text_passed : (n : ℕ) (text : List ℕ) → prefix_len is_space text ≡ 0
     → is_passed (replicate n space ++ text) ≡ is_blank_or_comment text
 unfolding is_passed unspaced indent
 item_text_passed n text h = rw (spelled_indent n text h, spelled_rest n text) refl
 
-no_dash_there : (n : ℕ) (text : List ℕ) → prefix_len is_space text ≡ 0 → get_or text 0 0 ≢ dash
-    → has_dash (replicate n space ++ text) ≡ false
-unfolding has_dash indent
-no_dash_there n text h first =
+no_dash_there : (n : ℕ) (text : List ℕ) → belongs_to_top text ≡ false → has_dash (replicate n space ++ text) ≡ false
+unfolding has_dash indent belongs_to_top
+no_dash_there n text out =
+    let h : prefix_len is_space text ≡ 0 = top_indent text out in
     let at : get_or (replicate n space ++ text) n 0 ≡ get_or text 0 0 = ap (λ k. get_or (replicate n space ++ text) k 0) (omega arith)
     ∙ spelled_at n 0 text in
-    rw (spelled_indent n text h) (not_dash at)
+    rw (spelled_indent n text h, at, spelled_at n 1 text) (not_dash text out)
   where
-    not_dash : get_or (replicate n space ++ text) n 0 ≡ get_or text 0 0
-        → (eqb (get_or (replicate n space ++ text) n 0) dash && eqb (get_or (replicate n space ++ text) (n + 1) 0) space) ≡ false
-    not_dash at = grind (arith, nat_tests)
+    not_dash : (text : List ℕ) → belongs_to_top text ≡ false → (eqb (get_or text 0 0) dash && eqb (get_or text 1 0) space) ≡ false
+    not_dash text out = grind (arith, nat_tests)
 
+-- the line is refused for a byte, or it is the line of a key of the item
 pub item_text_steps : (before : List DocumentFields) (document : OpenDocumentFields) (list : ItemListFields) (skipped : Bool) (line : ℕ)
-    (text : List ℕ) → prefix_len is_space text ≡ 0 → get_or text 0 0 ≢ dash → has_barred text ≡ false → is_blank_or_comment text ≡ false
+    (text : List ℕ) → belongs_to_top text ≡ false → has_barred text ≡ false → is_blank_or_comment text ≡ false
     → list.dash < list.column
     → line_step (at_item before document list skipped) line (replicate list.column space ++ text)
     ≡ within before (item_key_line document list line text)
 unfolding line_step item_line unspaced indent
-item_text_steps before document list true line text h first clean some below =
+item_text_steps before document list true line text out clean some below =
+    let h : prefix_len is_space text ≡ 0 = top_indent text out in
     rw (item_text_barred list.column text, item_text_passed list.column text h, clean, some) (
-    rw (spelled_indent list.column text h, spelled_rest list.column text, no_dash_there list.column text h first) (
+    rw (spelled_indent list.column text h, spelled_rest list.column text, no_dash_there list.column text out) (
     rw (not_below list.column list.column (omega arith), eq_false list.column 0 (omega arith), eq_true list.column list.column refl) refl))
-item_text_steps before document list false line text h first clean some below =
+item_text_steps before document list false line text out clean some below =
+    let h : prefix_len is_space text ≡ 0 = top_indent text out in
     rw (item_text_barred list.column text, item_text_passed list.column text h, clean, some) (
-    rw (spelled_indent list.column text h, spelled_rest list.column text, no_dash_there list.column text h first) (
+    rw (spelled_indent list.column text h, spelled_rest list.column text, no_dash_there list.column text out) (
     rw (eq_false list.column 0 (omega arith), eq_true list.column list.column refl) refl))
 
-abbrev item_with_targets : ItemListFields → ItemListFields
+abbrev pub item_with_targets : ItemListFields → ItemListFields
 item_with_targets list = record list { item = record list.item { targets = Some [] } }
 
-abbrev item_with_names : ItemListFields → ItemListFields
+abbrev pub item_with_names : ItemListFields → ItemListFields
 item_with_names list = record list { item = record list.item { names = Some [] } }
 
 targets_key : (before : List DocumentFields) (document : OpenDocumentFields) (list : ItemListFields) (line : ℕ)
@@ -211,18 +213,18 @@ pub item_targets_step : (before : List DocumentFields) (document : OpenDocumentF
     → list.item.targets ≡ None → list.dash < list.column
     → line_step (at_item before document list skipped) line (replicate list.column space ++ targets_line)
     ≡ Ok (at_item before document (item_with_targets list) false)
-unfolding has_barred is_blank_or_comment
+unfolding has_barred is_blank_or_comment belongs_to_top
 item_targets_step before document list skipped line e below =
-    item_text_steps before document list skipped line targets_line refl (λ h. absurd (omega (arith, h))) refl refl below
+    item_text_steps before document list skipped line targets_line refl refl refl below
     ∙ targets_key before document list line e
 
 pub item_libraries_step : (before : List DocumentFields) (document : OpenDocumentFields) (list : ItemListFields) (skipped : Bool)
     (line : ℕ) → list.kind ≡ Libraries → list.item.names ≡ None → list.dash < list.column
     → line_step (at_item before document list skipped) line (replicate list.column space ++ libraries_line)
     ≡ Ok (at_item before document (item_with_names list) false)
-unfolding has_barred is_blank_or_comment
+unfolding has_barred is_blank_or_comment belongs_to_top
 item_libraries_step before document list skipped line k e below =
-    item_text_steps before document list skipped line libraries_line refl (λ h. absurd (omega (arith, h))) refl refl below
+    item_text_steps before document list skipped line libraries_line refl refl refl below
     ∙ libraries_key before document list line k e
 
 pub item_done : (before : List DocumentFields) (document : OpenDocumentFields) (list : ItemListFields) (skipped : Bool) (line : ℕ)

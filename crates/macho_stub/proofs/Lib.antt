@@ -1,11 +1,14 @@
 pub mod Answered
 pub mod Bind
+pub mod Causes
 pub mod Cuts
 pub mod Dashes
 pub mod Fine
 pub mod Finish
 pub mod Found
 pub mod Joined
+pub mod Keyed
+pub mod Lacking
 pub mod FoundEntries
 pub mod FoundItems
 pub mod FoundTop
@@ -22,6 +25,8 @@ pub mod Ruled
 pub mod Ruling
 pub mod Same
 pub mod Spelled
+pub mod Steps
 pub mod Stops
 pub mod Told
+pub mod Twice
 pub mod Walk
