@@ -14,11 +14,11 @@ IsLine bytes = has_line_feed bytes ≡ false
 abbrev pub AreLines : List (List ℕ) → Type 0
 AreLines texts = AllByRecursion IsLine texts
 
-either_false : (a b : Bool) → (a || b) ≡ false → (a ≡ false) × (b ≡ false)
+pub either_false : (a b : Bool) → (a || b) ≡ false → (a ≡ false) × (b ≡ false)
 either_false true b h = absurd cc
 either_false false b h = (refl, h)
 
-both_false : (a b : Bool) → a ≡ false → b ≡ false → (a || b) ≡ false
+pub both_false : (a b : Bool) → a ≡ false → b ≡ false → (a || b) ≡ false
 both_false true b h k = absurd cc
 both_false false b h k = k
 
@@ -88,7 +88,7 @@ parts_are_lines (b ∷ bytes) = by_test (eqb b 10) refl (parts_are_lines bytes)
     by_test true h a = (refl, a)
     by_test false h a = onto_line b (parts bytes) h a
 
-take_line : (n : ℕ) (line : List ℕ) → IsLine line → IsLine (take n line)
+pub take_line : (n : ℕ) (line : List ℕ) → IsLine line → IsLine (take n line)
 take_line zero line h = refl
 take_line (suc n) [] h = refl
 take_line (suc n) (b ∷ line) h =

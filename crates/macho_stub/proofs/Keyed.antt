@@ -64,6 +64,14 @@ behind_key line key rest said e =
       ]
     ]
 
+-- the key is a front of the text
+pub key_front : (line : ℕ) (text : List ℕ) (said : Entry) → entry_at line text ≡ Ok said → said.key ≡ take (prefix_len is_key_byte text) text
+unfolding entry_at
+key_front line text said e =
+    let p = prefix_len is_key_byte text in
+    let b = not_broken (eqb p 0 || not (eqb (get_or text p 0) colon)) line S1 (entry_behind line (take p text) (drop (p + 1) text)) said e in
+    behind_key line (take p text) (drop (p + 1) text) said b.1
+
 -- a text with the same key
 pub same_key : (line : ℕ) (text : List ℕ) (said : Entry) (rest : List ℕ) → entry_at line text ≡ Ok said
     → HasKey (said.key ++ colon ∷ rest) said.key rest

@@ -6,7 +6,9 @@ pub mod Dashes
 pub mod Fine
 pub mod Finish
 pub mod Found
+pub mod Goods
 pub mod Joined
+pub mod Kept
 pub mod Keyed
 pub mod Lacking
 pub mod FoundEntries
@@ -24,6 +26,7 @@ pub mod Rest
 pub mod Ruled
 pub mod Ruling
 pub mod Same
+pub mod Since
 pub mod Spelled
 pub mod Steps
 pub mod Stops

@@ -36,10 +36,10 @@ record Refuses (state : StateFields) (line : ℕ) (text : List ℕ) : Type 0 whe
   rule : StubRule
   is : line_step state line text ≡ broken at rule
 
-then_top : List DocumentFields → OpenDocumentFields → ℕ → Entry → Reading StateFields
+unfoldable pub then_top : List DocumentFields → OpenDocumentFields → ℕ → Entry → Reading StateFields
 then_top before document line entry = within before (top_entry document line (top_key entry.key) entry.value)
 
-top_reads : (before : List DocumentFields) (document : OpenDocumentFields) (line : ℕ) (text key rest : List ℕ) → HasKey text key rest
+pub top_reads : (before : List DocumentFields) (document : OpenDocumentFields) (line : ℕ) (text key rest : List ℕ) → HasKey text key rest
     → top_line before document line text ≡ (entry_behind line key rest >>= then_top before document line)
 unfolding top_line then_top
 top_reads before document line text key rest h = rw (key_no_head text key rest h, key_no_end text key rest h, key_reads line text key rest h) refl
@@ -110,7 +110,7 @@ spare_in_column first before document list skipped r below =
     (spaces_line list.column spare refl)
     (item_text_steps before document list skipped n spare refl refl refl below ∙ spare_key before document list n list.kind refl)
 
-abbrev then_item : OpenDocumentFields → ItemListFields → ℕ → Entry → Reading InsideFields
+abbrev pub then_item : OpenDocumentFields → ItemListFields → ℕ → Entry → Reading InsideFields
 then_item document list line entry = item_entry document list line (item_key list.kind entry.key) entry.value
 
 item_refuses : (before : List DocumentFields) (document : OpenDocumentFields) (list : ItemListFields) (line : ℕ)
