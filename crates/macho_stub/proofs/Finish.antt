@@ -162,7 +162,7 @@ pub item_text_passed : (n : ℕ) (text : List ℕ) → prefix_len is_space text 
 unfolding is_passed unspaced indent
 item_text_passed n text h = rw (spelled_indent n text h, spelled_rest n text) refl
 
-no_dash_there : (n : ℕ) (text : List ℕ) → belongs_to_top text ≡ false → has_dash (replicate n space ++ text) ≡ false
+pub no_dash_there : (n : ℕ) (text : List ℕ) → belongs_to_top text ≡ false → has_dash (replicate n space ++ text) ≡ false
 unfolding has_dash indent belongs_to_top
 no_dash_there n text out =
     let h : prefix_len is_space text ≡ 0 = top_indent text out in

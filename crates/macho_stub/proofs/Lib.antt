@@ -15,11 +15,13 @@ pub mod FoundEntries
 pub mod FoundItems
 pub mod FoundTop
 pub mod Gather
+pub mod NoNext
 pub mod Only
 pub mod OnlyItems
 pub mod OnlyLast
 pub mod OnlyLines
 pub mod OnlyLists
+pub mod Outsides
 pub mod Parts
 pub mod Reached
 pub mod Rest
