@@ -241,7 +241,7 @@ item_key_line_fine document list line text g =
     fine_bind AnyOf GoodInside (here_at line) (entry_at line text) _ (widen AnyOf line _ (entry_fine line text))
     (λ entry _. item_entry_fine document list line (item_key list.kind entry.key) entry.value g)
 
-dash_before_key : (text : List ℕ) → indent text < key_column text
+pub dash_before_key : (text : List ℕ) → indent text < key_column text
 unfolding key_column
 dash_before_key text = omega arith
 

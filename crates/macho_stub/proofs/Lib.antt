@@ -3,6 +3,7 @@ pub mod Bind
 pub mod Causes
 pub mod Cuts
 pub mod Dashes
+pub mod Elsewhere
 pub mod Fine
 pub mod Finish
 pub mod Found
@@ -35,3 +36,4 @@ pub mod Stops
 pub mod Told
 pub mod Twice
 pub mod Walk
+pub mod Whys
