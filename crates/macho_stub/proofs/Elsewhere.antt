@@ -1,22 +1,20 @@
 -- Why a line is refused inside a flow list, where an item must stand, and outside documents: it is outside the grammar.
 -- In each of these places some line at column 0 may stand, and none with a key.
-use Rattle.std.proofs.Common.{◌≡◌, ◌≢◌, ℕ, zero, suc, ◌+◌, ◌-◌, ◌<◌, ◌&&◌, Bool, true, false, cond, eqb, List, [], ◌∷◌, ◌++◌, length, replicate, Option, Some, None, Ok, Err, refl, sym, ap, ◌∙◌, arith, ◌⊎◌, inl, inr, subst}
-use Rattle.std.specs.Prelude.{codes}
-use Rattle.std.specs.List.{prefix_len, list_any}
+use Rattle.std.proofs.Common.{◌≡◌, ℕ, zero, suc, ◌+◌, true, false, cond, eqb, List, [], ◌∷◌, length, Option, None, Ok, refl, sym, ◌∙◌, inl, inr}
 use Rattle.std.specs.Str.{bytes_eq}
 use Rattle.macho_stub.specs.declared.keys.ItemKind.{ItemKind}
 use Rattle.macho_stub.specs.declared.list.Expect.{Expect}
 use Rattle.macho_stub.specs.declared.list.Expect.TheVariants.{AfterOpen, AfterComma, AfterName, Closed}
 use Rattle.macho_stub.specs.declared.fault.StubRule.{StubRule}
-use Rattle.macho_stub.specs.declared.fault.StubRule.TheVariants.{S1, S2, S3}
+use Rattle.macho_stub.specs.declared.fault.StubRule.TheVariants.{S1}
 use Rattle.macho_stub.specs.Bytes.{space, indent, unspaced, is_passed, has_barred, is_blank_or_comment, is_mark, is_plain_byte, has_late_control_after}
 use Rattle.macho_stub.specs.Scalars.{scalar_front, plain_front}
-use Rattle.macho_stub.specs.Faults.{Fault, Reading, ◌>>=◌, broken, outside}
-use Rattle.macho_stub.specs.Lists.{ListPart, list_part, token_front, behind, with_front}
+use Rattle.macho_stub.specs.Faults.{broken, outside}
+use Rattle.macho_stub.specs.Lists.{list_part, token_front, behind}
 use Rattle.macho_stub.specs.Documents.{DocumentFields, OpenDocumentFields, head_at}
-use Rattle.macho_stub.specs.Reader.{ItemListFields, NameListFields, ModeFields, InsideFields, PlaceFields, Outside, Within, Keys, Skipped, Names, NoItem, StateFields, stays, head, has_dash, belongs_to_top, names_line, behind_part, first_line, within, key_line, belongs, inside_line, content_line, line_step}
-use Rattle.macho_stub.specs.Order.{MayStand, EndsWithout, StandsTwice, IsWhy, spare, dashed, closing, in_column}
-use Rattle.macho_stub.proofs.Bind.{chosen, not_broken}
+use Rattle.macho_stub.specs.Reader.{ItemListFields, NameListFields, ModeFields, PlaceFields, Outside, Within, Keys, Skipped, Names, NoItem, StateFields, stays, head, belongs_to_top, names_line, first_line, key_line, belongs, inside_line, content_line, line_step}
+use Rattle.macho_stub.specs.Order.{MayStand, IsWhy, spare, dashed, closing, in_column}
+use Rattle.macho_stub.proofs.Bind.{chosen}
 use Rattle.macho_stub.proofs.Ruling.{same_err}
 use Rattle.macho_stub.proofs.Told.{ok_not_told}
 use Rattle.macho_stub.proofs.Fine.{GoodInside, outside_at, names_line_fine}
@@ -24,7 +22,7 @@ use Rattle.macho_stub.proofs.Causes.{at_line, within_refused}
 use Rattle.macho_stub.proofs.Joined.{IsLine}
 use Rattle.macho_stub.proofs.Finish.{item_text_barred, item_text_passed, no_dash_there}
 use Rattle.macho_stub.proofs.Reached.{Reached, may_stand, refused}
-use Rattle.macho_stub.proofs.Since.{Known, closing_stands, item_stands, no_spare_at_item}
+use Rattle.macho_stub.proofs.Since.{Known, closing_stands, item_stands}
 use Rattle.macho_stub.proofs.Whys.{same_why, outside_fault, fault_at, first_outside, keys_why}
 
 -- ---- inside a flow list
@@ -67,10 +65,11 @@ no_key_in_list first before document list names n r m = refused first _ (in_colu
 -- a line in a place where some line at column 0 may stand, and no key
 no_key_why : (first : List (List ℕ)) (text other : List ℕ) → is_passed other ≡ false → indent other ≡ 0 → MayStand first other
     → ((n : ℕ) → MayStand first (in_column n spare) → ⊥) → IsWhy S1 (length first + 1) first text
-no_key_why first text other some flush stands none =
-    (refl,
-    (λ w. elim w.lacks [ inl i ↦ i.0 other some flush stands | inr d ↦ none 0 d.0.0 ]),
-    λ t. none (indent text) t.another)
+no_key_why first text other some flush stands none = (
+  refl,
+  (λ w. elim w.lacks [ inl i ↦ i.0 other some flush stands | inr d ↦ none 0 d.0.0 ]),
+  λ t. none (indent text) t.another,
+)
 
 names_why : (first : List (List ℕ)) (before : List DocumentFields) (document : OpenDocumentFields) (list : Option ItemListFields)
     (names : NameListFields) (text : List ℕ) (at : ℕ) (rule : StubRule)

@@ -1,6 +1,6 @@
 -- A step over a line that fails tells that line, but for a key that is lacking. And a step that doesn't fail leaves
 -- the reading in good order: keys of an item stand behind its dash, and a list that goes on isn't closed.
-use Rattle.std.proofs.Common.{◌≡◌, ◌≢◌, ℕ, zero, suc, ◌+◌, ◌-◌, ◌<◌, ◌&&◌, Bool, true, false, cond, eqb, get_or, take, length, List, [], ◌∷◌, ◌++◌, drop, Option, Some, None, Ok, Err, refl, sym, ap, subst, arith, ◌⊎◌, inl, inr}
+use Rattle.std.proofs.Common.{◌≡◌, ◌≢◌, ℕ, zero, suc, ◌+◌, ◌-◌, ◌<◌, ◌&&◌, Bool, true, false, cond, eqb, get_or, take, length, List, [], ◌∷◌, drop, Option, Some, None, Ok, Err, refl, sym, subst, arith, ◌⊎◌, inl, inr}
 use Rattle.std.specs.List.{prefix_len}
 use Rattle.std.specs.Str.{bytes_eq}
 use Rattle.macho_stub.specs.declared.keys.ItemKind.{ItemKind}
@@ -13,7 +13,6 @@ use Rattle.macho_stub.specs.declared.list.Expect.{Expect}
 use Rattle.macho_stub.specs.declared.list.Expect.TheVariants.{AfterOpen, AfterComma, AfterName, Closed}
 use Rattle.macho_stub.specs.declared.list.TokenKind.{TokenKind}
 use Rattle.macho_stub.specs.declared.list.TokenKind.TheVariants.{Gap, Comma, Close, Name}
-use Rattle.macho_stub.specs.declared.fault.StubRule.{StubRule}
 use Rattle.macho_stub.specs.declared.fault.StubRule.TheVariants.{S1, S2, S3}
 use Rattle.macho_stub.proofs.Ruling.{same_err}
 use Rattle.macho_stub.specs.Bytes.{space, comma, close_bracket, indent, unspaced, is_key_byte, is_tail, is_passed, has_barred}

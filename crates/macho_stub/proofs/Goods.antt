@@ -1,8 +1,7 @@
 -- A key that is refused where it didn't come before is refused for its value: with another value it may stand.
-use Rattle.std.proofs.Common.{◌≡◌, ◌≢◌, ℕ, zero, suc, ◌+◌, ◌<◌, ◌&&◌, ◌||◌, Bool, true, false, cond, eqb, List, [], ◌∷◌, ◌++◌, length, take, Option, Some, None, Ok, Err, is_some, refl, sym, ap, ◌∙◌, arith, ◌⊎◌, inl, inr, subst}
+use Rattle.std.proofs.Common.{◌≡◌, ℕ, zero, suc, ◌+◌, ◌<◌, Bool, true, false, cond, eqb, List, [], ◌∷◌, ◌++◌, length, take, Option, Some, None, Ok, Err, is_some, refl, sym, ap, ◌∙◌, subst}
 use Rattle.std.specs.Prelude.{codes}
-use Rattle.std.specs.List.{prefix_len, list_any}
-use Rattle.macho_stub.specs.declared.keys.ItemKind.{ItemKind}
+use Rattle.std.specs.List.{prefix_len}
 use Rattle.macho_stub.specs.declared.keys.ItemKey.{ItemKey}
 use Rattle.macho_stub.specs.declared.keys.ItemKey.TheVariants as item
 use Rattle.macho_stub.specs.declared.keys.TopKey.{TopKey}
@@ -14,13 +13,13 @@ use Rattle.macho_stub.specs.Lists.{list_part, token_front, behind}
 use Rattle.macho_stub.specs.Faults.{Reading, ◌>>=◌, broken, outside}
 use Rattle.macho_stub.specs.Keys.{Entry, entry_at, entry_behind, top_key, item_key, scalar_value, version_value, number_of}
 use Rattle.macho_stub.specs.Documents.{DocumentFields, OpenDocumentFields, has_items, has_key, with_key}
-use Rattle.macho_stub.specs.Reader.{ItemListFields, InsideFields, Within, Keys, Skipped, NoItem, StateFields, stays, names_value, names_line, skipped_value, top_entry, item_entry, item_key_line, within, top_line}
+use Rattle.macho_stub.specs.Reader.{ItemListFields, InsideFields, Within, Keys, Skipped, NoItem, StateFields, stays, names_value, names_line, skipped_value, top_entry, item_entry, item_key_line, within}
 use Rattle.macho_stub.specs.Order.{MayStand, in_column}
 use Rattle.macho_stub.proofs.Joined.{IsLine, has_line_feed, either_false, both_false, take_line, spaces_line}
 use Rattle.macho_stub.proofs.Finish.{at_item, item_text_steps}
 use Rattle.macho_stub.proofs.Reached.{Reached, may_stand}
 use Rattle.macho_stub.proofs.Steps.{Closes, keys_state, top_steps}
-use Rattle.macho_stub.proofs.Keyed.{HasKey, key_front, same_key, key_reads, key_at_top, key_has_content, key_not_passed}
+use Rattle.macho_stub.proofs.Keyed.{key_front, same_key, key_reads, key_at_top, key_has_content, key_not_passed}
 use Rattle.macho_stub.proofs.Causes.{same_parts}
 use Rattle.macho_stub.proofs.Twice.{then_top, top_reads, then_item}
 use Rattle.macho_stub.proofs.Ruling.{same_err}
@@ -76,8 +75,11 @@ good_top document line name top.CurrentVersion value k e = record {
 good_top document line name (top.Items kind) value k e = record {
   rest = [];
   gives = stays document None (NoItem kind line);
-  reads = rw (k, not_had line (has_items kind document)
-      (cond (eqb (length value) 0) (Ok (stays document None (NoItem kind line))) (outside line)) e) refl;
+  reads = rw (
+    k,
+    not_had line (has_items kind document)
+        (cond (eqb (length value) 0) (Ok (stays document None (NoItem kind line))) (outside line)) e,
+  ) refl;
   is_line = refl;
   clean = refl;
 }
@@ -148,7 +150,7 @@ key_line_is : (line : ℕ) (text : List ℕ) (said : Entry) (rest : List ℕ) �
     → IsLine (said.key ++ colon ∷ rest)
 key_line_is line text said rest e l r =
     let front : IsLine said.key = let F : List ℕ → Type 0 = λ k. IsLine k in subst F (sym (key_front line text said e))
-        (take_line (prefix_len is_key_byte text) text l) in
+    (take_line (prefix_len is_key_byte text) text l) in
     line_after said.key (colon ∷ rest) front r
 
 key_line_clean : (line : ℕ) (text : List ℕ) (said : Entry) (rest : List ℕ) → entry_at line text ≡ Ok said → has_barred text ≡ false
@@ -169,12 +171,14 @@ good_at_top first before document whole list skipped text said r c clean l e ref
     let g = good_top whole n said.key (top_key said.key) said.value refl refused in
     let again = said.key ++ colon ∷ g.rest in
     let k = same_key n text said g.rest e in
-    let next : StateFields = record { documents = before; place = Within g.gives } in
-    (g.rest, may_stand first (keys_state before document list skipped) next again r (key_line_is n text said g.rest e l g.is_line)
-    (top_steps before document whole list skipped n again c (key_line_clean n text said g.rest e clean g.clean)
-    (key_not_passed again said.key g.rest k) (key_at_top again said.key g.rest k)
-    ∙ top_reads before whole n again said.key g.rest k
-    ∙ by_reading (entry_behind n said.key g.rest) g.gives g.reads))
+    let next : StateFields = record { documents = before; place = Within g.gives } in (
+      g.rest,
+      may_stand first (keys_state before document list skipped) next again r (key_line_is n text said g.rest e l g.is_line)
+          (top_steps before document whole list skipped n again c (key_line_clean n text said g.rest e clean g.clean)
+          (key_not_passed again said.key g.rest k) (key_at_top again said.key g.rest k)
+          ∙ top_reads before whole n again said.key g.rest k
+          ∙ by_reading (entry_behind n said.key g.rest) g.gives g.reads),
+    )
   where
     by_reading : (reading : Reading Entry) (gives : InsideFields) → (reading >>= top_of whole (length first + 1)) ≡ Ok gives
         → (reading >>= then_top before whole (length first + 1)) ≡ Ok (record { documents = before; place = Within gives })
@@ -192,10 +196,12 @@ good_in_column first before document list skipped text said r below clean l e re
     let g = good_item document list n said.key (item_key list.kind said.key) said.value refl refused in
     let again = said.key ++ colon ∷ g.rest in
     let k = same_key n text said g.rest e in
-    let next : StateFields = record { documents = before; place = Within g.gives } in
-    (g.rest, may_stand first (at_item before document list skipped) next (in_column list.column again) r
-    (spaces_line list.column again (key_line_is n text said g.rest e l g.is_line))
-    (item_text_steps before document list skipped n again (key_at_top again said.key g.rest k)
-    (key_line_clean n text said g.rest e clean g.clean) (key_has_content again said.key g.rest k) below
-    ∙ ap (λ reading. within before (reading >>= then_item document list n)) (key_reads n again said.key g.rest k)
-    ∙ ap (within before) g.reads))
+    let next : StateFields = record { documents = before; place = Within g.gives } in (
+      g.rest,
+      may_stand first (at_item before document list skipped) next (in_column list.column again) r
+          (spaces_line list.column again (key_line_is n text said g.rest e l g.is_line))
+          (item_text_steps before document list skipped n again (key_at_top again said.key g.rest k)
+          (key_line_clean n text said g.rest e clean g.clean) (key_has_content again said.key g.rest k) below
+          ∙ ap (λ reading. within before (reading >>= then_item document list n)) (key_reads n again said.key g.rest k)
+          ∙ ap (within before) g.reads),
+    )

@@ -1,8 +1,7 @@
 -- What a step leaves: the document's first line, and the line where a flow list or a key of items began. A head alone
 -- begins another document, and a list that was open alone keeps where it began.
-use Rattle.std.proofs.Common.{◌≡◌, ◌≢◌, ℕ, ◌+◌, ◌<◌, ◌&&◌, Bool, true, false, cond, eqb, ltb, List, [], ◌∷◌, ◌++◌, length, drop, Option, Some, None, Ok, Err, is_some, refl, sym, ap, ◌∙◌, arith, ◌⊎◌, inl, inr, subst}
+use Rattle.std.proofs.Common.{◌≡◌, ◌≢◌, ℕ, ◌&&◌, Bool, true, false, cond, eqb, List, [], length, drop, Option, Some, None, Ok, is_some, refl, sym, ap, ◌∙◌, arith, ◌⊎◌, inl, inr, subst}
 use Rattle.std.specs.Str.{bytes_eq}
-use Rattle.std.specs.List.{prefix_len}
 use Rattle.std.proofs.lemmas.Bool.Decides.{nat_tests}
 use Rattle.macho_stub.specs.declared.keys.ItemKind.{ItemKind}
 use Rattle.macho_stub.specs.declared.keys.ItemKind.TheVariants.{Libraries, Exports, Reexports}
@@ -13,14 +12,14 @@ use Rattle.macho_stub.specs.declared.keys.TopKey.TheVariants as top
 use Rattle.macho_stub.specs.declared.list.Expect.{Expect}
 use Rattle.macho_stub.specs.declared.list.Expect.TheVariants.{AfterOpen, AfterComma, AfterName, Closed}
 use Rattle.macho_stub.specs.declared.fault.StubRule.TheVariants.{S1, S3}
-use Rattle.macho_stub.specs.Bytes.{open_bracket, indent, unspaced, is_passed, has_barred, is_mark, is_plain_byte, has_late_control_after}
+use Rattle.macho_stub.specs.Bytes.{indent, unspaced, is_passed, has_barred, is_mark, is_plain_byte, has_late_control_after}
 use Rattle.macho_stub.specs.Scalars.{scalar_front, plain_front}
 use Rattle.macho_stub.specs.Faults.{Reading, ◌>>=◌, broken, outside}
 use Rattle.macho_stub.specs.Lists.{ListPart, list_part, token_front, behind, with_front}
 use Rattle.macho_stub.specs.Keys.{Entry, entry_at, scalar_value, version_value, top_key, item_key}
 use Rattle.macho_stub.specs.Documents.{ItemFields, DocumentFields, OpenDocumentFields, head_at, with_items, has_items, has_key, with_top_key, no_item}
 use Rattle.macho_stub.specs.Reader.{ItemListFields, NameListFields, ModeFields, Keys, Skipped, Names, NoItem, InsideFields, PlaceFields, Outside, Within, StateFields, stays, head, end, has_dash, belongs_to_top, with_names, behind_expect, behind_part, names_line, names_value, opened, skipped_value, item_entry, item_key_line, key_column, first_line, top_entry, within, with_whole, top_line, items_with_last, item_line, key_line, belongs, inside_line, content_line, line_step}
-use Rattle.macho_stub.proofs.Bind.{bind_ok, chosen, not_broken, not_broken_else, same_ok, no_ok, same_bytes, bytes_same, eq_at, ne_at}
+use Rattle.macho_stub.proofs.Bind.{bind_ok, chosen, not_broken, not_broken_else, same_ok, no_ok, same_bytes, bytes_same, ne_at}
 
 -- what is read has this
 abbrev pub Kept : {A : Type 0} → (A → Type 0) → Reading A → Type 0
@@ -219,7 +218,7 @@ item_line_kept before document list line text next e =
       | inr b ↦ elim (chosen (eqb (indent text) 0) (items_with_last document.line list >>= top) by_key (Ok next) b.1) [
         | inl d ↦ kept_bind P (items_with_last document.line list) top
             (λ items _. let K : ℕ → Type 0 = λ n. Kept (BehindState n line line text) (top_line before (with_items list.kind items document) line text)
-                in subst K (items_line list.kind items document) (top_line_kept before (with_items list.kind items document) line text)) next d.1
+            in subst K (items_line list.kind items document) (top_line_kept before (with_items list.kind items document) line text)) next d.1
         | inr d ↦
             let k = not_broken_else (eqb (indent text) list.column) line S1 (within before (item_key_line document list line (unspaced text))) next d.1 in
             within_kept document.line line line text before _ (indent_no_head text (ne_at _ _ d.0))

@@ -1,13 +1,13 @@
 -- Lines that begin with a key and a colon. The key ends at the colon, whatever follows; so a line with the key of
 -- another reads as the same key.
-use Rattle.std.proofs.Common.{◌≡◌, ◌≢◌, ℕ, suc, ◌+◌, ◌<◌, ◌&&◌, ◌||◌, not, Bool, true, false, cond, eqb, get_or, take, drop, List, [], ◌∷◌, ◌++◌, length, Ok, Err, refl, sym, ap, ◌∙◌, arith, inl, inr, ◌⊎◌}
+use Rattle.std.proofs.Common.{◌≡◌, ◌≢◌, ℕ, suc, ◌+◌, ◌||◌, not, Bool, true, false, cond, eqb, get_or, take, drop, List, [], ◌∷◌, ◌++◌, Ok, refl, sym, ap, ◌∙◌, arith, inl, inr, ◌⊎◌}
 use Rattle.std.specs.List.{prefix_len}
 use Rattle.std.specs.Str.{bytes_eq}
 use Rattle.std.proofs.lemmas.Bool.Decides.{nat_tests}
 use Rattle.std.proofs.Math.Numerals.{one-add}
 use Rattle.macho_stub.specs.declared.fault.StubRule.TheVariants.{S1}
-use Rattle.macho_stub.specs.Bytes.{space, dash, colon, number_sign, is_key_byte, is_passed, is_tail, is_blank_or_comment, indent, unspaced}
-use Rattle.macho_stub.specs.Faults.{Reading, broken, outside}
+use Rattle.macho_stub.specs.Bytes.{space, dash, colon, number_sign, is_key_byte, is_passed, is_tail, is_blank_or_comment, unspaced}
+use Rattle.macho_stub.specs.Faults.{Reading, outside}
 use Rattle.macho_stub.specs.Keys.{Entry, entry_at, entry_behind}
 use Rattle.macho_stub.specs.Reader.{head, end, belongs_to_top}
 use Rattle.macho_stub.proofs.Bind.{chosen, not_broken, same_ok, no_ok, same_bytes}
@@ -96,7 +96,7 @@ pub key_reads : (line : ℕ) (text key rest : List ℕ) → HasKey text key rest
 unfolding entry_at
 key_reads line text key rest h =
     let t : (eqb (prefix_len is_key_byte text) 0 || not (eqb (get_or text (prefix_len is_key_byte text) 0) colon)) ≡ false =
-        passes (prefix_len is_key_byte text) (get_or text (prefix_len is_key_byte text) 0) h.some h.behind in
+    passes (prefix_len is_key_byte text) (get_or text (prefix_len is_key_byte text) 0) h.some h.behind in
     ap (λ b. cond b (outside line) (entry_behind line (take (prefix_len is_key_byte text) text) (drop (prefix_len is_key_byte text + 1) text))) t
     ∙ ap (λ k. entry_behind line k (drop (prefix_len is_key_byte text + 1) text)) h.front
     ∙ ap (λ r. entry_behind line key r) h.back

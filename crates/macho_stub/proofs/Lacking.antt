@@ -1,25 +1,23 @@
 -- A line that ends an item or a document which lacks a key. Behind the lines that were read, no line at column 0 may
 -- stand where the last item lacks one, and no head and no end where the document lacks one; with the keys put in that
 -- the item lacks, the next item may begin in the column of the list's dashes.
-use Rattle.std.proofs.Common.{◌≡◌, ◌≢◌, ℕ, ◌+◌, ◌<◌, ◌&&◌, Bool, true, false, cond, eqb, ltb, List, [], ◌∷◌, ◌++◌, length, map, replicate, Option, Some, None, Ok, Err, refl, sym, ap, ◌∙◌, arith, ◌⊎◌, inl, inr, subst, append_assoc}
-use Rattle.std.specs.Prelude.{codes, unwrap_or}
-use Rattle.std.specs.List.{prefix_len, list_any, AllByRecursion}
-use Rattle.std.proofs.lemmas.Bool.Decides.{nat_tests}
+use Rattle.std.proofs.Common.{◌≡◌, ℕ, ◌+◌, ◌<◌, Bool, true, false, List, [], ◌∷◌, ◌++◌, length, map, Option, Some, None, Ok, refl, sym, ◌∙◌, arith, inl, inr, subst, append_assoc}
+use Rattle.std.specs.List.{AllByRecursion}
 use Rattle.std.proofs.lemmas.List.{append-nil}
 use Rattle.macho_stub.specs.declared.keys.ItemKind.{ItemKind}
 use Rattle.macho_stub.specs.declared.keys.ItemKind.TheVariants.{Libraries, Exports, Reexports}
 use Rattle.macho_stub.specs.declared.fault.StubRule.{StubRule}
-use Rattle.macho_stub.specs.declared.fault.StubRule.TheVariants.{S1, S2, S3}
-use Rattle.macho_stub.specs.Bytes.{space, dash, indent, unspaced, is_passed, has_barred, is_blank_or_comment, is_key_byte, is_tail}
-use Rattle.macho_stub.specs.Faults.{Reading, ◌>>=◌, broken, outside}
+use Rattle.macho_stub.specs.declared.fault.StubRule.TheVariants.{S1}
+use Rattle.macho_stub.specs.Bytes.{indent, unspaced, is_passed, has_barred, is_blank_or_comment, is_key_byte, is_tail}
+use Rattle.macho_stub.specs.Faults.{broken, outside}
 use Rattle.macho_stub.specs.Keys.{entry_at, item_key}
-use Rattle.macho_stub.specs.Documents.{ItemFields, DocumentFields, OpenDocumentFields, with_items, no_item, whole_item}
-use Rattle.macho_stub.specs.Reader.{ItemListFields, Within, StateFields, stays, Skipped, head, end, has_dash, key_column, belongs_to_top, skipped_value, item_key_line, first_line, within, with_whole, items_with_last, item_line, line_step}
+use Rattle.macho_stub.specs.Documents.{ItemFields, DocumentFields, OpenDocumentFields, no_item}
+use Rattle.macho_stub.specs.Reader.{ItemListFields, StateFields, head, end, has_dash, skipped_value, item_key_line, first_line, within, with_whole, items_with_last, item_line, line_step}
 use Rattle.macho_stub.specs.Order.{MayStand, LacksInItem, LacksInDocument, IsNeeded, IsNextItem, spare, dashed, in_column}
-use Rattle.macho_stub.proofs.Bind.{eq_true, eq_false, not_below}
-use Rattle.macho_stub.proofs.OnlyLines.{spelled_indent, DashLine, dash_line}
+use Rattle.macho_stub.proofs.Bind.{eq_true, not_below}
+use Rattle.macho_stub.proofs.OnlyLines.{DashLine, dash_line}
 use Rattle.macho_stub.proofs.Joined.{spaces_line}
-use Rattle.macho_stub.proofs.Finish.{mode_at, at_top, at_item, item_whole, item_targets_step, item_libraries_step, item_with_targets, item_with_names, targets_line, libraries_line, item_text_barred, item_text_passed}
+use Rattle.macho_stub.proofs.Finish.{at_top, at_item, item_whole, item_targets_step, item_libraries_step, item_with_targets, item_with_names, targets_line, libraries_line, item_text_barred, item_text_passed}
 use Rattle.macho_stub.proofs.Reached.{Reached, reached_more, may_stand, refused}
 use Rattle.macho_stub.proofs.Steps.{Closes, keys_state, lacking_steps, spare_at_top, head_at_top, end_at_top}
 

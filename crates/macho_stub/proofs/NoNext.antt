@@ -1,25 +1,21 @@
 -- No next item begins at a dash in another column than that of the list's dashes, also with keys put in: each key is
 -- read in the column of the item's keys, or belongs to a value that is skipped, and so leaves the columns as they are;
 -- and behind it such a dash is refused.
-use Rattle.std.proofs.Common.{◌≡◌, ◌≢◌, ℕ, zero, suc, ◌+◌, ◌<◌, ◌&&◌, ◌||◌, Bool, true, false, cond, eqb, ltb, get_or, drop, List, [], ◌∷◌, ◌++◌, length, map, replicate, Option, Some, None, Ok, Err, is_some, refl, sym, ap, ◌∙◌, arith, ◌⊎◌, inl, inr, subst, append_assoc}
-use Rattle.std.specs.Prelude.{codes}
-use Rattle.std.specs.List.{prefix_len, list_any, AllByRecursion}
-use Rattle.std.proofs.lemmas.Bool.Decides.{nat_tests}
+use Rattle.std.proofs.Common.{◌≡◌, ◌≢◌, ℕ, zero, suc, ◌+◌, Bool, true, false, cond, eqb, ltb, drop, List, [], ◌∷◌, ◌++◌, length, map, Some, Ok, refl, sym, ap, ◌∙◌, arith, inl, inr, subst, append_assoc}
+use Rattle.std.specs.List.{prefix_len, AllByRecursion}
 use Rattle.std.proofs.lemmas.List.{append-nil}
 use Rattle.macho_stub.specs.declared.keys.ItemKind.{ItemKind}
 use Rattle.macho_stub.specs.declared.keys.ItemKind.TheVariants.{Libraries, Exports, Reexports}
-use Rattle.macho_stub.specs.declared.keys.ItemKey.{ItemKey}
 use Rattle.macho_stub.specs.declared.keys.ItemKey.TheVariants as item
-use Rattle.macho_stub.specs.declared.fault.StubRule.{StubRule}
 use Rattle.macho_stub.specs.declared.fault.StubRule.TheVariants.{S1, S3}
-use Rattle.macho_stub.specs.Bytes.{is_space, space, dash, indent, unspaced, is_passed, has_barred, is_blank_or_comment, is_key_byte, is_tail, is_mark, is_plain_byte, has_late_control_after}
-use Rattle.macho_stub.specs.Faults.{Reading, ◌>>=◌, broken, outside}
+use Rattle.macho_stub.specs.Bytes.{is_space, indent, unspaced, is_passed, has_barred, is_blank_or_comment, is_key_byte, is_tail}
+use Rattle.macho_stub.specs.Faults.{Reading, broken, outside}
 use Rattle.macho_stub.specs.Lists.{list_part, token_front, behind}
-use Rattle.macho_stub.specs.Keys.{Entry, entry_at, item_key}
-use Rattle.macho_stub.specs.Documents.{ItemFields, DocumentFields, OpenDocumentFields, OpenItemFields, has_key, with_key}
-use Rattle.macho_stub.specs.Reader.{ItemListFields, InsideFields, Within, Keys, StateFields, stays, has_dash, belongs_to_top, names_line, names_value, skipped_value, item_entry, item_key_line, within, item_line, line_step}
+use Rattle.macho_stub.specs.Keys.{entry_at, item_key}
+use Rattle.macho_stub.specs.Documents.{DocumentFields, OpenDocumentFields, OpenItemFields, has_key, with_key}
+use Rattle.macho_stub.specs.Reader.{ItemListFields, Keys, StateFields, stays, has_dash, belongs_to_top, names_line, names_value, skipped_value, item_key_line, within, item_line, line_step}
 use Rattle.macho_stub.specs.Order.{MayStand, LacksInItem, IsNeeded, IsNextItem, spare, dashed, in_column}
-use Rattle.macho_stub.proofs.Bind.{bind_ok, not_broken, not_broken_else, no_ok, same_ok, eq_true, eq_false, not_below, chosen}
+use Rattle.macho_stub.proofs.Bind.{not_broken_else, no_ok, same_ok, eq_false, chosen}
 use Rattle.macho_stub.proofs.OnlyLines.{top_indent, spelled_indent, spelled_rest, DashLine, dash_line}
 use Rattle.macho_stub.proofs.Joined.{IsLine, spaces_line}
 use Rattle.macho_stub.proofs.Finish.{at_item, item_text_barred, item_text_passed, no_dash_there, targets_line, libraries_line}
@@ -57,16 +53,31 @@ other_dash : (before : List DocumentFields) (document : OpenDocumentFields) (lis
 unfolding line_step item_line item_key_line entry_at is_key_byte has_barred is_blank_or_comment unspaced indent
 other_dash before document list true line n nz nd s =
     let d : DashLine n 1 (in_column n dashed) spare = dash_line n 1 spare (omega arith) refl in
-    rw (item_text_barred n dashed, item_text_passed n dashed refl, d.indented, d.dashed, spelled_rest n dashed, s refl, eq_false n list.dash nd,
-    eq_false n 0 nz) (by_column (eqb n list.column))
+    rw (
+      item_text_barred n dashed,
+      item_text_passed n dashed refl,
+      d.indented,
+      d.dashed,
+      spelled_rest n dashed,
+      s refl,
+      eq_false n list.dash nd,
+      eq_false n 0 nz,
+    ) (by_column (eqb n list.column))
   where
     by_column : (t : Bool) → cond {A = Reading StateFields} t (outside line) (outside line) ≡ outside line
     by_column true = refl
     by_column false = refl
 other_dash before document list false line n nz nd s =
     let d : DashLine n 1 (in_column n dashed) spare = dash_line n 1 spare (omega arith) refl in
-    rw (item_text_barred n dashed, item_text_passed n dashed refl, d.indented, d.dashed, spelled_rest n dashed, eq_false n list.dash nd,
-    eq_false n 0 nz) (by_column (eqb n list.column))
+    rw (
+      item_text_barred n dashed,
+      item_text_passed n dashed refl,
+      d.indented,
+      d.dashed,
+      spelled_rest n dashed,
+      eq_false n list.dash nd,
+      eq_false n 0 nz,
+    ) (by_column (eqb n list.column))
   where
     by_column : (t : Bool) → cond {A = Reading StateFields} t (outside line) (outside line) ≡ outside line
     by_column true = refl
@@ -204,7 +215,7 @@ no_dash first before document list skipped n column (key ∷ keys) r nz nd s cz 
     let same = key_steps before document list skipped (length first + 1) column next.0 key a.0 cz next.1 in
     let R : StateFields → Type 0 = λ state. Reached (first ++ line ∷ []) state in
     let there = subst R (sym same.is) (reached_more first (at_item before document list skipped) next.0 line r
-        (spaces_line column key t.line) next.1) in
+    (spaces_line column key t.line) next.1) in
     let M : List (List ℕ) → Type 0 = λ f. MayStand f (in_column n dashed) in
     no_dash (first ++ line ∷ []) before document same.after same.left n column keys there nz (λ h. nd (h ∙ same.same_dash))
     (λ h. ap (λ c. ltb c n) same.same_column ∙ s (same.still h)) cz a.1 (subst M (sym (append_assoc first (line ∷ []) more)) m)

@@ -1,35 +1,24 @@
 -- A line that is told to be outside the grammar ends nothing that lacks a key, and has no second key: else that would
 -- have been told, since a line ends items and documents before its key is read, and its key stands before its value.
-use Rattle.std.proofs.Common.{◌≡◌, ◌≢◌, ℕ, zero, suc, ◌+◌, ◌<◌, ◌&&◌, ◌||◌, Bool, true, false, cond, eqb, ltb, get_or, drop, List, [], ◌∷◌, ◌++◌, length, map, replicate, Option, Some, None, Ok, Err, is_some, refl, sym, ap, ◌∙◌, arith, ◌⊎◌, inl, inr, subst, append_assoc}
-use Rattle.std.specs.Prelude.{codes}
-use Rattle.std.specs.List.{prefix_len, list_any, AllByRecursion}
-use Rattle.std.specs.Str.{bytes_eq}
-use Rattle.std.proofs.lemmas.Bool.{cases_lt}
+use Rattle.std.proofs.Common.{◌≡◌, ◌≢◌, ℕ, zero, suc, ◌+◌, ◌<◌, ◌&&◌, ◌||◌, Bool, true, false, eqb, get_or, drop, List, ◌∷◌, ◌++◌, length, Option, Ok, refl, sym, ap, ◌∙◌, arith, inl, inr, subst}
 use Rattle.std.proofs.lemmas.Bool.Decides.{nat_tests}
-use Rattle.std.proofs.lemmas.List.{append-nil, get_or-drop}
-use Rattle.macho_stub.specs.declared.keys.ItemKind.{ItemKind}
-use Rattle.macho_stub.specs.declared.keys.ItemKind.TheVariants.{Libraries, Exports, Reexports}
-use Rattle.macho_stub.specs.declared.list.Expect.{Expect}
-use Rattle.macho_stub.specs.declared.list.Expect.TheVariants.{AfterOpen, AfterComma, AfterName, Closed}
+use Rattle.std.proofs.lemmas.List.{get_or-drop}
 use Rattle.macho_stub.specs.declared.fault.StubRule.{StubRule}
-use Rattle.macho_stub.specs.declared.fault.StubRule.TheVariants.{S1, S2, S3}
-use Rattle.macho_stub.specs.Bytes.{space, dash, colon, indent, unspaced, is_passed, has_barred, is_blank_or_comment, is_key_byte, is_tail, is_mark, is_plain_byte, has_late_control_after}
-use Rattle.macho_stub.specs.Scalars.{scalar_front, plain_front}
-use Rattle.macho_stub.specs.Faults.{Fault, Reading, ◌>>=◌, broken, outside}
-use Rattle.macho_stub.specs.Lists.{ListPart, list_part, token_front, behind, with_front}
-use Rattle.macho_stub.specs.Keys.{Entry, entry_at, entry_behind, top_key, item_key}
-use Rattle.macho_stub.specs.Documents.{ItemFields, DocumentFields, OpenDocumentFields, with_items, has_key, head_at}
-use Rattle.macho_stub.specs.Reader.{ItemListFields, NameListFields, ModeFields, InsideFields, PlaceFields, Outside, Within, Keys, Skipped, Names, NoItem, StateFields, stays, head, end, has_dash, belongs_to_top, names_line, names_value, skipped_value, behind_part, top_entry, item_entry, item_key_line, first_line, within, with_whole, top_line, items_with_last, item_line, content_line, line_step}
-use Rattle.macho_stub.specs.Order.{MayStand, LacksInItem, LacksInDocument, EndsDocument, EndsWithout, IsNeeded, IsNextItem, StandsTwice, spare, dashed, closing, in_column}
-use Rattle.macho_stub.proofs.Bind.{bind_ok, no_ok, same_ok, eq_true, eq_false, not_below, eq_at, ne_at, chosen}
-use Rattle.macho_stub.proofs.OnlyLines.{entry_at_top, top_indent, spelled_indent, spelled_rest, spelled_at, dash_line}
-use Rattle.macho_stub.proofs.Joined.{IsLine, spaces_line}
-use Rattle.macho_stub.proofs.Finish.{mode_at, at_top, at_item, item_text_barred, item_text_passed, no_dash_there}
-use Rattle.macho_stub.proofs.Reached.{Reached, reached_more, may_stand, stands, refused}
+use Rattle.macho_stub.specs.declared.fault.StubRule.TheVariants.{S1}
+use Rattle.macho_stub.specs.Bytes.{space, dash, colon, indent, unspaced, is_passed, has_barred, is_blank_or_comment, is_key_byte}
+use Rattle.macho_stub.specs.Faults.{broken, outside}
+use Rattle.macho_stub.specs.Keys.{Entry, entry_at, top_key, item_key}
+use Rattle.macho_stub.specs.Documents.{DocumentFields, OpenDocumentFields}
+use Rattle.macho_stub.specs.Reader.{ItemListFields, head, end, has_dash, belongs_to_top, top_entry, item_entry, top_line, line_step}
+use Rattle.macho_stub.specs.Order.{MayStand, LacksInItem, EndsDocument, EndsWithout, StandsTwice, spare, in_column}
+use Rattle.macho_stub.proofs.Bind.{no_ok, same_ok}
+use Rattle.macho_stub.proofs.OnlyLines.{entry_at_top, top_indent}
+use Rattle.macho_stub.proofs.Joined.{IsLine}
+use Rattle.macho_stub.proofs.Finish.{at_top, at_item, item_text_barred, item_text_passed}
+use Rattle.macho_stub.proofs.Reached.{Reached, may_stand, refused}
 use Rattle.macho_stub.proofs.Steps.{Closes, keys_state, spare_at_top}
 use Rattle.macho_stub.proofs.Twice.{no_spaces}
 use Rattle.macho_stub.proofs.Goods.{good_at_top, good_in_column}
-use Rattle.macho_stub.proofs.Since.{closing_stands, item_stands, no_spare_at_item}
 
 -- ---- where a key may stand at column 0
 

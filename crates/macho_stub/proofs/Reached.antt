@@ -1,21 +1,20 @@
 -- Lines that were read without a fault, and where they leave the reading. What may stand behind them in a text of the
 -- grammar is what the next step doesn't refuse: if it doesn't, lines are there that finish the text, and what is read
 -- is in the grammar; and what is in the grammar is read.
-use Rattle.std.proofs.Common.{◌≡◌, ℕ, suc, ◌+◌, List, [], ◌∷◌, ◌++◌, length, Ok, Err, refl, sym, ap, ◌∙◌, arith, append_assoc, subst, ◌⊎◌, inl, inr}
+use Rattle.std.proofs.Common.{◌≡◌, ℕ, suc, ◌+◌, List, [], ◌∷◌, ◌++◌, length, Ok, refl, sym, ap, ◌∙◌, arith, append_assoc}
 use Rattle.std.specs.Str.Lines.{lines}
-use Rattle.std.proofs.lemmas.List.{append-nil}
-use Rattle.macho_stub.specs.Faults.{Fault, Reading, ◌>>=◌, broken}
+use Rattle.macho_stub.specs.Faults.{◌>>=◌, broken}
 use Rattle.macho_stub.specs.declared.fault.StubRule.{StubRule}
 use Rattle.macho_stub.specs.Documents.{DocumentFields}
-use Rattle.macho_stub.specs.Reader.{StateFields, line_step, lines_from, start, ended}
-use Rattle.macho_stub.specs.Grammar.{IsStubLines, IsStubText}
+use Rattle.macho_stub.specs.Reader.{StateFields, line_step, lines_from, start}
+use Rattle.macho_stub.specs.Grammar.{IsStubText}
 use Rattle.macho_stub.specs.Order.{GoOn, MayStand}
 use Rattle.macho_stub.proofs.Bind.{bind_ok, no_ok}
 use Rattle.macho_stub.proofs.Fine.{GoodState, line_step_fine}
 use Rattle.macho_stub.proofs.Joined.{IsLine, AreLines, joined, lines_joined, lines_append}
 use Rattle.macho_stub.proofs.Found.{lines_found}
 use Rattle.macho_stub.proofs.Only.{lines_read}
-use Rattle.macho_stub.proofs.Finish.{Finishes, finishes}
+use Rattle.macho_stub.proofs.Finish.{finishes}
 
 -- the lines lead from the start to this state
 pub record Reached (first : List (List ℕ)) (state : StateFields) : Type 0 where

@@ -1,23 +1,21 @@
 -- What the lines that were read say of where the reading is: the first line of the document is the last head among
 -- them; a flow list that is open began at a line behind which, at every line since, a closing bracket may stand; and
 -- a key of items has nothing under it but lines that are passed over.
-use Rattle.std.proofs.Common.{◌≡◌, ◌≢◌, ℕ, ◌+◌, ◌<◌, Bool, true, false, cond, List, [], ◌∷◌, ◌++◌, length, Option, Some, None, Ok, Err, refl, sym, ap, ◌∙◌, arith, ◌⊎◌, inl, inr, subst, append_assoc}
-use Rattle.std.specs.List.{prefix_len, list_any, AllByRecursion}
-use Rattle.std.specs.Str.{bytes_eq}
-use Rattle.macho_stub.specs.declared.fault.StubRule.{StubRule}
+use Rattle.std.proofs.Common.{◌≡◌, ◌≢◌, ℕ, ◌+◌, Bool, true, false, List, [], ◌∷◌, ◌++◌, length, Option, Some, None, Ok, Err, refl, sym, ap, ◌∙◌, inl, inr, subst, append_assoc}
+use Rattle.std.specs.List.{AllByRecursion}
 use Rattle.macho_stub.specs.declared.fault.StubRule.TheVariants.{S1}
 use Rattle.macho_stub.specs.declared.keys.ItemKind.{ItemKind}
 use Rattle.macho_stub.specs.Bytes.{indent, unspaced, is_passed, has_barred, is_blank_or_comment, is_key_byte}
-use Rattle.macho_stub.specs.Faults.{Fault, Reading, ◌>>=◌, broken, outside}
+use Rattle.macho_stub.specs.Faults.{Reading, outside}
 use Rattle.macho_stub.specs.Keys.{entry_at}
 use Rattle.macho_stub.specs.Documents.{ItemFields, DocumentFields, OpenDocumentFields, head_at, with_items}
-use Rattle.macho_stub.specs.Reader.{ItemListFields, NameListFields, ModeFields, Keys, Skipped, Names, NoItem, InsideFields, PlaceFields, Outside, Within, StateFields, stays, head, has_dash, belongs_to_top, first_line, within, top_line, items_with_last, content_line, line_step, start}
+use Rattle.macho_stub.specs.Reader.{ItemListFields, NameListFields, ModeFields, Keys, Skipped, Names, NoItem, InsideFields, PlaceFields, Outside, Within, StateFields, stays, head, has_dash, belongs_to_top, first_line, top_line, items_with_last, content_line, line_step, start}
 use Rattle.macho_stub.specs.Order.{MayStand, IsLastHead, IsOpenAlong, IsCutList, IsBareKey, spare, dashed, closing}
-use Rattle.macho_stub.proofs.Finish.{mode_at, at_item, begun, close_steps, dash_steps}
+use Rattle.macho_stub.proofs.Finish.{at_item, begun, close_steps, dash_steps}
 use Rattle.macho_stub.proofs.Joined.{IsLine}
 use Rattle.macho_stub.proofs.Reached.{Reached, reached_start, reached_more, may_stand, refused}
 use Rattle.macho_stub.proofs.Steps.{Closes, keys_state, top_steps, lacking_steps}
-use Rattle.macho_stub.proofs.Kept.{Of, Began, BehindState, NoBarePlace, inside_line_kept, began_of, names_line_no_bare, outside_kept, step_kinds}
+use Rattle.macho_stub.proofs.Kept.{Began, BehindState, NoBarePlace, inside_line_kept, names_line_no_bare, outside_kept, step_kinds}
 
 abbrev pub HeadsAt : List (List ℕ) → PlaceFields → Type 0
 HeadsAt first Outside = Unit {0}
@@ -179,9 +177,10 @@ place_passed : (first : List (List ℕ)) (before : List DocumentFields) (place :
     → Reached (first ++ text ∷ []) (record { documents = before; place = place }) → HeadsAt first place → ListsAt first place
     → HeadsAt (first ++ text ∷ []) place × ListsAt (first ++ text ∷ []) place
 place_passed first before Outside text p r h l = (tt, tt)
-place_passed first before (Within inside) text p r h l =
-    (head_stays inside.document.line first text h (passed_no_head text p),
-    mode_passed first before inside.document inside.list inside.mode text p r l)
+place_passed first before (Within inside) text p r h l = (
+  head_stays inside.document.line first text h (passed_no_head text p),
+  mode_passed first before inside.document inside.list inside.mode text p r l,
+)
 
 -- a list, or a key of items, that begins at the line
 new_list : (first : List (List ℕ)) (before : List DocumentFields) (document : OpenDocumentFields) (list : Option ItemListFields)
@@ -241,9 +240,10 @@ behind_inside first next text number began r h b k = by_place next.place refl b
         elim b [
           | inl o ↦
               let H : ℕ → Type 0 = λ n. IsLastHead n (first ++ text ∷ []) in
-              let R : PlaceFields → Type 0 = λ p. Reached (first ++ text ∷ []) (record { documents = next.documents; place = p }) in
-              (subst H (sym o.1.0) (head_stays number first text h o.0),
-              k inside.document inside.list inside.mode (subst R is r) is o.1.1)
+              let R : PlaceFields → Type 0 = λ p. Reached (first ++ text ∷ []) (record { documents = next.documents; place = p }) in (
+                subst H (sym o.1.0) (head_stays number first text h o.0),
+                k inside.document inside.list inside.mode (subst R is r) is o.1.1,
+              )
           | inr o ↦ at_new_head first inside text o.0 o.1
         ]
 

@@ -1,22 +1,14 @@
 -- Steps over lines that are known in part: a line at column 0 behind the keys of an item or a document, and a line in
 -- the column of an item's keys.
-use Rattle.std.proofs.Common.{◌≡◌, ◌≢◌, ℕ, ◌+◌, ◌<◌, ◌&&◌, ◌||◌, Bool, true, false, cond, eqb, ltb, get_or, List, [], ◌∷◌, ◌++◌, length, replicate, Option, Some, None, Ok, Err, refl, sym, ap, ◌∙◌, arith, ◌⊎◌, inl, inr, subst}
-use Rattle.std.specs.Prelude.{codes}
-use Rattle.std.specs.List.{prefix_len, list_any}
-use Rattle.std.specs.Str.{bytes_eq}
-use Rattle.std.proofs.lemmas.Bool.Decides.{nat_tests}
+use Rattle.std.proofs.Common.{◌≡◌, ℕ, ◌&&◌, Bool, true, false, cond, eqb, List, Option, Some, None, Ok, refl, ◌∙◌, arith}
 use Rattle.macho_stub.specs.declared.fault.StubRule.{StubRule}
-use Rattle.macho_stub.specs.declared.list.Expect.{Expect}
-use Rattle.macho_stub.specs.declared.list.Expect.TheVariants.{AfterOpen, AfterComma, AfterName, Closed}
-use Rattle.macho_stub.specs.Bytes.{space, dash, indent, unspaced, is_passed, has_barred, is_blank_or_comment, is_key_byte, is_tail, is_mark, is_plain_byte, has_late_control_after}
-use Rattle.macho_stub.specs.Scalars.{scalar_front, plain_front}
-use Rattle.macho_stub.specs.Lists.{ListPart, list_part, token_front, behind, with_front}
-use Rattle.macho_stub.specs.Faults.{Fault, Reading, ◌>>=◌, broken, outside}
-use Rattle.macho_stub.specs.Keys.{Entry, entry_at, top_key}
-use Rattle.macho_stub.specs.Documents.{ItemFields, DocumentFields, OpenDocumentFields, with_items, with_key, with_top_key}
-use Rattle.macho_stub.specs.Reader.{ItemListFields, NameListFields, ModeFields, InsideFields, PlaceFields, Outside, Within, Keys, Skipped, Names, NoItem, StateFields, stays, head, end, has_dash, belongs_to_top, names_value, names_line, skipped_value, item_key_line, first_line, within, with_whole, top_line, items_with_last, item_line, key_line, content_line, line_step}
-use Rattle.macho_stub.specs.Order.{spare, dashed, closing, in_column}
-use Rattle.macho_stub.proofs.Bind.{eq_true, eq_false, not_below}
+use Rattle.macho_stub.specs.Bytes.{indent, unspaced, is_passed, has_barred, is_blank_or_comment, is_key_byte, is_tail}
+use Rattle.macho_stub.specs.Faults.{broken}
+use Rattle.macho_stub.specs.Keys.{entry_at, top_key}
+use Rattle.macho_stub.specs.Documents.{ItemFields, DocumentFields, OpenDocumentFields, with_items}
+use Rattle.macho_stub.specs.Reader.{ItemListFields, Within, StateFields, stays, head, end, has_dash, belongs_to_top, skipped_value, with_whole, top_line, items_with_last, item_line, line_step}
+use Rattle.macho_stub.specs.Order.{spare}
+use Rattle.macho_stub.proofs.Bind.{not_below}
 use Rattle.macho_stub.proofs.OnlyLines.{top_indent, top_no_dash}
 use Rattle.macho_stub.proofs.Finish.{mode_at, at_top, at_item}
 

@@ -1,24 +1,22 @@
 -- Where the reading of a text breaks off. What was read before a line leads to where the reading is, and each refusal
 -- of the next line has its reason there; where all lines are read, the text is refused only inside a flow list, under
 -- a key of items, and in an item or a document that lacks a key.
-use Rattle.std.proofs.Common.{◌≡◌, ℕ, ◌+◌, Bool, true, false, List, [], ◌∷◌, ◌++◌, length, Option, Some, None, Ok, Err, refl, sym, ap, ◌∙◌, arith, ◌⊎◌, inl, inr, subst, append_assoc}
+use Rattle.std.proofs.Common.{◌≡◌, ℕ, ◌+◌, Bool, true, false, List, [], ◌∷◌, ◌++◌, length, Option, Some, None, refl, sym, ap, ◌∙◌, ◌⊎◌, inl, inr, subst, append_assoc}
 use Rattle.std.specs.Str.Lines.{lines}
 use Rattle.std.proofs.lemmas.List.{append-nil}
 use Rattle.macho_stub.specs.declared.fault.StubRule.{StubRule}
 use Rattle.macho_stub.specs.declared.fault.StubRule.TheVariants.{S1, S2}
-use Rattle.macho_stub.specs.Faults.{Fault, Reading, ◌>>=◌, broken, outside}
-use Rattle.macho_stub.specs.Documents.{ItemFields, DocumentFields, OpenDocumentFields, with_items}
+use Rattle.macho_stub.specs.Faults.{Fault, broken}
+use Rattle.macho_stub.specs.Documents.{DocumentFields, OpenDocumentFields, with_items}
 use Rattle.macho_stub.specs.Reader.{ItemListFields, ModeFields, Keys, Skipped, Names, NoItem, PlaceFields, Outside, Within, StateFields, stays, with_whole, items_with_last, line_step, ended, ended_document, ended_inside, lines_from, start, documents_of}
-use Rattle.macho_stub.specs.Grammar.{IsStubText}
-use Rattle.macho_stub.specs.Order.{LacksInItem, LacksInDocument, IsLastHead, IsWhyAtEnd, StopsAt, StopsAtEnd, BreaksOff}
+use Rattle.macho_stub.specs.Order.{IsLastHead, IsWhyAtEnd, StopsAt, BreaksOff}
 use Rattle.macho_stub.proofs.Bind.{no_ok}
 use Rattle.macho_stub.proofs.Ruling.{bind_err, same_err}
 use Rattle.macho_stub.proofs.Told.{ok_not_told}
 use Rattle.macho_stub.proofs.Fine.{AnyOf, lacking_at, with_whole_fine, items_with_last_fine}
 use Rattle.macho_stub.proofs.Causes.{at_line}
 use Rattle.macho_stub.proofs.Kept.{items_line}
-use Rattle.macho_stub.proofs.Joined.{IsLine, AreLines, lines_are_lines}
-use Rattle.macho_stub.proofs.Finish.{mode_at, at_item}
+use Rattle.macho_stub.proofs.Joined.{AreLines, lines_are_lines}
 use Rattle.macho_stub.proofs.Reached.{goes_on, refused, length_more}
 use Rattle.macho_stub.proofs.Steps.{Closes, keys_state}
 use Rattle.macho_stub.proofs.Lacking.{lacks_item, lacks_document}

@@ -1,26 +1,23 @@
 -- A second key. Behind the lines that were read another key may stand in its column, one that isn't read; but a line
 -- with this key is refused, whatever follows the key's colon: either that is no value, or the key had come before.
-use Rattle.std.proofs.Common.{◌≡◌, ◌≢◌, ℕ, ◌+◌, ◌<◌, ◌&&◌, Bool, true, false, cond, eqb, ltb, List, [], ◌∷◌, ◌++◌, length, replicate, drop, Option, Some, None, Ok, Err, refl, sym, ap, ◌∙◌, arith, ◌⊎◌, inl, inr, subst}
-use Rattle.std.specs.List.{prefix_len, list_any}
-use Rattle.std.specs.Str.{bytes_eq}
-use Rattle.std.proofs.lemmas.Bool.Decides.{nat_tests}
+use Rattle.std.proofs.Common.{◌≡◌, ℕ, ◌+◌, ◌<◌, Bool, true, false, List, ◌∷◌, ◌++◌, length, drop, Option, Ok, refl, sym, ap, ◌∙◌, inl, inr, subst}
 use Rattle.macho_stub.specs.declared.keys.ItemKind.{ItemKind}
 use Rattle.macho_stub.specs.declared.keys.ItemKind.TheVariants.{Libraries, Exports, Reexports}
 use Rattle.macho_stub.specs.declared.fault.StubRule.{StubRule}
-use Rattle.macho_stub.specs.declared.fault.StubRule.TheVariants.{S1, S2, S3}
-use Rattle.macho_stub.specs.Bytes.{space, dash, colon, indent, unspaced, is_passed, has_barred, is_blank_or_comment, is_key_byte, is_tail}
-use Rattle.macho_stub.specs.Faults.{Reading, ◌>>=◌, broken, outside}
+use Rattle.macho_stub.specs.declared.fault.StubRule.TheVariants.{S1, S3}
+use Rattle.macho_stub.specs.Bytes.{colon, indent, unspaced, is_passed, has_barred, is_blank_or_comment, is_key_byte, is_tail}
+use Rattle.macho_stub.specs.Faults.{Reading, ◌>>=◌, broken}
 use Rattle.macho_stub.specs.Keys.{Entry, entry_at, entry_behind, top_key, item_key}
-use Rattle.macho_stub.specs.Documents.{ItemFields, DocumentFields, OpenDocumentFields}
-use Rattle.macho_stub.specs.Reader.{ItemListFields, InsideFields, Within, StateFields, stays, Skipped, head, end, belongs_to_top, skipped_value, top_entry, item_entry, item_key_line, within, with_whole, top_line, line_step}
+use Rattle.macho_stub.specs.Documents.{DocumentFields, OpenDocumentFields}
+use Rattle.macho_stub.specs.Reader.{ItemListFields, InsideFields, StateFields, belongs_to_top, skipped_value, top_entry, item_entry, item_key_line, within, top_line, line_step}
 use Rattle.macho_stub.specs.Order.{MayStand, StandsTwice, spare, in_column}
 use Rattle.macho_stub.proofs.OnlyLines.{entry_unspaced}
 use Rattle.macho_stub.proofs.Joined.{spaces_line}
-use Rattle.macho_stub.proofs.Finish.{mode_at, at_top, at_item, item_text_barred, item_text_steps}
+use Rattle.macho_stub.proofs.Finish.{at_top, at_item, item_text_barred, item_text_steps}
 use Rattle.macho_stub.proofs.Reached.{Reached, may_stand, refused}
 use Rattle.macho_stub.proofs.Steps.{Closes, keys_state, top_steps, spare_at_top}
 use Rattle.macho_stub.proofs.Keyed.{HasKey, same_key, key_reads, key_or_outside, key_at_top, key_has_content, key_not_passed, key_no_head, key_no_end}
-use Rattle.macho_stub.proofs.Causes.{top_again, item_again, within_refused}
+use Rattle.macho_stub.proofs.Causes.{top_again, item_again}
 use Rattle.macho_stub.proofs.Lacking.{barred_steps}
 
 -- a text that begins with a key has no spaces in front
@@ -123,9 +120,11 @@ item_refuses before document list line text key value rest h below e =
       | inl k ↦
           let again : item_entry document list line (item_key list.kind k.0.key) k.0.value
           ≡ broken line S3 = ap (λ x. item_entry document list line (item_key list.kind x) k.0.value) k.2
-          ∙ item_again document list line (item_key list.kind key) value k.0.value below e in
-          (S3, ap (λ reading. within before (reading >>= then_item document list line)) (key_reads line text key rest h ∙ k.1)
-          ∙ ap (within before) again)
+          ∙ item_again document list line (item_key list.kind key) value k.0.value below e in (
+            S3,
+            ap (λ reading. within before (reading >>= then_item document list line)) (key_reads line text key rest h ∙ k.1)
+                ∙ ap (within before) again,
+          )
       | inr o ↦ (S1, ap (λ reading. within before (reading >>= then_item document list line)) (key_reads line text key rest h ∙ o))
     ]
 

@@ -1,44 +1,34 @@
 -- Why a line is refused, in the words of what may stand. By where the reading is: where a key may stand, by the cause
 -- that the tests of the line have; inside a flow list and before a first item, the line is outside the grammar, since
 -- nothing there may lack a key or have a second one.
-use Rattle.std.proofs.Common.{◌≡◌, ◌≢◌, ℕ, zero, suc, ◌+◌, ◌-◌, ◌<◌, ◌&&◌, ◌||◌, Bool, true, false, cond, eqb, ltb, drop, List, [], ◌∷◌, ◌++◌, length, replicate, Option, Some, None, Ok, Err, refl, sym, ap, ◌∙◌, arith, ◌⊎◌, inl, inr, subst}
-use Rattle.std.specs.Prelude.{codes}
-use Rattle.std.specs.List.{prefix_len, list_any}
-use Rattle.std.specs.Str.{bytes_eq}
-use Rattle.std.proofs.lemmas.Bool.Decides.{nat_tests}
+use Rattle.std.proofs.Common.{◌≡◌, ◌≢◌, ℕ, zero, suc, ◌+◌, ◌<◌, Bool, true, false, cond, eqb, ltb, drop, List, [], ◌∷◌, length, Option, Some, None, Err, refl, sym, ap, ◌∙◌, arith, inl, inr, subst}
 use Rattle.macho_stub.specs.declared.keys.ItemKind.{ItemKind}
 use Rattle.macho_stub.specs.declared.keys.ItemKey.{ItemKey}
 use Rattle.macho_stub.specs.declared.keys.ItemKey.TheVariants as item
-use Rattle.macho_stub.specs.declared.list.Expect.{Expect}
-use Rattle.macho_stub.specs.declared.list.Expect.TheVariants.{AfterOpen, AfterComma, AfterName, Closed}
-use Rattle.macho_stub.specs.declared.list.TokenKind.TheVariants.{Gap}
 use Rattle.macho_stub.specs.declared.fault.StubRule.{StubRule}
 use Rattle.macho_stub.specs.declared.fault.StubRule.TheVariants.{S1, S2, S3}
-use Rattle.macho_stub.specs.Bytes.{space, indent, unspaced, is_passed, is_barred, has_barred, is_blank_or_comment, is_mark, is_plain_byte, has_late_control_after}
-use Rattle.macho_stub.specs.Scalars.{scalar_front, plain_front}
+use Rattle.macho_stub.specs.Bytes.{indent, unspaced, is_passed, is_barred, has_barred, is_blank_or_comment}
 use Rattle.macho_stub.specs.Faults.{Fault, Reading, ◌>>=◌, broken, outside}
-use Rattle.macho_stub.specs.Lists.{ListPart, list_part, token_front, behind, with_front}
 use Rattle.macho_stub.specs.Keys.{Entry, entry_at, top_key, item_key}
-use Rattle.macho_stub.specs.Documents.{ItemFields, DocumentFields, OpenDocumentFields, with_items, has_key, no_item, head_at}
-use Rattle.macho_stub.specs.Reader.{ItemListFields, NameListFields, ModeFields, InsideFields, PlaceFields, Outside, Within, Keys, Skipped, Names, NoItem, StateFields, stays, head, end, has_dash, belongs_to_top, names_line, names_value, skipped_value, behind_part, top_entry, item_entry, item_key_line, key_column, first_line, within, with_whole, top_line, items_with_last, item_line, key_line, belongs, content_line, line_step}
-use Rattle.macho_stub.specs.Order.{MayStand, LacksInItem, LacksInDocument, EndsDocument, EndsItem, EndsWithout, IsNextItem, StandsTwice, IsLastHead, IsWhy, spare, dashed, closing, in_column}
-use Rattle.macho_stub.proofs.Bind.{no_ok, same_bytes, eq_false, chosen, not_broken}
+use Rattle.macho_stub.specs.Documents.{ItemFields, DocumentFields, OpenDocumentFields, with_items, has_key, no_item}
+use Rattle.macho_stub.specs.Reader.{ItemListFields, InsideFields, StateFields, has_dash, belongs_to_top, names_value, top_entry, item_entry, item_key_line, key_column, first_line, with_whole, items_with_last, key_line, belongs}
+use Rattle.macho_stub.specs.Order.{MayStand, EndsWithout, IsLastHead, IsWhy, spare, in_column}
+use Rattle.macho_stub.proofs.Bind.{eq_false, chosen}
 use Rattle.macho_stub.proofs.Ruling.{bind_err, same_err}
-use Rattle.macho_stub.proofs.Told.{ok_not_told}
 use Rattle.macho_stub.proofs.OnlyLines.{top_indent}
-use Rattle.macho_stub.proofs.Fine.{Fine, AnyOf, GoodInside, outside_at, here_at, lacking_at, entry_fine, with_whole_fine, items_with_last_fine, first_line_fine, top_entry_fine, item_entry_fine, names_line_fine, names_value_fine, skipped_value_fine, dash_before_key}
-use Rattle.macho_stub.proofs.Causes.{TopCause, Ends, NoKey, Refused, ItemCause, Next, AtTop, InColumn, Nowhere, at_line, same_parts, top_cause, item_cause, within_refused}
+use Rattle.macho_stub.proofs.Fine.{AnyOf, GoodInside, outside_at, here_at, lacking_at, entry_fine, with_whole_fine, items_with_last_fine, top_entry_fine, item_entry_fine, names_value_fine, skipped_value_fine, dash_before_key}
+use Rattle.macho_stub.proofs.Causes.{TopCause, Ends, NoKey, Refused, ItemCause, Next, AtTop, InColumn, Nowhere, at_line, same_parts, top_cause, item_cause}
 use Rattle.macho_stub.proofs.Causes.{EndsItem as EndsLacking}
 use Rattle.macho_stub.proofs.Joined.{IsLine, either_false, has_line_feed}
-use Rattle.macho_stub.proofs.Finish.{mode_at, at_top, at_item, item_text_barred, item_text_passed, no_dash_there}
-use Rattle.macho_stub.proofs.Reached.{Reached, may_stand, refused}
+use Rattle.macho_stub.proofs.Finish.{at_item}
+use Rattle.macho_stub.proofs.Reached.{Reached, refused}
 use Rattle.macho_stub.proofs.Steps.{Closes, keys_state}
 use Rattle.macho_stub.proofs.Lacking.{lacks_item, lacks_document, next_item}
 use Rattle.macho_stub.proofs.Twice.{twice_at_top, twice_in_item}
 use Rattle.macho_stub.proofs.Outsides.{no_item_lacks, ends_nothing, no_key_twice, flush, value_at_top, value_in_column, dash_no_key, dash_no_end, deep_no_end, no_deeper_key}
 use Rattle.macho_stub.proofs.NoNext.{no_next, column_steps}
 use Rattle.macho_stub.proofs.Kept.{items_line}
-use Rattle.macho_stub.proofs.Since.{Known, closing_stands, item_stands, no_spare_at_item}
+use Rattle.macho_stub.proofs.Since.{Known}
 
 abbrev WhyOf : ℕ → List (List ℕ) → List ℕ → Fault → Type 0
 WhyOf at first text fault = IsWhy fault.rule fault.line first text
@@ -173,7 +163,7 @@ item_why : (first : List (List ℕ)) (before : List DocumentFields) (document : 
 unfolding unspaced item_key_line
 item_why first before document list skipped text at rule k clean some l s (EndsLacking ends w) =
     let q = at_line AnyOf (lacking_at document.line) (items_with_last document.line list) at rule
-        (items_with_last_fine document.line list) w in
+    (items_with_last_fine document.line list) w in
     same_why at rule first text (record { line = document.line; rule = S2 }) q (
       k.heads,
       record {

@@ -1,11 +1,8 @@
 -- What the reading of a stub text answers.
-use Rattle.std.specs.Prelude.{◌≡◌, ◌⊎◌, ℕ, ◌+◌, List, ◌∷◌, ◌++◌, length, Ok}
-use Rattle.std.specs.Str.Lines.{lines}
-use Rattle.macho_stub.specs.declared.fault.StubRule.{StubRule}
-use Rattle.macho_stub.specs.declared.fault.StubRule.TheVariants.{S2}
+use Rattle.std.specs.Prelude.{◌⊎◌, ℕ, List}
 use Rattle.macho_stub.specs.declared.fault.StubFault.{StubFault}
 use Rattle.macho_stub.specs.declared.fault.StubFault.TheVariants.{Rule, OutOfMemory}
-use Rattle.macho_stub.specs.Faults.{Reading, broken, ◌>>=◌}
+use Rattle.macho_stub.specs.Faults.{Reading, ◌>>=◌}
 use Rattle.macho_stub.specs.Documents.{DocumentFields}
 use Rattle.macho_stub.specs.Reader.{documents_of}
 use Rattle.macho_stub.specs.Grammar.{IsStubText}
