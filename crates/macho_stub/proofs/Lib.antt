@@ -16,6 +16,7 @@ pub mod FoundEntries
 pub mod FoundItems
 pub mod FoundTop
 pub mod Gather
+pub mod Listed
 pub mod NoNext
 pub mod Only
 pub mod OnlyItems
