@@ -73,7 +73,8 @@ pub fine_bind : {A B : Type 0} (P : A → Type 0) (R : B → Type 0) (Q : Fault 
 fine_bind P R Q (Ok x) f h k = k x (h.ok x refl)
 fine_bind P R Q (Err d) f h k = fine_err d (h.err d refl)
 
-pub fine_if : {A : Type 0} (P : A → Type 0) (Q : Fault → Type 0) (b : Bool) (x y : Reading A) → Fine P Q x → Fine P Q y → Fine P Q (cond b x y)
+pub fine_if : {A : Type 0} (P : A → Type 0) (Q : Fault → Type 0) (b : Bool) (x y : Reading A) → Fine P Q x → Fine P Q y
+    → Fine P Q (cond b x y)
 fine_if P Q true x y h k = h
 fine_if P Q false x y h k = k
 
@@ -88,7 +89,8 @@ free P Q r h = weaker P Q AnyOf r (λ fault q. tt) h
 -- ---- lines by themselves
 
 spaced_fine : (line : ℕ) (key rest : List ℕ)
-    → Fine {A = Entry} AnyOf (outside_at line) (cond (eqb (get_or rest 0 0) space) (Ok (record { key = key; value = unspaced rest })) (outside line))
+    → Fine {A = Entry} AnyOf (outside_at line) (cond (eqb (get_or rest 0 0) space) (Ok (record { key = key; value = unspaced rest }))
+        (outside line))
 spaced_fine line key rest = fine_if AnyOf (outside_at line) _ _ _ (fine_ok _ tt) (fine_here)
 
 entry_behind_fine : (line : ℕ) (key rest : List ℕ) → Fine AnyOf (outside_at line) (entry_behind line key rest)
@@ -116,7 +118,8 @@ name_fine line None = fine_here
 name_fine line (Some scalar) = fine_ok _ tt
 
 close_fine : (line b : ℕ) (bytes : List ℕ)
-    → Fine {A = TokenSpan} AnyOf (outside_at line) (cond (eqb b close_bracket) (Ok (mark Close 1)) (name_token line (scalar_front (b ∷ bytes))))
+    → Fine {A = TokenSpan} AnyOf (outside_at line) (cond (eqb b close_bracket) (Ok (mark Close 1)) (name_token line (scalar_front (b ∷
+        bytes))))
 close_fine line b bytes = fine_if AnyOf (outside_at line) _ _ _ (fine_ok _ tt) (name_fine line (scalar_front (b ∷ bytes)))
 
 comma_fine : (line b : ℕ) (bytes : List ℕ)
@@ -255,17 +258,21 @@ first_line_fine document kind items line text =
 pub top_entry_fine : (document : OpenDocumentFields) (line : ℕ) (key : TopKey) (value : List ℕ)
     → Fine GoodInside (here_at line) (top_entry document line key value)
 top_entry_fine document line top.Version value = fine_if GoodInside (here_at line) _ _ _ here_twice
-    (fine_bind AnyOf GoodInside (here_at line) (version_value line value) _ (widen AnyOf line _ (version_fine line value)) (λ x _. fine_ok _ (tt, tt)))
+    (fine_bind AnyOf GoodInside (here_at line) (version_value line value) _ (widen AnyOf line _ (version_fine line value)) (λ x _. fine_ok
+        _ (tt, tt)))
 top_entry_fine document line top.Targets value = fine_if GoodInside (here_at line) _ _ _ here_twice
     (widen GoodInside line _ (names_value_fine document None line item.Targets value tt))
 top_entry_fine document line top.InstallName value = fine_if GoodInside (here_at line) _ _ _ here_twice
-    (fine_bind AnyOf GoodInside (here_at line) (scalar_value line value) _ (widen AnyOf line _ (scalar_fine line value)) (λ x _. fine_ok _ (tt, tt)))
+    (fine_bind AnyOf GoodInside (here_at line) (scalar_value line value) _ (widen AnyOf line _ (scalar_fine line value)) (λ x _. fine_ok _
+        (tt, tt)))
 top_entry_fine document line top.CurrentVersion value = fine_if GoodInside (here_at line) _ _ _ here_twice
-    (fine_bind AnyOf GoodInside (here_at line) (scalar_value line value) _ (widen AnyOf line _ (scalar_fine line value)) (λ x _. fine_ok _ (tt, tt)))
+    (fine_bind AnyOf GoodInside (here_at line) (scalar_value line value) _ (widen AnyOf line _ (scalar_fine line value)) (λ x _. fine_ok _
+        (tt, tt)))
 top_entry_fine document line (top.Items kind) value =
     fine_if GoodInside (here_at line) (has_items kind document) (broken line S3)
     (cond (eqb (length value) 0) (Ok (stays document None (NoItem kind line))) (outside line)) here_twice
-    (fine_if GoodInside (here_at line) (eqb (length value) 0) (Ok (stays document None (NoItem kind line))) (outside line) (fine_ok _ (tt, tt))
+    (fine_if GoodInside (here_at line) (eqb (length value) 0) (Ok (stays document None (NoItem kind line))) (outside line) (fine_ok _ (tt,
+        tt))
     here_outside)
 top_entry_fine document line top.Unread value = widen GoodInside line _ (skipped_value_fine document None line value tt)
 
@@ -290,14 +297,19 @@ whole_item_fine at kind open_item =
 whole_document_fine : (document : OpenDocumentFields) → Fine AnyOf (lacking_at document.line) (whole_document document)
 unfolding whole_document
 whole_document_fine document =
-    fine_bind AnyOf AnyOf (lacking_at document.line) (wanted document.line document.version) _ (wanted_fine document.line document.version) (λ v _.
-    fine_bind AnyOf AnyOf (lacking_at document.line) (wanted document.line document.targets) _ (wanted_fine document.line document.targets) (λ t _.
-    fine_bind AnyOf AnyOf (lacking_at document.line) (wanted document.line document.install_name) _ (wanted_fine document.line document.install_name)
+    fine_bind AnyOf AnyOf (lacking_at document.line) (wanted document.line document.version) _ (wanted_fine document.line document.version)
+        (λ v _.
+    fine_bind AnyOf AnyOf (lacking_at document.line) (wanted document.line document.targets) _ (wanted_fine document.line document.targets)
+        (λ t _.
+    fine_bind AnyOf AnyOf (lacking_at document.line) (wanted document.line document.install_name) _ (wanted_fine document.line
+        document.install_name)
     (λ i _. fine_ok _ tt)))
 
-pub with_whole_fine : (before : List DocumentFields) (document : OpenDocumentFields) → Fine AnyOf (lacking_at document.line) (with_whole before document)
+pub with_whole_fine : (before : List DocumentFields) (document : OpenDocumentFields)
+    → Fine AnyOf (lacking_at document.line) (with_whole before document)
 unfolding with_whole
-with_whole_fine before document = fine_bind AnyOf AnyOf (lacking_at document.line) (whole_document document) _ (whole_document_fine document)
+with_whole_fine before document = fine_bind AnyOf AnyOf (lacking_at document.line) (whole_document document) _ (whole_document_fine
+    document)
     (λ w _. fine_ok _ tt)
 
 pub items_with_last_fine : (at : ℕ) (list : ItemListFields) → Fine AnyOf (lacking_at at) (items_with_last at list)
@@ -330,7 +342,8 @@ top_line_fine before document line text =
     (λ w _. fine_ok _ (tt, tt)))
     (fine_if GoodState AnyOf (bytes_eq text end) (with_whole before document >>= at_end)
     (entry_at line text >>= at_entry before document line)
-    (fine_bind AnyOf GoodState AnyOf (with_whole before document) at_end (free AnyOf _ _ (with_whole_fine before document)) (λ w _. fine_ok _ tt))
+    (fine_bind AnyOf GoodState AnyOf (with_whole before document) at_end (free AnyOf _ _ (with_whole_fine before document)) (λ w _. fine_ok
+        _ tt))
     (fine_bind AnyOf GoodState AnyOf (entry_at line text) (at_entry before document line) (free AnyOf _ _ (entry_fine line text))
     (λ entry _. within_fine line before (top_entry document line (top_key entry.key) entry.value)
     (free GoodInside _ _ (top_entry_fine document line (top_key entry.key) entry.value)))))

@@ -80,8 +80,10 @@ all_there : (before : List DocumentFields) (document : OpenDocumentFields) (skip
     (t : List (List ℕ)) → document.version ≡ Some v → document.targets ≡ Some t → document.install_name ≡ Some i
     → Finishes (at_top before document skipped) line
 unfolding lines_from with_whole whole_document
-all_there before document true line v i t ev et ei = record { more = []; says = before ++ whole v i t document ∷ []; is = rw (ev, et, ei) refl; are = tt }
-all_there before document false line v i t ev et ei = record { more = []; says = before ++ whole v i t document ∷ []; is = rw (ev, et, ei) refl; are = tt }
+all_there before document true line v i t ev et ei = record { more = []; says = before ++ whole v i t document ∷ []; is = rw (ev, et, ei)
+    refl; are = tt }
+all_there before document false line v i t ev et ei = record { more = []; says = before ++ whole v i t document ∷ []; is = rw (ev, et, ei)
+    refl; are = tt }
 
 abbrev with_name : OpenDocumentFields → OpenDocumentFields
 with_name document = record document { install_name = Some (codes "a") }
@@ -94,19 +96,25 @@ with_version document = record document { version = Some (codes "4") }
 
 name_steps : (before : List DocumentFields) (document : OpenDocumentFields) (skipped : Bool) (line : ℕ) → document.install_name ≡ None
     → line_step (at_top before document skipped) line name_line ≡ Ok (at_top before (with_name document) false)
-unfolding line_step has_barred is_passed is_blank_or_comment unspaced indent top_line entry_at is_key_byte is_tail top_key scalar_value version_value number_of scalar_front plain_front is_plain_byte is_mark has_late_control_after names_value skipped_value names_line list_part token_front behind belongs_to_top has_dash
+unfolding line_step has_barred is_passed is_blank_or_comment unspaced indent top_line entry_at is_key_byte is_tail top_key scalar_value
+    version_value number_of scalar_front plain_front is_plain_byte is_mark has_late_control_after names_value skipped_value names_line
+    list_part token_front behind belongs_to_top has_dash
 name_steps before document true line e = rw e refl
 name_steps before document false line e = rw e refl
 
 targets_steps : (before : List DocumentFields) (document : OpenDocumentFields) (skipped : Bool) (line : ℕ) → document.targets ≡ None
     → line_step (at_top before document skipped) line targets_line ≡ Ok (at_top before (with_targets document) false)
-unfolding line_step has_barred is_passed is_blank_or_comment unspaced indent top_line entry_at is_key_byte is_tail top_key scalar_value version_value number_of scalar_front plain_front is_plain_byte is_mark has_late_control_after names_value skipped_value names_line list_part token_front behind belongs_to_top has_dash
+unfolding line_step has_barred is_passed is_blank_or_comment unspaced indent top_line entry_at is_key_byte is_tail top_key scalar_value
+    version_value number_of scalar_front plain_front is_plain_byte is_mark has_late_control_after names_value skipped_value names_line
+    list_part token_front behind belongs_to_top has_dash
 targets_steps before document true line e = rw e refl
 targets_steps before document false line e = rw e refl
 
 version_steps : (before : List DocumentFields) (document : OpenDocumentFields) (skipped : Bool) (line : ℕ) → document.version ≡ None
     → line_step (at_top before document skipped) line version_line ≡ Ok (at_top before (with_version document) false)
-unfolding line_step has_barred is_passed is_blank_or_comment unspaced indent top_line entry_at is_key_byte is_tail top_key scalar_value version_value number_of scalar_front plain_front is_plain_byte is_mark has_late_control_after names_value skipped_value names_line list_part token_front behind belongs_to_top has_dash
+unfolding line_step has_barred is_passed is_blank_or_comment unspaced indent top_line entry_at is_key_byte is_tail top_key scalar_value
+    version_value number_of scalar_front plain_front is_plain_byte is_mark has_late_control_after names_value skipped_value names_line
+    list_part token_front behind belongs_to_top has_dash
 version_steps before document true line e = rw e refl
 version_steps before document false line e = rw e refl
 
@@ -146,7 +154,9 @@ spare_line = codes "a: a"
 pub spare_steps : (before : List DocumentFields) (document : OpenDocumentFields) (list : ItemListFields) (skipped : Bool) (line : ℕ)
     (items : List ItemFields) → items_with_last document.line list ≡ Ok items
     → line_step (at_item before document list skipped) line spare_line ≡ Ok (at_top before (with_items list.kind items document) true)
-unfolding line_step has_barred is_passed is_blank_or_comment unspaced indent top_line entry_at is_key_byte is_tail top_key scalar_value version_value number_of scalar_front plain_front is_plain_byte is_mark has_late_control_after names_value skipped_value names_line list_part token_front behind belongs_to_top has_dash item_line
+unfolding line_step has_barred is_passed is_blank_or_comment unspaced indent top_line entry_at is_key_byte is_tail top_key scalar_value
+    version_value number_of scalar_front plain_front is_plain_byte is_mark has_late_control_after names_value skipped_value names_line
+    list_part token_front behind belongs_to_top has_dash item_line
 spare_steps before document list true line items e = rw (e, not_below list.column 0 (omega arith)) refl
 spare_steps before document list false line items e = rw e refl
 
@@ -199,13 +209,17 @@ item_with_names list = record list { item = record list.item { names = Some [] }
 targets_key : (before : List DocumentFields) (document : OpenDocumentFields) (list : ItemListFields) (line : ℕ)
     → list.item.targets ≡ None
     → within before (item_key_line document list line targets_line) ≡ Ok (at_item before document (item_with_targets list) false)
-unfolding line_step has_barred is_passed is_blank_or_comment unspaced indent top_line entry_at is_key_byte is_tail top_key item_key scalar_value version_value number_of scalar_front plain_front is_plain_byte is_mark has_late_control_after names_value skipped_value names_line list_part token_front behind belongs_to_top has_dash item_key_line first_line key_column item_line
+unfolding line_step has_barred is_passed is_blank_or_comment unspaced indent top_line entry_at is_key_byte is_tail top_key item_key
+    scalar_value version_value number_of scalar_front plain_front is_plain_byte is_mark has_late_control_after names_value skipped_value
+    names_line list_part token_front behind belongs_to_top has_dash item_key_line first_line key_column item_line
 targets_key before document list line e = rw e refl
 
 libraries_key : (before : List DocumentFields) (document : OpenDocumentFields) (list : ItemListFields) (line : ℕ)
     → list.kind ≡ Libraries → list.item.names ≡ None
     → within before (item_key_line document list line libraries_line) ≡ Ok (at_item before document (item_with_names list) false)
-unfolding line_step has_barred is_passed is_blank_or_comment unspaced indent top_line entry_at is_key_byte is_tail top_key item_key scalar_value version_value number_of scalar_front plain_front is_plain_byte is_mark has_late_control_after names_value skipped_value names_line list_part token_front behind belongs_to_top has_dash item_key_line first_line key_column item_line
+unfolding line_step has_barred is_passed is_blank_or_comment unspaced indent top_line entry_at is_key_byte is_tail top_key item_key
+    scalar_value version_value number_of scalar_front plain_front is_plain_byte is_mark has_late_control_after names_value skipped_value
+    names_line list_part token_front behind belongs_to_top has_dash item_key_line first_line key_column item_line
 libraries_key before document list line k e = rw (k, e) refl
 
 pub item_targets_step : (before : List DocumentFields) (document : OpenDocumentFields) (list : ItemListFields) (skipped : Bool) (line : ℕ)
@@ -236,10 +250,13 @@ pub item_whole : (line : ℕ) (list : ItemListFields) (t : List (List ℕ)) (n :
     → list.item.targets ≡ Some t → list.item.names ≡ n → list.kind ≡ k → ((k ≡ Libraries) → n ≡ None → ⊥)
     → (items : List ItemFields) × (items_with_last line list ≡ Ok items)
 unfolding items_with_last whole_item
-item_whole line list t (Some n) Libraries et en ek h = (list.items ++ record { targets = t; names = n; weak_names = unwrap_or list.item.weak_names [] } ∷ [], rw (et, en, ek) refl)
+item_whole line list t (Some n) Libraries et en ek h = (list.items ++ record { targets = t; names = n; weak_names = unwrap_or
+    list.item.weak_names [] } ∷ [], rw (et, en, ek) refl)
 item_whole line list t None Libraries et en ek h = absurd (h refl refl)
-item_whole line list t n Exports et en ek h = (list.items ++ record { targets = t; names = unwrap_or n []; weak_names = unwrap_or list.item.weak_names [] } ∷ [], rw (et, en, ek) refl)
-item_whole line list t n Reexports et en ek h = (list.items ++ record { targets = t; names = unwrap_or n []; weak_names = unwrap_or list.item.weak_names [] } ∷ [], rw (et, en, ek) refl)
+item_whole line list t n Exports et en ek h = (list.items ++ record { targets = t; names = unwrap_or n []; weak_names = unwrap_or
+    list.item.weak_names [] } ∷ [], rw (et, en, ek) refl)
+item_whole line list t n Reexports et en ek h = (list.items ++ record { targets = t; names = unwrap_or n []; weak_names = unwrap_or
+    list.item.weak_names [] } ∷ [], rw (et, en, ek) refl)
 
 names_lack : (before : List DocumentFields) (document : OpenDocumentFields) (list : ItemListFields) (skipped : Bool) (line : ℕ)
     (t : List (List ℕ)) (n : Option (List (List ℕ))) (k : ItemKind) → list.item.targets ≡ Some t → list.item.names ≡ n → list.kind ≡ k
@@ -248,7 +265,8 @@ names_lack before document list skipped line t None Libraries et en ek below =
     let next = item_with_names list in
     let w = item_whole document.line next t (Some []) Libraries et refl ek (λ e n. cc) in
     step_then _ (at_item before document next false) line (replicate list.column space ++ libraries_line)
-    (item_libraries_step before document list skipped line ek en below) (spaces_line list.column libraries_line refl) (item_done before document next false (line + 1) w.0 w.1)
+    (item_libraries_step before document list skipped line ek en below) (spaces_line list.column libraries_line refl) (item_done before
+        document next false (line + 1) w.0 w.1)
 names_lack before document list skipped line t (Some n) Libraries et en ek below =
     let w = item_whole document.line list t (Some n) Libraries et en ek (λ e n. cc) in
     item_done before document list skipped line w.0 w.1
@@ -290,7 +308,9 @@ closing : (before : List DocumentFields) (document : OpenDocumentFields) (list :
     (expect : Expect) (line : ℕ) → names.part.expect ≡ expect → expect ≢ Closed
     → line_step (in_names before document list names) line close_line
     ≡ Ok (record { documents = before; place = Within (with_names document list names.key (names.part.names ++ [])) })
-unfolding line_step has_barred is_passed is_blank_or_comment unspaced indent top_line entry_at is_key_byte is_tail top_key item_key scalar_value version_value number_of scalar_front plain_front is_plain_byte is_mark has_late_control_after names_value skipped_value names_line list_part token_front behind belongs_to_top has_dash item_key_line first_line key_column item_line
+unfolding line_step has_barred is_passed is_blank_or_comment unspaced indent top_line entry_at is_key_byte is_tail top_key item_key
+    scalar_value version_value number_of scalar_front plain_front is_plain_byte is_mark has_late_control_after names_value skipped_value
+    names_line list_part token_front behind belongs_to_top has_dash item_key_line first_line key_column item_line
 closing before document list names Closed line e ne = absurd (ne refl)
 closing before document list names AfterOpen line e ne = rw e refl
 closing before document list names AfterComma line e ne = rw e refl
@@ -315,10 +335,13 @@ dash_text = codes "- a: a"
 abbrev pub begun : ItemKind → ItemListFields
 begun kind = record { kind = kind; items = []; dash = 0; column = 2; item = no_item }
 
-pub dash_steps : (before : List DocumentFields) (document : OpenDocumentFields) (list : Option ItemListFields) (kind : ItemKind) (at line : ℕ)
+pub dash_steps : (before : List DocumentFields) (document : OpenDocumentFields) (list : Option ItemListFields) (kind : ItemKind) (at line :
+    ℕ)
     → line_step (record { documents = before; place = Within (stays document list (NoItem kind at)) }) line dash_text
     ≡ Ok (at_item before document (begun kind) true)
-unfolding line_step has_barred is_passed is_blank_or_comment unspaced indent top_line entry_at is_key_byte is_tail top_key item_key scalar_value version_value number_of scalar_front plain_front is_plain_byte is_mark has_late_control_after names_value skipped_value names_line list_part token_front behind belongs_to_top has_dash item_key_line first_line key_column item_line
+unfolding line_step has_barred is_passed is_blank_or_comment unspaced indent top_line entry_at is_key_byte is_tail top_key item_key
+    scalar_value version_value number_of scalar_front plain_front is_plain_byte is_mark has_late_control_after names_value skipped_value
+    names_line list_part token_front behind belongs_to_top has_dash item_key_line first_line key_column item_line
 dash_steps before document list Libraries at line = refl
 dash_steps before document list Exports at line = refl
 dash_steps before document list Reexports at line = refl

@@ -43,7 +43,8 @@ top_of document line entry = top_entry document line (top_key entry.key) entry.v
 
 good_top : (document : OpenDocumentFields) (line : ℕ) (name : List ℕ) (key : TopKey) (value : List ℕ) → top_key name ≡ key
     → top_entry document line key value ≡ outside line → Good line name (top_of document line)
-unfolding top_of is_tail is_passed is_blank_or_comment unspaced indent version_value number_of scalar_value scalar_front plain_front is_plain_byte is_mark has_late_control_after names_value names_line skipped_value list_part token_front behind has_barred
+unfolding top_of is_tail is_passed is_blank_or_comment unspaced indent version_value number_of scalar_value scalar_front plain_front
+    is_plain_byte is_mark has_late_control_after names_value names_line skipped_value list_part token_front behind has_barred
 good_top document line name top.Version value k e = record {
   rest = codes " 4";
   gives = stays (record document { version = Some (codes "4") }) None Keys;
@@ -143,7 +144,8 @@ unfolding has_barred
 take_clean zero text h = refl
 take_clean (suc n) [] h = refl
 take_clean (suc n) (b ∷ text) h =
-    let e = either_false (is_barred b) (has_barred text) h in both_false (is_barred b) (has_barred (take n text)) e.0 (take_clean n text e.1)
+    let e = either_false (is_barred b) (has_barred text) h in both_false (is_barred b) (has_barred (take n text)) e.0 (take_clean n text
+        e.1)
 
 -- the key with the value is a line
 key_line_is : (line : ℕ) (text : List ℕ) (said : Entry) (rest : List ℕ) → entry_at line text ≡ Ok said → IsLine text → IsLine rest
@@ -157,7 +159,8 @@ key_line_clean : (line : ℕ) (text : List ℕ) (said : Entry) (rest : List ℕ)
     → has_barred rest ≡ false → has_barred (said.key ++ colon ∷ rest) ≡ false
 unfolding has_barred
 key_line_clean line text said rest e l r =
-    let front : has_barred said.key ≡ false = ap has_barred (key_front line text said e) ∙ take_clean (prefix_len is_key_byte text) text l in
+    let front : has_barred said.key ≡ false = ap has_barred (key_front line text said e)
+        ∙ take_clean (prefix_len is_key_byte text) text l in
     barred_after said.key (colon ∷ rest) front r
 
 pub good_at_top : (first : List (List ℕ)) (before : List DocumentFields) (document whole : OpenDocumentFields)

@@ -13,7 +13,8 @@ use Rattle.macho_stub.specs.Lists.{texts}
 
 -- after a name is put in, it is there, and what was there is
 put_in : (old new : BTreeSet (Bor (List ℕ))) (x : Bor (List ℕ)) (name : List ℕ)
-    → UpdatesBy (λ (x y : Bor (List ℕ)). slice_cmp nat_cmp x.now y.now) (λ k. slice_cmp nat_cmp x.now k.now) old new true → holds new name ≡ (bytes_eq x.now name || holds old name)
+    → UpdatesBy (λ (x y : Bor (List ℕ)). slice_cmp nat_cmp x.now y.now) (λ k. slice_cmp nat_cmp x.now k.now) old new true
+        → holds new name ≡ (bytes_eq x.now name || holds old name)
 put_in old new x name u =
     let q : Bor (List ℕ) = record { ref_ptr = (0, 0); now = name } in
     u.0 q ∙ ap (λ b. cond b true (holds old name)) (is_eq-slice_cmp x.now name) ∙ as_or (bytes_eq x.now name) (holds old name)

@@ -109,7 +109,8 @@ with_item before document list skipped item next e = record {
 targets_read : (before : List DocumentFields) (document : OpenDocumentFields) (list : ItemListFields) (skipped : Bool) (line : ℕ)
     (next : StateFields) → within before (item_key_line document list line targets_line) ≡ Ok next
     → SameItem before document list skipped next
-unfolding item_key_line entry_at is_key_byte is_tail item_key names_value names_line list_part token_front behind unspaced indent is_passed is_blank_or_comment
+unfolding item_key_line entry_at is_key_byte is_tail item_key names_value names_line list_part token_front behind unspaced indent is_passed
+    is_blank_or_comment
 targets_read before document list skipped line next e = by_had (has_key item.Targets list.item) e
   where
     by_had : (had : Bool) → within before (cond had (broken line S3)
@@ -124,7 +125,8 @@ list_with list kind = record list { kind = kind }
 libraries_read : (before : List DocumentFields) (document : OpenDocumentFields) (list : ItemListFields) (skipped : Bool) (line : ℕ)
     (next : StateFields) (kind : ItemKind) → within before (item_key_line document (list_with list kind) line libraries_line) ≡ Ok next
     → SameItem before document (list_with list kind) skipped next
-unfolding item_key_line entry_at is_key_byte is_tail item_key names_value names_line skipped_value list_part token_front behind unspaced indent is_passed is_blank_or_comment
+unfolding item_key_line entry_at is_key_byte is_tail item_key names_value names_line skipped_value list_part token_front behind unspaced
+    indent is_passed is_blank_or_comment
 libraries_read before document list skipped line next Libraries e = by_had (has_key item.Names list.item) e
   where
     by_had : (had : Bool) → within before (cond had (broken line S3)
@@ -134,7 +136,8 @@ libraries_read before document list skipped line next Libraries e = by_had (has_
     by_had false h = with_item before document (list_with list Libraries) skipped (with_key item.Names [] list.item) next (same_ok _ _ h)
 libraries_read before document list skipped line next Exports e = with_item before document (list_with list Exports) skipped list.item next
     (same_ok _ _ e)
-libraries_read before document list skipped line next Reexports e = with_item before document (list_with list Reexports) skipped list.item next
+libraries_read before document list skipped line next Reexports e = with_item before document (list_with list Reexports) skipped list.item
+    next
     (same_ok _ _ e)
 
 -- a key that is put in has these
@@ -181,7 +184,8 @@ key_steps before document list skipped line n next key needed nz e =
         → SameItem before document list left next
     by_left false h = in_keys false h
     by_left true h =
-        elim (chosen (ltb list.column n) (Ok (at_item before document list true)) (in_other_column before document list line n key) (Ok next) h) [
+        elim (chosen (ltb list.column n) (Ok (at_item before document list true)) (in_other_column before document list line n key) (Ok
+            next) h) [
           | inl b ↦ record
               { after = list; left = true; is = same_ok _ _ b.1; same_dash = refl; same_column = refl; still = λ x. refl }
           | inr b ↦ in_keys true b.1
@@ -237,7 +241,8 @@ no_next first before document list skipped text r nz nd s lacks i = by_column i.
   where
     by_column : (column : ℕ) (keys : List (List ℕ)) → AllByRecursion IsNeeded keys
         → MayStand (first ++ map (in_column column) keys) (in_column (indent text) dashed) → ⊥
-    by_column zero [] a m = no_dash first before document list skipped (indent text) 1 [] r nz (nd i.dash) s (λ h. absurd (omega (arith, h))) a m
+    by_column zero [] a m = no_dash first before document list skipped (indent text) 1 [] r nz (nd i.dash) s (λ h. absurd (omega (arith,
+        h))) a m
     by_column zero (key ∷ keys) a m = first_column first (in_column (indent text) dashed) key keys a.0 lacks m
     by_column (suc column) keys a m = no_dash first before document list skipped (indent text) (suc column) keys r nz (nd i.dash) s
         (λ h. absurd (omega (arith, h))) a m

@@ -284,7 +284,8 @@ pub known_more : (first : List (List ℕ)) (state next : StateFields) (text : Li
     → line_step state (length first + 1) text ≡ Ok next → Known (first ++ text ∷ []) next
 known_more first state next text k l e =
     let r = reached_more first state next text k.reached l e in
-    let both : HeadsAt (first ++ text ∷ []) next.place × ListsAt (first ++ text ∷ []) next.place = elim (step_kinds state next (length first + 1) text e) [
+    let both : HeadsAt (first ++ text ∷ []) next.place × ListsAt (first ++ text ∷ []) next.place = elim (step_kinds state next (length
+        first + 1) text e) [
       | inl p ↦
           let P : StateFields → Type 0 = λ s. HeadsAt (first ++ text ∷ []) s.place × ListsAt (first ++ text ∷ []) s.place in
           let R : StateFields → Type 0 = λ s. Reached (first ++ text ∷ []) s in

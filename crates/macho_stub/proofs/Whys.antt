@@ -96,7 +96,8 @@ first_never document list line item.Unread value i g e = absurd (let h = (same_p
 first_never document list line item.Targets value i g e = absurd (let h = (same_parts line line S3 S1
     (at_line GoodInside (outside_at line) (names_value document (Some list) line item.Targets value) line S3
     (names_value_fine document (Some list) line item.Targets value g)
-    (ap (λ x. cond (has_key item.Targets x) (broken line S3) (names_value document (Some list) line item.Targets value)) (sym i) ∙ e))).1 in cc)
+    (ap (λ x. cond (has_key item.Targets x) (broken line S3) (names_value document (Some list) line item.Targets value)) (sym i)
+        ∙ e))).1 in cc)
 first_never document list line item.Names value i g e = absurd (let h = (same_parts line line S3 S1
     (at_line GoodInside (outside_at line) (names_value document (Some list) line item.Names value) line S3
     (names_value_fine document (Some list) line item.Names value g)
@@ -104,7 +105,8 @@ first_never document list line item.Names value i g e = absurd (let h = (same_pa
 first_never document list line item.WeakNames value i g e = absurd (let h = (same_parts line line S3 S1
     (at_line GoodInside (outside_at line) (names_value document (Some list) line item.WeakNames value) line S3
     (names_value_fine document (Some list) line item.WeakNames value g)
-    (ap (λ x. cond (has_key item.WeakNames x) (broken line S3) (names_value document (Some list) line item.WeakNames value)) (sym i) ∙ e))).1 in
+    (ap (λ x. cond (has_key item.WeakNames x) (broken line S3) (names_value document (Some list) line item.WeakNames value)) (sym i)
+        ∙ e))).1 in
     cc)
 
 abbrev pub outside_fault : ℕ → Fault
@@ -128,7 +130,8 @@ first_outside document kind items line text at rule e =
         | inr k ↦ elim (at_line GoodInside (here_at line) (then_entry k.0) at rule
             (item_entry_fine document list line (item_key kind k.0.key) k.0.value (dash_before_key text)) k.2) [
               | inl q ↦ q
-              | inr q ↦ absurd (first_never document list line (item_key kind k.0.key) k.0.value refl (dash_before_key text) (k.2 ∙ ap Err q))
+              | inr q ↦ absurd (first_never document list line (item_key kind k.0.key) k.0.value refl (dash_before_key text) (k.2
+                      ∙ ap Err q))
             ]
       ]
     ]
@@ -182,7 +185,8 @@ item_why first before document list skipped text at rule k clean some l s (Next 
     same_why at rule first text (outside_fault n) (first_outside document list.kind items n text at rule w) (
       refl,
       (λ e. elim e.lacks [
-        | inl x ↦ no_item_lacks first before document (with_items list.kind items document) (Some list) skipped k.reached (items, i, refl) x.0
+        | inl x ↦ no_item_lacks first before document (with_items list.kind items document) (Some list) skipped k.reached (items, i, refl)
+                x.0
         | inr x ↦ dash_no_end text dash x.1
       ]),
       dash_no_key first text dash,

@@ -6,5 +6,6 @@ use Rattle.macho_stub.specs.Library.{holds}
 use Rattle.macho_stub.proofs.library.with_listed.Given as goal
 
 abbrev pub invariant-loop-name : goal.invariant-loop-name
-invariant-loop-name l = (name : List ℕ) → (holds l.listed name || list_any (λ other. bytes_eq other name) (drop l.name-index (texts l.names)))
+invariant-loop-name l = (name : List ℕ) → (holds l.listed name || list_any (λ other. bytes_eq other name) (drop l.name-index (texts
+    l.names)))
     ≡ (holds l.initial.listed name || list_any (λ other. bytes_eq other name) (texts l.names))
