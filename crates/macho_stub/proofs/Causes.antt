@@ -18,7 +18,8 @@ use Rattle.macho_stub.specs.Order.{EndsDocument}
 use Rattle.macho_stub.proofs.Bind.{chosen, same_bytes, bytes_same, eq_at, ne_at}
 use Rattle.macho_stub.proofs.Ruling.{bind_err, same_err}
 use Rattle.macho_stub.proofs.Told.{ok_not_told}
-use Rattle.macho_stub.proofs.Fine.{Fine, AnyOf, GoodInside, outside_at, names_value_fine, skipped_value_fine, version_fine, scalar_fine, fine_ok, fine_bind, fine_if, fine_here}
+use Rattle.macho_stub.proofs.FineLines.{Fine, AnyOf, outside_at, version_fine, scalar_fine, fine_ok, fine_bind, fine_if, fine_here}
+use Rattle.macho_stub.proofs.Fine.{GoodInside, names_value_fine, skipped_value_fine}
 
 -- ---- faults
 

@@ -17,7 +17,8 @@ use Rattle.macho_stub.specs.Order.{MayStand, IsWhy, spare, dashed, closing, in_c
 use Rattle.macho_stub.proofs.Bind.{chosen}
 use Rattle.macho_stub.proofs.Ruling.{same_err}
 use Rattle.macho_stub.proofs.Told.{ok_not_told}
-use Rattle.macho_stub.proofs.Fine.{GoodInside, outside_at, names_line_fine}
+use Rattle.macho_stub.proofs.FineLines.{outside_at}
+use Rattle.macho_stub.proofs.Fine.{GoodInside, names_line_fine}
 use Rattle.macho_stub.proofs.Causes.{at_line, within_refused}
 use Rattle.macho_stub.proofs.Joined.{IsLine}
 use Rattle.macho_stub.proofs.Finish.{item_text_barred, item_text_passed, no_dash_there}

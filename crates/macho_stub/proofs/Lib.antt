@@ -5,6 +5,7 @@ pub mod Cuts
 pub mod Dashes
 pub mod Elsewhere
 pub mod Fine
+pub mod FineLines
 pub mod Finish
 pub mod Found
 pub mod Goods

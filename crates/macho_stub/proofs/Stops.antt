@@ -13,7 +13,8 @@ use Rattle.macho_stub.specs.Order.{IsLastHead, IsWhyAtEnd, StopsAt, BreaksOff}
 use Rattle.macho_stub.proofs.Bind.{no_ok}
 use Rattle.macho_stub.proofs.Ruling.{bind_err, same_err}
 use Rattle.macho_stub.proofs.Told.{ok_not_told}
-use Rattle.macho_stub.proofs.Fine.{AnyOf, lacking_at, with_whole_fine, items_with_last_fine}
+use Rattle.macho_stub.proofs.FineLines.{AnyOf, lacking_at}
+use Rattle.macho_stub.proofs.Fine.{with_whole_fine, items_with_last_fine}
 use Rattle.macho_stub.proofs.Causes.{at_line}
 use Rattle.macho_stub.proofs.Kept.{items_line}
 use Rattle.macho_stub.proofs.Joined.{AreLines, lines_are_lines}

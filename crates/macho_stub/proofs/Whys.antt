@@ -16,7 +16,8 @@ use Rattle.macho_stub.specs.Order.{MayStand, EndsWithout, IsLastHead, IsWhy, spa
 use Rattle.macho_stub.proofs.Bind.{eq_false, chosen}
 use Rattle.macho_stub.proofs.Ruling.{bind_err, same_err}
 use Rattle.macho_stub.proofs.OnlyLines.{top_indent}
-use Rattle.macho_stub.proofs.Fine.{AnyOf, GoodInside, outside_at, here_at, lacking_at, entry_fine, with_whole_fine, items_with_last_fine, top_entry_fine, item_entry_fine, names_value_fine, skipped_value_fine, dash_before_key}
+use Rattle.macho_stub.proofs.FineLines.{AnyOf, outside_at, here_at, lacking_at, entry_fine}
+use Rattle.macho_stub.proofs.Fine.{GoodInside, with_whole_fine, items_with_last_fine, top_entry_fine, item_entry_fine, names_value_fine, skipped_value_fine, dash_before_key}
 use Rattle.macho_stub.proofs.Causes.{TopCause, Ends, NoKey, Refused, ItemCause, Next, AtTop, InColumn, Nowhere, at_line, same_parts, top_cause, item_cause}
 use Rattle.macho_stub.proofs.Causes.{EndsItem as EndsLacking}
 use Rattle.macho_stub.proofs.Joined.{IsLine, either_false, has_line_feed}
