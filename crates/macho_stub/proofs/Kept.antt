@@ -337,12 +337,12 @@ outside_kept before line text next e =
 
 -- a step over a line that is passed over stays, and any other is over one with content
 pub step_kinds : (state next : StateFields) (line : ℕ) (text : List ℕ) → line_step state line text ≡ Ok next
-    → ((is_passed text ≡ true) × (state ≡ next)) ⊎ (content_line state.documents state.place line text ≡ Ok next)
+    → ((is_passed text ≡ true) × (state ≡ next)) ⊎ ((is_passed text ≡ false) × (content_line state.documents state.place line text ≡ Ok next))
 unfolding line_step
 step_kinds state next line text e =
     let c = not_broken (has_barred text) line S1 (cond (is_passed text) (Ok state) (content_line state.documents state.place line text))
         next e in
     elim (chosen (is_passed text) (Ok state) (content_line state.documents state.place line text) (Ok next) c.1) [
       | inl b ↦ inl (b.0, same_ok _ _ b.1)
-      | inr b ↦ inr b.1
+      | inr b ↦ inr (b.0, b.1)
     ]

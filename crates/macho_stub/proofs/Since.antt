@@ -168,6 +168,7 @@ mode_passed first before document list (NoItem kind at) text p r l = record {
   passed = l.passed ++ text ∷ [];
   parts = ap (λ (all : List (List ℕ)). all ++ text ∷ []) l.parts ∙ append_assoc l.first (l.line ∷ l.passed) (text ∷ []);
   here = l.here;
+  content = l.content;
   no_content = passed_more l.passed text l.no_content p;
   items = item_stands (first ++ text ∷ []) before document list kind at r;
   no_key = no_spare_at_item (first ++ text ∷ []) before document list kind at r;
@@ -184,20 +185,21 @@ place_passed first before (Within inside) text p r h l = (
 
 -- a list, or a key of items, that begins at the line
 new_list : (first : List (List ℕ)) (before : List DocumentFields) (document : OpenDocumentFields) (list : Option ItemListFields)
-    (mode : ModeFields) (text : List ℕ) → (MayStand first closing → ⊥)
+    (mode : ModeFields) (text : List ℕ) → is_passed text ≡ false → (MayStand first closing → ⊥)
     → Reached (first ++ text ∷ []) (record { documents = before; place = Within (stays document list mode) })
     → Began (length first + 1) mode → ListMode (first ++ text ∷ []) mode
-new_list first before document list Keys text n r b = tt
-new_list first before document list Skipped text n r b = tt
-new_list first before document list (Names names) text n r b =
+new_list first before document list Keys text p n r b = tt
+new_list first before document list Skipped text p n r b = tt
+new_list first before document list (Names names) text p n r b =
     let C : ℕ → Type 0 = λ k. IsCutList k (first ++ text ∷ []) in
     subst C (sym b) (list_here first text n (closing_stands (first ++ text ∷ []) before document list names r))
-new_list first before document list (NoItem kind at) text n r b = record {
+new_list first before document list (NoItem kind at) text p n r b = record {
   first = first;
   line = text;
   passed = [];
   parts = refl;
   here = b;
+  content = p;
   no_content = tt;
   items = item_stands (first ++ text ∷ []) before document list kind at r;
   no_key = no_spare_at_item (first ++ text ∷ []) before document list kind at r;
@@ -249,36 +251,36 @@ behind_inside first next text number began r h b k = by_place next.place refl b
 
 inside_more : (first : List (List ℕ)) (before : List DocumentFields) (document : OpenDocumentFields) (list : Option ItemListFields)
     (mode : ModeFields) (next : StateFields) (text : List ℕ)
-    → Known first (record { documents = before; place = Within (stays document list mode) }) → Reached (first ++ text ∷ []) next
+    → is_passed text ≡ false → Known first (record { documents = before; place = Within (stays document list mode) }) → Reached (first ++ text ∷ []) next
     → content_line before (Within (stays document list mode)) (length first + 1) text ≡ Ok next
     → HeadsAt (first ++ text ∷ []) next.place × ListsAt (first ++ text ∷ []) next.place
-inside_more first before document list Keys next text k r e =
+inside_more first before document list Keys next text p k r e =
     behind_inside first next text document.line (length first + 1) r k.heads
     (inside_line_kept before document list Keys (length first + 1) text next e)
-    (λ d l m q is b. new_list first next.documents d l m text (no_bracket_at_keys first before document list false k.reached) q b)
-inside_more first before document list Skipped next text k r e =
+    (λ d l m q is b. new_list first next.documents d l m text p (no_bracket_at_keys first before document list false k.reached) q b)
+inside_more first before document list Skipped next text p k r e =
     behind_inside first next text document.line (length first + 1) r k.heads
     (inside_line_kept before document list Skipped (length first + 1) text next e)
-    (λ d l m q is b. new_list first next.documents d l m text (no_bracket_at_keys first before document list true k.reached) q b)
-inside_more first before document list (Names names) next text k r e =
+    (λ d l m q is b. new_list first next.documents d l m text p (no_bracket_at_keys first before document list true k.reached) q b)
+inside_more first before document list (Names names) next text p k r e =
     let n = names_line_no_bare before document list (length first + 1) names text next e in
     behind_inside first next text document.line names.began r k.heads
     (inside_line_kept before document list (Names names) (length first + 1) text next e)
     (λ d l m q is b. old_list first next.documents d l m text names.began k.lists q b (subst NoBarePlace is n))
-inside_more first before document list (NoItem kind at) next text k r e =
+inside_more first before document list (NoItem kind at) next text p k r e =
     behind_inside first next text document.line (length first + 1) r k.heads
     (inside_line_kept before document list (NoItem kind at) (length first + 1) text next e)
-    (λ d l m q is b. new_list first next.documents d l m text (no_bracket_at_item first before document list kind at k.reached) q b)
+    (λ d l m q is b. new_list first next.documents d l m text p (no_bracket_at_item first before document list kind at k.reached) q b)
 
 place_more : (first : List (List ℕ)) (before : List DocumentFields) (place : PlaceFields) (next : StateFields) (text : List ℕ)
-    → Known first (record { documents = before; place = place }) → Reached (first ++ text ∷ []) next
+    → is_passed text ≡ false → Known first (record { documents = before; place = place }) → Reached (first ++ text ∷ []) next
     → content_line before place (length first + 1) text ≡ Ok next
     → HeadsAt (first ++ text ∷ []) next.place × ListsAt (first ++ text ∷ []) next.place
-place_more first before Outside next text k r e =
+place_more first before Outside next text p k r e =
     let o = outside_kept before (length first + 1) text next e in
     let P : StateFields → Type 0 = λ s. HeadsAt (first ++ text ∷ []) s.place × ListsAt (first ++ text ∷ []) s.place in
     subst P o.1 (head_here first text o.0, tt)
-place_more first before (Within inside) next text k r e = inside_more first before inside.document inside.list inside.mode next text k r e
+place_more first before (Within inside) next text p k r e = inside_more first before inside.document inside.list inside.mode next text p k r e
 
 pub known_more : (first : List (List ℕ)) (state next : StateFields) (text : List ℕ) → Known first state → IsLine text
     → line_step state (length first + 1) text ≡ Ok next → Known (first ++ text ∷ []) next
@@ -290,6 +292,6 @@ known_more first state next text k l e =
           let P : StateFields → Type 0 = λ s. HeadsAt (first ++ text ∷ []) s.place × ListsAt (first ++ text ∷ []) s.place in
           let R : StateFields → Type 0 = λ s. Reached (first ++ text ∷ []) s in
           subst P p.1 (place_passed first state.documents state.place text p.0 (subst R (sym p.1) r) k.heads k.lists)
-      | inr c ↦ place_more first state.documents state.place next text k r c
+      | inr c ↦ place_more first state.documents state.place next text c.0 k r c.1
     ] in
     record { reached = r; heads = both.0; lists = both.1 }

@@ -145,6 +145,7 @@ pub record IsBareKey (number : ℕ) (texts : List (List ℕ)) : Type 0 where
   pub passed : List (List ℕ)
   pub parts : texts ≡ first ++ line ∷ passed
   pub here : number ≡ length first + 1
+  pub content : is_passed line ≡ false
   pub no_content : AllByRecursion (λ other. is_passed other ≡ true) passed
   pub items : MayStand texts dashed
   pub no_key : MayStand texts spare → ⊥
