@@ -19,6 +19,7 @@ pub mod FoundTop
 pub mod Gather
 pub mod Listed
 pub mod NoNext
+pub mod One
 pub mod Only
 pub mod OnlyItems
 pub mod OnlyLast
