@@ -57,7 +57,7 @@ unfolding line_step names_line has_barred is_blank_or_comment
 names_refuse before document list names line n =
     rw (item_text_barred n spare, item_text_passed n spare refl, spaced_in_list line names.part.expect n) refl
 
-no_key_in_list : (first : List (List ℕ)) (before : List DocumentFields) (document : OpenDocumentFields) (list : Option ItemListFields)
+pub no_key_in_list : (first : List (List ℕ)) (before : List DocumentFields) (document : OpenDocumentFields) (list : Option ItemListFields)
     (names : NameListFields) (n : ℕ) → Reached first (record { documents = before; place = Within (stays document list (Names names)) })
     → MayStand first (in_column n spare) → ⊥
 no_key_in_list first before document list names n r m = refused first _ (in_column n spare) (length first + 1) S1 r
@@ -108,7 +108,7 @@ item_place_why first before document list kind key text at rule k e =
 
 -- ---- outside documents
 
-outside_refuses : (before : List DocumentFields) (line n : ℕ)
+pub outside_refuses : (before : List DocumentFields) (line n : ℕ)
     → line_step (record { documents = before; place = Outside }) line (in_column n spare) ≡ outside line
 unfolding line_step has_barred is_blank_or_comment
 outside_refuses before line zero = rw (item_text_passed 0 spare refl) refl

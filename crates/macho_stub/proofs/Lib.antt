@@ -20,6 +20,7 @@ pub mod Gather
 pub mod Listed
 pub mod NoNext
 pub mod One
+pub mod OneEnd
 pub mod Only
 pub mod OnlyItems
 pub mod OnlyLast

@@ -16,7 +16,7 @@ use Rattle.macho_stub.proofs.Outsides.{dash_no_key}
 -- ---- lists that are cut in two ways
 
 -- two cuts of a list: at one place, or one before the other
-data Cuts {A : Type 0} (f : List A) (x : A) (p : List A) (g : List A) (y : A) (q : List A) : Type 0 where
+pub data Cuts {A : Type 0} (f : List A) (x : A) (p : List A) (g : List A) (y : A) (q : List A) : Type 0 where
   Same : f ≡ g → x ≡ y → Cuts f x p g y q
   Before : (r : List A) → g ≡ f ++ x ∷ r → p ≡ r ++ y ∷ q → Cuts f x p g y q
   Behind : (r : List A) → f ≡ g ++ y ∷ r → q ≡ r ++ x ∷ p → Cuts f x p g y q
@@ -33,7 +33,7 @@ cuts_more {A} a b f x p g y q e (Same s t) = Same (ap (λ c. c ∷ f) e ∙ ap (
 cuts_more {A} a b f x p g y q e (Before r s t) = Before r (ap (λ c. c ∷ g) (sym e) ∙ ap (λ (l : List A). a ∷ l) s) t
 cuts_more {A} a b f x p g y q e (Behind r s t) = Behind r (ap (λ c. c ∷ f) e ∙ ap (λ (l : List A). b ∷ l) s) t
 
-cuts : {A : Type 0} (f : List A) (x : A) (p g : List A) (y : A) (q : List A) → f ++ x ∷ p ≡ g ++ y ∷ q → Cuts f x p g y q
+pub cuts : {A : Type 0} (f : List A) (x : A) (p g : List A) (y : A) (q : List A) → f ++ x ∷ p ≡ g ++ y ∷ q → Cuts f x p g y q
 cuts [] x p [] y q e = Same refl (first_is x y p q e)
 cuts {A} [] x p (b ∷ g) y q e = Before g (ap (λ c. c ∷ g) (sym (first_is x b p (g ++ y ∷ q) e))) (rest_is x b p (g ++ y ∷ q) e)
 cuts {A} (a ∷ f) x p [] y q e = Behind f (ap (λ c. c ∷ f) (first_is a y (f ++ x ∷ p) q e)) (sym (rest_is a y (f ++ x ∷ p) q e))

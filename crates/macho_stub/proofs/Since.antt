@@ -113,7 +113,7 @@ bracket_at_top : (before : List DocumentFields) (document whole : OpenDocumentFi
 unfolding has_barred is_passed is_blank_or_comment unspaced indent belongs_to_top top_line entry_at is_key_byte
 bracket_at_top before document whole list skipped line c = top_steps before document whole list skipped line closing c refl refl refl
 
-no_bracket_at_keys : (first : List (List ℕ)) (before : List DocumentFields) (document : OpenDocumentFields) (list : Option ItemListFields)
+pub no_bracket_at_keys : (first : List (List ℕ)) (before : List DocumentFields) (document : OpenDocumentFields) (list : Option ItemListFields)
     (skipped : Bool) → Reached first (keys_state before document list skipped) → MayStand first closing → ⊥
 unfolding has_barred is_passed is_blank_or_comment unspaced indent
 no_bracket_at_keys first before document None skipped r m = refused first _ closing (length first + 1) S1 r
@@ -126,7 +126,7 @@ no_bracket_at_keys first before document (Some list) skipped r m = by_items (ite
     by_items (Err fault) e = refused first _ closing fault.line fault.rule r
         (lacking_steps before document list skipped (length first + 1) closing fault.line fault.rule e refl refl refl) m
 
-no_bracket_at_item : (first : List (List ℕ)) (before : List DocumentFields) (document : OpenDocumentFields) (list : Option ItemListFields)
+pub no_bracket_at_item : (first : List (List ℕ)) (before : List DocumentFields) (document : OpenDocumentFields) (list : Option ItemListFields)
     (kind : ItemKind) (at : ℕ) → Reached first (record { documents = before; place = Within (stays document list (NoItem kind at)) })
     → MayStand first closing → ⊥
 unfolding line_step has_barred is_passed is_blank_or_comment unspaced indent first_line has_dash
