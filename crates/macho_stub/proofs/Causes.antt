@@ -57,7 +57,7 @@ top_again document line (top.Items kind) value other e = once_again GoodInside l
     (fine_ok _ (tt, tt)) fine_here) e
 top_again document line top.Unread value other e = absurd (let h = (same_parts line line S3 S1
     (at_line GoodInside (outside_at line) (skipped_value document None line value) line S3 (skipped_value_fine document None line value tt)
-        e)).1 in
+    e)).1 in
     cc)
 
 pub item_again : (document : OpenDocumentFields) (list : ItemListFields) (line : ℕ) (key : ItemKey) (value other : List ℕ)
@@ -114,7 +114,7 @@ top_cause before document line text at rule e =
         | inr w ↦ absurd (ok_not_told _ at rule w.2)
       ]
       | inr b ↦ elim (chosen (bytes_eq text end) (with_whole before document >>= at_end) (entry_at line text >>= at_entry before document
-              line)
+          line)
           (broken at rule) b.1) [
             | inl d ↦ elim (bind_err (with_whole before document) at_end at rule d.1) [
               | inl w ↦ Ends (inr (same_bytes text end d.0)) w
@@ -180,7 +180,7 @@ item_cause before document list line text at rule e =
           | inr w ↦ AtTop w.0 (eq_at _ _ d.0) w.1 w.2
         ]
         | inr d ↦ elim (chosen (eqb (indent text) list.column) (within before (item_key_line document list line (unspaced text))) (outside
-                line)
+            line)
             (broken at rule) d.1) [
               | inl k ↦ InColumn (ne_at _ _ d.0) (eq_at _ _ k.0) (within_refused before _ at rule k.1)
               | inr k ↦ Nowhere (ne_at _ _ d.0) (ne_at _ _ k.0)

@@ -90,7 +90,7 @@ names_why first before document list names text at rule k e =
 item_refuses : (before : List DocumentFields) (document : OpenDocumentFields) (list : Option ItemListFields) (kind : ItemKind)
     (at line n : ℕ)
     → line_step (record { documents = before; place = Within (stays document list (NoItem kind at)) }) line (in_column n spare) ≡ outside
-        line
+    line
 unfolding line_step first_line has_barred is_blank_or_comment belongs_to_top
 item_refuses before document list kind at line n =
     rw (item_text_barred n spare, item_text_passed n spare refl, no_dash_there n spare refl) refl

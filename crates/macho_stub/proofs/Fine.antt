@@ -1,7 +1,6 @@
 -- A step that doesn't fail leaves the reading in good order: keys of an item stand behind its dash, and a list that
 -- goes on isn't closed. One that fails tells its line, or that an item or a document lacks a key.
-use Rattle.std.proofs.Common.{◌≡◌, ◌≢◌, ℕ, zero, suc, ◌+◌, ◌-◌, ◌<◌, ◌&&◌, Bool, true, false, cond, eqb, get_or, take, length, List, [], ◌∷◌, drop, Option, Some, None, Ok, Err, refl, sym, subst, arith, ◌⊎◌, inl, inr}
-use Rattle.std.specs.List.{prefix_len}
+use Rattle.std.proofs.Common.{◌≢◌, ℕ, ◌<◌, ◌&&◌, cond, eqb, length, List, [], drop, Option, Some, None, Ok, refl, arith, inl, inr}
 use Rattle.std.specs.Str.{bytes_eq}
 use Rattle.macho_stub.specs.declared.keys.ItemKind.{ItemKind}
 use Rattle.macho_stub.specs.declared.keys.ItemKind.TheVariants.{Libraries, Exports, Reexports}
@@ -11,18 +10,14 @@ use Rattle.macho_stub.specs.declared.keys.TopKey.{TopKey}
 use Rattle.macho_stub.specs.declared.keys.TopKey.TheVariants as top
 use Rattle.macho_stub.specs.declared.list.Expect.{Expect}
 use Rattle.macho_stub.specs.declared.list.Expect.TheVariants.{AfterOpen, AfterComma, AfterName, Closed}
-use Rattle.macho_stub.specs.declared.list.TokenKind.{TokenKind}
-use Rattle.macho_stub.specs.declared.list.TokenKind.TheVariants.{Gap, Comma, Close, Name}
-use Rattle.macho_stub.specs.declared.fault.StubRule.TheVariants.{S1, S2, S3}
-use Rattle.macho_stub.proofs.Ruling.{same_err}
-use Rattle.macho_stub.specs.Bytes.{space, comma, close_bracket, indent, unspaced, is_key_byte, is_tail, is_passed, has_barred}
-use Rattle.macho_stub.specs.Scalars.{ScalarSpan, scalar_front}
-use Rattle.macho_stub.specs.Faults.{Fault, Reading, ◌>>=◌, broken, outside}
-use Rattle.macho_stub.specs.Lists.{TokenSpan, ListPart, gap, mark, name_token, token_front, behind, list_part, with_front}
-use Rattle.macho_stub.specs.Keys.{Entry, entry_behind, entry_at, alone, scalar_value, version_value, top_key, item_key}
+use Rattle.macho_stub.specs.declared.fault.StubRule.TheVariants.{S1, S3}
+use Rattle.macho_stub.specs.Bytes.{indent, unspaced, is_passed, has_barred}
+use Rattle.macho_stub.specs.Faults.{Reading, ◌>>=◌, broken, outside}
+use Rattle.macho_stub.specs.Lists.{list_part, with_front}
+use Rattle.macho_stub.specs.Keys.{Entry, entry_at, scalar_value, version_value, top_key, item_key}
 use Rattle.macho_stub.specs.Documents.{ItemFields, OpenItemFields, DocumentFields, OpenDocumentFields, wanted, wanted_names, whole_item, whole_document, no_item, with_items, has_items, head_at}
 use Rattle.macho_stub.specs.Reader.{ItemListFields, NameListFields, ModeFields, Keys, Skipped, Names, NoItem, InsideFields, PlaceFields, Outside, Within, StateFields, stays, has_dash, head, end, with_names, behind_expect, names_line, names_value, opened, skipped_value, item_entry, item_key_line, key_column, first_line, top_entry, within, with_whole, top_line, items_with_last, item_line, key_line, inside_line, content_line, line_step}
-use Rattle.macho_stub.proofs.FineLines.{Fine, AnyOf, outside_at, here_at, lacking_at, any_at, done, same_ok, no_err, fine_ok, fine_err, fine_here, fine_bind, fine_if, weaker, free, spaced_fine, entry_behind_fine, entry_fine, alone_fine, scalar_fine, version_fine, name_fine, close_fine, comma_fine, token_fine, behind_fine, front_fine, part_fine}
+use Rattle.macho_stub.proofs.FineLines.{Fine, AnyOf, outside_at, here_at, lacking_at, fine_ok, fine_err, fine_here, fine_bind, fine_if, weaker, free, entry_fine, scalar_fine, version_fine, front_fine, part_fine}
 
 -- ---- inside a document
 
@@ -121,20 +116,22 @@ pub top_entry_fine : (document : OpenDocumentFields) (line : ℕ) (key : TopKey)
     → Fine GoodInside (here_at line) (top_entry document line key value)
 top_entry_fine document line top.Version value = fine_if GoodInside (here_at line) _ _ _ here_twice
     (fine_bind AnyOf GoodInside (here_at line) (version_value line value) _ (widen AnyOf line _ (version_fine line value)) (λ x _. fine_ok
-        _ (tt, tt)))
+    _ (tt, tt)))
 top_entry_fine document line top.Targets value = fine_if GoodInside (here_at line) _ _ _ here_twice
     (widen GoodInside line _ (names_value_fine document None line item.Targets value tt))
 top_entry_fine document line top.InstallName value = fine_if GoodInside (here_at line) _ _ _ here_twice
     (fine_bind AnyOf GoodInside (here_at line) (scalar_value line value) _ (widen AnyOf line _ (scalar_fine line value)) (λ x _. fine_ok _
-        (tt, tt)))
+    (tt, tt)))
 top_entry_fine document line top.CurrentVersion value = fine_if GoodInside (here_at line) _ _ _ here_twice
     (fine_bind AnyOf GoodInside (here_at line) (scalar_value line value) _ (widen AnyOf line _ (scalar_fine line value)) (λ x _. fine_ok _
-        (tt, tt)))
+    (tt, tt)))
 top_entry_fine document line (top.Items kind) value =
     fine_if GoodInside (here_at line) (has_items kind document) (broken line S3)
     (cond (eqb (length value) 0) (Ok (stays document None (NoItem kind line))) (outside line)) here_twice
-    (fine_if GoodInside (here_at line) (eqb (length value) 0) (Ok (stays document None (NoItem kind line))) (outside line) (fine_ok _ (tt,
-        tt))
+    (fine_if GoodInside (here_at line) (eqb (length value) 0) (Ok (stays document None (NoItem kind line))) (outside line) (fine_ok _ (
+      tt,
+      tt,
+    ))
     here_outside)
 top_entry_fine document line top.Unread value = widen GoodInside line _ (skipped_value_fine document None line value tt)
 
@@ -160,11 +157,11 @@ whole_document_fine : (document : OpenDocumentFields) → Fine AnyOf (lacking_at
 unfolding whole_document
 whole_document_fine document =
     fine_bind AnyOf AnyOf (lacking_at document.line) (wanted document.line document.version) _ (wanted_fine document.line document.version)
-        (λ v _.
+    (λ v _.
     fine_bind AnyOf AnyOf (lacking_at document.line) (wanted document.line document.targets) _ (wanted_fine document.line document.targets)
-        (λ t _.
+    (λ t _.
     fine_bind AnyOf AnyOf (lacking_at document.line) (wanted document.line document.install_name) _ (wanted_fine document.line
-        document.install_name)
+    document.install_name)
     (λ i _. fine_ok _ tt)))
 
 pub with_whole_fine : (before : List DocumentFields) (document : OpenDocumentFields)
@@ -205,7 +202,7 @@ top_line_fine before document line text =
     (fine_if GoodState AnyOf (bytes_eq text end) (with_whole before document >>= at_end)
     (entry_at line text >>= at_entry before document line)
     (fine_bind AnyOf GoodState AnyOf (with_whole before document) at_end (free AnyOf _ _ (with_whole_fine before document)) (λ w _. fine_ok
-        _ tt))
+    _ tt))
     (fine_bind AnyOf GoodState AnyOf (entry_at line text) (at_entry before document line) (free AnyOf _ _ (entry_fine line text))
     (λ entry _. within_fine line before (top_entry document line (top_key entry.key) entry.value)
     (free GoodInside _ _ (top_entry_fine document line (top_key entry.key) entry.value)))))

@@ -1,27 +1,18 @@
 -- Readings that are fine: what they give is so, and so is the fault that they tell. A key, a scalar, a version and a
 -- line of a flow list tell their own line, as outside the grammar.
-use Rattle.std.proofs.Common.{◌≡◌, ◌≢◌, ℕ, zero, suc, ◌+◌, ◌-◌, ◌<◌, ◌&&◌, Bool, true, false, cond, eqb, get_or, take, length, List, [], ◌∷◌, drop, Option, Some, None, Ok, Err, refl, sym, subst, arith, ◌⊎◌, inl, inr}
+use Rattle.std.proofs.Common.{◌≡◌, ℕ, zero, suc, ◌+◌, ◌-◌, Bool, true, false, cond, eqb, get_or, take, List, [], ◌∷◌, drop, Option, Some, None, Ok, Err, refl, sym, subst, ◌⊎◌}
 use Rattle.std.specs.List.{prefix_len}
-use Rattle.std.specs.Str.{bytes_eq}
-use Rattle.macho_stub.specs.declared.keys.ItemKind.{ItemKind}
-use Rattle.macho_stub.specs.declared.keys.ItemKind.TheVariants.{Libraries, Exports, Reexports}
-use Rattle.macho_stub.specs.declared.keys.ItemKey.{ItemKey}
-use Rattle.macho_stub.specs.declared.keys.ItemKey.TheVariants as item
-use Rattle.macho_stub.specs.declared.keys.TopKey.{TopKey}
-use Rattle.macho_stub.specs.declared.keys.TopKey.TheVariants as top
 use Rattle.macho_stub.specs.declared.list.Expect.{Expect}
 use Rattle.macho_stub.specs.declared.list.Expect.TheVariants.{AfterOpen, AfterComma, AfterName, Closed}
 use Rattle.macho_stub.specs.declared.list.TokenKind.{TokenKind}
 use Rattle.macho_stub.specs.declared.list.TokenKind.TheVariants.{Gap, Comma, Close, Name}
 use Rattle.macho_stub.specs.declared.fault.StubRule.TheVariants.{S1, S2, S3}
 use Rattle.macho_stub.proofs.Ruling.{same_err}
-use Rattle.macho_stub.specs.Bytes.{space, comma, close_bracket, indent, unspaced, is_key_byte, is_tail, is_passed, has_barred}
+use Rattle.macho_stub.specs.Bytes.{space, comma, close_bracket, unspaced, is_key_byte, is_tail}
 use Rattle.macho_stub.specs.Scalars.{ScalarSpan, scalar_front}
-use Rattle.macho_stub.specs.Faults.{Fault, Reading, ◌>>=◌, broken, outside}
+use Rattle.macho_stub.specs.Faults.{Fault, Reading, ◌>>=◌, outside}
 use Rattle.macho_stub.specs.Lists.{TokenSpan, ListPart, gap, mark, name_token, token_front, behind, list_part, with_front}
-use Rattle.macho_stub.specs.Keys.{Entry, entry_behind, entry_at, alone, scalar_value, version_value, top_key, item_key}
-use Rattle.macho_stub.specs.Documents.{ItemFields, OpenItemFields, DocumentFields, OpenDocumentFields, wanted, wanted_names, whole_item, whole_document, no_item, with_items, has_items, head_at}
-use Rattle.macho_stub.specs.Reader.{ItemListFields, NameListFields, ModeFields, Keys, Skipped, Names, NoItem, InsideFields, PlaceFields, Outside, Within, StateFields, stays, has_dash, head, end, with_names, behind_expect, names_line, names_value, opened, skipped_value, item_entry, item_key_line, key_column, first_line, top_entry, within, with_whole, top_line, items_with_last, item_line, key_line, inside_line, content_line, line_step}
+use Rattle.macho_stub.specs.Keys.{Entry, entry_behind, entry_at, alone, scalar_value, version_value}
 
 -- What a reading gives is so, and so is the fault that it tells.
 pub record Fine {A : Type 0} (P : A → Type 0) (Q : Fault → Type 0) (reading : Reading A) : Type 0 where
@@ -90,7 +81,7 @@ free P Q r h = weaker P Q AnyOf r (λ fault q. tt) h
 
 pub spaced_fine : (line : ℕ) (key rest : List ℕ)
     → Fine {A = Entry} AnyOf (outside_at line) (cond (eqb (get_or rest 0 0) space) (Ok (record { key = key; value = unspaced rest }))
-        (outside line))
+    (outside line))
 spaced_fine line key rest = fine_if AnyOf (outside_at line) _ _ _ (fine_ok _ tt) (fine_here)
 
 pub entry_behind_fine : (line : ℕ) (key rest : List ℕ) → Fine AnyOf (outside_at line) (entry_behind line key rest)
@@ -119,7 +110,7 @@ name_fine line (Some scalar) = fine_ok _ tt
 
 pub close_fine : (line b : ℕ) (bytes : List ℕ)
     → Fine {A = TokenSpan} AnyOf (outside_at line) (cond (eqb b close_bracket) (Ok (mark Close 1)) (name_token line (scalar_front (b ∷
-        bytes))))
+    bytes))))
 close_fine line b bytes = fine_if AnyOf (outside_at line) _ _ _ (fine_ok _ tt) (name_fine line (scalar_front (b ∷ bytes)))
 
 pub comma_fine : (line b : ℕ) (bytes : List ℕ)

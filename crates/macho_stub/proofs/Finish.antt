@@ -80,10 +80,20 @@ all_there : (before : List DocumentFields) (document : OpenDocumentFields) (skip
     (t : List (List ℕ)) → document.version ≡ Some v → document.targets ≡ Some t → document.install_name ≡ Some i
     → Finishes (at_top before document skipped) line
 unfolding lines_from with_whole whole_document
-all_there before document true line v i t ev et ei = record { more = []; says = before ++ whole v i t document ∷ []; is = rw (ev, et, ei)
-    refl; are = tt }
-all_there before document false line v i t ev et ei = record { more = []; says = before ++ whole v i t document ∷ []; is = rw (ev, et, ei)
-    refl; are = tt }
+all_there before document true line v i t ev et ei = record {
+  more = [];
+  says = before ++ whole v i t document ∷ [];
+  is = rw (ev, et, ei)
+      refl;
+  are = tt;
+}
+all_there before document false line v i t ev et ei = record {
+  more = [];
+  says = before ++ whole v i t document ∷ [];
+  is = rw (ev, et, ei)
+      refl;
+  are = tt;
+}
 
 abbrev with_name : OpenDocumentFields → OpenDocumentFields
 with_name document = record document { install_name = Some (codes "a") }
@@ -250,13 +260,34 @@ pub item_whole : (line : ℕ) (list : ItemListFields) (t : List (List ℕ)) (n :
     → list.item.targets ≡ Some t → list.item.names ≡ n → list.kind ≡ k → ((k ≡ Libraries) → n ≡ None → ⊥)
     → (items : List ItemFields) × (items_with_last line list ≡ Ok items)
 unfolding items_with_last whole_item
-item_whole line list t (Some n) Libraries et en ek h = (list.items ++ record { targets = t; names = n; weak_names = unwrap_or
-    list.item.weak_names [] } ∷ [], rw (et, en, ek) refl)
+item_whole line list t (Some n) Libraries et en ek h = (
+  list.items ++ record {
+    targets = t;
+    names = n;
+    weak_names = unwrap_or
+        list.item.weak_names [];
+  } ∷ [],
+  rw (et, en, ek) refl,
+)
 item_whole line list t None Libraries et en ek h = absurd (h refl refl)
-item_whole line list t n Exports et en ek h = (list.items ++ record { targets = t; names = unwrap_or n []; weak_names = unwrap_or
-    list.item.weak_names [] } ∷ [], rw (et, en, ek) refl)
-item_whole line list t n Reexports et en ek h = (list.items ++ record { targets = t; names = unwrap_or n []; weak_names = unwrap_or
-    list.item.weak_names [] } ∷ [], rw (et, en, ek) refl)
+item_whole line list t n Exports et en ek h = (
+  list.items ++ record {
+    targets = t;
+    names = unwrap_or n [];
+    weak_names = unwrap_or
+        list.item.weak_names [];
+  } ∷ [],
+  rw (et, en, ek) refl,
+)
+item_whole line list t n Reexports et en ek h = (
+  list.items ++ record {
+    targets = t;
+    names = unwrap_or n [];
+    weak_names = unwrap_or
+        list.item.weak_names [];
+  } ∷ [],
+  rw (et, en, ek) refl,
+)
 
 names_lack : (before : List DocumentFields) (document : OpenDocumentFields) (list : ItemListFields) (skipped : Bool) (line : ℕ)
     (t : List (List ℕ)) (n : Option (List (List ℕ))) (k : ItemKind) → list.item.targets ≡ Some t → list.item.names ≡ n → list.kind ≡ k
@@ -266,7 +297,7 @@ names_lack before document list skipped line t None Libraries et en ek below =
     let w = item_whole document.line next t (Some []) Libraries et refl ek (λ e n. cc) in
     step_then _ (at_item before document next false) line (replicate list.column space ++ libraries_line)
     (item_libraries_step before document list skipped line ek en below) (spaces_line list.column libraries_line refl) (item_done before
-        document next false (line + 1) w.0 w.1)
+    document next false (line + 1) w.0 w.1)
 names_lack before document list skipped line t (Some n) Libraries et en ek below =
     let w = item_whole document.line list t (Some n) Libraries et en ek (λ e n. cc) in
     item_done before document list skipped line w.0 w.1

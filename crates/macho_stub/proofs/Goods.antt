@@ -145,7 +145,7 @@ take_clean zero text h = refl
 take_clean (suc n) [] h = refl
 take_clean (suc n) (b ∷ text) h =
     let e = either_false (is_barred b) (has_barred text) h in both_false (is_barred b) (has_barred (take n text)) e.0 (take_clean n text
-        e.1)
+    e.1)
 
 -- the key with the value is a line
 key_line_is : (line : ℕ) (text : List ℕ) (said : Entry) (rest : List ℕ) → entry_at line text ≡ Ok said → IsLine text → IsLine rest
@@ -160,7 +160,7 @@ key_line_clean : (line : ℕ) (text : List ℕ) (said : Entry) (rest : List ℕ)
 unfolding has_barred
 key_line_clean line text said rest e l r =
     let front : has_barred said.key ≡ false = ap has_barred (key_front line text said e)
-        ∙ take_clean (prefix_len is_key_byte text) text l in
+    ∙ take_clean (prefix_len is_key_byte text) text l in
     barred_after said.key (colon ∷ rest) front r
 
 pub good_at_top : (first : List (List ℕ)) (before : List DocumentFields) (document whole : OpenDocumentFields)

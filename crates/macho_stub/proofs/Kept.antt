@@ -114,7 +114,7 @@ item_key_line_kept : (document : OpenDocumentFields) (list : ItemListFields) (li
 unfolding item_key_line
 item_key_line_kept document list line text =
     kept_bind (Of document.line line) (entry_at line text) (λ entry. item_entry document list line (item_key list.kind entry.key)
-        entry.value)
+    entry.value)
     (λ entry _. item_entry_kept document list line (item_key list.kind entry.key) entry.value)
 
 -- a line with a dash is no head
@@ -168,8 +168,11 @@ within_kept : (first began line : ℕ) (text : List ℕ) (before : List Document
     → Kept (Of first began) reading → Kept (BehindState first began line text) (within before reading)
 within_kept first began line text before reading other h =
     kept_bind (BehindState first began line text) reading (λ inside. Ok (record { documents = before; place = Within inside }))
-    (λ inside e. kept_ok (BehindState first began line text) (record { documents = before; place = Within inside }) (inl (other, h inside
-        e)))
+    (λ inside e. kept_ok (BehindState first began line text) (record { documents = before; place = Within inside }) (inl (
+      other,
+      h inside
+          e,
+    )))
 
 first_kept : (first line : ℕ) (text : List ℕ) (before : List DocumentFields) (reading : Reading InsideFields)
     → Kept (FirstLine first line text) reading → Kept (BehindState first line line text) (within before reading)
@@ -194,12 +197,12 @@ top_line_kept before document line text next e =
       | inl b ↦ kept_bind P (with_whole before document) then_head
           (λ whole _. kept_ok P _ (inr (same_bytes text head b.0, refl))) next b.1
       | inr b ↦ elim (chosen (bytes_eq text end) (with_whole before document >>= then_end) (entry_at line text >>= then_entry) (Ok next)
-              b.1) [
-        | inl d ↦ kept_bind P (with_whole before document) then_end (λ whole _. kept_ok P _ tt) next d.1
-        | inr d ↦ kept_bind P (entry_at line text) then_entry
-            (λ entry _. within_kept document.line line line text before _ (not_bytes text head b.0)
-            (top_entry_kept document line (top_key entry.key) entry.value)) next d.1
-      ]
+          b.1) [
+            | inl d ↦ kept_bind P (with_whole before document) then_end (λ whole _. kept_ok P _ tt) next d.1
+            | inr d ↦ kept_bind P (entry_at line text) then_entry
+                (λ entry _. within_kept document.line line line text before _ (not_bytes text head b.0)
+                (top_entry_kept document line (top_key entry.key) entry.value)) next d.1
+          ]
     ]
 
 indent_no_head : (text : List ℕ) → indent text ≢ 0 → text ≢ head
@@ -221,12 +224,12 @@ item_line_kept before document list line text next e =
       | inr b ↦ elim (chosen (eqb (indent text) 0) (items_with_last document.line list >>= top) by_key (Ok next) b.1) [
         | inl d ↦ kept_bind P (items_with_last document.line list) top
             (λ items _. let K : ℕ → Type 0 = λ n. Kept (BehindState n line line text) (top_line before (with_items list.kind items
-                document) line text)
+            document) line text)
             in subst K (items_line list.kind items document) (top_line_kept before (with_items list.kind items document) line text)) next
-                d.1
+            d.1
         | inr d ↦
             let k = not_broken_else (eqb (indent text) list.column) line S1 (within before (item_key_line document list line (unspaced
-                text))) next d.1 in
+            text))) next d.1 in
             within_kept document.line line line text before _ (indent_no_head text (ne_at _ _ d.0))
             (item_key_line_kept document list line (unspaced text)) next k.1
       ]
@@ -270,7 +273,7 @@ began_of (NoItem kind at) line = line
 
 pub inside_line_kept : (before : List DocumentFields) (document : OpenDocumentFields) (list : Option ItemListFields) (mode : ModeFields)
     (line : ℕ) (text : List ℕ) → Kept (BehindState document.line (began_of mode line) line text) (inside_line before document list mode
-        line text)
+    line text)
 inside_line_kept before document list Keys line text next e = key_line_kept before document list line text next e
 inside_line_kept before document list Skipped line text next e =
     let P = BehindState document.line line line text in
@@ -330,18 +333,21 @@ pub outside_kept : (before : List DocumentFields) (line : ℕ) (text : List ℕ)
     → content_line before Outside line text ≡ Ok next
     → (text ≡ head) × (record { documents = before; place = Within (stays (head_at line) None Keys) } ≡ next)
 outside_kept before line text next e =
-    let b = not_broken_else (bytes_eq text head) line S1 (Ok (record { documents = before; place = Within (stays (head_at line) None Keys)
-        }))
+    let b = not_broken_else (bytes_eq text head) line S1 (Ok (record {
+      documents = before;
+      place = Within (stays (head_at line) None Keys);
+    }))
     next e in
     (same_bytes text head b.0, same_ok _ _ b.1)
 
 -- a step over a line that is passed over stays, and any other is over one with content
 pub step_kinds : (state next : StateFields) (line : ℕ) (text : List ℕ) → line_step state line text ≡ Ok next
-    → ((is_passed text ≡ true) × (state ≡ next)) ⊎ ((is_passed text ≡ false) × (content_line state.documents state.place line text ≡ Ok next))
+    → ((is_passed text ≡ true) × (state ≡ next)) ⊎ ((is_passed text ≡ false)
+    × (content_line state.documents state.place line text ≡ Ok next))
 unfolding line_step
 step_kinds state next line text e =
     let c = not_broken (has_barred text) line S1 (cond (is_passed text) (Ok state) (content_line state.documents state.place line text))
-        next e in
+    next e in
     elim (chosen (is_passed text) (Ok state) (content_line state.documents state.place line text) (Ok next) c.1) [
       | inl b ↦ inl (b.0, same_ok _ _ b.1)
       | inr b ↦ inr (b.0, b.1)

@@ -58,8 +58,7 @@ behind_key line key rest said e =
     elim (chosen (is_tail rest) (Ok (record { key = key; value = [] }))
     (cond (eqb (get_or rest 0 0) space) (Ok (record { key = key; value = unspaced rest })) (outside line)) (Ok said) e) [
       | inl b ↦ sym (ap (λ (x : Entry). x.key) (same_ok _ _ b.1))
-      | inr b ↦ elim (chosen (eqb (get_or rest 0 0) space) (Ok (record { key = key; value = unspaced rest })) (outside line) (Ok said) b.1)
-              [
+      | inr b ↦ elim (chosen (eqb (get_or rest 0 0) space) (Ok (record { key = key; value = unspaced rest })) (outside line) (Ok said) b.1) [
         | inl d ↦ sym (ap (λ (x : Entry). x.key) (same_ok _ _ d.1))
         | inr d ↦ absurd (no_ok line S1 said d.1)
       ]
@@ -72,7 +71,7 @@ unfolding entry_at
 key_front line text said e =
     let p = prefix_len is_key_byte text in
     let b = not_broken (eqb p 0 || not (eqb (get_or text p 0) colon)) line S1 (entry_behind line (take p text) (drop (p + 1) text)) said e
-        in
+    in
     behind_key line (take p text) (drop (p + 1) text) said b.1
 
 -- a text with the same key
@@ -82,7 +81,7 @@ unfolding entry_at is_key_byte
 same_key line text said rest e =
     let p = prefix_len is_key_byte text in
     let b = not_broken (eqb p 0 || not (eqb (get_or text p 0) colon)) line S1 (entry_behind line (take p text) (drop (p + 1) text)) said e
-        in
+    in
     let k = behind_key line (take p text) (drop (p + 1) text) said b.1 in
     let c = cut_at text colon rest refl in
     rw k (record {
@@ -102,7 +101,7 @@ key_reads line text key rest h =
     let t : (eqb (prefix_len is_key_byte text) 0 || not (eqb (get_or text (prefix_len is_key_byte text) 0) colon)) ≡ false =
     passes (prefix_len is_key_byte text) (get_or text (prefix_len is_key_byte text) 0) h.some h.behind in
     ap (λ b. cond b (outside line) (entry_behind line (take (prefix_len is_key_byte text) text) (drop (prefix_len is_key_byte text + 1)
-        text))) t
+    text))) t
     ∙ ap (λ k. entry_behind line k (drop (prefix_len is_key_byte text + 1) text)) h.front
     ∙ ap (λ r. entry_behind line key r) h.back
   where

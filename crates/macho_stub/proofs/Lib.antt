@@ -38,6 +38,7 @@ pub mod Spelled
 pub mod Steps
 pub mod Stops
 pub mod Told
+pub mod ToldBack
 pub mod Twice
 pub mod Walk
 pub mod Whys

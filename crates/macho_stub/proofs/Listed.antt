@@ -1,5 +1,5 @@
 -- The set of the libraries that items list: a name is in it where it is one of those that were put in.
-use Rattle.std.proofs.Common.{◌≡◌, ℕ, zero, suc, ◌+◌, ◌<◌, ◌≤◌, ◌||◌, Bool, true, false, cond, get_or, drop, map, Bor, List, [], ◌∷◌, length, refl, sym, ap, ◌∙◌, arith}
+use Rattle.std.proofs.Common.{◌≡◌, ℕ, zero, suc, ◌+◌, ◌<◌, ◌||◌, Bool, true, false, cond, get_or, drop, Bor, List, [], ◌∷◌, length, refl, sym, ap, ◌∙◌, arith}
 use Rattle.std.specs.List.{list_any}
 use Rattle.std.specs.Str.{bytes_eq}
 use Rattle.std.specs.Ordering.{nat_cmp}
@@ -14,7 +14,7 @@ use Rattle.macho_stub.specs.Lists.{texts}
 -- after a name is put in, it is there, and what was there is
 put_in : (old new : BTreeSet (Bor (List ℕ))) (x : Bor (List ℕ)) (name : List ℕ)
     → UpdatesBy (λ (x y : Bor (List ℕ)). slice_cmp nat_cmp x.now y.now) (λ k. slice_cmp nat_cmp x.now k.now) old new true
-        → holds new name ≡ (bytes_eq x.now name || holds old name)
+    → holds new name ≡ (bytes_eq x.now name || holds old name)
 put_in old new x name u =
     let q : Bor (List ℕ) = record { ref_ptr = (0, 0); now = name } in
     u.0 q ∙ ap (λ b. cond b true (holds old name)) (is_eq-slice_cmp x.now name) ∙ as_or (bytes_eq x.now name) (holds old name)

@@ -185,7 +185,7 @@ key_steps before document list skipped line n next key needed nz e =
     by_left false h = in_keys false h
     by_left true h =
         elim (chosen (ltb list.column n) (Ok (at_item before document list true)) (in_other_column before document list line n key) (Ok
-            next) h) [
+        next) h) [
           | inl b ↦ record
               { after = list; left = true; is = same_ok _ _ b.1; same_dash = refl; same_column = refl; still = λ x. refl }
           | inr b ↦ in_keys true b.1
@@ -241,8 +241,10 @@ no_next first before document list skipped text r nz nd s lacks i = by_column i.
   where
     by_column : (column : ℕ) (keys : List (List ℕ)) → AllByRecursion IsNeeded keys
         → MayStand (first ++ map (in_column column) keys) (in_column (indent text) dashed) → ⊥
-    by_column zero [] a m = no_dash first before document list skipped (indent text) 1 [] r nz (nd i.dash) s (λ h. absurd (omega (arith,
-        h))) a m
+    by_column zero [] a m = no_dash first before document list skipped (indent text) 1 [] r nz (nd i.dash) s (λ h. absurd (omega (
+      arith,
+      h,
+    ))) a m
     by_column zero (key ∷ keys) a m = first_column first (in_column (indent text) dashed) key keys a.0 lacks m
     by_column (suc column) keys a m = no_dash first before document list skipped (indent text) (suc column) keys r nz (nd i.dash) s
         (λ h. absurd (omega (arith, h))) a m

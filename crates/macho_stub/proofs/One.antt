@@ -1,15 +1,17 @@
 -- What is told of a text is told of it alone: two reasons at lines are the same reason, at the same line. Of two first
 -- lines that may not stand the earlier one would have to stand, since the lines before the later one go on; and at one
 -- place, a line that ends what lacks a key has no second key.
-use Rattle.std.proofs.Common.{◌≡◌, ◌≢◌, ℕ, ◌+◌, List, [], ◌∷◌, ◌++◌, length, Ok, refl, sym, ap, ◌∙◌, ◌⊎◌, inl, inr, subst, append_assoc}
-use Rattle.std.specs.List.{prefix_len, AllByRecursion}
+use Rattle.std.proofs.Common.{◌≡◌, ◌≢◌, ℕ, ◌+◌, List, [], ◌∷◌, ◌++◌, length, Ok, refl, sym, ap, ◌∙◌, inl, inr, subst, append_assoc}
+use Rattle.std.specs.List.{AllByRecursion}
 use Rattle.std.specs.Str.Lines.{lines}
 use Rattle.macho_stub.specs.declared.fault.StubRule.{StubRule}
 use Rattle.macho_stub.specs.declared.fault.StubRule.TheVariants.{S1, S2, S3, S4, S5, S6, S7, S8, S9}
 use Rattle.macho_stub.specs.Bytes.{indent, unspaced, is_passed, is_blank_or_comment, is_key_byte}
 use Rattle.macho_stub.specs.Keys.{Entry, entry_at}
 use Rattle.macho_stub.specs.Reader.{head, end}
-use Rattle.macho_stub.specs.Order.{GoOn, MayStand, LacksInItem, EndsWithout, StandsTwice, IsLastHead, IsWhy, StopsAt, StopsAtEnd, spare, in_column}
+use Rattle.macho_stub.specs.Order.{GoOn, MayStand, EndsWithout, StandsTwice, IsLastHead, IsWhy, StopsAt, StopsAtEnd, BreaksOff, spare, in_column}
+use Rattle.macho_stub.specs.Documents.{DocumentFields}
+use Rattle.macho_stub.specs.Grammar.{IsStubText}
 use Rattle.macho_stub.proofs.Bind.{no_ok}
 use Rattle.macho_stub.proofs.Outsides.{dash_no_key}
 
@@ -134,3 +136,8 @@ one_stop texts l m r s a b = by_cut (cuts a.first a.line a.rest b.first b.line b
 -- and what is told at a line isn't told at the end
 pub no_stop_and_end : (text : List ℕ) (l m : ℕ) (r s : StubRule) → StopsAt (lines text) l r → StopsAtEnd text m s → ⊥
 no_stop_and_end text l m r s a b = a.stuck (stands_before (lines text) a.first a.rest a.line a.parts b.go_on)
+
+-- a text that breaks off isn't in the grammar
+pub no_break : (text : List ℕ) (l : ℕ) (r : StubRule) → BreaksOff text l r → (says : List DocumentFields) → IsStubText text says → ⊥
+no_break text l r (inl a) says is = a.stuck (record { text = text; more = a.rest; says = says; begins = a.parts; in_grammar = is })
+no_break text l r (inr a) says is = a.stuck says is

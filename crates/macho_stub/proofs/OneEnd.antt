@@ -1,8 +1,7 @@
 -- What is told at the end of a text is told of it alone. A list that is open is open since one line; a key of items
 -- with none under it is the last line with content; and where a closing bracket may stand, no key and no item may.
-use Rattle.std.proofs.Common.{◌≡◌, ◌≢◌, ℕ, ◌+◌, true, false, List, [], ◌∷◌, ◌++◌, length, Option, Ok, refl, sym, ap, ◌∙◌, ◌⊎◌, inl, inr, subst, append_assoc}
-use Rattle.std.specs.List.{prefix_len, list_any, AllByRecursion}
-use Rattle.std.specs.Str.{bytes_eq}
+use Rattle.std.proofs.Common.{◌≡◌, ℕ, ◌+◌, true, false, List, [], ◌∷◌, ◌++◌, length, Option, Ok, refl, sym, ap, ◌∙◌, ◌⊎◌, inl, inr, subst, append_assoc}
+use Rattle.std.specs.List.{AllByRecursion}
 use Rattle.std.specs.Str.Lines.{lines}
 use Rattle.std.proofs.lemmas.List.{append-nil}
 use Rattle.macho_stub.specs.declared.list.Expect.{Expect}
@@ -11,11 +10,11 @@ use Rattle.macho_stub.specs.declared.fault.StubRule.{StubRule}
 use Rattle.macho_stub.specs.declared.fault.StubRule.TheVariants.{S1, S2, S3, S4, S5, S6, S7, S8, S9}
 use Rattle.macho_stub.specs.Bytes.{indent, unspaced, is_passed, has_barred, is_blank_or_comment, is_mark, is_plain_byte, has_late_control_after}
 use Rattle.macho_stub.specs.Scalars.{scalar_front, plain_front}
-use Rattle.macho_stub.specs.Faults.{Reading, ◌>>=◌, outside}
+use Rattle.macho_stub.specs.Faults.{outside}
 use Rattle.macho_stub.specs.Lists.{list_part, token_front, behind}
 use Rattle.macho_stub.specs.Documents.{DocumentFields, OpenDocumentFields}
 use Rattle.macho_stub.specs.Reader.{ItemListFields, NameListFields, ModeFields, Keys, Skipped, Names, NoItem, PlaceFields, Outside, Within, StateFields, stays, names_line, line_step, lines_from, start}
-use Rattle.macho_stub.specs.Order.{GoOn, MayStand, LacksInItem, LacksInDocument, IsLastHead, IsOpenAlong, IsCutList, IsBareKey, IsWhyAtEnd, StopsAtEnd, BreaksOff, spare, dashed, closing}
+use Rattle.macho_stub.specs.Order.{GoOn, MayStand, LacksInItem, LacksInDocument, IsLastHead, IsOpenAlong, IsCutList, IsBareKey, IsWhyAtEnd, BreaksOff, spare, dashed, closing}
 use Rattle.macho_stub.proofs.Bind.{bind_ok}
 use Rattle.macho_stub.proofs.Joined.{AreLines, lines_are_lines}
 use Rattle.macho_stub.proofs.Reached.{Reached, refused, length_more}

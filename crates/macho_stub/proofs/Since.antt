@@ -113,7 +113,8 @@ bracket_at_top : (before : List DocumentFields) (document whole : OpenDocumentFi
 unfolding has_barred is_passed is_blank_or_comment unspaced indent belongs_to_top top_line entry_at is_key_byte
 bracket_at_top before document whole list skipped line c = top_steps before document whole list skipped line closing c refl refl refl
 
-pub no_bracket_at_keys : (first : List (List ℕ)) (before : List DocumentFields) (document : OpenDocumentFields) (list : Option ItemListFields)
+pub no_bracket_at_keys : (first : List (List ℕ)) (before : List DocumentFields) (document : OpenDocumentFields) (list : Option
+    ItemListFields)
     (skipped : Bool) → Reached first (keys_state before document list skipped) → MayStand first closing → ⊥
 unfolding has_barred is_passed is_blank_or_comment unspaced indent
 no_bracket_at_keys first before document None skipped r m = refused first _ closing (length first + 1) S1 r
@@ -126,7 +127,8 @@ no_bracket_at_keys first before document (Some list) skipped r m = by_items (ite
     by_items (Err fault) e = refused first _ closing fault.line fault.rule r
         (lacking_steps before document list skipped (length first + 1) closing fault.line fault.rule e refl refl refl) m
 
-pub no_bracket_at_item : (first : List (List ℕ)) (before : List DocumentFields) (document : OpenDocumentFields) (list : Option ItemListFields)
+pub no_bracket_at_item : (first : List (List ℕ)) (before : List DocumentFields) (document : OpenDocumentFields) (list : Option
+    ItemListFields)
     (kind : ItemKind) (at : ℕ) → Reached first (record { documents = before; place = Within (stays document list (NoItem kind at)) })
     → MayStand first closing → ⊥
 unfolding line_step has_barred is_passed is_blank_or_comment unspaced indent first_line has_dash
@@ -251,7 +253,8 @@ behind_inside first next text number began r h b k = by_place next.place refl b
 
 inside_more : (first : List (List ℕ)) (before : List DocumentFields) (document : OpenDocumentFields) (list : Option ItemListFields)
     (mode : ModeFields) (next : StateFields) (text : List ℕ)
-    → is_passed text ≡ false → Known first (record { documents = before; place = Within (stays document list mode) }) → Reached (first ++ text ∷ []) next
+    → is_passed text ≡ false → Known first (record { documents = before; place = Within (stays document list mode) })
+    → Reached (first ++ text ∷ []) next
     → content_line before (Within (stays document list mode)) (length first + 1) text ≡ Ok next
     → HeadsAt (first ++ text ∷ []) next.place × ListsAt (first ++ text ∷ []) next.place
 inside_more first before document list Keys next text p k r e =
@@ -280,14 +283,15 @@ place_more first before Outside next text p k r e =
     let o = outside_kept before (length first + 1) text next e in
     let P : StateFields → Type 0 = λ s. HeadsAt (first ++ text ∷ []) s.place × ListsAt (first ++ text ∷ []) s.place in
     subst P o.1 (head_here first text o.0, tt)
-place_more first before (Within inside) next text p k r e = inside_more first before inside.document inside.list inside.mode next text p k r e
+place_more first before (Within inside) next text p k r e = inside_more first before inside.document inside.list inside.mode next text p k
+    r e
 
 pub known_more : (first : List (List ℕ)) (state next : StateFields) (text : List ℕ) → Known first state → IsLine text
     → line_step state (length first + 1) text ≡ Ok next → Known (first ++ text ∷ []) next
 known_more first state next text k l e =
     let r = reached_more first state next text k.reached l e in
     let both : HeadsAt (first ++ text ∷ []) next.place × ListsAt (first ++ text ∷ []) next.place = elim (step_kinds state next (length
-        first + 1) text e) [
+    first + 1) text e) [
       | inl p ↦
           let P : StateFields → Type 0 = λ s. HeadsAt (first ++ text ∷ []) s.place × ListsAt (first ++ text ∷ []) s.place in
           let R : StateFields → Type 0 = λ s. Reached (first ++ text ∷ []) s in

@@ -49,7 +49,7 @@ keys_why texts before document (Some list) skipped at rule k e =
     elim (bind_err (items_with_last document.line list) (λ items. with_whole before (with_items list.kind items document)) at rule e) [
       | inl b ↦ same_why at rule texts (record { line = document.line; rule = S2 })
           (at_line AnyOf (lacking_at document.line) (items_with_last document.line list) at rule (items_with_last_fine document.line list)
-              b)
+          b)
           (k.heads, inl (lacks_item texts before document list skipped at rule k.reached b))
       | inr b ↦ document_why texts before document (with_items list.kind b.0 document) (Some list) skipped at rule k (b.0, b.1, refl)
           (items_line list.kind b.0 document) b.2

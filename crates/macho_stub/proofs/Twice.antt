@@ -39,8 +39,12 @@ then_top before document line entry = within before (top_entry document line (to
 pub top_reads : (before : List DocumentFields) (document : OpenDocumentFields) (line : ℕ) (text key rest : List ℕ) → HasKey text key rest
     → top_line before document line text ≡ (entry_behind line key rest >>= then_top before document line)
 unfolding top_line then_top
-top_reads before document line text key rest h = rw (key_no_head text key rest h, key_no_end text key rest h, key_reads line text key rest
-    h) refl
+top_reads before document line text key rest h = rw (
+  key_no_head text key rest h,
+  key_no_end text key rest h,
+  key_reads line text key rest
+      h,
+) refl
 
 top_refuses : (before : List DocumentFields) (document : OpenDocumentFields) (line : ℕ) (key value rest : List ℕ)
     → top_entry document line (top_key key) value ≡ broken line S3
@@ -51,7 +55,7 @@ top_refuses before document line key value rest e =
       | inl k ↦
           let again : top_entry document line (top_key k.0.key) k.0.value
           ≡ broken line S3 = ap (λ x. top_entry document line (top_key x) k.0.value) k.2
-              ∙ top_again document line (top_key key) value k.0.value e in
+          ∙ top_again document line (top_key key) value k.0.value e in
           (S3, ap (λ reading. reading >>= then_top before document line) k.1 ∙ ap (within before) again)
       | inr o ↦ (S1, ap (λ reading. reading >>= then_top before document line) o)
     ]
@@ -164,5 +168,5 @@ twice_in_item first before document list skipped text said r below clean at e tw
         let t = item_refuses before document list n again said.key said.value rest k below twice in
         refused first (at_item before document list skipped) (in_column list.column again) n t.0 r
         (item_text_steps before document list skipped n again (key_at_top again said.key rest k) h (key_has_content again said.key rest k)
-            below
+        below
         ∙ t.1) m

@@ -98,7 +98,7 @@ first_never document list line item.Targets value i g e = absurd (let h = (same_
     (at_line GoodInside (outside_at line) (names_value document (Some list) line item.Targets value) line S3
     (names_value_fine document (Some list) line item.Targets value g)
     (ap (λ x. cond (has_key item.Targets x) (broken line S3) (names_value document (Some list) line item.Targets value)) (sym i)
-        ∙ e))).1 in cc)
+    ∙ e))).1 in cc)
 first_never document list line item.Names value i g e = absurd (let h = (same_parts line line S3 S1
     (at_line GoodInside (outside_at line) (names_value document (Some list) line item.Names value) line S3
     (names_value_fine document (Some list) line item.Names value g)
@@ -107,7 +107,7 @@ first_never document list line item.WeakNames value i g e = absurd (let h = (sam
     (at_line GoodInside (outside_at line) (names_value document (Some list) line item.WeakNames value) line S3
     (names_value_fine document (Some list) line item.WeakNames value g)
     (ap (λ x. cond (has_key item.WeakNames x) (broken line S3) (names_value document (Some list) line item.WeakNames value)) (sym i)
-        ∙ e))).1 in
+    ∙ e))).1 in
     cc)
 
 abbrev pub outside_fault : ℕ → Fault
@@ -132,7 +132,7 @@ first_outside document kind items line text at rule e =
             (item_entry_fine document list line (item_key kind k.0.key) k.0.value (dash_before_key text)) k.2) [
               | inl q ↦ q
               | inr q ↦ absurd (first_never document list line (item_key kind k.0.key) k.0.value refl (dash_before_key text) (k.2
-                      ∙ ap Err q))
+                  ∙ ap Err q))
             ]
       ]
     ]
@@ -187,7 +187,7 @@ item_why first before document list skipped text at rule k clean some l s (Next 
       refl,
       (λ e. elim e.lacks [
         | inl x ↦ no_item_lacks first before document (with_items list.kind items document) (Some list) skipped k.reached (items, i, refl)
-                x.0
+            x.0
         | inr x ↦ dash_no_end text dash x.1
       ]),
       dash_no_key first text dash,

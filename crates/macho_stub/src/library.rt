@@ -162,10 +162,7 @@ fn with_listed<'data>(
 
 /// The libraries that the items list, so that each is looked up without a walk over all.
 #[tactic(auto, unfolding(crate::specs::Library::is_listed))]
-fn listed_of<'data>(
-    alloc: Global,
-    items: &[Item<'data>],
-) -> Result<BTreeSet<&'data str>, StubFault>
+fn listed_of<'data>(alloc: Global, items: &[Item<'data>]) -> Result<BTreeSet<&'data str>, StubFault>
     ensures done { IfOk result (λ new. (name : List ℕ) → holds new name ≡ is_listed name (items_of items.now)) }
     ensures why { IfErr result (λ fault. fault ≡ OutOfMemory) }
 {

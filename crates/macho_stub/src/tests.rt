@@ -175,7 +175,10 @@ const OUTSIDE: [(&str, u64); 18] = [
     ("--- !tapi-tbd\ninstall-name: a\u{85}b\n", 2),
     ("--- !tapi-tbd\ntargets: [ a ]\nother: [ b,\n\n  c,\n", 3),
     ("--- !tapi-tbd\nexports: # none\n\n# a comment\n", 2),
-    ("--- !tapi-tbd\nexports:\n  - symbols: [ a ]\n - targets: [ b ]\n", 4),
+    (
+        "--- !tapi-tbd\nexports:\n  - symbols: [ a ]\n - targets: [ b ]\n",
+        4,
+    ),
 ];
 
 #[test]
@@ -201,7 +204,11 @@ const BROKEN: [(&str, u64, StubRule); 14] = [
         StubRule::S2,
     ),
     ("--- !tapi-tbd\ntargets: []\ntargets: []\n", 3, StubRule::S3),
-    ("--- !tapi-tbd\ntargets: []\ntargets: [ a b ]\n", 3, StubRule::S3),
+    (
+        "--- !tapi-tbd\ntargets: []\ntargets: [ a b ]\n",
+        3,
+        StubRule::S3,
+    ),
     (
         "--- !tapi-tbd\ntargets: []\nexports:\n  - symbols: []\ntargets: []\n",
         1,
@@ -287,7 +294,10 @@ fn keys_of_an_item_in_each_order(rt: HostRuntime) -> Result<(), Fail> {
             "--- !tapi-tbd\ntbd-version: 4\ntargets: [ arm64e-macos ]\ninstall-name: a\ncurrent-version: 1\nexports:\n",
         )?;
         text.push_str(order)?;
-        assert!(rt; reads_as(rt.alloc(), text.as_str(), &["a", "1", "_s ", "_w "])?, "{order}");
+        assert!(rt;
+            reads_as(rt.alloc(), text.as_str(), &["a", "1", "_s ", "_w "])?,
+            "{order}"
+        );
     }
     Ok(())
 }
