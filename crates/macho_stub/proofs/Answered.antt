@@ -1,16 +1,21 @@
 -- The answer is the one that the grammar and the rules have: reading finds what is there, and nothing else.
-use Rattle.std.proofs.Common.{◌≡◌, ℕ, List, Result, Ok, Err, sym, ap, ◌∙◌, inl, inr}
+use Rattle.std.proofs.Common.{◌≡◌, ℕ, List, Result, Ok, Err, refl, sym, ap, ◌∙◌, inl, inr, subst}
 use Rattle.std.specs.Prelude.{IfOk, IfErr}
 use Rattle.macho_stub.specs.declared.fault.StubFault.{StubFault}
 use Rattle.macho_stub.specs.declared.fault.StubFault.TheVariants.{Rule, OutOfMemory}
-use Rattle.macho_stub.specs.Faults.{broken, Gives, ◌>>=◌}
+use Rattle.macho_stub.specs.Faults.{Fault, Reading, broken, Gives, ◌>>=◌}
 use Rattle.macho_stub.specs.Reader.{documents_of}
 use Rattle.macho_stub.specs.Library.{LibraryFields, library_of}
 use Rattle.macho_stub.specs.Answer.{IsStub, IsToldOfText, answer_of}
 use Rattle.macho_stub.specs.declared.fault.StubRule.{StubRule}
-use Rattle.macho_stub.proofs.Bind.{bind_ok}
+use Rattle.macho_stub.proofs.Bind.{bind_ok, no_ok, same_ok}
 use Rattle.macho_stub.proofs.Ruling.{bind_err, library_made, library_back}
 use Rattle.macho_stub.proofs.Told.{library_told}
+use Rattle.macho_stub.proofs.ToldBack.{told_back}
+use Rattle.macho_stub.proofs.One.{no_break}
+use Rattle.macho_stub.proofs.OneEnd.{one_break}
+use Rattle.macho_stub.specs.Rules.{IsTold}
+use Rattle.macho_stub.specs.Documents.{DocumentFields}
 use Rattle.macho_stub.proofs.Stops.{breaks_off}
 use Rattle.macho_stub.proofs.Found.{documents_found}
 use Rattle.macho_stub.proofs.Only.{documents_read}
@@ -33,6 +38,37 @@ answer_told text line rule e =
       | inl b ↦ inr (breaks_off text line rule b)
       | inr b ↦ inl (b.0, documents_found text b.0 b.1, library_told b.0 line rule b.2)
     ]
+
+-- what is told of the text is what is answered
+answer_back : (text : List ℕ) (line : ℕ) (rule : StubRule) → IsToldOfText text (Rule line rule) → answer_of text ≡ broken line rule
+unfolding answer_of
+answer_back text line rule t = by_documents (documents_of text) refl t
+  where
+    of_text : (says : List DocumentFields) → documents_of text ≡ Ok says → IsToldOfText text (Rule line rule)
+        → library_of says ≡ broken line rule
+    of_text says e (inl i) =
+        let same : i.0 ≡ says = same_ok _ _ (sym (documents_read text i.0 i.1) ∙ e) in
+        let T : List DocumentFields → Type 0 = λ d. IsTold rule line d in
+        told_back says rule line (subst T same i.2)
+    of_text says e (inr b) = absurd (no_break text line rule b says (documents_found text says e))
+
+    of_fault : (fault : Fault) → documents_of text ≡ Err fault → IsToldOfText text (Rule line rule)
+        → broken {A = LibraryFields} fault.line fault.rule ≡ broken line rule
+    of_fault fault e (inl i) = absurd (no_ok fault.line fault.rule i.0 (sym e ∙ documents_read text i.0 i.1))
+    of_fault fault e (inr b) =
+        let o = one_break text fault.line line fault.rule rule (breaks_off text fault.line fault.rule e) b in
+        ap (λ n. broken n fault.rule) o.0 ∙ ap (broken line) o.1
+
+    by_documents : (reading : Reading (List DocumentFields)) → documents_of text ≡ reading → IsToldOfText text (Rule line rule)
+        → (documents_of text >>= library_of) ≡ broken line rule
+    by_documents (Ok says) e t = ap (λ reading. reading >>= library_of) e ∙ of_text says e t
+    by_documents (Err fault) e t = ap (λ reading. reading >>= library_of) e ∙ of_fault fault e t
+
+pub told : {X : Type 0} (view : X → LibraryFields) (text : List ℕ) (result : Result X StubFault) (line : ℕ) (rule : StubRule)
+    → Gives view result (answer_of text) → IsToldOfText text (Rule line rule) → Gives view result (broken line rule)
+told view text (Ok library) line rule h t = sym (answer_back text line rule t) ∙ h
+told view text (Err (Rule at other)) line rule h t = sym (answer_back text line rule t) ∙ h
+told view text (Err OutOfMemory) line rule h t = tt
 
 pub found : {X : Type 0} (view : X → LibraryFields) (text : List ℕ) (result : Result X StubFault) → Gives view result (answer_of text)
     → IfOk result (λ library. IsStub text (view library))

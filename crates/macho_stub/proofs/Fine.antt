@@ -1,7 +1,6 @@
--- A step over a line that fails tells that line, but for a key that is lacking. And a step that doesn't fail leaves
--- the reading in good order: keys of an item stand behind its dash, and a list that goes on isn't closed.
-use Rattle.std.proofs.Common.{◌≡◌, ◌≢◌, ℕ, zero, suc, ◌+◌, ◌-◌, ◌<◌, ◌&&◌, Bool, true, false, cond, eqb, get_or, take, length, List, [], ◌∷◌, ◌++◌, drop, Option, Some, None, Ok, Err, refl, sym, ap, subst, arith, ◌⊎◌, inl, inr}
-use Rattle.std.specs.List.{prefix_len}
+-- A step that doesn't fail leaves the reading in good order: keys of an item stand behind its dash, and a list that
+-- goes on isn't closed. One that fails tells its line, or that an item or a document lacks a key.
+use Rattle.std.proofs.Common.{◌≢◌, ℕ, ◌<◌, ◌&&◌, cond, eqb, length, List, [], drop, Option, Some, None, Ok, refl, arith, inl, inr}
 use Rattle.std.specs.Str.{bytes_eq}
 use Rattle.macho_stub.specs.declared.keys.ItemKind.{ItemKind}
 use Rattle.macho_stub.specs.declared.keys.ItemKind.TheVariants.{Libraries, Exports, Reexports}
@@ -11,136 +10,14 @@ use Rattle.macho_stub.specs.declared.keys.TopKey.{TopKey}
 use Rattle.macho_stub.specs.declared.keys.TopKey.TheVariants as top
 use Rattle.macho_stub.specs.declared.list.Expect.{Expect}
 use Rattle.macho_stub.specs.declared.list.Expect.TheVariants.{AfterOpen, AfterComma, AfterName, Closed}
-use Rattle.macho_stub.specs.declared.list.TokenKind.{TokenKind}
-use Rattle.macho_stub.specs.declared.list.TokenKind.TheVariants.{Gap, Comma, Close, Name}
-use Rattle.macho_stub.specs.declared.fault.StubRule.{StubRule}
-use Rattle.macho_stub.specs.declared.fault.StubRule.TheVariants.{S1, S2, S3}
-use Rattle.macho_stub.proofs.Ruling.{same_err}
-use Rattle.macho_stub.specs.Bytes.{space, comma, close_bracket, indent, unspaced, is_key_byte, is_tail, is_passed, has_barred}
-use Rattle.macho_stub.specs.Scalars.{ScalarSpan, scalar_front}
-use Rattle.macho_stub.specs.Faults.{Fault, Reading, ◌>>=◌, broken, outside}
-use Rattle.macho_stub.specs.Lists.{TokenSpan, ListPart, gap, mark, name_token, token_front, behind, list_part, with_front}
-use Rattle.macho_stub.specs.Keys.{Entry, entry_behind, entry_at, alone, scalar_value, version_value, top_key, item_key}
+use Rattle.macho_stub.specs.declared.fault.StubRule.TheVariants.{S1, S3}
+use Rattle.macho_stub.specs.Bytes.{indent, unspaced, is_passed, has_barred}
+use Rattle.macho_stub.specs.Faults.{Reading, ◌>>=◌, broken, outside}
+use Rattle.macho_stub.specs.Lists.{list_part, with_front}
+use Rattle.macho_stub.specs.Keys.{Entry, entry_at, scalar_value, version_value, top_key, item_key}
 use Rattle.macho_stub.specs.Documents.{ItemFields, OpenItemFields, DocumentFields, OpenDocumentFields, wanted, wanted_names, whole_item, whole_document, no_item, with_items, has_items, head_at}
 use Rattle.macho_stub.specs.Reader.{ItemListFields, NameListFields, ModeFields, Keys, Skipped, Names, NoItem, InsideFields, PlaceFields, Outside, Within, StateFields, stays, has_dash, head, end, with_names, behind_expect, names_line, names_value, opened, skipped_value, item_entry, item_key_line, key_column, first_line, top_entry, within, with_whole, top_line, items_with_last, item_line, key_line, inside_line, content_line, line_step}
-
--- What a reading at a line gives is so, or it tells this line, or a key that is lacking.
-pub record Fine {A : Type 0} (P : A → Type 0) (line : ℕ) (reading : Reading A) : Type 0 where
-  pub ok : (x : A) → reading ≡ Ok x → P x
-  pub err : (fault : Fault) → reading ≡ Err fault → (fault.rule ≡ S2) ⊎ (fault.line ≡ line)
-
-abbrev pub AnyOf : {A : Type 0} → A → Type 0
-AnyOf x = Unit {0}
-
-abbrev done : {A : Type 0} → A → Reading A
-done x = Ok x
-
-same_ok : {A : Type 0} (x y : A) → done x ≡ done y → x ≡ y
-same_ok x y e = cc
-
-no_err : {A : Type 0} (x : A) (d : Fault) → done x ≡ Err d → ⊥
-no_err x d e = cc
-
-fine_ok : {A : Type 0} {P : A → Type 0} {line : ℕ} (x : A) → P x → Fine P line (Ok x)
-fine_ok {A} {P} x p = record { ok = λ y e. subst P (same_ok x y e) p; err = λ d e. absurd (no_err x d e) }
-
-fine_here : {A : Type 0} {P : A → Type 0} {line : ℕ} (rule : StubRule) → Fine P line (broken line rule)
-fine_here {A} {P} {line} rule = record {
-  ok = λ y e. absurd (no_err y _ (sym e));
-  err = λ d e. inr (ap (λ f. f.line) (sym (same_err {A = A} (record { line = line; rule = rule }) d e)));
-}
-
-fine_lacking : {A : Type 0} {P : A → Type 0} {line : ℕ} (at : ℕ) → Fine P line (broken at S2)
-fine_lacking {A} {P} {line} at = record {
-  ok = λ y e. absurd (no_err y _ (sym e));
-  err = λ d e. inl (ap (λ f. f.rule) (sym (same_err {A = A} (record { line = at; rule = S2 }) d e)));
-}
-
-fine_bind : {A B : Type 0} (P : A → Type 0) (Q : B → Type 0) (line : ℕ) (r : Reading A) (f : A → Reading B) → Fine P line r
-    → ((x : A) → P x → Fine Q line (f x)) → Fine Q line (r >>= f)
-fine_bind P Q line (Ok x) f h k = k x (h.ok x refl)
-fine_bind {A} {B} P Q line (Err d) f h k = record {
-  ok = λ y e. absurd (no_err y d (sym e));
-  err = λ c e. let D : Fault → Type 0 = λ f. (f.rule ≡ S2) ⊎ (f.line ≡ line) in subst D (same_err {A = B} d c e) (h.err d refl);
-}
-
-fine_if : {A : Type 0} (P : A → Type 0) (line : ℕ) (b : Bool) (x y : Reading A) → Fine P line x → Fine P line y → Fine P line (cond b x y)
-fine_if P line true x y h k = h
-fine_if P line false x y h k = k
-
--- ---- lines by themselves
-
-spaced_fine : (line : ℕ) (key rest : List ℕ)
-    → Fine {A = Entry} AnyOf line (cond (eqb (get_or rest 0 0) space) (Ok (record { key = key; value = unspaced rest })) (outside line))
-spaced_fine line key rest = fine_if AnyOf line _ _ _ (fine_ok _ tt) (fine_here _)
-
-entry_behind_fine : (line : ℕ) (key rest : List ℕ) → Fine AnyOf line (entry_behind line key rest)
-entry_behind_fine line key rest = fine_if AnyOf line (is_tail rest) _ _ (fine_ok _ tt) (spaced_fine line key rest)
-
-entry_fine : (line : ℕ) (text : List ℕ) → Fine AnyOf line (entry_at line text)
-unfolding entry_at
-entry_fine line text = fine_if AnyOf line _ _ _ (fine_here _)
-    (entry_behind_fine line (take (prefix_len is_key_byte text) text) (drop (prefix_len is_key_byte text + 1) text))
-
-alone_fine : (line : ℕ) (value : List ℕ) (scalar : Option ScalarSpan) → Fine AnyOf line (alone line value scalar)
-alone_fine line value None = fine_here _
-alone_fine line value (Some scalar) = fine_if AnyOf line _ _ _ (fine_ok _ tt) (fine_here _)
-
-scalar_fine : (line : ℕ) (value : List ℕ) → Fine AnyOf line (scalar_value line value)
-unfolding scalar_value
-scalar_fine line value = alone_fine line value (scalar_front value)
-
-version_fine : (line : ℕ) (value : List ℕ) → Fine AnyOf line (version_value line value)
-unfolding version_value
-version_fine line value = fine_if AnyOf line _ _ _ (fine_here _) (fine_ok _ tt)
-
-name_fine : (line : ℕ) (scalar : Option ScalarSpan) → Fine AnyOf line (name_token line scalar)
-name_fine line None = fine_here _
-name_fine line (Some scalar) = fine_ok _ tt
-
-close_fine : (line b : ℕ) (bytes : List ℕ)
-    → Fine {A = TokenSpan} AnyOf line (cond (eqb b close_bracket) (Ok (mark Close 1)) (name_token line (scalar_front (b ∷ bytes))))
-close_fine line b bytes = fine_if AnyOf line _ _ _ (fine_ok _ tt) (name_fine line (scalar_front (b ∷ bytes)))
-
-comma_fine : (line b : ℕ) (bytes : List ℕ)
-    → Fine {A = TokenSpan} AnyOf line
-    (cond (eqb b comma) (Ok (mark Comma 1)) (cond (eqb b close_bracket) (Ok (mark Close 1)) (name_token line (scalar_front (b ∷ bytes)))))
-comma_fine line b bytes = fine_if AnyOf line (eqb b comma) (Ok (mark Comma 1)) _ (fine_ok _ tt) (close_fine line b bytes)
-
-token_fine : (line : ℕ) (bytes : List ℕ) → Fine AnyOf line (token_front line bytes)
-unfolding token_front
-token_fine line [] = fine_here _
-token_fine line (b ∷ bytes) = fine_if AnyOf line (eqb b space) (Ok (gap bytes)) _ (fine_ok _ tt) (comma_fine line b bytes)
-
-behind_fine : (line : ℕ) (expect : Expect) (kind : TokenKind) → Fine AnyOf line (behind line expect kind)
-unfolding behind
-behind_fine line expect Gap = fine_ok _ tt
-behind_fine line AfterOpen Comma = fine_here _
-behind_fine line AfterOpen Close = fine_ok _ tt
-behind_fine line AfterOpen Name = fine_ok _ tt
-behind_fine line AfterComma Comma = fine_here _
-behind_fine line AfterComma Close = fine_ok _ tt
-behind_fine line AfterComma Name = fine_ok _ tt
-behind_fine line AfterName Comma = fine_ok _ tt
-behind_fine line AfterName Close = fine_ok _ tt
-behind_fine line AfterName Name = fine_here _
-behind_fine line Closed Comma = fine_here _
-behind_fine line Closed Close = fine_here _
-behind_fine line Closed Name = fine_here _
-
-front_fine : (line : ℕ) (names : List (List ℕ)) (reading : Reading ListPart) → Fine AnyOf line reading
-    → Fine AnyOf line (with_front names reading)
-front_fine line names reading h = fine_bind AnyOf AnyOf line reading _ h (λ x _. fine_ok _ tt)
-
-part_fine : (line : ℕ) (expect : Expect) (skip : ℕ) (bytes : List ℕ) → Fine AnyOf line (list_part line expect skip bytes)
-unfolding list_part
-part_fine line expect zero [] = fine_ok _ tt
-part_fine line expect (suc skip) [] = fine_ok _ tt
-part_fine line expect (suc skip) (b ∷ bytes) = part_fine line expect skip bytes
-part_fine line expect zero (b ∷ bytes) =
-    fine_bind AnyOf AnyOf line (token_front line (b ∷ bytes)) _ (token_fine line (b ∷ bytes)) (λ token _.
-    fine_bind AnyOf AnyOf line (behind line expect token.kind) _ (behind_fine line expect token.kind) (λ next _.
-    front_fine line _ (list_part line next (token.width - 1) bytes) (part_fine line next (token.width - 1) bytes)))
+use Rattle.macho_stub.proofs.FineLines.{Fine, AnyOf, outside_at, here_at, lacking_at, fine_ok, fine_err, fine_here, fine_bind, fine_if, weaker, free, entry_fine, scalar_fine, version_fine, front_fine, part_fine}
 
 -- ---- inside a document
 
@@ -177,113 +54,133 @@ good_expect document list began key names AfterOpen g = (g, λ e. cc)
 good_expect document list began key names AfterComma g = (g, λ e. cc)
 good_expect document list began key names AfterName g = (g, λ e. cc)
 
-names_line_fine : (document : OpenDocumentFields) (list : Option ItemListFields) (line : ℕ) (names : NameListFields) (text : List ℕ)
-    → GoodList list → Fine GoodInside line (names_line document list line names text)
+pub names_line_fine : (document : OpenDocumentFields) (list : Option ItemListFields) (line : ℕ) (names : NameListFields) (text : List ℕ)
+    → GoodList list → Fine GoodInside (outside_at line) (names_line document list line names text)
 unfolding names_line
 names_line_fine document list line names text g =
-    fine_bind AnyOf GoodInside line (with_front names.part.names (list_part line names.part.expect 0 text)) _
+    fine_bind AnyOf GoodInside (outside_at line) (with_front names.part.names (list_part line names.part.expect 0 text)) _
     (front_fine line names.part.names (list_part line names.part.expect 0 text) (part_fine line names.part.expect 0 text))
     (λ part _. fine_ok _ (good_expect document list names.began names.key part.names part.expect g))
 
-names_value_fine : (document : OpenDocumentFields) (list : Option ItemListFields) (line : ℕ) (key : ItemKey) (value : List ℕ)
-    → GoodList list → Fine GoodInside line (names_value document list line key value)
+pub names_value_fine : (document : OpenDocumentFields) (list : Option ItemListFields) (line : ℕ) (key : ItemKey) (value : List ℕ)
+    → GoodList list → Fine GoodInside (outside_at line) (names_value document list line key value)
 unfolding names_value
-names_value_fine document list line key value g = fine_if GoodInside line _ _ _
-    (names_line_fine document list line (opened line key) (drop 1 value) g) (fine_here _)
+names_value_fine document list line key value g = fine_if GoodInside (outside_at line) _ _ _
+    (names_line_fine document list line (opened line key) (drop 1 value) g) (fine_here)
 
-skipped_value_fine : (document : OpenDocumentFields) (list : Option ItemListFields) (line : ℕ) (value : List ℕ) → GoodList list
-    → Fine GoodInside line (skipped_value document list line value)
+pub skipped_value_fine : (document : OpenDocumentFields) (list : Option ItemListFields) (line : ℕ) (value : List ℕ) → GoodList list
+    → Fine GoodInside (outside_at line) (skipped_value document list line value)
 unfolding skipped_value
-skipped_value_fine document list line value g = fine_if GoodInside line _ _ _
+skipped_value_fine document list line value g = fine_if GoodInside (outside_at line) _ _ _
     (names_line_fine document list line (opened line item.Unread) (drop 1 value) g) (fine_ok _ (g, tt))
 
-item_entry_fine : (document : OpenDocumentFields) (list : ItemListFields) (line : ℕ) (key : ItemKey) (value : List ℕ)
-    → list.dash < list.column → Fine GoodInside line (item_entry document list line key value)
-item_entry_fine document list line item.Unread value g = skipped_value_fine document (Some list) line value g
-item_entry_fine document list line item.Targets value g = fine_if GoodInside line _ _ _ (fine_here _)
-    (names_value_fine document (Some list) line item.Targets value g)
-item_entry_fine document list line item.Names value g = fine_if GoodInside line _ _ _ (fine_here _)
-    (names_value_fine document (Some list) line item.Names value g)
-item_entry_fine document list line item.WeakNames value g = fine_if GoodInside line _ _ _ (fine_here _)
-    (names_value_fine document (Some list) line item.WeakNames value g)
+here_outside : {A : Type 0} {P : A → Type 0} {line : ℕ} → Fine P (here_at line) (outside {A = A} line)
+here_outside {A} {P} {line} = fine_err (record { line = line; rule = S1 }) (inl refl)
 
-item_key_line_fine : (document : OpenDocumentFields) (list : ItemListFields) (line : ℕ) (text : List ℕ) → list.dash < list.column
-    → Fine GoodInside line (item_key_line document list line text)
+here_twice : {A : Type 0} {P : A → Type 0} {line : ℕ} → Fine P (here_at line) (broken {A = A} line S3)
+here_twice {A} {P} {line} = fine_err (record { line = line; rule = S3 }) (inr refl)
+
+pub widen : {A : Type 0} (P : A → Type 0) (line : ℕ) (r : Reading A) → Fine P (outside_at line) r → Fine P (here_at line) r
+widen P line r h = weaker P (outside_at line) (here_at line) r (λ fault q. inl q) h
+
+pub item_entry_fine : (document : OpenDocumentFields) (list : ItemListFields) (line : ℕ) (key : ItemKey) (value : List ℕ)
+    → list.dash < list.column → Fine GoodInside (here_at line) (item_entry document list line key value)
+item_entry_fine document list line item.Unread value g = widen GoodInside line _ (skipped_value_fine document (Some list) line value g)
+item_entry_fine document list line item.Targets value g = fine_if GoodInside (here_at line) _ _ _ here_twice
+    (widen GoodInside line _ (names_value_fine document (Some list) line item.Targets value g))
+item_entry_fine document list line item.Names value g = fine_if GoodInside (here_at line) _ _ _ here_twice
+    (widen GoodInside line _ (names_value_fine document (Some list) line item.Names value g))
+item_entry_fine document list line item.WeakNames value g = fine_if GoodInside (here_at line) _ _ _ here_twice
+    (widen GoodInside line _ (names_value_fine document (Some list) line item.WeakNames value g))
+
+pub item_key_line_fine : (document : OpenDocumentFields) (list : ItemListFields) (line : ℕ) (text : List ℕ) → list.dash < list.column
+    → Fine GoodInside (here_at line) (item_key_line document list line text)
 unfolding item_key_line
 item_key_line_fine document list line text g =
-    fine_bind AnyOf GoodInside line (entry_at line text) _ (entry_fine line text)
+    fine_bind AnyOf GoodInside (here_at line) (entry_at line text) _ (widen AnyOf line _ (entry_fine line text))
     (λ entry _. item_entry_fine document list line (item_key list.kind entry.key) entry.value g)
 
-dash_before_key : (text : List ℕ) → indent text < key_column text
+pub dash_before_key : (text : List ℕ) → indent text < key_column text
 unfolding key_column
 dash_before_key text = omega arith
 
-first_line_fine : (document : OpenDocumentFields) (kind : ItemKind) (items : List ItemFields) (line : ℕ) (text : List ℕ)
-    → Fine GoodInside line (first_line document kind items line text)
+pub first_line_fine : (document : OpenDocumentFields) (kind : ItemKind) (items : List ItemFields) (line : ℕ) (text : List ℕ)
+    → Fine GoodInside (here_at line) (first_line document kind items line text)
 unfolding first_line
 first_line_fine document kind items line text =
-    fine_if GoodInside line _ _ _ (item_key_line_fine document
+    fine_if GoodInside (here_at line) _ _ _ (item_key_line_fine document
     (record { kind = kind; items = items; dash = indent text; column = key_column text; item = no_item }) line
-    (drop (key_column text) text) (dash_before_key text)) (fine_here _)
+    (drop (key_column text) text) (dash_before_key text)) here_outside
 
-top_entry_fine : (document : OpenDocumentFields) (line : ℕ) (key : TopKey) (value : List ℕ)
-    → Fine GoodInside line (top_entry document line key value)
-top_entry_fine document line top.Version value = fine_if GoodInside line _ _ _ (fine_here _)
-    (fine_bind AnyOf GoodInside line (version_value line value) _ (version_fine line value) (λ x _. fine_ok _ (tt, tt)))
-top_entry_fine document line top.Targets value = fine_if GoodInside line _ _ _ (fine_here _)
-    (names_value_fine document None line item.Targets value tt)
-top_entry_fine document line top.InstallName value = fine_if GoodInside line _ _ _ (fine_here _)
-    (fine_bind AnyOf GoodInside line (scalar_value line value) _ (scalar_fine line value) (λ x _. fine_ok _ (tt, tt)))
-top_entry_fine document line top.CurrentVersion value = fine_if GoodInside line _ _ _ (fine_here _)
-    (fine_bind AnyOf GoodInside line (scalar_value line value) _ (scalar_fine line value) (λ x _. fine_ok _ (tt, tt)))
+pub top_entry_fine : (document : OpenDocumentFields) (line : ℕ) (key : TopKey) (value : List ℕ)
+    → Fine GoodInside (here_at line) (top_entry document line key value)
+top_entry_fine document line top.Version value = fine_if GoodInside (here_at line) _ _ _ here_twice
+    (fine_bind AnyOf GoodInside (here_at line) (version_value line value) _ (widen AnyOf line _ (version_fine line value)) (λ x _. fine_ok
+    _ (tt, tt)))
+top_entry_fine document line top.Targets value = fine_if GoodInside (here_at line) _ _ _ here_twice
+    (widen GoodInside line _ (names_value_fine document None line item.Targets value tt))
+top_entry_fine document line top.InstallName value = fine_if GoodInside (here_at line) _ _ _ here_twice
+    (fine_bind AnyOf GoodInside (here_at line) (scalar_value line value) _ (widen AnyOf line _ (scalar_fine line value)) (λ x _. fine_ok _
+    (tt, tt)))
+top_entry_fine document line top.CurrentVersion value = fine_if GoodInside (here_at line) _ _ _ here_twice
+    (fine_bind AnyOf GoodInside (here_at line) (scalar_value line value) _ (widen AnyOf line _ (scalar_fine line value)) (λ x _. fine_ok _
+    (tt, tt)))
 top_entry_fine document line (top.Items kind) value =
-    fine_if GoodInside line (has_items kind document) (broken line S3)
-    (cond (eqb (length value) 0) (Ok (stays document None (NoItem kind line))) (outside line)) (fine_here _)
-    (fine_if GoodInside line (eqb (length value) 0) (Ok (stays document None (NoItem kind line))) (outside line) (fine_ok _ (tt, tt))
-    (fine_here _))
-top_entry_fine document line top.Unread value = skipped_value_fine document None line value tt
+    fine_if GoodInside (here_at line) (has_items kind document) (broken line S3)
+    (cond (eqb (length value) 0) (Ok (stays document None (NoItem kind line))) (outside line)) here_twice
+    (fine_if GoodInside (here_at line) (eqb (length value) 0) (Ok (stays document None (NoItem kind line))) (outside line) (fine_ok _ (
+      tt,
+      tt,
+    ))
+    here_outside)
+top_entry_fine document line top.Unread value = widen GoodInside line _ (skipped_value_fine document None line value tt)
 
 -- ---- what is lacking
 
-wanted_fine : {A : Type 0} (line at : ℕ) (x : Option A) → Fine AnyOf line (wanted at x)
-wanted_fine line at None = fine_lacking _
-wanted_fine line at (Some x) = fine_ok _ tt
+wanted_fine : {A : Type 0} (at : ℕ) (x : Option A) → Fine AnyOf (lacking_at at) (wanted at x)
+wanted_fine at None = fine_err _ refl
+wanted_fine at (Some x) = fine_ok _ tt
 
-wanted_names_fine : (line at : ℕ) (kind : ItemKind) (names : Option (List (List ℕ))) → Fine AnyOf line (wanted_names at kind names)
-wanted_names_fine line at Libraries names = wanted_fine line at names
-wanted_names_fine line at Exports names = fine_ok _ tt
-wanted_names_fine line at Reexports names = fine_ok _ tt
+wanted_names_fine : (at : ℕ) (kind : ItemKind) (names : Option (List (List ℕ))) → Fine AnyOf (lacking_at at) (wanted_names at kind names)
+wanted_names_fine at Libraries names = wanted_fine at names
+wanted_names_fine at Exports names = fine_ok _ tt
+wanted_names_fine at Reexports names = fine_ok _ tt
 
-whole_item_fine : (line at : ℕ) (kind : ItemKind) (open_item : OpenItemFields) → Fine AnyOf line (whole_item at kind open_item)
+whole_item_fine : (at : ℕ) (kind : ItemKind) (open_item : OpenItemFields) → Fine AnyOf (lacking_at at) (whole_item at kind open_item)
 unfolding whole_item
-whole_item_fine line at kind open_item =
-    fine_bind AnyOf AnyOf line (wanted at open_item.targets) _ (wanted_fine line at open_item.targets) (λ t _.
-    fine_bind AnyOf AnyOf line (wanted_names at kind open_item.names) _ (wanted_names_fine line at kind open_item.names)
+whole_item_fine at kind open_item =
+    fine_bind AnyOf AnyOf (lacking_at at) (wanted at open_item.targets) _ (wanted_fine at open_item.targets) (λ t _.
+    fine_bind AnyOf AnyOf (lacking_at at) (wanted_names at kind open_item.names) _ (wanted_names_fine at kind open_item.names)
     (λ n _. fine_ok _ tt))
 
-whole_document_fine : (line : ℕ) (document : OpenDocumentFields) → Fine AnyOf line (whole_document document)
+whole_document_fine : (document : OpenDocumentFields) → Fine AnyOf (lacking_at document.line) (whole_document document)
 unfolding whole_document
-whole_document_fine line document =
-    fine_bind AnyOf AnyOf line (wanted document.line document.version) _ (wanted_fine line document.line document.version) (λ v _.
-    fine_bind AnyOf AnyOf line (wanted document.line document.targets) _ (wanted_fine line document.line document.targets) (λ t _.
-    fine_bind AnyOf AnyOf line (wanted document.line document.install_name) _ (wanted_fine line document.line document.install_name)
+whole_document_fine document =
+    fine_bind AnyOf AnyOf (lacking_at document.line) (wanted document.line document.version) _ (wanted_fine document.line document.version)
+    (λ v _.
+    fine_bind AnyOf AnyOf (lacking_at document.line) (wanted document.line document.targets) _ (wanted_fine document.line document.targets)
+    (λ t _.
+    fine_bind AnyOf AnyOf (lacking_at document.line) (wanted document.line document.install_name) _ (wanted_fine document.line
+    document.install_name)
     (λ i _. fine_ok _ tt)))
 
-with_whole_fine : (line : ℕ) (before : List DocumentFields) (document : OpenDocumentFields) → Fine AnyOf line (with_whole before document)
+pub with_whole_fine : (before : List DocumentFields) (document : OpenDocumentFields)
+    → Fine AnyOf (lacking_at document.line) (with_whole before document)
 unfolding with_whole
-with_whole_fine line before document = fine_bind AnyOf AnyOf line (whole_document document) _ (whole_document_fine line document)
+with_whole_fine before document = fine_bind AnyOf AnyOf (lacking_at document.line) (whole_document document) _ (whole_document_fine
+    document)
     (λ w _. fine_ok _ tt)
 
-items_with_last_fine : (line at : ℕ) (list : ItemListFields) → Fine AnyOf line (items_with_last at list)
+pub items_with_last_fine : (at : ℕ) (list : ItemListFields) → Fine AnyOf (lacking_at at) (items_with_last at list)
 unfolding items_with_last
-items_with_last_fine line at list = fine_bind AnyOf AnyOf line (whole_item at list.kind list.item) _
-    (whole_item_fine line at list.kind list.item) (λ w _. fine_ok _ tt)
+items_with_last_fine at list = fine_bind AnyOf AnyOf (lacking_at at) (whole_item at list.kind list.item) _
+    (whole_item_fine at list.kind list.item) (λ w _. fine_ok _ tt)
 
 -- ---- lines of the text
 
-within_fine : (line : ℕ) (before : List DocumentFields) (reading : Reading InsideFields) → Fine GoodInside line reading
-    → Fine GoodState line (within before reading)
-within_fine line before reading h = fine_bind GoodInside GoodState line reading _ h (λ inside g. fine_ok _ g)
+within_fine : (line : ℕ) (before : List DocumentFields) (reading : Reading InsideFields) → Fine GoodInside AnyOf reading
+    → Fine GoodState AnyOf (within before reading)
+within_fine line before reading h = fine_bind GoodInside GoodState AnyOf reading _ h (λ inside g. fine_ok _ g)
 
 abbrev at_head : ℕ → List DocumentFields → Reading StateFields
 at_head line all = Ok (record { documents = all; place = Within (stays (head_at line) None Keys) })
@@ -295,19 +192,20 @@ abbrev at_entry : List DocumentFields → OpenDocumentFields → ℕ → Entry �
 at_entry before document line entry = within before (top_entry document line (top_key entry.key) entry.value)
 
 top_line_fine : (before : List DocumentFields) (document : OpenDocumentFields) (line : ℕ) (text : List ℕ)
-    → Fine GoodState line (top_line before document line text)
+    → Fine GoodState AnyOf (top_line before document line text)
 unfolding top_line
 top_line_fine before document line text =
-    fine_if GoodState line (bytes_eq text head) (with_whole before document >>= at_head line)
+    fine_if GoodState AnyOf (bytes_eq text head) (with_whole before document >>= at_head line)
     (cond (bytes_eq text end) (with_whole before document >>= at_end) (entry_at line text >>= at_entry before document line))
-    (fine_bind AnyOf GoodState line (with_whole before document) (at_head line) (with_whole_fine line before document)
+    (fine_bind AnyOf GoodState AnyOf (with_whole before document) (at_head line) (free AnyOf _ _ (with_whole_fine before document))
     (λ w _. fine_ok _ (tt, tt)))
-    (fine_if GoodState line (bytes_eq text end) (with_whole before document >>= at_end)
+    (fine_if GoodState AnyOf (bytes_eq text end) (with_whole before document >>= at_end)
     (entry_at line text >>= at_entry before document line)
-    (fine_bind AnyOf GoodState line (with_whole before document) at_end (with_whole_fine line before document) (λ w _. fine_ok _ tt))
-    (fine_bind AnyOf GoodState line (entry_at line text) (at_entry before document line) (entry_fine line text)
+    (fine_bind AnyOf GoodState AnyOf (with_whole before document) at_end (free AnyOf _ _ (with_whole_fine before document)) (λ w _. fine_ok
+    _ tt))
+    (fine_bind AnyOf GoodState AnyOf (entry_at line text) (at_entry before document line) (free AnyOf _ _ (entry_fine line text))
     (λ entry _. within_fine line before (top_entry document line (top_key entry.key) entry.value)
-    (top_entry_fine document line (top_key entry.key) entry.value))))
+    (free GoodInside _ _ (top_entry_fine document line (top_key entry.key) entry.value)))))
 
 abbrev then_first : List DocumentFields → OpenDocumentFields → ItemKind → ℕ → List ℕ → List ItemFields → Reading StateFields
 then_first before document kind line text items = within before (first_line document kind items line text)
@@ -316,50 +214,50 @@ abbrev then_top : List DocumentFields → OpenDocumentFields → ItemKind → �
 then_top before document kind line text items = top_line before (with_items kind items document) line text
 
 item_line_fine : (before : List DocumentFields) (document : OpenDocumentFields) (list : ItemListFields) (line : ℕ) (text : List ℕ)
-    → list.dash < list.column → Fine GoodState line (item_line before document list line text)
+    → list.dash < list.column → Fine GoodState AnyOf (item_line before document list line text)
 unfolding item_line
 item_line_fine before document list line text g =
     let by_key = cond (eqb (indent text) list.column) (within before (item_key_line document list line (unspaced text))) (outside line) in
-    fine_if GoodState line (has_dash text && eqb (indent text) list.dash)
+    fine_if GoodState AnyOf (has_dash text && eqb (indent text) list.dash)
     (items_with_last document.line list >>= then_first before document list.kind line text)
     (cond (eqb (indent text) 0) (items_with_last document.line list >>= then_top before document list.kind line text) by_key)
-    (fine_bind AnyOf GoodState line (items_with_last document.line list) (then_first before document list.kind line text)
-    (items_with_last_fine line document.line list)
+    (fine_bind AnyOf GoodState AnyOf (items_with_last document.line list) (then_first before document list.kind line text)
+    (free AnyOf _ _ (items_with_last_fine document.line list))
     (λ items _. within_fine line before (first_line document list.kind items line text)
-    (first_line_fine document list.kind items line text)))
-    (fine_if GoodState line (eqb (indent text) 0) (items_with_last document.line list >>= then_top before document list.kind line text)
+    (free GoodInside _ _ (first_line_fine document list.kind items line text))))
+    (fine_if GoodState AnyOf (eqb (indent text) 0) (items_with_last document.line list >>= then_top before document list.kind line text)
     by_key
-    (fine_bind AnyOf GoodState line (items_with_last document.line list) (then_top before document list.kind line text)
-    (items_with_last_fine line document.line list)
+    (fine_bind AnyOf GoodState AnyOf (items_with_last document.line list) (then_top before document list.kind line text)
+    (free AnyOf _ _ (items_with_last_fine document.line list))
     (λ items _. top_line_fine before (with_items list.kind items document) line text))
-    (fine_if GoodState line (eqb (indent text) list.column) (within before (item_key_line document list line (unspaced text)))
+    (fine_if GoodState AnyOf (eqb (indent text) list.column) (within before (item_key_line document list line (unspaced text)))
     (outside line) (within_fine line before (item_key_line document list line (unspaced text))
-    (item_key_line_fine document list line (unspaced text) g)) (fine_here _)))
+    (free GoodInside _ _ (item_key_line_fine document list line (unspaced text) g))) ((fine_err _ tt))))
 
 key_line_fine : (before : List DocumentFields) (document : OpenDocumentFields) (list : Option ItemListFields) (line : ℕ) (text : List ℕ)
-    → GoodList list → Fine GoodState line (key_line before document list line text)
+    → GoodList list → Fine GoodState AnyOf (key_line before document list line text)
 key_line_fine before document None line text g = top_line_fine before document line text
 key_line_fine before document (Some list) line text g = item_line_fine before document list line text g
 
 inside_line_fine : (before : List DocumentFields) (document : OpenDocumentFields) (list : Option ItemListFields) (mode : ModeFields)
-    (line : ℕ) (text : List ℕ) → GoodList list → Fine GoodState line (inside_line before document list mode line text)
+    (line : ℕ) (text : List ℕ) → GoodList list → Fine GoodState AnyOf (inside_line before document list mode line text)
 inside_line_fine before document list Keys line text g = key_line_fine before document list line text g
-inside_line_fine before document list Skipped line text g = fine_if GoodState line _ _ _ (fine_ok _ (g, tt))
+inside_line_fine before document list Skipped line text g = fine_if GoodState AnyOf _ _ _ (fine_ok _ (g, tt))
     (key_line_fine before document list line text g)
 inside_line_fine before document list (Names names) line text g = within_fine line before (names_line document list line names text)
-    (names_line_fine document list line names text g)
+    (free GoodInside _ _ (names_line_fine document list line names text g))
 inside_line_fine before document list (NoItem kind at) line text g = within_fine line before (first_line document kind [] line text)
-    (first_line_fine document kind [] line text)
+    (free GoodInside _ _ (first_line_fine document kind [] line text))
 
 content_line_fine : (before : List DocumentFields) (place : PlaceFields) (line : ℕ) (text : List ℕ) → GoodPlace place
-    → Fine GoodState line (content_line before place line text)
-content_line_fine before Outside line text g = fine_if GoodState line _ _ _ (fine_ok _ (tt, tt)) (fine_here _)
+    → Fine GoodState AnyOf (content_line before place line text)
+content_line_fine before Outside line text g = fine_if GoodState AnyOf _ _ _ (fine_ok _ (tt, tt)) ((fine_err _ tt))
 content_line_fine before (Within inside) line text g = inside_line_fine before inside.document inside.list inside.mode line text g.0
 
-pub line_step_fine : (state : StateFields) (line : ℕ) (text : List ℕ) → GoodState state → Fine GoodState line (line_step state line text)
+pub line_step_fine : (state : StateFields) (line : ℕ) (text : List ℕ) → GoodState state → Fine GoodState AnyOf (line_step state line text)
 unfolding line_step
 line_step_fine state line text g =
-    fine_if GoodState line (has_barred text) (outside line)
-    (cond (is_passed text) (Ok state) (content_line state.documents state.place line text)) (fine_here _)
-    (fine_if GoodState line (is_passed text) (Ok state) (content_line state.documents state.place line text) (fine_ok _ g)
+    fine_if GoodState AnyOf (has_barred text) (outside line)
+    (cond (is_passed text) (Ok state) (content_line state.documents state.place line text)) ((fine_err _ tt))
+    (fine_if GoodState AnyOf (is_passed text) (Ok state) (content_line state.documents state.place line text) (fine_ok _ g)
     (content_line_fine state.documents state.place line text g))

@@ -11,7 +11,7 @@ use Rattle.macho_stub.specs.Bytes.{space, indent, unspaced, is_passed, has_barre
 use Rattle.macho_stub.specs.Faults.{Reading, ◌>>=◌, outside}
 use Rattle.macho_stub.specs.Documents.{ItemFields, DocumentFields, OpenDocumentFields, head_at, with_items, whole_item, whole_document}
 use Rattle.macho_stub.specs.Reader.{ItemListFields, ModeFields, Keys, Skipped, Names, NoItem, InsideFields, PlaceFields, Outside, Within, StateFields, stays, within, with_whole, top_line, items_with_last, item_line, item_key_line, first_line, names_line, key_line, belongs, inside_line, content_line, line_step, ended_document, ended_inside, ended, lines_from, start, documents_of, has_dash, head}
-use Rattle.macho_stub.specs.Grammar.{Line, content_from, IsStubText, items_then, AreItems, AreDocuments}
+use Rattle.macho_stub.specs.Grammar.{Line, content_from, IsStubLines, IsStubText, items_then, AreItems, AreDocuments}
 use Rattle.macho_stub.proofs.Bind.{bind_ok, chosen, not_broken, not_broken_else, same_ok, no_ok, same_bytes, eq_at}
 use Rattle.macho_stub.proofs.Rest.{run, RestTop, RestItem, RestKeys, RestMode, RestInside, Rest}
 use Rattle.macho_stub.proofs.Spelled.{spelled_unspaced}
@@ -289,10 +289,13 @@ lines_run state line (text ∷ texts) total e =
     )
 
 -- what is read is in the grammar
-pub documents_found : (text : List ℕ) (says : List DocumentFields) → documents_of text ≡ Ok says → IsStubText text says
-unfolding documents_of
-documents_found text says e =
-    let l = lines_run start 1 (lines text) says e in
-    let r = run_rest [] Outside (content_from 1 (lines text)) says l.1 in
+pub lines_found : (texts : List (List ℕ)) (says : List DocumentFields) → lines_from start 1 texts ≡ Ok says → IsStubLines texts says
+lines_found texts says e =
+    let l = lines_run start 1 texts says e in
+    let r = run_rest [] Outside (content_from 1 texts) says l.1 in
     let A : List DocumentFields → Type 0 = λ s. AreDocuments r.trees s in
     record { clean = l.0; trees = r.trees; lines_of = r.lines_of; documents = subst A (sym r.all) r.documents }
+
+pub documents_found : (text : List ℕ) (says : List DocumentFields) → documents_of text ≡ Ok says → IsStubText text says
+unfolding documents_of
+documents_found text says e = lines_found (lines text) says e

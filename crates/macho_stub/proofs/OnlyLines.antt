@@ -31,7 +31,7 @@ no_colon line text said none e =
     absurd (grind (arith, nat_tests))
 
 -- a key begins with no space
-space_ends : (b : ℕ) (text : List ℕ) → b ≡ space → prefix_len is_key_byte (b ∷ text) ≡ 0
+pub space_ends : (b : ℕ) (text : List ℕ) → b ≡ space → prefix_len is_key_byte (b ∷ text) ≡ 0
 unfolding is_key_byte
 space_ends b text e = ap (λ c. prefix_len is_key_byte (c ∷ text)) e
 
@@ -39,7 +39,7 @@ entry_first : (line b : ℕ) (text : List ℕ) (said : Entry) → entry_at line 
 entry_first line b text said e = λ s. no_key line (b ∷ text) said (space_ends b text s) e
 
 -- and not with a dash and a space
-dash_ends : (b c : ℕ) (text : List ℕ) → b ≡ dash → c ≡ space → get_or (b ∷ c ∷ text) (prefix_len is_key_byte (b ∷ c ∷ text)) 0 ≡ space
+pub dash_ends : (b c : ℕ) (text : List ℕ) → b ≡ dash → c ≡ space → get_or (b ∷ c ∷ text) (prefix_len is_key_byte (b ∷ c ∷ text)) 0 ≡ space
 unfolding is_key_byte
 dash_ends b c text e f = ap (λ d. get_or (d ∷ c ∷ text) (prefix_len is_key_byte (d ∷ c ∷ text)) 0) e
     ∙ ap (λ d. get_or (dash ∷ d ∷ text) (prefix_len is_key_byte (dash ∷ d ∷ text)) 0) f

@@ -64,7 +64,7 @@ empty_is (x ∷ xs) e = absurd (omega arith)
 empty_length : (xs : List ℕ) → length xs ≢ 0 → xs ≢ []
 empty_length xs ne = λ e. ne (ap length e)
 
-some_length : (xs : List ℕ) → xs ≢ [] → length xs ≢ 0
+pub some_length : (xs : List ℕ) → xs ≢ [] → length xs ≢ 0
 some_length xs ne = λ e. ne (empty_is xs e)
 
 -- ---- the main library
@@ -116,7 +116,7 @@ main_sound main u e =
       ]
     ]
 
-main_back : (main : DocumentFields) → IsSoundMain main → checked_main main ≡ Ok tt
+pub main_back : (main : DocumentFields) → IsSoundMain main → checked_main main ≡ Ok tt
 unfolding checked_main
 main_back main s =
     ap (λ b. cond (not b) (broken main.line S5)
@@ -145,7 +145,7 @@ document_sound main document u e =
       | inr d ↦ absurd (no_ok document.line S9 u d.1)
     ]
 
-document_back : (main document : DocumentFields) → IsSoundDocument main document → checked_document main document ≡ Ok tt
+pub document_back : (main document : DocumentFields) → IsSoundDocument main document → checked_document main document ≡ Ok tt
 unfolding checked_document
 document_back main document s =
     ap (λ b. cond (not b) (broken document.line S4)

@@ -14,11 +14,11 @@ use Rattle.macho_stub.proofs.Ruled.{clash, target_test, listed_back, document_te
 use Rattle.macho_stub.proofs.Ruling.{same_err, bind_err, made, main_steps, main_sound, document_sound}
 
 -- two faults that are one
-same_told : {A : Type 0} (l m : ℕ) (r s : StubRule) → broken {A = A} l r ≡ broken m s → (l ≡ m) × (r ≡ s)
+pub same_told : {A : Type 0} (l m : ℕ) (r s : StubRule) → broken {A = A} l r ≡ broken m s → (l ≡ m) × (r ≡ s)
 same_told {A} l m r s e = let f = same_err {A = A} (record { line = l; rule = r }) (record { line = m; rule = s }) e in
     (ap (λ x. x.line) f, ap (λ x. x.rule) f)
 
-ok_not_told : {A : Type 0} (x : A) (line : ℕ) (rule : StubRule) → Ok x ≡ broken {A = A} line rule → ⊥
+pub ok_not_told : {A : Type 0} (x : A) (line : ℕ) (rule : StubRule) → Ok x ≡ broken {A = A} line rule → ⊥
 ok_not_told x line rule e = no_ok line rule x (sym e)
 
 not_is : (b : Bool) → not b ≡ true → b ≡ false

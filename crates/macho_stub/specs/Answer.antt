@@ -1,37 +1,20 @@
 -- What the reading of a stub text answers.
-use Rattle.std.specs.Prelude.{◌≡◌, ◌⊎◌, ℕ, ◌+◌, List, ◌∷◌, ◌++◌, length, Ok}
-use Rattle.std.specs.Str.Lines.{lines}
-use Rattle.macho_stub.specs.declared.fault.StubRule.{StubRule}
-use Rattle.macho_stub.specs.declared.fault.StubRule.TheVariants.{S2}
+use Rattle.std.specs.Prelude.{◌⊎◌, ℕ, List}
 use Rattle.macho_stub.specs.declared.fault.StubFault.{StubFault}
 use Rattle.macho_stub.specs.declared.fault.StubFault.TheVariants.{Rule, OutOfMemory}
-use Rattle.macho_stub.specs.Faults.{Reading, broken, ◌>>=◌}
+use Rattle.macho_stub.specs.Faults.{Reading, ◌>>=◌}
 use Rattle.macho_stub.specs.Documents.{DocumentFields}
 use Rattle.macho_stub.specs.Reader.{documents_of}
-use Rattle.macho_stub.specs.Grammar.{IsStubLines, IsStubText}
+use Rattle.macho_stub.specs.Grammar.{IsStubText}
 use Rattle.macho_stub.specs.Library.{LibraryFields, library_of}
 use Rattle.macho_stub.specs.Rules.{MakesLibrary, IsTold}
+use Rattle.macho_stub.specs.Order.{BreaksOff}
 
 -- The text is in the grammar, its documents keep the rules, and they make this library.
 pub record IsStub (text : List ℕ) (library : LibraryFields) : Type 0 where
   pub says : List DocumentFields
   pub in_grammar : IsStubText text says
   pub makes : MakesLibrary says library
-
--- The reading of lines stops at one: whatever lines come behind it, the text is not one of stubs. The line is told,
--- counted from 1, but where a key is lacking above it.
-pub record StopsAt (texts : List (List ℕ)) (line : ℕ) (rule : StubRule) : Type 0 where
-  pub first : List (List ℕ)
-  pub next : List ℕ
-  pub rest : List (List ℕ)
-  pub parts : texts ≡ first ++ next ∷ rest
-  pub stuck : (more : List (List ℕ)) (says : List DocumentFields) → IsStubLines (first ++ next ∷ more) says → ⊥
-  pub here : (rule ≡ S2) ⊎ (line ≡ length first + 1)
-
--- The reading of the text, line by line, meets the fault first: at a line, or at the end.
-pub record BreaksOff (text : List ℕ) (line : ℕ) (rule : StubRule) : Type 0 where
-  pub fault : documents_of text ≡ broken line rule
-  pub place : StopsAt (lines text) line rule ⊎ ((says : List DocumentFields) → IsStubText text says → ⊥)
 
 -- A fault that is told: memory ran out; or the text is in the grammar, and the rule is the one that is told of its
 -- documents; or the reading of the text breaks off.

@@ -7,5 +7,6 @@ pub mod Documents
 pub mod Reader
 pub mod Library
 pub mod Grammar
+pub mod Order
 pub mod Answer
 pub mod Rules

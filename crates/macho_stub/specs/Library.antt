@@ -2,6 +2,10 @@
 use Rattle.std.specs.Prelude.{ℕ, Bool, true, false, ◌&&◌, ◌||◌, not, List, [], ◌∷◌, ◌++◌, length, Ok, ◌==◌, if◌then◌else◌, codes}
 use Rattle.std.specs.List.{flat_map, list_any}
 use Rattle.std.specs.Str.{bytes_eq}
+use Rattle.std.specs.Borrow.{Bor}
+use Rattle.std.specs.Ordering.{nat_cmp}
+use Rattle.std.specs.Cmp.Lexicographic.{slice_cmp}
+use Rattle.std.specs.BTreeSet.{BTreeSet, contains_by}
 use Rattle.macho_stub.specs.declared.library.DefinedStubLibrary.{DefinedStubLibrary}
 use Rattle.macho_stub.specs.declared.fault.StubRule.TheVariants.{S2, S4, S5, S6, S7, S8, S9}
 use Rattle.macho_stub.specs.Faults.{Reading, broken, ◌>>=◌}
@@ -77,6 +81,10 @@ same_document a b =
 -- an item lists the library
 unfoldable pub is_listed : List ℕ → List ItemFields → Bool
 is_listed name items = list_any (λ item. list_any (λ other. bytes_eq other name) item.names) items
+
+-- the set has the name
+abbrev pub holds : BTreeSet (Bor (List ℕ)) → List ℕ → Bool
+holds names name = contains_by (λ other. slice_cmp nat_cmp name other.now) names
 
 -- the one group of reexported libraries, if there is one, is for the target
 abbrev pub checked_libraries : ℕ → List ItemFields → Reading (Unit {0})

@@ -18,8 +18,8 @@
 //! The text is read once, line by line, and each text of the answer is a slice of it.
 #![tactic(auto)]
 
-ghost use Rattle.std.specs.Prelude.{◌≡◌, IfErr, IfOk, Ok};
-ghost use Rattle.macho_stub.specs.Faults.{Gives};
+ghost use Rattle.std.specs.Prelude.{◌≡◌, ℕ, IfErr, IfOk, Ok};
+ghost use Rattle.macho_stub.specs.Faults.{Gives, broken};
 ghost use Rattle.macho_stub.specs.Library.{LibraryFields, library_fields};
 ghost use Rattle.macho_stub.specs.Answer.{IsStub, IsToldOfText, answer_of};
 
@@ -64,6 +64,9 @@ pub fn parse_defined_library<'data>(
     ensures only { (says : LibraryFields) → IsStub input.now says → Gives library_fields result (Ok says) }
     // A rule that is told is broken at its line, and is the first: in the text, and then in what it says.
     ensures fault { IfErr result (IsToldOfText input.now) }
+    // A rule that is told of the text is told by the call, unless memory runs out: no other is, at no other line.
+    ensures told { (line : ℕ) (rule : StubRule) → IsToldOfText input.now (StubFault.Rule line rule)
+        → Gives library_fields result (broken line rule) }
 {
     answer(alloc, input)
 }

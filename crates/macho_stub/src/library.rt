@@ -1,16 +1,18 @@
 //! What a library's documents must say beside the grammar, and the library that they make.
 
-ghost use Rattle.std.specs.Prelude.{◌≡◌, if◌then◌else◌, [], ◌≤◌, ◌<◌, ◌+◌, ◌++◌, ◌||◌, ℕ, length, map, vec_len, IfOk, Ok};
+ghost use Rattle.std.specs.Prelude.{◌≡◌, if◌then◌else◌, [], ◌≤◌, ◌<◌, ◌+◌, ◌++◌, ◌||◌, ℕ, length, map, vec_len, List, IfOk, IfErr, Ok};
 ghost use Rattle.std.specs.List.{list_any, flat_map};
 ghost use Rattle.std.specs.Str.{bytes_eq};
+ghost use Rattle.macho_stub.specs.declared.fault.StubFault.TheVariants.{OutOfMemory};
 ghost use Rattle.macho_stub.specs.Faults.{Gives};
 ghost use Rattle.macho_stub.specs.Lists.{texts};
 ghost use Rattle.macho_stub.specs.Documents.{item_of, items_of, document_of};
-ghost use Rattle.macho_stub.specs.Library.{has_target, picked, picked_for_target, picked_of_document, is_listed, gathered, library_fields, same_names, same_item, same_items, same_document, checked_libraries, checked_main, checked_document, checked_documents, library_of};
+ghost use Rattle.macho_stub.specs.Library.{has_target, picked, picked_for_target, picked_of_document, is_listed, holds, gathered, library_fields, same_names, same_item, same_items, same_document, checked_libraries, checked_main, checked_document, checked_documents, library_of};
 
 use crate::document::{Document, Item};
 use crate::fault::{StubFault, StubRule};
 use std::alloc::Global;
+use std::collections::BTreeSet;
 
 /// The target that is linked for.
 const TARGET: &str = "arm64e-macos";
@@ -142,41 +144,65 @@ fn checked_main(main: &Document<'_>) -> Result<(), StubFault>
     checked_libraries(main.line, main.libraries.as_slice())
 }
 
-/// Whether an item lists the library.
-#[tactic(auto, unfolding(crate::specs::Library::is_listed))]
-fn is_listed(name: &str, items: &[Item<'_>]) -> bool
-    ensures { result ≡ is_listed name.now (items_of items.now) }
+/// The libraries with those that the item lists.
+fn with_listed<'data>(
+    mut listed: BTreeSet<&'data str>,
+    names: &[&'data str],
+) -> Result<BTreeSet<&'data str>, StubFault>
+    ensures done { IfOk result (λ new. (name : List ℕ) → holds new name
+        ≡ (holds listed.entry name || list_any (λ other. bytes_eq other name) (texts names.now))) }
+    ensures why { IfErr result (λ fault. fault ≡ OutOfMemory) }
 {
-    for item in items {
-        if is_among(name, item.names.as_slice()) {
-            return true;
-        }
+    for name in names {
+        let name = *name;
+        listed.insert(name)?;
     }
-    false
+    Ok(listed)
 }
 
-/// Checks a document against the main one.
+/// The libraries that the items list, so that each is looked up without a walk over all.
+#[tactic(auto, unfolding(crate::specs::Library::is_listed))]
+fn listed_of<'data>(alloc: Global, items: &[Item<'data>]) -> Result<BTreeSet<&'data str>, StubFault>
+    ensures done { IfOk result (λ new. (name : List ℕ) → holds new name ≡ is_listed name (items_of items.now)) }
+    ensures why { IfErr result (λ fault. fault ≡ OutOfMemory) }
+{
+    let mut listed = BTreeSet::new(alloc);
+    for item in items {
+        listed = with_listed(listed, item.names.as_slice())?;
+    }
+    Ok(listed)
+}
+
+/// Checks a document against the main one and the libraries that it lists.
 #[tactic(auto, unfolding(crate::specs::Library::checked_document))]
-fn checked_document(main: &Document<'_>, document: &Document<'_>) -> Result<(), StubFault>
+fn checked_document(
+    main: &Document<'_>,
+    listed: &BTreeSet<&str>,
+    document: &Document<'_>,
+) -> Result<(), StubFault>
+    requires { (name : List ℕ) → holds listed.now name ≡ is_listed name (items_of main.now.libraries.items) }
     ensures { Gives (λ u. u) result (checked_document (document_of main.now) (document_of document.now)) }
 {
     if document.version != "4" {
         return Err(broken(document.line, StubRule::S4));
     }
-    if same_document(document, main)
-        || is_listed(document.install_name, main.libraries.as_slice())
-    {
+    if same_document(document, main) || listed.contains(document.install_name) {
         return Ok(());
     }
     Err(broken(document.line, StubRule::S9))
 }
 
 /// Checks each document against the main one.
-fn checked_documents(main: &Document<'_>, documents: &[Document<'_>]) -> Result<(), StubFault>
+fn checked_documents(
+    alloc: Global,
+    main: &Document<'_>,
+    documents: &[Document<'_>],
+) -> Result<(), StubFault>
     ensures { Gives (λ u. u) result (checked_documents (document_of main.now) (map document_of documents.now)) }
 {
+    let listed = listed_of(alloc, main.libraries.as_slice())?;
     for document in documents {
-        checked_document(main, document)?;
+        checked_document(main, &listed, document)?;
     }
     Ok(())
 }
@@ -257,7 +283,7 @@ pub fn library_of<'data>(
         return Err(broken(1, StubRule::S2));
     };
     checked_main(main)?;
-    checked_documents(main, documents)?;
+    checked_documents(alloc, main, documents)?;
     let symbols = gathered(alloc, documents, false)?;
     let weak_symbols = gathered(alloc, documents, true)?;
     Ok(DefinedStubLibrary {

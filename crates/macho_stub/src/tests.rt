@@ -157,7 +157,7 @@ fn is_refused(alloc: Global, text: &str, line: u64, rule: StubRule) -> bool {
 }
 
 /// Texts outside the grammar, with the line that is told.
-const OUTSIDE: [(&str, u64); 15] = [
+const OUTSIDE: [(&str, u64); 18] = [
     ("a: b\n", 1),
     ("\n--- !tapi-tbd x\n", 2),
     ("--- !tapi-tbd\ntargets: [ a,\n  b\n", 2),
@@ -173,6 +173,12 @@ const OUTSIDE: [(&str, u64); 15] = [
     ("--- !tapi-tbd\nexports:\n  - a: b\n   c: d\n", 4),
     ("--- !tapi-tbd\n\ttbd-version: 4\n", 2),
     ("--- !tapi-tbd\ninstall-name: a\u{85}b\n", 2),
+    ("--- !tapi-tbd\ntargets: [ a ]\nother: [ b,\n\n  c,\n", 3),
+    ("--- !tapi-tbd\nexports: # none\n\n# a comment\n", 2),
+    (
+        "--- !tapi-tbd\nexports:\n  - symbols: [ a ]\n - targets: [ b ]\n",
+        4,
+    ),
 ];
 
 #[test]
@@ -184,7 +190,7 @@ fn texts_outside_the_grammar(rt: HostRuntime) -> Result<(), Fail> {
 }
 
 /// Texts that break another rule, with the line and the rule that are told.
-const BROKEN: [(&str, u64, StubRule); 12] = [
+const BROKEN: [(&str, u64, StubRule); 14] = [
     ("", 1, StubRule::S2),
     ("\n--- !tapi-tbd\ntbd-version: 4\n", 2, StubRule::S2),
     (
@@ -198,6 +204,16 @@ const BROKEN: [(&str, u64, StubRule); 12] = [
         StubRule::S2,
     ),
     ("--- !tapi-tbd\ntargets: []\ntargets: []\n", 3, StubRule::S3),
+    (
+        "--- !tapi-tbd\ntargets: []\ntargets: [ a b ]\n",
+        3,
+        StubRule::S3,
+    ),
+    (
+        "--- !tapi-tbd\ntargets: []\nexports:\n  - symbols: []\ntargets: []\n",
+        1,
+        StubRule::S2,
+    ),
     (
         "--- !tapi-tbd\nexports:\n  - targets: []\n    targets: []\n",
         4,
@@ -244,6 +260,48 @@ fn texts_that_break_a_rule(rt: HostRuntime) -> Result<(), Fail> {
     Ok(())
 }
 
+/// A further document, for a library that the main one doesn't list.
+const FURTHER: &str = "--- !tapi-tbd
+tbd-version:     4
+targets:         [ x86_64-macos, arm64e-macos ]
+install-name:    '/usr/lib/libC.dylib'
+current-version: 12
+";
+
+#[test]
+fn a_further_document_is_listed(rt: HostRuntime) -> Result<(), Fail> {
+    let mut text = String::from_str(rt.alloc(), MAIN)?;
+    text.push_str(FURTHER)?;
+    assert!(rt; is_refused(rt.alloc(), text.as_str(), 39, StubRule::S9));
+    Ok(())
+}
+
+/// An item's keys in each order.
+const ORDERS: [&str; 6] = [
+    "  - targets: [ arm64e-macos ]\n    symbols: [ _s ]\n    weak-symbols: [ _w ]\n",
+    "  - targets: [ arm64e-macos ]\n    weak-symbols: [ _w ]\n    symbols: [ _s ]\n",
+    "  - symbols: [ _s ]\n    targets: [ arm64e-macos ]\n    weak-symbols: [ _w ]\n",
+    "  - symbols: [ _s ]\n    weak-symbols: [ _w ]\n    targets: [ arm64e-macos ]\n",
+    "  - weak-symbols: [ _w ]\n    targets: [ arm64e-macos ]\n    symbols: [ _s ]\n",
+    "  - weak-symbols: [ _w ]\n    symbols: [ _s ]\n    targets: [ arm64e-macos ]\n",
+];
+
+#[test]
+fn keys_of_an_item_in_each_order(rt: HostRuntime) -> Result<(), Fail> {
+    for order in ORDERS.iter() {
+        let mut text = String::from_str(
+            rt.alloc(),
+            "--- !tapi-tbd\ntbd-version: 4\ntargets: [ arm64e-macos ]\ninstall-name: a\ncurrent-version: 1\nexports:\n",
+        )?;
+        text.push_str(order)?;
+        assert!(rt;
+            reads_as(rt.alloc(), text.as_str(), &["a", "1", "_s ", "_w "])?,
+            "{order}"
+        );
+    }
+    Ok(())
+}
+
 /// A text of a library with this many symbols.
 fn library_of_size(alloc: Global, count: u32) -> Result<String, AllocError> {
     let mut text = String::from_str(
@@ -255,6 +313,35 @@ fn library_of_size(alloc: Global, count: u32) -> Result<String, AllocError> {
     }
     text.push_str(" ]\n")?;
     Ok(text)
+}
+
+/// A text of a library that lists this many others, with a document for each.
+fn library_of_documents(alloc: Global, count: u32) -> Result<String, AllocError> {
+    let mut text = String::from_str(
+        alloc,
+        "--- !tapi-tbd\ntbd-version: 4\ntargets: [ arm64e-macos ]\ninstall-name: a\ncurrent-version: 1\nreexported-libraries:\n  - targets: [ arm64e-macos ]\n    libraries: [",
+    )?;
+    for number in 0..count {
+        write!(text, " /usr/lib/a/{number},\n")?;
+    }
+    text.push_str(" ]\n")?;
+    for number in 0..count {
+        write!(
+            text,
+            "--- !tapi-tbd\ntbd-version: 4\ntargets: []\ninstall-name: /usr/lib/a/{number}\nexports:\n  - targets: [ arm64e-macos ]\n    symbols: [ _a_{number} ]\n"
+        )?;
+    }
+    Ok(text)
+}
+
+#[test]
+fn many_documents(rt: HostRuntime) -> Result<(), Fail> {
+    let text = library_of_documents(rt.alloc(), 500)?;
+    match parse_defined_library(rt.alloc(), text.as_str()) {
+        Err(_) => assert!(rt; false),
+        Ok(library) => assert_eq!(rt; library.total_symbols(), 500),
+    }
+    Ok(())
 }
 
 #[test]

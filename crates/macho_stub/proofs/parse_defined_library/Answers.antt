@@ -1,5 +1,5 @@
 use Rattle.macho_stub.specs.Library.{library_fields}
-use Rattle.macho_stub.proofs.Answered.{found, only, fault}
+use Rattle.macho_stub.proofs.Answered.{found, only, fault, told}
 use Rattle.macho_stub.proofs.parse_defined_library.Goals as goal
 
 pub returns-clause-found : goal.returns-clause-found
@@ -10,3 +10,6 @@ returns-clause-only c = λ says is. only library_fields c.args.input.now c.answe
 
 pub returns-clause-fault : goal.returns-clause-fault
 returns-clause-fault c = fault library_fields c.args.input.now c.answer.result c.answer.ensures
+
+pub returns-clause-told : goal.returns-clause-told
+returns-clause-told c = λ line rule is. told library_fields c.args.input.now c.answer.result line rule c.answer.ensures is

@@ -7,7 +7,7 @@ use Rattle.macho_stub.proofs.library.checked_documents.Goals as goal
 
 pub returns-in_err-checked_document : goal.returns-in_err-checked_document
 returns-in_err-checked_document c =
-    let p = err_from_is_err_and c.from_residual.result c.from_residual.ensures.1 in
+    let p = err_from_is_err_and c.from_residual-in_err-checked_document.result c.from_residual-in_err-checked_document.ensures.1 in
     rw (p.1, p.2) (next_is_broken c.in_err-checked_document.field-0.0 (document_of c.args.main.now) c.args.documents.now
     c.loop-document.document-index c.document-item.result
     (checked_documents (document_of c.args.main.now) (map document_of c.args.documents.now)) (omega arith) c.document-item.is

@@ -1,0 +1,124 @@
+-- Lines that have no line feed are those of a text: each is written with a carriage return and a line feed behind it.
+use Rattle.std.proofs.Common.{◌≡◌, ℕ, zero, suc, ◌+◌, ◌-◌, ◌||◌, Bool, true, false, cond, eqb, List, [], ◌∷◌, ◌++◌, length, take, get_or, replicate, refl, sym, ap, ◌∙◌, arith}
+use Rattle.std.specs.List.{slice_split, onto_first, list_any, AllByRecursion}
+use Rattle.std.specs.Str.Lines.{lines, lines_of_parts, strip_carriage_return}
+use Rattle.macho_stub.specs.Bytes.{space}
+
+abbrev pub has_line_feed : List ℕ → Bool
+has_line_feed bytes = list_any (λ b. eqb b 10) bytes
+
+abbrev pub IsLine : List ℕ → Type 0
+IsLine bytes = has_line_feed bytes ≡ false
+
+abbrev pub AreLines : List (List ℕ) → Type 0
+AreLines texts = AllByRecursion IsLine texts
+
+pub either_false : (a b : Bool) → (a || b) ≡ false → (a ≡ false) × (b ≡ false)
+either_false true b h = absurd cc
+either_false false b h = (refl, h)
+
+pub both_false : (a b : Bool) → a ≡ false → b ≡ false → (a || b) ≡ false
+both_false true b h k = absurd cc
+both_false false b h k = k
+
+-- ---- a text of lines
+
+abbrev pub joined : List (List ℕ) → List ℕ
+joined [] = []
+joined (line ∷ more) = line ++ 13 ∷ 10 ∷ joined more
+
+abbrev parts : List ℕ → List (List ℕ)
+parts bytes = slice_split (λ b. eqb b 10) bytes
+
+parts_of_line : (line rest : List ℕ) → IsLine line → parts (line ++ 13 ∷ 10 ∷ rest) ≡ (line ++ 13 ∷ []) ∷ parts rest
+parts_of_line [] rest h = refl
+parts_of_line (b ∷ line) rest h =
+    let e = either_false (eqb b 10) (has_line_feed line) h in
+    rw e.0 (ap (onto_first b) (parts_of_line line rest e.1))
+
+length_more : (line : List ℕ) (b : ℕ) → length (line ++ b ∷ []) ≡ length line + 1
+length_more [] b = refl
+length_more (a ∷ line) b = ap suc (length_more line b) ∙ omega arith
+
+last_of : (line : List ℕ) (b : ℕ) → get_or (line ++ b ∷ []) (length line) 0 ≡ b
+last_of [] b = refl
+last_of (a ∷ line) b = last_of line b
+
+but_last : (line : List ℕ) (b : ℕ) → take (length line) (line ++ b ∷ []) ≡ line
+but_last [] b = refl
+but_last (a ∷ line) b = ap (λ (more : List ℕ). a ∷ more) (but_last line b)
+
+stripped : (line : List ℕ) → strip_carriage_return (line ++ 13 ∷ []) ≡ line
+stripped line =
+    let n : length (line ++ 13 ∷ []) - 1 ≡ length line = omega (arith, length_more line 13) in
+    rw (n, last_of line 13) (but_last line 13)
+
+-- what comes behind a line is not nothing
+some_parts : (bytes : List ℕ) (x : List ℕ) → (y : List ℕ) × (more : List (List ℕ)) × (parts bytes ≡ y ∷ more)
+some_parts [] x = ([], [], refl)
+some_parts (b ∷ bytes) x = by_test (eqb b 10) (some_parts bytes x)
+  where
+    by_test : (t : Bool) → ((y : List ℕ) × (more : List (List ℕ)) × (parts bytes ≡ y ∷ more))
+        → (y : List ℕ) × (more : List (List ℕ)) × (cond t ([] ∷ parts bytes) (onto_first b (parts bytes)) ≡ y ∷ more)
+    by_test true s = ([], parts bytes, refl)
+    by_test false s = (b ∷ s.0, s.1, ap (onto_first b) s.2)
+
+pub lines_joined : (texts : List (List ℕ)) → AreLines texts → lines (joined texts) ≡ texts
+lines_joined [] all = refl
+lines_joined (line ∷ more) all =
+    let s = some_parts (joined more) [] in
+    ap lines_of_parts (parts_of_line line (joined more) all.0)
+    ∙ ap (λ rest. lines_of_parts ((line ++ 13 ∷ []) ∷ rest)) s.2
+    ∙ ap (λ first. first ∷ lines_of_parts (s.0 ∷ s.1)) (stripped line)
+    ∙ ap (λ rest. line ∷ lines_of_parts rest) (sym s.2)
+    ∙ ap (λ (rest : List (List ℕ)). line ∷ rest) (lines_joined more all.1)
+
+-- ---- lines of a text
+
+onto_line : (b : ℕ) (all : List (List ℕ)) → eqb b 10 ≡ false → AreLines all → AreLines (onto_first b all)
+onto_line b [] h a = (both_false (eqb b 10) false h refl, tt)
+onto_line b (part ∷ more) h a = (both_false (eqb b 10) (has_line_feed part) h a.0, a.1)
+
+parts_are_lines : (bytes : List ℕ) → AreLines (parts bytes)
+parts_are_lines [] = (refl, tt)
+parts_are_lines (b ∷ bytes) = by_test (eqb b 10) refl (parts_are_lines bytes)
+  where
+    by_test : (t : Bool) → eqb b 10 ≡ t → AreLines (parts bytes) → AreLines (cond t ([] ∷ parts bytes) (onto_first b (parts bytes)))
+    by_test true h a = (refl, a)
+    by_test false h a = onto_line b (parts bytes) h a
+
+pub take_line : (n : ℕ) (line : List ℕ) → IsLine line → IsLine (take n line)
+take_line zero line h = refl
+take_line (suc n) [] h = refl
+take_line (suc n) (b ∷ line) h =
+    let e = either_false (eqb b 10) (has_line_feed line) h in
+    both_false (eqb b 10) (has_line_feed (take n line)) e.0 (take_line n line e.1)
+
+strip_line : (line : List ℕ) → IsLine line → IsLine (strip_carriage_return line)
+strip_line line h = by_test (eqb (get_or line (length line - 1) 0) 13)
+  where
+    by_test : (t : Bool) → IsLine (cond t (take (length line - 1) line) line)
+    by_test true = take_line (length line - 1) line h
+    by_test false = h
+
+kept_are_lines : (all : List (List ℕ)) → AreLines all → AreLines (lines_of_parts all)
+kept_are_lines [] a = tt
+kept_are_lines (x ∷ []) a = by_test (eqb (length x) 0)
+  where
+    by_test : (t : Bool) → AreLines (cond t [] (x ∷ []))
+    by_test true = tt
+    by_test false = (a.0, tt)
+kept_are_lines (x ∷ y ∷ more) a = (strip_line x a.0, kept_are_lines (y ∷ more) a.1)
+
+pub lines_are_lines : (bytes : List ℕ) → AreLines (lines bytes)
+lines_are_lines bytes = kept_are_lines (parts bytes) (parts_are_lines bytes)
+
+-- ---- lists of lines
+
+pub lines_append : (front behind : List (List ℕ)) → AreLines front → AreLines behind → AreLines (front ++ behind)
+lines_append [] behind a b = b
+lines_append (x ∷ front) behind a b = (a.0, lines_append front behind a.1 b)
+
+pub spaces_line : (n : ℕ) (text : List ℕ) → IsLine text → IsLine (replicate n space ++ text)
+spaces_line zero text h = h
+spaces_line (suc n) text h = spaces_line n text h

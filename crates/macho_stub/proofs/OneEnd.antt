@@ -1,0 +1,188 @@
+-- What is told at the end of a text is told of it alone. A list that is open is open since one line; a key of items
+-- with none under it is the last line with content; and where a closing bracket may stand, no key and no item may.
+use Rattle.std.proofs.Common.{◌≡◌, ℕ, ◌+◌, true, false, List, [], ◌∷◌, ◌++◌, length, Option, Ok, refl, sym, ap, ◌∙◌, ◌⊎◌, inl, inr, subst, append_assoc}
+use Rattle.std.specs.List.{AllByRecursion}
+use Rattle.std.specs.Str.Lines.{lines}
+use Rattle.std.proofs.lemmas.List.{append-nil}
+use Rattle.macho_stub.specs.declared.list.Expect.{Expect}
+use Rattle.macho_stub.specs.declared.list.Expect.TheVariants.{AfterOpen, AfterComma, AfterName, Closed}
+use Rattle.macho_stub.specs.declared.fault.StubRule.{StubRule}
+use Rattle.macho_stub.specs.declared.fault.StubRule.TheVariants.{S1, S2, S3, S4, S5, S6, S7, S8, S9}
+use Rattle.macho_stub.specs.Bytes.{indent, unspaced, is_passed, has_barred, is_blank_or_comment, is_mark, is_plain_byte, has_late_control_after}
+use Rattle.macho_stub.specs.Scalars.{scalar_front, plain_front}
+use Rattle.macho_stub.specs.Faults.{outside}
+use Rattle.macho_stub.specs.Lists.{list_part, token_front, behind}
+use Rattle.macho_stub.specs.Documents.{DocumentFields, OpenDocumentFields}
+use Rattle.macho_stub.specs.Reader.{ItemListFields, NameListFields, ModeFields, Keys, Skipped, Names, NoItem, PlaceFields, Outside, Within, StateFields, stays, names_line, line_step, lines_from, start}
+use Rattle.macho_stub.specs.Order.{GoOn, MayStand, LacksInItem, LacksInDocument, IsLastHead, IsOpenAlong, IsCutList, IsBareKey, IsWhyAtEnd, BreaksOff, spare, dashed, closing}
+use Rattle.macho_stub.proofs.Bind.{bind_ok}
+use Rattle.macho_stub.proofs.Joined.{AreLines, lines_are_lines}
+use Rattle.macho_stub.proofs.Reached.{Reached, refused, length_more}
+use Rattle.macho_stub.proofs.Since.{Known, known_start, known_more, no_bracket_at_keys, no_bracket_at_item}
+use Rattle.macho_stub.proofs.Elsewhere.{no_key_in_list}
+use Rattle.macho_stub.proofs.Only.{lines_read}
+use Rattle.macho_stub.proofs.One.{Cuts, Same, Before, Behind, cuts, one_head, one_stop, no_stop_and_end}
+
+-- ---- one line
+
+open_at : (first r q : List (List ℕ)) (y : List ℕ) → IsOpenAlong first (r ++ y ∷ q) → MayStand (first ++ r) closing
+open_at first [] q y a = let M : List (List ℕ) → Type 0 = λ f. MayStand f closing in subst M (sym (append-nil first)) a.0
+open_at first (x ∷ r) q y a =
+    let M : List (List ℕ) → Type 0 = λ f. MayStand f closing in
+    subst M (append_assoc first (x ∷ []) r) (open_at (first ++ x ∷ []) r q y a.1)
+
+open_end : (first more : List (List ℕ)) → IsOpenAlong first more → MayStand (first ++ more) closing
+open_end first [] a = let M : List (List ℕ) → Type 0 = λ f. MayStand f closing in subst M (sym (append-nil first)) a
+open_end first (x ∷ more) a =
+    let M : List (List ℕ) → Type 0 = λ f. MayStand f closing in
+    subst M (append_assoc first (x ∷ []) more) (open_end (first ++ x ∷ []) more a.1)
+
+-- a list that was open before isn't begun again
+not_again : (first r q next : List (List ℕ)) (x y : List ℕ) (more : List (List ℕ)) → next ≡ first ++ x ∷ r → more ≡ r ++ y ∷ q
+    → IsOpenAlong (first ++ x ∷ []) more → (MayStand next closing → ⊥) → ⊥
+not_again first r q next x y more e f a n =
+    let M : List (List ℕ) → Type 0 = λ l. MayStand l closing in
+    let O : List (List ℕ) → Type 0 = λ l. IsOpenAlong (first ++ x ∷ []) l in
+    n (subst M (append_assoc first (x ∷ []) r ∙ sym e) (open_at (first ++ x ∷ []) r q y (subst O f a)))
+
+one_list : (l m : ℕ) (texts : List (List ℕ)) → IsCutList l texts → IsCutList m texts → l ≡ m
+one_list l m texts a b = by_cut (cuts a.first a.line a.more b.first b.line b.more (sym a.parts ∙ b.parts))
+  where
+    by_cut : Cuts a.first a.line a.more b.first b.line b.more → l ≡ m
+    by_cut (Same e f) = a.here ∙ ap (λ (x : List (List ℕ)). length x + 1) e ∙ sym b.here
+    by_cut (Before r e f) = absurd (not_again a.first r b.more b.first a.line b.line a.more e f a.open_along b.before)
+    by_cut (Behind r e f) = absurd (not_again b.first r a.more a.first b.line a.line b.more e f b.open_along a.before)
+
+passed_there : (r q : List (List ℕ)) (y : List ℕ) → AllByRecursion (λ line. is_passed line ≡ true) (r ++ y ∷ q) → is_passed y ≡ true
+passed_there [] q y a = a.0
+passed_there (x ∷ r) q y a = passed_there r q y a.1
+
+one_key : (l m : ℕ) (texts : List (List ℕ)) → IsBareKey l texts → IsBareKey m texts → l ≡ m
+one_key l m texts a b = by_cut (cuts a.first a.line a.passed b.first b.line b.passed (sym a.parts ∙ b.parts))
+  where
+    by_cut : Cuts a.first a.line a.passed b.first b.line b.passed → l ≡ m
+    by_cut (Same e f) = a.here ∙ ap (λ (x : List (List ℕ)). length x + 1) e ∙ sym b.here
+    by_cut (Before r e f) =
+        let P : List (List ℕ) → Type 0 = λ all. AllByRecursion (λ line. is_passed line ≡ true) all in
+        absurd (let k = sym (passed_there r b.passed b.line (subst P f a.no_content)) ∙ b.content in cc)
+    by_cut (Behind r e f) =
+        let P : List (List ℕ) → Type 0 = λ all. AllByRecursion (λ line. is_passed line ≡ true) all in
+        absurd (let k = sym (passed_there r a.passed a.line (subst P f b.no_content)) ∙ a.content in cc)
+
+-- ---- where a closing bracket may stand
+
+dash_in_list : (line : ℕ) (expect : Expect) → list_part line expect 0 dashed ≡ outside line
+unfolding list_part token_front behind scalar_front plain_front is_plain_byte is_mark has_late_control_after
+dash_in_list line AfterOpen = refl
+dash_in_list line AfterComma = refl
+dash_in_list line AfterName = refl
+dash_in_list line Closed = refl
+
+no_item_in_list : (first : List (List ℕ)) (before : List DocumentFields) (document : OpenDocumentFields) (list : Option ItemListFields)
+    (names : NameListFields) → Reached first (record { documents = before; place = Within (stays document list (Names names)) })
+    → MayStand first dashed → ⊥
+unfolding line_step names_line has_barred is_passed unspaced indent is_blank_or_comment
+no_item_in_list first before document list names r m = refused first _ dashed (length first + 1) S1 r
+    (rw (dash_in_list (length first + 1) names.part.expect) refl) m
+
+no_bracket_outside : (first : List (List ℕ)) (before : List DocumentFields) → Reached first (record { documents = before; place = Outside })
+    → MayStand first closing → ⊥
+unfolding line_step has_barred is_passed unspaced indent is_blank_or_comment
+no_bracket_outside first before r m = refused first _ closing (length first + 1) S1 r refl m
+
+-- no item, and no key
+abbrev Alone : List (List ℕ) → Type 0
+Alone first = (MayStand first dashed → ⊥) × (MayStand first spare → ⊥)
+
+mode_alone : (first : List (List ℕ)) (before : List DocumentFields) (document : OpenDocumentFields) (list : Option ItemListFields)
+    (mode : ModeFields) → Reached first (record { documents = before; place = Within (stays document list mode) })
+    → MayStand first closing → Alone first
+mode_alone first before document list Keys r m = absurd (no_bracket_at_keys first before document list false r m)
+mode_alone first before document list Skipped r m = absurd (no_bracket_at_keys first before document list true r m)
+mode_alone first before document list (Names names) r m =
+    (no_item_in_list first before document list names r, no_key_in_list first before document list names 0 r)
+mode_alone first before document list (NoItem kind at) r m = absurd (no_bracket_at_item first before document list kind at r m)
+
+place_alone : (first : List (List ℕ)) (before : List DocumentFields) (place : PlaceFields)
+    → Reached first (record { documents = before; place = place }) → MayStand first closing → Alone first
+place_alone first before Outside r m = absurd (no_bracket_outside first before r m)
+place_alone first before (Within inside) r m = mode_alone first before inside.document inside.list inside.mode r m
+
+-- lines that go on lead to where the reading is
+walk : (first : List (List ℕ)) (state : StateFields) (texts more : List (List ℕ)) (says : List DocumentFields) → Known first state
+    → AreLines texts → lines_from state (length first + 1) (texts ++ more) ≡ Ok says → (s : StateFields) × Known (first ++ texts) s
+unfolding lines_from
+walk first state [] more says k l e =
+    let K : List (List ℕ) → Type 0 = λ f. Known f state in (state, subst K (sym (append-nil first)) k)
+walk first state (text ∷ texts) more says k l e =
+    let n = length first + 1 in
+    let b = bind_ok (line_step state n text) (λ next. lines_from next (n + 1) (texts ++ more)) says e in
+    let next = known_more first state b.0 text k l.0 b.1 in
+    let count : n + 1 ≡ length (first ++ text ∷ []) + 1 = ap (λ m. m + 1) (sym (length_more first text)) in
+    let w = walk (first ++ text ∷ []) b.0 texts more says next l.1 (ap (λ m. lines_from b.0 m (texts ++ more)) (sym count) ∙ b.2) in
+    let K : List (List ℕ) → Type 0 = λ f. Known f w.0 in
+    (w.0, subst K (append_assoc first (text ∷ []) texts) w.1)
+
+alone : (text : List ℕ) → GoOn (lines text) → MayStand (lines text) closing → Alone (lines text)
+alone text g m =
+    let e : lines_from start 1 (lines text ++ g.more) ≡ Ok g.says = ap (lines_from start 1) (sym g.begins)
+    ∙ lines_read (lines g.text) g.says g.in_grammar in
+    let w = walk [] start (lines text) g.more g.says known_start (lines_are_lines text) e in
+    place_alone (lines text) w.0.documents w.0.place w.1.reached m
+
+-- ---- one reason
+
+data Why (rule : StubRule) (number : ℕ) (texts : List (List ℕ)) : Type 0 where
+  Cut : rule ≡ S1 → IsCutList number texts → Why rule number texts
+  Bare : rule ≡ S1 → IsBareKey number texts → Why rule number texts
+  Lacks : rule ≡ S2 → IsLastHead number texts → LacksInItem texts ⊎ LacksInDocument texts → Why rule number texts
+
+outside_why : (number : ℕ) (texts : List (List ℕ)) → IsCutList number texts ⊎ IsBareKey number texts → Why S1 number texts
+outside_why number texts (inl c) = Cut refl c
+outside_why number texts (inr b) = Bare refl b
+
+why_of : (rule : StubRule) (number : ℕ) (texts : List (List ℕ)) → IsWhyAtEnd rule number texts → Why rule number texts
+why_of S1 number texts w = outside_why number texts w
+why_of S2 number texts w = Lacks refl w.0 w.1
+why_of S3 number texts w = absurd w
+why_of S4 number texts w = absurd w
+why_of S5 number texts w = absurd w
+why_of S6 number texts w = absurd w
+why_of S7 number texts w = absurd w
+why_of S8 number texts w = absurd w
+why_of S9 number texts w = absurd w
+
+bracket : (number : ℕ) (texts : List (List ℕ)) → IsCutList number texts → MayStand texts closing
+bracket number texts c =
+    let M : List (List ℕ) → Type 0 = λ l. MayStand l closing in
+    subst M (append_assoc c.first (c.line ∷ []) c.more ∙ sym c.parts) (open_end (c.first ++ c.line ∷ []) c.more c.open_along)
+
+cut_and_lack : (text : List ℕ) (number : ℕ) → GoOn (lines text) → IsCutList number (lines text)
+    → LacksInItem (lines text) ⊎ LacksInDocument (lines text) → ⊥
+unfolding is_passed unspaced indent is_blank_or_comment
+cut_and_lack text number g c (inl i) = i closing refl refl (bracket number (lines text) c)
+cut_and_lack text number g c (inr d) = (alone text g (bracket number (lines text) c)).1 d.0
+
+bare_and_lack : (number : ℕ) (texts : List (List ℕ)) → IsBareKey number texts → LacksInItem texts ⊎ LacksInDocument texts → ⊥
+unfolding is_passed unspaced indent is_blank_or_comment
+bare_and_lack number texts b (inl i) = i dashed refl refl b.items
+bare_and_lack number texts b (inr d) = b.no_key d.0
+
+one_why : (text : List ℕ) (r s : StubRule) (l m : ℕ) → GoOn (lines text) → Why r l (lines text) → Why s m (lines text)
+    → (l ≡ m) × (r ≡ s)
+one_why text r s l m g (Cut a b) (Cut c d) = (one_list l m (lines text) b d, a ∙ sym c)
+one_why text r s l m g (Cut a b) (Bare c d) = absurd ((alone text g (bracket l (lines text) b)).0 d.items)
+one_why text r s l m g (Cut a b) (Lacks c d e) = absurd (cut_and_lack text l g b e)
+one_why text r s l m g (Bare a b) (Cut c d) = absurd ((alone text g (bracket m (lines text) d)).0 b.items)
+one_why text r s l m g (Bare a b) (Bare c d) = (one_key l m (lines text) b d, a ∙ sym c)
+one_why text r s l m g (Bare a b) (Lacks c d e) = absurd (bare_and_lack l (lines text) b e)
+one_why text r s l m g (Lacks a b c) (Cut d e) = absurd (cut_and_lack text m g e c)
+one_why text r s l m g (Lacks a b c) (Bare d e) = absurd (bare_and_lack m (lines text) e c)
+one_why text r s l m g (Lacks a b c) (Lacks d e f) = (one_head l m (lines text) b e, a ∙ sym d)
+
+-- where a text breaks off, and for which rule, is one answer
+pub one_break : (text : List ℕ) (l m : ℕ) (r s : StubRule) → BreaksOff text l r → BreaksOff text m s → (l ≡ m) × (r ≡ s)
+one_break text l m r s (inl a) (inl b) = one_stop (lines text) l m r s a b
+one_break text l m r s (inl a) (inr b) = absurd (no_stop_and_end text l m r s a b)
+one_break text l m r s (inr a) (inl b) = absurd (no_stop_and_end text m l s r b a)
+one_break text l m r s (inr a) (inr b) = one_why text r s l m a.go_on (why_of r l (lines text) a.why) (why_of s m (lines text) b.why)

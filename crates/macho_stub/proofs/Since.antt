@@ -1,0 +1,301 @@
+-- What the lines that were read say of where the reading is: the first line of the document is the last head among
+-- them; a flow list that is open began at a line behind which, at every line since, a closing bracket may stand; and
+-- a key of items has nothing under it but lines that are passed over.
+use Rattle.std.proofs.Common.{◌≡◌, ◌≢◌, ℕ, ◌+◌, Bool, true, false, List, [], ◌∷◌, ◌++◌, length, Option, Some, None, Ok, Err, refl, sym, ap, ◌∙◌, inl, inr, subst, append_assoc}
+use Rattle.std.specs.List.{AllByRecursion}
+use Rattle.macho_stub.specs.declared.fault.StubRule.TheVariants.{S1}
+use Rattle.macho_stub.specs.declared.keys.ItemKind.{ItemKind}
+use Rattle.macho_stub.specs.Bytes.{indent, unspaced, is_passed, has_barred, is_blank_or_comment, is_key_byte}
+use Rattle.macho_stub.specs.Faults.{Reading, outside}
+use Rattle.macho_stub.specs.Keys.{entry_at}
+use Rattle.macho_stub.specs.Documents.{ItemFields, DocumentFields, OpenDocumentFields, head_at, with_items}
+use Rattle.macho_stub.specs.Reader.{ItemListFields, NameListFields, ModeFields, Keys, Skipped, Names, NoItem, InsideFields, PlaceFields, Outside, Within, StateFields, stays, head, has_dash, belongs_to_top, first_line, top_line, items_with_last, content_line, line_step, start}
+use Rattle.macho_stub.specs.Order.{MayStand, IsLastHead, IsOpenAlong, IsCutList, IsBareKey, spare, dashed, closing}
+use Rattle.macho_stub.proofs.Finish.{at_item, begun, close_steps, dash_steps}
+use Rattle.macho_stub.proofs.Joined.{IsLine}
+use Rattle.macho_stub.proofs.Reached.{Reached, reached_start, reached_more, may_stand, refused}
+use Rattle.macho_stub.proofs.Steps.{Closes, keys_state, top_steps, lacking_steps}
+use Rattle.macho_stub.proofs.Kept.{Began, BehindState, NoBarePlace, inside_line_kept, names_line_no_bare, outside_kept, step_kinds}
+
+abbrev pub HeadsAt : List (List ℕ) → PlaceFields → Type 0
+HeadsAt first Outside = Unit {0}
+HeadsAt first (Within inside) = IsLastHead inside.document.line first
+
+abbrev pub ListMode : List (List ℕ) → ModeFields → Type 0
+ListMode first Keys = Unit {0}
+ListMode first Skipped = Unit {0}
+ListMode first (Names names) = IsCutList names.began first
+ListMode first (NoItem kind at) = IsBareKey at first
+
+abbrev pub ListsAt : List (List ℕ) → PlaceFields → Type 0
+ListsAt first Outside = Unit {0}
+ListsAt first (Within inside) = ListMode first inside.mode
+
+-- the lines lead to the state, and say this of it
+pub record Known (first : List (List ℕ)) (state : StateFields) : Type 0 where
+  pub reached : Reached first state
+  pub heads : HeadsAt first state.place
+  pub lists : ListsAt first state.place
+
+pub known_start : Known [] start
+known_start = record { reached = reached_start; heads = tt; lists = tt }
+
+-- ---- heads
+
+other_more : (first : List (List ℕ)) (text : List ℕ) → AllByRecursion (λ line. line ≢ head) first → text ≢ head
+    → AllByRecursion (λ line. line ≢ head) (first ++ text ∷ [])
+other_more [] text a n = (n, tt)
+other_more (line ∷ first) text a n = (a.0, other_more first text a.1 n)
+
+head_stays : (number : ℕ) (first : List (List ℕ)) (text : List ℕ) → IsLastHead number first → text ≢ head
+    → IsLastHead number (first ++ text ∷ [])
+head_stays number first text h n = record {
+  before = h.before;
+  behind = h.behind ++ text ∷ [];
+  parts = ap (λ (all : List (List ℕ)). all ++ text ∷ []) h.parts ∙ append_assoc h.before (head ∷ h.behind) (text ∷ []);
+  here = h.here;
+  none = other_more h.behind text h.none n;
+}
+
+head_here : (first : List (List ℕ)) (text : List ℕ) → text ≡ head → IsLastHead (length first + 1) (first ++ text ∷ [])
+head_here first text is = record {
+  before = first;
+  behind = [];
+  parts = ap (λ (line : List ℕ). first ++ line ∷ []) is;
+  here = refl;
+  none = tt;
+}
+
+passed_no_head : (text : List ℕ) → is_passed text ≡ true → text ≢ head
+unfolding is_passed is_blank_or_comment unspaced indent
+passed_no_head text h = λ is. absurd (let k = sym (ap is_passed is) ∙ h in cc)
+
+-- ---- flow lists
+
+open_more : (first more : List (List ℕ)) (text : List ℕ) → IsOpenAlong first more → MayStand (first ++ (more ++ text ∷ [])) closing
+    → IsOpenAlong first (more ++ text ∷ [])
+open_more first [] text a m = (a, m)
+open_more first (line ∷ more) text a m =
+    let M : List (List ℕ) → Type 0 = λ all. MayStand all closing in
+    (a.0, open_more (first ++ line ∷ []) more text a.1 (subst M (sym (append_assoc first (line ∷ []) (more ++ text ∷ []))) m))
+
+list_stays : (number : ℕ) (first : List (List ℕ)) (text : List ℕ) → IsCutList number first → MayStand (first ++ text ∷ []) closing
+    → IsCutList number (first ++ text ∷ [])
+list_stays number first text c m =
+    let parts : first ++ text ∷ [] ≡ c.first ++ c.line ∷ (c.more ++ text ∷ []) = ap (λ (all : List (List ℕ)). all ++ text ∷ []) c.parts
+    ∙ append_assoc c.first (c.line ∷ c.more) (text ∷ []) in
+    let M : List (List ℕ) → Type 0 = λ all. MayStand all closing in
+    record {
+      first = c.first;
+      line = c.line;
+      more = c.more ++ text ∷ [];
+      parts = parts;
+      here = c.here;
+      before = c.before;
+      open_along = open_more (c.first ++ c.line ∷ []) c.more text c.open_along
+          (subst M (parts ∙ sym (append_assoc c.first (c.line ∷ []) (c.more ++ text ∷ []))) m);
+    }
+
+list_here : (first : List (List ℕ)) (text : List ℕ) → (MayStand first closing → ⊥) → MayStand (first ++ text ∷ []) closing
+    → IsCutList (length first + 1) (first ++ text ∷ [])
+list_here first text n m = record { first = first; line = text; more = []; parts = refl; here = refl; before = n; open_along = m }
+
+-- behind a list that is open a bracket may stand
+pub closing_stands : (first : List (List ℕ)) (before : List DocumentFields) (document : OpenDocumentFields) (list : Option ItemListFields)
+    (names : NameListFields) → Reached first (record { documents = before; place = Within (stays document list (Names names)) })
+    → MayStand first closing
+closing_stands first before document list names r = may_stand first _ _ closing r refl
+    (close_steps before document list names (length first + 1) r.good.1)
+
+-- and where a key may stand, none may
+bracket_at_top : (before : List DocumentFields) (document whole : OpenDocumentFields) (list : Option ItemListFields) (skipped : Bool)
+    (line : ℕ) → Closes list document whole → line_step (keys_state before document list skipped) line closing ≡ outside line
+unfolding has_barred is_passed is_blank_or_comment unspaced indent belongs_to_top top_line entry_at is_key_byte
+bracket_at_top before document whole list skipped line c = top_steps before document whole list skipped line closing c refl refl refl
+
+pub no_bracket_at_keys : (first : List (List ℕ)) (before : List DocumentFields) (document : OpenDocumentFields) (list : Option
+    ItemListFields)
+    (skipped : Bool) → Reached first (keys_state before document list skipped) → MayStand first closing → ⊥
+unfolding has_barred is_passed is_blank_or_comment unspaced indent
+no_bracket_at_keys first before document None skipped r m = refused first _ closing (length first + 1) S1 r
+    (bracket_at_top before document document None skipped (length first + 1) refl) m
+no_bracket_at_keys first before document (Some list) skipped r m = by_items (items_with_last document.line list) refl
+  where
+    by_items : (reading : Reading (List ItemFields)) → items_with_last document.line list ≡ reading → ⊥
+    by_items (Ok items) e = refused first _ closing (length first + 1) S1 r
+        (bracket_at_top before document (with_items list.kind items document) (Some list) skipped (length first + 1) (items, e, refl)) m
+    by_items (Err fault) e = refused first _ closing fault.line fault.rule r
+        (lacking_steps before document list skipped (length first + 1) closing fault.line fault.rule e refl refl refl) m
+
+pub no_bracket_at_item : (first : List (List ℕ)) (before : List DocumentFields) (document : OpenDocumentFields) (list : Option
+    ItemListFields)
+    (kind : ItemKind) (at : ℕ) → Reached first (record { documents = before; place = Within (stays document list (NoItem kind at)) })
+    → MayStand first closing → ⊥
+unfolding line_step has_barred is_passed is_blank_or_comment unspaced indent first_line has_dash
+no_bracket_at_item first before document list kind at r m = refused first _ closing (length first + 1) S1 r refl m
+
+-- ---- keys of items
+
+pub item_stands : (first : List (List ℕ)) (before : List DocumentFields) (document : OpenDocumentFields) (list : Option ItemListFields)
+    (kind : ItemKind) (at : ℕ) → Reached first (record { documents = before; place = Within (stays document list (NoItem kind at)) })
+    → MayStand first dashed
+item_stands first before document list kind at r = may_stand first _ (at_item before document (begun kind) true) dashed r refl
+    (dash_steps before document list kind at (length first + 1))
+
+pub no_spare_at_item : (first : List (List ℕ)) (before : List DocumentFields) (document : OpenDocumentFields) (list : Option ItemListFields)
+    (kind : ItemKind) (at : ℕ) → Reached first (record { documents = before; place = Within (stays document list (NoItem kind at)) })
+    → MayStand first spare → ⊥
+unfolding line_step has_barred is_passed is_blank_or_comment unspaced indent first_line has_dash
+no_spare_at_item first before document list kind at r m = refused first _ spare (length first + 1) S1 r refl m
+
+passed_more : (first : List (List ℕ)) (text : List ℕ) → AllByRecursion (λ line. is_passed line ≡ true) first → is_passed text ≡ true
+    → AllByRecursion (λ line. is_passed line ≡ true) (first ++ text ∷ [])
+passed_more [] text a n = (n, tt)
+passed_more (line ∷ first) text a n = (a.0, passed_more first text a.1 n)
+
+-- ---- a step
+
+-- a line that is passed over
+mode_passed : (first : List (List ℕ)) (before : List DocumentFields) (document : OpenDocumentFields) (list : Option ItemListFields)
+    (mode : ModeFields) (text : List ℕ) → is_passed text ≡ true
+    → Reached (first ++ text ∷ []) (record { documents = before; place = Within (stays document list mode) })
+    → ListMode first mode → ListMode (first ++ text ∷ []) mode
+mode_passed first before document list Keys text p r l = tt
+mode_passed first before document list Skipped text p r l = tt
+mode_passed first before document list (Names names) text p r l = list_stays names.began first text l
+    (closing_stands (first ++ text ∷ []) before document list names r)
+mode_passed first before document list (NoItem kind at) text p r l = record {
+  first = l.first;
+  line = l.line;
+  passed = l.passed ++ text ∷ [];
+  parts = ap (λ (all : List (List ℕ)). all ++ text ∷ []) l.parts ∙ append_assoc l.first (l.line ∷ l.passed) (text ∷ []);
+  here = l.here;
+  content = l.content;
+  no_content = passed_more l.passed text l.no_content p;
+  items = item_stands (first ++ text ∷ []) before document list kind at r;
+  no_key = no_spare_at_item (first ++ text ∷ []) before document list kind at r;
+}
+
+place_passed : (first : List (List ℕ)) (before : List DocumentFields) (place : PlaceFields) (text : List ℕ) → is_passed text ≡ true
+    → Reached (first ++ text ∷ []) (record { documents = before; place = place }) → HeadsAt first place → ListsAt first place
+    → HeadsAt (first ++ text ∷ []) place × ListsAt (first ++ text ∷ []) place
+place_passed first before Outside text p r h l = (tt, tt)
+place_passed first before (Within inside) text p r h l = (
+  head_stays inside.document.line first text h (passed_no_head text p),
+  mode_passed first before inside.document inside.list inside.mode text p r l,
+)
+
+-- a list, or a key of items, that begins at the line
+new_list : (first : List (List ℕ)) (before : List DocumentFields) (document : OpenDocumentFields) (list : Option ItemListFields)
+    (mode : ModeFields) (text : List ℕ) → is_passed text ≡ false → (MayStand first closing → ⊥)
+    → Reached (first ++ text ∷ []) (record { documents = before; place = Within (stays document list mode) })
+    → Began (length first + 1) mode → ListMode (first ++ text ∷ []) mode
+new_list first before document list Keys text p n r b = tt
+new_list first before document list Skipped text p n r b = tt
+new_list first before document list (Names names) text p n r b =
+    let C : ℕ → Type 0 = λ k. IsCutList k (first ++ text ∷ []) in
+    subst C (sym b) (list_here first text n (closing_stands (first ++ text ∷ []) before document list names r))
+new_list first before document list (NoItem kind at) text p n r b = record {
+  first = first;
+  line = text;
+  passed = [];
+  parts = refl;
+  here = b;
+  content = p;
+  no_content = tt;
+  items = item_stands (first ++ text ∷ []) before document list kind at r;
+  no_key = no_spare_at_item (first ++ text ∷ []) before document list kind at r;
+}
+
+-- a list that goes on, or is closed
+old_list : (first : List (List ℕ)) (before : List DocumentFields) (document : OpenDocumentFields) (list : Option ItemListFields)
+    (mode : ModeFields) (text : List ℕ) (began : ℕ) → IsCutList began first
+    → Reached (first ++ text ∷ []) (record { documents = before; place = Within (stays document list mode) })
+    → Began began mode → NoBarePlace (Within (stays document list mode)) → ListMode (first ++ text ∷ []) mode
+old_list first before document list Keys text began c r b n = tt
+old_list first before document list Skipped text began c r b n = tt
+old_list first before document list (Names names) text began c r b n =
+    let C : ℕ → Type 0 = λ k. IsCutList k (first ++ text ∷ []) in
+    subst C (sym b) (list_stays began first text c (closing_stands (first ++ text ∷ []) before document list names r))
+old_list first before document list (NoItem kind at) text began c r b n = absurd n
+
+-- the line begins a document
+at_new_head : (first : List (List ℕ)) (inside : InsideFields) (text : List ℕ) → text ≡ head
+    → inside ≡ stays (head_at (length first + 1)) None Keys
+    → HeadsAt (first ++ text ∷ []) (Within inside) × ListsAt (first ++ text ∷ []) (Within inside)
+at_new_head first inside text is at =
+    let P : InsideFields → Type 0 = λ i. HeadsAt (first ++ text ∷ []) (Within i) × ListsAt (first ++ text ∷ []) (Within i) in
+    subst P (sym at) (head_here first text is, tt)
+
+-- what a line inside a document leaves
+behind_inside : (first : List (List ℕ)) (next : StateFields) (text : List ℕ) (number began : ℕ) → Reached (first ++ text ∷ []) next
+    → IsLastHead number first → BehindState number began (length first + 1) text next
+    → ((document : OpenDocumentFields) (list : Option ItemListFields) (mode : ModeFields)
+    → Reached (first ++ text ∷ []) (record { documents = next.documents; place = Within (stays document list mode) })
+    → next.place ≡ Within (stays document list mode) → Began began mode → ListMode (first ++ text ∷ []) mode)
+    → HeadsAt (first ++ text ∷ []) next.place × ListsAt (first ++ text ∷ []) next.place
+behind_inside first next text number began r h b k = by_place next.place refl b
+  where
+    by_place : (place : PlaceFields) → next.place ≡ place
+        → BehindState number began (length first + 1) text (record { documents = next.documents; place = place })
+        → HeadsAt (first ++ text ∷ []) place × ListsAt (first ++ text ∷ []) place
+    by_place Outside is b = (tt, tt)
+    by_place (Within inside) is b =
+        elim b [
+          | inl o ↦
+              let H : ℕ → Type 0 = λ n. IsLastHead n (first ++ text ∷ []) in
+              let R : PlaceFields → Type 0 = λ p. Reached (first ++ text ∷ []) (record { documents = next.documents; place = p }) in (
+                subst H (sym o.1.0) (head_stays number first text h o.0),
+                k inside.document inside.list inside.mode (subst R is r) is o.1.1,
+              )
+          | inr o ↦ at_new_head first inside text o.0 o.1
+        ]
+
+inside_more : (first : List (List ℕ)) (before : List DocumentFields) (document : OpenDocumentFields) (list : Option ItemListFields)
+    (mode : ModeFields) (next : StateFields) (text : List ℕ)
+    → is_passed text ≡ false → Known first (record { documents = before; place = Within (stays document list mode) })
+    → Reached (first ++ text ∷ []) next
+    → content_line before (Within (stays document list mode)) (length first + 1) text ≡ Ok next
+    → HeadsAt (first ++ text ∷ []) next.place × ListsAt (first ++ text ∷ []) next.place
+inside_more first before document list Keys next text p k r e =
+    behind_inside first next text document.line (length first + 1) r k.heads
+    (inside_line_kept before document list Keys (length first + 1) text next e)
+    (λ d l m q is b. new_list first next.documents d l m text p (no_bracket_at_keys first before document list false k.reached) q b)
+inside_more first before document list Skipped next text p k r e =
+    behind_inside first next text document.line (length first + 1) r k.heads
+    (inside_line_kept before document list Skipped (length first + 1) text next e)
+    (λ d l m q is b. new_list first next.documents d l m text p (no_bracket_at_keys first before document list true k.reached) q b)
+inside_more first before document list (Names names) next text p k r e =
+    let n = names_line_no_bare before document list (length first + 1) names text next e in
+    behind_inside first next text document.line names.began r k.heads
+    (inside_line_kept before document list (Names names) (length first + 1) text next e)
+    (λ d l m q is b. old_list first next.documents d l m text names.began k.lists q b (subst NoBarePlace is n))
+inside_more first before document list (NoItem kind at) next text p k r e =
+    behind_inside first next text document.line (length first + 1) r k.heads
+    (inside_line_kept before document list (NoItem kind at) (length first + 1) text next e)
+    (λ d l m q is b. new_list first next.documents d l m text p (no_bracket_at_item first before document list kind at k.reached) q b)
+
+place_more : (first : List (List ℕ)) (before : List DocumentFields) (place : PlaceFields) (next : StateFields) (text : List ℕ)
+    → is_passed text ≡ false → Known first (record { documents = before; place = place }) → Reached (first ++ text ∷ []) next
+    → content_line before place (length first + 1) text ≡ Ok next
+    → HeadsAt (first ++ text ∷ []) next.place × ListsAt (first ++ text ∷ []) next.place
+place_more first before Outside next text p k r e =
+    let o = outside_kept before (length first + 1) text next e in
+    let P : StateFields → Type 0 = λ s. HeadsAt (first ++ text ∷ []) s.place × ListsAt (first ++ text ∷ []) s.place in
+    subst P o.1 (head_here first text o.0, tt)
+place_more first before (Within inside) next text p k r e = inside_more first before inside.document inside.list inside.mode next text p k
+    r e
+
+pub known_more : (first : List (List ℕ)) (state next : StateFields) (text : List ℕ) → Known first state → IsLine text
+    → line_step state (length first + 1) text ≡ Ok next → Known (first ++ text ∷ []) next
+known_more first state next text k l e =
+    let r = reached_more first state next text k.reached l e in
+    let both : HeadsAt (first ++ text ∷ []) next.place × ListsAt (first ++ text ∷ []) next.place = elim (step_kinds state next (length
+    first + 1) text e) [
+      | inl p ↦
+          let P : StateFields → Type 0 = λ s. HeadsAt (first ++ text ∷ []) s.place × ListsAt (first ++ text ∷ []) s.place in
+          let R : StateFields → Type 0 = λ s. Reached (first ++ text ∷ []) s in
+          subst P p.1 (place_passed first state.documents state.place text p.0 (subst R (sym p.1) r) k.heads k.lists)
+      | inr c ↦ place_more first state.documents state.place next text c.0 k r c.1
+    ] in
+    record { reached = r; heads = both.0; lists = both.1 }
