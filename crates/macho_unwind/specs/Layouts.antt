@@ -1,7 +1,7 @@
 -- The layouts of the records of `__unwind_info`, mach-o/compact_unwind_encoding.h.
-use Rattle.std.specs.Prelude.{ℕ, List, [], ◌∷◌}
+use Rattle.std.specs.Prelude.{[], ◌∷◌}
 use Rattle.macho_bytes.specs.Numbers.{little}
-use Rattle.macho_bytes.specs.Layouts.{Layout, numbers, text}
+use Rattle.macho_bytes.specs.Layouts.{Layout, numbers}
 use Rattle.macho_unwind.specs.declared.records.CompactUnwindInfoHeader.{CompactUnwindInfoHeader}
 use Rattle.macho_unwind.specs.declared.records.PageEntry.{PageEntry}
 use Rattle.macho_unwind.specs.declared.records.CompressedPage.{CompressedPage}

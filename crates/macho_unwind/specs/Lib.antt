@@ -1,1 +1,4 @@
 pub mod Layouts
+pub mod Sections
+pub mod Lookup
+pub mod Parts

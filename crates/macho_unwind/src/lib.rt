@@ -2,11 +2,11 @@
 #![tactic(auto)]
 
 mod bytes;
+mod lookup;
 mod records;
 
-pub use records::COMPACT_UNWIND_SECTION_NAME;
-pub use records::CompactUnwindInfoHeader;
-pub use records::CompressedPage;
-pub use records::LsdaEntry;
-pub use records::PageEntry;
-pub use records::UNWIND_INFO_SECTION_NAME;
+pub use lookup::{Found, unwind_lookup};
+pub use records::{
+    COMPACT_UNWIND_SECTION_NAME, CompactUnwindInfoHeader, CompressedPage, LsdaEntry, PageEntry,
+    UNWIND_INFO_SECTION_NAME,
+};

@@ -115,7 +115,11 @@ impl PageEntry {
         ensures back { ReadsBack page_entry self.now }
     {
         let r = *self;
-        put_u32s(out, at, &[r.first_address, r.page_offset, r.lsda_index_offset]);
+        put_u32s(
+            out,
+            at,
+            &[r.first_address, r.page_offset, r.lsda_index_offset],
+        );
     }
 }
 
