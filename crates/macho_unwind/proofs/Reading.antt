@@ -2,7 +2,7 @@
 --
 -- A record that was read is the one that the bytes say, and it is whole. What is said of a page by the records that were
 -- read is said of those that the bytes have, since they are equal.
-use Rattle.std.proofs.Common.{◌≡◌, ℕ, ◌+◌, ◌≤◌, List, length, Some, ◌-◌, ◌/◌, sym, ap, subst, ◌∙◌, rules}
+use Rattle.std.proofs.Common.{◌≡◌, ℕ, zero, suc, ◌+◌, ◌≤◌, ◌<◌, ◌-◌, ◌/◌, List, [], ◌∷◌, length, get_or, Some, sym, ap, subst, ◌∙◌, refl, arith, rules}
 use Rattle.macho_bytes.specs.Layouts.{Layout, reading, read_of, size_of}
 use Rattle.macho_unwind.specs.Layouts.{compressed_page}
 use Rattle.macho_unwind.specs.Sections.{entry_at, page_at, lsda_count, IsWholePage, HasPage}
@@ -45,3 +45,9 @@ page_was_whole bytes k entry head lsdas entry_is head_is lsdas_is whole =
     subst (λ (n : ℕ). IsWholePage bytes entry head n) (sym lsdas_is)
     (subst (λ (h : CompressedPage). IsWholePage bytes entry h (lsda_count bytes k)) (sym head_is)
     (subst (λ (e : PageEntry). IsWholePage bytes e (page_at bytes k) (lsda_count bytes k)) (sym entry_is) whole))
+
+-- an item of a list, whatever is given past its end
+pub read_alike : {X : Type 0} (xs : List X) (i : ℕ) (d e : X) → i < length xs → get_or xs i d ≡ get_or xs i e
+read_alike [] i d e h = absurd (omega arith)
+read_alike (x ∷ xs) zero d e h = refl
+read_alike (x ∷ xs) (suc i) d e h = read_alike xs i d e (omega arith)

@@ -2,3 +2,4 @@ pub mod Layouts
 pub mod Sections
 pub mod Lookup
 pub mod Parts
+pub mod Texts

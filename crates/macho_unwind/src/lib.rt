@@ -4,6 +4,7 @@
 mod bytes;
 mod lookup;
 mod records;
+mod writing;
 
 pub use lookup::{Found, unwind_lookup};
 pub use records::{

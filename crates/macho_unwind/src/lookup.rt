@@ -12,7 +12,7 @@ use crate::bytes::u32_at;
 use crate::records::{CompactUnwindInfoHeader, CompressedPage, LsdaEntry, PageEntry};
 
 /// `UNWIND_SECOND_LEVEL_COMPRESSED`: the kind of a page whose functions are words of an index and an offset.
-const COMPRESSED: u32 = 3;
+pub(crate) const COMPRESSED: u32 = 3;
 
 /// A function word's low 24 bits are an offset, those above them a number.
 const OFFSETS: u32 = 1 << 24;
