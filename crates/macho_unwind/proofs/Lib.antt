@@ -4,3 +4,8 @@ pub mod Counting
 pub mod Lengths
 pub mod Places
 pub mod Joining
+pub mod Members
+pub mod Standing
+pub mod Readback
+pub mod LsdaReadback
+pub mod PlanRows

@@ -3,3 +3,5 @@ pub mod Sections
 pub mod Lookup
 pub mod Parts
 pub mod Texts
+pub mod Says
+pub mod Readings
