@@ -9,3 +9,4 @@ pub mod Standing
 pub mod Readback
 pub mod LsdaReadback
 pub mod PlanRows
+pub mod PlanLookup
