@@ -13,9 +13,9 @@ use Rattle.macho_bytes.specs.Layouts.{spelling}
 use Rattle.macho_bytes.proofs.Numbers.{little_is_sound, length-row_little}
 use Rattle.macho_bytes.proofs.Layouts.{length-spelling}
 use Rattle.macho_unwind_pages.specs.declared.plans.Lsda.{Lsda}
-use Rattle.macho_unwind_pages.specs.Plans.{PageList, PlanList, page_size}
+use Rattle.macho_unwind_pages.specs.Plans.{PageList, PlanList, page_size, size_of}
 use Rattle.macho_unwind.specs.Layouts.{compact_unwind_info_header, page_entry, compressed_page, lsda_entry}
-use Rattle.macho_unwind.specs.Texts.{header_for, entry_for, entry_text, last_entry_for, lsda_for, lsda_text, head_for, page_text}
+use Rattle.macho_unwind.specs.Texts.{header_for, entry_for, entry_text, last_entry_for, lsda_for, lsda_text, head_for, page_text, section_text}
 
 pub length-header_text : (plan : PlanList) → length (spelling compact_unwind_info_header (header_for plan)) ≡ 28
 length-header_text plan = length-spelling compact_unwind_info_header (header_for plan) little_is_sound (refl, tt)
@@ -54,3 +54,29 @@ pub length-pages : (pages : List PageList) → length (flat_map page_text pages)
 length-pages [] = refl
 length-pages (p ∷ pages) =
     omega (arith, length-append (page_text p) (flat_map page_text pages), length-page_text p, sum_by-cons page_size p pages, length-pages pages)
+
+-- the section has the bytes that its plan says
+pub length-section : (plan : PlanList) → length (section_text plan) ≡ size_of plan
+unfolding section_text
+length-section plan =
+    let a = spelling compact_unwind_info_header (header_for plan) in
+    let b = row_bytes little 4 plan.globals in
+    let c = row_bytes little 4 plan.personalities in
+    let d = flat_map (entry_text plan) (range_with_len 0 (length plan.pages)) in
+    let e = spelling page_entry (last_entry_for plan) in
+    let f = flat_map lsda_text plan.lsdas in
+    let g = flat_map page_text plan.pages in
+    let long_a = length-header_text plan in
+    let long_b = length-row_little 4 plan.globals in
+    let long_c = length-row_little 4 plan.personalities in
+    let long_d = length-entries plan (length plan.pages) in
+    let long_e = length-last_entry_text plan in
+    let long_f = length-lsdas plan.lsdas in
+    let long_g = length-pages plan.pages in
+    let ab = length-append a b in
+    let abc = length-append (a ++ b) c in
+    let abcd = length-append (a ++ b ++ c) d in
+    let abcde = length-append (a ++ b ++ c ++ d) e in
+    let abcdef = length-append (a ++ b ++ c ++ d ++ e) f in
+    let all = length-append (a ++ b ++ c ++ d ++ e ++ f) g in
+    omega arith

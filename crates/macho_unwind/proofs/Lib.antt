@@ -10,3 +10,6 @@ pub mod Readback
 pub mod LsdaReadback
 pub mod PlanRows
 pub mod PlanLookup
+pub mod Greatest
+pub mod EntryRows
+pub mod EntryLookup

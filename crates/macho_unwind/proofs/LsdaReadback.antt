@@ -3,25 +3,23 @@
 -- They are those from the first LSDA of a function at the page's start or later, up to the first one of a function of the
 -- next page; the last page has all that are left. LSDAs stand by rising function. So an LSDA of a function that starts in
 -- the page is among the page's entries, and each of these entries is the plan's LSDA of its place.
-use Rattle.std.proofs.Common.{◌≡◌, ℕ, ◌+◌, ◌-◌, ◌*◌, ◌/◌, ◌^◌, ◌<◌, ◌≤◌, ◌⊎◌, nat_lt, List, [], length, get_or, count_by, sym, ap, subst, ◌∙◌, refl, arith, inl, inr}
+use Rattle.std.proofs.Common.{◌≡◌, ℕ, ◌+◌, ◌-◌, ◌*◌, ◌<◌, ◌≤◌, nat_lt, List, length, get_or, count_by, sym, ap, subst, ◌∙◌, refl, arith, inl, inr}
 use Rattle.std.proofs.lemmas.Bool.{cases_lt}
-use Rattle.std.proofs.lemmas.List.Sums.{count_by-le-length, sum_by_more_le}
-use Rattle.macho_bytes.specs.Texts.{Stands}
+use Rattle.std.proofs.lemmas.List.Sums.{count_by-le-length}
 use Rattle.macho_bytes.specs.Layouts.{reading}
 use Rattle.macho_bytes.proofs.Tables.{table-stands}
 use Rattle.macho_bytes.proofs.Layouts.{reading-stands_little}
 use Rattle.macho_unwind_pages.specs.declared.plans.Lsda.{Lsda}
-use Rattle.macho_unwind_pages.specs.Plans.{PlanList, IsPlan, page_size, size_of}
+use Rattle.macho_unwind_pages.specs.Plans.{PlanList, IsPlan}
 use Rattle.macho_unwind.specs.declared.records.PageEntry.{PageEntry}
 use Rattle.macho_unwind.specs.declared.records.CompressedPage.{CompressedPage}
-use Rattle.macho_unwind.specs.declared.records.LsdaEntry.{LsdaEntry}
 use Rattle.macho_unwind.specs.Layouts.{lsda_entry}
 use Rattle.macho_unwind.specs.Sections.{entry_at, page_at, lsda_count, lsda_at, HasPage, IsWholePage}
-use Rattle.macho_unwind.specs.Texts.{HasPlaces, lsdas_place, lsda_place, page_place, page_of, entry_for, last_entry_for, lsda_for, lsda_text, head_for}
+use Rattle.macho_unwind.specs.Texts.{HasPlaces, lsdas_place, lsda_place, page_of, entry_for, lsda_for, lsda_text, head_for}
 use Rattle.macho_unwind.proofs.Lengths.{length-lsda_text}
 use Rattle.macho_unwind.proofs.Counting.{count-rising}
-use Rattle.macho_unwind.proofs.Standing.{PlanStands, PageStands}
-use Rattle.macho_unwind.proofs.Readback.{formed_at, lsda_place-within, entry-read, last-read, head-read, page-here}
+use Rattle.macho_unwind.proofs.Standing.{PlanStands}
+use Rattle.macho_unwind.proofs.Readback.{lsda_place-within, entry-read, last-read, head-read, page-here}
 
 -- an item that isn't there
 abbrev pub no_lsda : Lsda
@@ -111,7 +109,7 @@ lsda-read bytes plan k from to j formed s range lt =
     ∙ reading-stands_little lsda_entry (lsda_for (get_or plan.lsdas (from + j) no_lsda)) bytes (lsdas_place plan + 8 * (from + j)) refl
     (((fits.0, (fits.1, tt)), refl), tt) refl
     (table-stands lsda_text 8 plan.lsdas (lsdas_place plan) (from + j) no_lsda bytes
-      (record { long = λ i d h. length-lsda_text (get_or plan.lsdas i d) }) lt s.lsdas)
+    (record { long = λ i d h. length-lsda_text (get_or plan.lsdas i d) }) lt s.lsdas)
 
 -- a page is whole, since all of the section is inside the bytes
 pub page-whole : (bytes : List ℕ) (plan : PlanList) (k : ℕ) → IsPlan plan → HasPlaces plan → PlanStands bytes plan → k < length plan.pages

@@ -5,25 +5,25 @@
 -- above the offset. In page k the starts rise, so function j is the last not above it. The word names the row's code, and
 -- the code's bits name the slot. An LSDA of a function of the page is in the page's range.
 -- The other way round: where look-up finds something, the offset is below the end, and some row starts at it or before it.
-use Rattle.std.proofs.Common.{◌≡◌, ◌≢◌, ℕ, ◌+◌, ◌-◌, ◌*◌, ◌/◌, ◌%◌, ◌^◌, ◌<◌, ◌≤◌, List, [], ◌++◌, length, get_or, slice_index, Option, Some, None, sym, ap, subst, ◌∙◌, refl, arith, inl, inr}
+use Rattle.std.proofs.Common.{◌≡◌, ◌≢◌, ℕ, ◌+◌, ◌-◌, ◌<◌, ◌≤◌, List, length, get_or, Option, Some, None, sym, ap, subst, ◌∙◌, arith, inl, inr}
 use Rattle.std.specs.List.{Contains}
 use Rattle.std.proofs.lemmas.Bool.{cases_lt}
 use Rattle.std.proofs.lemmas.List.{get_or_default}
 use Rattle.macho_unwind_pages.specs.declared.plans.Lsda.{Lsda}
-use Rattle.macho_unwind_pages.specs.Plans.{PageList, PlanList, Row, rows_of, IsPlan, IsPage}
+use Rattle.macho_unwind_pages.specs.Plans.{PlanList, Row, rows_of, IsPlan}
 use Rattle.macho_unwind.specs.declared.records.CompactUnwindInfoHeader.{CompactUnwindInfoHeader}
 use Rattle.macho_unwind.specs.declared.records.PageEntry.{PageEntry}
 use Rattle.macho_unwind.specs.declared.records.CompressedPage.{CompressedPage}
 use Rattle.macho_unwind.specs.declared.records.LsdaEntry.{LsdaEntry}
 use Rattle.macho_unwind.specs.declared.lookup.Found.{Found}
-use Rattle.macho_unwind.specs.Sections.{header_of, last_entry, entry_at, first_at, page_at, word_at, start_at, offset_in, index_in, encoding_at, personality_in, personality_at, lsda_count, lsda_at, HasTables, HasPage}
-use Rattle.macho_unwind.specs.Lookup.{IsGreatestUpTo, IsPageOf, IsFunctionOf, IsPersonality, NamesPersonality, IsLsda, HasLsda, UnwindFinds}
-use Rattle.macho_unwind.specs.Texts.{HasPlaces, header_for, page_of, entry_for, last_entry_for, lsda_for, head_for}
-use Rattle.macho_unwind.specs.Says.{IsSlot, NamesSlot, IsLsdaOf, PlanSays}
+use Rattle.macho_unwind.specs.Sections.{last_entry, first_at, page_at, word_at, start_at, offset_in, index_in, encoding_at, personality_in, lsda_count, lsda_at}
+use Rattle.macho_unwind.specs.Lookup.{IsGreatestUpTo, IsFunctionOf, NamesPersonality, IsLsda, HasLsda, UnwindFinds}
+use Rattle.macho_unwind.specs.Texts.{HasPlaces, page_of, lsda_for}
+use Rattle.macho_unwind.specs.Says.{NamesSlot, IsLsdaOf, PlanSays}
 use Rattle.macho_unwind.proofs.Standing.{PlanStands}
 use Rattle.macho_unwind.proofs.Readback.{formed_at, header-read, entry-read, last-read, head-read, word-read, encoding-read, personality-read, tables-read}
-use Rattle.macho_unwind.proofs.LsdaReadback.{no_lsda, IsRange, HasRange, range-of, lsda-read, page-whole}
-use Rattle.macho_unwind.proofs.PlanRows.{IsRowAt, row_for, start_of, word_of, row_there, row_in, at_row, words_rise, pages_rise, first_start, firsts_rise}
+use Rattle.macho_unwind.proofs.LsdaReadback.{no_lsda, HasRange, range-of, lsda-read, page-whole}
+use Rattle.macho_unwind.proofs.PlanRows.{row_for, start_of, word_of, row_there, row_in, at_row, words_rise, pages_rise, first_start, firsts_rise}
 
 -- A plan whose bytes are given, and what is known of it.
 pub record IsGiven (bytes : List ℕ) (plan : PlanList) : Type 0 where
@@ -111,8 +111,13 @@ function-chosen bytes plan offset k j g lt there up_to most =
     before : (m : ℕ) → m < length (page_of plan k).words → start_at bytes k m ≡ start_at bytes k j → m ≤ j
     before m within same =
         elim (cases_lt j m) [
-          | inl less ↦ absurd (omega (arith, same, start-is bytes plan k m g lt within, start-is bytes plan k j g lt there,
-            words_rise plan k j m g.formed lt less within))
+          | inl less ↦ absurd (omega (
+            arith,
+            same,
+            start-is bytes plan k m g lt within,
+            start-is bytes plan k j g lt there,
+            words_rise plan k j m g.formed lt less within,
+          ))
           | inr le ↦ le
         ]
 
@@ -132,13 +137,15 @@ pub record IsInPage (plan : PlanList) (k start : ℕ) : Type 0 where
 
 lsda-there : (bytes : List ℕ) (plan : PlanList) (k start lsda : ℕ) → IsGiven bytes plan → k < length plan.pages → IsInPage plan k start
     → Contains plan.lsdas (record { function = start; lsda = lsda }) → (j : ℕ) × IsLsda bytes k start lsda j
-lsda-there bytes plan k start lsda g lt inside (i, within, is) =
-    (i - range.from, record {
-      one = omega (arith, held.0, held.1, range.is.count);
-      function = ap (λ (e : LsdaEntry). e.function_offset) here ∙ function;
-      first = λ m less same. absurd (omega (arith, same, earlier m less, function));
-      is = sym (ap (λ (e : LsdaEntry). e.lsda_offset) here ∙ ap (λ (l : Lsda). l.lsda) item);
-    })
+lsda-there bytes plan k start lsda g lt inside (i, within, is) = (
+  i - range.from,
+  record {
+    one = omega (arith, held.0, held.1, range.is.count);
+    function = ap (λ (e : LsdaEntry). e.function_offset) here ∙ function;
+    first = λ m less same. absurd (omega (arith, same, earlier m less, function));
+    is = sym (ap (λ (e : LsdaEntry). e.lsda_offset) here ∙ ap (λ (l : Lsda). l.lsda) item);
+  },
+)
   where
     range : HasRange bytes plan k
     range = range-of bytes plan k g.formed g.places g.stands lt

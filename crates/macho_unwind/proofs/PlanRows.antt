@@ -2,14 +2,13 @@
 --
 -- A row is that of a word of a page. The starts of a page's words rise, and a page begins behind the last start of the page
 -- before it. So an earlier page has an earlier first start, and no start of it is as late as the first of a later page.
-use Rattle.std.proofs.Common.{◌≡◌, ℕ, ◌+◌, ◌*◌, ◌/◌, ◌%◌, ◌^◌, ◌<◌, ◌≤◌, List, [], ◌++◌, length, get_or, map, slice_index, sym, ap, subst, ◌∙◌, refl, arith, inl, inr}
+use Rattle.std.proofs.Common.{◌≡◌, ℕ, ◌+◌, ◌<◌, [], length, get_or, slice_index, sym, subst, ◌∙◌, arith}
 use Rattle.std.specs.List.{Contains}
-use Rattle.std.proofs.lemmas.Bool.{cases_lt}
-use Rattle.std.proofs.lemmas.List.{get_or-map, get_or_default, length-map}
-use Rattle.macho_unwind_pages.specs.Plans.{PageList, PlanList, Row, row_of, page_rows, rows_of, IsPlan, IsPage}
+use Rattle.std.proofs.lemmas.List.{get_or-map, length-map}
+use Rattle.macho_unwind_pages.specs.Plans.{PageList, PlanList, Row, row_of, page_rows, rows_of, IsPlan}
 use Rattle.macho_unwind.specs.Sections.{offset_in}
 use Rattle.macho_unwind.specs.Texts.{page_of}
-use Rattle.macho_unwind.proofs.Members.{IsIn, found_in, found_from}
+use Rattle.macho_unwind.proofs.Members.{found_in, found_from}
 use Rattle.macho_unwind.proofs.Readback.{formed_at}
 
 -- an item past the end

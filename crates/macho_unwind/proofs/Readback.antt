@@ -3,28 +3,27 @@
 -- Where a record's spelling stands the record is read back, if its fields fit: places are at most the last page's place,
 -- which fits 32 bits; starts and encodings fit by the plan. Where a row of words stands each word is read back. The tables
 -- are whole since all of the section is inside the bytes.
-use Rattle.std.proofs.Common.{◌≡◌, ℕ, zero, suc, ◌+◌, ◌-◌, ◌*◌, ◌/◌, ◌^◌, ◌<◌, ◌≤◌, Bool, true, false, cond, nat_lt, List, [], ◌∷◌, ◌++◌, length, get_or, take, sum_by, if◌then◌else◌, count_by, slice_index, Option, Some, None, sym, ap, subst, ◌∙◌, refl, arith, inl, inr}
-use Rattle.std.specs.List.{flat_map, range_with_len}
+use Rattle.std.proofs.Common.{◌≡◌, ℕ, ◌+◌, ◌-◌, ◌*◌, ◌^◌, ◌<◌, ◌≤◌, true, false, nat_lt, List, [], ◌++◌, length, get_or, if◌then◌else◌, slice_index, Option, Some, None, sym, ap, subst, ◌∙◌, refl, arith, inl, inr}
+use Rattle.std.specs.List.{range_with_len}
 use Rattle.std.proofs.lemmas.Bool.{cases_lt}
 use Rattle.std.proofs.lemmas.Bool.Decides.{nat_tests}
-use Rattle.std.proofs.lemmas.List.{get_or_append_left, get_or-append_right, get_or_default}
+use Rattle.std.proofs.lemmas.List.{get_or_append_left, get_or-append_right}
 use Rattle.std.proofs.lemmas.List.FromFn.{length-range_with_len, get_or-range_with_len}
-use Rattle.std.proofs.lemmas.List.Sums.{count_by-le-length, sum_by_more_le}
+use Rattle.std.proofs.lemmas.List.Sums.{count_by-le-length}
 use Rattle.macho_bytes.specs.Numbers.{le_at}
 use Rattle.macho_bytes.specs.Texts.{Stands}
-use Rattle.macho_bytes.specs.Layouts.{spelling, reading}
+use Rattle.macho_bytes.specs.Layouts.{reading}
 use Rattle.macho_bytes.proofs.Tables.{table-stands}
 use Rattle.macho_bytes.proofs.Layouts.{reading-stands_little}
 use Rattle.macho_unwind_pages.specs.declared.plans.Lsda.{Lsda}
-use Rattle.macho_unwind_pages.specs.Plans.{PageList, PlanList, IsPlan, IsPage, page_size, size_of}
+use Rattle.macho_unwind_pages.specs.Plans.{PlanList, IsPlan, IsPage}
 use Rattle.macho_unwind.specs.declared.records.CompactUnwindInfoHeader.{CompactUnwindInfoHeader}
 use Rattle.macho_unwind.specs.declared.records.PageEntry.{PageEntry}
 use Rattle.macho_unwind.specs.declared.records.CompressedPage.{CompressedPage}
-use Rattle.macho_unwind.specs.declared.records.LsdaEntry.{LsdaEntry}
-use Rattle.macho_unwind.specs.Layouts.{compact_unwind_info_header, page_entry, compressed_page, lsda_entry}
-use Rattle.macho_unwind.specs.Sections.{header_of, entry_at, page_at, word_at, encoding_at, personality_at, lsda_count, lsda_at, HasTables, HasPage, IsWholePage}
-use Rattle.macho_unwind.specs.Texts.{HasPlaces, header_for, personalities_place, entries_place, lsdas_place, lsda_place, pages_place, page_place, page_of, entry_for, entry_text, last_entry_for, lsda_for, lsda_text, head_for}
-use Rattle.macho_unwind.proofs.Lengths.{length-entry_text, length-lsda_text}
+use Rattle.macho_unwind.specs.Layouts.{compact_unwind_info_header, page_entry, compressed_page}
+use Rattle.macho_unwind.specs.Sections.{header_of, entry_at, page_at, word_at, encoding_at, personality_at, HasTables}
+use Rattle.macho_unwind.specs.Texts.{HasPlaces, header_for, personalities_place, entries_place, lsda_place, pages_place, page_place, page_of, entry_for, entry_text, last_entry_for, head_for}
+use Rattle.macho_unwind.proofs.Lengths.{length-entry_text}
 use Rattle.macho_unwind.proofs.Places.{place-grows}
 use Rattle.macho_unwind.proofs.Standing.{PlanStands, PageStands, word-stands, page-stands, page-parts}
 
@@ -121,7 +120,7 @@ encoding-shared : (bytes : List ℕ) (plan : PlanList) (k i : ℕ) → IsPlan pl
 encoding-shared bytes plan k i formed s lt =
     let test : nat_lt i (length plan.globals) ≡ true = grind (arith, nat_tests) in
     rw test (ap Some (word-stands plan.globals bytes 28 i lt (formed.codes i 0 lt) s.globals
-        ∙ sym (get_or_append_left plan.globals (page_of plan k).locals 0 i lt)))
+    ∙ sym (get_or_append_left plan.globals (page_of plan k).locals 0 i lt)))
 
 encoding-own : (bytes : List ℕ) (plan : PlanList) (k i : ℕ) → IsPlan plan → PlanStands bytes plan → k < length plan.pages
     → length plan.globals ≤ i → i < length plan.globals + length (page_of plan k).locals
@@ -131,9 +130,9 @@ encoding-own bytes plan k i formed s lt past within =
     let test : nat_lt (i - length plan.globals) (length (page_of plan k).locals) ≡ true = grind (arith, nat_tests) in
     let own : i - length plan.globals < length (page_of plan k).locals = omega arith in
     rw (none, test) (ap Some (
-      word-stands (page_of plan k).locals bytes (page_place plan k + (12 + 4 * length (page_of plan k).words)) (i - length plan.globals) own
-      ((formed_at plan k formed lt).codes (i - length plan.globals) 0 own) (page-here bytes plan k s lt).locals
-      ∙ sym (get_or-append_right plan.globals (page_of plan k).locals (length plan.globals) i 0 refl past)))
+    word-stands (page_of plan k).locals bytes (page_place plan k + (12 + 4 * length (page_of plan k).words)) (i - length plan.globals) own
+    ((formed_at plan k formed lt).codes (i - length plan.globals) 0 own) (page-here bytes plan k s lt).locals
+    ∙ sym (get_or-append_right plan.globals (page_of plan k).locals (length plan.globals) i 0 refl past)))
 
 pub encoding-read : (bytes : List ℕ) (plan : PlanList) (k i : ℕ) → IsPlan plan → HasPlaces plan → PlanStands bytes plan → k < length plan.pages
     → i < length plan.globals + length (page_of plan k).locals

@@ -2,7 +2,7 @@
 --
 -- A section is its parts joined, so each part stands behind those before it, at the sum of their lengths. A table of
 -- numbers or records has each of its items at a multiple of their size; a page stands behind the pages before it.
-use Rattle.std.proofs.Common.{◌≡◌, ℕ, zero, suc, ◌+◌, ◌*◌, ◌^◌, ◌<◌, ◌≤◌, List, [], ◌∷◌, ◌++◌, length, get_or, take, sum_by, slice_index, sym, ap, subst, ◌∙◌, refl, arith}
+use Rattle.std.proofs.Common.{◌≡◌, ℕ, zero, suc, ◌+◌, ◌*◌, ◌^◌, ◌<◌, ◌≤◌, List, [], ◌∷◌, ◌++◌, length, get_or, take, sum_by, slice_index, subst, arith}
 use Rattle.std.specs.List.{flat_map, range_with_len}
 use Rattle.std.proofs.lemmas.List.{length-append}
 use Rattle.std.proofs.lemmas.List.Sums.{sum_by-cons}
@@ -10,7 +10,7 @@ use Rattle.macho_bytes.specs.Numbers.{little, row_bytes, le_at, le_bytes}
 use Rattle.macho_bytes.specs.Texts.{Stands}
 use Rattle.macho_bytes.specs.Layouts.{spelling}
 use Rattle.macho_bytes.proofs.Numbers.{little_is_sound, number-stands, stands-front, stands-back, length-row_little}
-use Rattle.macho_bytes.proofs.Tables.{EachLong, table-stands}
+use Rattle.macho_bytes.proofs.Tables.{table-stands}
 use Rattle.macho_unwind_pages.specs.Plans.{PageList, PlanList, page_size, size_of}
 use Rattle.macho_unwind.specs.Layouts.{compact_unwind_info_header, page_entry, compressed_page}
 use Rattle.macho_unwind.specs.Texts.{header_for, personalities_place, entries_place, lsdas_place, pages_place, entry_text, last_entry_for, lsda_text, head_for, page_text, section_text}

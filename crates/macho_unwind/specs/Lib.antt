@@ -5,3 +5,4 @@ pub mod Parts
 pub mod Texts
 pub mod Says
 pub mod Readings
+pub mod Entries

@@ -4,6 +4,7 @@
 mod bytes;
 mod lookup;
 mod records;
+mod section;
 mod writing;
 
 pub use lookup::{Found, unwind_lookup};
@@ -11,3 +12,4 @@ pub use records::{
     COMPACT_UNWIND_SECTION_NAME, CompactUnwindInfoHeader, CompressedPage, LsdaEntry, PageEntry,
     UNWIND_INFO_SECTION_NAME,
 };
+pub use section::build;
