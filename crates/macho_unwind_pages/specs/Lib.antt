@@ -1,5 +1,6 @@
 pub mod Orders
 pub mod Entries
+pub mod Ranks
 pub mod Bounds
 pub mod Plans
 pub mod Calls
