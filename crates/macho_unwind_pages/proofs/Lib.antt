@@ -2,3 +2,4 @@ pub mod Orders
 pub mod Numbers
 pub mod Ranked
 pub mod Tallying
+pub mod Naming

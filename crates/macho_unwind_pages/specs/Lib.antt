@@ -3,4 +3,5 @@ pub mod Entries
 pub mod Ranks
 pub mod Bounds
 pub mod Plans
+pub mod Paging
 pub mod Calls

@@ -4,6 +4,7 @@
 mod bound;
 mod entries;
 mod numbering;
+mod paging;
 mod planning;
 mod plans;
 mod ranking;
