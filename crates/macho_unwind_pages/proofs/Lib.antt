@@ -3,3 +3,5 @@ pub mod Numbers
 pub mod Ranked
 pub mod Tallying
 pub mod Naming
+pub mod Growing
+pub mod PagesMade
