@@ -5,3 +5,4 @@ pub mod Tallying
 pub mod Naming
 pub mod Growing
 pub mod PagesMade
+pub mod Charging

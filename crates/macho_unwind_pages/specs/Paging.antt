@@ -1,8 +1,8 @@
 -- Pages as they are made: a page takes one function more, or it is closed to it.
-use Rattle.std.specs.Prelude.{◌≡◌, ℕ, ◌+◌, ◌-◌, ◌*◌, ◌/◌, ◌%◌, ◌^◌, ◌<◌, ◌≤◌, ◌⊎◌, List, [], ◌∷◌, ◌++◌, length, slice_index, slice_index_or, flat_map, take, All, Contains}
+use Rattle.std.specs.Prelude.{◌≡◌, ℕ, ◌+◌, ◌-◌, ◌*◌, ◌/◌, ◌%◌, ◌^◌, ◌<◌, ◌≤◌, ◌⊎◌, List, [], ◌∷◌, ◌++◌, length, slice_index, slice_index_or, flat_map, map, take, All, Contains}
 use Rattle.std.specs.List.{AllPairs}
 use Rattle.indexmap.specs.IndexMap.{IndexMap, keys}
-use Rattle.macho_unwind_pages.specs.Bounds.{PAGE_SPAN, MOST_GLOBALS, MOST_LOCALS, MOST_WORDS}
+use Rattle.macho_unwind_pages.specs.Bounds.{PAGE_SPAN, MOST_GLOBALS, MOST_LOCALS, MOST_WORDS, locals_in}
 use Rattle.macho_unwind_pages.specs.Ranks.{IsNumberOf}
 use Rattle.macho_unwind_pages.specs.Plans.{PageList, Row, IsNamed, IsPage, AreLocals, AreClosed, IsClosedTo, page_rows}
 
@@ -13,6 +13,10 @@ globals_in ranks = take MOST_GLOBALS (keys ranks)
 -- a page without functions, from an offset on
 abbrev pub empty_page : ℕ → PageList
 empty_page first = record { first = first; words = []; locals = [] }
+
+-- A page has no more codes of its own than functions with a code that not every page may name.
+abbrev pub HasFewLocals : List ℕ → PageList → Type 0
+HasFewLocals globals page = length page.locals ≤ locals_in globals (map (λ row. row.code) (page_rows globals page))
 
 -- a page that has codes of its own stands beside as many global ones as there may be
 abbrev pub IsFull : List ℕ → PageList → Type 0
@@ -51,5 +55,6 @@ pub record ArePages (globals : List ℕ) (functions : List Row) (pages : List Pa
   pub rows : flat_map (page_rows globals) pages ≡ functions
   pub each : All (IsPage globals) pages
   pub locals : All (AreLocals globals) pages
+  pub few : All (HasFewLocals globals) pages
   pub order : AllPairs (λ p q. All (λ word. p.first + word % PAGE_SPAN < q.first) p.words) pages
   pub closed : AreClosed globals pages
