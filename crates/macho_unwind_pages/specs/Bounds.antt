@@ -3,6 +3,7 @@
 use Rattle.std.specs.Prelude.{ℕ, ◌+◌, ◌-◌, ◌*◌, ◌/◌, ◌^◌, ◌==◌, if◌then◌else◌, min, not, List, length, take, count_by}
 use Rattle.std.specs.List.{list_any}
 use Rattle.macho_unwind_pages.specs.declared.entries.UnwindInput.{UnwindInput}
+use Rattle.macho_unwind_pages.specs.declared.bound.Tallies.{Tallies}
 use Rattle.macho_unwind_pages.specs.Entries.{ids_of, codes_of, ranked}
 
 -- the offsets that a word of a page can tell
@@ -27,16 +28,9 @@ globals_of codes = take MOST_GLOBALS (ranked codes)
 
 -- the number of entries whose code isn't one of these
 abbrev pub locals_in : List ℕ → List ℕ → ℕ
-locals_in globals codes = count_by (λ code. not (list_any (λ global. global == code) globals)) codes
+locals_in globals codes = count_by (λ code. not (list_any (λ global. code == global) globals)) codes
 
 -- how many of each thing entries have
-pub record Tallies : Type 0 where
-  pub entries : ℕ
-  pub local : ℕ
-  pub globals : ℕ
-  pub personalities : ℕ
-  pub lsdas : ℕ
-
 abbrev pub tallies_of : List UnwindInput → Tallies
 tallies_of entries = record {
   entries = length entries;

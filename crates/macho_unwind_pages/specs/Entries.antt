@@ -59,7 +59,7 @@ codes_of entries = map (code_in (ids_of entries)) entries
 
 -- how often a code stands in a list
 abbrev pub times : List ℕ → ℕ → ℕ
-times codes code = count_by (λ other. other == code) codes
+times codes code = count_by (λ other. code == other) codes
 
 -- a code ranks before another if it stands more often, or as often and is the greater
 abbrev pub ranks_before : List ℕ → ℕ → ℕ → Bool

@@ -1,5 +1,6 @@
 -- What a plan says, and when it is a plan of entries. A plan is the unwind section before it is bytes
 -- (mach-o/compact_unwind_encoding.h: unwind_info_section_header, unwind_info_compressed_second_level_page_header).
+pub use Rattle.macho_unwind_pages.specs.declared.paging.Row.{Row}
 use Rattle.std.specs.Prelude.{◌≡◌, ◌≢◌, ℕ, ◌+◌, ◌-◌, ◌*◌, ◌/◌, ◌%◌, ◌^◌, ◌<◌, ◌≤◌, ◌⊎◌, Option, None, Some, IfSome, IsSomeAnd, List, [], ◌∷◌, ◌++◌, length, map, flat_map, slice_get, slice_index, slice_index_or, All, Contains, sum_by}
 use Rattle.std.specs.List.{AllPairs}
 use Rattle.std.specs.List.Sorted.{IsPermutation}
@@ -34,11 +35,6 @@ plan_list p = record {
   pages = map page_list p.pages.items;
   end = p.end;
 }
-
--- One function: its start, counted from the text's, and its code.
-pub record Row : Type 0 where
-  pub start : ℕ
-  pub code : ℕ
 
 -- the function that a word of a page tells: its offset from the page's first one, and the number of its code
 abbrev pub row_of : List ℕ → PageList → ℕ → Row
@@ -109,7 +105,7 @@ lsda_from text e = lsda_at text e.start e.lsda
 -- A page can't take one more function: it is too far away, its code would be the 33rd that only this page names, or
 -- there is no room for its word and, where the page doesn't name it yet, its code.
 abbrev pub IsNamed : List ℕ → PageList → ℕ → Type 0
-IsNamed globals page code = Contains globals code ⊎ Contains page.locals code
+IsNamed globals page code = Contains (globals ++ page.locals) code
 
 abbrev pub IsClosedTo : List ℕ → PageList → Row → Type 0
 IsClosedTo globals page row =

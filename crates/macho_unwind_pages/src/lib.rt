@@ -1,10 +1,16 @@
 //! Compact unwind information, before it is bytes: which encodings are shared, and which functions stand on which page.
 #![tactic(auto)]
 
+mod bound;
 mod entries;
+mod numbering;
+mod offsets;
+mod paging;
 mod planning;
 mod plans;
+mod ranking;
 
+pub use bound::{output_size, unwind_bound};
 pub use entries::{Personality, ResolvedUnwindInfo, UnwindFault, UnwindInput};
 pub use planning::plan;
 pub use plans::{Lsda, Page, Plan};
