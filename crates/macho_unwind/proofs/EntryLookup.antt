@@ -8,7 +8,8 @@ use Rattle.macho_bytes.specs.Texts.{Stands}
 use Rattle.macho_bytes.proofs.Puts.{stands_by_bytes}
 use Rattle.macho_unwind_pages.specs.declared.entries.ResolvedUnwindInfo.{ResolvedUnwindInfo}
 use Rattle.macho_unwind_pages.specs.Entries.{AreEntries, inputs_of, ids_of, named_ids}
-use Rattle.macho_unwind_pages.specs.Plans.{PlanList, Row, IsPlanOf}
+use Rattle.macho_unwind_pages.specs.declared.paging.Row.{Row}
+use Rattle.macho_unwind_pages.specs.Plans.{PlanList, IsPlanOf}
 use Rattle.macho_unwind.specs.Texts.{section_text}
 use Rattle.macho_unwind.specs.Entries.{found_for, IsEntryOf, FindsEntries, FindsOnlyEntries, IsSectionOf}
 use Rattle.macho_unwind.proofs.Uniqueness.{finds-unique}

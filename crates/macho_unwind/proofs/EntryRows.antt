@@ -15,7 +15,8 @@ use Rattle.macho_unwind_pages.specs.declared.entries.ResolvedUnwindInfo.{Resolve
 use Rattle.macho_unwind_pages.specs.declared.entries.Personality.{Personality}
 use Rattle.macho_unwind_pages.specs.declared.plans.Lsda.{Lsda}
 use Rattle.macho_unwind_pages.specs.Entries.{AreEntries, inputs_of, ids_of, place_in, number_in, IsLast}
-use Rattle.macho_unwind_pages.specs.Plans.{PlanList, Row, rows_of, row_from, lsda_at, lsda_from, IsPlanOf, HasSlot}
+use Rattle.macho_unwind_pages.specs.declared.paging.Row.{Row}
+use Rattle.macho_unwind_pages.specs.Plans.{PlanList, rows_of, row_from, lsda_at, lsda_from, IsPlanOf, HasSlot}
 use Rattle.macho_unwind.specs.Sections.{personality_in, without_personality}
 use Rattle.macho_unwind.specs.Says.{NamesSlot, IsLsdaOf, PlanSays}
 use Rattle.macho_unwind.specs.Entries.{found_for, IsEntryOf}

@@ -13,3 +13,4 @@ pub mod PlanLookup
 pub mod Greatest
 pub mod EntryRows
 pub mod EntryLookup
+pub mod Rows

@@ -5,7 +5,8 @@
 use Rattle.std.proofs.Common.{◌≡◌, ℕ, ◌+◌, ◌<◌, [], length, get_or, slice_index, sym, subst, ◌∙◌, arith}
 use Rattle.std.specs.List.{Contains}
 use Rattle.std.proofs.lemmas.List.{get_or-map, length-map}
-use Rattle.macho_unwind_pages.specs.Plans.{PageList, PlanList, Row, row_of, page_rows, rows_of, IsPlan}
+use Rattle.macho_unwind_pages.specs.declared.paging.Row.{Row}
+use Rattle.macho_unwind_pages.specs.Plans.{PageList, PlanList, row_of, page_rows, rows_of, IsPlan}
 use Rattle.macho_unwind.specs.Sections.{offset_in}
 use Rattle.macho_unwind.specs.Texts.{page_of}
 use Rattle.macho_unwind.proofs.Members.{found_in, found_from}

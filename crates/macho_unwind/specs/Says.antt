@@ -2,7 +2,8 @@
 -- its personality in bits 28 and 29.
 use Rattle.std.specs.Prelude.{◌≡◌, ◌≢◌, ℕ, ◌-◌, ◌^◌, ◌≤◌, ◌<◌, List, length, slice_index, All, Contains, Option, Some, None}
 use Rattle.macho_unwind_pages.specs.declared.plans.Lsda.{Lsda}
-use Rattle.macho_unwind_pages.specs.Plans.{PlanList, Row, rows_of}
+use Rattle.macho_unwind_pages.specs.declared.paging.Row.{Row}
+use Rattle.macho_unwind_pages.specs.Plans.{PlanList, rows_of}
 use Rattle.macho_unwind_pages.specs.declared.entries.UnwindFault.{UnwindFault}
 use Rattle.macho_unwind_pages.specs.declared.entries.UnwindFault.TheVariants.{TooManyPersonalities, OffsetTooLarge, OutOfMemory}
 use Rattle.macho_unwind.specs.Lookup.{UnwindFinds}

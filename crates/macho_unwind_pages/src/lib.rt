@@ -4,7 +4,6 @@
 mod bound;
 mod entries;
 mod numbering;
-mod offsets;
 mod paging;
 mod planning;
 mod plans;
@@ -12,5 +11,6 @@ mod ranking;
 
 pub use bound::{output_size, unwind_bound};
 pub use entries::{Personality, ResolvedUnwindInfo, UnwindFault, UnwindInput};
+pub use paging::Row;
 pub use planning::plan;
 pub use plans::{Lsda, Page, Plan};

@@ -27,11 +27,11 @@ const MOST_WORDS: usize = 1021;
 
 /// One function: its start, counted from the text's, and its code.
 #[derive(Clone, Copy)]
-pub(crate) struct Row {
+pub struct Row {
     /// The offset of its first byte.
-    pub(crate) start: u32,
+    pub start: u32,
     /// Its encoding, with the number of its personality function.
-    pub(crate) code: u32,
+    pub code: u32,
 }
 
 /// The number of a code in a list.
