@@ -41,7 +41,7 @@ finds-entries text entries bytes are s offset e of =
     (said-of-entry text entries s.plan offset e are s.of_entries of)
 
 -- an entry that isn't there
-abbrev no_entry : ResolvedUnwindInfo
+abbrev pub no_entry : ResolvedUnwindInfo
 no_entry = record { start = 0; length = 0; encoding = 0; personality = None; lsda = None }
 
 pub finds-only-entries : (text : ℕ) (entries : List ResolvedUnwindInfo) (bytes : List ℕ) → AreEntries text entries → IsSectionOf text entries bytes

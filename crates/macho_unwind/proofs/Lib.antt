@@ -14,3 +14,4 @@ pub mod Greatest
 pub mod EntryRows
 pub mod EntryLookup
 pub mod Rows
+pub mod Fitness

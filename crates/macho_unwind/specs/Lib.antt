@@ -6,3 +6,4 @@ pub mod Texts
 pub mod Says
 pub mod Readings
 pub mod Entries
+pub mod Conditions

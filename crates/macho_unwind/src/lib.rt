@@ -32,6 +32,8 @@ mod lookup;
 mod records;
 mod section;
 #[cfg(test)]
+mod section_tests;
+#[cfg(test)]
 mod tests;
 mod writing;
 
