@@ -1,11 +1,16 @@
 -- What the parts of a plan ask of entries.
-use Rattle.std.specs.Prelude.{◌≡◌, ℕ, ◌+◌, ◌-◌, ◌^◌, ◌<◌, ◌≤◌, Option, None, Some, IfSome, List, All}
+use Rattle.std.specs.Prelude.{◌≡◌, ℕ, ◌+◌, ◌-◌, ◌^◌, ◌<◌, ◌≤◌, Option, None, Some, IfSome, List, length, map, flat_map, ◌==◌, true, All}
+use Rattle.std.specs.List.{AllPairs, list_any}
 use Rattle.macho_unwind_pages.specs.declared.entries.ResolvedUnwindInfo.{ResolvedUnwindInfo}
-use Rattle.macho_unwind_pages.specs.Entries.{place_in, input_of, code_in}
+use Rattle.macho_unwind_pages.specs.Entries.{MOST_PERSONALITIES, place_in, input_of, code_in, ranked}
+use Rattle.macho_unwind_pages.specs.Bounds.{globals_of}
+use Rattle.macho_unwind_pages.specs.Plans.{PlanList, row_from, lsda_from, HasSlot}
+use Rattle.macho_unwind_pages.specs.Paging.{ArePages}
 use Rattle.macho_unwind_pages.specs.Ranks.{IsNumberOf}
 
 -- the addresses of an entry are told by offsets of 32 bits
 pub record IsNear (text : ℕ) (e : ResolvedUnwindInfo) : Type 0 where
+  pub encoding : e.encoding < 2 ^ 32
   pub start : e.start < text + 2 ^ 32
   pub slot : IfSome e.personality (λ p. p.slot < text + 2 ^ 32)
   pub lsda : IfSome e.lsda (λ address. address < text + 2 ^ 32)
@@ -27,3 +32,26 @@ AreAlike e f = IfSome e.personality (λ p. IfSome f.personality (λ q. p.id ≡ 
 -- the code of an entry has 32 bits
 abbrev pub HasShortCode : List ℕ → ResolvedUnwindInfo → Type 0
 HasShortCode ids e = code_in ids (input_of e) < 2 ^ 32
+
+-- What the parts of a plan are made from: a run of entries in order, their ids, and the codes of all.
+pub record IsReady (text : ℕ) (ids codes : List ℕ) (run : List ResolvedUnwindInfo) : Type 0 where
+  pub some : 0 < length run
+  pub few : length ids ≤ MOST_PERSONALITIES
+  pub rising : AllPairs (λ e f. e.start < f.start) run
+  pub behind : All (IsBehind text) run
+  pub near : All (IsNear text) run
+  pub numbered : All (IsNumbered ids) run
+  pub alike : All (λ e. All (AreAlike e) run) run
+  pub short : All (HasShortCode ids) run
+  pub fit : All (λ code. code < 2 ^ 32) codes
+  pub ranked : All (λ e. list_any (λ other. code_in ids (input_of e) == other) (ranked codes) ≡ true) run
+
+-- The parts of a plan.
+pub record IsAssembled (text : ℕ) (ids codes : List ℕ) (run : List ResolvedUnwindInfo) (plan : PlanList) : Type 0 where
+  pub pages : ArePages plan.globals (map (row_from text ids) run) plan.pages
+  pub globals : plan.globals ≡ globals_of codes
+  pub count : length plan.personalities ≡ length ids
+  pub slots : All (HasSlot text ids plan.personalities) run
+  pub lsdas : plan.lsdas ≡ flat_map (lsda_from text) run
+  pub short_codes : All (λ code. code < 2 ^ 32) plan.globals
+  pub short_slots : All (λ slot. slot < 2 ^ 32) plan.personalities

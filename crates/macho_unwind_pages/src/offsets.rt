@@ -1,14 +1,15 @@
 //! Entries by rising start, and what is told of them as offsets from the start of the text.
-ghost use Rattle.std.specs.Prelude.{◌≡◌, ◌≢◌, ◌+◌, ◌-◌, ◌^◌, ◌<◌, ◌≤◌, length, map, take, flat_map, All, Contains, IsPermutation, IfOk, slice_get, Some};
+ghost use Rattle.std.specs.Prelude.{◌≡◌, ◌≢◌, ◌+◌, ◌^◌, ◌<◌, ◌≤◌, length, map, take, flat_map, All, Contains, IsPermutation, IfOk, IfErr, OnOk};
 ghost use Rattle.std.specs.Bool.{OnTrue, OnFalse};
 ghost use Rattle.std.specs.List.{AllPairs};
 ghost use Rattle.indexmap.specs.IndexMap.{keys};
-ghost use Rattle.macho_unwind_pages.specs.Bounds.{MOST_GLOBALS};
-ghost use Rattle.macho_unwind_pages.specs.Entries.{MOST_PERSONALITIES};
-ghost use Rattle.macho_unwind_pages.specs.Plans.{row_from, lsda_from, HasSlot};
+ghost use Rattle.macho_unwind_pages.specs.Entries.{MOST_PERSONALITIES, IsLast};
+ghost use Rattle.macho_unwind_pages.specs.declared.entries.ResolvedUnwindInfo.{ResolvedUnwindInfo};
+ghost use Rattle.macho_unwind_pages.specs.declared.entries.UnwindFault.TheVariants.{OffsetTooLarge};
+ghost use Rattle.macho_unwind_pages.specs.Plans.{row_from, lsda_from, HasSlot, HasFarAddress, HasFarOffset};
 ghost use Rattle.macho_unwind_pages.specs.Planning.{IsNear, IsBehind, IsNumbered, AreAlike, HasShortCode};
 
-use crate::entries::ResolvedUnwindInfo;
+use crate::entries::{ResolvedUnwindInfo, UnwindFault};
 use crate::numbering::{code, input, place};
 use crate::paging::Row;
 use crate::plans::Lsda;
@@ -42,7 +43,7 @@ fn reaches(text_start: u64, address: u64) -> bool
 fn is_near(text_start: u64, entry: ResolvedUnwindInfo) -> bool
     requires { IsBehind text_start entry }
     ensures near { OnTrue result (IsNear text_start entry) }
-    ensures far { OnFalse result (¬ IsNear text_start entry) }
+    ensures far { OnFalse result (HasFarAddress text_start entry) }
 {
     if !reaches(text_start, entry.start) {
         return false;
@@ -59,10 +60,10 @@ fn is_near(text_start: u64, entry: ResolvedUnwindInfo) -> bool
 }
 
 /// Whether the addresses of all entries are told by offsets of 32 bits.
-pub(crate) fn are_near(text_start: u64, run: &[ResolvedUnwindInfo]) -> bool
+fn are_near(text_start: u64, run: &[ResolvedUnwindInfo]) -> bool
     requires { All (IsBehind text_start) run.now }
     ensures near { OnTrue result (All (IsNear text_start) run.now) }
-    ensures far { OnFalse result (¬ All (IsNear text_start) run.now) }
+    ensures far { OnFalse result ((e : ResolvedUnwindInfo) × Contains run.now e × HasFarAddress text_start e) }
 {
     for entry in run {
         if !is_near(text_start, *entry) {
@@ -70,6 +71,27 @@ pub(crate) fn are_near(text_start: u64, run: &[ResolvedUnwindInfo]) -> bool
         }
     }
     true
+}
+
+/// The offset behind the last function, where all offsets have 32 bits.
+pub(crate) fn end(text_start: u64, run: &[ResolvedUnwindInfo]) -> Result<u32, UnwindFault>
+    requires some { 0 < length run.now }
+    requires rising { AllPairs (λ e f. e.start < f.start) run.now }
+    requires behind { All (IsBehind text_start) run.now }
+    requires ends { All (λ e. e.start + e.length < 2 ^ 64) run.now }
+    ensures near { OnOk result (All (IsNear text_start) run.now) }
+    ensures done { IfOk result (λ end. All (λ e. IsLast run.now e → e.start + e.length ≡ text_start + end) run.now) }
+    ensures why { IfErr result (λ fault. (fault ≡ OffsetTooLarge) × HasFarOffset text_start run.now) }
+{
+    if !are_near(text_start, run) {
+        return Err(UnwindFault::OffsetTooLarge);
+    }
+    let last = run[run.len() - 1];
+    let end = last.start + last.length as u64 - text_start;
+    if end >= 0x1_0000_0000 {
+        return Err(UnwindFault::OffsetTooLarge);
+    }
+    Ok(end as u32)
 }
 
 /// The functions of entries.
@@ -116,6 +138,7 @@ pub(crate) fn slots(alloc: Global, text_start: u64, ids: &[u32], run: &[Resolved
     requires alike { All (λ e. All (AreAlike e) run.now) run.now }
     ensures length { IfOk result (λ slots. length slots.items ≡ length ids.now) }
     ensures done { IfOk result (λ slots. All (HasSlot text_start ids.now slots.items) run.now) }
+    ensures short { IfOk result (λ slots. All (λ slot. slot < 2 ^ 32) slots.items) }
 {
     let mut slots = vec![in alloc; 0u32; ids.len()]?;
     for entry in run {
