@@ -6,3 +6,6 @@ pub mod Naming
 pub mod Growing
 pub mod PagesMade
 pub mod Charging
+pub mod Told
+pub mod Gathered
+pub mod Planned

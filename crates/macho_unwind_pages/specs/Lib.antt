@@ -4,4 +4,5 @@ pub mod Ranks
 pub mod Bounds
 pub mod Plans
 pub mod Paging
+pub mod Planning
 pub mod Calls

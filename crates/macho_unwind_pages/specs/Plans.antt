@@ -154,10 +154,10 @@ pub record IsPlanOf (text : ℕ) (entries : List ResolvedUnwindInfo) (plan : Pla
 abbrev pub IsFar : ℕ → ℕ → Type 0
 IsFar text address = text + 2 ^ 32 ≤ address
 
+abbrev pub HasFarAddress : ℕ → ResolvedUnwindInfo → Type 0
+HasFarAddress text e =
+    IsFar text e.start ⊎ (IsSomeAnd e.personality (λ p. IsFar text p.slot) ⊎ IsSomeAnd e.lsda (λ address. IsFar text address))
+
 abbrev pub HasFarOffset : ℕ → List ResolvedUnwindInfo → Type 0
 HasFarOffset text entries =
-    (e : ResolvedUnwindInfo) × Contains entries e
-    × (IsFar text e.start
-    ⊎ (IsSomeAnd e.personality (λ p. IsFar text p.slot)
-    ⊎ (IsSomeAnd e.lsda (λ address. IsFar text address)
-    ⊎ (IsLast entries e × IsFar text (e.start + e.length)))))
+    (e : ResolvedUnwindInfo) × Contains entries e × (HasFarAddress text e ⊎ (IsLast entries e × IsFar text (e.start + e.length)))

@@ -4,6 +4,7 @@
 mod bound;
 mod entries;
 mod numbering;
+mod offsets;
 mod paging;
 mod planning;
 mod plans;

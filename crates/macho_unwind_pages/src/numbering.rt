@@ -1,7 +1,7 @@
 //! Personality functions are numbered from 1 by rising id; a code is an encoding with that number in bits 28 and 29.
 ghost use Rattle.std.specs.Prelude.{◌≡◌, ◌≤◌, nat_lt, length, map, IfOk, IfErr, OnOk};
 ghost use Rattle.macho_unwind_pages.specs.Orders.{put_in_order};
-ghost use Rattle.macho_unwind_pages.specs.Entries.{MOST_PERSONALITIES, inputs_of, ids_of, place_in, code_in};
+ghost use Rattle.macho_unwind_pages.specs.Entries.{MOST_PERSONALITIES, input_of, inputs_of, ids_of, place_in, code_in};
 ghost use Rattle.macho_unwind_pages.specs.Calls.{BoundFault};
 
 use crate::entries::{ResolvedUnwindInfo, UnwindFault, UnwindInput};
@@ -10,17 +10,24 @@ use std::alloc::{AllocError, Global};
 /// The most personality functions that a section has.
 const MOST_PERSONALITIES: usize = 3;
 
+/// An entry without its addresses.
+pub(crate) fn input(entry: ResolvedUnwindInfo) -> UnwindInput
+    ensures { result ≡ input_of entry }
+{
+    UnwindInput {
+        encoding: entry.encoding,
+        personality: entry.personality.map(|personality| personality.id),
+        lsda: entry.lsda.is_some(),
+    }
+}
+
 /// Entries without their addresses.
 pub(crate) fn inputs(alloc: Global, entries: &[ResolvedUnwindInfo]) -> Result<Vec<UnwindInput>, AllocError>
     ensures { IfOk result (λ inputs. inputs.items ≡ inputs_of entries.now) }
 {
     let mut inputs = Vec::new(alloc);
     for entry in entries {
-        inputs.push(UnwindInput {
-            encoding: entry.encoding,
-            personality: entry.personality.map(|personality| personality.id),
-            lsda: entry.lsda.is_some(),
-        })?;
+        inputs.push(input(*entry))?;
     }
     Ok(inputs)
 }
