@@ -1,13 +1,11 @@
 -- Rows, computed: the section of one function, byte by byte, what look-up finds in it and where it finds nothing; and the
 -- length and the page entries of a section of two pages.
-use Rattle.std.proofs.Common.{◌≡◌, ℕ, zero, suc, ◌+◌, ◌<◌, ◌≤◌, List, [], ◌∷◌, ◌++◌, length, replicate, Option, Some, None, sym, ap, ◌∙◌, refl, arith}
-use Rattle.std.specs.List.{flat_map}
+use Rattle.std.proofs.Common.{◌≡◌, ℕ, zero, suc, ◌<◌, ◌≤◌, List, [], ◌∷◌, length, replicate, None, refl, arith}
 use Rattle.macho_bytes.specs.Numbers.{le_at, le_bytes, row_bytes}
 use Rattle.macho_bytes.specs.Layouts.{reading, spelling}
-use Rattle.macho_unwind_pages.specs.declared.plans.Lsda.{Lsda}
 use Rattle.macho_unwind_pages.specs.Plans.{PlanList}
 use Rattle.macho_unwind.specs.declared.lookup.Found.{Found}
-use Rattle.macho_unwind.specs.Sections.{header_of, last_entry, entry_at, first_at, page_at, word_at, start_at, encoding_at, HasTables, IsWholePage}
+use Rattle.macho_unwind.specs.Sections.{last_entry, entry_at, first_at, page_at, word_at, start_at, encoding_at, HasTables, IsWholePage}
 use Rattle.macho_unwind.specs.Lookup.{IsGreatestUpTo, UnwindFinds}
 use Rattle.macho_unwind.specs.Texts.{page_text, section_text, page_place, lsda_place, last_place}
 
