@@ -3,7 +3,8 @@ use Rattle.std.specs.Prelude.{◌≡◌, ℕ, ◌+◌, ◌-◌, ◌^◌, ◌<◌
 use Rattle.macho_unwind_pages.specs.declared.entries.ResolvedUnwindInfo.{ResolvedUnwindInfo}
 use Rattle.macho_unwind_pages.specs.declared.entries.UnwindFault.{UnwindFault}
 use Rattle.macho_unwind_pages.specs.declared.entries.UnwindFault.TheVariants.{TooManyPersonalities, OffsetTooLarge, OutOfMemory}
-use Rattle.macho_unwind_pages.specs.Entries.{MOST_PERSONALITIES, inputs_of, ids_of, IsLast}
+use Rattle.macho_unwind_pages.specs.Entries.{MOST_PERSONALITIES, inputs_of, ids_of, IsLast, SpansAtMost}
+use Rattle.macho_unwind_pages.specs.Bounds.{unwind_bound_of}
 use Rattle.macho_unwind_pages.specs.Plans.{PlanList, IsPlanOf, HasFarOffset}
 use Rattle.macho_unwind_pages.specs.Calls.{HasTooMany}
 use Rattle.macho_unwind.specs.Lookup.{UnwindFinds}
@@ -41,6 +42,10 @@ pub record IsFoundFor (text : ℕ) (entries : List ResolvedUnwindInfo) (offset :
 -- look-up of an offset finds nothing else
 abbrev pub FindsOnlyEntries : ℕ → List ResolvedUnwindInfo → List ℕ → Type 0
 FindsOnlyEntries text entries bytes = (offset : ℕ) (x : Found) → UnwindFinds bytes offset x → IsFoundFor text entries offset x
+
+-- the bytes are at most as many as the bound for any span that is not below the greatest start less the least
+abbrev pub FitsTheBound : List ResolvedUnwindInfo → List ℕ → Type 0
+FitsTheBound entries bytes = (span : ℕ) → SpansAtMost span entries → length bytes ≤ unwind_bound_of (inputs_of entries) span
 
 -- The bytes are those of a plan of the entries, whose tables and pages have places of 32 bits.
 pub record IsSectionOf (text : ℕ) (entries : List ResolvedUnwindInfo) (bytes : List ℕ) : Type 0 where

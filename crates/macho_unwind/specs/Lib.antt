@@ -4,6 +4,5 @@ pub mod Lookup
 pub mod Parts
 pub mod Texts
 pub mod Says
-pub mod Readings
 pub mod Entries
 pub mod Conditions

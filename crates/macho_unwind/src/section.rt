@@ -1,9 +1,8 @@
 //! The section of entries.
 ghost use Rattle.std.specs.Prelude.{◌≡◌, ℕ, ◌<◌, ◌≤◌, [], length, IfOk, IfErr, OnOk};
-ghost use Rattle.macho_unwind_pages.specs.Entries.{MOST_PERSONALITIES, AreEntries, inputs_of, ids_of, SpansAtMost};
-ghost use Rattle.macho_unwind_pages.specs.Bounds.{unwind_bound_of};
+ghost use Rattle.macho_unwind_pages.specs.Entries.{MOST_PERSONALITIES, AreEntries, inputs_of, ids_of};
 ghost use Rattle.macho_unwind_pages.specs.Plans.{HasFarOffset};
-ghost use Rattle.macho_unwind.specs.Entries.{FindsEntries, FindsOnlyEntries, IsSectionOf, BuildFault};
+ghost use Rattle.macho_unwind.specs.Entries.{FindsEntries, FindsOnlyEntries, IsSectionOf, FitsTheBound, BuildFault};
 
 use crate::writing::section_bytes;
 use macho_unwind_pages::{ResolvedUnwindInfo, UnwindFault, plan};
@@ -24,7 +23,7 @@ pub fn build(
     ensures only { IfOk result (λ v. FindsOnlyEntries text_start entries.now v.items) }
     ensures done { IfOk result (λ v. 0 < length entries.now → IsSectionOf text_start entries.now v.items) }
     ensures empty { IfOk result (λ v. length entries.now ≡ 0 → v.items ≡ []) }
-    ensures room { IfOk result (λ v. (span : ℕ) → SpansAtMost span entries.now → length v.items ≤ unwind_bound_of (inputs_of entries.now) span) }
+    ensures room { IfOk result (λ v. FitsTheBound entries.now v.items) }
     ensures few { OnOk result (length (ids_of (inputs_of entries.now)) ≤ MOST_PERSONALITIES) }
     ensures near { OnOk result (HasFarOffset text_start entries.now → ⊥) }
     ensures why { IfErr result (BuildFault text_start entries.now) }
