@@ -123,13 +123,23 @@ fn plan_of_two_functions_far_apart(rt: HostRuntime) -> Result<(), Fail> {
         Ok(plan) => {
             assert!(rt; plan.globals.as_slice() == [0x2200_0000, 0x1200_0000].as_slice());
             assert!(rt; plan.personalities.as_slice() == [0x0200_0000, 0x0200_0008].as_slice());
-            assert!(rt; plan.lsdas.as_slice() == [Lsda { function: 0x0100_1000, lsda: 0x0180_0000 }].as_slice());
+            assert!(rt;
+                plan.lsdas.as_slice()
+                    == [Lsda {
+                        function: 0x0100_1000,
+                        lsda: 0x0180_0000
+                    }]
+                    .as_slice()
+            );
             assert!(rt; plan.pages.len() == 2 && plan.end == 0x0100_1020);
             let words = [0x0100_0000u32, 0];
             let firsts = [0x1000u32, 0x0100_1000];
             for (index, page) in plan.pages.iter().enumerate() {
                 if index < 2 {
-                    assert!(rt; page.first == firsts[index] && page.words.as_slice() == [words[index]].as_slice());
+                    assert!(rt;
+                        page.first == firsts[index]
+                            && page.words.as_slice() == [words[index]].as_slice()
+                    );
                 }
             }
         }
