@@ -34,20 +34,40 @@ one_more : (globals : List ℕ) (p : PageList) (row : Row) (more words own next 
     → HasFewLocals globals p → Reasons more words own next top
     → Reasons (suc more) (length p.words + words) (own_count globals p + own) p.first top
 one_more globals p row more words own next top (inl far) is rises few r = record {
-  span = r.span + 1; local = r.local; full = r.full; all = omega (arith, r.all); spans = omega (arith, r.spans); locals = omega (arith, r.locals);
+  span = r.span + 1;
+  local = r.local;
+  full = r.full;
+  all = omega (arith, r.all);
+  spans = omega (arith, r.spans);
+  locals = omega (arith, r.locals);
   fulls = omega (arith, r.fulls);
 }
 one_more globals p row more words own next top (inr (inl many)) is rises few r = record {
-  span = r.span; local = r.local + 1; full = r.full; all = omega (arith, r.all); spans = omega (arith, r.spans);
-  locals = omega (arith, r.locals, many.1, few); fulls = omega (arith, r.fulls);
+  span = r.span;
+  local = r.local + 1;
+  full = r.full;
+  all = omega (arith, r.all);
+  spans = omega (arith, r.spans);
+  locals = omega (arith, r.locals, many.1, few);
+  fulls = omega (arith, r.fulls);
 }
 one_more globals p row more words own next top (inr (inr (inl long))) is rises few r = record {
-  span = r.span; local = r.local; full = r.full + 1; all = omega (arith, r.all); spans = omega (arith, r.spans);
-  locals = omega (arith, r.locals); fulls = omega (arith, r.fulls, long.1, few);
+  span = r.span;
+  local = r.local;
+  full = r.full + 1;
+  all = omega (arith, r.all);
+  spans = omega (arith, r.spans);
+  locals = omega (arith, r.locals);
+  fulls = omega (arith, r.fulls, long.1, few);
 }
 one_more globals p row more words own next top (inr (inr (inr long))) is rises few r = record {
-  span = r.span; local = r.local; full = r.full + 1; all = omega (arith, r.all); spans = omega (arith, r.spans);
-  locals = omega (arith, r.locals); fulls = omega (arith, r.fulls, long, few);
+  span = r.span;
+  local = r.local;
+  full = r.full + 1;
+  all = omega (arith, r.all);
+  spans = omega (arith, r.spans);
+  locals = omega (arith, r.locals);
+  fulls = omega (arith, r.fulls, long, few);
 }
 
 -- the start of the first function
@@ -61,11 +81,17 @@ reasons : (globals : List ℕ) (p : PageList) (ps : List PageList) (top : ℕ) �
     → All (HasFewLocals globals) (p ∷ ps) → Order (p ∷ ps) → All (λ q. q.first ≤ top) (p ∷ ps)
     → Reasons (length ps) (sum_by word_count (p ∷ ps)) (sum_by (own_count globals) (p ∷ ps)) p.first top
 reasons globals p [] top closed pages few order below = record {
-  span = 0; local = 0; full = 0; all = refl; spans = omega (arith, below 0 p (omega arith)); locals = omega arith; fulls = omega arith;
+  span = 0;
+  local = 0;
+  full = 0;
+  all = refl;
+  spans = omega (arith, below 0 p (omega arith));
+  locals = omega arith;
+  fulls = omega arith;
 }
 reasons globals p (q ∷ ps) top closed pages few order below =
     let rest = reasons globals q ps top (λ k d h. closed_tail k d h) (λ k d h. pages (suc k) d (omega arith)) (λ k d h. few (suc k) d (omega arith))
-        (λ i j d low h. order (suc i) (suc j) d (omega arith) (omega arith)) (λ k d h. below (suc k) d (omega arith)) in
+    (λ i j d low h. order (suc i) (suc j) d (omega arith) (omega arith)) (λ k d h. below (suc k) d (omega arith)) in
     let page : IsPage globals p = pages 0 p (omega arith) in
     let first = first_start globals q (pages 1 p (omega arith)) in
     let rises : p.first + slice_index p.words 0 % PAGE_SPAN < q.first = order 0 1 p (omega arith) (omega arith) 0 0 page.some in
@@ -95,15 +121,15 @@ pub own_are : (globals : List ℕ) (pages : List PageList)
 own_are globals [] = refl
 own_are globals (p ∷ ps) =
     ap (locals_in globals) (map-append (λ (row : Row). row.code) (page_rows globals p) (flat_map (page_rows globals) ps))
-        ∙ sum_by-append (λ code. cond (not (list_any (λ global. code == global) globals)) 1 0) (map (λ (row : Row). row.code) (page_rows globals p))
-        (map (λ (row : Row). row.code) (flat_map (page_rows globals) ps))
-        ∙ ap (λ n. own_count globals p + n) (own_are globals ps) ∙ sym (sum_by-cons (own_count globals) p ps)
+    ∙ sum_by-append (λ code. cond (not (list_any (λ global. code == global) globals)) 1 0) (map (λ (row : Row). row.code) (page_rows globals p))
+    (map (λ (row : Row). row.code) (flat_map (page_rows globals) ps))
+    ∙ ap (λ n. own_count globals p + n) (own_are globals ps) ∙ sym (sum_by-cons (own_count globals) p ps)
 
 -- the law of pages
 pub pages_are_few : (globals : List ℕ) (rows : List Row) (pages : List PageList) (least span : ℕ) → ArePages globals rows pages
     → All (λ p. least ≤ p.first) pages → All (λ p. p.first ≤ least + span) pages
     → length pages ≤ 1 + span / 16777216 + locals_in globals (map (λ row. row.code) rows) / 32
-        + (length rows + locals_in globals (map (λ row. row.code) rows)) / 1020
+    + (length rows + locals_in globals (map (λ row. row.code) rows)) / 1020
 pages_are_few globals rows [] least span is above below = omega arith
 pages_are_few globals rows (p ∷ ps) least span is above below =
     let r = reasons globals p ps (least + span) is.closed is.each is.few is.order below in

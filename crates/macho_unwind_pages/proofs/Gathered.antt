@@ -47,8 +47,8 @@ place_at (y ∷ ys) x rises there =
           let same : x ≡ y = eqb-true x y e in
           let first : place_in (y ∷ ys) x ≡ 0
           = sum_by-cons (λ other. cond (nat_lt other x) 1 0) y ys
-              ∙ ap (λ (b : Bool). cond b 1 0 + place_in ys x) (le-ltb y x (omega arith))
-              ∙ (let none = none_lesser x ys (subst (λ (w : ℕ). Above nat_lt w ys) (sym same) rises.0) in omega arith) in
+          ∙ ap (λ (b : Bool). cond b 1 0 + place_in ys x) (le-ltb y x (omega arith))
+          ∙ (let none = none_lesser x ys (subst (λ (w : ℕ). Above nat_lt w ys) (sym same) rises.0) in omega arith) in
           (omega (arith, first), ap (slice_index (y ∷ ys)) first ∙ sym same)
       | inr n ↦
           let rest : has x ys ≡ true = rw n at there in
@@ -56,7 +56,7 @@ place_at (y ∷ ys) x rises there =
           let behind = place_at ys x rises.1 rest in
           let next : place_in (y ∷ ys) x ≡ suc (place_in ys x)
           = sum_by-cons (λ other. cond (nat_lt other x) 1 0) y ys
-              ∙ ap (λ (b : Bool). cond b 1 0 + place_in ys x) (lt-ltb y x low) ∙ omega arith in
+          ∙ ap (λ (b : Bool). cond b 1 0 + place_in ys x) (lt-ltb y x low) ∙ omega arith in
           (omega (arith, next, behind.0), ap (slice_index (y ∷ ys)) next ∙ behind.1)
     ]
 

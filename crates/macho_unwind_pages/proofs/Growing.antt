@@ -102,15 +102,15 @@ pub rows_more : (globals : List ℕ) (old new : PageList) (row : Row) → old.fi
     → Adds globals old new row → page_rows globals new ≡ page_rows globals old ++ row ∷ []
 rows_more globals old new row behind page a =
     ap (map (row_of globals new)) a.words ∙ map_push (row_of globals new) old.words a.word
-        ∙ ap (λ l. l ++ row_of globals new a.word ∷ []) (map_same (row_of globals new) (row_of globals old) old.words (old_rows globals old new row page a))
-        ∙ ap (λ r. page_rows globals old ++ r ∷ []) (new_row globals old new row behind a)
+    ∙ ap (λ l. l ++ row_of globals new a.word ∷ []) (map_same (row_of globals new) (row_of globals old) old.words (old_rows globals old new row page a))
+    ∙ ap (λ r. page_rows globals old ++ r ∷ []) (new_row globals old new row behind a)
 
 -- the first function stays
 pub first_kept : (globals : List ℕ) (old new : PageList) (row : Row) → 0 < length old.words → IsOpenPage globals old → Adds globals old new row
     → first_row globals new ≡ first_row globals old
 first_kept globals old new row some page a =
     ap (λ l. row_of globals new (slice_index l 0)) a.words
-        ∙ ap (row_of globals new) (get_or_append_left old.words (a.word ∷ []) 0 0 some) ∙ old_rows globals old new row page a 0 some
+    ∙ ap (row_of globals new) (get_or_append_left old.words (a.word ∷ []) 0 0 some) ∙ old_rows globals old new row page a 0 some
 
 pub first_new : (globals : List ℕ) (first : ℕ) (new : PageList) (row : Row) → first ≤ row.start → Adds globals (empty_page first) new row
     → first_row globals new ≡ row

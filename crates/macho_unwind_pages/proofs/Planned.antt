@@ -115,8 +115,8 @@ lsda_length : (text : ℕ) (run : List ResolvedUnwindInfo) → length (flat_map 
 lsda_length text [] = refl
 lsda_length text (e ∷ run) =
     length-append (lsda_from text e) (flat_map (lsda_from text) run)
-        ∙ ap (λ (n : ℕ). length (lsda_from text e) + n) (lsda_length text run)
-        ∙ ap (λ (n : ℕ). n + count_by (λ e. is_some e.lsda) run) (one e.lsda) ∙ sym (sum_by-cons (λ (f : ResolvedUnwindInfo). cond (is_some f.lsda) 1 0) e run)
+    ∙ ap (λ (n : ℕ). length (lsda_from text e) + n) (lsda_length text run)
+    ∙ ap (λ (n : ℕ). n + count_by (λ e. is_some e.lsda) run) (one e.lsda) ∙ sym (sum_by-cons (λ (f : ResolvedUnwindInfo). cond (is_some f.lsda) 1 0) e run)
   where
     one : (o : Option ℕ) → length (lsda_at text e.start o) ≡ cond (is_some o) 1 0
     one None = refl
@@ -126,8 +126,8 @@ lsda_inputs : (entries : List ResolvedUnwindInfo) → count_by (λ e. e.lsda) (i
 lsda_inputs [] = refl
 lsda_inputs (e ∷ entries) =
     sum_by-cons (λ (i : UnwindInput). cond i.lsda 1 0) (input_of e) (inputs_of entries)
-        ∙ ap (λ (n : ℕ). cond (is_some e.lsda) 1 0 + n) (lsda_inputs entries)
-        ∙ sym (sum_by-cons (λ (f : ResolvedUnwindInfo). cond (is_some f.lsda) 1 0) e entries)
+    ∙ ap (λ (n : ℕ). cond (is_some e.lsda) 1 0 + n) (lsda_inputs entries)
+    ∙ sym (sum_by-cons (λ (f : ResolvedUnwindInfo). cond (is_some f.lsda) 1 0) e entries)
 
 -- what holds of all functions holds of the first ones of pages
 first_rows : (P : Row → Type 0) (globals : List ℕ) (pages : List PageList) → All (IsPage globals) pages → All P (flat_map (page_rows globals) pages)
@@ -239,17 +239,23 @@ few_pages text entries run plan are is moved span spans =
     let first : ResolvedUnwindInfo = get_or run 0 none in
     let over_run : All (λ e. All (λ f. f.start ≤ e.start + span) run) run
     = All-permutation (λ e. All (λ f. f.start ≤ e.start + span) run) entries run moved
-        (λ k d h. All-permutation (λ f. f.start ≤ (get_or entries k d).start + span) entries run moved (spans k d h)) in
+    (λ k d h. All-permutation (λ f. f.start ≤ (get_or entries k d).start + span) entries run moved (spans k d h)) in
     let above : All (λ r. (get_or run 0 none).start - text ≤ r.start) rows
     = All-map (λ r. (get_or run 0 none).start - text ≤ r.start) (row_from text ids) run (λ k d h. least_first k d h) in
     let below : All (λ r. r.start ≤ (get_or run 0 none).start - text + span) rows
     = All-map (λ r. r.start ≤ (get_or run 0 none).start - text + span) (row_from text ids) run
-        (λ k d h. omega (arith, over_run 0 none are.some k d h, (are.behind k d h).start, (are.behind 0 none are.some).start)) in
+    (λ k d h. omega (arith, over_run 0 none are.some k d h, (are.behind k d h).start, (are.behind 0 none are.some).start)) in
     let law = pages_are_few plan.globals rows plan.pages ((get_or run 0 none).start - text) span is.pages
-        (λ k d h. omega (arith, first_start plan.globals (get_or plan.pages k d) (is.pages.each k d h),
-        first_rows (λ r. (get_or run 0 none).start - text ≤ r.start) plan.globals plan.pages is.pages.each (subst (All (λ r. (get_or run 0 none).start - text ≤ r.start)) (sym is.pages.rows) above) k d h))
-        (λ k d h. omega (arith, first_start plan.globals (get_or plan.pages k d) (is.pages.each k d h),
-        first_rows (λ r. r.start ≤ (get_or run 0 none).start - text + span) plan.globals plan.pages is.pages.each (subst (All (λ r. r.start ≤ (get_or run 0 none).start - text + span)) (sym is.pages.rows) below) k d h)) in
+    (λ k d h. omega (
+      arith,
+      first_start plan.globals (get_or plan.pages k d) (is.pages.each k d h),
+      first_rows (λ r. (get_or run 0 none).start - text ≤ r.start) plan.globals plan.pages is.pages.each (subst (All (λ r. (get_or run 0 none).start - text ≤ r.start)) (sym is.pages.rows) above) k d h,
+    ))
+    (λ k d h. omega (
+      arith,
+      first_start plan.globals (get_or plan.pages k d) (is.pages.each k d h),
+      first_rows (λ r. r.start ≤ (get_or run 0 none).start - text + span) plan.globals plan.pages is.pages.each (subst (All (λ r. r.start ≤ (get_or run 0 none).start - text + span)) (sym is.pages.rows) below) k d h,
+    )) in
     omega (
       arith,
       law,

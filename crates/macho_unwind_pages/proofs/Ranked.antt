@@ -84,8 +84,8 @@ counts_more codes i code n was now within is before count updates q =
       | inr differ ↦
           let more : times (take (i + 1) codes) q ≡ times (take i codes) q
           = times-more codes i q within
-              ∙ ap (λ b. times (take i codes) q + cond b 1 0) (ne_eqb q (slice_index codes i) (λ e. differ (is ∙ sym e)))
-              ∙ omega arith in
+          ∙ ap (λ b. times (take i codes) q + cond b 1 0) (ne_eqb q (slice_index codes i) (λ e. differ (is ∙ sym e)))
+          ∙ omega arith in
           updates q ∙ rw (ne_eqb code q differ, more) (before q)
     ]
 
@@ -212,9 +212,10 @@ pub among_first : (keys : List ℕ) (code rank n : ℕ) → position (λ other. 
 among_first keys code rank n is low =
     let at = position-Some (λ other. code == other) keys rank 0 is in
     let within : rank < length (take n keys) = omega (arith, at.0, length-take n keys) in
-    let same : get_or (take n keys) rank 0 ≡ get_or keys rank 0 = get_or-take n keys rank 0 low in
-    ((within, same ∙ sym (eqb-true code (get_or keys rank 0) at.1)),
-    list_any_at (λ other. code == other) (take n keys) rank 0 within (ap (λ other. code == other) same ∙ at.1))
+    let same : get_or (take n keys) rank 0 ≡ get_or keys rank 0 = get_or-take n keys rank 0 low in (
+      (within, same ∙ sym (eqb-true code (get_or keys rank 0) at.1)),
+      list_any_at (λ other. code == other) (take n keys) rank 0 within (ap (λ other. code == other) same ∙ at.1),
+    )
 
 pub behind_first : (keys : List ℕ) (code rank n : ℕ) → position (λ other. code == other) keys ≡ Some rank → n ≤ rank
     → list_any (λ other. code == other) (take n keys) ≡ false

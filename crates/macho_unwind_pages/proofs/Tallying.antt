@@ -26,8 +26,8 @@ tallied entries ids codes ranks local globals personalities lsdas ids_is codes_i
     let front : take MOST_GLOBALS ranks ≡ globals_of (codes_of entries) = ap (take MOST_GLOBALS) (ranks_is ∙ ap ranked all) in
     let count : globals ≡ length (take MOST_GLOBALS ranks) = omega (arith, length-take MOST_GLOBALS ranks) in
     let first : (let t : Tallies = record { entries = length entries; local = local; globals = globals; personalities = personalities; lsdas = lsdas } in t)
-        ≡ tallies_from entries ids codes (take MOST_GLOBALS ranks)
+    ≡ tallies_from entries ids codes (take MOST_GLOBALS ranks)
     = rw (local_is, count, personalities_is, lsdas_is) refl in
     first ∙ ap (λ is. tallies_from entries is codes (take MOST_GLOBALS ranks)) ids_is
-        ∙ ap (λ cs. tallies_from entries (ids_of entries) cs (take MOST_GLOBALS ranks)) all
-        ∙ ap (tallies_from entries (ids_of entries) (codes_of entries)) front
+    ∙ ap (λ cs. tallies_from entries (ids_of entries) cs (take MOST_GLOBALS ranks)) all
+    ∙ ap (tallies_from entries (ids_of entries) (codes_of entries)) front

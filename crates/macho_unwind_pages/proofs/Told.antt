@@ -134,9 +134,10 @@ slots_passed text ids slots run i d within is all =
 pub code_at : (entries : List (ℕ × ℕ)) (i code times : ℕ) → Some (code, times) ≡ slice_get entries i
     → (i < length (map (λ e. e.0) entries)) × (code ≡ slice_index (map (λ e. e.0) entries) i)
 code_at entries i code times is =
-    let within : i < length entries = slice_get_within entries i (code, times) (sym is) in
-    (omega (arith, length-map entries (λ (e : ℕ × ℕ). e.0)),
-    sym (get_or-map (λ (e : ℕ × ℕ). e.0) entries i (0, 0) 0 within ∙ ap (λ (e : ℕ × ℕ). e.0) (get_or_from_slice_get entries i (code, times) (0, 0) (sym is))))
+    let within : i < length entries = slice_get_within entries i (code, times) (sym is) in (
+      omega (arith, length-map entries (λ (e : ℕ × ℕ). e.0)),
+      sym (get_or-map (λ (e : ℕ × ℕ). e.0) entries i (0, 0) 0 within ∙ ap (λ (e : ℕ × ℕ). e.0) (get_or_from_slice_get entries i (code, times) (0, 0) (sym is))),
+    )
 
 -- as many of a list as there are, up to a number
 pub first_ones : (xs taken : List ℕ) (i n : ℕ) → i ≡ min (length xs) n → taken ≡ take i xs → taken ≡ take n xs

@@ -79,7 +79,11 @@ fn bytes(tallies: Tallies, span: u64) -> Option<u64>
 }
 
 /// The most bytes that the unwind section of entries has, for any starts that are at most `span` apart. None: it is 2^64 or more.
-pub fn unwind_bound(alloc: Global, entries: &[UnwindInput], span: u64) -> Result<Option<u64>, UnwindFault>
+pub fn unwind_bound(
+    alloc: Global,
+    entries: &[UnwindInput],
+    span: u64,
+) -> Result<Option<u64>, UnwindFault>
     ensures done { IfOk result (TellsBound entries.now span) }
     ensures few { OnOk result (length (ids_of entries.now) ≤ MOST_PERSONALITIES) }
     ensures why { IfErr result (BoundFault entries.now) }

@@ -22,7 +22,10 @@ pub(crate) fn input(entry: ResolvedUnwindInfo) -> UnwindInput
 }
 
 /// Entries without their addresses.
-pub(crate) fn inputs(alloc: Global, entries: &[ResolvedUnwindInfo]) -> Result<Vec<UnwindInput>, AllocError>
+pub(crate) fn inputs(
+    alloc: Global,
+    entries: &[ResolvedUnwindInfo],
+) -> Result<Vec<UnwindInput>, AllocError>
     ensures { IfOk result (λ inputs. inputs.items ≡ inputs_of entries.now) }
 {
     let mut inputs = Vec::new(alloc);
@@ -47,7 +50,10 @@ fn put_id(ids: &mut Vec<u32>, id: u32) -> Result<(), AllocError>
 }
 
 /// The ids of the personality functions, rising, each once.
-pub(crate) fn personality_ids(alloc: Global, entries: &[UnwindInput]) -> Result<Vec<u32>, UnwindFault>
+pub(crate) fn personality_ids(
+    alloc: Global,
+    entries: &[UnwindInput],
+) -> Result<Vec<u32>, UnwindFault>
     ensures done { IfOk result (λ ids. ids.items ≡ ids_of entries.now) }
     ensures few { OnOk result (length (ids_of entries.now) ≤ MOST_PERSONALITIES) }
     ensures why { IfErr result (BoundFault entries.now) }
@@ -91,7 +97,11 @@ pub(crate) fn code(ids: &[u32], entry: UnwindInput) -> u64
 }
 
 /// The code of each entry.
-pub(crate) fn codes(alloc: Global, ids: &[u32], entries: &[UnwindInput]) -> Result<Vec<u64>, AllocError>
+pub(crate) fn codes(
+    alloc: Global,
+    ids: &[u32],
+    entries: &[UnwindInput],
+) -> Result<Vec<u64>, AllocError>
     requires { length ids.now ≤ MOST_PERSONALITIES }
     ensures { IfOk result (λ codes. codes.items ≡ map (code_in ids.now) entries.now) }
 {

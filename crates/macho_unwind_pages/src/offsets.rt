@@ -18,15 +18,20 @@ use indexmap::IndexMap;
 use std::alloc::{AllocError, Global};
 
 /// Entries by rising start.
-pub(crate) fn by_start(alloc: Global, entries: &[ResolvedUnwindInfo]) -> Result<Vec<ResolvedUnwindInfo>, AllocError>
+pub(crate) fn by_start(
+    alloc: Global,
+    entries: &[ResolvedUnwindInfo],
+) -> Result<Vec<ResolvedUnwindInfo>, AllocError>
     requires { AllPairs (λ e f. e.start ≢ f.start) entries.now }
     ensures same { IfOk result (λ run. IsPermutation entries.now run.items) }
     ensures rising { IfOk result (λ run. AllPairs (λ e f. e.start < f.start) run.items) }
 {
     let mut run = Vec::from_slice(alloc, entries)?;
-    run.sort_by_key(|entry: &ResolvedUnwindInfo| -> u64
-        ensures { result ≡ entry.now.start }
-    { entry.start })?;
+    run.sort_by_key(
+        |entry: &ResolvedUnwindInfo| -> u64
+            ensures { result ≡ entry.now.start }
+        { entry.start },
+    )?;
     Ok(run)
 }
 
@@ -95,7 +100,12 @@ pub(crate) fn end(text_start: u64, run: &[ResolvedUnwindInfo]) -> Result<u32, Un
 }
 
 /// The functions of entries.
-pub(crate) fn rows(alloc: Global, text_start: u64, ids: &[u32], run: &[ResolvedUnwindInfo]) -> Result<Vec<Row>, AllocError>
+pub(crate) fn rows(
+    alloc: Global,
+    text_start: u64,
+    ids: &[u32],
+    run: &[ResolvedUnwindInfo],
+) -> Result<Vec<Row>, AllocError>
     requires few { length ids.now ≤ MOST_PERSONALITIES }
     requires behind { All (IsBehind text_start) run.now }
     requires near { All (IsNear text_start) run.now }
@@ -113,7 +123,11 @@ pub(crate) fn rows(alloc: Global, text_start: u64, ids: &[u32], run: &[ResolvedU
 }
 
 /// The language-specific data of entries.
-pub(crate) fn lsdas(alloc: Global, text_start: u64, run: &[ResolvedUnwindInfo]) -> Result<Vec<Lsda>, AllocError>
+pub(crate) fn lsdas(
+    alloc: Global,
+    text_start: u64,
+    run: &[ResolvedUnwindInfo],
+) -> Result<Vec<Lsda>, AllocError>
     requires behind { All (IsBehind text_start) run.now }
     requires near { All (IsNear text_start) run.now }
     ensures { IfOk result (λ lsdas. lsdas.items ≡ flat_map (lsda_from text_start) run.now) }
@@ -131,7 +145,12 @@ pub(crate) fn lsdas(alloc: Global, text_start: u64, run: &[ResolvedUnwindInfo]) 
 }
 
 /// The slots of personality functions, by their numbers.
-pub(crate) fn slots(alloc: Global, text_start: u64, ids: &[u32], run: &[ResolvedUnwindInfo]) -> Result<Vec<u32>, AllocError>
+pub(crate) fn slots(
+    alloc: Global,
+    text_start: u64,
+    ids: &[u32],
+    run: &[ResolvedUnwindInfo],
+) -> Result<Vec<u32>, AllocError>
     requires behind { All (IsBehind text_start) run.now }
     requires near { All (IsNear text_start) run.now }
     requires numbered { All (IsNumbered ids.now) run.now }

@@ -130,7 +130,11 @@ fn begun(alloc: Global, ranks: &IndexMap<u64, u64>, row: Row) -> Result<Page, Al
 }
 
 /// The pages of functions in order of their starts, one or more.
-pub(crate) fn paged(alloc: Global, ranks: &IndexMap<u64, u64>, rows: &[Row]) -> Result<Vec<Page>, AllocError>
+pub(crate) fn paged(
+    alloc: Global,
+    ranks: &IndexMap<u64, u64>,
+    rows: &[Row],
+) -> Result<Vec<Page>, AllocError>
     requires some { 0 < length rows.now }
     requires rising { AllPairs (λ r s. r.start < s.start) rows.now }
     requires ranked { All (λ r. list_any (λ other. r.code == other) (keys ranks.now) ≡ true) rows.now }

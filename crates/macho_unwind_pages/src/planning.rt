@@ -43,7 +43,11 @@ fn assembled(
 
 /// The plan of one entry or more: what the section says of them. It is refused where they name more than three
 /// personality functions, and else where an offset from the start of the text doesn't fit 32 bits.
-pub fn plan(alloc: Global, text_start: u64, entries: &[ResolvedUnwindInfo]) -> Result<Plan, UnwindFault>
+pub fn plan(
+    alloc: Global,
+    text_start: u64,
+    entries: &[ResolvedUnwindInfo],
+) -> Result<Plan, UnwindFault>
     requires some { 0 < length entries.now }
     requires entries { AreEntries text_start entries.now }
     ensures done { IfOk result (λ p. IsPlanOf text_start entries.now (plan_list p)) }
@@ -56,6 +60,13 @@ pub fn plan(alloc: Global, text_start: u64, entries: &[ResolvedUnwindInfo]) -> R
     let run = by_start(alloc, entries)?;
     let end = end(text_start, run.as_slice())?;
     let codes = codes(alloc, ids.as_slice(), inputs.as_slice())?;
-    let plan = assembled(alloc, text_start, ids.as_slice(), codes.as_slice(), run.as_slice(), end)?;
+    let plan = assembled(
+        alloc,
+        text_start,
+        ids.as_slice(),
+        codes.as_slice(),
+        run.as_slice(),
+        end,
+    )?;
     Ok(plan)
 }

@@ -11,12 +11,12 @@ returns-in_ok-insert c =
       | then-loop-place-test+else-index-id w ↦ elim c.then-place-len.branch [
         | then-place-len-via-then-place-len v ↦ λ h. absurd (omega (arith, w.loop-place-test.true, v.if-place-len.true, c.len-2.ensures, c.len.ensures))
         | then-place-len-via-else-place-len+then-index-id-2 v ↦ λ h. omega (
-            arith,
-            get_or_read c.args.ids.now.items _ _ h w.index.ensures 0,
-            get_or_read c.args.ids.now.items _ _ h v.index-else-place-len.ensures 0,
-            w.if-index-id.false,
-            v.if-index-id-2.true,
-          )
+          arith,
+          get_or_read c.args.ids.now.items _ _ h w.index.ensures 0,
+          get_or_read c.args.ids.now.items _ _ h v.index-else-place-len.ensures 0,
+          w.if-index-id.false,
+          v.if-index-id-2.true,
+        )
       ]
       | else-loop-place-test w ↦ λ h. absurd (omega (arith, w.loop-place-test.false, c.len.ensures))
     ] in

@@ -15,8 +15,8 @@ pub loop-index-preserved : goal.loop-index-preserved
 loop-index-preserved c =
     let at = code_at c.args.ranks.now.entries c.loop-index.index c.in-Some.code.now c.in-Some.field-0-1.now c.in-Some.ensures.entry in
     c.in_ok-push-in-Some.ensures.items ∙ ap (λ l. l ++ c.in-Some.code.now ∷ []) c.loop-index.invariant
-        ∙ ap (λ code. take c.loop-index.index (keys c.args.ranks.now) ++ code ∷ []) at.1
-        ∙ sym (take_more (keys c.args.ranks.now) c.loop-index.index 0 at.0)
+    ∙ ap (λ code. take c.loop-index.index (keys c.args.ranks.now) ++ code ∷ []) at.1
+    ∙ sym (take_more (keys c.args.ranks.now) c.loop-index.index 0 at.0)
 
 pub returns : goal.returns
 returns c =

@@ -51,11 +51,11 @@ assembled-requires c =
     let inputs = c.in_ok-inputs.inputs.items in
     let made : IsReady text ids codes run
     = ready text c.args.entries.now run inputs ids codes c.requires.some c.requires.entries c.in_ok-run.ensures.same c.in_ok-run.ensures.rising
-        (subst (All (IsNear text)) c.as_slice-2.ensures.value c.in_ok-end.ensures.near) c.in_ok-inputs.ensures
-        (c.in_ok-ids.ensures.done ∙ ap ids_of c.as_slice.ensures.value)
-        (subst (λ (l : List UnwindInput). length (ids_of l) ≤ 3) c.as_slice.ensures.value c.in_ok-ids.ensures.few)
-        (c.in_ok-codes.ensures ∙ ap (λ (l : List ℕ). map (code_in l) c.as_slice-4.result.now) c.as_slice-3.ensures.value
-        ∙ ap (map (code_in ids)) c.as_slice-4.ensures.value) in
+    (subst (All (IsNear text)) c.as_slice-2.ensures.value c.in_ok-end.ensures.near) c.in_ok-inputs.ensures
+    (c.in_ok-ids.ensures.done ∙ ap ids_of c.as_slice.ensures.value)
+    (subst (λ (l : List UnwindInput). length (ids_of l) ≤ 3) c.as_slice.ensures.value c.in_ok-ids.ensures.few)
+    (c.in_ok-codes.ensures ∙ ap (λ (l : List ℕ). map (code_in l) c.as_slice-4.result.now) c.as_slice-3.ensures.value
+    ∙ ap (map (code_in ids)) c.as_slice-4.ensures.value) in
     subst (λ (l : List ℕ). IsReady text l c.as_slice-6.result.now c.as_slice-7.result.now) (sym c.as_slice-5.ensures.value)
     (subst (λ (l : List ℕ). IsReady text ids l c.as_slice-7.result.now) (sym c.as_slice-6.ensures.value)
     (subst (λ (l : List ResolvedUnwindInfo). IsReady text ids codes l) (sym c.as_slice-7.ensures.value) made))
@@ -70,16 +70,16 @@ returns-clause-done c =
     let plan = plan_list c.in_ok-plan.plan in
     let made : IsReady text ids codes run
     = ready text c.args.entries.now run inputs ids codes c.requires.some c.requires.entries c.in_ok-run.ensures.same c.in_ok-run.ensures.rising
-        (subst (All (IsNear text)) c.as_slice-2.ensures.value c.in_ok-end.ensures.near) c.in_ok-inputs.ensures
-        (c.in_ok-ids.ensures.done ∙ ap ids_of c.as_slice.ensures.value)
-        (subst (λ (l : List UnwindInput). length (ids_of l) ≤ 3) c.as_slice.ensures.value c.in_ok-ids.ensures.few)
-        (c.in_ok-codes.ensures ∙ ap (λ (l : List ℕ). map (code_in l) c.as_slice-4.result.now) c.as_slice-3.ensures.value
-        ∙ ap (map (code_in ids)) c.as_slice-4.ensures.value) in
+    (subst (All (IsNear text)) c.as_slice-2.ensures.value c.in_ok-end.ensures.near) c.in_ok-inputs.ensures
+    (c.in_ok-ids.ensures.done ∙ ap ids_of c.as_slice.ensures.value)
+    (subst (λ (l : List UnwindInput). length (ids_of l) ≤ 3) c.as_slice.ensures.value c.in_ok-ids.ensures.few)
+    (c.in_ok-codes.ensures ∙ ap (λ (l : List ℕ). map (code_in l) c.as_slice-4.result.now) c.as_slice-3.ensures.value
+    ∙ ap (map (code_in ids)) c.as_slice-4.ensures.value) in
     let is : IsAssembled text ids codes run plan
     = subst (λ (l : List ResolvedUnwindInfo). IsAssembled text ids codes l plan) c.as_slice-7.ensures.value
-        (subst (λ (l : List ℕ). IsAssembled text ids l c.as_slice-7.result.now plan) c.as_slice-6.ensures.value
-        (subst (λ (l : List ℕ). IsAssembled text l c.as_slice-6.result.now c.as_slice-7.result.now plan) c.as_slice-5.ensures.value
-        c.in_ok-plan.ensures.done)) in
+    (subst (λ (l : List ℕ). IsAssembled text ids l c.as_slice-7.result.now plan) c.as_slice-6.ensures.value
+    (subst (λ (l : List ℕ). IsAssembled text l c.as_slice-6.result.now c.as_slice-7.result.now plan) c.as_slice-5.ensures.value
+    c.in_ok-plan.ensures.done)) in
     planned_from text c.args.entries.now run inputs ids codes plan c.in_ok-end.end made is c.in_ok-run.ensures.same c.in_ok-inputs.ensures
     (c.in_ok-ids.ensures.done ∙ ap ids_of c.as_slice.ensures.value)
     (c.in_ok-codes.ensures ∙ ap (λ (l : List ℕ). map (code_in l) c.as_slice-4.result.now) c.as_slice-3.ensures.value
