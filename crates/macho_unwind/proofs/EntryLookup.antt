@@ -1,0 +1,83 @@
+-- Look-up in the section of entries finds each offset's entry, and nothing else.
+--
+-- The plan says of an offset what its entry says, and the bytes say what the plan says. The other way round: where
+-- look-up finds something, some row starts at the offset or before it, so some entry does, and the greatest of these is the
+-- offset's entry; look-up finds it, and finds one thing at most.
+use Rattle.std.proofs.Common.{◌≡◌, ℕ, ◌+◌, ◌<◌, ◌≤◌, List, [], ◌∷◌, length, get_or, None, ap, ◌∙◌, arith}
+use Rattle.macho_bytes.specs.Texts.{Stands}
+use Rattle.macho_bytes.proofs.Puts.{stands_by_bytes}
+use Rattle.macho_unwind_pages.specs.declared.entries.ResolvedUnwindInfo.{ResolvedUnwindInfo}
+use Rattle.macho_unwind_pages.specs.Entries.{AreEntries, inputs_of, ids_of, named_ids}
+use Rattle.macho_unwind_pages.specs.declared.paging.Row.{Row}
+use Rattle.macho_unwind_pages.specs.Plans.{PlanList, IsPlanOf}
+use Rattle.macho_unwind.specs.Texts.{section_text}
+use Rattle.macho_unwind.specs.Entries.{found_for, IsEntryOf, FindsEntries, FindsOnlyEntries, IsSectionOf}
+use Rattle.macho_unwind.proofs.Uniqueness.{finds-unique}
+use Rattle.macho_unwind.proofs.Standing.{section-parts}
+use Rattle.macho_unwind.proofs.PlanLookup.{IsGiven, found-where-said, covered-where-found}
+use Rattle.macho_unwind.proofs.Greatest.{top-of}
+use Rattle.macho_unwind.proofs.EntryRows.{row-of-entry, entry-of-row, said-of-entry}
+use Rattle.macho_unwind.proofs.PlanRows.{row_there}
+use Rattle.std.proofs.lemmas.List.{get_or_default}
+use Rattle.macho_unwind_pages.specs.Orders.{in_order}
+
+-- a list stands at 0 of itself
+pub stands-whole : (bytes text : List ℕ) → bytes ≡ text → Stands bytes (record { at = 0; text = text })
+stands-whole bytes text is =
+    stands_by_bytes bytes (record { at = 0; text = text }) (omega (arith, ap (λ (t : List ℕ). length t) is))
+    (λ i h. ap (λ (k : ℕ). get_or bytes k 0) (omega arith) ∙ ap (λ (t : List ℕ). get_or t i 0) is)
+
+pub section-given : (text : ℕ) (entries : List ResolvedUnwindInfo) (bytes : List ℕ) (s : IsSectionOf text entries bytes) → IsGiven bytes s.plan
+section-given text entries bytes s = record {
+  formed = s.of_entries.formed;
+  places = s.places;
+  stands = section-parts bytes s.plan (stands-whole bytes (section_text s.plan) s.is);
+}
+
+pub finds-entries : (text : ℕ) (entries : List ResolvedUnwindInfo) (bytes : List ℕ) → AreEntries text entries → IsSectionOf text entries bytes
+    → FindsEntries text entries bytes
+finds-entries text entries bytes are s offset e of =
+    found-where-said bytes s.plan offset (found_for text e) (section-given text entries bytes s)
+    (said-of-entry text entries s.plan offset e are s.of_entries of)
+
+-- an entry that isn't there
+abbrev pub no_entry : ResolvedUnwindInfo
+no_entry = record { start = 0; length = 0; encoding = 0; personality = None; lsda = None }
+
+pub finds-only-entries : (text : ℕ) (entries : List ResolvedUnwindInfo) (bytes : List ℕ) → AreEntries text entries → IsSectionOf text entries bytes
+    → FindsOnlyEntries text entries bytes
+finds-only-entries text entries bytes are s offset x finds =
+    let covered = covered-where-found bytes s.plan offset x (section-given text entries bytes s) finds in
+    let m = entry-of-row text entries s.plan s.of_entries no_entry covered.row covered.one in
+    let start = ap (λ (r : Row). r.start) m.is in
+    let top = top-of (λ (e : ResolvedUnwindInfo). e.start) (text + offset) entries m.item m.one (omega (arith, start, covered.up_to)) in
+    let of : IsEntryOf text entries offset top.item = record {
+      one = top.one;
+      up_to = top.up_to;
+      greatest = top.greatest;
+      before_end = λ k d lt last. omega (arith, s.of_entries.end k d lt last, covered.before_end);
+    } in record {
+      entry = top.item;
+      of_offset = of;
+      is = finds-unique bytes offset x (found_for text top.item) finds (finds-entries text entries bytes are s offset top.item of);
+    }
+
+-- no bytes say anything
+pub nothing-finds : (text : ℕ) (entries : List ResolvedUnwindInfo) (bytes : List ℕ) → bytes ≡ [] → FindsOnlyEntries text entries bytes
+nothing-finds text entries bytes empty offset x finds = absurd (omega (arith, finds.tables.header, ap (λ (t : List ℕ). length t) empty))
+
+pub no-entry-of : (text : ℕ) (entries : List ResolvedUnwindInfo) (bytes : List ℕ) → length entries ≡ 0 → FindsEntries text entries bytes
+no-entry-of text entries bytes none offset e of = absurd (omega (arith, of.one.1))
+
+-- no entries name no personality
+pub no-ids : (entries : List ResolvedUnwindInfo) → length entries ≡ 0 → length (ids_of (inputs_of entries)) ≤ 3
+unfolding named_ids in_order
+no-ids [] none = omega arith
+no-ids (e ∷ entries) none = absurd (omega arith)
+
+-- a plan of an entry or more has a page or more
+pub some-page : (text : ℕ) (entries : List ResolvedUnwindInfo) (plan : PlanList) → IsPlanOf text entries plan → 0 < length entries → 0 < length plan.pages
+some-page text entries plan p some =
+    let e : ResolvedUnwindInfo = get_or entries 0 no_entry in
+    let row = row_there plan _ (row-of-entry text entries plan p e (0, some, get_or_default entries 0 e no_entry some)) in
+    omega (arith, row.one)

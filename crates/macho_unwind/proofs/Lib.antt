@@ -1,0 +1,17 @@
+pub mod Reading
+pub mod Uniqueness
+pub mod Counting
+pub mod Lengths
+pub mod Places
+pub mod Joining
+pub mod Members
+pub mod Standing
+pub mod Readback
+pub mod LsdaReadback
+pub mod PlanRows
+pub mod PlanLookup
+pub mod Greatest
+pub mod EntryRows
+pub mod EntryLookup
+pub mod Rows
+pub mod Fitness

@@ -1,0 +1,20 @@
+use Rattle.std.proofs.Common.{arith}
+use Rattle.macho_bytes.specs.Numbers.{little}
+use Rattle.macho_bytes.proofs.Numbers.{little_is_sound}
+use Rattle.macho_bytes.proofs.Writes.{row_begins, row_goes_on, row_ends, all_below}
+use Rattle.macho_unwind.proofs.bytes.put_u32s.Goals as goal
+
+pub loop-number-init : goal.loop-number-init
+loop-number-init c = (omega arith, row_begins little 4 c.args.at c.args.out.now (omega arith))
+
+pub loop-number-preserved : goal.loop-number-preserved
+loop-number-preserved c =
+    row_goes_on little little_is_sound 4 c.args.at c.loop-number.place c.loop-number.number-index c.args.numbers.now c.args.out.now
+    c.loop-number.out c.put_u32.new.out c.loop-number-test.true c.requires c.loop-number.invariant.0 c.loop-number.invariant.1 c.put_u32.ensures
+
+pub returns-clause-written : goal.returns-clause-written
+returns-clause-written c =
+    row_ends little 4 c.args.at c.loop-number.number-index c.args.numbers.now c.args.out.now c.loop-number.out c.loop-number-test.false c.loop-number.invariant.1
+
+pub returns-clause-fits : goal.returns-clause-fits
+returns-clause-fits c = all_below 4 c.args.numbers.now (λ i. omega (arith, c.type_inv.numbers i))

@@ -1,0 +1,8 @@
+use Rattle.std.proofs.Common.{sym, ap}
+use Rattle.macho_unwind.specs.Sections.{first_at}
+use Rattle.macho_unwind.specs.declared.records.PageEntry.{PageEntry}
+use Rattle.macho_unwind.proofs.lookup.find_page.Goals as goal
+
+pub loop-k-preserved : goal.loop-k-preserved
+loop-k-preserved c =
+    c.greater-best.ensures (first_at c.args.bytes.now) (sym (ap (λ (e : PageEntry). e.first_address) c.read_entry-entry.ensures)) c.loop-k.invariant

@@ -1,0 +1,7 @@
+use Rattle.macho_unwind.specs.Sections.{first_at}
+use Rattle.macho_unwind.specs.Parts.{IsBest}
+use Rattle.macho_unwind.proofs.lookup.find_page.Given as goal
+
+-- the best entry so far
+abbrev pub invariant-loop-k : goal.invariant-loop-k
+invariant-loop-k l = IsBest l.offset l.k (first_at l.bytes) l.best

@@ -1,0 +1,41 @@
+use Rattle.std.proofs.Common.{◌<◌, length, arith}
+use Rattle.std.proofs.lemmas.Bool.Decides.{nat_tests}
+use Rattle.std.proofs.lemmas.List.{length-map}
+use Rattle.macho_unwind_pages.specs.Plans.{plan_list, page_list}
+use Rattle.macho_unwind.proofs.EntryLookup.{finds-entries, finds-only-entries, no-ids, some-page}
+use Rattle.macho_unwind.proofs.section.build.Goals as goal
+
+pub returns-then-is_empty-clause-few : goal.returns-then-is_empty-clause-few
+returns-then-is_empty-clause-few c =
+    let test = c.is_empty.ensures in
+    let empty = c.if-is_empty.true in
+    no-ids c.args.entries.now (grind (arith, nat_tests))
+
+pub section_bytes-requires-clause-some : goal.section_bytes-requires-clause-some
+section_bytes-requires-clause-some c =
+    let test = c.is_empty.ensures in
+    let empty = c.if-is_empty.false in
+    let some : 0 < length c.args.entries.now = grind (arith, nat_tests) in
+    omega (
+      arith,
+      some-page c.args.text_start c.args.entries.now (plan_list c.in_ok-plan.plan) c.in_ok-plan.ensures.done some,
+      length-map c.in_ok-plan.plan.pages.items page_list,
+    )
+
+pub returns-clause-found : goal.returns-clause-found
+returns-clause-found c =
+    finds-entries c.args.text_start c.args.entries.now _ c.requires (record {
+      plan = plan_list c.in_ok-plan.plan;
+      of_entries = c.in_ok-plan.ensures.done;
+      places = c.in_ok-bytes.ensures.places;
+      is = c.in_ok-bytes.ensures.done;
+    })
+
+pub returns-clause-only : goal.returns-clause-only
+returns-clause-only c =
+    finds-only-entries c.args.text_start c.args.entries.now _ c.requires (record {
+      plan = plan_list c.in_ok-plan.plan;
+      of_entries = c.in_ok-plan.ensures.done;
+      places = c.in_ok-bytes.ensures.places;
+      is = c.in_ok-bytes.ensures.done;
+    })

@@ -1,0 +1,340 @@
+-- The parts of a plan are a plan of the entries.
+--
+-- The sorted run is a permutation of the entries, so all that is said of each entry or counted over all is the same of it: codes,
+-- those that not every page may name, and data. So the law of pages and bytes gives the bound of the entries. A page's first start
+-- is that of one of its functions, so it lies between the least start and the span above it.
+use Rattle.std.proofs.Common.{◌≡◌, ◌≢◌, ℕ, zero, suc, ◌+◌, ◌-◌, ◌*◌, ◌/◌, ◌%◌, ◌^◌, ◌<◌, ◌≤◌, ◌==◌, not, Bool, true, false, cond, if◌then◌else◌, Option, None, Some, IfSome, is_some, List, [], ◌∷◌, ◌++◌, length, map, take, get_or, slice_index, Contains, IsPermutation, refl, sym, ap, subst, ◌∙◌, arith, inl, inr, ◌⊎◌, length-append}
+use Rattle.std.specs.Prelude.{IsSomeAnd, Result, Ok, Err, IsErrAnd, IfErr}
+use Rattle.std.specs.List.{All, AllPairs, flat_map, sum_by, count_by, list_any}
+use Rattle.std.proofs.lemmas.Bool.{ne_eqb}
+use Rattle.std.proofs.lemmas.List.{get_or-map, length-map, length-take, get_or_append_left, get_or-append-add, get_or_default}
+use Rattle.std.proofs.lemmas.List.Elements.{All-map, All-append, All-take}
+use Rattle.std.proofs.lemmas.List.Sums.{sum_by-cons}
+use Rattle.std.proofs.lemmas.List.Sorted.{All-permutation, Contains-permutation, IsPermutation-sym, IsPermutation-map, length_permutation, sum_by-IsPermutation}
+use Rattle.std.proofs.lemmas.Simd.{map-map}
+use Rattle.macho_unwind_pages.specs.declared.entries.UnwindInput.{UnwindInput}
+use Rattle.macho_unwind_pages.specs.declared.entries.Personality.{Personality}
+use Rattle.macho_unwind_pages.specs.declared.entries.ResolvedUnwindInfo.{ResolvedUnwindInfo}
+use Rattle.macho_unwind_pages.specs.declared.plans.Lsda.{Lsda}
+use Rattle.macho_unwind_pages.specs.Entries.{AreEntries, IsLast, SpansAtMost, input_of, inputs_of, ids_of, code_in, codes_of, ranked}
+use Rattle.macho_unwind_pages.specs.Bounds.{globals_of, locals_in, tallies_of, most_pages, unwind_bound_of}
+use Rattle.macho_unwind_pages.specs.Plans.{PageList, PlanList, Row, IsPage, IsPlan, IsPlanOf, HasSlot, IsFar, HasFarAddress, HasFarOffset, row_of, page_rows, first_row, row_from, lsda_at, lsda_from, size_of, page_size}
+use Rattle.macho_unwind_pages.specs.Paging.{ArePages}
+use Rattle.macho_unwind_pages.specs.Planning.{IsNear, IsBehind, IsNumbered, HasShortCode, IsReady, IsAssembled}
+use Rattle.macho_unwind_pages.proofs.Charging.{first_start, pages_are_few, pages_are_short}
+use Rattle.macho_unwind_pages.proofs.Gathered.{none, numbered, short_codes, behind, alike, ranked_codes, short_ranks}
+
+-- what the parts are made from
+ready_of : (text : ℕ) (entries run : List ResolvedUnwindInfo) → 0 < length entries → AreEntries text entries → IsPermutation entries run
+    → AllPairs (λ e f. e.start < f.start) run → All (IsNear text) run → length (ids_of (inputs_of entries)) ≤ 3
+    → IsReady text (ids_of (inputs_of entries)) (codes_of (inputs_of entries)) run
+ready_of text entries run some are moved rising near few = record {
+  some = omega (arith, length_permutation entries run moved);
+  few = few;
+  rising = rising;
+  behind = All-permutation (IsBehind text) entries run moved (behind text entries are);
+  near = near;
+  numbered = All-permutation (IsNumbered (ids_of (inputs_of entries))) entries run moved (numbered entries);
+  alike = alike text entries run are moved;
+  short = All-permutation (HasShortCode (ids_of (inputs_of entries))) entries run moved short;
+  fit = All-map (λ code. code < 2 ^ 32) (code_in (ids_of (inputs_of entries))) (inputs_of entries)
+      (All-map (λ e. code_in (ids_of (inputs_of entries)) e < 2 ^ 32) input_of entries short);
+  ranked = All-permutation
+      (λ e. list_any (λ other. code_in (ids_of (inputs_of entries)) (input_of e) == other) (ranked (codes_of (inputs_of entries))) ≡ true)
+      entries run moved (ranked_codes entries);
+}
+  where
+    short : All (HasShortCode (ids_of (inputs_of entries))) entries
+    short = short_codes text entries are few
+        (All-permutation (λ e. e.encoding < 2 ^ 32) run entries (IsPermutation-sym entries run moved) (λ k d h. (near k d h).encoding))
+
+pub ready : (text : ℕ) (entries run : List ResolvedUnwindInfo) (inputs : List UnwindInput) (ids codes : List ℕ) → 0 < length entries
+    → AreEntries text entries → IsPermutation entries run → AllPairs (λ e f. e.start < f.start) run → All (IsNear text) run
+    → inputs ≡ inputs_of entries → ids ≡ ids_of inputs → length (ids_of inputs) ≤ 3 → codes ≡ map (code_in ids) inputs
+    → IsReady text ids codes run
+ready text entries run inputs ids codes some are moved rising near inputs_is ids_is few codes_is =
+    let ids_are : ids ≡ ids_of (inputs_of entries) = ids_is ∙ ap ids_of inputs_is in
+    let codes_are : codes ≡ codes_of (inputs_of entries)
+    = codes_is ∙ ap (λ is. map (code_in is) inputs) ids_is ∙ ap codes_of inputs_is in
+    let few_of : length (ids_of (inputs_of entries)) ≤ 3 = subst (λ (l : List UnwindInput). length (ids_of l) ≤ 3) inputs_is few in
+    subst (λ is. IsReady text is codes run) (sym ids_are)
+    (subst (λ cs. IsReady text (ids_of (inputs_of entries)) cs run) (sym codes_are) (ready_of text entries run some are moved rising near few_of))
+
+-- the data of a run
+pairs_cons : {X : Type 0} (R : X → X → Type 0) (y : X) (ys : List X) → All (R y) ys → AllPairs R ys → AllPairs R (y ∷ ys)
+pairs_cons R y ys first rest zero zero d low h = absurd (omega arith)
+pairs_cons R y ys first rest zero (suc j) d low h = first j d (omega arith)
+pairs_cons R y ys first rest (suc i) zero d low h = absurd (omega arith)
+pairs_cons R y ys first rest (suc i) (suc j) d low h = rest i j d (omega arith) (omega arith)
+
+lsda_bounds : (text : ℕ) (least : ℕ) (run : List ResolvedUnwindInfo) → text ≤ least → All (λ e. least < e.start) run
+    → All (λ l. least - text < l.function) (flat_map (lsda_from text) run)
+lsda_bounds text least [] above later = λ k d h. absurd (omega arith)
+lsda_bounds text least (e ∷ run) above later =
+    All-append (λ l. least - text < l.function) (lsda_from text e) (flat_map (lsda_from text) run) (one e.lsda)
+    (lsda_bounds text least run above (λ k d h. later (suc k) d (omega arith)))
+  where
+    one : (o : Option ℕ) → All (λ l. least - text < l.function) (lsda_at text e.start o)
+    one None = λ k d h. absurd (omega arith)
+    one (Some address) = λ k d h. first k d h
+      where
+        first : (k : ℕ) (d : Lsda) → k < 1 → least - text < (get_or (lsda_at text e.start (Some address)) k d).function
+        first zero d h = omega (arith, later 0 e (omega arith))
+        first (suc k) d h = absurd (omega arith)
+
+lsda_order : (text : ℕ) (run : List ResolvedUnwindInfo) → All (IsBehind text) run → AllPairs (λ e f. e.start < f.start) run
+    → AllPairs (λ l m. l.function < m.function) (flat_map (lsda_from text) run)
+lsda_order text [] above rising = λ i j d low h. absurd (omega arith)
+lsda_order text (e ∷ run) above rising =
+    go e.lsda (lsda_order text run (λ k d h. above (suc k) d (omega arith)) (λ i j d low h. rising (suc i) (suc j) d (omega arith) (omega arith)))
+  where
+    go : (o : Option ℕ) → AllPairs (λ l m. l.function < m.function) (flat_map (lsda_from text) run)
+        → AllPairs (λ l m. l.function < m.function) (lsda_at text e.start o ++ flat_map (lsda_from text) run)
+    go None rest = rest
+    go (Some address) rest =
+        pairs_cons (λ l m. l.function < m.function) (record { function = e.start - text; lsda = address - text }) (flat_map (lsda_from text) run)
+        (lsda_bounds text e.start run (above 0 e (omega arith)).start (λ k d h. rising 0 (suc k) d (omega arith) (omega arith))) rest
+
+lsda_short : (text : ℕ) (run : List ResolvedUnwindInfo) → All (IsNear text) run
+    → All (λ l. (l.function < 2 ^ 32) × (l.lsda < 2 ^ 32)) (flat_map (lsda_from text) run)
+lsda_short text [] near = λ k d h. absurd (omega arith)
+lsda_short text (e ∷ run) near =
+    All-append (λ l. (l.function < 2 ^ 32) × (l.lsda < 2 ^ 32)) (lsda_from text e) (flat_map (lsda_from text) run)
+    (one e.lsda (near 0 e (omega arith)).lsda) (lsda_short text run (λ k d h. near (suc k) d (omega arith)))
+  where
+    one : (o : Option ℕ) → IfSome o (λ address. address < text + 2 ^ 32) → All (λ l. (l.function < 2 ^ 32) × (l.lsda < 2 ^ 32)) (lsda_at text e.start o)
+    one None low = λ k d h. absurd (omega arith)
+    one (Some address) low = λ k d h. first k d h
+      where
+        first : (k : ℕ) (d : Lsda) → k < 1
+            → ((get_or (lsda_at text e.start (Some address)) k d).function < 2 ^ 32) × ((get_or (lsda_at text e.start (Some address)) k d).lsda < 2 ^ 32)
+        first zero d h = (omega (arith, (near 0 e (omega arith)).start), omega (arith, low))
+        first (suc k) d h = absurd (omega arith)
+
+lsda_length : (text : ℕ) (run : List ResolvedUnwindInfo) → length (flat_map (lsda_from text) run) ≡ count_by (λ e. is_some e.lsda) run
+lsda_length text [] = refl
+lsda_length text (e ∷ run) =
+    length-append (lsda_from text e) (flat_map (lsda_from text) run)
+    ∙ ap (λ (n : ℕ). length (lsda_from text e) + n) (lsda_length text run)
+    ∙ ap (λ (n : ℕ). n + count_by (λ e. is_some e.lsda) run) (one e.lsda) ∙ sym (sum_by-cons (λ (f : ResolvedUnwindInfo). cond (is_some f.lsda) 1 0) e run)
+  where
+    one : (o : Option ℕ) → length (lsda_at text e.start o) ≡ cond (is_some o) 1 0
+    one None = refl
+    one (Some address) = refl
+
+lsda_inputs : (entries : List ResolvedUnwindInfo) → count_by (λ e. e.lsda) (inputs_of entries) ≡ count_by (λ e. is_some e.lsda) entries
+lsda_inputs [] = refl
+lsda_inputs (e ∷ entries) =
+    sum_by-cons (λ (i : UnwindInput). cond i.lsda 1 0) (input_of e) (inputs_of entries)
+    ∙ ap (λ (n : ℕ). cond (is_some e.lsda) 1 0 + n) (lsda_inputs entries)
+    ∙ sym (sum_by-cons (λ (f : ResolvedUnwindInfo). cond (is_some f.lsda) 1 0) e entries)
+
+-- what holds of all functions holds of the first ones of pages
+first_rows : (P : Row → Type 0) (globals : List ℕ) (pages : List PageList) → All (IsPage globals) pages → All P (flat_map (page_rows globals) pages)
+    → (k : ℕ) (d : PageList) → k < length pages → P (first_row globals (get_or pages k d))
+first_rows P globals [] is all k d h = absurd (omega arith)
+first_rows P globals (p ∷ ps) is all zero d h =
+    let some : 0 < length (page_rows globals p) = omega (arith, (is 0 p (omega arith)).some, length-map p.words (row_of globals p)) in
+    let r : Row = record { start = 0; code = 0 } in
+    subst P (get_or_append_left (page_rows globals p) (flat_map (page_rows globals) ps) r 0 some
+    ∙ get_or-map (row_of globals p) p.words 0 0 r (is 0 p (omega arith)).some)
+    (all 0 r (omega (arith, length-append (page_rows globals p) (flat_map (page_rows globals) ps))))
+first_rows P globals (p ∷ ps) is all (suc k) d h =
+    first_rows P globals ps (λ j e w. is (suc j) e (omega arith))
+    (λ j e w. subst P (get_or-append-add (page_rows globals p) (flat_map (page_rows globals) ps) j e)
+    (all (length (page_rows globals p) + j) e (omega (arith, length-append (page_rows globals p) (flat_map (page_rows globals) ps)))))
+    k d (omega arith)
+
+-- the codes that not every page may name, over the run and over the entries
+own_of_run : (text : ℕ) (globals ids : List ℕ) (entries run : List ResolvedUnwindInfo) → IsPermutation entries run
+    → locals_in globals (map (λ row. row.code) (map (row_from text ids) run)) ≡ locals_in globals (map (code_in ids) (inputs_of entries))
+own_of_run text globals ids entries run moved =
+    let code : ResolvedUnwindInfo → ℕ = λ e. code_in ids (input_of e) in
+    ap (locals_in globals) (map-map (λ (row : Row). row.code) (row_from text ids) run)
+    ∙ sum_by-IsPermutation (λ (c : ℕ). cond (not (list_any (λ global. c == global) globals)) 1 0) (map (λ e. code_in ids (input_of e)) entries)
+    (map (λ e. code_in ids (input_of e)) run) (IsPermutation-map (λ e. code_in ids (input_of e)) entries run moved)
+    ∙ ap (locals_in globals) (sym (map-map (code_in ids) input_of entries))
+
+some_most : (entries : List UnwindInput) (span : ℕ) → 0 < length entries
+    → most_pages (tallies_of entries) span ≡ 1 + span / 16777216 + (tallies_of entries).local / 32
+    + ((tallies_of entries).entries + (tallies_of entries).local) / 1020
+some_most entries span some = rw (ne_eqb (length entries) 0 (λ e. absurd (omega arith))) refl
+
+-- the parts that the code makes
+pub assembled_of : (text : ℕ) (ids codes : List ℕ) (run : List ResolvedUnwindInfo) (rows : List Row) (ranks : List ℕ) (plan : PlanList)
+    → IsReady text ids codes run → ranks ≡ ranked codes → rows ≡ map (row_from text ids) run → ArePages (take 224 ranks) rows plan.pages
+    → plan.globals ≡ take 224 ranks → length plan.personalities ≡ length ids → All (HasSlot text ids plan.personalities) run
+    → plan.lsdas ≡ flat_map (lsda_from text) run → All (λ slot. slot < 2 ^ 32) plan.personalities → IsAssembled text ids codes run plan
+assembled_of text ids codes run rows ranks plan is ranks_are rows_are pages globals count slots lsdas short = record {
+  pages = subst (λ g. ArePages g (map (row_from text ids) run) plan.pages) (sym globals)
+      (subst (λ rs. ArePages (take 224 ranks) rs plan.pages) rows_are pages);
+  globals = globals ∙ ap (take 224) ranks_are;
+  count = count;
+  slots = slots;
+  lsdas = lsdas;
+  short_codes = subst (All (λ code. code < 2 ^ 32)) (sym (globals ∙ ap (take 224) ranks_are))
+      (All-take (λ code. code < 2 ^ 32) 224 (ranked codes) (short_ranks codes is.fit));
+  short_slots = short;
+}
+
+-- a run of near entries has no far offset, nor have the entries
+near_address : (text : ℕ) (e : ResolvedUnwindInfo) → IsNear text e → HasFarAddress text e → ⊥
+near_address text e near (inl far) = omega (arith, near.start)
+near_address text e near (inr (inl far)) = go e.personality near.slot far
+  where
+    go : (o : Option Personality) → IfSome o (λ p. p.slot < text + 2 ^ 32) → IsSomeAnd o (λ p. IsFar text p.slot) → ⊥
+    go None low high = high
+    go (Some p) low high = omega (arith, low, high)
+near_address text e near (inr (inr far)) = go e.lsda near.lsda far
+  where
+    go : (o : Option ℕ) → IfSome o (λ address. address < text + 2 ^ 32) → IsSomeAnd o (λ address. IsFar text address) → ⊥
+    go None low high = high
+    go (Some address) low high = omega (arith, low, high)
+
+pub not_far : (text : ℕ) (entries run : List ResolvedUnwindInfo) (end : ℕ) → IsPermutation entries run → All (IsNear text) run
+    → All (λ e. IsLast run e → e.start + e.length ≡ text + end) run → end < 2 ^ 32 → HasFarOffset text entries → ⊥
+not_far text entries run end moved near ends low far =
+    let there = Contains-permutation entries run far.0 moved far.1 in
+    let is_near : IsNear text far.0 = subst (IsNear text) there.2 (near there.0 far.0 there.1) in
+    go (subst (λ e. IsLast run e → e.start + e.length ≡ text + end) there.2 (ends there.0 far.0 there.1)) is_near far.2
+  where
+    go : (IsLast run far.0 → far.0.start + far.0.length ≡ text + end) → IsNear text far.0
+        → (HasFarAddress text far.0 ⊎ (IsLast entries far.0 × IsFar text (far.0.start + far.0.length))) → ⊥
+    go at is_near (inl address) = near_address text far.0 is_near address
+    go at is_near (inr last) =
+        let at_end = at (All-permutation (λ f. f.start ≤ far.0.start) entries run moved last.0) in
+        omega (arith, at_end, last.1, low)
+
+pub far_of_run : (text : ℕ) (entries run : List ResolvedUnwindInfo) → IsPermutation entries run → HasFarOffset text run → HasFarOffset text entries
+far_of_run text entries run moved far =
+    (far.0, Contains-permutation run entries far.0 (IsPermutation-sym entries run moved) far.1, go far.2)
+  where
+    go : (HasFarAddress text far.0 ⊎ (IsLast run far.0 × IsFar text (far.0.start + far.0.length)))
+        → (HasFarAddress text far.0 ⊎ (IsLast entries far.0 × IsFar text (far.0.start + far.0.length)))
+    go (inl address) = inl address
+    go (inr last) = inr (All-permutation (λ f. f.start ≤ far.0.start) run entries (IsPermutation-sym entries run moved) last.0, last.1)
+
+-- the plan
+is_plan : (text : ℕ) (ids codes : List ℕ) (run : List ResolvedUnwindInfo) (plan : PlanList) → IsReady text ids codes run
+    → IsAssembled text ids codes run plan → plan.end < 2 ^ 32 → IsPlan plan
+is_plan text ids codes run plan are is low = record {
+  pages = is.pages.each;
+  order = is.pages.order;
+  globals = omega (arith, ap length is.globals, length-take 224 (ranked codes));
+  personalities = omega (arith, is.count, are.few);
+  lsda_order = subst (AllPairs (λ l m. l.function < m.function)) (sym is.lsdas) (lsda_order text run are.behind are.rising);
+  codes = is.short_codes;
+  slots = is.short_slots;
+  lsdas = subst (All (λ l. (l.function < 2 ^ 32) × (l.lsda < 2 ^ 32))) (sym is.lsdas) (lsda_short text run are.near);
+  end = low;
+}
+
+few_pages : (text : ℕ) (entries run : List ResolvedUnwindInfo) (plan : PlanList)
+    → IsReady text (ids_of (inputs_of entries)) (codes_of (inputs_of entries)) run
+    → IsAssembled text (ids_of (inputs_of entries)) (codes_of (inputs_of entries)) run plan → IsPermutation entries run
+    → (span : ℕ) → SpansAtMost span entries → length plan.pages ≤ most_pages (tallies_of (inputs_of entries)) span
+few_pages text entries run plan are is moved span spans =
+    let ids = ids_of (inputs_of entries) in
+    let rows = map (row_from text ids) run in
+    let first : ResolvedUnwindInfo = get_or run 0 none in
+    let over_run : All (λ e. All (λ f. f.start ≤ e.start + span) run) run
+    = All-permutation (λ e. All (λ f. f.start ≤ e.start + span) run) entries run moved
+    (λ k d h. All-permutation (λ f. f.start ≤ (get_or entries k d).start + span) entries run moved (spans k d h)) in
+    let above : All (λ r. (get_or run 0 none).start - text ≤ r.start) rows
+    = All-map (λ r. (get_or run 0 none).start - text ≤ r.start) (row_from text ids) run (λ k d h. least_first k d h) in
+    let below : All (λ r. r.start ≤ (get_or run 0 none).start - text + span) rows
+    = All-map (λ r. r.start ≤ (get_or run 0 none).start - text + span) (row_from text ids) run
+    (λ k d h. omega (arith, over_run 0 none are.some k d h, (are.behind k d h).start, (are.behind 0 none are.some).start)) in
+    let law = pages_are_few plan.globals rows plan.pages ((get_or run 0 none).start - text) span is.pages
+    (λ k d h. omega (
+      arith,
+      first_start plan.globals (get_or plan.pages k d) (is.pages.each k d h),
+      first_rows (λ r. (get_or run 0 none).start - text ≤ r.start) plan.globals plan.pages is.pages.each (subst (All (λ r. (get_or run 0 none).start - text ≤ r.start)) (sym is.pages.rows) above) k d h,
+    ))
+    (λ k d h. omega (
+      arith,
+      first_start plan.globals (get_or plan.pages k d) (is.pages.each k d h),
+      first_rows (λ r. r.start ≤ (get_or run 0 none).start - text + span) plan.globals plan.pages is.pages.each (subst (All (λ r. r.start ≤ (get_or run 0 none).start - text + span)) (sym is.pages.rows) below) k d h,
+    )) in
+    omega (
+      arith,
+      law,
+      length-map run (row_from text (ids_of (inputs_of entries))),
+      length_permutation entries run moved,
+      length-map entries input_of,
+      own_of_run text plan.globals (ids_of (inputs_of entries)) entries run moved,
+      ap (λ g. locals_in g (codes_of (inputs_of entries))) is.globals,
+      some_most (inputs_of entries) span (omega (arith, length-map entries input_of, are.some, length_permutation entries run moved)),
+    )
+  where
+    least_first : (k : ℕ) (d : ResolvedUnwindInfo) → k < length run → (get_or run 0 none).start - text ≤ (get_or run k d).start - text
+    least_first zero d h = omega (arith, ap (λ (e : ResolvedUnwindInfo). e.start) (get_or_default run 0 none d h))
+    least_first (suc k) d h =
+        omega (arith, are.rising 0 (suc k) d (omega arith) h, ap (λ (e : ResolvedUnwindInfo). e.start) (get_or_default run 0 none d are.some))
+
+short_plan : (text : ℕ) (entries run : List ResolvedUnwindInfo) (plan : PlanList)
+    → IsReady text (ids_of (inputs_of entries)) (codes_of (inputs_of entries)) run
+    → IsAssembled text (ids_of (inputs_of entries)) (codes_of (inputs_of entries)) run plan → IsPermutation entries run
+    → (span : ℕ) → SpansAtMost span entries → size_of plan ≤ unwind_bound_of (inputs_of entries) span
+short_plan text entries run plan are is moved span spans =
+    omega (
+      arith,
+      few_pages text entries run plan are is moved span spans,
+      pages_are_short plan.globals (map (row_from text (ids_of (inputs_of entries))) run) plan.pages is.pages,
+      length-map run (row_from text (ids_of (inputs_of entries))),
+      length_permutation entries run moved,
+      length-map entries input_of,
+      own_of_run text plan.globals (ids_of (inputs_of entries)) entries run moved,
+      ap (λ g. locals_in g (codes_of (inputs_of entries))) is.globals,
+      ap length is.globals,
+      is.count,
+      ap length is.lsdas,
+      lsda_length text run,
+      sum_by-IsPermutation (λ (e : ResolvedUnwindInfo). cond (is_some e.lsda) 1 0) entries run moved,
+      lsda_inputs entries,
+    )
+
+pub planned : (text : ℕ) (entries run : List ResolvedUnwindInfo) (plan : PlanList) (end : ℕ)
+    → IsReady text (ids_of (inputs_of entries)) (codes_of (inputs_of entries)) run
+    → IsAssembled text (ids_of (inputs_of entries)) (codes_of (inputs_of entries)) run plan → IsPermutation entries run
+    → plan.end ≡ end → end < 2 ^ 32 → All (λ e. IsLast run e → e.start + e.length ≡ text + end) run → IsPlanOf text entries plan
+planned text entries run plan end are is moved end_is low ends = record {
+  formed = is_plan text _ _ run plan are is (omega (arith, end_is));
+  run = run;
+  same = moved;
+  rising = are.rising;
+  rows = is.pages.rows;
+  globals = is.globals;
+  locals = is.pages.locals;
+  closed = is.pages.closed;
+  personalities = is.count;
+  slots = All-permutation (HasSlot text (ids_of (inputs_of entries)) plan.personalities) run entries (IsPermutation-sym entries run moved) is.slots;
+  lsdas = is.lsdas;
+  end = λ k d h last. omega (
+    arith,
+    end_is,
+    All-permutation (λ e. IsLast run e → e.start + e.length ≡ text + end) run entries (IsPermutation-sym entries run moved) ends k d h
+        (All-permutation (λ f. f.start ≤ (get_or entries k d).start) entries run moved last),
+  );
+  few = few_pages text entries run plan are is moved;
+  short = short_plan text entries run plan are is moved;
+}
+
+-- the plan, from what the code knows
+pub planned_from : (text : ℕ) (entries run : List ResolvedUnwindInfo) (inputs : List UnwindInput) (ids codes : List ℕ) (plan : PlanList) (end : ℕ)
+    → IsReady text ids codes run → IsAssembled text ids codes run plan → IsPermutation entries run
+    → inputs ≡ inputs_of entries → ids ≡ ids_of inputs → codes ≡ map (code_in ids) inputs
+    → plan.end ≡ end → end < 2 ^ 32 → All (λ e. IsLast run e → e.start + e.length ≡ text + end) run → IsPlanOf text entries plan
+planned_from text entries run inputs ids codes plan end are is moved inputs_is ids_is codes_is end_is low ends =
+    let ids_are : ids ≡ ids_of (inputs_of entries) = ids_is ∙ ap ids_of inputs_is in
+    let codes_are : codes ≡ codes_of (inputs_of entries)
+    = codes_is ∙ ap (λ is. map (code_in is) inputs) ids_is ∙ ap codes_of inputs_is in
+    planned text entries run plan end
+    (subst (λ cs. IsReady text (ids_of (inputs_of entries)) cs run) codes_are (subst (λ is. IsReady text is codes run) ids_are are))
+    (subst (λ cs. IsAssembled text (ids_of (inputs_of entries)) cs run plan) codes_are (subst (λ is. IsAssembled text is codes run plan) ids_are is))
+    moved end_is low ends
+
+-- a refusal that is handed on
+pub err_is : {T E : Type 0} (r : Result T E) (P : E → Type 0) (f : E) → IsErrAnd r (λ e. e ≡ f) → P f → IfErr r P
+err_is (Ok x) P f is p = tt
+err_is (Err e) P f is p = subst P (sym is) p

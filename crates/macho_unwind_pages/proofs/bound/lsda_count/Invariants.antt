@@ -1,0 +1,9 @@
+use Rattle.std.proofs.Common.{◌≡◌, ◌≤◌, take}
+use Rattle.std.specs.List.{count_by}
+use Rattle.macho_unwind_pages.proofs.bound.lsda_count.Given as goal
+
+abbrev pub invariant-loop-entry : goal.invariant-loop-entry
+invariant-loop-entry l = record {
+  value : l.count ≡ count_by (λ e. e.lsda) (take l.entry-index l.entries);
+  small : l.count ≤ l.entry-index;
+}

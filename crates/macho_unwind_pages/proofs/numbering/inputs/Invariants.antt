@@ -1,0 +1,6 @@
+use Rattle.std.proofs.Common.{◌≡◌, take}
+use Rattle.macho_unwind_pages.specs.Entries.{inputs_of}
+use Rattle.macho_unwind_pages.proofs.numbering.inputs.Given as goal
+
+abbrev pub invariant-loop-entry : goal.invariant-loop-entry
+invariant-loop-entry l = l.inputs.items ≡ inputs_of (take l.entry-index l.entries)

@@ -1,0 +1,15 @@
+use Rattle.std.proofs.Common.{inr, refl, get_or, ◌-◌, arith, length}
+use Rattle.macho_unwind_pages.proofs.Gathered.{none, is_last, contains_at}
+use Rattle.macho_unwind_pages.proofs.offsets.end.Goals as goal
+
+pub returns-then-end-ge4294967296-clause-why : goal.returns-then-end-ge4294967296-clause-why
+returns-then-end-ge4294967296-clause-why c =
+    let run = c.args.run.now in
+    let at = length run - 1 in (
+      refl,
+      (
+        get_or run at none,
+        contains_at run at none (omega (arith, c.requires.some)),
+        inr (is_last run at none c.requires.rising (omega (arith, c.requires.some)), omega (arith, c.if-end-ge4294967296.true)),
+      ),
+    )

@@ -1,0 +1,11 @@
+use Rattle.std.proofs.Common.{◌≡◌, ◌<◌, ◌^◌, take, length}
+use Rattle.std.specs.List.{All}
+use Rattle.macho_unwind_pages.specs.Plans.{HasSlot}
+use Rattle.macho_unwind_pages.proofs.offsets.slots.Given as goal
+
+abbrev pub invariant-loop-entry : goal.invariant-loop-entry
+invariant-loop-entry l = record {
+  size : length l.slots.items ≡ length l.ids;
+  short : All (λ slot. slot < 2 ^ 32) l.slots.items;
+  all : All (HasSlot l.text_start l.ids l.slots.items) (take l.entry-index l.run);
+}

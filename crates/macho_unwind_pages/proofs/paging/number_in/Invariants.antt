@@ -1,0 +1,6 @@
+use Rattle.std.proofs.Common.{◌≡◌, ◌==◌, false, take}
+use Rattle.std.specs.List.{list_any}
+use Rattle.macho_unwind_pages.proofs.paging.number_in.Given as goal
+
+abbrev pub invariant-loop-number : goal.invariant-loop-number
+invariant-loop-number l = list_any (λ other. l.code == other) (take l.number l.codes) ≡ false

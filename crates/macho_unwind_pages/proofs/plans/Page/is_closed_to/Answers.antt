@@ -1,0 +1,10 @@
+use Rattle.std.proofs.Common.{◌≡◌, ◌==◌, true, ap, sym, ◌∙◌, arith, rules}
+use Rattle.std.specs.List.{list_any}
+use Rattle.macho_unwind_pages.specs.Paging.{globals_in}
+use Rattle.macho_unwind_pages.proofs.Naming.{is_in}
+use Rattle.macho_unwind_pages.proofs.plans.Page.is_closed_to.Goals as goal
+
+pub returns-then-is_some-clause-open : goal.returns-then-is_some-clause-open
+returns-then-is_some-clause-open c =
+    let there = is_in _ c.args.row.code (sym c.number_of.ensures.found ∙ sym c.is_some.ensures ∙ c.if-is_some.true) in
+    record { behind = c.requires.behind; near = search rules; word = search rules; code = λ no. absurd (no there) }

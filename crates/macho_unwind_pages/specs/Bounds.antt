@@ -1,0 +1,55 @@
+-- The room that the unwind section of entries needs at most, from what is known before they have addresses.
+-- The records are those of mach-o/compact_unwind_encoding.h.
+use Rattle.std.specs.Prelude.{ℕ, ◌+◌, ◌-◌, ◌*◌, ◌/◌, ◌^◌, ◌==◌, if◌then◌else◌, min, not, List, length, take, count_by}
+use Rattle.std.specs.List.{list_any}
+use Rattle.macho_unwind_pages.specs.declared.entries.UnwindInput.{UnwindInput}
+use Rattle.macho_unwind_pages.specs.declared.bound.Tallies.{Tallies}
+use Rattle.macho_unwind_pages.specs.Entries.{ids_of, codes_of, ranked}
+
+-- the offsets that a word of a page can tell
+abbrev pub PAGE_SPAN : ℕ
+PAGE_SPAN = 2 ^ 24
+
+-- the most encodings that every page may name
+abbrev pub MOST_GLOBALS : ℕ
+MOST_GLOBALS = 224
+
+-- the most encodings that one page names alone
+abbrev pub MOST_LOCALS : ℕ
+MOST_LOCALS = 32
+
+-- the most words and encodings that stand on one page
+abbrev pub MOST_WORDS : ℕ
+MOST_WORDS = 1021
+
+-- the codes that every page may name: the first ones by rank
+abbrev pub globals_of : List ℕ → List ℕ
+globals_of codes = take MOST_GLOBALS (ranked codes)
+
+-- the number of entries whose code isn't one of these
+abbrev pub locals_in : List ℕ → List ℕ → ℕ
+locals_in globals codes = count_by (λ code. not (list_any (λ global. code == global) globals)) codes
+
+-- how many of each thing entries have
+abbrev pub tallies_of : List UnwindInput → Tallies
+tallies_of entries = record {
+  entries = length entries;
+  local = locals_in (globals_of (codes_of entries)) (codes_of entries);
+  globals = length (globals_of (codes_of entries));
+  personalities = length (ids_of entries);
+  lsdas = count_by (λ e. e.lsda) entries;
+}
+
+-- the most pages of so many entries: one, and one more for each reason that closes a page
+abbrev pub most_pages : Tallies → ℕ → ℕ
+most_pages t span =
+    if t.entries == 0 then 0 else 1 + span / PAGE_SPAN + t.local / MOST_LOCALS + (t.entries + t.local) / (MOST_WORDS - 1)
+
+-- the bytes of a section: header, encodings, personalities, LSDA entries, page entries, heads of pages, words and local encodings
+abbrev pub bytes_of : Tallies → ℕ → ℕ
+bytes_of t pages =
+    28 + 4 * t.globals + 4 * t.personalities + 8 * t.lsdas + 12 * (pages + 1) + 12 * pages + 4 * t.entries + 4 * t.local
+
+-- the most bytes of the unwind section of entries whose starts are no more than a span apart
+abbrev pub unwind_bound_of : List UnwindInput → ℕ → ℕ
+unwind_bound_of entries span = bytes_of (tallies_of entries) (most_pages (tallies_of entries) span)

@@ -1,0 +1,89 @@
+-- What entries say: their personalities' numbers, their codes, and which codes come first.
+-- An encoding has 32 bits; bits 28 and 29 are the personality's number (mach-o/compact_unwind_encoding.h,
+-- UNWIND_PERSONALITY_MASK), and entries have them clear.
+use Rattle.std.specs.Prelude.{◌≡◌, ◌≢◌, ℕ, ◌+◌, ◌*◌, ◌/◌, ◌%◌, ◌^◌, ◌<◌, ◌≤◌, ◌==◌, ◌&&◌, ◌||◌, nat_lt, Bool, Option, None, Some, IfSome, is_some, option_map, List, [], ◌∷◌, length, map, All, Contains, count_by}
+use Rattle.std.specs.List.{AllPairs}
+use Rattle.macho_unwind_pages.specs.declared.entries.UnwindInput.{UnwindInput}
+use Rattle.macho_unwind_pages.specs.declared.entries.Personality.{Personality}
+use Rattle.macho_unwind_pages.specs.declared.entries.ResolvedUnwindInfo.{ResolvedUnwindInfo}
+use Rattle.macho_unwind_pages.specs.Orders.{in_order}
+
+-- the most personality functions that a section has
+abbrev pub MOST_PERSONALITIES : ℕ
+MOST_PERSONALITIES = 3
+
+-- where the personality's number begins in an encoding
+abbrev pub PERSONALITY_UNIT : ℕ
+PERSONALITY_UNIT = 2 ^ 28
+
+-- the numbers of bits 28 and 29
+abbrev pub PERSONALITY_NUMBERS : ℕ
+PERSONALITY_NUMBERS = 4
+
+-- an entry without its addresses
+abbrev pub input_of : ResolvedUnwindInfo → UnwindInput
+input_of e = record { encoding = e.encoding; personality = option_map (λ p. p.id) e.personality; lsda = is_some e.lsda }
+
+abbrev pub inputs_of : List ResolvedUnwindInfo → List UnwindInput
+inputs_of entries = map input_of entries
+
+-- the ids that entries name, in their order and as often as they are named
+abbrev pub named_by : Option ℕ → List ℕ → List ℕ
+named_by None ids = ids
+named_by (Some id) ids = id ∷ ids
+
+unfoldable pub named_ids : List UnwindInput → List ℕ
+named_ids [] = []
+named_ids (e ∷ entries) = named_by e.personality (named_ids entries)
+
+-- the ids of the personalities, rising, each once
+abbrev pub ids_of : List UnwindInput → List ℕ
+ids_of entries = in_order nat_lt (named_ids entries)
+
+-- how many ids are lesser
+abbrev pub place_in : List ℕ → ℕ → ℕ
+place_in ids id = count_by (λ other. nat_lt other id) ids
+
+-- A personality's number among ids: they are numbered from 1 by rising id; 0 is none.
+abbrev pub number_in : List ℕ → Option ℕ → ℕ
+number_in ids None = 0
+number_in ids (Some id) = 1 + place_in ids id
+
+-- an entry's code: its encoding with its personality's number in bits 28 and 29
+abbrev pub code_in : List ℕ → UnwindInput → ℕ
+code_in ids e = e.encoding + PERSONALITY_UNIT * number_in ids e.personality
+
+-- the code of each entry
+abbrev pub codes_of : List UnwindInput → List ℕ
+codes_of entries = map (code_in (ids_of entries)) entries
+
+-- how often a code stands in a list
+abbrev pub times : List ℕ → ℕ → ℕ
+times codes code = count_by (λ other. code == other) codes
+
+-- a code ranks before another if it stands more often, or as often and is the greater
+abbrev pub ranks_before : List ℕ → ℕ → ℕ → Bool
+ranks_before codes a b = nat_lt (times codes b) (times codes a) || (times codes a == times codes b && nat_lt b a)
+
+-- the codes of a list by rank, each once
+abbrev pub ranked : List ℕ → List ℕ
+ranked codes = in_order (ranks_before codes) codes
+
+-- What is asked of entries: starts are distinct, no address is below the text's, no function ends at 2^64 or later,
+-- one id has one slot, and the personality's bits of encodings are clear.
+pub record AreEntries (text : ℕ) (entries : List ResolvedUnwindInfo) : Type 0 where
+  pub distinct : AllPairs (λ e f. e.start ≢ f.start) entries
+  pub starts : All (λ e. text ≤ e.start) entries
+  pub slots : All (λ e. IfSome e.personality (λ p. text ≤ p.slot)) entries
+  pub lsdas : All (λ e. IfSome e.lsda (λ address. text ≤ address)) entries
+  pub ends : All (λ e. e.start + e.length < 2 ^ 64) entries
+  pub alike : All (λ e. All (λ f. IfSome e.personality (λ p. IfSome f.personality (λ q. p.id ≡ q.id → p.slot ≡ q.slot))) entries) entries
+  pub clear : All (λ e. e.encoding / PERSONALITY_UNIT % PERSONALITY_NUMBERS ≡ 0) entries
+
+-- no entry starts later
+abbrev pub IsLast : List ResolvedUnwindInfo → ResolvedUnwindInfo → Type 0
+IsLast entries e = All (λ f. f.start ≤ e.start) entries
+
+-- the greatest start is no more than a span above the least
+abbrev pub SpansAtMost : ℕ → List ResolvedUnwindInfo → Type 0
+SpansAtMost span entries = All (λ e. All (λ f. f.start ≤ e.start + span) entries) entries

@@ -1,0 +1,19 @@
+//! Compact unwind information, before it is bytes: which encodings are shared, and which functions stand on which page.
+#![tactic(auto)]
+
+mod bound;
+mod entries;
+mod numbering;
+mod offsets;
+mod paging;
+mod planning;
+mod plans;
+mod ranking;
+#[cfg(test)]
+mod tests;
+
+pub use bound::{output_size, unwind_bound};
+pub use entries::{Personality, ResolvedUnwindInfo, UnwindFault, UnwindInput};
+pub use paging::Row;
+pub use planning::plan;
+pub use plans::{Lsda, Page, Plan};

@@ -1,0 +1,72 @@
+//! The plan of entries.
+ghost use Rattle.std.specs.Prelude.{◌≡◌, ◌<◌, ◌≤◌, length, IfOk, IfErr, OnOk};
+ghost use Rattle.macho_unwind_pages.specs.Entries.{MOST_PERSONALITIES, AreEntries, inputs_of, ids_of};
+ghost use Rattle.macho_unwind_pages.specs.Plans.{plan_list, IsPlanOf, HasFarOffset};
+ghost use Rattle.macho_unwind_pages.specs.Planning.{IsReady, IsAssembled};
+ghost use Rattle.macho_unwind_pages.specs.Calls.{PlanFault};
+
+use crate::entries::{ResolvedUnwindInfo, UnwindFault};
+use crate::numbering::{codes, inputs, personality_ids};
+use crate::offsets::{by_start, end, globals, lsdas, rows, slots};
+use crate::paging::paged;
+use crate::plans::Plan;
+use crate::ranking::ranks;
+use std::alloc::{AllocError, Global};
+
+/// The plan of a run of entries that ends at an offset.
+fn assembled(
+    alloc: Global,
+    text_start: u64,
+    ids: &[u32],
+    codes: &[u64],
+    run: &[ResolvedUnwindInfo],
+    end: u32,
+) -> Result<Plan, AllocError>
+    requires { IsReady text_start ids.now codes.now run.now }
+    ensures done { IfOk result (λ p. IsAssembled text_start ids.now codes.now run.now (plan_list p)) }
+    ensures end { IfOk result (λ p. p.end ≡ end) }
+{
+    let ranks = ranks(alloc, codes)?;
+    let rows = rows(alloc, text_start, ids, run)?;
+    let pages = paged(alloc, &ranks, rows.as_slice())?;
+    let globals = globals(alloc, &ranks)?;
+    let personalities = slots(alloc, text_start, ids, run)?;
+    let lsdas = lsdas(alloc, text_start, run)?;
+    Ok(Plan {
+        globals,
+        personalities,
+        lsdas,
+        pages,
+        end,
+    })
+}
+
+/// The plan of one entry or more: what the section says of them. It is refused where they name more than three
+/// personality functions, and else where an offset from the start of the text doesn't fit 32 bits.
+pub fn plan(
+    alloc: Global,
+    text_start: u64,
+    entries: &[ResolvedUnwindInfo],
+) -> Result<Plan, UnwindFault>
+    requires some { 0 < length entries.now }
+    requires entries { AreEntries text_start entries.now }
+    ensures done { IfOk result (λ p. IsPlanOf text_start entries.now (plan_list p)) }
+    ensures few { OnOk result (length (ids_of (inputs_of entries.now)) ≤ MOST_PERSONALITIES) }
+    ensures near { OnOk result (¬ HasFarOffset text_start entries.now) }
+    ensures why { IfErr result (PlanFault text_start entries.now) }
+{
+    let inputs = inputs(alloc, entries)?;
+    let ids = personality_ids(alloc, inputs.as_slice())?;
+    let run = by_start(alloc, entries)?;
+    let end = end(text_start, run.as_slice())?;
+    let codes = codes(alloc, ids.as_slice(), inputs.as_slice())?;
+    let plan = assembled(
+        alloc,
+        text_start,
+        ids.as_slice(),
+        codes.as_slice(),
+        run.as_slice(),
+        end,
+    )?;
+    Ok(plan)
+}
