@@ -4,12 +4,12 @@
 -- 32 of its functions have a code that not every page may name; or its functions, with those counted once more, are 1,020 at
 -- least. Starts rise from page to page and no function is counted on two pages, so for a reasons of the first kind, b of the
 -- second and c of the third, a * 2^24 is within the span, 32 b within N and 1,020 c within n + N.
-use Rattle.std.proofs.Common.{◌≡◌, ℕ, zero, suc, ◌+◌, ◌-◌, ◌*◌, ◌/◌, ◌%◌, ◌^◌, ◌<◌, ◌≤◌, ◌==◌, not, cond, List, [], ◌∷◌, ◌++◌, length, map, get_or, slice_index, refl, sym, ap, subst, ◌∙◌, arith, inl, inr, ◌⊎◌, length-append, append_assoc}
+use Rattle.std.proofs.Common.{◌≡◌, ℕ, suc, ◌+◌, ◌*◌, ◌/◌, ◌%◌, ◌<◌, ◌≤◌, ◌==◌, not, cond, List, [], ◌∷◌, length, map, get_or, slice_index, refl, sym, ap, subst, ◌∙◌, arith, inl, inr, length-append}
 use Rattle.std.specs.List.{All, AllPairs, flat_map, sum_by, list_any}
 use Rattle.std.proofs.lemmas.List.{length-map, map-append}
 use Rattle.std.proofs.lemmas.List.Sums.{sum_by-cons, sum_by-append}
-use Rattle.macho_unwind_pages.specs.Bounds.{PAGE_SPAN, MOST_LOCALS, MOST_WORDS, locals_in}
-use Rattle.macho_unwind_pages.specs.Plans.{PageList, Row, IsNamed, IsPage, IsClosedTo, AreClosed, row_of, page_rows, first_row, page_size}
+use Rattle.macho_unwind_pages.specs.Bounds.{PAGE_SPAN, locals_in}
+use Rattle.macho_unwind_pages.specs.Plans.{PageList, Row, IsPage, IsClosedTo, AreClosed, row_of, page_rows, first_row, page_size}
 use Rattle.macho_unwind_pages.specs.Paging.{HasFewLocals, ArePages}
 
 -- the functions of a page whose code not every page may name

@@ -3,18 +3,16 @@
 -- Ids rise and are those that entries name, so the number of lesser ones is an id's own place, below their count; codes then have
 -- 32 bits, since an encoding's bits 28 and 29 are clear. The ranks are the codes that stand in the list at all. All this is said of
 -- each entry, and so of each entry of the sorted run.
-use Rattle.std.proofs.Common.{◌≡◌, ◌≢◌, ℕ, zero, suc, ◌+◌, ◌-◌, ◌*◌, ◌/◌, ◌%◌, ◌^◌, ◌<◌, ◌≤◌, ◌==◌, ◌||◌, Bool, true, false, nat_lt, cond, Option, None, Some, IfSome, option_map, List, [], ◌∷◌, ◌++◌, length, map, get_or, slice_index, Contains, IsPermutation, refl, sym, ap, subst, ◌∙◌, arith, inl, inr, ◌⊎◌}
-use Rattle.std.specs.List.{All, AllPairs, list_any, count_by}
-use Rattle.std.proofs.lemmas.Bool.{cases_Bool, cases_lt, eqb-true, eq-eqb, ne_eqb, lt-ltb, le-ltb, ltb-true}
+use Rattle.std.proofs.Common.{◌≡◌, ℕ, zero, suc, ◌+◌, ◌-◌, ◌*◌, ◌^◌, ◌<◌, ◌≤◌, ◌==◌, ◌||◌, Bool, true, false, nat_lt, cond, Option, None, Some, IfSome, option_map, List, [], ◌∷◌, length, map, get_or, slice_index, Contains, IsPermutation, refl, sym, ap, subst, ◌∙◌, arith, inl, inr}
+use Rattle.std.specs.List.{All, AllPairs}
+use Rattle.std.proofs.lemmas.Bool.{cases_Bool, cases_lt, eqb-true, eq-eqb, lt-ltb, le-ltb, ltb-true}
 use Rattle.std.proofs.lemmas.List.{get_or-map, length-map, get_or_default}
-use Rattle.std.proofs.lemmas.List.Elements.{All-map}
 use Rattle.std.proofs.lemmas.List.Folds.{list_any_at}
 use Rattle.std.proofs.lemmas.List.Sums.{sum_by-cons}
 use Rattle.std.proofs.lemmas.List.Sorted.{All-permutation}
 use Rattle.macho_unwind_pages.specs.declared.entries.UnwindInput.{UnwindInput}
 use Rattle.macho_unwind_pages.specs.declared.entries.Personality.{Personality}
 use Rattle.macho_unwind_pages.specs.declared.entries.ResolvedUnwindInfo.{ResolvedUnwindInfo}
-use Rattle.macho_unwind_pages.specs.Orders.{in_order}
 use Rattle.macho_unwind_pages.specs.Entries.{AreEntries, IsLast, input_of, inputs_of, named_by, named_ids, ids_of, place_in, number_in, code_in, codes_of, ranks_before, ranked}
 use Rattle.macho_unwind_pages.specs.Ranks.{IsNumberOf}
 use Rattle.macho_unwind_pages.specs.Plans.{Row, row_from}

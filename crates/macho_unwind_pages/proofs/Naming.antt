@@ -2,7 +2,7 @@
 --
 -- A code that no list has gets the next place of the page's own list. It is one of the ranks, so there are more ranks than
 -- those that every page may name, and these are as many as there may be: so numbers stay below 224 + 32.
-use Rattle.std.proofs.Common.{◌≡◌, ℕ, ◌+◌, ◌-◌, ◌*◌, ◌/◌, ◌%◌, ◌^◌, ◌<◌, ◌≤◌, ◌==◌, ◌||◌, true, false, Bool, List, [], ◌∷◌, ◌++◌, length, take, get_or, slice_index, Contains, refl, sym, ap, subst, ◌∙◌, arith, inl, inr, ◌⊎◌, append_assoc, length-append}
+use Rattle.std.proofs.Common.{◌≡◌, ℕ, ◌+◌, ◌-◌, ◌*◌, ◌/◌, ◌^◌, ◌<◌, ◌≤◌, ◌==◌, ◌||◌, true, false, Bool, List, [], ◌∷◌, ◌++◌, length, take, get_or, Contains, refl, sym, ap, subst, ◌∙◌, arith, inl, inr, ◌⊎◌, length-append}
 use Rattle.std.specs.List.{list_any}
 use Rattle.std.proofs.lemmas.Bool.{eqb-true, cases_lt}
 use Rattle.std.proofs.lemmas.Cmp.{nat_eq_equiv}
@@ -11,7 +11,7 @@ use Rattle.std.proofs.lemmas.List.Folds.{list_any-append}
 use Rattle.std.proofs.lemmas.Map.Views.{list_any-from_Contains, Contains-from_any}
 use Rattle.indexmap.specs.IndexMap.{IndexMap, keys}
 use Rattle.macho_unwind_pages.specs.Plans.{PageList, Row, IsNamed}
-use Rattle.macho_unwind_pages.specs.Paging.{globals_in, IsFull, IsOpenTo, Names, Adds}
+use Rattle.macho_unwind_pages.specs.Paging.{globals_in, IsOpenTo, Names, Adds}
 
 pub is_in : (xs : List ℕ) (code : ℕ) → list_any (λ other. code == other) xs ≡ true → Contains xs code
 is_in xs code h = Contains-from_any eqb-true code xs h

@@ -2,16 +2,16 @@
 --
 -- So far there are closed pages and one that is open. A function that the open page takes starts behind all before, and the page
 -- stays a page. One that it can't take begins a page: the open one is closed to it, and all its functions start before.
-use Rattle.std.proofs.Common.{◌≡◌, ℕ, zero, suc, ◌+◌, ◌-◌, ◌*◌, ◌/◌, ◌%◌, ◌^◌, ◌<◌, ◌≤◌, List, [], ◌∷◌, ◌++◌, length, map, take, get_or, slice_index, refl, sym, ap, subst, ◌∙◌, arith, inl, inr, ◌⊎◌, length-append, append_assoc}
+use Rattle.std.proofs.Common.{◌≡◌, ℕ, ◌+◌, ◌-◌, ◌%◌, ◌<◌, ◌≤◌, List, [], ◌∷◌, ◌++◌, length, take, get_or, refl, sym, ap, subst, ◌∙◌, arith, inl, inr, length-append, append_assoc}
 use Rattle.std.specs.List.{All, AllPairs, flat_map}
 use Rattle.std.proofs.lemmas.Bool.{cases_lt}
 use Rattle.std.proofs.lemmas.Grind.{flat_map-append}
-use Rattle.std.proofs.lemmas.List.{get_or_append_left, get_or-append_right, get_or_default, get_or-map, length-map, map_push, append-nil, take_more, take_all}
-use Rattle.std.proofs.lemmas.List.Elements.{All-push, All-weaker}
+use Rattle.std.proofs.lemmas.List.{get_or_append_left, get_or-append_right, append-nil, take_more, take_all}
+use Rattle.std.proofs.lemmas.List.Elements.{All-push}
 use Rattle.std.proofs.lemmas.List.Quantifiers.{all_pairs_push}
-use Rattle.macho_unwind_pages.specs.Bounds.{PAGE_SPAN, MOST_LOCALS, MOST_WORDS}
-use Rattle.macho_unwind_pages.specs.Plans.{PageList, Row, IsNamed, IsPage, IsClosedTo, AreClosed, AreLocals, row_of, page_rows, first_row}
-use Rattle.macho_unwind_pages.specs.Paging.{IsFull, IsOpenTo, Adds, ArePages, HasFewLocals, empty_page}
+use Rattle.macho_unwind_pages.specs.Bounds.{PAGE_SPAN}
+use Rattle.macho_unwind_pages.specs.Plans.{PageList, Row, IsPage, IsClosedTo, AreClosed, AreLocals, page_rows, first_row}
+use Rattle.macho_unwind_pages.specs.Paging.{IsOpenTo, Adds, ArePages, HasFewLocals, empty_page}
 use Rattle.macho_unwind_pages.proofs.Growing.{IsOpenPage, AllBefore, is_page, empty_is_open, rows_more, first_kept, first_new, words_more, page_more}
 
 -- closed pages and an open one, of functions of which the last starts at an offset

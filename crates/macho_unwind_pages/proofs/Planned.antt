@@ -3,9 +3,9 @@
 -- The sorted run is a permutation of the entries, so all that is said of each entry or counted over all is the same of it: codes,
 -- those that not every page may name, and data. So the law of pages and bytes gives the bound of the entries. A page's first start
 -- is that of one of its functions, so it lies between the least start and the span above it.
-use Rattle.std.proofs.Common.{◌≡◌, ◌≢◌, ℕ, zero, suc, ◌+◌, ◌-◌, ◌*◌, ◌/◌, ◌%◌, ◌^◌, ◌<◌, ◌≤◌, ◌==◌, not, Bool, true, false, cond, if◌then◌else◌, Option, None, Some, IfSome, is_some, List, [], ◌∷◌, ◌++◌, length, map, take, get_or, slice_index, Contains, IsPermutation, refl, sym, ap, subst, ◌∙◌, arith, inl, inr, ◌⊎◌, length-append}
+use Rattle.std.proofs.Common.{◌≡◌, ℕ, zero, suc, ◌+◌, ◌-◌, ◌/◌, ◌^◌, ◌<◌, ◌≤◌, ◌==◌, not, true, cond, Option, None, Some, IfSome, is_some, List, [], ◌∷◌, ◌++◌, length, map, take, get_or, IsPermutation, refl, sym, ap, subst, ◌∙◌, arith, inl, inr, ◌⊎◌, length-append}
 use Rattle.std.specs.Prelude.{IsSomeAnd, Result, Ok, Err, IsErrAnd, IfErr}
-use Rattle.std.specs.List.{All, AllPairs, flat_map, sum_by, count_by, list_any}
+use Rattle.std.specs.List.{All, AllPairs, flat_map, count_by, list_any}
 use Rattle.std.proofs.lemmas.Bool.{ne_eqb}
 use Rattle.std.proofs.lemmas.List.{get_or-map, length-map, length-take, get_or_append_left, get_or-append-add, get_or_default}
 use Rattle.std.proofs.lemmas.List.Elements.{All-map, All-append, All-take}
@@ -17,8 +17,8 @@ use Rattle.macho_unwind_pages.specs.declared.entries.Personality.{Personality}
 use Rattle.macho_unwind_pages.specs.declared.entries.ResolvedUnwindInfo.{ResolvedUnwindInfo}
 use Rattle.macho_unwind_pages.specs.declared.plans.Lsda.{Lsda}
 use Rattle.macho_unwind_pages.specs.Entries.{AreEntries, IsLast, SpansAtMost, input_of, inputs_of, ids_of, code_in, codes_of, ranked}
-use Rattle.macho_unwind_pages.specs.Bounds.{globals_of, locals_in, tallies_of, most_pages, unwind_bound_of}
-use Rattle.macho_unwind_pages.specs.Plans.{PageList, PlanList, Row, IsPage, IsPlan, IsPlanOf, HasSlot, IsFar, HasFarAddress, HasFarOffset, row_of, page_rows, first_row, row_from, lsda_at, lsda_from, size_of, page_size}
+use Rattle.macho_unwind_pages.specs.Bounds.{locals_in, tallies_of, most_pages, unwind_bound_of}
+use Rattle.macho_unwind_pages.specs.Plans.{PageList, PlanList, Row, IsPage, IsPlan, IsPlanOf, HasSlot, IsFar, HasFarAddress, HasFarOffset, row_of, page_rows, first_row, row_from, lsda_at, lsda_from, size_of}
 use Rattle.macho_unwind_pages.specs.Paging.{ArePages}
 use Rattle.macho_unwind_pages.specs.Planning.{IsNear, IsBehind, IsNumbered, HasShortCode, IsReady, IsAssembled}
 use Rattle.macho_unwind_pages.proofs.Charging.{first_start, pages_are_few, pages_are_short}

@@ -3,9 +3,9 @@
 -- A code ranks before another if its pair of count and value is the greater one, so ranking is a strict total order. The
 -- keys of the table differ, and each has its count; sorted so that none is less than the one before it, neighbours rank one
 -- before the other, and so the keys rise by rank. They are the codes that stand in the list at all. So they are the ranks.
-use Rattle.std.proofs.Common.{◌≡◌, ◌≢◌, ℕ, zero, suc, ◌+◌, ◌<◌, ◌≤◌, ◌==◌, ◌||◌, ◌&&◌, not, Bool, if◌then◌else◌, true, false, cond, nat_lt, nat_eq, Option, None, Some, is_some, unwrap_or, List, [], ◌∷◌, ◌++◌, length, take, drop, map, get_or, slice_index, slice_get, refl, sym, ap, subst, ◌∙◌, arith, rules, inl, inr, ◌⊎◌}
-use Rattle.std.specs.List.{list_any, count_by, AllPairs, All}
-use Rattle.std.proofs.lemmas.Bool.{cases_Bool, cases_eq, cases_lt, eqb-true, eqb-false, eq-eqb, ne_eqb, lt-ltb, le-ltb}
+use Rattle.std.proofs.Common.{◌≡◌, ℕ, suc, ◌+◌, ◌<◌, ◌≤◌, ◌==◌, ◌||◌, ◌&&◌, not, Bool, if◌then◌else◌, true, false, cond, nat_lt, nat_eq, None, Some, is_some, unwrap_or, List, [], ◌∷◌, length, take, drop, get_or, slice_index, refl, sym, ap, ◌∙◌, arith, inl, inr, ◌⊎◌}
+use Rattle.std.specs.List.{list_any}
+use Rattle.std.proofs.lemmas.Bool.{cases_Bool, cases_eq, eqb-true, eq-eqb, ne_eqb, lt-ltb, le-ltb}
 use Rattle.std.proofs.lemmas.Bool.Decides.{nat_tests}
 use Rattle.std.proofs.lemmas.List.Sums.{count_by_more_yes, count_by_more_no, count_by-le-length}
 use Rattle.std.specs.List.Sorted.{IsSortedBy}
@@ -26,7 +26,7 @@ use Rattle.indexmap.specs.IndexMap.{IndexMap, keys, get, IsUnique}
 use Rattle.macho_unwind_pages.specs.Bounds.{locals_in}
 use Rattle.macho_unwind_pages.specs.Ranks.{Counts, IsNumberOf}
 use Rattle.macho_unwind_pages.specs.Entries.{times, ranks_before, ranked}
-use Rattle.macho_unwind_pages.proofs.Orders.{IsStrict, Above, Rises, has, above_weaker, in_order-unique}
+use Rattle.macho_unwind_pages.proofs.Orders.{IsStrict, Rises, has, above_weaker, in_order-unique}
 
 -- the test on two counts and two codes
 abbrev pub outranks : ℕ → ℕ → ℕ → ℕ → Bool

@@ -1,5 +1,5 @@
 -- What entries have of each thing, from their ids, their codes and the ranks.
-use Rattle.std.proofs.Common.{◌≡◌, ℕ, List, length, take, map, refl, sym, ap, subst, ◌∙◌, arith, min}
+use Rattle.std.proofs.Common.{◌≡◌, ℕ, List, length, take, map, refl, ap, ◌∙◌, arith, min}
 use Rattle.std.specs.List.{count_by}
 use Rattle.std.proofs.lemmas.List.{length-take}
 use Rattle.macho_unwind_pages.specs.declared.entries.UnwindInput.{UnwindInput}

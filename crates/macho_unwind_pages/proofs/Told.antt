@@ -2,7 +2,7 @@
 --
 -- A sorted list of entries is one whose starts don't fall. They differ, and a permutation keeps that, so they rise. A slot that
 -- is written for one entry is that of every earlier entry with its id, and stands at no other id's place.
-use Rattle.std.proofs.Common.{◌≡◌, ◌≢◌, ℕ, zero, suc, ◌+◌, ◌-◌, ◌^◌, ◌<◌, ◌≤◌, ◌==◌, Option, None, Some, IfSome, List, [], ◌∷◌, ◌++◌, length, map, min, take, get_or, slice_get, slice_index, set, IsPermutation, refl, sym, ap, subst, ◌∙◌, arith, inl, inr, ◌⊎◌}
+use Rattle.std.proofs.Common.{◌≡◌, ◌≢◌, ℕ, ◌+◌, ◌-◌, ◌^◌, ◌<◌, ◌≤◌, ◌==◌, Option, None, Some, IfSome, List, length, map, min, take, get_or, slice_get, slice_index, set, IsPermutation, sym, ap, subst, ◌∙◌, arith, inl, inr}
 use Rattle.std.specs.List.{All, AllPairs}
 use Rattle.std.specs.List.Sorted.{IsNonDecreasingBy}
 use Rattle.std.proofs.lemmas.Bool.{cases_eq, cases_lt}

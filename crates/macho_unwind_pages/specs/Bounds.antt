@@ -1,6 +1,6 @@
 -- The room that the unwind section of entries needs at most, from what is known before they have addresses.
 -- The records are those of mach-o/compact_unwind_encoding.h.
-use Rattle.std.specs.Prelude.{ℕ, ◌+◌, ◌-◌, ◌*◌, ◌/◌, ◌^◌, ◌==◌, if◌then◌else◌, min, not, List, length, take, count_by}
+use Rattle.std.specs.Prelude.{ℕ, ◌+◌, ◌-◌, ◌*◌, ◌/◌, ◌^◌, ◌==◌, if◌then◌else◌, not, List, length, take, count_by}
 use Rattle.std.specs.List.{list_any}
 use Rattle.macho_unwind_pages.specs.declared.entries.UnwindInput.{UnwindInput}
 use Rattle.macho_unwind_pages.specs.declared.bound.Tallies.{Tallies}

@@ -1,10 +1,9 @@
 -- What entries say: their personalities' numbers, their codes, and which codes come first.
 -- An encoding has 32 bits; bits 28 and 29 are the personality's number (mach-o/compact_unwind_encoding.h,
 -- UNWIND_PERSONALITY_MASK), and entries have them clear.
-use Rattle.std.specs.Prelude.{◌≡◌, ◌≢◌, ℕ, ◌+◌, ◌*◌, ◌/◌, ◌%◌, ◌^◌, ◌<◌, ◌≤◌, ◌==◌, ◌&&◌, ◌||◌, nat_lt, Bool, Option, None, Some, IfSome, is_some, option_map, List, [], ◌∷◌, length, map, All, Contains, count_by}
+use Rattle.std.specs.Prelude.{◌≡◌, ◌≢◌, ℕ, ◌+◌, ◌*◌, ◌/◌, ◌%◌, ◌^◌, ◌<◌, ◌≤◌, ◌==◌, ◌&&◌, ◌||◌, nat_lt, Bool, Option, None, Some, IfSome, is_some, option_map, List, [], ◌∷◌, map, All, count_by}
 use Rattle.std.specs.List.{AllPairs}
 use Rattle.macho_unwind_pages.specs.declared.entries.UnwindInput.{UnwindInput}
-use Rattle.macho_unwind_pages.specs.declared.entries.Personality.{Personality}
 use Rattle.macho_unwind_pages.specs.declared.entries.ResolvedUnwindInfo.{ResolvedUnwindInfo}
 use Rattle.macho_unwind_pages.specs.Orders.{in_order}
 

@@ -1,10 +1,10 @@
 -- Pages as they are made: a page takes one function more, or it is closed to it.
-use Rattle.std.specs.Prelude.{◌≡◌, ℕ, ◌+◌, ◌-◌, ◌*◌, ◌/◌, ◌%◌, ◌^◌, ◌<◌, ◌≤◌, ◌⊎◌, List, [], ◌∷◌, ◌++◌, length, slice_index, slice_index_or, flat_map, map, take, All, Contains}
+use Rattle.std.specs.Prelude.{◌≡◌, ℕ, ◌+◌, ◌-◌, ◌/◌, ◌%◌, ◌^◌, ◌<◌, ◌≤◌, ◌⊎◌, List, [], ◌∷◌, ◌++◌, length, flat_map, map, take, All}
 use Rattle.std.specs.List.{AllPairs}
 use Rattle.indexmap.specs.IndexMap.{IndexMap, keys}
 use Rattle.macho_unwind_pages.specs.Bounds.{PAGE_SPAN, MOST_GLOBALS, MOST_LOCALS, MOST_WORDS, locals_in}
 use Rattle.macho_unwind_pages.specs.Ranks.{IsNumberOf}
-use Rattle.macho_unwind_pages.specs.Plans.{PageList, Row, IsNamed, IsPage, AreLocals, AreClosed, IsClosedTo, page_rows}
+use Rattle.macho_unwind_pages.specs.Plans.{PageList, Row, IsNamed, IsPage, AreLocals, AreClosed, page_rows}
 
 -- the codes of a table that every page may name
 abbrev pub globals_in : {S : Type 0} → IndexMap ℕ ℕ S → List ℕ

@@ -1,5 +1,5 @@
 -- What the parts of a plan ask of entries.
-use Rattle.std.specs.Prelude.{◌≡◌, ℕ, ◌+◌, ◌-◌, ◌^◌, ◌<◌, ◌≤◌, Option, None, Some, IfSome, List, length, map, flat_map, ◌==◌, true, All}
+use Rattle.std.specs.Prelude.{◌≡◌, ℕ, ◌+◌, ◌^◌, ◌<◌, ◌≤◌, IfSome, List, length, map, flat_map, ◌==◌, true, All}
 use Rattle.std.specs.List.{AllPairs, list_any}
 use Rattle.macho_unwind_pages.specs.declared.entries.ResolvedUnwindInfo.{ResolvedUnwindInfo}
 use Rattle.macho_unwind_pages.specs.Entries.{MOST_PERSONALITIES, place_in, input_of, code_in, ranked}

@@ -1,5 +1,5 @@
 -- Counting codes, and numbering those that every page may name.
-use Rattle.std.specs.Prelude.{◌≡◌, ℕ, ◌<◌, ◌==◌, if◌then◌else◌, Option, None, Some, nat_eq, List, length, slice_index}
+use Rattle.std.specs.Prelude.{◌≡◌, ℕ, ◌<◌, ◌==◌, if◌then◌else◌, None, Some, nat_eq, List, length, slice_index}
 use Rattle.indexmap.specs.IndexMap.{IndexMap, get}
 use Rattle.macho_unwind_pages.specs.Entries.{times}
 

@@ -1,4 +1,4 @@
-use Rattle.std.proofs.Common.{◌≡◌, ◌<◌, ◌≤◌, length, slice_index, sym, ◌∙◌, arith}
+use Rattle.std.proofs.Common.{◌<◌, length, slice_index, sym, ◌∙◌, arith}
 use Rattle.std.proofs.lemmas.List.{get_or_read}
 use Rattle.macho_unwind_pages.proofs.Numbers.{put-new, put-there}
 use Rattle.macho_unwind_pages.proofs.numbering.put_id.Goals as goal

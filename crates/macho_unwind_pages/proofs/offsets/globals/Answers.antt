@@ -1,6 +1,5 @@
-use Rattle.std.proofs.Common.{◌≡◌, ◌^◌, ◌<◌, ◌≤◌, ◌++◌, ◌∷◌, [], ℕ, length, take, min, map, sym, subst, ap, ◌∙◌, arith, rules}
-use Rattle.std.proofs.lemmas.Bool.{cases_lt}
-use Rattle.std.proofs.lemmas.List.{length-map, take_more, take_all}
+use Rattle.std.proofs.Common.{◌^◌, ◌<◌, ◌++◌, ◌∷◌, [], ℕ, take, sym, subst, ap, ◌∙◌, arith, rules}
+use Rattle.std.proofs.lemmas.List.{length-map, take_more}
 use Rattle.indexmap.specs.IndexMap.{keys}
 use Rattle.macho_unwind_pages.proofs.Told.{code_at, first_ones}
 use Rattle.macho_unwind_pages.proofs.offsets.globals.Goals as goal

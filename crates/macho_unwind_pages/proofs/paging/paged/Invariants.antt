@@ -1,4 +1,4 @@
-use Rattle.std.proofs.Common.{ℕ, ◌-◌, ◌<◌, map, take}
+use Rattle.std.proofs.Common.{◌-◌, ◌<◌, map, take}
 use Rattle.std.specs.Prelude.{slice_index_or}
 use Rattle.macho_unwind_pages.specs.Plans.{Row, page_list}
 use Rattle.macho_unwind_pages.specs.Paging.{globals_in}

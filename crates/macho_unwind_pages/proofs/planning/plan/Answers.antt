@@ -1,9 +1,9 @@
-use Rattle.std.proofs.Common.{◌≡◌, ◌+◌, ◌<◌, ◌≤◌, ◌^◌, ℕ, List, length, map, IsPermutation, sym, ap, subst, ◌∙◌, arith, rules}
-use Rattle.std.specs.List.{All, AllPairs}
+use Rattle.std.proofs.Common.{◌≡◌, ◌+◌, ◌<◌, ◌≤◌, ◌^◌, ℕ, List, length, map, sym, ap, subst, ◌∙◌, arith, rules}
+use Rattle.std.specs.List.{All}
 use Rattle.std.proofs.lemmas.List.Sorted.{All-permutation, length_permutation}
 use Rattle.macho_unwind_pages.specs.declared.entries.UnwindInput.{UnwindInput}
 use Rattle.macho_unwind_pages.specs.declared.entries.ResolvedUnwindInfo.{ResolvedUnwindInfo}
-use Rattle.macho_unwind_pages.specs.Entries.{IsLast, inputs_of, ids_of, code_in, codes_of}
+use Rattle.macho_unwind_pages.specs.Entries.{IsLast, ids_of, code_in}
 use Rattle.macho_unwind_pages.specs.Plans.{HasFarOffset, plan_list}
 use Rattle.macho_unwind_pages.specs.Planning.{IsNear, IsBehind, IsReady, IsAssembled}
 use Rattle.macho_unwind_pages.specs.Calls.{PlanFault}

@@ -1,6 +1,4 @@
-use Rattle.std.proofs.Common.{◌≡◌, ◌==◌, true, ap, sym, ◌∙◌, arith, rules}
-use Rattle.std.specs.List.{list_any}
-use Rattle.macho_unwind_pages.specs.Paging.{globals_in}
+use Rattle.std.proofs.Common.{sym, ◌∙◌, rules}
 use Rattle.macho_unwind_pages.proofs.Naming.{is_in}
 use Rattle.macho_unwind_pages.proofs.plans.Page.is_closed_to.Goals as goal
 

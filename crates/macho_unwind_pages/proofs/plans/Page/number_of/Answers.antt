@@ -1,7 +1,7 @@
 use Rattle.std.proofs.Common.{◌==◌, ap, sym, ◌∙◌, is_some}
 use Rattle.std.specs.List.{list_any}
 use Rattle.macho_unwind_pages.specs.Paging.{globals_in}
-use Rattle.macho_unwind_pages.proofs.Naming.{found_in_first, found_in_second}
+use Rattle.macho_unwind_pages.proofs.Naming.{found_in_second}
 use Rattle.macho_unwind_pages.proofs.plans.Page.number_of.Goals as goal
 
 pub returns-in-Some-number_in-clause-found : goal.returns-in-Some-number_in-clause-found
