@@ -15,3 +15,4 @@ pub mod EntryRows
 pub mod EntryLookup
 pub mod Rows
 pub mod Fitness
+pub mod OnePlace

@@ -2,7 +2,7 @@
 ghost use Rattle.std.specs.Prelude.{◌≡◌, ℕ, ◌<◌, ◌≤◌, [], length, IfOk, IfErr, OnOk};
 ghost use Rattle.macho_unwind_pages.specs.Entries.{MOST_PERSONALITIES, AreEntries, inputs_of, ids_of};
 ghost use Rattle.macho_unwind_pages.specs.Plans.{HasFarOffset};
-ghost use Rattle.macho_unwind.specs.Entries.{FindsEntries, FindsOnlyEntries, IsSectionOf, FitsTheBound, BuildFault};
+ghost use Rattle.macho_unwind.specs.Entries.{FindsEntries, FindsOnlyEntries, IsSectionOf, FitsTheBound, HasFarPage, BuildFault};
 
 use crate::writing::section_bytes;
 use macho_unwind_pages::{ResolvedUnwindInfo, UnwindFault, plan};
@@ -11,8 +11,8 @@ use std::alloc::Global;
 /// The section of entries, as bytes; no entries give no bytes.
 ///
 /// Starts are distinct and no address is below the text's start; `start + length` is below 2^64; equal ids have equal slots;
-/// bits 28 and 29 of encodings are clear. `TooManyPersonalities` is told of more than three ids, `OffsetTooLarge` where an
-/// offset from the text's start, or that of a page from the section's start, doesn't fit 32 bits.
+/// bits 28 and 29 of encodings are clear. `TooManyPersonalities` is told of more than three ids, else `OffsetTooLarge` exactly
+/// where an offset from the text's start, or that of a page from the section's start, doesn't fit 32 bits.
 pub fn build(
     alloc: Global,
     text_start: u64,
@@ -26,6 +26,7 @@ pub fn build(
     ensures room { IfOk result (λ v. FitsTheBound entries.now v.items) }
     ensures few { OnOk result (length (ids_of (inputs_of entries.now)) ≤ MOST_PERSONALITIES) }
     ensures near { OnOk result (HasFarOffset text_start entries.now → ⊥) }
+    ensures fits { OnOk result (HasFarPage text_start entries.now → ⊥) }
     ensures why { IfErr result (BuildFault text_start entries.now) }
 {
     if entries.is_empty() {

@@ -9,3 +9,6 @@ pub mod Charging
 pub mod Told
 pub mod Gathered
 pub mod Planned
+pub mod OneList
+pub mod OneDivision
+pub mod OnePlan

@@ -3,6 +3,7 @@ use Rattle.std.proofs.lemmas.Bool.Decides.{nat_tests}
 use Rattle.std.proofs.lemmas.List.{length-map}
 use Rattle.macho_unwind_pages.specs.Plans.{plan_list, page_list}
 use Rattle.macho_unwind.proofs.EntryLookup.{finds-entries, finds-only-entries, no-ids, some-page}
+use Rattle.macho_unwind.proofs.OnePlace.{no_far_page, no_page_at_all}
 use Rattle.macho_unwind.proofs.section.build.Goals as goal
 
 pub returns-then-is_empty-clause-few : goal.returns-then-is_empty-clause-few
@@ -39,3 +40,13 @@ returns-clause-only c =
       places = c.in_ok-bytes.ensures.places;
       is = c.in_ok-bytes.ensures.done;
     })
+
+pub returns-then-is_empty-clause-fits : goal.returns-then-is_empty-clause-fits
+returns-then-is_empty-clause-fits c =
+    let test = c.is_empty.ensures in
+    let empty = c.if-is_empty.true in
+    no_page_at_all c.args.text_start c.args.entries.now (grind (arith, nat_tests))
+
+pub returns-clause-fits : goal.returns-clause-fits
+returns-clause-fits c =
+    no_far_page c.args.text_start c.args.entries.now (plan_list c.in_ok-plan.plan) c.in_ok-plan.ensures.done c.in_ok-bytes.ensures.places
