@@ -47,10 +47,11 @@ FindsOnlyEntries text entries bytes = (offset : ℕ) (x : Found) → UnwindFinds
 abbrev pub FitsTheBound : List ResolvedUnwindInfo → List ℕ → Type 0
 FitsTheBound entries bytes = (span : ℕ) → SpansAtMost span entries → length bytes ≤ unwind_bound_of (inputs_of entries) span
 
--- The bytes are those of a plan of the entries, whose tables and pages have places of 32 bits.
+-- The bytes are those of the plan of the entries, which is the only one; its tables and pages have places of 32 bits.
 pub record IsSectionOf (text : ℕ) (entries : List ResolvedUnwindInfo) (bytes : List ℕ) : Type 0 where
   pub plan : PlanList
   pub of_entries : IsPlanOf text entries plan
+  pub one : (other : PlanList) → IsPlanOf text entries other → other ≡ plan
   pub places : HasPlaces plan
   pub is : bytes ≡ section_text plan
 

@@ -2,16 +2,17 @@
 --
 -- The new word's place is the new start less the page's first, above all places so far. If the page's list of codes grows, it
 -- grows at its end, so the codes of the words so far keep their numbers; the new code was on neither list, so codes differ.
-use Rattle.std.proofs.Common.{◌≡◌, ◌≢◌, ℕ, suc, ◌+◌, ◌/◌, ◌%◌, ◌^◌, ◌<◌, ◌≤◌, ◌==◌, Bool, false, not, cond, List, [], ◌∷◌, ◌++◌, length, map, get_or, slice_index, Contains, refl, sym, ap, subst, ◌∙◌, arith, inl, inr, ◌⊎◌, length-append, append_assoc}
+use Rattle.std.proofs.Common.{◌≡◌, ℕ, suc, ◌+◌, ◌/◌, ◌%◌, ◌^◌, ◌<◌, ◌≤◌, ◌==◌, Bool, false, not, cond, List, [], ◌∷◌, ◌++◌, length, map, get_or, slice_index, Contains, refl, sym, ap, subst, ◌∙◌, arith, inl, inr, ◌⊎◌, length-append, append_assoc}
 use Rattle.std.specs.List.{All, AllPairs, list_any}
 use Rattle.std.proofs.lemmas.Bool.{cases_lt, cases_Bool}
-use Rattle.std.proofs.lemmas.List.{get_or_append_left, get_or-append_right, get_or_default, map_push}
-use Rattle.std.proofs.lemmas.List.Elements.{All-push, Contains-append_left, Contains-append_right}
+use Rattle.std.proofs.lemmas.List.{get_or_append_left, get_or-append_right, map_push}
+use Rattle.std.proofs.lemmas.List.Elements.{All-push, All-contains, Contains-append_left, Contains-append_right}
 use Rattle.std.proofs.lemmas.List.Quantifiers.{all_pairs_push}
 use Rattle.macho_unwind_pages.specs.Bounds.{PAGE_SPAN, MOST_LOCALS, MOST_WORDS, locals_in}
-use Rattle.macho_unwind_pages.specs.Plans.{PageList, Row, IsNamed, IsPage, AreLocals, row_of, page_rows, first_row}
+use Rattle.macho_unwind_pages.specs.Plans.{PageList, Row, IsNamed, IsPage, AreLocals, row_of, page_rows, codes_on, first_place, first_row}
 use Rattle.macho_unwind_pages.specs.Paging.{IsFull, IsOpenTo, Adds, HasFewLocals, empty_page}
 use Rattle.macho_unwind_pages.proofs.Naming.{is_in}
+use Rattle.macho_unwind_pages.proofs.FirstUses.{first_inside, first_stays, first_at_end, names_codes}
 use Rattle.std.proofs.lemmas.List.Sums.{sum_by-append}
 
 -- a page as it is made; it may have no function yet
@@ -59,9 +60,9 @@ empty_is_open globals first h = record {
   codes = λ k d within. absurd (omega arith);
   few = omega arith;
   own = record {
-    distinct = λ i j d low within. absurd (omega arith);
-    own = λ k d within. absurd (omega arith);
     used = λ k d within. absurd (omega arith);
+    own = λ k d within. absurd (omega arith);
+    order = λ i j d low within. absurd (omega arith);
   };
 }
 
@@ -120,36 +121,60 @@ first_new globals first new row behind a =
 pub words_more : (globals : List ℕ) (old new : PageList) (row : Row) → Adds globals old new row → length new.words ≡ length old.words + 1
 words_more globals old new row a = omega (arith, ap length a.words, length-append old.words (a.word ∷ []))
 
+codes_more : (globals : List ℕ) (old new : PageList) (row : Row) → old.first ≤ row.start → IsOpenPage globals old
+    → Adds globals old new row → codes_on globals new ≡ codes_on globals old ++ row.code ∷ []
+codes_more globals old new row behind page a =
+    ap (map (λ (r : Row). r.code)) (rows_more globals old new row behind page a) ∙ map_push (λ (r : Row). r.code) (page_rows globals old) row
+
 own_more : (globals : List ℕ) (old new : PageList) (row : Row) → old.first ≤ row.start → IsOpenPage globals old → Adds globals old new row
     → AreLocals globals new
 own_more globals old new row behind page a =
     go a.locals
   where
-    codes_are : map (λ r. r.code) (page_rows globals new) ≡ map (λ r. r.code) (page_rows globals old) ++ row.code ∷ []
-    codes_are = ap (map (λ (r : Row). r.code)) (rows_more globals old new row behind page a) ∙ map_push (λ (r : Row). r.code) (page_rows globals old) row
+    codes_are : codes_on globals new ≡ codes_on globals old ++ row.code ∷ []
+    codes_are = codes_more globals old new row behind page a
 
-    kept : All (λ code. Contains (map (λ r. r.code) (page_rows globals new)) code) old.locals
+    kept : All (λ code. Contains (codes_on globals new) code) old.locals
     kept k d h = subst (λ l. Contains l (get_or old.locals k d)) (sym codes_are)
         (Contains-append_left _ (row.code ∷ []) _ (page.own.used k d h))
 
-    last : Contains (map (λ r. r.code) (page_rows globals new)) row.code
-    last = subst (λ l. Contains l row.code) (sym codes_are) (Contains-append_right (map (λ (r : Row). r.code) (page_rows globals old)) (row.code ∷ []) row.code (0, omega arith, refl))
+    last : Contains (codes_on globals new) row.code
+    last = subst (λ l. Contains l row.code) (sym codes_are)
+        (Contains-append_right (codes_on globals old) (row.code ∷ []) row.code (0, omega arith, refl))
+
+    stays : (k d : ℕ) → k < length old.locals
+        → first_place (codes_on globals new) (get_or old.locals k d) ≡ first_place (codes_on globals old) (get_or old.locals k d)
+    stays k d h = ap (λ l. first_place l (get_or old.locals k d)) codes_are
+        ∙ first_stays (codes_on globals old) (row.code ∷ []) (get_or old.locals k d) (page.own.used k d h)
+
+    order : AllPairs (λ x y. first_place (codes_on globals new) x < first_place (codes_on globals new) y) old.locals
+    order i j d low h = omega (arith, page.own.order i j d low h, stays i d (omega arith), stays j d h)
+
+    at_end : ¬ IsNamed globals old row.code → first_place (codes_on globals new) row.code ≡ length (codes_on globals old)
+    at_end absent = ap (λ l. first_place l row.code) codes_are
+        ∙ first_at_end (codes_on globals old) row.code (λ there.
+        absent (All-contains (IsNamed globals old) (codes_on globals old) row.code (names_codes globals old page.named) there))
 
     go : (new.locals ≡ old.locals) ⊎ ((new.locals ≡ old.locals ++ row.code ∷ []) × ¬ IsNamed globals old row.code) → AreLocals globals new
     go (inl same) = record {
-      distinct = subst (AllPairs (λ a b. a ≢ b)) (sym same) page.own.distinct;
+      used = subst (All (λ code. Contains (codes_on globals new) code)) (sym same) kept;
       own = subst (All (λ code. ¬ Contains globals code)) (sym same) page.own.own;
-      used = subst (All (λ code. Contains (map (λ r. r.code) (page_rows globals new)) code)) (sym same) kept;
+      order = subst (AllPairs (λ x y. first_place (codes_on globals new) x < first_place (codes_on globals new) y)) (sym same) order;
     }
     go (inr more) = record {
-      distinct = subst (AllPairs (λ a b. a ≢ b)) (sym more.0)
-          (all_pairs_push (λ a b. a ≢ b) old.locals row.code page.own.distinct
-          (λ k d h e. more.1 (Contains-append_right globals old.locals row.code (k, h, get_or_default old.locals k row.code d h ∙ e))));
+      used = subst (All (λ code. Contains (codes_on globals new) code)) (sym more.0)
+          (All-push (λ code. Contains (codes_on globals new) code) old.locals row.code kept last);
       own = subst (All (λ code. ¬ Contains globals code)) (sym more.0)
           (All-push (λ code. ¬ Contains globals code) old.locals row.code page.own.own
           (λ there. more.1 (Contains-append_left globals old.locals row.code there)));
-      used = subst (All (λ code. Contains (map (λ r. r.code) (page_rows globals new)) code)) (sym more.0)
-          (All-push (λ code. Contains (map (λ r. r.code) (page_rows globals new)) code) old.locals row.code kept last);
+      order = subst (AllPairs (λ x y. first_place (codes_on globals new) x < first_place (codes_on globals new) y)) (sym more.0)
+          (all_pairs_push (λ x y. first_place (codes_on globals new) x < first_place (codes_on globals new) y) old.locals row.code order
+          (λ k d h. omega (
+            arith,
+            stays k d h,
+            at_end more.1,
+            first_inside (codes_on globals old) (get_or old.locals k d) (page.own.used k d h),
+          )));
     }
 
 few_more : (globals : List ℕ) (old new : PageList) (row : Row) → old.first ≤ row.start → IsOpenPage globals old → Adds globals old new row
@@ -157,13 +182,13 @@ few_more : (globals : List ℕ) (old new : PageList) (row : Row) → old.first �
 few_more globals old new row behind page a =
     go a.locals
   where
-    codes_are : map (λ r. r.code) (page_rows globals new) ≡ map (λ r. r.code) (page_rows globals old) ++ row.code ∷ []
-    codes_are = ap (map (λ (r : Row). r.code)) (rows_more globals old new row behind page a) ∙ map_push (λ (r : Row). r.code) (page_rows globals old) row
+    codes_are : codes_on globals new ≡ codes_on globals old ++ row.code ∷ []
+    codes_are = codes_more globals old new row behind page a
 
-    parts : locals_in globals (map (λ r. r.code) (page_rows globals new))
-        ≡ locals_in globals (map (λ r. r.code) (page_rows globals old)) + locals_in globals (row.code ∷ [])
+    parts : locals_in globals (codes_on globals new)
+        ≡ locals_in globals (codes_on globals old) + locals_in globals (row.code ∷ [])
     parts = ap (locals_in globals) codes_are
-        ∙ sum_by-append (λ code. cond (not (list_any (λ global. code == global) globals)) 1 0) (map (λ (r : Row). r.code) (page_rows globals old)) (row.code ∷ [])
+        ∙ sum_by-append (λ code. cond (not (list_any (λ global. code == global) globals)) 1 0) (codes_on globals old) (row.code ∷ [])
 
     one : list_any (λ global. row.code == global) globals ≡ false → locals_in globals (row.code ∷ []) ≡ 1
     one out = ap (λ (b : Bool). 0 + cond (not b) 1 0) out

@@ -3,6 +3,7 @@ pub mod Numbers
 pub mod Ranked
 pub mod Tallying
 pub mod Naming
+pub mod FirstUses
 pub mod Growing
 pub mod PagesMade
 pub mod Charging
@@ -10,5 +11,7 @@ pub mod Told
 pub mod Gathered
 pub mod Planned
 pub mod OneList
+pub mod OnePage
 pub mod OneDivision
+pub mod OneTables
 pub mod OnePlan

@@ -4,17 +4,18 @@
 -- function. Were p shorter, it would be closed to a function that stands on q behind all of p's. That function isn't too far
 -- away, since a word of q tells its place. All codes that p names alone are of p's functions, so q names them alone too, and
 -- if p doesn't name the function's code, q names one code more, as codes are distinct. So p's 32 codes would be 33 on q, and
--- where p has no room, q would have none. So p and q have the same functions, and so on with the pages behind them. Then
--- each page names as many codes alone as its fellow, so both have the same size.
-use Rattle.std.proofs.Common.{◌≡◌, ◌≢◌, ℕ, zero, suc, ◌+◌, ◌<◌, ◌≤◌, List, [], ◌∷◌, ◌++◌, length, map, drop, get_or, slice_index, Contains, refl, sym, ap, subst, ◌∙◌, arith, inl, inr, length-append}
-use Rattle.std.specs.List.{All, AllPairs, flat_map}
+-- where p has no room, q would have none. So p and q have the same functions, and are one page; and so on behind them.
+use Rattle.std.proofs.Common.{◌≡◌, ◌≢◌, ℕ, zero, suc, ◌+◌, ◌<◌, ◌≤◌, List, [], ◌∷◌, ◌++◌, length, map, drop, get_or, Contains, refl, sym, ap, subst, ◌∙◌, arith, inl, inr, length-append}
+use Rattle.std.specs.List.{All, flat_map}
 use Rattle.std.proofs.lemmas.Bool.{cases_lt}
-use Rattle.std.proofs.lemmas.List.{length-map, map-append, append-nil, get_or_default}
-use Rattle.std.proofs.lemmas.List.Elements.{All-map, All-contains, All-tail, Contains-get_or, Contains-append_left, Contains-append_right, Contains-append_cases}
+use Rattle.std.proofs.lemmas.List.{length-map, append-nil, get_or_default, nil_from_length}
+use Rattle.std.proofs.lemmas.List.Elements.{All-contains, All-tail, Contains-append_left, Contains-append_right, Contains-append_cases}
 use Rattle.std.proofs.lemmas.List.Quantifiers.{all_pairs_push}
 use Rattle.macho_unwind_pages.specs.Bounds.{PAGE_SPAN}
-use Rattle.macho_unwind_pages.specs.Plans.{PageList, Row, IsNamed, IsPage, IsClosedTo, AreClosed, AreLocals, row_of, page_rows, first_row, page_size}
-use Rattle.macho_unwind_pages.proofs.OneList.{goes_on, no_more}
+use Rattle.macho_unwind_pages.specs.Plans.{PageList, Row, IsNamed, IsPage, IsClosedTo, AreClosed, AreLocals, row_of, page_rows, first_row}
+use Rattle.macho_unwind_pages.proofs.FirstUses.{names_all}
+use Rattle.macho_unwind_pages.proofs.OneList.{AreDistinct, goes_on, no_more}
+use Rattle.macho_unwind_pages.proofs.OnePage.{begins, starts, distinct, near_all, own_one, locals_stay, same_page}
 
 -- a division of functions into pages
 pub record IsDivision (globals : List ℕ) (pages : List PageList) : Type 0 where
@@ -28,57 +29,9 @@ rest_of globals page pages d = record {
   locals = All-tail (AreLocals globals) page pages d.locals;
   closed = λ k e within.
       let at : suc k + 1 ≡ suc (k + 1) = omega arith in
-      subst (λ j. IsClosedTo globals (get_or pages k e) (first_row globals (get_or (page ∷ pages) j e))) at (d.closed (suc k) e (omega arith));
+      subst (λ j. IsClosedTo globals (get_or pages k e) (first_row globals (get_or (page ∷ pages) j e))) at
+      (d.closed (suc k) e (omega arith));
 }
-
-first_of : (f : ℕ → Row) (words : List ℕ) → 0 < length words → map f words ≡ f (slice_index words 0) ∷ map f (drop 1 words)
-first_of f [] some = absurd (omega arith)
-first_of f (w ∷ words) some = refl
-
--- the functions of a page begin with its first one, which starts where the page does
-begins : (globals : List ℕ) (page : PageList) → IsPage globals page
-    → page_rows globals page ≡ first_row globals page ∷ map (row_of globals page) (drop 1 page.words)
-begins globals page is = first_of (row_of globals page) page.words is.some
-
-starts : (globals : List ℕ) (page : PageList) → IsPage globals page → (first_row globals page).start ≡ page.first
-starts globals page is = omega (arith, is.first)
-
--- the codes of a page's functions
-abbrev pub codes_on : List ℕ → PageList → List ℕ
-codes_on globals page = map (λ row. row.code) (page_rows globals page)
-
--- a page names the code of each of its functions
-names_all : (globals : List ℕ) (page : PageList) → IsPage globals page → All (λ row. IsNamed globals page row.code) (page_rows globals page)
-names_all globals page is =
-    All-map (λ row. IsNamed globals page row.code) (row_of globals page) page.words
-    (λ k d within. Contains-get_or (globals ++ page.locals) _ 0 (omega (arith, is.named k d within, length-append globals page.locals)))
-
-names_codes : (globals : List ℕ) (page : PageList) → IsPage globals page → All (IsNamed globals page) (codes_on globals page)
-names_codes globals page is = All-map (IsNamed globals page) (λ (row : Row). row.code) (page_rows globals page) (names_all globals page is)
-
--- each of its functions is near
-near_all : (globals : List ℕ) (page : PageList) → All (λ row. row.start < page.first + PAGE_SPAN) (page_rows globals page)
-near_all globals page =
-    All-map (λ row. row.start < page.first + PAGE_SPAN) (row_of globals page) page.words (λ k d within. omega arith)
-
--- a code that a page names and that isn't for every page is its own
-own_one : (globals : List ℕ) (page : PageList) (code : ℕ) → IsNamed globals page code → ¬ Contains globals code → Contains page.locals code
-own_one globals page code named not_global = elim (Contains-append_cases globals page.locals code named) [
-  | inl global ↦ absurd (not_global global)
-  | inr own ↦ own
-]
-
--- the codes that a page names alone, on one that goes on with more functions
-pub locals_stay : (globals : List ℕ) (p q : PageList) (more : List Row) → AreLocals globals p → IsPage globals q
-    → page_rows globals q ≡ page_rows globals p ++ more → (code : ℕ) → Contains p.locals code → Contains q.locals code
-locals_stay globals p q more own is cut code there =
-    let used : Contains (codes_on globals p) code = All-contains (Contains (codes_on globals p)) p.locals code own.used there in
-    let joined : codes_on globals q ≡ codes_on globals p ++ map (λ row. row.code) more
-    = ap (map (λ (row : Row). row.code)) cut ∙ map-append (λ (row : Row). row.code) (page_rows globals p) more in
-    let on_q : Contains (codes_on globals q) code
-    = subst (λ l. Contains l code) (sym joined) (Contains-append_left (codes_on globals p) (map (λ row. row.code) more) code used) in
-    own_one globals q code (All-contains (IsNamed globals q) (codes_on globals q) code (names_codes globals q is) on_q)
-    (All-contains (λ c. ¬ Contains globals c) p.locals code own.own there)
 
 -- one code more
 locals_grow : (globals : List ℕ) (p q : PageList) (row : Row) (more : List Row) → AreLocals globals p → IsPage globals q
@@ -87,15 +40,16 @@ locals_grow globals p q row more own is cut absent =
     let fits : length (p.locals ++ row.code ∷ []) ≤ length q.locals = no_more (p.locals ++ row.code ∷ []) q.locals apart sub in
     omega (arith, fits, length-append p.locals (row.code ∷ []))
   where
-    apart : AllPairs (λ a b. a ≢ b) (p.locals ++ row.code ∷ [])
-    apart = all_pairs_push (λ a b. a ≢ b) p.locals row.code own.distinct
+    apart : AreDistinct (p.locals ++ row.code ∷ [])
+    apart = all_pairs_push (λ a b. a ≢ b) p.locals row.code (distinct globals p own)
         (λ k d h e. absent (Contains-append_right globals p.locals row.code (k, h, get_or_default p.locals k row.code d h ∙ e)))
 
     there : Contains (page_rows globals q) row
     there = subst (λ l. Contains l row) (sym cut) (Contains-append_right (page_rows globals p) (row ∷ more) row (0, omega arith, refl))
 
     here : Contains q.locals row.code
-    here = own_one globals q row.code (All-contains (λ r. IsNamed globals q r.code) (page_rows globals q) row (names_all globals q is) there)
+    here = own_one globals q row.code
+        (All-contains (λ r. IsNamed globals q r.code) (page_rows globals q) row (names_all globals q is.named) there)
         (λ global. absent (Contains-append_left globals p.locals row.code global))
 
     sub : (x : ℕ) → Contains (p.locals ++ row.code ∷ []) x → Contains q.locals x
@@ -136,10 +90,14 @@ not_cut globals p q row more is_p is_q own cut shut =
     )
 
     no_fewer : length p.locals ≤ length q.locals
-    no_fewer = no_more p.locals q.locals own.distinct (locals_stay globals p q (row ∷ more) own is_q cut)
+    no_fewer = no_more p.locals q.locals (distinct globals p own) (locals_stay globals p q (row ∷ more) own is_q cut)
 
     go : IsClosedTo globals p row → ⊥
-    go (inl far) = omega (arith, All-contains (λ r. r.start < q.first + PAGE_SPAN) (page_rows globals q) row (near_all globals q) there, same_first)
+    go (inl far) = omega (
+      arith,
+      All-contains (λ r. r.start < q.first + PAGE_SPAN) (page_rows globals q) row (near_all globals q) there,
+      same_first,
+    )
     go (inr (inl (absent, many))) = omega (arith, locals_grow globals p q row more own is_q cut absent, is_q.locals)
     go (inr (inr (inl (absent, many)))) = omega (arith, locals_grow globals p q row more own is_q cut absent, is_q.room, longer)
     go (inr (inr (inr many))) = omega (arith, is_q.room, longer, no_fewer)
@@ -151,7 +109,8 @@ no_shorter : (globals : List ℕ) (p q : PageList) (ps qs : List PageList) → I
 no_shorter globals p q ps qs dp dq same = elim (cases_lt (length (page_rows globals p)) (length (page_rows globals q))) [
   | inr enough ↦ enough
   | inl less ↦
-      let on = goes_on (page_rows globals p) (flat_map (page_rows globals) ps) (page_rows globals q) (flat_map (page_rows globals) qs) same (omega arith) in
+      let on = goes_on (page_rows globals p) (flat_map (page_rows globals) ps) (page_rows globals q) (flat_map (page_rows globals) qs) same
+      (omega arith) in
       absurd (cut on.0 ps on.1 on.2 less dp)
 ]
   where
@@ -169,7 +128,8 @@ no_shorter globals p q ps qs dp dq same = elim (cases_lt (length (page_rows glob
         not_cut globals p q row mid (d.each 0 p (omega arith)) (dq.each 0 q (omega arith)) (d.locals 0 p (omega arith)) is
         (subst (IsClosedTo globals p) front (d.closed 0 p (omega arith)))
 
-some_rows : (globals : List ℕ) (p : PageList) (ps : List PageList) → IsDivision globals (p ∷ ps) → flat_map (page_rows globals) (p ∷ ps) ≡ [] → ⊥
+some_rows : (globals : List ℕ) (p : PageList) (ps : List PageList) → IsDivision globals (p ∷ ps)
+    → flat_map (page_rows globals) (p ∷ ps) ≡ [] → ⊥
 some_rows globals p ps d none =
     let is : IsPage globals p = d.each 0 p (omega arith) in
     omega (
@@ -180,53 +140,24 @@ some_rows globals p ps d none =
       is.some,
     )
 
-no_items : {X : Type 0} (xs : List X) → length xs ≡ 0 → xs ≡ []
-no_items [] none = refl
-no_items (x ∷ xs) none = absurd (omega arith)
-
--- two divisions of the same functions have the same functions page by page
-pub same_rows : (globals : List ℕ) (ps qs : List PageList) → IsDivision globals ps → IsDivision globals qs
-    → flat_map (page_rows globals) ps ≡ flat_map (page_rows globals) qs → map (page_rows globals) ps ≡ map (page_rows globals) qs
-same_rows globals [] [] dp dq same = refl
-same_rows globals [] (q ∷ qs) dp dq same = absurd (some_rows globals q qs dq (sym same))
-same_rows globals (p ∷ ps) [] dp dq same = absurd (some_rows globals p ps dp same)
-same_rows globals (p ∷ ps) (q ∷ qs) dp dq same =
+-- two divisions of the same functions are one
+pub same_pages : (globals : List ℕ) (ps qs : List PageList) → AreDistinct globals → IsDivision globals ps → IsDivision globals qs
+    → flat_map (page_rows globals) ps ≡ flat_map (page_rows globals) qs → ps ≡ qs
+same_pages globals [] [] once dp dq same = refl
+same_pages globals [] (q ∷ qs) once dp dq same = absurd (some_rows globals q qs dq (sym same))
+same_pages globals (p ∷ ps) [] once dp dq same = absurd (some_rows globals p ps dp same)
+same_pages globals (p ∷ ps) (q ∷ qs) once dp dq same =
     let long = no_shorter globals p q ps qs dp dq same in
     let short = no_shorter globals q p qs ps dq dp (sym same) in
-    let on = goes_on (page_rows globals p) (flat_map (page_rows globals) ps) (page_rows globals q) (flat_map (page_rows globals) qs) same short in
+    let on = goes_on (page_rows globals p) (flat_map (page_rows globals) ps) (page_rows globals q) (flat_map (page_rows globals) qs) same
+    short in
     let none : length on.0 ≡ 0 = omega (arith, ap length on.1, length-append (page_rows globals p) on.0) in
-    let empty : on.0 ≡ [] = no_items on.0 none in
-    let here : page_rows globals q ≡ page_rows globals p = on.1 ∙ ap (λ l. page_rows globals p ++ l) empty ∙ append-nil (page_rows globals p) in
-    let behind : flat_map (page_rows globals) ps ≡ flat_map (page_rows globals) qs = on.2 ∙ ap (λ l. l ++ flat_map (page_rows globals) qs) empty in
-    ap (λ l. l ∷ map (page_rows globals) ps) (sym here)
-    ∙ ap (λ l. page_rows globals q ∷ l) (same_rows globals ps qs (rest_of globals p ps dp) (rest_of globals q qs dq) behind)
-
--- pages with the same functions have the same size
-same_size : (globals : List ℕ) (p q : PageList) → IsPage globals p → IsPage globals q → AreLocals globals p → AreLocals globals q
-    → page_rows globals p ≡ page_rows globals q → page_size p ≡ page_size q
-same_size globals p q is_p is_q own_p own_q same =
-    let words : length p.words ≡ length q.words = omega (
-      arith,
-      ap length same,
-      length-map p.words (row_of globals p),
-      length-map q.words (row_of globals q),
-    ) in
-    omega (
-      arith,
-      words,
-      no_more p.locals q.locals own_p.distinct (locals_stay globals p q [] own_p is_q (sym same ∙ sym (append-nil (page_rows globals p)))),
-      no_more q.locals p.locals own_q.distinct (locals_stay globals q p [] own_q is_p (same ∙ sym (append-nil (page_rows globals q)))),
-    )
-
--- the pages of two divisions of the same functions have the same sizes
-pub same_sizes : (globals : List ℕ) (ps qs : List PageList) → IsDivision globals ps → IsDivision globals qs
-    → map (page_rows globals) ps ≡ map (page_rows globals) qs → map page_size ps ≡ map page_size qs
-same_sizes globals [] [] dp dq same = refl
-same_sizes globals [] (q ∷ qs) dp dq same = absurd (omega (arith, ap length same))
-same_sizes globals (p ∷ ps) [] dp dq same = absurd (omega (arith, ap length same))
-same_sizes globals (p ∷ ps) (q ∷ qs) dp dq same =
-    let here : page_rows globals p ≡ page_rows globals q = cc in
-    let behind : map (page_rows globals) ps ≡ map (page_rows globals) qs = cc in
-    let size = same_size globals p q (dp.each 0 p (omega arith)) (dq.each 0 q (omega arith)) (dp.locals 0 p (omega arith)) (dq.locals 0 q (omega arith)) here in
-    ap (λ n. n ∷ map page_size ps) size
-    ∙ ap (λ l. page_size q ∷ l) (same_sizes globals ps qs (rest_of globals p ps dp) (rest_of globals q qs dq) behind)
+    let empty : on.0 ≡ [] = nil_from_length on.0 none in
+    let here : page_rows globals q ≡ page_rows globals p
+    = on.1 ∙ ap (λ l. page_rows globals p ++ l) empty ∙ append-nil (page_rows globals p) in
+    let behind : flat_map (page_rows globals) ps ≡ flat_map (page_rows globals) qs
+    = on.2 ∙ ap (λ l. l ++ flat_map (page_rows globals) qs) empty in
+    let one : p ≡ q
+    = same_page globals p q once (dp.each 0 p (omega arith)) (dq.each 0 q (omega arith)) (dp.locals 0 p (omega arith))
+    (dq.locals 0 q (omega arith)) (sym here) in
+    ap (λ l. l ∷ ps) one ∙ ap (λ l. q ∷ l) (same_pages globals ps qs once (rest_of globals p ps dp) (rest_of globals q qs dq) behind)

@@ -66,8 +66,12 @@ goes_on (x ∷ xs) ys (z ∷ zs) ws same short =
     let rest = goes_on xs ys zs ws (cc) (omega arith) in
     (rest.0, ap (λ v. v ∷ zs) (sym front) ∙ ap (λ l. x ∷ l) rest.1, rest.2)
 
+-- no number stands twice
+abbrev pub AreDistinct : List ℕ → Type 0
+AreDistinct xs = AllPairs (λ a b. a ≢ b) xs
+
 -- distinct elements of a list are no more than its elements
-pub no_more : (xs ys : List ℕ) → AllPairs (λ a b. a ≢ b) xs → ((x : ℕ) → Contains xs x → Contains ys x) → length xs ≤ length ys
+pub no_more : (xs ys : List ℕ) → AreDistinct xs → ((x : ℕ) → Contains xs x → Contains ys x) → length xs ≤ length ys
 no_more xs ys distinct sub =
     length-le_from_is_member nat_eq_equiv xs ys (IsDistinct-from_AllPairs Decides-eqb xs distinct)
     (λ q h. list_any-from_Contains nat_eq_equiv q ys (sub q (Contains-from_any eqb-true q xs h)))

@@ -4,8 +4,8 @@
 -- keeps a list rising and adds that number alone, so the numbers of a list in order rise and are the same numbers. Two
 -- rising lists of the same numbers are one: their first numbers are equal, since otherwise the one that comes before the
 -- other would be missing in the other list; and what follows is again two rising lists of the same numbers.
-use Rattle.std.proofs.Common.{◌≡◌, ℕ, ◌≤◌, ◌==◌, ◌||◌, Bool, true, false, nat_lt, List, [], ◌∷◌, ◌++◌, length, refl, sym, ap, subst, ◌∙◌, arith, rules, inl, inr, append_assoc}
-use Rattle.std.specs.List.{list_any}
+use Rattle.std.proofs.Common.{◌≡◌, ◌≢◌, ℕ, zero, suc, ◌<◌, ◌≤◌, ◌==◌, ◌||◌, Bool, true, false, nat_lt, List, [], ◌∷◌, ◌++◌, length, get_or, refl, sym, ap, subst, ◌∙◌, arith, rules, inl, inr, append_assoc}
+use Rattle.std.specs.List.{AllPairs, list_any}
 use Rattle.std.proofs.lemmas.Bool.{cases_Bool, eqb-true, eqb-false, eq-eqb, ne_eqb, cases_eq}
 use Rattle.std.proofs.lemmas.Bool.Decides.{nat_tests}
 use Rattle.macho_unwind_pages.specs.Orders.{put_in_order, in_order}
@@ -187,3 +187,16 @@ length-in_order before xs (z ∷ zs) s =
     let here = ap length (in_order-more before xs z s) in
     let e : in_order before ((xs ++ z ∷ []) ++ zs) ≡ in_order before (xs ++ z ∷ zs) = ap (in_order before) (append_assoc xs (z ∷ []) zs) in
     omega (arith, more, here, ap length e, length-put before z (in_order before xs))
+
+above_at : (before : ℕ → ℕ → Bool) (x : ℕ) (ys : List ℕ) (j d : ℕ) → Above before x ys → j < length ys → before x (get_or ys j d) ≡ true
+above_at before x [] j d above within = absurd (omega arith)
+above_at before x (y ∷ ys) zero d above within = above.0
+above_at before x (y ∷ ys) (suc j) d above within = above_at before x ys j d above.1 (omega arith)
+
+-- rising numbers are distinct
+pub rises_once : (before : ℕ → ℕ → Bool) (xs : List ℕ) → IsStrict before → Rises before xs → AllPairs (λ a b. a ≢ b) xs
+rises_once before [] s rises i j d low within same = omega arith
+rises_once before (x ∷ xs) s rises i zero d low within same = omega arith
+rises_once before (x ∷ xs) s rises zero (suc j) d low within same =
+    not_itself before x s (subst (λ w. before x w ≡ true) (sym same) (above_at before x xs j d rises.0 (omega arith)))
+rises_once before (x ∷ xs) s rises (suc i) (suc j) d low within same = rises_once before xs s rises.1 i j d (omega arith) (omega arith) same

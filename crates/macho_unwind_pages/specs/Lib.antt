@@ -6,3 +6,4 @@ pub mod Plans
 pub mod Paging
 pub mod Planning
 pub mod Calls
+pub mod Laws

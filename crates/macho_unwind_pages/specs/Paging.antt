@@ -1,10 +1,10 @@
 -- Pages as they are made: a page takes one function more, or it is closed to it.
-use Rattle.std.specs.Prelude.{◌≡◌, ℕ, ◌+◌, ◌-◌, ◌/◌, ◌%◌, ◌^◌, ◌<◌, ◌≤◌, ◌⊎◌, List, [], ◌∷◌, ◌++◌, length, flat_map, map, take, All}
+use Rattle.std.specs.Prelude.{◌≡◌, ℕ, ◌+◌, ◌-◌, ◌/◌, ◌%◌, ◌^◌, ◌<◌, ◌≤◌, ◌⊎◌, List, [], ◌∷◌, ◌++◌, length, flat_map, take, All}
 use Rattle.std.specs.List.{AllPairs}
 use Rattle.indexmap.specs.IndexMap.{IndexMap, keys}
 use Rattle.macho_unwind_pages.specs.Bounds.{PAGE_SPAN, MOST_GLOBALS, MOST_LOCALS, MOST_WORDS, locals_in}
 use Rattle.macho_unwind_pages.specs.Ranks.{IsNumberOf}
-use Rattle.macho_unwind_pages.specs.Plans.{PageList, Row, IsNamed, IsPage, AreLocals, AreClosed, page_rows}
+use Rattle.macho_unwind_pages.specs.Plans.{PageList, Row, IsNamed, IsPage, AreLocals, AreClosed, page_rows, codes_on}
 
 -- the codes of a table that every page may name
 abbrev pub globals_in : {S : Type 0} → IndexMap ℕ ℕ S → List ℕ
@@ -16,7 +16,7 @@ empty_page first = record { first = first; words = []; locals = [] }
 
 -- A page has no more codes of its own than functions with a code that not every page may name.
 abbrev pub HasFewLocals : List ℕ → PageList → Type 0
-HasFewLocals globals page = length page.locals ≤ locals_in globals (map (λ row. row.code) (page_rows globals page))
+HasFewLocals globals page = length page.locals ≤ locals_in globals (codes_on globals page)
 
 -- a page that has codes of its own stands beside as many global ones as there may be
 abbrev pub IsFull : List ℕ → PageList → Type 0

@@ -1,8 +1,8 @@
 -- What a plan says, and when it is a plan of entries. A plan is the unwind section before it is bytes
 -- (mach-o/compact_unwind_encoding.h: unwind_info_section_header, unwind_info_compressed_second_level_page_header).
 pub use Rattle.macho_unwind_pages.specs.declared.paging.Row.{Row}
-use Rattle.std.specs.Prelude.{◌≡◌, ◌≢◌, ℕ, ◌+◌, ◌-◌, ◌*◌, ◌/◌, ◌%◌, ◌^◌, ◌<◌, ◌≤◌, ◌⊎◌, Option, None, Some, IfSome, IsSomeAnd, List, [], ◌∷◌, ◌++◌, length, map, flat_map, slice_get, slice_index, slice_index_or, All, Contains, sum_by}
-use Rattle.std.specs.List.{AllPairs}
+use Rattle.std.specs.Prelude.{◌≡◌, ℕ, ◌+◌, ◌-◌, ◌*◌, ◌/◌, ◌%◌, ◌^◌, ◌<◌, ◌≤◌, ◌==◌, ◌⊎◌, Option, None, Some, IfSome, IsSomeAnd, List, [], ◌∷◌, ◌++◌, length, map, flat_map, slice_get, slice_index, slice_index_or, All, Contains, sum_by}
+use Rattle.std.specs.List.{AllPairs, position_or_len}
 use Rattle.std.specs.List.Sorted.{IsPermutation}
 use Rattle.macho_unwind_pages.specs.declared.entries.ResolvedUnwindInfo.{ResolvedUnwindInfo}
 use Rattle.macho_unwind_pages.specs.declared.plans.Page.{Page}
@@ -120,11 +120,20 @@ AreClosed globals pages =
     (k : ℕ) (d : PageList) → k + 1 < length pages
     → IsClosedTo globals (slice_index_or pages k d) (first_row globals (slice_index_or pages (k + 1) d))
 
--- A page's own codes: each once, none that every page may name, and each of a function of the page.
+-- the codes of a page's functions
+abbrev pub codes_on : List ℕ → PageList → List ℕ
+codes_on globals page = map (λ row. row.code) (page_rows globals page)
+
+-- where a code first stands in a list
+abbrev pub first_place : List ℕ → ℕ → ℕ
+first_place codes code = position_or_len (λ other. code == other) codes
+
+-- A page's own codes: each of a function of the page, none that every page may name, each once and in the order of their
+-- first use.
 pub record AreLocals (globals : List ℕ) (page : PageList) : Type 0 where
-  pub distinct : AllPairs (λ a b. a ≢ b) page.locals
+  pub used : All (λ code. Contains (codes_on globals page) code) page.locals
   pub own : All (λ code. ¬ Contains globals code) page.locals
-  pub used : All (λ code. Contains (map (λ row. row.code) (page_rows globals page)) code) page.locals
+  pub order : AllPairs (λ a b. first_place (codes_on globals page) a < first_place (codes_on globals page) b) page.locals
 
 -- The slot of each entry's personality stands at its number.
 abbrev pub HasSlot : ℕ → List ℕ → List ℕ → ResolvedUnwindInfo → Type 0

@@ -3,6 +3,7 @@
 
 mod bound;
 mod entries;
+mod laws;
 mod numbering;
 mod offsets;
 mod paging;
@@ -14,6 +15,7 @@ mod tests;
 
 pub use bound::{output_size, unwind_bound};
 pub use entries::{Personality, ResolvedUnwindInfo, UnwindFault, UnwindInput};
+pub use laws::plans_are_one;
 pub use paging::Row;
 pub use planning::plan;
 pub use plans::{Lsda, Page, Plan};

@@ -18,7 +18,7 @@ pub struct Page {
     pub first: u32,
     /// A word for each function.
     pub words: Vec<u32>,
-    /// The encodings that only this page names.
+    /// The encodings that only this page names, by their first use.
     pub locals: Vec<u32>,
 }
 

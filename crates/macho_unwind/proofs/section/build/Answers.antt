@@ -3,7 +3,7 @@ use Rattle.std.proofs.lemmas.Bool.Decides.{nat_tests}
 use Rattle.std.proofs.lemmas.List.{length-map}
 use Rattle.macho_unwind_pages.specs.Plans.{plan_list, page_list}
 use Rattle.macho_unwind.proofs.EntryLookup.{finds-entries, finds-only-entries, no-ids, some-page}
-use Rattle.macho_unwind.proofs.OnePlace.{no_far_page, no_page_at_all}
+use Rattle.macho_unwind.proofs.OnePlace.{is_section, no_far_page, no_page_at_all}
 use Rattle.macho_unwind.proofs.section.build.Goals as goal
 
 pub returns-then-is_empty-clause-few : goal.returns-then-is_empty-clause-few
@@ -25,21 +25,26 @@ section_bytes-requires-clause-some c =
 
 pub returns-clause-found : goal.returns-clause-found
 returns-clause-found c =
-    finds-entries c.args.text_start c.args.entries.now _ c.requires (record {
-      plan = plan_list c.in_ok-plan.plan;
-      of_entries = c.in_ok-plan.ensures.done;
-      places = c.in_ok-bytes.ensures.places;
-      is = c.in_ok-bytes.ensures.done;
-    })
+    let test = c.is_empty.ensures in
+    let full = c.if-is_empty.false in
+    let some : 0 < length c.args.entries.now = grind (arith, nat_tests) in
+    finds-entries c.args.text_start c.args.entries.now _ c.requires
+    (is_section c.args.text_start c.args.entries.now (plan_list c.in_ok-plan.plan) _ some c.in_ok-plan.ensures.done
+    c.in_ok-bytes.ensures.places c.in_ok-bytes.ensures.done)
 
 pub returns-clause-only : goal.returns-clause-only
 returns-clause-only c =
-    finds-only-entries c.args.text_start c.args.entries.now _ c.requires (record {
-      plan = plan_list c.in_ok-plan.plan;
-      of_entries = c.in_ok-plan.ensures.done;
-      places = c.in_ok-bytes.ensures.places;
-      is = c.in_ok-bytes.ensures.done;
-    })
+    let test = c.is_empty.ensures in
+    let full = c.if-is_empty.false in
+    let some : 0 < length c.args.entries.now = grind (arith, nat_tests) in
+    finds-only-entries c.args.text_start c.args.entries.now _ c.requires
+    (is_section c.args.text_start c.args.entries.now (plan_list c.in_ok-plan.plan) _ some c.in_ok-plan.ensures.done
+    c.in_ok-bytes.ensures.places c.in_ok-bytes.ensures.done)
+
+pub returns-clause-done : goal.returns-clause-done
+returns-clause-done c some =
+    is_section c.args.text_start c.args.entries.now (plan_list c.in_ok-plan.plan) _ some c.in_ok-plan.ensures.done
+    c.in_ok-bytes.ensures.places c.in_ok-bytes.ensures.done
 
 pub returns-then-is_empty-clause-fits : goal.returns-then-is_empty-clause-fits
 returns-then-is_empty-clause-fits c =
@@ -49,4 +54,8 @@ returns-then-is_empty-clause-fits c =
 
 pub returns-clause-fits : goal.returns-clause-fits
 returns-clause-fits c =
-    no_far_page c.args.text_start c.args.entries.now (plan_list c.in_ok-plan.plan) c.in_ok-plan.ensures.done c.in_ok-bytes.ensures.places
+    let test = c.is_empty.ensures in
+    let full = c.if-is_empty.false in
+    let some : 0 < length c.args.entries.now = grind (arith, nat_tests) in
+    no_far_page c.args.text_start c.args.entries.now (plan_list c.in_ok-plan.plan) some c.in_ok-plan.ensures.done
+    c.in_ok-bytes.ensures.places
