@@ -124,7 +124,8 @@ words_more globals old new row a = omega (arith, ap length a.words, length-appen
 codes_more : (globals : List ℕ) (old new : PageList) (row : Row) → old.first ≤ row.start → IsOpenPage globals old
     → Adds globals old new row → codes_on globals new ≡ codes_on globals old ++ row.code ∷ []
 codes_more globals old new row behind page a =
-    ap (map (λ (r : Row). r.code)) (rows_more globals old new row behind page a) ∙ map_push (λ (r : Row). r.code) (page_rows globals old) row
+    ap (map (λ (r : Row). r.code)) (rows_more globals old new row behind page a)
+    ∙ map_push (λ (r : Row). r.code) (page_rows globals old) row
 
 own_more : (globals : List ℕ) (old new : PageList) (row : Row) → old.first ≤ row.start → IsOpenPage globals old → Adds globals old new row
     → AreLocals globals new
