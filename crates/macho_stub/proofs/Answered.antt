@@ -1,42 +1,57 @@
 -- The answer is the one that the grammar and the rules have: reading finds what is there, and nothing else.
 use Rattle.std.proofs.Common.{◌≡◌, ℕ, List, Result, Ok, Err, refl, sym, ap, ◌∙◌, inl, inr, subst}
 use Rattle.std.specs.Prelude.{IfOk, IfErr}
-use Rattle.macho_stub.specs.declared.fault.StubFault.{StubFault}
-use Rattle.macho_stub.specs.declared.fault.StubFault.TheVariants.{Rule, OutOfMemory}
-use Rattle.macho_stub.specs.Faults.{Fault, Reading, broken, Gives, ◌>>=◌}
+use Rattle.macho_stub_lines.specs.declared.fault.StubFault.{StubFault}
+use Rattle.macho_stub_lines.specs.declared.fault.StubFault.TheVariants.{Rule, OutOfMemory}
+use Rattle.macho_stub_lines.specs.Faults.{Fault, Reading, broken, Gives, ◌>>=◌}
 use Rattle.macho_stub.specs.Reader.{documents_of}
-use Rattle.macho_stub.specs.Library.{LibraryFields, library_of}
+use Rattle.macho_stub.specs.Library.{LibraryFields}
+use Rattle.macho_stub.specs.Checks.{library_of}
 use Rattle.macho_stub.specs.Answer.{IsStub, IsToldOfText, answer_of}
-use Rattle.macho_stub.specs.declared.fault.StubRule.{StubRule}
-use Rattle.macho_stub.proofs.Bind.{bind_ok, no_ok, same_ok}
+use Rattle.macho_stub_lines.specs.declared.fault.StubRule.{StubRule}
+use Rattle.macho_stub_lines.proofs.Bind.{bind_ok, no_ok, same_ok}
 use Rattle.macho_stub.proofs.Ruling.{bind_err, library_made, library_back}
 use Rattle.macho_stub.proofs.Told.{library_told}
 use Rattle.macho_stub.proofs.ToldBack.{told_back}
 use Rattle.macho_stub.proofs.One.{no_break}
 use Rattle.macho_stub.proofs.OneEnd.{one_break}
+use Rattle.macho_stub_lines.specs.Slices.{Slice}
 use Rattle.macho_stub.specs.Rules.{IsTold}
-use Rattle.macho_stub.specs.Documents.{DocumentFields}
+use Rattle.macho_stub.proofs.TextRules.{MakesOfTexts}
+use Rattle.macho_stub.specs.Documents.{DocumentOf, DocumentFields, documents_texts}
+use Rattle.macho_stub.specs.Grammar.{IsStubText}
+use Rattle.macho_stub.proofs.Trees.{to_read, of_read}
+use Rattle.macho_stub.proofs.Gathered.{of_texts, texts_make}
 use Rattle.macho_stub.proofs.Stops.{breaks_off}
 use Rattle.macho_stub.proofs.Found.{documents_found}
 use Rattle.macho_stub.proofs.Only.{documents_read}
 
-answer_found : (text : List ℕ) (library : LibraryFields) → answer_of text ≡ Ok library → IsStub text library
+-- what is in the grammar is read
+pub in_grammar_read : (text : List ℕ) (says : List (DocumentOf Slice)) → IsStubText text says → documents_of text ≡ Ok (documents_texts says)
+in_grammar_read text says is = documents_read text (documents_texts says) (to_read text says is)
+
+pub answer_found : (text : List ℕ) (library : LibraryFields) → answer_of text ≡ Ok library → IsStub text library
 unfolding answer_of
 answer_found text library e =
     let b = bind_ok (documents_of text) library_of library e in
-    record { says = b.0; in_grammar = documents_found text b.0 b.1; makes = library_made b.0 library b.2 }
+    let g = of_read text b.0 (documents_found text b.0 b.1) in
+    let M : List DocumentFields → Type 0 = λ d. MakesOfTexts d library in
+    record { says = g.0; in_grammar = g.1; makes = of_texts g.0 library (subst M (sym g.2) (library_made b.0 library b.2)) }
 
-answer_only : (text : List ℕ) (library : LibraryFields) → IsStub text library → answer_of text ≡ Ok library
+pub answer_only : (text : List ℕ) (library : LibraryFields) → IsStub text library → answer_of text ≡ Ok library
 unfolding answer_of
-answer_only text library is = ap (λ reading. reading >>= library_of) (documents_read text is.says is.in_grammar)
-    ∙ library_back is.says library is.makes
+answer_only text library is = ap (λ reading. reading >>= library_of) (in_grammar_read text is.says is.in_grammar)
+    ∙ library_back (documents_texts is.says) library (texts_make is.says library is.makes)
 
-answer_told : (text : List ℕ) (line : ℕ) (rule : StubRule) → answer_of text ≡ broken line rule → IsToldOfText text (Rule line rule)
+pub answer_told : (text : List ℕ) (line : ℕ) (rule : StubRule) → answer_of text ≡ broken line rule → IsToldOfText text (Rule line rule)
 unfolding answer_of
 answer_told text line rule e =
     elim (bind_err (documents_of text) library_of line rule e) [
       | inl b ↦ inr (breaks_off text line rule b)
-      | inr b ↦ inl (b.0, documents_found text b.0 b.1, library_told b.0 line rule b.2)
+      | inr b ↦
+          let g = of_read text b.0 (documents_found text b.0 b.1) in
+          let T : List DocumentFields → Type 0 = λ d. IsTold rule line d in
+          inl (g.0, g.1, subst T (sym g.2) (library_told b.0 line rule b.2))
     ]
 
 -- what is told of the text is what is answered
@@ -47,14 +62,15 @@ answer_back text line rule t = by_documents (documents_of text) refl t
     of_text : (says : List DocumentFields) → documents_of text ≡ Ok says → IsToldOfText text (Rule line rule)
         → library_of says ≡ broken line rule
     of_text says e (inl i) =
-        let same : i.0 ≡ says = same_ok _ _ (sym (documents_read text i.0 i.1) ∙ e) in
+        let same : documents_texts i.0 ≡ says = same_ok _ _ (sym (in_grammar_read text i.0 i.1) ∙ e) in
         let T : List DocumentFields → Type 0 = λ d. IsTold rule line d in
         told_back says rule line (subst T same i.2)
-    of_text says e (inr b) = absurd (no_break text line rule b says (documents_found text says e))
+    of_text says e (inr b) = let g = of_read text says (documents_found text says e) in absurd (no_break text line rule b g.0 g.1)
 
     of_fault : (fault : Fault) → documents_of text ≡ Err fault → IsToldOfText text (Rule line rule)
         → broken {A = LibraryFields} fault.line fault.rule ≡ broken line rule
-    of_fault fault e (inl i) = absurd (no_ok fault.line fault.rule i.0 (sym e ∙ documents_read text i.0 i.1))
+    of_fault fault e (inl i) = absurd
+        (no_ok fault.line fault.rule (documents_texts i.0) (sym e ∙ in_grammar_read text i.0 i.1))
     of_fault fault e (inr b) =
         let o = one_break text fault.line line fault.rule rule (breaks_off text fault.line fault.rule e) b in
         ap (λ n. broken n fault.rule) o.0 ∙ ap (broken line) o.1

@@ -2,20 +2,21 @@
 -- document, and then its key and its value; so the first that fails tells what the line breaks.
 use Rattle.std.proofs.Common.{◌≡◌, ◌≢◌, ℕ, ◌<◌, ◌&&◌, Bool, true, false, cond, eqb, List, length, Some, None, Ok, Err, is_some, refl, sym, ap, ◌∙◌, ◌⊎◌, inl, inr}
 use Rattle.std.specs.Str.{bytes_eq}
-use Rattle.macho_stub.specs.declared.keys.ItemKind.{ItemKind}
-use Rattle.macho_stub.specs.declared.keys.ItemKey.{ItemKey}
-use Rattle.macho_stub.specs.declared.keys.ItemKey.TheVariants as item
-use Rattle.macho_stub.specs.declared.keys.TopKey.{TopKey}
-use Rattle.macho_stub.specs.declared.keys.TopKey.TheVariants as top
-use Rattle.macho_stub.specs.declared.fault.StubRule.{StubRule}
-use Rattle.macho_stub.specs.declared.fault.StubRule.TheVariants.{S1, S3}
-use Rattle.macho_stub.specs.Bytes.{indent, unspaced}
-use Rattle.macho_stub.specs.Faults.{Fault, Reading, ◌>>=◌, broken, outside}
-use Rattle.macho_stub.specs.Keys.{Entry, entry_at, scalar_value, version_value, top_key}
-use Rattle.macho_stub.specs.Documents.{ItemFields, DocumentFields, OpenDocumentFields, head_at, with_items, has_items, has_key}
-use Rattle.macho_stub.specs.Reader.{ItemListFields, InsideFields, Outside, Within, Keys, NoItem, StateFields, stays, head, end, has_dash, skipped_value, item_entry, item_key_line, first_line, top_entry, within, with_whole, top_line, items_with_last, item_line}
+use Rattle.macho_stub_lines.specs.declared.keys.ItemKind.{ItemKind}
+use Rattle.macho_stub_lines.specs.declared.keys.ItemKey.{ItemKey}
+use Rattle.macho_stub_lines.specs.declared.keys.ItemKey.TheVariants as item
+use Rattle.macho_stub_lines.specs.declared.keys.TopKey.{TopKey}
+use Rattle.macho_stub_lines.specs.declared.keys.TopKey.TheVariants as top
+use Rattle.macho_stub_lines.specs.declared.fault.StubRule.{StubRule}
+use Rattle.macho_stub_lines.specs.declared.fault.StubRule.TheVariants.{S1, S3}
+use Rattle.macho_stub_lines.specs.Bytes.{indent, unspaced, head, end, has_dash}
+use Rattle.macho_stub_lines.specs.Faults.{Fault, Reading, ◌>>=◌, broken, outside}
+use Rattle.macho_stub_lines.specs.Keys.{Entry, entry_at, scalar_value, version_value, top_key}
+use Rattle.macho_stub.specs.Documents.{ItemFields, DocumentFields}
+use Rattle.macho_stub.specs.Opened.{OpenDocumentFields, head_at, with_items, has_items, has_key}
+use Rattle.macho_stub.specs.Reader.{ItemListFields, InsideFields, Outside, Within, Keys, NoItem, StateFields, stays, skipped_value, item_entry, item_key_line, first_line, top_entry, within, with_whole, top_line, items_with_last, item_line}
 use Rattle.macho_stub.specs.Order.{EndsDocument}
-use Rattle.macho_stub.proofs.Bind.{chosen, same_bytes, bytes_same, eq_at, ne_at}
+use Rattle.macho_stub_lines.proofs.Bind.{chosen, same_bytes, bytes_same, eq_at, ne_at}
 use Rattle.macho_stub.proofs.Ruling.{bind_err, same_err}
 use Rattle.macho_stub.proofs.Told.{ok_not_told}
 use Rattle.macho_stub.proofs.FineLines.{Fine, AnyOf, outside_at, version_fine, scalar_fine, fine_ok, fine_bind, fine_if, fine_here}

@@ -3,9 +3,9 @@ use Rattle.std.proofs.Common.{◌≡◌, ℕ, ◌+◌, true, List, get_or, drop,
 use Rattle.std.specs.Str.{IsUtf8, IsCharBoundary}
 use Rattle.std.proofs.lemmas.Str.{IsUtf8-drop, IsCharBoundary-from_rest}
 use Rattle.std.proofs.lemmas.Bool.Decides.{nat_tests}
-use Rattle.macho_stub.specs.Bytes.{is_space, indent}
-use Rattle.macho_stub.specs.Reader.{has_dash, key_column}
-use Rattle.macho_stub.proofs.Cuts.{cut_behind, run_cut, space_ascii}
+use Rattle.macho_stub_lines.specs.Bytes.{is_space, indent, has_dash}
+use Rattle.macho_stub.specs.Reader.{key_column}
+use Rattle.macho_stub_lines.proofs.Cuts.{cut_behind, run_cut, space_ascii}
 
 dash_at : (line : List ℕ) → has_dash line ≡ true → get_or line (indent line) 0 ≡ 45
 unfolding has_dash

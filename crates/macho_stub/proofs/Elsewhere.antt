@@ -2,19 +2,20 @@
 -- In each of these places some line at column 0 may stand, and none with a key.
 use Rattle.std.proofs.Common.{◌≡◌, ℕ, zero, suc, ◌+◌, true, false, cond, eqb, List, [], ◌∷◌, length, Option, None, Ok, refl, sym, ◌∙◌, inl, inr}
 use Rattle.std.specs.Str.{bytes_eq}
-use Rattle.macho_stub.specs.declared.keys.ItemKind.{ItemKind}
-use Rattle.macho_stub.specs.declared.list.Expect.{Expect}
-use Rattle.macho_stub.specs.declared.list.Expect.TheVariants.{AfterOpen, AfterComma, AfterName, Closed}
-use Rattle.macho_stub.specs.declared.fault.StubRule.{StubRule}
-use Rattle.macho_stub.specs.declared.fault.StubRule.TheVariants.{S1}
-use Rattle.macho_stub.specs.Bytes.{space, indent, unspaced, is_passed, has_barred, is_blank_or_comment, is_mark, is_plain_byte, has_late_control_after}
-use Rattle.macho_stub.specs.Scalars.{scalar_front, plain_front}
-use Rattle.macho_stub.specs.Faults.{broken, outside}
-use Rattle.macho_stub.specs.Lists.{list_part, token_front, behind}
-use Rattle.macho_stub.specs.Documents.{DocumentFields, OpenDocumentFields, head_at}
-use Rattle.macho_stub.specs.Reader.{ItemListFields, NameListFields, ModeFields, PlaceFields, Outside, Within, Keys, Skipped, Names, NoItem, StateFields, stays, head, belongs_to_top, names_line, first_line, key_line, belongs, inside_line, content_line, line_step}
+use Rattle.macho_stub_lines.specs.declared.keys.ItemKind.{ItemKind}
+use Rattle.macho_stub_lines.specs.declared.list.Expect.{Expect}
+use Rattle.macho_stub_lines.specs.declared.list.Expect.TheVariants.{AfterOpen, AfterComma, AfterName, Closed}
+use Rattle.macho_stub_lines.specs.declared.fault.StubRule.{StubRule}
+use Rattle.macho_stub_lines.specs.declared.fault.StubRule.TheVariants.{S1}
+use Rattle.macho_stub_lines.specs.Bytes.{space, indent, unspaced, is_passed, has_barred, is_blank_or_comment, is_mark, is_plain_byte, has_late_control_after, head, belongs_to_top, end}
+use Rattle.macho_stub_lines.specs.Scalars.{scalar_front, plain_front}
+use Rattle.macho_stub_lines.specs.Faults.{broken, outside}
+use Rattle.macho_stub_lines.specs.Lists.{list_part, token_front, behind}
+use Rattle.macho_stub.specs.Documents.{DocumentFields}
+use Rattle.macho_stub.specs.Opened.{OpenDocumentFields, head_at}
+use Rattle.macho_stub.specs.Reader.{ItemListFields, NameListFields, ModeFields, PlaceFields, Outside, Within, Keys, Skipped, Names, NoItem, StateFields, stays, names_line, first_line, key_line, belongs, inside_line, content_line, line_step, within}
 use Rattle.macho_stub.specs.Order.{MayStand, IsWhy, spare, dashed, closing, in_column}
-use Rattle.macho_stub.proofs.Bind.{chosen}
+use Rattle.macho_stub_lines.proofs.Bind.{chosen}
 use Rattle.macho_stub.proofs.Ruling.{same_err}
 use Rattle.macho_stub.proofs.Told.{ok_not_told}
 use Rattle.macho_stub.proofs.FineLines.{outside_at}
@@ -49,13 +50,17 @@ spaced_in_list line expect zero = spare_in_list line expect
 spaced_in_list line expect (suc zero) = space_in_list line expect 97 _ refl (spare_in_list line expect)
 spaced_in_list line expect (suc (suc n)) = space_in_list line expect space _ refl (spaced_in_list line expect (suc n))
 
+spare_no_end : (n : ℕ) → bytes_eq (in_column n spare) end ≡ false
+spare_no_end zero = refl
+spare_no_end (suc n) = refl
+
 -- so no key stands in a flow list
 names_refuse : (before : List DocumentFields) (document : OpenDocumentFields) (list : Option ItemListFields) (names : NameListFields)
     (line n : ℕ)
     → line_step (record { documents = before; place = Within (stays document list (Names names)) }) line (in_column n spare) ≡ outside line
 unfolding line_step names_line has_barred is_blank_or_comment
 names_refuse before document list names line n =
-    rw (item_text_barred n spare, item_text_passed n spare refl, spaced_in_list line names.part.expect n) refl
+    rw (item_text_barred n spare, item_text_passed n spare refl, spare_no_end n, spaced_in_list line names.part.expect n) refl
 
 pub no_key_in_list : (first : List (List ℕ)) (before : List DocumentFields) (document : OpenDocumentFields) (list : Option ItemListFields)
     (names : NameListFields) (n : ℕ) → Reached first (record { documents = before; place = Within (stays document list (Names names)) })
@@ -75,13 +80,10 @@ no_key_why first text other some flush stands none = (
 names_why : (first : List (List ℕ)) (before : List DocumentFields) (document : OpenDocumentFields) (list : Option ItemListFields)
     (names : NameListFields) (text : List ℕ) (at : ℕ) (rule : StubRule)
     → Known first (record { documents = before; place = Within (stays document list (Names names)) })
-    → names_line document list (length first + 1) names text ≡ broken at rule → IsWhy rule at first text
+    → fault_at at rule ≡ outside_fault (length first + 1) → IsWhy rule at first text
 unfolding is_passed unspaced indent is_blank_or_comment
 names_why first before document list names text at rule k e =
-    let n = length first + 1 in
-    same_why at rule first text (outside_fault n)
-    (at_line GoodInside (outside_at n) (names_line document list n names text) at rule
-    (names_line_fine document list n names text k.reached.good.0) e)
+    same_why at rule first text (outside_fault (length first + 1)) e
     (no_key_why first text closing refl refl (closing_stands first before document list names k.reached)
     (λ c. no_key_in_list first before document list names c k.reached))
 
@@ -149,8 +151,15 @@ inside_why first before document list Skipped text at rule k clean some l e =
       | inl b ↦ absurd (ok_not_told _ at rule b.1)
       | inr b ↦ keys_why first before document list true text at rule k clean some l (λ h. b.0) b.1
     ]
-inside_why first before document list (Names names) text at rule k clean some l e = names_why first before document list names text at rule
-    k (within_refused before (names_line document list (length first + 1) names text) at rule e)
+inside_why first before document list (Names names) text at rule k clean some l e =
+    let n = length first + 1 in
+    names_why first before document list names text at rule k
+    (elim (chosen (bytes_eq text end) (outside n) (within before (names_line document list n names text)) (broken at rule) e) [
+      | inl b ↦ same_err {A = StateFields} (fault_at at rule) (outside_fault n) (sym b.1)
+      | inr b ↦ at_line GoodInside (outside_at n) (names_line document list n names text) at rule
+          (names_line_fine document list n names text k.reached.good.0)
+          (within_refused before (names_line document list n names text) at rule b.1)
+    ])
 inside_why first before document list (NoItem kind key) text at rule k clean some l e = item_place_why first before document list kind key
     text at rule k (within_refused before (first_line document kind [] (length first + 1) text) at rule e)
 

@@ -2,21 +2,23 @@
 -- goes on isn't closed. One that fails tells its line, or that an item or a document lacks a key.
 use Rattle.std.proofs.Common.{◌≢◌, ℕ, ◌<◌, ◌&&◌, cond, eqb, length, List, [], drop, Option, Some, None, Ok, refl, arith, inl, inr}
 use Rattle.std.specs.Str.{bytes_eq}
-use Rattle.macho_stub.specs.declared.keys.ItemKind.{ItemKind}
-use Rattle.macho_stub.specs.declared.keys.ItemKind.TheVariants.{Libraries, Exports, Reexports}
-use Rattle.macho_stub.specs.declared.keys.ItemKey.{ItemKey}
-use Rattle.macho_stub.specs.declared.keys.ItemKey.TheVariants as item
-use Rattle.macho_stub.specs.declared.keys.TopKey.{TopKey}
-use Rattle.macho_stub.specs.declared.keys.TopKey.TheVariants as top
-use Rattle.macho_stub.specs.declared.list.Expect.{Expect}
-use Rattle.macho_stub.specs.declared.list.Expect.TheVariants.{AfterOpen, AfterComma, AfterName, Closed}
-use Rattle.macho_stub.specs.declared.fault.StubRule.TheVariants.{S1, S3}
-use Rattle.macho_stub.specs.Bytes.{indent, unspaced, is_passed, has_barred}
-use Rattle.macho_stub.specs.Faults.{Reading, ◌>>=◌, broken, outside}
-use Rattle.macho_stub.specs.Lists.{list_part, with_front}
-use Rattle.macho_stub.specs.Keys.{Entry, entry_at, scalar_value, version_value, top_key, item_key}
-use Rattle.macho_stub.specs.Documents.{ItemFields, OpenItemFields, DocumentFields, OpenDocumentFields, wanted, wanted_names, whole_item, whole_document, no_item, with_items, has_items, head_at}
-use Rattle.macho_stub.specs.Reader.{ItemListFields, NameListFields, ModeFields, Keys, Skipped, Names, NoItem, InsideFields, PlaceFields, Outside, Within, StateFields, stays, has_dash, head, end, with_names, behind_expect, names_line, names_value, opened, skipped_value, item_entry, item_key_line, key_column, first_line, top_entry, within, with_whole, top_line, items_with_last, item_line, key_line, inside_line, content_line, line_step}
+use Rattle.macho_stub_lines.specs.declared.keys.ItemKind.{ItemKind}
+use Rattle.macho_stub_lines.specs.declared.keys.ItemKind.TheVariants.{Libraries, Exports, Reexports}
+use Rattle.macho_stub_lines.specs.declared.keys.ItemKey.{ItemKey}
+use Rattle.macho_stub_lines.specs.declared.keys.ItemKey.TheVariants as item
+use Rattle.macho_stub_lines.specs.declared.keys.TopKey.{TopKey}
+use Rattle.macho_stub_lines.specs.declared.keys.TopKey.TheVariants as top
+use Rattle.macho_stub_lines.specs.declared.list.Expect.{Expect}
+use Rattle.macho_stub_lines.specs.declared.list.Expect.TheVariants.{AfterOpen, AfterComma, AfterName, Closed}
+use Rattle.macho_stub_lines.specs.declared.fault.StubRule.TheVariants.{S1, S3}
+use Rattle.macho_stub_lines.specs.Bytes.{indent, unspaced, is_passed, has_barred, has_dash, head, end}
+use Rattle.macho_stub_lines.specs.Faults.{Reading, ◌>>=◌, broken, outside}
+use Rattle.macho_stub_lines.specs.Lists.{list_part, with_front}
+use Rattle.macho_stub_lines.specs.Keys.{Entry, entry_at, scalar_value, version_value, top_key, item_key}
+use Rattle.macho_stub.specs.Documents.{ItemFields, DocumentFields}
+use Rattle.macho_stub.specs.Opened.{OpenItemFields, OpenDocumentFields, no_item, with_items, has_items, head_at}
+use Rattle.macho_stub.specs.Whole.{wanted, wanted_names, whole_item, whole_document}
+use Rattle.macho_stub.specs.Reader.{ItemListFields, NameListFields, ModeFields, Keys, Skipped, Names, NoItem, InsideFields, PlaceFields, Outside, Within, StateFields, stays, with_names, behind_expect, names_line, names_value, opened, skipped_value, item_entry, item_key_line, key_column, first_line, top_entry, within, with_whole, top_line, items_with_last, item_line, key_line, inside_line, content_line, line_step}
 use Rattle.macho_stub.proofs.FineLines.{Fine, AnyOf, outside_at, here_at, lacking_at, fine_ok, fine_err, fine_here, fine_bind, fine_if, weaker, free, entry_fine, scalar_fine, version_fine, front_fine, part_fine}
 
 -- ---- inside a document
@@ -244,8 +246,10 @@ inside_line_fine : (before : List DocumentFields) (document : OpenDocumentFields
 inside_line_fine before document list Keys line text g = key_line_fine before document list line text g
 inside_line_fine before document list Skipped line text g = fine_if GoodState AnyOf _ _ _ (fine_ok _ (g, tt))
     (key_line_fine before document list line text g)
-inside_line_fine before document list (Names names) line text g = within_fine line before (names_line document list line names text)
-    (free GoodInside _ _ (names_line_fine document list line names text g))
+inside_line_fine before document list (Names names) line text g = fine_if GoodState AnyOf (bytes_eq text end) (outside line)
+    (within before (names_line document list line names text)) (fine_err _ tt)
+    (within_fine line before (names_line document list line names text)
+    (free GoodInside _ _ (names_line_fine document list line names text g)))
 inside_line_fine before document list (NoItem kind at) line text g = within_fine line before (first_line document kind [] line text)
     (free GoodInside _ _ (first_line_fine document kind [] line text))
 

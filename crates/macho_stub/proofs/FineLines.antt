@@ -2,17 +2,17 @@
 -- line of a flow list tell their own line, as outside the grammar.
 use Rattle.std.proofs.Common.{◌≡◌, ℕ, zero, suc, ◌+◌, ◌-◌, Bool, true, false, cond, eqb, get_or, take, List, [], ◌∷◌, drop, Option, Some, None, Ok, Err, refl, sym, subst, ◌⊎◌}
 use Rattle.std.specs.List.{prefix_len}
-use Rattle.macho_stub.specs.declared.list.Expect.{Expect}
-use Rattle.macho_stub.specs.declared.list.Expect.TheVariants.{AfterOpen, AfterComma, AfterName, Closed}
-use Rattle.macho_stub.specs.declared.list.TokenKind.{TokenKind}
-use Rattle.macho_stub.specs.declared.list.TokenKind.TheVariants.{Gap, Comma, Close, Name}
-use Rattle.macho_stub.specs.declared.fault.StubRule.TheVariants.{S1, S2, S3}
+use Rattle.macho_stub_lines.specs.declared.list.Expect.{Expect}
+use Rattle.macho_stub_lines.specs.declared.list.Expect.TheVariants.{AfterOpen, AfterComma, AfterName, Closed}
+use Rattle.macho_stub_lines.specs.declared.list.TokenKind.{TokenKind}
+use Rattle.macho_stub_lines.specs.declared.list.TokenKind.TheVariants.{Gap, Comma, Close, Name}
+use Rattle.macho_stub_lines.specs.declared.fault.StubRule.TheVariants.{S1, S2, S3}
 use Rattle.macho_stub.proofs.Ruling.{same_err}
-use Rattle.macho_stub.specs.Bytes.{space, comma, close_bracket, unspaced, is_key_byte, is_tail}
-use Rattle.macho_stub.specs.Scalars.{ScalarSpan, scalar_front}
-use Rattle.macho_stub.specs.Faults.{Fault, Reading, ◌>>=◌, outside}
-use Rattle.macho_stub.specs.Lists.{TokenSpan, ListPart, gap, mark, name_token, token_front, behind, list_part, with_front}
-use Rattle.macho_stub.specs.Keys.{Entry, entry_behind, entry_at, alone, scalar_value, version_value}
+use Rattle.macho_stub_lines.specs.Bytes.{space, comma, close_bracket, unspaced, is_key_byte, is_tail}
+use Rattle.macho_stub_lines.specs.Scalars.{ScalarSpan, scalar_front}
+use Rattle.macho_stub_lines.specs.Faults.{Fault, Reading, ◌>>=◌, outside}
+use Rattle.macho_stub_lines.specs.Lists.{TokenSpan, ListPart, gap, mark, name_token, token_front, behind, list_part, with_front}
+use Rattle.macho_stub_lines.specs.Keys.{Entry, entry_behind, entry_at, alone, scalar_value, version_value}
 
 -- What a reading gives is so, and so is the fault that it tells.
 pub record Fine {A : Type 0} (P : A → Type 0) (Q : Fault → Type 0) (reading : Reading A) : Type 0 where

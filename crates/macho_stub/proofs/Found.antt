@@ -5,14 +5,17 @@ use Rattle.std.specs.List.{AllByRecursion}
 use Rattle.std.specs.Str.{bytes_eq}
 use Rattle.std.specs.Str.Lines.{lines}
 use Rattle.std.proofs.lemmas.List.{append-nil}
-use Rattle.macho_stub.specs.declared.keys.ItemKind.{ItemKind}
-use Rattle.macho_stub.specs.declared.fault.StubRule.TheVariants.{S1}
-use Rattle.macho_stub.specs.Bytes.{space, indent, unspaced, is_passed, has_barred}
-use Rattle.macho_stub.specs.Faults.{Reading, ◌>>=◌, outside}
-use Rattle.macho_stub.specs.Documents.{ItemFields, DocumentFields, OpenDocumentFields, head_at, with_items, whole_item, whole_document}
-use Rattle.macho_stub.specs.Reader.{ItemListFields, ModeFields, Keys, Skipped, Names, NoItem, InsideFields, PlaceFields, Outside, Within, StateFields, stays, within, with_whole, top_line, items_with_last, item_line, item_key_line, first_line, names_line, key_line, belongs, inside_line, content_line, line_step, ended_document, ended_inside, ended, lines_from, start, documents_of, has_dash, head}
-use Rattle.macho_stub.specs.Grammar.{Line, content_from, IsStubLines, IsStubText, items_then, AreItems, AreDocuments}
-use Rattle.macho_stub.proofs.Bind.{bind_ok, chosen, not_broken, not_broken_else, same_ok, no_ok, same_bytes, eq_at}
+use Rattle.macho_stub_lines.specs.declared.keys.ItemKind.{ItemKind}
+use Rattle.macho_stub_lines.specs.declared.fault.StubRule.TheVariants.{S1}
+use Rattle.macho_stub_lines.specs.Bytes.{space, indent, unspaced, is_passed, has_barred, has_dash, head, end}
+use Rattle.macho_stub_lines.specs.Faults.{Reading, ◌>>=◌, outside}
+use Rattle.macho_stub.specs.Documents.{ItemFields, DocumentFields}
+use Rattle.macho_stub.specs.Opened.{OpenDocumentFields, head_at, with_items}
+use Rattle.macho_stub.specs.Whole.{whole_item, whole_document}
+use Rattle.macho_stub.specs.Reader.{ItemListFields, ModeFields, Keys, Skipped, Names, NoItem, InsideFields, PlaceFields, Outside, Within, StateFields, stays, within, with_whole, top_line, items_with_last, item_line, item_key_line, first_line, names_line, key_line, belongs, inside_line, content_line, line_step, ended_document, ended_inside, ended, lines_from, start, documents_of}
+use Rattle.macho_stub_lines.proofs.ReadLists.{ReadLine}
+use Rattle.macho_stub.proofs.Readings.{content_from, IsReadLines, IsReadText, items_then, AreItems, AreDocuments}
+use Rattle.macho_stub_lines.proofs.Bind.{bind_ok, chosen, not_broken, not_broken_else, same_ok, no_ok, same_bytes, eq_at, other_bytes}
 use Rattle.macho_stub.proofs.Rest.{run, RestTop, RestItem, RestKeys, RestMode, RestInside, Rest}
 use Rattle.macho_stub.proofs.Spelled.{spelled_unspaced}
 use Rattle.macho_stub.proofs.FoundEntries.{names_line_rest}
@@ -33,7 +36,7 @@ abbrev then_top : List DocumentFields → OpenDocumentFields → ItemKind → �
 then_top before document kind line text items = top_line before (with_items kind items document) line text
 
 -- a reading inside a document that did not fail
-within_ok : (before : List DocumentFields) (reading : Reading InsideFields) (next : StateFields) (rest : List Line)
+within_ok : (before : List DocumentFields) (reading : Reading InsideFields) (next : StateFields) (rest : List ReadLine)
     (total : List DocumentFields)
     → within before reading ≡ Ok next → Rest next.documents next.place rest total → (inside : InsideFields) × (reading ≡ Ok inside)
     × RestInside before inside rest total
@@ -58,7 +61,7 @@ last_item before document list items e =
 
 -- a line behind the keys of an item
 item_line_rest : (before : List DocumentFields) (document : OpenDocumentFields) (list : ItemListFields) (line : ℕ) (text : List ℕ)
-    (next : StateFields) (rest : List Line) (total : List DocumentFields)
+    (next : StateFields) (rest : List ReadLine) (total : List DocumentFields)
     → item_line before document list line text ≡ Ok next → Rest next.documents next.place rest total
     → RestItem before document list (record { number = line; text = text } ∷ rest) total
 unfolding item_line
@@ -124,8 +127,8 @@ item_line_rest before document list line text next rest total e h =
               says = r.keys.says;
               tail = r.keys.tail;
               lines_of = ap (λ t. record { number = line; text = t } ∷ rest) spelled
-                  ∙ ap (λ (more : List Line). record { number = line; text = replicate list.column space ++ unspaced text } ∷ more)
-                  (r.lines_of ∙ ap (λ (tail : List Line). r.more ++ tail) r.keys.lines_of);
+                  ∙ ap (λ (more : List ReadLine). record { number = line; text = replicate list.column space ++ unspaced text } ∷ more)
+                  (r.lines_of ∙ ap (λ (tail : List ReadLine). r.more ++ tail) r.keys.lines_of);
               reads = (r.after, r.is_entry, r.keys.reads);
               is_whole = r.keys.is_whole;
               items = r.keys.items;
@@ -135,7 +138,7 @@ item_line_rest before document list line text next rest total e h =
     ]
 
 key_line_rest : (before : List DocumentFields) (document : OpenDocumentFields) (list : Option ItemListFields) (line : ℕ) (text : List ℕ)
-    (next : StateFields) (rest : List Line) (total : List DocumentFields)
+    (next : StateFields) (rest : List ReadLine) (total : List DocumentFields)
     → key_line before document list line text ≡ Ok next → Rest next.documents next.place rest total
     → RestKeys before document list (record { number = line; text = text } ∷ rest) total
 key_line_rest before document None line text next rest total e h = top_line_rest before document line text next rest total e h
@@ -144,7 +147,7 @@ key_line_rest before document (Some list) line text next rest total e h = item_l
 
 -- a line inside a document
 inside_line_rest : (before : List DocumentFields) (document : OpenDocumentFields) (list : Option ItemListFields) (mode : ModeFields)
-    (line : ℕ) (text : List ℕ) (next : StateFields) (rest : List Line) (total : List DocumentFields)
+    (line : ℕ) (text : List ℕ) (next : StateFields) (rest : List ReadLine) (total : List DocumentFields)
     → inside_line before document list mode line text ≡ Ok next → Rest next.documents next.place rest total
     → RestMode before document list mode (record { number = line; text = text } ∷ rest) total
 inside_line_rest before document list Keys line text next rest total e h = key_line_rest before document list line text next rest total e
@@ -159,7 +162,7 @@ inside_line_rest before document list Skipped line text next rest total e h =
             more = record { number = line; text = text } ∷ r.more;
             tail = r.tail;
             lines_of = ap
-                (λ (more : List Line). record { number = line; text = text } ∷ more) r.lines_of;
+                (λ (more : List ReadLine). record { number = line; text = text } ∷ more) r.lines_of;
             belong = (b.0, r.belong);
             keys = r.keys;
           }
@@ -173,14 +176,16 @@ inside_line_rest before document list Skipped line text next rest total e h =
       }
     ]
 inside_line_rest before document list (Names names) line text next rest total e h = λ ne.
-    let w = within_ok before (names_line document list line names text) next rest total e h in
+    let go = not_broken (bytes_eq text end) line S1 (within before (names_line document list line names text)) next e in
+    let w = within_ok before (names_line document list line names text) next rest total go.1 h in
     let n = names_line_rest before document list line names text w.0 rest total w.1 w.2 in
     record {
       names = n.2.names;
       more = record { number = line; text = text } ∷ n.2.more;
       tail = n.2.tail;
-      lines_of = ap (λ (more : List Line). record { number = line; text = text } ∷ more) n.2.lines_of;
+      lines_of = ap (λ (more : List ReadLine). record { number = line; text = text } ∷ more) n.2.lines_of;
       goes_on = (ne, n.0, n.1, n.2.goes_on);
+      inside = (other_bytes text end go.0, n.2.inside);
       keys = n.2.keys;
     }
 inside_line_rest before document list (NoItem kind at) line text next rest total e h =
@@ -189,7 +194,7 @@ inside_line_rest before document list (NoItem kind at) line text next rest total
 
 -- a line with content
 content_line_rest : (before : List DocumentFields) (place : PlaceFields) (line : ℕ) (text : List ℕ) (next : StateFields)
-    (rest : List Line) (total : List DocumentFields)
+    (rest : List ReadLine) (total : List DocumentFields)
     → content_line before place line text ≡ Ok next → Rest next.documents next.place rest total
     → Rest before place (record { number = line; text = text } ∷ rest) total
 content_line_rest before Outside line text next rest total e h =
@@ -257,7 +262,7 @@ ended_rest before Outside total e = record
 ended_rest before (Within inside) total e = ended_mode before inside.document inside.list inside.mode total e
 
 -- the lines that are left
-run_rest : (before : List DocumentFields) (place : PlaceFields) (rest : List Line) (total : List DocumentFields) → run before place rest
+run_rest : (before : List DocumentFields) (place : PlaceFields) (rest : List ReadLine) (total : List DocumentFields) → run before place rest
     ≡ Ok total → Rest before place rest total
 run_rest before place [] total e = ended_rest before place total e
 run_rest before place (line ∷ rest) total e =
@@ -289,13 +294,13 @@ lines_run state line (text ∷ texts) total e =
     )
 
 -- what is read is in the grammar
-pub lines_found : (texts : List (List ℕ)) (says : List DocumentFields) → lines_from start 1 texts ≡ Ok says → IsStubLines texts says
+pub lines_found : (texts : List (List ℕ)) (says : List DocumentFields) → lines_from start 1 texts ≡ Ok says → IsReadLines texts says
 lines_found texts says e =
     let l = lines_run start 1 texts says e in
     let r = run_rest [] Outside (content_from 1 texts) says l.1 in
     let A : List DocumentFields → Type 0 = λ s. AreDocuments r.trees s in
     record { clean = l.0; trees = r.trees; lines_of = r.lines_of; documents = subst A (sym r.all) r.documents }
 
-pub documents_found : (text : List ℕ) (says : List DocumentFields) → documents_of text ≡ Ok says → IsStubText text says
+pub documents_found : (text : List ℕ) (says : List DocumentFields) → documents_of text ≡ Ok says → IsReadText text says
 unfolding documents_of
 documents_found text says e = lines_found (lines text) says e

@@ -2,35 +2,36 @@
 -- entry leaves the reading, then the entry with the lines under it is one of the grammar, and what is left finishes
 -- the text from behind it.
 use Rattle.std.proofs.Common.{◌≡◌, ◌≢◌, ℕ, eqb, List, [], ◌++◌, drop, Option, Some, None, Ok, refl, sym, ◌⊎◌, inl, inr, get_or, subst}
-use Rattle.macho_stub.specs.declared.keys.ItemKey.{ItemKey}
-use Rattle.macho_stub.specs.declared.keys.ItemKey.TheVariants as item
-use Rattle.macho_stub.specs.declared.list.Expect.{Expect}
-use Rattle.macho_stub.specs.declared.list.Expect.TheVariants.{AfterOpen, AfterComma, AfterName, Closed}
-use Rattle.macho_stub.specs.declared.fault.StubRule.TheVariants.{S1}
-use Rattle.macho_stub.specs.Bytes.{open_bracket}
-use Rattle.macho_stub.specs.Lists.{ListPart, list_part, with_front}
-use Rattle.macho_stub.specs.Documents.{DocumentFields, OpenDocumentFields}
+use Rattle.macho_stub_lines.specs.declared.keys.ItemKey.{ItemKey}
+use Rattle.macho_stub_lines.specs.declared.keys.ItemKey.TheVariants as item
+use Rattle.macho_stub_lines.specs.declared.list.Expect.{Expect}
+use Rattle.macho_stub_lines.specs.declared.list.Expect.TheVariants.{AfterOpen, AfterComma, AfterName, Closed}
+use Rattle.macho_stub_lines.specs.declared.fault.StubRule.TheVariants.{S1}
+use Rattle.macho_stub_lines.specs.Bytes.{open_bracket}
+use Rattle.macho_stub_lines.specs.Lists.{ListPart, list_part, with_front}
+use Rattle.macho_stub.specs.Documents.{DocumentFields}
+use Rattle.macho_stub.specs.Opened.{OpenDocumentFields}
 use Rattle.macho_stub.specs.Reader.{ItemListFields, NameListFields, Skipped, InsideFields, stays, with_names, behind_expect, behind_part, names_line, opened, names_value, skipped_value}
-use Rattle.macho_stub.specs.Grammar.{Line, IsList}
-use Rattle.macho_stub.proofs.Bind.{bind_ok, chosen, not_broken_else, same_ok, eq_at, ne_at}
+use Rattle.macho_stub_lines.proofs.ReadLists.{ReadLine, IsReadList}
+use Rattle.macho_stub_lines.proofs.Bind.{bind_ok, chosen, not_broken_else, same_ok, eq_at, ne_at}
 use Rattle.macho_stub.proofs.Rest.{RestBehind, RestSkipped, RestNames, RestInside}
 
 -- behind a line of a flow list, whether it closes the list or not
 behind_part_rest : (before : List DocumentFields) (document : OpenDocumentFields) (list : Option ItemListFields) (began : ℕ)
-    (key : ItemKey) (names : List (List ℕ)) (expect : Expect) (rest : List Line) (total : List DocumentFields)
+    (key : ItemKey) (names : List (List ℕ)) (expect : Expect) (rest : List ReadLine) (total : List DocumentFields)
     → RestInside before (behind_expect document list began key (record { names = names; expect = expect }) expect) rest total
     → RestNames before document list key (record { names = names; expect = expect }) rest total
 behind_part_rest before document None began key names Closed rest total h = record
-    { names = names; more = []; tail = rest; lines_of = refl; goes_on = (refl, refl); keys = h }
+    { names = names; more = []; tail = rest; lines_of = refl; goes_on = (refl, refl); inside = tt; keys = h }
 behind_part_rest before document (Some list) began key names Closed rest total h = record
-    { names = names; more = []; tail = rest; lines_of = refl; goes_on = (refl, refl); keys = h }
+    { names = names; more = []; tail = rest; lines_of = refl; goes_on = (refl, refl); inside = tt; keys = h }
 behind_part_rest before document list began key names AfterOpen rest total h = h (λ e. cc)
 behind_part_rest before document list began key names AfterComma rest total h = h (λ e. cc)
 behind_part_rest before document list began key names AfterName rest total h = h (λ e. cc)
 
 -- a line of a flow list
 pub names_line_rest : (before : List DocumentFields) (document : OpenDocumentFields) (list : Option ItemListFields) (line : ℕ)
-    (names : NameListFields) (text : List ℕ) (inside : InsideFields) (rest : List Line) (total : List DocumentFields)
+    (names : NameListFields) (text : List ℕ) (inside : InsideFields) (rest : List ReadLine) (total : List DocumentFields)
     → names_line document list line names text ≡ Ok inside → RestInside before inside rest total
     → (part : ListPart) × (with_front names.part.names (list_part line names.part.expect 0 text) ≡ Ok part)
     × RestNames before document list names.key part rest total
@@ -44,16 +45,16 @@ names_line_rest before document list line names text inside rest total e h =
 
 -- a value that is read as a flow list
 pub record RestList (before : List DocumentFields) (document : OpenDocumentFields) (list : Option ItemListFields) (line : ℕ)
-    (key : ItemKey) (value : List ℕ) (rest : List Line) (total : List DocumentFields) : Type 0 where
+    (key : ItemKey) (value : List ℕ) (rest : List ReadLine) (total : List DocumentFields) : Type 0 where
   pub names : List (List ℕ)
-  pub more : List Line
-  pub tail : List Line
+  pub more : List ReadLine
+  pub tail : List ReadLine
   pub lines_of : rest ≡ more ++ tail
-  pub is_list : IsList line value more names
+  pub is_list : IsReadList line value more names
   pub keys : RestBehind before (with_names document list key names) tail total
 
 opened_rest : (before : List DocumentFields) (document : OpenDocumentFields) (list : Option ItemListFields) (line : ℕ) (key : ItemKey)
-    (value : List ℕ) (inside : InsideFields) (rest : List Line) (total : List DocumentFields)
+    (value : List ℕ) (inside : InsideFields) (rest : List ReadLine) (total : List DocumentFields)
     → get_or value 0 0 ≡ open_bracket → names_line document list line (opened line key) (drop 1 value) ≡ Ok inside
     → RestInside before inside rest total → RestList before document list line key value rest total
 opened_rest before document list line key value inside rest total bracket e h =
@@ -63,12 +64,12 @@ opened_rest before document list line key value inside rest total bracket e h =
       more = n.2.more;
       tail = n.2.tail;
       lines_of = n.2.lines_of;
-      is_list = record { bracket = bracket; first = n.0; begins = n.1; goes_on = n.2.goes_on };
+      is_list = record { bracket = bracket; first = n.0; begins = n.1; goes_on = n.2.goes_on; inside = n.2.inside };
       keys = n.2.keys;
     }
 
 pub names_value_rest : (before : List DocumentFields) (document : OpenDocumentFields) (list : Option ItemListFields) (line : ℕ)
-    (key : ItemKey) (value : List ℕ) (inside : InsideFields) (rest : List Line) (total : List DocumentFields)
+    (key : ItemKey) (value : List ℕ) (inside : InsideFields) (rest : List ReadLine) (total : List DocumentFields)
     → names_value document list line key value ≡ Ok inside → RestInside before inside rest total
     → RestList before document list line key value rest total
 unfolding names_value
@@ -79,7 +80,7 @@ names_value_rest before document list line key value inside rest total e h =
 
 -- a value that is skipped
 pub skipped_value_rest : (before : List DocumentFields) (document : OpenDocumentFields) (list : Option ItemListFields) (line : ℕ)
-    (value : List ℕ) (inside : InsideFields) (rest : List Line) (total : List DocumentFields)
+    (value : List ℕ) (inside : InsideFields) (rest : List ReadLine) (total : List DocumentFields)
     → skipped_value document list line value ≡ Ok inside → RestInside before inside rest total
     → RestList before document list line item.Unread value rest total
     ⊎ ((get_or value 0 0 ≢ open_bracket) × RestSkipped before document list rest total)

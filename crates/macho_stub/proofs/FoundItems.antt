@@ -1,41 +1,43 @@
 -- From the reading of an item's lines to its tree: each key line is an entry, and a line with a dash begins an item.
 use Rattle.std.proofs.Common.{◌≡◌, ℕ, ◌+◌, List, ◌∷◌, ◌++◌, drop, replicate, Some, Ok, refl, ap, ◌∙◌, inl, inr, subst}
-use Rattle.macho_stub.specs.declared.keys.ItemKind.{ItemKind}
-use Rattle.macho_stub.specs.declared.keys.ItemKey.{ItemKey}
-use Rattle.macho_stub.specs.declared.keys.ItemKey.TheVariants as item
-use Rattle.macho_stub.specs.declared.fault.StubRule.TheVariants.{S1, S3}
-use Rattle.macho_stub.specs.Bytes.{space, dash, indent}
-use Rattle.macho_stub.specs.Keys.{entry_at, item_key}
-use Rattle.macho_stub.specs.Documents.{ItemFields, OpenItemFields, DocumentFields, OpenDocumentFields, no_item, has_key, with_key}
-use Rattle.macho_stub.specs.Reader.{ItemListFields, InsideFields, names_value, item_entry, item_key_line, has_dash, key_column, first_line}
-use Rattle.macho_stub.specs.Grammar.{Line, IsItemEntry, ItemEntries, ItemTree, items_then, ItemValue, entries_then}
-use Rattle.macho_stub.proofs.Bind.{bind_ok, not_broken, not_broken_else}
+use Rattle.macho_stub_lines.specs.declared.keys.ItemKind.{ItemKind}
+use Rattle.macho_stub_lines.specs.declared.keys.ItemKey.{ItemKey}
+use Rattle.macho_stub_lines.specs.declared.keys.ItemKey.TheVariants as item
+use Rattle.macho_stub_lines.specs.declared.fault.StubRule.TheVariants.{S1, S3}
+use Rattle.macho_stub_lines.specs.Bytes.{space, dash, indent, has_dash}
+use Rattle.macho_stub_lines.specs.Keys.{entry_at, item_key}
+use Rattle.macho_stub.specs.Documents.{ItemFields, DocumentFields}
+use Rattle.macho_stub.specs.Opened.{OpenItemFields, OpenDocumentFields, no_item, has_key, with_key}
+use Rattle.macho_stub.specs.Reader.{ItemListFields, InsideFields, names_value, item_entry, item_key_line, key_column, first_line}
+use Rattle.macho_stub_lines.proofs.ReadLists.{ReadLine}
+use Rattle.macho_stub.proofs.Readings.{IsItemEntry, ItemEntries, ItemTree, items_then, ItemValue, entries_then}
+use Rattle.macho_stub_lines.proofs.Bind.{bind_ok, not_broken, not_broken_else}
 use Rattle.macho_stub.proofs.Rest.{RestItem, RestItems, RestInside}
 use Rattle.macho_stub.proofs.FoundEntries.{names_value_rest, skipped_value_rest}
 use Rattle.macho_stub.proofs.Spelled.{spelled_dash}
 
 -- a key line of an item, and the lines behind it
 pub record RestItemEntry (before : List DocumentFields) (document : OpenDocumentFields) (list : ItemListFields) (line : ℕ) (text : List ℕ)
-    (rest : List Line) (total : List DocumentFields) : Type 0 where
-  pub more : List Line
+    (rest : List ReadLine) (total : List DocumentFields) : Type 0 where
+  pub more : List ReadLine
   pub after : OpenItemFields
-  pub tail : List Line
+  pub tail : List ReadLine
   pub lines_of : rest ≡ more ++ tail
   pub is_entry : IsItemEntry list.kind list.column (record { number = line; head = text; more = more }) list.item after
   pub keys : RestItem before document (record list { item = after }) tail total
 
 -- what a value leads to
 record RestItemValue (before : List DocumentFields) (document : OpenDocumentFields) (list : ItemListFields) (line : ℕ) (text : List ℕ)
-    (key : ItemKey) (value : List ℕ) (rest : List Line) (total : List DocumentFields) : Type 0 where
-  more : List Line
+    (key : ItemKey) (value : List ℕ) (rest : List ReadLine) (total : List DocumentFields) : Type 0 where
+  more : List ReadLine
   after : OpenItemFields
-  tail : List Line
+  tail : List ReadLine
   lines_of : rest ≡ more ++ tail
   is_value : ItemValue list.column key value (record { number = line; head = text; more = more }) list.item after
   keys : RestItem before document (record list { item = after }) tail total
 
 item_entry_rest : (before : List DocumentFields) (document : OpenDocumentFields) (list : ItemListFields) (line : ℕ) (text : List ℕ)
-    (key : ItemKey) (value : List ℕ) (inside : InsideFields) (rest : List Line) (total : List DocumentFields)
+    (key : ItemKey) (value : List ℕ) (inside : InsideFields) (rest : List ReadLine) (total : List DocumentFields)
     → item_entry document list line key value ≡ Ok inside → RestInside before inside rest total
     → RestItemValue before document list line text key value rest total
 item_entry_rest before document list line text item.Unread value inside rest total e h =
@@ -97,7 +99,7 @@ item_entry_rest before document list line text item.WeakNames value inside rest 
     }
 
 pub item_key_line_rest : (before : List DocumentFields) (document : OpenDocumentFields) (list : ItemListFields) (line : ℕ) (text : List ℕ)
-    (inside : InsideFields) (rest : List Line) (total : List DocumentFields)
+    (inside : InsideFields) (rest : List ReadLine) (total : List DocumentFields)
     → item_key_line document list line text ≡ Ok inside → RestInside before inside rest total
     → RestItemEntry before document list line text rest total
 unfolding item_key_line
@@ -116,7 +118,7 @@ item_key_line_rest before document list line text inside rest total e h =
 
 -- the line of an item's dash, behind other items
 pub first_line_rest : (before : List DocumentFields) (document : OpenDocumentFields) (kind : ItemKind) (items : List ItemFields)
-    (line : ℕ) (text : List ℕ) (inside : InsideFields) (rest : List Line) (total : List DocumentFields)
+    (line : ℕ) (text : List ℕ) (inside : InsideFields) (rest : List ReadLine) (total : List DocumentFields)
     → first_line document kind items line text ≡ Ok inside → RestInside before inside rest total
     → RestItems before document kind items (indent text) (record { number = line; text = text } ∷ rest) total
 unfolding first_line
@@ -142,9 +144,9 @@ first_line_rest before document kind items line text inside rest total e h =
       says = r.keys.says;
       tail = r.keys.tail;
       lines_of = subst L column (ap (λ t. record { number = line; text = t } ∷ rest) s.spelled
-          ∙ ap (λ (more : List Line). record
+          ∙ ap (λ (more : List ReadLine). record
           { number = line; text = replicate (indent text) space ++ dash ∷ (replicate s.gap space ++ drop (key_column text) text) } ∷ more)
-          (r.lines_of ∙ ap (λ (tail : List Line). r.more ++ tail) r.keys.lines_of));
+          (r.lines_of ∙ ap (λ (tail : List ReadLine). r.more ++ tail) r.keys.lines_of));
       are_items = (
         record {
           spaced = s.some;

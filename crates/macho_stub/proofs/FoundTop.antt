@@ -1,31 +1,35 @@
 -- From the reading of a document's lines to its tree.
 use Rattle.std.proofs.Common.{◌≡◌, ℕ, cond, eqb, List, [], ◌∷◌, ◌++◌, length, Option, Some, None, Ok, is_some, refl, sym, ap, ◌∙◌, inl, inr, subst, append_assoc}
 use Rattle.std.specs.Str.{bytes_eq}
-use Rattle.macho_stub.specs.declared.keys.ItemKey.TheVariants as item
-use Rattle.macho_stub.specs.declared.keys.TopKey.{TopKey}
-use Rattle.macho_stub.specs.declared.keys.TopKey.TheVariants as top
-use Rattle.macho_stub.specs.declared.fault.StubRule.TheVariants.{S1, S3}
-use Rattle.macho_stub.specs.Faults.{Reading, ◌>>=◌, outside}
-use Rattle.macho_stub.specs.Keys.{Entry, entry_at, scalar_value, version_value, top_key}
-use Rattle.macho_stub.specs.Documents.{DocumentFields, OpenDocumentFields, head_at, has_items, with_items, whole_document}
-use Rattle.macho_stub.specs.Reader.{Keys, NoItem, InsideFields, Outside, Within, StateFields, stays, names_value, top_entry, within, with_whole, top_line, head, end}
-use Rattle.macho_stub.specs.Grammar.{Line, Under, Plain, Listed, under_then, TopValue, end_then}
-use Rattle.macho_stub.proofs.Bind.{bind_ok, chosen, not_broken, not_broken_else, same_ok, same_bytes, eq_at}
+use Rattle.macho_stub_lines.specs.declared.keys.ItemKey.TheVariants as item
+use Rattle.macho_stub_lines.specs.declared.keys.TopKey.{TopKey}
+use Rattle.macho_stub_lines.specs.declared.keys.TopKey.TheVariants as top
+use Rattle.macho_stub_lines.specs.declared.fault.StubRule.TheVariants.{S1, S3}
+use Rattle.macho_stub_lines.specs.Faults.{Reading, ◌>>=◌, outside}
+use Rattle.macho_stub_lines.specs.Keys.{Entry, entry_at, scalar_value, version_value, top_key}
+use Rattle.macho_stub.specs.Documents.{DocumentFields}
+use Rattle.macho_stub.specs.Opened.{OpenDocumentFields, head_at, has_items, with_items}
+use Rattle.macho_stub.specs.Whole.{whole_document}
+use Rattle.macho_stub.specs.Reader.{Keys, NoItem, InsideFields, Outside, Within, StateFields, stays, names_value, top_entry, within, with_whole, top_line}
+use Rattle.macho_stub_lines.specs.Bytes.{head, end}
+use Rattle.macho_stub_lines.proofs.ReadLists.{ReadLine}
+use Rattle.macho_stub.proofs.Readings.{Under, Plain, Listed, under_then, TopValue, end_then}
+use Rattle.macho_stub_lines.proofs.Bind.{bind_ok, chosen, not_broken, not_broken_else, same_ok, same_bytes, eq_at}
 use Rattle.macho_stub.proofs.Rest.{RestOutside, RestTop, RestInside, Rest}
 use Rattle.macho_stub.proofs.FoundEntries.{names_value_rest, skipped_value_rest}
 
 -- a key line of a document, and the lines behind it
 record RestTopValue (before : List DocumentFields) (document : OpenDocumentFields) (line : ℕ) (text : List ℕ) (key : TopKey)
-    (value : List ℕ) (rest : List Line) (total : List DocumentFields) : Type 0 where
+    (value : List ℕ) (rest : List ReadLine) (total : List DocumentFields) : Type 0 where
   under : Under
   after : OpenDocumentFields
-  tail : List Line
+  tail : List ReadLine
   lines_of : rest ≡ under_then under tail
   is_value : TopValue key value (record { number = line; head = text; under = under }) document after
   keys : RestTop before after tail total
 
 top_entry_rest : (before : List DocumentFields) (document : OpenDocumentFields) (line : ℕ) (text : List ℕ) (key : TopKey) (value : List ℕ)
-    (inside : InsideFields) (rest : List Line) (total : List DocumentFields)
+    (inside : InsideFields) (rest : List ReadLine) (total : List DocumentFields)
     → top_entry document line key value ≡ Ok inside → RestInside before inside rest total
     → RestTopValue before document line text key value rest total
 top_entry_rest before document line text top.Version value inside rest total e h =
@@ -122,7 +126,7 @@ top_entry_rest before document line text top.Unread value inside rest total e h 
 
 -- an entry more in front
 entry_in_front : (before : List DocumentFields) (document : OpenDocumentFields) (line : ℕ) (text : List ℕ) (said : Entry)
-    (rest : List Line) (total : List DocumentFields)
+    (rest : List ReadLine) (total : List DocumentFields)
     → entry_at line text ≡ Ok said → RestTopValue before document line text (top_key said.key) said.value rest total
     → RestTop before document (record { number = line; text = text } ∷ rest) total
 entry_in_front before document line text said rest total e r = record {
@@ -132,7 +136,7 @@ entry_in_front before document line text said rest total e r = record {
   trees = r.keys.trees;
   whole = r.keys.whole;
   says = r.keys.says;
-  lines_of = ap (λ (more : List Line). record { number = line; text = text } ∷ more)
+  lines_of = ap (λ (more : List ReadLine). record { number = line; text = text } ∷ more)
       (r.lines_of ∙ ap (under_then r.under) r.keys.lines_of);
   reads = (r.after, record { said = said; key = e; value = r.is_value }, r.keys.reads);
   is_whole = r.keys.is_whole;
@@ -141,20 +145,20 @@ entry_in_front before document line text said rest total e r = record {
 }
 
 -- a document whose head stands at the line, in front of others
-pub document_in_front : (before : List DocumentFields) (line : ℕ) (text : List ℕ) (rest : List Line) (total : List DocumentFields)
+pub document_in_front : (before : List DocumentFields) (line : ℕ) (text : List ℕ) (rest : List ReadLine) (total : List DocumentFields)
     → text ≡ head → RestTop before (head_at line) rest total → RestOutside before (record { number = line; text = text } ∷ rest) total
 document_in_front before line text rest total is r = record {
   trees = record { number = line; entries = r.entries; ended_at = r.ended_at } ∷ r.trees;
   says = r.whole ∷ r.says;
   lines_of = ap (λ t. record { number = line; text = t } ∷ rest) is
-      ∙ ap (λ (more : List Line). record { number = line; text = head } ∷ more) r.lines_of;
+      ∙ ap (λ (more : List ReadLine). record { number = line; text = head } ∷ more) r.lines_of;
   documents = (record { read = r.after; entries = r.reads; whole = r.is_whole }, r.documents);
   all = r.all;
 }
 
 -- the end of a document, in front of others
 document_ends : (before : List DocumentFields) (document : OpenDocumentFields) (all : List DocumentFields) (ended_at : Option ℕ)
-    (rest lines : List Line) (total : List DocumentFields)
+    (rest lines : List ReadLine) (total : List DocumentFields)
     → with_whole before document ≡ Ok all → lines ≡ end_then ended_at rest → RestOutside all rest total
     → RestTop before document lines total
 unfolding with_whole
@@ -189,7 +193,7 @@ inside_of_document before inside = Ok (record { documents = before; place = With
 
 -- a line behind the keys of a document
 pub top_line_rest : (before : List DocumentFields) (document : OpenDocumentFields) (line : ℕ) (text : List ℕ) (next : StateFields)
-    (rest : List Line) (total : List DocumentFields)
+    (rest : List ReadLine) (total : List DocumentFields)
     → top_line before document line text ≡ Ok next → Rest next.documents next.place rest total
     → RestTop before document (record { number = line; text = text } ∷ rest) total
 unfolding top_line

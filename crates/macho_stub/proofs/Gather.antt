@@ -2,12 +2,13 @@
 -- is sound leaves the judgement of all to the rest.
 use Rattle.std.proofs.Common.{◌≡◌, ℕ, zero, suc, ◌<◌, ◌≤◌, List, [], ◌∷◌, ◌++◌, length, get_or, drop, map, Ok, sym, ap, ◌∙◌, append_assoc, arith}
 use Rattle.std.specs.List.{flat_map}
-use Rattle.macho_stub.specs.declared.fault.StubFault.{StubFault}
-use Rattle.macho_stub.specs.declared.fault.StubFault.TheVariants.{Rule, OutOfMemory}
+use Rattle.macho_stub_lines.specs.declared.fault.StubFault.{StubFault}
+use Rattle.macho_stub_lines.specs.declared.fault.StubFault.TheVariants.{Rule, OutOfMemory}
 use Rattle.macho_stub.specs.declared.document.Document.{Document}
-use Rattle.macho_stub.specs.Faults.{Reading, ◌>>=◌, Fails, broken}
-use Rattle.macho_stub.specs.Documents.{DocumentFields, document_of}
-use Rattle.macho_stub.specs.Library.{checked_document, checked_documents}
+use Rattle.macho_stub_lines.specs.Faults.{Reading, ◌>>=◌, Fails, broken}
+use Rattle.macho_stub.specs.Documents.{DocumentFields}
+use Rattle.macho_stub.specs.Opened.{document_of}
+use Rattle.macho_stub.specs.Checks.{checked_document, checked_documents}
 
 -- one element more is gathered
 pub flat_more : {A X Y : Type 0} (f : X → List Y) (view : A → X) (front all : List Y) (xs : List A) (i : ℕ) (x : A) → i < length xs → x

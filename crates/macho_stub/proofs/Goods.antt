@@ -2,17 +2,18 @@
 use Rattle.std.proofs.Common.{◌≡◌, ℕ, zero, suc, ◌+◌, ◌<◌, Bool, true, false, cond, eqb, List, [], ◌∷◌, ◌++◌, length, take, Option, Some, None, Ok, Err, is_some, refl, sym, ap, ◌∙◌, subst}
 use Rattle.std.specs.Prelude.{codes}
 use Rattle.std.specs.List.{prefix_len}
-use Rattle.macho_stub.specs.declared.keys.ItemKey.{ItemKey}
-use Rattle.macho_stub.specs.declared.keys.ItemKey.TheVariants as item
-use Rattle.macho_stub.specs.declared.keys.TopKey.{TopKey}
-use Rattle.macho_stub.specs.declared.keys.TopKey.TheVariants as top
-use Rattle.macho_stub.specs.declared.fault.StubRule.TheVariants.{S1, S3}
-use Rattle.macho_stub.specs.Bytes.{colon, is_key_byte, is_tail, is_passed, is_blank_or_comment, unspaced, indent, has_barred, is_barred, is_mark, is_plain_byte, has_late_control_after}
-use Rattle.macho_stub.specs.Scalars.{scalar_front, plain_front}
-use Rattle.macho_stub.specs.Lists.{list_part, token_front, behind}
-use Rattle.macho_stub.specs.Faults.{Reading, ◌>>=◌, broken, outside}
-use Rattle.macho_stub.specs.Keys.{Entry, entry_at, entry_behind, top_key, item_key, scalar_value, version_value, number_of}
-use Rattle.macho_stub.specs.Documents.{DocumentFields, OpenDocumentFields, has_items, has_key, with_key}
+use Rattle.macho_stub_lines.specs.declared.keys.ItemKey.{ItemKey}
+use Rattle.macho_stub_lines.specs.declared.keys.ItemKey.TheVariants as item
+use Rattle.macho_stub_lines.specs.declared.keys.TopKey.{TopKey}
+use Rattle.macho_stub_lines.specs.declared.keys.TopKey.TheVariants as top
+use Rattle.macho_stub_lines.specs.declared.fault.StubRule.TheVariants.{S1, S3}
+use Rattle.macho_stub_lines.specs.Bytes.{colon, is_key_byte, is_tail, is_passed, is_blank_or_comment, unspaced, indent, has_barred, is_barred, is_mark, is_plain_byte, has_late_control_after}
+use Rattle.macho_stub_lines.specs.Scalars.{scalar_front, plain_front}
+use Rattle.macho_stub_lines.specs.Lists.{list_part, token_front, behind}
+use Rattle.macho_stub_lines.specs.Faults.{Reading, ◌>>=◌, broken, outside}
+use Rattle.macho_stub_lines.specs.Keys.{Entry, entry_at, entry_behind, top_key, item_key, scalar_value, version_value, number_of}
+use Rattle.macho_stub.specs.Documents.{DocumentFields}
+use Rattle.macho_stub.specs.Opened.{OpenDocumentFields, has_items, has_key, with_key}
 use Rattle.macho_stub.specs.Reader.{ItemListFields, InsideFields, Within, Keys, Skipped, NoItem, StateFields, stays, names_value, names_line, skipped_value, top_entry, item_entry, item_key_line, within}
 use Rattle.macho_stub.specs.Order.{MayStand, in_column}
 use Rattle.macho_stub.proofs.Joined.{IsLine, has_line_feed, either_false, both_false, take_line, spaces_line}

@@ -2,7 +2,7 @@
 use Rattle.std.proofs.Common.{◌≡◌, ℕ, zero, suc, ◌+◌, ◌-◌, ◌||◌, Bool, true, false, cond, eqb, List, [], ◌∷◌, ◌++◌, length, take, get_or, replicate, refl, sym, ap, ◌∙◌, arith}
 use Rattle.std.specs.List.{slice_split, onto_first, list_any, AllByRecursion}
 use Rattle.std.specs.Str.Lines.{lines, lines_of_parts, strip_carriage_return}
-use Rattle.macho_stub.specs.Bytes.{space}
+use Rattle.macho_stub_lines.specs.Bytes.{space}
 
 abbrev pub has_line_feed : List ℕ → Bool
 has_line_feed bytes = list_any (λ b. eqb b 10) bytes

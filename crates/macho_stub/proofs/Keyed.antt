@@ -5,12 +5,11 @@ use Rattle.std.specs.List.{prefix_len}
 use Rattle.std.specs.Str.{bytes_eq}
 use Rattle.std.proofs.lemmas.Bool.Decides.{nat_tests}
 use Rattle.std.proofs.Math.Numerals.{one-add}
-use Rattle.macho_stub.specs.declared.fault.StubRule.TheVariants.{S1}
-use Rattle.macho_stub.specs.Bytes.{space, dash, colon, number_sign, is_key_byte, is_passed, is_tail, is_blank_or_comment, unspaced}
-use Rattle.macho_stub.specs.Faults.{Reading, outside}
-use Rattle.macho_stub.specs.Keys.{Entry, entry_at, entry_behind}
-use Rattle.macho_stub.specs.Reader.{head, end, belongs_to_top}
-use Rattle.macho_stub.proofs.Bind.{chosen, not_broken, same_ok, no_ok, same_bytes}
+use Rattle.macho_stub_lines.specs.declared.fault.StubRule.TheVariants.{S1}
+use Rattle.macho_stub_lines.specs.Bytes.{space, dash, colon, number_sign, is_key_byte, is_passed, is_tail, is_blank_or_comment, unspaced, head, end, belongs_to_top}
+use Rattle.macho_stub_lines.specs.Faults.{Reading, outside}
+use Rattle.macho_stub_lines.specs.Keys.{Entry, entry_at, entry_behind}
+use Rattle.macho_stub_lines.proofs.Bind.{chosen, not_broken, same_ok, no_ok, same_bytes}
 use Rattle.macho_stub.proofs.OnlyLines.{space_ends, dash_ends, top_indent}
 
 -- the text begins with a key and a colon

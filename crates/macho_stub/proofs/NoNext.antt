@@ -4,18 +4,19 @@
 use Rattle.std.proofs.Common.{◌≡◌, ◌≢◌, ℕ, zero, suc, ◌+◌, Bool, true, false, cond, eqb, ltb, drop, List, [], ◌∷◌, ◌++◌, length, map, Some, Ok, refl, sym, ap, ◌∙◌, arith, inl, inr, subst, append_assoc}
 use Rattle.std.specs.List.{prefix_len, AllByRecursion}
 use Rattle.std.proofs.lemmas.List.{append-nil}
-use Rattle.macho_stub.specs.declared.keys.ItemKind.{ItemKind}
-use Rattle.macho_stub.specs.declared.keys.ItemKind.TheVariants.{Libraries, Exports, Reexports}
-use Rattle.macho_stub.specs.declared.keys.ItemKey.TheVariants as item
-use Rattle.macho_stub.specs.declared.fault.StubRule.TheVariants.{S1, S3}
-use Rattle.macho_stub.specs.Bytes.{is_space, indent, unspaced, is_passed, has_barred, is_blank_or_comment, is_key_byte, is_tail}
-use Rattle.macho_stub.specs.Faults.{Reading, broken, outside}
-use Rattle.macho_stub.specs.Lists.{list_part, token_front, behind}
-use Rattle.macho_stub.specs.Keys.{entry_at, item_key}
-use Rattle.macho_stub.specs.Documents.{DocumentFields, OpenDocumentFields, OpenItemFields, has_key, with_key}
-use Rattle.macho_stub.specs.Reader.{ItemListFields, Keys, StateFields, stays, has_dash, belongs_to_top, names_line, names_value, skipped_value, item_key_line, within, item_line, line_step}
+use Rattle.macho_stub_lines.specs.declared.keys.ItemKind.{ItemKind}
+use Rattle.macho_stub_lines.specs.declared.keys.ItemKind.TheVariants.{Libraries, Exports, Reexports}
+use Rattle.macho_stub_lines.specs.declared.keys.ItemKey.TheVariants as item
+use Rattle.macho_stub_lines.specs.declared.fault.StubRule.TheVariants.{S1, S3}
+use Rattle.macho_stub_lines.specs.Bytes.{is_space, indent, unspaced, is_passed, has_barred, is_blank_or_comment, is_key_byte, is_tail, has_dash, belongs_to_top}
+use Rattle.macho_stub_lines.specs.Faults.{Reading, broken, outside}
+use Rattle.macho_stub_lines.specs.Lists.{list_part, token_front, behind}
+use Rattle.macho_stub_lines.specs.Keys.{entry_at, item_key}
+use Rattle.macho_stub.specs.Documents.{DocumentFields}
+use Rattle.macho_stub.specs.Opened.{OpenDocumentFields, OpenItemFields, has_key, with_key}
+use Rattle.macho_stub.specs.Reader.{ItemListFields, Keys, StateFields, stays, names_line, names_value, skipped_value, item_key_line, within, item_line, line_step}
 use Rattle.macho_stub.specs.Order.{MayStand, LacksInItem, IsNeeded, IsNextItem, spare, dashed, in_column}
-use Rattle.macho_stub.proofs.Bind.{not_broken_else, no_ok, same_ok, eq_false, chosen}
+use Rattle.macho_stub_lines.proofs.Bind.{not_broken_else, no_ok, same_ok, eq_false, chosen}
 use Rattle.macho_stub.proofs.OnlyLines.{top_indent, spelled_indent, spelled_rest, DashLine, dash_line}
 use Rattle.macho_stub.proofs.Joined.{IsLine, spaces_line}
 use Rattle.macho_stub.proofs.Finish.{at_item, item_text_barred, item_text_passed, no_dash_there, targets_line, libraries_line}

@@ -4,16 +4,17 @@
 use Rattle.std.proofs.Common.{◌≡◌, ◌≢◌, ℕ, ◌+◌, List, [], ◌∷◌, ◌++◌, length, Ok, refl, sym, ap, ◌∙◌, inl, inr, subst, append_assoc}
 use Rattle.std.specs.List.{AllByRecursion}
 use Rattle.std.specs.Str.Lines.{lines}
-use Rattle.macho_stub.specs.declared.fault.StubRule.{StubRule}
-use Rattle.macho_stub.specs.declared.fault.StubRule.TheVariants.{S1, S2, S3, S4, S5, S6, S7, S8, S9}
-use Rattle.macho_stub.specs.Bytes.{indent, unspaced, is_passed, is_blank_or_comment, is_key_byte}
-use Rattle.macho_stub.specs.Keys.{Entry, entry_at}
-use Rattle.macho_stub.specs.Reader.{head, end}
+use Rattle.macho_stub_lines.specs.declared.fault.StubRule.{StubRule}
+use Rattle.macho_stub_lines.specs.declared.fault.StubRule.TheVariants.{S1, S2, S3, S4, S5, S6, S7, S8, S9}
+use Rattle.macho_stub_lines.specs.Bytes.{indent, unspaced, is_passed, is_blank_or_comment, is_key_byte, head, end}
+use Rattle.macho_stub_lines.specs.Keys.{Entry, entry_at}
 use Rattle.macho_stub.specs.Order.{GoOn, MayStand, EndsWithout, StandsTwice, IsLastHead, IsWhy, StopsAt, StopsAtEnd, BreaksOff, spare, in_column}
-use Rattle.macho_stub.specs.Documents.{DocumentFields}
+use Rattle.macho_stub.specs.Documents.{DocumentOf}
+use Rattle.macho_stub_lines.specs.Slices.{Slice}
 use Rattle.macho_stub.specs.Grammar.{IsStubText}
-use Rattle.macho_stub.proofs.Bind.{no_ok}
+use Rattle.macho_stub_lines.proofs.Bind.{no_ok}
 use Rattle.macho_stub.proofs.Outsides.{dash_no_key}
+use Rattle.macho_stub.proofs.TwiceKeys.{said_of, second_key}
 
 -- ---- lists that are cut in two ways
 
@@ -68,12 +69,14 @@ pub ends_no_key : (first : List (List ℕ)) (line : List ℕ) → EndsWithout fi
 unfolding is_passed unspaced indent is_blank_or_comment
 ends_no_key first line w t =
     let M : ℕ → Type 0 = λ n. MayStand first (in_column n spare) in
-    let K : List ℕ → Type 0 = λ l. entry_at (length first + 1) (unspaced l) ≡ Ok t.said in
+    let said = said_of t.said in
+    let key = second_key first line t in
+    let K : List ℕ → Type 0 = λ l. entry_at (length first + 1) (unspaced l) ≡ Ok said in
     elim w.lacks [
       | inl i ↦ elim i.1 [ inl m ↦ i.0 spare refl refl (subst M m.1 t.another) | inr n ↦ dash_no_key first line n.dash t ]
       | inr d ↦ elim d.1 [
-        | inl is ↦ key_of_head (length first + 1) t.said (subst K is t.is_key)
-        | inr is ↦ key_of_end (length first + 1) t.said (subst K is t.is_key)
+        | inl is ↦ key_of_head (length first + 1) said (subst K is key)
+        | inr is ↦ key_of_end (length first + 1) said (subst K is key)
       ]
     ]
 
@@ -138,6 +141,6 @@ pub no_stop_and_end : (text : List ℕ) (l m : ℕ) (r s : StubRule) → StopsAt
 no_stop_and_end text l m r s a b = a.stuck (stands_before (lines text) a.first a.rest a.line a.parts b.go_on)
 
 -- a text that breaks off isn't in the grammar
-pub no_break : (text : List ℕ) (l : ℕ) (r : StubRule) → BreaksOff text l r → (says : List DocumentFields) → IsStubText text says → ⊥
+pub no_break : (text : List ℕ) (l : ℕ) (r : StubRule) → BreaksOff text l r → (says : List (DocumentOf Slice)) → IsStubText text says → ⊥
 no_break text l r (inl a) says is = a.stuck (record { text = text; more = a.rest; says = says; begins = a.parts; in_grammar = is })
 no_break text l r (inr a) says is = a.stuck says is

@@ -4,19 +4,21 @@ use Rattle.std.proofs.Common.{◌≡◌, ℕ, ◌+◌, true, false, List, [], �
 use Rattle.std.specs.List.{AllByRecursion}
 use Rattle.std.specs.Str.Lines.{lines}
 use Rattle.std.proofs.lemmas.List.{append-nil}
-use Rattle.macho_stub.specs.declared.list.Expect.{Expect}
-use Rattle.macho_stub.specs.declared.list.Expect.TheVariants.{AfterOpen, AfterComma, AfterName, Closed}
-use Rattle.macho_stub.specs.declared.fault.StubRule.{StubRule}
-use Rattle.macho_stub.specs.declared.fault.StubRule.TheVariants.{S1, S2, S3, S4, S5, S6, S7, S8, S9}
-use Rattle.macho_stub.specs.Bytes.{indent, unspaced, is_passed, has_barred, is_blank_or_comment, is_mark, is_plain_byte, has_late_control_after}
-use Rattle.macho_stub.specs.Scalars.{scalar_front, plain_front}
-use Rattle.macho_stub.specs.Faults.{outside}
-use Rattle.macho_stub.specs.Lists.{list_part, token_front, behind}
-use Rattle.macho_stub.specs.Documents.{DocumentFields, OpenDocumentFields}
+use Rattle.macho_stub_lines.specs.declared.list.Expect.{Expect}
+use Rattle.macho_stub_lines.specs.declared.list.Expect.TheVariants.{AfterOpen, AfterComma, AfterName, Closed}
+use Rattle.macho_stub_lines.specs.declared.fault.StubRule.{StubRule}
+use Rattle.macho_stub_lines.specs.declared.fault.StubRule.TheVariants.{S1, S2, S3, S4, S5, S6, S7, S8, S9}
+use Rattle.macho_stub_lines.specs.Bytes.{indent, unspaced, is_passed, has_barred, is_blank_or_comment, is_mark, is_plain_byte, has_late_control_after}
+use Rattle.macho_stub_lines.specs.Scalars.{scalar_front, plain_front}
+use Rattle.macho_stub_lines.specs.Faults.{outside}
+use Rattle.macho_stub_lines.specs.Lists.{list_part, token_front, behind}
+use Rattle.macho_stub.specs.Documents.{documents_texts, DocumentFields}
+use Rattle.macho_stub.specs.Opened.{OpenDocumentFields}
 use Rattle.macho_stub.specs.Reader.{ItemListFields, NameListFields, ModeFields, Keys, Skipped, Names, NoItem, PlaceFields, Outside, Within, StateFields, stays, names_line, line_step, lines_from, start}
 use Rattle.macho_stub.specs.Order.{GoOn, MayStand, LacksInItem, LacksInDocument, IsLastHead, IsOpenAlong, IsCutList, IsBareKey, IsWhyAtEnd, BreaksOff, spare, dashed, closing}
-use Rattle.macho_stub.proofs.Bind.{bind_ok}
+use Rattle.macho_stub_lines.proofs.Bind.{bind_ok}
 use Rattle.macho_stub.proofs.Joined.{AreLines, lines_are_lines}
+use Rattle.macho_stub.proofs.Trees.{to_read}
 use Rattle.macho_stub.proofs.Reached.{Reached, refused, length_more}
 use Rattle.macho_stub.proofs.Since.{Known, known_start, known_more, no_bracket_at_keys, no_bracket_at_item}
 use Rattle.macho_stub.proofs.Elsewhere.{no_key_in_list}
@@ -125,9 +127,10 @@ walk first state (text ∷ texts) more says k l e =
 
 alone : (text : List ℕ) → GoOn (lines text) → MayStand (lines text) closing → Alone (lines text)
 alone text g m =
-    let e : lines_from start 1 (lines text ++ g.more) ≡ Ok g.says = ap (lines_from start 1) (sym g.begins)
-    ∙ lines_read (lines g.text) g.says g.in_grammar in
-    let w = walk [] start (lines text) g.more g.says known_start (lines_are_lines text) e in
+    let says = documents_texts g.says in
+    let e : lines_from start 1 (lines text ++ g.more) ≡ Ok says = ap (lines_from start 1) (sym g.begins)
+    ∙ lines_read (lines g.text) says (to_read g.text g.says g.in_grammar) in
+    let w = walk [] start (lines text) g.more says known_start (lines_are_lines text) e in
     place_alone (lines text) w.0.documents w.0.place w.1.reached m
 
 -- ---- one reason

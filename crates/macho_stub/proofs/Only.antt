@@ -4,19 +4,22 @@ use Rattle.std.specs.List.{AllByRecursion}
 use Rattle.std.specs.Str.{bytes_eq}
 use Rattle.std.specs.Str.Lines.{lines}
 use Rattle.std.proofs.lemmas.List.{append-nil}
-use Rattle.macho_stub.specs.declared.keys.ItemKind.{ItemKind}
-use Rattle.macho_stub.specs.declared.keys.ItemKey.{ItemKey}
-use Rattle.macho_stub.specs.declared.keys.ItemKey.TheVariants as item
-use Rattle.macho_stub.specs.declared.keys.TopKey.{TopKey}
-use Rattle.macho_stub.specs.declared.keys.TopKey.TheVariants as top
-use Rattle.macho_stub.specs.declared.fault.StubRule.TheVariants.{S3}
-use Rattle.macho_stub.specs.Bytes.{space, dash, is_passed, has_barred}
-use Rattle.macho_stub.specs.Faults.{Reading, ◌>>=◌, outside, broken}
-use Rattle.macho_stub.specs.Keys.{Entry, entry_at, scalar_value, version_value, top_key}
-use Rattle.macho_stub.specs.Documents.{ItemFields, DocumentFields, OpenDocumentFields, head_at, with_items, whole_document}
-use Rattle.macho_stub.specs.Reader.{Keys, NoItem, Outside, Within, StateFields, stays, with_names, names_value, skipped_value, top_entry, first_line, within, with_whole, top_line, end, belongs_to_top, content_line, line_step, lines_from, start, documents_of}
-use Rattle.macho_stub.specs.Grammar.{Line, content_from, Under, Plain, Listed, under_then, TopEntry, IsListUnder, IsSkippedUnder, AreItemsUnder, TopValue, IsTopEntry, TopEntries, top_entries_then, DocumentTree, end_then, documents_then, AreDocuments, IsStubText, IsStubLines, items_then, entries_then, column_of}
-use Rattle.macho_stub.proofs.Bind.{eq_true}
+use Rattle.macho_stub_lines.specs.declared.keys.ItemKind.{ItemKind}
+use Rattle.macho_stub_lines.specs.declared.keys.ItemKey.{ItemKey}
+use Rattle.macho_stub_lines.specs.declared.keys.ItemKey.TheVariants as item
+use Rattle.macho_stub_lines.specs.declared.keys.TopKey.{TopKey}
+use Rattle.macho_stub_lines.specs.declared.keys.TopKey.TheVariants as top
+use Rattle.macho_stub_lines.specs.declared.fault.StubRule.TheVariants.{S3}
+use Rattle.macho_stub_lines.specs.Bytes.{space, dash, is_passed, has_barred, end, belongs_to_top}
+use Rattle.macho_stub_lines.specs.Faults.{Reading, ◌>>=◌, outside, broken}
+use Rattle.macho_stub_lines.specs.Keys.{Entry, entry_at, scalar_value, version_value, top_key}
+use Rattle.macho_stub.specs.Documents.{ItemFields, DocumentFields}
+use Rattle.macho_stub.specs.Opened.{OpenDocumentFields, head_at, with_items}
+use Rattle.macho_stub.specs.Whole.{whole_document}
+use Rattle.macho_stub.specs.Reader.{Keys, NoItem, Outside, Within, StateFields, stays, with_names, names_value, skipped_value, top_entry, first_line, within, with_whole, top_line, content_line, line_step, lines_from, start, documents_of}
+use Rattle.macho_stub_lines.proofs.ReadLists.{ReadLine}
+use Rattle.macho_stub.proofs.Readings.{content_from, Under, Plain, Listed, under_then, TopEntry, IsListUnder, IsSkippedUnder, AreItemsUnder, TopValue, IsTopEntry, TopEntries, top_entries_then, DocumentTree, end_then, documents_then, AreDocuments, IsReadText, IsReadLines, items_then, entries_then, column_of}
+use Rattle.macho_stub_lines.proofs.Bind.{eq_true}
 use Rattle.macho_stub.proofs.Rest.{run}
 use Rattle.macho_stub.proofs.OnlyLines.{entry_at_top, entry_no_head, entry_no_end}
 use Rattle.macho_stub.proofs.OnlyLists.{run_in, run_keys, names_value_is_read, skipped_value_is_read}
@@ -26,7 +29,7 @@ use Rattle.macho_stub.proofs.OnlyLast.{TopStarts, items_are_read}
 -- ---- what stands under a key
 
 list_under_is_read : (before : List DocumentFields) (document : OpenDocumentFields) (line : ℕ) (key : ItemKey) (value : List ℕ)
-    (under : Under) (names : List (List ℕ)) (rest : List Line) → IsListUnder line value under names
+    (under : Under) (names : List (List ℕ)) (rest : List ReadLine) → IsListUnder line value under names
     → (names_value document None line key value >>= λ inside. run_in before inside (under_then under rest))
     ≡ run_in before (with_names document None key names) rest
 list_under_is_read before document line key value (Plain more) names rest l = names_value_is_read before document None line key value more
@@ -34,7 +37,7 @@ list_under_is_read before document line key value (Plain more) names rest l = na
 list_under_is_read before document line key value (Listed at trees) names rest l = absurd l
 
 skipped_under_is_read : (before : List DocumentFields) (document : OpenDocumentFields) (line : ℕ) (value : List ℕ) (under : Under)
-    (rest : List Line) → TopStarts rest → IsSkippedUnder line value under
+    (rest : List ReadLine) → TopStarts rest → IsSkippedUnder line value under
     → (skipped_value document None line value >>= λ inside. run_in before inside (under_then under rest))
     ≡ run_keys before document None rest
 skipped_under_is_read before document line value (Plain more) rest s k = skipped_value_is_read before document None line value more rest s
@@ -42,7 +45,7 @@ skipped_under_is_read before document line value (Plain more) rest s k = skipped
 skipped_under_is_read before document line value (Listed at trees) rest s k = absurd k
 
 items_under_are_read : (before : List DocumentFields) (document : OpenDocumentFields) (line : ℕ) (kind : ItemKind) (under : Under)
-    (says : List ItemFields) (rest : List Line) → TopStarts rest → AreItemsUnder document.line kind under says
+    (says : List ItemFields) (rest : List ReadLine) → TopStarts rest → AreItemsUnder document.line kind under says
     → run_in before (stays document None (NoItem kind line)) (under_then under rest)
     ≡ run_keys before (with_items kind says document) None rest
 items_under_are_read before document line kind (Plain more) says rest s a = absurd a
@@ -58,7 +61,7 @@ items_under_are_read before document line kind (Listed at (tree ∷ trees)) (one
 
 -- a scalar under a key that must not have come before
 scalar_is_read : (before : List DocumentFields) (had : Bool) (line : ℕ) (reading : Reading (List ℕ)) (gives : List ℕ → OpenDocumentFields)
-    (under : Under) (text : List ℕ) (new : OpenDocumentFields) (rest : List Line)
+    (under : Under) (text : List ℕ) (new : OpenDocumentFields) (rest : List ReadLine)
     → had ≡ false → under ≡ Plain [] → reading ≡ Ok text → new ≡ gives text
     → (cond had (broken line S3) (reading >>= λ text. Ok (stays (gives text) None Keys)) >>= λ inside. run_in before inside
     (under_then under rest)) ≡ run_keys before new None rest
@@ -70,7 +73,7 @@ scalar_is_read before had line reading gives under text new rest h u r n =
     ∙ ap (λ d. run_keys before d None rest) (sym n)
 
 top_value_is_read : (before : List DocumentFields) (old new : OpenDocumentFields) (key : TopKey) (value : List ℕ) (entry : TopEntry)
-    (rest : List Line) → TopStarts rest → TopValue key value entry old new
+    (rest : List ReadLine) → TopStarts rest → TopValue key value entry old new
     → (top_entry old entry.number key value >>= λ inside. run_in before inside (under_then entry.under rest))
     ≡ run_keys before new None rest
 top_value_is_read before old new top.Version value entry rest s v =
@@ -99,7 +102,7 @@ top_value_is_read before old new top.Unread value entry rest s v =
     skipped_under_is_read before old entry.number value entry.under rest s v.0 ∙ ap (λ d. run_keys before d None rest) (sym v.1)
 
 -- The reading of a line behind the keys of a document, by its two tests and its entry.
-top_by : List DocumentFields → OpenDocumentFields → ℕ → List Line → Bool → Bool → Reading Entry → Reading (List DocumentFields)
+top_by : List DocumentFields → OpenDocumentFields → ℕ → List ReadLine → Bool → Bool → Reading Entry → Reading (List DocumentFields)
 top_by before document line rest is_head is_end reading =
     cond is_head (with_whole before document >>= λ whole. Ok
     (record { documents = whole; place = Within (stays (head_at line) None Keys) }))
@@ -107,7 +110,7 @@ top_by before document line rest is_head is_end reading =
     (reading >>= λ entry. within before (top_entry document line (top_key entry.key) entry.value)))
     >>= λ next. run next.documents next.place rest
 
-top_entry_is_read : (before : List DocumentFields) (old new : OpenDocumentFields) (entry : TopEntry) (rest : List Line) → TopStarts rest
+top_entry_is_read : (before : List DocumentFields) (old new : OpenDocumentFields) (entry : TopEntry) (rest : List ReadLine) → TopStarts rest
     → IsTopEntry entry old new
     → run_keys before old None (record { number = entry.number; text = entry.head } ∷ under_then entry.under rest)
     ≡ run_keys before new None rest
@@ -120,12 +123,12 @@ top_entry_is_read before old new entry rest s e =
     ∙ within_run before (top_entry old entry.number (top_key e.said.key) e.said.value) (under_then entry.under rest)
     ∙ top_value_is_read before old new (top_key e.said.key) e.said.value entry rest s e.value
 
-top_entries_start : (entries : List TopEntry) (old new : OpenDocumentFields) (rest : List Line) → TopStarts rest
+top_entries_start : (entries : List TopEntry) (old new : OpenDocumentFields) (rest : List ReadLine) → TopStarts rest
     → TopEntries entries old new → TopStarts (top_entries_then entries rest)
 top_entries_start [] old new rest s e = s
 top_entries_start (entry ∷ entries) old new rest s e = entry_at_top entry.number entry.head e.1.said e.1.key
 
-top_entries_are_read : (before : List DocumentFields) (entries : List TopEntry) (old new : OpenDocumentFields) (rest : List Line)
+top_entries_are_read : (before : List DocumentFields) (entries : List TopEntry) (old new : OpenDocumentFields) (rest : List ReadLine)
     → TopStarts rest → TopEntries entries old new
     → run_keys before old None (top_entries_then entries rest) ≡ run_keys before new None rest
 top_entries_are_read before [] old new rest s e = ap (λ d. run_keys before d None rest) (sym e)
@@ -196,10 +199,10 @@ run_lines state line (text ∷ texts) all =
     by_test ih false = behind ih (content_line state.documents state.place line text)
 
 -- what is in the grammar is read
-pub lines_read : (texts : List (List ℕ)) (says : List DocumentFields) → IsStubLines texts says → lines_from start 1 texts ≡ Ok says
+pub lines_read : (texts : List (List ℕ)) (says : List DocumentFields) → IsReadLines texts says → lines_from start 1 texts ≡ Ok says
 lines_read texts says is = run_lines start 1 texts is.clean ∙ ap (run [] Outside) is.lines_of
     ∙ documents_are_read [] is.trees says is.documents
 
-pub documents_read : (text : List ℕ) (says : List DocumentFields) → IsStubText text says → documents_of text ≡ Ok says
+pub documents_read : (text : List ℕ) (says : List DocumentFields) → IsReadText text says → documents_of text ≡ Ok says
 unfolding documents_of
 documents_read text says is = lines_read (lines text) says is

@@ -3,17 +3,19 @@
 use Rattle.std.proofs.Common.{◌≡◌, ℕ, ◌+◌, ◌<◌, ◌&&◌, Bool, true, false, cond, eqb, ltb, List, [], ◌∷◌, ◌++◌, drop, replicate, Some, Ok, Err, refl, sym, ap, ◌∙◌, arith}
 use Rattle.std.specs.List.{prefix_len}
 use Rattle.std.proofs.lemmas.Bool.Decides.{nat_tests}
-use Rattle.macho_stub.specs.declared.keys.ItemKind.{ItemKind}
-use Rattle.macho_stub.specs.declared.keys.ItemKey.{ItemKey}
-use Rattle.macho_stub.specs.declared.keys.ItemKey.TheVariants as item
-use Rattle.macho_stub.specs.declared.fault.StubRule.TheVariants.{S3}
-use Rattle.macho_stub.specs.Bytes.{is_space, space, dash, indent, unspaced}
-use Rattle.macho_stub.specs.Faults.{Reading, ◌>>=◌, outside, broken}
-use Rattle.macho_stub.specs.Keys.{Entry, entry_at, item_key}
-use Rattle.macho_stub.specs.Documents.{ItemFields, OpenItemFields, DocumentFields, OpenDocumentFields, no_item, has_key, with_items}
-use Rattle.macho_stub.specs.Reader.{ItemListFields, InsideFields, names_value, item_entry, item_key_line, has_dash, key_column, first_line, items_with_last, within, top_line, item_line}
-use Rattle.macho_stub.specs.Grammar.{Line, ItemEntry, GivesNames, ItemValue, IsItemEntry, ItemEntries, entries_then, ItemTree, column_of, IsItem}
-use Rattle.macho_stub.proofs.Bind.{eq_true, eq_false, not_below}
+use Rattle.macho_stub_lines.specs.declared.keys.ItemKind.{ItemKind}
+use Rattle.macho_stub_lines.specs.declared.keys.ItemKey.{ItemKey}
+use Rattle.macho_stub_lines.specs.declared.keys.ItemKey.TheVariants as item
+use Rattle.macho_stub_lines.specs.declared.fault.StubRule.TheVariants.{S3}
+use Rattle.macho_stub_lines.specs.Bytes.{is_space, space, dash, indent, unspaced, has_dash}
+use Rattle.macho_stub_lines.specs.Faults.{Reading, ◌>>=◌, outside, broken}
+use Rattle.macho_stub_lines.specs.Keys.{Entry, entry_at, item_key}
+use Rattle.macho_stub.specs.Documents.{ItemFields, DocumentFields}
+use Rattle.macho_stub.specs.Opened.{OpenItemFields, OpenDocumentFields, no_item, has_key, with_items}
+use Rattle.macho_stub.specs.Reader.{ItemListFields, InsideFields, names_value, item_entry, item_key_line, key_column, first_line, items_with_last, within, top_line, item_line}
+use Rattle.macho_stub_lines.proofs.ReadLists.{ReadLine}
+use Rattle.macho_stub.proofs.Readings.{ItemEntry, GivesNames, ItemValue, IsItemEntry, ItemEntries, entries_then, ItemTree, column_of, IsItem}
+use Rattle.macho_stub_lines.proofs.Bind.{eq_true, eq_false, not_below}
 use Rattle.macho_stub.proofs.Rest.{run}
 use Rattle.macho_stub.proofs.OnlyLines.{entry_unspaced, spelled_indent, spelled_rest, DashLine, dash_line}
 use Rattle.macho_stub.proofs.OnlyLists.{run_in, run_keys, Starts, names_value_is_read, skipped_value_is_read}
@@ -21,7 +23,7 @@ use Rattle.macho_stub.proofs.OnlyLists.{run_in, run_keys, Starts, names_value_is
 -- ---- entries
 
 gives_names_is_read : (before : List DocumentFields) (document : OpenDocumentFields) (list : ItemListFields) (key : ItemKey)
-    (value : List ℕ) (entry : ItemEntry) (new : OpenItemFields) (rest : List Line)
+    (value : List ℕ) (entry : ItemEntry) (new : OpenItemFields) (rest : List ReadLine)
     → GivesNames key value entry list.item new
     → (cond (has_key key list.item) (broken entry.number S3) (names_value document (Some list) entry.number key value) >>= λ inside.
     run_in before inside (entry.more ++ rest)) ≡ run_keys before document (Some (record list { item = new })) rest
@@ -32,7 +34,7 @@ gives_names_is_read before document list key value entry new rest g =
     ∙ ap (λ i. run_keys before document (Some (record list { item = i })) rest) (sym g.gives)
 
 value_is_read : (before : List DocumentFields) (document : OpenDocumentFields) (list : ItemListFields) (key : ItemKey) (value : List ℕ)
-    (entry : ItemEntry) (new : OpenItemFields) (rest : List Line) → Starts (Some list) rest
+    (entry : ItemEntry) (new : OpenItemFields) (rest : List ReadLine) → Starts (Some list) rest
     → ItemValue list.column key value entry list.item new
     → (item_entry document list entry.number key value >>= λ inside. run_in before inside (entry.more ++ rest))
     ≡ run_keys before document (Some (record list { item = new })) rest
@@ -47,7 +49,7 @@ value_is_read before document list item.WeakNames value entry new rest s v = giv
     entry new rest v
 
 entry_is_read : (before : List DocumentFields) (document : OpenDocumentFields) (list : ItemListFields) (entry : ItemEntry)
-    (new : OpenItemFields) (rest : List Line) → Starts (Some list) rest
+    (new : OpenItemFields) (rest : List ReadLine) → Starts (Some list) rest
     → IsItemEntry list.kind list.column entry list.item new
     → (item_key_line document list entry.number entry.head >>= λ inside. run_in before inside (entry.more ++ rest))
     ≡ run_keys before document (Some (record list { item = new })) rest
@@ -60,13 +62,13 @@ entry_is_read before document list entry new rest s e =
 -- ---- the lines of an item
 
 -- the reading behind what leads inside a document
-pub within_run : (before : List DocumentFields) (reading : Reading InsideFields) (rest : List Line)
+pub within_run : (before : List DocumentFields) (reading : Reading InsideFields) (rest : List ReadLine)
     → (within before reading >>= λ next. run next.documents next.place rest) ≡ (reading >>= λ inside. run_in before inside rest)
 within_run before (Ok inside) rest = refl
 within_run before (Err fault) rest = refl
 
 -- The reading of a line behind the keys of an item, by its three tests and its text from the key on.
-unfoldable pub by_tests : List DocumentFields → OpenDocumentFields → ItemListFields → ℕ → List ℕ → List Line → Bool → Bool → Bool → List ℕ
+unfoldable pub by_tests : List DocumentFields → OpenDocumentFields → ItemListFields → ℕ → List ℕ → List ReadLine → Bool → Bool → Bool → List ℕ
     → Reading (List DocumentFields)
 by_tests before document list line text rest dashed top column head =
     cond dashed (items_with_last document.line list >>= λ items. within before (first_line document list.kind items line text))
@@ -79,7 +81,7 @@ other_dash a b m n d e lt = grind (arith, nat_tests)
 
 -- a line in the column of the keys
 key_in_column : (before : List DocumentFields) (document : OpenDocumentFields) (list : ItemListFields) (line : ℕ) (head : List ℕ)
-    (said : Entry) (rest : List Line) → list.dash < list.column → entry_at line head ≡ Ok said
+    (said : Entry) (rest : List ReadLine) → list.dash < list.column → entry_at line head ≡ Ok said
     → run_keys before document (Some list) (record { number = line; text = replicate list.column space ++ head } ∷ rest)
     ≡ (item_key_line document list line head >>= λ inside. run_in before inside rest)
 unfolding item_line indent unspaced by_tests
@@ -108,13 +110,13 @@ in_column_starts list line head said e =
     ≡ list.column = spelled_indent list.column head (entry_unspaced line head said e) in
     not_below _ _ (omega arith)
 
-entries_start : (list : ItemListFields) (entries : List ItemEntry) (old new : OpenItemFields) (rest : List Line) → Starts (Some list) rest
+entries_start : (list : ItemListFields) (entries : List ItemEntry) (old new : OpenItemFields) (rest : List ReadLine) → Starts (Some list) rest
     → ItemEntries list.kind list.column entries old new → Starts (Some list) (entries_then list.column entries rest)
 entries_start list [] old new rest s e = s
 entries_start list (entry ∷ entries) old new rest s e = in_column_starts list entry.number entry.head e.1.said e.1.key
 
 pub entries_are_read : (before : List DocumentFields) (document : OpenDocumentFields) (list : ItemListFields) (entries : List ItemEntry)
-    (old new : OpenItemFields) (rest : List Line) → list.dash < list.column → Starts (Some list) rest
+    (old new : OpenItemFields) (rest : List ReadLine) → list.dash < list.column → Starts (Some list) rest
     → ItemEntries list.kind list.column entries old new
     → run_keys before document (Some (record list { item = old })) (entries_then list.column entries rest)
     ≡ run_keys before document (Some (record list { item = new })) rest
@@ -129,14 +131,14 @@ entries_are_read before document list (entry ∷ entries) old new rest lt s e =
 
 -- ---- the first line of an item
 
-first_by : List DocumentFields → OpenDocumentFields → ItemKind → List ItemFields → ℕ → List Line → Bool → ℕ → ℕ → List ℕ
+first_by : List DocumentFields → OpenDocumentFields → ItemKind → List ItemFields → ℕ → List ReadLine → Bool → ℕ → ℕ → List ℕ
     → Reading (List DocumentFields)
 first_by before document kind items line rest dashed at column head =
     cond dashed (item_key_line document (record { kind = kind; items = items; dash = at; column = column; item = no_item }) line head)
     (outside line) >>= λ inside. run_in before inside rest
 
 pub first_is_read : (before : List DocumentFields) (document : OpenDocumentFields) (kind : ItemKind) (items : List ItemFields)
-    (at gap line : ℕ) (text head : List ℕ) (rest : List Line) → DashLine at gap text head
+    (at gap line : ℕ) (text head : List ℕ) (rest : List ReadLine) → DashLine at gap text head
     → (first_line document kind items line text >>= λ inside. run_in before inside rest)
     ≡ (item_key_line document (record { kind = kind; items = items; dash = at; column = at + 1 + gap; item = no_item }) line head >>=
     λ inside. run_in before inside rest)
@@ -150,7 +152,7 @@ first_is_read before document kind items at gap line text head rest d =
 
 -- the whole of an item, behind other items
 pub item_is_read : (before : List DocumentFields) (document : OpenDocumentFields) (kind : ItemKind) (items : List ItemFields)
-    (at line : ℕ) (tree : ItemTree) (one : ItemFields) (rest : List Line) (is : IsItem line kind at tree one)
+    (at line : ℕ) (tree : ItemTree) (one : ItemFields) (rest : List ReadLine) (is : IsItem line kind at tree one)
     → Starts (Some (record { kind = kind; items = items; dash = at; column = column_of at tree; item = no_item })) rest
     → (first_line document kind items tree.first.number (replicate at space ++ dash ∷ (replicate tree.gap space ++ tree.first.head)) >>= λ
     inside. run_in before inside (tree.first.more ++ entries_then (column_of at tree) tree.others rest))

@@ -1,19 +1,22 @@
 -- What is in the grammar is read: lists of items. Behind an item stands the next one's dash, or the list has ended.
 use Rattle.std.proofs.Common.{◌≡◌, ℕ, ◌<◌, ◌&&◌, true, false, eqb, List, [], ◌∷◌, ◌++◌, replicate, Some, None, Ok, ap, ◌∙◌, arith, append_assoc}
-use Rattle.macho_stub.specs.declared.keys.ItemKind.{ItemKind}
-use Rattle.macho_stub.specs.Bytes.{space, dash, indent, unspaced}
-use Rattle.macho_stub.specs.Faults.{◌>>=◌}
-use Rattle.macho_stub.specs.Documents.{ItemFields, DocumentFields, OpenDocumentFields, whole_item, with_items}
-use Rattle.macho_stub.specs.Reader.{ItemListFields, has_dash, first_line, items_with_last, within, with_whole, top_line, item_line}
-use Rattle.macho_stub.specs.Grammar.{Line, ItemTree, column_of, entries_then, items_then, AreItems}
-use Rattle.macho_stub.proofs.Bind.{eq_true, not_below}
+use Rattle.macho_stub_lines.specs.declared.keys.ItemKind.{ItemKind}
+use Rattle.macho_stub_lines.specs.Bytes.{space, dash, indent, unspaced, has_dash}
+use Rattle.macho_stub_lines.specs.Faults.{◌>>=◌}
+use Rattle.macho_stub.specs.Documents.{ItemFields, DocumentFields}
+use Rattle.macho_stub.specs.Opened.{OpenDocumentFields, with_items}
+use Rattle.macho_stub.specs.Whole.{whole_item}
+use Rattle.macho_stub.specs.Reader.{ItemListFields, first_line, items_with_last, within, with_whole, top_line, item_line}
+use Rattle.macho_stub_lines.proofs.ReadLists.{ReadLine}
+use Rattle.macho_stub.proofs.Readings.{ItemTree, column_of, entries_then, items_then, AreItems}
+use Rattle.macho_stub_lines.proofs.Bind.{eq_true, not_below}
 use Rattle.macho_stub.proofs.Rest.{run}
 use Rattle.macho_stub.proofs.OnlyLines.{entry_unspaced, top_indent, top_no_dash, DashLine, dash_line}
 use Rattle.macho_stub.proofs.OnlyLists.{run_in, run_keys, Starts}
 use Rattle.macho_stub.proofs.OnlyItems.{by_tests, within_run, item_is_read}
 
 -- the lines begin with none that belongs to a skipped value of a document: so they begin at column 0
-abbrev pub TopStarts : List Line → Type 0
+abbrev pub TopStarts : List ReadLine → Type 0
 TopStarts rest = Starts None rest
 
 -- the items with the last one
@@ -23,7 +26,7 @@ unfolding items_with_last
 last_is line list one e = ap (λ reading. reading >>= λ item. Ok (list.items ++ item ∷ [])) e
 
 -- the list ends with its last item
-item_ends : (before : List DocumentFields) (document : OpenDocumentFields) (list : ItemListFields) (one : ItemFields) (rest : List Line)
+item_ends : (before : List DocumentFields) (document : OpenDocumentFields) (list : ItemListFields) (one : ItemFields) (rest : List ReadLine)
     → whole_item document.line list.kind list.item ≡ Ok one → TopStarts rest
     → run_keys before document (Some list) rest ≡ run_keys before (with_items list.kind (list.items ++ one ∷ []) document) None rest
 unfolding item_line by_tests
@@ -41,7 +44,7 @@ item_ends before document list one (line ∷ rest) e s =
 
 -- the next item's dash
 next_item : (before : List DocumentFields) (document : OpenDocumentFields) (list : ItemListFields) (one : ItemFields) (line gap : ℕ)
-    (text head : List ℕ) (rest : List Line) → whole_item document.line list.kind list.item ≡ Ok one → DashLine list.dash gap text head
+    (text head : List ℕ) (rest : List ReadLine) → whole_item document.line list.kind list.item ≡ Ok one → DashLine list.dash gap text head
     → run_keys before document (Some list) (record { number = line; text = text } ∷ rest)
     ≡ (first_line document list.kind (list.items ++ one ∷ []) line text >>= λ inside. run_in before inside rest)
 unfolding item_line by_tests
@@ -55,7 +58,7 @@ next_item before document list one line gap text head rest e d =
     ∙ within_run before (first_line document list.kind (list.items ++ one ∷ []) line text) rest
 
 -- what follows the entries of an item begins with none of its lines
-items_start : (list : ItemListFields) (line : ℕ) (kind : ItemKind) (trees : List ItemTree) (says : List ItemFields) (rest : List Line)
+items_start : (list : ItemListFields) (line : ℕ) (kind : ItemKind) (trees : List ItemTree) (says : List ItemFields) (rest : List ReadLine)
     → list.dash < list.column → TopStarts rest → AreItems line kind list.dash trees says
     → Starts (Some list) (items_then list.dash trees rest)
 items_start list line kind [] [] [] lt s a = tt
@@ -69,7 +72,7 @@ items_start list line kind (tree ∷ trees) (one ∷ says) rest lt s a =
     not_below _ _ (omega (arith, d.indented))
 
 pub items_go_on : (before : List DocumentFields) (document : OpenDocumentFields) (list : ItemListFields) (one : ItemFields)
-    (trees : List ItemTree) (says : List ItemFields) (rest : List Line)
+    (trees : List ItemTree) (says : List ItemFields) (rest : List ReadLine)
     → whole_item document.line list.kind list.item ≡ Ok one → list.dash < list.column → TopStarts rest
     → AreItems document.line list.kind list.dash trees says
     → run_keys before document (Some list) (items_then list.dash trees rest)
@@ -95,7 +98,7 @@ items_go_on before document list one (tree ∷ trees) (next ∷ says) rest e lt 
 
 -- the items under a key
 pub items_are_read : (before : List DocumentFields) (document : OpenDocumentFields) (kind : ItemKind) (at : ℕ) (tree : ItemTree)
-    (trees : List ItemTree) (one : ItemFields) (says : List ItemFields) (rest : List Line)
+    (trees : List ItemTree) (one : ItemFields) (says : List ItemFields) (rest : List ReadLine)
     → TopStarts rest → AreItems document.line kind at (tree ∷ trees) (one ∷ says)
     → (first_line document kind [] tree.first.number (replicate at space ++ dash ∷ (replicate tree.gap space ++ tree.first.head)) >>= λ
     inside. run_in before inside (tree.first.more ++ entries_then (column_of at tree) tree.others (items_then at trees rest)))

@@ -6,11 +6,11 @@ use Rattle.std.specs.Str.{bytes_eq}
 use Rattle.std.proofs.lemmas.Bool.Decides.{nat_tests}
 use Rattle.std.proofs.Math.Numerals.{one-add}
 use Rattle.std.proofs.lemmas.List.{drop-drop}
-use Rattle.macho_stub.specs.declared.fault.StubRule.TheVariants.{S1}
-use Rattle.macho_stub.specs.Bytes.{is_space, space, dash, colon, is_key_byte, indent, unspaced}
-use Rattle.macho_stub.specs.Keys.{Entry, entry_at, entry_behind}
-use Rattle.macho_stub.specs.Reader.{head, end, belongs_to_top, has_dash, key_column}
-use Rattle.macho_stub.proofs.Bind.{not_broken, no_ok, same_bytes}
+use Rattle.macho_stub_lines.specs.declared.fault.StubRule.TheVariants.{S1}
+use Rattle.macho_stub_lines.specs.Bytes.{is_space, space, dash, colon, is_key_byte, indent, unspaced, head, end, belongs_to_top, has_dash}
+use Rattle.macho_stub_lines.specs.Keys.{Entry, entry_at, entry_behind}
+use Rattle.macho_stub.specs.Reader.{key_column}
+use Rattle.macho_stub_lines.proofs.Bind.{not_broken, no_ok, same_bytes}
 
 -- ---- keys
 

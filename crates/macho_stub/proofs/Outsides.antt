@@ -3,15 +3,16 @@
 use Rattle.std.proofs.Common.{◌≡◌, ◌≢◌, ℕ, zero, suc, ◌+◌, ◌<◌, ◌&&◌, ◌||◌, Bool, true, false, eqb, get_or, drop, List, ◌∷◌, ◌++◌, length, Option, Ok, refl, sym, ap, ◌∙◌, arith, inl, inr, subst}
 use Rattle.std.proofs.lemmas.Bool.Decides.{nat_tests}
 use Rattle.std.proofs.lemmas.List.{get_or-drop}
-use Rattle.macho_stub.specs.declared.fault.StubRule.{StubRule}
-use Rattle.macho_stub.specs.declared.fault.StubRule.TheVariants.{S1}
-use Rattle.macho_stub.specs.Bytes.{space, dash, colon, indent, unspaced, is_passed, has_barred, is_blank_or_comment, is_key_byte}
-use Rattle.macho_stub.specs.Faults.{broken, outside}
-use Rattle.macho_stub.specs.Keys.{Entry, entry_at, top_key, item_key}
-use Rattle.macho_stub.specs.Documents.{DocumentFields, OpenDocumentFields}
-use Rattle.macho_stub.specs.Reader.{ItemListFields, head, end, has_dash, belongs_to_top, top_entry, item_entry, top_line, line_step}
+use Rattle.macho_stub_lines.specs.declared.fault.StubRule.{StubRule}
+use Rattle.macho_stub_lines.specs.declared.fault.StubRule.TheVariants.{S1}
+use Rattle.macho_stub_lines.specs.Bytes.{space, dash, colon, indent, unspaced, is_passed, has_barred, is_blank_or_comment, is_key_byte, head, end, has_dash, belongs_to_top}
+use Rattle.macho_stub_lines.specs.Faults.{broken, outside}
+use Rattle.macho_stub_lines.specs.Keys.{Entry, entry_at, top_key, item_key}
+use Rattle.macho_stub.specs.Documents.{DocumentFields}
+use Rattle.macho_stub.specs.Opened.{OpenDocumentFields}
+use Rattle.macho_stub.specs.Reader.{ItemListFields, top_entry, item_entry, top_line, line_step}
 use Rattle.macho_stub.specs.Order.{MayStand, LacksInItem, EndsDocument, EndsWithout, StandsTwice, spare, in_column}
-use Rattle.macho_stub.proofs.Bind.{no_ok, same_ok}
+use Rattle.macho_stub_lines.proofs.Bind.{no_ok, same_ok}
 use Rattle.macho_stub.proofs.OnlyLines.{entry_at_top, top_indent}
 use Rattle.macho_stub.proofs.Joined.{IsLine}
 use Rattle.macho_stub.proofs.Finish.{at_top, at_item, item_text_barred, item_text_passed}
@@ -19,6 +20,7 @@ use Rattle.macho_stub.proofs.Reached.{Reached, may_stand, refused}
 use Rattle.macho_stub.proofs.Steps.{Closes, keys_state, spare_at_top}
 use Rattle.macho_stub.proofs.Twice.{no_spaces}
 use Rattle.macho_stub.proofs.Goods.{good_at_top, good_in_column}
+use Rattle.macho_stub.proofs.TwiceKeys.{said_of, second_key}
 
 -- ---- where a key may stand at column 0
 
@@ -45,7 +47,7 @@ ends_nothing first before document whole list skipped text r c h e w =
 -- a text with no key has no second one
 pub no_key_twice : (first : List (List ℕ)) (text : List ℕ) (at : ℕ) (rule : StubRule)
     → entry_at (length first + 1) (unspaced text) ≡ broken at rule → StandsTwice first text → ⊥
-no_key_twice first text at rule e t = no_ok at rule t.said (sym e ∙ t.is_key)
+no_key_twice first text at rule e t = no_ok at rule (said_of t.said) (sym e ∙ second_key first text t)
 
 pub flush : (text : List ℕ) → indent text ≡ 0 → unspaced text ≡ text
 unfolding unspaced
@@ -58,7 +60,7 @@ pub value_at_top : (first : List (List ℕ)) (before : List DocumentFields) (doc
 value_at_top first before document whole list skipped text said r c clean l e refused t =
     let n = length first + 1 in
     let z = no_spaces n text said e in
-    let is : t.said ≡ said = same_ok _ _ (sym t.is_key ∙ ap (entry_at n) z.1 ∙ e) in
+    let is : said_of t.said ≡ said = same_ok _ _ (sym (second_key first text t) ∙ ap (entry_at n) z.1 ∙ e) in
     let g = good_at_top first before document whole list skipped text said r c clean l e refused in
     let M : ℕ → List ℕ → Type 0 = λ k key. MayStand first (in_column k (key ++ colon ∷ g.0)) in
     let K : ℕ → Type 0 = λ k. M k said.key in
@@ -73,7 +75,7 @@ pub value_in_column : (first : List (List ℕ)) (before : List DocumentFields) (
     → StandsTwice first text → ⊥
 value_in_column first before document list skipped text said r below at clean l e refused t =
     let n = length first + 1 in
-    let is : t.said ≡ said = same_ok _ _ (sym t.is_key ∙ e) in
+    let is : said_of t.said ≡ said = same_ok _ _ (sym (second_key first text t) ∙ e) in
     let g = good_in_column first before document list skipped (unspaced text) said r below clean l e refused in
     let K : ℕ → Type 0 = λ k. MayStand first (in_column k (said.key ++ colon ∷ g.0)) in
     let E : Entry → Type 0 = λ x. MayStand first (in_column (indent text) (x.key ++ colon ∷ g.0)) in
@@ -83,7 +85,7 @@ value_in_column first before document list skipped text said r below at clean l 
 pub dash_no_key : (first : List (List ℕ)) (text : List ℕ) → has_dash text ≡ true → StandsTwice first text → ⊥
 unfolding has_dash belongs_to_top unspaced
 dash_no_key first text h t =
-    let out = entry_at_top (length first + 1) (unspaced text) t.said t.is_key in
+    let out = entry_at_top (length first + 1) (unspaced text) (said_of t.said) (second_key first text t) in
     let zero : get_or (drop (indent text) text) 0 0 ≡ get_or text (indent text) 0 = get_or-drop (indent text) text 0 0
     ∙ ap (λ k. get_or text k 0) (omega arith) in
     let one : get_or (drop (indent text) text) 1 0 ≡ get_or text (indent text + 1) 0 = get_or-drop (indent text) text 1 0 in

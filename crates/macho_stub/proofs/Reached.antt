@@ -3,13 +3,15 @@
 -- is in the grammar; and what is in the grammar is read.
 use Rattle.std.proofs.Common.{◌≡◌, ℕ, suc, ◌+◌, List, [], ◌∷◌, ◌++◌, length, Ok, refl, sym, ap, ◌∙◌, arith, append_assoc}
 use Rattle.std.specs.Str.Lines.{lines}
-use Rattle.macho_stub.specs.Faults.{◌>>=◌, broken}
-use Rattle.macho_stub.specs.declared.fault.StubRule.{StubRule}
-use Rattle.macho_stub.specs.Documents.{DocumentFields}
+use Rattle.macho_stub_lines.specs.Faults.{◌>>=◌, broken}
+use Rattle.macho_stub_lines.specs.declared.fault.StubRule.{StubRule}
+use Rattle.macho_stub_lines.specs.Slices.{Slice}
+use Rattle.macho_stub.specs.Documents.{DocumentOf, DocumentFields, documents_texts}
 use Rattle.macho_stub.specs.Reader.{StateFields, line_step, lines_from, start}
 use Rattle.macho_stub.specs.Grammar.{IsStubText}
+use Rattle.macho_stub.proofs.Trees.{to_read, of_read}
 use Rattle.macho_stub.specs.Order.{GoOn, MayStand}
-use Rattle.macho_stub.proofs.Bind.{bind_ok, no_ok}
+use Rattle.macho_stub_lines.proofs.Bind.{bind_ok, no_ok}
 use Rattle.macho_stub.proofs.Fine.{GoodState, line_step_fine}
 use Rattle.macho_stub.proofs.Joined.{IsLine, AreLines, joined, lines_joined, lines_append}
 use Rattle.macho_stub.proofs.Found.{lines_found}
@@ -42,21 +44,23 @@ reached_more first state next text r l e = record {
   are = lines_append first (text ∷ []) r.are (l, tt);
 }
 
--- the text of lines that are read
+-- the text of lines that are read is in the grammar
 text_of : (texts : List (List ℕ)) (says : List DocumentFields) → AreLines texts → lines_from start 1 texts ≡ Ok says
-    → IsStubText (joined texts) says
-text_of texts says are e = lines_found (lines (joined texts)) says (ap (lines_from start 1) (lines_joined texts are) ∙ e)
+    → (slices : List (DocumentOf Slice)) × IsStubText (joined texts) slices × (documents_texts slices ≡ says)
+text_of texts says are e = of_read (joined texts) says
+    (lines_found (lines (joined texts)) says (ap (lines_from start 1) (lines_joined texts are) ∙ e))
 
 pub goes_on : (first : List (List ℕ)) (state : StateFields) → Reached first state → GoOn first
 goes_on first state r =
     let f = finishes state (length first + 1) r.good in
     let are = lines_append first f.more r.are f.are in
+    let t = text_of (first ++ f.more) f.says are (r.leads f.more ∙ f.is) in
     record {
       text = joined (first ++ f.more);
       more = f.more;
-      says = f.says;
+      says = t.0;
       begins = lines_joined (first ++ f.more) are;
-      in_grammar = text_of (first ++ f.more) f.says are (r.leads f.more ∙ f.is);
+      in_grammar = t.1;
     }
 
 pub may_stand : (first : List (List ℕ)) (state next : StateFields) (text : List ℕ) → Reached first state → IsLine text
@@ -67,12 +71,13 @@ may_stand first state next text r l e =
     let f = finishes next (n + 1) ((line_step_fine state n text r.good).ok next e) in
     let are = lines_append first (text ∷ f.more) r.are (l, f.are) in
     let is = ap (λ reading. reading >>= λ s. lines_from s (n + 1) f.more) e ∙ f.is in
+    let t = text_of (first ++ text ∷ f.more) f.says are (r.leads (text ∷ f.more) ∙ is) in
     record {
       text = joined (first ++ text ∷ f.more);
       more = f.more;
-      says = f.says;
+      says = t.0;
       begins = lines_joined (first ++ text ∷ f.more) are;
-      in_grammar = text_of (first ++ text ∷ f.more) f.says are (r.leads (text ∷ f.more) ∙ is);
+      in_grammar = t.1;
     }
 
 -- what may stand is not refused
@@ -80,9 +85,10 @@ pub stands : (first : List (List ℕ)) (state : StateFields) (text : List ℕ) �
     → (next : StateFields) × (line_step state (length first + 1) text ≡ Ok next)
 unfolding lines_from
 stands first state text r m =
-    let is : lines_from start 1 (first ++ text ∷ m.more) ≡ Ok m.says = ap (lines_from start 1) (sym m.begins)
-    ∙ lines_read (lines m.text) m.says m.in_grammar in
-    let b = bind_ok (line_step state (length first + 1) text) (λ s. lines_from s (length first + 1 + 1) m.more) m.says
+    let says = documents_texts m.says in
+    let is : lines_from start 1 (first ++ text ∷ m.more) ≡ Ok says = ap (lines_from start 1) (sym m.begins)
+    ∙ lines_read (lines m.text) says (to_read m.text m.says m.in_grammar) in
+    let b = bind_ok (line_step state (length first + 1) text) (λ s. lines_from s (length first + 1 + 1) m.more) says
     (sym (r.leads (text ∷ m.more)) ∙ is) in
     (b.0, b.1)
 

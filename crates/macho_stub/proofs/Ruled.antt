@@ -4,9 +4,10 @@ use Rattle.std.proofs.Common.{◌≡◌, ℕ, ◌&&◌, ◌||◌, Bool, true, fa
 use Rattle.std.specs.List.{list_any}
 use Rattle.std.specs.Str.{bytes_eq}
 use Rattle.macho_stub.specs.Documents.{ItemFields, DocumentFields}
-use Rattle.macho_stub.specs.Library.{target, has_target, all_same, same_names, same_item, same_items, same_document, is_listed}
+use Rattle.macho_stub.specs.Library.{target, has_target}
+use Rattle.macho_stub.specs.Checks.{all_same, same_names, same_item, same_items, same_document, is_listed}
 use Rattle.macho_stub.specs.Rules.{Among, IsListed, SaySame}
-use Rattle.macho_stub.proofs.Bind.{same_bytes, bytes_same}
+use Rattle.macho_stub_lines.proofs.Bind.{same_bytes, bytes_same}
 
 -- ---- tests
 

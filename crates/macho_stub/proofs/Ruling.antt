@@ -3,13 +3,15 @@ use Rattle.std.proofs.Common.{◌≡◌, ◌≢◌, ℕ, ◌≤◌, ◌||◌, no
 use Rattle.std.specs.List.{AllByRecursion}
 use Rattle.std.specs.Str.{bytes_eq}
 use Rattle.std.specs.Prelude.{codes}
-use Rattle.macho_stub.specs.declared.fault.StubRule.{StubRule}
-use Rattle.macho_stub.specs.declared.fault.StubRule.TheVariants.{S2, S4, S5, S6, S7, S8, S9}
-use Rattle.macho_stub.specs.Faults.{Fault, Reading, ◌>>=◌, broken}
+use Rattle.macho_stub_lines.specs.declared.fault.StubRule.{StubRule}
+use Rattle.macho_stub_lines.specs.declared.fault.StubRule.TheVariants.{S2, S4, S5, S6, S7, S8, S9}
+use Rattle.macho_stub_lines.specs.Faults.{Fault, Reading, ◌>>=◌, broken}
 use Rattle.macho_stub.specs.Documents.{ItemFields, DocumentFields}
-use Rattle.macho_stub.specs.Library.{target, has_target, same_document, is_listed, LibraryFields, gathered, checked_libraries, checked_main, checked_document, checked_documents, library_of}
-use Rattle.macho_stub.specs.Rules.{Among, IsSoundMain, IsSoundDocument, MakesLibrary}
-use Rattle.macho_stub.proofs.Bind.{bind_ok, chosen, not_broken, same_ok, no_ok, same_bytes, bytes_same, eq_at, ne_at, eq_false}
+use Rattle.macho_stub.specs.Library.{target, has_target, LibraryFields}
+use Rattle.macho_stub.specs.Checks.{same_document, is_listed, gathered_texts, checked_libraries, checked_main, checked_document, checked_documents, library_of}
+use Rattle.macho_stub.specs.Rules.{Among, IsSoundMain, IsSoundDocument}
+use Rattle.macho_stub.proofs.TextRules.{MakesOfTexts}
+use Rattle.macho_stub_lines.proofs.Bind.{bind_ok, chosen, not_broken, same_ok, no_ok, same_bytes, bytes_same, eq_at, ne_at, eq_false}
 use Rattle.macho_stub.proofs.Ruled.{clash, target_held, target_test, listed, listed_back, document_same, document_test}
 
 -- ---- readings that failed
@@ -177,13 +179,13 @@ abbrev pub made : DocumentFields → List DocumentFields → LibraryFields
 made main documents = record {
   install_name = main.install_name;
   current_version = main.current_version;
-  symbols = gathered false
+  symbols = gathered_texts false
       documents;
-  weak_symbols = gathered true documents;
+  weak_symbols = gathered_texts true documents;
 }
 
 pub library_made : (documents : List DocumentFields) (library : LibraryFields) → library_of documents ≡ Ok library
-    → MakesLibrary documents library
+    → MakesOfTexts documents library
 unfolding library_of
 library_made [] library e = absurd (no_ok 1 S2 library e)
 library_made (main ∷ others) library e =
@@ -210,7 +212,7 @@ made_back main others sound each =
     (main_back main sound)
     ∙ ap (λ (reading : Reading (Unit {0})). reading >>= λ _. Ok (made main (main ∷ others))) (documents_back main (main ∷ others) each)
 
-pub library_back : (documents : List DocumentFields) (library : LibraryFields) → MakesLibrary documents library → library_of documents
+pub library_back : (documents : List DocumentFields) (library : LibraryFields) → MakesOfTexts documents library → library_of documents
     ≡ Ok library
 library_back documents library m =
     let E : List DocumentFields → Type 0 = λ ds. AllByRecursion (IsSoundDocument m.main) ds in
@@ -218,23 +220,23 @@ library_back documents library m =
     ap (λ x. record {
       install_name = x;
       current_version = m.main.current_version;
-      symbols = gathered false documents;
+      symbols = gathered_texts false documents;
       weak_symbols =
-          gathered true documents;
+          gathered_texts true documents;
     }) (sym m.install_name)
     ∙ ap (λ x. record {
       install_name = library.install_name;
       current_version = x;
-      symbols = gathered false documents;
+      symbols = gathered_texts false documents;
       weak_symbols =
-          gathered true documents;
+          gathered_texts true documents;
     }) (sym m.current_version)
     ∙ ap (λ x. record {
       install_name = library.install_name;
       current_version = library.current_version;
       symbols = x;
       weak_symbols =
-          gathered true documents;
+          gathered_texts true documents;
     }) (sym m.symbols)
     ∙ ap (λ x. record {
       install_name = library.install_name;

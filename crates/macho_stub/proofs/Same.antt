@@ -2,7 +2,7 @@
 -- that agree gives the whole answer, and one place that differs, or one name that is found, settles it.
 use Rattle.std.proofs.Common.{◌≡◌, ℕ, zero, suc, ◌<◌, ◌≤◌, Bool, true, false, ◌&&◌, ◌||◌, not, List, [], ◌∷◌, length, get_or, drop, map, refl, sym, ap, ◌∙◌, arith}
 use Rattle.std.specs.List.{list_any}
-use Rattle.macho_stub.specs.Library.{all_same}
+use Rattle.macho_stub.specs.Checks.{all_same}
 
 -- one place more that agrees
 pub same_more : {A X : Type 0} (same : X → X → Bool) (view : A → X) (xs ys : List A) (i : ℕ) (d e : A) (total : Bool) → i < length xs

@@ -3,19 +3,22 @@
 -- a key of items has nothing under it but lines that are passed over.
 use Rattle.std.proofs.Common.{◌≡◌, ◌≢◌, ℕ, ◌+◌, Bool, true, false, List, [], ◌∷◌, ◌++◌, length, Option, Some, None, Ok, Err, refl, sym, ap, ◌∙◌, inl, inr, subst, append_assoc}
 use Rattle.std.specs.List.{AllByRecursion}
-use Rattle.macho_stub.specs.declared.fault.StubRule.TheVariants.{S1}
-use Rattle.macho_stub.specs.declared.keys.ItemKind.{ItemKind}
-use Rattle.macho_stub.specs.Bytes.{indent, unspaced, is_passed, has_barred, is_blank_or_comment, is_key_byte}
-use Rattle.macho_stub.specs.Faults.{Reading, outside}
-use Rattle.macho_stub.specs.Keys.{entry_at}
-use Rattle.macho_stub.specs.Documents.{ItemFields, DocumentFields, OpenDocumentFields, head_at, with_items}
-use Rattle.macho_stub.specs.Reader.{ItemListFields, NameListFields, ModeFields, Keys, Skipped, Names, NoItem, InsideFields, PlaceFields, Outside, Within, StateFields, stays, head, has_dash, belongs_to_top, first_line, top_line, items_with_last, content_line, line_step, start}
+use Rattle.macho_stub_lines.specs.declared.fault.StubRule.TheVariants.{S1}
+use Rattle.macho_stub_lines.specs.declared.keys.ItemKind.{ItemKind}
+use Rattle.macho_stub_lines.specs.Bytes.{indent, unspaced, is_passed, has_barred, is_blank_or_comment, is_key_byte, head, has_dash, belongs_to_top, end}
+use Rattle.macho_stub_lines.specs.Faults.{Reading, outside}
+use Rattle.macho_stub_lines.specs.Keys.{entry_at}
+use Rattle.macho_stub.specs.Documents.{ItemFields, DocumentFields}
+use Rattle.macho_stub.specs.Opened.{OpenDocumentFields, head_at, with_items}
+use Rattle.macho_stub.specs.Reader.{ItemListFields, NameListFields, ModeFields, Keys, Skipped, Names, NoItem, InsideFields, PlaceFields, Outside, Within, StateFields, stays, first_line, top_line, items_with_last, content_line, line_step, start, names_line, within}
 use Rattle.macho_stub.specs.Order.{MayStand, IsLastHead, IsOpenAlong, IsCutList, IsBareKey, spare, dashed, closing}
 use Rattle.macho_stub.proofs.Finish.{at_item, begun, close_steps, dash_steps}
 use Rattle.macho_stub.proofs.Joined.{IsLine}
 use Rattle.macho_stub.proofs.Reached.{Reached, reached_start, reached_more, may_stand, refused}
 use Rattle.macho_stub.proofs.Steps.{Closes, keys_state, top_steps, lacking_steps}
 use Rattle.macho_stub.proofs.Kept.{Began, BehindState, NoBarePlace, inside_line_kept, names_line_no_bare, outside_kept, step_kinds}
+use Rattle.macho_stub_lines.proofs.Bind.{not_broken}
+use Rattle.std.specs.Str.{bytes_eq}
 
 abbrev pub HeadsAt : List (List ℕ) → PlaceFields → Type 0
 HeadsAt first Outside = Unit {0}
@@ -266,7 +269,9 @@ inside_more first before document list Skipped next text p k r e =
     (inside_line_kept before document list Skipped (length first + 1) text next e)
     (λ d l m q is b. new_list first next.documents d l m text p (no_bracket_at_keys first before document list true k.reached) q b)
 inside_more first before document list (Names names) next text p k r e =
-    let n = names_line_no_bare before document list (length first + 1) names text next e in
+    let go = not_broken (bytes_eq text end) (length first + 1) S1
+    (within before (names_line document list (length first + 1) names text)) next e in
+    let n = names_line_no_bare before document list (length first + 1) names text next go.1 in
     behind_inside first next text document.line names.began r k.heads
     (inside_line_kept before document list (Names names) (length first + 1) text next e)
     (λ d l m q is b. old_list first next.documents d l m text names.began k.lists q b (subst NoBarePlace is n))

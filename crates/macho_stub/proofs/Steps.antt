@@ -1,14 +1,15 @@
 -- Steps over lines that are known in part: a line at column 0 behind the keys of an item or a document, and a line in
 -- the column of an item's keys.
 use Rattle.std.proofs.Common.{◌≡◌, ℕ, ◌&&◌, Bool, true, false, cond, eqb, List, Option, Some, None, Ok, refl, ◌∙◌, arith}
-use Rattle.macho_stub.specs.declared.fault.StubRule.{StubRule}
-use Rattle.macho_stub.specs.Bytes.{indent, unspaced, is_passed, has_barred, is_blank_or_comment, is_key_byte, is_tail}
-use Rattle.macho_stub.specs.Faults.{broken}
-use Rattle.macho_stub.specs.Keys.{entry_at, top_key}
-use Rattle.macho_stub.specs.Documents.{ItemFields, DocumentFields, OpenDocumentFields, with_items}
-use Rattle.macho_stub.specs.Reader.{ItemListFields, Within, StateFields, stays, head, end, has_dash, belongs_to_top, skipped_value, with_whole, top_line, items_with_last, item_line, line_step}
+use Rattle.macho_stub_lines.specs.declared.fault.StubRule.{StubRule}
+use Rattle.macho_stub_lines.specs.Bytes.{indent, unspaced, is_passed, has_barred, is_blank_or_comment, is_key_byte, is_tail, head, end, has_dash, belongs_to_top}
+use Rattle.macho_stub_lines.specs.Faults.{broken}
+use Rattle.macho_stub_lines.specs.Keys.{entry_at, top_key}
+use Rattle.macho_stub.specs.Documents.{ItemFields, DocumentFields}
+use Rattle.macho_stub.specs.Opened.{OpenDocumentFields, with_items}
+use Rattle.macho_stub.specs.Reader.{ItemListFields, Within, StateFields, stays, skipped_value, with_whole, top_line, items_with_last, item_line, line_step}
 use Rattle.macho_stub.specs.Order.{spare}
-use Rattle.macho_stub.proofs.Bind.{not_below}
+use Rattle.macho_stub_lines.proofs.Bind.{not_below}
 use Rattle.macho_stub.proofs.OnlyLines.{top_indent, top_no_dash}
 use Rattle.macho_stub.proofs.Finish.{mode_at, at_top, at_item}
 

@@ -4,13 +4,14 @@
 use Rattle.std.proofs.Common.{◌≡◌, ℕ, ◌+◌, Bool, true, false, List, [], ◌∷◌, ◌++◌, length, Option, Some, None, refl, sym, ap, ◌∙◌, ◌⊎◌, inl, inr, subst, append_assoc}
 use Rattle.std.specs.Str.Lines.{lines}
 use Rattle.std.proofs.lemmas.List.{append-nil}
-use Rattle.macho_stub.specs.declared.fault.StubRule.{StubRule}
-use Rattle.macho_stub.specs.declared.fault.StubRule.TheVariants.{S1, S2}
-use Rattle.macho_stub.specs.Faults.{Fault, broken}
-use Rattle.macho_stub.specs.Documents.{DocumentFields, OpenDocumentFields, with_items}
+use Rattle.macho_stub_lines.specs.declared.fault.StubRule.{StubRule}
+use Rattle.macho_stub_lines.specs.declared.fault.StubRule.TheVariants.{S1, S2}
+use Rattle.macho_stub_lines.specs.Faults.{Fault, broken}
+use Rattle.macho_stub.specs.Documents.{documents_texts, DocumentFields}
+use Rattle.macho_stub.specs.Opened.{OpenDocumentFields, with_items}
 use Rattle.macho_stub.specs.Reader.{ItemListFields, ModeFields, Keys, Skipped, Names, NoItem, PlaceFields, Outside, Within, StateFields, stays, with_whole, items_with_last, line_step, ended, ended_document, ended_inside, lines_from, start, documents_of}
 use Rattle.macho_stub.specs.Order.{IsLastHead, IsWhyAtEnd, StopsAt, BreaksOff}
-use Rattle.macho_stub.proofs.Bind.{no_ok}
+use Rattle.macho_stub_lines.proofs.Bind.{no_ok}
 use Rattle.macho_stub.proofs.Ruling.{bind_err, same_err}
 use Rattle.macho_stub.proofs.Told.{ok_not_told}
 use Rattle.macho_stub.proofs.FineLines.{AnyOf, lacking_at}
@@ -18,6 +19,7 @@ use Rattle.macho_stub.proofs.Fine.{with_whole_fine, items_with_last_fine}
 use Rattle.macho_stub.proofs.Causes.{at_line}
 use Rattle.macho_stub.proofs.Kept.{items_line}
 use Rattle.macho_stub.proofs.Joined.{AreLines, lines_are_lines}
+use Rattle.macho_stub.proofs.Trees.{to_read}
 use Rattle.macho_stub.proofs.Reached.{goes_on, refused, length_more}
 use Rattle.macho_stub.proofs.Steps.{Closes, keys_state}
 use Rattle.macho_stub.proofs.Lacking.{lacks_item, lacks_document}
@@ -116,7 +118,8 @@ breaks_off text line rule e =
       | inl s ↦ inl s
       | inr s ↦ inr (record {
         go_on = goes_on (lines text) s.state s.known.reached;
-        stuck = λ says is. no_ok line rule says (sym e ∙ documents_read text says is);
+        stuck = λ says is. no_ok line rule (documents_texts says)
+            (sym e ∙ documents_read text (documents_texts says) (to_read text says is));
         why = end_why (lines text) s.state.documents s.state.place line rule s.known s.fails;
       })
     ]

@@ -3,13 +3,14 @@
 use Rattle.std.proofs.Common.{◌≡◌, ◌≢◌, ℕ, ◌<◌, ◌||◌, not, Bool, true, false, cond, List, [], ◌∷◌, length, Ok, refl, sym, ap, arith, ◌⊎◌, inl, inr, subst}
 use Rattle.std.specs.Str.{bytes_eq}
 use Rattle.std.specs.Prelude.{codes}
-use Rattle.macho_stub.specs.declared.fault.StubRule.{StubRule}
-use Rattle.macho_stub.specs.declared.fault.StubRule.TheVariants.{S2, S4, S5, S6, S7, S8, S9}
-use Rattle.macho_stub.specs.Faults.{◌>>=◌, broken}
+use Rattle.macho_stub_lines.specs.declared.fault.StubRule.{StubRule}
+use Rattle.macho_stub_lines.specs.declared.fault.StubRule.TheVariants.{S2, S4, S5, S6, S7, S8, S9}
+use Rattle.macho_stub_lines.specs.Faults.{◌>>=◌, broken}
 use Rattle.macho_stub.specs.Documents.{ItemFields, DocumentFields}
-use Rattle.macho_stub.specs.Library.{target, has_target, same_document, is_listed, checked_libraries, checked_main, checked_document, checked_documents, library_of}
-use Rattle.macho_stub.specs.Rules.{Among, IsListed, SaySame, IsFirstUnsound, IsToldOf, IsTold}
-use Rattle.macho_stub.proofs.Bind.{chosen, no_ok, same_bytes, bytes_same}
+use Rattle.macho_stub.specs.Library.{target, has_target}
+use Rattle.macho_stub.specs.Checks.{same_document, is_listed, checked_libraries, checked_main, checked_document, checked_documents, library_of}
+use Rattle.macho_stub.specs.Rules.{Among, IsListed, SaySame, StandsBehindSound, IsToldOf, IsTold}
+use Rattle.macho_stub_lines.proofs.Bind.{chosen, no_ok, same_bytes, bytes_same}
 use Rattle.macho_stub.proofs.Ruled.{clash, target_test, listed_back, document_test}
 use Rattle.macho_stub.proofs.Ruling.{same_err, bind_err, made, main_steps, main_sound, document_sound}
 
@@ -94,7 +95,7 @@ document_told main document line rule e =
 -- the first document that isn't sound
 record FirstTold (main : DocumentFields) (documents : List DocumentFields) (line : ℕ) (rule : StubRule) : Type 0 where
   document : DocumentFields
-  first : IsFirstUnsound main document documents
+  first : StandsBehindSound main document documents
   here : checked_document main document ≡ broken line rule
 
 documents_told : (main : DocumentFields) (documents : List DocumentFields) (line : ℕ) (rule : StubRule) → checked_documents main documents

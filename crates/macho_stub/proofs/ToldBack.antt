@@ -4,13 +4,14 @@ use Rattle.std.proofs.Common.{◌≡◌, ◌≢◌, ℕ, ◌<◌, true, false, c
 use Rattle.std.specs.Str.{bytes_eq}
 use Rattle.std.specs.Prelude.{codes}
 use Rattle.std.specs.List.{AllByRecursion}
-use Rattle.macho_stub.specs.declared.fault.StubRule.{StubRule}
-use Rattle.macho_stub.specs.declared.fault.StubRule.TheVariants.{S1, S2, S3, S4, S5, S6, S7, S8, S9}
-use Rattle.macho_stub.specs.Faults.{Reading, ◌>>=◌, broken}
+use Rattle.macho_stub_lines.specs.declared.fault.StubRule.{StubRule}
+use Rattle.macho_stub_lines.specs.declared.fault.StubRule.TheVariants.{S1, S2, S3, S4, S5, S6, S7, S8, S9}
+use Rattle.macho_stub_lines.specs.Faults.{Reading, ◌>>=◌, broken}
 use Rattle.macho_stub.specs.Documents.{ItemFields, DocumentFields}
-use Rattle.macho_stub.specs.Library.{target, has_target, same_document, is_listed, checked_libraries, checked_main, checked_document, checked_documents, library_of, LibraryFields}
-use Rattle.macho_stub.specs.Rules.{Among, IsListed, SaySame, IsSoundMain, IsSoundDocument, IsFirstUnsound, IsToldOf, IsTold}
-use Rattle.macho_stub.proofs.Bind.{eq_false, same_bytes, bytes_same}
+use Rattle.macho_stub.specs.Library.{target, has_target, LibraryFields}
+use Rattle.macho_stub.specs.Checks.{same_document, is_listed, checked_libraries, checked_main, checked_document, checked_documents, library_of}
+use Rattle.macho_stub.specs.Rules.{Among, IsListed, SaySame, IsSoundMain, IsSoundDocument, StandsBehindSound, IsToldOf, IsTold}
+use Rattle.macho_stub_lines.proofs.Bind.{eq_false, same_bytes, bytes_same}
 use Rattle.macho_stub.proofs.Ruled.{is_false, target_held, target_test, listed, document_same}
 use Rattle.macho_stub.proofs.Ruling.{main_back, document_back, some_length, made}
 
@@ -66,7 +67,7 @@ first_refused main document later at rule (one ∷ earlier) a h =
     ∙ first_refused main document later at rule earlier a.1 h
 
 by_document : (main : DocumentFields) (others : List DocumentFields) (document : DocumentFields) (line : ℕ) (rule : StubRule)
-    → IsSoundMain main → IsFirstUnsound main document (main ∷ others) → line ≡ document.line
+    → IsSoundMain main → StandsBehindSound main document (main ∷ others) → line ≡ document.line
     → checked_document main document ≡ broken document.line rule → library_of (main ∷ others) ≡ broken line rule
 unfolding library_of
 by_document main others document line rule sound first e h =

@@ -1,15 +1,16 @@
 -- A second key. Behind the lines that were read another key may stand in its column, one that isn't read; but a line
 -- with this key is refused, whatever follows the key's colon: either that is no value, or the key had come before.
 use Rattle.std.proofs.Common.{◌≡◌, ℕ, ◌+◌, ◌<◌, Bool, true, false, List, ◌∷◌, ◌++◌, length, drop, Option, Ok, refl, sym, ap, ◌∙◌, inl, inr, subst}
-use Rattle.macho_stub.specs.declared.keys.ItemKind.{ItemKind}
-use Rattle.macho_stub.specs.declared.keys.ItemKind.TheVariants.{Libraries, Exports, Reexports}
-use Rattle.macho_stub.specs.declared.fault.StubRule.{StubRule}
-use Rattle.macho_stub.specs.declared.fault.StubRule.TheVariants.{S1, S3}
-use Rattle.macho_stub.specs.Bytes.{colon, indent, unspaced, is_passed, has_barred, is_blank_or_comment, is_key_byte, is_tail}
-use Rattle.macho_stub.specs.Faults.{Reading, ◌>>=◌, broken}
-use Rattle.macho_stub.specs.Keys.{Entry, entry_at, entry_behind, top_key, item_key}
-use Rattle.macho_stub.specs.Documents.{DocumentFields, OpenDocumentFields}
-use Rattle.macho_stub.specs.Reader.{ItemListFields, InsideFields, StateFields, belongs_to_top, skipped_value, top_entry, item_entry, item_key_line, within, top_line, line_step}
+use Rattle.macho_stub_lines.specs.declared.keys.ItemKind.{ItemKind}
+use Rattle.macho_stub_lines.specs.declared.keys.ItemKind.TheVariants.{Libraries, Exports, Reexports}
+use Rattle.macho_stub_lines.specs.declared.fault.StubRule.{StubRule}
+use Rattle.macho_stub_lines.specs.declared.fault.StubRule.TheVariants.{S1, S3}
+use Rattle.macho_stub_lines.specs.Bytes.{colon, indent, unspaced, is_passed, has_barred, is_blank_or_comment, is_key_byte, is_tail, belongs_to_top}
+use Rattle.macho_stub_lines.specs.Faults.{Reading, ◌>>=◌, broken}
+use Rattle.macho_stub_lines.specs.Keys.{Entry, entry_at, entry_behind, top_key, item_key}
+use Rattle.macho_stub.specs.Documents.{DocumentFields}
+use Rattle.macho_stub.specs.Opened.{OpenDocumentFields}
+use Rattle.macho_stub.specs.Reader.{ItemListFields, InsideFields, StateFields, skipped_value, top_entry, item_entry, item_key_line, within, top_line, line_step}
 use Rattle.macho_stub.specs.Order.{MayStand, StandsTwice, spare, in_column}
 use Rattle.macho_stub.proofs.OnlyLines.{entry_unspaced}
 use Rattle.macho_stub.proofs.Joined.{spaces_line}
@@ -19,6 +20,7 @@ use Rattle.macho_stub.proofs.Steps.{Closes, keys_state, top_steps, spare_at_top}
 use Rattle.macho_stub.proofs.Keyed.{HasKey, same_key, key_reads, key_or_outside, key_at_top, key_has_content, key_not_passed, key_no_head, key_no_end}
 use Rattle.macho_stub.proofs.Causes.{top_again, item_again}
 use Rattle.macho_stub.proofs.Lacking.{barred_steps}
+use Rattle.macho_stub.proofs.TwiceKeys.{stands_twice}
 
 -- a text that begins with a key has no spaces in front
 pub no_spaces : (line : ℕ) (text : List ℕ) (said : Entry) → entry_at line text ≡ Ok said → (indent text ≡ 0) × (unspaced text ≡ text)
@@ -69,17 +71,13 @@ twice_at_top first before document whole list skipped text said r c clean e twic
     let state = keys_state before document list skipped in
     let z = no_spaces n text said e in
     let M : ℕ → Type 0 = λ k. MayStand first (in_column k spare) in
-    record {
-      clean = clean;
-      said = said;
-      is_key = ap (entry_at n) z.1 ∙ e;
-      another = subst M (sym z.0) (may_stand first state (at_top before whole true) spare r refl (spare_at_top before document whole list
-          skipped n c));
-      not_again = λ rest m.
-          let again = said.key ++ colon ∷ rest in
-          let N : ℕ → Type 0 = λ k. MayStand first (in_column k again) in
-          by_test rest (subst N z.0 m) (has_barred again) refl;
-    }
+    stands_twice first text said clean (ap (entry_at n) z.1 ∙ e)
+    (subst M (sym z.0) (may_stand first state (at_top before whole true) spare r refl
+    (spare_at_top before document whole list skipped n c)))
+    (λ rest m.
+    let again = said.key ++ colon ∷ rest in
+    let N : ℕ → Type 0 = λ k. MayStand first (in_column k again) in
+    by_test rest (subst N z.0 m) (has_barred again) refl)
   where
     by_test : (rest : List ℕ) → MayStand first (said.key ++ colon ∷ rest) → (t : Bool) → has_barred (said.key ++ colon ∷ rest) ≡ t → ⊥
     by_test rest m true h = refused first (keys_state before document list skipped) (said.key ++ colon ∷ rest) (length first + 1) S1 r
@@ -143,16 +141,11 @@ pub twice_in_item : (first : List (List ℕ)) (before : List DocumentFields) (do
 twice_in_item first before document list skipped text said r below clean at e twice =
     let n = length first + 1 in
     let M : ℕ → Type 0 = λ k. MayStand first (in_column k spare) in
-    record {
-      clean = clean;
-      said = said;
-      is_key = e;
-      another = subst M (sym at) (spare_in_column first before document list skipped r below);
-      not_again = λ rest m.
-          let again = said.key ++ colon ∷ rest in
-          let N : ℕ → Type 0 = λ k. MayStand first (in_column k again) in
-          by_test rest (subst N at m) (has_barred again) refl;
-    }
+    stands_twice first text said clean e (subst M (sym at) (spare_in_column first before document list skipped r below))
+    (λ rest m.
+    let again = said.key ++ colon ∷ rest in
+    let N : ℕ → Type 0 = λ k. MayStand first (in_column k again) in
+    by_test rest (subst N at m) (has_barred again) refl)
   where
     by_test : (rest : List ℕ) → MayStand first (in_column list.column (said.key ++ colon ∷ rest)) → (t : Bool)
         → has_barred (said.key ++ colon ∷ rest) ≡ t → ⊥

@@ -2,9 +2,9 @@
 -- front of what is left behind i lines, so the reading of what is left begins with a step over it.
 use Rattle.std.proofs.Common.{◌≡◌, ℕ, ◌+◌, ◌<◌, ◌≤◌, List, length, get_or, drop, Ok, sym, ap, ◌∙◌}
 use Rattle.std.proofs.lemmas.List.{at_drop_more, at_drop_all}
-use Rattle.macho_stub.specs.declared.fault.StubFault.{StubFault}
-use Rattle.macho_stub.specs.declared.fault.StubFault.TheVariants.{Rule, OutOfMemory}
-use Rattle.macho_stub.specs.Faults.{Reading, ◌>>=◌, Fails}
+use Rattle.macho_stub_lines.specs.declared.fault.StubFault.{StubFault}
+use Rattle.macho_stub_lines.specs.declared.fault.StubFault.TheVariants.{Rule, OutOfMemory}
+use Rattle.macho_stub_lines.specs.Faults.{Reading, ◌>>=◌, Fails}
 use Rattle.macho_stub.specs.Documents.{DocumentFields}
 use Rattle.macho_stub.specs.Reader.{StateFields, line_step, lines_from, ended}
 

@@ -2,24 +2,24 @@
 -- that the tests of the line have; inside a flow list and before a first item, the line is outside the grammar, since
 -- nothing there may lack a key or have a second one.
 use Rattle.std.proofs.Common.{◌≡◌, ◌≢◌, ℕ, zero, suc, ◌+◌, ◌<◌, Bool, true, false, cond, eqb, ltb, drop, List, [], ◌∷◌, length, Option, Some, None, Err, refl, sym, ap, ◌∙◌, arith, inl, inr, subst}
-use Rattle.macho_stub.specs.declared.keys.ItemKind.{ItemKind}
-use Rattle.macho_stub.specs.declared.keys.ItemKey.{ItemKey}
-use Rattle.macho_stub.specs.declared.keys.ItemKey.TheVariants as item
-use Rattle.macho_stub.specs.declared.fault.StubRule.{StubRule}
-use Rattle.macho_stub.specs.declared.fault.StubRule.TheVariants.{S1, S2, S3}
-use Rattle.macho_stub.specs.Bytes.{indent, unspaced, is_passed, is_barred, has_barred, is_blank_or_comment}
-use Rattle.macho_stub.specs.Faults.{Fault, Reading, ◌>>=◌, broken, outside}
-use Rattle.macho_stub.specs.Keys.{Entry, entry_at, top_key, item_key}
-use Rattle.macho_stub.specs.Documents.{ItemFields, DocumentFields, OpenDocumentFields, with_items, has_key, no_item}
-use Rattle.macho_stub.specs.Reader.{ItemListFields, InsideFields, StateFields, has_dash, belongs_to_top, names_value, top_entry, item_entry, item_key_line, key_column, first_line, with_whole, items_with_last, key_line, belongs}
+use Rattle.macho_stub_lines.specs.declared.keys.ItemKind.{ItemKind}
+use Rattle.macho_stub_lines.specs.declared.keys.ItemKey.{ItemKey}
+use Rattle.macho_stub_lines.specs.declared.keys.ItemKey.TheVariants as item
+use Rattle.macho_stub_lines.specs.declared.fault.StubRule.{StubRule}
+use Rattle.macho_stub_lines.specs.declared.fault.StubRule.TheVariants.{S1, S2, S3}
+use Rattle.macho_stub_lines.specs.Bytes.{indent, unspaced, is_passed, is_barred, has_barred, is_blank_or_comment, has_dash, belongs_to_top}
+use Rattle.macho_stub_lines.specs.Faults.{Fault, Reading, ◌>>=◌, broken, outside}
+use Rattle.macho_stub_lines.specs.Keys.{Entry, entry_at, top_key, item_key}
+use Rattle.macho_stub.specs.Documents.{ItemFields, DocumentFields}
+use Rattle.macho_stub.specs.Opened.{OpenDocumentFields, with_items, has_key, no_item}
+use Rattle.macho_stub.specs.Reader.{ItemListFields, InsideFields, StateFields, names_value, top_entry, item_entry, item_key_line, key_column, first_line, with_whole, items_with_last, key_line, belongs}
 use Rattle.macho_stub.specs.Order.{MayStand, EndsWithout, IsLastHead, IsWhy, spare, in_column}
-use Rattle.macho_stub.proofs.Bind.{eq_false, chosen}
+use Rattle.macho_stub_lines.proofs.Bind.{eq_false, chosen}
 use Rattle.macho_stub.proofs.Ruling.{bind_err, same_err}
 use Rattle.macho_stub.proofs.OnlyLines.{top_indent}
 use Rattle.macho_stub.proofs.FineLines.{AnyOf, outside_at, here_at, lacking_at, entry_fine}
 use Rattle.macho_stub.proofs.Fine.{GoodInside, with_whole_fine, items_with_last_fine, top_entry_fine, item_entry_fine, names_value_fine, skipped_value_fine, dash_before_key}
-use Rattle.macho_stub.proofs.Causes.{TopCause, Ends, NoKey, Refused, ItemCause, Next, AtTop, InColumn, Nowhere, at_line, same_parts, top_cause, item_cause}
-use Rattle.macho_stub.proofs.Causes.{EndsItem as EndsLacking}
+use Rattle.macho_stub.proofs.Causes.{TopCause, Ends, NoKey, Refused, ItemCause, Next, AtTop, InColumn, Nowhere, at_line, same_parts, top_cause, item_cause, EndsItem as EndsLacking}
 use Rattle.macho_stub.proofs.Joined.{IsLine, either_false, has_line_feed}
 use Rattle.macho_stub.proofs.Finish.{at_item}
 use Rattle.macho_stub.proofs.Reached.{Reached, refused}

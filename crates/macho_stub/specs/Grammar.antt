@@ -1,100 +1,92 @@
--- The grammar of a stub text: documents, mappings, items and lists as trees, each with the lines that it stands on.
--- A tree is spelled in front of the lines that follow it. `number` is a line's number in the text, counted from 1.
-use Rattle.std.specs.Prelude.{◌≡◌, ◌≢◌, ℕ, ◌+◌, ◌<◌, ◌⊎◌, Bool, true, false, List, [], ◌∷◌, ◌++◌, length, drop, replicate, Option, Some, None, Ok, is_some, nat_lt, slice_index, if◌then◌else◌}
+-- The grammar of a stub text: documents, mappings and items as trees, each with the lines that it stands on. A tree is
+-- spelled in front of the lines that follow it, and what it says are slices of the input.
+use Rattle.std.specs.Prelude.{◌≡◌, ◌≢◌, ℕ, ◌+◌, ◌<◌, ◌⊎◌, Bool, true, false, List, [], ◌∷◌, ◌++◌, replicate, Option, Some, None, nat_lt, slice_index}
 use Rattle.std.specs.List.{AllByRecursion}
-use Rattle.std.specs.Str.Lines.{lines}
-use Rattle.macho_stub.specs.declared.keys.ItemKind.{ItemKind}
-use Rattle.macho_stub.specs.declared.keys.ItemKey.{ItemKey}
-use Rattle.macho_stub.specs.declared.keys.ItemKey.TheVariants as item
-use Rattle.macho_stub.specs.declared.keys.TopKey.{TopKey}
-use Rattle.macho_stub.specs.declared.keys.TopKey.TheVariants as top
-use Rattle.macho_stub.specs.declared.list.Expect.TheVariants.{AfterOpen, Closed}
-use Rattle.macho_stub.specs.Bytes.{space, dash, open_bracket, indent, is_passed, has_barred}
-use Rattle.macho_stub.specs.Lists.{ListPart, list_part, with_front}
-use Rattle.macho_stub.specs.Keys.{Entry, entry_at, scalar_value, version_value, top_key, item_key}
-use Rattle.macho_stub.specs.Documents.{ItemFields, OpenItemFields, DocumentFields, OpenDocumentFields, no_item, head_at, has_key, with_key, has_items, with_items, whole_item, whole_document}
-use Rattle.macho_stub.specs.Reader.{head, end, belongs_to_top}
+use Rattle.macho_stub_lines.specs.declared.keys.ItemKind.{ItemKind}
+use Rattle.macho_stub_lines.specs.declared.keys.ItemKind.TheVariants.{Libraries, Exports, Reexports}
+use Rattle.macho_stub_lines.specs.declared.keys.ItemKey.{ItemKey}
+use Rattle.macho_stub_lines.specs.declared.keys.ItemKey.TheVariants as item
+use Rattle.macho_stub_lines.specs.declared.keys.TopKey.{TopKey}
+use Rattle.macho_stub_lines.specs.declared.keys.TopKey.TheVariants as top
+use Rattle.macho_stub_lines.specs.Bytes.{space, dash, open_bracket, indent, has_barred, head, end, belongs_to_top}
+use Rattle.macho_stub_lines.specs.Slices.{Slice, Line, lines_of, content_of}
+use Rattle.macho_stub_lines.specs.Spelling.{EntryTree, IsEntry, entry_bytes, value_of, value_at, IsScalarValue, IsNumberValue}
+use Rattle.macho_stub_lines.specs.FlowLists.{IsFlowList}
+use Rattle.macho_stub_lines.specs.Keys.{top_key, item_key}
+use Rattle.macho_stub.specs.Documents.{ItemOf, DocumentOf}
 
--- a line of the text
-pub record Line : Type 0 where
-  pub number : ℕ
-  pub text : List ℕ
+-- ---- mappings
 
--- the lines with content, from this number on: those that aren't passed over
-abbrev pub content_from : ℕ → List (List ℕ) → List Line
-content_from number [] = []
-content_from number (text ∷ texts) =
-    if is_passed text then content_from (number + 1) texts else record { number = number; text = text } ∷ content_from
-    (number + 1) texts
+-- one of the entries has the key, and says this
+abbrev pub Given : {E X : Type 0} → (E → Type 0) → (E → X → Type 0) → List E → X → Type 0
+Given has_key says [] x = ⊥
+Given has_key says (one ∷ others) x = (has_key one × says one x) ⊎ Given has_key says others x
 
--- ---- flow lists
+-- the same, or no entry has the key, and this is what is said then
+abbrev pub GivenOr : {E X : Type 0} → X → (E → Type 0) → (E → X → Type 0) → List E → X → Type 0
+GivenOr otherwise has_key says entries x =
+    Given has_key says entries x ⊎ (AllByRecursion (λ one. has_key one → ⊥) entries × (x ≡ otherwise))
 
--- The lines go on with a list that was read so far: each has tokens of it, and the last closes it.
-abbrev pub GoesOn : ListPart → List Line → List (List ℕ) → Type 0
-GoesOn part [] names = (part.expect ≡ Closed) × (part.names ≡ names)
-GoesOn part (line ∷ more) names =
-    (part.expect ≢ Closed) × (next : ListPart)
-    × (with_front part.names (list_part line.number part.expect 0 line.text) ≡ Ok next) × GoesOn next more names
+-- no two entries have the same key, but for keys that aren't read
+abbrev pub NoneTwice : {E K : Type 0} → K → (E → K) → List E → Type 0
+NoneTwice unread key_of [] = Unit {0}
+NoneTwice unread key_of (one ∷ others) =
+    AllByRecursion (λ other. key_of one ≡ key_of other → key_of one ≡ unread) others × NoneTwice unread key_of others
 
--- The value, at the line of this number, and the lines under it are a flow list of these names.
-pub record IsList (number : ℕ) (value : List ℕ) (more : List Line) (names : List (List ℕ)) : Type 0 where
-  pub bracket : slice_index value 0 ≡ open_bracket
-  pub first : ListPart
-  pub begins : with_front [] (list_part number AfterOpen 0 (drop 1 value)) ≡ Ok first
-  pub goes_on : GoesOn first more names
+-- ---- skipped values
 
--- The value and the lines under it are skipped: a flow list, or any other value with the lines that belong to it.
+-- The value, which begins at this place, and the lines under it are skipped: a flow list, or a value that doesn't begin
+-- with a bracket and the lines that belong to it.
 abbrev pub IsSkipped : (List ℕ → Bool) → ℕ → List ℕ → List Line → Type 0
-IsSkipped belongs number value more =
-    ((names : List (List ℕ)) × IsList number value more names)
+IsSkipped belongs at value more =
+    ((names : List Slice) × IsFlowList at value more names)
     ⊎ ((slice_index value 0 ≢ open_bracket) × AllByRecursion (λ line. belongs line.text ≡ true) more)
 
 -- ---- items
 
--- An entry of an item: its line from the key on, and the lines under it.
+-- An entry of an item: the number and place of its line, its key and value, and the lines under it.
 pub record ItemEntry : Type 0 where
   pub number : ℕ
-  pub head : List ℕ
+  pub at : ℕ
+  pub entry : EntryTree
   pub more : List Line
 
 -- its lines, with the key in this column, in front of others
 abbrev pub entry_then : ℕ → ItemEntry → List Line → List Line
-entry_then column entry rest = record { number = entry.number; text = replicate column space ++ entry.head } ∷
-    (entry.more ++ rest)
+entry_then column one rest = record { number = one.number; at = one.at; text = replicate column space ++ entry_bytes one.entry }
+    ∷ (one.more ++ rest)
 
 abbrev pub entries_then : ℕ → List ItemEntry → List Line → List Line
 entries_then column [] rest = rest
-entries_then column (entry ∷ entries) rest = entry_then column entry (entries_then column entries rest)
+entries_then column (one ∷ others) rest = entry_then column one (entries_then column others rest)
+
+-- the place of the value of an entry with its key in this column
+abbrev pub item_value_at : ℕ → ItemEntry → ℕ
+item_value_at column one = value_at (one.at + column) one.entry
 
 -- A line belongs to the skipped value of a key in this column: it begins with more spaces.
 abbrev pub is_deeper : ℕ → List ℕ → Bool
 is_deeper column text = nat_lt column (indent text)
 
--- A key of an item that didn't stand before has a flow list of names.
-pub record GivesNames (key : ItemKey) (value : List ℕ) (entry : ItemEntry) (old new : OpenItemFields) : Type 0 where
-  pub first_time : has_key key old ≡ false
-  pub names : List (List ℕ)
-  pub list : IsList entry.number value entry.more names
-  pub gives : new ≡ with_key key names old
+-- the key of an entry, among those that are read of items of such a list
+abbrev pub HasKey : ItemKind → ItemKey → ItemEntry → Type 0
+HasKey kind key one = item_key kind one.entry.key ≡ key
 
--- The value of a key of an item, in this column, takes what is known of the item from `old` to `new`.
-abbrev pub ItemValue : ℕ → ItemKey → List ℕ → ItemEntry → OpenItemFields → OpenItemFields → Type 0
-ItemValue column item.Unread value entry old new = IsSkipped (is_deeper column) entry.number value entry.more
-    × (new ≡ old)
-ItemValue column item.Targets value entry old new = GivesNames item.Targets value entry old new
-ItemValue column item.Names value entry old new = GivesNames item.Names value entry old new
-ItemValue column item.WeakNames value entry old new = GivesNames item.WeakNames value entry old new
+-- an entry with its key in this column has a flow list of these names
+abbrev pub SaysNames : ℕ → ItemEntry → List Slice → Type 0
+SaysNames column one names = IsFlowList (item_value_at column one) (value_of one.entry) one.more names
+
+-- The value of a key of an item, in this column: a flow list if the key is read, and else a value that is skipped.
+abbrev pub IsItemValue : ℕ → ItemKey → ItemEntry → Type 0
+IsItemValue column item.Unread one = IsSkipped (is_deeper column) (item_value_at column one) (value_of one.entry) one.more
+IsItemValue column item.Targets one = (names : List Slice) × SaysNames column one names
+IsItemValue column item.Names one = (names : List Slice) × SaysNames column one names
+IsItemValue column item.WeakNames one = (names : List Slice) × SaysNames column one names
 
 -- an entry of an item
-pub record IsItemEntry (kind : ItemKind) (column : ℕ) (entry : ItemEntry) (old new : OpenItemFields) : Type 0 where
-  pub said : Entry
-  pub key : entry_at entry.number entry.head ≡ Ok said
-  pub value : ItemValue column (item_key kind said.key) said.value entry old new
-
-abbrev pub ItemEntries : ItemKind → ℕ → List ItemEntry → OpenItemFields → OpenItemFields → Type 0
-ItemEntries kind column [] old new = new ≡ old
-ItemEntries kind column (entry ∷ entries) old new = (mid : OpenItemFields) × IsItemEntry kind column entry old mid
-    × ItemEntries kind column entries mid new
+pub record IsItemEntry (kind : ItemKind) (column : ℕ) (one : ItemEntry) : Type 0 where
+  pub entry : IsEntry one.entry
+  pub value : IsItemValue column (item_key kind one.entry.key) one
 
 -- An item: a dash, spaces, the first entry, and the other entries in the column of the first one's key.
 pub record ItemTree : Type 0 where
@@ -104,139 +96,160 @@ pub record ItemTree : Type 0 where
 
 -- the column of its keys, where its dash is in this column
 abbrev pub column_of : ℕ → ItemTree → ℕ
-column_of at tree = at + 1 + tree.gap
+column_of dash_column tree = dash_column + 1 + tree.gap
 
 -- its lines, with the dash in this column, in front of others
 abbrev pub item_then : ℕ → ItemTree → List Line → List Line
-item_then at tree rest =
+item_then dash_column tree rest =
     record {
       number = tree.first.number;
-      text = replicate at space ++ dash ∷
-          (replicate tree.gap space ++ tree.first.head);
+      at = tree.first.at;
+      text = replicate dash_column space ++ dash ∷ (replicate tree.gap space ++ entry_bytes tree.first.entry);
     }
-    ∷ (tree.first.more ++ entries_then (column_of at tree) tree.others rest)
+    ∷ (tree.first.more ++ entries_then (column_of dash_column tree) tree.others rest)
 
 abbrev pub items_then : ℕ → List ItemTree → List Line → List Line
-items_then at [] rest = rest
-items_then at (tree ∷ trees) rest = item_then at tree (items_then at trees rest)
+items_then dash_column [] rest = rest
+items_then dash_column (tree ∷ trees) rest = item_then dash_column tree (items_then dash_column trees rest)
 
--- An item that says this, in a document whose head stands at the line: no key that it must have is lacking.
-pub record IsItem (line : ℕ) (kind : ItemKind) (at : ℕ) (tree : ItemTree) (says : ItemFields) : Type 0 where
+-- The names of an item: an item of libraries must have them, an item of symbols may lack them.
+abbrev pub AreNames : ItemKind → ℕ → List ItemEntry → List Slice → Type 0
+AreNames Libraries column entries names = Given (HasKey Libraries item.Names) (SaysNames column) entries names
+AreNames Exports column entries names = GivenOr [] (HasKey Exports item.Names) (SaysNames column) entries names
+AreNames Reexports column entries names = GivenOr [] (HasKey Reexports item.Names) (SaysNames column) entries names
+
+abbrev pub entries_of : ItemTree → List ItemEntry
+entries_of tree = tree.first ∷ tree.others
+
+-- an item that says this
+pub record IsItem (kind : ItemKind) (dash_column : ℕ) (tree : ItemTree) (says : ItemOf Slice) : Type 0 where
   pub spaced : 0 < tree.gap
-  pub read : OpenItemFields
-  pub entries : ItemEntries kind (column_of at tree) (tree.first ∷ tree.others) no_item read
-  pub whole : whole_item line kind read ≡ Ok says
+  pub each : AllByRecursion (IsItemEntry kind (column_of dash_column tree)) (entries_of tree)
+  pub once : NoneTwice item.Unread (λ one. item_key kind one.entry.key) (entries_of tree)
+  pub targets : Given (HasKey kind item.Targets) (SaysNames (column_of dash_column tree)) (entries_of tree) says.targets
+  pub names : AreNames kind (column_of dash_column tree) (entries_of tree) says.names
+  pub weak_names : GivenOr [] (HasKey kind item.WeakNames) (SaysNames (column_of dash_column tree)) (entries_of tree) says.weak_names
 
-abbrev pub AreItems : ℕ → ItemKind → ℕ → List ItemTree → List ItemFields → Type 0
-AreItems line kind at [] [] = Unit {0}
-AreItems line kind at [] (one ∷ says) = ⊥
-AreItems line kind at (tree ∷ trees) [] = ⊥
-AreItems line kind at (tree ∷ trees) (one ∷ says) = IsItem line kind at tree one × AreItems line kind at trees says
+abbrev pub AreItems : ItemKind → ℕ → List ItemTree → List (ItemOf Slice) → Type 0
+AreItems kind dash_column [] [] = Unit {0}
+AreItems kind dash_column [] (one ∷ says) = ⊥
+AreItems kind dash_column (tree ∷ trees) [] = ⊥
+AreItems kind dash_column (tree ∷ trees) (one ∷ says) = IsItem kind dash_column tree one × AreItems kind dash_column trees says
 
 -- ---- documents
 
 -- What stands under a key of a document: lines, or items with their dashes in one column.
 pub data Under : Type 0 where
-  Plain : List Line → Under
+  Lines : List Line → Under
   Listed : ℕ → List ItemTree → Under
 
 abbrev pub under_then : Under → List Line → List Line
-under_then (Plain more) rest = more ++ rest
-under_then (Listed at trees) rest = items_then at trees rest
+under_then (Lines more) rest = more ++ rest
+under_then (Listed dash_column trees) rest = items_then dash_column trees rest
 
--- An entry of a document: its line, and what stands under it.
+-- An entry of a document: the number and place of its line, its key and value, and what stands under it.
 pub record TopEntry : Type 0 where
   pub number : ℕ
-  pub head : List ℕ
+  pub at : ℕ
+  pub entry : EntryTree
   pub under : Under
 
 abbrev pub top_entries_then : List TopEntry → List Line → List Line
 top_entries_then [] rest = rest
-top_entries_then (entry ∷ entries) rest = record { number = entry.number; text = entry.head } ∷ under_then entry.under
-    (top_entries_then entries rest)
+top_entries_then (one ∷ others) rest = record { number = one.number; at = one.at; text = entry_bytes one.entry }
+    ∷ under_then one.under (top_entries_then others rest)
 
--- a key that is skipped
+-- a key that is skipped, and one with a flow list
 abbrev pub IsSkippedUnder : ℕ → List ℕ → Under → Type 0
-IsSkippedUnder number value (Plain more) = IsSkipped belongs_to_top number value more
-IsSkippedUnder number value (Listed at trees) = ⊥
+IsSkippedUnder at value (Lines more) = IsSkipped belongs_to_top at value more
+IsSkippedUnder at value (Listed dash_column trees) = ⊥
 
--- a key with a flow list
-abbrev pub IsListUnder : ℕ → List ℕ → Under → List (List ℕ) → Type 0
-IsListUnder number value (Plain more) names = IsList number value more names
-IsListUnder number value (Listed at trees) names = ⊥
+abbrev pub IsListUnder : ℕ → List ℕ → Under → List Slice → Type 0
+IsListUnder at value (Lines more) names = IsFlowList at value more names
+IsListUnder at value (Listed dash_column trees) names = ⊥
 
 -- a key with items, one or more
-abbrev pub AreItemsUnder : ℕ → ItemKind → Under → List ItemFields → Type 0
-AreItemsUnder line kind (Plain more) says = ⊥
-AreItemsUnder line kind (Listed at []) says = ⊥
-AreItemsUnder line kind (Listed at (tree ∷ trees)) says = AreItems line kind at (tree ∷ trees) says
+abbrev pub AreItemsUnder : ItemKind → Under → List (ItemOf Slice) → Type 0
+AreItemsUnder kind (Lines more) says = ⊥
+AreItemsUnder kind (Listed dash_column []) says = ⊥
+AreItemsUnder kind (Listed dash_column (tree ∷ trees)) says = AreItems kind dash_column (tree ∷ trees) says
 
--- The value of a key of a document takes what is known of the document from `old` to `new`. No key that is read
--- stands twice.
-abbrev pub TopValue : TopKey → List ℕ → TopEntry → OpenDocumentFields → OpenDocumentFields → Type 0
-TopValue top.Version value entry old new =
-    (is_some old.version ≡ false) × (entry.under ≡ Plain []) × (version : List ℕ)
-    × (version_value entry.number value ≡ Ok version) × (new ≡ record old { version = Some version })
-TopValue top.Targets value entry old new =
-    (is_some old.targets ≡ false) × (names : List (List ℕ)) × IsListUnder entry.number value entry.under names
-    × (new ≡ record old { targets = Some names })
-TopValue top.InstallName value entry old new =
-    (is_some old.install_name ≡ false) × (entry.under ≡ Plain []) × (text : List ℕ)
-    × (scalar_value entry.number value ≡ Ok text) × (new ≡ record old { install_name = Some text })
-TopValue top.CurrentVersion value entry old new =
-    (is_some old.current_version ≡ false) × (entry.under ≡ Plain []) × (text : List ℕ)
-    × (scalar_value entry.number value ≡ Ok text) × (new ≡ record old { current_version = Some text })
-TopValue (top.Items kind) value entry old new =
-    (has_items kind old ≡ false) × (length value ≡ 0) × (says : List ItemFields)
-    × AreItemsUnder old.line kind entry.under says × (new ≡ with_items kind says old)
-TopValue top.Unread value entry old new = IsSkippedUnder entry.number value entry.under × (new ≡ old)
+-- the key of an entry, among those that are read of documents
+abbrev pub HasTopKey : TopKey → TopEntry → Type 0
+HasTopKey key one = top_key one.entry.key ≡ key
+
+-- What an entry says: a number or a scalar, under which nothing stands; a flow list; or items, under a key with no value.
+abbrev pub SaysNumber : TopEntry → Slice → Type 0
+SaysNumber one number = (one.under ≡ Lines []) × IsNumberValue (value_at one.at one.entry) (value_of one.entry) number
+
+abbrev pub SaysScalar : TopEntry → Slice → Type 0
+SaysScalar one text = (one.under ≡ Lines []) × IsScalarValue (value_at one.at one.entry) (value_of one.entry) text
+
+abbrev pub SaysList : TopEntry → List Slice → Type 0
+SaysList one names = IsListUnder (value_at one.at one.entry) (value_of one.entry) one.under names
+
+abbrev pub SaysItems : ItemKind → TopEntry → List (ItemOf Slice) → Type 0
+SaysItems kind one items = (value_of one.entry ≡ []) × AreItemsUnder kind one.under items
+
+-- The value of a key of a document: what the key asks for, or a value that is skipped.
+abbrev pub IsTopValue : TopKey → TopEntry → Type 0
+IsTopValue top.Version one = (number : Slice) × SaysNumber one number
+IsTopValue top.Targets one = (names : List Slice) × SaysList one names
+IsTopValue top.InstallName one = (text : Slice) × SaysScalar one text
+IsTopValue top.CurrentVersion one = (text : Slice) × SaysScalar one text
+IsTopValue (top.Items kind) one = (items : List (ItemOf Slice)) × SaysItems kind one items
+IsTopValue top.Unread one = IsSkippedUnder (value_at one.at one.entry) (value_of one.entry) one.under
 
 -- an entry of a document
-pub record IsTopEntry (entry : TopEntry) (old new : OpenDocumentFields) : Type 0 where
-  pub said : Entry
-  pub key : entry_at entry.number entry.head ≡ Ok said
-  pub value : TopValue (top_key said.key) said.value entry old new
+pub record IsTopEntry (one : TopEntry) : Type 0 where
+  pub entry : IsEntry one.entry
+  pub value : IsTopValue (top_key one.entry.key) one
 
-abbrev pub TopEntries : List TopEntry → OpenDocumentFields → OpenDocumentFields → Type 0
-TopEntries [] old new = new ≡ old
-TopEntries (entry ∷ entries) old new = (mid : OpenDocumentFields) × IsTopEntry entry old mid
-    × TopEntries entries mid new
-
--- A document: the number of its head's line, its entries, and the number of the line that ends it, if one does.
+-- A document: number and place of its head's line, its entries, and number and place of the line that ends it, if one
+-- does.
 pub record DocumentTree : Type 0 where
   pub number : ℕ
+  pub at : ℕ
   pub entries : List TopEntry
-  pub ended_at : Option ℕ
+  pub ended : Option (ℕ × ℕ)
 
-abbrev pub end_then : Option ℕ → List Line → List Line
+abbrev pub end_then : Option (ℕ × ℕ) → List Line → List Line
 end_then None rest = rest
-end_then (Some number) rest = record { number = number; text = end } ∷ rest
+end_then (Some line) rest = record { number = line.0; at = line.1; text = end } ∷ rest
 
 abbrev pub documents_then : List DocumentTree → List Line
 documents_then [] = []
-documents_then (tree ∷ trees) = record { number = tree.number; text = head } ∷ top_entries_then tree.entries
-    (end_then tree.ended_at (documents_then trees))
+documents_then (tree ∷ trees) = record { number = tree.number; at = tree.at; text = head }
+    ∷ top_entries_then tree.entries (end_then tree.ended (documents_then trees))
 
--- A document that says this: no key that it must have is lacking.
-pub record IsDocument (tree : DocumentTree) (says : DocumentFields) : Type 0 where
-  pub read : OpenDocumentFields
-  pub entries : TopEntries tree.entries (head_at tree.number) read
-  pub whole : whole_document read ≡ Ok says
+-- the current version of a document where none stands
+abbrev pub no_text : Slice
+no_text = record { at = 0; text = [] }
 
-abbrev pub AreDocuments : List DocumentTree → List DocumentFields → Type 0
+-- a document that says this
+pub record IsDocument (tree : DocumentTree) (says : DocumentOf Slice) : Type 0 where
+  pub line : says.line ≡ tree.number
+  pub each : AllByRecursion IsTopEntry tree.entries
+  pub once : NoneTwice top.Unread (λ one. top_key one.entry.key) tree.entries
+  pub version : Given (HasTopKey top.Version) SaysNumber tree.entries says.version
+  pub targets : Given (HasTopKey top.Targets) SaysList tree.entries says.targets
+  pub install_name : Given (HasTopKey top.InstallName) SaysScalar tree.entries says.install_name
+  pub current_version : GivenOr no_text (HasTopKey top.CurrentVersion) SaysScalar tree.entries says.current_version
+  pub libraries : GivenOr [] (HasTopKey (top.Items Libraries)) (SaysItems Libraries) tree.entries says.libraries
+  pub exports : GivenOr [] (HasTopKey (top.Items Exports)) (SaysItems Exports) tree.entries says.exports
+  pub reexports : GivenOr [] (HasTopKey (top.Items Reexports)) (SaysItems Reexports) tree.entries says.reexports
+
+abbrev pub AreDocuments : List DocumentTree → List (DocumentOf Slice) → Type 0
 AreDocuments [] [] = Unit {0}
 AreDocuments [] (one ∷ says) = ⊥
 AreDocuments (tree ∷ trees) [] = ⊥
 AreDocuments (tree ∷ trees) (one ∷ says) = IsDocument tree one × AreDocuments trees says
 
--- The lines are documents that say this, and passed-over lines: no line has a byte that may stand nowhere, and the
--- lines with content are those of the documents.
-pub record IsStubLines (texts : List (List ℕ)) (says : List DocumentFields) : Type 0 where
-  pub clean : AllByRecursion (λ line. has_barred line ≡ false) texts
+-- The text is documents that say this, and passed-over lines: no line has a byte that may stand nowhere, and the lines
+-- with content are those of the documents. No key is lacking that must stand, and none that is read stands twice. (That
+-- the bytes are UTF-8 is said by the type of the input.)
+pub record IsStubText (text : List ℕ) (says : List (DocumentOf Slice)) : Type 0 where
+  pub clean : AllByRecursion (λ line. has_barred line.text ≡ false) (lines_of text)
   pub trees : List DocumentTree
-  pub lines_of : content_from 1 texts ≡ documents_then trees
+  pub lines : content_of (lines_of text) ≡ documents_then trees
   pub documents : AreDocuments trees says
-
--- The text is documents that say this.
-abbrev pub IsStubText : List ℕ → List DocumentFields → Type 0
-IsStubText text says = IsStubLines (lines text) says

@@ -1,22 +1,23 @@
--- Which fault of a text is told first, and at which line. A line may stand behind others where some text in the
--- grammar, in which no key is lacking and none that is read stands twice, begins with them. The told line is the first
--- that may not stand behind those before it.
-use Rattle.std.specs.Prelude.{◌≡◌, ◌≢◌, ℕ, ◌+◌, ◌⊎◌, true, false, List, [], ◌∷◌, ◌++◌, length, map, replicate, Ok, codes}
+-- Which fault of a text is told first, and at which line. A line may stand behind others where some text in the grammar,
+-- in which no key is lacking and none that is read stands twice, begins with them. The fault is at the first line that may
+-- not stand behind those before it, or at the end; where a key is lacking, its document's first line is told. Lines are
+-- without their places here: `lines` of a text are the texts of its `lines_of`.
+use Rattle.std.specs.Prelude.{◌≡◌, ◌≢◌, ℕ, ◌+◌, ◌⊎◌, true, false, List, [], ◌∷◌, ◌++◌, length, map, replicate, codes}
 use Rattle.std.specs.List.{AllByRecursion}
 use Rattle.std.specs.Str.Lines.{lines}
-use Rattle.macho_stub.specs.declared.fault.StubRule.{StubRule}
-use Rattle.macho_stub.specs.declared.fault.StubRule.TheVariants.{S1, S2, S3, S4, S5, S6, S7, S8, S9}
-use Rattle.macho_stub.specs.Bytes.{space, colon, indent, unspaced, is_passed, has_barred}
-use Rattle.macho_stub.specs.Keys.{Entry, entry_at}
-use Rattle.macho_stub.specs.Documents.{DocumentFields}
-use Rattle.macho_stub.specs.Reader.{head, end, has_dash}
+use Rattle.macho_stub_lines.specs.declared.fault.StubRule.{StubRule}
+use Rattle.macho_stub_lines.specs.declared.fault.StubRule.TheVariants.{S1, S2, S3, S4, S5, S6, S7, S8, S9}
+use Rattle.macho_stub_lines.specs.Bytes.{space, colon, indent, unspaced, is_passed, has_barred, head, end, has_dash}
+use Rattle.macho_stub_lines.specs.Spelling.{EntryTree, IsEntry, entry_bytes}
+use Rattle.macho_stub_lines.specs.Slices.{Slice}
+use Rattle.macho_stub.specs.Documents.{DocumentOf}
 use Rattle.macho_stub.specs.Grammar.{IsStubText}
 
 -- A text in the grammar begins with these lines.
 pub record GoOn (first : List (List ℕ)) : Type 0 where
   pub text : List ℕ
   pub more : List (List ℕ)
-  pub says : List DocumentFields
+  pub says : List (DocumentOf Slice)
   pub begins : lines text ≡ first ++ more
   pub in_grammar : IsStubText text says
 
@@ -24,7 +25,7 @@ pub record GoOn (first : List (List ℕ)) : Type 0 where
 pub record MayStand (first : List (List ℕ)) (line : List ℕ) : Type 0 where
   pub text : List ℕ
   pub more : List (List ℕ)
-  pub says : List DocumentFields
+  pub says : List (DocumentOf Slice)
   pub begins : lines text ≡ first ++ line ∷ more
   pub in_grammar : IsStubText text says
 
@@ -92,8 +93,9 @@ pub record IsLastHead (number : ℕ) (texts : List (List ℕ)) : Type 0 where
 -- The line has a key that stands before: another may stand in its column, but not this one, whatever follows it.
 pub record StandsTwice (first : List (List ℕ)) (line : List ℕ) : Type 0 where
   pub clean : has_barred line ≡ false
-  pub said : Entry
-  pub is_key : entry_at (length first + 1) (unspaced line) ≡ Ok said
+  pub said : EntryTree
+  pub is_key : IsEntry said
+  pub spelled : unspaced line ≡ entry_bytes said
   pub another : MayStand first (in_column (indent line) spare)
   pub not_again : (rest : List ℕ) → MayStand first (in_column (indent line) (said.key ++ colon ∷ rest)) → ⊥
 
@@ -165,7 +167,7 @@ IsWhyAtEnd S9 number texts = ⊥
 -- All lines may stand, but the text may not end behind them.
 pub record StopsAtEnd (text : List ℕ) (number : ℕ) (rule : StubRule) : Type 0 where
   pub go_on : GoOn (lines text)
-  pub stuck : (says : List DocumentFields) → IsStubText text says → ⊥
+  pub stuck : (says : List (DocumentOf Slice)) → IsStubText text says → ⊥
   pub why : IsWhyAtEnd rule number (lines text)
 
 -- The text breaks off: at a line, or at its end.

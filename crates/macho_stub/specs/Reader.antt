@@ -1,16 +1,16 @@
 -- Reading a stub text line by line.
-use Rattle.std.specs.Prelude.{ℕ, ◌+◌, Bool, ◌&&◌, ◌||◌, List, [], ◌∷◌, ◌++◌, map, length, drop, Option, Some, None, Ok, is_some, ◌==◌, nat_lt, slice_index, if◌then◌else◌, codes}
+use Rattle.std.specs.Prelude.{ℕ, ◌+◌, Bool, ◌&&◌, List, [], ◌∷◌, ◌++◌, map, length, drop, Option, Some, None, Ok, is_some, ◌==◌, nat_lt, slice_index, if◌then◌else◌}
 use Rattle.std.specs.Option.{option_map}
 use Rattle.std.specs.Str.{bytes_eq}
 use Rattle.std.specs.Str.Lines.{lines}
-use Rattle.macho_stub.specs.declared.keys.ItemKind.{ItemKind}
-use Rattle.macho_stub.specs.declared.keys.ItemKey.{ItemKey}
-use Rattle.macho_stub.specs.declared.keys.ItemKey.TheVariants as item
-use Rattle.macho_stub.specs.declared.keys.TopKey.{TopKey}
-use Rattle.macho_stub.specs.declared.keys.TopKey.TheVariants as top
-use Rattle.macho_stub.specs.declared.list.Expect.{Expect}
-use Rattle.macho_stub.specs.declared.list.Expect.TheVariants.{AfterOpen, AfterComma, AfterName, Closed}
-use Rattle.macho_stub.specs.declared.fault.StubRule.TheVariants.{S3}
+use Rattle.macho_stub_lines.specs.declared.keys.ItemKind.{ItemKind}
+use Rattle.macho_stub_lines.specs.declared.keys.ItemKey.{ItemKey}
+use Rattle.macho_stub_lines.specs.declared.keys.ItemKey.TheVariants as item
+use Rattle.macho_stub_lines.specs.declared.keys.TopKey.{TopKey}
+use Rattle.macho_stub_lines.specs.declared.keys.TopKey.TheVariants as top
+use Rattle.macho_stub_lines.specs.declared.list.Expect.{Expect}
+use Rattle.macho_stub_lines.specs.declared.list.Expect.TheVariants.{AfterOpen, AfterComma, AfterName, Closed}
+use Rattle.macho_stub_lines.specs.declared.fault.StubRule.TheVariants.{S3}
 use Rattle.macho_stub.specs.declared.state.ItemList.{ItemList}
 use Rattle.macho_stub.specs.declared.state.NameList.{NameList}
 use Rattle.macho_stub.specs.declared.state.Mode.{Mode}
@@ -19,11 +19,13 @@ use Rattle.macho_stub.specs.declared.state.Inside.{Inside}
 use Rattle.macho_stub.specs.declared.state.Place.{Place}
 use Rattle.macho_stub.specs.declared.state.Place.TheVariants as place
 use Rattle.macho_stub.specs.declared.state.State.{State}
-use Rattle.macho_stub.specs.Bytes.{space, dash, open_bracket, indent, unspaced, is_passed, has_barred}
-use Rattle.macho_stub.specs.Faults.{Reading, broken, outside, ◌>>=◌}
-use Rattle.macho_stub.specs.Lists.{ListPart, part_of, list_part, with_front}
-use Rattle.macho_stub.specs.Keys.{entry_at, scalar_value, version_value, top_key, item_key}
-use Rattle.macho_stub.specs.Documents.{ItemFields, OpenItemFields, DocumentFields, OpenDocumentFields, open_item_of, items_of, document_of, open_document_of, no_item, head_at, has_key, with_key, with_top_key, has_items, with_items, whole_item, whole_document}
+use Rattle.macho_stub_lines.specs.Bytes.{open_bracket, indent, unspaced, is_passed, has_barred, head, end, has_dash, belongs_to_top}
+use Rattle.macho_stub_lines.specs.Faults.{Reading, broken, outside, ◌>>=◌}
+use Rattle.macho_stub_lines.specs.Lists.{ListPart, part_of, list_part, with_front}
+use Rattle.macho_stub_lines.specs.Keys.{entry_at, scalar_value, version_value, top_key, item_key}
+use Rattle.macho_stub.specs.Documents.{ItemFields, DocumentFields}
+use Rattle.macho_stub.specs.Opened.{OpenItemFields, OpenDocumentFields, open_item_of, items_of, document_of, open_document_of, no_item, head_at, has_key, with_key, with_top_key, has_items, with_items}
+use Rattle.macho_stub.specs.Whole.{whole_item, whole_document}
 
 -- A list of items that is being read: the items before, the column of its dashes, the column of the keys of its
 -- last item, and that item.
@@ -96,22 +98,6 @@ place_of (place.Within inside) = Within (inside_of inside)
 
 abbrev pub state_of : State → StateFields
 state_of state = record { documents = map document_of state.documents.items; place = place_of state.place }
-
--- the head of a document
-abbrev pub head : List ℕ
-head = codes "--- !tapi-tbd"
-
--- what ends a document
-abbrev pub end : List ℕ
-end = codes "..."
-
--- A dash and a space behind the line's first spaces.
-unfoldable pub has_dash : List ℕ → Bool
-has_dash line = slice_index line (indent line) == dash && slice_index line (indent line + 1) == space
-
--- The line belongs to the skipped value of a key at column 0: it begins with a space, or with a dash and a space.
-unfoldable pub belongs_to_top : List ℕ → Bool
-belongs_to_top line = slice_index line 0 == space || (slice_index line 0 == dash && slice_index line 1 == space)
 
 -- the reading stays in the document, and the next line may be this
 abbrev pub stays : OpenDocumentFields → Option ItemListFields → ModeFields → InsideFields
@@ -272,8 +258,8 @@ inside_line documents document list Keys line text = key_line documents document
 inside_line documents document list Skipped line text =
     if belongs list text then Ok (record { documents = documents; place = Within (stays document list Skipped) }) else
     key_line documents document list line text
-inside_line documents document list (Names names) line text = within documents
-    (names_line document list line names text)
+inside_line documents document list (Names names) line text =
+    if bytes_eq text end then outside line else within documents (names_line document list line names text)
 inside_line documents document list (NoItem kind at) line text = within documents
     (first_line document kind [] line text)
 

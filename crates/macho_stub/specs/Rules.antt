@@ -1,9 +1,10 @@
 -- The rules on what the documents of a stub text say, which fault of several is told, and the library that they make.
 use Rattle.std.specs.Prelude.{◌≡◌, ◌≢◌, ℕ, ◌<◌, ◌≤◌, ◌⊎◌, true, false, List, [], ◌∷◌, ◌++◌, length, codes}
 use Rattle.std.specs.List.{AllByRecursion}
-use Rattle.macho_stub.specs.declared.fault.StubRule.{StubRule}
-use Rattle.macho_stub.specs.declared.fault.StubRule.TheVariants.{S1, S2, S3, S4, S5, S6, S7, S8, S9}
-use Rattle.macho_stub.specs.Documents.{ItemFields, DocumentFields}
+use Rattle.macho_stub_lines.specs.declared.fault.StubRule.{StubRule}
+use Rattle.macho_stub_lines.specs.declared.fault.StubRule.TheVariants.{S1, S2, S3, S4, S5, S6, S7, S8, S9}
+use Rattle.macho_stub_lines.specs.Slices.{Slice, texts_of}
+use Rattle.macho_stub.specs.Documents.{ItemFields, DocumentOf, DocumentFields, document_texts, documents_texts}
 use Rattle.macho_stub.specs.Library.{target, LibraryFields, gathered}
 
 -- the name is one of the names
@@ -35,19 +36,19 @@ pub record IsSoundDocument (main document : DocumentFields) : Type 0 where
 
 -- The documents keep the rules, the first is the main library, and the library is what they say: by document, the
 -- symbols of the exports before those of the reexports, of the items for the target.
-pub record MakesLibrary (documents : List DocumentFields) (library : LibraryFields) : Type 0 where
-  pub main : DocumentFields
-  pub others : List DocumentFields
+pub record MakesLibrary (documents : List (DocumentOf Slice)) (library : LibraryFields) : Type 0 where
+  pub main : DocumentOf Slice
+  pub others : List (DocumentOf Slice)
   pub first : documents ≡ main ∷ others
-  pub sound : IsSoundMain main
-  pub each : AllByRecursion (IsSoundDocument main) documents
-  pub install_name : library.install_name ≡ main.install_name
-  pub current_version : library.current_version ≡ main.current_version
-  pub symbols : library.symbols ≡ gathered false documents
-  pub weak_symbols : library.weak_symbols ≡ gathered true documents
+  pub sound : IsSoundMain (document_texts main)
+  pub each : AllByRecursion (IsSoundDocument (document_texts main)) (documents_texts documents)
+  pub install_name : library.install_name ≡ main.install_name.text
+  pub current_version : library.current_version ≡ main.current_version.text
+  pub symbols : library.symbols ≡ texts_of (gathered false documents)
+  pub weak_symbols : library.weak_symbols ≡ texts_of (gathered true documents)
 
--- the first document that isn't sound, behind those that are
-pub record IsFirstUnsound (main document : DocumentFields) (documents : List DocumentFields) : Type 0 where
+-- a document behind sound ones alone, so that it is the first where it isn't sound itself
+pub record StandsBehindSound (main document : DocumentFields) (documents : List DocumentFields) : Type 0 where
   pub earlier : List DocumentFields
   pub later : List DocumentFields
   pub parts : documents ≡ earlier ++ document ∷ later
@@ -64,10 +65,10 @@ IsToldOf S8 line main documents =
     (line ≡ main.line) × Among target main.targets × (main.current_version ≢ []) × (item : ItemFields)
     × (main.libraries ≡ item ∷ []) × (Among target item.targets → ⊥)
 IsToldOf S4 line main documents =
-    IsSoundMain main × (document : DocumentFields) × IsFirstUnsound main document documents × (line ≡ document.line)
+    IsSoundMain main × (document : DocumentFields) × StandsBehindSound main document documents × (line ≡ document.line)
     × (document.version ≢ codes "4")
 IsToldOf S9 line main documents =
-    IsSoundMain main × (document : DocumentFields) × IsFirstUnsound main document documents × (line ≡ document.line)
+    IsSoundMain main × (document : DocumentFields) × StandsBehindSound main document documents × (line ≡ document.line)
     × (document.version ≡ codes "4")
     × (SaySame document main → ⊥) × (IsListed document.install_name main.libraries → ⊥)
 IsToldOf S1 line main documents = ⊥

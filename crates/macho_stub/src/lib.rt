@@ -19,24 +19,19 @@
 #![tactic(auto)]
 
 ghost use Rattle.std.specs.Prelude.{◌≡◌, ℕ, IfErr, IfOk, Ok};
-ghost use Rattle.macho_stub.specs.Faults.{Gives, broken};
+ghost use Rattle.macho_stub_lines.specs.Faults.{Gives, broken};
 ghost use Rattle.macho_stub.specs.Library.{LibraryFields, library_fields};
-ghost use Rattle.macho_stub.specs.Answer.{IsStub, IsToldOfText, answer_of};
+ghost use Rattle.macho_stub.specs.Answer.{IsStub, SaysSlices, IsToldOfText, answer_of};
 
-mod bytes;
 mod document;
-mod fault;
-mod keys;
 mod library;
-mod list;
 mod reader;
-mod scalar;
 mod state;
 #[cfg(test)]
 mod tests;
 
-pub use fault::{StubFault, StubRule};
 pub use library::DefinedStubLibrary;
+pub use macho_stub_lines::fault::{StubFault, StubRule};
 use std::alloc::Global;
 
 /// The library that the documents of the text make.
@@ -60,6 +55,8 @@ pub fn parse_defined_library<'data>(
 ) -> Result<DefinedStubLibrary<'data>, StubFault>
     // What is read is in the grammar and keeps the rules, and the four fields are what it says.
     ensures found { IfOk result (λ library. IsStub input.now (library_fields library)) }
+    // What it says are slices of the input, each at the place where the grammar has it.
+    ensures slices { SaysSlices input.now }
     // What is in the grammar and keeps the rules is read, unless memory runs out.
     ensures only { (says : LibraryFields) → IsStub input.now says → Gives library_fields result (Ok says) }
     // A rule that is told is broken at its line, and is the first: in the text, and then in what it says.

@@ -3,21 +3,22 @@
 ghost use Rattle.std.specs.Prelude.{◌≡◌, if◌then◌else◌, [], ◌≤◌, ◌<◌, ◌+◌, ◌++◌, ◌||◌, ℕ, length, map, vec_len, List, IfOk, IfErr, Ok};
 ghost use Rattle.std.specs.List.{list_any, flat_map};
 ghost use Rattle.std.specs.Str.{bytes_eq};
-ghost use Rattle.macho_stub.specs.declared.fault.StubFault.TheVariants.{OutOfMemory};
-ghost use Rattle.macho_stub.specs.Faults.{Gives};
-ghost use Rattle.macho_stub.specs.Lists.{texts};
-ghost use Rattle.macho_stub.specs.Documents.{item_of, items_of, document_of};
-ghost use Rattle.macho_stub.specs.Library.{has_target, picked, picked_for_target, picked_of_document, is_listed, holds, gathered, library_fields, same_names, same_item, same_items, same_document, checked_libraries, checked_main, checked_document, checked_documents, library_of};
+ghost use Rattle.macho_stub_lines.specs.declared.fault.StubFault.TheVariants.{OutOfMemory};
+ghost use Rattle.macho_stub_lines.specs.Faults.{Gives};
+ghost use Rattle.macho_stub_lines.specs.Lists.{texts};
+ghost use Rattle.macho_stub.specs.Opened.{item_of, items_of, document_of};
+ghost use Rattle.macho_stub.specs.Library.{has_target, picked, library_fields};
+ghost use Rattle.macho_stub.specs.Checks.{texts_for_target, texts_of_document, is_listed, holds, gathered_texts, same_names, same_item, same_items, same_document, checked_libraries, checked_main, checked_document, checked_documents, library_of};
 
 use crate::document::{Document, Item};
-use crate::fault::{StubFault, StubRule};
+use macho_stub_lines::fault::{StubFault, StubRule};
 use std::alloc::Global;
 use std::collections::BTreeSet;
 
 /// The target that is linked for.
 const TARGET: &str = "arm64e-macos";
 
-/// What a stub text says of a library. Each text is a slice of the input.
+/// What a stub text says of a library, in slices of that text.
 #[derive(Drop)]
 pub struct DefinedStubLibrary<'data> {
     /// The install name of the library.
@@ -51,7 +52,7 @@ fn has_target(targets: &[&str]) -> bool
 }
 
 /// Whether the names are the same.
-#[tactic(auto, unfolding(crate::specs::Library::same_names))]
+#[tactic(auto, unfolding(crate::specs::Checks::same_names))]
 fn same_names(left: &[&str], right: &[&str]) -> bool
     ensures { result ≡ same_names (texts left.now) (texts right.now) }
 {
@@ -67,7 +68,7 @@ fn same_names(left: &[&str], right: &[&str]) -> bool
 }
 
 /// Whether the items say the same.
-#[tactic(auto, unfolding(crate::specs::Library::same_item))]
+#[tactic(auto, unfolding(crate::specs::Checks::same_item))]
 fn same_item(left: &Item<'_>, right: &Item<'_>) -> bool
     ensures { result ≡ same_item (item_of left.now) (item_of right.now) }
 {
@@ -77,7 +78,7 @@ fn same_item(left: &Item<'_>, right: &Item<'_>) -> bool
 }
 
 /// Whether the lists of items say the same.
-#[tactic(auto, unfolding(crate::specs::Library::same_items))]
+#[tactic(auto, unfolding(crate::specs::Checks::same_items))]
 fn same_items(left: &[Item<'_>], right: &[Item<'_>]) -> bool
     ensures { result ≡ same_items (items_of left.now) (items_of right.now) }
 {
@@ -93,7 +94,7 @@ fn same_items(left: &[Item<'_>], right: &[Item<'_>]) -> bool
 }
 
 /// Whether the documents say the same.
-#[tactic(auto, unfolding(crate::specs::Library::same_document))]
+#[tactic(auto, unfolding(crate::specs::Checks::same_document))]
 fn same_document(left: &Document<'_>, right: &Document<'_>) -> bool
     ensures { result ≡ same_document (document_of left.now) (document_of right.now) }
 {
@@ -131,7 +132,7 @@ fn checked_libraries(line: u64, items: &[Item<'_>]) -> Result<(), StubFault>
 }
 
 /// Checks the main library.
-#[tactic(auto, unfolding(crate::specs::Library::checked_main))]
+#[tactic(auto, unfolding(crate::specs::Checks::checked_main))]
 fn checked_main(main: &Document<'_>) -> Result<(), StubFault>
     ensures { Gives (λ u. u) result (checked_main (document_of main.now)) }
 {
@@ -161,7 +162,7 @@ fn with_listed<'data>(
 }
 
 /// The libraries that the items list, so that each is looked up without a walk over all.
-#[tactic(auto, unfolding(crate::specs::Library::is_listed))]
+#[tactic(auto, unfolding(crate::specs::Checks::is_listed))]
 fn listed_of<'data>(alloc: Global, items: &[Item<'data>]) -> Result<BTreeSet<&'data str>, StubFault>
     ensures done { IfOk result (λ new. (name : List ℕ) → holds new name ≡ is_listed name (items_of items.now)) }
     ensures why { IfErr result (λ fault. fault ≡ OutOfMemory) }
@@ -174,7 +175,7 @@ fn listed_of<'data>(alloc: Global, items: &[Item<'data>]) -> Result<BTreeSet<&'d
 }
 
 /// Checks a document against the main one and the libraries that it lists.
-#[tactic(auto, unfolding(crate::specs::Library::checked_document))]
+#[tactic(auto, unfolding(crate::specs::Checks::checked_document))]
 fn checked_document(
     main: &Document<'_>,
     listed: &BTreeSet<&str>,
@@ -214,7 +215,7 @@ fn with_item<'data>(
     weak: bool,
 ) -> Result<Vec<&'data str>, StubFault>
     ensures { Gives (λ v. texts v.items) result
-        (Ok (texts names.entry.items ++ picked_for_target weak (item_of item.now))) }
+        (Ok (texts names.entry.items ++ texts_for_target weak (item_of item.now))) }
 {
     let wanted = has_target(item.targets.as_slice());
     if wanted {
@@ -234,7 +235,7 @@ fn with_items<'data>(
     weak: bool,
 ) -> Result<Vec<&'data str>, StubFault>
     ensures { Gives (λ v. texts v.items) result
-        (Ok (texts names.entry.items ++ flat_map (picked_for_target weak) (items_of items.now))) }
+        (Ok (texts names.entry.items ++ flat_map (texts_for_target weak) (items_of items.now))) }
 {
     for item in items {
         names = with_item(names, item, weak)?;
@@ -249,20 +250,20 @@ fn with_document<'data>(
     weak: bool,
 ) -> Result<Vec<&'data str>, StubFault>
     ensures { Gives (λ v. texts v.items) result
-        (Ok (texts names.entry.items ++ picked_of_document weak (document_of document.now))) }
+        (Ok (texts names.entry.items ++ texts_of_document weak (document_of document.now))) }
 {
     let names = with_items(names, document.exports.as_slice(), weak)?;
     with_items(names, document.reexports.as_slice(), weak)
 }
 
 /// The symbols of all documents, or the weak ones.
-#[tactic(auto, unfolding(crate::specs::Library::gathered))]
+#[tactic(auto, unfolding(crate::specs::Checks::gathered_texts))]
 fn gathered<'data>(
     alloc: Global,
     documents: &[Document<'data>],
     weak: bool,
 ) -> Result<Vec<&'data str>, StubFault>
-    ensures { Gives (λ v. texts v.items) result (Ok (gathered weak (map document_of documents.now))) }
+    ensures { Gives (λ v. texts v.items) result (Ok (gathered_texts weak (map document_of documents.now))) }
 {
     let mut names = Vec::new(alloc);
     for document in documents {
@@ -272,7 +273,7 @@ fn gathered<'data>(
 }
 
 /// The library that the documents make.
-#[tactic(auto, unfolding(crate::specs::Library::library_of))]
+#[tactic(auto, unfolding(crate::specs::Checks::library_of))]
 pub fn library_of<'data>(
     alloc: Global,
     documents: &[Document<'data>],

@@ -10,21 +10,22 @@
 
 ghost use Rattle.std.specs.Prelude.{◌≡◌, ◌≤◌, ◌<◌, ◌+◌, ◌-◌, ◌++◌, ◌∷◌, [], ℕ, true, length, drop, map, slice_index, Some, None, Ok, is_some};
 ghost use Rattle.std.specs.Option.{option_map};
-ghost use Rattle.macho_stub.specs.Bytes.{indent, is_passed, has_barred};
-ghost use Rattle.macho_stub.specs.Faults.{Gives};
-ghost use Rattle.macho_stub.specs.Lists.{texts, part_of};
-ghost use Rattle.macho_stub.specs.Documents.{items_of, item_of, document_of, open_document_of, open_item_of, no_item, head_at, whole_item, whole_document};
-ghost use Rattle.macho_stub.specs.Reader.{Keys, Within, item_list_of, name_list_of, mode_of, inside_of, place_of, state_of, head, end, has_dash, belongs_to_top, stays, with_names, behind_part, names_line, opened, names_value, skipped_value, once, item_entry, item_key_line, key_column, first_line, top_entry, within, with_whole, top_line, items_with_last, item_line, key_line, belongs, inside_line, content_line, line_step, ended_document, ended_inside, ended, lines_from, start, documents_of};
+ghost use Rattle.macho_stub_lines.specs.Bytes.{indent, is_passed, has_barred, head, end, has_dash, belongs_to_top};
+ghost use Rattle.macho_stub_lines.specs.Faults.{Gives};
+ghost use Rattle.macho_stub_lines.specs.Lists.{texts, part_of};
+ghost use Rattle.macho_stub.specs.Opened.{items_of, item_of, document_of, open_document_of, open_item_of, no_item, head_at};
+ghost use Rattle.macho_stub.specs.Whole.{whole_item, whole_document};
+ghost use Rattle.macho_stub.specs.Reader.{Keys, Within, item_list_of, name_list_of, mode_of, inside_of, place_of, state_of, stays, with_names, behind_part, names_line, opened, names_value, skipped_value, once, item_entry, item_key_line, key_column, first_line, top_entry, within, with_whole, top_line, items_with_last, item_line, key_line, belongs, inside_line, content_line, line_step, ended_document, ended_inside, ended, lines_from, start, documents_of};
 
-use crate::bytes::{after, byte_at, has_barred, indent, is_passed};
 use crate::document::{Document, Item, OpenDocument, head_at, no_item};
-use crate::fault::{StubFault, StubRule};
-use crate::keys::{
+use crate::state::{Inside, ItemList, Mode, NameList, Place, State};
+use macho_stub_lines::bytes::{after, byte_at, has_barred, indent, is_passed};
+use macho_stub_lines::fault::{StubFault, StubRule};
+use macho_stub_lines::keys::{
     ItemKey, ItemKind, TopKey, item_key, key_line as entry_at, scalar_value, top_key, unspaced,
     version_value,
 };
-use crate::list::{Expect, OpenList, list_part, outside};
-use crate::state::{Inside, ItemList, Mode, NameList, Place, State};
+use macho_stub_lines::list::{Expect, OpenList, list_part, outside};
 use std::alloc::Global;
 
 /// What begins a document.
@@ -34,7 +35,7 @@ const HEAD: &str = "--- !tapi-tbd";
 const END: &str = "...";
 
 /// Whether a dash and a space stand behind the line's first spaces.
-#[tactic(auto, unfolding(crate::specs::Reader::has_dash))]
+#[tactic(auto, unfolding(macho_stub_lines::specs::Bytes::has_dash))]
 fn has_dash(line: &str) -> bool
     ensures { result ≡ has_dash line.now }
 {
@@ -43,7 +44,7 @@ fn has_dash(line: &str) -> bool
 }
 
 /// Whether a line belongs to the skipped value of a key of a document.
-#[tactic(auto, unfolding(crate::specs::Reader::belongs_to_top))]
+#[tactic(auto, unfolding(macho_stub_lines::specs::Bytes::belongs_to_top))]
 fn belongs_to_top(line: &str) -> bool
     ensures { result ≡ belongs_to_top line.now }
 {
@@ -243,7 +244,7 @@ fn item_key_line<'data>(
 }
 
 /// The column of the key behind a line's dash.
-#[tactic(auto, unfolding(crate::specs::Reader::key_column, crate::specs::Reader::has_dash))]
+#[tactic(auto, unfolding(crate::specs::Reader::key_column, macho_stub_lines::specs::Bytes::has_dash))]
 fn key_column(line: &str) -> usize
     requires { has_dash line.now ≡ true }
     ensures { result ≡ key_column line.now }
@@ -570,6 +571,9 @@ fn inside_line<'data>(
             key_line(alloc, documents, document, list, line, text)
         }
         Mode::Names(names) => {
+            if text == END {
+                return Err(outside(line));
+            }
             let inside = names_line(document, list, line, names, text)?;
             Ok(within(documents, inside))
         }

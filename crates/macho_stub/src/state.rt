@@ -1,8 +1,8 @@
 //! Where the reading of a text stands between two lines.
 
 use crate::document::{Document, Item, OpenDocument, OpenItem};
-use crate::keys::{ItemKey, ItemKind};
-use crate::list::OpenList;
+use macho_stub_lines::keys::{ItemKey, ItemKind};
+use macho_stub_lines::list::OpenList;
 
 /// A list of items that is being read.
 #[derive(Drop)]

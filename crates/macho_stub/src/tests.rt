@@ -157,7 +157,7 @@ fn is_refused(alloc: Global, text: &str, line: u64, rule: StubRule) -> bool {
 }
 
 /// Texts outside the grammar, with the line that is told.
-const OUTSIDE: [(&str, u64); 18] = [
+const OUTSIDE: [(&str, u64); 20] = [
     ("a: b\n", 1),
     ("\n--- !tapi-tbd x\n", 2),
     ("--- !tapi-tbd\ntargets: [ a,\n  b\n", 2),
@@ -169,6 +169,8 @@ const OUTSIDE: [(&str, u64); 18] = [
     ("--- !tapi-tbd\ninstall-name: a#b\n", 2),
     ("--- !tapi-tbd\ninstall-name:a\n", 2),
     ("--- !tapi-tbd\nother: [ a\n...\n", 3),
+    ("--- !tapi-tbd\ntargets: [ a,\n...\n]\n", 3),
+    ("--- !tapi-tbd\ntargets: [ a,\n  'b\n", 3),
     ("--- !tapi-tbd\nexports:\ntbd-version: 4\n", 3),
     ("--- !tapi-tbd\nexports:\n  - a: b\n   c: d\n", 4),
     ("--- !tapi-tbd\n\ttbd-version: 4\n", 2),

@@ -1,9 +1,13 @@
 use Rattle.macho_stub.specs.Library.{library_fields}
 use Rattle.macho_stub.proofs.Answered.{found, only, fault, told}
+use Rattle.macho_stub.proofs.TreesStand.{text_stands}
 use Rattle.macho_stub.proofs.parse_defined_library.Goals as goal
 
 pub returns-clause-found : goal.returns-clause-found
 returns-clause-found c = found library_fields c.args.input.now c.answer.result c.answer.ensures
+
+pub returns-clause-slices : goal.returns-clause-slices
+returns-clause-slices c = text_stands c.args.input.now
 
 pub returns-clause-only : goal.returns-clause-only
 returns-clause-only c = λ says is. only library_fields c.args.input.now c.answer.result says c.answer.ensures is

@@ -1,7 +1,7 @@
 use Rattle.std.proofs.Common.{◌≡◌, drop}
 use Rattle.std.specs.List.{list_any}
 use Rattle.std.specs.Str.{bytes_eq}
-use Rattle.macho_stub.specs.Lists.{texts}
+use Rattle.macho_stub_lines.specs.Lists.{texts}
 use Rattle.macho_stub.proofs.library.is_among.Given as goal
 
 abbrev pub invariant-loop-other : goal.invariant-loop-other

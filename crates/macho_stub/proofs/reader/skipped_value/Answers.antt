@@ -1,5 +1,5 @@
 use Rattle.std.proofs.Common.{arith}
-use Rattle.macho_stub.proofs.Cuts.{cut_behind}
+use Rattle.macho_stub_lines.proofs.Cuts.{cut_behind}
 use Rattle.macho_stub.proofs.reader.skipped_value.Goals as goal
 
 pub after-requires : goal.after-requires

@@ -1,0 +1,20 @@
+-- The rules on documents, and the library that they make, from their texts alone.
+use Rattle.std.specs.Prelude.{◌≡◌, List, ◌∷◌, true, false}
+use Rattle.std.specs.List.{AllByRecursion}
+use Rattle.macho_stub.specs.Documents.{DocumentFields}
+use Rattle.macho_stub.specs.Library.{LibraryFields}
+use Rattle.macho_stub.specs.Checks.{gathered_texts}
+use Rattle.macho_stub.specs.Rules.{IsSoundMain, IsSoundDocument}
+
+-- The documents keep the rules, the first is the main library, and the library is what they say: by document, the
+-- symbols of the exports before those of the reexports, of the items for the target.
+pub record MakesOfTexts (documents : List DocumentFields) (library : LibraryFields) : Type 0 where
+  pub main : DocumentFields
+  pub others : List DocumentFields
+  pub first : documents ≡ main ∷ others
+  pub sound : IsSoundMain main
+  pub each : AllByRecursion (IsSoundDocument main) documents
+  pub install_name : library.install_name ≡ main.install_name
+  pub current_version : library.current_version ≡ main.current_version
+  pub symbols : library.symbols ≡ gathered_texts false documents
+  pub weak_symbols : library.weak_symbols ≡ gathered_texts true documents

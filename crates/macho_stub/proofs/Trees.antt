@@ -1,0 +1,95 @@
+-- The grammar and the text as it is read say the same of a text. The lines of the input with their places are its lines,
+-- numbered from 1 on (`numbered`), and those with content the same; so the trees of one lead to trees of the other
+-- (`TreesRead`, `TreesFound`), and what they say are the same texts.
+use Rattle.std.proofs.Common.{◌≡◌, ℕ, ◌+◌, Bool, true, false, cond, eqb, List, [], ◌∷◌, length, map, refl, sym, ap, ◌∙◌, subst}
+use Rattle.std.specs.List.{AllByRecursion, slice_split}
+use Rattle.std.specs.Str.Lines.{lines}
+use Rattle.macho_stub_lines.specs.Bytes.{is_passed, has_barred, line_feed}
+use Rattle.macho_stub_lines.specs.Slices.{Slice, Line, lines_of, lines_of_parts, content_of}
+use Rattle.macho_stub_lines.proofs.ReadLists.{ReadLine}
+use Rattle.macho_stub.specs.Documents.{DocumentOf, DocumentFields, documents_texts}
+use Rattle.macho_stub.specs.Grammar.{IsStubText}
+use Rattle.macho_stub.proofs.Readings.{IsReadText, content_from}
+use Rattle.macho_stub.proofs.Mappings.{documents_fold, documents_unfold}
+use Rattle.macho_stub.proofs.TreesRead.{read_lines, read_document, documents_lines, documents_read}
+use Rattle.macho_stub.proofs.TreesFoundTop.{documents_found}
+use Rattle.macho_stub_lines.proofs.Places.{same_lines}
+
+abbrev line_texts : List Line → List (List ℕ)
+line_texts lines = map (λ line. line.text) lines
+
+-- ---- lines
+
+-- the lines are numbered from this number on
+abbrev AreNumbered : ℕ → List Line → Type 0
+AreNumbered number [] = Unit {0}
+AreNumbered number (line ∷ more) = (line.number ≡ number) × AreNumbered (number + 1) more
+
+numbered : (number at : ℕ) (parts : List (List ℕ)) → AreNumbered number (lines_of_parts number at parts)
+numbered number at [] = tt
+numbered number at (part ∷ []) = by_test (eqb (length part) 0)
+  where
+    by_test : (t : Bool) → AreNumbered number (cond t [] (record { number = number; at = at; text = part } ∷ []))
+    by_test true = tt
+    by_test false = (refl, tt)
+numbered number at (part ∷ next ∷ parts) = (refl, numbered (number + 1) (at + length part + 1) (next ∷ parts))
+
+-- those with content
+same_content : (number : ℕ) (all : List Line) → AreNumbered number all
+    → read_lines (content_of all) ≡ content_from number (line_texts all)
+same_content number [] n = refl
+same_content number (line ∷ more) n = by_test (same_content (number + 1) more n.1) (is_passed line.text)
+  where
+    there : ReadLine
+    there = record { number = number; text = line.text }
+
+    by_test : read_lines (content_of more) ≡ content_from (number + 1) (line_texts more) → (t : Bool)
+        → read_lines (cond t (content_of more) (line ∷ content_of more))
+        ≡ cond t (content_from (number + 1) (line_texts more)) (there ∷ content_from (number + 1) (line_texts more))
+    by_test ih true = ih
+    by_test ih false = ap (λ (k : ℕ). record { number = k; text = line.text } ∷ read_lines (content_of more)) n.0
+        ∙ ap (λ (rest : List ReadLine). there ∷ rest) ih
+
+content_lines : (text : List ℕ) → read_lines (content_of (lines_of text)) ≡ content_from 1 (lines text)
+content_lines text = same_content 1 (lines_of text) (numbered 1 0 (slice_split (λ b. eqb b line_feed) text))
+    ∙ ap (content_from 1) (same_lines text)
+
+-- what holds of each line's text
+clean_texts : (all : List Line) → AllByRecursion (λ line. has_barred line.text ≡ false) all
+    → AllByRecursion (λ line. has_barred line ≡ false) (line_texts all)
+clean_texts [] h = tt
+clean_texts (line ∷ more) h = (h.0, clean_texts more h.1)
+
+clean_lines : (all : List Line) → AllByRecursion (λ line. has_barred line ≡ false) (line_texts all)
+    → AllByRecursion (λ line. has_barred line.text ≡ false) all
+clean_lines [] h = tt
+clean_lines (line ∷ more) h = (h.0, clean_lines more h.1)
+
+abbrev AreClean : List (List ℕ) → Type 0
+AreClean texts = AllByRecursion (λ line. has_barred line ≡ false) texts
+
+-- ---- texts
+
+-- what is in the grammar is a text as it is read
+pub to_read : (text : List ℕ) (says : List (DocumentOf Slice)) → IsStubText text says → IsReadText text (documents_texts says)
+to_read text says is = record {
+  clean = subst AreClean (same_lines text) (clean_texts (lines_of text) is.clean);
+  trees = map read_document is.trees;
+  lines_of = sym (content_lines text) ∙ ap read_lines is.lines ∙ documents_lines is.trees;
+  documents = documents_read is.trees says (documents_fold is.trees says is.documents);
+}
+
+-- and a text as it is read is in the grammar
+pub of_read : (text : List ℕ) (says : List DocumentFields) → IsReadText text says
+    → (slices : List (DocumentOf Slice)) × IsStubText text slices × (documents_texts slices ≡ says)
+of_read text says is =
+    let d = documents_found is.trees says (content_of (lines_of text)) is.documents (content_lines text ∙ is.lines_of) in (
+      d.says,
+      record {
+        clean = clean_lines (lines_of text) (subst AreClean (sym (same_lines text)) is.clean);
+        trees = d.trees;
+        lines = d.parts;
+        documents = documents_unfold d.trees d.says d.are_documents;
+      },
+      d.are,
+    )

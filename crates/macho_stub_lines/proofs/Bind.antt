@@ -1,0 +1,70 @@
+-- Readings that did not fail: their steps didn't either.
+use Rattle.std.proofs.Common.{◌≡◌, ◌≢◌, ℕ, Bool, true, false, cond, eqb, ltb, ◌≤◌, List, Ok, Err, refl, arith, ◌⊎◌, inl, inr}
+use Rattle.std.specs.Str.{bytes_eq}
+use Rattle.std.proofs.lemmas.Bool.Decides.{nat_tests}
+use Rattle.std.proofs.lemmas.Slice.Eq.{bytes_eq-Decides}
+use Rattle.macho_stub_lines.specs.declared.fault.StubRule.{StubRule}
+use Rattle.macho_stub_lines.specs.Faults.{Reading, ◌>>=◌, broken}
+
+-- the value of a step
+pub bind_ok : {A B : Type 0} (r : Reading A) (f : A → Reading B) (y : B) → (r >>= f) ≡ Ok y → (x : A) × (r ≡ Ok x) × (f x ≡ Ok y)
+bind_ok (Ok x) f y e = (x, refl, e)
+bind_ok (Err d) f y e = absurd cc
+
+-- which way a choice went
+pub chosen : {A : Type 0} (b : Bool) (x y z : A) → cond b x y ≡ z → ((b ≡ true) × (x ≡ z)) ⊎ ((b ≡ false) × (y ≡ z))
+chosen true x y z e = inl (refl, e)
+chosen false x y z e = inr (refl, e)
+
+-- a choice whose first way fails
+pub not_broken : {A : Type 0} (b : Bool) (line : ℕ) (rule : StubRule) (r : Reading A) (y : A) → cond b (broken line rule) r ≡ Ok y
+    → (b ≡ false) × (r ≡ Ok y)
+not_broken true line rule r y e = absurd cc
+not_broken false line rule r y e = (refl, e)
+
+-- a choice whose second way fails
+pub not_broken_else : {A : Type 0} (b : Bool) (line : ℕ) (rule : StubRule) (r : Reading A) (y : A) → cond b r (broken line rule) ≡ Ok y
+    → (b ≡ true) × (r ≡ Ok y)
+not_broken_else true line rule r y e = (refl, e)
+not_broken_else false line rule r y e = absurd cc
+
+abbrev done : {A : Type 0} → A → Reading A
+done x = Ok x
+
+pub same_ok : {A : Type 0} (x y : A) → done x ≡ done y → x ≡ y
+same_ok x y e = cc
+
+-- what fails gives nothing
+pub no_ok : {A : Type 0} (line : ℕ) (rule : StubRule) (y : A) → broken line rule ≡ Ok y → ⊥
+no_ok line rule y e = cc
+
+pub same_bytes : (xs ys : List ℕ) → bytes_eq xs ys ≡ true → xs ≡ ys
+same_bytes xs ys e = (bytes_eq-Decides xs ys).0 e
+
+pub bytes_same : (xs ys : List ℕ) → xs ≡ ys → bytes_eq xs ys ≡ true
+bytes_same xs ys e = (bytes_eq-Decides xs ys).1 e
+
+pub other_bytes : (xs ys : List ℕ) → bytes_eq xs ys ≡ false → xs ≢ ys
+other_bytes xs ys e = λ is. let t = bytes_same xs ys is in cc
+
+pub bytes_differ : (xs ys : List ℕ) → xs ≢ ys → bytes_eq xs ys ≡ false
+bytes_differ xs ys ne = by_test (bytes_eq xs ys) refl
+  where
+    by_test : (t : Bool) → bytes_eq xs ys ≡ t → bytes_eq xs ys ≡ false
+    by_test true e = absurd (ne (same_bytes xs ys e))
+    by_test false e = e
+
+pub eq_at : (m n : ℕ) → eqb m n ≡ true → m ≡ n
+eq_at m n e = grind (arith, nat_tests)
+
+pub ne_at : (m n : ℕ) → eqb m n ≡ false → m ≢ n
+ne_at m n e = λ h. grind (arith, nat_tests)
+
+pub eq_true : (m n : ℕ) → m ≡ n → eqb m n ≡ true
+eq_true m n e = grind (arith, nat_tests)
+
+pub eq_false : (m n : ℕ) → m ≢ n → eqb m n ≡ false
+eq_false m n e = grind (arith, nat_tests)
+
+pub not_below : (m n : ℕ) → n ≤ m → ltb m n ≡ false
+not_below m n e = grind (arith, nat_tests)

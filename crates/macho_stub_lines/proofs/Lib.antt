@@ -1,0 +1,17 @@
+pub mod Bind
+pub mod Cuts
+pub mod EntryTrees
+pub mod Found
+pub mod ListTrees
+pub mod ListTreesFound
+pub mod ListTreesReads
+pub mod ListTreesRemains
+pub mod ListTreesShape
+pub mod ListTreesTails
+pub mod ListTreesTokens
+pub mod NumberTrees
+pub mod Parts
+pub mod Places
+pub mod ReadLists
+pub mod Runs
+pub mod ScalarTrees
