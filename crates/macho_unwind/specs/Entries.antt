@@ -43,7 +43,7 @@ pub record IsFoundFor (text : ℕ) (entries : List ResolvedUnwindInfo) (offset :
 abbrev pub FindsOnlyEntries : ℕ → List ResolvedUnwindInfo → List ℕ → Type 0
 FindsOnlyEntries text entries bytes = (offset : ℕ) (x : Found) → UnwindFinds bytes offset x → IsFoundFor text entries offset x
 
--- the bytes are at most as many as the bound for any span that is not below the greatest start less the least
+-- the bytes are at most as many as the bound for any span that the starts keep to
 abbrev pub FitsTheBound : List ResolvedUnwindInfo → List ℕ → Type 0
 FitsTheBound entries bytes = (span : ℕ) → SpansAtMost span entries → length bytes ≤ unwind_bound_of (inputs_of entries) span
 

@@ -10,8 +10,8 @@ use std::alloc::Global;
 
 /// The section of entries, as bytes; no entries give no bytes.
 ///
-/// Starts are distinct and no address is below the text's start; `start + length` is below 2^64; equal ids have equal slots;
-/// bits 28 and 29 of encodings are clear. `TooManyPersonalities` is told of more than three ids, else `OffsetTooLarge` exactly
+/// Asked of the caller: no two starts alike, nothing below the text's start, no end at 2^64 or past it, one slot for each id,
+/// encodings without a personality's number. `TooManyPersonalities` is told of more than three ids, else `OffsetTooLarge` exactly
 /// where an offset from the text's start, or that of a page from the section's start, doesn't fit 32 bits.
 pub fn build(
     alloc: Global,

@@ -102,11 +102,12 @@ lsda_at text start (Some address) = record { function = start - text; lsda = add
 abbrev pub lsda_from : ℕ → ResolvedUnwindInfo → List Lsda
 lsda_from text e = lsda_at text e.start e.lsda
 
--- A page can't take one more function: it is too far away, its code would be the 33rd that only this page names, or
--- there is no room for its word and, where the page doesn't name it yet, its code.
+-- a page names the code
 abbrev pub IsNamed : List ℕ → PageList → ℕ → Type 0
 IsNamed globals page code = Contains (globals ++ page.locals) code
 
+-- A page can't take one more function: it is too far away, its code would be the 33rd that only this page names, or
+-- there is no room for its word and, where the page doesn't name it yet, its code.
 abbrev pub IsClosedTo : List ℕ → PageList → Row → Type 0
 IsClosedTo globals page row =
     (page.first + PAGE_SPAN ≤ row.start)
@@ -159,14 +160,16 @@ pub record IsPlanOf (text : ℕ) (entries : List ResolvedUnwindInfo) (plan : Pla
   pub few : (span : ℕ) → SpansAtMost span entries → length plan.pages ≤ most_pages (tallies_of (inputs_of entries)) span
   pub short : (span : ℕ) → SpansAtMost span entries → size_of plan ≤ unwind_bound_of (inputs_of entries) span
 
--- an offset of an entry that is told doesn't fit 32 bits: its start, its slot, its data, or the end of the last entry
+-- an address whose offset from the text's start doesn't fit 32 bits
 abbrev pub IsFar : ℕ → ℕ → Type 0
 IsFar text address = text + 2 ^ 32 ≤ address
 
+-- an entry has one: its start, its slot, or its data
 abbrev pub HasFarAddress : ℕ → ResolvedUnwindInfo → Type 0
 HasFarAddress text e =
     IsFar text e.start ⊎ (IsSomeAnd e.personality (λ p. IsFar text p.slot) ⊎ IsSomeAnd e.lsda (λ address. IsFar text address))
 
+-- one of the entries has one, or the last one's end is one
 abbrev pub HasFarOffset : ℕ → List ResolvedUnwindInfo → Type 0
 HasFarOffset text entries =
     (e : ResolvedUnwindInfo) × Contains entries e × (HasFarAddress text e ⊎ (IsLast entries e × IsFar text (e.start + e.length)))
