@@ -24,7 +24,8 @@ count-no : {X : Type 0} (n : X → ℕ) (s : ℕ) (x : X) (xs : List X) → s �
     → count_by (λ y. nat_lt (n y) s) (x ∷ xs) ≡ count_by (λ y. nat_lt (n y) s) xs
 count-no {X = X} n s x xs le =
     let test : nat_lt (n x) s ≡ false = grind (arith, nat_tests) in
-    sum_by-cons (λ (y : X). cond (nat_lt (n y) s) 1 0) x xs ∙ ap (λ (b : Bool). cond b 1 0 + count_by (λ (y : X). nat_lt (n y) s) xs) test ∙ zero-add _
+    sum_by-cons (λ (y : X). cond (nat_lt (n y) s) 1 0) x xs
+    ∙ ap (λ (b : Bool). cond b 1 0 + count_by (λ (y : X). nat_lt (n y) s) xs) test ∙ zero-add _
 
 -- no item is below the bound
 count-none : {X : Type 0} (n : X → ℕ) (s : ℕ) (xs : List X) → ((i : ℕ) (d : X) → i < length xs → s ≤ n (get_or xs i d))
@@ -50,6 +51,7 @@ counted-none {X = X} n s x xs rising le i d h =
     each zero e m = le
     each (suc k) e m = omega (arith, rising 0 (suc k) e (omega arith) m)
 
+-- in a rising list the item at a place is below the bound exactly where the place is below the count
 pub count-rising : {X : Type 0} (n : X → ℕ) (s : ℕ) (xs : List X) → AllPairs (λ y z. n y < n z) xs → (i : ℕ) (d : X) → i < length xs
     → IsCounted n s xs i d
 count-rising n s [] rising i d h = absurd (omega arith)
@@ -75,7 +77,8 @@ pub count-cut : {X : Type 0} (n : X → ℕ) (s : ℕ) (xs : List X) (i : ℕ) �
 count-cut n s [] i within below above = omega arith
 count-cut n s (x ∷ xs) zero within below above = sym (count-none n s (x ∷ xs) (λ k d h. above k d (omega arith) h))
 count-cut n s (x ∷ xs) (suc i) within below above =
-    let rest = count-cut n s xs i (omega arith) (λ k d h. below (suc k) d (omega arith)) (λ k d le h. above (suc k) d (omega arith) (omega arith)) in
+    let rest = count-cut n s xs i (omega arith) (λ k d h. below (suc k) d (omega arith))
+    (λ k d le h. above (suc k) d (omega arith) (omega arith)) in
     omega (arith, rest, count-yes n s x xs (below 0 x (omega arith)))
 
 -- a rising list does not fall

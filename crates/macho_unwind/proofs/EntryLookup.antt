@@ -27,15 +27,17 @@ stands-whole bytes text is =
     stands_by_bytes bytes (record { at = 0; text = text }) (omega (arith, ap (λ (t : List ℕ). length t) is))
     (λ i h. ap (λ (k : ℕ). get_or bytes k 0) (omega arith) ∙ ap (λ (t : List ℕ). get_or t i 0) is)
 
-pub section-given : (text : ℕ) (entries : List ResolvedUnwindInfo) (bytes : List ℕ) (s : IsSectionOf text entries bytes) → IsGiven bytes s.plan
+pub section-given : (text : ℕ) (entries : List ResolvedUnwindInfo) (bytes : List ℕ) (s : IsSectionOf text entries bytes)
+    → IsGiven bytes s.plan
 section-given text entries bytes s = record {
   formed = s.of_entries.formed;
   places = s.places;
   stands = section-parts bytes s.plan (stands-whole bytes (section_text s.plan) s.is);
 }
 
-pub finds-entries : (text : ℕ) (entries : List ResolvedUnwindInfo) (bytes : List ℕ) → AreEntries text entries → IsSectionOf text entries bytes
-    → FindsEntries text entries bytes
+-- look-up in the entries' section finds each offset's entry
+pub finds-entries : (text : ℕ) (entries : List ResolvedUnwindInfo) (bytes : List ℕ) → AreEntries text entries
+    → IsSectionOf text entries bytes → FindsEntries text entries bytes
 finds-entries text entries bytes are s offset e of =
     found-where-said bytes s.plan offset (found_for text e) (section-given text entries bytes s)
     (said-of-entry text entries s.plan offset e are s.of_entries of)
@@ -44,8 +46,9 @@ finds-entries text entries bytes are s offset e of =
 abbrev pub no_entry : ResolvedUnwindInfo
 no_entry = record { start = 0; length = 0; encoding = 0; personality = None; lsda = None }
 
-pub finds-only-entries : (text : ℕ) (entries : List ResolvedUnwindInfo) (bytes : List ℕ) → AreEntries text entries → IsSectionOf text entries bytes
-    → FindsOnlyEntries text entries bytes
+-- what look-up finds there of an offset is what the entry of the offset says
+pub finds-only-entries : (text : ℕ) (entries : List ResolvedUnwindInfo) (bytes : List ℕ) → AreEntries text entries
+    → IsSectionOf text entries bytes → FindsOnlyEntries text entries bytes
 finds-only-entries text entries bytes are s offset x finds =
     let covered = covered-where-found bytes s.plan offset x (section-given text entries bytes s) finds in
     let m = entry-of-row text entries s.plan s.of_entries no_entry covered.row covered.one in
@@ -76,7 +79,8 @@ no-ids [] none = omega arith
 no-ids (e ∷ entries) none = absurd (omega arith)
 
 -- a plan of an entry or more has a page or more
-pub some-page : (text : ℕ) (entries : List ResolvedUnwindInfo) (plan : PlanList) → IsPlanOf text entries plan → 0 < length entries → 0 < length plan.pages
+pub some-page : (text : ℕ) (entries : List ResolvedUnwindInfo) (plan : PlanList) → IsPlanOf text entries plan
+    → 0 < length entries → 0 < length plan.pages
 some-page text entries plan p some =
     let e : ResolvedUnwindInfo = get_or entries 0 no_entry in
     let row = row_there plan _ (row-of-entry text entries plan p e (0, some, get_or_default entries 0 e no_entry some)) in

@@ -38,7 +38,8 @@ slot-number : (slots ids : List ℕ) (text : ℕ) (p : Option Personality) → l
 slot-number slots ids text None few has = omega arith
 slot-number slots ids text (Some p) few has = omega (arith, slice_get_within slots (place_in ids p.id) (p.slot - text) has)
 
-slot-named : (slots ids : List ℕ) (text : ℕ) (p : Option Personality) → IfSome p (λ q. slice_get slots (place_in ids q.id) ≡ Some (q.slot - text))
+slot-named : (slots ids : List ℕ) (text : ℕ) (p : Option Personality)
+    → IfSome p (λ q. slice_get slots (place_in ids q.id) ≡ Some (q.slot - text))
     → NamesSlot slots (number_in ids (option_map (λ q. q.id) p)) (option_map (λ q. q.slot - text) p)
 slot-named slots ids text None has = refl
 slot-named slots ids text (Some p) has = record {
@@ -48,12 +49,12 @@ slot-named slots ids text (Some p) has = record {
 }
 
 -- an entry of the run is an entry, and the other way round
-pub in_run : (text : ℕ) (entries : List ResolvedUnwindInfo) (plan : PlanList) (p : IsPlanOf text entries plan) (e : ResolvedUnwindInfo) → Contains entries e
-    → Contains p.run e
+pub in_run : (text : ℕ) (entries : List ResolvedUnwindInfo) (plan : PlanList) (p : IsPlanOf text entries plan) (e : ResolvedUnwindInfo)
+    → Contains entries e → Contains p.run e
 in_run text entries plan p e c = Contains-permutation entries p.run e p.same c
 
-pub from_run : (text : ℕ) (entries : List ResolvedUnwindInfo) (plan : PlanList) (p : IsPlanOf text entries plan) (e : ResolvedUnwindInfo) → Contains p.run e
-    → Contains entries e
+pub from_run : (text : ℕ) (entries : List ResolvedUnwindInfo) (plan : PlanList) (p : IsPlanOf text entries plan) (e : ResolvedUnwindInfo)
+    → Contains p.run e → Contains entries e
 from_run text entries plan p e c = Contains-permutation p.run entries e (IsPermutation-sym entries p.run p.same) c
 
 -- what holds of all items holds of one that is there
@@ -61,8 +62,8 @@ pub holds_of : {X : Type 0} (P : X → Type 0) (xs : List X) (x : X) → All P x
 holds_of P xs x all (k, lt, is) = subst P is (all k x lt)
 
 -- two entries of a run with one start are one
-run-distinct : (run : List ResolvedUnwindInfo) (e f : ResolvedUnwindInfo) → AllPairs (λ x y. x.start < y.start) run → Contains run e → Contains run f
-    → e.start ≡ f.start → e ≡ f
+run-distinct : (run : List ResolvedUnwindInfo) (e f : ResolvedUnwindInfo) → AllPairs (λ x y. x.start < y.start) run
+    → Contains run e → Contains run f → e.start ≡ f.start → e ≡ f
 run-distinct run e f rising (i, i_lt, i_is) (j, j_lt, j_is) same =
     let start = λ (x : ResolvedUnwindInfo). x.start in
     let other : get_or run j e ≡ f = get_or_default run j e f j_lt ∙ j_is in
@@ -93,7 +94,8 @@ unmapped f xs d y (k, lt, is) =
     }
 
 -- the row of an entry is there
-pub row-of-entry : (text : ℕ) (entries : List ResolvedUnwindInfo) (plan : PlanList) (p : IsPlanOf text entries plan) (e : ResolvedUnwindInfo)
+pub row-of-entry : (text : ℕ) (entries : List ResolvedUnwindInfo) (plan : PlanList)
+    (p : IsPlanOf text entries plan) (e : ResolvedUnwindInfo)
     → Contains entries e
     → Contains (rows_of plan) (row_from text (ids_of (inputs_of entries)) e)
 row-of-entry text entries plan p e c =
@@ -101,7 +103,8 @@ row-of-entry text entries plan p e c =
     subst (λ (rows : List Row). Contains rows (row e)) (sym p.rows) (mapped row p.run e (in_run text entries plan p e c))
 
 -- a row that is there is that of an entry
-pub entry-of-row : (text : ℕ) (entries : List ResolvedUnwindInfo) (plan : PlanList) (p : IsPlanOf text entries plan) (d : ResolvedUnwindInfo) (row : Row)
+pub entry-of-row : (text : ℕ) (entries : List ResolvedUnwindInfo) (plan : PlanList) (p : IsPlanOf text entries plan)
+    (d : ResolvedUnwindInfo) (row : Row)
     → Contains (rows_of plan) row
     → IsMapped (row_from text (ids_of (inputs_of entries))) entries row
 entry-of-row text entries plan p d row c =
@@ -123,7 +126,8 @@ lsda-listed text run e address (k, lt, is) has =
     })
 
 -- an LSDA of a list that one option gives
-lsda-told : (text start : ℕ) (o : Option ℕ) (k : ℕ) (d : Lsda) → k < length (lsda_at text start o) → (get_or (lsda_at text start o) k d).function ≡ start - text
+lsda-told : (text start : ℕ) (o : Option ℕ) (k : ℕ) (d : Lsda) → k < length (lsda_at text start o)
+    → (get_or (lsda_at text start o) k d).function ≡ start - text
 lsda-told text start None k d lt = absurd (omega arith)
 lsda-told text start (Some address) zero d lt = refl
 lsda-told text start (Some address) (suc k) d lt = absurd (omega arith)
@@ -131,7 +135,8 @@ lsda-told text start (Some address) (suc k) d lt = absurd (omega arith)
 lsda-some : (text start : ℕ) (o : Option ℕ) (k : ℕ) → o ≡ None → k < length (lsda_at text start o) → ⊥
 lsda-some text start o k none lt = absurd (omega (arith, ap (λ (q : Option ℕ). length (lsda_at text start q)) none))
 
-lsda-unlisted : (text : ℕ) (run : List ResolvedUnwindInfo) (e : ResolvedUnwindInfo) → AllPairs (λ x y. x.start < y.start) run → Contains run e
+lsda-unlisted : (text : ℕ) (run : List ResolvedUnwindInfo) (e : ResolvedUnwindInfo)
+    → AllPairs (λ x y. x.start < y.start) run → Contains run e
     → ((f : ResolvedUnwindInfo) → Contains run f → text ≤ f.start) → e.lsda ≡ None
     → All (λ l. l.function ≢ e.start - text) (flat_map (lsda_from text) run)
 lsda-unlisted text run e rising one above none i d lt same =
@@ -147,7 +152,8 @@ lsda-unlisted text run e rising one above none i d lt same =
     let is = run-distinct run f e rising there one start in
     lsda-some text f.start f.lsda at.place (ap (λ (x : ResolvedUnwindInfo). x.lsda) is ∙ none) at.within
 
-lsda-said : (text : ℕ) (run : List ResolvedUnwindInfo) (e : ResolvedUnwindInfo) (o : Option ℕ) → AllPairs (λ x y. x.start < y.start) run → Contains run e
+lsda-said : (text : ℕ) (run : List ResolvedUnwindInfo) (e : ResolvedUnwindInfo) (o : Option ℕ)
+    → AllPairs (λ x y. x.start < y.start) run → Contains run e
     → ((f : ResolvedUnwindInfo) → Contains run f → text ≤ f.start) → e.lsda ≡ o
     → IsLsdaOf (flat_map (lsda_from text) run) (e.start - text) (option_map (λ address. address - text) o)
 lsda-said text run e None rising one above is = lsda-unlisted text run e rising one above is
@@ -159,7 +165,8 @@ pub record HasLast (entries : List ResolvedUnwindInfo) : Type 0 where
   pub one : Contains entries item
   pub last : IsLast entries item
 
-last-of : (text : ℕ) (entries : List ResolvedUnwindInfo) (e : ResolvedUnwindInfo) → AreEntries text entries → Contains entries e → HasLast entries
+last-of : (text : ℕ) (entries : List ResolvedUnwindInfo) (e : ResolvedUnwindInfo) → AreEntries text entries
+    → Contains entries e → HasLast entries
 last-of text entries e are one =
     let top = top-of (λ (x : ResolvedUnwindInfo). x.start) (2 ^ 64) entries e one
     (omega (arith, holds_of (λ (x : ResolvedUnwindInfo). x.start + x.length < 2 ^ 64) entries e are.ends one)) in record {
@@ -169,17 +176,21 @@ last-of text entries e are one =
     }
 
 -- the plan says of an offset what its entry says
-pub said-of-entry : (text : ℕ) (entries : List ResolvedUnwindInfo) (plan : PlanList) (offset : ℕ) (e : ResolvedUnwindInfo) → AreEntries text entries
+pub said-of-entry : (text : ℕ) (entries : List ResolvedUnwindInfo) (plan : PlanList) (offset : ℕ) (e : ResolvedUnwindInfo)
+    → AreEntries text entries
     → IsPlanOf text entries plan → IsEntryOf text entries offset e → PlanSays plan offset (found_for text e)
 said-of-entry text entries plan offset e are p of =
     let ids = ids_of (inputs_of entries) in
     let has = holds_of (HasSlot text ids plan.personalities) entries e p.slots of.one in
     let clear = holds_of (λ (f : ResolvedUnwindInfo). f.encoding / 2 ^ 28 % 4 ≡ 0) entries e are.clear of.one in
     let few = slot-number plan.personalities ids text e.personality p.formed.personalities has in
-    let above : (f : ResolvedUnwindInfo) → Contains entries f → text ≤ f.start = λ f c. holds_of (λ (x : ResolvedUnwindInfo). text ≤ x.start) entries f are.starts c in
+    let above : (f : ResolvedUnwindInfo) → Contains entries f → text ≤ f.start
+    = λ f c. holds_of (λ (x : ResolvedUnwindInfo). text ≤ x.start) entries f are.starts c in
     let end = last-of text entries e are of.one in
-    let ends = holds_of (λ (x : ResolvedUnwindInfo). IsLast entries x → plan.end ≡ x.start + x.length - text) entries end.item p.end end.one end.last in
-    let before = holds_of (λ (x : ResolvedUnwindInfo). IsLast entries x → text + offset < x.start + x.length) entries end.item of.before_end end.one end.last in record {
+    let ends = holds_of (λ (x : ResolvedUnwindInfo). IsLast entries x → plan.end ≡ x.start + x.length - text) entries
+    end.item p.end end.one end.last in
+    let before = holds_of (λ (x : ResolvedUnwindInfo). IsLast entries x → text + offset < x.start + x.length) entries
+    end.item of.before_end end.one end.last in record {
       row = row_from text ids e;
       one = row-of-entry text entries plan p e of.one;
       up_to = omega (arith, of.up_to);
@@ -188,7 +199,9 @@ said-of-entry text entries plan offset e are p of =
           let r : Row = get_or rows k d in
           let m = entry-of-row text entries plan p e r (k, lt, get_or_default rows k r d lt) in
           let start = ap (λ (x : Row). x.start) m.is in
-          omega (arith, start, below, above m.item m.one, holds_of (λ (x : ResolvedUnwindInfo). x.start ≤ text + offset → x.start ≤ e.start) entries m.item of.greatest m.one);
+          let not_greater = holds_of (λ (x : ResolvedUnwindInfo). x.start ≤ text + offset → x.start ≤ e.start) entries
+          m.item of.greatest m.one in
+          omega (arith, start, below, above m.item m.one, not_greater);
       before_end = omega (arith, ends, before);
       start = refl;
       cleared = code-cleared e.encoding (number_in ids (option_map (λ q. q.id) e.personality)) clear few;
@@ -196,5 +209,6 @@ said-of-entry text entries plan offset e are p of =
           (sym (code-bits e.encoding (number_in ids (option_map (λ q. q.id) e.personality)) clear few))
           (slot-named plan.personalities ids text e.personality has);
       lsda = subst (λ (ls : List Lsda). IsLsdaOf ls (e.start - text) (option_map (λ address. address - text) e.lsda)) (sym p.lsdas)
-          (lsda-said text p.run e e.lsda p.rising (in_run text entries plan p e of.one) (λ f c. above f (from_run text entries plan p f c)) refl);
+          (lsda-said text p.run e e.lsda p.rising (in_run text entries plan p e of.one)
+          (λ f c. above f (from_run text entries plan p f c)) refl);
     }

@@ -21,26 +21,30 @@ one_slot-sym None (Some q) h = tt
 one_slot-sym (Some p) None h = tt
 one_slot-sym (Some p) (Some q) h = λ same. sym (h (sym same))
 
+-- entries each of which is fit, and each two of which are apart, meet the conditions of a section
 pub are_entries : (text : ℕ) (entries : List ResolvedUnwindInfo)
     → ((k : ℕ) → k < length entries → IsFit text (get_or entries k no_entry))
     → ((i j : ℕ) → i < j → j < length entries → AreApart (get_or entries i no_entry) (get_or entries j no_entry)) → AreEntries text entries
 are_entries text entries fit apart =
     record {
       distinct = λ i j d lt within same. (apart i j lt within).starts
-          (ap (λ (e : ResolvedUnwindInfo). e.start) (at i d (omega arith)) ∙ same ∙ sym (ap (λ (e : ResolvedUnwindInfo). e.start) (at j d within)));
+          (ap (λ (e : ResolvedUnwindInfo). e.start) (at i d (omega arith)) ∙ same
+          ∙ sym (ap (λ (e : ResolvedUnwindInfo). e.start) (at j d within)));
       starts = λ k d h. subst (λ (e : ResolvedUnwindInfo). text ≤ e.start) (at k d h) (fit k h).start;
       slots = λ k d h. subst (λ (e : ResolvedUnwindInfo). IfSome e.personality (λ p. text ≤ p.slot)) (at k d h) (fit k h).slot;
       lsdas = λ k d h. subst (λ (e : ResolvedUnwindInfo). IfSome e.lsda (λ a. text ≤ a)) (at k d h) (fit k h).lsda;
       ends = λ k d h. subst (λ (e : ResolvedUnwindInfo). e.start + e.length < 2 ^ 64) (at k d h) (fit k h).end;
       alike = λ i d h j e m. subst (λ (f : ResolvedUnwindInfo). HaveOneSlot (get_or entries i d).personality f.personality) (at j e m)
-          (subst (λ (f : ResolvedUnwindInfo). HaveOneSlot f.personality (get_or entries j no_entry).personality) (at i d h) (alike i j h m));
+          (subst (λ (f : ResolvedUnwindInfo). HaveOneSlot f.personality (get_or entries j no_entry).personality)
+          (at i d h) (alike i j h m));
       clear = λ k d h. subst (λ (e : ResolvedUnwindInfo). e.encoding / 2 ^ 28 % 4 ≡ 0) (at k d h) (fit k h).clear;
     }
   where
     at : (k : ℕ) (d : ResolvedUnwindInfo) → k < length entries → get_or entries k no_entry ≡ get_or entries k d
     at k d h = get_or_default entries k no_entry d h
 
-    alike : (i j : ℕ) → i < length entries → j < length entries → HaveOneSlot (get_or entries i no_entry).personality (get_or entries j no_entry).personality
+    alike : (i j : ℕ) → i < length entries → j < length entries
+        → HaveOneSlot (get_or entries i no_entry).personality (get_or entries j no_entry).personality
     alike i j h m =
         elim (cases_lt i j) [
           | inl lt ↦ (apart i j lt m).slots

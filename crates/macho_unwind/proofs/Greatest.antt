@@ -20,7 +20,8 @@ all_both : {X : Type 0} (P : X → Type 0) (x : X) (xs : List X) → P x → All
 all_both P x xs here rest zero d lt = here
 all_both P x xs here rest (suc k) d lt = rest k d (omega arith)
 
-top_here : {X : Type 0} (n : X → ℕ) (bound : ℕ) (x : X) (xs : List X) → n x ≤ bound → All (λ y. n y ≤ bound → n y ≤ n x) xs → IsTop n bound (x ∷ xs)
+top_here : {X : Type 0} (n : X → ℕ) (bound : ℕ) (x : X) (xs : List X) → n x ≤ bound
+    → All (λ y. n y ≤ bound → n y ≤ n x) xs → IsTop n bound (x ∷ xs)
 top_here {X = X} n bound x xs up rest = record {
   item = x;
   one = (0, omega arith, refl);
@@ -28,7 +29,8 @@ top_here {X = X} n bound x xs up rest = record {
   greatest = all_both (λ (y : X). n y ≤ bound → n y ≤ n x) x xs (λ b. omega arith) rest;
 }
 
-top_later : {X : Type 0} (n : X → ℕ) (bound : ℕ) (x : X) (xs : List X) (t : IsTop n bound xs) → (n x ≤ bound → n x ≤ n t.item) → IsTop n bound (x ∷ xs)
+top_later : {X : Type 0} (n : X → ℕ) (bound : ℕ) (x : X) (xs : List X) (t : IsTop n bound xs)
+    → (n x ≤ bound → n x ≤ n t.item) → IsTop n bound (x ∷ xs)
 top_later {X = X} n bound x xs t here = record {
   item = t.item;
   one = (suc t.one.0, omega (arith, t.one.1), t.one.2);
@@ -53,6 +55,7 @@ top_or_above {X = X} n bound (x ∷ xs) =
       ]
     ]
 
+-- where an item is not above the bound, there is a greatest such one
 pub top-of : {X : Type 0} (n : X → ℕ) (bound : ℕ) (xs : List X) (x : X) → Contains xs x → n x ≤ bound → IsTop n bound xs
 top-of n bound xs x (k, lt, is) up =
     elim (top_or_above n bound xs) [

@@ -12,8 +12,9 @@ pub record IsPutUpTo (before now text : List ℕ) (at : ℕ) : Type 0 where
   pub is : now ≡ put 0 text before
   pub long : length text ≡ at
 
-pub put_next : (before now after text more : List ℕ) (at to : ℕ) → IsPutUpTo before now text at → after ≡ put at more now → to ≡ at + length more
-    → to ≤ length before
+-- a text put where the last one ends makes one text with it, which ends behind both
+pub put_next : (before now after text more : List ℕ) (at to : ℕ) → IsPutUpTo before now text at
+    → after ≡ put at more now → to ≡ at + length more → to ≤ length before
     → IsPutUpTo before after (text ++ more) to
 put_next before now after text more at to so_far written ends room = record {
   is = written ∙ ap (put at more) so_far.is ∙ put-put 0 at text more before (omega (arith, so_far.long)) (omega (arith, ends, room));
@@ -26,6 +27,7 @@ unfolding put
 put_all text bytes same =
     ap (λ (n : ℕ). text ++ drop n bytes) (omega (arith, same)) ∙ ap (λ (t : List ℕ). text ++ t) (drop-length bytes) ∙ append-nil text
 
+-- the first bytes of what was written back are the text, where it has the length of what stood there
 pub written_back : (text old now : List ℕ) (count : ℕ) → now ≡ text → length text ≡ length old → count ≡ length old
     → take count (now ++ drop (length now) old) ≡ text
 written_back text old now count is same long =

@@ -17,43 +17,59 @@ use Rattle.macho_unwind_pages.specs.Plans.{PageList, PlanList, page_size, size_o
 use Rattle.macho_unwind.specs.Layouts.{compact_unwind_info_header, page_entry, compressed_page, lsda_entry}
 use Rattle.macho_unwind.specs.Texts.{header_for, entry_for, entry_text, last_entry_for, lsda_for, lsda_text, head_for, page_text, section_text}
 
+-- the header has 28 bytes
 pub length-header_text : (plan : PlanList) → length (spelling compact_unwind_info_header (header_for plan)) ≡ 28
 length-header_text plan = length-spelling compact_unwind_info_header (header_for plan) little_is_sound (refl, tt)
 
+-- the entry of a page has 12 bytes
 pub length-entry_text : (plan : PlanList) (k : ℕ) → length (entry_text plan k) ≡ 12
 length-entry_text plan k = length-spelling page_entry (entry_for plan k) little_is_sound (refl, tt)
 
+-- the last entry has 12 bytes
 pub length-last_entry_text : (plan : PlanList) → length (spelling page_entry (last_entry_for plan)) ≡ 12
 length-last_entry_text plan = length-spelling page_entry (last_entry_for plan) little_is_sound (refl, tt)
 
+-- an LSDA entry has 8 bytes
 pub length-lsda_text : (l : Lsda) → length (lsda_text l) ≡ 8
 length-lsda_text l = length-spelling lsda_entry (lsda_for l) little_is_sound (refl, tt)
 
+-- the head of a page has 12 bytes
 pub length-head_text : (page : PageList) → length (spelling compressed_page (head_for page)) ≡ 12
 length-head_text page = length-spelling compressed_page (head_for page) little_is_sound (refl, (refl, tt))
 
+-- a page's text is as long as its size says
 pub length-page_text : (page : PageList) → length (page_text page) ≡ page_size page
 unfolding page_text
 length-page_text page =
     let words = length-row_little 4 page.words in
     let locals = length-row_little 4 page.locals in
     let front = length-append (spelling compressed_page (head_for page)) (row_bytes little 4 page.words) in
-    let whole = length-append (spelling compressed_page (head_for page) ++ row_bytes little 4 page.words) (row_bytes little 4 page.locals) in
+    let whole = length-append (spelling compressed_page (head_for page) ++ row_bytes little 4 page.words)
+    (row_bytes little 4 page.locals) in
     omega (arith, words, locals, front, whole, length-head_text page)
 
 -- the tables
 pub length-entries : (plan : PlanList) (n : ℕ) → length (flat_map (entry_text plan) (range_with_len 0 n)) ≡ 12 * n
 length-entries plan n =
-    length-table (entry_text plan) 12 (range_with_len 0 n) (record { long = λ k d h. length-entry_text plan (get_or (range_with_len 0 n) k d) })
+    length-table (entry_text plan) 12 (range_with_len 0 n)
+    (record { long = λ k d h. length-entry_text plan (get_or (range_with_len 0 n) k d) })
     ∙ ap (λ (m : ℕ). 12 * m) (length-range_with_len 0 n)
 
+-- LSDA entries have 8 bytes each
 pub length-lsdas : (lsdas : List Lsda) → length (flat_map lsda_text lsdas) ≡ 8 * length lsdas
 length-lsdas lsdas = length-table lsda_text 8 lsdas (record { long = λ k d h. length-lsda_text (get_or lsdas k d) })
 
+-- the texts of pages are as long as the sum of their sizes
 pub length-pages : (pages : List PageList) → length (flat_map page_text pages) ≡ sum_by page_size pages
 length-pages [] = refl
 length-pages (p ∷ pages) =
-    omega (arith, length-append (page_text p) (flat_map page_text pages), length-page_text p, sum_by-cons page_size p pages, length-pages pages)
+    omega (
+      arith,
+      length-append (page_text p) (flat_map page_text pages),
+      length-page_text p,
+      sum_by-cons page_size p pages,
+      length-pages pages,
+    )
 
 -- the section has the bytes that its plan says
 pub length-section : (plan : PlanList) → length (section_text plan) ≡ size_of plan

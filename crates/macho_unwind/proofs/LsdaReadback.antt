@@ -62,7 +62,8 @@ range-inner bytes plan k formed places s lt =
         let counted = count-rising (λ (l : Lsda). l.function) (page_of plan k).first plan.lsdas formed.lsda_order i no_lsda h in
         elim (cases_lt i (before plan k)) [ inl lt ↦ absurd (omega (arith, counted.below lt)) | inr le ↦ le ]
 
-    to_here : (i : ℕ) → i < length plan.lsdas → (get_or plan.lsdas i no_lsda).function < (page_of plan (k + 1)).first → i < before plan (k + 1)
+    to_here : (i : ℕ) → i < length plan.lsdas → (get_or plan.lsdas i no_lsda).function < (page_of plan (k + 1)).first
+        → i < before plan (k + 1)
     to_here i h below =
         let counted = count-rising (λ (l : Lsda). l.function) (page_of plan (k + 1)).first plan.lsdas formed.lsda_order i no_lsda h in
         elim (cases_lt i (before plan (k + 1))) [ inl lt ↦ lt | inr le ↦ absurd (omega (arith, counted.above le)) ]
@@ -71,7 +72,8 @@ range-last : (bytes : List ℕ) (plan : PlanList) (k : ℕ) → IsPlan plan → 
     → IsRange bytes plan k (before plan k) (length plan.lsdas)
 range-last bytes plan k formed places s is =
     let begins = ap (λ (e : PageEntry). e.lsda_index_offset) (entry-read bytes plan k formed places s (omega arith)) in
-    let ends = ap (λ (m : ℕ). (entry_at bytes m).lsda_index_offset) is ∙ ap (λ (e : PageEntry). e.lsda_index_offset) (last-read bytes plan formed places s) in record {
+    let ends = ap (λ (m : ℕ). (entry_at bytes m).lsda_index_offset) is
+    ∙ ap (λ (e : PageEntry). e.lsda_index_offset) (last-read bytes plan formed places s) in record {
       begins = begins;
       count = count-between bytes plan k (before plan k) (length plan.lsdas) begins ends;
       within = omega arith;
@@ -89,6 +91,7 @@ pub record HasRange (bytes : List ℕ) (plan : PlanList) (k : ℕ) : Type 0 wher
   pub to : ℕ
   pub is : IsRange bytes plan k from to
 
+-- each page has a range: up to the next page, or to the last LSDA where there is none
 pub range-of : (bytes : List ℕ) (plan : PlanList) (k : ℕ) → IsPlan plan → HasPlaces plan → PlanStands bytes plan → k < length plan.pages
     → HasRange bytes plan k
 range-of bytes plan k formed places s lt =
@@ -130,4 +133,5 @@ page-whole bytes plan k formed places s lt =
       entries = omega (arith, place, range.is.count, within);
     } in
     subst (λ (e : PageEntry). IsWholePage bytes e (page_at bytes k) (lsda_count bytes k)) (sym (entry-read bytes plan k formed places s lt))
-    (subst (λ (h : CompressedPage). IsWholePage bytes (entry_for plan k) h (lsda_count bytes k)) (sym (head-read bytes plan k formed places s lt)) given)
+    (subst (λ (h : CompressedPage). IsWholePage bytes (entry_for plan k) h (lsda_count bytes k))
+    (sym (head-read bytes plan k formed places s lt)) given)

@@ -37,6 +37,7 @@ pub listed : (pages : List Page) (i : ℕ) (p : Page) (d : PageList) → i < len
     → page_list p ≡ get_or (map page_list pages) i d
 listed pages i p d h is = ap page_list is ∙ sym (get_or-map page_list pages i p d h)
 
+-- a page of a plan is formed, by its mirror
 pub page_formed : (plan : Plan) (i : ℕ) (p : Page) → IsPlan (plan_list plan) → i < length plan.pages.items → p ≡ get_or plan.pages.items i p
     → IsPage plan.globals.items (page_list p)
 page_formed plan i p formed h is =
@@ -44,16 +45,18 @@ page_formed plan i p formed h is =
     let here = formed.pages i blank (omega (arith, length-map plan.pages.items page_list)) in
     subst (λ (q : PageList). IsPage plan.globals.items q) (sym (listed plan.pages.items i p blank h is)) here
 
+-- the next page's place is behind the page
 pub place_more : (plan : Plan) (i : ℕ) (p : Page) → i < length plan.pages.items → p ≡ get_or plan.pages.items i p
     → page_place (plan_list plan) (i + 1) ≡ page_place (plan_list plan) i + page_size (page_list p)
 place_more plan i p h is =
-    let more = sum_by_more page_size (map page_list plan.pages.items) i (page_list p) (omega (arith, length-map plan.pages.items page_list)) in
+    let more = sum_by_more page_size (map page_list plan.pages.items) i (page_list p)
+    (omega (arith, length-map plan.pages.items page_list)) in
     omega (arith, more, ap page_size (listed plan.pages.items i p (page_list p) h is))
 
 -- the entry of a page, from what is known where it is written
 pub entry_is : (plan : Plan) (i : ℕ) (p : Page) (place lsdas before : ℕ) (items : List Lsda) → i < length plan.pages.items
-    → p ≡ get_or plan.pages.items i p → place ≡ page_place (plan_list plan) i → lsdas ≡ lsdas_place (plan_list plan) → items ≡ plan.lsdas.items
-    → before ≡ count_by (λ l. nat_lt l.function p.first) items
+    → p ≡ get_or plan.pages.items i p → place ≡ page_place (plan_list plan) i → lsdas ≡ lsdas_place (plan_list plan)
+    → items ≡ plan.lsdas.items → before ≡ count_by (λ l. nat_lt l.function p.first) items
     → entry_of p.first place (lsdas + 8 * before) ≡ entry_for (plan_list plan) i
 entry_is plan i p place lsdas before items h is place_is lsdas_is items_is before_is =
     let first = ap (λ (q : PageList). q.first) (listed plan.pages.items i p (record { first = 0; words = []; locals = [] }) h is) in
@@ -67,8 +70,14 @@ entry_is plan i p place lsdas before items h is place_is lsdas_is items_is befor
 pub sum-listed : (pages : List Page) → sum_by (λ p. page_size (page_list p)) pages ≡ sum_by page_size (map page_list pages)
 sum-listed [] = refl
 sum-listed (p ∷ pages) =
-    omega (arith, sum_by-cons (λ (q : Page). page_size (page_list q)) p pages, sum_by-cons page_size (page_list p) (map page_list pages), sum-listed pages)
+    omega (
+      arith,
+      sum_by-cons (λ (q : Page). page_size (page_list q)) p pages,
+      sum_by-cons page_size (page_list p) (map page_list pages),
+      sum-listed pages,
+    )
 
+-- the texts of pages are those of their mirrors
 pub texts-listed : (pages : List Page) → flat_map (λ p. page_text (page_list p)) pages ≡ flat_map page_text (map page_list pages)
 texts-listed [] = refl
 texts-listed (p ∷ pages) = ap (λ (t : List ℕ). page_text (page_list p) ++ t) (texts-listed pages)
@@ -77,4 +86,5 @@ texts-listed (p ∷ pages) = ap (λ (t : List ℕ). page_text (page_list p) ++ t
 pub pages_short : (plan : Plan) → IsPlan (plan_list plan) → (k : ℕ) (d : Page) → k < length plan.pages.items
     → length (get_or plan.pages.items k d).words.items + length (get_or plan.pages.items k d).locals.items < 2 ^ 10
 pages_short plan formed k d h =
-    omega (arith, (page_formed plan k (get_or plan.pages.items k d) formed h (get_or_default plan.pages.items k d (get_or plan.pages.items k d) h)).room)
+    let page = get_or plan.pages.items k d in
+    omega (arith, (page_formed plan k page formed h (get_or_default plan.pages.items k d page h)).room)

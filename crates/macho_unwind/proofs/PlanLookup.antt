@@ -35,12 +35,14 @@ pub record IsGiven (bytes : List ℕ) (plan : PlanList) : Type 0 where
 last-is : (bytes : List ℕ) (plan : PlanList) → IsGiven bytes plan → last_entry bytes ≡ length plan.pages
 last-is bytes plan g = ap (λ (h : CompactUnwindInfoHeader). h.pages_len - 1) (header-read bytes plan g.places g.stands) ∙ omega arith
 
-first-is : (bytes : List ℕ) (plan : PlanList) (k : ℕ) → IsGiven bytes plan → k < length plan.pages → first_at bytes k ≡ (page_of plan k).first
+first-is : (bytes : List ℕ) (plan : PlanList) (k : ℕ) → IsGiven bytes plan → k < length plan.pages
+    → first_at bytes k ≡ (page_of plan k).first
 first-is bytes plan k g lt = ap (λ (e : PageEntry). e.first_address) (entry-read bytes plan k g.formed g.places g.stands lt)
 
 end-is : (bytes : List ℕ) (plan : PlanList) → IsGiven bytes plan → first_at bytes (last_entry bytes) ≡ plan.end
 end-is bytes plan g =
-    ap (λ (k : ℕ). first_at bytes k) (last-is bytes plan g) ∙ ap (λ (e : PageEntry). e.first_address) (last-read bytes plan g.formed g.places g.stands)
+    ap (λ (k : ℕ). first_at bytes k) (last-is bytes plan g)
+    ∙ ap (λ (e : PageEntry). e.first_address) (last-read bytes plan g.formed g.places g.stands)
 
 functions-are : (bytes : List ℕ) (plan : PlanList) (k : ℕ) → IsGiven bytes plan → k < length plan.pages
     → (page_at bytes k).functions_len ≡ length (page_of plan k).words
@@ -57,7 +59,8 @@ abbrev pub IsMost : PlanList → ℕ → ℕ → Type 0
 IsMost plan offset start =
     (k j : ℕ) → k < length plan.pages → j < length (page_of plan k).words → start_of plan k j ≤ offset → start_of plan k j ≤ start
 
-page-chosen : (bytes : List ℕ) (plan : PlanList) (offset k j : ℕ) → IsGiven bytes plan → k < length plan.pages → j < length (page_of plan k).words
+page-chosen : (bytes : List ℕ) (plan : PlanList) (offset k j : ℕ) → IsGiven bytes plan → k < length plan.pages
+    → j < length (page_of plan k).words
     → start_of plan k j ≤ offset → IsMost plan offset (start_of plan k j) → IsGreatestUpTo offset (last_entry bytes) (first_at bytes) k
 page-chosen bytes plan offset k j g lt there up_to most =
     record {
@@ -94,7 +97,8 @@ page-chosen bytes plan offset k j g lt there up_to most =
           | inr le ↦ le
         ]
 
-function-chosen : (bytes : List ℕ) (plan : PlanList) (offset k j : ℕ) → IsGiven bytes plan → k < length plan.pages → j < length (page_of plan k).words
+function-chosen : (bytes : List ℕ) (plan : PlanList) (offset k j : ℕ) → IsGiven bytes plan → k < length plan.pages
+    → j < length (page_of plan k).words
     → start_of plan k j ≤ offset → IsMost plan offset (start_of plan k j) → IsFunctionOf bytes k offset j
 function-chosen bytes plan offset k j g lt there up_to most =
     record {
@@ -168,7 +172,8 @@ lsda-there bytes plan k start lsda g lt inside (i, within, is) = (
     earlier : (m : ℕ) → m < i - range.from → (lsda_at bytes k m).function_offset < (get_or plan.lsdas i no_lsda).function
     earlier m less =
         let there : range.from + m < length plan.lsdas = omega arith in
-        let read = ap (λ (e : LsdaEntry). e.function_offset) (lsda-read bytes plan k range.from range.to m g.formed g.stands range.is there) in
+        let read = ap (λ (e : LsdaEntry). e.function_offset)
+        (lsda-read bytes plan k range.from range.to m g.formed g.stands range.is there) in
         omega (arith, read, g.formed.lsda_order (range.from + m) i no_lsda (omega arith) within)
 
 lsda-absent : (bytes : List ℕ) (plan : PlanList) (k start : ℕ) → IsGiven bytes plan → k < length plan.pages
@@ -180,8 +185,8 @@ lsda-absent bytes plan k start g lt none j less same =
     let read = ap (λ (e : LsdaEntry). e.function_offset) (lsda-read bytes plan k range.from range.to j g.formed g.stands range.is there) in
     none (range.from + j) no_lsda there (sym read ∙ same)
 
-lsda-found : (bytes : List ℕ) (plan : PlanList) (k start : ℕ) (x : Option ℕ) → IsGiven bytes plan → k < length plan.pages → IsInPage plan k start
-    → IsLsdaOf plan.lsdas start x → HasLsda bytes k start x
+lsda-found : (bytes : List ℕ) (plan : PlanList) (k start : ℕ) (x : Option ℕ) → IsGiven bytes plan
+    → k < length plan.pages → IsInPage plan k start → IsLsdaOf plan.lsdas start x → HasLsda bytes k start x
 lsda-found bytes plan k start None g lt inside is = lsda-absent bytes plan k start g lt is
 lsda-found bytes plan k start (Some lsda) g lt inside is = lsda-there bytes plan k start lsda g lt inside is
 
@@ -192,7 +197,9 @@ found-where-said bytes plan offset x g says =
     let at = row_there plan says.row says.one in
     let start : start_of plan at.page at.word ≡ says.row.start = ap (λ (r : Row). r.start) at.is in
     let most : IsMost plan offset (start_of plan at.page at.word) =
-    λ k j one there below. omega (arith, start, at_row plan (λ (r : Row). r.start ≤ offset → r.start ≤ says.row.start) says.greatest k j one there below) in
+    λ k j one there below.
+    let not_greater = at_row plan (λ (r : Row). r.start ≤ offset → r.start ≤ says.row.start) says.greatest k j one there below in
+    omega (arith, start, not_greater) in
     let up_to : start_of plan at.page at.word ≤ offset = omega (arith, start, says.up_to) in
     let word = word-read bytes plan at.page at.word g.formed g.places g.stands at.one at.there in
     let told = encoding-read bytes plan at.page (index_in (word_of plan at.page at.word)) g.formed g.places g.stands at.one
@@ -227,6 +234,7 @@ pub record IsCovered (plan : PlanList) (offset : ℕ) : Type 0 where
   pub one : Contains (rows_of plan) row
   pub up_to : row.start ≤ offset
 
+-- where look-up finds something, the plan covers the offset
 pub covered-where-found : (bytes : List ℕ) (plan : PlanList) (offset : ℕ) (x : Found) → IsGiven bytes plan → UnwindFinds bytes offset x
     → IsCovered plan offset
 covered-where-found bytes plan offset x g finds =

@@ -24,6 +24,7 @@ word_of plan k j = slice_index (page_of plan k).words j
 abbrev pub row_for : PlanList → ℕ → ℕ → Row
 row_for plan k j = row_of plan.globals (page_of plan k) (word_of plan k j)
 
+-- the start of a row, by its page and word
 abbrev pub start_of : PlanList → ℕ → ℕ → ℕ
 start_of plan k j = (page_of plan k).first + offset_in (word_of plan k j)
 
@@ -35,10 +36,12 @@ pub record IsRowAt (plan : PlanList) (row : Row) : Type 0 where
   pub there : word < length (page_of plan page).words
   pub is : row_for plan page word ≡ row
 
+-- each row of a plan stands at a page and word
 pub row_there : (plan : PlanList) (row : Row) → Contains (rows_of plan) row → IsRowAt plan row
 row_there plan row c =
     let i = found_in (page_rows plan.globals) plan.pages no_page row c in
-    let there : i.place < length (page_of plan i.item).words = omega (arith, i.within, length-map (page_of plan i.item).words (row_of plan.globals (page_of plan i.item))) in
+    let there : i.place < length (page_of plan i.item).words
+    = omega (arith, i.within, length-map (page_of plan i.item).words (row_of plan.globals (page_of plan i.item))) in
     record {
       page = i.item;
       word = i.place;
@@ -47,7 +50,9 @@ row_there plan row c =
       is = sym (get_or-map (row_of plan.globals (page_of plan i.item)) (page_of plan i.item).words i.place 0 row there) ∙ i.is;
     }
 
-pub row_in : (plan : PlanList) (k j : ℕ) → k < length plan.pages → j < length (page_of plan k).words → Contains (rows_of plan) (row_for plan k j)
+-- the row of a word is one of the plan
+pub row_in : (plan : PlanList) (k j : ℕ) → k < length plan.pages → j < length (page_of plan k).words
+    → Contains (rows_of plan) (row_for plan k j)
 row_in plan k j one there =
     found_from (page_rows plan.globals) plan.pages no_page (row_for plan k j) (record {
       item = k;
@@ -58,8 +63,8 @@ row_in plan k j one there =
     })
 
 -- what holds of all rows holds of the row of a word
-pub at_row : (plan : PlanList) (P : Row → Type 0) → ((i : ℕ) (d : Row) → i < length (rows_of plan) → P (get_or (rows_of plan) i d)) → (k j : ℕ)
-    → k < length plan.pages
+pub at_row : (plan : PlanList) (P : Row → Type 0) → ((i : ℕ) (d : Row) → i < length (rows_of plan) → P (get_or (rows_of plan) i d))
+    → (k j : ℕ) → k < length plan.pages
     → j < length (page_of plan k).words → P (row_for plan k j)
 at_row plan P all k j one there =
     let c = row_in plan k j one there in
@@ -80,6 +85,11 @@ pub first_start : (plan : PlanList) (k : ℕ) → IsPlan plan → k < length pla
 first_start plan k formed lt = omega (arith, (formed_at plan k formed lt).first)
 
 -- a later page begins later
-pub firsts_rise : (plan : PlanList) (k m : ℕ) → IsPlan plan → k < m → m < length plan.pages → (page_of plan k).first < (page_of plan m).first
+pub firsts_rise : (plan : PlanList) (k m : ℕ) → IsPlan plan → k < m → m < length plan.pages
+    → (page_of plan k).first < (page_of plan m).first
 firsts_rise plan k m formed less lt =
-    omega (arith, first_start plan k formed (omega arith), pages_rise plan k m 0 formed less lt (formed_at plan k formed (omega arith)).some)
+    omega (
+      arith,
+      first_start plan k formed (omega arith),
+      pages_rise plan k m 0 formed less lt (formed_at plan k formed (omega arith)).some,
+    )

@@ -38,6 +38,7 @@ place-fits plan k places lt = omega (arith, place-grows plan k (length plan.page
 tables-fit : (plan : PlanList) → HasPlaces plan → pages_place plan < 2 ^ 32
 tables-fit plan places = omega (arith, place-fits plan 0 places (omega (arith, places.some)))
 
+-- the LSDAs of a start begin in the table or where it ends, so not behind the first page's place
 pub lsda_place-within : (plan : PlanList) (start : ℕ) → lsda_place plan start ≤ pages_place plan
 lsda_place-within plan start = omega (arith, count_by-le-length (λ (l : Lsda). nat_lt l.function start) plan.lsdas)
 
@@ -54,13 +55,15 @@ entry-place : (bytes : List ℕ) (plan : PlanList) (k : ℕ) → header_of bytes
 unfolding entry_at
 entry-place bytes plan k header = ap (λ (h : CompactUnwindInfoHeader). reading page_entry bytes (h.pages_offset + 12 * k)) header
 
+-- the entry of a page is read back
 pub entry-read : (bytes : List ℕ) (plan : PlanList) (k : ℕ) → IsPlan plan → HasPlaces plan → PlanStands bytes plan → k < length plan.pages
     → entry_at bytes k ≡ entry_for plan k
 entry-read bytes plan k formed places s lt =
     let range = range_with_len 0 (length plan.pages) in
     let within : k < length range = omega (arith, length-range_with_len 0 (length plan.pages)) in
     let number : get_or range k 0 ≡ k = omega (arith, get_or-range_with_len 0 (length plan.pages) k 0 lt) in
-    let stands = table-stands (entry_text plan) 12 range (entries_place plan) k 0 bytes (record { long = λ j d h. length-entry_text plan (get_or range j d) }) within s.entries in
+    let stands = table-stands (entry_text plan) 12 range (entries_place plan) k 0 bytes
+    (record { long = λ j d h. length-entry_text plan (get_or range j d) }) within s.entries in
     let here = subst (λ (n : ℕ). Stands bytes (record { at = entries_place plan + 12 * k; text = entry_text plan n })) number stands in
     let fits = tables-fit plan places in
     let place = place-fits plan k places lt in
@@ -70,6 +73,7 @@ entry-read bytes plan k formed places s lt =
     ∙ reading-stands_little page_entry (entry_for plan k) bytes (entries_place plan + 12 * k) refl
     (((omega arith, (omega arith, (omega arith, tt))), refl), tt) refl here
 
+-- the last entry is read back, behind those of the pages
 pub last-read : (bytes : List ℕ) (plan : PlanList) → IsPlan plan → HasPlaces plan → PlanStands bytes plan
     → entry_at bytes (length plan.pages) ≡ last_entry_for plan
 last-read bytes plan formed places s =
@@ -85,6 +89,7 @@ page-here bytes plan k s lt =
     page-parts bytes (page_place plan k) (page_of plan k)
     (page-stands plan.pages bytes (pages_place plan) k (record { first = 0; words = []; locals = [] }) lt s.pages)
 
+-- the head of a page is read back
 pub head-read : (bytes : List ℕ) (plan : PlanList) (k : ℕ) → IsPlan plan → HasPlaces plan → PlanStands bytes plan → k < length plan.pages
     → page_at bytes k ≡ head_for (page_of plan k)
 unfolding page_at
@@ -92,16 +97,21 @@ head-read bytes plan k formed places s lt =
     let room = (formed_at plan k formed lt).room in
     ap (λ (e : PageEntry). reading compressed_page bytes e.page_offset) (entry-read bytes plan k formed places s lt)
     ∙ reading-stands_little compressed_page (head_for (page_of plan k)) bytes (page_place plan k) refl
-    (((omega arith, tt), refl), (((omega arith, (omega arith, (omega arith, (omega arith, tt)))), refl), tt)) refl (page-here bytes plan k s lt).head
+    (((omega arith, tt), refl), (((omega arith, (omega arith, (omega arith, (omega arith, tt)))), refl), tt)) refl
+    (page-here bytes plan k s lt).head
 
+-- each word of a page is read back
 pub word-read : (bytes : List ℕ) (plan : PlanList) (k j : ℕ) → IsPlan plan → HasPlaces plan → PlanStands bytes plan → k < length plan.pages
     → j < length (page_of plan k).words
     → word_at bytes k j ≡ slice_index (page_of plan k).words j
 unfolding word_at
 word-read bytes plan k j formed places s lt within =
-    ap (λ (e : PageEntry). le_at 4 bytes (e.page_offset + (page_at bytes k).functions_offset + 4 * j)) (entry-read bytes plan k formed places s lt)
-    ∙ ap (λ (h : CompressedPage). le_at 4 bytes (page_place plan k + h.functions_offset + 4 * j)) (head-read bytes plan k formed places s lt)
-    ∙ word-stands (page_of plan k).words bytes (page_place plan k + 12) j within ((formed_at plan k formed lt).words j 0 within) (page-here bytes plan k s lt).words
+    ap (λ (e : PageEntry). le_at 4 bytes (e.page_offset + (page_at bytes k).functions_offset + 4 * j))
+    (entry-read bytes plan k formed places s lt)
+    ∙ ap (λ (h : CompressedPage). le_at 4 bytes (page_place plan k + h.functions_offset + 4 * j))
+    (head-read bytes plan k formed places s lt)
+    ∙ word-stands (page_of plan k).words bytes (page_place plan k + 12) j within
+    ((formed_at plan k formed lt).words j 0 within) (page-here bytes plan k s lt).words
 
 -- the encoding of a number, by the records that tell where encodings are
 abbrev encoding_by : List ℕ → CompactUnwindInfoHeader → PageEntry → CompressedPage → ℕ → Option ℕ
@@ -111,12 +121,14 @@ encoding_by bytes h e p i =
     then Some (le_at 4 bytes (e.page_offset + p.local_opcodes_offset + 4 * (i - h.global_opcodes_len)))
     else None
 
-encoding-told : (bytes : List ℕ) (k i : ℕ) → encoding_at bytes k i ≡ encoding_by bytes (header_of bytes) (entry_at bytes k) (page_at bytes k) i
+encoding-told : (bytes : List ℕ) (k i : ℕ)
+    → encoding_at bytes k i ≡ encoding_by bytes (header_of bytes) (entry_at bytes k) (page_at bytes k) i
 unfolding encoding_at
 encoding-told bytes k i = refl
 
 encoding-shared : (bytes : List ℕ) (plan : PlanList) (k i : ℕ) → IsPlan plan → PlanStands bytes plan → i < length plan.globals
-    → encoding_by bytes (header_for plan) (entry_for plan k) (head_for (page_of plan k)) i ≡ Some (slice_index (plan.globals ++ (page_of plan k).locals) i)
+    → encoding_by bytes (header_for plan) (entry_for plan k) (head_for (page_of plan k)) i
+    ≡ Some (slice_index (plan.globals ++ (page_of plan k).locals) i)
 encoding-shared bytes plan k i formed s lt =
     let test : nat_lt i (length plan.globals) ≡ true = grind (arith, nat_tests) in
     rw test (ap Some (word-stands plan.globals bytes 28 i lt (formed.codes i 0 lt) s.globals
@@ -124,7 +136,8 @@ encoding-shared bytes plan k i formed s lt =
 
 encoding-own : (bytes : List ℕ) (plan : PlanList) (k i : ℕ) → IsPlan plan → PlanStands bytes plan → k < length plan.pages
     → length plan.globals ≤ i → i < length plan.globals + length (page_of plan k).locals
-    → encoding_by bytes (header_for plan) (entry_for plan k) (head_for (page_of plan k)) i ≡ Some (slice_index (plan.globals ++ (page_of plan k).locals) i)
+    → encoding_by bytes (header_for plan) (entry_for plan k) (head_for (page_of plan k)) i
+    ≡ Some (slice_index (plan.globals ++ (page_of plan k).locals) i)
 encoding-own bytes plan k i formed s lt past within =
     let none : nat_lt i (length plan.globals) ≡ false = grind (arith, nat_tests) in
     let test : nat_lt (i - length plan.globals) (length (page_of plan k).locals) ≡ true = grind (arith, nat_tests) in
@@ -134,8 +147,9 @@ encoding-own bytes plan k i formed s lt past within =
     ((formed_at plan k formed lt).codes (i - length plan.globals) 0 own) (page-here bytes plan k s lt).locals
     ∙ sym (get_or-append_right plan.globals (page_of plan k).locals (length plan.globals) i 0 refl past)))
 
-pub encoding-read : (bytes : List ℕ) (plan : PlanList) (k i : ℕ) → IsPlan plan → HasPlaces plan → PlanStands bytes plan → k < length plan.pages
-    → i < length plan.globals + length (page_of plan k).locals
+-- the encoding of each number of a page is read back: of all pages first, then of the page alone
+pub encoding-read : (bytes : List ℕ) (plan : PlanList) (k i : ℕ) → IsPlan plan → HasPlaces plan
+    → PlanStands bytes plan → k < length plan.pages → i < length plan.globals + length (page_of plan k).locals
     → encoding_at bytes k i ≡ Some (slice_index (plan.globals ++ (page_of plan k).locals) i)
 encoding-read bytes plan k i formed places s lt within =
     let told = encoding-told bytes k i
@@ -147,6 +161,7 @@ encoding-read bytes plan k i formed places s lt within =
       | inr past ↦ told ∙ encoding-own bytes plan k i formed s lt past within
     ]
 
+-- the slot of each personality's number is read back
 pub personality-read : (bytes : List ℕ) (plan : PlanList) (n : ℕ) → IsPlan plan → HasPlaces plan → PlanStands bytes plan → 1 ≤ n
     → n ≤ length plan.personalities
     → personality_at bytes n ≡ slice_index plan.personalities (n - 1)
@@ -156,12 +171,15 @@ personality-read bytes plan n formed places s one within =
     ap (λ (h : CompactUnwindInfoHeader). le_at 4 bytes (h.personalities_offset + 4 * (n - 1))) (header-read bytes plan places s)
     ∙ word-stands plan.personalities bytes (personalities_place plan) (n - 1) lt (formed.slots (n - 1) 0 lt) s.personalities
 
+-- the tables that the header tells of are whole
 pub tables-read : (bytes : List ℕ) (plan : PlanList) → HasPlaces plan → PlanStands bytes plan → HasTables bytes
 tables-read bytes plan places s =
     let header = sym (header-read bytes plan places s) in
     let whole = s.whole in record {
       header = omega arith;
-      encodings = subst (λ (h : CompactUnwindInfoHeader). h.global_opcodes_offset + 4 * h.global_opcodes_len ≤ length bytes) header (omega arith);
-      personalities = subst (λ (h : CompactUnwindInfoHeader). h.personalities_offset + 4 * h.personalities_len ≤ length bytes) header (omega arith);
+      encodings = subst (λ (h : CompactUnwindInfoHeader). h.global_opcodes_offset + 4 * h.global_opcodes_len ≤ length bytes)
+          header (omega arith);
+      personalities = subst (λ (h : CompactUnwindInfoHeader). h.personalities_offset + 4 * h.personalities_len ≤ length bytes)
+          header (omega arith);
       pages = subst (λ (h : CompactUnwindInfoHeader). h.pages_offset + 12 * h.pages_len ≤ length bytes) header (omega arith);
     }

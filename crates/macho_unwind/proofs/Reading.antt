@@ -14,7 +14,9 @@ pub record IsRead {R : Type 0} (l : Layout R) (bytes : List ℕ) (at : ℕ) (r :
   pub whole : at + size_of l ≤ length bytes
   pub is : r ≡ reading l bytes at
 
-pub page_is_read : (bytes : List ℕ) (at : ℕ) (r : CompressedPage) → Some r ≡ read_of compressed_page bytes at → IsRead compressed_page bytes at r
+-- the head of a page that was read is that of the bytes, and stands whole
+pub page_is_read : (bytes : List ℕ) (at : ℕ) (r : CompressedPage) → Some r ≡ read_of compressed_page bytes at
+    → IsRead compressed_page bytes at r
 page_is_read bytes at r e = record { whole = search rules; is = search rules }
 
 -- the page of an entry that was read
@@ -39,6 +41,7 @@ page_whole bytes k entry head lsdas entry_is head_is lsdas_is whole =
     (subst (λ (h : CompressedPage). IsWholePage bytes (entry_at bytes k) h lsdas) head_is
     (subst (λ (e : PageEntry). IsWholePage bytes e head lsdas) entry_is whole))
 
+-- a page that the bytes have whole is whole by the records that were read
 pub page_was_whole : (bytes : List ℕ) (k : ℕ) (entry : PageEntry) (head : CompressedPage) (lsdas : ℕ) → entry ≡ entry_at bytes k
     → head ≡ page_at bytes k → lsdas ≡ lsda_count bytes k → HasPage bytes k → IsWholePage bytes entry head lsdas
 page_was_whole bytes k entry head lsdas entry_is head_is lsdas_is whole =

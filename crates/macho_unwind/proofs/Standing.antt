@@ -45,7 +45,9 @@ pub record PageStands (bytes : List ℕ) (at : ℕ) (page : PageList) : Type 0 w
   pub locals : Stands bytes (record { at = at + (12 + 4 * length page.words); text = row_bytes little 4 page.locals })
   pub whole : at + page_size page ≤ length bytes
 
-pub page-parts : (bytes : List ℕ) (at : ℕ) (page : PageList) → Stands bytes (record { at = at; text = page_text page }) → PageStands bytes at page
+-- where a page's text stands, each part of the page stands at its place
+pub page-parts : (bytes : List ℕ) (at : ℕ) (page : PageList) → Stands bytes (record { at = at; text = page_text page })
+    → PageStands bytes at page
 unfolding page_text
 page-parts bytes at page s =
     let head = spelling compressed_page (head_for page) in
@@ -70,6 +72,7 @@ pub record PlanStands (bytes : List ℕ) (plan : PlanList) : Type 0 where
   pub pages : Stands bytes (record { at = pages_place plan; text = flat_map page_text plan.pages })
   pub whole : size_of plan ≤ length bytes
 
+-- where the text of a section stands at 0, each part of the section stands at its place
 pub section-parts : (bytes : List ℕ) (plan : PlanList) → Stands bytes (record { at = 0; text = section_text plan }) → PlanStands bytes plan
 unfolding section_text
 section-parts bytes plan s =

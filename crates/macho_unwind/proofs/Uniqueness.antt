@@ -15,7 +15,8 @@ greatest-unique limit count f i j p q =
     let same : f i ≡ f j = omega (arith, q.greatest i p.one p.up_to, p.greatest j q.one q.up_to) in
     omega (arith, q.last i p.one same, p.last j q.one (sym same))
 
-personality-unique : (bytes : List ℕ) (number : ℕ) (s t : Option ℕ) → NamesPersonality bytes number s → NamesPersonality bytes number t → s ≡ t
+personality-unique : (bytes : List ℕ) (number : ℕ) (s t : Option ℕ) → NamesPersonality bytes number s
+    → NamesPersonality bytes number t → s ≡ t
 personality-unique bytes number None None p q = refl
 personality-unique bytes number None (Some t) p q = absurd (omega (arith, q.one))
 personality-unique bytes number (Some s) None p q = absurd (omega (arith, p.one))

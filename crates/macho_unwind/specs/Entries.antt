@@ -31,7 +31,8 @@ pub record IsEntryOf (text : ℕ) (entries : List ResolvedUnwindInfo) (offset : 
 -- look-up of an offset finds its entry
 abbrev pub FindsEntries : ℕ → List ResolvedUnwindInfo → List ℕ → Type 0
 FindsEntries text entries bytes =
-    (offset : ℕ) (e : ResolvedUnwindInfo) → IsEntryOf text entries offset e → UnwindFinds bytes offset (found_for text e)
+    (offset : ℕ) (e : ResolvedUnwindInfo) → IsEntryOf text entries offset e
+    → UnwindFinds bytes offset (found_for text e)
 
 -- An entry of an offset, of which this is what is to be found.
 pub record IsFoundFor (text : ℕ) (entries : List ResolvedUnwindInfo) (offset : ℕ) (x : Found) : Type 0 where
@@ -41,11 +42,13 @@ pub record IsFoundFor (text : ℕ) (entries : List ResolvedUnwindInfo) (offset :
 
 -- look-up of an offset finds nothing else
 abbrev pub FindsOnlyEntries : ℕ → List ResolvedUnwindInfo → List ℕ → Type 0
-FindsOnlyEntries text entries bytes = (offset : ℕ) (x : Found) → UnwindFinds bytes offset x → IsFoundFor text entries offset x
+FindsOnlyEntries text entries bytes =
+    (offset : ℕ) (x : Found) → UnwindFinds bytes offset x → IsFoundFor text entries offset x
 
 -- the bytes are at most as many as the bound for any span that the starts keep to
 abbrev pub FitsTheBound : List ResolvedUnwindInfo → List ℕ → Type 0
-FitsTheBound entries bytes = (span : ℕ) → SpansAtMost span entries → length bytes ≤ unwind_bound_of (inputs_of entries) span
+FitsTheBound entries bytes =
+    (span : ℕ) → SpansAtMost span entries → length bytes ≤ unwind_bound_of (inputs_of entries) span
 
 -- The bytes are those of the plan of the entries, which is the only one; its tables and pages have places of 32 bits.
 pub record IsSectionOf (text : ℕ) (entries : List ResolvedUnwindInfo) (bytes : List ℕ) : Type 0 where
@@ -61,8 +64,8 @@ pub record HasFarPage (text : ℕ) (entries : List ResolvedUnwindInfo) : Type 0 
   pub of_entries : IsPlanOf text entries plan
   pub far : 2 ^ 32 ≤ last_place plan
 
--- Why entries have no section: too many personality functions, or else an offset that doesn't fit 32 bits, from the start
--- of the text or of a page from the start of the section.
+-- Why entries have no section: too many personality functions, or else an offset that doesn't fit 32 bits, from the
+-- start of the text or of a page from the start of the section.
 abbrev pub BuildFault : ℕ → List ResolvedUnwindInfo → UnwindFault → Type 0
 BuildFault text entries TooManyPersonalities = HasTooMany (inputs_of entries)
 BuildFault text entries OffsetTooLarge =

@@ -11,10 +11,27 @@ use Rattle.macho_unwind.specs.declared.records.LsdaEntry.{LsdaEntry}
 abbrev pub compact_unwind_info_header : Layout CompactUnwindInfoHeader
 compact_unwind_info_header = record {
   order = little;
-  blank = record { version = 0; global_opcodes_offset = 0; global_opcodes_len = 0; personalities_offset = 0; personalities_len = 0; pages_offset = 0; pages_len = 0 };
+  blank = record {
+    version = 0;
+    global_opcodes_offset = 0;
+    global_opcodes_len = 0;
+    personalities_offset = 0;
+    personalities_len = 0;
+    pages_offset = 0;
+    pages_len = 0;
+  };
   rows =
-      numbers 4 (λ r. r.version ∷ r.global_opcodes_offset ∷ r.global_opcodes_len ∷ r.personalities_offset ∷ r.personalities_len ∷ r.pages_offset ∷ r.pages_len ∷ [])
-      (λ n r. record r { version = n 0; global_opcodes_offset = n 1; global_opcodes_len = n 2; personalities_offset = n 3; personalities_len = n 4; pages_offset = n 5; pages_len = n 6 })
+      numbers 4 (λ r. r.version ∷ r.global_opcodes_offset ∷ r.global_opcodes_len
+      ∷ r.personalities_offset ∷ r.personalities_len ∷ r.pages_offset ∷ r.pages_len ∷ [])
+      (λ n r. record r {
+        version = n 0;
+        global_opcodes_offset = n 1;
+        global_opcodes_len = n 2;
+        personalities_offset = n 3;
+        personalities_len = n 4;
+        pages_offset = n 5;
+        pages_len = n 6;
+      })
       ∷ [];
 }
 
@@ -38,7 +55,12 @@ compressed_page = record {
       numbers 4 (λ r. r.kind ∷ [])
       (λ n r. record r { kind = n 0 })
       ∷ numbers 2 (λ r. r.functions_offset ∷ r.functions_len ∷ r.local_opcodes_offset ∷ r.local_opcodes_len ∷ [])
-      (λ n r. record r { functions_offset = n 0; functions_len = n 1; local_opcodes_offset = n 2; local_opcodes_len = n 3 })
+      (λ n r. record r {
+        functions_offset = n 0;
+        functions_len = n 1;
+        local_opcodes_offset = n 2;
+        local_opcodes_len = n 3;
+      })
       ∷ [];
 }
 

@@ -45,7 +45,8 @@ HasLsda bytes k start (Some lsda) = (j : ℕ) × IsLsda bytes k start lsda j
 -- Look-up of an offset finds x: the page entry of the offset, the function of the offset in its page, the encoding that
 -- the function's word names, the personality that bits 28 and 29 of it number, and the function's LSDA.
 -- There is nothing to find where a table isn't whole inside the bytes, the page is of another kind, no page entry or
--- function starts at the offset or before it, the offset is not below the end, or the word or the bits name what isn't there.
+-- function starts at the offset or before it, the offset is not below the end, or the word or the bits name what isn't
+-- there.
 pub record UnwindFinds (bytes : List ℕ) (offset : ℕ) (x : Found) : Type 0 where
   pub page : ℕ
   pub function : ℕ

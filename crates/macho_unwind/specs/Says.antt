@@ -1,5 +1,5 @@
--- What a plan says of an offset, in the words of its rows: a row is a function's start and its encoding with the number of
--- its personality in bits 28 and 29.
+-- What a plan says of an offset, in the words of its rows: a row is a function's start and its encoding with the number
+-- of its personality in bits 28 and 29.
 use Rattle.std.specs.Prelude.{◌≡◌, ◌≢◌, ℕ, ◌-◌, ◌^◌, ◌≤◌, ◌<◌, List, length, slice_index, All, Contains, Option, Some, None}
 use Rattle.macho_unwind_pages.specs.declared.plans.Lsda.{Lsda}
 use Rattle.macho_unwind_pages.specs.declared.paging.Row.{Row}

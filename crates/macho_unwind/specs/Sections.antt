@@ -1,5 +1,5 @@
--- What the bytes of a section `__unwind_info` say (mach-o/compact_unwind_encoding.h). Every offset in the header and in the
--- page entries counts from the section's start, those in a page from the page's start.
+-- What the bytes of a section `__unwind_info` say (mach-o/compact_unwind_encoding.h). Every offset in the header and in
+-- the page entries counts from the section's start, those in a page from the page's start.
 use Rattle.std.specs.Prelude.{◌≡◌, ℕ, ◌+◌, ◌*◌, ◌/◌, ◌%◌, ◌-◌, ◌^◌, ◌≤◌, nat_lt, if◌then◌else◌, List, length, Option, Some, None}
 use Rattle.macho_bytes.specs.Numbers.{le_at, bits}
 use Rattle.macho_bytes.specs.Layouts.{reading, size_of}
@@ -13,7 +13,8 @@ use Rattle.macho_unwind.specs.declared.records.LsdaEntry.{LsdaEntry}
 abbrev pub WORD : ℕ
 WORD = 4
 
--- so many items of a size stand whole inside the bytes, from a place on; where there is none, the place itself is inside
+-- so many items of a size stand whole inside the bytes, from a place on; where there is none, the place itself is
+-- inside
 abbrev pub IsWhole : List ℕ → ℕ → ℕ → ℕ → Type 0
 IsWhole bytes at size count = at + size * count ≤ length bytes
 
@@ -46,7 +47,8 @@ page_at bytes k = reading compressed_page bytes (entry_at bytes k).page_offset
 
 -- as many LSDA entries as fit between the place that entry k tells and the one that the next entry tells
 abbrev pub lsda_count : List ℕ → ℕ → ℕ
-lsda_count bytes k = ((entry_at bytes (k + 1)).lsda_index_offset - (entry_at bytes k).lsda_index_offset) / size_of lsda_entry
+lsda_count bytes k =
+    ((entry_at bytes (k + 1)).lsda_index_offset - (entry_at bytes k).lsda_index_offset) / size_of lsda_entry
 
 -- LSDA entry number j of those of entry k
 unfoldable pub lsda_at : List ℕ → ℕ → ℕ → LsdaEntry
@@ -89,7 +91,8 @@ encoding_at bytes k i =
     let shared = (header_of bytes).global_opcodes_len in
     if nat_lt i shared then Some (le_at WORD bytes ((header_of bytes).global_opcodes_offset + WORD * i))
     else if nat_lt (i - shared) (page_at bytes k).local_opcodes_len
-    then Some (le_at WORD bytes ((entry_at bytes k).page_offset + (page_at bytes k).local_opcodes_offset + WORD * (i - shared)))
+    then Some (le_at WORD bytes (
+    (entry_at bytes k).page_offset + (page_at bytes k).local_opcodes_offset + WORD * (i - shared)))
     else None
 
 -- `UNWIND_PERSONALITY_MASK`, bits 28 and 29 of an encoding: the number of its personality from 1 on, 0 for none

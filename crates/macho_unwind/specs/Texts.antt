@@ -96,7 +96,8 @@ lsda_text l = spelling lsda_entry (lsda_for l)
 
 -- a page: its head, the words of its functions, and the encodings of this page alone
 unfoldable pub page_text : PageList → List ℕ
-page_text page = spelling compressed_page (head_for page) ++ row_bytes little WORD page.words ++ row_bytes little WORD page.locals
+page_text page =
+    spelling compressed_page (head_for page) ++ row_bytes little WORD page.words ++ row_bytes little WORD page.locals
 
 -- the section
 unfoldable pub section_text : PlanList → List ℕ

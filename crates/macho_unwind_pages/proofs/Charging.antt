@@ -30,8 +30,8 @@ record Reasons (more words own from top : ℕ) : Type 0 where
   fulls : 1020 * full ≤ words + own
 
 -- one page more in front
-one_more : (globals : List ℕ) (p : PageList) (row : Row) (more words own next top : ℕ) → IsClosedTo globals p row → row.start ≡ next → p.first ≤ next
-    → HasFewLocals globals p → Reasons more words own next top
+one_more : (globals : List ℕ) (p : PageList) (row : Row) (more words own next top : ℕ) → IsClosedTo globals p row
+    → row.start ≡ next → p.first ≤ next → HasFewLocals globals p → Reasons more words own next top
     → Reasons (suc more) (length p.words + words) (own_count globals p + own) p.first top
 one_more globals p row more words own next top (inl far) is rises few r = record {
   span = r.span + 1;
@@ -90,19 +90,23 @@ reasons globals p [] top closed pages few order below = record {
   fulls = omega arith;
 }
 reasons globals p (q ∷ ps) top closed pages few order below =
-    let rest = reasons globals q ps top (λ k d h. closed_tail k d h) (λ k d h. pages (suc k) d (omega arith)) (λ k d h. few (suc k) d (omega arith))
+    let rest = reasons globals q ps top (λ k d h. closed_tail k d h)
+    (λ k d h. pages (suc k) d (omega arith)) (λ k d h. few (suc k) d (omega arith))
     (λ i j d low h. order (suc i) (suc j) d (omega arith) (omega arith)) (λ k d h. below (suc k) d (omega arith)) in
     let page : IsPage globals p = pages 0 p (omega arith) in
     let first = first_start globals q (pages 1 p (omega arith)) in
     let rises : p.first + slice_index p.words 0 % PAGE_SPAN < q.first = order 0 1 p (omega arith) (omega arith) 0 0 page.some in
-    let made = one_more globals p (first_row globals q) (length ps) _ _ q.first top (closed 0 p (omega arith)) first (omega arith) (few 0 p (omega arith)) rest in
+    let made = one_more globals p (first_row globals q) (length ps) _ _ q.first top
+    (closed 0 p (omega arith)) first (omega arith) (few 0 p (omega arith)) rest in
     subst (λ w. Reasons (suc (length ps)) w (sum_by (own_count globals) (p ∷ q ∷ ps)) p.first top) (sym (sum_by-cons word_count p (q ∷ ps)))
-    (subst (λ o. Reasons (suc (length ps)) (length p.words + sum_by word_count (q ∷ ps)) o p.first top) (sym (sum_by-cons (own_count globals) p (q ∷ ps))) made)
+    (subst (λ o. Reasons (suc (length ps)) (length p.words + sum_by word_count (q ∷ ps)) o p.first top)
+    (sym (sum_by-cons (own_count globals) p (q ∷ ps))) made)
   where
     closed_tail : AreClosed globals (q ∷ ps)
     closed_tail k d h =
         let next : suc k + 1 ≡ suc (k + 1) = omega arith in
-        subst (λ j. IsClosedTo globals (get_or (q ∷ ps) k d) (first_row globals (get_or (p ∷ q ∷ ps) j d))) next (closed (suc k) d (omega arith))
+        subst (λ j. IsClosedTo globals (get_or (q ∷ ps) k d) (first_row globals (get_or (p ∷ q ∷ ps) j d))) next
+        (closed (suc k) d (omega arith))
 
 -- sums over pages are sums over their functions
 pub words_are : (globals : List ℕ) (pages : List PageList) → length (flat_map (page_rows globals) pages) ≡ sum_by word_count pages
@@ -121,8 +125,8 @@ pub own_are : (globals : List ℕ) (pages : List PageList)
 own_are globals [] = refl
 own_are globals (p ∷ ps) =
     ap (locals_in globals) (map-append (λ (row : Row). row.code) (page_rows globals p) (flat_map (page_rows globals) ps))
-    ∙ sum_by-append (λ code. cond (not (list_any (λ global. code == global) globals)) 1 0) (map (λ (row : Row). row.code) (page_rows globals p))
-    (map (λ (row : Row). row.code) (flat_map (page_rows globals) ps))
+    ∙ sum_by-append (λ code. cond (not (list_any (λ global. code == global) globals)) 1 0)
+    (map (λ (row : Row). row.code) (page_rows globals p)) (map (λ (row : Row). row.code) (flat_map (page_rows globals) ps))
     ∙ ap (λ n. own_count globals p + n) (own_are globals ps) ∙ sym (sum_by-cons (own_count globals) p ps)
 
 -- the law of pages
@@ -139,7 +143,8 @@ pages_are_few globals rows (p ∷ ps) least span is above below =
     let first : least ≤ p.first = above 0 p (omega arith) in
     arithmetic _ _ _ _ _ _ n own r first
   where
-    arithmetic : (rows own words more from own' : ℕ) → rows ≡ words → own ≡ own' → Reasons more words own' from (least + span) → least ≤ from
+    arithmetic : (rows own words more from own' : ℕ) → rows ≡ words → own ≡ own'
+        → Reasons more words own' from (least + span) → least ≤ from
         → suc more ≤ 1 + span / 16777216 + own / 32 + (rows + own) / 1020
     arithmetic rows own words more from own' n o r first = omega (arith, r.all, r.spans, r.locals, r.fulls)
 

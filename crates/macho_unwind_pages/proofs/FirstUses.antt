@@ -49,6 +49,7 @@ names_all globals page named =
     All-map (λ row. IsNamed globals page row.code) (row_of globals page) page.words
     (λ k d within. Contains-get_or (globals ++ page.locals) _ 0 (omega (arith, named k d within, length-append globals page.locals)))
 
+-- a page whose words name encodings names the codes of all its functions
 pub names_codes : (globals : List ℕ) (page : PageList) → All (λ word. word / PAGE_SPAN < length globals + length page.locals) page.words
     → All (IsNamed globals page) (codes_on globals page)
 names_codes globals page named =

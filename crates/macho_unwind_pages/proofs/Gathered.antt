@@ -59,8 +59,8 @@ place_at (y ∷ ys) x rises there =
     ]
 
 -- an id that an entry names
-named_has : (entries : List UnwindInput) (k : ℕ) (d : UnwindInput) (id : ℕ) → k < length entries → (get_or entries k d).personality ≡ Some id
-    → has id (named_ids entries) ≡ true
+named_has : (entries : List UnwindInput) (k : ℕ) (d : UnwindInput) (id : ℕ) → k < length entries
+    → (get_or entries k d).personality ≡ Some id → has id (named_ids entries) ≡ true
 unfolding named_ids
 named_has [] k d id within is = absurd (omega arith)
 named_has (e ∷ entries) zero d id within is =
@@ -75,6 +75,7 @@ named_has (e ∷ entries) (suc k) d id within is = go e.personality (named_has e
         or_true true = refl
         or_true false = refl
 
+-- an entry to read where there is none
 abbrev pub none : ResolvedUnwindInfo
 none = record { start = 0; length = 0; encoding = 0; personality = None; lsda = None }
 
@@ -82,6 +83,7 @@ input_at : (entries : List ResolvedUnwindInfo) (k : ℕ) (d : ResolvedUnwindInfo
     → get_or (inputs_of entries) k (input_of d) ≡ input_of (get_or entries k d)
 input_at entries k d within = get_or-map input_of entries k d (input_of d) within
 
+-- the id of each entry's personality stands at its number among the ids of all
 pub numbered : (entries : List ResolvedUnwindInfo) → All (IsNumbered (ids_of (inputs_of entries))) entries
 numbered entries k d within =
     go (get_or entries k d).personality refl
@@ -95,19 +97,24 @@ numbered entries k d within =
         ∙ named_has (inputs_of entries) k (input_of d) p.id (omega (arith, length-map entries input_of))
         (ap (λ (e : UnwindInput). e.personality) (input_at entries k d within) ∙ ap (option_map (λ (q : Personality). q.id)) is))
 
+-- codes have 32 bits: an encoding has bits 28 and 29 clear, and a number is at most 3
 pub short_codes : (text : ℕ) (entries : List ResolvedUnwindInfo) → AreEntries text entries → length (ids_of (inputs_of entries)) ≤ 3
     → All (λ e. e.encoding < 2 ^ 32) entries → All (HasShortCode (ids_of (inputs_of entries))) entries
 short_codes text entries are few ranges k d within =
     go (get_or entries k d).personality (numbered entries k d within)
   where
-    go : (o : Option Personality) → IfSome o (λ p. IsNumberOf (ids_of (inputs_of entries)) p.id (place_in (ids_of (inputs_of entries)) p.id))
-        → (get_or entries k d).encoding + 2 ^ 28 * number_in (ids_of (inputs_of entries)) (option_map (λ (p : Personality). p.id) o) < 2 ^ 32
+    go : (o : Option Personality)
+        → IfSome o (λ p. IsNumberOf (ids_of (inputs_of entries)) p.id (place_in (ids_of (inputs_of entries)) p.id))
+        → (get_or entries k d).encoding
+        + 2 ^ 28 * number_in (ids_of (inputs_of entries)) (option_map (λ (p : Personality). p.id) o) < 2 ^ 32
     go None at = omega (arith, ranges k d within)
     go (Some p) at = omega (arith, at.0, few, ranges k d within, are.clear k d within)
 
+-- no address of an entry is below the text's
 pub behind : (text : ℕ) (entries : List ResolvedUnwindInfo) → AreEntries text entries → All (IsBehind text) entries
 behind text entries are k d within = record { start = are.starts k d within; slot = are.slots k d within; lsda = are.lsdas k d within }
 
+-- one id has one slot over a permutation of the entries too
 pub alike : (text : ℕ) (entries run : List ResolvedUnwindInfo) → AreEntries text entries → IsPermutation entries run
     → All (λ e. All (AreAlike e) run) run
 alike text entries run are moved =
@@ -115,11 +122,13 @@ alike text entries run are moved =
     (λ k d h. All-permutation (AreAlike (get_or entries k d)) entries run moved (are.alike k d h))
 
 -- each entry's code stands in the list, and is ranked
-pub ranked_codes : (entries : List ResolvedUnwindInfo) → All (λ e. has (code_in (ids_of (inputs_of entries)) (input_of e)) (ranked (codes_of (inputs_of entries))) ≡ true) entries
+pub ranked_codes : (entries : List ResolvedUnwindInfo)
+    → All (λ e. has (code_in (ids_of (inputs_of entries)) (input_of e)) (ranked (codes_of (inputs_of entries))) ≡ true) entries
 ranked_codes entries k d within =
     let codes = codes_of (inputs_of entries) in
     let code = code_in (ids_of (inputs_of entries)) (input_of (get_or entries k d)) in
-    has-in_order (ranks_before codes) code codes ∙ list_any_at (λ other. code == other) codes k 0 here (eq-eqb code (get_or codes k 0) (sym at))
+    has-in_order (ranks_before codes) code codes
+    ∙ list_any_at (λ other. code == other) codes k 0 here (eq-eqb code (get_or codes k 0) (sym at))
   where
     here : k < length (codes_of (inputs_of entries))
     here = omega (arith, length-map entries input_of, length-map (inputs_of entries) (code_in (ids_of (inputs_of entries))))
@@ -128,6 +137,7 @@ ranked_codes entries k d within =
     at = get_or-map (code_in (ids_of (inputs_of entries))) (inputs_of entries) k (input_of d) 0 (omega (arith, length-map entries input_of))
         ∙ ap (code_in (ids_of (inputs_of entries))) (input_at entries k d within)
 
+-- ranks have 32 bits where the codes do
 pub short_ranks : (codes : List ℕ) → All (λ code. code < 2 ^ 32) codes → All (λ code. code < 2 ^ 32) (ranked codes)
 short_ranks codes short k d within =
     let z : ℕ = get_or (ranked codes) k d in
@@ -136,8 +146,8 @@ short_ranks codes short k d within =
     subst (λ (n : ℕ). n < 2 ^ 32) in_codes.2 (short in_codes.0 z in_codes.1)
 
 -- the rows of a run
-pub rows_rise : (text : ℕ) (ids : List ℕ) (run : List ResolvedUnwindInfo) → All (IsBehind text) run → AllPairs (λ e f. e.start < f.start) run
-    → AllPairs (λ r s. r.start < s.start) (map (row_from text ids) run)
+pub rows_rise : (text : ℕ) (ids : List ℕ) (run : List ResolvedUnwindInfo) → All (IsBehind text) run
+    → AllPairs (λ e f. e.start < f.start) run → AllPairs (λ r s. r.start < s.start) (map (row_from text ids) run)
 rows_rise text ids run above rising i j d low within =
     let long = length-map run (row_from text ids) in
     let first : (get_or (map (row_from text ids) run) i d).start ≡ (get_or run i none).start - text
@@ -147,17 +157,19 @@ rows_rise text ids run above rising i j d low within =
     omega (arith, first, second, rising i j none low (omega arith), (above i none (omega arith)).start)
 
 -- the last of a run
-pub is_last : (run : List ResolvedUnwindInfo) (i : ℕ) (d : ResolvedUnwindInfo) → AllPairs (λ e f. e.start < f.start) run → i + 1 ≡ length run
-    → IsLast run (get_or run i d)
+pub is_last : (run : List ResolvedUnwindInfo) (i : ℕ) (d : ResolvedUnwindInfo)
+    → AllPairs (λ e f. e.start < f.start) run → i + 1 ≡ length run → IsLast run (get_or run i d)
 is_last run i d rising at k e within =
     elim (cases_lt k i) [
       | inl low ↦
           let there : get_or run i e ≡ get_or run i d = get_or_default run i e d (omega arith) in
           omega (arith, rising k i e low (omega arith), ap (λ (f : ResolvedUnwindInfo). f.start) there)
       | inr high ↦
-          let there : get_or run k e ≡ get_or run i d = ap (λ j. get_or run j e) (let same : k ≡ i = omega arith in same) ∙ get_or_default run i e d (omega arith) in
+          let same : k ≡ i = omega arith in
+          let there : get_or run k e ≡ get_or run i d = ap (λ j. get_or run j e) same ∙ get_or_default run i e d (omega arith) in
           omega (arith, ap (λ (f : ResolvedUnwindInfo). f.start) there)
     ]
 
+-- a run has the entry that is read at a place in it
 pub contains_at : (run : List ResolvedUnwindInfo) (i : ℕ) (d : ResolvedUnwindInfo) → i < length run → Contains run (get_or run i d)
 contains_at run i d within = (i, within, get_or_default run i (get_or run i d) d within)

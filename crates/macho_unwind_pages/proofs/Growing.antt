@@ -33,6 +33,7 @@ pub record IsOpenPage (globals : List ℕ) (page : PageList) : Type 0 where
 abbrev pub AllBefore : PageList → ℕ → Type 0
 AllBefore page start = All (λ word. page.first + word % PAGE_SPAN < start) page.words
 
+-- an open page with a function is a page
 pub is_page : (globals : List ℕ) (page : PageList) → 0 < length page.words → IsOpenPage globals page → IsPage globals page
 is_page globals page some p = record {
   some = some;
@@ -47,6 +48,7 @@ is_page globals page some p = record {
   codes = p.codes;
 }
 
+-- a page without functions is open
 pub empty_is_open : (globals : List ℕ) (first : ℕ) → first < 2 ^ 32 → IsOpenPage globals (empty_page first)
 empty_is_open globals first h = record {
   first = λ some. absurd (omega arith);
@@ -66,7 +68,8 @@ empty_is_open globals first h = record {
   };
 }
 
-row_same : (start code : ℕ) (row : Row) → start ≡ row.start → code ≡ row.code → (let r : Row = record { start = start; code = code } in r) ≡ row
+row_same : (start code : ℕ) (row : Row) → start ≡ row.start → code ≡ row.code
+    → (let r : Row = record { start = start; code = code } in r) ≡ row
 row_same start code row s c = rw (s, c) refl
 
 map_same : (f h : ℕ → Row) (xs : List ℕ) → ((k : ℕ) → k < length xs → f (slice_index xs k) ≡ h (slice_index xs k)) → map f xs ≡ map h xs
@@ -99,25 +102,29 @@ pub new_row : (globals : List ℕ) (old new : PageList) (row : Row) → old.firs
     → row_of globals new a.word ≡ row
 new_row globals old new row behind a = row_same _ _ row (omega (arith, a.first, a.place)) a.is.1
 
+-- the functions of a page that took one more are those before and the new one
 pub rows_more : (globals : List ℕ) (old new : PageList) (row : Row) → old.first ≤ row.start → IsOpenPage globals old
     → Adds globals old new row → page_rows globals new ≡ page_rows globals old ++ row ∷ []
 rows_more globals old new row behind page a =
     ap (map (row_of globals new)) a.words ∙ map_push (row_of globals new) old.words a.word
-    ∙ ap (λ l. l ++ row_of globals new a.word ∷ []) (map_same (row_of globals new) (row_of globals old) old.words (old_rows globals old new row page a))
+    ∙ ap (λ l. l ++ row_of globals new a.word ∷ [])
+    (map_same (row_of globals new) (row_of globals old) old.words (old_rows globals old new row page a))
     ∙ ap (λ r. page_rows globals old ++ r ∷ []) (new_row globals old new row behind a)
 
 -- the first function stays
-pub first_kept : (globals : List ℕ) (old new : PageList) (row : Row) → 0 < length old.words → IsOpenPage globals old → Adds globals old new row
-    → first_row globals new ≡ first_row globals old
+pub first_kept : (globals : List ℕ) (old new : PageList) (row : Row) → 0 < length old.words → IsOpenPage globals old
+    → Adds globals old new row → first_row globals new ≡ first_row globals old
 first_kept globals old new row some page a =
     ap (λ l. row_of globals new (slice_index l 0)) a.words
     ∙ ap (row_of globals new) (get_or_append_left old.words (a.word ∷ []) 0 0 some) ∙ old_rows globals old new row page a 0 some
 
+-- the first function of a page that took its first one is that one
 pub first_new : (globals : List ℕ) (first : ℕ) (new : PageList) (row : Row) → first ≤ row.start → Adds globals (empty_page first) new row
     → first_row globals new ≡ row
 first_new globals first new row behind a =
     ap (λ l. row_of globals new (slice_index l 0)) a.words ∙ new_row globals (empty_page first) new row behind a
 
+-- a page that took a function has one word more
 pub words_more : (globals : List ℕ) (old new : PageList) (row : Row) → Adds globals old new row → length new.words ≡ length old.words + 1
 words_more globals old new row a = omega (arith, ap length a.words, length-append old.words (a.word ∷ []))
 
@@ -200,7 +207,8 @@ few_more globals old new row behind page a =
       | inr out ↦ out
     ]
 
-    go : (new.locals ≡ old.locals) ⊎ ((new.locals ≡ old.locals ++ row.code ∷ []) × ¬ IsNamed globals old row.code) → HasFewLocals globals new
+    go : (new.locals ≡ old.locals) ⊎ ((new.locals ≡ old.locals ++ row.code ∷ []) × ¬ IsNamed globals old row.code)
+        → HasFewLocals globals new
     go (inl same) = omega (arith, ap length same, parts, page.few)
     go (inr more) = omega (
       arith,
@@ -211,7 +219,9 @@ few_more globals old new row behind page a =
       page.few,
     )
 
-pub page_more : (globals : List ℕ) (old new : PageList) (row : Row) → IsOpenPage globals old → (length old.words ≡ 0 → row.start ≡ old.first)
+-- an open page that takes a function stays open: each code is used, is its own, and is in the order of first use
+pub page_more : (globals : List ℕ) (old new : PageList) (row : Row) → IsOpenPage globals old
+    → (length old.words ≡ 0 → row.start ≡ old.first)
     → AllBefore old row.start → IsOpenTo globals old row → Adds globals old new row → IsOpenPage globals new
 page_more globals old new row page begins before room a = record {
   first = λ some. ap (λ l. slice_index l 0 % PAGE_SPAN) a.words ∙ first;
@@ -250,4 +260,5 @@ page_more globals old new row page begins before room a = record {
     codes : (new.locals ≡ old.locals) ⊎ ((new.locals ≡ old.locals ++ row.code ∷ []) × ¬ IsNamed globals old row.code)
         → All (λ code. code < 2 ^ 32) new.locals
     codes (inl same) = subst (All (λ code. code < 2 ^ 32)) (sym same) page.codes
-    codes (inr more) = subst (All (λ code. code < 2 ^ 32)) (sym more.0) (All-push (λ code. code < 2 ^ 32) old.locals row.code page.codes a.code)
+    codes (inr more) = subst (All (λ code. code < 2 ^ 32)) (sym more.0)
+        (All-push (λ code. code < 2 ^ 32) old.locals row.code page.codes a.code)

@@ -13,6 +13,7 @@ use Rattle.indexmap.specs.IndexMap.{IndexMap, keys}
 use Rattle.macho_unwind_pages.specs.Plans.{PageList, Row, IsNamed}
 use Rattle.macho_unwind_pages.specs.Paging.{globals_in, IsOpenTo, Names, Adds}
 
+-- a list in which the test finds a code has the code
 pub is_in : (xs : List ℕ) (code : ℕ) → list_any (λ other. code == other) xs ≡ true → Contains xs code
 is_in xs code h = Contains-from_any eqb-true code xs h
 
@@ -28,7 +29,8 @@ pub found_in_first : (xs ys : List ℕ) (code : ℕ) → list_any (λ other. cod
     → list_any (λ other. code == other) (xs ++ ys) ≡ true
 found_in_first xs ys code h = list_any-append (λ other. code == other) xs ys ∙ ap (λ b. b || list_any (λ other. code == other) ys) h
 
-pub found_nowhere : (xs ys : List ℕ) (code : ℕ) → list_any (λ other. code == other) (xs ++ ys) ≡ false → list_any (λ other. code == other) xs ≡ false
+pub found_nowhere : (xs ys : List ℕ) (code : ℕ) → list_any (λ other. code == other) (xs ++ ys) ≡ false
+    → list_any (λ other. code == other) xs ≡ false
 found_nowhere xs ys code h =
     go (list_any (λ other. code == other) xs) (sym (list_any-append (λ other. code == other) xs ys) ∙ h)
   where
@@ -45,12 +47,14 @@ all_taken ranks code n there out =
       | inr few ↦ let e = ap (list_any (λ other. code == other)) (take_all n ranks few) in absurd (cc)
     ]
 
+-- a ranked code that has no number gets the next one of the page's own, behind the 224 of all pages
 pub new_name : {S : Type 0} (ranks : IndexMap ℕ ℕ S) (old new : PageList) (code number : ℕ) → new.first ≡ old.first → new.words ≡ old.words
     → new.locals ≡ old.locals ++ code ∷ [] → list_any (λ other. code == other) (keys ranks) ≡ true
     → list_any (λ other. code == other) (globals_in ranks ++ old.locals) ≡ false → number ≡ 224 + length old.locals
     → Names (globals_in ranks) old new code number
 new_name ranks old new code number first words locals ranked out is =
-    let many : length (globals_in ranks) ≡ 224 = all_taken (keys ranks) code 224 ranked (found_nowhere (globals_in ranks) old.locals code out) in
+    let many : length (globals_in ranks) ≡ 224
+    = all_taken (keys ranks) code 224 ranked (found_nowhere (globals_in ranks) old.locals code out) in
     let last : number - 224 - length old.locals ≡ 0 = omega arith in
     record {
       first = first;

@@ -42,7 +42,9 @@ ids_of-none = refl
 named_ids-append : (xs ys : List UnwindInput) → named_ids (xs ++ ys) ≡ named_ids xs ++ named_ids ys
 unfolding named_ids
 named_ids-append [] ys = refl
-named_ids-append (x ∷ xs) ys = ap (named_by x.personality) (named_ids-append xs ys) ∙ named_by-append x.personality (named_ids xs) (named_ids ys)
+named_ids-append (x ∷ xs) ys =
+    ap (named_by x.personality) (named_ids-append xs ys)
+    ∙ named_by-append x.personality (named_ids xs) (named_ids ys)
   where
     named_by-append : (p : Option ℕ) (is js : List ℕ) → named_by p (is ++ js) ≡ named_by p is ++ js
     named_by-append None is js = refl
@@ -55,16 +57,19 @@ named_more entries i d within =
     ap named_ids (take_more entries i d within) ∙ named_ids-append (take i entries) (get_or entries i d ∷ [])
 
 -- one entry more
-pub ids_of-more : (entries : List UnwindInput) (i : ℕ) (d : UnwindInput) (id : ℕ) → i < length entries → (get_or entries i d).personality ≡ Some id
+pub ids_of-more : (entries : List UnwindInput) (i : ℕ) (d : UnwindInput) (id : ℕ) → i < length entries
+    → (get_or entries i d).personality ≡ Some id
     → ids_of (take (i + 1) entries) ≡ put_in_order nat_lt id (ids_of (take i entries))
 ids_of-more entries i d id within is =
     ap (in_order nat_lt) (named_more entries i d within ∙ ap (λ p. named_ids (take i entries) ++ named_by p []) is)
     ∙ in_order-more nat_lt (named_ids (take i entries)) id nat_lt-strict
 
+-- an entry without an id leaves the ids as they are
 pub ids_of-passed : (entries : List UnwindInput) (i : ℕ) (d : UnwindInput) → i < length entries → (get_or entries i d).personality ≡ None
     → ids_of (take (i + 1) entries) ≡ ids_of (take i entries)
 ids_of-passed entries i d within is =
-    ap (in_order nat_lt) (named_more entries i d within ∙ ap (λ p. named_ids (take i entries) ++ named_by p []) is ∙ append-nil (named_ids (take i entries)))
+    ap (in_order nat_lt)
+    (named_more entries i d within ∙ ap (λ p. named_ids (take i entries) ++ named_by p []) is ∙ append-nil (named_ids (take i entries)))
 
 -- the first entries have no more ids than all
 pub length-ids_of : (entries : List UnwindInput) (i : ℕ) → length (ids_of (take i entries)) ≤ length (ids_of entries)

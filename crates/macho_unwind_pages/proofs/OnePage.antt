@@ -23,6 +23,7 @@ pub begins : (globals : List ℕ) (page : PageList) → IsPage globals page
     → page_rows globals page ≡ first_row globals page ∷ map (row_of globals page) (drop 1 page.words)
 begins globals page is = first_of (row_of globals page) page.words is.some
 
+-- the first function of a page starts where the page does
 pub starts : (globals : List ℕ) (page : PageList) → IsPage globals page → (first_row globals page).start ≡ page.first
 starts globals page is = omega (arith, is.first)
 

@@ -21,13 +21,16 @@ abbrev pub Above : (ℕ → ℕ → Bool) → ℕ → List ℕ → Type 0
 Above before x [] = Unit {0}
 Above before x (y ∷ ys) = (before x y ≡ true) × Above before x ys
 
+-- each number of a list comes before all that stand behind it
 abbrev pub Rises : (ℕ → ℕ → Bool) → List ℕ → Type 0
 Rises before [] = Unit {0}
 Rises before (x ∷ xs) = Above before x xs × Rises before xs
 
+-- whether a number stands in a list
 abbrev pub has : ℕ → List ℕ → Bool
 has x xs = list_any (λ y. x == y) xs
 
+-- the order of numbers is strict
 pub nat_lt-strict : IsStrict nat_lt
 nat_lt-strict = record {
   one_way = λ x y h. grind (arith, nat_tests);
@@ -35,7 +38,9 @@ nat_lt-strict = record {
   total = λ x y h k. grind (arith, nat_tests);
 }
 
-pub above_weaker : (before : ℕ → ℕ → Bool) (x y : ℕ) (zs : List ℕ) → IsStrict before → before x y ≡ true → Above before y zs → Above before x zs
+-- what comes before a number comes before all that the number comes before
+pub above_weaker : (before : ℕ → ℕ → Bool) (x y : ℕ) (zs : List ℕ) → IsStrict before → before x y ≡ true
+    → Above before y zs → Above before x zs
 above_weaker before x y [] s h above = tt
 above_weaker before x y (z ∷ zs) s h above = (s.chain x y z h above.0, above_weaker before x y zs s h above.1)
 
@@ -109,7 +114,8 @@ has-put before x z (y ∷ ys) =
     twice : x ≡ y → ((z == y) || has z ys) ≡ ((z == x) || ((z == y) || has z ys))
     twice e = subst (λ w. ((z == y) || has z ys) ≡ ((z == w) || ((z == y) || has z ys))) (sym e) (again (z == y) (has z ys))
 
-above-put : (before : ℕ → ℕ → Bool) (w x : ℕ) (ys : List ℕ) → before w x ≡ true → Above before w ys → Above before w (put_in_order before x ys)
+above-put : (before : ℕ → ℕ → Bool) (w x : ℕ) (ys : List ℕ) → before w x ≡ true → Above before w ys
+    → Above before w (put_in_order before x ys)
 unfolding put_in_order
 above-put before w x [] h above = (h, tt)
 above-put before w x (y ∷ ys) h above =
@@ -154,11 +160,13 @@ unfolding in_order
 rises-in_order before [] s = tt
 rises-in_order before (x ∷ xs) s = rises-put before x (in_order before xs) s (rises-in_order before xs s)
 
+-- a list in order has the numbers of the list
 pub has-in_order : (before : ℕ → ℕ → Bool) (z : ℕ) (xs : List ℕ) → has z (in_order before xs) ≡ has z xs
 unfolding in_order
 has-in_order before z [] = refl
 has-in_order before z (x ∷ xs) = has-put before x z (in_order before xs) ∙ ap (λ b. (z == x) || b) (has-in_order before z xs)
 
+-- a rising list with the numbers of a list is that list in order
 pub in_order-unique : (before : ℕ → ℕ → Bool) (xs ys : List ℕ) → IsStrict before → Rises before ys → ((z : ℕ) → has z ys ≡ has z xs)
     → ys ≡ in_order before xs
 in_order-unique before xs ys s rises same =

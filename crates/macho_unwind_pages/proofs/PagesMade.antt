@@ -45,7 +45,8 @@ taken globals functions last done old new row pages later room a = record {
   order = pages.order;
   before = subst (λ f. All (λ p. AllBefore p f) done) (sym a.first) pages.before;
   closed = pages.closed;
-  next = λ d some. subst (IsClosedTo globals (get_or done (length done - 1) d)) (sym (first_kept globals old new row pages.some pages.is a)) (pages.next d some);
+  next = λ d some. subst (IsClosedTo globals (get_or done (length done - 1) d))
+      (sym (first_kept globals old new row pages.some pages.is a)) (pages.next d some);
   upto = subst (All (λ word. new.first + word % PAGE_SPAN ≤ row.start)) (sym a.words)
       (All-push (λ word. new.first + word % PAGE_SPAN ≤ row.start) old.words a.word
       (λ k d h. omega (arith, pages.upto k d h, a.first)) (omega (arith, a.first, a.place, room.behind)));
@@ -66,7 +67,8 @@ opened globals page row a =
       code = λ no. (omega arith, omega arith);
     }
 
-opened_rows : (globals : List ℕ) (page : PageList) (row : Row) → Adds globals (empty_page row.start) page row → page_rows globals page ≡ row ∷ []
+opened_rows : (globals : List ℕ) (page : PageList) (row : Row) → Adds globals (empty_page row.start) page row
+    → page_rows globals page ≡ row ∷ []
 opened_rows globals page row a =
     rows_more globals (empty_page row.start) page row (omega arith) (empty_is_open globals row.start a.start) a
 
@@ -74,7 +76,8 @@ opened_upto : (globals : List ℕ) (page : PageList) (row : Row) → Adds global
     → All (λ word. page.first + word % PAGE_SPAN ≤ row.start) page.words
 opened_upto globals page row a =
     subst (All (λ word. page.first + word % PAGE_SPAN ≤ row.start)) (sym a.words)
-    (All-push (λ word. page.first + word % PAGE_SPAN ≤ row.start) [] a.word (λ k d h. absurd (omega arith)) (omega (arith, a.first, a.place)))
+    (All-push (λ word. page.first + word % PAGE_SPAN ≤ row.start) [] a.word (λ k d h. absurd (omega arith))
+    (omega (arith, a.first, a.place)))
 
 pub first_taken : (globals : List ℕ) (page : PageList) (row : Row) → Adds globals (empty_page row.start) page row
     → ArePagesTo globals (row ∷ []) row.start [] page
@@ -109,7 +112,8 @@ closed_more globals done page closed next k d h =
       | inr last ↦
           let at : length done ≡ k + 1 = omega arith in
           let there : get_or (done ++ page ∷ []) (k + 1) d ≡ page
-          = get_or-append_right done (page ∷ []) (length done) (k + 1) d refl (omega arith) ∙ ap (λ i. get_or (page ∷ []) i d) (zero_of k at) in
+          = get_or-append_right done (page ∷ []) (length done) (k + 1) d refl (omega arith)
+          ∙ ap (λ i. get_or (page ∷ []) i d) (zero_of k at) in
           subst (λ p. C p (first_row globals (get_or (done ++ page ∷ []) (k + 1) d))) (sym here)
           (subst (λ q. C (get_or done k d) (first_row globals q)) (sym there)
           (subst (λ i. C (get_or done i d) (first_row globals page)) (before_of k at) (next d (omega arith))))
@@ -123,8 +127,8 @@ closed_more globals done page closed next k d h =
 
 -- the open page is closed, and a page begins
 pub closed_and_opened : (globals : List ℕ) (functions : List Row) (last : ℕ) (done : List PageList) (old new : PageList) (row : Row)
-    → ArePagesTo globals functions last done old → last < row.start → IsClosedTo globals old row → Adds globals (empty_page row.start) new row
-    → ArePagesTo globals (functions ++ row ∷ []) row.start (done ++ old ∷ []) new
+    → ArePagesTo globals functions last done old → last < row.start → IsClosedTo globals old row
+    → Adds globals (empty_page row.start) new row → ArePagesTo globals (functions ++ row ∷ []) row.start (done ++ old ∷ []) new
 closed_and_opened globals functions last done old new row pages later shut a = record {
   rows = ap (λ l. l ++ page_rows globals new) (flat_map-append (page_rows globals) done (old ∷ []))
       ∙ ap (λ l. (flat_map (page_rows globals) done ++ l) ++ page_rows globals new) (append-nil (page_rows globals old))
@@ -170,9 +174,12 @@ pub made_first : (globals : List ℕ) (rows : List Row) (page : PageList) (d : R
     → Adds globals (empty_page (get_or rows 0 d).start) page (get_or rows 0 d)
     → ArePagesTo globals (take 1 rows) (get_or rows 0 d).start [] page
 made_first globals rows page d some a =
-    subst (λ l. ArePagesTo globals l (get_or rows 0 d).start [] page) (sym (take_more rows 0 d some)) (first_taken globals page (get_or rows 0 d) a)
+    subst (λ l. ArePagesTo globals l (get_or rows 0 d).start [] page) (sym (take_more rows 0 d some))
+    (first_taken globals page (get_or rows 0 d) a)
 
-pub made_taken : (globals : List ℕ) (rows : List Row) (i : ℕ) (d : Row) (done : List PageList) (old new : PageList) → 0 < i → i < length rows
+-- a step at which the open page takes the function
+pub made_taken : (globals : List ℕ) (rows : List Row) (i : ℕ) (d : Row) (done : List PageList) (old new : PageList) → 0 < i
+    → i < length rows
     → AllPairs (λ r s. r.start < s.start) rows → ArePagesTo globals (take i rows) (get_or rows (i - 1) d).start done old
     → IsOpenTo globals old (get_or rows i d) → Adds globals old new (get_or rows i d)
     → ArePagesTo globals (take (i + 1) rows) (get_or rows (i + 1 - 1) d).start done new
@@ -183,7 +190,9 @@ made_taken globals rows i d done old new some within rising pages room a =
     (taken globals (take i rows) (get_or rows (i - 1) d).start done old new (get_or rows i d) pages
     (rising (i - 1) i d (omega arith) within) room a))
 
-pub made_next : (globals : List ℕ) (rows : List Row) (i : ℕ) (d : Row) (done next : List PageList) (old new : PageList) → 0 < i → i < length rows
+-- a step at which the open page is closed and the function begins the next one
+pub made_next : (globals : List ℕ) (rows : List Row) (i : ℕ) (d : Row) (done next : List PageList) (old new : PageList) → 0 < i
+    → i < length rows
     → AllPairs (λ r s. r.start < s.start) rows → ArePagesTo globals (take i rows) (get_or rows (i - 1) d).start done old
     → IsClosedTo globals old (get_or rows i d) → Adds globals (empty_page (get_or rows i d).start) new (get_or rows i d)
     → next ≡ done ++ old ∷ []
@@ -196,6 +205,7 @@ made_next globals rows i d done next old new some within rising pages shut a is 
     (closed_and_opened globals (take i rows) (get_or rows (i - 1) d).start done old new (get_or rows i d) pages
     (rising (i - 1) i d (omega arith) within) shut a)))
 
+-- at the end the closed pages and the open one are pages of all functions
 pub made_all : (globals : List ℕ) (rows : List Row) (i last : ℕ) (done pages : List PageList) (page : PageList) → length rows ≤ i
     → ArePagesTo globals (take i rows) last done page → pages ≡ done ++ page ∷ [] → ArePages globals rows pages
 made_all globals rows i last done pages page over made is =

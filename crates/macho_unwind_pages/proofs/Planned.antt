@@ -48,6 +48,7 @@ ready_of text entries run some are moved rising near few = record {
     short = short_codes text entries are few
         (All-permutation (λ e. e.encoding < 2 ^ 32) run entries (IsPermutation-sym entries run moved) (λ k d h. (near k d h).encoding))
 
+-- a run of near entries by rising start is ready, with the ids and codes that were made of the entries
 pub ready : (text : ℕ) (entries run : List ResolvedUnwindInfo) (inputs : List UnwindInput) (ids codes : List ℕ) → 0 < length entries
     → AreEntries text entries → IsPermutation entries run → AllPairs (λ e f. e.start < f.start) run → All (IsNear text) run
     → inputs ≡ inputs_of entries → ids ≡ ids_of inputs → length (ids_of inputs) ≤ 3 → codes ≡ map (code_in ids) inputs
@@ -58,7 +59,8 @@ ready text entries run inputs ids codes some are moved rising near inputs_is ids
     = codes_is ∙ ap (λ is. map (code_in is) inputs) ids_is ∙ ap codes_of inputs_is in
     let few_of : length (ids_of (inputs_of entries)) ≤ 3 = subst (λ (l : List UnwindInput). length (ids_of l) ≤ 3) inputs_is few in
     subst (λ is. IsReady text is codes run) (sym ids_are)
-    (subst (λ cs. IsReady text (ids_of (inputs_of entries)) cs run) (sym codes_are) (ready_of text entries run some are moved rising near few_of))
+    (subst (λ cs. IsReady text (ids_of (inputs_of entries)) cs run) (sym codes_are)
+    (ready_of text entries run some are moved rising near few_of))
 
 -- the data of a run
 pairs_cons : {X : Type 0} (R : X → X → Type 0) (y : X) (ys : List X) → All (R y) ys → AllPairs R ys → AllPairs R (y ∷ ys)
@@ -86,13 +88,15 @@ lsda_order : (text : ℕ) (run : List ResolvedUnwindInfo) → All (IsBehind text
     → AllPairs (λ l m. l.function < m.function) (flat_map (lsda_from text) run)
 lsda_order text [] above rising = λ i j d low h. absurd (omega arith)
 lsda_order text (e ∷ run) above rising =
-    go e.lsda (lsda_order text run (λ k d h. above (suc k) d (omega arith)) (λ i j d low h. rising (suc i) (suc j) d (omega arith) (omega arith)))
+    go e.lsda (lsda_order text run (λ k d h. above (suc k) d (omega arith))
+    (λ i j d low h. rising (suc i) (suc j) d (omega arith) (omega arith)))
   where
     go : (o : Option ℕ) → AllPairs (λ l m. l.function < m.function) (flat_map (lsda_from text) run)
         → AllPairs (λ l m. l.function < m.function) (lsda_at text e.start o ++ flat_map (lsda_from text) run)
     go None rest = rest
     go (Some address) rest =
-        pairs_cons (λ l m. l.function < m.function) (record { function = e.start - text; lsda = address - text }) (flat_map (lsda_from text) run)
+        pairs_cons (λ l m. l.function < m.function) (record { function = e.start - text; lsda = address - text })
+        (flat_map (lsda_from text) run)
         (lsda_bounds text e.start run (above 0 e (omega arith)).start (λ k d h. rising 0 (suc k) d (omega arith) (omega arith))) rest
 
 lsda_short : (text : ℕ) (run : List ResolvedUnwindInfo) → All (IsNear text) run
@@ -102,21 +106,23 @@ lsda_short text (e ∷ run) near =
     All-append (λ l. (l.function < 2 ^ 32) × (l.lsda < 2 ^ 32)) (lsda_from text e) (flat_map (lsda_from text) run)
     (one e.lsda (near 0 e (omega arith)).lsda) (lsda_short text run (λ k d h. near (suc k) d (omega arith)))
   where
-    one : (o : Option ℕ) → IfSome o (λ address. address < text + 2 ^ 32) → All (λ l. (l.function < 2 ^ 32) × (l.lsda < 2 ^ 32)) (lsda_at text e.start o)
+    one : (o : Option ℕ) → IfSome o (λ address. address < text + 2 ^ 32)
+        → All (λ l. (l.function < 2 ^ 32) × (l.lsda < 2 ^ 32)) (lsda_at text e.start o)
     one None low = λ k d h. absurd (omega arith)
     one (Some address) low = λ k d h. first k d h
       where
         first : (k : ℕ) (d : Lsda) → k < 1
-            → ((get_or (lsda_at text e.start (Some address)) k d).function < 2 ^ 32) × ((get_or (lsda_at text e.start (Some address)) k d).lsda < 2 ^ 32)
+            → ((get_or (lsda_at text e.start (Some address)) k d).function < 2 ^ 32)
+            × ((get_or (lsda_at text e.start (Some address)) k d).lsda < 2 ^ 32)
         first zero d h = (omega (arith, (near 0 e (omega arith)).start), omega (arith, low))
         first (suc k) d h = absurd (omega arith)
 
 lsda_length : (text : ℕ) (run : List ResolvedUnwindInfo) → length (flat_map (lsda_from text) run) ≡ count_by (λ e. is_some e.lsda) run
 lsda_length text [] = refl
 lsda_length text (e ∷ run) =
-    length-append (lsda_from text e) (flat_map (lsda_from text) run)
-    ∙ ap (λ (n : ℕ). length (lsda_from text e) + n) (lsda_length text run)
-    ∙ ap (λ (n : ℕ). n + count_by (λ e. is_some e.lsda) run) (one e.lsda) ∙ sym (sum_by-cons (λ (f : ResolvedUnwindInfo). cond (is_some f.lsda) 1 0) e run)
+    length-append (lsda_from text e) (flat_map (lsda_from text) run) ∙ ap (λ (n : ℕ). length (lsda_from text e) + n) (lsda_length text run)
+    ∙ ap (λ (n : ℕ). n + count_by (λ e. is_some e.lsda) run) (one e.lsda)
+    ∙ sym (sum_by-cons (λ (f : ResolvedUnwindInfo). cond (is_some f.lsda) 1 0) e run)
   where
     one : (o : Option ℕ) → length (lsda_at text e.start o) ≡ cond (is_some o) 1 0
     one None = refl
@@ -130,8 +136,8 @@ lsda_inputs (e ∷ entries) =
     ∙ sym (sum_by-cons (λ (f : ResolvedUnwindInfo). cond (is_some f.lsda) 1 0) e entries)
 
 -- what holds of all functions holds of the first ones of pages
-first_rows : (P : Row → Type 0) (globals : List ℕ) (pages : List PageList) → All (IsPage globals) pages → All P (flat_map (page_rows globals) pages)
-    → (k : ℕ) (d : PageList) → k < length pages → P (first_row globals (get_or pages k d))
+first_rows : (P : Row → Type 0) (globals : List ℕ) (pages : List PageList) → All (IsPage globals) pages
+    → All P (flat_map (page_rows globals) pages) → (k : ℕ) (d : PageList) → k < length pages → P (first_row globals (get_or pages k d))
 first_rows P globals [] is all k d h = absurd (omega arith)
 first_rows P globals (p ∷ ps) is all zero d h =
     let some : 0 < length (page_rows globals p) = omega (arith, (is 0 p (omega arith)).some, length-map p.words (row_of globals p)) in
@@ -151,7 +157,8 @@ own_of_run : (text : ℕ) (globals ids : List ℕ) (entries run : List ResolvedU
 own_of_run text globals ids entries run moved =
     let code : ResolvedUnwindInfo → ℕ = λ e. code_in ids (input_of e) in
     ap (locals_in globals) (map-map (λ (row : Row). row.code) (row_from text ids) run)
-    ∙ sum_by-IsPermutation (λ (c : ℕ). cond (not (list_any (λ global. c == global) globals)) 1 0) (map (λ e. code_in ids (input_of e)) entries)
+    ∙ sum_by-IsPermutation (λ (c : ℕ). cond (not (list_any (λ global. c == global) globals)) 1 0)
+    (map (λ e. code_in ids (input_of e)) entries)
     (map (λ e. code_in ids (input_of e)) run) (IsPermutation-map (λ e. code_in ids (input_of e)) entries run moved)
     ∙ ap (locals_in globals) (sym (map-map (code_in ids) input_of entries))
 
@@ -191,6 +198,7 @@ near_address text e near (inr (inr far)) = go e.lsda near.lsda far
     go None low high = high
     go (Some address) low high = omega (arith, low, high)
 
+-- entries whose run is near and ends near have no far offset
 pub not_far : (text : ℕ) (entries run : List ResolvedUnwindInfo) (end : ℕ) → IsPermutation entries run → All (IsNear text) run
     → All (λ e. IsLast run e → e.start + e.length ≡ text + end) run → end < 2 ^ 32 → HasFarOffset text entries → ⊥
 not_far text entries run end moved near ends low far =
@@ -205,7 +213,9 @@ not_far text entries run end moved near ends low far =
         let at_end = at (All-permutation (λ f. f.start ≤ far.0.start) entries run moved last.0) in
         omega (arith, at_end, last.1, low)
 
-pub far_of_run : (text : ℕ) (entries run : List ResolvedUnwindInfo) → IsPermutation entries run → HasFarOffset text run → HasFarOffset text entries
+-- a far offset of the run is one of the entries
+pub far_of_run : (text : ℕ) (entries run : List ResolvedUnwindInfo) → IsPermutation entries run → HasFarOffset text run
+    → HasFarOffset text entries
 far_of_run text entries run moved far =
     (far.0, Contains-permutation run entries far.0 (IsPermutation-sym entries run moved) far.1, go far.2)
   where
@@ -245,17 +255,13 @@ few_pages text entries run plan are is moved span spans =
     let below : All (λ r. r.start ≤ (get_or run 0 none).start - text + span) rows
     = All-map (λ r. r.start ≤ (get_or run 0 none).start - text + span) (row_from text ids) run
     (λ k d h. omega (arith, over_run 0 none are.some k d h, (are.behind k d h).start, (are.behind 0 none are.some).start)) in
+    let firsts_above = first_rows (λ r. (get_or run 0 none).start - text ≤ r.start) plan.globals plan.pages is.pages.each
+    (subst (All (λ r. (get_or run 0 none).start - text ≤ r.start)) (sym is.pages.rows) above) in
+    let firsts_below = first_rows (λ r. r.start ≤ (get_or run 0 none).start - text + span) plan.globals plan.pages is.pages.each
+    (subst (All (λ r. r.start ≤ (get_or run 0 none).start - text + span)) (sym is.pages.rows) below) in
     let law = pages_are_few plan.globals rows plan.pages ((get_or run 0 none).start - text) span is.pages
-    (λ k d h. omega (
-      arith,
-      first_start plan.globals (get_or plan.pages k d) (is.pages.each k d h),
-      first_rows (λ r. (get_or run 0 none).start - text ≤ r.start) plan.globals plan.pages is.pages.each (subst (All (λ r. (get_or run 0 none).start - text ≤ r.start)) (sym is.pages.rows) above) k d h,
-    ))
-    (λ k d h. omega (
-      arith,
-      first_start plan.globals (get_or plan.pages k d) (is.pages.each k d h),
-      first_rows (λ r. r.start ≤ (get_or run 0 none).start - text + span) plan.globals plan.pages is.pages.each (subst (All (λ r. r.start ≤ (get_or run 0 none).start - text + span)) (sym is.pages.rows) below) k d h,
-    )) in
+    (λ k d h. omega (arith, first_start plan.globals (get_or plan.pages k d) (is.pages.each k d h), firsts_above k d h))
+    (λ k d h. omega (arith, first_start plan.globals (get_or plan.pages k d) (is.pages.each k d h), firsts_below k d h)) in
     omega (
       arith,
       law,
@@ -270,7 +276,8 @@ few_pages text entries run plan are is moved span spans =
     least_first : (k : ℕ) (d : ResolvedUnwindInfo) → k < length run → (get_or run 0 none).start - text ≤ (get_or run k d).start - text
     least_first zero d h = omega (arith, ap (λ (e : ResolvedUnwindInfo). e.start) (get_or_default run 0 none d h))
     least_first (suc k) d h =
-        omega (arith, are.rising 0 (suc k) d (omega arith) h, ap (λ (e : ResolvedUnwindInfo). e.start) (get_or_default run 0 none d are.some))
+        let first = ap (λ (e : ResolvedUnwindInfo). e.start) (get_or_default run 0 none d are.some) in
+        omega (arith, are.rising 0 (suc k) d (omega arith) h, first)
 
 short_plan : (text : ℕ) (entries run : List ResolvedUnwindInfo) (plan : PlanList)
     → IsReady text (ids_of (inputs_of entries)) (codes_of (inputs_of entries)) run
@@ -308,7 +315,8 @@ planned text entries run plan end are is moved end_is low ends = record {
   locals = is.pages.locals;
   closed = is.pages.closed;
   personalities = is.count;
-  slots = All-permutation (HasSlot text (ids_of (inputs_of entries)) plan.personalities) run entries (IsPermutation-sym entries run moved) is.slots;
+  slots = All-permutation (HasSlot text (ids_of (inputs_of entries)) plan.personalities) run entries
+      (IsPermutation-sym entries run moved) is.slots;
   lsdas = is.lsdas;
   end = λ k d h last. omega (
     arith,
@@ -321,8 +329,8 @@ planned text entries run plan end are is moved end_is low ends = record {
 }
 
 -- the plan, from what the code knows
-pub planned_from : (text : ℕ) (entries run : List ResolvedUnwindInfo) (inputs : List UnwindInput) (ids codes : List ℕ) (plan : PlanList) (end : ℕ)
-    → IsReady text ids codes run → IsAssembled text ids codes run plan → IsPermutation entries run
+pub planned_from : (text : ℕ) (entries run : List ResolvedUnwindInfo) (inputs : List UnwindInput) (ids codes : List ℕ)
+    (plan : PlanList) (end : ℕ) → IsReady text ids codes run → IsAssembled text ids codes run plan → IsPermutation entries run
     → inputs ≡ inputs_of entries → ids ≡ ids_of inputs → codes ≡ map (code_in ids) inputs
     → plan.end ≡ end → end < 2 ^ 32 → All (λ e. IsLast run e → e.start + e.length ≡ text + end) run → IsPlanOf text entries plan
 planned_from text entries run inputs ids codes plan end are is moved inputs_is ids_is codes_is end_is low ends =
@@ -331,7 +339,8 @@ planned_from text entries run inputs ids codes plan end are is moved inputs_is i
     = codes_is ∙ ap (λ is. map (code_in is) inputs) ids_is ∙ ap codes_of inputs_is in
     planned text entries run plan end
     (subst (λ cs. IsReady text (ids_of (inputs_of entries)) cs run) codes_are (subst (λ is. IsReady text is codes run) ids_are are))
-    (subst (λ cs. IsAssembled text (ids_of (inputs_of entries)) cs run plan) codes_are (subst (λ is. IsAssembled text is codes run plan) ids_are is))
+    (subst (λ cs. IsAssembled text (ids_of (inputs_of entries)) cs run plan) codes_are
+    (subst (λ is. IsAssembled text is codes run plan) ids_are is))
     moved end_is low ends
 
 -- a refusal that is handed on

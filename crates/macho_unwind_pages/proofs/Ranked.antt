@@ -41,6 +41,7 @@ outranks-if s t a b h = grind (arith, nat_tests)
 outranks-not : (s t a b : ℕ) → ((t < s) ⊎ ((s ≡ t) × (b < a)) → ⊥) → outranks s t a b ≡ false
 outranks-not s t a b h = grind (arith, nat_tests)
 
+-- the order of ranks is strict
 pub ranks_before-strict : (codes : List ℕ) → IsStrict (ranks_before codes)
 ranks_before-strict codes = record {
   one_way = λ x y h. one_way (times codes x) (times codes y) x y h;
@@ -66,6 +67,7 @@ times-more codes i code within =
       | inr n ↦ rw n (count_by_more_no (λ other. code == other) codes i 0 within n ∙ omega arith)
     ]
 
+-- a code stands among the first i codes i times at most
 pub times-le : (codes : List ℕ) (i code : ℕ) → i ≤ length codes → times (take i codes) code ≤ i
 times-le codes i code within =
     omega (arith, count_by-le-length (λ other. code == other) (take i codes), length-take i codes)
@@ -106,6 +108,7 @@ untold codes counts code all is =
       | inr some ↦ let e : get nat_eq counts code ≡ Some (times codes code) = all code ∙ rw some refl in absurd (cc)
     ]
 
+-- what the table tells of a code, 0 where it tells nothing, is how often the code stands
 pub unwrapped : {S : Type 0} (codes : List ℕ) (counts : IndexMap ℕ ℕ S) (code : ℕ) → Counts codes counts
     → unwrap_or (get nat_eq counts code) 0 ≡ times codes code
 unwrapped codes counts code all =
@@ -125,9 +128,11 @@ stands (x ∷ codes) code =
           (ap (λ (t : ℕ). not (t == 0)) (omega arith) ∙ stands codes code)
     ]
 
-keys_has : {S : Type 0} (codes : List ℕ) (counts : IndexMap ℕ ℕ S) (code : ℕ) → Counts codes counts → has code (keys counts) ≡ has code codes
+keys_has : {S : Type 0} (codes : List ℕ) (counts : IndexMap ℕ ℕ S) (code : ℕ) → Counts codes counts
+    → has code (keys counts) ≡ has code codes
 keys_has codes counts code is =
-    sym (is_some-lookup (nat_eq code) counts.entries) ∙ ap is_some (is code) ∙ told_if (times codes code == 0) (times codes code) ∙ stands codes code
+    sym (is_some-lookup (nat_eq code) counts.entries) ∙ ap is_some (is code)
+    ∙ told_if (times codes code == 0) (times codes code) ∙ stands codes code
   where
     told_if : (b : Bool) (n : ℕ) → is_some (if b then None else Some n) ≡ not b
     told_if true n = refl
@@ -163,7 +168,9 @@ outranks-compares s t a b =
       | inl e ↦ elim (cases_order b a) [
         | inl f ↦ rw (le-ltb t s (omega arith), eq-eqb t s e, le-ltb b a (omega arith), eq-eqb b a f, eq-eqb s t (sym e)) refl
         | inr (inl f) ↦ rw (le-ltb t s (omega arith), eq-eqb t s e, lt-ltb b a f, eq-eqb s t (sym e)) refl
-        | inr (inr f) ↦ rw (le-ltb t s (omega arith), eq-eqb t s e, le-ltb b a (omega arith), ne_eqb b a (λ g. absurd (omega arith)), eq-eqb s t (sym e)) refl
+        | inr (inr f) ↦
+            let other = ne_eqb b a (λ g. absurd (omega arith)) in
+            rw (le-ltb t s (omega arith), eq-eqb t s e, le-ltb b a (omega arith), other, eq-eqb s t (sym e)) refl
       ]
       | inr (inl e) ↦ rw (lt-ltb t s e) refl
       | inr (inr e) ↦ rw (le-ltb t s (omega arith), ne_eqb t s (λ g. absurd (omega arith)), ne_eqb s t (λ g. absurd (omega arith))) refl
@@ -195,11 +202,13 @@ keys_ranked codes counts once is sorted =
     next k j e h =
         let within : j < length counts.entries = omega (arith, length-map counts.entries (λ (e : ℕ × ℕ). e.0)) in
         let here : k < length counts.entries = omega arith in
-        let not_less : outranks (entry_in counts.entries (k + 1)).1 (entry_in counts.entries k).1 (entry_in counts.entries (k + 1)).0 (entry_in counts.entries k).0 ≡ false
+        let now = entry_in counts.entries k in
+        let after = entry_in counts.entries (k + 1) in
+        let not_less : outranks after.1 now.1 after.0 now.0 ≡ false
         = sorted k (0, 0) (omega arith) (omega arith) in
         let j_is : entry_in counts.entries j ≡ entry_in counts.entries (k + 1) = ap (entry_in counts.entries) e in
         step (times codes (slice_index (keys counts) k)) (times codes (slice_index (keys counts) j)) (slice_index (keys counts) k)
-        (slice_index (keys counts) j) (entry_in counts.entries k).1 (entry_in counts.entries (k + 1)).1 (entry_in counts.entries k).0 (entry_in counts.entries (k + 1)).0
+        (slice_index (keys counts) j) now.1 after.1 now.0 after.0
         (ap (times codes) (key k here) ∙ sym (count k here))
         (ap (times codes) (key j within) ∙ sym (count j within) ∙ ap (λ (p : ℕ × ℕ). p.1) j_is)
         (key k here) (key j within ∙ ap (λ (p : ℕ × ℕ). p.0) j_is) not_less
@@ -217,6 +226,7 @@ among_first keys code rank n is low =
       list_any_at (λ other. code == other) (take n keys) rank 0 within (ap (λ other. code == other) same ∙ at.1),
     )
 
+-- a code whose first place is n or later is not among the first n
 pub behind_first : (keys : List ℕ) (code rank n : ℕ) → position (λ other. code == other) keys ≡ Some rank → n ≤ rank
     → list_any (λ other. code == other) (take n keys) ≡ false
 behind_first keys code rank n is high =
@@ -225,6 +235,7 @@ behind_first keys code rank n is high =
     let at = position-Some (λ other. code == other) keys rank d is in
     ap (λ other. code == other) (get_or-take n keys k d low) ∙ at.2 k (omega arith))
 
+-- a code that a list has nowhere is not among its first ones
 pub nowhere : (keys : List ℕ) (code n : ℕ) → list_any (λ other. code == other) keys ≡ false
     → list_any (λ other. code == other) (take n keys) ≡ false
 nowhere keys code n none =
@@ -238,6 +249,7 @@ pub local_more : (globals codes : List ℕ) (i : ℕ) → i < length codes → l
 local_more globals codes i within out =
     count_by_more_yes (λ code. not (list_any (λ global. code == global) globals)) codes i 0 within (ap not out)
 
+-- a code that every page may name adds nothing
 pub local_passed : (globals codes : List ℕ) (i : ℕ) → i < length codes → list_any (λ global. slice_index codes i == global) globals ≡ true
     → locals_in globals (take (i + 1) codes) ≡ locals_in globals (take i codes)
 local_passed globals codes i within out =

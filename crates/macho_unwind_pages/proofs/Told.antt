@@ -20,10 +20,12 @@ use Rattle.macho_unwind_pages.specs.Entries.{place_in}
 use Rattle.macho_unwind_pages.specs.Plans.{HasSlot}
 use Rattle.macho_unwind_pages.specs.Planning.{IsNear, IsNumbered, AreAlike}
 
+-- what holds of the first i and of the next one holds of one more
 pub all_more : {X : Type 0} (P : X → Type 0) (xs : List X) (i : ℕ) (d : X) → i < length xs → All P (take i xs) → P (get_or xs i d)
     → All P (take (i + 1) xs)
 all_more P xs i d within all one = subst (All P) (sym (take_more xs i d within)) (All-push P (take i xs) (get_or xs i d) all one)
 
+-- what holds of the first i, which are all, holds of all
 pub all_done : {X : Type 0} (P : X → Type 0) (xs : List X) (i : ℕ) → length xs ≤ i → All P (take i xs) → All P xs
 all_done P xs i over all = subst (All P) (take_all i xs over) all
 
@@ -32,7 +34,8 @@ starts_differ : (entries run : List ResolvedUnwindInfo) → AllPairs (λ e f. e.
     → AllPairs (λ x y. x ≢ y) (map (λ e. e.start) run)
 starts_differ entries run differ moved =
     AllPairs-from_IsDistinct Decides-eqb (map (λ (e : ResolvedUnwindInfo). e.start) run)
-    (IsDistinct-IsPermutation (λ x y. x == y) flips (map (λ (e : ResolvedUnwindInfo). e.start) entries) (map (λ (e : ResolvedUnwindInfo). e.start) run)
+    (IsDistinct-IsPermutation (λ x y. x == y) flips
+    (map (λ (e : ResolvedUnwindInfo). e.start) entries) (map (λ (e : ResolvedUnwindInfo). e.start) run)
     (IsPermutation-map (λ (e : ResolvedUnwindInfo). e.start) entries run moved)
     (IsDistinct-from_AllPairs Decides-eqb (map (λ (e : ResolvedUnwindInfo). e.start) entries) first))
   where
@@ -44,11 +47,13 @@ starts_differ entries run differ moved =
 
     first : AllPairs (λ x y. x ≢ y) (map (λ (e : ResolvedUnwindInfo). e.start) entries)
     first i j d low within same =
-        let long : length (map (λ (e : ResolvedUnwindInfo). e.start) entries) ≡ length entries = length-map entries (λ (e : ResolvedUnwindInfo). e.start) in
+        let long : length (map (λ (e : ResolvedUnwindInfo). e.start) entries) ≡ length entries
+        = length-map entries (λ (e : ResolvedUnwindInfo). e.start) in
         differ i j none low (omega arith)
         (sym (get_or-map (λ (e : ResolvedUnwindInfo). e.start) entries i none d (omega arith)) ∙ same
         ∙ get_or-map (λ (e : ResolvedUnwindInfo). e.start) entries j none d (omega arith))
 
+-- starts that differ and don't fall rise
 pub starts_rise : (entries run : List ResolvedUnwindInfo) → AllPairs (λ e f. e.start ≢ f.start) entries → IsPermutation entries run
     → IsNonDecreasingBy (λ e. e.start) run → AllPairs (λ e f. e.start < f.start) run
 starts_rise entries run differ moved up i j d low within =
@@ -82,10 +87,14 @@ slot_kept text ids slots p (Some q) size here there alike was =
           ap (slice_get (set slots (place_in ids p.id) (p.slot - text))) (sym same)
           ∙ written_there slots (place_in ids p.id) (p.slot - text) (omega (arith, here.0))
           ∙ ap (λ (s : ℕ). Some (s - text)) (sym (alike one))
-      | inr other ↦ written_elsewhere slots (place_in ids p.id) (place_in ids q.id) (p.slot - text) (omega (arith, there.0)) (λ e. other (sym e)) ∙ was
+      | inr other ↦
+          written_elsewhere slots (place_in ids p.id) (place_in ids q.id) (p.slot - text) (omega (arith, there.0)) (λ e. other (sym e))
+          ∙ was
     ]
 
-pub slots_more : (text : ℕ) (ids slots now : List ℕ) (run : List ResolvedUnwindInfo) (i : ℕ) (d : ResolvedUnwindInfo) (p : Personality) (place : ℕ)
+-- an entry with a personality: its slot is written, and those of the entries before it stand
+pub slots_more : (text : ℕ) (ids slots now : List ℕ) (run : List ResolvedUnwindInfo) (i : ℕ) (d : ResolvedUnwindInfo)
+    (p : Personality) (place : ℕ)
     → i < length run → (get_or run i d).personality ≡ Some p → place ≡ place_in ids p.id → length slots ≡ length ids
     → now ≡ set slots place (p.slot - text) → All (IsNumbered ids) run → All (λ e. All (AreAlike e) run) run
     → All (HasSlot text ids slots) (take i run) → All (HasSlot text ids now) (take (i + 1) run)
@@ -104,7 +113,8 @@ slots_more text ids slots now run i d p place within is at size written numbered
         let f : ResolvedUnwindInfo = get_or (take i run) k e in
         let same : get_or (take i run) k e ≡ get_or run k e = get_or-take i run k e low in
         let with_this : IfSome (get_or run k e).personality (λ q. q.id ≡ p.id → q.slot ≡ p.slot)
-        = subst (λ o. IfSome (get_or run k e).personality (λ q. IfSome o (λ q'. q.id ≡ q'.id → q.slot ≡ q'.slot))) is (alike k e (omega arith) i d within) in
+        = subst (λ o. IfSome (get_or run k e).personality (λ q. IfSome o (λ q'. q.id ≡ q'.id → q.slot ≡ q'.slot))) is
+        (alike k e (omega arith) i d within) in
         subst (λ s. HasSlot text ids s (get_or (take i run) k e)) made
         (slot_kept text ids slots p (get_or (take i run) k e).personality size number
         (subst (IsNumbered ids) (sym same) (numbered k e (omega arith)))
@@ -136,7 +146,8 @@ pub code_at : (entries : List (ℕ × ℕ)) (i code times : ℕ) → Some (code,
 code_at entries i code times is =
     let within : i < length entries = slice_get_within entries i (code, times) (sym is) in (
       omega (arith, length-map entries (λ (e : ℕ × ℕ). e.0)),
-      sym (get_or-map (λ (e : ℕ × ℕ). e.0) entries i (0, 0) 0 within ∙ ap (λ (e : ℕ × ℕ). e.0) (get_or_from_slice_get entries i (code, times) (0, 0) (sym is))),
+      sym (get_or-map (λ (e : ℕ × ℕ). e.0) entries i (0, 0) 0 within
+          ∙ ap (λ (e : ℕ × ℕ). e.0) (get_or_from_slice_get entries i (code, times) (0, 0) (sym is))),
     )
 
 -- as many of a list as there are, up to a number

@@ -43,9 +43,11 @@ tallies_of entries = record {
 -- the most pages of so many entries: one, and one more for each reason that closes a page
 abbrev pub most_pages : Tallies → ℕ → ℕ
 most_pages t span =
-    if t.entries == 0 then 0 else 1 + span / PAGE_SPAN + t.local / MOST_LOCALS + (t.entries + t.local) / (MOST_WORDS - 1)
+    if t.entries == 0 then 0
+    else 1 + span / PAGE_SPAN + t.local / MOST_LOCALS + (t.entries + t.local) / (MOST_WORDS - 1)
 
--- the bytes of a section: header, encodings, personalities, LSDA entries, page entries, heads of pages, words and local encodings
+-- the bytes of a section: header, encodings, personalities, LSDA entries, page entries, heads of pages, words and local
+-- encodings
 abbrev pub bytes_of : Tallies → ℕ → ℕ
 bytes_of t pages =
     28 + 4 * t.globals + 4 * t.personalities + 8 * t.lsdas + 12 * (pages + 1) + 12 * pages + 4 * t.entries + 4 * t.local

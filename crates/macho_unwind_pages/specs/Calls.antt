@@ -15,7 +15,8 @@ HasTooMany entries = MOST_PERSONALITIES < length (ids_of entries)
 -- Why a size isn't told: too many personality functions, or else a bound that doesn't fit 32 bits.
 abbrev pub SizeFault : List UnwindInput → ℕ → UnwindFault → Type 0
 SizeFault entries span TooManyPersonalities = HasTooMany entries
-SizeFault entries span OffsetTooLarge = (length (ids_of entries) ≤ MOST_PERSONALITIES) × (2 ^ 32 ≤ unwind_bound_of entries span)
+SizeFault entries span OffsetTooLarge =
+    (length (ids_of entries) ≤ MOST_PERSONALITIES) × (2 ^ 32 ≤ unwind_bound_of entries span)
 SizeFault entries span OutOfMemory = Unit {0}
 
 -- Why a bound isn't told: too many personality functions.
@@ -32,5 +33,6 @@ TellsBound entries span (Some bound) = bound ≡ unwind_bound_of entries span
 -- Why entries have no plan: too many personality functions, or else an offset that doesn't fit 32 bits.
 abbrev pub PlanFault : ℕ → List ResolvedUnwindInfo → UnwindFault → Type 0
 PlanFault text entries TooManyPersonalities = HasTooMany (inputs_of entries)
-PlanFault text entries OffsetTooLarge = (length (ids_of (inputs_of entries)) ≤ MOST_PERSONALITIES) × HasFarOffset text entries
+PlanFault text entries OffsetTooLarge =
+    (length (ids_of (inputs_of entries)) ≤ MOST_PERSONALITIES) × HasFarOffset text entries
 PlanFault text entries OutOfMemory = Unit {0}

@@ -76,7 +76,8 @@ pub record AreEntries (text : ℕ) (entries : List ResolvedUnwindInfo) : Type 0 
   pub slots : All (λ e. IfSome e.personality (λ p. text ≤ p.slot)) entries
   pub lsdas : All (λ e. IfSome e.lsda (λ address. text ≤ address)) entries
   pub ends : All (λ e. e.start + e.length < 2 ^ 64) entries
-  pub alike : All (λ e. All (λ f. IfSome e.personality (λ p. IfSome f.personality (λ q. p.id ≡ q.id → p.slot ≡ q.slot))) entries) entries
+  pub alike : All (λ e. All (λ f.
+      IfSome e.personality (λ p. IfSome f.personality (λ q. p.id ≡ q.id → p.slot ≡ q.slot))) entries) entries
   pub clear : All (λ e. e.encoding / PERSONALITY_UNIT % PERSONALITY_NUMBERS ≡ 0) entries
 
 -- no entry starts later

@@ -27,7 +27,8 @@ pub record IsOpenTo (globals : List ℕ) (page : PageList) (row : Row) : Type 0 
   pub behind : page.first ≤ row.start
   pub near : row.start < page.first + PAGE_SPAN
   pub word : length page.words + length page.locals + 1 ≤ MOST_WORDS
-  pub code : ¬ IsNamed globals page row.code → (length page.locals < MOST_LOCALS) × (length page.words + length page.locals + 2 ≤ MOST_WORDS)
+  pub code : ¬ IsNamed globals page row.code
+      → (length page.locals < MOST_LOCALS) × (length page.words + length page.locals + 2 ≤ MOST_WORDS)
 
 -- A page gives a code a number: the one that it has, or that of one code more.
 pub record Names (globals : List ℕ) (old new : PageList) (code number : ℕ) : Type 0 where

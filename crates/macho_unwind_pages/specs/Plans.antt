@@ -129,12 +129,13 @@ codes_on globals page = map (λ row. row.code) (page_rows globals page)
 abbrev pub first_place : List ℕ → ℕ → ℕ
 first_place codes code = position_or_len (λ other. code == other) codes
 
--- A page's own codes: each of a function of the page, none that every page may name, each once and in the order of their
--- first use.
+-- A page's own codes: each of a function of the page, none that every page may name, each once and in the order of
+-- their first use.
 pub record AreLocals (globals : List ℕ) (page : PageList) : Type 0 where
   pub used : All (λ code. Contains (codes_on globals page) code) page.locals
   pub own : All (λ code. ¬ Contains globals code) page.locals
-  pub order : AllPairs (λ a b. first_place (codes_on globals page) a < first_place (codes_on globals page) b) page.locals
+  pub order :
+      AllPairs (λ a b. first_place (codes_on globals page) a < first_place (codes_on globals page) b) page.locals
 
 -- The slot of each entry's personality stands at its number.
 abbrev pub HasSlot : ℕ → List ℕ → List ℕ → ResolvedUnwindInfo → Type 0
@@ -167,9 +168,11 @@ IsFar text address = text + 2 ^ 32 ≤ address
 -- an entry has one: its start, its slot, or its data
 abbrev pub HasFarAddress : ℕ → ResolvedUnwindInfo → Type 0
 HasFarAddress text e =
-    IsFar text e.start ⊎ (IsSomeAnd e.personality (λ p. IsFar text p.slot) ⊎ IsSomeAnd e.lsda (λ address. IsFar text address))
+    IsFar text e.start
+    ⊎ (IsSomeAnd e.personality (λ p. IsFar text p.slot) ⊎ IsSomeAnd e.lsda (λ address. IsFar text address))
 
 -- one of the entries has one, or the last one's end is one
 abbrev pub HasFarOffset : ℕ → List ResolvedUnwindInfo → Type 0
 HasFarOffset text entries =
-    (e : ResolvedUnwindInfo) × Contains entries e × (HasFarAddress text e ⊎ (IsLast entries e × IsFar text (e.start + e.length)))
+    (e : ResolvedUnwindInfo) × Contains entries e
+    × (HasFarAddress text e ⊎ (IsLast entries e × IsFar text (e.start + e.length)))

@@ -1,3 +1,7 @@
+-- A row of numbers is put at a place, one number after the other.
+--
+-- What holds after k numbers: the next place is at + 2k, and the bytes are the first ones with the row of k numbers put in.
+-- So the next number goes right behind the row.
 use Rattle.std.proofs.Common.{◌≡◌, ◌+◌, ◌*◌, take}
 use Rattle.macho_bytes.specs.Numbers.{little, row_bytes}
 use Rattle.macho_bytes.specs.Texts.{put}

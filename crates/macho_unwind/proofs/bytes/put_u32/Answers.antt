@@ -1,3 +1,7 @@
+-- A number of 32 bits is put at a place.
+--
+-- The call writes over the slice from the place on: its first four bytes become those of the number, and its rest stays.
+-- What stands before the place isn't in the slice, so it stays too. That is what it means to put the bytes at the place.
 use Rattle.std.proofs.Common.{refl}
 use Rattle.macho_bytes.specs.Numbers.{le_bytes}
 use Rattle.macho_bytes.proofs.Writes.{put_mid-front}

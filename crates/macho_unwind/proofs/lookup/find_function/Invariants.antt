@@ -1,3 +1,7 @@
+-- The last function of a page whose offset in the page is not above a limit.
+--
+-- What holds before function j: of the functions before it, the best one is known with its offset; or none was told, and
+-- then each of their offsets is above the limit.
 use Rattle.std.proofs.Common.{ℕ}
 use Rattle.macho_unwind.specs.Sections.{word_at, offset_in}
 use Rattle.macho_unwind.specs.Parts.{IsBest}

@@ -1,3 +1,7 @@
+-- The first LSDA entry of a page that is of the function at a start.
+--
+-- What holds before entry j: no earlier entry is of that function. So entry j is the first one if it is of the function, and
+-- if none is left, the page has no entry of the function.
 use Rattle.std.proofs.Common.{◌≢◌, ◌<◌, ℕ}
 use Rattle.macho_unwind.specs.Sections.{lsda_at}
 use Rattle.macho_unwind.proofs.lookup.find_lsda.Given as goal

@@ -1,3 +1,9 @@
+-- A page is read exactly where the bytes have it whole.
+--
+-- The entry, its head and the count of its LSDA entries are those of the bytes: what was read is what stands at its place,
+-- and the count is the difference of two LSDA places, divided by the size of an entry. So what the tests say of the records
+-- read (the kind, the functions, the encodings and the LSDA entries inside the bytes) is said of the bytes' own. The other
+-- way round, a page that the bytes have whole passes each test: so where a test fails they don't have it.
 use Rattle.std.proofs.Common.{◌≡◌, ℕ, ◌/◌, ap, refl, ◌∙◌, rules, arith}
 use Rattle.std.proofs.lemmas.Grind.{common_steps}
 use Rattle.macho_unwind.specs.Sections.{lsda_count, IsWholePage}
@@ -10,7 +16,8 @@ returns-then-has_lsdas c =
     let head = page_is c.args.bytes.now c.args.number c.read_entry-entry.result c.in_ok-head.head c.read_entry-entry.ensures read.is in
     let lsdas : c.saturating_sub-lsdas.result / 8 ≡ lsda_count c.args.bytes.now c.args.number =
     ap (λ (n : ℕ). n / 8) c.saturating_sub-lsdas.ensures
-    ∙ lsdas_are c.args.bytes.now c.args.number c.read_entry-entry.result c.read_entry-next.result c.read_entry-entry.ensures c.read_entry-next.ensures in
+    ∙ lsdas_are c.args.bytes.now c.args.number c.read_entry-entry.result c.read_entry-next.result
+    c.read_entry-entry.ensures c.read_entry-next.ensures in
     let whole : IsWholePage c.args.bytes.now c.read_entry-entry.result c.in_ok-head.head (c.saturating_sub-lsdas.result / 8) = record {
       head = read.whole;
       kind = c.if-head-eq-COMPRESSED.true;
@@ -23,7 +30,8 @@ returns-then-has_lsdas c =
         entry = c.read_entry-entry.ensures;
         head = head;
         lsdas = lsdas;
-        whole = page_whole c.args.bytes.now c.args.number c.read_entry-entry.result c.in_ok-head.head (c.saturating_sub-lsdas.result / 8) c.read_entry-entry.ensures head lsdas whole;
+        whole = page_whole c.args.bytes.now c.args.number c.read_entry-entry.result c.in_ok-head.head
+            (c.saturating_sub-lsdas.result / 8) c.read_entry-entry.ensures head lsdas whole;
       },
     )
 
@@ -33,7 +41,8 @@ returns-else-head-eq-COMPRESSED c =
     let head = page_is c.args.bytes.now c.args.number c.read_entry-entry.result c.in_ok-head.head c.read_entry-entry.ensures read.is in
     let lsdas : c.saturating_sub-lsdas.result / 8 ≡ lsda_count c.args.bytes.now c.args.number =
     ap (λ (n : ℕ). n / 8) c.saturating_sub-lsdas.ensures
-    ∙ lsdas_are c.args.bytes.now c.args.number c.read_entry-entry.result c.read_entry-next.result c.read_entry-entry.ensures c.read_entry-next.ensures in
+    ∙ lsdas_are c.args.bytes.now c.args.number c.read_entry-entry.result c.read_entry-next.result
+    c.read_entry-entry.ensures c.read_entry-next.ensures in
     let whole =
     page_was_whole c.args.bytes.now c.args.number c.read_entry-entry.result c.in_ok-head.head (c.saturating_sub-lsdas.result / 8)
     c.read_entry-entry.ensures head lsdas given in

@@ -1,3 +1,9 @@
+-- The section of entries.
+--
+-- No entries give no bytes: they have no id and no page, so neither too many of them nor a far page. One entry or more have
+-- a plan, which has a page, and the bytes are its text. So they are the entries' section, and look-up in a section finds
+-- each offset's entry and nothing else. The plan is the entries' only one and its places fit 32 bits, so no plan of them has
+-- a far page.
 use Rattle.std.proofs.Common.{◌<◌, length, arith}
 use Rattle.std.proofs.lemmas.Bool.Decides.{nat_tests}
 use Rattle.std.proofs.lemmas.List.{length-map}

@@ -1,3 +1,7 @@
+-- A list of entries that the test lets through meets the conditions of a section.
+--
+-- After the loop each entry was looked at, and each two entries, the earlier with the later one. What was looked at one by
+-- one and two by two makes up the conditions.
 use Rattle.std.proofs.Common.{arith}
 use Rattle.macho_unwind.proofs.Fitness.{are_entries}
 use Rattle.macho_unwind.proofs.section_tests.are_fit.Goals as goal

@@ -1,3 +1,7 @@
+-- A list of entries that the test lets through meets the conditions of a section.
+--
+-- What holds before entry number n of the outer loop: each entry before n is fit, and each two entries before n are apart.
+-- What holds in the inner loop before entry m: each entry before m is apart from entry n.
 use Rattle.std.proofs.Common.{◌<◌, ℕ, get_or}
 use Rattle.macho_unwind.specs.Conditions.{IsFit, AreApart}
 use Rattle.macho_unwind.proofs.EntryLookup.{no_entry}

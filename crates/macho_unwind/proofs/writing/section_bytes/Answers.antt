@@ -1,3 +1,8 @@
+-- The bytes of a plan.
+--
+-- They are as many as the plan's text has, and the text was put at 0. A text that is put over a list of its own length is
+-- all of it. So the bytes are the text; the text stands in them at 0, and with it each part at its place. What a plan says
+-- of an offset is found in bytes where its parts stand.
 use Rattle.std.proofs.Common.{◌≡◌, ℕ, List, length, ◌∙◌, ap, arith}
 use Rattle.macho_unwind_pages.specs.Plans.{plan_list}
 use Rattle.macho_unwind.specs.Texts.{section_text}
@@ -16,7 +21,8 @@ returns-clause-done c =
     let len = c.in_ok-bytes.ensures.len in
     let whole : length text ≡ length c.deref_mut.result.now = omega (arith, long, size, len, c.deref_mut.ensures.len) in
     let kept = ap (λ (t : List ℕ). length t) c.deref_mut.ensures.value in
-    written_back text c.in_ok-bytes.bytes.items c.write_plan.new.out c.in_ok-bytes.bytes.len (c.write_plan.ensures ∙ put_all text c.deref_mut.result.now whole)
+    written_back text c.in_ok-bytes.bytes.items c.write_plan.new.out c.in_ok-bytes.bytes.len
+    (c.write_plan.ensures ∙ put_all text c.deref_mut.result.now whole)
     (omega (arith, whole, kept)) (omega (arith, kept, c.deref_mut.ensures.len))
 
 pub returns-clause-said : goal.returns-clause-said

@@ -1,3 +1,7 @@
+-- The LSDA entries of a plan are written one behind the other.
+--
+-- What holds before entry k: the next place is at + 8k, and the bytes are the first ones with the first k entries put in,
+-- which end at that place.
 use Rattle.std.proofs.Common.{◌≡◌, ◌+◌, ◌*◌, take}
 use Rattle.macho_bytes.proofs.Sequences.{MoreTexts}
 use Rattle.macho_unwind.specs.Texts.{lsda_text}

@@ -1,3 +1,7 @@
+-- Pages are written one behind the other.
+--
+-- What holds before page k: the next place is at and the sum of the sizes of the first k pages, and the bytes are the first
+-- ones with the texts of these pages put in, which end at that place.
 use Rattle.std.proofs.Common.{◌≡◌, ◌+◌, take, sum_by}
 use Rattle.macho_bytes.proofs.Sequences.{MoreTexts}
 use Rattle.macho_unwind_pages.specs.Plans.{page_list, page_size}

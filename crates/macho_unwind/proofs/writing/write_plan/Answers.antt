@@ -1,3 +1,9 @@
+-- The text of a plan is put at 0, part behind part.
+--
+-- The parts are the header, the encodings of all pages, the slots of personalities, the entries of the pages, the last
+-- entry, the LSDA entries and the pages. Each part is put where the ones before it end: its place is 0 and their lengths,
+-- and the last place is the size, for which there is room. A text put right behind a text is one text, so in the end all of
+-- them joined are put at 0.
 use Rattle.std.proofs.Common.{◌≡◌, ℕ, ◌+◌, ◌*◌, ◌<◌, ◌^◌, List, length, get_or, sum_by, subst, sym, ap, ◌∙◌, arith}
 use Rattle.std.specs.List.{flat_map, range_with_len}
 use Rattle.std.proofs.lemmas.List.{length-map}
@@ -35,30 +41,40 @@ returns c =
     let room = c.requires.room in
     let pages = length-map items page_list in
     let header : IsPutUpTo out c.write.new.out (spelling compact_unwind_info_header (header_for plan)) 28 = record {
-      is = c.write.ensures.written ∙ ap (λ (h : CompactUnwindInfoHeader). put 0 (spelling compact_unwind_info_header h) out) c.header_of.ensures;
+      is = c.write.ensures.written
+          ∙ ap (λ (h : CompactUnwindInfoHeader). put 0 (spelling compact_unwind_info_header h) out) c.header_of.ensures;
       long = length-header_text plan;
     } in
     let globals = put_next out c.write.new.out c.put_u32s.new.out _ (row_bytes little 4 plan.globals) 28 (personalities_place plan) header
     (c.put_u32s.ensures.written ∙ ap (λ (ns : List ℕ). put 28 (row_bytes little 4 ns) c.write.new.out) c.as_slice.ensures.value)
     (omega (arith, length-row_little 4 plan.globals)) (omega (arith, room)) in
     let place : 28 + 4 * c.len.result ≡ personalities_place plan = omega (arith, c.len.ensures) in
-    let personalities = put_next out c.put_u32s.new.out c.put_u32s-2.new.out _ (row_bytes little 4 plan.personalities) (personalities_place plan) (entries_place plan) globals
-    (c.put_u32s-2.ensures.written ∙ ap (λ (ns : List ℕ). put (28 + 4 * c.len.result) (row_bytes little 4 ns) c.put_u32s.new.out) c.as_slice-2.ensures.value
+    let personalities = put_next out c.put_u32s.new.out c.put_u32s-2.new.out _ (row_bytes little 4 plan.personalities)
+    (personalities_place plan) (entries_place plan) globals
+    (c.put_u32s-2.ensures.written
+    ∙ ap (λ (ns : List ℕ). put (28 + 4 * c.len.result) (row_bytes little 4 ns) c.put_u32s.new.out) c.as_slice-2.ensures.value
     ∙ ap (λ (at : ℕ). put at (row_bytes little 4 plan.personalities) c.put_u32s.new.out) place)
     (omega (arith, length-row_little 4 plan.personalities)) (omega (arith, room)) in
-    let entries = put_next out c.put_u32s-2.new.out c.write_entries.new.out _ (flat_map (entry_text plan) (range_with_len 0 (length plan.pages))) (entries_place plan)
+    let entries = put_next out c.put_u32s-2.new.out c.write_entries.new.out _
+    (flat_map (entry_text plan) (range_with_len 0 (length plan.pages))) (entries_place plan)
     (entries_place plan + 12 * length items) personalities
-    (c.write_entries.ensures ∙ ap (λ (n : ℕ). put (entries_place plan) (flat_map (entry_text plan) (range_with_len 0 n)) c.put_u32s-2.new.out) (sym pages))
+    (c.write_entries.ensures
+    ∙ ap (λ (n : ℕ). put (entries_place plan) (flat_map (entry_text plan) (range_with_len 0 n)) c.put_u32s-2.new.out) (sym pages))
     (omega (arith, length-entries plan (length plan.pages), pages)) (omega (arith, room, pages)) in
-    let last = put_next out c.write_entries.new.out c.write_last_entry.new.out _ (spelling page_entry (last_entry_for plan)) (entries_place plan + 12 * length items)
-    (lsdas_place plan) entries c.write_last_entry.ensures
+    let last = put_next out c.write_entries.new.out c.write_last_entry.new.out _ (spelling page_entry (last_entry_for plan))
+    (entries_place plan + 12 * length items) (lsdas_place plan) entries c.write_last_entry.ensures
     (omega (arith, length-last_entry_text plan, pages)) (omega (arith, room)) in
-    let lsdas = put_next out c.write_last_entry.new.out c.write_lsdas.new.out _ (flat_map lsda_text plan.lsdas) (lsdas_place plan) (pages_place plan) last
-    (c.write_lsdas.ensures ∙ ap (λ (ls : List Lsda). put c.lsdas_start.result (flat_map lsda_text ls) c.write_last_entry.new.out) c.as_slice-3.ensures.value
+    let lsdas = put_next out c.write_last_entry.new.out c.write_lsdas.new.out _ (flat_map lsda_text plan.lsdas)
+    (lsdas_place plan) (pages_place plan) last
+    (c.write_lsdas.ensures
+    ∙ ap (λ (ls : List Lsda). put c.lsdas_start.result (flat_map lsda_text ls) c.write_last_entry.new.out) c.as_slice-3.ensures.value
     ∙ ap (λ (at : ℕ). put at (flat_map lsda_text plan.lsdas) c.write_last_entry.new.out) c.lsdas_start.ensures)
     (omega (arith, length-lsdas plan.lsdas)) (omega (arith, room)) in
-    let all = put_next out c.write_lsdas.new.out c.write_pages.new.out _ (flat_map page_text plan.pages) (pages_place plan) (pages_place plan + sum_by page_size plan.pages) lsdas
-    (c.write_pages.ensures ∙ ap (λ (ps : List Page). put c.pages_start.result (flat_map (λ (p : Page). page_text (page_list p)) ps) c.write_lsdas.new.out) c.as_slice-4.ensures.value
+    let texts_of : List Page → List ℕ = λ ps. flat_map (λ (p : Page). page_text (page_list p)) ps in
+    let all = put_next out c.write_lsdas.new.out c.write_pages.new.out _ (flat_map page_text plan.pages)
+    (pages_place plan) (pages_place plan + sum_by page_size plan.pages) lsdas
+    (c.write_pages.ensures
+    ∙ ap (λ (ps : List Page). put c.pages_start.result (texts_of ps) c.write_lsdas.new.out) c.as_slice-4.ensures.value
     ∙ ap (λ (t : List ℕ). put c.pages_start.result t c.write_lsdas.new.out) (texts-listed items)
     ∙ ap (λ (at : ℕ). put at (flat_map page_text plan.pages) c.write_lsdas.new.out) c.pages_start.ensures)
     (omega (arith, length-pages plan.pages)) (omega (arith, room)) in

@@ -1,3 +1,7 @@
+-- How many entries have language-specific data.
+--
+-- What holds before entry k: the count is that of the first k entries, and it is at most k. So one more doesn't overflow,
+-- since k is a place in a slice.
 use Rattle.std.proofs.Common.{◌≡◌, ◌≤◌, take}
 use Rattle.std.specs.List.{count_by}
 use Rattle.macho_unwind_pages.proofs.bound.lsda_count.Given as goal

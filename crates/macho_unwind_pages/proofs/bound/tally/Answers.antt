@@ -1,3 +1,8 @@
+-- What entries have of each thing.
+--
+-- Each number was told of its own list: the ids of the entries, their codes under these ids, and the ranks of the codes. The
+-- lists are those that the definition has, by the contracts of the calls that made them; so the numbers are too. Of the
+-- ranks, each page may name the first 224, which are as many as there are ranks, and 224 at most.
 use Rattle.std.proofs.Common.{ℕ, ap, ◌∙◌, map, take, arith}
 use Rattle.std.proofs.lemmas.List.{length-map}
 use Rattle.indexmap.specs.IndexMap.{keys}

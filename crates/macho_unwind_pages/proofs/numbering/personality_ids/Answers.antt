@@ -1,3 +1,8 @@
+-- The ids that entries name, rising and each once.
+--
+-- No entries name none. An entry with an id puts the id in its place among those so far, and then these are the ids of one
+-- entry more; an entry without one leaves them. The ids of the first entries are no more than those of all, so where they
+-- are more than three, so are those of all, and that is told.
 use Rattle.std.proofs.Common.{length, sym, ap, ◌∙◌, arith}
 use Rattle.macho_unwind_pages.proofs.Numbers.{ids_of-none, put_more, too_many, ids_of-passed}
 use Rattle.macho_unwind_pages.proofs.numbering.personality_ids.Goals as goal

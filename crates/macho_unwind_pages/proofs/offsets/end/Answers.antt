@@ -1,3 +1,7 @@
+-- Why the offset behind the last function isn't told.
+--
+-- Starts rise along the run, so its last entry has the greatest start. Its end less the text's start is 2^32 or more. So one
+-- of the run's entries, the last one, has an end that is too far away.
 use Rattle.std.proofs.Common.{inr, refl, get_or, ◌-◌, arith, length}
 use Rattle.macho_unwind_pages.proofs.Gathered.{none, is_last, contains_at}
 use Rattle.macho_unwind_pages.proofs.offsets.end.Goals as goal

@@ -1,3 +1,8 @@
+-- The codes that every page may name are the first 224 of the ranks, or all where they are fewer.
+--
+-- The table of ranks has at each place a code and its count; the codes are its keys. So after k steps the list is the first
+-- k keys, and the next step adds key k, which has 32 bits as all keys do. The steps are as many as there are keys, and 224
+-- at most, so the list is the first 224 keys in the end.
 use Rattle.std.proofs.Common.{◌^◌, ◌<◌, ◌++◌, ◌∷◌, [], ℕ, take, sym, subst, ap, ◌∙◌, arith, rules}
 use Rattle.std.proofs.lemmas.List.{length-map, take_more}
 use Rattle.indexmap.specs.IndexMap.{keys}

@@ -1,3 +1,7 @@
+-- The language-specific data of a run of entries.
+--
+-- What holds before entry k: the list has the data of the first k entries, joined in their order: of each entry one pair of
+-- offsets, or none. When no entry is left, the first k are all of them.
 use Rattle.std.proofs.Common.{◌≡◌, take}
 use Rattle.std.specs.List.{flat_map}
 use Rattle.macho_unwind_pages.specs.Plans.{lsda_from}

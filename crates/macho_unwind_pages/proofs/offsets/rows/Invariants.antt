@@ -1,3 +1,7 @@
+-- The functions of a run of entries, each by its start and its code.
+--
+-- What holds before entry k: the list has the functions of the first k entries, in their order. When no entry is left, the
+-- first k are all of them.
 use Rattle.std.proofs.Common.{◌≡◌, take, map}
 use Rattle.macho_unwind_pages.specs.Plans.{row_from}
 use Rattle.macho_unwind_pages.proofs.offsets.rows.Given as goal

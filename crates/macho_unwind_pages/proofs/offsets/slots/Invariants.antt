@@ -1,3 +1,7 @@
+-- The slots of personality functions, by the numbers of their ids.
+--
+-- What holds before entry k: there are as many slots as ids, each has 32 bits, and that of each of the first k entries
+-- stands at the place of its id.
 use Rattle.std.proofs.Common.{◌≡◌, ◌<◌, ◌^◌, take, length}
 use Rattle.std.specs.List.{All}
 use Rattle.macho_unwind_pages.specs.Plans.{HasSlot}

@@ -1,3 +1,9 @@
+-- Functions in order are put on pages.
+--
+-- The first function begins a page. Each further one goes on the open page if that has room; otherwise the page is closed,
+-- for one of the reasons for which pages close, and the function begins the next one. Both steps keep it that the closed
+-- pages and the open one are pages of the functions so far. In the end the open page is closed too, and the pages are those
+-- of all functions.
 use Rattle.std.proofs.Common.{◌++◌, ◌∷◌, [], map, ap, ◌∙◌, arith}
 use Rattle.std.proofs.lemmas.List.{map_push}
 use Rattle.macho_unwind_pages.specs.Plans.{page_list}
@@ -9,7 +15,8 @@ use Rattle.macho_unwind_pages.proofs.paging.paged.Goals.{then-is_closed_to+in_ok
 pub loop-index-init : goal.loop-index-init
 loop-index-init c = record {
   some = omega arith;
-  pages = rw c.new-pages.ensures.items (made_first (globals_in c.args.ranks.now) c.args.rows.now (page_list c.in_ok-page.page) _ c.requires.some c.in_ok-page.ensures);
+  pages = rw c.new-pages.ensures.items
+      (made_first (globals_in c.args.ranks.now) c.args.rows.now (page_list c.in_ok-page.page) _ c.requires.some c.in_ok-page.ensures);
 }
 
 pub begun-requires-then-is_closed_to : goal.begun-requires-then-is_closed_to

@@ -1,3 +1,8 @@
+-- The parts of a plan are made from a run that is ready for it.
+--
+-- The functions are those of the run, so there is one, they start in order, and the code of each is ranked. So they can be
+-- put on pages beside the first ranks, which have 32 bits as all codes do. With the slots and the data of the run these are
+-- the parts of a plan.
 use Rattle.std.proofs.Common.{◌≡◌, ◌==◌, ◌<◌, ◌^◌, ℕ, List, length, map, true, sym, ap, subst, ◌∙◌, arith}
 use Rattle.std.specs.List.{All, AllPairs, list_any}
 use Rattle.std.proofs.lemmas.List.{length-map}
@@ -26,9 +31,11 @@ paged-requires-clause-rising c =
 
 pub paged-requires-clause-ranked : goal.paged-requires-clause-ranked
 paged-requires-clause-ranked c =
-    subst (All (λ (r : Row). list_any (λ other. r.code == other) (keys c.in_ok-ranks.ranks) ≡ true)) (sym (c.as_slice.ensures.value ∙ c.in_ok-rows.ensures))
-    (subst (λ (ks : List ℕ). All (λ (r : Row). list_any (λ other. r.code == other) ks ≡ true) (map (row_from c.args.text_start c.args.ids.now) c.args.run.now)) (sym c.in_ok-ranks.ensures)
-    (All-map (λ (r : Row). list_any (λ other. r.code == other) (ranked c.args.codes.now) ≡ true) (row_from c.args.text_start c.args.ids.now) c.args.run.now c.requires.ranked))
+    let to_row = row_from c.args.text_start c.args.ids.now in
+    let AreAmong : List ℕ → List Row → Type 0 = λ ks rows. All (λ (r : Row). list_any (λ other. r.code == other) ks ≡ true) rows in
+    subst (AreAmong (keys c.in_ok-ranks.ranks)) (sym (c.as_slice.ensures.value ∙ c.in_ok-rows.ensures))
+    (subst (λ (ks : List ℕ). AreAmong ks (map to_row c.args.run.now)) (sym c.in_ok-ranks.ensures)
+    (All-map (λ (r : Row). list_any (λ other. r.code == other) (ranked c.args.codes.now) ≡ true) to_row c.args.run.now c.requires.ranked))
 
 pub globals-requires : goal.globals-requires
 globals-requires c =
@@ -36,7 +43,9 @@ globals-requires c =
 
 pub returns-clause-done : goal.returns-clause-done
 returns-clause-done c =
-    assembled_of c.args.text_start c.args.ids.now c.args.codes.now c.args.run.now c.in_ok-rows.rows.items (keys c.in_ok-ranks.ranks) _ c.requires
-    c.in_ok-ranks.ensures c.in_ok-rows.ensures
-    (subst (λ (rs : List Row). ArePages (globals_in c.in_ok-ranks.ranks) rs (map page_list c.in_ok-pages.pages.items)) c.as_slice.ensures.value c.in_ok-pages.ensures)
-    c.in_ok-globals.ensures c.in_ok-personalities.ensures.length c.in_ok-personalities.ensures.done c.in_ok-lsdas.ensures c.in_ok-personalities.ensures.short
+    assembled_of c.args.text_start c.args.ids.now c.args.codes.now c.args.run.now c.in_ok-rows.rows.items
+    (keys c.in_ok-ranks.ranks) _ c.requires c.in_ok-ranks.ensures c.in_ok-rows.ensures
+    (subst (λ (rs : List Row). ArePages (globals_in c.in_ok-ranks.ranks) rs (map page_list c.in_ok-pages.pages.items))
+    c.as_slice.ensures.value c.in_ok-pages.ensures)
+    c.in_ok-globals.ensures c.in_ok-personalities.ensures.length c.in_ok-personalities.ensures.done
+    c.in_ok-lsdas.ensures c.in_ok-personalities.ensures.short

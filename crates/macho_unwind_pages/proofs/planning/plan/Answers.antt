@@ -1,3 +1,9 @@
+-- A plan of entries, or why there is none.
+--
+-- The sorted run is a permutation of the entries, so what holds of each entry holds of each one of the run: no address is
+-- below the text's, and no end is 2^64 or more. If an offset is too far for the run, it is for the entries. If not, the run
+-- is ready: starts rise, all addresses are near, and the ids are three at most. What is assembled from a ready run is a plan
+-- of the entries. And no offset of the entries is too far, since none of the run is.
 use Rattle.std.proofs.Common.{◌≡◌, ◌+◌, ◌<◌, ◌≤◌, ◌^◌, ℕ, List, length, map, sym, ap, subst, ◌∙◌, arith, rules}
 use Rattle.std.specs.List.{All}
 use Rattle.std.proofs.lemmas.List.Sorted.{All-permutation, length_permutation}
@@ -29,12 +35,13 @@ end-requires-clause-behind c =
 pub end-requires-clause-ends : goal.end-requires-clause-ends
 end-requires-clause-ends c =
     subst (All (λ (e : ResolvedUnwindInfo). e.start + e.length < 2 ^ 64)) (sym c.as_slice-2.ensures.value)
-    (All-permutation (λ (e : ResolvedUnwindInfo). e.start + e.length < 2 ^ 64) c.args.entries.now c.in_ok-run.run'.items c.in_ok-run.ensures.same
-    c.requires.entries.ends)
+    (All-permutation (λ (e : ResolvedUnwindInfo). e.start + e.length < 2 ^ 64) c.args.entries.now c.in_ok-run.run'.items
+    c.in_ok-run.ensures.same c.requires.entries.ends)
 
 pub returns-in_err-end-clause-why : goal.returns-in_err-end-clause-why
 returns-in_err-end-clause-why c =
-    let few = subst (λ (l : List UnwindInput). length (ids_of l) ≤ 3) (c.as_slice.ensures.value ∙ c.in_ok-inputs.ensures) c.in_ok-ids.ensures.few in
+    let few = subst (λ (l : List UnwindInput). length (ids_of l) ≤ 3) (c.as_slice.ensures.value ∙ c.in_ok-inputs.ensures)
+    c.in_ok-ids.ensures.few in
     let run = c.in_ok-run.run'.items in
     let far = subst (HasFarOffset c.args.text_start) c.as_slice-2.ensures.value c.in_err-end.ensures.why.1 in
     err_is c.from_residual-in_err-end.result (PlanFault c.args.text_start c.args.entries.now) c.in_err-end.field-0.0
@@ -50,7 +57,8 @@ assembled-requires c =
     let codes = c.in_ok-codes.codes.items in
     let inputs = c.in_ok-inputs.inputs.items in
     let made : IsReady text ids codes run
-    = ready text c.args.entries.now run inputs ids codes c.requires.some c.requires.entries c.in_ok-run.ensures.same c.in_ok-run.ensures.rising
+    = ready text c.args.entries.now run inputs ids codes c.requires.some c.requires.entries
+    c.in_ok-run.ensures.same c.in_ok-run.ensures.rising
     (subst (All (IsNear text)) c.as_slice-2.ensures.value c.in_ok-end.ensures.near) c.in_ok-inputs.ensures
     (c.in_ok-ids.ensures.done ∙ ap ids_of c.as_slice.ensures.value)
     (subst (λ (l : List UnwindInput). length (ids_of l) ≤ 3) c.as_slice.ensures.value c.in_ok-ids.ensures.few)
@@ -69,7 +77,8 @@ returns-clause-done c =
     let inputs = c.in_ok-inputs.inputs.items in
     let plan = plan_list c.in_ok-plan.plan in
     let made : IsReady text ids codes run
-    = ready text c.args.entries.now run inputs ids codes c.requires.some c.requires.entries c.in_ok-run.ensures.same c.in_ok-run.ensures.rising
+    = ready text c.args.entries.now run inputs ids codes c.requires.some c.requires.entries
+    c.in_ok-run.ensures.same c.in_ok-run.ensures.rising
     (subst (All (IsNear text)) c.as_slice-2.ensures.value c.in_ok-end.ensures.near) c.in_ok-inputs.ensures
     (c.in_ok-ids.ensures.done ∙ ap ids_of c.as_slice.ensures.value)
     (subst (λ (l : List UnwindInput). length (ids_of l) ≤ 3) c.as_slice.ensures.value c.in_ok-ids.ensures.few)
@@ -85,11 +94,13 @@ returns-clause-done c =
     (c.in_ok-codes.ensures ∙ ap (λ (l : List ℕ). map (code_in l) c.as_slice-4.result.now) c.as_slice-3.ensures.value
     ∙ ap (map (code_in ids)) c.as_slice-4.ensures.value)
     c.in_ok-plan.ensures.end (search rules)
-    (subst (λ (l : List ResolvedUnwindInfo). All (λ e. IsLast l e → e.start + e.length ≡ text + c.in_ok-end.end) l) c.as_slice-2.ensures.value c.in_ok-end.ensures.done)
+    (subst (λ (l : List ResolvedUnwindInfo). All (λ e. IsLast l e → e.start + e.length ≡ text + c.in_ok-end.end) l)
+    c.as_slice-2.ensures.value c.in_ok-end.ensures.done)
 
 pub returns-clause-near : goal.returns-clause-near
 returns-clause-near c =
     not_far c.args.text_start c.args.entries.now c.in_ok-run.run'.items c.in_ok-end.end c.in_ok-run.ensures.same
     (subst (All (IsNear c.args.text_start)) c.as_slice-2.ensures.value c.in_ok-end.ensures.near)
-    (subst (λ (l : List ResolvedUnwindInfo). All (λ e. IsLast l e → e.start + e.length ≡ c.args.text_start + c.in_ok-end.end) l) c.as_slice-2.ensures.value c.in_ok-end.ensures.done)
+    (subst (λ (l : List ResolvedUnwindInfo). All (λ e. IsLast l e → e.start + e.length ≡ c.args.text_start + c.in_ok-end.end) l)
+    c.as_slice-2.ensures.value c.in_ok-end.ensures.done)
     (search rules)

@@ -1,3 +1,7 @@
+-- How many codes of a list not every page may name.
+--
+-- If code k has no number among those that every page may name, it is one more of the count; if it has one, it adds nothing.
+-- So the count of the first k codes becomes that of the first k + 1.
 use Rattle.std.proofs.Common.{◌+◌, ℕ, take, not, sym, ap, ◌∙◌, arith}
 use Rattle.indexmap.specs.IndexMap.{keys}
 use Rattle.macho_unwind_pages.proofs.Ranked.{local_more, local_passed}

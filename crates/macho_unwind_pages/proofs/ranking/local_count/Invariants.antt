@@ -1,3 +1,7 @@
+-- How many codes of a list not every page may name.
+--
+-- What holds before place k: the count is that of the first k codes, and it is at most k. So one more doesn't overflow,
+-- since k is a place in a slice.
 use Rattle.std.proofs.Common.{◌≡◌, ◌≤◌, take}
 use Rattle.indexmap.specs.IndexMap.{keys}
 use Rattle.macho_unwind_pages.specs.Bounds.{MOST_GLOBALS, locals_in}

@@ -1,3 +1,8 @@
+-- A code that has no number yet gets that of one code more.
+--
+-- The code is one of the ranks, but not one of those that every page may name. So these are as many as there may be, 224,
+-- and the page's own codes are numbered behind them. The code is put behind the own ones, so its number is 224 and how many
+-- they were.
 use Rattle.std.proofs.Common.{ap, sym, refl, ◌∙◌, arith, is_some}
 use Rattle.macho_unwind_pages.specs.Plans.{page_list}
 use Rattle.macho_unwind_pages.proofs.Naming.{new_name}
