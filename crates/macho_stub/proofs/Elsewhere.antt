@@ -14,7 +14,7 @@ use Rattle.macho_stub_lines.specs.Lists.{list_part, token_front, behind}
 use Rattle.macho_stub.specs.Documents.{DocumentFields}
 use Rattle.macho_stub.specs.Opened.{OpenDocumentFields, head_at}
 use Rattle.macho_stub.specs.Reader.{ItemListFields, NameListFields, ModeFields, PlaceFields, Outside, Within, Keys, Skipped, Names, NoItem, StateFields, stays, names_line, first_line, key_line, belongs, inside_line, content_line, line_step, within}
-use Rattle.macho_stub.specs.Order.{MayStand, IsWhy, spare, dashed, closing, in_column}
+use Rattle.macho_stub.specs.Order.{MayStand, IsWhy, unread_key, unread_item, closing_bracket, in_column}
 use Rattle.macho_stub_lines.proofs.Bind.{chosen}
 use Rattle.macho_stub.proofs.Ruling.{same_err}
 use Rattle.macho_stub.proofs.Told.{ok_not_told}
@@ -29,7 +29,7 @@ use Rattle.macho_stub.proofs.Whys.{same_why, outside_fault, fault_at, first_outs
 
 -- ---- inside a flow list
 
-spare_in_list : (line : ℕ) (expect : Expect) → list_part line expect 0 spare ≡ outside line
+spare_in_list : (line : ℕ) (expect : Expect) → list_part line expect 0 unread_key ≡ outside line
 unfolding list_part token_front behind scalar_front plain_front is_plain_byte is_mark has_late_control_after
 spare_in_list line AfterOpen = refl
 spare_in_list line AfterComma = refl
@@ -45,32 +45,32 @@ space_in_list line AfterComma b rest n h = rw (n, h) refl
 space_in_list line AfterName b rest n h = rw (n, h) refl
 space_in_list line Closed b rest n h = rw (n, h) refl
 
-spaced_in_list : (line : ℕ) (expect : Expect) (n : ℕ) → list_part line expect 0 (in_column n spare) ≡ outside line
+spaced_in_list : (line : ℕ) (expect : Expect) (n : ℕ) → list_part line expect 0 (in_column n unread_key) ≡ outside line
 spaced_in_list line expect zero = spare_in_list line expect
 spaced_in_list line expect (suc zero) = space_in_list line expect 97 _ refl (spare_in_list line expect)
 spaced_in_list line expect (suc (suc n)) = space_in_list line expect space _ refl (spaced_in_list line expect (suc n))
 
-spare_no_end : (n : ℕ) → bytes_eq (in_column n spare) end ≡ false
+spare_no_end : (n : ℕ) → bytes_eq (in_column n unread_key) end ≡ false
 spare_no_end zero = refl
 spare_no_end (suc n) = refl
 
 -- so no key stands in a flow list
 names_refuse : (before : List DocumentFields) (document : OpenDocumentFields) (list : Option ItemListFields) (names : NameListFields)
     (line n : ℕ)
-    → line_step (record { documents = before; place = Within (stays document list (Names names)) }) line (in_column n spare) ≡ outside line
+    → line_step (record { documents = before; place = Within (stays document list (Names names)) }) line (in_column n unread_key) ≡ outside line
 unfolding line_step names_line has_barred is_blank_or_comment
 names_refuse before document list names line n =
-    rw (item_text_barred n spare, item_text_passed n spare refl, spare_no_end n, spaced_in_list line names.part.expect n) refl
+    rw (item_text_barred n unread_key, item_text_passed n unread_key refl, spare_no_end n, spaced_in_list line names.part.expect n) refl
 
 pub no_key_in_list : (first : List (List ℕ)) (before : List DocumentFields) (document : OpenDocumentFields) (list : Option ItemListFields)
     (names : NameListFields) (n : ℕ) → Reached first (record { documents = before; place = Within (stays document list (Names names)) })
-    → MayStand first (in_column n spare) → ⊥
-no_key_in_list first before document list names n r m = refused first _ (in_column n spare) (length first + 1) S1 r
+    → MayStand first (in_column n unread_key) → ⊥
+no_key_in_list first before document list names n r m = refused first _ (in_column n unread_key) (length first + 1) S1 r
     (names_refuse before document list names (length first + 1) n) m
 
 -- a line in a place where some line at column 0 may stand, and no key
 no_key_why : (first : List (List ℕ)) (text other : List ℕ) → is_passed other ≡ false → indent other ≡ 0 → MayStand first other
-    → ((n : ℕ) → MayStand first (in_column n spare) → ⊥) → IsWhy S1 (length first + 1) first text
+    → ((n : ℕ) → MayStand first (in_column n unread_key) → ⊥) → IsWhy S1 (length first + 1) first text
 no_key_why first text other some flush stands none = (
   refl,
   (λ w. elim w.lacks [ inl i ↦ i.0 other some flush stands | inr d ↦ none 0 d.0.0 ]),
@@ -84,18 +84,18 @@ names_why : (first : List (List ℕ)) (before : List DocumentFields) (document :
 unfolding is_passed unspaced indent is_blank_or_comment
 names_why first before document list names text at rule k e =
     same_why at rule first text (outside_fault (length first + 1)) e
-    (no_key_why first text closing refl refl (closing_stands first before document list names k.reached)
+    (no_key_why first text closing_bracket refl refl (closing_stands first before document list names k.reached)
     (λ c. no_key_in_list first before document list names c k.reached))
 
 -- ---- where an item must stand
 
 item_refuses : (before : List DocumentFields) (document : OpenDocumentFields) (list : Option ItemListFields) (kind : ItemKind)
     (at line n : ℕ)
-    → line_step (record { documents = before; place = Within (stays document list (NoItem kind at)) }) line (in_column n spare) ≡ outside
+    → line_step (record { documents = before; place = Within (stays document list (NoItem kind at)) }) line (in_column n unread_key) ≡ outside
     line
 unfolding line_step first_line has_barred is_blank_or_comment belongs_to_top
 item_refuses before document list kind at line n =
-    rw (item_text_barred n spare, item_text_passed n spare refl, no_dash_there n spare refl) refl
+    rw (item_text_barred n unread_key, item_text_passed n unread_key refl, no_dash_there n unread_key refl) refl
 
 item_place_why : (first : List (List ℕ)) (before : List DocumentFields) (document : OpenDocumentFields) (list : Option ItemListFields)
     (kind : ItemKind) (key : ℕ) (text : List ℕ) (at : ℕ) (rule : StubRule)
@@ -105,16 +105,16 @@ unfolding is_passed unspaced indent is_blank_or_comment
 item_place_why first before document list kind key text at rule k e =
     let n = length first + 1 in
     same_why at rule first text (outside_fault n) (first_outside document kind [] n text at rule e)
-    (no_key_why first text dashed refl refl (item_stands first before document list kind key k.reached)
-    (λ c m. refused first _ (in_column c spare) n S1 k.reached (item_refuses before document list kind key n c) m))
+    (no_key_why first text unread_item refl refl (item_stands first before document list kind key k.reached)
+    (λ c m. refused first _ (in_column c unread_key) n S1 k.reached (item_refuses before document list kind key n c) m))
 
 -- ---- outside documents
 
 pub outside_refuses : (before : List DocumentFields) (line n : ℕ)
-    → line_step (record { documents = before; place = Outside }) line (in_column n spare) ≡ outside line
+    → line_step (record { documents = before; place = Outside }) line (in_column n unread_key) ≡ outside line
 unfolding line_step has_barred is_blank_or_comment
-outside_refuses before line zero = rw (item_text_passed 0 spare refl) refl
-outside_refuses before line (suc n) = rw (item_text_barred n spare, item_text_passed (suc n) spare refl) refl
+outside_refuses before line zero = rw (item_text_passed 0 unread_key refl) refl
+outside_refuses before line (suc n) = rw (item_text_barred n unread_key, item_text_passed (suc n) unread_key refl) refl
 
 head_stands : (first : List (List ℕ)) (before : List DocumentFields) → Reached first (record { documents = before; place = Outside })
     → MayStand first head
@@ -133,7 +133,7 @@ outside_why first before text at rule k e =
       | inl b ↦ absurd (ok_not_told _ at rule b.1)
       | inr b ↦ same_why at rule first text (outside_fault n) (same_err {A = StateFields} (fault_at at rule) (outside_fault n) (sym b.1))
           (no_key_why first text head refl refl (head_stands first before k.reached)
-          (λ c m. refused first _ (in_column c spare) n S1 k.reached (outside_refuses before n c) m))
+          (λ c m. refused first _ (in_column c unread_key) n S1 k.reached (outside_refuses before n c) m))
     ]
 
 -- ---- any place

@@ -14,7 +14,7 @@ use Rattle.macho_stub_lines.specs.Keys.{entry_at, item_key}
 use Rattle.macho_stub.specs.Documents.{ItemFields, DocumentFields}
 use Rattle.macho_stub.specs.Opened.{OpenDocumentFields, no_item}
 use Rattle.macho_stub.specs.Reader.{ItemListFields, StateFields, skipped_value, item_key_line, first_line, within, with_whole, items_with_last, item_line, line_step}
-use Rattle.macho_stub.specs.Order.{MayStand, LacksInItem, LacksInDocument, IsNeeded, IsNextItem, spare, dashed, in_column}
+use Rattle.macho_stub.specs.Order.{MayStand, LacksInItem, LacksInDocument, IsNeeded, IsNextItem, unread_key, unread_item, in_column}
 use Rattle.macho_stub_lines.proofs.Bind.{eq_true, not_below}
 use Rattle.macho_stub.proofs.OnlyLines.{DashLine, dash_line}
 use Rattle.macho_stub.proofs.Joined.{spaces_line}
@@ -44,7 +44,7 @@ pub lacks_document : (first : List (List ℕ)) (before : List DocumentFields) (d
 lacks_document first before document whole list skipped at rule r c e =
     let state = keys_state before document list skipped in
     let n = length first + 1 in (
-      may_stand first state (at_top before whole true) spare r refl (spare_at_top before document whole list skipped n c),
+      may_stand first state (at_top before whole true) unread_key r refl (spare_at_top before document whole list skipped n c),
       refused first state head at rule r (head_at_top before document whole list skipped n at rule c e),
       refused first state end at rule r (end_at_top before document whole list skipped n at rule c e),
     )
@@ -162,7 +162,7 @@ completed first before document list skipped None r below et =
 
 -- the first line of an item whose key isn't read
 begins_item : (before : List DocumentFields) (document : OpenDocumentFields) (kind : ItemKind) (items : List ItemFields) (line at : ℕ)
-    (text : List ℕ) → DashLine at 1 text spare
+    (text : List ℕ) → DashLine at 1 text unread_key
     → within before (first_line document kind items line text)
     ≡ Ok (at_item before document (record { kind = kind; items = items; dash = at; column = at + 1 + 1; item = no_item }) true)
 unfolding first_line item_key_line entry_at is_key_byte is_tail item_key skipped_value unspaced indent is_passed is_blank_or_comment
@@ -173,7 +173,7 @@ begins_item before document Reexports items line at text d = rw (d.dashed, d.beh
 -- a dash in the column of the list's dashes, behind an item that lacks no key
 next_steps : (before : List DocumentFields) (document : OpenDocumentFields) (list : ItemListFields) (skipped : Bool) (line : ℕ)
     (text : List ℕ) (items : List ItemFields) → items_with_last document.line list ≡ Ok items → list.dash < list.column
-    → DashLine list.dash 1 text spare → has_barred text ≡ false → is_passed text ≡ false
+    → DashLine list.dash 1 text unread_key → has_barred text ≡ false → is_passed text ≡ false
     → line_step (at_item before document list skipped) line text ≡ within before (first_line document list.kind items line text)
 unfolding line_step item_line
 next_steps before document list true line text items e below d clean some =
@@ -183,24 +183,24 @@ next_steps before document list false line text items e below d clean some =
 
 dash_stands : (first : List (List ℕ)) (before : List DocumentFields) (document : OpenDocumentFields) (list : ItemListFields)
     (skipped : Bool) (items : List ItemFields) → Reached first (at_item before document list skipped)
-    → items_with_last document.line list ≡ Ok items → list.dash < list.column → MayStand first (in_column list.dash dashed)
+    → items_with_last document.line list ≡ Ok items → list.dash < list.column → MayStand first (in_column list.dash unread_item)
 unfolding has_barred is_passed unspaced indent is_blank_or_comment
 dash_stands first before document list skipped items r e below =
-    let text = in_column list.dash dashed in
-    let d : DashLine list.dash 1 text spare = dash_line list.dash 1 spare (omega arith) refl in
+    let text = in_column list.dash unread_item in
+    let d : DashLine list.dash 1 text unread_key = dash_line list.dash 1 unread_key (omega arith) refl in
     let n = length first + 1 in
     may_stand first (at_item before document list skipped) (at_item before document
     (record { kind = list.kind; items = items; dash = list.dash; column = list.dash + 1 + 1; item = no_item }) true) text r
-    (spaces_line list.dash dashed refl)
-    (next_steps before document list skipped n text items e below d (item_text_barred list.dash dashed)
-    (item_text_passed list.dash dashed refl) ∙ begins_item before document list.kind items n list.dash text d)
+    (spaces_line list.dash unread_item refl)
+    (next_steps before document list skipped n text items e below d (item_text_barred list.dash unread_item)
+    (item_text_passed list.dash unread_item refl) ∙ begins_item before document list.kind items n list.dash text d)
 
 pub next_item : (first : List (List ℕ)) (before : List DocumentFields) (document : OpenDocumentFields) (list : ItemListFields)
     (skipped : Bool) (line : List ℕ) → Reached first (at_item before document list skipped) → list.dash < list.column
     → has_dash line ≡ true → indent line ≡ list.dash → IsNextItem first line
 next_item first before document list skipped line r below h at =
     let c = completed first before document list skipped list.item.targets r below refl in
-    let M : ℕ → Type 0 = λ n. MayStand (first ++ map (in_column list.column) c.keys) (in_column n dashed) in
+    let M : ℕ → Type 0 = λ n. MayStand (first ++ map (in_column list.column) c.keys) (in_column n unread_item) in
     record {
       dash = h;
       column = list.column;

@@ -15,7 +15,7 @@ use Rattle.macho_stub_lines.specs.Keys.{entry_at, item_key}
 use Rattle.macho_stub.specs.Documents.{DocumentFields}
 use Rattle.macho_stub.specs.Opened.{OpenDocumentFields, OpenItemFields, has_key, with_key}
 use Rattle.macho_stub.specs.Reader.{ItemListFields, Keys, StateFields, stays, names_line, names_value, skipped_value, item_key_line, within, item_line, line_step}
-use Rattle.macho_stub.specs.Order.{MayStand, LacksInItem, IsNeeded, IsNextItem, spare, dashed, in_column}
+use Rattle.macho_stub.specs.Order.{MayStand, LacksInItem, IsNeeded, IsNextItem, unread_key, unread_item, in_column}
 use Rattle.macho_stub_lines.proofs.Bind.{not_broken_else, no_ok, same_ok, eq_false, chosen}
 use Rattle.macho_stub.proofs.OnlyLines.{top_indent, spelled_indent, spelled_rest, DashLine, dash_line}
 use Rattle.macho_stub.proofs.Joined.{IsLine, spaces_line}
@@ -50,16 +50,16 @@ column_steps before document list false line n text out clean some nz =
 -- a dash in another column is refused
 other_dash : (before : List DocumentFields) (document : OpenDocumentFields) (list : ItemListFields) (skipped : Bool) (line n : ℕ)
     → n ≢ 0 → n ≢ list.dash → (skipped ≡ true → ltb list.column n ≡ false)
-    → line_step (at_item before document list skipped) line (in_column n dashed) ≡ outside line
+    → line_step (at_item before document list skipped) line (in_column n unread_item) ≡ outside line
 unfolding line_step item_line item_key_line entry_at is_key_byte has_barred is_blank_or_comment unspaced indent
 other_dash before document list true line n nz nd s =
-    let d : DashLine n 1 (in_column n dashed) spare = dash_line n 1 spare (omega arith) refl in
+    let d : DashLine n 1 (in_column n unread_item) unread_key = dash_line n 1 unread_key (omega arith) refl in
     rw (
-      item_text_barred n dashed,
-      item_text_passed n dashed refl,
+      item_text_barred n unread_item,
+      item_text_passed n unread_item refl,
       d.indented,
       d.dashed,
-      spelled_rest n dashed,
+      spelled_rest n unread_item,
       s refl,
       eq_false n list.dash nd,
       eq_false n 0 nz,
@@ -69,13 +69,13 @@ other_dash before document list true line n nz nd s =
     by_column true = refl
     by_column false = refl
 other_dash before document list false line n nz nd s =
-    let d : DashLine n 1 (in_column n dashed) spare = dash_line n 1 spare (omega arith) refl in
+    let d : DashLine n 1 (in_column n unread_item) unread_key = dash_line n 1 unread_key (omega arith) refl in
     rw (
-      item_text_barred n dashed,
-      item_text_passed n dashed refl,
+      item_text_barred n unread_item,
+      item_text_passed n unread_item refl,
       d.indented,
       d.dashed,
-      spelled_rest n dashed,
+      spelled_rest n unread_item,
       eq_false n list.dash nd,
       eq_false n 0 nz,
     ) (by_column (eqb n list.column))
@@ -207,21 +207,21 @@ line_stands first more line other m = record {
 no_dash : (first : List (List ℕ)) (before : List DocumentFields) (document : OpenDocumentFields) (list : ItemListFields) (skipped : Bool)
     (n column : ℕ) (keys : List (List ℕ)) → Reached first (at_item before document list skipped) → n ≢ 0 → n ≢ list.dash
     → (skipped ≡ true → ltb list.column n ≡ false) → column ≢ 0 → AllByRecursion IsNeeded keys
-    → MayStand (first ++ map (in_column column) keys) (in_column n dashed) → ⊥
+    → MayStand (first ++ map (in_column column) keys) (in_column n unread_item) → ⊥
 no_dash first before document list skipped n column [] r nz nd s cz a m =
-    let M : List (List ℕ) → Type 0 = λ f. MayStand f (in_column n dashed) in
-    refused first (at_item before document list skipped) (in_column n dashed) (length first + 1) S1 r
+    let M : List (List ℕ) → Type 0 = λ f. MayStand f (in_column n unread_item) in
+    refused first (at_item before document list skipped) (in_column n unread_item) (length first + 1) S1 r
     (other_dash before document list skipped (length first + 1) n nz nd s) (subst M (append-nil first) m)
 no_dash first before document list skipped n column (key ∷ keys) r nz nd s cz a m =
     let line = in_column column key in
     let more = map (in_column column) keys in
     let t = needed_text key a.0 in
-    let next = stands first (at_item before document list skipped) line r (line_stands first more line (in_column n dashed) m) in
+    let next = stands first (at_item before document list skipped) line r (line_stands first more line (in_column n unread_item) m) in
     let same = key_steps before document list skipped (length first + 1) column next.0 key a.0 cz next.1 in
     let R : StateFields → Type 0 = λ state. Reached (first ++ line ∷ []) state in
     let there = subst R (sym same.is) (reached_more first (at_item before document list skipped) next.0 line r
     (spaces_line column key t.line) next.1) in
-    let M : List (List ℕ) → Type 0 = λ f. MayStand f (in_column n dashed) in
+    let M : List (List ℕ) → Type 0 = λ f. MayStand f (in_column n unread_item) in
     no_dash (first ++ line ∷ []) before document same.after same.left n column keys there nz (λ h. nd (h ∙ same.same_dash))
     (λ h. ap (λ c. ltb c n) same.same_column ∙ s (same.still h)) cz a.1 (subst M (sym (append_assoc first (line ∷ []) more)) m)
 
@@ -241,11 +241,11 @@ pub no_next : (first : List (List ℕ)) (before : List DocumentFields) (document
 no_next first before document list skipped text r nz nd s lacks i = by_column i.column i.keys i.needed i.begins
   where
     by_column : (column : ℕ) (keys : List (List ℕ)) → AllByRecursion IsNeeded keys
-        → MayStand (first ++ map (in_column column) keys) (in_column (indent text) dashed) → ⊥
+        → MayStand (first ++ map (in_column column) keys) (in_column (indent text) unread_item) → ⊥
     by_column zero [] a m = no_dash first before document list skipped (indent text) 1 [] r nz (nd i.dash) s (λ h. absurd (omega (
       arith,
       h,
     ))) a m
-    by_column zero (key ∷ keys) a m = first_column first (in_column (indent text) dashed) key keys a.0 lacks m
+    by_column zero (key ∷ keys) a m = first_column first (in_column (indent text) unread_item) key keys a.0 lacks m
     by_column (suc column) keys a m = no_dash first before document list skipped (indent text) (suc column) keys r nz (nd i.dash) s
         (λ h. absurd (omega (arith, h))) a m

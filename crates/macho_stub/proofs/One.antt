@@ -8,7 +8,7 @@ use Rattle.macho_stub_lines.specs.declared.fault.StubRule.{StubRule}
 use Rattle.macho_stub_lines.specs.declared.fault.StubRule.TheVariants.{S1, S2, S3, S4, S5, S6, S7, S8, S9}
 use Rattle.macho_stub_lines.specs.Bytes.{indent, unspaced, is_passed, is_blank_or_comment, is_key_byte, head, end}
 use Rattle.macho_stub_lines.specs.Keys.{Entry, entry_at}
-use Rattle.macho_stub.specs.Order.{GoOn, MayStand, EndsWithout, StandsTwice, IsLastHead, IsWhy, StopsAt, StopsAtEnd, BreaksOff, spare, in_column}
+use Rattle.macho_stub.specs.Order.{MayBegin, MayStand, EndsWithout, StandsTwice, IsLastHead, IsWhy, StopsAt, StopsAtEnd, BreaksOff, unread_key, in_column}
 use Rattle.macho_stub.specs.Documents.{DocumentOf}
 use Rattle.macho_stub_lines.specs.Slices.{Slice}
 use Rattle.macho_stub.specs.Grammar.{IsStubText}
@@ -46,7 +46,7 @@ cuts (a ∷ f) x p (b ∷ g) y q e = cuts_more a b f x p g y q (first_is a b (f 
 -- ---- one place
 
 -- the first lines of those that go on may stand
-pub stands_before : (all first rest : List (List ℕ)) (line : List ℕ) → all ≡ first ++ line ∷ rest → GoOn all → MayStand first line
+pub stands_before : (all first rest : List (List ℕ)) (line : List ℕ) → all ≡ first ++ line ∷ rest → MayBegin all → MayStand first line
 stands_before all first rest line e g = record {
   text = g.text;
   more = rest ++ g.more;
@@ -68,12 +68,12 @@ key_of_end n said e = no_ok n S1 said e
 pub ends_no_key : (first : List (List ℕ)) (line : List ℕ) → EndsWithout first line → StandsTwice first line → ⊥
 unfolding is_passed unspaced indent is_blank_or_comment
 ends_no_key first line w t =
-    let M : ℕ → Type 0 = λ n. MayStand first (in_column n spare) in
+    let M : ℕ → Type 0 = λ n. MayStand first (in_column n unread_key) in
     let said = said_of t.said in
     let key = second_key first line t in
     let K : List ℕ → Type 0 = λ l. entry_at (length first + 1) (unspaced l) ≡ Ok said in
     elim w.lacks [
-      | inl i ↦ elim i.1 [ inl m ↦ i.0 spare refl refl (subst M m.1 t.another) | inr n ↦ dash_no_key first line n.dash t ]
+      | inl i ↦ elim i.1 [ inl m ↦ i.0 unread_key refl refl (subst M m.1 t.another) | inr n ↦ dash_no_key first line n.dash t ]
       | inr d ↦ elim d.1 [
         | inl is ↦ key_of_head (length first + 1) said (subst K is key)
         | inr is ↦ key_of_end (length first + 1) said (subst K is key)

@@ -15,7 +15,7 @@ use Rattle.macho_stub_lines.specs.Lists.{list_part, token_front, behind}
 use Rattle.macho_stub.specs.Documents.{documents_texts, DocumentFields}
 use Rattle.macho_stub.specs.Opened.{OpenDocumentFields}
 use Rattle.macho_stub.specs.Reader.{ItemListFields, NameListFields, ModeFields, Keys, Skipped, Names, NoItem, PlaceFields, Outside, Within, StateFields, stays, names_line, line_step, lines_from, start}
-use Rattle.macho_stub.specs.Order.{GoOn, MayStand, LacksInItem, LacksInDocument, IsLastHead, IsOpenAlong, IsCutList, IsBareKey, IsWhyAtEnd, BreaksOff, spare, dashed, closing}
+use Rattle.macho_stub.specs.Order.{MayBegin, MayStand, LacksInItem, LacksInDocument, IsLastHead, IsOpenAlong, IsCutList, IsBareKey, IsWhyAtEnd, BreaksOff, unread_key, unread_item, closing_bracket}
 use Rattle.macho_stub_lines.proofs.Bind.{bind_ok}
 use Rattle.macho_stub.proofs.Joined.{AreLines, lines_are_lines}
 use Rattle.macho_stub.proofs.Trees.{to_read}
@@ -27,23 +27,23 @@ use Rattle.macho_stub.proofs.One.{Cuts, Same, Before, Behind, cuts, one_head, on
 
 -- ---- one line
 
-open_at : (first r q : List (List ℕ)) (y : List ℕ) → IsOpenAlong first (r ++ y ∷ q) → MayStand (first ++ r) closing
-open_at first [] q y a = let M : List (List ℕ) → Type 0 = λ f. MayStand f closing in subst M (sym (append-nil first)) a.0
+open_at : (first r q : List (List ℕ)) (y : List ℕ) → IsOpenAlong first (r ++ y ∷ q) → MayStand (first ++ r) closing_bracket
+open_at first [] q y a = let M : List (List ℕ) → Type 0 = λ f. MayStand f closing_bracket in subst M (sym (append-nil first)) a.0
 open_at first (x ∷ r) q y a =
-    let M : List (List ℕ) → Type 0 = λ f. MayStand f closing in
+    let M : List (List ℕ) → Type 0 = λ f. MayStand f closing_bracket in
     subst M (append_assoc first (x ∷ []) r) (open_at (first ++ x ∷ []) r q y a.1)
 
-open_end : (first more : List (List ℕ)) → IsOpenAlong first more → MayStand (first ++ more) closing
-open_end first [] a = let M : List (List ℕ) → Type 0 = λ f. MayStand f closing in subst M (sym (append-nil first)) a
+open_end : (first more : List (List ℕ)) → IsOpenAlong first more → MayStand (first ++ more) closing_bracket
+open_end first [] a = let M : List (List ℕ) → Type 0 = λ f. MayStand f closing_bracket in subst M (sym (append-nil first)) a
 open_end first (x ∷ more) a =
-    let M : List (List ℕ) → Type 0 = λ f. MayStand f closing in
+    let M : List (List ℕ) → Type 0 = λ f. MayStand f closing_bracket in
     subst M (append_assoc first (x ∷ []) more) (open_end (first ++ x ∷ []) more a.1)
 
 -- a list that was open before isn't begun again
 not_again : (first r q next : List (List ℕ)) (x y : List ℕ) (more : List (List ℕ)) → next ≡ first ++ x ∷ r → more ≡ r ++ y ∷ q
-    → IsOpenAlong (first ++ x ∷ []) more → (MayStand next closing → ⊥) → ⊥
+    → IsOpenAlong (first ++ x ∷ []) more → (MayStand next closing_bracket → ⊥) → ⊥
 not_again first r q next x y more e f a n =
-    let M : List (List ℕ) → Type 0 = λ l. MayStand l closing in
+    let M : List (List ℕ) → Type 0 = λ l. MayStand l closing_bracket in
     let O : List (List ℕ) → Type 0 = λ l. IsOpenAlong (first ++ x ∷ []) l in
     n (subst M (append_assoc first (x ∷ []) r ∙ sym e) (open_at (first ++ x ∷ []) r q y (subst O f a)))
 
@@ -73,7 +73,7 @@ one_key l m texts a b = by_cut (cuts a.first a.line a.passed b.first b.line b.pa
 
 -- ---- where a closing bracket may stand
 
-dash_in_list : (line : ℕ) (expect : Expect) → list_part line expect 0 dashed ≡ outside line
+dash_in_list : (line : ℕ) (expect : Expect) → list_part line expect 0 unread_item ≡ outside line
 unfolding list_part token_front behind scalar_front plain_front is_plain_byte is_mark has_late_control_after
 dash_in_list line AfterOpen = refl
 dash_in_list line AfterComma = refl
@@ -82,23 +82,23 @@ dash_in_list line Closed = refl
 
 no_item_in_list : (first : List (List ℕ)) (before : List DocumentFields) (document : OpenDocumentFields) (list : Option ItemListFields)
     (names : NameListFields) → Reached first (record { documents = before; place = Within (stays document list (Names names)) })
-    → MayStand first dashed → ⊥
+    → MayStand first unread_item → ⊥
 unfolding line_step names_line has_barred is_passed unspaced indent is_blank_or_comment
-no_item_in_list first before document list names r m = refused first _ dashed (length first + 1) S1 r
+no_item_in_list first before document list names r m = refused first _ unread_item (length first + 1) S1 r
     (rw (dash_in_list (length first + 1) names.part.expect) refl) m
 
 no_bracket_outside : (first : List (List ℕ)) (before : List DocumentFields) → Reached first (record { documents = before; place = Outside })
-    → MayStand first closing → ⊥
+    → MayStand first closing_bracket → ⊥
 unfolding line_step has_barred is_passed unspaced indent is_blank_or_comment
-no_bracket_outside first before r m = refused first _ closing (length first + 1) S1 r refl m
+no_bracket_outside first before r m = refused first _ closing_bracket (length first + 1) S1 r refl m
 
 -- no item, and no key
 abbrev Alone : List (List ℕ) → Type 0
-Alone first = (MayStand first dashed → ⊥) × (MayStand first spare → ⊥)
+Alone first = (MayStand first unread_item → ⊥) × (MayStand first unread_key → ⊥)
 
 mode_alone : (first : List (List ℕ)) (before : List DocumentFields) (document : OpenDocumentFields) (list : Option ItemListFields)
     (mode : ModeFields) → Reached first (record { documents = before; place = Within (stays document list mode) })
-    → MayStand first closing → Alone first
+    → MayStand first closing_bracket → Alone first
 mode_alone first before document list Keys r m = absurd (no_bracket_at_keys first before document list false r m)
 mode_alone first before document list Skipped r m = absurd (no_bracket_at_keys first before document list true r m)
 mode_alone first before document list (Names names) r m =
@@ -106,7 +106,7 @@ mode_alone first before document list (Names names) r m =
 mode_alone first before document list (NoItem kind at) r m = absurd (no_bracket_at_item first before document list kind at r m)
 
 place_alone : (first : List (List ℕ)) (before : List DocumentFields) (place : PlaceFields)
-    → Reached first (record { documents = before; place = place }) → MayStand first closing → Alone first
+    → Reached first (record { documents = before; place = place }) → MayStand first closing_bracket → Alone first
 place_alone first before Outside r m = absurd (no_bracket_outside first before r m)
 place_alone first before (Within inside) r m = mode_alone first before inside.document inside.list inside.mode r m
 
@@ -125,7 +125,7 @@ walk first state (text ∷ texts) more says k l e =
     let K : List (List ℕ) → Type 0 = λ f. Known f w.0 in
     (w.0, subst K (append_assoc first (text ∷ []) texts) w.1)
 
-alone : (text : List ℕ) → GoOn (lines text) → MayStand (lines text) closing → Alone (lines text)
+alone : (text : List ℕ) → MayBegin (lines text) → MayStand (lines text) closing_bracket → Alone (lines text)
 alone text g m =
     let says = documents_texts g.says in
     let e : lines_from start 1 (lines text ++ g.more) ≡ Ok says = ap (lines_from start 1) (sym g.begins)
@@ -155,23 +155,23 @@ why_of S7 number texts w = absurd w
 why_of S8 number texts w = absurd w
 why_of S9 number texts w = absurd w
 
-bracket : (number : ℕ) (texts : List (List ℕ)) → IsCutList number texts → MayStand texts closing
+bracket : (number : ℕ) (texts : List (List ℕ)) → IsCutList number texts → MayStand texts closing_bracket
 bracket number texts c =
-    let M : List (List ℕ) → Type 0 = λ l. MayStand l closing in
+    let M : List (List ℕ) → Type 0 = λ l. MayStand l closing_bracket in
     subst M (append_assoc c.first (c.line ∷ []) c.more ∙ sym c.parts) (open_end (c.first ++ c.line ∷ []) c.more c.open_along)
 
-cut_and_lack : (text : List ℕ) (number : ℕ) → GoOn (lines text) → IsCutList number (lines text)
+cut_and_lack : (text : List ℕ) (number : ℕ) → MayBegin (lines text) → IsCutList number (lines text)
     → LacksInItem (lines text) ⊎ LacksInDocument (lines text) → ⊥
 unfolding is_passed unspaced indent is_blank_or_comment
-cut_and_lack text number g c (inl i) = i closing refl refl (bracket number (lines text) c)
+cut_and_lack text number g c (inl i) = i closing_bracket refl refl (bracket number (lines text) c)
 cut_and_lack text number g c (inr d) = (alone text g (bracket number (lines text) c)).1 d.0
 
 bare_and_lack : (number : ℕ) (texts : List (List ℕ)) → IsBareKey number texts → LacksInItem texts ⊎ LacksInDocument texts → ⊥
 unfolding is_passed unspaced indent is_blank_or_comment
-bare_and_lack number texts b (inl i) = i dashed refl refl b.items
+bare_and_lack number texts b (inl i) = i unread_item refl refl b.items
 bare_and_lack number texts b (inr d) = b.no_key d.0
 
-one_why : (text : List ℕ) (r s : StubRule) (l m : ℕ) → GoOn (lines text) → Why r l (lines text) → Why s m (lines text)
+one_why : (text : List ℕ) (r s : StubRule) (l m : ℕ) → MayBegin (lines text) → Why r l (lines text) → Why s m (lines text)
     → (l ≡ m) × (r ≡ s)
 one_why text r s l m g (Cut a b) (Cut c d) = (one_list l m (lines text) b d, a ∙ sym c)
 one_why text r s l m g (Cut a b) (Bare c d) = absurd ((alone text g (bracket l (lines text) b)).0 d.items)

@@ -11,7 +11,7 @@ use Rattle.macho_stub_lines.specs.Keys.{Entry, entry_at, top_key, item_key}
 use Rattle.macho_stub.specs.Documents.{DocumentFields}
 use Rattle.macho_stub.specs.Opened.{OpenDocumentFields}
 use Rattle.macho_stub.specs.Reader.{ItemListFields, top_entry, item_entry, top_line, line_step}
-use Rattle.macho_stub.specs.Order.{MayStand, LacksInItem, EndsDocument, EndsWithout, StandsTwice, spare, in_column}
+use Rattle.macho_stub.specs.Order.{MayStand, LacksInItem, EndsDocument, EndsWithout, StandsTwice, unread_key, in_column}
 use Rattle.macho_stub_lines.proofs.Bind.{no_ok, same_ok}
 use Rattle.macho_stub.proofs.OnlyLines.{entry_at_top, top_indent}
 use Rattle.macho_stub.proofs.Joined.{IsLine}
@@ -29,7 +29,7 @@ pub no_item_lacks : (first : List (List ℕ)) (before : List DocumentFields) (do
     → Closes list document whole → LacksInItem first → ⊥
 unfolding is_passed unspaced indent is_blank_or_comment
 no_item_lacks first before document whole list skipped r c lacks =
-    lacks spare refl refl (may_stand first (keys_state before document list skipped) (at_top before whole true) spare r refl
+    lacks unread_key refl refl (may_stand first (keys_state before document list skipped) (at_top before whole true) unread_key r refl
     (spare_at_top before document whole list skipped (length first + 1) c))
 
 no_ends : (text : List ℕ) → text ≢ head → text ≢ end → EndsDocument text → ⊥
@@ -111,16 +111,16 @@ deep_no_end text h d = elim d [ inl is ↦ h (ap (λ t. indent t) is) | inr is �
 
 -- where a document's own keys stand, none stands deeper
 spaced_spare : (before : List DocumentFields) (document : OpenDocumentFields) (line n : ℕ)
-    → line_step (at_top before document false) line (in_column (suc n) spare) ≡ outside line
+    → line_step (at_top before document false) line (in_column (suc n) unread_key) ≡ outside line
 unfolding line_step top_line entry_at is_key_byte is_blank_or_comment has_barred
-spaced_spare before document line n = rw (item_text_barred (suc n) spare, item_text_passed (suc n) spare refl) refl
+spaced_spare before document line n = rw (item_text_barred (suc n) unread_key, item_text_passed (suc n) unread_key refl) refl
 
 begins_spaced : (text : List ℕ) → belongs_to_top text ≡ false → indent text ≡ 0
 begins_spaced text h = top_indent text h
 
 pub no_deeper_key : (first : List (List ℕ)) (before : List DocumentFields) (document : OpenDocumentFields) (skipped : Bool) (n : ℕ)
-    → Reached first (at_top before document skipped) → (skipped ≡ true → n ≡ 0) → MayStand first (in_column n spare) → n ≡ 0
+    → Reached first (at_top before document skipped) → (skipped ≡ true → n ≡ 0) → MayStand first (in_column n unread_key) → n ≡ 0
 no_deeper_key first before document skipped zero r h m = refl
 no_deeper_key first before document true (suc n) r h m = h refl
-no_deeper_key first before document false (suc n) r h m = absurd (refused first (at_top before document false) (in_column (suc n) spare)
+no_deeper_key first before document false (suc n) r h m = absurd (refused first (at_top before document false) (in_column (suc n) unread_key)
     (length first + 1) S1 r (spaced_spare before document (length first + 1) n) m)

@@ -10,7 +10,7 @@ use Rattle.macho_stub.specs.Documents.{DocumentOf, DocumentFields, documents_tex
 use Rattle.macho_stub.specs.Reader.{StateFields, line_step, lines_from, start}
 use Rattle.macho_stub.specs.Grammar.{IsStubText}
 use Rattle.macho_stub.proofs.Trees.{to_read, of_read}
-use Rattle.macho_stub.specs.Order.{GoOn, MayStand}
+use Rattle.macho_stub.specs.Order.{MayBegin, MayStand}
 use Rattle.macho_stub_lines.proofs.Bind.{bind_ok, no_ok}
 use Rattle.macho_stub.proofs.Fine.{GoodState, line_step_fine}
 use Rattle.macho_stub.proofs.Joined.{IsLine, AreLines, joined, lines_joined, lines_append}
@@ -50,7 +50,7 @@ text_of : (texts : List (List ℕ)) (says : List DocumentFields) → AreLines te
 text_of texts says are e = of_read (joined texts) says
     (lines_found (lines (joined texts)) says (ap (lines_from start 1) (lines_joined texts are) ∙ e))
 
-pub goes_on : (first : List (List ℕ)) (state : StateFields) → Reached first state → GoOn first
+pub goes_on : (first : List (List ℕ)) (state : StateFields) → Reached first state → MayBegin first
 goes_on first state r =
     let f = finishes state (length first + 1) r.good in
     let are = lines_append first f.more r.are f.are in

@@ -6,7 +6,7 @@ use Rattle.std.proofs.lemmas.Bool.Decides.{nat_tests}
 use Rattle.macho_stub_lines.specs.Bytes.{space, number_sign, single_quote, double_quote, backslash, is_plain_byte, is_key_byte, has_late_control, is_tail}
 use Rattle.macho_stub_lines.specs.Scalars.{in_single, in_double}
 use Rattle.macho_stub_lines.specs.Slices.{Slice, Line}
-use Rattle.macho_stub_lines.specs.Spelling.{IsPlain, Nothing, Value, IsEntry}
+use Rattle.macho_stub_lines.specs.Spelling.{IsPlain, NoValue, Value, IsEntry}
 use Rattle.macho_stub_lines.proofs.Bind.{ne_at}
 use Rattle.macho_stub_lines.proofs.Runs.{all_weaker}
 
@@ -55,6 +55,6 @@ valued key b value long bytes s n = record {
 }
 
 pub bare : (key : List ℕ) → ltb 0 (length key) ≡ true → list_all is_key_byte key ≡ true
-    → IsEntry (record { key = key; behind = Nothing [] })
+    → IsEntry (record { key = key; behind = NoValue [] })
 unfolding is_tail
 bare key long bytes = record { some = some key long; bytes = each is_key_byte key bytes; behind = refl }

@@ -10,7 +10,7 @@ use Rattle.macho_stub_lines.specs.declared.keys.ItemKind.TheVariants.{Exports}
 use Rattle.macho_stub_lines.specs.declared.keys.TopKey.TheVariants as top
 use Rattle.macho_stub_lines.specs.Bytes.{is_plain_byte, is_mark, is_key_byte, has_barred, has_late_control_after, is_passed, is_blank_or_comment, is_tail, unspaced, indent}
 use Rattle.macho_stub_lines.specs.Slices.{Slice, StandsIn, lines_of, content_of}
-use Rattle.macho_stub_lines.specs.Spelling.{EntryTree, Nothing, Value, Plain, Single, IsScalarValue, IsNumberValue}
+use Rattle.macho_stub_lines.specs.Spelling.{EntryTree, NoValue, Value, Plain, Single, IsScalarValue, IsNumberValue}
 use Rattle.macho_stub_lines.specs.FlowLists.{Spaces, Turn, IsFlowList}
 use Rattle.macho_stub_lines.specs.Keys.{top_key, item_key}
 use Rattle.macho_stub.specs.Documents.{ItemOf, DocumentOf}
@@ -44,7 +44,7 @@ entry key value = record { key = key; behind = Value 1 value }
 
 -- a key with nothing behind its colon
 abbrev pub bare_entry : List ℕ → EntryTree
-bare_entry key = record { key = key; behind = Nothing [] }
+bare_entry key = record { key = key; behind = NoValue [] }
 
 abbrev targets_line : ItemEntry
 targets_line = record { number = 9; at = 128; entry = entry (codes "targets") (codes "[arm64e-macos]"); more = [] }

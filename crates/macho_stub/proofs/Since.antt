@@ -11,7 +11,7 @@ use Rattle.macho_stub_lines.specs.Keys.{entry_at}
 use Rattle.macho_stub.specs.Documents.{ItemFields, DocumentFields}
 use Rattle.macho_stub.specs.Opened.{OpenDocumentFields, head_at, with_items}
 use Rattle.macho_stub.specs.Reader.{ItemListFields, NameListFields, ModeFields, Keys, Skipped, Names, NoItem, InsideFields, PlaceFields, Outside, Within, StateFields, stays, first_line, top_line, items_with_last, content_line, line_step, start, names_line, within}
-use Rattle.macho_stub.specs.Order.{MayStand, IsLastHead, IsOpenAlong, IsCutList, IsBareKey, spare, dashed, closing}
+use Rattle.macho_stub.specs.Order.{MayStand, IsLastHead, IsOpenAlong, IsCutList, IsBareKey, unread_key, unread_item, closing_bracket}
 use Rattle.macho_stub.proofs.Finish.{at_item, begun, close_steps, dash_steps}
 use Rattle.macho_stub.proofs.Joined.{IsLine}
 use Rattle.macho_stub.proofs.Reached.{Reached, reached_start, reached_more, may_stand, refused}
@@ -75,19 +75,19 @@ passed_no_head text h = λ is. absurd (let k = sym (ap is_passed is) ∙ h in cc
 
 -- ---- flow lists
 
-open_more : (first more : List (List ℕ)) (text : List ℕ) → IsOpenAlong first more → MayStand (first ++ (more ++ text ∷ [])) closing
+open_more : (first more : List (List ℕ)) (text : List ℕ) → IsOpenAlong first more → MayStand (first ++ (more ++ text ∷ [])) closing_bracket
     → IsOpenAlong first (more ++ text ∷ [])
 open_more first [] text a m = (a, m)
 open_more first (line ∷ more) text a m =
-    let M : List (List ℕ) → Type 0 = λ all. MayStand all closing in
+    let M : List (List ℕ) → Type 0 = λ all. MayStand all closing_bracket in
     (a.0, open_more (first ++ line ∷ []) more text a.1 (subst M (sym (append_assoc first (line ∷ []) (more ++ text ∷ []))) m))
 
-list_stays : (number : ℕ) (first : List (List ℕ)) (text : List ℕ) → IsCutList number first → MayStand (first ++ text ∷ []) closing
+list_stays : (number : ℕ) (first : List (List ℕ)) (text : List ℕ) → IsCutList number first → MayStand (first ++ text ∷ []) closing_bracket
     → IsCutList number (first ++ text ∷ [])
 list_stays number first text c m =
     let parts : first ++ text ∷ [] ≡ c.first ++ c.line ∷ (c.more ++ text ∷ []) = ap (λ (all : List (List ℕ)). all ++ text ∷ []) c.parts
     ∙ append_assoc c.first (c.line ∷ c.more) (text ∷ []) in
-    let M : List (List ℕ) → Type 0 = λ all. MayStand all closing in
+    let M : List (List ℕ) → Type 0 = λ all. MayStand all closing_bracket in
     record {
       first = c.first;
       line = c.line;
@@ -99,57 +99,57 @@ list_stays number first text c m =
           (subst M (parts ∙ sym (append_assoc c.first (c.line ∷ []) (c.more ++ text ∷ []))) m);
     }
 
-list_here : (first : List (List ℕ)) (text : List ℕ) → (MayStand first closing → ⊥) → MayStand (first ++ text ∷ []) closing
+list_here : (first : List (List ℕ)) (text : List ℕ) → (MayStand first closing_bracket → ⊥) → MayStand (first ++ text ∷ []) closing_bracket
     → IsCutList (length first + 1) (first ++ text ∷ [])
 list_here first text n m = record { first = first; line = text; more = []; parts = refl; here = refl; before = n; open_along = m }
 
 -- behind a list that is open a bracket may stand
 pub closing_stands : (first : List (List ℕ)) (before : List DocumentFields) (document : OpenDocumentFields) (list : Option ItemListFields)
     (names : NameListFields) → Reached first (record { documents = before; place = Within (stays document list (Names names)) })
-    → MayStand first closing
-closing_stands first before document list names r = may_stand first _ _ closing r refl
+    → MayStand first closing_bracket
+closing_stands first before document list names r = may_stand first _ _ closing_bracket r refl
     (close_steps before document list names (length first + 1) r.good.1)
 
 -- and where a key may stand, none may
 bracket_at_top : (before : List DocumentFields) (document whole : OpenDocumentFields) (list : Option ItemListFields) (skipped : Bool)
-    (line : ℕ) → Closes list document whole → line_step (keys_state before document list skipped) line closing ≡ outside line
+    (line : ℕ) → Closes list document whole → line_step (keys_state before document list skipped) line closing_bracket ≡ outside line
 unfolding has_barred is_passed is_blank_or_comment unspaced indent belongs_to_top top_line entry_at is_key_byte
-bracket_at_top before document whole list skipped line c = top_steps before document whole list skipped line closing c refl refl refl
+bracket_at_top before document whole list skipped line c = top_steps before document whole list skipped line closing_bracket c refl refl refl
 
 pub no_bracket_at_keys : (first : List (List ℕ)) (before : List DocumentFields) (document : OpenDocumentFields) (list : Option
     ItemListFields)
-    (skipped : Bool) → Reached first (keys_state before document list skipped) → MayStand first closing → ⊥
+    (skipped : Bool) → Reached first (keys_state before document list skipped) → MayStand first closing_bracket → ⊥
 unfolding has_barred is_passed is_blank_or_comment unspaced indent
-no_bracket_at_keys first before document None skipped r m = refused first _ closing (length first + 1) S1 r
+no_bracket_at_keys first before document None skipped r m = refused first _ closing_bracket (length first + 1) S1 r
     (bracket_at_top before document document None skipped (length first + 1) refl) m
 no_bracket_at_keys first before document (Some list) skipped r m = by_items (items_with_last document.line list) refl
   where
     by_items : (reading : Reading (List ItemFields)) → items_with_last document.line list ≡ reading → ⊥
-    by_items (Ok items) e = refused first _ closing (length first + 1) S1 r
+    by_items (Ok items) e = refused first _ closing_bracket (length first + 1) S1 r
         (bracket_at_top before document (with_items list.kind items document) (Some list) skipped (length first + 1) (items, e, refl)) m
-    by_items (Err fault) e = refused first _ closing fault.line fault.rule r
-        (lacking_steps before document list skipped (length first + 1) closing fault.line fault.rule e refl refl refl) m
+    by_items (Err fault) e = refused first _ closing_bracket fault.line fault.rule r
+        (lacking_steps before document list skipped (length first + 1) closing_bracket fault.line fault.rule e refl refl refl) m
 
 pub no_bracket_at_item : (first : List (List ℕ)) (before : List DocumentFields) (document : OpenDocumentFields) (list : Option
     ItemListFields)
     (kind : ItemKind) (at : ℕ) → Reached first (record { documents = before; place = Within (stays document list (NoItem kind at)) })
-    → MayStand first closing → ⊥
+    → MayStand first closing_bracket → ⊥
 unfolding line_step has_barred is_passed is_blank_or_comment unspaced indent first_line has_dash
-no_bracket_at_item first before document list kind at r m = refused first _ closing (length first + 1) S1 r refl m
+no_bracket_at_item first before document list kind at r m = refused first _ closing_bracket (length first + 1) S1 r refl m
 
 -- ---- keys of items
 
 pub item_stands : (first : List (List ℕ)) (before : List DocumentFields) (document : OpenDocumentFields) (list : Option ItemListFields)
     (kind : ItemKind) (at : ℕ) → Reached first (record { documents = before; place = Within (stays document list (NoItem kind at)) })
-    → MayStand first dashed
-item_stands first before document list kind at r = may_stand first _ (at_item before document (begun kind) true) dashed r refl
+    → MayStand first unread_item
+item_stands first before document list kind at r = may_stand first _ (at_item before document (begun kind) true) unread_item r refl
     (dash_steps before document list kind at (length first + 1))
 
 pub no_spare_at_item : (first : List (List ℕ)) (before : List DocumentFields) (document : OpenDocumentFields) (list : Option ItemListFields)
     (kind : ItemKind) (at : ℕ) → Reached first (record { documents = before; place = Within (stays document list (NoItem kind at)) })
-    → MayStand first spare → ⊥
+    → MayStand first unread_key → ⊥
 unfolding line_step has_barred is_passed is_blank_or_comment unspaced indent first_line has_dash
-no_spare_at_item first before document list kind at r m = refused first _ spare (length first + 1) S1 r refl m
+no_spare_at_item first before document list kind at r m = refused first _ unread_key (length first + 1) S1 r refl m
 
 passed_more : (first : List (List ℕ)) (text : List ℕ) → AllByRecursion (λ line. is_passed line ≡ true) first → is_passed text ≡ true
     → AllByRecursion (λ line. is_passed line ≡ true) (first ++ text ∷ [])
@@ -190,7 +190,7 @@ place_passed first before (Within inside) text p r h l = (
 
 -- a list, or a key of items, that begins at the line
 new_list : (first : List (List ℕ)) (before : List DocumentFields) (document : OpenDocumentFields) (list : Option ItemListFields)
-    (mode : ModeFields) (text : List ℕ) → is_passed text ≡ false → (MayStand first closing → ⊥)
+    (mode : ModeFields) (text : List ℕ) → is_passed text ≡ false → (MayStand first closing_bracket → ⊥)
     → Reached (first ++ text ∷ []) (record { documents = before; place = Within (stays document list mode) })
     → Began (length first + 1) mode → ListMode (first ++ text ∷ []) mode
 new_list first before document list Keys text p n r b = tt

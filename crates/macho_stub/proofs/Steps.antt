@@ -8,7 +8,7 @@ use Rattle.macho_stub_lines.specs.Keys.{entry_at, top_key}
 use Rattle.macho_stub.specs.Documents.{ItemFields, DocumentFields}
 use Rattle.macho_stub.specs.Opened.{OpenDocumentFields, with_items}
 use Rattle.macho_stub.specs.Reader.{ItemListFields, Within, StateFields, stays, skipped_value, with_whole, top_line, items_with_last, item_line, line_step}
-use Rattle.macho_stub.specs.Order.{spare}
+use Rattle.macho_stub.specs.Order.{unread_key}
 use Rattle.macho_stub_lines.proofs.Bind.{not_below}
 use Rattle.macho_stub.proofs.OnlyLines.{top_indent, top_no_dash}
 use Rattle.macho_stub.proofs.Finish.{mode_at, at_top, at_item}
@@ -58,10 +58,10 @@ lacking_steps before document list false line text at rule e clean some zero =
 
 pub spare_at_top : (before : List DocumentFields) (document whole : OpenDocumentFields) (list : Option ItemListFields) (skipped : Bool)
     (line : ℕ) → Closes list document whole
-    → line_step (keys_state before document list skipped) line spare ≡ Ok (at_top before whole true)
+    → line_step (keys_state before document list skipped) line unread_key ≡ Ok (at_top before whole true)
 unfolding has_barred is_passed is_blank_or_comment unspaced indent belongs_to_top top_line entry_at is_key_byte is_tail top_key
     skipped_value
-spare_at_top before document whole list skipped line c = top_steps before document whole list skipped line spare c refl refl refl
+spare_at_top before document whole list skipped line c = top_steps before document whole list skipped line unread_key c refl refl refl
 
 pub head_at_top : (before : List DocumentFields) (document whole : OpenDocumentFields) (list : Option ItemListFields) (skipped : Bool)
     (line at : ℕ) (rule : StubRule) → Closes list document whole → with_whole before whole ≡ broken at rule

@@ -11,7 +11,7 @@ use Rattle.macho_stub_lines.specs.Keys.{Entry, entry_at, entry_behind, top_key, 
 use Rattle.macho_stub.specs.Documents.{DocumentFields}
 use Rattle.macho_stub.specs.Opened.{OpenDocumentFields}
 use Rattle.macho_stub.specs.Reader.{ItemListFields, InsideFields, StateFields, skipped_value, top_entry, item_entry, item_key_line, within, top_line, line_step}
-use Rattle.macho_stub.specs.Order.{MayStand, StandsTwice, spare, in_column}
+use Rattle.macho_stub.specs.Order.{MayStand, StandsTwice, unread_key, in_column}
 use Rattle.macho_stub.proofs.OnlyLines.{entry_unspaced}
 use Rattle.macho_stub.proofs.Joined.{spaces_line}
 use Rattle.macho_stub.proofs.Finish.{at_top, at_item, item_text_barred, item_text_steps}
@@ -70,9 +70,9 @@ twice_at_top first before document whole list skipped text said r c clean e twic
     let n = length first + 1 in
     let state = keys_state before document list skipped in
     let z = no_spaces n text said e in
-    let M : ℕ → Type 0 = λ k. MayStand first (in_column k spare) in
+    let M : ℕ → Type 0 = λ k. MayStand first (in_column k unread_key) in
     stands_twice first text said clean (ap (entry_at n) z.1 ∙ e)
-    (subst M (sym z.0) (may_stand first state (at_top before whole true) spare r refl
+    (subst M (sym z.0) (may_stand first state (at_top before whole true) unread_key r refl
     (spare_at_top before document whole list skipped n c)))
     (λ rest m.
     let again = said.key ++ colon ∷ rest in
@@ -95,7 +95,7 @@ twice_at_top first before document whole list skipped text said r c clean e twic
 
 -- a key that isn't read
 spare_key : (before : List DocumentFields) (document : OpenDocumentFields) (list : ItemListFields) (line : ℕ) (kind : ItemKind)
-    → list.kind ≡ kind → within before (item_key_line document list line spare) ≡ Ok (at_item before document list true)
+    → list.kind ≡ kind → within before (item_key_line document list line unread_key) ≡ Ok (at_item before document list true)
 unfolding item_key_line entry_at is_key_byte is_tail item_key skipped_value unspaced indent is_passed is_blank_or_comment
 spare_key before document list line Libraries k = rw k refl
 spare_key before document list line Exports k = rw k refl
@@ -103,13 +103,13 @@ spare_key before document list line Reexports k = rw k refl
 
 pub spare_in_column : (first : List (List ℕ)) (before : List DocumentFields) (document : OpenDocumentFields) (list : ItemListFields)
     (skipped : Bool) → Reached first (at_item before document list skipped) → list.dash < list.column
-    → MayStand first (in_column list.column spare)
+    → MayStand first (in_column list.column unread_key)
 unfolding has_barred is_blank_or_comment belongs_to_top
 spare_in_column first before document list skipped r below =
     let n = length first + 1 in
-    may_stand first (at_item before document list skipped) (at_item before document list true) (in_column list.column spare) r
-    (spaces_line list.column spare refl)
-    (item_text_steps before document list skipped n spare refl refl refl below ∙ spare_key before document list n list.kind refl)
+    may_stand first (at_item before document list skipped) (at_item before document list true) (in_column list.column unread_key) r
+    (spaces_line list.column unread_key refl)
+    (item_text_steps before document list skipped n unread_key refl refl refl below ∙ spare_key before document list n list.kind refl)
 
 abbrev pub then_item : OpenDocumentFields → ItemListFields → ℕ → Entry → Reading InsideFields
 then_item document list line entry = item_entry document list line (item_key list.kind entry.key) entry.value
@@ -140,7 +140,7 @@ pub twice_in_item : (first : List (List ℕ)) (before : List DocumentFields) (do
     → StandsTwice first text
 twice_in_item first before document list skipped text said r below clean at e twice =
     let n = length first + 1 in
-    let M : ℕ → Type 0 = λ k. MayStand first (in_column k spare) in
+    let M : ℕ → Type 0 = λ k. MayStand first (in_column k unread_key) in
     stands_twice first text said clean e (subst M (sym at) (spare_in_column first before document list skipped r below))
     (λ rest m.
     let again = said.key ++ colon ∷ rest in

@@ -4,7 +4,7 @@ use Rattle.std.proofs.Common.{◌≡◌, ℕ, ◌+◌, false, List, ◌∷◌, �
 use Rattle.macho_stub_lines.specs.Bytes.{colon, indent, unspaced, has_barred}
 use Rattle.macho_stub_lines.specs.Spelling.{EntryTree, value_of}
 use Rattle.macho_stub_lines.specs.Keys.{Entry, entry_at}
-use Rattle.macho_stub.specs.Order.{MayStand, StandsTwice, spare, in_column}
+use Rattle.macho_stub.specs.Order.{MayStand, StandsTwice, unread_key, in_column}
 use Rattle.macho_stub_lines.proofs.EntryTrees.{entry_found, entry_reads}
 
 -- what an entry says
@@ -18,7 +18,7 @@ second_key first line t = ap (entry_at (length first + 1)) t.spelled ∙ entry_r
 
 -- and a line that is read has a second key, where another may stand and it may not
 pub stands_twice : (first : List (List ℕ)) (line : List ℕ) (said : Entry) → has_barred line ≡ false
-    → entry_at (length first + 1) (unspaced line) ≡ Ok said → MayStand first (in_column (indent line) spare)
+    → entry_at (length first + 1) (unspaced line) ≡ Ok said → MayStand first (in_column (indent line) unread_key)
     → ((rest : List ℕ) → MayStand first (in_column (indent line) (said.key ++ colon ∷ rest)) → ⊥) → StandsTwice first line
 stands_twice first line said clean e another not_again =
     let f = entry_found (length first + 1) (unspaced line) said e in

@@ -13,7 +13,7 @@ use Rattle.macho_stub_lines.specs.Keys.{Entry, entry_at, top_key, item_key}
 use Rattle.macho_stub.specs.Documents.{ItemFields, DocumentFields}
 use Rattle.macho_stub.specs.Opened.{OpenDocumentFields, with_items, has_key, no_item}
 use Rattle.macho_stub.specs.Reader.{ItemListFields, InsideFields, StateFields, names_value, top_entry, item_entry, item_key_line, key_column, first_line, with_whole, items_with_last, key_line, belongs}
-use Rattle.macho_stub.specs.Order.{MayStand, EndsWithout, IsLastHead, IsWhy, spare, in_column}
+use Rattle.macho_stub.specs.Order.{MayStand, EndsWithout, IsLastHead, IsWhy, unread_key, in_column}
 use Rattle.macho_stub_lines.proofs.Bind.{eq_false, chosen}
 use Rattle.macho_stub.proofs.Ruling.{bind_err, same_err}
 use Rattle.macho_stub.proofs.OnlyLines.{top_indent}
@@ -44,7 +44,7 @@ same_why at rule first text fault e w = let P : Fault → Type 0 = λ f. IsWhy f
 top_why : (first : List (List ℕ)) (before : List DocumentFields) (document whole : OpenDocumentFields) (list : Option ItemListFields)
     (skipped : Bool) (text : List ℕ) (at : ℕ) (rule : StubRule) → Known first (keys_state before document list skipped)
     → Closes list document whole → has_barred text ≡ false → IsLine text → whole.line ≡ document.line
-    → (MayStand first (in_column (indent text) spare) → indent text ≡ 0) → TopCause before whole (length first + 1) text at rule
+    → (MayStand first (in_column (indent text) unread_key) → indent text ≡ 0) → TopCause before whole (length first + 1) text at rule
     → IsWhy rule at first text
 top_why first before document whole list skipped text at rule k c clean l same deep (Ends ends w) =
     let q = at_line AnyOf (lacking_at whole.line) (with_whole before whole) at rule (with_whole_fine before whole) w in
@@ -151,14 +151,14 @@ drop_line (suc n) (b ∷ text) h = drop_line n text (either_false (eqb b 10) (ha
 -- no key stands in a column that the item's keys don't stand in
 no_key_elsewhere : (first : List (List ℕ)) (before : List DocumentFields) (document : OpenDocumentFields) (list : ItemListFields)
     (skipped : Bool) (n : ℕ) → Reached first (at_item before document list skipped) → n ≢ 0 → n ≢ list.column
-    → (skipped ≡ true → ltb list.column n ≡ false) → MayStand first (in_column n spare) → ⊥
+    → (skipped ≡ true → ltb list.column n ≡ false) → MayStand first (in_column n unread_key) → ⊥
 unfolding belongs_to_top has_barred is_blank_or_comment
 no_key_elsewhere first before document list true n r nz nc s m =
-    refused first (at_item before document list true) (in_column n spare) (length first + 1) S1 r
-    (column_steps before document list true (length first + 1) n spare refl refl refl nz ∙ rw (s refl, eq_false n list.column nc) refl) m
+    refused first (at_item before document list true) (in_column n unread_key) (length first + 1) S1 r
+    (column_steps before document list true (length first + 1) n unread_key refl refl refl nz ∙ rw (s refl, eq_false n list.column nc) refl) m
 no_key_elsewhere first before document list false n r nz nc s m =
-    refused first (at_item before document list false) (in_column n spare) (length first + 1) S1 r
-    (column_steps before document list false (length first + 1) n spare refl refl refl nz ∙ rw (eq_false n list.column nc) refl) m
+    refused first (at_item before document list false) (in_column n unread_key) (length first + 1) S1 r
+    (column_steps before document list false (length first + 1) n unread_key refl refl refl nz ∙ rw (eq_false n list.column nc) refl) m
 
 item_why : (first : List (List ℕ)) (before : List DocumentFields) (document : OpenDocumentFields) (list : ItemListFields)
     (skipped : Bool) (text : List ℕ) (at : ℕ) (rule : StubRule) → Known first (at_item before document list skipped)

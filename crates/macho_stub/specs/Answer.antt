@@ -43,7 +43,8 @@ SaysSlices text = (says : List (DocumentOf Slice)) → IsStubText text says → 
 abbrev pub IsToldOfText : List ℕ → StubFault → Type 0
 IsToldOfText text OutOfMemory = Unit {0}
 IsToldOfText text (Rule line rule) =
-    ((says : List (DocumentOf Slice)) × IsStubText text says × IsTold rule line (documents_texts says)) ⊎ BreaksOff text line rule
+    ((says : List (DocumentOf Slice)) × IsStubText text says × IsTold rule line (documents_texts says))
+    ⊎ BreaksOff text line rule
 
 -- The documents of a text, and then the library that they make.
 unfoldable pub answer_of : List ℕ → Reading LibraryFields

@@ -1,6 +1,7 @@
 -- The grammar of a stub text: documents, mappings and items as trees, each with the lines that it stands on. A tree is
 -- spelled in front of the lines that follow it, and what it says are slices of the input.
-use Rattle.std.specs.Prelude.{◌≡◌, ◌≢◌, ℕ, ◌+◌, ◌<◌, ◌⊎◌, Bool, true, false, List, [], ◌∷◌, ◌++◌, replicate, Option, Some, None, nat_lt, slice_index}
+use Rattle.std.specs.Prelude.{◌≡◌, ◌≢◌, ℕ, ◌+◌, ◌<◌, ◌⊎◌, Bool, true, false, List, [], ◌∷◌, ◌++◌, replicate, Option}
+use Rattle.std.specs.Prelude.{Some, None, nat_lt, slice_index}
 use Rattle.std.specs.List.{AllByRecursion}
 use Rattle.macho_stub_lines.specs.declared.keys.ItemKind.{ItemKind}
 use Rattle.macho_stub_lines.specs.declared.keys.ItemKind.TheVariants.{Libraries, Exports, Reexports}
@@ -10,7 +11,8 @@ use Rattle.macho_stub_lines.specs.declared.keys.TopKey.{TopKey}
 use Rattle.macho_stub_lines.specs.declared.keys.TopKey.TheVariants as top
 use Rattle.macho_stub_lines.specs.Bytes.{space, dash, open_bracket, indent, has_barred, head, end, belongs_to_top}
 use Rattle.macho_stub_lines.specs.Slices.{Slice, Line, lines_of, content_of}
-use Rattle.macho_stub_lines.specs.Spelling.{EntryTree, IsEntry, entry_bytes, value_of, value_at, IsScalarValue, IsNumberValue}
+use Rattle.macho_stub_lines.specs.Spelling.{EntryTree, IsEntry, entry_bytes, value_of, value_at, IsScalarValue}
+use Rattle.macho_stub_lines.specs.Spelling.{IsNumberValue}
 use Rattle.macho_stub_lines.specs.FlowLists.{IsFlowList}
 use Rattle.macho_stub_lines.specs.Keys.{top_key, item_key}
 use Rattle.macho_stub.specs.Documents.{ItemOf, DocumentOf}
@@ -53,7 +55,8 @@ pub record ItemEntry : Type 0 where
 
 -- its lines, with the key in this column, in front of others
 abbrev pub entry_then : ℕ → ItemEntry → List Line → List Line
-entry_then column one rest = record { number = one.number; at = one.at; text = replicate column space ++ entry_bytes one.entry }
+entry_then column one rest =
+    record { number = one.number; at = one.at; text = replicate column space ++ entry_bytes one.entry }
     ∷ (one.more ++ rest)
 
 abbrev pub entries_then : ℕ → List ItemEntry → List Line → List Line
@@ -78,7 +81,8 @@ SaysNames column one names = IsFlowList (item_value_at column one) (value_of one
 
 -- The value of a key of an item, in this column: a flow list if the key is read, and else a value that is skipped.
 abbrev pub IsItemValue : ℕ → ItemKey → ItemEntry → Type 0
-IsItemValue column item.Unread one = IsSkipped (is_deeper column) (item_value_at column one) (value_of one.entry) one.more
+IsItemValue column item.Unread one =
+    IsSkipped (is_deeper column) (item_value_at column one) (value_of one.entry) one.more
 IsItemValue column item.Targets one = (names : List Slice) × SaysNames column one names
 IsItemValue column item.Names one = (names : List Slice) × SaysNames column one names
 IsItemValue column item.WeakNames one = (names : List Slice) × SaysNames column one names
@@ -128,13 +132,15 @@ pub record IsItem (kind : ItemKind) (dash_column : ℕ) (tree : ItemTree) (says 
   pub once : NoneTwice item.Unread (λ one. item_key kind one.entry.key) (entries_of tree)
   pub targets : Given (HasKey kind item.Targets) (SaysNames (column_of dash_column tree)) (entries_of tree) says.targets
   pub names : AreNames kind (column_of dash_column tree) (entries_of tree) says.names
-  pub weak_names : GivenOr [] (HasKey kind item.WeakNames) (SaysNames (column_of dash_column tree)) (entries_of tree) says.weak_names
+  pub weak_names : GivenOr [] (HasKey kind item.WeakNames) (SaysNames (column_of dash_column tree)) (entries_of tree)
+      says.weak_names
 
 abbrev pub AreItems : ItemKind → ℕ → List ItemTree → List (ItemOf Slice) → Type 0
 AreItems kind dash_column [] [] = Unit {0}
 AreItems kind dash_column [] (one ∷ says) = ⊥
 AreItems kind dash_column (tree ∷ trees) [] = ⊥
-AreItems kind dash_column (tree ∷ trees) (one ∷ says) = IsItem kind dash_column tree one × AreItems kind dash_column trees says
+AreItems kind dash_column (tree ∷ trees) (one ∷ says) =
+    IsItem kind dash_column tree one × AreItems kind dash_column trees says
 
 -- ---- documents
 
@@ -178,7 +184,8 @@ AreItemsUnder kind (Listed dash_column (tree ∷ trees)) says = AreItems kind da
 abbrev pub HasTopKey : TopKey → TopEntry → Type 0
 HasTopKey key one = top_key one.entry.key ≡ key
 
--- What an entry says: a number or a scalar, under which nothing stands; a flow list; or items, under a key with no value.
+-- What an entry says: a number or a scalar, under which nothing stands; a flow list; or items, under a key with no
+-- value.
 abbrev pub SaysNumber : TopEntry → Slice → Type 0
 SaysNumber one number = (one.under ≡ Lines []) × IsNumberValue (value_at one.at one.entry) (value_of one.entry) number
 

@@ -1,7 +1,7 @@
--- Which fault of a text is told first, and at which line. A line may stand behind others where some text in the grammar,
--- in which no key is lacking and none that is read stands twice, begins with them. The fault is at the first line that may
--- not stand behind those before it, or at the end; where a key is lacking, its document's first line is told. Lines are
--- without their places here: `lines` of a text are the texts of its `lines_of`.
+-- Which fault of a text is told first, and at which line. A line may stand behind others where some text in the
+-- grammar, in which no key is lacking and none that is read stands twice, begins with them. The fault is at the first
+-- line that may not stand behind those before it, or at the end; where a key is lacking, its document's first line is
+-- told. Lines are without their places here: `lines` of a text are the texts of its `lines_of`.
 use Rattle.std.specs.Prelude.{◌≡◌, ◌≢◌, ℕ, ◌+◌, ◌⊎◌, true, false, List, [], ◌∷◌, ◌++◌, length, map, replicate, codes}
 use Rattle.std.specs.List.{AllByRecursion}
 use Rattle.std.specs.Str.Lines.{lines}
@@ -14,7 +14,7 @@ use Rattle.macho_stub.specs.Documents.{DocumentOf}
 use Rattle.macho_stub.specs.Grammar.{IsStubText}
 
 -- A text in the grammar begins with these lines.
-pub record GoOn (first : List (List ℕ)) : Type 0 where
+pub record MayBegin (first : List (List ℕ)) : Type 0 where
   pub text : List ℕ
   pub more : List (List ℕ)
   pub says : List (DocumentOf Slice)
@@ -34,16 +34,16 @@ abbrev pub in_column : ℕ → List ℕ → List ℕ
 in_column column text = replicate column space ++ text
 
 -- a line with a key that isn't read
-abbrev pub spare : List ℕ
-spare = codes "a: a"
+abbrev pub unread_key : List ℕ
+unread_key = codes "a: a"
 
 -- the first line of an item, with such a key
-abbrev pub dashed : List ℕ
-dashed = codes "- a: a"
+abbrev pub unread_item : List ℕ
+unread_item = codes "- a: a"
 
 -- the end of a flow list
-abbrev pub closing : List ℕ
-closing = codes "]"
+abbrev pub closing_bracket : List ℕ
+closing_bracket = codes "]"
 
 -- ---- a key is lacking
 
@@ -53,7 +53,7 @@ LacksInItem first = (line : List ℕ) → is_passed line ≡ false → indent li
 
 -- The last document lacks a key: more keys may stand behind these lines, but not its end, and no other document.
 abbrev pub LacksInDocument : List (List ℕ) → Type 0
-LacksInDocument first = MayStand first spare × (MayStand first head → ⊥) × (MayStand first end → ⊥)
+LacksInDocument first = MayStand first unread_key × (MayStand first head → ⊥) × (MayStand first end → ⊥)
 
 -- a key that an item must have, with an empty list
 abbrev pub IsNeeded : List ℕ → Type 0
@@ -65,7 +65,7 @@ pub record IsNextItem (first : List (List ℕ)) (line : List ℕ) : Type 0 where
   pub column : ℕ
   pub keys : List (List ℕ)
   pub needed : AllByRecursion IsNeeded keys
-  pub begins : MayStand (first ++ map (in_column column) keys) (in_column (indent line) dashed)
+  pub begins : MayStand (first ++ map (in_column column) keys) (in_column (indent line) unread_item)
 
 -- an item ends at a line at column 0, or where the next one begins
 abbrev pub EndsItem : List (List ℕ) → List ℕ → Type 0
@@ -96,7 +96,7 @@ pub record StandsTwice (first : List (List ℕ)) (line : List ℕ) : Type 0 wher
   pub said : EntryTree
   pub is_key : IsEntry said
   pub spelled : unspaced line ≡ entry_bytes said
-  pub another : MayStand first (in_column (indent line) spare)
+  pub another : MayStand first (in_column (indent line) unread_key)
   pub not_again : (rest : List ℕ) → MayStand first (in_column (indent line) (said.key ++ colon ∷ rest)) → ⊥
 
 -- ---- the first fault
@@ -120,14 +120,14 @@ pub record StopsAt (texts : List (List ℕ)) (number : ℕ) (rule : StubRule) : 
   pub line : List ℕ
   pub rest : List (List ℕ)
   pub parts : texts ≡ first ++ line ∷ rest
-  pub go_on : GoOn first
+  pub go_on : MayBegin first
   pub stuck : MayStand first line → ⊥
   pub why : IsWhy rule number first line
 
 -- behind these lines, and behind each of the further ones, a flow list may be closed
 abbrev pub IsOpenAlong : List (List ℕ) → List (List ℕ) → Type 0
-IsOpenAlong first [] = MayStand first closing
-IsOpenAlong first (line ∷ more) = MayStand first closing × IsOpenAlong (first ++ line ∷ []) more
+IsOpenAlong first [] = MayStand first closing_bracket
+IsOpenAlong first (line ∷ more) = MayStand first closing_bracket × IsOpenAlong (first ++ line ∷ []) more
 
 -- The lines end inside a flow list that began at this number: from that line on, and not before it, a list may be
 -- closed.
@@ -137,7 +137,7 @@ pub record IsCutList (number : ℕ) (texts : List (List ℕ)) : Type 0 where
   pub more : List (List ℕ)
   pub parts : texts ≡ first ++ line ∷ more
   pub here : number ≡ length first + 1
-  pub before : MayStand first closing → ⊥
+  pub before : MayStand first closing_bracket → ⊥
   pub open_along : IsOpenAlong (first ++ line ∷ []) more
 
 -- The lines end at a key of items, at this number, under which none stands: an item may stand there, and no key.
@@ -149,8 +149,8 @@ pub record IsBareKey (number : ℕ) (texts : List (List ℕ)) : Type 0 where
   pub here : number ≡ length first + 1
   pub content : is_passed line ≡ false
   pub no_content : AllByRecursion (λ other. is_passed other ≡ true) passed
-  pub items : MayStand texts dashed
-  pub no_key : MayStand texts spare → ⊥
+  pub items : MayStand texts unread_item
+  pub no_key : MayStand texts unread_key → ⊥
 
 -- Why a text that goes on may not end here.
 abbrev pub IsWhyAtEnd : StubRule → ℕ → List (List ℕ) → Type 0
@@ -166,7 +166,7 @@ IsWhyAtEnd S9 number texts = ⊥
 
 -- All lines may stand, but the text may not end behind them.
 pub record StopsAtEnd (text : List ℕ) (number : ℕ) (rule : StubRule) : Type 0 where
-  pub go_on : GoOn (lines text)
+  pub go_on : MayBegin (lines text)
   pub stuck : (says : List (DocumentOf Slice)) → IsStubText text says → ⊥
   pub why : IsWhyAtEnd rule number (lines text)
 

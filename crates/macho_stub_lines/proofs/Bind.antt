@@ -1,5 +1,9 @@
--- Readings that did not fail: their steps didn't either.
-use Rattle.std.proofs.Common.{◌≡◌, ◌≢◌, ℕ, Bool, true, false, cond, eqb, ltb, ◌≤◌, List, Ok, Err, refl, arith, ◌⊎◌, inl, inr}
+-- Readings that did not fail, and tests by what they decide.
+-- A reading is a chain of steps and of choices by tests. Where the whole gives a value, each step gave one (`bind_ok`),
+-- and a choice took the way that doesn't fail (`not_broken`, `not_broken_else`), so its test is known. That a fault and a
+-- value are two things, and that a value is given once, is by computing (`no_ok`, `same_ok`).
+-- The tests themselves compare bytes and numbers; below each is led to the equation that it decides, and back.
+use Rattle.std.proofs.Common.{◌≡◌, ◌≢◌, ℕ, Bool, true, false, cond, eqb, ltb, ◌<◌, ◌≤◌, List, Ok, Err, refl, arith, ◌⊎◌, inl, inr}
 use Rattle.std.specs.Str.{bytes_eq}
 use Rattle.std.proofs.lemmas.Bool.Decides.{nat_tests}
 use Rattle.std.proofs.lemmas.Slice.Eq.{bytes_eq-Decides}
@@ -31,6 +35,7 @@ not_broken_else false line rule r y e = absurd cc
 abbrev done : {A : Type 0} → A → Reading A
 done x = Ok x
 
+-- what a reading gives is one value
 pub same_ok : {A : Type 0} (x y : A) → done x ≡ done y → x ≡ y
 same_ok x y e = cc
 
@@ -38,15 +43,19 @@ same_ok x y e = cc
 pub no_ok : {A : Type 0} (line : ℕ) (rule : StubRule) (y : A) → broken line rule ≡ Ok y → ⊥
 no_ok line rule y e = cc
 
+-- bytes that the test takes for the same are the same
 pub same_bytes : (xs ys : List ℕ) → bytes_eq xs ys ≡ true → xs ≡ ys
 same_bytes xs ys e = (bytes_eq-Decides xs ys).0 e
 
+-- and the same bytes pass the test
 pub bytes_same : (xs ys : List ℕ) → xs ≡ ys → bytes_eq xs ys ≡ true
 bytes_same xs ys e = (bytes_eq-Decides xs ys).1 e
 
+-- bytes that fail the test differ
 pub other_bytes : (xs ys : List ℕ) → bytes_eq xs ys ≡ false → xs ≢ ys
 other_bytes xs ys e = λ is. let t = bytes_same xs ys is in cc
 
+-- and bytes that differ fail it
 pub bytes_differ : (xs ys : List ℕ) → xs ≢ ys → bytes_eq xs ys ≡ false
 bytes_differ xs ys ne = by_test (bytes_eq xs ys) refl
   where
@@ -54,17 +63,26 @@ bytes_differ xs ys ne = by_test (bytes_eq xs ys) refl
     by_test true e = absurd (ne (same_bytes xs ys e))
     by_test false e = e
 
+-- numbers that pass the test for equality are equal
 pub eq_at : (m n : ℕ) → eqb m n ≡ true → m ≡ n
 eq_at m n e = grind (arith, nat_tests)
 
+-- those that fail it are not
 pub ne_at : (m n : ℕ) → eqb m n ≡ false → m ≢ n
 ne_at m n e = λ h. grind (arith, nat_tests)
 
+-- equal numbers pass it
 pub eq_true : (m n : ℕ) → m ≡ n → eqb m n ≡ true
 eq_true m n e = grind (arith, nat_tests)
 
+-- and others fail it
 pub eq_false : (m n : ℕ) → m ≢ n → eqb m n ≡ false
 eq_false m n e = grind (arith, nat_tests)
 
+-- a number above 0 is not 0
+pub not_zero : (n : ℕ) → 0 < n → eqb n 0 ≡ false
+not_zero n h = eq_false n 0 (omega arith)
+
+-- a number is not below one that it reaches
 pub not_below : (m n : ℕ) → n ≤ m → ltb m n ≡ false
 not_below m n e = grind (arith, nat_tests)

@@ -12,8 +12,8 @@ use Rattle.macho_stub_lines.specs.declared.fault.StubRule.TheVariants.{S1}
 use Rattle.macho_stub_lines.specs.Bytes.{space, colon, number_sign, is_space, is_key_byte, indent, unspaced, is_blank_or_comment, is_passed, is_tail}
 use Rattle.macho_stub_lines.specs.Faults.{Reading, outside}
 use Rattle.macho_stub_lines.specs.Keys.{Entry, entry_behind, entry_at}
-use Rattle.macho_stub_lines.specs.Spelling.{Behind, Nothing, Value, EntryTree, behind_bytes, entry_bytes, value_in, value_of, IsValue, IsBehind, IsEntry}
-use Rattle.macho_stub_lines.proofs.Bind.{eq_at, ne_at, eq_false, no_ok}
+use Rattle.macho_stub_lines.specs.Spelling.{Behind, NoValue, Value, EntryTree, behind_bytes, entry_bytes, value_in, value_of, IsValue, IsBehind, IsEntry}
+use Rattle.macho_stub_lines.proofs.Bind.{eq_at, ne_at, eq_false, not_zero, no_ok}
 use Rattle.macho_stub_lines.proofs.Runs.{Stops, Passes, Run, run_of, run_len, first_behind, all_replicate, replicate_from_all}
 
 -- ---- spaces
@@ -84,13 +84,13 @@ behind_found line key rest said e = by_test (is_tail rest) (eqb (slice_index res
   where
     by_test : (ends spaced : Bool) → is_tail rest ≡ ends → eqb (slice_index rest 0) space ≡ spaced
         → cond ends (entry key []) (cond spaced (entry key (unspaced rest)) (outside line)) ≡ Ok said → BehindFound key rest said
-    by_test true spaced h k f = (Nothing rest, h, refl, cc, cc)
+    by_test true spaced h k f = (NoValue rest, h, refl, cc, cc)
     by_test false true h k f = value_found key rest said h k (cc) (cc)
     by_test false false h k f = absurd (no_ok line S1 said f)
 
 behind_reads : (line : ℕ) (key : List ℕ) (behind : Behind) → IsBehind behind
     → entry_behind line key (behind_bytes behind) ≡ Ok (record { key = key; value = value_in behind })
-behind_reads line key (Nothing tail) sound = rw sound refl
+behind_reads line key (NoValue tail) sound = rw sound refl
 behind_reads line key (Value zero value) sound = absurd (omega (arith, sound.0))
 behind_reads line key (Value (suc gap) value) sound =
     let stops = value_stops value sound.1 in
@@ -109,9 +109,6 @@ entry_is line key rest passes stops =
 
 some_bytes : (n : ℕ) → eqb n 0 ≡ false → 0 < n
 some_bytes n e = grind (arith, nat_tests)
-
-no_empty : (n : ℕ) → 0 < n → eqb n 0 ≡ false
-no_empty n h = grind (arith, nat_tests)
 
 colon_stops : (rest : List ℕ) → Stops is_key_byte (colon ∷ rest)
 unfolding is_key_byte
@@ -158,6 +155,6 @@ entry_found line head said e = by_run (run_of is_key_byte head)
 pub entry_reads : (line : ℕ) (tree : EntryTree) → IsEntry tree
     → entry_at line (entry_bytes tree) ≡ Ok (record { key = tree.key; value = value_of tree })
 entry_reads line tree sound =
-    let some : eqb (length tree.key) 0 ≡ false = no_empty (length tree.key) sound.some in
+    let some : eqb (length tree.key) 0 ≡ false = not_zero (length tree.key) sound.some in
     entry_is line tree.key (colon ∷ behind_bytes tree.behind) sound.bytes (colon_stops (behind_bytes tree.behind))
     ∙ rw some (behind_reads line tree.key tree.behind sound.behind)

@@ -1,5 +1,9 @@
--- The first byte of a kind, by a search, and the front of bytes that aren't of the kind: the front is as long as the place
--- of that byte, or all there is where none is found, and some byte is of the kind where one is found.
+-- The first byte of a kind, by a search, and the front of bytes that aren't of the kind.
+-- The code looks for the first byte that ends a run, or that may not stand at all; the definitions speak of the longest
+-- front of bytes that pass a test (`prefix_len`), and of whether any passes (`list_any`). Both are settled by what the
+-- search answers: no byte before the place is of the kind, and the one at the place is. So the front is as long as the
+-- place, or all there is where none is found (`front_len`), and some byte is of the kind where one is found
+-- (`any_found`).
 use Rattle.std.proofs.Common.{◌≡◌, ℕ, zero, suc, ◌<◌, ◌||◌, ◌&&◌, Bool, true, false, not, List, [], ◌∷◌, length, get_or, Option, None, Some, refl, sym, ap, ◌∙◌, arith}
 use Rattle.std.specs.Prelude.{is_some, unwrap_or}
 use Rattle.std.specs.List.{prefix_len, list_any}
@@ -27,7 +31,8 @@ front_len ends inside agree bytes (Some place) h = prefix_len_is inside bytes pl
 none_of : (test : ℕ → Bool) (bytes : List ℕ) → ((k : ℕ) → k < length bytes → test (get_or bytes k 0) ≡ true → ⊥)
     → list_any test bytes ≡ false
 none_of test [] h = refl
-none_of test (b ∷ bytes) h = both (test b) (list_any test bytes) (h 0 (omega arith)) (none_of test bytes (λ k lt. h (suc k) (omega (arith, lt))))
+none_of test (b ∷ bytes) h =
+    both (test b) (list_any test bytes) (h 0 (omega arith)) (none_of test bytes (λ k lt. h (suc k) (omega (arith, lt))))
   where
     both : (x y : Bool) → (x ≡ true → ⊥) → y ≡ false → (x || y) ≡ false
     both true y h e = absurd (h refl)

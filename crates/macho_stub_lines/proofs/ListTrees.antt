@@ -4,14 +4,14 @@
 -- token (`ListTreesFound`) and reads it again (`ListTreesReads`); the tree spells it, and is gathered from it
 -- (`ListTreesShape`). The number of the line stands in faults alone, and the places of the scalars in the tree alone,
 -- so each holds of any.
-use Rattle.std.specs.List.{AllByRecursion}
 use Rattle.std.proofs.Common.{◌≡◌, ◌≢◌, ℕ, false, List, [], ◌∷◌, drop, map, slice_index, Ok, refl, sym, ap, ◌∙◌, arith}
 use Rattle.macho_stub_lines.specs.declared.list.Expect.TheVariants.{AfterOpen}
 use Rattle.macho_stub_lines.specs.Bytes.{open_bracket, end}
 use Rattle.macho_stub_lines.specs.Slices.{Slice, Line, texts_of}
 use Rattle.macho_stub_lines.specs.Lists.{list_part, with_front}
 use Rattle.macho_stub_lines.specs.FlowLists.{Block, bytes_then, between_then, followed_then, final_then, ListTree, IsFlowList, slices_of}
-use Rattle.macho_stub_lines.proofs.ReadLists.{read_line, GoesOn, IsReadList}
+use Rattle.macho_stub_lines.proofs.ReadLists.{ReadLine, read_line, GoesOn, IsReadList}
+use Rattle.macho_stub_lines.proofs.Runs.{all_made, all_made_of}
 use Rattle.macho_stub_lines.proofs.ListTreesShape.{closing, texts_in, slices_say, list_remains, remains_spread}
 use Rattle.macho_stub_lines.proofs.ListTreesReads.{remains_read}
 use Rattle.macho_stub_lines.proofs.ListTreesFound.{read_remains}
@@ -21,16 +21,9 @@ behind_bracket : (value : List ℕ) → slice_index value 0 ≡ open_bracket →
 behind_bracket [] h = absurd (omega arith)
 behind_bracket (b ∷ value) h = ap (λ (n : ℕ). n ∷ value) h
 
--- no line of a list is the end of a document, read or not
-inside_found : (more : List Line) → AllByRecursion (λ line. line.text ≢ end) (map read_line more)
-    → AllByRecursion (λ line. line.text ≢ end) more
-inside_found [] all = tt
-inside_found (line ∷ more) all = (all.0, inside_found more all.1)
-
-inside_reads : (more : List Line) → AllByRecursion (λ line. line.text ≢ end) more
-    → AllByRecursion (λ line. line.text ≢ end) (map read_line more)
-inside_reads [] all = tt
-inside_reads (line ∷ more) all = (all.0, inside_reads more all.1)
+-- a line of a list isn't the end of a document
+abbrev InList : ReadLine → Type 0
+InList line = line.text ≢ end
 
 -- Lines that are read as a list have the tree of one, and its scalars are the names.
 pub list_found : (number at : ℕ) (value : List ℕ) (more : List Line) (names : List (List ℕ))
@@ -50,7 +43,7 @@ list_found number at value more names read =
         tail = scalars.tail;
         spelled = spelled;
         sound = record { opening = spread.sound; followed = scalars.sound; final = scalars.last };
-        inside = inside_found more read.inside;
+        inside = all_made_of InList read_line more read.inside;
         ends = scalars.ends;
         is = refl;
       },
@@ -70,4 +63,4 @@ list_reads number at value more says list =
     let begins : with_front [] (list_part number AfterOpen 0 (drop 1 value)) ≡ Ok reads.0 =
     ap (λ (bytes : List ℕ). with_front [] (list_part number AfterOpen 0 (drop 1 bytes))) is ∙ reads.1 in
     let goes_on : GoesOn reads.0 (map read_line more) (texts_of says) = rw (lines, say) reads.2 in
-    record { bracket = rw is refl; first = reads.0; begins = begins; goes_on = goes_on; inside = inside_reads more list.inside }
+    record { bracket = rw is refl; first = reads.0; begins = begins; goes_on = goes_on; inside = all_made InList read_line more list.inside }

@@ -7,8 +7,9 @@ use Rattle.std.proofs.Common.{◌≡◌, ℕ, zero, suc, Bool, true, false, List
 use Rattle.std.specs.List.{AllByRecursion}
 use Rattle.macho_stub_lines.specs.Bytes.{space, comma, close_bracket, is_tail}
 use Rattle.macho_stub_lines.specs.Slices.{texts_of}
-use Rattle.macho_stub_lines.specs.Spelling.{ScalarTree, Plain, Single, Double, text_of, scalar_bytes, slice_of}
+use Rattle.macho_stub_lines.specs.Spelling.{text_of, scalar_bytes}
 use Rattle.macho_stub_lines.specs.FlowLists.{Block, bytes_then, turn_then, Between, Spaces, Turn, Followed, Final, ListTree, between_then, followed_then, final_then, IsBetween, IsFollowed, IsFinalIfAny, IsListTree, slices_from}
+use Rattle.macho_stub_lines.proofs.ScalarTrees.{slice_text}
 use Rattle.macho_stub_lines.proofs.ListTreesTails.{tail_spaced}
 use Rattle.macho_stub_lines.proofs.ListTreesRemains.{Remains, Gap, Turned, Comma, Name, Close, ending}
 
@@ -27,17 +28,12 @@ abbrev pub texts_in : List Followed → Option Final → List (List ℕ)
 texts_in [] final = final_texts final
 texts_in (one ∷ others) final = text_of one.scalar ∷ texts_in others final
 
-slice_says : (at : ℕ) (scalar : ScalarTree) → (slice_of at scalar).text ≡ text_of scalar
-slice_says at (Plain text) = refl
-slice_says at (Single text) = refl
-slice_says at (Double text) = refl
-
 -- The texts of the slices don't depend on their places.
 pub slices_say : (followed : List Followed) (final : Option Final) (at : ℕ) → texts_of (slices_from at followed final)
     ≡ texts_in followed final
 slices_say [] None at = refl
-slices_say [] (Some one) at = rw (slice_says at one.scalar) refl
-slices_say (one ∷ others) final at = rw (slice_says at one.scalar)
+slices_say [] (Some one) at = rw (slice_text at one.scalar) refl
+slices_say (one ∷ others) final at = rw (slice_text at one.scalar)
     (ap (λ (texts : List (List ℕ)). text_of one.scalar ∷ texts) (slices_say others final _))
 
 -- ---- from the tree to what remains

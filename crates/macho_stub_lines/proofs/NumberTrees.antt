@@ -14,7 +14,7 @@ use Rattle.macho_stub_lines.specs.Slices.{Slice}
 use Rattle.macho_stub_lines.specs.Faults.{outside}
 use Rattle.macho_stub_lines.specs.Keys.{is_zero, number_of, version_value}
 use Rattle.macho_stub_lines.specs.Spelling.{HasNoZeroInFront, IsNumberValue}
-use Rattle.macho_stub_lines.proofs.Bind.{eq_false, ne_at, same_ok, no_ok}
+use Rattle.macho_stub_lines.proofs.Bind.{eq_false, not_zero, ne_at, same_ok, no_ok}
 use Rattle.macho_stub_lines.proofs.Runs.{Stops, Passes, Run, run_of, run_len, all_append, all_behind, all_replicate, replicate_from_all}
 
 -- ---- the readings, on runs and what stands behind them
@@ -102,12 +102,9 @@ number_reads line at value says v =
     all_append (λ b. is_ascii_digit b ≡ true) zeros says.text
     (all_replicate (λ b. is_ascii_digit b ≡ true) v.zeros zero_digit refl) v.digits in
     let long : eqb (length (zeros ++ says.text)) 0 ≡ false =
-    some_digit (length (zeros ++ says.text))
+    not_zero (length (zeros ++ says.text))
     (omega (arith, v.some, length-append zeros says.text, length-replicate v.zeros zero_digit)) in
     let number = number_is zeros says.text (all_replicate (λ b. is_zero b ≡ true) v.zeros zero_digit refl)
     (stop_at_shortest says.text v.shortest) in
     ap (version_value line) parts ∙ version_is line (zeros ++ says.text) v.tail digits (tail_stops v.tail v.ends)
     ∙ rw (long, v.ends, number) refl
-  where
-    some_digit : (n : ℕ) → 0 < n → eqb n 0 ≡ false
-    some_digit n h = grind (arith, nat_tests)

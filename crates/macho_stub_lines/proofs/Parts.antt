@@ -10,12 +10,6 @@ use Rattle.macho_stub_lines.specs.declared.fault.StubFault.TheVariants.{Rule, Ou
 use Rattle.macho_stub_lines.specs.Faults.{Reading, Fails, broken}
 use Rattle.macho_stub_lines.specs.Lists.{TokenSpan, ListPart, names_of, token_front, behind, list_part, with_front}
 
-abbrev done : {A : Type 0} → A → Reading A
-done x = Ok x
-
-pub ok_is : {A : Type 0} (x y : A) → done x ≡ done y → x ≡ y
-ok_is x y e = cc
-
 -- what a test for emptiness says
 pub some_left : (empty : Bool) (n : ℕ) → empty ≡ eqb n 0 → empty ≡ false → 0 < n
 some_left empty n is h = grind (arith, nat_tests)

@@ -12,7 +12,7 @@ use Rattle.std.proofs.lemmas.List.Splits.{join_with_byte-slice_split}
 use Rattle.std.proofs.Math.Seq.{take-append_seam, drop-append_seam}
 use Rattle.macho_stub_lines.specs.Bytes.{space, comma, colon, zero_digit, open_bracket, close_bracket, single_quote, double_quote, line_feed, is_passed}
 use Rattle.macho_stub_lines.specs.Slices.{Slice, StandsIn, Line, lines_of_parts, lines_of, content_of}
-use Rattle.macho_stub_lines.specs.Spelling.{ScalarTree, Plain, Single, Double, scalar_bytes, slice_of, IsScalarValue, IsNumberValue, Behind, Nothing, Value, behind_bytes, value_in, gap_of, EntryTree, entry_bytes, value_at, value_of}
+use Rattle.macho_stub_lines.specs.Spelling.{ScalarTree, Plain, Single, Double, scalar_bytes, slice_of, IsScalarValue, IsNumberValue, Behind, NoValue, Value, behind_bytes, value_in, gap_of, EntryTree, entry_bytes, value_at, value_of}
 use Rattle.macho_stub_lines.specs.FlowLists.{Block, bytes_then, Between, Spaces, Turn, Followed, Final, between_then, followed_then, final_then, behind_between, slices_from, IsFlowList}
 
 -- ---- a text in the input
@@ -54,16 +54,19 @@ part_stands input front text behind at stands =
     stands_from input text (behind ++ left) (at + n)
     (sym (drop-drop n at input) ∙ ap (drop n) from ∙ drop-append_seam front (text ++ (behind ++ left)))
 
--- and so do a front alone and what is behind a front
+-- and so does a front alone
 pub front_stands : (input text behind : List ℕ) (at : ℕ) → StandsAt input at (text ++ behind) → StandsAt input at text
 front_stands input text behind at stands =
     let left = drop (length (text ++ behind)) (drop at input) in
     stands_from input text (behind ++ left) at (rest_from input (text ++ behind) at stands ∙ append_assoc text behind left)
 
-pub behind_stands : (input front text : List ℕ) (at : ℕ) → StandsAt input at (front ++ text) → StandsAt input (at + length front) text
-behind_stands input front text at stands =
+-- and what is behind a front of n bytes
+pub behind_stands : (input front text : List ℕ) (at n : ℕ) → length front ≡ n → StandsAt input at (front ++ text)
+    → StandsAt input (at + n) text
+behind_stands input front text at n long stands =
     let S : List ℕ → Type 0 = λ all. StandsAt input at (front ++ all) in
-    part_stands input front text [] at (subst S (sym (append-nil text)) stands)
+    let T : ℕ → Type 0 = λ k. StandsAt input (at + k) text in
+    subst T long (part_stands input front text [] at (subst S (sym (append-nil text)) stands))
 
 -- ---- scalars, numbers and values of keys
 
@@ -97,15 +100,14 @@ number_stands input at value says stands v =
 pub value_stands : (input : List ℕ) (at : ℕ) (tree : EntryTree) → StandsIn input (record { at = at; text = entry_bytes tree })
     → StandsIn input (record { at = value_at at tree; text = value_of tree })
 value_stands input at tree stands = by_behind tree.behind
-    (behind_stands input (colon ∷ []) (behind_bytes tree.behind) (at + length tree.key)
-    (behind_stands input tree.key (colon ∷ behind_bytes tree.behind) at stands))
+    (behind_stands input (colon ∷ []) (behind_bytes tree.behind) (at + length tree.key) 1 refl
+    (behind_stands input tree.key (colon ∷ behind_bytes tree.behind) at (length tree.key) refl stands))
   where
     by_behind : (behind : Behind) → StandsAt input (at + length tree.key + 1) (behind_bytes behind)
         → StandsAt input (at + length tree.key + 1 + gap_of behind) (value_in behind)
-    by_behind (Nothing tail) there = nothing_stands input (at + length tree.key + 1 + 0)
+    by_behind (NoValue tail) there = nothing_stands input (at + length tree.key + 1 + 0)
     by_behind (Value gap value) there =
-        let P : ℕ → Type 0 = λ n. StandsAt input (at + length tree.key + 1 + n) value in
-        subst P (length-replicate gap space) (behind_stands input (replicate gap space) value (at + length tree.key + 1) there)
+        behind_stands input (replicate gap space) value (at + length tree.key + 1) gap (length-replicate gap space) there
 
 -- ---- flow lists
 
@@ -116,15 +118,14 @@ LineStands input line = StandsIn input (record { at = line.at; text = line.text 
 abbrev pub BlockStands : List ℕ → ℕ → Block → Type 0
 BlockStands input at block = StandsAt input at block.head × AllByRecursion (λ line. LineStands input line) block.more
 
-bytes_stand : (input : List ℕ) (at : ℕ) (bytes : List ℕ) (rest : Block) → BlockStands input at (bytes_then bytes rest)
-    → BlockStands input (at + length bytes) rest
-bytes_stand input at bytes rest stands = (behind_stands input bytes rest.head at stands.0, stands.1)
+bytes_stand : (input : List ℕ) (at n : ℕ) (bytes : List ℕ) (rest : Block) → length bytes ≡ n
+    → BlockStands input at (bytes_then bytes rest) → BlockStands input (at + n) rest
+bytes_stand input at n bytes rest long stands = (behind_stands input bytes rest.head at n long stands.0, stands.1)
 
 between_stands : (input : List ℕ) (at : ℕ) (between : Between) (rest : Block) → BlockStands input at (between_then between rest)
     → BlockStands input (behind_between at between) rest
 between_stands input at (Spaces count) rest stands =
-    let P : ℕ → Type 0 = λ n. BlockStands input (at + n) rest in
-    subst P (length-replicate count space) (bytes_stand input at (replicate count space) rest stands)
+    bytes_stand input at count (replicate count space) rest (length-replicate count space) stands
 between_stands input at (Turn tail number next between) rest stands =
     between_stands input next between rest (stands.1.0, stands.1.1)
 
@@ -147,9 +148,9 @@ slices_stand input at (one ∷ others) final rest stands =
       one_stands input at one.scalar before stands,
       slices_stand input (behind_between (at_comma + 1) one.behind) others final rest
           (between_stands input (at_comma + 1) one.behind last
-          (bytes_stand input at_comma (comma ∷ []) behind
+          (bytes_stand input at_comma 1 (comma ∷ []) behind refl
           (between_stands input at_before one.before (bytes_then (comma ∷ []) behind)
-          (bytes_stand input at (scalar_bytes one.scalar) before stands)))),
+          (bytes_stand input at (length (scalar_bytes one.scalar)) (scalar_bytes one.scalar) before refl stands)))),
     )
 
 -- the scalars of a list stand inside its value, and on the lines under it
@@ -166,7 +167,7 @@ list_stands input at value more says head lines l =
     let stands : BlockStands input at (bytes_then (open_bracket ∷ []) opened) = subst B l.spelled (head, lines) in
     subst A (sym l.is)
     (slices_stand input (behind_between (at + 1) l.tree.opening) l.tree.followed l.tree.final end
-    (between_stands input (at + 1) l.tree.opening scalars (bytes_stand input at (open_bracket ∷ []) opened stands)))
+    (between_stands input (at + 1) l.tree.opening scalars (bytes_stand input at 1 (open_bracket ∷ []) opened refl stands)))
 
 -- ---- lines
 

@@ -3,7 +3,7 @@
 -- length of that front (`run_len`). So a reading that counts the bytes of a run, takes that many and drops that many
 -- is known from the parts: by `take-append_seam` and `drop-append_seam` it has the front and the rest.
 -- The byte behind the run is the first of the rest (`first_behind`).
-use Rattle.std.proofs.Common.{◌≡◌, ℕ, zero, suc, ◌+◌, Bool, true, false, eqb, List, [], ◌∷◌, ◌++◌, length, replicate, slice_index, refl, ap, ◌∙◌, arith}
+use Rattle.std.proofs.Common.{◌≡◌, ℕ, zero, suc, ◌+◌, Bool, true, false, eqb, List, [], ◌∷◌, ◌++◌, length, map, replicate, slice_index, refl, ap, ◌∙◌, arith}
 use Rattle.std.proofs.lemmas.List.{append-nil, get_or_past}
 use Rattle.std.proofs.Math.Seq.{get_or-append_seam}
 use Rattle.std.specs.List.{AllByRecursion, prefix_len}
@@ -47,27 +47,44 @@ pub first_behind : (front rest : List ℕ) → slice_index (front ++ rest) (leng
 first_behind front [] = rw (append-nil front) (get_or_past front (length front) 0 (omega arith))
 first_behind front (b ∷ rest) = get_or-append_seam front b rest 0
 
--- what all bytes have, they have in weaker words
-pub all_weaker : (P Q : ℕ → Type 0) → ((b : ℕ) → P b → Q b) → (bytes : List ℕ) → AllByRecursion P bytes → AllByRecursion Q bytes
+-- what all of a list have, they have in weaker words
+pub all_weaker : {A : Type 0} (P Q : A → Type 0) → ((x : A) → P x → Q x) → (xs : List A) → AllByRecursion P xs → AllByRecursion Q xs
 all_weaker P Q weaker [] all = tt
-all_weaker P Q weaker (b ∷ bytes) all = (weaker b all.0, all_weaker P Q weaker bytes all.1)
+all_weaker P Q weaker (x ∷ xs) all = (weaker x all.0, all_weaker P Q weaker xs all.1)
 
 -- what both parts have, the whole has
-pub all_append : (P : ℕ → Type 0) (front rest : List ℕ) → AllByRecursion P front → AllByRecursion P rest
+pub all_append : {A : Type 0} (P : A → Type 0) (front rest : List A) → AllByRecursion P front → AllByRecursion P rest
     → AllByRecursion P (front ++ rest)
 all_append P [] rest first second = second
-all_append P (b ∷ front) rest first second = (first.0, all_append P front rest first.1 second)
+all_append P (x ∷ front) rest first second = (first.0, all_append P front rest first.1 second)
 
--- what the whole has, the part behind a front has
-pub all_behind : (P : ℕ → Type 0) (front rest : List ℕ) → AllByRecursion P (front ++ rest) → AllByRecursion P rest
+-- what the whole has, its front has
+pub all_front : {A : Type 0} (P : A → Type 0) (front rest : List A) → AllByRecursion P (front ++ rest) → AllByRecursion P front
+all_front P [] rest all = tt
+all_front P (x ∷ front) rest all = (all.0, all_front P front rest all.1)
+
+-- and the part behind a front has it too
+pub all_behind : {A : Type 0} (P : A → Type 0) (front rest : List A) → AllByRecursion P (front ++ rest) → AllByRecursion P rest
 all_behind P [] rest all = all
-all_behind P (b ∷ front) rest all = all_behind P front rest all.1
+all_behind P (x ∷ front) rest all = all_behind P front rest all.1
 
--- a row of one byte, and the bytes that are such a row
+-- What all of a list have of what is made of them, all that is made has, and the other way.
+pub all_made : {A B : Type 0} (P : B → Type 0) (f : A → B) (xs : List A) → AllByRecursion (λ x. P (f x)) xs
+    → AllByRecursion P (map f xs)
+all_made P f [] all = tt
+all_made P f (x ∷ xs) all = (all.0, all_made P f xs all.1)
+
+pub all_made_of : {A B : Type 0} (P : B → Type 0) (f : A → B) (xs : List A) → AllByRecursion P (map f xs)
+    → AllByRecursion (λ x. P (f x)) xs
+all_made_of P f [] all = tt
+all_made_of P f (x ∷ xs) all = (all.0, all_made_of P f xs all.1)
+
+-- what a byte has, a row of it has
 pub all_replicate : (P : ℕ → Type 0) (count b : ℕ) → P b → AllByRecursion P (replicate count b)
 all_replicate P zero b one = tt
 all_replicate P (suc count) b one = (one, all_replicate P count b one)
 
+-- bytes that are each this one are a row of it
 pub replicate_from_all : (b : ℕ) (bytes : List ℕ) → AllByRecursion (λ n. eqb n b ≡ true) bytes → bytes ≡ replicate (length bytes) b
 replicate_from_all b [] all = refl
 replicate_from_all b (n ∷ bytes) all =

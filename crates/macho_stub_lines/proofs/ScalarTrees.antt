@@ -220,7 +220,7 @@ front_reads (Double text) rest sound ends =
 
 -- ---- a value that is a scalar
 
-slice_text : (at : ℕ) (scalar : ScalarTree) → (slice_of at scalar).text ≡ text_of scalar
+pub slice_text : (at : ℕ) (scalar : ScalarTree) → (slice_of at scalar).text ≡ text_of scalar
 slice_text at (Plain text) = refl
 slice_text at (Single text) = refl
 slice_text at (Double text) = refl

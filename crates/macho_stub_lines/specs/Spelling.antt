@@ -1,8 +1,10 @@
--- What stands on a line as a tree, how it is spelled, and when it is sound: scalars, numbers, and keys with their values.
+-- What stands on a line as a tree, how it is spelled, and when it is sound: scalars, numbers, and keys with their
+-- values. In these files a thing stands behind another where it comes after it in the text.
 use Rattle.std.specs.Prelude.{◌≡◌, ◌≢◌, ℕ, ◌+◌, ◌<◌, true, false, List, [], ◌∷◌, ◌++◌, length, replicate}
 use Rattle.std.specs.List.{AllByRecursion}
 use Rattle.std.specs.Char.{is_ascii_digit}
-use Rattle.macho_stub_lines.specs.Bytes.{space, colon, zero_digit, number_sign, single_quote, double_quote, backslash, is_plain_byte, is_key_byte, has_late_control, is_tail}
+use Rattle.macho_stub_lines.specs.Bytes.{space, colon, zero_digit, number_sign, single_quote, double_quote, backslash}
+use Rattle.macho_stub_lines.specs.Bytes.{is_plain_byte, is_key_byte, has_late_control, is_tail}
 use Rattle.macho_stub_lines.specs.Slices.{Slice}
 
 -- ---- scalars
@@ -74,7 +76,7 @@ pub record IsNumberValue (at : ℕ) (value : List ℕ) (says : Slice) : Type 0 w
 
 -- What stands behind the colon of a key: nothing but spaces and a comment, or spaces and a value.
 pub data Behind : Type 0 where
-  Nothing : List ℕ → Behind
+  NoValue : List ℕ → Behind
   Value : ℕ → List ℕ → Behind
 
 -- A key, a colon, and what stands behind it on the line.
@@ -83,7 +85,7 @@ pub record EntryTree : Type 0 where
   pub behind : Behind
 
 abbrev pub behind_bytes : Behind → List ℕ
-behind_bytes (Nothing tail) = tail
+behind_bytes (NoValue tail) = tail
 behind_bytes (Value gap value) = replicate gap space ++ value
 
 abbrev pub entry_bytes : EntryTree → List ℕ
@@ -91,7 +93,7 @@ entry_bytes tree = tree.key ++ colon ∷ behind_bytes tree.behind
 
 -- its value, empty where there is none
 abbrev pub value_in : Behind → List ℕ
-value_in (Nothing tail) = []
+value_in (NoValue tail) = []
 value_in (Value gap value) = value
 
 abbrev pub value_of : EntryTree → List ℕ
@@ -99,7 +101,7 @@ value_of tree = value_in tree.behind
 
 -- how many spaces stand before it
 abbrev pub gap_of : Behind → ℕ
-gap_of (Nothing tail) = 0
+gap_of (NoValue tail) = 0
 gap_of (Value gap value) = gap
 
 -- its place, of an entry that begins at this place
@@ -112,7 +114,7 @@ IsValue [] = ⊥
 IsValue (b ∷ value) = (b ≢ space) × (b ≢ number_sign)
 
 abbrev pub IsBehind : Behind → Type 0
-IsBehind (Nothing tail) = is_tail tail ≡ true
+IsBehind (NoValue tail) = is_tail tail ≡ true
 IsBehind (Value gap value) = (0 < gap) × IsValue value
 
 -- A key has a byte or more: letters, digits and dashes.

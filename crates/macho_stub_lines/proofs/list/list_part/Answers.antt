@@ -1,7 +1,8 @@
 use Rattle.std.proofs.Common.{◌≡◌, ◌++◌}
 use Rattle.std.proofs.lemmas.Result.{err_from_is_err_and}
 use Rattle.macho_stub_lines.specs.Lists.{texts, token_of, names_of, list_part, with_front}
-use Rattle.macho_stub_lines.proofs.Parts.{ok_is, some_left, none_left, goes_on, ends_at_token, ends_at_order, is_done}
+use Rattle.macho_stub_lines.proofs.Bind.{same_ok}
+use Rattle.macho_stub_lines.proofs.Parts.{some_left, none_left, goes_on, ends_at_token, ends_at_order, is_done}
 use Rattle.macho_stub_lines.proofs.list.list_part.Goals as goal
 
 pub returns-in_err-token : goal.returns-in_err-token
@@ -27,7 +28,7 @@ loop-rest-preserved c =
     (token_of c.in_ok-token.token) total (some_left _ _ c.is_empty.ensures c.loop-rest-test.true) c.in_ok-token.ensures.some
     c.in_ok-token.ensures.value c.in_ok-expect.ensures c.loop-rest.invariant.1 in
     let e : texts c.loop-rest.names.items ++ names_of (token_of c.in_ok-token.token)
-    ≡ texts c.in_ok-names.names.items = ok_is _ _ c.in_ok-names.ensures in
+    ≡ texts c.in_ok-names.names.items = same_ok _ _ c.in_ok-names.ensures in
     (c.after-rest.utf8, rw (← e, c.after-rest.ensures) more)
 
 pub returns : goal.returns
