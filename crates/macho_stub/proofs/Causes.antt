@@ -1,6 +1,8 @@
 -- Why a line where a key may stand is refused. The tests are made in the order of the line: whether it ends an item, a
 -- document, and then its key and its value; so the first that fails tells what the line breaks.
 use Rattle.std.proofs.Common.{◌≡◌, ◌≢◌, ℕ, ◌<◌, ◌&&◌, Bool, true, false, cond, eqb, List, length, Some, None, Ok, Err, is_some, refl, sym, ap, ◌∙◌, ◌⊎◌, inl, inr}
+use Rattle.macho_stub.proofs.Branches.{at_head, at_end, at_entry, then_first, then_top}
+use Rattle.std.proofs.lemmas.Bool.{and_parts}
 use Rattle.std.specs.Str.{bytes_eq}
 use Rattle.macho_stub_lines.specs.declared.keys.ItemKind.{ItemKind}
 use Rattle.macho_stub_lines.specs.declared.keys.ItemKey.{ItemKey}
@@ -16,9 +18,8 @@ use Rattle.macho_stub.specs.Documents.{ItemFields, DocumentFields}
 use Rattle.macho_stub.specs.Opened.{OpenDocumentFields, head_at, with_items, has_items, has_key}
 use Rattle.macho_stub.specs.Reader.{ItemListFields, InsideFields, Outside, Within, Keys, NoItem, StateFields, stays, skipped_value, item_entry, item_key_line, first_line, top_entry, within, with_whole, top_line, items_with_last, item_line}
 use Rattle.macho_stub.specs.Order.{EndsDocument}
-use Rattle.macho_stub_lines.proofs.Bind.{chosen, same_bytes, bytes_same, eq_at, ne_at}
-use Rattle.macho_stub.proofs.Ruling.{bind_err, same_err}
-use Rattle.macho_stub.proofs.Told.{ok_not_told}
+use Rattle.macho_stub_lines.proofs.Bind.{chosen, same_bytes, bytes_same, eq_at, ne_at, other_bytes}
+use Rattle.macho_stub.proofs.Ruling.{bind_err, same_err, ok_not_told}
 use Rattle.macho_stub.proofs.FineLines.{Fine, AnyOf, outside_at, version_fine, scalar_fine, fine_ok, fine_bind, fine_if, fine_here}
 use Rattle.macho_stub.proofs.Fine.{GoodInside, names_value_fine, skipped_value_fine}
 
@@ -29,7 +30,8 @@ pub at_line : {A : Type 0} (P : A → Type 0) (Q : Fault → Type 0) (r : Readin
     → r ≡ broken line rule → Q (record { line = line; rule = rule })
 at_line P Q r line rule f e = f.err (record { line = line; rule = rule }) e
 
-abbrev fault_at : ℕ → StubRule → Fault
+-- a fault by its line and its rule
+abbrev pub fault_at : ℕ → StubRule → Fault
 fault_at line rule = record { line = line; rule = rule }
 
 pub same_parts : (l m : ℕ) (r s : StubRule) → fault_at l r ≡ fault_at m s → (l ≡ m) × (r ≡ s)
@@ -86,18 +88,6 @@ pub data TopCause (before : List DocumentFields) (document : OpenDocumentFields)
       → top_entry document line (top_key said.key) said.value ≡ broken at rule
       → TopCause before document line text at rule
 
-not_bytes : (text other : List ℕ) → bytes_eq text other ≡ false → text ≢ other
-not_bytes text other h = λ is. absurd (let k = sym (bytes_same text other is) ∙ h in cc)
-
-abbrev at_head : ℕ → List DocumentFields → Reading StateFields
-at_head line all = Ok (record { documents = all; place = Within (stays (head_at line) None Keys) })
-
-abbrev at_end : List DocumentFields → Reading StateFields
-at_end all = Ok (record { documents = all; place = Outside })
-
-abbrev at_entry : List DocumentFields → OpenDocumentFields → ℕ → Entry → Reading StateFields
-at_entry before document line entry = within before (top_entry document line (top_key entry.key) entry.value)
-
 -- what leads inside a document is refused where the reading inside is
 pub within_refused : (before : List DocumentFields) (reading : Reading InsideFields) (at : ℕ) (rule : StubRule)
     → within before reading ≡ broken at rule → reading ≡ broken at rule
@@ -122,8 +112,8 @@ top_cause before document line text at rule e =
               | inr w ↦ absurd (ok_not_told _ at rule w.2)
             ]
             | inr d ↦ elim (bind_err (entry_at line text) (at_entry before document line) at rule d.1) [
-              | inl k ↦ NoKey (not_bytes text head b.0) (not_bytes text end d.0) k
-              | inr k ↦ Refused k.0 (not_bytes text head b.0) (not_bytes text end d.0) k.1 (within_refused before _ at rule k.2)
+              | inl k ↦ NoKey (other_bytes text head b.0) (other_bytes text end d.0) k
+              | inr k ↦ Refused k.0 (other_bytes text head b.0) (other_bytes text end d.0) k.1 (within_refused before _ at rule k.2)
             ]
           ]
     ]
@@ -145,19 +135,9 @@ pub data ItemCause (before : List DocumentFields) (document : OpenDocumentFields
   Nowhere : indent text ≢ 0 → indent text ≢ list.column → (has_dash text ≡ true → indent text ≢ list.dash)
       → outside {A = StateFields} line ≡ broken at rule → ItemCause before document list line text at rule
 
-and_both : (a b : Bool) → (a && b) ≡ true → (a ≡ true) × (b ≡ true)
-and_both true b h = (refl, h)
-and_both false b h = absurd cc
-
 not_both : (a b : Bool) → (a && b) ≡ false → a ≡ true → b ≡ false
 not_both true b h e = h
 not_both false b h e = absurd cc
-
-abbrev then_first : List DocumentFields → OpenDocumentFields → ItemKind → ℕ → List ℕ → List ItemFields → Reading StateFields
-then_first before document kind line text items = within before (first_line document kind items line text)
-
-abbrev then_top : List DocumentFields → OpenDocumentFields → ItemKind → ℕ → List ℕ → List ItemFields → Reading StateFields
-then_top before document kind line text items = top_line before (with_items kind items document) line text
 
 pub item_cause : (before : List DocumentFields) (document : OpenDocumentFields) (list : ItemListFields) (line : ℕ) (text : List ℕ)
     (at : ℕ) (rule : StubRule) → item_line before document list line text ≡ broken at rule
@@ -170,7 +150,7 @@ item_cause before document list line text at rule e =
     let by_top = cond (eqb (indent text) 0) (items_with_last document.line list >>= top) by_key in
     elim (chosen (has_dash text && eqb (indent text) list.dash) (items_with_last document.line list >>= first) by_top (broken at rule) e) [
       | inl b ↦
-          let both = and_both (has_dash text) (eqb (indent text) list.dash) b.0 in
+          let both = and_parts (has_dash text) (eqb (indent text) list.dash) b.0 in
           elim (bind_err (items_with_last document.line list) first at rule b.1) [
             | inl w ↦ EndsItem (inl (both.0, eq_at _ _ both.1)) w
             | inr w ↦ Next w.0 both.0 w.1 (within_refused before _ at rule w.2)

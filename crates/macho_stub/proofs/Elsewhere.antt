@@ -16,16 +16,15 @@ use Rattle.macho_stub.specs.Opened.{OpenDocumentFields, head_at}
 use Rattle.macho_stub.specs.Reader.{ItemListFields, NameListFields, ModeFields, PlaceFields, Outside, Within, Keys, Skipped, Names, NoItem, StateFields, stays, names_line, first_line, key_line, belongs, inside_line, content_line, line_step, within}
 use Rattle.macho_stub.specs.Order.{MayStand, IsWhy, unread_key, unread_item, closing_bracket, in_column}
 use Rattle.macho_stub_lines.proofs.Bind.{chosen}
-use Rattle.macho_stub.proofs.Ruling.{same_err}
-use Rattle.macho_stub.proofs.Told.{ok_not_told}
+use Rattle.macho_stub.proofs.Ruling.{same_err, ok_not_told}
 use Rattle.macho_stub.proofs.FineLines.{outside_at}
 use Rattle.macho_stub.proofs.Fine.{GoodInside, names_line_fine}
-use Rattle.macho_stub.proofs.Causes.{at_line, within_refused}
+use Rattle.macho_stub.proofs.Causes.{at_line, within_refused, fault_at}
 use Rattle.macho_stub.proofs.Joined.{IsLine}
-use Rattle.macho_stub.proofs.Finish.{item_text_barred, item_text_passed, no_dash_there}
+use Rattle.macho_stub.proofs.PutIn.{item_text_barred, item_text_passed, no_dash_there}
 use Rattle.macho_stub.proofs.Reached.{Reached, may_stand, refused}
 use Rattle.macho_stub.proofs.Since.{Known, closing_stands, item_stands}
-use Rattle.macho_stub.proofs.Whys.{same_why, outside_fault, fault_at, first_outside, keys_why}
+use Rattle.macho_stub.proofs.Whys.{same_why, outside_fault, first_outside, keys_why}
 
 -- ---- inside a flow list
 

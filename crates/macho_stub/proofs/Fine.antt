@@ -1,6 +1,7 @@
 -- A step that doesn't fail leaves the reading in good order: keys of an item stand behind its dash, and a list that
 -- goes on isn't closed. One that fails tells its line, or that an item or a document lacks a key.
 use Rattle.std.proofs.Common.{◌≢◌, ℕ, ◌<◌, ◌&&◌, cond, eqb, length, List, [], drop, Option, Some, None, Ok, refl, arith, inl, inr}
+use Rattle.macho_stub.proofs.Branches.{at_head, at_end, at_entry, then_first, then_top}
 use Rattle.std.specs.Str.{bytes_eq}
 use Rattle.macho_stub_lines.specs.declared.keys.ItemKind.{ItemKind}
 use Rattle.macho_stub_lines.specs.declared.keys.ItemKind.TheVariants.{Libraries, Exports, Reexports}
@@ -184,15 +185,6 @@ within_fine : (line : ℕ) (before : List DocumentFields) (reading : Reading Ins
     → Fine GoodState AnyOf (within before reading)
 within_fine line before reading h = fine_bind GoodInside GoodState AnyOf reading _ h (λ inside g. fine_ok _ g)
 
-abbrev at_head : ℕ → List DocumentFields → Reading StateFields
-at_head line all = Ok (record { documents = all; place = Within (stays (head_at line) None Keys) })
-
-abbrev at_end : List DocumentFields → Reading StateFields
-at_end all = Ok (record { documents = all; place = Outside })
-
-abbrev at_entry : List DocumentFields → OpenDocumentFields → ℕ → Entry → Reading StateFields
-at_entry before document line entry = within before (top_entry document line (top_key entry.key) entry.value)
-
 top_line_fine : (before : List DocumentFields) (document : OpenDocumentFields) (line : ℕ) (text : List ℕ)
     → Fine GoodState AnyOf (top_line before document line text)
 unfolding top_line
@@ -208,12 +200,6 @@ top_line_fine before document line text =
     (fine_bind AnyOf GoodState AnyOf (entry_at line text) (at_entry before document line) (free AnyOf _ _ (entry_fine line text))
     (λ entry _. within_fine line before (top_entry document line (top_key entry.key) entry.value)
     (free GoodInside _ _ (top_entry_fine document line (top_key entry.key) entry.value)))))
-
-abbrev then_first : List DocumentFields → OpenDocumentFields → ItemKind → ℕ → List ℕ → List ItemFields → Reading StateFields
-then_first before document kind line text items = within before (first_line document kind items line text)
-
-abbrev then_top : List DocumentFields → OpenDocumentFields → ItemKind → ℕ → List ℕ → List ItemFields → Reading StateFields
-then_top before document kind line text items = top_line before (with_items kind items document) line text
 
 item_line_fine : (before : List DocumentFields) (document : OpenDocumentFields) (list : ItemListFields) (line : ℕ) (text : List ℕ)
     → list.dash < list.column → Fine GoodState AnyOf (item_line before document list line text)

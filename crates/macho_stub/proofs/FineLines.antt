@@ -1,6 +1,7 @@
 -- Readings that are fine: what they give is so, and so is the fault that they tell. A key, a scalar, a version and a
 -- line of a flow list tell their own line, as outside the grammar.
 use Rattle.std.proofs.Common.{◌≡◌, ℕ, zero, suc, ◌+◌, ◌-◌, Bool, true, false, cond, eqb, get_or, take, List, [], ◌∷◌, drop, Option, Some, None, Ok, Err, refl, sym, subst, ◌⊎◌}
+use Rattle.macho_stub_lines.proofs.Bind.{same_ok}
 use Rattle.std.specs.List.{prefix_len}
 use Rattle.macho_stub_lines.specs.declared.list.Expect.{Expect}
 use Rattle.macho_stub_lines.specs.declared.list.Expect.TheVariants.{AfterOpen, AfterComma, AfterName, Closed}
@@ -38,13 +39,10 @@ lacking_at line fault = fault ≡ record { line = line; rule = S2 }
 abbrev pub any_at : ℕ → ℕ → Fault → Type 0
 any_at line at fault = here_at line fault ⊎ lacking_at at fault
 
-abbrev pub done : {A : Type 0} → A → Reading A
+abbrev done : {A : Type 0} → A → Reading A
 done x = Ok x
 
-pub same_ok : {A : Type 0} (x y : A) → done x ≡ done y → x ≡ y
-same_ok x y e = cc
-
-pub no_err : {A : Type 0} (x : A) (d : Fault) → done x ≡ Err d → ⊥
+no_err : {A : Type 0} (x : A) (d : Fault) → done x ≡ Err d → ⊥
 no_err x d e = cc
 
 pub fine_ok : {A : Type 0} {P : A → Type 0} {Q : Fault → Type 0} (x : A) → P x → Fine P Q (Ok x)

@@ -1,6 +1,12 @@
--- Each text that was read so far without a fault may go on: lines are there that finish it. A flow list is closed, an
--- item is begun where one must stand, and the keys that an item or the document must have are put in where they lack.
+-- Each text that was read so far without a fault may go on: lines are there that finish it.
+-- They are found from the end on. A document in which nothing lacks is finished by no line (`all_there`); else the keys
+-- that it must have are put in one after the other, each before what finishes the document with it (`top_finishes`). An
+-- item gets the keys that it must have in the column of its keys, and then a key at column 0 ends its list
+-- (`item_finishes`). A flow list is closed, and where an item must stand one is begun. The steps over these lines are
+-- those of `PutIn`.
 use Rattle.std.proofs.Common.{◌≡◌, ◌≢◌, ℕ, zero, suc, ◌+◌, get_or, ◌<◌, ◌&&◌, Bool, true, false, eqb, List, [], ◌∷◌, ◌++◌, replicate, Option, Some, None, Ok, refl, ap, ◌∙◌, arith}
+use Rattle.macho_stub.specs.Order.{unread_key, unread_item, closing_bracket}
+use Rattle.macho_stub.proofs.PutIn.{mode_at, at_top, at_item, version_line, targets_line, name_line, libraries_line, with_name, with_targets, with_version, name_steps, targets_steps, version_steps, spare_steps, item_with_targets, item_with_names, item_targets_step, item_libraries_step, close_steps, begun, dash_steps}
 use Rattle.std.specs.Prelude.{codes, unwrap_or}
 use Rattle.std.specs.List.{prefix_len}
 use Rattle.std.proofs.lemmas.Bool.Decides.{nat_tests}
@@ -40,29 +46,6 @@ step_then state next line text e l f = record {
   are = (l, f.are);
 }
 
--- where keys of a document may stand, or a skipped value goes on
-abbrev pub mode_at : Bool → ModeFields
-mode_at false = Keys
-mode_at true = Skipped
-
-abbrev pub at_top : List DocumentFields → OpenDocumentFields → Bool → StateFields
-at_top before document skipped = record { documents = before; place = Within (stays document None (mode_at skipped)) }
-
-abbrev pub at_item : List DocumentFields → OpenDocumentFields → ItemListFields → Bool → StateFields
-at_item before document list skipped = record { documents = before; place = Within (stays document (Some list) (mode_at skipped)) }
-
-abbrev pub version_line : List ℕ
-version_line = codes "tbd-version: 4"
-
-abbrev pub targets_line : List ℕ
-targets_line = codes "targets: []"
-
-abbrev pub name_line : List ℕ
-name_line = codes "install-name: a"
-
-abbrev pub libraries_line : List ℕ
-libraries_line = codes "libraries: []"
-
 -- ---- a document
 
 abbrev whole : List ℕ → List ℕ → List (List ℕ) → OpenDocumentFields → DocumentFields
@@ -97,39 +80,6 @@ all_there before document false line v i t ev et ei = record {
   are = tt;
 }
 
-abbrev with_name : OpenDocumentFields → OpenDocumentFields
-with_name document = record document { install_name = Some (codes "a") }
-
-abbrev with_targets : OpenDocumentFields → OpenDocumentFields
-with_targets document = record document { targets = Some [] }
-
-abbrev with_version : OpenDocumentFields → OpenDocumentFields
-with_version document = record document { version = Some (codes "4") }
-
-name_steps : (before : List DocumentFields) (document : OpenDocumentFields) (skipped : Bool) (line : ℕ) → document.install_name ≡ None
-    → line_step (at_top before document skipped) line name_line ≡ Ok (at_top before (with_name document) false)
-unfolding line_step has_barred is_passed is_blank_or_comment unspaced indent top_line entry_at is_key_byte is_tail top_key scalar_value
-    version_value number_of scalar_front plain_front is_plain_byte is_mark has_late_control_after names_value skipped_value names_line
-    list_part token_front behind belongs_to_top has_dash
-name_steps before document true line e = rw e refl
-name_steps before document false line e = rw e refl
-
-targets_steps : (before : List DocumentFields) (document : OpenDocumentFields) (skipped : Bool) (line : ℕ) → document.targets ≡ None
-    → line_step (at_top before document skipped) line targets_line ≡ Ok (at_top before (with_targets document) false)
-unfolding line_step has_barred is_passed is_blank_or_comment unspaced indent top_line entry_at is_key_byte is_tail top_key scalar_value
-    version_value number_of scalar_front plain_front is_plain_byte is_mark has_late_control_after names_value skipped_value names_line
-    list_part token_front behind belongs_to_top has_dash
-targets_steps before document true line e = rw e refl
-targets_steps before document false line e = rw e refl
-
-version_steps : (before : List DocumentFields) (document : OpenDocumentFields) (skipped : Bool) (line : ℕ) → document.version ≡ None
-    → line_step (at_top before document skipped) line version_line ≡ Ok (at_top before (with_version document) false)
-unfolding line_step has_barred is_passed is_blank_or_comment unspaced indent top_line entry_at is_key_byte is_tail top_key scalar_value
-    version_value number_of scalar_front plain_front is_plain_byte is_mark has_late_control_after names_value skipped_value names_line
-    list_part token_front behind belongs_to_top has_dash
-version_steps before document true line e = rw e refl
-version_steps before document false line e = rw e refl
-
 -- one key after the other is put in where it lacks
 name_lacks : (before : List DocumentFields) (document : OpenDocumentFields) (skipped : Bool) (line : ℕ) (v : List ℕ)
     (t : List (List ℕ)) (i : Option (List ℕ)) → document.version ≡ Some v → document.targets ≡ Some t → document.install_name ≡ i
@@ -159,103 +109,10 @@ top_finishes before document skipped line = version_lacks before document skippe
 
 -- ---- an item
 
--- a key that isn't read, at column 0, ends a list whose last item lacks none
-abbrev pub spare_line : List ℕ
-spare_line = codes "a: a"
-
-pub spare_steps : (before : List DocumentFields) (document : OpenDocumentFields) (list : ItemListFields) (skipped : Bool) (line : ℕ)
-    (items : List ItemFields) → items_with_last document.line list ≡ Ok items
-    → line_step (at_item before document list skipped) line spare_line ≡ Ok (at_top before (with_items list.kind items document) true)
-unfolding line_step has_barred is_passed is_blank_or_comment unspaced indent top_line entry_at is_key_byte is_tail top_key scalar_value
-    version_value number_of scalar_front plain_front is_plain_byte is_mark has_late_control_after names_value skipped_value names_line
-    list_part token_front behind belongs_to_top has_dash item_line
-spare_steps before document list true line items e = rw (e, not_below list.column 0 (omega arith)) refl
-spare_steps before document list false line items e = rw e refl
-
--- a line in the column of the keys of an item
-pub item_text_barred : (n : ℕ) (text : List ℕ) → has_barred (replicate n space ++ text) ≡ has_barred text
-unfolding has_barred
-item_text_barred zero text = refl
-item_text_barred (suc n) text = item_text_barred n text
-
-pub item_text_passed : (n : ℕ) (text : List ℕ) → prefix_len is_space text ≡ 0
-    → is_passed (replicate n space ++ text) ≡ is_blank_or_comment text
-unfolding is_passed unspaced indent
-item_text_passed n text h = rw (spelled_indent n text h, spelled_rest n text) refl
-
-pub no_dash_there : (n : ℕ) (text : List ℕ) → belongs_to_top text ≡ false → has_dash (replicate n space ++ text) ≡ false
-unfolding has_dash indent belongs_to_top
-no_dash_there n text out =
-    let h : prefix_len is_space text ≡ 0 = top_indent text out in
-    let at : get_or (replicate n space ++ text) n 0 ≡ get_or text 0 0 = ap (λ k. get_or (replicate n space ++ text) k 0) (omega arith)
-    ∙ spelled_at n 0 text in
-    rw (spelled_indent n text h, at, spelled_at n 1 text) (not_dash text out)
-  where
-    not_dash : (text : List ℕ) → belongs_to_top text ≡ false → (eqb (get_or text 0 0) dash && eqb (get_or text 1 0) space) ≡ false
-    not_dash text out = grind (arith, nat_tests)
-
--- the line is refused for a byte, or it is the line of a key of the item
-pub item_text_steps : (before : List DocumentFields) (document : OpenDocumentFields) (list : ItemListFields) (skipped : Bool) (line : ℕ)
-    (text : List ℕ) → belongs_to_top text ≡ false → has_barred text ≡ false → is_blank_or_comment text ≡ false
-    → list.dash < list.column
-    → line_step (at_item before document list skipped) line (replicate list.column space ++ text)
-    ≡ within before (item_key_line document list line text)
-unfolding line_step item_line unspaced indent
-item_text_steps before document list true line text out clean some below =
-    let h : prefix_len is_space text ≡ 0 = top_indent text out in
-    rw (item_text_barred list.column text, item_text_passed list.column text h, clean, some) (
-    rw (spelled_indent list.column text h, spelled_rest list.column text, no_dash_there list.column text out) (
-    rw (not_below list.column list.column (omega arith), eq_false list.column 0 (omega arith), eq_true list.column list.column refl) refl))
-item_text_steps before document list false line text out clean some below =
-    let h : prefix_len is_space text ≡ 0 = top_indent text out in
-    rw (item_text_barred list.column text, item_text_passed list.column text h, clean, some) (
-    rw (spelled_indent list.column text h, spelled_rest list.column text, no_dash_there list.column text out) (
-    rw (eq_false list.column 0 (omega arith), eq_true list.column list.column refl) refl))
-
-abbrev pub item_with_targets : ItemListFields → ItemListFields
-item_with_targets list = record list { item = record list.item { targets = Some [] } }
-
-abbrev pub item_with_names : ItemListFields → ItemListFields
-item_with_names list = record list { item = record list.item { names = Some [] } }
-
-targets_key : (before : List DocumentFields) (document : OpenDocumentFields) (list : ItemListFields) (line : ℕ)
-    → list.item.targets ≡ None
-    → within before (item_key_line document list line targets_line) ≡ Ok (at_item before document (item_with_targets list) false)
-unfolding line_step has_barred is_passed is_blank_or_comment unspaced indent top_line entry_at is_key_byte is_tail top_key item_key
-    scalar_value version_value number_of scalar_front plain_front is_plain_byte is_mark has_late_control_after names_value skipped_value
-    names_line list_part token_front behind belongs_to_top has_dash item_key_line first_line key_column item_line
-targets_key before document list line e = rw e refl
-
-libraries_key : (before : List DocumentFields) (document : OpenDocumentFields) (list : ItemListFields) (line : ℕ)
-    → list.kind ≡ Libraries → list.item.names ≡ None
-    → within before (item_key_line document list line libraries_line) ≡ Ok (at_item before document (item_with_names list) false)
-unfolding line_step has_barred is_passed is_blank_or_comment unspaced indent top_line entry_at is_key_byte is_tail top_key item_key
-    scalar_value version_value number_of scalar_front plain_front is_plain_byte is_mark has_late_control_after names_value skipped_value
-    names_line list_part token_front behind belongs_to_top has_dash item_key_line first_line key_column item_line
-libraries_key before document list line k e = rw (k, e) refl
-
-pub item_targets_step : (before : List DocumentFields) (document : OpenDocumentFields) (list : ItemListFields) (skipped : Bool) (line : ℕ)
-    → list.item.targets ≡ None → list.dash < list.column
-    → line_step (at_item before document list skipped) line (replicate list.column space ++ targets_line)
-    ≡ Ok (at_item before document (item_with_targets list) false)
-unfolding has_barred is_blank_or_comment belongs_to_top
-item_targets_step before document list skipped line e below =
-    item_text_steps before document list skipped line targets_line refl refl refl below
-    ∙ targets_key before document list line e
-
-pub item_libraries_step : (before : List DocumentFields) (document : OpenDocumentFields) (list : ItemListFields) (skipped : Bool)
-    (line : ℕ) → list.kind ≡ Libraries → list.item.names ≡ None → list.dash < list.column
-    → line_step (at_item before document list skipped) line (replicate list.column space ++ libraries_line)
-    ≡ Ok (at_item before document (item_with_names list) false)
-unfolding has_barred is_blank_or_comment belongs_to_top
-item_libraries_step before document list skipped line k e below =
-    item_text_steps before document list skipped line libraries_line refl refl refl below
-    ∙ libraries_key before document list line k e
-
 pub item_done : (before : List DocumentFields) (document : OpenDocumentFields) (list : ItemListFields) (skipped : Bool) (line : ℕ)
     (items : List ItemFields) → items_with_last document.line list ≡ Ok items → Finishes (at_item before document list skipped) line
 item_done before document list skipped line items e =
-    step_then _ (at_top before (with_items list.kind items document) true) line spare_line
+    step_then _ (at_top before (with_items list.kind items document) true) line unread_key
     (spare_steps before document list skipped line items e) refl (top_finishes before (with_items list.kind items document) true (line + 1))
 
 pub item_whole : (line : ℕ) (list : ItemListFields) (t : List (List ℕ)) (n : Option (List (List ℕ))) (k : ItemKind)
@@ -331,30 +188,6 @@ keys_finish : (before : List DocumentFields) (document : OpenDocumentFields) (li
 keys_finish before document None skipped line g = top_finishes before document skipped line
 keys_finish before document (Some list) skipped line g = item_finishes before document list skipped line g
 
-abbrev pub in_names : List DocumentFields → OpenDocumentFields → Option ItemListFields → NameListFields → StateFields
-in_names before document list names = record { documents = before; place = Within (stays document list (Names names)) }
-
-abbrev pub close_line : List ℕ
-close_line = codes "]"
-
-closing : (before : List DocumentFields) (document : OpenDocumentFields) (list : Option ItemListFields) (names : NameListFields)
-    (expect : Expect) (line : ℕ) → names.part.expect ≡ expect → expect ≢ Closed
-    → line_step (in_names before document list names) line close_line
-    ≡ Ok (record { documents = before; place = Within (with_names document list names.key (names.part.names ++ [])) })
-unfolding line_step has_barred is_passed is_blank_or_comment unspaced indent top_line entry_at is_key_byte is_tail top_key item_key
-    scalar_value version_value number_of scalar_front plain_front is_plain_byte is_mark has_late_control_after names_value skipped_value
-    names_line list_part token_front behind belongs_to_top has_dash item_key_line first_line key_column item_line
-closing before document list names Closed line e ne = absurd (ne refl)
-closing before document list names AfterOpen line e ne = rw e refl
-closing before document list names AfterComma line e ne = rw e refl
-closing before document list names AfterName line e ne = rw e refl
-
-pub close_steps : (before : List DocumentFields) (document : OpenDocumentFields) (list : Option ItemListFields) (names : NameListFields)
-    (line : ℕ) → names.part.expect ≢ Closed
-    → line_step (in_names before document list names) line close_line
-    ≡ Ok (record { documents = before; place = Within (with_names document list names.key (names.part.names ++ [])) })
-close_steps before document list names line ne = closing before document list names names.part.expect line refl ne
-
 closed_finishes : (before : List DocumentFields) (document : OpenDocumentFields) (list : Option ItemListFields) (key : ItemKey)
     (names : List (List ℕ)) (line : ℕ) → GoodList list
     → Finishes (record { documents = before; place = Within (with_names document list key names) }) line
@@ -362,32 +195,15 @@ closed_finishes before document None key names line g = top_finishes before (wit
 closed_finishes before document (Some list) key names line g = item_finishes before document
     (record list { item = with_key key names list.item }) false line g
 
-abbrev pub dash_text : List ℕ
-dash_text = codes "- a: a"
-
-abbrev pub begun : ItemKind → ItemListFields
-begun kind = record { kind = kind; items = []; dash = 0; column = 2; item = no_item }
-
-pub dash_steps : (before : List DocumentFields) (document : OpenDocumentFields) (list : Option ItemListFields) (kind : ItemKind) (at line :
-    ℕ)
-    → line_step (record { documents = before; place = Within (stays document list (NoItem kind at)) }) line dash_text
-    ≡ Ok (at_item before document (begun kind) true)
-unfolding line_step has_barred is_passed is_blank_or_comment unspaced indent top_line entry_at is_key_byte is_tail top_key item_key
-    scalar_value version_value number_of scalar_front plain_front is_plain_byte is_mark has_late_control_after names_value skipped_value
-    names_line list_part token_front behind belongs_to_top has_dash item_key_line first_line key_column item_line
-dash_steps before document list Libraries at line = refl
-dash_steps before document list Exports at line = refl
-dash_steps before document list Reexports at line = refl
-
 mode_finishes : (before : List DocumentFields) (document : OpenDocumentFields) (list : Option ItemListFields) (mode : ModeFields) (line : ℕ)
     → GoodList list → GoodMode mode → Finishes (record { documents = before; place = Within (stays document list mode) }) line
 mode_finishes before document list Keys line g m = keys_finish before document list false line g
 mode_finishes before document list Skipped line g m = keys_finish before document list true line g
 mode_finishes before document list (Names names) line g m =
-    step_then _ _ line close_line (close_steps before document list names line m) refl
+    step_then _ _ line closing_bracket (close_steps before document list names line m) refl
     (closed_finishes before document list names.key (names.part.names ++ []) (line + 1) g)
 mode_finishes before document list (NoItem kind at) line g m =
-    step_then _ _ line dash_text (dash_steps before document list kind at line) refl
+    step_then _ _ line unread_item (dash_steps before document list kind at line) refl
     (item_finishes before document (begun kind) true (line + 1) (omega arith))
 
 place_finishes : (before : List DocumentFields) (place : PlaceFields) (line : ℕ) → GoodPlace place

@@ -1,6 +1,8 @@
 -- What is read is in the grammar. From the last line backwards: if the lines that follow a line finish the text
 -- from where it leaves the reading (`Rest`), then the line and they finish it from where the line finds it.
 use Rattle.std.proofs.Common.{◌≡◌, ℕ, ◌+◌, ◌&&◌, Bool, true, false, cond, eqb, List, [], ◌∷◌, ◌++◌, replicate, Option, Some, None, Ok, refl, sym, ap, ◌∙◌, inl, inr, subst, append_assoc}
+use Rattle.macho_stub.proofs.Branches.{inside_of_document, then_first, then_top}
+use Rattle.std.proofs.lemmas.Bool.{and_parts}
 use Rattle.std.specs.List.{AllByRecursion}
 use Rattle.std.specs.Str.{bytes_eq}
 use Rattle.std.specs.Str.Lines.{lines}
@@ -21,19 +23,6 @@ use Rattle.macho_stub.proofs.Spelled.{spelled_unspaced}
 use Rattle.macho_stub.proofs.FoundEntries.{names_line_rest}
 use Rattle.macho_stub.proofs.FoundItems.{item_key_line_rest, first_line_rest}
 use Rattle.macho_stub.proofs.FoundTop.{top_line_rest, document_in_front}
-
-and_right : (a b : Bool) → (a && b) ≡ true → b ≡ true
-and_right true b h = h
-and_right false b h = absurd cc
-
-abbrev inside_of_document : List DocumentFields → InsideFields → Reading StateFields
-inside_of_document before inside = Ok (record { documents = before; place = Within inside })
-
-abbrev then_first : List DocumentFields → OpenDocumentFields → ItemKind → ℕ → List ℕ → List ItemFields → Reading StateFields
-then_first before document kind line text items = within before (first_line document kind items line text)
-
-abbrev then_top : List DocumentFields → OpenDocumentFields → ItemKind → ℕ → List ℕ → List ItemFields → Reading StateFields
-then_top before document kind line text items = top_line before (with_items kind items document) line text
 
 -- a reading inside a document that did not fail
 within_ok : (before : List DocumentFields) (reading : Reading InsideFields) (next : StateFields) (rest : List ReadLine)
@@ -75,7 +64,7 @@ item_line_rest before document list line text next rest total e h =
           let last = last_item before document list i.0 i.1 in
           let w = within_ok before (first_line document list.kind i.0 line text) next rest total i.2 h in
           let r = first_line_rest before document list.kind i.0 line text w.0 rest total w.1 w.2 in
-          let at : indent text ≡ list.dash = eq_at _ _ (and_right _ _ b.0) in
+          let at : indent text ≡ list.dash = eq_at _ _ (and_parts _ _ b.0).1 in
           let R : ℕ → Type 0 = λ d. AreItems document.line list.kind d (r.tree ∷ r.trees) (r.one ∷ r.says) in
           let T : List ItemFields → Type 0 = λ items. RestTop before (with_items list.kind items document) r.tail total in
           record {

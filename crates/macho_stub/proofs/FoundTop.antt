@@ -1,5 +1,6 @@
 -- From the reading of a document's lines to its tree.
 use Rattle.std.proofs.Common.{◌≡◌, ℕ, cond, eqb, List, [], ◌∷◌, ◌++◌, length, Option, Some, None, Ok, is_some, refl, sym, ap, ◌∙◌, inl, inr, subst, append_assoc}
+use Rattle.macho_stub.proofs.Branches.{at_head, at_end, at_entry, inside_of_document}
 use Rattle.std.specs.Str.{bytes_eq}
 use Rattle.macho_stub_lines.specs.declared.keys.ItemKey.TheVariants as item
 use Rattle.macho_stub_lines.specs.declared.keys.TopKey.{TopKey}
@@ -177,19 +178,6 @@ document_ends before document all ended_at rest lines total e is r =
       documents = r.documents;
       all = r.all ∙ ap (λ (front : List DocumentFields). front ++ r.says) (sym (same_ok _ _ b.2)) ∙ append_assoc before (b.0 ∷ []) r.says;
     }
-
--- behind the documents, at the head of another, or outside
-abbrev at_head : ℕ → List DocumentFields → Reading StateFields
-at_head line all = Ok (record { documents = all; place = Within (stays (head_at line) None Keys) })
-
-abbrev at_end : List DocumentFields → Reading StateFields
-at_end all = Ok (record { documents = all; place = Outside })
-
-abbrev at_entry : List DocumentFields → OpenDocumentFields → ℕ → Entry → Reading StateFields
-at_entry before document line entry = within before (top_entry document line (top_key entry.key) entry.value)
-
-abbrev inside_of_document : List DocumentFields → InsideFields → Reading StateFields
-inside_of_document before inside = Ok (record { documents = before; place = Within inside })
 
 -- a line behind the keys of a document
 pub top_line_rest : (before : List DocumentFields) (document : OpenDocumentFields) (line : ℕ) (text : List ℕ) (next : StateFields)

@@ -1,5 +1,6 @@
 -- A key that is refused where it didn't come before is refused for its value: with another value it may stand.
 use Rattle.std.proofs.Common.{◌≡◌, ℕ, zero, suc, ◌+◌, ◌<◌, Bool, true, false, cond, eqb, List, [], ◌∷◌, ◌++◌, length, take, Option, Some, None, Ok, Err, is_some, refl, sym, ap, ◌∙◌, subst}
+use Rattle.std.proofs.lemmas.Bool.{or_parts, or_from}
 use Rattle.std.specs.Prelude.{codes}
 use Rattle.std.specs.List.{prefix_len}
 use Rattle.macho_stub_lines.specs.declared.keys.ItemKey.{ItemKey}
@@ -16,8 +17,8 @@ use Rattle.macho_stub.specs.Documents.{DocumentFields}
 use Rattle.macho_stub.specs.Opened.{OpenDocumentFields, has_items, has_key, with_key}
 use Rattle.macho_stub.specs.Reader.{ItemListFields, InsideFields, Within, Keys, Skipped, NoItem, StateFields, stays, names_value, names_line, skipped_value, top_entry, item_entry, item_key_line, within}
 use Rattle.macho_stub.specs.Order.{MayStand, in_column}
-use Rattle.macho_stub.proofs.Joined.{IsLine, has_line_feed, either_false, both_false, take_line, spaces_line}
-use Rattle.macho_stub.proofs.Finish.{at_item, item_text_steps}
+use Rattle.macho_stub.proofs.Joined.{IsLine, has_line_feed, take_line, spaces_line}
+use Rattle.macho_stub.proofs.PutIn.{at_item, item_text_steps}
 use Rattle.macho_stub.proofs.Reached.{Reached, may_stand}
 use Rattle.macho_stub.proofs.Steps.{Closes, keys_state, top_steps}
 use Rattle.macho_stub.proofs.Keyed.{key_front, same_key, key_reads, key_at_top, key_has_content, key_not_passed}
@@ -130,14 +131,14 @@ good_item document list line name item.Unread value k e = record {
 line_after : (front rest : List ℕ) → IsLine front → IsLine rest → IsLine (front ++ rest)
 line_after [] rest h k = k
 line_after (b ∷ front) rest h k =
-    let e = either_false (eqb b 10) (has_line_feed front) h in both_false (eqb b 10) (has_line_feed (front ++ rest)) e.0
+    let e = or_parts (eqb b 10) (has_line_feed front) h in or_from (eqb b 10) (has_line_feed (front ++ rest)) e.0
     (line_after front rest e.1 k)
 
 barred_after : (front rest : List ℕ) → has_barred front ≡ false → has_barred rest ≡ false → has_barred (front ++ rest) ≡ false
 unfolding has_barred
 barred_after [] rest h k = k
 barred_after (b ∷ front) rest h k =
-    let e = either_false (is_barred b) (has_barred front) h in both_false (is_barred b) (has_barred (front ++ rest)) e.0
+    let e = or_parts (is_barred b) (has_barred front) h in or_from (is_barred b) (has_barred (front ++ rest)) e.0
     (barred_after front rest e.1 k)
 
 take_clean : (n : ℕ) (text : List ℕ) → has_barred text ≡ false → has_barred (take n text) ≡ false
@@ -145,7 +146,7 @@ unfolding has_barred
 take_clean zero text h = refl
 take_clean (suc n) [] h = refl
 take_clean (suc n) (b ∷ text) h =
-    let e = either_false (is_barred b) (has_barred text) h in both_false (is_barred b) (has_barred (take n text)) e.0 (take_clean n text
+    let e = or_parts (is_barred b) (has_barred text) h in or_from (is_barred b) (has_barred (take n text)) e.0 (take_clean n text
     e.1)
 
 -- the key with the value is a line

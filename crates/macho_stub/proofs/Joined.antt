@@ -1,5 +1,6 @@
 -- Lines that have no line feed are those of a text: each is written with a carriage return and a line feed behind it.
 use Rattle.std.proofs.Common.{◌≡◌, ℕ, zero, suc, ◌+◌, ◌-◌, ◌||◌, Bool, true, false, cond, eqb, List, [], ◌∷◌, ◌++◌, length, take, get_or, replicate, refl, sym, ap, ◌∙◌, arith}
+use Rattle.std.proofs.lemmas.Bool.{or_parts, or_from}
 use Rattle.std.specs.List.{slice_split, onto_first, list_any, AllByRecursion}
 use Rattle.std.specs.Str.Lines.{lines, lines_of_parts, strip_carriage_return}
 use Rattle.macho_stub_lines.specs.Bytes.{space}
@@ -13,14 +14,6 @@ IsLine bytes = has_line_feed bytes ≡ false
 abbrev pub AreLines : List (List ℕ) → Type 0
 AreLines texts = AllByRecursion IsLine texts
 
-pub either_false : (a b : Bool) → (a || b) ≡ false → (a ≡ false) × (b ≡ false)
-either_false true b h = absurd cc
-either_false false b h = (refl, h)
-
-pub both_false : (a b : Bool) → a ≡ false → b ≡ false → (a || b) ≡ false
-both_false true b h k = absurd cc
-both_false false b h k = k
-
 -- ---- a text of lines
 
 abbrev pub joined : List (List ℕ) → List ℕ
@@ -33,7 +26,7 @@ parts bytes = slice_split (λ b. eqb b 10) bytes
 parts_of_line : (line rest : List ℕ) → IsLine line → parts (line ++ 13 ∷ 10 ∷ rest) ≡ (line ++ 13 ∷ []) ∷ parts rest
 parts_of_line [] rest h = refl
 parts_of_line (b ∷ line) rest h =
-    let e = either_false (eqb b 10) (has_line_feed line) h in
+    let e = or_parts (eqb b 10) (has_line_feed line) h in
     rw e.0 (ap (onto_first b) (parts_of_line line rest e.1))
 
 length_more : (line : List ℕ) (b : ℕ) → length (line ++ b ∷ []) ≡ length line + 1
@@ -76,8 +69,8 @@ lines_joined (line ∷ more) all =
 -- ---- lines of a text
 
 onto_line : (b : ℕ) (all : List (List ℕ)) → eqb b 10 ≡ false → AreLines all → AreLines (onto_first b all)
-onto_line b [] h a = (both_false (eqb b 10) false h refl, tt)
-onto_line b (part ∷ more) h a = (both_false (eqb b 10) (has_line_feed part) h a.0, a.1)
+onto_line b [] h a = (or_from (eqb b 10) false h refl, tt)
+onto_line b (part ∷ more) h a = (or_from (eqb b 10) (has_line_feed part) h a.0, a.1)
 
 parts_are_lines : (bytes : List ℕ) → AreLines (parts bytes)
 parts_are_lines [] = (refl, tt)
@@ -91,8 +84,8 @@ pub take_line : (n : ℕ) (line : List ℕ) → IsLine line → IsLine (take n l
 take_line zero line h = refl
 take_line (suc n) [] h = refl
 take_line (suc n) (b ∷ line) h =
-    let e = either_false (eqb b 10) (has_line_feed line) h in
-    both_false (eqb b 10) (has_line_feed (take n line)) e.0 (take_line n line e.1)
+    let e = or_parts (eqb b 10) (has_line_feed line) h in
+    or_from (eqb b 10) (has_line_feed (take n line)) e.0 (take_line n line e.1)
 
 strip_line : (line : List ℕ) → IsLine line → IsLine (strip_carriage_return line)
 strip_line line h = by_test (eqb (get_or line (length line - 1) 0) 13)
@@ -114,10 +107,6 @@ pub lines_are_lines : (bytes : List ℕ) → AreLines (lines bytes)
 lines_are_lines bytes = kept_are_lines (parts bytes) (parts_are_lines bytes)
 
 -- ---- lists of lines
-
-pub lines_append : (front behind : List (List ℕ)) → AreLines front → AreLines behind → AreLines (front ++ behind)
-lines_append [] behind a b = b
-lines_append (x ∷ front) behind a b = (a.0, lines_append front behind a.1 b)
 
 pub spaces_line : (n : ℕ) (text : List ℕ) → IsLine text → IsLine (replicate n space ++ text)
 spaces_line zero text h = h

@@ -9,7 +9,7 @@ use Rattle.macho_stub_lines.specs.declared.fault.StubRule.TheVariants.{S1}
 use Rattle.macho_stub_lines.specs.Bytes.{space, dash, colon, number_sign, is_key_byte, is_passed, is_tail, is_blank_or_comment, unspaced, head, end, belongs_to_top}
 use Rattle.macho_stub_lines.specs.Faults.{Reading, outside}
 use Rattle.macho_stub_lines.specs.Keys.{Entry, entry_at, entry_behind}
-use Rattle.macho_stub_lines.proofs.Bind.{chosen, not_broken, same_ok, no_ok, same_bytes}
+use Rattle.macho_stub_lines.proofs.Bind.{chosen, not_broken, same_ok, no_ok, same_bytes, bytes_differ}
 use Rattle.macho_stub.proofs.OnlyLines.{space_ends, dash_ends, top_indent}
 
 -- the text begins with a key and a colon
@@ -149,16 +149,9 @@ key_not_passed text key rest h = rw (top_indent text (key_at_top text key rest h
 -- it is no head, and no end
 pub key_no_head : (text key rest : List ℕ) → HasKey text key rest → bytes_eq text head ≡ false
 unfolding is_key_byte
-key_no_head text key rest h = by_test (bytes_eq text head) refl
-  where
-    by_test : (t : Bool) → bytes_eq text head ≡ t → bytes_eq text head ≡ false
-    by_test false e = e
-    by_test true e = absurd (let k = ap (λ x. get_or x (prefix_len is_key_byte x) 0) (same_bytes text head e) in omega (arith, k, h.behind))
+key_no_head text key rest h = bytes_differ text head
+    (λ is. absurd (let k = ap (λ x. get_or x (prefix_len is_key_byte x) 0) is in omega (arith, k, h.behind)))
 
 pub key_no_end : (text key rest : List ℕ) → HasKey text key rest → bytes_eq text end ≡ false
 unfolding is_key_byte
-key_no_end text key rest h = by_test (bytes_eq text end) refl
-  where
-    by_test : (t : Bool) → bytes_eq text end ≡ t → bytes_eq text end ≡ false
-    by_test false e = e
-    by_test true e = absurd (h.some (ap (prefix_len is_key_byte) (same_bytes text end e)))
+key_no_end text key rest h = bytes_differ text end (λ is. h.some (ap (prefix_len is_key_byte) is))

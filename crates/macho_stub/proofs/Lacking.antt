@@ -18,7 +18,8 @@ use Rattle.macho_stub.specs.Order.{MayStand, LacksInItem, LacksInDocument, IsNee
 use Rattle.macho_stub_lines.proofs.Bind.{eq_true, not_below}
 use Rattle.macho_stub.proofs.OnlyLines.{DashLine, dash_line}
 use Rattle.macho_stub.proofs.Joined.{spaces_line}
-use Rattle.macho_stub.proofs.Finish.{at_top, at_item, item_whole, item_targets_step, item_libraries_step, item_with_targets, item_with_names, targets_line, libraries_line, item_text_barred, item_text_passed}
+use Rattle.macho_stub.proofs.PutIn.{at_top, at_item, item_targets_step, item_libraries_step, item_with_targets, item_with_names, targets_line, libraries_line, item_text_barred, item_text_passed}
+use Rattle.macho_stub.proofs.Finish.{item_whole}
 use Rattle.macho_stub.proofs.Reached.{Reached, reached_more, may_stand, refused}
 use Rattle.macho_stub.proofs.Steps.{Closes, keys_state, lacking_steps, spare_at_top, head_at_top, end_at_top}
 

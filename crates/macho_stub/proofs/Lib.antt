@@ -1,4 +1,5 @@
 pub mod Answered
+pub mod Branches
 pub mod Causes
 pub mod Dashes
 pub mod Elsewhere
@@ -7,16 +8,17 @@ pub mod FineLines
 pub mod Finish
 pub mod Folded
 pub mod Found
-pub mod Gathered
-pub mod Goods
-pub mod Joined
-pub mod Kept
-pub mod Keyed
-pub mod Lacking
 pub mod FoundEntries
 pub mod FoundItems
 pub mod FoundTop
 pub mod Gather
+pub mod Gathered
+pub mod Goods
+pub mod Joined
+pub mod Kept
+pub mod KeptLines
+pub mod Keyed
+pub mod Lacking
 pub mod Listed
 pub mod Mappings
 pub mod MappingsFields
@@ -30,6 +32,7 @@ pub mod OnlyLast
 pub mod OnlyLines
 pub mod OnlyLists
 pub mod Outsides
+pub mod PutIn
 pub mod Reached
 pub mod Readings
 pub mod Rest
@@ -50,8 +53,8 @@ pub mod Stops
 pub mod TextRules
 pub mod Told
 pub mod ToldBack
-pub mod Trees
 pub mod TreeTexts
+pub mod Trees
 pub mod TreesFound
 pub mod TreesFoundTop
 pub mod TreesRead

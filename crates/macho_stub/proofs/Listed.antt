@@ -29,15 +29,15 @@ step true false c total h = h
 step false true c total h = h
 step false false c total h = h
 
+one_more : (i : ℕ) → suc (i + 1) ≡ suc i + 1
+one_more i = omega arith
+
 any_more : (p : List ℕ → Bool) (names : List (Bor (List ℕ))) (i : ℕ) (d : Bor (List ℕ)) → i < length names
     → list_any p (drop i (texts names)) ≡ (p (get_or names i d).now || list_any p (drop (i + 1) (texts names)))
 any_more p [] i d lt = absurd (omega arith)
 any_more p (x ∷ names) zero d lt = refl
 any_more p (x ∷ names) (suc i) d lt =
     any_more p names i d (omega arith) ∙ ap (λ k. p (get_or names i d).now || list_any p (drop k (texts (x ∷ names)))) (one_more i)
-  where
-    one_more : (i : ℕ) → suc (i + 1) ≡ suc i + 1
-    one_more i = omega arith
 
 pub name_put_in : (old new : BTreeSet (Bor (List ℕ))) (names : List (Bor (List ℕ))) (i : ℕ) (d : Bor (List ℕ)) (name : List ℕ)
     (total : Bool) → i < length names
@@ -66,9 +66,6 @@ listed_more name (x ∷ items) (suc i) d lt =
     listed_more name items i d (omega arith)
     ∙ ap (λ k. list_any (λ other. bytes_eq other name) (item_of (get_or items i d)).names || is_listed name (drop k (items_of (x ∷ items))))
     (one_more i)
-  where
-    one_more : (i : ℕ) → suc (i + 1) ≡ suc i + 1
-    one_more i = omega arith
 
 -- after the libraries of an item are put in
 pub item_put_in : (name : List ℕ) (items : List Item) (i : ℕ) (x : Item) (names : List (Bor (List ℕ))) (had has total : Bool)

@@ -19,7 +19,7 @@ use Rattle.macho_stub.specs.Order.{MayStand, LacksInItem, IsNeeded, IsNextItem, 
 use Rattle.macho_stub_lines.proofs.Bind.{not_broken_else, no_ok, same_ok, eq_false, chosen}
 use Rattle.macho_stub.proofs.OnlyLines.{top_indent, spelled_indent, spelled_rest, DashLine, dash_line}
 use Rattle.macho_stub.proofs.Joined.{IsLine, spaces_line}
-use Rattle.macho_stub.proofs.Finish.{at_item, item_text_barred, item_text_passed, no_dash_there, targets_line, libraries_line}
+use Rattle.macho_stub.proofs.PutIn.{at_item, item_text_barred, item_text_passed, no_dash_there, targets_line, libraries_line}
 use Rattle.macho_stub.proofs.Reached.{Reached, reached_more, stands, refused}
 
 -- ---- lines in a column

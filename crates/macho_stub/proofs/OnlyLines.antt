@@ -10,7 +10,7 @@ use Rattle.macho_stub_lines.specs.declared.fault.StubRule.TheVariants.{S1}
 use Rattle.macho_stub_lines.specs.Bytes.{is_space, space, dash, colon, is_key_byte, indent, unspaced, head, end, belongs_to_top, has_dash}
 use Rattle.macho_stub_lines.specs.Keys.{Entry, entry_at, entry_behind}
 use Rattle.macho_stub.specs.Reader.{key_column}
-use Rattle.macho_stub_lines.proofs.Bind.{not_broken, no_ok, same_bytes}
+use Rattle.macho_stub_lines.proofs.Bind.{not_broken, no_ok, same_bytes, bytes_differ}
 
 -- ---- keys
 
@@ -58,25 +58,11 @@ entry_at_top line (b ∷ c ∷ text) said e = let n = entry_first line b (c ∷ 
 -- and is no head, and no end
 pub entry_no_head : (line : ℕ) (text : List ℕ) (said : Entry) → entry_at line text ≡ Ok said → bytes_eq text head ≡ false
 unfolding entry_at is_key_byte
-entry_no_head line text said e = by_test (bytes_eq text head) refl
-  where
-    head_no_entry : text ≡ head → ⊥
-    head_no_entry is = no_ok line S1 said (sym (ap (entry_at line) is) ∙ e)
-
-    by_test : (t : Bool) → bytes_eq text head ≡ t → bytes_eq text head ≡ false
-    by_test false h = h
-    by_test true h = absurd (head_no_entry (same_bytes text head h))
+entry_no_head line text said e = bytes_differ text head (λ is. no_ok line S1 said (sym (ap (entry_at line) is) ∙ e))
 
 pub entry_no_end : (line : ℕ) (text : List ℕ) (said : Entry) → entry_at line text ≡ Ok said → bytes_eq text end ≡ false
 unfolding entry_at is_key_byte
-entry_no_end line text said e = by_test (bytes_eq text end) refl
-  where
-    end_no_entry : text ≡ end → ⊥
-    end_no_entry is = no_ok line S1 said (sym (ap (entry_at line) is) ∙ e)
-
-    by_test : (t : Bool) → bytes_eq text end ≡ t → bytes_eq text end ≡ false
-    by_test false h = h
-    by_test true h = absurd (end_no_entry (same_bytes text end h))
+entry_no_end line text said e = bytes_differ text end (λ is. no_ok line S1 said (sym (ap (entry_at line) is) ∙ e))
 
 -- a line that belongs to no skipped value of a document begins at column 0, with no dash and space
 pub top_indent : (text : List ℕ) → belongs_to_top text ≡ false → indent text ≡ 0

@@ -15,7 +15,7 @@ use Rattle.macho_stub.specs.Order.{MayStand, LacksInItem, EndsDocument, EndsWith
 use Rattle.macho_stub_lines.proofs.Bind.{no_ok, same_ok}
 use Rattle.macho_stub.proofs.OnlyLines.{entry_at_top, top_indent}
 use Rattle.macho_stub.proofs.Joined.{IsLine}
-use Rattle.macho_stub.proofs.Finish.{at_top, at_item, item_text_barred, item_text_passed}
+use Rattle.macho_stub.proofs.PutIn.{at_top, at_item, item_text_barred, item_text_passed}
 use Rattle.macho_stub.proofs.Reached.{Reached, may_stand, refused}
 use Rattle.macho_stub.proofs.Steps.{Closes, keys_state, spare_at_top}
 use Rattle.macho_stub.proofs.Twice.{no_spaces}
@@ -107,16 +107,13 @@ pub deep_no_end : (text : List ℕ) → indent text ≢ 0 → EndsDocument text 
 unfolding indent
 deep_no_end text h d = elim d [ inl is ↦ h (ap (λ t. indent t) is) | inr is ↦ h (ap (λ t. indent t) is) ]
 
--- ---- a spare line in a column
+-- ---- a key that isn't read, in a column
 
 -- where a document's own keys stand, none stands deeper
 spaced_spare : (before : List DocumentFields) (document : OpenDocumentFields) (line n : ℕ)
     → line_step (at_top before document false) line (in_column (suc n) unread_key) ≡ outside line
 unfolding line_step top_line entry_at is_key_byte is_blank_or_comment has_barred
 spaced_spare before document line n = rw (item_text_barred (suc n) unread_key, item_text_passed (suc n) unread_key refl) refl
-
-begins_spaced : (text : List ℕ) → belongs_to_top text ≡ false → indent text ≡ 0
-begins_spaced text h = top_indent text h
 
 pub no_deeper_key : (first : List (List ℕ)) (before : List DocumentFields) (document : OpenDocumentFields) (skipped : Bool) (n : ℕ)
     → Reached first (at_top before document skipped) → (skipped ≡ true → n ≡ 0) → MayStand first (in_column n unread_key) → n ≡ 0

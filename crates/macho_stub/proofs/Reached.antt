@@ -2,6 +2,7 @@
 -- grammar is what the next step doesn't refuse: if it doesn't, lines are there that finish the text, and what is read
 -- is in the grammar; and what is in the grammar is read.
 use Rattle.std.proofs.Common.{◌≡◌, ℕ, suc, ◌+◌, List, [], ◌∷◌, ◌++◌, length, Ok, refl, sym, ap, ◌∙◌, arith, append_assoc}
+use Rattle.macho_stub_lines.proofs.Runs.{all_append}
 use Rattle.std.specs.Str.Lines.{lines}
 use Rattle.macho_stub_lines.specs.Faults.{◌>>=◌, broken}
 use Rattle.macho_stub_lines.specs.declared.fault.StubRule.{StubRule}
@@ -13,7 +14,7 @@ use Rattle.macho_stub.proofs.Trees.{to_read, of_read}
 use Rattle.macho_stub.specs.Order.{MayBegin, MayStand}
 use Rattle.macho_stub_lines.proofs.Bind.{bind_ok, no_ok}
 use Rattle.macho_stub.proofs.Fine.{GoodState, line_step_fine}
-use Rattle.macho_stub.proofs.Joined.{IsLine, AreLines, joined, lines_joined, lines_append}
+use Rattle.macho_stub.proofs.Joined.{IsLine, AreLines, joined, lines_joined}
 use Rattle.macho_stub.proofs.Found.{lines_found}
 use Rattle.macho_stub.proofs.Only.{lines_read}
 use Rattle.macho_stub.proofs.Finish.{finishes}
@@ -41,7 +42,7 @@ reached_more first state next text r l e = record {
       ∙ ap (λ reading. reading >>= λ s. lines_from s (length first + 1 + 1) more) e
       ∙ ap (λ n. lines_from next (n + 1) more) (sym (length_more first text));
   good = (line_step_fine state (length first + 1) text r.good).ok next e;
-  are = lines_append first (text ∷ []) r.are (l, tt);
+  are = all_append IsLine first (text ∷ []) r.are (l, tt);
 }
 
 -- the text of lines that are read is in the grammar
@@ -53,7 +54,7 @@ text_of texts says are e = of_read (joined texts) says
 pub goes_on : (first : List (List ℕ)) (state : StateFields) → Reached first state → MayBegin first
 goes_on first state r =
     let f = finishes state (length first + 1) r.good in
-    let are = lines_append first f.more r.are f.are in
+    let are = all_append IsLine first f.more r.are f.are in
     let t = text_of (first ++ f.more) f.says are (r.leads f.more ∙ f.is) in
     record {
       text = joined (first ++ f.more);
@@ -69,7 +70,7 @@ unfolding lines_from
 may_stand first state next text r l e =
     let n = length first + 1 in
     let f = finishes next (n + 1) ((line_step_fine state n text r.good).ok next e) in
-    let are = lines_append first (text ∷ f.more) r.are (l, f.are) in
+    let are = all_append IsLine first (text ∷ f.more) r.are (l, f.are) in
     let is = ap (λ reading. reading >>= λ s. lines_from s (n + 1) f.more) e ∙ f.is in
     let t = text_of (first ++ text ∷ f.more) f.says are (r.leads (text ∷ f.more) ∙ is) in
     record {

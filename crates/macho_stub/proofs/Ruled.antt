@@ -1,6 +1,7 @@
 -- The tests that are computed decide the rules: each says yes exactly where its rule holds. So the documents make
 -- a library exactly where it is computed, and the fault that is computed is the one that is told.
 use Rattle.std.proofs.Common.{◌≡◌, ℕ, ◌&&◌, ◌||◌, Bool, true, false, List, [], ◌∷◌, refl, ap, ◌∙◌, ◌⊎◌, inl, inr}
+use Rattle.std.proofs.lemmas.Bool.{and_parts}
 use Rattle.std.specs.List.{list_any}
 use Rattle.std.specs.Str.{bytes_eq}
 use Rattle.macho_stub.specs.Documents.{ItemFields, DocumentFields}
@@ -11,21 +12,12 @@ use Rattle.macho_stub_lines.proofs.Bind.{same_bytes, bytes_same}
 
 -- ---- tests
 
-and_true : (a b : Bool) → (a && b) ≡ true → (a ≡ true) × (b ≡ true)
-and_true true b h = (refl, h)
-and_true false b h = absurd cc
-
 both_true : (a b : Bool) → a ≡ true → b ≡ true → (a && b) ≡ true
 both_true a b h k = ap (λ x. x && b) h ∙ k
 
--- a test that is true where it isn't false
-is_true : (b : Bool) → (b ≡ false → ⊥) → b ≡ true
-is_true true h = refl
-is_true false h = absurd (h refl)
-
-pub is_false : (b : Bool) → (b ≡ true → ⊥) → b ≡ false
-is_false true h = absurd (h refl)
-is_false false h = refl
+or_right : (b : Bool) {r : Bool} → r ≡ true → (b || r) ≡ true
+or_right true h = refl
+or_right false h = h
 
 pub clash : (b : Bool) → b ≡ true → b ≡ false → ⊥
 clash b h k = cc
@@ -43,10 +35,6 @@ pub among_back : (name : List ℕ) (names : List (List ℕ)) → Among name name
 among_back name [] h = absurd h
 among_back name (other ∷ names) (inl e) = ap (λ b. b || list_any (λ o. bytes_eq o name) names) (bytes_same other name e)
 among_back name (other ∷ names) (inr h) = or_right (bytes_eq other name) (among_back name names h)
-  where
-    or_right : (b : Bool) {r : Bool} → r ≡ true → (b || r) ≡ true
-    or_right true h = refl
-    or_right false h = h
 
 pub target_held : (targets : List (List ℕ)) → has_target targets ≡ true → Among target targets
 unfolding has_target
@@ -71,10 +59,6 @@ unfolding is_listed
 listed_back name [] h = absurd h
 listed_back name (item ∷ items) (inl a) = ap (λ b. b || is_listed name items) (among_back name item.names a)
 listed_back name (item ∷ items) (inr h) = or_right (list_any (λ o. bytes_eq o name) item.names) (listed_back name items h)
-  where
-    or_right : (b : Bool) {r : Bool} → r ≡ true → (b || r) ≡ true
-    or_right true h = refl
-    or_right false h = h
 
 -- ---- what is the same
 
@@ -86,7 +70,7 @@ all_same_is same is [] [] h = refl
 all_same_is same is [] (y ∷ ys) h = absurd cc
 all_same_is same is (x ∷ xs) [] h = absurd cc
 all_same_is {X} same is (x ∷ xs) (y ∷ ys) h =
-    let b = and_true (same x y) (all_same same xs ys) h in
+    let b = and_parts (same x y) (all_same same xs ys) h in
     ap (λ z. z ∷ xs) (is x y b.0) ∙ ap (λ (zs : List X). y ∷ zs) (all_same_is same is xs ys b.1)
 
 all_same_refl : {X : Type 0} (same : X → X → Bool) → ((x : X) → same x x ≡ true) → (xs : List X) → all_same same xs xs ≡ true
@@ -105,8 +89,8 @@ names_refl xs = all_same_refl bytes_eq (λ x. bytes_same x x refl) xs
 item_same : (a b : ItemFields) → same_item a b ≡ true → a ≡ b
 unfolding same_item
 item_same a b h =
-    let p = and_true (same_names a.targets b.targets && same_names a.names b.names) (same_names a.weak_names b.weak_names) h in
-    let q = and_true (same_names a.targets b.targets) (same_names a.names b.names) p.0 in
+    let p = and_parts (same_names a.targets b.targets && same_names a.names b.names) (same_names a.weak_names b.weak_names) h in
+    let q = and_parts (same_names a.targets b.targets) (same_names a.names b.names) p.0 in
     ap (λ (t : List (List ℕ)). record a { targets = t }) (names_same a.targets b.targets q.0)
     ∙ ap (λ (t : List (List ℕ)). record { targets = b.targets; names = t; weak_names = a.weak_names }) (names_same a.names b.names q.1)
     ∙ ap (λ (t : List (List ℕ)). record { targets = b.targets; names = b.names; weak_names = t })
@@ -127,12 +111,12 @@ items_refl xs = all_same_refl same_item item_refl xs
 pub document_same : (a b : DocumentFields) → same_document a b ≡ true → SaySame a b
 unfolding same_document
 document_same a b h =
-    let p6 = and_true _ (same_items a.reexports b.reexports) h in
-    let p5 = and_true _ (same_items a.exports b.exports) p6.0 in
-    let p4 = and_true _ (same_items a.libraries b.libraries) p5.0 in
-    let p3 = and_true _ (bytes_eq a.current_version b.current_version) p4.0 in
-    let p2 = and_true _ (bytes_eq a.install_name b.install_name) p3.0 in
-    let p1 = and_true (bytes_eq a.version b.version) (same_names a.targets b.targets) p2.0 in
+    let p6 = and_parts _ (same_items a.reexports b.reexports) h in
+    let p5 = and_parts _ (same_items a.exports b.exports) p6.0 in
+    let p4 = and_parts _ (same_items a.libraries b.libraries) p5.0 in
+    let p3 = and_parts _ (bytes_eq a.current_version b.current_version) p4.0 in
+    let p2 = and_parts _ (bytes_eq a.install_name b.install_name) p3.0 in
+    let p1 = and_parts (bytes_eq a.version b.version) (same_names a.targets b.targets) p2.0 in
     let v = same_bytes a.version b.version p1.0 in
     let t = names_same a.targets b.targets p1.1 in
     let i = same_bytes a.install_name b.install_name p2.1 in

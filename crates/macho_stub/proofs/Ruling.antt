@@ -1,5 +1,7 @@
 -- The documents make a library exactly where it is computed, and the fault that is computed is the one that is told.
 use Rattle.std.proofs.Common.{◌≡◌, ◌≢◌, ℕ, ◌≤◌, ◌||◌, not, Bool, true, false, cond, eqb, List, [], ◌∷◌, length, Ok, Err, refl, sym, ap, ◌∙◌, arith, ◌⊎◌, inl, inr, subst}
+use Rattle.std.proofs.lemmas.List.{nil_from_length}
+use Rattle.std.proofs.lemmas.Bool.{not-true, not-false}
 use Rattle.std.specs.List.{AllByRecursion}
 use Rattle.std.specs.Str.{bytes_eq}
 use Rattle.std.specs.Prelude.{codes}
@@ -31,9 +33,6 @@ bind_err {A} {B} (Err d) f line rule e = inl (ap failed (same_err {A = B} d (rec
 abbrev done : LibraryFields → Reading LibraryFields
 done library = Ok library
 
-abbrev told : ℕ → StubRule → Reading (Unit {0})
-told line rule = broken line rule
-
 either : (a b : Bool) {A B : Type 0} → (a || b) ≡ true → (a ≡ true → A) → (b ≡ true → B) → A ⊎ B
 either true b h f g = inl (f refl)
 either false b h f g = inr (g h)
@@ -43,31 +42,20 @@ or_from a b (inl x) f g = ap (λ c. c || b) (f x)
 or_from true b (inr y) f g = refl
 or_from false b (inr y) f g = g y
 
--- a fault of no value
-not_told : (x : Unit {0}) (line : ℕ) (rule : StubRule) → Ok x ≡ told line rule → ⊥
-not_told x line rule e = cc
+-- what gives a value tells no fault
+pub ok_not_told : {A : Type 0} (x : A) (line : ℕ) (rule : StubRule) → Ok x ≡ broken {A = A} line rule → ⊥
+ok_not_told x line rule e = no_ok line rule x (sym e)
 
-same_told : (l m : ℕ) (r s : StubRule) → told l r ≡ told m s → (l ≡ m) × (r ≡ s)
-same_told l m r s e = let f = same_err {A = Unit {0}} (record { line = l; rule = r }) (record { line = m; rule = s }) e in
+-- two faults that are one
+pub same_told : {A : Type 0} (l m : ℕ) (r s : StubRule) → broken {A = A} l r ≡ broken m s → (l ≡ m) × (r ≡ s)
+same_told {A} l m r s e = let f = same_err {A = A} (record { line = l; rule = r }) (record { line = m; rule = s }) e in
     (ap (λ x. x.line) f, ap (λ x. x.rule) f)
-
-not_not : (b : Bool) → not b ≡ true → b ≡ false
-not_not true h = absurd cc
-not_not false h = refl
-
-not_not_false : (b : Bool) → not b ≡ false → b ≡ true
-not_not_false true h = refl
-not_not_false false h = absurd cc
-
-empty_is : (xs : List ℕ) → length xs ≡ 0 → xs ≡ []
-empty_is [] e = refl
-empty_is (x ∷ xs) e = absurd (omega arith)
 
 empty_length : (xs : List ℕ) → length xs ≢ 0 → xs ≢ []
 empty_length xs ne = λ e. ne (ap length e)
 
 pub some_length : (xs : List ℕ) → xs ≢ [] → length xs ≢ 0
-some_length xs ne = λ e. ne (empty_is xs e)
+some_length xs ne = λ e. ne (nil_from_length xs e)
 
 -- ---- the main library
 
@@ -97,11 +85,11 @@ unfolding checked_main
 main_steps main r e =
     elim (chosen (not (has_target main.targets)) (broken main.line S5)
     (cond (eqb (length main.current_version) 0) (broken main.line S6) (checked_libraries main.line main.libraries)) r e) [
-      | inl b ↦ inl (sym b.1, λ a. clash (has_target main.targets) (target_test main.targets a) (not_not (has_target main.targets) b.0))
+      | inl b ↦ inl (sym b.1, λ a. clash (has_target main.targets) (target_test main.targets a) (not-true (has_target main.targets) b.0))
       | inr b ↦ inr (
-        target_held main.targets (not_not_false (has_target main.targets) b.0),
+        target_held main.targets (not-false (has_target main.targets) b.0),
         elim (chosen (eqb (length main.current_version) 0) (broken main.line S6) (checked_libraries main.line main.libraries) r b.1) [
-          | inl d ↦ inl (sym d.1, empty_is main.current_version (eq_at _ _ d.0))
+          | inl d ↦ inl (sym d.1, nil_from_length main.current_version (eq_at _ _ d.0))
           | inr d ↦ inr (empty_length main.current_version (ne_at _ _ d.0), d.1)
         ],
       )
@@ -139,7 +127,7 @@ document_sound main document u e =
     elim (chosen (same_document document main || is_listed document.install_name main.libraries) (Ok tt) (broken document.line S9) (Ok u)
     b.1) [
       | inl d ↦ record {
-        version = same_bytes _ _ (not_not_false _ b.0);
+        version = same_bytes _ _ (not-false _ b.0);
         belongs = either (same_document document main)
             (is_listed document.install_name main.libraries) d.0 (document_same document main)
             (listed document.install_name main.libraries);

@@ -12,11 +12,12 @@ use Rattle.macho_stub.specs.Documents.{ItemFields, DocumentFields}
 use Rattle.macho_stub.specs.Opened.{OpenDocumentFields, head_at, with_items}
 use Rattle.macho_stub.specs.Reader.{ItemListFields, NameListFields, ModeFields, Keys, Skipped, Names, NoItem, InsideFields, PlaceFields, Outside, Within, StateFields, stays, first_line, top_line, items_with_last, content_line, line_step, start, names_line, within}
 use Rattle.macho_stub.specs.Order.{MayStand, IsLastHead, IsOpenAlong, IsCutList, IsBareKey, unread_key, unread_item, closing_bracket}
-use Rattle.macho_stub.proofs.Finish.{at_item, begun, close_steps, dash_steps}
+use Rattle.macho_stub.proofs.PutIn.{at_item, begun, close_steps, dash_steps}
 use Rattle.macho_stub.proofs.Joined.{IsLine}
 use Rattle.macho_stub.proofs.Reached.{Reached, reached_start, reached_more, may_stand, refused}
 use Rattle.macho_stub.proofs.Steps.{Closes, keys_state, top_steps, lacking_steps}
-use Rattle.macho_stub.proofs.Kept.{Began, BehindState, NoBarePlace, inside_line_kept, names_line_no_bare, outside_kept, step_kinds}
+use Rattle.macho_stub.proofs.Kept.{Began}
+use Rattle.macho_stub.proofs.KeptLines.{BehindState, NoBarePlace, inside_line_kept, names_line_no_bare, outside_kept, step_kinds}
 use Rattle.macho_stub_lines.proofs.Bind.{not_broken}
 use Rattle.std.specs.Str.{bytes_eq}
 

@@ -11,7 +11,7 @@ use Rattle.macho_stub.specs.Reader.{ItemListFields, Within, StateFields, stays, 
 use Rattle.macho_stub.specs.Order.{unread_key}
 use Rattle.macho_stub_lines.proofs.Bind.{not_below}
 use Rattle.macho_stub.proofs.OnlyLines.{top_indent, top_no_dash}
-use Rattle.macho_stub.proofs.Finish.{mode_at, at_top, at_item}
+use Rattle.macho_stub.proofs.PutIn.{mode_at, at_top, at_item}
 
 -- the item that is read, if one is, lacks no key, and the document is this with it
 abbrev pub Closes : Option ItemListFields → OpenDocumentFields → OpenDocumentFields → Type 0
@@ -54,7 +54,7 @@ lacking_steps before document list false line text at rule e clean some zero =
     by_test true = refl
     by_test false = refl
 
--- ---- the spare line, a head and an end
+-- ---- a key that isn't read, a head and an end
 
 pub spare_at_top : (before : List DocumentFields) (document whole : OpenDocumentFields) (list : Option ItemListFields) (skipped : Bool)
     (line : ℕ) → Closes list document whole

@@ -12,8 +12,7 @@ use Rattle.macho_stub.specs.Opened.{OpenDocumentFields, with_items}
 use Rattle.macho_stub.specs.Reader.{ItemListFields, ModeFields, Keys, Skipped, Names, NoItem, PlaceFields, Outside, Within, StateFields, stays, with_whole, items_with_last, line_step, ended, ended_document, ended_inside, lines_from, start, documents_of}
 use Rattle.macho_stub.specs.Order.{IsLastHead, IsWhyAtEnd, StopsAt, BreaksOff}
 use Rattle.macho_stub_lines.proofs.Bind.{no_ok}
-use Rattle.macho_stub.proofs.Ruling.{bind_err, same_err}
-use Rattle.macho_stub.proofs.Told.{ok_not_told}
+use Rattle.macho_stub.proofs.Ruling.{bind_err, same_err, ok_not_told}
 use Rattle.macho_stub.proofs.FineLines.{AnyOf, lacking_at}
 use Rattle.macho_stub.proofs.Fine.{with_whole_fine, items_with_last_fine}
 use Rattle.macho_stub.proofs.Causes.{at_line}

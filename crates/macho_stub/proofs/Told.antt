@@ -1,6 +1,7 @@
 -- The fault that is computed of what documents say is the one that is told: the tests are made in the order of the
 -- rules, and each that comes later is made only where the earlier ones hold.
 use Rattle.std.proofs.Common.{◌≡◌, ◌≢◌, ℕ, ◌<◌, ◌||◌, not, Bool, true, false, cond, List, [], ◌∷◌, length, Ok, refl, sym, ap, arith, ◌⊎◌, inl, inr, subst}
+use Rattle.std.proofs.lemmas.Bool.{not-true, not-false, or_parts}
 use Rattle.std.specs.Str.{bytes_eq}
 use Rattle.std.specs.Prelude.{codes}
 use Rattle.macho_stub_lines.specs.declared.fault.StubRule.{StubRule}
@@ -12,27 +13,7 @@ use Rattle.macho_stub.specs.Checks.{same_document, is_listed, checked_libraries,
 use Rattle.macho_stub.specs.Rules.{Among, IsListed, SaySame, StandsBehindSound, IsToldOf, IsTold}
 use Rattle.macho_stub_lines.proofs.Bind.{chosen, no_ok, same_bytes, bytes_same}
 use Rattle.macho_stub.proofs.Ruled.{clash, target_test, listed_back, document_test}
-use Rattle.macho_stub.proofs.Ruling.{same_err, bind_err, made, main_steps, main_sound, document_sound}
-
--- two faults that are one
-pub same_told : {A : Type 0} (l m : ℕ) (r s : StubRule) → broken {A = A} l r ≡ broken m s → (l ≡ m) × (r ≡ s)
-same_told {A} l m r s e = let f = same_err {A = A} (record { line = l; rule = r }) (record { line = m; rule = s }) e in
-    (ap (λ x. x.line) f, ap (λ x. x.rule) f)
-
-pub ok_not_told : {A : Type 0} (x : A) (line : ℕ) (rule : StubRule) → Ok x ≡ broken {A = A} line rule → ⊥
-ok_not_told x line rule e = no_ok line rule x (sym e)
-
-not_is : (b : Bool) → not b ≡ true → b ≡ false
-not_is true h = absurd cc
-not_is false h = refl
-
-not_is_false : (b : Bool) → not b ≡ false → b ≡ true
-not_is_false true h = refl
-not_is_false false h = absurd cc
-
-neither : (a b : Bool) → (a || b) ≡ false → (a ≡ false) × (b ≡ false)
-neither true b h = absurd cc
-neither false b h = (refl, h)
+use Rattle.macho_stub.proofs.Ruling.{same_err, bind_err, made, main_steps, main_sound, document_sound, same_told, ok_not_told}
 
 -- ---- the main library
 
@@ -75,17 +56,17 @@ document_told main document line rule e =
     (cond (same_document document main || is_listed document.install_name main.libraries) (Ok tt) (broken document.line S9))
     (broken line rule) e) [
       | inl b ↦ let t = same_told document.line line S4 rule b.1 in inl
-          (sym t.1, sym t.0, λ is. clash (bytes_eq document.version (codes "4")) (bytes_same _ _ is) (not_is _ b.0))
+          (sym t.1, sym t.0, λ is. clash (bytes_eq document.version (codes "4")) (bytes_same _ _ is) (not-true _ b.0))
       | inr b ↦ elim (chosen (same_document document main || is_listed document.install_name main.libraries) (Ok tt)
           (broken document.line S9) (broken line rule) b.1) [
             | inl d ↦ absurd (ok_not_told tt line rule d.1)
             | inr d ↦
                 let t = same_told document.line line S9 rule d.1 in
-                let n = neither (same_document document main) (is_listed document.install_name main.libraries) d.0 in
+                let n = or_parts (same_document document main) (is_listed document.install_name main.libraries) d.0 in
                 inr (
                   sym t.1,
                   sym t.0,
-                  same_bytes _ _ (not_is_false _ b.0),
+                  same_bytes _ _ (not-false _ b.0),
                   (λ s. clash (same_document document main) (document_test document main s) n.0),
                   (λ l. clash (is_listed document.install_name main.libraries) (listed_back document.install_name main.libraries l) n.1),
                 )

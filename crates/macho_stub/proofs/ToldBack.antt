@@ -1,6 +1,7 @@
 -- The fault that is told of what documents say is the one that is computed: each test answers by its rule, and the
 -- tests before it pass.
 use Rattle.std.proofs.Common.{◌≡◌, ◌≢◌, ℕ, ◌<◌, true, false, cond, List, [], ◌∷◌, ◌++◌, length, Ok, refl, sym, ap, ◌∙◌, arith}
+use Rattle.std.proofs.lemmas.Bool.{false_from_ne_true}
 use Rattle.std.specs.Str.{bytes_eq}
 use Rattle.std.specs.Prelude.{codes}
 use Rattle.std.specs.List.{AllByRecursion}
@@ -12,13 +13,13 @@ use Rattle.macho_stub.specs.Library.{target, has_target, LibraryFields}
 use Rattle.macho_stub.specs.Checks.{same_document, is_listed, checked_libraries, checked_main, checked_document, checked_documents, library_of}
 use Rattle.macho_stub.specs.Rules.{Among, IsListed, SaySame, IsSoundMain, IsSoundDocument, StandsBehindSound, IsToldOf, IsTold}
 use Rattle.macho_stub_lines.proofs.Bind.{eq_false, same_bytes, bytes_same}
-use Rattle.macho_stub.proofs.Ruled.{is_false, target_held, target_test, listed, document_same}
+use Rattle.macho_stub.proofs.Ruled.{target_held, target_test, listed, document_same}
 use Rattle.macho_stub.proofs.Ruling.{main_back, document_back, some_length, made}
 
 -- ---- the main library
 
 no_target : (targets : List (List ℕ)) → (Among target targets → ⊥) → has_target targets ≡ false
-no_target targets n = is_false (has_target targets) (λ h. n (target_held targets h))
+no_target targets n = false_from_ne_true (has_target targets) (λ h. n (target_held targets h))
 
 at_line : {A : Type 0} (line at : ℕ) (rule : StubRule) → line ≡ at → broken {A = A} at rule ≡ broken line rule
 at_line line at rule e = ap (λ n. broken n rule) (sym e)
@@ -80,7 +81,7 @@ by_document main others document line rule sound first e h =
 other_version : (main document : DocumentFields) → document.version ≢ codes "4" → checked_document main document ≡ broken document.line S4
 unfolding checked_document
 other_version main document n =
-    let v : bytes_eq document.version (codes "4") ≡ false = is_false _ (λ h. n (same_bytes document.version (codes "4") h)) in
+    let v : bytes_eq document.version (codes "4") ≡ false = false_from_ne_true _ (λ h. n (same_bytes document.version (codes "4") h)) in
     rw v refl
 
 not_listed : (main document : DocumentFields) → document.version ≡ codes "4" → (SaySame document main → ⊥)
@@ -88,8 +89,8 @@ not_listed : (main document : DocumentFields) → document.version ≡ codes "4"
 unfolding checked_document
 not_listed main document v s l =
     let a : bytes_eq document.version (codes "4") ≡ true = bytes_same document.version (codes "4") v in
-    let b : same_document document main ≡ false = is_false _ (λ h. s (document_same document main h)) in
-    let c : is_listed document.install_name main.libraries ≡ false = is_false _
+    let b : same_document document main ≡ false = false_from_ne_true _ (λ h. s (document_same document main h)) in
+    let c : is_listed document.install_name main.libraries ≡ false = false_from_ne_true _
     (λ h. l (listed document.install_name main.libraries h)) in
     rw (a, b, c) refl
 

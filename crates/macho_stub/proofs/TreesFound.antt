@@ -2,6 +2,7 @@
 -- those of the tree, each with its place, and what stands on them has trees of its own (a key with its value, a list, a
 -- scalar). So the tree of the grammar is built from the front on, and what follows it is left (`left`).
 use Rattle.std.proofs.Common.{◌≡◌, ℕ, ◌+◌, Bool, true, List, [], ◌∷◌, ◌++◌, replicate, refl, sym, ap, ◌∙◌, inl, inr, subst}
+use Rattle.macho_stub_lines.proofs.Runs.{all_made_of}
 use Rattle.std.specs.List.{AllByRecursion}
 use Rattle.macho_stub_lines.specs.declared.keys.ItemKind.{ItemKind}
 use Rattle.macho_stub_lines.specs.declared.keys.ItemKey.{ItemKey}
@@ -77,15 +78,11 @@ front_lines lines (first ∷ front) rest e =
 
 -- ---- skipped values
 
-belong_found : (belongs : List ℕ → Bool) (more : List Line) → AllByRecursion (λ line. belongs line.text ≡ true) (read_lines more)
-    → AllByRecursion (λ line. belongs line.text ≡ true) more
-belong_found belongs [] all = tt
-belong_found belongs (line ∷ more) all = (all.0, belong_found belongs more all.1)
-
 pub skipped_found : (belongs : List ℕ → Bool) (number at : ℕ) (value : List ℕ) (more : List Line)
     → read.IsSkipped belongs number value (read_lines more) → IsSkipped belongs at value more
 skipped_found belongs number at value more (inl l) = let f = list_found number at value more l.0 l.1 in inl (f.0, f.1)
-skipped_found belongs number at value more (inr s) = inr (s.0, belong_found belongs more s.1)
+skipped_found belongs number at value more (inr s) =
+    inr (s.0, all_made_of (λ (line : ReadLine). belongs line.text ≡ true) read_line more s.1)
 
 -- ---- entries of items
 

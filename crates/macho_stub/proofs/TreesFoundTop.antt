@@ -1,6 +1,7 @@
 -- What is read is in the grammar: entries of documents, and documents. As for items (`TreesFound`): from the front of the
 -- lines on, each tree is built from the one that is read and from what stands on its lines.
 use Rattle.std.proofs.Common.{◌≡◌, ℕ, List, [], ◌∷◌, length, Option, Some, None, refl, sym, ap, ◌∙◌, subst}
+use Rattle.std.proofs.lemmas.List.{nil_from_length}
 use Rattle.macho_stub_lines.specs.declared.keys.TopKey.{TopKey}
 use Rattle.macho_stub_lines.specs.declared.keys.TopKey.TheVariants as top
 use Rattle.macho_stub_lines.specs.Slices.{Slice, Line, texts_of}
@@ -101,14 +102,10 @@ under_found (top.Items kind) number at tree (read.Listed dash_column (one ∷ ot
       parts = i.parts;
       same = i.same;
       after = with_items kind i.says old;
-      is = (sym (has_items_texts kind old) ∙ v.0, no_bytes (value_of tree) v.1, i.says, some_items i.trees i.says i.are_items i.are, refl);
+      is = (sym (has_items_texts kind old) ∙ v.0, nil_from_length (value_of tree) v.1, i.says, some_items i.trees i.says i.are_items i.are, refl);
       texts = with_items_texts kind i.says old ∙ ap (λ items. with_items kind items (open_texts old)) i.are ∙ sym v.4;
     }
   where
-    no_bytes : (value : List ℕ) → length value ≡ 0 → value ≡ []
-    no_bytes [] e = refl
-    no_bytes (b ∷ value) e = absurd cc
-
     -- there is an item, since one is read
     some_items : (trees : List ItemTree) (says : List (ItemOf Slice)) → AreItems kind dash_column trees says → items_texts says ≡ v.2
         → AreItemsUnder kind (Listed dash_column trees) says

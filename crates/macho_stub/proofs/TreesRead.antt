@@ -3,6 +3,8 @@
 -- reads as what its tree says; so each relation on a tree of the grammar gives that on the tree which is read, with the
 -- texts of the slices.
 use Rattle.std.proofs.Common.{◌≡◌, ℕ, Bool, true, List, [], ◌∷◌, ◌++◌, length, replicate, map, Option, Some, None, refl, ap, ◌∙◌, inl, inr}
+use Rattle.macho_stub_lines.proofs.Runs.{all_made}
+use Rattle.std.proofs.lemmas.List.{map-append}
 use Rattle.std.specs.List.{AllByRecursion}
 use Rattle.macho_stub_lines.specs.declared.keys.ItemKind.{ItemKind}
 use Rattle.macho_stub_lines.specs.declared.keys.ItemKey.{ItemKey}
@@ -52,16 +54,12 @@ read_document tree = record { number = tree.number; entries = map read_top_entry
 
 -- ---- their lines are the same
 
-pub lines_append : (xs ys : List Line) → read_lines (xs ++ ys) ≡ read_lines xs ++ read_lines ys
-lines_append [] ys = refl
-lines_append (x ∷ xs) ys = ap (λ (more : List ReadLine). read_line x ∷ more) (lines_append xs ys)
-
 entries_lines : (column : ℕ) (entries : List ItemEntry) (rest : List Line) → read_lines (entries_then column entries rest)
     ≡ read.entries_then column (map read_item_entry entries) (read_lines rest)
 entries_lines column [] rest = refl
 entries_lines column (one ∷ others) rest =
     let line : ReadLine = record { number = one.number; text = replicate column space ++ entry_bytes one.entry } in
-    ap (λ (more : List ReadLine). line ∷ more) (lines_append one.more (entries_then column others rest)
+    ap (λ (more : List ReadLine). line ∷ more) (map-append read_line one.more (entries_then column others rest)
     ∙ ap (λ (more : List ReadLine). read_lines one.more ++ more) (entries_lines column others rest))
 
 items_lines : (dash_column : ℕ) (trees : List ItemTree) (rest : List Line) → read_lines (items_then dash_column trees rest)
@@ -73,13 +71,13 @@ items_lines dash_column (tree ∷ trees) rest =
       text = replicate dash_column space ++ dash ∷ (replicate tree.gap space ++ entry_bytes tree.first.entry);
     } in
     let behind = entries_then (column_of dash_column tree) tree.others (items_then dash_column trees rest) in
-    ap (λ (more : List ReadLine). line ∷ more) (lines_append tree.first.more behind
+    ap (λ (more : List ReadLine). line ∷ more) (map-append read_line tree.first.more behind
     ∙ ap (λ (more : List ReadLine). read_lines tree.first.more ++ more)
     (entries_lines (column_of dash_column tree) tree.others (items_then dash_column trees rest)
     ∙ ap (read.entries_then (column_of dash_column tree) (map read_item_entry tree.others)) (items_lines dash_column trees rest)))
 
 under_lines : (under : Under) (rest : List Line) → read_lines (under_then under rest) ≡ read.under_then (read_under under) (read_lines rest)
-under_lines (Lines more) rest = lines_append more rest
+under_lines (Lines more) rest = map-append read_line more rest
 under_lines (Listed dash_column trees) rest = items_lines dash_column trees rest
 
 top_entries_lines : (entries : List TopEntry) (rest : List Line) → read_lines (top_entries_then entries rest)
@@ -104,15 +102,10 @@ documents_lines (tree ∷ trees) =
 
 -- ---- skipped values
 
-belong_reads : (belongs : List ℕ → Bool) (more : List Line) → AllByRecursion (λ line. belongs line.text ≡ true) more
-    → AllByRecursion (λ line. belongs line.text ≡ true) (read_lines more)
-belong_reads belongs [] all = tt
-belong_reads belongs (line ∷ more) all = (all.0, belong_reads belongs more all.1)
-
 skipped_reads : (belongs : List ℕ → Bool) (number at : ℕ) (value : List ℕ) (more : List Line) → IsSkipped belongs at value more
     → read.IsSkipped belongs number value (read_lines more)
 skipped_reads belongs number at value more (inl l) = inl (texts_of l.0, list_reads number at value more l.0 l.1)
-skipped_reads belongs number at value more (inr s) = inr (s.0, belong_reads belongs more s.1)
+skipped_reads belongs number at value more (inr s) = inr (s.0, all_made (λ (line : ReadLine). belongs line.text ≡ true) read_line more s.1)
 
 -- ---- items
 

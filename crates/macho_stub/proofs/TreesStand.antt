@@ -2,9 +2,10 @@
 -- a place of the line, stands in the input at the sum; so the value of an entry does, and the scalars of a value do. What
 -- is known of an item or a document keeps the property with each entry.
 use Rattle.std.proofs.Common.{◌≡◌, ℕ, ◌+◌, List, [], ◌∷◌, ◌++◌, length, replicate, Option, Some, None, refl, sym, subst, arith}
+use Rattle.macho_stub_lines.proofs.Runs.{all_front, all_behind}
 use Rattle.std.specs.Prelude.{unwrap_or}
 use Rattle.std.specs.List.{AllByRecursion}
-use Rattle.std.proofs.lemmas.List.{append-nil, length-replicate}
+use Rattle.std.proofs.lemmas.List.{length-replicate}
 use Rattle.macho_stub_lines.specs.declared.keys.ItemKind.{ItemKind}
 use Rattle.macho_stub_lines.specs.declared.keys.ItemKind.TheVariants.{Libraries, Exports, Reexports}
 use Rattle.macho_stub_lines.specs.declared.keys.ItemKey.{ItemKey}
@@ -21,31 +22,15 @@ use Rattle.macho_stub.specs.Answer.{ItemStands, DocumentStands}
 use Rattle.macho_stub.specs.Grammar.{ItemEntry, entries_then, item_value_at, ItemTree, column_of, item_then, items_then, Under, Lines, Listed, under_then, TopEntry, top_entries_then, IsListUnder, DocumentTree, end_then, documents_then, no_text, IsStubText}
 use Rattle.macho_stub.proofs.Folded.{GivesNames, ItemValue, ItemEntries, AreNamesOf, IsWholeItem, IsItem, AreItems, AreItemsUnder, TopValue, TopEntries, IsWholeDocument, AreDocuments}
 use Rattle.macho_stub.proofs.Mappings.{documents_fold}
-use Rattle.macho_stub_lines.proofs.Places.{scalar_stands, number_stands, value_stands, part_stands, list_stands, content_stand}
+use Rattle.macho_stub_lines.proofs.Places.{scalar_stands, number_stands, value_stands, list_stands, content_stand, behind_stands, LineStands}
 
 abbrev LinesStand : List ℕ → List Line → Type 0
-LinesStand input lines = AllByRecursion (λ line. StandsIn input (record { at = line.at; text = line.text })) lines
+LinesStand input lines = AllByRecursion (LineStands input) lines
 
 abbrev pub AllStand : List ℕ → List Slice → Type 0
 AllStand input slices = AllByRecursion (StandsIn input) slices
 
 -- ---- lines
-
-front_stands : (input : List ℕ) (xs ys : List Line) → LinesStand input (xs ++ ys) → LinesStand input xs
-front_stands input [] ys all = tt
-front_stands input (x ∷ xs) ys all = (all.0, front_stands input xs ys all.1)
-
-rest_stands : (input : List ℕ) (xs ys : List Line) → LinesStand input (xs ++ ys) → LinesStand input ys
-rest_stands input [] ys all = all
-rest_stands input (x ∷ xs) ys all = rest_stands input xs ys all.1
-
--- what stands behind the first bytes of a line
-behind_stands : (input front text : List ℕ) (at n : ℕ) → length front ≡ n → StandsIn input (record { at = at; text = front ++ text })
-    → StandsIn input (record { at = at + n; text = text })
-behind_stands input front text at n long s =
-    let S : List ℕ → Type 0 = λ t. StandsIn input (record { at = at; text = front ++ t }) in
-    let T : ℕ → Type 0 = λ k. StandsIn input (record { at = at + k; text = text }) in
-    subst T long (part_stands input front text [] at (subst S (sym (append-nil text)) s))
 
 -- the value of an entry of an item
 entry_value_stands : (input : List ℕ) (column : ℕ) (one : ItemEntry)
@@ -62,7 +47,8 @@ first_value_stands input dash_column gap one s =
     let spaced = replicate gap space ++ entry_bytes one.entry in
     let a = behind_stands input (replicate dash_column space) (dash ∷ spaced) one.at dash_column (length-replicate dash_column space) s in
     let b = behind_stands input (dash ∷ []) spaced (one.at + dash_column) 1 refl a in
-    let c = behind_stands input (replicate gap space) (entry_bytes one.entry) (one.at + dash_column + 1) gap (length-replicate gap space) b in
+    let c = behind_stands input (replicate gap space) (entry_bytes one.entry) (one.at + dash_column + 1) gap
+    (length-replicate gap space) b in
     let e : one.at + dash_column + 1 + gap ≡ one.at + (dash_column + 1 + gap) = omega arith in
     let T : ℕ → Type 0 = λ k. StandsIn input (record { at = k; text = entry_bytes one.entry }) in
     value_stands input (one.at + (dash_column + 1 + gap)) one.entry (subst T e c)
@@ -107,8 +93,8 @@ entries_stand input kind column [] old new rest e l s = (subst (OpenItemStands i
 entries_stand input kind column (one ∷ others) old new rest e l s =
     let behind = entries_then column others rest in
     let mid = item_value_stands input column (item_key kind one.entry.key) one old e.0 (entry_value_stands input column one l.0)
-    (front_stands input one.more behind l.1) e.1.value s in
-    entries_stand input kind column others e.0 new rest e.2 (rest_stands input one.more behind l.1) mid
+    (all_front (LineStands input) one.more behind l.1) e.1.value s in
+    entries_stand input kind column others e.0 new rest e.2 (all_behind (LineStands input) one.more behind l.1) mid
 
 unwrap_stands : (input : List ℕ) (names : Option (List Slice)) → StandIfAny input names → AllStand input (unwrap_or names [])
 unwrap_stands input None s = tt
@@ -139,9 +125,9 @@ item_stands input kind dash_column tree says rest i l =
     let behind = entries_then column tree.others rest in
     let e = i.entries in
     let mid = item_value_stands input column (item_key kind tree.first.entry.key) tree.first no_item e.0
-    (first_value_stands input dash_column tree.gap tree.first l.0) (front_stands input tree.first.more behind l.1) e.1.value
+    (first_value_stands input dash_column tree.gap tree.first l.0) (all_front (LineStands input) tree.first.more behind l.1) e.1.value
     (no_item_stands input) in
-    let r = entries_stand input kind column tree.others e.0 i.read rest e.2 (rest_stands input tree.first.more behind l.1) mid in
+    let r = entries_stand input kind column tree.others e.0 i.read rest e.2 (all_behind (LineStands input) tree.first.more behind l.1) mid in
     (whole_item_stands input kind i.read says i.whole r.0, r.1)
 
 abbrev pub ItemsStand : List ℕ → List (ItemOf Slice) → Type 0
@@ -239,7 +225,7 @@ top_value_stands input top.Targets one old new rest v h l s = subst (OpenStands 
     targets_stand : (under : Under) (names : List Slice) → IsListUnder (value_at one.at one.entry) (value_of one.entry) under names
         → LinesStand input (under_then under rest) → AllStand input names
     targets_stand (Lines more) names i l =
-        list_stands input (value_at one.at one.entry) (value_of one.entry) more names h (front_stands input more rest l) i
+        list_stands input (value_at one.at one.entry) (value_of one.entry) more names h (all_front (LineStands input) more rest l) i
     targets_stand (Listed dash_column trees) names i l = absurd i
 top_value_stands input top.InstallName one old new rest v h l s = subst (OpenStands input) (sym v.4) (record {
   version = s.version;
@@ -269,15 +255,16 @@ under_rest : (input : List ℕ) (dash_column : ℕ) (trees : List ItemTree) (res
 under_rest input dash_column [] rest l = l
 under_rest input dash_column (tree ∷ trees) rest l = under_rest input dash_column trees rest
     (entries_rest (column_of dash_column tree) tree.others (items_then dash_column trees rest)
-    (rest_stands input tree.first.more (entries_then (column_of dash_column tree) tree.others (items_then dash_column trees rest)) l.1))
+    (all_behind (LineStands input) tree.first.more (entries_then (column_of dash_column tree) tree.others (items_then dash_column trees rest)) l.1))
   where
     entries_rest : (column : ℕ) (entries : List ItemEntry) (rest : List Line) → LinesStand input (entries_then column entries rest)
         → LinesStand input rest
     entries_rest column [] rest l = l
-    entries_rest column (one ∷ others) rest l = entries_rest column others rest (rest_stands input one.more (entries_then column others rest) l.1)
+    entries_rest column (one ∷ others) rest l =
+        entries_rest column others rest (all_behind (LineStands input) one.more (entries_then column others rest) l.1)
 
 behind_under : (input : List ℕ) (under : Under) (rest : List Line) → LinesStand input (under_then under rest) → LinesStand input rest
-behind_under input (Lines more) rest l = rest_stands input more rest l
+behind_under input (Lines more) rest l = all_behind (LineStands input) more rest l
 behind_under input (Listed dash_column trees) rest l = under_rest input dash_column trees rest l
 
 top_entries_stand : (input : List ℕ) (entries : List TopEntry) (old new : OpenDocumentOf Slice) (rest : List Line)

@@ -14,7 +14,7 @@ use Rattle.macho_stub.specs.Reader.{ItemListFields, InsideFields, StateFields, s
 use Rattle.macho_stub.specs.Order.{MayStand, StandsTwice, unread_key, in_column}
 use Rattle.macho_stub.proofs.OnlyLines.{entry_unspaced}
 use Rattle.macho_stub.proofs.Joined.{spaces_line}
-use Rattle.macho_stub.proofs.Finish.{at_top, at_item, item_text_barred, item_text_steps}
+use Rattle.macho_stub.proofs.PutIn.{at_top, at_item, item_text_barred, item_text_steps}
 use Rattle.macho_stub.proofs.Reached.{Reached, may_stand, refused}
 use Rattle.macho_stub.proofs.Steps.{Closes, keys_state, top_steps, spare_at_top}
 use Rattle.macho_stub.proofs.Keyed.{HasKey, same_key, key_reads, key_or_outside, key_at_top, key_has_content, key_not_passed, key_no_head, key_no_end}

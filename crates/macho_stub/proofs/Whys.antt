@@ -2,6 +2,7 @@
 -- that the tests of the line have; inside a flow list and before a first item, the line is outside the grammar, since
 -- nothing there may lack a key or have a second one.
 use Rattle.std.proofs.Common.{◌≡◌, ◌≢◌, ℕ, zero, suc, ◌+◌, ◌<◌, Bool, true, false, cond, eqb, ltb, drop, List, [], ◌∷◌, length, Option, Some, None, Err, refl, sym, ap, ◌∙◌, arith, inl, inr, subst}
+use Rattle.std.proofs.lemmas.Bool.{or_parts}
 use Rattle.macho_stub_lines.specs.declared.keys.ItemKind.{ItemKind}
 use Rattle.macho_stub_lines.specs.declared.keys.ItemKey.{ItemKey}
 use Rattle.macho_stub_lines.specs.declared.keys.ItemKey.TheVariants as item
@@ -19,9 +20,9 @@ use Rattle.macho_stub.proofs.Ruling.{bind_err, same_err}
 use Rattle.macho_stub.proofs.OnlyLines.{top_indent}
 use Rattle.macho_stub.proofs.FineLines.{AnyOf, outside_at, here_at, lacking_at, entry_fine}
 use Rattle.macho_stub.proofs.Fine.{GoodInside, with_whole_fine, items_with_last_fine, top_entry_fine, item_entry_fine, names_value_fine, skipped_value_fine, dash_before_key}
-use Rattle.macho_stub.proofs.Causes.{TopCause, Ends, NoKey, Refused, ItemCause, Next, AtTop, InColumn, Nowhere, at_line, same_parts, top_cause, item_cause, EndsItem as EndsLacking}
-use Rattle.macho_stub.proofs.Joined.{IsLine, either_false, has_line_feed}
-use Rattle.macho_stub.proofs.Finish.{at_item}
+use Rattle.macho_stub.proofs.Causes.{TopCause, Ends, NoKey, Refused, ItemCause, Next, AtTop, InColumn, Nowhere, at_line, same_parts, top_cause, item_cause, EndsItem as EndsLacking, fault_at}
+use Rattle.macho_stub.proofs.Joined.{IsLine, has_line_feed}
+use Rattle.macho_stub.proofs.PutIn.{at_item}
 use Rattle.macho_stub.proofs.Reached.{Reached, refused}
 use Rattle.macho_stub.proofs.Steps.{Closes, keys_state}
 use Rattle.macho_stub.proofs.Lacking.{lacks_item, lacks_document, next_item}
@@ -113,9 +114,6 @@ first_never document list line item.WeakNames value i g e = absurd (let h = (sam
 abbrev pub outside_fault : ℕ → Fault
 outside_fault line = record { line = line; rule = S1 }
 
-abbrev pub fault_at : ℕ → StubRule → Fault
-fault_at line rule = record { line = line; rule = rule }
-
 -- the first line of an item is refused as outside the grammar
 pub first_outside : (document : OpenDocumentFields) (kind : ItemKind) (items : List ItemFields) (line : ℕ) (text : List ℕ) (at : ℕ)
     (rule : StubRule) → first_line document kind items line text ≡ broken at rule → fault_at at rule ≡ outside_fault line
@@ -141,12 +139,12 @@ drop_clean : (n : ℕ) (text : List ℕ) → has_barred text ≡ false → has_b
 unfolding has_barred
 drop_clean zero text h = h
 drop_clean (suc n) [] h = refl
-drop_clean (suc n) (b ∷ text) h = drop_clean n text (either_false (is_barred b) (has_barred text) h).1
+drop_clean (suc n) (b ∷ text) h = drop_clean n text (or_parts (is_barred b) (has_barred text) h).1
 
 drop_line : (n : ℕ) (text : List ℕ) → IsLine text → IsLine (drop n text)
 drop_line zero text h = h
 drop_line (suc n) [] h = refl
-drop_line (suc n) (b ∷ text) h = drop_line n text (either_false (eqb b 10) (has_line_feed text) h).1
+drop_line (suc n) (b ∷ text) h = drop_line n text (or_parts (eqb b 10) (has_line_feed text) h).1
 
 -- no key stands in a column that the item's keys don't stand in
 no_key_elsewhere : (first : List (List ℕ)) (before : List DocumentFields) (document : OpenDocumentFields) (list : ItemListFields)
