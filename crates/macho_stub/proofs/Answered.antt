@@ -1,4 +1,8 @@
 -- The answer is the one that the grammar and the rules have: reading finds what is there, and nothing else.
+-- The reading of a text gives the documents that the grammar has of it (`Trees`, `Found`, `Only`), and the library that is
+-- computed of documents is the one that they make by the rules (`Ruling`, `Gathered`); so the answer is a library exactly
+-- where the text makes it. A fault is that of a rule, told of the documents (`Told`, `ToldBack`), or the text breaks off
+-- (`Stops`), and only one thing is told of a text (`OneEnd`). Last, all this is said of a result that gives the answer.
 use Rattle.std.proofs.Common.{◌≡◌, ℕ, List, Result, Ok, Err, refl, sym, ap, ◌∙◌, inl, inr, subst}
 use Rattle.std.specs.Prelude.{IfOk, IfErr}
 use Rattle.macho_stub_lines.specs.declared.fault.StubFault.{StubFault}
@@ -27,9 +31,11 @@ use Rattle.macho_stub.proofs.Found.{documents_found}
 use Rattle.macho_stub.proofs.Only.{documents_read}
 
 -- what is in the grammar is read
-pub in_grammar_read : (text : List ℕ) (says : List (DocumentOf Slice)) → IsStubText text says → documents_of text ≡ Ok (documents_texts says)
+pub in_grammar_read : (text : List ℕ) (says : List (DocumentOf Slice)) → IsStubText text says
+    → documents_of text ≡ Ok (documents_texts says)
 in_grammar_read text says is = documents_read text (documents_texts says) (to_read text says is)
 
+-- A library that is answered of a text is one that the text makes.
 pub answer_found : (text : List ℕ) (library : LibraryFields) → answer_of text ≡ Ok library → IsStub text library
 unfolding answer_of
 answer_found text library e =
@@ -38,11 +44,13 @@ answer_found text library e =
     let M : List DocumentFields → Type 0 = λ d. MakesOfTexts d library in
     record { says = g.0; in_grammar = g.1; makes = of_texts g.0 library (subst M (sym g.2) (library_made b.0 library b.2)) }
 
+-- and the library that a text makes is answered
 pub answer_only : (text : List ℕ) (library : LibraryFields) → IsStub text library → answer_of text ≡ Ok library
 unfolding answer_of
 answer_only text library is = ap (λ reading. reading >>= library_of) (in_grammar_read text is.says is.in_grammar)
     ∙ library_back (documents_texts is.says) library (texts_make is.says library is.makes)
 
+-- A rule that is answered is the one that is told of the text.
 pub answer_told : (text : List ℕ) (line : ℕ) (rule : StubRule) → answer_of text ≡ broken line rule → IsToldOfText text (Rule line rule)
 unfolding answer_of
 answer_told text line rule e =
@@ -80,23 +88,27 @@ answer_back text line rule t = by_documents (documents_of text) refl t
     by_documents (Ok says) e t = ap (λ reading. reading >>= library_of) e ∙ of_text says e t
     by_documents (Err fault) e t = ap (λ reading. reading >>= library_of) e ∙ of_fault fault e t
 
+-- A result that gives what is answered: it gives the rule that is told of the text.
 pub told : {X : Type 0} (view : X → LibraryFields) (text : List ℕ) (result : Result X StubFault) (line : ℕ) (rule : StubRule)
     → Gives view result (answer_of text) → IsToldOfText text (Rule line rule) → Gives view result (broken line rule)
 told view text (Ok library) line rule h t = sym (answer_back text line rule t) ∙ h
 told view text (Err (Rule at other)) line rule h t = sym (answer_back text line rule t) ∙ h
 told view text (Err OutOfMemory) line rule h t = tt
 
+-- its library is one that the text makes
 pub found : {X : Type 0} (view : X → LibraryFields) (text : List ℕ) (result : Result X StubFault) → Gives view result (answer_of text)
     → IfOk result (λ library. IsStub text (view library))
 found view text (Ok library) h = answer_found text (view library) h
 found view text (Err e) h = tt
 
+-- it gives the library that the text makes
 pub only : {X : Type 0} (view : X → LibraryFields) (text : List ℕ) (result : Result X StubFault) (says : LibraryFields)
     → Gives view result (answer_of text) → IsStub text says → Gives view result (Ok says)
 only view text (Ok library) says h is = sym (answer_only text says is) ∙ h
 only view text (Err (Rule line rule)) says h is = sym (answer_only text says is) ∙ h
 only view text (Err OutOfMemory) says h is = tt
 
+-- and its fault is one that is told of the text
 pub fault : {X : Type 0} (view : X → LibraryFields) (text : List ℕ) (result : Result X StubFault) → Gives view result (answer_of text)
     → IfErr result (IsToldOfText text)
 fault view text (Ok library) h = tt

@@ -1,5 +1,5 @@
 -- What the reading of a line goes on with, once a test on the line has answered.
--- A line behind the keys of a document is its head's successor, its end, or an entry; one behind an item begins the next
+-- A line behind the keys of a document is the head of another, an end, or an entry; one behind an item begins the next
 -- item, or is a line of the document. The reader's definitions write what follows each test in place. Here each such
 -- continuation has a name, so that the lemmas on a step (what it gives, what it refuses, what its success says of the
 -- line) speak of the same one. They are abbreviations, so they compute to what the reader says.

@@ -1,5 +1,9 @@
 -- Why a line where a key may stand is refused. The tests are made in the order of the line: whether it ends an item, a
 -- document, and then its key and its value; so the first that fails tells what the line breaks.
+-- The reading of a line is a chain of choices and steps. Where the whole fails, each choice went one way, and the step that
+-- failed is known (`top_cause` behind the keys of a document, `item_cause` behind those of an item). A key that is refused
+-- because it stood before is refused with any other value too, since that test is made before the value is read
+-- (`top_again`, `item_again`).
 use Rattle.std.proofs.Common.{◌≡◌, ◌≢◌, ℕ, ◌<◌, ◌&&◌, Bool, true, false, cond, eqb, List, length, Some, None, Ok, Err, is_some, refl, sym, ap, ◌∙◌, ◌⊎◌, inl, inr}
 use Rattle.macho_stub.proofs.Branches.{at_head, at_end, at_entry, then_first, then_top}
 use Rattle.std.proofs.lemmas.Bool.{and_parts}
@@ -34,6 +38,7 @@ at_line P Q r line rule f e = f.err (record { line = line; rule = rule }) e
 abbrev pub fault_at : ℕ → StubRule → Fault
 fault_at line rule = record { line = line; rule = rule }
 
+-- faults that are one have one line and one rule
 pub same_parts : (l m : ℕ) (r s : StubRule) → fault_at l r ≡ fault_at m s → (l ≡ m) × (r ≡ s)
 same_parts l m r s e = (ap (λ (f : Fault). f.line) e, ap (λ (f : Fault). f.rule) e)
 
@@ -45,6 +50,7 @@ once_again : {A : Type 0} (P : A → Type 0) (line : ℕ) (had : Bool) (r s : Re
 once_again P line true r s f e = refl
 once_again P line false r s f e = absurd (let h = (same_parts line line S3 S1 (at_line P (outside_at line) r line S3 f e)).1 in cc)
 
+-- a key of a document that is refused as a second one is refused so with any value
 pub top_again : (document : OpenDocumentFields) (line : ℕ) (key : TopKey) (value other : List ℕ)
     → top_entry document line key value ≡ broken line S3 → top_entry document line key other ≡ broken line S3
 top_again document line top.Version value other e = once_again GoodInside line (is_some document.version) _ _
@@ -63,6 +69,7 @@ top_again document line top.Unread value other e = absurd (let h = (same_parts l
     e)).1 in
     cc)
 
+-- and so is a key of an item
 pub item_again : (document : OpenDocumentFields) (list : ItemListFields) (line : ℕ) (key : ItemKey) (value other : List ℕ)
     → list.dash < list.column → item_entry document list line key value ≡ broken line S3
     → item_entry document list line key other ≡ broken line S3
@@ -94,6 +101,7 @@ pub within_refused : (before : List DocumentFields) (reading : Reading InsideFie
 within_refused before (Ok inside) at rule e = absurd (ok_not_told _ at rule e)
 within_refused before (Err fault) at rule e = ap Err (same_err {A = StateFields} fault (record { line = at; rule = rule }) e)
 
+-- a line that is refused behind the keys of a document has such a cause
 pub top_cause : (before : List DocumentFields) (document : OpenDocumentFields) (line : ℕ) (text : List ℕ) (at : ℕ) (rule : StubRule)
     → top_line before document line text ≡ broken at rule → TopCause before document line text at rule
 unfolding top_line
@@ -139,6 +147,7 @@ not_both : (a b : Bool) → (a && b) ≡ false → a ≡ true → b ≡ false
 not_both true b h e = h
 not_both false b h e = absurd cc
 
+-- a line that is refused behind the keys of an item has such a cause
 pub item_cause : (before : List DocumentFields) (document : OpenDocumentFields) (list : ItemListFields) (line : ℕ) (text : List ℕ)
     (at : ℕ) (rule : StubRule) → item_line before document list line text ≡ broken at rule
     → ItemCause before document list line text at rule

@@ -1,5 +1,8 @@
 -- Why a line is refused inside a flow list, where an item must stand, and outside documents: it is outside the grammar.
--- In each of these places some line at column 0 may stand, and none with a key.
+-- In each of these places some line at column 0 may stand, and none with a key: a bracket inside a list, a dash with an item
+-- where one must stand, a head outside documents. So no item lacks a key there, since then no such line could stand; and
+-- no document does, and no key stands twice, since then another key could stand (`no_key_why`). What the step tells is the
+-- line itself, as outside the grammar. With the places where a key may stand (`Whys`) this is all (`line_why`).
 use Rattle.std.proofs.Common.{◌≡◌, ℕ, zero, suc, ◌+◌, true, false, cond, eqb, List, [], ◌∷◌, length, Option, None, Ok, refl, sym, ◌∙◌, inl, inr}
 use Rattle.std.specs.Str.{bytes_eq}
 use Rattle.macho_stub_lines.specs.declared.keys.ItemKind.{ItemKind}
@@ -56,11 +59,13 @@ spare_no_end (suc n) = refl
 -- so no key stands in a flow list
 names_refuse : (before : List DocumentFields) (document : OpenDocumentFields) (list : Option ItemListFields) (names : NameListFields)
     (line n : ℕ)
-    → line_step (record { documents = before; place = Within (stays document list (Names names)) }) line (in_column n unread_key) ≡ outside line
+    → line_step (record { documents = before; place = Within (stays document list (Names names)) }) line (in_column n unread_key)
+    ≡ outside line
 unfolding line_step names_line has_barred is_blank_or_comment
 names_refuse before document list names line n =
     rw (item_text_barred n unread_key, item_text_passed n unread_key refl, spare_no_end n, spaced_in_list line names.part.expect n) refl
 
+-- inside a flow list a key that isn't read may stand in no column
 pub no_key_in_list : (first : List (List ℕ)) (before : List DocumentFields) (document : OpenDocumentFields) (list : Option ItemListFields)
     (names : NameListFields) (n : ℕ) → Reached first (record { documents = before; place = Within (stays document list (Names names)) })
     → MayStand first (in_column n unread_key) → ⊥
@@ -90,8 +95,8 @@ names_why first before document list names text at rule k e =
 
 item_refuses : (before : List DocumentFields) (document : OpenDocumentFields) (list : Option ItemListFields) (kind : ItemKind)
     (at line n : ℕ)
-    → line_step (record { documents = before; place = Within (stays document list (NoItem kind at)) }) line (in_column n unread_key) ≡ outside
-    line
+    → line_step (record { documents = before; place = Within (stays document list (NoItem kind at)) }) line (in_column n unread_key)
+    ≡ outside line
 unfolding line_step first_line has_barred is_blank_or_comment belongs_to_top
 item_refuses before document list kind at line n =
     rw (item_text_barred n unread_key, item_text_passed n unread_key refl, no_dash_there n unread_key refl) refl
@@ -174,6 +179,7 @@ barred_why : (first : List (List ℕ)) (text : List ℕ) → has_barred text ≡
 barred_why first text h =
     (refl, (λ w. absurd (let k = sym h ∙ w.clean in cc)), λ t. absurd (let k = sym h ∙ t.clean in cc))
 
+-- A line that is refused is refused for the reason that is told.
 pub line_why : (first : List (List ℕ)) (state : StateFields) (text : List ℕ) (at : ℕ) (rule : StubRule) → Known first state → IsLine text
     → line_step state (length first + 1) text ≡ broken at rule → IsWhy rule at first text
 unfolding line_step

@@ -1,5 +1,9 @@
 -- A step that doesn't fail leaves the reading in good order: keys of an item stand behind its dash, and a list that
 -- goes on isn't closed. One that fails tells its line, or that an item or a document lacks a key.
+-- Both are said at once of each reading (`Fine`, in `FineLines`) and go through its steps and choices: from the lines of flow
+-- lists and the values, to the entries of items and documents, to what closes an item or a document, and to any line
+-- (`line_step_fine`). A list that a dash begins has its keys behind the dash since the column of the key is counted from
+-- there (`dash_before_key`).
 use Rattle.std.proofs.Common.{◌≢◌, ℕ, ◌<◌, ◌&&◌, cond, eqb, length, List, [], drop, Option, Some, None, Ok, refl, arith, inl, inr}
 use Rattle.macho_stub.proofs.Branches.{at_head, at_end, at_entry, then_first, then_top}
 use Rattle.std.specs.Str.{bytes_eq}
@@ -24,23 +28,28 @@ use Rattle.macho_stub.proofs.FineLines.{Fine, AnyOf, outside_at, here_at, lackin
 
 -- ---- inside a document
 
+-- keys of an item stand behind its dash
 abbrev pub GoodList : Option ItemListFields → Type 0
 GoodList None = Unit {0}
 GoodList (Some list) = list.dash < list.column
 
+-- a flow list that goes on isn't closed
 abbrev pub GoodMode : ModeFields → Type 0
 GoodMode Keys = Unit {0}
 GoodMode Skipped = Unit {0}
 GoodMode (Names names) = names.part.expect ≢ Closed
 GoodMode (NoItem kind line) = Unit {0}
 
+-- inside a document the reading is in good order by both
 abbrev pub GoodInside : InsideFields → Type 0
 GoodInside inside = GoodList inside.list × GoodMode inside.mode
 
+-- outside documents it always is
 abbrev pub GoodPlace : PlaceFields → Type 0
 GoodPlace Outside = Unit {0}
 GoodPlace (Within inside) = GoodInside inside
 
+-- and a state is by its place
 abbrev pub GoodState : StateFields → Type 0
 GoodState state = GoodPlace state.place
 
@@ -57,6 +66,7 @@ good_expect document list began key names AfterOpen g = (g, λ e. cc)
 good_expect document list began key names AfterComma g = (g, λ e. cc)
 good_expect document list began key names AfterName g = (g, λ e. cc)
 
+-- a line of a flow list leaves the reading in good order, or is outside the grammar
 pub names_line_fine : (document : OpenDocumentFields) (list : Option ItemListFields) (line : ℕ) (names : NameListFields) (text : List ℕ)
     → GoodList list → Fine GoodInside (outside_at line) (names_line document list line names text)
 unfolding names_line
@@ -65,12 +75,14 @@ names_line_fine document list line names text g =
     (front_fine line names.part.names (list_part line names.part.expect 0 text) (part_fine line names.part.expect 0 text))
     (λ part _. fine_ok _ (good_expect document list names.began names.key part.names part.expect g))
 
+-- and so does a value that begins a flow list
 pub names_value_fine : (document : OpenDocumentFields) (list : Option ItemListFields) (line : ℕ) (key : ItemKey) (value : List ℕ)
     → GoodList list → Fine GoodInside (outside_at line) (names_value document list line key value)
 unfolding names_value
 names_value_fine document list line key value g = fine_if GoodInside (outside_at line) _ _ _
     (names_line_fine document list line (opened line key) (drop 1 value) g) (fine_here)
 
+-- and a value that is skipped
 pub skipped_value_fine : (document : OpenDocumentFields) (list : Option ItemListFields) (line : ℕ) (value : List ℕ) → GoodList list
     → Fine GoodInside (outside_at line) (skipped_value document list line value)
 unfolding skipped_value
@@ -86,6 +98,7 @@ here_twice {A} {P} {line} = fine_err (record { line = line; rule = S3 }) (inr re
 pub widen : {A : Type 0} (P : A → Type 0) (line : ℕ) (r : Reading A) → Fine P (outside_at line) r → Fine P (here_at line) r
 widen P line r h = weaker P (outside_at line) (here_at line) r (λ fault q. inl q) h
 
+-- an entry of an item does so too, or has a key that stands twice
 pub item_entry_fine : (document : OpenDocumentFields) (list : ItemListFields) (line : ℕ) (key : ItemKey) (value : List ℕ)
     → list.dash < list.column → Fine GoodInside (here_at line) (item_entry document list line key value)
 item_entry_fine document list line item.Unread value g = widen GoodInside line _ (skipped_value_fine document (Some list) line value g)
@@ -103,6 +116,7 @@ item_key_line_fine document list line text g =
     fine_bind AnyOf GoodInside (here_at line) (entry_at line text) _ (widen AnyOf line _ (entry_fine line text))
     (λ entry _. item_entry_fine document list line (item_key list.kind entry.key) entry.value g)
 
+-- the key behind a dash begins behind the dash's column
 pub dash_before_key : (text : List ℕ) → indent text < key_column text
 unfolding key_column
 dash_before_key text = omega arith
@@ -115,6 +129,7 @@ first_line_fine document kind items line text =
     (record { kind = kind; items = items; dash = indent text; column = key_column text; item = no_item }) line
     (drop (key_column text) text) (dash_before_key text)) here_outside
 
+-- an entry of a document leaves the reading in good order, is outside the grammar, or has a key that stands twice
 pub top_entry_fine : (document : OpenDocumentFields) (line : ℕ) (key : TopKey) (value : List ℕ)
     → Fine GoodInside (here_at line) (top_entry document line key value)
 top_entry_fine document line top.Version value = fine_if GoodInside (here_at line) _ _ _ here_twice
@@ -167,6 +182,7 @@ whole_document_fine document =
     document.install_name)
     (λ i _. fine_ok _ tt)))
 
+-- a document that can't be closed lacks a key, which is told at its first line
 pub with_whole_fine : (before : List DocumentFields) (document : OpenDocumentFields)
     → Fine AnyOf (lacking_at document.line) (with_whole before document)
 unfolding with_whole
@@ -174,6 +190,7 @@ with_whole_fine before document = fine_bind AnyOf AnyOf (lacking_at document.lin
     document)
     (λ w _. fine_ok _ tt)
 
+-- and so does an item that can't be closed, told at the line that is given for it
 pub items_with_last_fine : (at : ℕ) (list : ItemListFields) → Fine AnyOf (lacking_at at) (items_with_last at list)
 unfolding items_with_last
 items_with_last_fine at list = fine_bind AnyOf AnyOf (lacking_at at) (whole_item at list.kind list.item) _
@@ -244,6 +261,7 @@ content_line_fine : (before : List DocumentFields) (place : PlaceFields) (line :
 content_line_fine before Outside line text g = fine_if GoodState AnyOf _ _ _ (fine_ok _ (tt, tt)) ((fine_err _ tt))
 content_line_fine before (Within inside) line text g = inside_line_fine before inside.document inside.list inside.mode line text g.0
 
+-- A step that doesn't fail leaves the reading in good order.
 pub line_step_fine : (state : StateFields) (line : ℕ) (text : List ℕ) → GoodState state → Fine GoodState AnyOf (line_step state line text)
 unfolding line_step
 line_step_fine state line text g =

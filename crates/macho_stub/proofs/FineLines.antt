@@ -1,5 +1,8 @@
 -- Readings that are fine: what they give is so, and so is the fault that they tell. A key, a scalar, a version and a
 -- line of a flow list tell their own line, as outside the grammar.
+-- A reading is made of values, faults, steps and choices, and there is one lemma for each (`fine_ok`, `fine_err`,
+-- `fine_bind`, `fine_if`); with these each reading of a line by itself is gone through in the words of its definition. The
+-- tokens of a flow list are read one after the other, so there the argument is by recursion on the bytes (`part_fine`).
 use Rattle.std.proofs.Common.{◌≡◌, ℕ, zero, suc, ◌+◌, ◌-◌, Bool, true, false, cond, eqb, get_or, take, List, [], ◌∷◌, drop, Option, Some, None, Ok, Err, refl, sym, subst, ◌⊎◌}
 use Rattle.macho_stub_lines.proofs.Bind.{same_ok}
 use Rattle.std.specs.List.{prefix_len}
@@ -20,6 +23,7 @@ pub record Fine {A : Type 0} (P : A → Type 0) (Q : Fault → Type 0) (reading 
   pub ok : (x : A) → reading ≡ Ok x → P x
   pub err : (fault : Fault) → reading ≡ Err fault → Q fault
 
+-- nothing is said
 abbrev pub AnyOf : {A : Type 0} → A → Type 0
 AnyOf x = Unit {0}
 
@@ -45,23 +49,28 @@ done x = Ok x
 no_err : {A : Type 0} (x : A) (d : Fault) → done x ≡ Err d → ⊥
 no_err x d e = cc
 
+-- what gives a value that has it is fine
 pub fine_ok : {A : Type 0} {P : A → Type 0} {Q : Fault → Type 0} (x : A) → P x → Fine P Q (Ok x)
 fine_ok {A} {P} x p = record { ok = λ y e. subst P (same_ok x y e) p; err = λ d e. absurd (no_err x d e) }
 
+-- what tells a fault that has it is fine
 pub fine_err : {A : Type 0} {P : A → Type 0} {Q : Fault → Type 0} (fault : Fault) → Q fault → Fine P Q (Err fault)
 fine_err {A} {P} {Q} fault q = record {
   ok = λ y e. absurd (no_err y _ (sym e));
   err = λ d e. subst Q (same_err {A = A} fault d e) q;
 }
 
+-- what is refused as outside the grammar is fine
 pub fine_here : {A : Type 0} {P : A → Type 0} {line : ℕ} → Fine P (outside_at line) (outside {A = A} line)
 fine_here {A} {P} {line} = fine_err (record { line = line; rule = S1 }) refl
 
+-- a step, and then a reading of what it gives
 pub fine_bind : {A B : Type 0} (P : A → Type 0) (R : B → Type 0) (Q : Fault → Type 0) (r : Reading A) (f : A → Reading B) → Fine P Q r
     → ((x : A) → P x → Fine R Q (f x)) → Fine R Q (r >>= f)
 fine_bind P R Q (Ok x) f h k = k x (h.ok x refl)
 fine_bind P R Q (Err d) f h k = fine_err d (h.err d refl)
 
+-- a choice of two
 pub fine_if : {A : Type 0} (P : A → Type 0) (Q : Fault → Type 0) (b : Bool) (x y : Reading A) → Fine P Q x → Fine P Q y
     → Fine P Q (cond b x y)
 fine_if P Q true x y h k = h
@@ -72,6 +81,7 @@ pub weaker : {A : Type 0} (P : A → Type 0) (Q S : Fault → Type 0) (r : Readi
     → Fine P S r
 weaker P Q S r w h = record { ok = h.ok; err = λ d e. w d (h.err d e) }
 
+-- the same with nothing said of the fault
 pub free : {A : Type 0} (P : A → Type 0) (Q : Fault → Type 0) (r : Reading A) → Fine P Q r → Fine P AnyOf r
 free P Q r h = weaker P Q AnyOf r (λ fault q. tt) h
 
@@ -85,6 +95,7 @@ spaced_fine line key rest = fine_if AnyOf (outside_at line) _ _ _ (fine_ok _ tt)
 pub entry_behind_fine : (line : ℕ) (key rest : List ℕ) → Fine AnyOf (outside_at line) (entry_behind line key rest)
 entry_behind_fine line key rest = fine_if AnyOf (outside_at line) (is_tail rest) _ _ (fine_ok _ tt) (spaced_fine line key rest)
 
+-- a line that begins with no key is told as outside the grammar
 pub entry_fine : (line : ℕ) (text : List ℕ) → Fine AnyOf (outside_at line) (entry_at line text)
 unfolding entry_at
 entry_fine line text = fine_if AnyOf (outside_at line) _ _ _ (fine_here)
@@ -94,10 +105,12 @@ pub alone_fine : (line : ℕ) (value : List ℕ) (scalar : Option ScalarSpan) �
 alone_fine line value None = fine_here
 alone_fine line value (Some scalar) = fine_if AnyOf (outside_at line) _ _ _ (fine_ok _ tt) (fine_here)
 
+-- so is a value that is no scalar
 pub scalar_fine : (line : ℕ) (value : List ℕ) → Fine AnyOf (outside_at line) (scalar_value line value)
 unfolding scalar_value
 scalar_fine line value = alone_fine line value (scalar_front value)
 
+-- and one that is no number
 pub version_fine : (line : ℕ) (value : List ℕ) → Fine AnyOf (outside_at line) (version_value line value)
 unfolding version_value
 version_fine line value = fine_if AnyOf (outside_at line) _ _ _ (fine_here) (fine_ok _ tt)
@@ -137,10 +150,12 @@ behind_fine line Closed Comma = fine_here
 behind_fine line Closed Close = fine_here
 behind_fine line Closed Name = fine_here
 
+-- names in front change nothing of it
 pub front_fine : (line : ℕ) (names : List (List ℕ)) (reading : Reading ListPart) → Fine AnyOf (outside_at line) reading
     → Fine AnyOf (outside_at line) (with_front names reading)
 front_fine line names reading h = fine_bind AnyOf AnyOf (outside_at line) reading _ h (λ x _. fine_ok _ tt)
 
+-- a line of a flow list is read, or told as outside the grammar
 pub part_fine : (line : ℕ) (expect : Expect) (skip : ℕ) (bytes : List ℕ) → Fine AnyOf (outside_at line) (list_part line expect skip bytes)
 unfolding list_part
 part_fine line expect zero [] = fine_ok _ tt

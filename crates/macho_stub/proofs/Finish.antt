@@ -103,18 +103,21 @@ version_lacks before document skipped line None ev =
     step_then _ (at_top before (with_version document) false) line version_line (version_steps before document skipped line ev) refl
     (targets_lack before (with_version document) false (line + 1) (codes "4") document.targets refl refl)
 
+-- behind the entries of a document
 pub top_finishes : (before : List DocumentFields) (document : OpenDocumentFields) (skipped : Bool) (line : ℕ)
     → Finishes (at_top before document skipped) line
 top_finishes before document skipped line = version_lacks before document skipped line document.version refl
 
 -- ---- an item
 
+-- behind an item that lacks no key
 pub item_done : (before : List DocumentFields) (document : OpenDocumentFields) (list : ItemListFields) (skipped : Bool) (line : ℕ)
     (items : List ItemFields) → items_with_last document.line list ≡ Ok items → Finishes (at_item before document list skipped) line
 item_done before document list skipped line items e =
     step_then _ (at_top before (with_items list.kind items document) true) line unread_key
     (spare_steps before document list skipped line items e) refl (top_finishes before (with_items list.kind items document) true (line + 1))
 
+-- an item with targets, and with names if it lists libraries, lacks no key
 pub item_whole : (line : ℕ) (list : ItemListFields) (t : List (List ℕ)) (n : Option (List (List ℕ))) (k : ItemKind)
     → list.item.targets ≡ Some t → list.item.names ≡ n → list.kind ≡ k → ((k ≡ Libraries) → n ≡ None → ⊥)
     → (items : List ItemFields) × (items_with_last line list ≡ Ok items)
@@ -177,6 +180,7 @@ item_targets_lack before document list skipped line None et below =
     (item_targets_step before document list skipped line et below) (spaces_line list.column targets_line refl)
     (names_lack before document next false (line + 1) [] list.item.names list.kind refl refl refl below)
 
+-- behind the entries of an item
 pub item_finishes : (before : List DocumentFields) (document : OpenDocumentFields) (list : ItemListFields) (skipped : Bool) (line : ℕ)
     → list.dash < list.column → Finishes (at_item before document list skipped) line
 item_finishes before document list skipped line below = item_targets_lack before document list skipped line list.item.targets refl below

@@ -38,6 +38,7 @@ pub record IsItemEntry (kind : ItemKind) (column : ℕ) (one : ItemEntry) (old n
   pub entry : IsEntry one.entry
   pub value : ItemValue column (item_key kind one.entry.key) one old new
 
+-- entries one after the other
 abbrev pub ItemEntries : ItemKind → ℕ → List ItemEntry → OpenItemOf Slice → OpenItemOf Slice → Type 0
 ItemEntries kind column [] old new = new ≡ old
 ItemEntries kind column (one ∷ others) old new =
@@ -62,6 +63,7 @@ pub record IsItem (kind : ItemKind) (dash_column : ℕ) (tree : ItemTree) (says 
   pub entries : ItemEntries kind (column_of dash_column tree) (tree.first ∷ tree.others) no_item read
   pub whole : IsWholeItem kind read says
 
+-- items one after the other, and what each says
 abbrev pub AreItems : ItemKind → ℕ → List ItemTree → List (ItemOf Slice) → Type 0
 AreItems kind dash_column [] [] = Unit {0}
 AreItems kind dash_column [] (one ∷ says) = ⊥
@@ -101,6 +103,7 @@ pub record IsTopEntry (one : TopEntry) (old new : OpenDocumentOf Slice) : Type 0
   pub entry : IsEntry one.entry
   pub value : TopValue (top_key one.entry.key) one old new
 
+-- entries of a document one after the other
 abbrev pub TopEntries : List TopEntry → OpenDocumentOf Slice → OpenDocumentOf Slice → Type 0
 TopEntries [] old new = new ≡ old
 TopEntries (one ∷ others) old new = (mid : OpenDocumentOf Slice) × IsTopEntry one old mid × TopEntries others mid new
@@ -122,6 +125,7 @@ pub record IsDocument (tree : DocumentTree) (says : DocumentOf Slice) : Type 0 w
   pub entries : TopEntries tree.entries (head_at tree.number) read
   pub whole : IsWholeDocument read says
 
+-- documents one after the other, and what each says
 abbrev pub AreDocuments : List DocumentTree → List (DocumentOf Slice) → Type 0
 AreDocuments [] [] = Unit {0}
 AreDocuments [] (one ∷ says) = ⊥

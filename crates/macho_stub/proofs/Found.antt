@@ -1,5 +1,8 @@
 -- What is read is in the grammar. From the last line backwards: if the lines that follow a line finish the text
 -- from where it leaves the reading (`Rest`), then the line and they finish it from where the line finds it.
+-- At the end of the text nothing is left, and what is open there is whole. A line is one of an item, of a document or of a
+-- flow list, or belongs to a skipped value; by the way that its tests went, it is put in front of the trees that follow. The
+-- trees at the first line are those of the text (`lines_found`).
 use Rattle.std.proofs.Common.{◌≡◌, ℕ, ◌+◌, ◌&&◌, Bool, true, false, cond, eqb, List, [], ◌∷◌, ◌++◌, replicate, Option, Some, None, Ok, refl, sym, ap, ◌∙◌, inl, inr, subst, append_assoc}
 use Rattle.macho_stub.proofs.Branches.{inside_of_document, then_first, then_top}
 use Rattle.std.proofs.lemmas.Bool.{and_parts}
@@ -290,6 +293,7 @@ lines_found texts says e =
     let A : List DocumentFields → Type 0 = λ s. AreDocuments r.trees s in
     record { clean = l.0; trees = r.trees; lines_of = r.lines_of; documents = subst A (sym r.all) r.documents }
 
+-- A text whose reading gives documents is a text as it is read, and says them.
 pub documents_found : (text : List ℕ) (says : List DocumentFields) → documents_of text ≡ Ok says → IsReadText text says
 unfolding documents_of
 documents_found text says e = lines_found (lines text) says e

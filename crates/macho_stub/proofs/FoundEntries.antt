@@ -68,6 +68,7 @@ opened_rest before document list line key value inside rest total bracket e h =
       keys = n.2.keys;
     }
 
+-- a value that begins a flow list is one with the lines under it, and what is left finishes the text behind it
 pub names_value_rest : (before : List DocumentFields) (document : OpenDocumentFields) (list : Option ItemListFields) (line : ℕ)
     (key : ItemKey) (value : List ℕ) (inside : InsideFields) (rest : List ReadLine) (total : List DocumentFields)
     → names_value document list line key value ≡ Ok inside → RestInside before inside rest total

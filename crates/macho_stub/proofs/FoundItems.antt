@@ -1,4 +1,8 @@
 -- From the reading of an item's lines to its tree: each key line is an entry, and a line with a dash begins an item.
+-- The lines that follow finish the text from where this line leaves the reading: so there are trees of entries and items for
+-- them (`Rest`). By what the key of the line is, its value with the lines under it is a flow list or is skipped, and the
+-- entry stands in front of the others (`item_key_line_rest`). A line with a dash is spelled with the spaces before and behind
+-- the dash, and the key behind them is the first entry of an item in front of the next ones (`first_line_rest`).
 use Rattle.std.proofs.Common.{◌≡◌, ℕ, ◌+◌, List, ◌∷◌, ◌++◌, drop, replicate, Some, Ok, refl, ap, ◌∙◌, inl, inr, subst}
 use Rattle.macho_stub_lines.specs.declared.keys.ItemKind.{ItemKind}
 use Rattle.macho_stub_lines.specs.declared.keys.ItemKey.{ItemKey}
@@ -98,6 +102,7 @@ item_entry_rest before document list line text item.WeakNames value inside rest 
       keys = r.keys;
     }
 
+-- a key line of an item is an entry, and what is left finishes the text behind it
 pub item_key_line_rest : (before : List DocumentFields) (document : OpenDocumentFields) (list : ItemListFields) (line : ℕ) (text : List ℕ)
     (inside : InsideFields) (rest : List ReadLine) (total : List DocumentFields)
     → item_key_line document list line text ≡ Ok inside → RestInside before inside rest total

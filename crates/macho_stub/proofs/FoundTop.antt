@@ -1,4 +1,8 @@
 -- From the reading of a document's lines to its tree.
+-- A line behind the keys of a document is a head, an end or an entry. A head begins a document whose trees are those of the
+-- lines behind it, in front of the others (`document_in_front`); an end or a head closes the document before it, which lacks
+-- no key, since else the step would have failed. An entry goes in front of those that follow, by what its key is: a number, a
+-- scalar, a flow list, items under the key, or a skipped value.
 use Rattle.std.proofs.Common.{◌≡◌, ℕ, cond, eqb, List, [], ◌∷◌, ◌++◌, length, Option, Some, None, Ok, is_some, refl, sym, ap, ◌∙◌, inl, inr, subst, append_assoc}
 use Rattle.macho_stub.proofs.Branches.{at_head, at_end, at_entry, inside_of_document}
 use Rattle.std.specs.Str.{bytes_eq}

@@ -1,5 +1,8 @@
 -- Loops over documents and items. What was gathered stands in front of what the rest gives, and each document that
 -- is sound leaves the judgement of all to the rest.
+-- Each loop is at some place i in its list. Its invariant says that what was found so far, with what the elements from i on
+-- give, is the whole; the lemmas here are the step from i to the next place, and the end, where no element is left. They are
+-- by recursion on the list and the place together.
 use Rattle.std.proofs.Common.{◌≡◌, ℕ, zero, suc, ◌<◌, ◌≤◌, List, [], ◌∷◌, ◌++◌, length, get_or, drop, map, Ok, sym, ap, ◌∙◌, append_assoc, arith}
 use Rattle.std.specs.List.{flat_map}
 use Rattle.macho_stub_lines.specs.declared.fault.StubFault.{StubFault}

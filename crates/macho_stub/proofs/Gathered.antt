@@ -1,6 +1,10 @@
 -- The symbols are gathered alike of slices and of their texts, so documents in slices make the library that their texts
 -- make.
+-- Whether an item is for the target is a test of the texts of its targets alone, and gathering puts lists in a row; so the
+-- texts of what is gathered are what is gathered of the texts, by item, by document and for all documents (`gathers`). The
+-- rules speak of texts alone. So what the texts make, the slices make (`of_texts`), and the other way round.
 use Rattle.std.proofs.Common.{◌≡◌, ℕ, Bool, true, false, cond, List, [], ◌∷◌, ◌++◌, map, refl, sym, ap, ◌∙◌, subst}
+use Rattle.std.proofs.lemmas.List.{map-append}
 use Rattle.std.specs.List.{flat_map, AllByRecursion}
 use Rattle.macho_stub_lines.specs.Slices.{Slice, texts_of}
 use Rattle.macho_stub.specs.Documents.{ItemOf, DocumentOf, DocumentFields, item_texts, document_texts, documents_texts}
@@ -11,9 +15,8 @@ use Rattle.macho_stub.proofs.TextRules.{MakesOfTexts}
 
 -- ---- texts
 
-texts_append : (xs ys : List Slice) → texts_of (xs ++ ys) ≡ texts_of xs ++ texts_of ys
-texts_append [] ys = refl
-texts_append (x ∷ xs) ys = ap (λ (more : List (List ℕ)). x.text ∷ more) (texts_append xs ys)
+abbrev slice_text : Slice → List ℕ
+slice_text slice = slice.text
 
 picked_texts : (weak : Bool) (item : ItemOf Slice) → texts_of (picked_for_target weak item) ≡ texts_for_target weak (item_texts item)
 picked_texts weak item = by_target weak (has_target (texts_of item.targets))
@@ -26,15 +29,16 @@ picked_texts weak item = by_target weak (has_target (texts_of item.targets))
 items_texts : (weak : Bool) (items : List (ItemOf Slice)) → texts_of (flat_map (picked_for_target weak) items)
     ≡ flat_map (texts_for_target weak) (map item_texts items)
 items_texts weak [] = refl
-items_texts weak (item ∷ items) = texts_append (picked_for_target weak item) (flat_map (picked_for_target weak) items)
+items_texts weak (item ∷ items) = map-append slice_text (picked_for_target weak item) (flat_map (picked_for_target weak) items)
     ∙ ap (λ (front : List (List ℕ)). front ++ texts_of (flat_map (picked_for_target weak) items)) (picked_texts weak item)
     ∙ ap (λ (rest : List (List ℕ)). texts_for_target weak (item_texts item) ++ rest) (items_texts weak items)
 
 document_gathers : (weak : Bool) (document : DocumentOf Slice) → texts_of (picked_of_document weak document)
     ≡ texts_of_document weak (document_texts document)
 document_gathers weak document =
-    texts_append (flat_map (picked_for_target weak) document.exports) (flat_map (picked_for_target weak) document.reexports)
-    ∙ ap (λ (front : List (List ℕ)). front ++ texts_of (flat_map (picked_for_target weak) document.reexports)) (items_texts weak document.exports)
+    map-append slice_text (flat_map (picked_for_target weak) document.exports) (flat_map (picked_for_target weak) document.reexports)
+    ∙ ap (λ (front : List (List ℕ)). front ++ texts_of (flat_map (picked_for_target weak) document.reexports))
+    (items_texts weak document.exports)
     ∙ ap (λ (rest : List (List ℕ)). flat_map (texts_for_target weak) (map item_texts document.exports) ++ rest)
     (items_texts weak document.reexports)
 
@@ -42,7 +46,7 @@ gathers : (weak : Bool) (documents : List (DocumentOf Slice)) → texts_of (gath
     ≡ gathered_texts weak (documents_texts documents)
 unfolding gathered_texts
 gathers weak [] = refl
-gathers weak (document ∷ documents) = texts_append (picked_of_document weak document) (gathered weak documents)
+gathers weak (document ∷ documents) = map-append slice_text (picked_of_document weak document) (gathered weak documents)
     ∙ ap (λ (front : List (List ℕ)). front ++ texts_of (gathered weak documents)) (document_gathers weak document)
     ∙ ap (λ (rest : List (List ℕ)). texts_of_document weak (document_texts document) ++ rest) (gathers weak documents)
 

@@ -1,4 +1,8 @@
 -- A key that is refused where it didn't come before is refused for its value: with another value it may stand.
+-- For each key that is read a value is written out with which it is read: a number, a scalar, an empty list, or none for a
+-- key of items. The test whether the key stood before answered no, else the line would have been told as a second key; so
+-- with that value the step doesn't fail, and the line may stand. That the line is clean and has no line feed, it has from
+-- the key, which is a front of a line that is so, and from the value, which is written out.
 use Rattle.std.proofs.Common.{◌≡◌, ℕ, zero, suc, ◌+◌, ◌<◌, Bool, true, false, cond, eqb, List, [], ◌∷◌, ◌++◌, length, take, Option, Some, None, Ok, Err, is_some, refl, sym, ap, ◌∙◌, subst}
 use Rattle.std.proofs.lemmas.Bool.{or_parts, or_from}
 use Rattle.std.specs.Prelude.{codes}
@@ -165,6 +169,7 @@ key_line_clean line text said rest e l r =
     ∙ take_clean (prefix_len is_key_byte text) text l in
     barred_after said.key (colon ∷ rest) front r
 
+-- A key of a document that is refused for its value may stand there with another value.
 pub good_at_top : (first : List (List ℕ)) (before : List DocumentFields) (document whole : OpenDocumentFields)
     (list : Option ItemListFields) (skipped : Bool) (text : List ℕ) (said : Entry) → Reached first (keys_state before document list skipped)
     → Closes list document whole → has_barred text ≡ false → IsLine text → entry_at (length first + 1) text ≡ Ok said
@@ -190,6 +195,7 @@ good_at_top first before document whole list skipped text said r c clean l e ref
     by_reading (Ok entry) gives h = ap (within before) h
     by_reading (Err fault) gives h = absurd cc
 
+-- A key of an item that is refused for its value may stand in its column with another value.
 pub good_in_column : (first : List (List ℕ)) (before : List DocumentFields) (document : OpenDocumentFields) (list : ItemListFields)
     (skipped : Bool) (text : List ℕ) (said : Entry) → Reached first (at_item before document list skipped) → list.dash < list.column
     → has_barred text ≡ false → IsLine text → entry_at (length first + 1) text ≡ Ok said

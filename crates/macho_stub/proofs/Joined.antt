@@ -1,21 +1,29 @@
 -- Lines that have no line feed are those of a text: each is written with a carriage return and a line feed behind it.
+-- To show that lines may stand there must be a text that begins with them, and the lines of a text are cut out of it by std's
+-- words. The text is cut at each line feed, so that a line with its carriage return is one part (`parts_of_line`), the
+-- carriage return is stripped, and behind the last line feed nothing is left (`lines_joined`). The other way, the lines of
+-- any text have no line feed (`lines_are_lines`).
 use Rattle.std.proofs.Common.{◌≡◌, ℕ, zero, suc, ◌+◌, ◌-◌, ◌||◌, Bool, true, false, cond, eqb, List, [], ◌∷◌, ◌++◌, length, take, get_or, replicate, refl, sym, ap, ◌∙◌, arith}
 use Rattle.std.proofs.lemmas.Bool.{or_parts, or_from}
 use Rattle.std.specs.List.{slice_split, onto_first, list_any, AllByRecursion}
 use Rattle.std.specs.Str.Lines.{lines, lines_of_parts, strip_carriage_return}
 use Rattle.macho_stub_lines.specs.Bytes.{space}
 
+-- whether some byte is a line feed
 abbrev pub has_line_feed : List ℕ → Bool
 has_line_feed bytes = list_any (λ b. eqb b 10) bytes
 
+-- no byte is one
 abbrev pub IsLine : List ℕ → Type 0
 IsLine bytes = has_line_feed bytes ≡ false
 
+-- none of these lines has one
 abbrev pub AreLines : List (List ℕ) → Type 0
 AreLines texts = AllByRecursion IsLine texts
 
 -- ---- a text of lines
 
+-- the text of the lines, each with its end
 abbrev pub joined : List (List ℕ) → List ℕ
 joined [] = []
 joined (line ∷ more) = line ++ 13 ∷ 10 ∷ joined more
@@ -56,6 +64,7 @@ some_parts (b ∷ bytes) x = by_test (eqb b 10) (some_parts bytes x)
     by_test true s = ([], parts bytes, refl)
     by_test false s = (b ∷ s.0, s.1, ap (onto_first b) s.2)
 
+-- the lines of a text that is written of lines are these lines
 pub lines_joined : (texts : List (List ℕ)) → AreLines texts → lines (joined texts) ≡ texts
 lines_joined [] all = refl
 lines_joined (line ∷ more) all =
@@ -80,6 +89,7 @@ parts_are_lines (b ∷ bytes) = by_test (eqb b 10) refl (parts_are_lines bytes)
     by_test true h a = (refl, a)
     by_test false h a = onto_line b (parts bytes) h a
 
+-- a front of a line is a line
 pub take_line : (n : ℕ) (line : List ℕ) → IsLine line → IsLine (take n line)
 take_line zero line h = refl
 take_line (suc n) [] h = refl
@@ -103,11 +113,13 @@ kept_are_lines (x ∷ []) a = by_test (eqb (length x) 0)
     by_test false = (a.0, tt)
 kept_are_lines (x ∷ y ∷ more) a = (strip_line x a.0, kept_are_lines (y ∷ more) a.1)
 
+-- the lines of a text have no line feed
 pub lines_are_lines : (bytes : List ℕ) → AreLines (lines bytes)
 lines_are_lines bytes = kept_are_lines (parts bytes) (parts_are_lines bytes)
 
 -- ---- lists of lines
 
+-- a line with spaces in front is a line
 pub spaces_line : (n : ℕ) (text : List ℕ) → IsLine text → IsLine (replicate n space ++ text)
 spaces_line zero text h = h
 spaces_line (suc n) text h = spaces_line n text h

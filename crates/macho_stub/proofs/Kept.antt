@@ -1,6 +1,6 @@
 -- What an entry leaves: the document's first line, and the line where a flow list or a key of items began.
--- No key changes the first line of its document, and none that is given items does. A flow list or a list of items that an
--- entry opens begins at the entry's line (`Of`); one that is closed on its line leaves none. So each reading of an entry
+-- Neither a key nor items change the first line of their document. A flow list or a key of items that an entry opens
+-- begins at the entry's line (`Of`); a flow list that is closed on its line leaves none. So each reading of an entry
 -- that gives a value has this of it, whatever its tests answer: this is said of readings (`Kept`), and goes through their
 -- steps and choices. A line with a dash is no head.
 use Rattle.std.proofs.Common.{◌≡◌, ◌≢◌, ℕ, ◌&&◌, Bool, true, false, cond, eqb, List, [], length, drop, Option, Some, None, Ok, is_some, refl, sym, ap, ◌∙◌, arith, ◌⊎◌, inl, inr, subst}
@@ -29,17 +29,20 @@ use Rattle.macho_stub_lines.proofs.Bind.{bind_ok, chosen, not_broken, not_broken
 abbrev pub Kept : {A : Type 0} → (A → Type 0) → Reading A → Type 0
 Kept {A} P reading = (x : A) → reading ≡ Ok x → P x
 
+-- a value that has it is read
 pub kept_ok : {A : Type 0} (P : A → Type 0) (x : A) → P x → Kept P (Ok x)
 kept_ok P x p y e = subst P (same_ok x y e) p
 
 kept_broken : {A : Type 0} (P : A → Type 0) (line : ℕ) (reading : Reading A) → reading ≡ outside line → Kept P reading
 kept_broken P line reading h y e = absurd (no_ok line S1 y (sym h ∙ e))
 
+-- a step, and then a reading of what it gives
 pub kept_bind : {A B : Type 0} (P : B → Type 0) (r : Reading A) (f : A → Reading B) → ((x : A) → r ≡ Ok x → Kept P (f x)) → Kept P (r >>= f)
 kept_bind P r f h y e = let b = bind_ok r f y e in h b.0 b.1 y b.2
 
 -- ---- inside a document
 
+-- an open flow list, or a key of items, began at that line
 abbrev pub Began : ℕ → ModeFields → Type 0
 Began line Keys = Unit {0}
 Began line Skipped = Unit {0}
@@ -57,6 +60,7 @@ top_key_line item.Names names document = refl
 top_key_line item.WeakNames names document = refl
 top_key_line item.Unread names document = refl
 
+-- what a document says of items leaves its first line
 pub items_line : (kind : ItemKind) (items : List ItemFields) (document : OpenDocumentFields) → (with_items kind items document).line
     ≡ document.line
 items_line Libraries items document = refl
@@ -75,6 +79,7 @@ expect_of document list began key part AfterOpen = (refl, refl)
 expect_of document list began key part AfterComma = (refl, refl)
 expect_of document list began key part AfterName = (refl, refl)
 
+-- a line of a flow list leaves the document's first line, and where the list began while it is open
 pub names_line_kept : (document : OpenDocumentFields) (list : Option ItemListFields) (line : ℕ) (names : NameListFields) (text : List ℕ)
     → Kept (Of document.line names.began) (names_line document list line names text)
 unfolding names_line
@@ -113,6 +118,7 @@ item_entry_kept document list line item.Names value = once_kept (Of document.lin
 item_entry_kept document list line item.WeakNames value = once_kept (Of document.line line) line (has_key item.WeakNames list.item) _
     (names_value_kept document (Some list) line item.WeakNames value)
 
+-- a key of an item opens a list at its own line, if it opens one
 pub item_key_line_kept : (document : OpenDocumentFields) (list : ItemListFields) (line : ℕ) (text : List ℕ)
     → Kept (Of document.line line) (item_key_line document list line text)
 unfolding item_key_line
@@ -129,6 +135,7 @@ dash_no_head : (text : List ℕ) → has_dash text ≡ true → text ≢ head
 unfolding has_dash indent
 dash_no_head text h = λ is. absurd (let k = sym (ap has_dash is) ∙ h in cc)
 
+-- and so does the line of a dash, which is no head
 pub first_line_kept : (document : OpenDocumentFields) (kind : ItemKind) (items : List ItemFields) (line : ℕ) (text : List ℕ)
     → Kept (FirstLine document.line line text) (first_line document kind items line text)
 unfolding first_line
@@ -137,6 +144,7 @@ first_line_kept document kind items line text inside e =
     let b = not_broken_else (has_dash text) line S1 (item_key_line document list line (drop (key_column text) text)) inside e in
     (dash_no_head text b.0, item_key_line_kept document list line (drop (key_column text) text) inside b.1)
 
+-- and so does an entry of a document
 pub top_entry_kept : (document : OpenDocumentFields) (line : ℕ) (key : TopKey) (value : List ℕ)
     → Kept (Of document.line line) (top_entry document line key value)
 top_entry_kept document line top.Version value = once_kept (Of document.line line) line (is_some document.version) _

@@ -33,6 +33,7 @@ Behind first began line text Outside = Unit {0}
 Behind first began line text (Within inside) =
     ((text ≢ head) × Of first began inside) ⊎ ((text ≡ head) × (inside ≡ stays (head_at line) None Keys))
 
+-- the same of a state
 abbrev pub BehindState : ℕ → ℕ → ℕ → List ℕ → StateFields → Type 0
 BehindState first began line text state = Behind first began line text state.place
 
@@ -140,6 +141,7 @@ began_of Skipped line = line
 began_of (Names names) line = names.began
 began_of (NoItem kind at) line = line
 
+-- Behind a line inside a document stands what was before the line, or a document that the line begins.
 pub inside_line_kept : (before : List DocumentFields) (document : OpenDocumentFields) (list : Option ItemListFields) (mode : ModeFields)
     (line : ℕ) (text : List ℕ) → Kept (BehindState document.line (began_of mode line) line text) (inside_line before document list mode
     line text)
@@ -182,10 +184,12 @@ expect_no_bare document list began key part AfterOpen = tt
 expect_no_bare document list began key part AfterComma = tt
 expect_no_bare document list began key part AfterName = tt
 
+-- no key of items is open there
 abbrev pub NoBarePlace : PlaceFields → Type 0
 NoBarePlace Outside = Unit {0}
 NoBarePlace (Within inside) = NoBare inside.mode
 
+-- a line of a flow list leaves no key of items open
 pub names_line_no_bare : (before : List DocumentFields) (document : OpenDocumentFields) (list : Option ItemListFields) (line : ℕ)
     (names : NameListFields) (text : List ℕ)
     → Kept (λ (next : StateFields). NoBarePlace next.place) (within before (names_line document list line names text))
@@ -199,6 +203,7 @@ names_line_no_bare before document list line names text =
     (λ part. Ok (behind_part document list names.began names.key part))
     (λ part _. kept_ok NoBareInside _ (expect_no_bare document list names.began names.key part part.expect)) inside e))
 
+-- outside documents only a head may stand, and it begins a document
 pub outside_kept : (before : List DocumentFields) (line : ℕ) (text : List ℕ) (next : StateFields)
     → content_line before Outside line text ≡ Ok next
     → (text ≡ head) × (record { documents = before; place = Within (stays (head_at line) None Keys) } ≡ next)

@@ -1,5 +1,9 @@
 -- Lines that begin with a key and a colon. The key ends at the colon, whatever follows; so a line with the key of
 -- another reads as the same key.
+-- A key is the longest front of bytes that a key may have, and a colon is no such byte: so the front, and what is taken and
+-- dropped at its length, are known from the key and what stands behind the colon (`Cut`). What is read of the line then
+-- depends on the latter alone (`key_reads`), and gives this key or is refused. Such a line has content, begins at column 0
+-- with no dash, and is neither a head nor an end.
 use Rattle.std.proofs.Common.{◌≡◌, ◌≢◌, ℕ, suc, ◌+◌, ◌||◌, not, Bool, true, false, cond, eqb, get_or, take, drop, List, [], ◌∷◌, ◌++◌, Ok, refl, sym, ap, ◌∙◌, arith, inl, inr, ◌⊎◌}
 use Rattle.std.specs.List.{prefix_len}
 use Rattle.std.specs.Str.{bytes_eq}
@@ -57,10 +61,11 @@ behind_key line key rest said e =
     elim (chosen (is_tail rest) (Ok (record { key = key; value = [] }))
     (cond (eqb (get_or rest 0 0) space) (Ok (record { key = key; value = unspaced rest })) (outside line)) (Ok said) e) [
       | inl b ↦ sym (ap (λ (x : Entry). x.key) (same_ok _ _ b.1))
-      | inr b ↦ elim (chosen (eqb (get_or rest 0 0) space) (Ok (record { key = key; value = unspaced rest })) (outside line) (Ok said) b.1) [
-        | inl d ↦ sym (ap (λ (x : Entry). x.key) (same_ok _ _ d.1))
-        | inr d ↦ absurd (no_ok line S1 said d.1)
-      ]
+      | inr b ↦ elim (chosen (eqb (get_or rest 0 0) space) (Ok (record { key = key; value = unspaced rest })) (outside line) (Ok said)
+          b.1) [
+            | inl d ↦ sym (ap (λ (x : Entry). x.key) (same_ok _ _ d.1))
+            | inr d ↦ absurd (no_ok line S1 said d.1)
+          ]
     ]
 
 -- the key is a front of the text
@@ -142,6 +147,7 @@ unfolding is_blank_or_comment
 key_has_content [] key rest h = absurd (h.some refl)
 key_has_content (b ∷ text) key rest h = let n : b ≢ number_sign = λ s. h.some (number_sign_ends b text s) in grind (arith, nat_tests)
 
+-- and so it isn't passed over
 pub key_not_passed : (text key rest : List ℕ) → HasKey text key rest → is_passed text ≡ false
 unfolding is_passed unspaced
 key_not_passed text key rest h = rw (top_indent text (key_at_top text key rest h)) (key_has_content text key rest h)
@@ -152,6 +158,7 @@ unfolding is_key_byte
 key_no_head text key rest h = bytes_differ text head
     (λ is. absurd (let k = ap (λ x. get_or x (prefix_len is_key_byte x) 0) is in omega (arith, k, h.behind)))
 
+-- nor an end
 pub key_no_end : (text key rest : List ℕ) → HasKey text key rest → bytes_eq text end ≡ false
 unfolding is_key_byte
 key_no_end text key rest h = bytes_differ text end (λ is. h.some (ap (prefix_len is_key_byte) is))

@@ -28,6 +28,7 @@ pub barred_steps : (state : StateFields) (line : ℕ) (text : List ℕ) → has_
 unfolding line_step
 barred_steps state line text h = rw h refl
 
+-- An item that can't be closed lacks a key, in the words of what may stand.
 pub lacks_item : (first : List (List ℕ)) (before : List DocumentFields) (document : OpenDocumentFields) (list : ItemListFields)
     (skipped : Bool) (at : ℕ) (rule : StubRule) → Reached first (at_item before document list skipped)
     → items_with_last document.line list ≡ broken at rule → LacksInItem first
@@ -39,6 +40,7 @@ lacks_item first before document list skipped at rule r e line some zero m = by_
     by_test false h = refused first (at_item before document list skipped) line at rule r
         (lacking_steps before document list skipped (length first + 1) line at rule e h some zero) m
 
+-- And so does a document that can't be closed.
 pub lacks_document : (first : List (List ℕ)) (before : List DocumentFields) (document whole : OpenDocumentFields)
     (list : Option ItemListFields) (skipped : Bool) (at : ℕ) (rule : StubRule) → Reached first (keys_state before document list skipped)
     → Closes list document whole → with_whole before whole ≡ broken at rule → LacksInDocument first
@@ -196,6 +198,7 @@ dash_stands first before document list skipped items r e below =
     (next_steps before document list skipped n text items e below d (item_text_barred list.dash unread_item)
     (item_text_passed list.dash unread_item refl) ∙ begins_item before document list.kind items n list.dash text d)
 
+-- A line with a dash in the column of the list's dashes begins a next item, with the keys put in that lack.
 pub next_item : (first : List (List ℕ)) (before : List DocumentFields) (document : OpenDocumentFields) (list : ItemListFields)
     (skipped : Bool) (line : List ℕ) → Reached first (at_item before document list skipped) → list.dash < list.column
     → has_dash line ≡ true → indent line ≡ list.dash → IsNextItem first line

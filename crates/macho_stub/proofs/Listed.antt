@@ -1,4 +1,7 @@
 -- The set of the libraries that items list: a name is in it where it is one of those that were put in.
+-- The code puts in name by name, item by item. Its invariant says for any name: it is in the set, or among those that are
+-- left, exactly where it is listed at all. Putting in the next name moves it from those that are left to the set, and an item
+-- whose names are all put in is left behind; what remains is that `or` may be put in another order.
 use Rattle.std.proofs.Common.{◌≡◌, ℕ, zero, suc, ◌+◌, ◌<◌, ◌||◌, Bool, true, false, cond, get_or, drop, Bor, List, [], ◌∷◌, length, refl, sym, ap, ◌∙◌, arith}
 use Rattle.std.specs.List.{list_any}
 use Rattle.std.specs.Str.{bytes_eq}
@@ -39,6 +42,7 @@ any_more p (x ∷ names) zero d lt = refl
 any_more p (x ∷ names) (suc i) d lt =
     any_more p names i d (omega arith) ∙ ap (λ k. p (get_or names i d).now || list_any p (drop k (texts (x ∷ names)))) (one_more i)
 
+-- Putting in the next name changes nothing of whether a name is in the set or still to come.
 pub name_put_in : (old new : BTreeSet (Bor (List ℕ))) (names : List (Bor (List ℕ))) (i : ℕ) (d : Bor (List ℕ)) (name : List ℕ)
     (total : Bool) → i < length names
     → UpdatesBy (λ (x y : Bor (List ℕ)). slice_cmp nat_cmp x.now y.now) (λ k. slice_cmp nat_cmp (get_or names i d).now k.now) old new true

@@ -33,6 +33,7 @@ abbrev by_skipped : List DocumentFields → OpenDocumentFields → ItemListField
 by_skipped before document list false n reading = reading
 by_skipped before document list true n reading = cond (ltb list.column n) (Ok (at_item before document list true)) reading
 
+-- A line behind spaces belongs to a skipped value, is a key in the column of the keys, or is refused.
 pub column_steps : (before : List DocumentFields) (document : OpenDocumentFields) (list : ItemListFields) (skipped : Bool) (line n : ℕ)
     (text : List ℕ) → belongs_to_top text ≡ false → has_barred text ≡ false → is_blank_or_comment text ≡ false → n ≢ 0
     → line_step (at_item before document list skipped) line (in_column n text)
@@ -234,6 +235,7 @@ first_column first line key keys needed lacks m =
     let z : indent key ≡ 0 = top_indent key t.out in
     lacks key (ap (λ n. is_blank_or_comment (drop n key)) z ∙ t.some) z (line_stands first (map (in_column 0) keys) key line m)
 
+-- Where the last item lacks a key, a line in another column than 0 and that of the list's dashes begins no next item.
 pub no_next : (first : List (List ℕ)) (before : List DocumentFields) (document : OpenDocumentFields) (list : ItemListFields)
     (skipped : Bool) (text : List ℕ) → Reached first (at_item before document list skipped) → indent text ≢ 0
     → (has_dash text ≡ true → indent text ≢ list.dash) → (skipped ≡ true → ltb list.column (indent text) ≡ false)

@@ -36,6 +36,7 @@ cuts_more {A} a b f x p g y q e (Same s t) = Same (ap (λ c. c ∷ f) e ∙ ap (
 cuts_more {A} a b f x p g y q e (Before r s t) = Before r (ap (λ c. c ∷ g) (sym e) ∙ ap (λ (l : List A). a ∷ l) s) t
 cuts_more {A} a b f x p g y q e (Behind r s t) = Behind r (ap (λ c. c ∷ f) e ∙ ap (λ (l : List A). b ∷ l) s) t
 
+-- one list that is cut in two ways is cut so
 pub cuts : {A : Type 0} (f : List A) (x : A) (p g : List A) (y : A) (q : List A) → f ++ x ∷ p ≡ g ++ y ∷ q → Cuts f x p g y q
 cuts [] x p [] y q e = Same refl (first_is x y p q e)
 cuts {A} [] x p (b ∷ g) y q e = Before g (ap (λ c. c ∷ g) (sym (first_is x b p (g ++ y ∷ q) e))) (rest_is x b p (g ++ y ∷ q) e)
@@ -84,6 +85,7 @@ not_in_the_middle : (r q : List (List ℕ)) → AllByRecursion (λ line. line �
 not_in_the_middle [] q a = a.0 refl
 not_in_the_middle (x ∷ r) q a = not_in_the_middle r q a.1
 
+-- the last head of a text has one number
 pub one_head : (l m : ℕ) (texts : List (List ℕ)) → IsLastHead l texts → IsLastHead m texts → l ≡ m
 one_head l m texts h k =
     let N : List (List ℕ) → Type 0 = λ b. AllByRecursion (λ line. line ≢ head) b in

@@ -1,5 +1,9 @@
 -- What is told at the end of a text is told of it alone. A list that is open is open since one line; a key of items
 -- with none under it is the last line with content; and where a closing bracket may stand, no key and no item may.
+-- Of two lists that are cut off, a bracket might stand right before the later one, since the earlier is open there; but the
+-- later says that none may (`one_list`). Of two bare keys the later would be among the lines that are passed over behind
+-- the earlier, and it has content (`one_key`). A list and a bare key, or one of these and a lacking key, differ in which of
+-- a bracket, an item and a key may stand behind the text: that is known from where its reading ends (`alone`).
 use Rattle.std.proofs.Common.{◌≡◌, ℕ, ◌+◌, true, false, List, [], ◌∷◌, ◌++◌, length, Option, Ok, refl, sym, ap, ◌∙◌, ◌⊎◌, inl, inr, subst, append_assoc}
 use Rattle.std.specs.List.{AllByRecursion}
 use Rattle.std.specs.Str.Lines.{lines}

@@ -1,4 +1,8 @@
 -- What is in the grammar is read: documents, and the whole text.
+-- The reading runs over the lines with content (`run`). In front of other lines, the lines of an entry of a document take it
+-- to where what is known has what the entry adds; so the entries of a document take it to all that is known of it, and its
+-- end, the next head or the end of the text closes it, since no key is lacking. So documents are read one after the other,
+-- and lines that are passed over change nothing (`run_lines`).
 use Rattle.std.proofs.Common.{◌≡◌, ℕ, ◌+◌, Bool, true, false, cond, eqb, List, [], ◌∷◌, ◌++◌, length, replicate, Option, Some, None, Ok, Err, is_some, refl, sym, ap, ◌∙◌, append_assoc}
 use Rattle.std.specs.List.{AllByRecursion}
 use Rattle.std.specs.Str.{bytes_eq}
@@ -203,6 +207,7 @@ pub lines_read : (texts : List (List ℕ)) (says : List DocumentFields) → IsRe
 lines_read texts says is = run_lines start 1 texts is.clean ∙ ap (run [] Outside) is.lines_of
     ∙ documents_are_read [] is.trees says is.documents
 
+-- What is a text as it is read, is read as what it says.
 pub documents_read : (text : List ℕ) (says : List DocumentFields) → IsReadText text says → documents_of text ≡ Ok says
 unfolding documents_of
 documents_read text says is = lines_read (lines text) says is

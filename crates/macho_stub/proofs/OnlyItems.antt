@@ -1,5 +1,9 @@
 -- What is in the grammar is read: items. Each line of an item is a key in the column of its keys, each item begins
 -- with a dash in the column of the list's dashes, and the list ends at a line in column 0, or with the text.
+-- The reading of a line behind the keys of an item is by three tests and the text from the key on (`by_tests`). A line that
+-- is spelled in the column of the keys answers them all: it has no dash in the column of the dashes, is not in column 0, and
+-- is in that of the keys. So an entry is read with the lines under it, and the entries one after the other; a line with a
+-- dash reads back as its parts, and its key is read as the first entry (`first_is_read`).
 use Rattle.std.proofs.Common.{◌≡◌, ℕ, ◌+◌, ◌<◌, ◌&&◌, Bool, true, false, cond, eqb, ltb, List, [], ◌∷◌, ◌++◌, drop, replicate, Some, Ok, Err, refl, sym, ap, ◌∙◌, arith}
 use Rattle.std.specs.List.{prefix_len}
 use Rattle.std.proofs.lemmas.Bool.Decides.{nat_tests}
@@ -68,7 +72,8 @@ within_run before (Ok inside) rest = refl
 within_run before (Err fault) rest = refl
 
 -- The reading of a line behind the keys of an item, by its three tests and its text from the key on.
-unfoldable pub by_tests : List DocumentFields → OpenDocumentFields → ItemListFields → ℕ → List ℕ → List ReadLine → Bool → Bool → Bool → List ℕ
+unfoldable pub by_tests : List DocumentFields → OpenDocumentFields → ItemListFields → ℕ → List ℕ → List ReadLine → Bool → Bool → Bool
+    → List ℕ
     → Reading (List DocumentFields)
 by_tests before document list line text rest dashed top column head =
     cond dashed (items_with_last document.line list >>= λ items. within before (first_line document list.kind items line text))
@@ -110,7 +115,8 @@ in_column_starts list line head said e =
     ≡ list.column = spelled_indent list.column head (entry_unspaced line head said e) in
     not_below _ _ (omega arith)
 
-entries_start : (list : ItemListFields) (entries : List ItemEntry) (old new : OpenItemFields) (rest : List ReadLine) → Starts (Some list) rest
+entries_start : (list : ItemListFields) (entries : List ItemEntry) (old new : OpenItemFields) (rest : List ReadLine)
+    → Starts (Some list) rest
     → ItemEntries list.kind list.column entries old new → Starts (Some list) (entries_then list.column entries rest)
 entries_start list [] old new rest s e = s
 entries_start list (entry ∷ entries) old new rest s e = in_column_starts list entry.number entry.head e.1.said e.1.key

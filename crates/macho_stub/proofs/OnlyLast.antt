@@ -1,4 +1,8 @@
 -- What is in the grammar is read: lists of items. Behind an item stands the next one's dash, or the list has ended.
+-- Where the list has ended, a line in column 0 or the end of the text closes the last item, which lacks no key, and the
+-- reading goes on in the document with all the items (`item_ends`). Where a dash follows in the column of the list's, it
+-- closes the item before it and begins the next. So the items of a list are read one after the other (`items_go_on`), the
+-- first from where an item must stand (`items_are_read`).
 use Rattle.std.proofs.Common.{◌≡◌, ℕ, ◌<◌, ◌&&◌, true, false, eqb, List, [], ◌∷◌, ◌++◌, replicate, Some, None, Ok, ap, ◌∙◌, arith, append_assoc}
 use Rattle.macho_stub_lines.specs.declared.keys.ItemKind.{ItemKind}
 use Rattle.macho_stub_lines.specs.Bytes.{space, dash, indent, unspaced, has_dash}

@@ -1,5 +1,9 @@
 -- Where the lines of a tree begin: a key, a head and an end belong to no skipped value above them, and a line that
 -- is spelled with spaces, a dash and more spaces reads back as these.
+-- A line that is read with a key begins with a byte of one, and its key ends at a colon; a space is no such byte, and a
+-- key of a dash alone would end at the space behind it (`space_ends`, `dash_ends`). The spaces in front of a text that
+-- begins with none are as many as were put there, and dropping them, or looking behind them, gives the text
+-- (`spelled_indent`, `spelled_rest`, `spelled_at`). For a dash this is done before and behind it (`dash_line`).
 use Rattle.std.proofs.Common.{◌≡◌, ◌≢◌, ℕ, zero, suc, ◌+◌, ◌<◌, ◌&&◌, ◌||◌, not, Bool, true, false, cond, eqb, List, [], ◌∷◌, ◌++◌, get_or, take, drop, replicate, Ok, refl, sym, ap, ◌∙◌, arith}
 use Rattle.std.specs.List.{prefix_len}
 use Rattle.std.specs.Str.{bytes_eq}
@@ -60,6 +64,7 @@ pub entry_no_head : (line : ℕ) (text : List ℕ) (said : Entry) → entry_at l
 unfolding entry_at is_key_byte
 entry_no_head line text said e = bytes_differ text head (λ is. no_ok line S1 said (sym (ap (entry_at line) is) ∙ e))
 
+-- nor an end
 pub entry_no_end : (line : ℕ) (text : List ℕ) (said : Entry) → entry_at line text ≡ Ok said → bytes_eq text end ≡ false
 unfolding entry_at is_key_byte
 entry_no_end line text said e = bytes_differ text end (λ is. no_ok line S1 said (sym (ap (entry_at line) is) ∙ e))
@@ -70,6 +75,7 @@ unfolding indent belongs_to_top
 top_indent [] h = refl
 top_indent (b ∷ text) h = let n : eqb b space ≡ false = grind (arith, nat_tests) in ap (λ t. cond t (1 + prefix_len is_space text) 0) n
 
+-- and has no dash
 pub top_no_dash : (text : List ℕ) → belongs_to_top text ≡ false → has_dash text ≡ false
 unfolding has_dash belongs_to_top
 top_no_dash text h = rw (top_indent text h) (no_dash text h)
@@ -89,10 +95,12 @@ pub spelled_indent : (n : ℕ) (text : List ℕ) → prefix_len is_space text �
 spelled_indent zero text h = h
 spelled_indent (suc n) text h = one-add (prefix_len is_space (replicate n space ++ text)) ∙ ap suc (spelled_indent n text h)
 
+-- what stands behind the spaces is read back
 pub spelled_rest : (n : ℕ) (text : List ℕ) → drop n (replicate n space ++ text) ≡ text
 spelled_rest zero text = refl
 spelled_rest (suc n) text = spelled_rest n text
 
+-- and so is each byte of it
 pub spelled_at : (n k : ℕ) (text : List ℕ) → get_or (replicate n space ++ text) (n + k) 0 ≡ get_or text k 0
 spelled_at zero k text = let e : 0 + k ≡ k = omega arith in rw e refl
 spelled_at (suc n) k text = let e : suc n + k ≡ suc (n + k) = omega arith in rw e (spelled_at n k text)
@@ -108,6 +116,7 @@ first_space : (gap : ℕ) (head : List ℕ) → 0 < gap → get_or (replicate ga
 first_space zero head h = absurd (omega arith)
 first_space (suc gap) head h = refl
 
+-- a line that is spelled with a dash reads back as such
 pub dash_line : (at gap : ℕ) (head : List ℕ) → 0 < gap → prefix_len is_space head ≡ 0
     → DashLine at gap (replicate at space ++ dash ∷ (replicate gap space ++ head)) head
 unfolding indent has_dash key_column

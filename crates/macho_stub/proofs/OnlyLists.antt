@@ -1,5 +1,9 @@
 -- What is in the grammar is read: flow lists and skipped values. The lines of a tree, in front of others, take the
 -- reading to where it stands behind the tree.
+-- Each line that belongs to a skipped value leaves the reading as it is, and the first that doesn't is read as where a key
+-- may stand (`skip_goes_on`, `skip_ends`). A flow list that isn't closed goes on with the next line, which is no end of a
+-- document, and the part that closes it gives its names to the key (`list_goes_on`). A value that begins with a bracket is
+-- such a list, and any other one is skipped.
 use Rattle.std.proofs.Common.{◌≡◌, ◌≢◌, ℕ, true, false, cond, List, [], ◌∷◌, ◌++◌, drop, Option, Ok, refl, ap, ◌∙◌, inl, inr}
 use Rattle.std.specs.List.{AllByRecursion}
 use Rattle.macho_stub_lines.specs.declared.keys.ItemKey.{ItemKey}
@@ -71,7 +75,8 @@ closes document list began key names all expect is same =
 
 pub list_goes_on : (before : List DocumentFields) (document : OpenDocumentFields) (list : Option ItemListFields) (began : ℕ)
     (key : ItemKey) (part : ListPart) (more rest : List ReadLine) (names : List (List ℕ))
-    → AllByRecursion (λ line. line.text ≢ end) more → GoesOn part more names → run_in before (behind_part document list began key part) (more ++ rest)
+    → AllByRecursion (λ line. line.text ≢ end) more → GoesOn part more names
+    → run_in before (behind_part document list began key part) (more ++ rest)
     ≡ run_in before (with_names document list key names) rest
 unfolding names_line
 list_goes_on before document list began key part [] rest names n g = ap (λ inside. run_in before inside rest)

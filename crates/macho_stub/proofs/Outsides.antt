@@ -1,5 +1,8 @@
 -- A line that is told to be outside the grammar ends nothing that lacks a key, and has no second key: else that would
 -- have been told, since a line ends items and documents before its key is read, and its key stands before its value.
+-- Where the reading of the line came past the end of the item, the item lacks no key, so a line at column 0 may stand
+-- (`no_item_lacks`), and a line that is no head and no end ends no document (`ends_nothing`). A key that is refused for its
+-- value may stand with another (`Goods`), so it doesn't stand twice; a line with no key has none that could.
 use Rattle.std.proofs.Common.{◌≡◌, ◌≢◌, ℕ, zero, suc, ◌+◌, ◌<◌, ◌&&◌, ◌||◌, Bool, true, false, eqb, get_or, drop, List, ◌∷◌, ◌++◌, length, Option, Ok, refl, sym, ap, ◌∙◌, arith, inl, inr, subst}
 use Rattle.std.proofs.lemmas.Bool.Decides.{nat_tests}
 use Rattle.std.proofs.lemmas.List.{get_or-drop}
@@ -24,6 +27,7 @@ use Rattle.macho_stub.proofs.TwiceKeys.{said_of, second_key}
 
 -- ---- where a key may stand at column 0
 
+-- where a key of a document may stand, no item lacks one
 pub no_item_lacks : (first : List (List ℕ)) (before : List DocumentFields) (document whole : OpenDocumentFields)
     (list : Option ItemListFields) (skipped : Bool) → Reached first (keys_state before document list skipped)
     → Closes list document whole → LacksInItem first → ⊥
@@ -35,6 +39,7 @@ no_item_lacks first before document whole list skipped r c lacks =
 no_ends : (text : List ℕ) → text ≢ head → text ≢ end → EndsDocument text → ⊥
 no_ends text h e d = elim d [ inl is ↦ h is | inr is ↦ e is ]
 
+-- and a line that is no head and no end ends nothing there that lacks a key
 pub ends_nothing : (first : List (List ℕ)) (before : List DocumentFields) (document whole : OpenDocumentFields)
     (list : Option ItemListFields) (skipped : Bool) (text : List ℕ) → Reached first (keys_state before document list skipped)
     → Closes list document whole → text ≢ head → text ≢ end → EndsWithout first text → ⊥
@@ -49,10 +54,12 @@ pub no_key_twice : (first : List (List ℕ)) (text : List ℕ) (at : ℕ) (rule 
     → entry_at (length first + 1) (unspaced text) ≡ broken at rule → StandsTwice first text → ⊥
 no_key_twice first text at rule e t = no_ok at rule (said_of t.said) (sym e ∙ second_key first text t)
 
+-- a line at column 0 has no spaces in front
 pub flush : (text : List ℕ) → indent text ≡ 0 → unspaced text ≡ text
 unfolding unspaced
 flush text z = ap (λ n. drop n text) z
 
+-- a key of a document that is refused for its value doesn't stand twice
 pub value_at_top : (first : List (List ℕ)) (before : List DocumentFields) (document whole : OpenDocumentFields)
     (list : Option ItemListFields) (skipped : Bool) (text : List ℕ) (said : Entry) → Reached first (keys_state before document list skipped)
     → Closes list document whole → has_barred text ≡ false → IsLine text → entry_at (length first + 1) text ≡ Ok said
@@ -67,6 +74,7 @@ value_at_top first before document whole list skipped text said r c clean l e re
     let E : Entry → Type 0 = λ x. M (indent text) x.key in
     t.not_again g.0 (subst E (sym is) (subst K (sym z.0) g.1))
 
+-- and neither does a key of an item
 pub value_in_column : (first : List (List ℕ)) (before : List DocumentFields) (document : OpenDocumentFields) (list : ItemListFields)
     (skipped : Bool) (text : List ℕ) (said : Entry) → Reached first (at_item before document list skipped) → list.dash < list.column
     → indent text ≡ list.column → has_barred (unspaced text) ≡ false → IsLine (unspaced text)
@@ -103,6 +111,7 @@ dash_no_end text h d = elim d [
   | inr is ↦ absurd (let k = sym (ap has_dash is) ∙ h in cc)
 ]
 
+-- a line behind spaces is no head and no end
 pub deep_no_end : (text : List ℕ) → indent text ≢ 0 → EndsDocument text → ⊥
 unfolding indent
 deep_no_end text h d = elim d [ inl is ↦ h (ap (λ t. indent t) is) | inr is ↦ h (ap (λ t. indent t) is) ]
@@ -115,9 +124,11 @@ spaced_spare : (before : List DocumentFields) (document : OpenDocumentFields) (l
 unfolding line_step top_line entry_at is_key_byte is_blank_or_comment has_barred
 spaced_spare before document line n = rw (item_text_barred (suc n) unread_key, item_text_passed (suc n) unread_key refl) refl
 
+-- in a document where no value is skipped, a key that isn't read may stand at column 0 alone
 pub no_deeper_key : (first : List (List ℕ)) (before : List DocumentFields) (document : OpenDocumentFields) (skipped : Bool) (n : ℕ)
     → Reached first (at_top before document skipped) → (skipped ≡ true → n ≡ 0) → MayStand first (in_column n unread_key) → n ≡ 0
 no_deeper_key first before document skipped zero r h m = refl
 no_deeper_key first before document true (suc n) r h m = h refl
-no_deeper_key first before document false (suc n) r h m = absurd (refused first (at_top before document false) (in_column (suc n) unread_key)
-    (length first + 1) S1 r (spaced_spare before document (length first + 1) n) m)
+no_deeper_key first before document false (suc n) r h m =
+    absurd (refused first (at_top before document false) (in_column (suc n) unread_key) (length first + 1) S1 r
+    (spaced_spare before document (length first + 1) n) m)

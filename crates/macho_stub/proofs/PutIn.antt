@@ -34,35 +34,45 @@ abbrev pub mode_at : Bool → ModeFields
 mode_at false = Keys
 mode_at true = Skipped
 
+-- in a document, behind its entries
 abbrev pub at_top : List DocumentFields → OpenDocumentFields → Bool → StateFields
 at_top before document skipped = record { documents = before; place = Within (stays document None (mode_at skipped)) }
 
+-- in an item, behind its entries
 abbrev pub at_item : List DocumentFields → OpenDocumentFields → ItemListFields → Bool → StateFields
 at_item before document list skipped = record { documents = before; place = Within (stays document (Some list) (mode_at skipped)) }
 
+-- a version
 abbrev pub version_line : List ℕ
 version_line = codes "tbd-version: 4"
 
+-- targets, empty
 abbrev pub targets_line : List ℕ
 targets_line = codes "targets: []"
 
+-- an install name
 abbrev pub name_line : List ℕ
 name_line = codes "install-name: a"
 
+-- libraries, empty
 abbrev pub libraries_line : List ℕ
 libraries_line = codes "libraries: []"
 
 -- ---- keys of a document
 
+-- the document with the name that was put in
 abbrev pub with_name : OpenDocumentFields → OpenDocumentFields
 with_name document = record document { install_name = Some (codes "a") }
 
+-- with the targets that were put in
 abbrev pub with_targets : OpenDocumentFields → OpenDocumentFields
 with_targets document = record document { targets = Some [] }
 
+-- with the version that was put in
 abbrev pub with_version : OpenDocumentFields → OpenDocumentFields
 with_version document = record document { version = Some (codes "4") }
 
+-- a name that lacks is read where it is put in
 pub name_steps : (before : List DocumentFields) (document : OpenDocumentFields) (skipped : Bool) (line : ℕ) → document.install_name ≡ None
     → line_step (at_top before document skipped) line name_line ≡ Ok (at_top before (with_name document) false)
 unfolding line_step has_barred is_passed is_blank_or_comment unspaced indent top_line entry_at is_key_byte is_tail top_key scalar_value
@@ -71,6 +81,7 @@ unfolding line_step has_barred is_passed is_blank_or_comment unspaced indent top
 name_steps before document true line e = rw e refl
 name_steps before document false line e = rw e refl
 
+-- so are the targets
 pub targets_steps : (before : List DocumentFields) (document : OpenDocumentFields) (skipped : Bool) (line : ℕ) → document.targets ≡ None
     → line_step (at_top before document skipped) line targets_line ≡ Ok (at_top before (with_targets document) false)
 unfolding line_step has_barred is_passed is_blank_or_comment unspaced indent top_line entry_at is_key_byte is_tail top_key scalar_value
@@ -79,6 +90,7 @@ unfolding line_step has_barred is_passed is_blank_or_comment unspaced indent top
 targets_steps before document true line e = rw e refl
 targets_steps before document false line e = rw e refl
 
+-- and the version
 pub version_steps : (before : List DocumentFields) (document : OpenDocumentFields) (skipped : Bool) (line : ℕ) → document.version ≡ None
     → line_step (at_top before document skipped) line version_line ≡ Ok (at_top before (with_version document) false)
 unfolding line_step has_barred is_passed is_blank_or_comment unspaced indent top_line entry_at is_key_byte is_tail top_key scalar_value
@@ -107,11 +119,13 @@ unfolding has_barred
 item_text_barred zero text = refl
 item_text_barred (suc n) text = item_text_barred n text
 
+-- such a line is passed over exactly where what stands behind its spaces is nothing or a comment
 pub item_text_passed : (n : ℕ) (text : List ℕ) → prefix_len is_space text ≡ 0
     → is_passed (replicate n space ++ text) ≡ is_blank_or_comment text
 unfolding is_passed unspaced indent
 item_text_passed n text h = rw (spelled_indent n text h, spelled_rest n text) refl
 
+-- and has no dash, if what stands behind its spaces begins with none
 pub no_dash_there : (n : ℕ) (text : List ℕ) → belongs_to_top text ≡ false → has_dash (replicate n space ++ text) ≡ false
 unfolding has_dash indent belongs_to_top
 no_dash_there n text out =
@@ -141,9 +155,11 @@ item_text_steps before document list false line text out clean some below =
     rw (spelled_indent list.column text h, spelled_rest list.column text, no_dash_there list.column text out) (
     rw (eq_false list.column 0 (omega arith), eq_true list.column list.column refl) refl))
 
+-- the item with the targets that were put in
 abbrev pub item_with_targets : ItemListFields → ItemListFields
 item_with_targets list = record list { item = record list.item { targets = Some [] } }
 
+-- the item with the libraries that were put in
 abbrev pub item_with_names : ItemListFields → ItemListFields
 item_with_names list = record list { item = record list.item { names = Some [] } }
 
@@ -163,6 +179,7 @@ unfolding line_step has_barred is_passed is_blank_or_comment unspaced indent top
     names_line list_part token_front behind belongs_to_top has_dash item_key_line first_line key_column item_line
 libraries_key before document list line k e = rw (k, e) refl
 
+-- the targets that lack are read where they are put in
 pub item_targets_step : (before : List DocumentFields) (document : OpenDocumentFields) (list : ItemListFields) (skipped : Bool) (line : ℕ)
     → list.item.targets ≡ None → list.dash < list.column
     → line_step (at_item before document list skipped) line (replicate list.column space ++ targets_line)
@@ -172,6 +189,7 @@ item_targets_step before document list skipped line e below =
     item_text_steps before document list skipped line targets_line refl refl refl below
     ∙ targets_key before document list line e
 
+-- and so are the libraries of an item of libraries
 pub item_libraries_step : (before : List DocumentFields) (document : OpenDocumentFields) (list : ItemListFields) (skipped : Bool)
     (line : ℕ) → list.kind ≡ Libraries → list.item.names ≡ None → list.dash < list.column
     → line_step (at_item before document list skipped) line (replicate list.column space ++ libraries_line)
@@ -183,6 +201,7 @@ item_libraries_step before document list skipped line k e below =
 
 -- ---- the end of a flow list
 
+-- inside a flow list
 abbrev pub in_names : List DocumentFields → OpenDocumentFields → Option ItemListFields → NameListFields → StateFields
 in_names before document list names = record { documents = before; place = Within (stays document list (Names names)) }
 
@@ -198,6 +217,7 @@ closing before document list names AfterOpen line e ne = rw e refl
 closing before document list names AfterComma line e ne = rw e refl
 closing before document list names AfterName line e ne = rw e refl
 
+-- a bracket closes an open list
 pub close_steps : (before : List DocumentFields) (document : OpenDocumentFields) (list : Option ItemListFields) (names : NameListFields)
     (line : ℕ) → names.part.expect ≢ Closed
     → line_step (in_names before document list names) line closing_bracket
@@ -206,9 +226,11 @@ close_steps before document list names line ne = closing before document list na
 
 -- ---- the first item of a list
 
+-- the list of items that a dash at column 0 begins
 abbrev pub begun : ItemKind → ItemListFields
 begun kind = record { kind = kind; items = []; dash = 0; column = 2; item = no_item }
 
+-- where an item must stand, a dash at column 0 begins one
 pub dash_steps : (before : List DocumentFields) (document : OpenDocumentFields) (list : Option ItemListFields) (kind : ItemKind) (at line :
     ℕ)
     → line_step (record { documents = before; place = Within (stays document list (NoItem kind at)) }) line unread_item

@@ -25,13 +25,16 @@ pub record Reached (first : List (List ℕ)) (state : StateFields) : Type 0 wher
   pub good : GoodState state
   pub are : AreLines first
 
+-- a line more
 pub length_more : (first : List (List ℕ)) (text : List ℕ) → length (first ++ text ∷ []) ≡ length first + 1
 length_more [] text = refl
 length_more (other ∷ first) text = ap suc (length_more first text) ∙ omega arith
 
+-- no line leads to the start
 pub reached_start : Reached [] start
 reached_start = record { leads = λ more. refl; good = tt; are = tt }
 
+-- a line more leads to where the step over it does
 pub reached_more : (first : List (List ℕ)) (state next : StateFields) (text : List ℕ) → Reached first state → IsLine text
     → line_step state (length first + 1) text ≡ Ok next → Reached (first ++ text ∷ []) next
 unfolding lines_from
@@ -51,6 +54,7 @@ text_of : (texts : List (List ℕ)) (says : List DocumentFields) → AreLines te
 text_of texts says are e = of_read (joined texts) says
     (lines_found (lines (joined texts)) says (ap (lines_from start 1) (lines_joined texts are) ∙ e))
 
+-- lines that were read without a fault begin a text of the grammar
 pub goes_on : (first : List (List ℕ)) (state : StateFields) → Reached first state → MayBegin first
 goes_on first state r =
     let f = finishes state (length first + 1) r.good in
@@ -64,6 +68,7 @@ goes_on first state r =
       in_grammar = t.1;
     }
 
+-- and a line whose step doesn't fail may stand behind them
 pub may_stand : (first : List (List ℕ)) (state next : StateFields) (text : List ℕ) → Reached first state → IsLine text
     → line_step state (length first + 1) text ≡ Ok next → MayStand first text
 unfolding lines_from

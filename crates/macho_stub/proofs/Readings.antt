@@ -45,6 +45,7 @@ abbrev pub entry_then : ℕ → ItemEntry → List ReadLine → List ReadLine
 entry_then column entry rest = record { number = entry.number; text = replicate column space ++ entry.head } ∷
     (entry.more ++ rest)
 
+-- the lines of entries in front of others
 abbrev pub entries_then : ℕ → List ItemEntry → List ReadLine → List ReadLine
 entries_then column [] rest = rest
 entries_then column (entry ∷ entries) rest = entry_then column entry (entries_then column entries rest)
@@ -74,6 +75,7 @@ pub record IsItemEntry (kind : ItemKind) (column : ℕ) (entry : ItemEntry) (old
   pub key : entry_at entry.number entry.head ≡ Ok said
   pub value : ItemValue column (item_key kind said.key) said.value entry old new
 
+-- entries one after the other
 abbrev pub ItemEntries : ItemKind → ℕ → List ItemEntry → OpenItemFields → OpenItemFields → Type 0
 ItemEntries kind column [] old new = new ≡ old
 ItemEntries kind column (entry ∷ entries) old new = (mid : OpenItemFields) × IsItemEntry kind column entry old mid
@@ -99,6 +101,7 @@ item_then at tree rest =
     }
     ∷ (tree.first.more ++ entries_then (column_of at tree) tree.others rest)
 
+-- the lines of items in front of others
 abbrev pub items_then : ℕ → List ItemTree → List ReadLine → List ReadLine
 items_then at [] rest = rest
 items_then at (tree ∷ trees) rest = item_then at tree (items_then at trees rest)
@@ -110,6 +113,7 @@ pub record IsItem (line : ℕ) (kind : ItemKind) (at : ℕ) (tree : ItemTree) (s
   pub entries : ItemEntries kind (column_of at tree) (tree.first ∷ tree.others) no_item read
   pub whole : whole_item line kind read ≡ Ok says
 
+-- items one after the other, and what each says
 abbrev pub AreItems : ℕ → ItemKind → ℕ → List ItemTree → List ItemFields → Type 0
 AreItems line kind at [] [] = Unit {0}
 AreItems line kind at [] (one ∷ says) = ⊥
@@ -123,6 +127,7 @@ pub data Under : Type 0 where
   Plain : List ReadLine → Under
   Listed : ℕ → List ItemTree → Under
 
+-- its lines in front of others
 abbrev pub under_then : Under → List ReadLine → List ReadLine
 under_then (Plain more) rest = more ++ rest
 under_then (Listed at trees) rest = items_then at trees rest
@@ -133,6 +138,7 @@ pub record TopEntry : Type 0 where
   pub head : List ℕ
   pub under : Under
 
+-- the lines of entries in front of others
 abbrev pub top_entries_then : List TopEntry → List ReadLine → List ReadLine
 top_entries_then [] rest = rest
 top_entries_then (entry ∷ entries) rest = record { number = entry.number; text = entry.head } ∷ under_then entry.under
@@ -180,6 +186,7 @@ pub record IsTopEntry (entry : TopEntry) (old new : OpenDocumentFields) : Type 0
   pub key : entry_at entry.number entry.head ≡ Ok said
   pub value : TopValue (top_key said.key) said.value entry old new
 
+-- entries of a document one after the other
 abbrev pub TopEntries : List TopEntry → OpenDocumentFields → OpenDocumentFields → Type 0
 TopEntries [] old new = new ≡ old
 TopEntries (entry ∷ entries) old new = (mid : OpenDocumentFields) × IsTopEntry entry old mid
@@ -191,10 +198,12 @@ pub record DocumentTree : Type 0 where
   pub entries : List TopEntry
   pub ended_at : Option ℕ
 
+-- the line of an end, if there is one, in front of others
 abbrev pub end_then : Option ℕ → List ReadLine → List ReadLine
 end_then None rest = rest
 end_then (Some number) rest = record { number = number; text = end } ∷ rest
 
+-- the lines of documents
 abbrev pub documents_then : List DocumentTree → List ReadLine
 documents_then [] = []
 documents_then (tree ∷ trees) = record { number = tree.number; text = head } ∷ top_entries_then tree.entries
@@ -206,6 +215,7 @@ pub record IsDocument (tree : DocumentTree) (says : DocumentFields) : Type 0 whe
   pub entries : TopEntries tree.entries (head_at tree.number) read
   pub whole : whole_document read ≡ Ok says
 
+-- documents one after the other, and what each says
 abbrev pub AreDocuments : List DocumentTree → List DocumentFields → Type 0
 AreDocuments [] [] = Unit {0}
 AreDocuments [] (one ∷ says) = ⊥

@@ -1,5 +1,8 @@
 -- What lines must be that finish a text from where the reading stands: trees for what is still open there, and
 -- documents behind them. Each relation says which documents the text then has, `total`, behind those `before`.
+-- There is one for each place of the reading: outside documents, where a key of a document or of an item may stand, in a
+-- skipped value, in a flow list, and where an item must stand. Each has the trees of what is open up to its end, and hands the
+-- lines behind that, its `tail`, to the relation of the place that the reading comes to there.
 use Rattle.std.proofs.Common.{◌≡◌, ◌≢◌, ℕ, true, List, [], ◌∷◌, ◌++◌, Option, Some, None, Ok}
 use Rattle.std.specs.List.{AllByRecursion}
 use Rattle.macho_stub_lines.specs.declared.keys.ItemKind.{ItemKind}
@@ -29,8 +32,8 @@ pub record RestOutside (before : List DocumentFields) (rest : List ReadLine) (to
   pub all : total ≡ before ++ says
 
 -- inside a document, where a key of its own may stand
-pub record RestTop (before : List DocumentFields) (document : OpenDocumentFields) (rest : List ReadLine) (total : List DocumentFields) : Type
-    0 where
+pub record RestTop (before : List DocumentFields) (document : OpenDocumentFields) (rest : List ReadLine)
+    (total : List DocumentFields) : Type 0 where
   pub entries : List TopEntry
   pub after : OpenDocumentFields
   pub ended_at : Option ℕ
@@ -108,9 +111,11 @@ RestMode before document list (Names names) rest total = names.part.expect ≢ C
     → RestNames before document list names.key names.part rest total
 RestMode before document list (NoItem kind line) rest total = (at : ℕ) × RestItems before document kind [] at rest total
 
+-- the same from inside a document
 abbrev pub RestInside : List DocumentFields → InsideFields → List ReadLine → List DocumentFields → Type 0
 RestInside before inside rest total = RestMode before inside.document inside.list inside.mode rest total
 
+-- lines that finish the text from a place
 abbrev pub Rest : List DocumentFields → PlaceFields → List ReadLine → List DocumentFields → Type 0
 Rest before Outside rest total = RestOutside before rest total
 Rest before (Within inside) rest total = RestInside before inside rest total

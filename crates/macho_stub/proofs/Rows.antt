@@ -99,6 +99,7 @@ item_says = record {
   weak_names = [];
 }
 
+-- what the document of the text says
 abbrev pub small_says : DocumentOf Slice
 small_says = record {
   line = 1;

@@ -14,6 +14,7 @@ use Rattle.macho_stub.specs.Library.{LibraryFields, has_target}
 use Rattle.macho_stub.specs.Checks.{library_of, checked_documents, checked_document, checked_main, is_listed, same_document, same_items, same_item, same_names, all_same, gathered_texts}
 use Rattle.macho_stub.specs.Answer.{answer_of}
 
+-- the documents that are read of a text
 unfoldable pub documents_opened : List ℕ → Reading (List DocumentFields)
 unfolding documents_of lines_from line_step item_line items_with_last top_line with_whole first_line key_column
     item_key_line skipped_value names_value names_line belongs_to_top has_dash whole_item whole_document entry_at
@@ -22,6 +23,7 @@ unfolding documents_of lines_from line_step item_line items_with_last top_line w
     is_tail has_barred
 documents_opened text = documents_of text
 
+-- and the answer
 unfoldable pub answer_opened : List ℕ → Reading LibraryFields
 unfolding documents_opened answer_of library_of checked_documents checked_document checked_main is_listed
     same_document same_items same_item same_names all_same gathered_texts has_target

@@ -1,5 +1,8 @@
--- The tests that are computed decide the rules: each says yes exactly where its rule holds. So the documents make
--- a library exactly where it is computed, and the fault that is computed is the one that is told.
+-- The tests that are computed decide the rules: each says yes exactly where its rule holds.
+-- A name is sought by comparing it with each other one, and names are compared byte by byte, so a name that is found is among
+-- them, and the other way round. Two documents say the same where each of their parts is the same, and lists are the same
+-- where they are as long and the same place by place (`all_same_is`); so the test on documents is a row of tests that are
+-- right one by one (`document_same`, `document_test`).
 use Rattle.std.proofs.Common.{◌≡◌, ℕ, ◌&&◌, ◌||◌, Bool, true, false, List, [], ◌∷◌, refl, ap, ◌∙◌, ◌⊎◌, inl, inr}
 use Rattle.std.proofs.lemmas.Bool.{and_parts}
 use Rattle.std.specs.List.{list_any}
@@ -19,6 +22,7 @@ or_right : (b : Bool) {r : Bool} → r ≡ true → (b || r) ≡ true
 or_right true h = refl
 or_right false h = h
 
+-- a test doesn't answer both
 pub clash : (b : Bool) → b ≡ true → b ≡ false → ⊥
 clash b h k = cc
 
@@ -36,14 +40,17 @@ among_back name [] h = absurd h
 among_back name (other ∷ names) (inl e) = ap (λ b. b || list_any (λ o. bytes_eq o name) names) (bytes_same other name e)
 among_back name (other ∷ names) (inr h) = or_right (bytes_eq other name) (among_back name names h)
 
+-- targets that pass the test have the target
 pub target_held : (targets : List (List ℕ)) → has_target targets ≡ true → Among target targets
 unfolding has_target
 target_held targets h = among target targets h
 
+-- and targets that have it pass
 pub target_test : (targets : List (List ℕ)) → Among target targets → has_target targets ≡ true
 unfolding has_target
 target_test targets h = among_back target targets h
 
+-- a name that passes the test is listed
 pub listed : (name : List ℕ) (items : List ItemFields) → is_listed name items ≡ true → IsListed name items
 unfolding is_listed
 listed name [] h = absurd cc
@@ -54,6 +61,7 @@ listed name (item ∷ items) h = by_first (list_any (λ o. bytes_eq o name) item
     by_first true e ih k = inl (among name item.names e)
     by_first false e ih k = inr (ih k)
 
+-- and a listed name passes
 pub listed_back : (name : List ℕ) (items : List ItemFields) → IsListed name items → is_listed name items ≡ true
 unfolding is_listed
 listed_back name [] h = absurd h
@@ -108,6 +116,7 @@ items_refl : (xs : List ItemFields) → same_items xs xs ≡ true
 unfolding same_items
 items_refl xs = all_same_refl same_item item_refl xs
 
+-- documents that pass the test say the same
 pub document_same : (a b : DocumentFields) → same_document a b ≡ true → SaySame a b
 unfolding same_document
 document_same a b h =
@@ -137,6 +146,7 @@ document_same a b h =
     ∙ ap (λ x. record b { line = a.line; exports = x; reexports = a.reexports }) e
     ∙ ap (λ x. record b { line = a.line; reexports = x }) r
 
+-- and those that say the same pass
 pub document_test : (a b : DocumentFields) → SaySame a b → same_document a b ≡ true
 unfolding same_document
 document_test a b is =

@@ -1,4 +1,8 @@
--- The documents make a library exactly where it is computed, and the fault that is computed is the one that is told.
+-- The documents make a library exactly where it is computed.
+-- The computing is a chain of choices by tests and of steps. Where it gives a library, each test answered as its rule says
+-- (`Ruled`), so the main library and each document are sound, and what is given is what they make (`library_made`). The other
+-- way, where the rules hold each test answers so, and the chain computes to the library (`library_back`). What a chain tells
+-- that fails is taken apart here too (`bind_err`, `main_steps`), for the faults (`Told`).
 use Rattle.std.proofs.Common.{◌≡◌, ◌≢◌, ℕ, ◌≤◌, ◌||◌, not, Bool, true, false, cond, eqb, List, [], ◌∷◌, length, Ok, Err, refl, sym, ap, ◌∙◌, arith, ◌⊎◌, inl, inr, subst}
 use Rattle.std.proofs.lemmas.List.{nil_from_length}
 use Rattle.std.proofs.lemmas.Bool.{not-true, not-false}
@@ -21,6 +25,7 @@ use Rattle.macho_stub.proofs.Ruled.{clash, target_held, target_test, listed, lis
 abbrev pub failed : {A : Type 0} → Fault → Reading A
 failed fault = Err fault
 
+-- a reading that failed has one fault
 pub same_err : {A : Type 0} (d e : Fault) → failed {A = A} d ≡ failed e → d ≡ e
 same_err d e h = cc
 
@@ -54,6 +59,7 @@ same_told {A} l m r s e = let f = same_err {A = A} (record { line = l; rule = r 
 empty_length : (xs : List ℕ) → length xs ≢ 0 → xs ≢ []
 empty_length xs ne = λ e. ne (ap length e)
 
+-- a text that isn't empty has a byte
 pub some_length : (xs : List ℕ) → xs ≢ [] → length xs ≢ 0
 some_length xs ne = λ e. ne (nil_from_length xs e)
 
@@ -95,6 +101,7 @@ main_steps main r e =
       )
     ]
 
+-- a main library that passes the tests is sound
 pub main_sound : (main : DocumentFields) (u : Unit {0}) → checked_main main ≡ Ok u → IsSoundMain main
 main_sound main u e =
     elim (main_steps main (Ok u) e) [
@@ -106,6 +113,7 @@ main_sound main u e =
       ]
     ]
 
+-- and a sound one passes
 pub main_back : (main : DocumentFields) → IsSoundMain main → checked_main main ≡ Ok tt
 unfolding checked_main
 main_back main s =
@@ -118,6 +126,7 @@ main_back main s =
 
 -- ---- each document
 
+-- a document that passes the tests is sound
 pub document_sound : (main document : DocumentFields) (u : Unit {0}) → checked_document main document ≡ Ok u
     → IsSoundDocument main document
 unfolding checked_document
@@ -135,6 +144,7 @@ document_sound main document u e =
       | inr d ↦ absurd (no_ok document.line S9 u d.1)
     ]
 
+-- and a sound one passes
 pub document_back : (main document : DocumentFields) → IsSoundDocument main document → checked_document main document ≡ Ok tt
 unfolding checked_document
 document_back main document s =
@@ -163,6 +173,7 @@ documents_back main (document ∷ documents) all =
 
 -- ---- the library
 
+-- the library of these documents
 abbrev pub made : DocumentFields → List DocumentFields → LibraryFields
 made main documents = record {
   install_name = main.install_name;
@@ -172,6 +183,7 @@ made main documents = record {
   weak_symbols = gathered_texts true documents;
 }
 
+-- a library that is computed is what the documents make
 pub library_made : (documents : List DocumentFields) (library : LibraryFields) → library_of documents ≡ Ok library
     → MakesOfTexts documents library
 unfolding library_of
@@ -200,6 +212,7 @@ made_back main others sound each =
     (main_back main sound)
     ∙ ap (λ (reading : Reading (Unit {0})). reading >>= λ _. Ok (made main (main ∷ others))) (documents_back main (main ∷ others) each)
 
+-- and what they make is computed
 pub library_back : (documents : List DocumentFields) (library : LibraryFields) → MakesOfTexts documents library → library_of documents
     ≡ Ok library
 library_back documents library m =

@@ -1,5 +1,8 @@
 -- Lists that are compared place by place, and names that are sought, as loops do: what is left behind i places
 -- that agree gives the whole answer, and one place that differs, or one name that is found, settles it.
+-- The loop is at some place i, with an invariant on what is left from there on. The lemmas are its step, where the two
+-- elements agree or a name isn't the one that is sought, and its ways out: a place that differs, a name that is found, and
+-- the end of the lists, which are as long. They are by recursion on the lists and the place together.
 use Rattle.std.proofs.Common.{◌≡◌, ℕ, zero, suc, ◌<◌, ◌≤◌, Bool, true, false, ◌&&◌, ◌||◌, not, List, [], ◌∷◌, length, get_or, drop, map, refl, sym, ap, ◌∙◌, arith}
 use Rattle.std.specs.List.{list_any}
 use Rattle.macho_stub.specs.Checks.{all_same}
@@ -83,6 +86,7 @@ pub not_true : (b : Bool) → true ≡ not b → b ≡ false
 not_true true h = absurd cc
 not_true false h = refl
 
+-- and where the negation is false
 pub not_false : (b : Bool) → false ≡ not b → b ≡ true
 not_false true h = refl
 not_false false h = absurd cc

@@ -41,6 +41,7 @@ pub record Known (first : List (List ℕ)) (state : StateFields) : Type 0 where
   pub heads : HeadsAt first state.place
   pub lists : ListsAt first state.place
 
+-- what is known at the start
 pub known_start : Known [] start
 known_start = record { reached = reached_start; heads = tt; lists = tt }
 
@@ -115,8 +116,10 @@ closing_stands first before document list names r = may_stand first _ _ closing_
 bracket_at_top : (before : List DocumentFields) (document whole : OpenDocumentFields) (list : Option ItemListFields) (skipped : Bool)
     (line : ℕ) → Closes list document whole → line_step (keys_state before document list skipped) line closing_bracket ≡ outside line
 unfolding has_barred is_passed is_blank_or_comment unspaced indent belongs_to_top top_line entry_at is_key_byte
-bracket_at_top before document whole list skipped line c = top_steps before document whole list skipped line closing_bracket c refl refl refl
+bracket_at_top before document whole list skipped line c =
+    top_steps before document whole list skipped line closing_bracket c refl refl refl
 
+-- where keys may stand, no bracket may
 pub no_bracket_at_keys : (first : List (List ℕ)) (before : List DocumentFields) (document : OpenDocumentFields) (list : Option
     ItemListFields)
     (skipped : Bool) → Reached first (keys_state before document list skipped) → MayStand first closing_bracket → ⊥
@@ -131,6 +134,7 @@ no_bracket_at_keys first before document (Some list) skipped r m = by_items (ite
     by_items (Err fault) e = refused first _ closing_bracket fault.line fault.rule r
         (lacking_steps before document list skipped (length first + 1) closing_bracket fault.line fault.rule e refl refl refl) m
 
+-- nor where an item must stand
 pub no_bracket_at_item : (first : List (List ℕ)) (before : List DocumentFields) (document : OpenDocumentFields) (list : Option
     ItemListFields)
     (kind : ItemKind) (at : ℕ) → Reached first (record { documents = before; place = Within (stays document list (NoItem kind at)) })
@@ -140,6 +144,7 @@ no_bracket_at_item first before document list kind at r m = refused first _ clos
 
 -- ---- keys of items
 
+-- there an item may stand
 pub item_stands : (first : List (List ℕ)) (before : List DocumentFields) (document : OpenDocumentFields) (list : Option ItemListFields)
     (kind : ItemKind) (at : ℕ) → Reached first (record { documents = before; place = Within (stays document list (NoItem kind at)) })
     → MayStand first unread_item
@@ -292,6 +297,7 @@ place_more first before Outside next text p k r e =
 place_more first before (Within inside) next text p k r e = inside_more first before inside.document inside.list inside.mode next text p k
     r e
 
+-- a line more keeps what is known
 pub known_more : (first : List (List ℕ)) (state next : StateFields) (text : List ℕ) → Known first state → IsLine text
     → line_step state (length first + 1) text ≡ Ok next → Known (first ++ text ∷ []) next
 known_more first state next text k l e =

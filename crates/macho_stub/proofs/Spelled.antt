@@ -1,5 +1,8 @@
 -- How a line is spelled: its first spaces and the rest; of a line with a dash, the spaces, the dash, the spaces
 -- behind it, of which there are some, and the rest.
+-- The longest run of spaces in front is a row of spaces, and dropping it leaves the rest (`spaces_then`). Of a line with a
+-- dash the rest begins with the dash and a space, so that behind the dash there is again such a run, of one or more; and
+-- the key's column is counted over all of these.
 use Rattle.std.proofs.Common.{◌≡◌, ℕ, suc, ◌+◌, ◌<◌, Bool, true, false, cond, List, [], ◌∷◌, ◌++◌, length, get_or, drop, replicate, refl, sym, ap, ◌∙◌, arith, add-one, inl, inr}
 use Rattle.std.specs.List.{prefix_len}
 use Rattle.std.proofs.lemmas.Bool.{cases_lt}
@@ -22,6 +25,7 @@ spaces_then (b ∷ line) = by_first (spaces_then line) (is_space b) refl
     by_first ih true e = rw one-add (ap (λ c. c ∷ line) (eq_at b space e) ∙ ap (λ (more : List ℕ). space ∷ more) ih)
     by_first ih false e = refl
 
+-- a line is its spaces in front, and the rest
 pub spelled_unspaced : (line : List ℕ) → line ≡ replicate (indent line) space ++ unspaced line
 unfolding indent unspaced
 spelled_unspaced line = spaces_then line
@@ -46,6 +50,7 @@ dash_and_space : (line : List ℕ) → has_dash line ≡ true → (get_or line (
 unfolding has_dash
 dash_and_space line h = (grind (arith, nat_tests), grind (arith, nat_tests))
 
+-- a line with a dash is spelled so
 pub spelled_dash : (line : List ℕ) → has_dash line ≡ true → SpelledDash line
 unfolding key_column indent
 spelled_dash line h =

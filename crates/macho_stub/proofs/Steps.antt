@@ -1,5 +1,9 @@
 -- Steps over lines that are known in part: a line at column 0 behind the keys of an item or a document, and a line in
 -- the column of an item's keys.
+-- A line at column 0 that has content and belongs to no skipped value closes the item that is read, if there is one; where
+-- this lacks no key, the line is one of the document with the item in it (`Closes`, `top_steps`), and where it does, the line
+-- is refused for it. So a key that isn't read is passed there, and a head or an end is refused exactly as the document that
+-- it closes is.
 use Rattle.std.proofs.Common.{◌≡◌, ℕ, ◌&&◌, Bool, true, false, cond, eqb, List, Option, Some, None, Ok, refl, ◌∙◌, arith}
 use Rattle.macho_stub_lines.specs.declared.fault.StubRule.{StubRule}
 use Rattle.macho_stub_lines.specs.Bytes.{indent, unspaced, is_passed, has_barred, is_blank_or_comment, is_key_byte, is_tail, head, end, has_dash, belongs_to_top}
@@ -23,6 +27,7 @@ Closes (Some list) document whole = (items : List ItemFields) × (items_with_las
 abbrev pub keys_state : List DocumentFields → OpenDocumentFields → Option ItemListFields → Bool → StateFields
 keys_state before document list skipped = record { documents = before; place = Within (stays document list (mode_at skipped)) }
 
+-- a line at column 0 is read as one of the document with its last item in it
 pub top_steps : (before : List DocumentFields) (document whole : OpenDocumentFields) (list : Option ItemListFields) (skipped : Bool)
     (line : ℕ) (text : List ℕ) → Closes list document whole → has_barred text ≡ false → is_passed text ≡ false
     → belongs_to_top text ≡ false
@@ -56,6 +61,7 @@ lacking_steps before document list false line text at rule e clean some zero =
 
 -- ---- a key that isn't read, a head and an end
 
+-- a key that isn't read is read there, and its value is skipped
 pub spare_at_top : (before : List DocumentFields) (document whole : OpenDocumentFields) (list : Option ItemListFields) (skipped : Bool)
     (line : ℕ) → Closes list document whole
     → line_step (keys_state before document list skipped) line unread_key ≡ Ok (at_top before whole true)
@@ -63,6 +69,7 @@ unfolding has_barred is_passed is_blank_or_comment unspaced indent belongs_to_to
     skipped_value
 spare_at_top before document whole list skipped line c = top_steps before document whole list skipped line unread_key c refl refl refl
 
+-- a head is refused where the document lacks a key
 pub head_at_top : (before : List DocumentFields) (document whole : OpenDocumentFields) (list : Option ItemListFields) (skipped : Bool)
     (line at : ℕ) (rule : StubRule) → Closes list document whole → with_whole before whole ≡ broken at rule
     → line_step (keys_state before document list skipped) line head ≡ broken at rule
@@ -70,6 +77,7 @@ unfolding has_barred is_passed is_blank_or_comment unspaced indent belongs_to_to
 head_at_top before document whole list skipped line at rule c e =
     top_steps before document whole list skipped line head c refl refl refl ∙ rw e refl
 
+-- and so is an end
 pub end_at_top : (before : List DocumentFields) (document whole : OpenDocumentFields) (list : Option ItemListFields) (skipped : Bool)
     (line at : ℕ) (rule : StubRule) → Closes list document whole → with_whole before whole ≡ broken at rule
     → line_step (keys_state before document list skipped) line end ≡ broken at rule

@@ -110,6 +110,7 @@ stop_of first state (text ∷ texts) at rule k l e =
           (stop_of more b.0 texts at rule next l.1 (ap (λ m. lines_from b.0 m texts) (sym count) ∙ b.2))
     ]
 
+-- A rule that is told of the documents of a text is where the text breaks off.
 pub breaks_off : (text : List ℕ) (line : ℕ) (rule : StubRule) → documents_of text ≡ broken line rule → BreaksOff text line rule
 unfolding documents_of
 breaks_off text line rule e =

@@ -1,5 +1,8 @@
 -- The fault that is computed of what documents say is the one that is told: the tests are made in the order of the
 -- rules, and each that comes later is made only where the earlier ones hold.
+-- So where a test fails, what is told has the tests before it on its side, and that this one doesn't hold (`main_told`,
+-- `document_told`). The documents are judged one after the other: where one is refused, those before it are sound, so it is
+-- the first that isn't (`documents_told`). A fault has one line and one rule, so the rule that is told is that test's.
 use Rattle.std.proofs.Common.{◌≡◌, ◌≢◌, ℕ, ◌<◌, ◌||◌, not, Bool, true, false, cond, List, [], ◌∷◌, length, Ok, refl, sym, ap, arith, ◌⊎◌, inl, inr, subst}
 use Rattle.std.proofs.lemmas.Bool.{not-true, not-false, or_parts}
 use Rattle.std.specs.Str.{bytes_eq}
@@ -104,6 +107,7 @@ documents_told main (document ∷ documents) line rule e =
 
 -- ---- all documents
 
+-- The rule that is computed of documents is the one that is told.
 pub library_told : (documents : List DocumentFields) (line : ℕ) (rule : StubRule) → library_of documents ≡ broken line rule
     → IsTold rule line documents
 unfolding library_of

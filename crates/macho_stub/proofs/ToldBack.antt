@@ -1,5 +1,8 @@
 -- The fault that is told of what documents say is the one that is computed: each test answers by its rule, and the
 -- tests before it pass.
+-- What is told of a rule says that the earlier rules hold and this one doesn't. So the tests of the earlier ones pass
+-- (`Ruled`), the test of this one fails, and the chain of tests computes to the fault; for a rule on each document, those
+-- before the one that is told are sound, and are passed.
 use Rattle.std.proofs.Common.{◌≡◌, ◌≢◌, ℕ, ◌<◌, true, false, cond, List, [], ◌∷◌, ◌++◌, length, Ok, refl, sym, ap, ◌∙◌, arith}
 use Rattle.std.proofs.lemmas.Bool.{false_from_ne_true}
 use Rattle.std.specs.Str.{bytes_eq}
@@ -109,6 +112,7 @@ told_of S8 line main others t = by_main main others line S8 t.0
     (main_libraries main t.1 t.2 ∙ other_target main.line t.3 main.libraries t.4 t.5)
 told_of S9 line main others t = by_document main others t.1 line S9 t.0 t.2 t.3 (not_listed main t.1 t.4 t.5 t.6)
 
+-- The rule that is told of documents is computed.
 pub told_back : (documents : List DocumentFields) (rule : StubRule) (line : ℕ) → IsTold rule line documents
     → library_of documents ≡ broken line rule
 unfolding library_of

@@ -1,5 +1,8 @@
 -- What is known in slices, with their texts alone. Each step that adds to what is known of an item or of a document, and
 -- each test of it, is the same on texts; so what is whole in slices is whole in texts, and the other way round.
+-- Whether a key stood before is whether something is known under it, in slices as in texts; adding to what is known puts the
+-- texts where the slices go. An item or a document is whole where each key that it must have is known; so from the texts of
+-- what is known the slices are found again, key by key (`whole_item_found`, `whole_document_found`).
 use Rattle.std.proofs.Common.{◌≡◌, ℕ, List, [], Option, Some, None, Ok, map, refl, sym, ap, ◌∙◌}
 use Rattle.std.specs.Prelude.{is_some, unwrap_or}
 use Rattle.std.specs.Option.{option_map}
@@ -16,6 +19,7 @@ use Rattle.macho_stub.specs.Grammar.{no_text}
 use Rattle.macho_stub.proofs.Folded.{IsWholeItem, AreNamesOf, IsWholeDocument}
 use Rattle.macho_stub_lines.proofs.Bind.{bind_ok, same_ok, no_ok}
 
+-- the texts of items
 abbrev pub items_texts : List (ItemOf Slice) → List ItemFields
 items_texts items = map item_texts items
 
@@ -27,6 +31,7 @@ open_item_texts item = record {
   weak_names = option_map texts_of item.weak_names;
 }
 
+-- the texts of what is known of a document
 abbrev pub open_texts : OpenDocumentOf Slice → OpenDocumentFields
 open_texts document = record {
   line = document.line;
@@ -41,16 +46,19 @@ open_texts document = record {
 
 -- ---- tests and steps
 
+-- something is known in texts exactly where it is in slices
 pub is_some_texts : {A B : Type 0} (f : A → B) (x : Option A) → is_some (option_map f x) ≡ is_some x
 is_some_texts f None = refl
 is_some_texts f (Some x) = refl
 
+-- a key stood before, or didn't, alike in slices and in texts
 pub has_key_texts : (key : ItemKey) (item : OpenItemOf Slice) → has_key key (open_item_texts item) ≡ has_key key item
 has_key_texts Targets item = is_some_texts texts_of item.targets
 has_key_texts Names item = is_some_texts texts_of item.names
 has_key_texts WeakNames item = is_some_texts texts_of item.weak_names
 has_key_texts Unread item = refl
 
+-- a key of an item adds alike to slices and to texts
 pub with_key_texts : (key : ItemKey) (names : List Slice) (item : OpenItemOf Slice)
     → open_item_texts (with_key key names item) ≡ with_key key (texts_of names) (open_item_texts item)
 with_key_texts Targets names item = refl
@@ -58,11 +66,13 @@ with_key_texts Names names item = refl
 with_key_texts WeakNames names item = refl
 with_key_texts Unread names item = refl
 
+-- items stood before, or didn't, alike in both
 pub has_items_texts : (kind : ItemKind) (document : OpenDocumentOf Slice) → has_items kind (open_texts document) ≡ has_items kind document
 has_items_texts Libraries document = is_some_texts items_texts document.libraries
 has_items_texts Exports document = is_some_texts items_texts document.exports
 has_items_texts Reexports document = is_some_texts items_texts document.reexports
 
+-- items add alike to both
 pub with_items_texts : (kind : ItemKind) (items : List (ItemOf Slice)) (document : OpenDocumentOf Slice)
     → open_texts (with_items kind items document) ≡ with_items kind (items_texts items) (open_texts document)
 with_items_texts Libraries items document = refl
@@ -121,6 +131,7 @@ names_found line Libraries read texts e = some_targets line read texts e
 names_found line Exports read texts e = (unwrap_or read [], refl, unwrap_texts read ∙ same_ok _ _ e)
 names_found line Reexports read texts e = (unwrap_or read [], refl, unwrap_texts read ∙ same_ok _ _ e)
 
+-- an item that is whole in texts is whole in slices
 pub whole_item_found : (line : ℕ) (kind : ItemKind) (read : OpenItemOf Slice) (texts : ItemFields)
     → whole_item line kind (open_item_texts read) ≡ Ok texts → WholeItem kind read texts
 unfolding whole_item

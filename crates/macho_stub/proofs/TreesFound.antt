@@ -34,7 +34,9 @@ pub record FirstLine (lines : List Line) (first : ReadLine) (rest : List ReadLin
   pub text : line.text ≡ first.text
   pub same : read_lines left ≡ rest
 
-pub first_line : (lines : List Line) (first : ReadLine) (rest : List ReadLine) → read_lines lines ≡ first ∷ rest → FirstLine lines first rest
+-- lines that read with a first line have such a line in front
+pub first_line : (lines : List Line) (first : ReadLine) (rest : List ReadLine) → read_lines lines ≡ first ∷ rest
+    → FirstLine lines first rest
 first_line [] first rest e = absurd cc
 first_line (line ∷ left) first rest e =
     let here : read_line line ≡ first = cc in
@@ -62,6 +64,7 @@ read_as number text = record { number = number; text = text }
 same_line : (m n : ℕ) (s t : List ℕ) → m ≡ n → s ≡ t → read_as m s ≡ read_as n t
 same_line m n s t p q = ap (λ k. read_as k s) p ∙ ap (read_as n) q
 
+-- and lines that read with a front have such a front
 pub front_lines : (lines : List Line) (front rest : List ReadLine) → read_lines lines ≡ front ++ rest → FrontLines lines front rest
 front_lines lines [] rest e = record { more = []; left = lines; parts = refl; are = refl; same = e }
 front_lines lines (first ∷ front) rest e =
@@ -78,6 +81,7 @@ front_lines lines (first ∷ front) rest e =
 
 -- ---- skipped values
 
+-- a value that is skipped as it is read is skipped in the grammar
 pub skipped_found : (belongs : List ℕ → Bool) (number at : ℕ) (value : List ℕ) (more : List Line)
     → read.IsSkipped belongs number value (read_lines more) → IsSkipped belongs at value more
 skipped_found belongs number at value more (inl l) = let f = list_found number at value more l.0 l.1 in inl (f.0, f.1)
@@ -251,7 +255,8 @@ item_found line kind dash_column tree texts lines rest i l =
     }
 
 -- items with their dashes in one column, in front of what is left
-pub record FoundItems (kind : ItemKind) (dash_column : ℕ) (lines : List Line) (rest : List ReadLine) (texts : List ItemFields) : Type 0 where
+pub record FoundItems (kind : ItemKind) (dash_column : ℕ) (lines : List Line) (rest : List ReadLine) (texts : List ItemFields)
+    : Type 0 where
   pub trees : List ItemTree
   pub left : List Line
   pub parts : lines ≡ items_then dash_column trees left
@@ -260,6 +265,7 @@ pub record FoundItems (kind : ItemKind) (dash_column : ℕ) (lines : List Line) 
   pub are_items : AreItems kind dash_column trees says
   pub are : items_texts says ≡ texts
 
+-- items that are read are items of the grammar, in front of what is left
 pub items_found : (line : ℕ) (kind : ItemKind) (dash_column : ℕ) (trees : List read.ItemTree) (texts : List ItemFields)
     (lines : List Line) (rest : List ReadLine) → read.AreItems line kind dash_column trees texts
     → read_lines lines ≡ read.items_then dash_column trees rest → FoundItems kind dash_column lines rest texts

@@ -1,5 +1,8 @@
 -- What is read is in the grammar: entries of documents, and documents. As for items (`TreesFound`): from the front of the
 -- lines on, each tree is built from the one that is read and from what stands on its lines.
+-- What stands under a key is by the key: nothing under a number or a scalar, lines of a flow list or of a skipped value, or
+-- items (`under_found`). Entry by entry, the lines that follow are left for the next; behind the entries stands the end of
+-- the document, if there is one, and then the next document's head.
 use Rattle.std.proofs.Common.{◌≡◌, ℕ, List, [], ◌∷◌, length, Option, Some, None, refl, sym, ap, ◌∙◌, subst}
 use Rattle.std.proofs.lemmas.List.{nil_from_length}
 use Rattle.macho_stub_lines.specs.declared.keys.TopKey.{TopKey}
@@ -102,7 +105,13 @@ under_found (top.Items kind) number at tree (read.Listed dash_column (one ∷ ot
       parts = i.parts;
       same = i.same;
       after = with_items kind i.says old;
-      is = (sym (has_items_texts kind old) ∙ v.0, nil_from_length (value_of tree) v.1, i.says, some_items i.trees i.says i.are_items i.are, refl);
+      is = (
+        sym (has_items_texts kind old) ∙ v.0,
+        nil_from_length (value_of tree) v.1,
+        i.says,
+        some_items i.trees i.says i.are_items i.are,
+        refl,
+      );
       texts = with_items_texts kind i.says old ∙ ap (λ items. with_items kind items (open_texts old)) i.are ∙ sym v.4;
     }
   where
@@ -179,7 +188,8 @@ record FoundEnd (lines : List Line) (rest : List ReadLine) : Type 0 where
   parts : lines ≡ end_then ended left
   same : read_lines left ≡ rest
 
-end_found : (ended : Option ℕ) (lines : List Line) (rest : List ReadLine) → read_lines lines ≡ read.end_then ended rest → FoundEnd lines rest
+end_found : (ended : Option ℕ) (lines : List Line) (rest : List ReadLine) → read_lines lines ≡ read.end_then ended rest
+    → FoundEnd lines rest
 end_found None lines rest l = record { ended = None; left = lines; parts = refl; same = l }
 end_found (Some number) lines rest l =
     let f = first_line lines (record { number = number; text = end }) rest l in
@@ -194,6 +204,7 @@ pub record FoundDocuments (lines : List Line) (texts : List DocumentFields) : Ty
   pub are_documents : AreDocuments trees says
   pub are : documents_texts says ≡ texts
 
+-- Documents that are read are documents of the grammar.
 pub documents_found : (trees : List read.DocumentTree) (texts : List DocumentFields) (lines : List Line)
     → read.AreDocuments trees texts → read_lines lines ≡ read.documents_then trees → FoundDocuments lines texts
 documents_found [] [] lines a l = record { trees = []; parts = no_lines lines l; says = []; are_documents = tt; are = refl }

@@ -27,11 +27,13 @@ use Rattle.macho_stub_lines.proofs.NumberTrees.{number_reads}
 use Rattle.macho_stub_lines.proofs.EntryTrees.{entry_reads}
 use Rattle.macho_stub_lines.proofs.ListTrees.{list_reads}
 
+-- lines by their numbers and texts
 abbrev pub read_lines : List Line → List ReadLine
 read_lines lines = map read_line lines
 
 -- ---- trees without places
 
+-- an entry without its place
 abbrev pub read_item_entry : ItemEntry → read.ItemEntry
 read_item_entry one = record { number = one.number; head = entry_bytes one.entry; more = read_lines one.more }
 
@@ -49,6 +51,7 @@ abbrev pub read_end : Option (ℕ × ℕ) → Option ℕ
 read_end None = None
 read_end (Some line) = Some line.0
 
+-- a document without places
 abbrev pub read_document : DocumentTree → read.DocumentTree
 read_document tree = record { number = tree.number; entries = map read_top_entry tree.entries; ended_at = read_end tree.ended }
 
@@ -88,10 +91,12 @@ top_entries_lines (one ∷ others) rest =
     ap (λ (more : List ReadLine). line ∷ more) (under_lines one.under (top_entries_then others rest)
     ∙ ap (read.under_then (read_under one.under)) (top_entries_lines others rest))
 
-end_lines : (ended : Option (ℕ × ℕ)) (rest : List Line) → read_lines (end_then ended rest) ≡ read.end_then (read_end ended) (read_lines rest)
+end_lines : (ended : Option (ℕ × ℕ)) (rest : List Line) → read_lines (end_then ended rest)
+    ≡ read.end_then (read_end ended) (read_lines rest)
 end_lines None rest = refl
 end_lines (Some line) rest = refl
 
+-- documents of the grammar have the lines of those that are read
 pub documents_lines : (trees : List DocumentTree) → read_lines (documents_then trees) ≡ read.documents_then (map read_document trees)
 documents_lines [] = refl
 documents_lines (tree ∷ trees) =
@@ -228,6 +233,7 @@ top_entries_read (one ∷ others) old new e = (
   top_entries_read others e.0 new e.2,
 )
 
+-- Documents of the grammar are documents that are read.
 pub documents_read : (trees : List DocumentTree) (says : List (DocumentOf Slice)) → AreDocuments trees says
     → read.AreDocuments (map read_document trees) (documents_texts says)
 documents_read [] [] a = tt

@@ -127,7 +127,8 @@ item_stands input kind dash_column tree says rest i l =
     let mid = item_value_stands input column (item_key kind tree.first.entry.key) tree.first no_item e.0
     (first_value_stands input dash_column tree.gap tree.first l.0) (all_front (LineStands input) tree.first.more behind l.1) e.1.value
     (no_item_stands input) in
-    let r = entries_stand input kind column tree.others e.0 i.read rest e.2 (all_behind (LineStands input) tree.first.more behind l.1) mid in
+    let r = entries_stand input kind column tree.others e.0 i.read rest e.2
+    (all_behind (LineStands input) tree.first.more behind l.1) mid in
     (whole_item_stands input kind i.read says i.whole r.0, r.1)
 
 abbrev pub ItemsStand : List ℕ → List (ItemOf Slice) → Type 0
@@ -255,7 +256,8 @@ under_rest : (input : List ℕ) (dash_column : ℕ) (trees : List ItemTree) (res
 under_rest input dash_column [] rest l = l
 under_rest input dash_column (tree ∷ trees) rest l = under_rest input dash_column trees rest
     (entries_rest (column_of dash_column tree) tree.others (items_then dash_column trees rest)
-    (all_behind (LineStands input) tree.first.more (entries_then (column_of dash_column tree) tree.others (items_then dash_column trees rest)) l.1))
+    (all_behind (LineStands input) tree.first.more
+    (entries_then (column_of dash_column tree) tree.others (items_then dash_column trees rest)) l.1))
   where
     entries_rest : (column : ℕ) (entries : List ItemEntry) (rest : List Line) → LinesStand input (entries_then column entries rest)
         → LinesStand input rest

@@ -1,5 +1,9 @@
 -- A second key. Behind the lines that were read another key may stand in its column, one that isn't read; but a line
 -- with this key is refused, whatever follows the key's colon: either that is no value, or the key had come before.
+-- A line with the key reads as the same key with another value (`Keyed`). If there is a value at all, the key is refused
+-- before it is looked at (`Causes`), since it stood before; if there is none, the line is outside the grammar. So no text of
+-- the grammar goes on with it, while a key that isn't read is skipped there. This is done at column 0 (`twice_at_top`) and in
+-- the column of an item's keys (`twice_in_item`).
 use Rattle.std.proofs.Common.{◌≡◌, ℕ, ◌+◌, ◌<◌, Bool, true, false, List, ◌∷◌, ◌++◌, length, drop, Option, Ok, refl, sym, ap, ◌∙◌, inl, inr, subst}
 use Rattle.macho_stub_lines.specs.declared.keys.ItemKind.{ItemKind}
 use Rattle.macho_stub_lines.specs.declared.keys.ItemKind.TheVariants.{Libraries, Exports, Reexports}
@@ -35,9 +39,11 @@ record Refuses (state : StateFields) (line : ℕ) (text : List ℕ) : Type 0 whe
   rule : StubRule
   is : line_step state line text ≡ broken at rule
 
+-- what a line with a key goes on with in a document
 unfoldable pub then_top : List DocumentFields → OpenDocumentFields → ℕ → Entry → Reading StateFields
 then_top before document line entry = within before (top_entry document line (top_key entry.key) entry.value)
 
+-- a line of a document that begins with a key, by what stands behind the colon
 pub top_reads : (before : List DocumentFields) (document : OpenDocumentFields) (line : ℕ) (text key rest : List ℕ) → HasKey text key rest
     → top_line before document line text ≡ (entry_behind line key rest >>= then_top before document line)
 unfolding top_line then_top
@@ -62,6 +68,7 @@ top_refuses before document line key value rest e =
       | inr o ↦ (S1, ap (λ reading. reading >>= then_top before document line) o)
     ]
 
+-- A key of a document that is refused as a second one stands twice.
 pub twice_at_top : (first : List (List ℕ)) (before : List DocumentFields) (document whole : OpenDocumentFields)
     (list : Option ItemListFields) (skipped : Bool) (text : List ℕ) (said : Entry) → Reached first (keys_state before document list skipped)
     → Closes list document whole → has_barred text ≡ false → entry_at (length first + 1) text ≡ Ok said
@@ -111,6 +118,7 @@ spare_in_column first before document list skipped r below =
     (spaces_line list.column unread_key refl)
     (item_text_steps before document list skipped n unread_key refl refl refl below ∙ spare_key before document list n list.kind refl)
 
+-- and in an item
 abbrev pub then_item : OpenDocumentFields → ItemListFields → ℕ → Entry → Reading InsideFields
 then_item document list line entry = item_entry document list line (item_key list.kind entry.key) entry.value
 
@@ -132,6 +140,7 @@ item_refuses before document list line text key value rest h below e =
       | inr o ↦ (S1, ap (λ reading. within before (reading >>= then_item document list line)) (key_reads line text key rest h ∙ o))
     ]
 
+-- A key of an item that is refused as a second one stands twice.
 pub twice_in_item : (first : List (List ℕ)) (before : List DocumentFields) (document : OpenDocumentFields) (list : ItemListFields)
     (skipped : Bool) (text : List ℕ) (said : Entry) → Reached first (at_item before document list skipped)
     → list.dash < list.column → has_barred text ≡ false → indent text ≡ list.column

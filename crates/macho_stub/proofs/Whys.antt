@@ -111,6 +111,7 @@ first_never document list line item.WeakNames value i g e = absurd (let h = (sam
     ∙ e))).1 in
     cc)
 
+-- the fault of a line outside the grammar
 abbrev pub outside_fault : ℕ → Fault
 outside_fault line = record { line = line; rule = S1 }
 
@@ -153,7 +154,8 @@ no_key_elsewhere : (first : List (List ℕ)) (before : List DocumentFields) (doc
 unfolding belongs_to_top has_barred is_blank_or_comment
 no_key_elsewhere first before document list true n r nz nc s m =
     refused first (at_item before document list true) (in_column n unread_key) (length first + 1) S1 r
-    (column_steps before document list true (length first + 1) n unread_key refl refl refl nz ∙ rw (s refl, eq_false n list.column nc) refl) m
+    (column_steps before document list true (length first + 1) n unread_key refl refl refl nz
+    ∙ rw (s refl, eq_false n list.column nc) refl) m
 no_key_elsewhere first before document list false n r nz nc s m =
     refused first (at_item before document list false) (in_column n unread_key) (length first + 1) S1 r
     (column_steps before document list false (length first + 1) n unread_key refl refl refl nz ∙ rw (eq_false n list.column nc) refl) m
@@ -227,6 +229,7 @@ item_why first before document list skipped text at rule k clean some l s (Nowhe
 
 -- ---- where a key may stand
 
+-- A line that is refused where a key may stand is refused for the reason that is told.
 pub keys_why : (first : List (List ℕ)) (before : List DocumentFields) (document : OpenDocumentFields) (list : Option ItemListFields)
     (skipped : Bool) (text : List ℕ) (at : ℕ) (rule : StubRule) → Known first (keys_state before document list skipped)
     → has_barred text ≡ false → is_passed text ≡ false → IsLine text → (skipped ≡ true → belongs list text ≡ false)

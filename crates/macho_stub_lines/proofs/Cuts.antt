@@ -1,4 +1,8 @@
 -- Where a text may be cut: before and behind a byte of ASCII.
+-- The code cuts a line at counted places, and a text of UTF-8 may be cut only between characters. A byte of ASCII is a
+-- character by itself, so behind one there is such a place (`cut_behind`), and so there is behind a run of them (`run_cut`):
+-- of spaces, of digits, of zeros. Plain bytes may be past ASCII, but what ends their run is ASCII or the end of the bytes, and
+-- before such a byte a text may be cut too (`plain_cut`).
 use Rattle.std.proofs.Common.{◌≡◌, ℕ, ◌+◌, ◌-◌, ◌<◌, Bool, true, false, List, length, get_or, arith, inl, inr, subst}
 use Rattle.std.specs.List.{prefix_len}
 use Rattle.std.specs.Str.{IsUtf8, IsCharBoundary}
@@ -51,12 +55,14 @@ run_cut p ascii bytes utf8 =
           subst C e (IsCharBoundary-start bytes utf8)
     ]
 
--- spaces, digits and zeros are ASCII
+-- spaces are ASCII
 pub space_ascii : (b : ℕ) → is_space b ≡ true → b < 128
 space_ascii b h = grind (arith, nat_tests)
 
+-- and zeros
 pub zero_ascii : (b : ℕ) → is_zero b ≡ true → b < 128
 zero_ascii b h = grind (arith, nat_tests)
 
+-- and digits
 pub digit_ascii : (b : ℕ) → is_ascii_digit b ≡ true → b < 128
 digit_ascii b h = grind (arith, nat_tests)

@@ -63,4 +63,10 @@ list_reads number at value more says list =
     let begins : with_front [] (list_part number AfterOpen 0 (drop 1 value)) ≡ Ok reads.0 =
     ap (λ (bytes : List ℕ). with_front [] (list_part number AfterOpen 0 (drop 1 bytes))) is ∙ reads.1 in
     let goes_on : GoesOn reads.0 (map read_line more) (texts_of says) = rw (lines, say) reads.2 in
-    record { bracket = rw is refl; first = reads.0; begins = begins; goes_on = goes_on; inside = all_made InList read_line more list.inside }
+    record {
+      bracket = rw is refl;
+      first = reads.0;
+      begins = begins;
+      goes_on = goes_on;
+      inside = all_made InList read_line more list.inside;
+    }

@@ -14,6 +14,7 @@ use Rattle.macho_stub_lines.specs.Lists.{TokenSpan, ListPart, names_of, token_fr
 pub some_left : (empty : Bool) (n : ℕ) → empty ≡ eqb n 0 → empty ≡ false → 0 < n
 some_left empty n is h = grind (arith, nat_tests)
 
+-- and where it says that nothing is left
 pub none_left : (empty : Bool) (n : ℕ) → empty ≡ eqb n 0 → empty ≡ true → n ≡ 0
 none_left empty n is h = grind (arith, nat_tests)
 
@@ -46,6 +47,7 @@ regroup front names (Ok part) = ap (λ (all : List (List ℕ)). Ok (record { nam
     (sym (append_assoc front names part.names))
 regroup front names (Err f) = refl
 
+-- what was read, with a token more in front of what follows it, gives the same
 pub goes_on : (front : List (List ℕ)) (line : ℕ) (expect next : Expect) (bytes : List ℕ) (token : TokenSpan) (total : Reading ListPart)
     → 0 < length bytes → 0 < token.width
     → token_front line bytes ≡ Ok token → behind line expect token.kind ≡ Ok next → with_front front (list_part line expect 0 bytes)
@@ -78,6 +80,7 @@ ends_at_order (Rule n rule) front line expect (b ∷ bytes) token total some h k
     let one : with_front front (list_part line expect 0 (b ∷ bytes)) ≡ broken n rule = rw (h, k) refl in
     sym so_far ∙ one
 
+-- at the end of a line, the names read so far are all
 pub is_done : (front : List (List ℕ)) (line : ℕ) (expect : Expect) (bytes : List ℕ) (total : Reading ListPart) → length bytes ≡ 0
     → with_front front (list_part line expect 0 bytes) ≡ total → total ≡ Ok (record { names = front; expect = expect })
 unfolding list_part

@@ -111,6 +111,7 @@ value_stands input at tree stands = by_behind tree.behind
 
 -- ---- flow lists
 
+-- the line stands at its place
 abbrev pub LineStands : List ℕ → Line → Type 0
 LineStands input line = StandsIn input (record { at = line.at; text = line.text })
 

@@ -68,12 +68,13 @@ pub all_behind : {A : Type 0} (P : A → Type 0) (front rest : List A) → AllBy
 all_behind P [] rest all = all
 all_behind P (x ∷ front) rest all = all_behind P front rest all.1
 
--- What all of a list have of what is made of them, all that is made has, and the other way.
+-- where each of a list gives something that has it, all that is given has it
 pub all_made : {A B : Type 0} (P : B → Type 0) (f : A → B) (xs : List A) → AllByRecursion (λ x. P (f x)) xs
     → AllByRecursion P (map f xs)
 all_made P f [] all = tt
 all_made P f (x ∷ xs) all = (all.0, all_made P f xs all.1)
 
+-- and the other way
 pub all_made_of : {A B : Type 0} (P : B → Type 0) (f : A → B) (xs : List A) → AllByRecursion P (map f xs)
     → AllByRecursion (λ x. P (f x)) xs
 all_made_of P f [] all = tt

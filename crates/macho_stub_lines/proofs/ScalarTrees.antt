@@ -220,6 +220,7 @@ front_reads (Double text) rest sound ends =
 
 -- ---- a value that is a scalar
 
+-- the text of a slice doesn't depend on its place
 pub slice_text : (at : ℕ) (scalar : ScalarTree) → (slice_of at scalar).text ≡ text_of scalar
 slice_text at (Plain text) = refl
 slice_text at (Single text) = refl
