@@ -4,11 +4,9 @@
 -- failed is known (`top_cause` behind the keys of a document, `item_cause` behind those of an item). A key that is refused
 -- because it stood before is refused with any other value too, since that test is made before the value is read
 -- (`top_again`, `item_again`).
-use Rattle.std.proofs.Common.{◌≡◌, ◌≢◌, ℕ, ◌<◌, ◌&&◌, Bool, true, false, cond, eqb, List, length, Some, None, Ok, Err, is_some, refl, sym, ap, ◌∙◌, ◌⊎◌, inl, inr}
-use Rattle.macho_stub.proofs.Branches.{at_head, at_end, at_entry, then_first, then_top}
+use Rattle.std.proofs.Common.{◌≡◌, ◌≢◌, ℕ, ◌<◌, ◌&&◌, Bool, true, false, cond, eqb, List, length, Some, None, Ok, Err, is_some, refl, ap, ◌⊎◌, inl, inr}
 use Rattle.std.proofs.lemmas.Bool.{and_parts}
 use Rattle.std.specs.Str.{bytes_eq}
-use Rattle.macho_stub_lines.specs.declared.keys.ItemKind.{ItemKind}
 use Rattle.macho_stub_lines.specs.declared.keys.ItemKey.{ItemKey}
 use Rattle.macho_stub_lines.specs.declared.keys.ItemKey.TheVariants as item
 use Rattle.macho_stub_lines.specs.declared.keys.TopKey.{TopKey}
@@ -19,13 +17,14 @@ use Rattle.macho_stub_lines.specs.Bytes.{indent, unspaced, head, end, has_dash}
 use Rattle.macho_stub_lines.specs.Faults.{Fault, Reading, ◌>>=◌, broken, outside}
 use Rattle.macho_stub_lines.specs.Keys.{Entry, entry_at, scalar_value, version_value, top_key}
 use Rattle.macho_stub.specs.Documents.{ItemFields, DocumentFields}
-use Rattle.macho_stub.specs.Opened.{OpenDocumentFields, head_at, with_items, has_items, has_key}
-use Rattle.macho_stub.specs.Reader.{ItemListFields, InsideFields, Outside, Within, Keys, NoItem, StateFields, stays, skipped_value, item_entry, item_key_line, first_line, top_entry, within, with_whole, top_line, items_with_last, item_line}
+use Rattle.macho_stub.specs.Opened.{OpenDocumentFields, with_items, has_items, has_key}
+use Rattle.macho_stub.specs.Reader.{ItemListFields, InsideFields, NoItem, StateFields, stays, skipped_value, item_entry, item_key_line, first_line, top_entry, within, with_whole, top_line, items_with_last, item_line}
 use Rattle.macho_stub.specs.Order.{EndsDocument}
-use Rattle.macho_stub_lines.proofs.Bind.{chosen, same_bytes, bytes_same, eq_at, ne_at, other_bytes}
+use Rattle.macho_stub_lines.proofs.Bind.{chosen, same_bytes, eq_at, ne_at, other_bytes}
 use Rattle.macho_stub.proofs.Ruling.{bind_err, same_err, ok_not_told}
 use Rattle.macho_stub.proofs.FineLines.{Fine, AnyOf, outside_at, version_fine, scalar_fine, fine_ok, fine_bind, fine_if, fine_here}
 use Rattle.macho_stub.proofs.Fine.{GoodInside, names_value_fine, skipped_value_fine}
+use Rattle.macho_stub.proofs.Branches.{at_head, at_end, at_entry, then_first, then_top}
 
 -- ---- faults
 

@@ -1,11 +1,10 @@
 -- A step that doesn't fail leaves the reading in good order: keys of an item stand behind its dash, and a list that
 -- goes on isn't closed. One that fails tells its line, or that an item or a document lacks a key.
--- Both are said at once of each reading (`Fine`, in `FineLines`) and go through its steps and choices: from the lines of flow
--- lists and the values, to the entries of items and documents, to what closes an item or a document, and to any line
--- (`line_step_fine`). A list that a dash begins has its keys behind the dash since the column of the key is counted from
--- there (`dash_before_key`).
+-- Both are said at once of each reading (`Fine`, in `FineLines`) and go through its steps and choices: from the lines
+-- of flow lists and the values, to the entries of items and documents, to what closes an item or a document, and to any
+-- line (`line_step_fine`). A list that a dash begins has its keys behind the dash since the column of the key is
+-- counted from there (`dash_before_key`).
 use Rattle.std.proofs.Common.{◌≢◌, ℕ, ◌<◌, ◌&&◌, cond, eqb, length, List, [], drop, Option, Some, None, Ok, refl, arith, inl, inr}
-use Rattle.macho_stub.proofs.Branches.{at_head, at_end, at_entry, then_first, then_top}
 use Rattle.std.specs.Str.{bytes_eq}
 use Rattle.macho_stub_lines.specs.declared.keys.ItemKind.{ItemKind}
 use Rattle.macho_stub_lines.specs.declared.keys.ItemKind.TheVariants.{Libraries, Exports, Reexports}
@@ -19,12 +18,13 @@ use Rattle.macho_stub_lines.specs.declared.fault.StubRule.TheVariants.{S1, S3}
 use Rattle.macho_stub_lines.specs.Bytes.{indent, unspaced, is_passed, has_barred, has_dash, head, end}
 use Rattle.macho_stub_lines.specs.Faults.{Reading, ◌>>=◌, broken, outside}
 use Rattle.macho_stub_lines.specs.Lists.{list_part, with_front}
-use Rattle.macho_stub_lines.specs.Keys.{Entry, entry_at, scalar_value, version_value, top_key, item_key}
+use Rattle.macho_stub_lines.specs.Keys.{entry_at, scalar_value, version_value, top_key, item_key}
 use Rattle.macho_stub.specs.Documents.{ItemFields, DocumentFields}
-use Rattle.macho_stub.specs.Opened.{OpenItemFields, OpenDocumentFields, no_item, with_items, has_items, head_at}
+use Rattle.macho_stub.specs.Opened.{OpenItemFields, OpenDocumentFields, no_item, with_items, has_items}
 use Rattle.macho_stub.specs.Whole.{wanted, wanted_names, whole_item, whole_document}
 use Rattle.macho_stub.specs.Reader.{ItemListFields, NameListFields, ModeFields, Keys, Skipped, Names, NoItem, InsideFields, PlaceFields, Outside, Within, StateFields, stays, with_names, behind_expect, names_line, names_value, opened, skipped_value, item_entry, item_key_line, key_column, first_line, top_entry, within, with_whole, top_line, items_with_last, item_line, key_line, inside_line, content_line, line_step}
 use Rattle.macho_stub.proofs.FineLines.{Fine, AnyOf, outside_at, here_at, lacking_at, fine_ok, fine_err, fine_here, fine_bind, fine_if, weaker, free, entry_fine, scalar_fine, version_fine, front_fine, part_fine}
+use Rattle.macho_stub.proofs.Branches.{at_head, at_end, at_entry, then_first, then_top}
 
 -- ---- inside a document
 

@@ -4,7 +4,6 @@
 -- `fine_bind`, `fine_if`); with these each reading of a line by itself is gone through in the words of its definition. The
 -- tokens of a flow list are read one after the other, so there the argument is by recursion on the bytes (`part_fine`).
 use Rattle.std.proofs.Common.{◌≡◌, ℕ, zero, suc, ◌+◌, ◌-◌, Bool, true, false, cond, eqb, get_or, take, List, [], ◌∷◌, drop, Option, Some, None, Ok, Err, refl, sym, subst, ◌⊎◌}
-use Rattle.macho_stub_lines.proofs.Bind.{same_ok}
 use Rattle.std.specs.List.{prefix_len}
 use Rattle.macho_stub_lines.specs.declared.list.Expect.{Expect}
 use Rattle.macho_stub_lines.specs.declared.list.Expect.TheVariants.{AfterOpen, AfterComma, AfterName, Closed}
@@ -17,6 +16,7 @@ use Rattle.macho_stub_lines.specs.Scalars.{ScalarSpan, scalar_front}
 use Rattle.macho_stub_lines.specs.Faults.{Fault, Reading, ◌>>=◌, outside}
 use Rattle.macho_stub_lines.specs.Lists.{TokenSpan, ListPart, gap, mark, name_token, token_front, behind, list_part, with_front}
 use Rattle.macho_stub_lines.specs.Keys.{Entry, entry_behind, entry_at, alone, scalar_value, version_value}
+use Rattle.macho_stub_lines.proofs.Bind.{same_ok, done}
 
 -- What a reading gives is so, and so is the fault that it tells.
 pub record Fine {A : Type 0} (P : A → Type 0) (Q : Fault → Type 0) (reading : Reading A) : Type 0 where
@@ -42,9 +42,6 @@ lacking_at line fault = fault ≡ record { line = line; rule = S2 }
 -- any of these
 abbrev pub any_at : ℕ → ℕ → Fault → Type 0
 any_at line at fault = here_at line fault ⊎ lacking_at at fault
-
-abbrev done : {A : Type 0} → A → Reading A
-done x = Ok x
 
 no_err : {A : Type 0} (x : A) (d : Fault) → done x ≡ Err d → ⊥
 no_err x d e = cc

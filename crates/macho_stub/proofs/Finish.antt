@@ -4,30 +4,21 @@
 -- item gets the keys that it must have in the column of its keys, and then a key at column 0 ends its list
 -- (`item_finishes`). A flow list is closed, and where an item must stand one is begun. The steps over these lines are
 -- those of `PutIn`.
-use Rattle.std.proofs.Common.{◌≡◌, ◌≢◌, ℕ, zero, suc, ◌+◌, get_or, ◌<◌, ◌&&◌, Bool, true, false, eqb, List, [], ◌∷◌, ◌++◌, replicate, Option, Some, None, Ok, refl, ap, ◌∙◌, arith}
-use Rattle.macho_stub.specs.Order.{unread_key, unread_item, closing_bracket}
-use Rattle.macho_stub.proofs.PutIn.{mode_at, at_top, at_item, version_line, targets_line, name_line, libraries_line, with_name, with_targets, with_version, name_steps, targets_steps, version_steps, spare_steps, item_with_targets, item_with_names, item_targets_step, item_libraries_step, close_steps, begun, dash_steps}
+use Rattle.std.proofs.Common.{◌≡◌, ℕ, ◌+◌, ◌<◌, Bool, true, false, List, [], ◌∷◌, ◌++◌, replicate, Option, Some, None, Ok, refl, ap, ◌∙◌, arith}
 use Rattle.std.specs.Prelude.{codes, unwrap_or}
-use Rattle.std.specs.List.{prefix_len}
-use Rattle.std.proofs.lemmas.Bool.Decides.{nat_tests}
-use Rattle.macho_stub_lines.proofs.Bind.{eq_true, eq_false, not_below}
 use Rattle.macho_stub.proofs.Fine.{GoodList, GoodMode, GoodPlace, GoodState}
 use Rattle.macho_stub.proofs.Joined.{IsLine, AreLines, spaces_line}
-use Rattle.macho_stub.proofs.OnlyLines.{top_indent, spelled_indent, spelled_rest, spelled_at}
 use Rattle.macho_stub_lines.specs.declared.keys.ItemKind.{ItemKind}
 use Rattle.macho_stub_lines.specs.declared.keys.ItemKind.TheVariants.{Libraries, Exports, Reexports}
 use Rattle.macho_stub_lines.specs.declared.keys.ItemKey.{ItemKey}
-use Rattle.macho_stub_lines.specs.declared.list.Expect.{Expect}
-use Rattle.macho_stub_lines.specs.declared.list.Expect.TheVariants.{AfterOpen, AfterComma, AfterName, Closed}
-use Rattle.macho_stub_lines.specs.Bytes.{is_space, space, dash, indent, unspaced, is_passed, has_barred, is_blank_or_comment, is_key_byte, is_tail, is_mark, is_plain_byte, has_late_control_after, has_dash, belongs_to_top}
-use Rattle.macho_stub_lines.specs.Scalars.{scalar_front, plain_front}
-use Rattle.macho_stub_lines.specs.Lists.{list_part, token_front, behind}
-use Rattle.macho_stub_lines.specs.Keys.{entry_at, top_key, item_key, scalar_value, version_value, number_of}
+use Rattle.macho_stub_lines.specs.Bytes.{space}
 use Rattle.macho_stub_lines.specs.Faults.{◌>>=◌}
 use Rattle.macho_stub.specs.Documents.{ItemFields, DocumentFields}
-use Rattle.macho_stub.specs.Opened.{OpenDocumentFields, no_item, with_items, with_key, with_top_key}
+use Rattle.macho_stub.specs.Opened.{OpenDocumentFields, with_items, with_key, with_top_key}
 use Rattle.macho_stub.specs.Whole.{whole_item, whole_document}
-use Rattle.macho_stub.specs.Reader.{ItemListFields, NameListFields, ModeFields, Keys, Skipped, Names, NoItem, PlaceFields, Outside, Within, StateFields, stays, with_names, names_line, names_value, skipped_value, item_key_line, key_column, first_line, within, with_whole, top_line, items_with_last, item_line, line_step, lines_from}
+use Rattle.macho_stub.specs.Reader.{ItemListFields, ModeFields, Keys, Skipped, Names, NoItem, PlaceFields, Outside, Within, StateFields, stays, with_names, with_whole, items_with_last, line_step, lines_from}
+use Rattle.macho_stub.specs.Order.{unread_key, unread_item, closing_bracket}
+use Rattle.macho_stub.proofs.PutIn.{mode_at, at_top, at_item, version_line, targets_line, name_line, libraries_line, with_name, with_targets, with_version, name_steps, targets_steps, version_steps, spare_steps, item_with_targets, item_with_names, item_targets_step, item_libraries_step, close_steps, begun, dash_steps}
 
 -- lines that finish the text from this state
 pub record Finishes (state : StateFields) (line : ℕ) : Type 0 where

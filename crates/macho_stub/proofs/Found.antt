@@ -3,21 +3,19 @@
 -- At the end of the text nothing is left, and what is open there is whole. A line is one of an item, of a document or of a
 -- flow list, or belongs to a skipped value; by the way that its tests went, it is put in front of the trees that follow. The
 -- trees at the first line are those of the text (`lines_found`).
-use Rattle.std.proofs.Common.{◌≡◌, ℕ, ◌+◌, ◌&&◌, Bool, true, false, cond, eqb, List, [], ◌∷◌, ◌++◌, replicate, Option, Some, None, Ok, refl, sym, ap, ◌∙◌, inl, inr, subst, append_assoc}
-use Rattle.macho_stub.proofs.Branches.{inside_of_document, then_first, then_top}
+use Rattle.std.proofs.Common.{◌≡◌, ℕ, ◌+◌, ◌&&◌, Bool, false, cond, eqb, List, [], ◌∷◌, ◌++◌, replicate, Option, Some, None, Ok, refl, sym, ap, ◌∙◌, inl, inr, subst, append_assoc}
 use Rattle.std.proofs.lemmas.Bool.{and_parts}
 use Rattle.std.specs.List.{AllByRecursion}
 use Rattle.std.specs.Str.{bytes_eq}
 use Rattle.std.specs.Str.Lines.{lines}
 use Rattle.std.proofs.lemmas.List.{append-nil}
-use Rattle.macho_stub_lines.specs.declared.keys.ItemKind.{ItemKind}
 use Rattle.macho_stub_lines.specs.declared.fault.StubRule.TheVariants.{S1}
 use Rattle.macho_stub_lines.specs.Bytes.{space, indent, unspaced, is_passed, has_barred, has_dash, head, end}
 use Rattle.macho_stub_lines.specs.Faults.{Reading, ◌>>=◌, outside}
 use Rattle.macho_stub.specs.Documents.{ItemFields, DocumentFields}
 use Rattle.macho_stub.specs.Opened.{OpenDocumentFields, head_at, with_items}
 use Rattle.macho_stub.specs.Whole.{whole_item, whole_document}
-use Rattle.macho_stub.specs.Reader.{ItemListFields, ModeFields, Keys, Skipped, Names, NoItem, InsideFields, PlaceFields, Outside, Within, StateFields, stays, within, with_whole, top_line, items_with_last, item_line, item_key_line, first_line, names_line, key_line, belongs, inside_line, content_line, line_step, ended_document, ended_inside, ended, lines_from, start, documents_of}
+use Rattle.macho_stub.specs.Reader.{ItemListFields, ModeFields, Keys, Skipped, Names, NoItem, InsideFields, PlaceFields, Outside, Within, StateFields, stays, within, with_whole, items_with_last, item_line, item_key_line, first_line, names_line, key_line, belongs, inside_line, content_line, line_step, ended_document, ended_inside, ended, lines_from, start, documents_of}
 use Rattle.macho_stub_lines.proofs.ReadLists.{ReadLine}
 use Rattle.macho_stub.proofs.Readings.{content_from, IsReadLines, IsReadText, items_then, AreItems, AreDocuments}
 use Rattle.macho_stub_lines.proofs.Bind.{bind_ok, chosen, not_broken, not_broken_else, same_ok, no_ok, same_bytes, eq_at, other_bytes}
@@ -26,6 +24,7 @@ use Rattle.macho_stub.proofs.Spelled.{spelled_unspaced}
 use Rattle.macho_stub.proofs.FoundEntries.{names_line_rest}
 use Rattle.macho_stub.proofs.FoundItems.{item_key_line_rest, first_line_rest}
 use Rattle.macho_stub.proofs.FoundTop.{top_line_rest, document_in_front}
+use Rattle.macho_stub.proofs.Branches.{inside_of_document, then_first, then_top}
 
 -- a reading inside a document that did not fail
 within_ok : (before : List DocumentFields) (reading : Reading InsideFields) (next : StateFields) (rest : List ReadLine)

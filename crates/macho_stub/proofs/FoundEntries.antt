@@ -1,6 +1,8 @@
--- From the reading of an entry to its tree: if what follows the entry's line finishes the text from where the
--- entry leaves the reading, then the entry with the lines under it is one of the grammar, and what is left finishes
--- the text from behind it.
+-- From the reading of an entry to its tree: if what follows the entry's line finishes the text from where the entry
+-- leaves the reading, then the entry with the lines under it is one of the grammar, and what is left finishes the text
+-- from behind it.
+-- The lines under a value are those of its flow list, up to the bracket that closes it (`names_line_rest`), or those
+-- that belong to a skipped value; which of the two, the value's first byte tells (`skipped_value_rest`).
 use Rattle.std.proofs.Common.{◌≡◌, ◌≢◌, ℕ, eqb, List, [], ◌++◌, drop, Option, Some, None, Ok, refl, sym, ◌⊎◌, inl, inr, get_or, subst}
 use Rattle.macho_stub_lines.specs.declared.keys.ItemKey.{ItemKey}
 use Rattle.macho_stub_lines.specs.declared.keys.ItemKey.TheVariants as item

@@ -1,8 +1,9 @@
 -- From the reading of an item's lines to its tree: each key line is an entry, and a line with a dash begins an item.
--- The lines that follow finish the text from where this line leaves the reading: so there are trees of entries and items for
--- them (`Rest`). By what the key of the line is, its value with the lines under it is a flow list or is skipped, and the
--- entry stands in front of the others (`item_key_line_rest`). A line with a dash is spelled with the spaces before and behind
--- the dash, and the key behind them is the first entry of an item in front of the next ones (`first_line_rest`).
+-- The lines that follow finish the text from where this line leaves the reading: so there are trees of entries and
+-- items for them (`Rest`). By what the key of the line is, its value with the lines under it is a flow list or is
+-- skipped, and the entry stands in front of the others (`item_key_line_rest`). A line with a dash is spelled with the
+-- spaces before and behind the dash, and the key behind them is the first entry of an item in front of the next ones
+-- (`first_line_rest`).
 use Rattle.std.proofs.Common.{◌≡◌, ℕ, ◌+◌, List, ◌∷◌, ◌++◌, drop, replicate, Some, Ok, refl, ap, ◌∙◌, inl, inr, subst}
 use Rattle.macho_stub_lines.specs.declared.keys.ItemKind.{ItemKind}
 use Rattle.macho_stub_lines.specs.declared.keys.ItemKey.{ItemKey}

@@ -1,27 +1,27 @@
 -- From the reading of a document's lines to its tree.
--- A line behind the keys of a document is a head, an end or an entry. A head begins a document whose trees are those of the
--- lines behind it, in front of the others (`document_in_front`); an end or a head closes the document before it, which lacks
--- no key, since else the step would have failed. An entry goes in front of those that follow, by what its key is: a number, a
--- scalar, a flow list, items under the key, or a skipped value.
+-- A line behind the keys of a document is a head, an end or an entry. A head begins a document whose trees are those of
+-- the lines behind it, in front of the others (`document_in_front`); an end or a head closes the document before it,
+-- which lacks no key, since else the step would have failed. An entry goes in front of those that follow, by what its
+-- key is: a number, a scalar, a flow list, items under the key, or a skipped value.
 use Rattle.std.proofs.Common.{◌≡◌, ℕ, cond, eqb, List, [], ◌∷◌, ◌++◌, length, Option, Some, None, Ok, is_some, refl, sym, ap, ◌∙◌, inl, inr, subst, append_assoc}
-use Rattle.macho_stub.proofs.Branches.{at_head, at_end, at_entry, inside_of_document}
 use Rattle.std.specs.Str.{bytes_eq}
 use Rattle.macho_stub_lines.specs.declared.keys.ItemKey.TheVariants as item
 use Rattle.macho_stub_lines.specs.declared.keys.TopKey.{TopKey}
 use Rattle.macho_stub_lines.specs.declared.keys.TopKey.TheVariants as top
 use Rattle.macho_stub_lines.specs.declared.fault.StubRule.TheVariants.{S1, S3}
-use Rattle.macho_stub_lines.specs.Faults.{Reading, ◌>>=◌, outside}
+use Rattle.macho_stub_lines.specs.Faults.{◌>>=◌, outside}
 use Rattle.macho_stub_lines.specs.Keys.{Entry, entry_at, scalar_value, version_value, top_key}
 use Rattle.macho_stub.specs.Documents.{DocumentFields}
 use Rattle.macho_stub.specs.Opened.{OpenDocumentFields, head_at, has_items, with_items}
 use Rattle.macho_stub.specs.Whole.{whole_document}
-use Rattle.macho_stub.specs.Reader.{Keys, NoItem, InsideFields, Outside, Within, StateFields, stays, names_value, top_entry, within, with_whole, top_line}
+use Rattle.macho_stub.specs.Reader.{Keys, NoItem, InsideFields, StateFields, stays, names_value, top_entry, with_whole, top_line}
 use Rattle.macho_stub_lines.specs.Bytes.{head, end}
 use Rattle.macho_stub_lines.proofs.ReadLists.{ReadLine}
 use Rattle.macho_stub.proofs.Readings.{Under, Plain, Listed, under_then, TopValue, end_then}
 use Rattle.macho_stub_lines.proofs.Bind.{bind_ok, chosen, not_broken, not_broken_else, same_ok, same_bytes, eq_at}
 use Rattle.macho_stub.proofs.Rest.{RestOutside, RestTop, RestInside, Rest}
 use Rattle.macho_stub.proofs.FoundEntries.{names_value_rest, skipped_value_rest}
+use Rattle.macho_stub.proofs.Branches.{at_head, at_end, at_entry, inside_of_document}
 
 -- a key line of a document, and the lines behind it
 record RestTopValue (before : List DocumentFields) (document : OpenDocumentFields) (line : ℕ) (text : List ℕ) (key : TopKey)

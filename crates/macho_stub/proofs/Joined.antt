@@ -1,9 +1,9 @@
 -- Lines that have no line feed are those of a text: each is written with a carriage return and a line feed behind it.
--- To show that lines may stand there must be a text that begins with them, and the lines of a text are cut out of it by std's
--- words. The text is cut at each line feed, so that a line with its carriage return is one part (`parts_of_line`), the
--- carriage return is stripped, and behind the last line feed nothing is left (`lines_joined`). The other way, the lines of
--- any text have no line feed (`lines_are_lines`).
-use Rattle.std.proofs.Common.{◌≡◌, ℕ, zero, suc, ◌+◌, ◌-◌, ◌||◌, Bool, true, false, cond, eqb, List, [], ◌∷◌, ◌++◌, length, take, get_or, replicate, refl, sym, ap, ◌∙◌, arith}
+-- To show that lines may stand there must be a text that begins with them, and the lines of a text are cut out of it by
+-- std's words. The text is cut at each line feed, so that a line with its carriage return is one part
+-- (`parts_of_line`), the carriage return is stripped, and behind the last line feed nothing is left (`lines_joined`).
+-- The other way, the lines of any text have no line feed (`lines_are_lines`).
+use Rattle.std.proofs.Common.{◌≡◌, ℕ, zero, suc, ◌+◌, ◌-◌, Bool, true, false, cond, eqb, List, [], ◌∷◌, ◌++◌, length, take, get_or, replicate, refl, sym, ap, ◌∙◌, arith}
 use Rattle.std.proofs.lemmas.Bool.{or_parts, or_from}
 use Rattle.std.specs.List.{slice_split, onto_first, list_any, AllByRecursion}
 use Rattle.std.specs.Str.Lines.{lines, lines_of_parts, strip_carriage_return}

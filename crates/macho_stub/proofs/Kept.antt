@@ -3,9 +3,7 @@
 -- begins at the entry's line (`Of`); a flow list that is closed on its line leaves none. So each reading of an entry
 -- that gives a value has this of it, whatever its tests answer: this is said of readings (`Kept`), and goes through their
 -- steps and choices. A line with a dash is no head.
-use Rattle.std.proofs.Common.{◌≡◌, ◌≢◌, ℕ, ◌&&◌, Bool, true, false, cond, eqb, List, [], length, drop, Option, Some, None, Ok, is_some, refl, sym, ap, ◌∙◌, arith, ◌⊎◌, inl, inr, subst}
-use Rattle.std.specs.Str.{bytes_eq}
-use Rattle.std.proofs.lemmas.Bool.Decides.{nat_tests}
+use Rattle.std.proofs.Common.{◌≡◌, ◌≢◌, ℕ, Bool, true, false, cond, eqb, List, length, drop, Option, Some, None, Ok, is_some, refl, sym, ap, ◌∙◌, subst}
 use Rattle.macho_stub_lines.specs.declared.keys.ItemKind.{ItemKind}
 use Rattle.macho_stub_lines.specs.declared.keys.ItemKind.TheVariants.{Libraries, Exports, Reexports}
 use Rattle.macho_stub_lines.specs.declared.keys.ItemKey.{ItemKey}
@@ -15,15 +13,14 @@ use Rattle.macho_stub_lines.specs.declared.keys.TopKey.TheVariants as top
 use Rattle.macho_stub_lines.specs.declared.list.Expect.{Expect}
 use Rattle.macho_stub_lines.specs.declared.list.Expect.TheVariants.{AfterOpen, AfterComma, AfterName, Closed}
 use Rattle.macho_stub_lines.specs.declared.fault.StubRule.TheVariants.{S1, S3}
-use Rattle.macho_stub_lines.specs.Bytes.{indent, unspaced, is_passed, has_barred, is_mark, is_plain_byte, has_late_control_after, head, end, has_dash, belongs_to_top}
-use Rattle.macho_stub_lines.specs.Scalars.{scalar_front, plain_front}
+use Rattle.macho_stub_lines.specs.Bytes.{indent, head, has_dash}
 use Rattle.macho_stub_lines.specs.Faults.{Reading, ◌>>=◌, broken, outside}
-use Rattle.macho_stub_lines.specs.Lists.{ListPart, list_part, token_front, behind, with_front}
-use Rattle.macho_stub_lines.specs.Keys.{Entry, entry_at, scalar_value, version_value, top_key, item_key}
-use Rattle.macho_stub.specs.Documents.{ItemFields, DocumentFields}
-use Rattle.macho_stub.specs.Opened.{OpenDocumentFields, head_at, with_items, has_items, has_key, with_top_key, no_item}
-use Rattle.macho_stub.specs.Reader.{ItemListFields, NameListFields, ModeFields, Keys, Skipped, Names, NoItem, InsideFields, PlaceFields, Outside, Within, StateFields, stays, with_names, behind_expect, behind_part, names_line, names_value, opened, skipped_value, item_entry, item_key_line, key_column, first_line, top_entry, within, with_whole, top_line, items_with_last, item_line, key_line, belongs, inside_line, content_line, line_step}
-use Rattle.macho_stub_lines.proofs.Bind.{bind_ok, chosen, not_broken, not_broken_else, same_ok, no_ok, same_bytes, bytes_same, ne_at}
+use Rattle.macho_stub_lines.specs.Lists.{ListPart, list_part, with_front}
+use Rattle.macho_stub_lines.specs.Keys.{entry_at, scalar_value, version_value, item_key}
+use Rattle.macho_stub.specs.Documents.{ItemFields}
+use Rattle.macho_stub.specs.Opened.{OpenDocumentFields, with_items, has_items, has_key, with_top_key, no_item}
+use Rattle.macho_stub.specs.Reader.{ItemListFields, NameListFields, ModeFields, Keys, Skipped, Names, NoItem, InsideFields, stays, with_names, behind_expect, behind_part, names_line, names_value, opened, skipped_value, item_entry, item_key_line, key_column, first_line, top_entry}
+use Rattle.macho_stub_lines.proofs.Bind.{bind_ok, not_broken, not_broken_else, same_ok, no_ok}
 
 -- what is read has this
 abbrev pub Kept : {A : Type 0} → (A → Type 0) → Reading A → Type 0

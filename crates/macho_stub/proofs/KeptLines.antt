@@ -1,31 +1,26 @@
 -- What a line leaves: the document's first line, and the line where a flow list or a key of items began.
--- A head alone begins another document, with its own line for the first; any other line leaves the reading outside, or in
--- the document as before (`Behind`). Inside a flow list the list keeps where it began, until it is closed; elsewhere what
--- is open behind a line began at that line (`began_of`). By the tests of the line, each way that it can go is one of an
--- entry (`Kept`), of an item's end, or of a document's. A line inside a flow list leaves no key of items open, and one that is
--- passed over leaves all as it is.
-use Rattle.std.proofs.Common.{◌≡◌, ◌≢◌, ℕ, ◌&&◌, Bool, true, false, cond, eqb, List, [], length, drop, Option, Some, None, Ok, is_some, refl, sym, ap, ◌∙◌, arith, ◌⊎◌, inl, inr, subst}
+-- A head alone begins another document, with its own line for the first; any other line leaves the reading outside, or
+-- in the document as before (`Behind`). Inside a flow list the list keeps where it began, until it is closed; elsewhere
+-- what is open behind a line began at that line (`began_of`). By the tests of the line, each way that it can go is one
+-- of an entry (`Kept`), of an item's end, or of a document's. A line inside a flow list leaves no key of items open,
+-- and one that is passed over leaves all as it is.
+use Rattle.std.proofs.Common.{◌≡◌, ◌≢◌, ℕ, ◌&&◌, true, false, cond, eqb, List, [], Option, Some, None, Ok, refl, sym, ap, ◌∙◌, arith, ◌⊎◌, inl, inr, subst}
 use Rattle.std.specs.Str.{bytes_eq}
 use Rattle.std.proofs.lemmas.Bool.Decides.{nat_tests}
-use Rattle.macho_stub_lines.specs.declared.keys.ItemKind.{ItemKind}
-use Rattle.macho_stub_lines.specs.declared.keys.ItemKind.TheVariants.{Libraries, Exports, Reexports}
 use Rattle.macho_stub_lines.specs.declared.keys.ItemKey.{ItemKey}
-use Rattle.macho_stub_lines.specs.declared.keys.ItemKey.TheVariants as item
-use Rattle.macho_stub_lines.specs.declared.keys.TopKey.{TopKey}
-use Rattle.macho_stub_lines.specs.declared.keys.TopKey.TheVariants as top
 use Rattle.macho_stub_lines.specs.declared.list.Expect.{Expect}
 use Rattle.macho_stub_lines.specs.declared.list.Expect.TheVariants.{AfterOpen, AfterComma, AfterName, Closed}
-use Rattle.macho_stub_lines.specs.declared.fault.StubRule.TheVariants.{S1, S3}
+use Rattle.macho_stub_lines.specs.declared.fault.StubRule.TheVariants.{S1}
 use Rattle.macho_stub_lines.specs.Bytes.{indent, unspaced, is_passed, has_barred, is_mark, is_plain_byte, has_late_control_after, head, end, has_dash, belongs_to_top}
 use Rattle.macho_stub_lines.specs.Scalars.{scalar_front, plain_front}
-use Rattle.macho_stub_lines.specs.Faults.{Reading, ◌>>=◌, broken, outside}
+use Rattle.macho_stub_lines.specs.Faults.{Reading, ◌>>=◌, outside}
 use Rattle.macho_stub_lines.specs.Lists.{ListPart, list_part, token_front, behind, with_front}
-use Rattle.macho_stub_lines.specs.Keys.{Entry, entry_at, scalar_value, version_value, top_key, item_key}
+use Rattle.macho_stub_lines.specs.Keys.{Entry, entry_at, top_key}
 use Rattle.macho_stub.specs.Documents.{ItemFields, DocumentFields}
-use Rattle.macho_stub.specs.Opened.{OpenDocumentFields, head_at, with_items, has_items, has_key, with_top_key, no_item}
-use Rattle.macho_stub.specs.Reader.{ItemListFields, NameListFields, ModeFields, Keys, Skipped, Names, NoItem, InsideFields, PlaceFields, Outside, Within, StateFields, stays, with_names, behind_expect, behind_part, names_line, names_value, opened, skipped_value, item_entry, item_key_line, key_column, first_line, top_entry, within, with_whole, top_line, items_with_last, item_line, key_line, belongs, inside_line, content_line, line_step}
-use Rattle.macho_stub_lines.proofs.Bind.{bind_ok, chosen, not_broken, not_broken_else, same_ok, no_ok, same_bytes, bytes_same, ne_at, other_bytes}
-use Rattle.macho_stub.proofs.Kept.{Kept, kept_ok, kept_bind, Began, Of, FirstLine, items_line, names_line_kept, item_key_line_kept, first_line_kept, top_entry_kept}
+use Rattle.macho_stub.specs.Opened.{OpenDocumentFields, head_at, with_items}
+use Rattle.macho_stub.specs.Reader.{ItemListFields, NameListFields, ModeFields, Keys, Skipped, Names, NoItem, InsideFields, PlaceFields, Outside, Within, StateFields, stays, with_names, behind_expect, behind_part, names_line, item_key_line, first_line, top_entry, within, with_whole, top_line, items_with_last, item_line, key_line, belongs, inside_line, content_line, line_step}
+use Rattle.macho_stub_lines.proofs.Bind.{chosen, not_broken, not_broken_else, same_ok, no_ok, same_bytes, ne_at, other_bytes}
+use Rattle.macho_stub.proofs.Kept.{Kept, kept_ok, kept_bind, Of, FirstLine, items_line, names_line_kept, item_key_line_kept, first_line_kept, top_entry_kept}
 
 -- Behind a line with this number: outside documents, or in the document as before, or in one that the line begins.
 abbrev pub Behind : ℕ → ℕ → ℕ → List ℕ → PlaceFields → Type 0

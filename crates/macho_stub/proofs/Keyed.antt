@@ -13,7 +13,7 @@ use Rattle.macho_stub_lines.specs.declared.fault.StubRule.TheVariants.{S1}
 use Rattle.macho_stub_lines.specs.Bytes.{space, dash, colon, number_sign, is_key_byte, is_passed, is_tail, is_blank_or_comment, unspaced, head, end, belongs_to_top}
 use Rattle.macho_stub_lines.specs.Faults.{Reading, outside}
 use Rattle.macho_stub_lines.specs.Keys.{Entry, entry_at, entry_behind}
-use Rattle.macho_stub_lines.proofs.Bind.{chosen, not_broken, same_ok, no_ok, same_bytes, bytes_differ}
+use Rattle.macho_stub_lines.proofs.Bind.{chosen, not_broken, same_ok, no_ok, bytes_differ}
 use Rattle.macho_stub.proofs.OnlyLines.{space_ends, dash_ends, top_indent}
 
 -- the text begins with a key and a colon
@@ -152,7 +152,7 @@ pub key_not_passed : (text key rest : List ℕ) → HasKey text key rest → is_
 unfolding is_passed unspaced
 key_not_passed text key rest h = rw (top_indent text (key_at_top text key rest h)) (key_has_content text key rest h)
 
--- it is no head, and no end
+-- it is no head
 pub key_no_head : (text key rest : List ℕ) → HasKey text key rest → bytes_eq text head ≡ false
 unfolding is_key_byte
 key_no_head text key rest h = bytes_differ text head

@@ -1,6 +1,9 @@
 -- A line that ends an item or a document which lacks a key. Behind the lines that were read, no line at column 0 may
 -- stand where the last item lacks one, and no head and no end where the document lacks one; with the keys put in that
 -- the item lacks, the next item may begin in the column of the list's dashes.
+-- An item or a document that can't be closed is refused at each such line, so no text of the grammar goes on with it.
+-- The keys that an item lacks are put in one after the other (`targets` before `libraries`), and each leaves the list's
+-- columns as they are (`completed`).
 use Rattle.std.proofs.Common.{◌≡◌, ℕ, ◌+◌, ◌<◌, Bool, true, false, List, [], ◌∷◌, ◌++◌, length, map, Option, Some, None, Ok, refl, sym, ◌∙◌, arith, inl, inr, subst, append_assoc}
 use Rattle.std.specs.List.{AllByRecursion}
 use Rattle.std.proofs.lemmas.List.{append-nil}

@@ -1,7 +1,7 @@
 -- The set of the libraries that items list: a name is in it where it is one of those that were put in.
--- The code puts in name by name, item by item. Its invariant says for any name: it is in the set, or among those that are
--- left, exactly where it is listed at all. Putting in the next name moves it from those that are left to the set, and an item
--- whose names are all put in is left behind; what remains is that `or` may be put in another order.
+-- The code puts in name by name, item by item. Its invariant says for any name: it is in the set, or among those that
+-- are left, exactly where it is listed at all. Putting in the next name moves it from those that are left to the set,
+-- and an item whose names are all put in is left behind; what remains is that `or` may be put in another order.
 use Rattle.std.proofs.Common.{◌≡◌, ℕ, zero, suc, ◌+◌, ◌<◌, ◌||◌, Bool, true, false, cond, get_or, drop, Bor, List, [], ◌∷◌, length, refl, sym, ap, ◌∙◌, arith}
 use Rattle.std.specs.List.{list_any}
 use Rattle.std.specs.Str.{bytes_eq}

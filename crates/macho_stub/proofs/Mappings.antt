@@ -17,8 +17,9 @@ use Rattle.macho_stub.specs.Documents.{ItemOf, DocumentOf}
 use Rattle.macho_stub.specs.Opened.{OpenDocumentOf, head_at, with_items}
 use Rattle.macho_stub.specs.Grammar.{Under, Lines, Listed, IsSkippedUnder, AreItemsUnder, TopEntry, SaysNumber, SaysScalar, SaysList, SaysItems, IsTopValue, IsTopEntry, DocumentTree, no_text, IsDocument, AreDocuments}
 use Rattle.macho_stub.proofs.Folded as folded
-use Rattle.macho_stub.proofs.MappingsFields.{Mapping, HasKey, Step, Steps, Agree, map_all, none_of, gives, gives_or, once, steps_keep, known, known_given, known_or, known_keep, agree, agree_or, steps}
+use Rattle.macho_stub.proofs.MappingsFields.{Mapping, HasKey, Step, Steps, Agree, none_of, gives, gives_or, once, steps_keep, known, known_given, known_or, known_keep, agree, agree_or, steps}
 use Rattle.macho_stub.proofs.MappingsItems.{items_fold, items_unfold}
+use Rattle.macho_stub_lines.proofs.Runs.{all_weaker}
 
 -- ---- the fields of a document
 
@@ -223,7 +224,7 @@ each_agrees tree says d CurrentVersion = agree_or fields CurrentVersion tree.ent
 each_agrees tree says d (Items Libraries) = agree_or fields (Items Libraries) tree.entries [] says.libraries (λ e. cc) d.once d.libraries
 each_agrees tree says d (Items Exports) = agree_or fields (Items Exports) tree.entries [] says.exports (λ e. cc) d.once d.exports
 each_agrees tree says d (Items Reexports) = agree_or fields (Items Reexports) tree.entries [] says.reexports (λ e. cc) d.once d.reexports
-each_agrees tree says d Unread = map_all IsTopEntry (λ one. HasKey fields Unread one → Says Unread one tt) skipped tree.entries d.each
+each_agrees tree says d Unread = all_weaker IsTopEntry (λ one. HasKey fields Unread one → Says Unread one tt) skipped tree.entries d.each
 
 document_fold : (tree : DocumentTree) (says : DocumentOf Slice) → IsDocument tree says → folded.IsDocument tree says
 document_fold tree says d =

@@ -8,6 +8,7 @@ use Rattle.std.proofs.Common.{◌≡◌, List, [], ◌∷◌, Option, Some, None
 use Rattle.std.specs.Prelude.{false, is_some, unwrap_or}
 use Rattle.std.specs.List.{AllByRecursion}
 use Rattle.macho_stub.specs.Grammar.{Given, GivenOr, NoneTwice}
+use Rattle.macho_stub_lines.proofs.Runs.{all_weaker}
 
 -- Entries with keys, what an entry says under a key, and a state with a field for each key that is read.
 pub record Mapping : Type 1 where
@@ -51,11 +52,6 @@ Steps m (one ∷ others) old new = (mid : m.State) × Step m (m.key_of one) one 
 every : {A : Type 0} (P : A → Type 0) → ((a : A) → P a) → (xs : List A) → AllByRecursion P xs
 every P p [] = tt
 every P p (x ∷ xs) = (p x, every P p xs)
-
--- what follows from a fact follows of each element
-pub map_all : {A : Type 0} (P Q : A → Type 0) → ((a : A) → P a → Q a) → (xs : List A) → AllByRecursion P xs → AllByRecursion Q xs
-map_all P Q f [] all = tt
-map_all P Q f (x ∷ xs) all = (f x all.0, map_all P Q f xs all.1)
 
 -- a field that isn't filled is empty
 pub none_of : {X : Type 0} (field : Option X) → is_some field ≡ false → field ≡ None
@@ -129,7 +125,7 @@ once m (one ∷ others) old new s =
         | inl again ↦
             let full : m.field key s.0 ≡ Some s.1.1 = ap (m.field key) s.1.3 ∙ m.put_same key s.1.1 old read in
             absurd cc
-        | inr lacks ↦ map_all (λ other. HasKey m key other → ⊥) N (λ other lack same. absurd (lack (sym same))) others lacks.0
+        | inr lacks ↦ all_weaker (λ other. HasKey m key other → ⊥) N (λ other lack same. absurd (lack (sym same))) others lacks.0
       ]
     ] in
     (here, once m others s.0 new s.2)
@@ -223,7 +219,7 @@ pub agree : (m : Mapping) (key : m.Key) (entries : List m.Entry) (x : m.Value ke
 agree m key [] x read none g = tt
 agree m key (one ∷ others) x read none (inl g) = (
   λ same. g.1,
-  map_all (λ other. m.key_of one ≡ m.key_of other → m.key_of one ≡ m.unread) (λ other. HasKey m key other → m.Says key other x)
+  all_weaker (λ other. m.key_of one ≡ m.key_of other → m.key_of one ≡ m.unread) (λ other. HasKey m key other → m.Says key other x)
       (λ other no same. absurd (read (sym g.0 ∙ no (g.0 ∙ sym same)))) others none.0,
 )
 agree m key (one ∷ others) x read none (inr g) = (
@@ -235,7 +231,7 @@ agree m key (one ∷ others) x read none (inr g) = (
 pub agree_or : (m : Mapping) (key : m.Key) (entries : List m.Entry) (otherwise x : m.Value key) → (key ≡ m.unread → ⊥)
     → NoneTwice m.unread m.key_of entries → GivenOr otherwise (HasKey m key) (m.Says key) entries x → Agree m key entries x
 agree_or m key entries otherwise x read none (inl g) = agree m key entries x read none g
-agree_or m key entries otherwise x read none (inr l) = map_all (λ one. HasKey m key one → ⊥)
+agree_or m key entries otherwise x read none (inr l) = all_weaker (λ one. HasKey m key one → ⊥)
     (λ one. HasKey m key one → m.Says key one x) (λ one lack same. absurd (lack same)) entries l.0
 
 -- behind an entry, the fields of the others are still empty

@@ -18,7 +18,8 @@ use Rattle.macho_stub.specs.Documents.{ItemOf}
 use Rattle.macho_stub.specs.Opened.{OpenItemOf, no_item, with_key}
 use Rattle.macho_stub.specs.Grammar.{NoneTwice, IsSkipped, ItemEntry, item_value_at, is_deeper, SaysNames, IsItemValue, IsItemEntry, ItemTree, column_of, entries_of, AreNames, IsItem, AreItems}
 use Rattle.macho_stub.proofs.Folded as folded
-use Rattle.macho_stub.proofs.MappingsFields.{Mapping, HasKey, Step, Steps, Agree, map_all, none_of, gives, gives_or, once, known, known_given, known_or, agree, agree_or, steps}
+use Rattle.macho_stub.proofs.MappingsFields.{Mapping, HasKey, Step, Steps, Agree, none_of, gives, gives_or, once, known, known_given, known_or, agree, agree_or, steps}
+use Rattle.macho_stub_lines.proofs.Runs.{all_weaker}
 
 -- ---- the fields of an item
 
@@ -177,7 +178,7 @@ each_agrees kind dash_column tree says i WeakNames =
     agree_or (fields kind (column_of dash_column tree)) WeakNames (entries_of tree) [] says.weak_names (λ e. cc) i.once i.weak_names
 each_agrees kind dash_column tree says i Unread =
     let column = column_of dash_column tree in
-    map_all (IsItemEntry kind column) (λ one. HasKey (fields kind column) Unread one → Says column Unread one []) (skipped kind column)
+    all_weaker (IsItemEntry kind column) (λ one. HasKey (fields kind column) Unread one → Says column Unread one []) (skipped kind column)
     (entries_of tree) i.each
 
 item_fold : (kind : ItemKind) (dash_column : ℕ) (tree : ItemTree) (says : ItemOf Slice) → IsItem kind dash_column tree says

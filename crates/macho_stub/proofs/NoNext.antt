@@ -1,6 +1,9 @@
 -- No next item begins at a dash in another column than that of the list's dashes, also with keys put in: each key is
 -- read in the column of the item's keys, or belongs to a value that is skipped, and so leaves the columns as they are;
 -- and behind it such a dash is refused.
+-- The line in question stands behind spaces, and no skipped value takes it: so a dash in its column is outside the
+-- grammar, before any key is put in (`other_dash`) and behind each (`no_dash`). Keys that are put in at column 0 may
+-- not stand at all, since the last item lacks one (`first_column`).
 use Rattle.std.proofs.Common.{◌≡◌, ◌≢◌, ℕ, zero, suc, ◌+◌, Bool, true, false, cond, eqb, ltb, drop, List, [], ◌∷◌, ◌++◌, length, map, Some, Ok, refl, sym, ap, ◌∙◌, arith, inl, inr, subst, append_assoc}
 use Rattle.std.specs.List.{prefix_len, AllByRecursion}
 use Rattle.std.proofs.lemmas.List.{append-nil}
@@ -16,7 +19,7 @@ use Rattle.macho_stub.specs.Documents.{DocumentFields}
 use Rattle.macho_stub.specs.Opened.{OpenDocumentFields, OpenItemFields, has_key, with_key}
 use Rattle.macho_stub.specs.Reader.{ItemListFields, Keys, StateFields, stays, names_line, names_value, skipped_value, item_key_line, within, item_line, line_step}
 use Rattle.macho_stub.specs.Order.{MayStand, LacksInItem, IsNeeded, IsNextItem, unread_key, unread_item, in_column}
-use Rattle.macho_stub_lines.proofs.Bind.{not_broken_else, no_ok, same_ok, eq_false, chosen}
+use Rattle.macho_stub_lines.proofs.Bind.{not_broken_else, no_ok, same_ok, eq_false, chosen, one_way}
 use Rattle.macho_stub.proofs.OnlyLines.{top_indent, spelled_indent, spelled_rest, DashLine, dash_line}
 use Rattle.macho_stub.proofs.Joined.{IsLine, spaces_line}
 use Rattle.macho_stub.proofs.PutIn.{at_item, item_text_barred, item_text_passed, no_dash_there, targets_line, libraries_line}
@@ -64,11 +67,7 @@ other_dash before document list true line n nz nd s =
       s refl,
       eq_false n list.dash nd,
       eq_false n 0 nz,
-    ) (by_column (eqb n list.column))
-  where
-    by_column : (t : Bool) → cond {A = Reading StateFields} t (outside line) (outside line) ≡ outside line
-    by_column true = refl
-    by_column false = refl
+    ) (one_way (eqb n list.column) (outside {A = StateFields} line))
 other_dash before document list false line n nz nd s =
     let d : DashLine n 1 (in_column n unread_item) unread_key = dash_line n 1 unread_key (omega arith) refl in
     rw (
@@ -79,11 +78,7 @@ other_dash before document list false line n nz nd s =
       spelled_rest n unread_item,
       eq_false n list.dash nd,
       eq_false n 0 nz,
-    ) (by_column (eqb n list.column))
-  where
-    by_column : (t : Bool) → cond {A = Reading StateFields} t (outside line) (outside line) ≡ outside line
-    by_column true = refl
-    by_column false = refl
+    ) (one_way (eqb n list.column) (outside {A = StateFields} line))
 
 -- ---- a key that is put in
 
@@ -235,7 +230,8 @@ first_column first line key keys needed lacks m =
     let z : indent key ≡ 0 = top_indent key t.out in
     lacks key (ap (λ n. is_blank_or_comment (drop n key)) z ∙ t.some) z (line_stands first (map (in_column 0) keys) key line m)
 
--- Where the last item lacks a key, a line in another column than 0 and that of the list's dashes begins no next item.
+-- Where the last item lacks a key, a line behind spaces that no skipped value takes, and that has no dash in the column of
+-- the list's, begins no next item.
 pub no_next : (first : List (List ℕ)) (before : List DocumentFields) (document : OpenDocumentFields) (list : ItemListFields)
     (skipped : Bool) (text : List ℕ) → Reached first (at_item before document list skipped) → indent text ≢ 0
     → (has_dash text ≡ true → indent text ≢ list.dash) → (skipped ≡ true → ltb list.column (indent text) ≡ false)

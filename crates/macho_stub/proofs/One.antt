@@ -1,6 +1,8 @@
 -- What is told of a text is told of it alone: two reasons at lines are the same reason, at the same line. Of two first
 -- lines that may not stand the earlier one would have to stand, since the lines before the later one go on; and at one
 -- place, a line that ends what lacks a key has no second key.
+-- One list that is cut in two ways is cut at one place, or one cut lies before the other (`cuts`): so the earlier of
+-- two places is among the lines before the later (`stands_before`), and the last head has one number (`one_head`).
 use Rattle.std.proofs.Common.{◌≡◌, ◌≢◌, ℕ, ◌+◌, List, [], ◌∷◌, ◌++◌, length, Ok, refl, sym, ap, ◌∙◌, inl, inr, subst, append_assoc}
 use Rattle.std.specs.List.{AllByRecursion}
 use Rattle.std.specs.Str.Lines.{lines}
@@ -15,6 +17,7 @@ use Rattle.macho_stub.specs.Grammar.{IsStubText}
 use Rattle.macho_stub_lines.proofs.Bind.{no_ok}
 use Rattle.macho_stub.proofs.Outsides.{dash_no_key}
 use Rattle.macho_stub.proofs.TwiceKeys.{said_of, second_key}
+use Rattle.macho_stub_lines.proofs.Runs.{all_behind}
 
 -- ---- lists that are cut in two ways
 
@@ -81,22 +84,19 @@ ends_no_key first line w t =
       ]
     ]
 
-not_in_the_middle : (r q : List (List ℕ)) → AllByRecursion (λ line. line ≢ head) (r ++ head ∷ q) → ⊥
-not_in_the_middle [] q a = a.0 refl
-not_in_the_middle (x ∷ r) q a = not_in_the_middle r q a.1
-
 -- the last head of a text has one number
 pub one_head : (l m : ℕ) (texts : List (List ℕ)) → IsLastHead l texts → IsLastHead m texts → l ≡ m
-one_head l m texts h k =
-    let N : List (List ℕ) → Type 0 = λ b. AllByRecursion (λ line. line ≢ head) b in
-    by_cut (cuts h.before head h.behind k.before head k.behind (sym h.parts ∙ k.parts))
+one_head l m texts h k = by_cut (cuts h.before head h.behind k.before head k.behind (sym h.parts ∙ k.parts))
   where
+    none_between : (r q behind : List (List ℕ)) → behind ≡ r ++ head ∷ q → AllByRecursion (λ line. line ≢ head) behind → ⊥
+    none_between r q behind e all =
+        let N : List (List ℕ) → Type 0 = λ b. AllByRecursion (λ line. line ≢ head) b in
+        (all_behind (λ (line : List ℕ). line ≢ head) r (head ∷ q) (subst N e all)).0 refl
+
     by_cut : Cuts h.before head h.behind k.before head k.behind → l ≡ m
     by_cut (Same s t) = h.here ∙ ap (λ (b : List (List ℕ)). length b + 1) s ∙ sym k.here
-    by_cut (Before r s t) = absurd (let N : List (List ℕ) → Type 0 = λ b. AllByRecursion (λ line. line ≢ head) b in
-        not_in_the_middle r k.behind (subst N t h.none))
-    by_cut (Behind r s t) = absurd (let N : List (List ℕ) → Type 0 = λ b. AllByRecursion (λ line. line ≢ head) b in
-        not_in_the_middle r h.behind (subst N t k.none))
+    by_cut (Before r s t) = absurd (none_between r k.behind h.behind t h.none)
+    by_cut (Behind r s t) = absurd (none_between r h.behind k.behind t k.none)
 
 -- the three reasons, by their rule
 data Why (rule : StubRule) (number : ℕ) (first : List (List ℕ)) (line : List ℕ) : Type 0 where

@@ -28,6 +28,7 @@ use Rattle.macho_stub.proofs.Since.{Known, known_start, known_more, no_bracket_a
 use Rattle.macho_stub.proofs.Elsewhere.{no_key_in_list}
 use Rattle.macho_stub.proofs.Only.{lines_read}
 use Rattle.macho_stub.proofs.One.{Cuts, Same, Before, Behind, cuts, one_head, one_stop, no_stop_and_end}
+use Rattle.macho_stub_lines.proofs.Runs.{all_behind}
 
 -- ---- one line
 
@@ -59,21 +60,20 @@ one_list l m texts a b = by_cut (cuts a.first a.line a.more b.first b.line b.mor
     by_cut (Before r e f) = absurd (not_again a.first r b.more b.first a.line b.line a.more e f a.open_along b.before)
     by_cut (Behind r e f) = absurd (not_again b.first r a.more a.first b.line a.line b.more e f b.open_along a.before)
 
-passed_there : (r q : List (List ℕ)) (y : List ℕ) → AllByRecursion (λ line. is_passed line ≡ true) (r ++ y ∷ q) → is_passed y ≡ true
-passed_there [] q y a = a.0
-passed_there (x ∷ r) q y a = passed_there r q y a.1
-
 one_key : (l m : ℕ) (texts : List (List ℕ)) → IsBareKey l texts → IsBareKey m texts → l ≡ m
 one_key l m texts a b = by_cut (cuts a.first a.line a.passed b.first b.line b.passed (sym a.parts ∙ b.parts))
   where
+    passed_there : (r q passed : List (List ℕ)) (y : List ℕ) → passed ≡ r ++ y ∷ q → AllByRecursion (λ line. is_passed line ≡ true) passed
+        → is_passed y ≡ false → ⊥
+    passed_there r q passed y e all content =
+        let P : List (List ℕ) → Type 0 = λ lines. AllByRecursion (λ line. is_passed line ≡ true) lines in
+        let there : is_passed y ≡ true = (all_behind (λ (line : List ℕ). is_passed line ≡ true) r (y ∷ q) (subst P e all)).0 in
+        let k = sym there ∙ content in cc
+
     by_cut : Cuts a.first a.line a.passed b.first b.line b.passed → l ≡ m
     by_cut (Same e f) = a.here ∙ ap (λ (x : List (List ℕ)). length x + 1) e ∙ sym b.here
-    by_cut (Before r e f) =
-        let P : List (List ℕ) → Type 0 = λ all. AllByRecursion (λ line. is_passed line ≡ true) all in
-        absurd (let k = sym (passed_there r b.passed b.line (subst P f a.no_content)) ∙ b.content in cc)
-    by_cut (Behind r e f) =
-        let P : List (List ℕ) → Type 0 = λ all. AllByRecursion (λ line. is_passed line ≡ true) all in
-        absurd (let k = sym (passed_there r a.passed a.line (subst P f b.no_content)) ∙ a.content in cc)
+    by_cut (Before r e f) = absurd (passed_there r b.passed a.passed b.line f a.no_content b.content)
+    by_cut (Behind r e f) = absurd (passed_there r a.passed b.passed a.line f b.no_content a.content)
 
 -- ---- where a closing bracket may stand
 

@@ -4,7 +4,7 @@
 -- key of a dash alone would end at the space behind it (`space_ends`, `dash_ends`). The spaces in front of a text that
 -- begins with none are as many as were put there, and dropping them, or looking behind them, gives the text
 -- (`spelled_indent`, `spelled_rest`, `spelled_at`). For a dash this is done before and behind it (`dash_line`).
-use Rattle.std.proofs.Common.{◌≡◌, ◌≢◌, ℕ, zero, suc, ◌+◌, ◌<◌, ◌&&◌, ◌||◌, not, Bool, true, false, cond, eqb, List, [], ◌∷◌, ◌++◌, get_or, take, drop, replicate, Ok, refl, sym, ap, ◌∙◌, arith}
+use Rattle.std.proofs.Common.{◌≡◌, ◌≢◌, ℕ, zero, suc, ◌+◌, ◌<◌, ◌&&◌, ◌||◌, not, true, false, cond, eqb, List, [], ◌∷◌, ◌++◌, get_or, take, drop, replicate, Ok, refl, sym, ap, ◌∙◌, arith}
 use Rattle.std.specs.List.{prefix_len}
 use Rattle.std.specs.Str.{bytes_eq}
 use Rattle.std.proofs.lemmas.Bool.Decides.{nat_tests}
@@ -14,7 +14,7 @@ use Rattle.macho_stub_lines.specs.declared.fault.StubRule.TheVariants.{S1}
 use Rattle.macho_stub_lines.specs.Bytes.{is_space, space, dash, colon, is_key_byte, indent, unspaced, head, end, belongs_to_top, has_dash}
 use Rattle.macho_stub_lines.specs.Keys.{Entry, entry_at, entry_behind}
 use Rattle.macho_stub.specs.Reader.{key_column}
-use Rattle.macho_stub_lines.proofs.Bind.{not_broken, no_ok, same_bytes, bytes_differ}
+use Rattle.macho_stub_lines.proofs.Bind.{not_broken, no_ok, bytes_differ}
 
 -- ---- keys
 
@@ -59,7 +59,7 @@ entry_at_top line (b ∷ []) said e = let n = entry_first line b [] said e in gr
 entry_at_top line (b ∷ c ∷ text) said e = let n = entry_first line b (c ∷ text) said e in let m = entry_second line b c text said e in
     grind (arith, nat_tests)
 
--- and is no head, and no end
+-- and is no head
 pub entry_no_head : (line : ℕ) (text : List ℕ) (said : Entry) → entry_at line text ≡ Ok said → bytes_eq text head ≡ false
 unfolding entry_at is_key_byte
 entry_no_head line text said e = bytes_differ text head (λ is. no_ok line S1 said (sym (ap (entry_at line) is) ∙ e))

@@ -16,7 +16,7 @@ use Rattle.macho_stub.specs.Opened.{OpenDocumentFields}
 use Rattle.macho_stub.specs.Reader.{ItemListFields, top_entry, item_entry, top_line, line_step}
 use Rattle.macho_stub.specs.Order.{MayStand, LacksInItem, EndsDocument, EndsWithout, StandsTwice, unread_key, in_column}
 use Rattle.macho_stub_lines.proofs.Bind.{no_ok, same_ok}
-use Rattle.macho_stub.proofs.OnlyLines.{entry_at_top, top_indent}
+use Rattle.macho_stub.proofs.OnlyLines.{entry_at_top}
 use Rattle.macho_stub.proofs.Joined.{IsLine}
 use Rattle.macho_stub.proofs.PutIn.{at_top, at_item, item_text_barred, item_text_passed}
 use Rattle.macho_stub.proofs.Reached.{Reached, may_stand, refused}

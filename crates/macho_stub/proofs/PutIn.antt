@@ -4,18 +4,14 @@
 -- text that is written out, so the step over it is computed, for any document and any items before (`name_steps` and the
 -- like). A line in the column of an item's keys begins with as many spaces as the list says: those are counted by a
 -- lemma (`item_text_steps`), and what stands behind them is again written out.
-use Rattle.std.proofs.Common.{◌≡◌, ◌≢◌, ℕ, zero, suc, ◌+◌, get_or, ◌<◌, ◌&&◌, Bool, true, false, eqb, List, [], ◌∷◌, ◌++◌, replicate, Option, Some, None, Ok, refl, ap, ◌∙◌, arith}
-use Rattle.macho_stub.specs.Order.{unread_key, unread_item, closing_bracket}
-use Rattle.std.specs.Prelude.{codes, unwrap_or}
+use Rattle.std.proofs.Common.{◌≡◌, ◌≢◌, ℕ, zero, suc, get_or, ◌<◌, ◌&&◌, Bool, true, false, eqb, List, [], ◌++◌, replicate, Option, Some, None, Ok, refl, ap, ◌∙◌, arith}
+use Rattle.std.specs.Prelude.{codes}
 use Rattle.std.specs.List.{prefix_len}
 use Rattle.std.proofs.lemmas.Bool.Decides.{nat_tests}
 use Rattle.macho_stub_lines.proofs.Bind.{eq_true, eq_false, not_below}
-use Rattle.macho_stub.proofs.Fine.{GoodList, GoodMode, GoodPlace, GoodState}
-use Rattle.macho_stub.proofs.Joined.{IsLine, AreLines, spaces_line}
 use Rattle.macho_stub.proofs.OnlyLines.{top_indent, spelled_indent, spelled_rest, spelled_at}
 use Rattle.macho_stub_lines.specs.declared.keys.ItemKind.{ItemKind}
 use Rattle.macho_stub_lines.specs.declared.keys.ItemKind.TheVariants.{Libraries, Exports, Reexports}
-use Rattle.macho_stub_lines.specs.declared.keys.ItemKey.{ItemKey}
 use Rattle.macho_stub_lines.specs.declared.list.Expect.{Expect}
 use Rattle.macho_stub_lines.specs.declared.list.Expect.TheVariants.{AfterOpen, AfterComma, AfterName, Closed}
 use Rattle.macho_stub_lines.specs.Bytes.{is_space, space, dash, indent, unspaced, is_passed, has_barred, is_blank_or_comment, is_key_byte, is_tail, is_mark, is_plain_byte, has_late_control_after, has_dash, belongs_to_top}
@@ -23,9 +19,9 @@ use Rattle.macho_stub_lines.specs.Scalars.{scalar_front, plain_front}
 use Rattle.macho_stub_lines.specs.Lists.{list_part, token_front, behind}
 use Rattle.macho_stub_lines.specs.Keys.{entry_at, top_key, item_key, scalar_value, version_value, number_of}
 use Rattle.macho_stub.specs.Documents.{ItemFields, DocumentFields}
-use Rattle.macho_stub.specs.Opened.{OpenDocumentFields, no_item, with_items, with_key, with_top_key}
-use Rattle.macho_stub.specs.Whole.{whole_item, whole_document}
-use Rattle.macho_stub.specs.Reader.{ItemListFields, NameListFields, ModeFields, Keys, Skipped, Names, NoItem, PlaceFields, Outside, Within, StateFields, stays, with_names, names_line, names_value, skipped_value, item_key_line, key_column, first_line, within, with_whole, top_line, items_with_last, item_line, line_step, lines_from}
+use Rattle.macho_stub.specs.Opened.{OpenDocumentFields, no_item, with_items}
+use Rattle.macho_stub.specs.Reader.{ItemListFields, NameListFields, ModeFields, Keys, Skipped, Names, NoItem, Within, StateFields, stays, with_names, names_line, names_value, skipped_value, item_key_line, key_column, first_line, within, top_line, items_with_last, item_line, line_step}
+use Rattle.macho_stub.specs.Order.{unread_key, unread_item, closing_bracket}
 
 -- ---- where keys may stand
 
@@ -41,6 +37,8 @@ at_top before document skipped = record { documents = before; place = Within (st
 -- in an item, behind its entries
 abbrev pub at_item : List DocumentFields → OpenDocumentFields → ItemListFields → Bool → StateFields
 at_item before document list skipped = record { documents = before; place = Within (stays document (Some list) (mode_at skipped)) }
+
+-- ---- lines that are put in
 
 -- a version
 abbrev pub version_line : List ℕ

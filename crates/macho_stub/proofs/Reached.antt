@@ -1,8 +1,10 @@
 -- Lines that were read without a fault, and where they leave the reading. What may stand behind them in a text of the
 -- grammar is what the next step doesn't refuse: if it doesn't, lines are there that finish the text, and what is read
 -- is in the grammar; and what is in the grammar is read.
+-- The lines that finish the text are those of `Finish`; with them all is read, so the text that is written of these
+-- lines is in the grammar (`text_of`). What a step refuses, no text of the grammar goes on with, since it would be read
+-- (`refused`).
 use Rattle.std.proofs.Common.{◌≡◌, ℕ, suc, ◌+◌, List, [], ◌∷◌, ◌++◌, length, Ok, refl, sym, ap, ◌∙◌, arith, append_assoc}
-use Rattle.macho_stub_lines.proofs.Runs.{all_append}
 use Rattle.std.specs.Str.Lines.{lines}
 use Rattle.macho_stub_lines.specs.Faults.{◌>>=◌, broken}
 use Rattle.macho_stub_lines.specs.declared.fault.StubRule.{StubRule}
@@ -18,6 +20,7 @@ use Rattle.macho_stub.proofs.Joined.{IsLine, AreLines, joined, lines_joined}
 use Rattle.macho_stub.proofs.Found.{lines_found}
 use Rattle.macho_stub.proofs.Only.{lines_read}
 use Rattle.macho_stub.proofs.Finish.{finishes}
+use Rattle.macho_stub_lines.proofs.Runs.{all_append}
 
 -- the lines lead from the start to this state
 pub record Reached (first : List (List ℕ)) (state : StateFields) : Type 0 where

@@ -1,8 +1,9 @@
 -- What lines must be that finish a text from where the reading stands: trees for what is still open there, and
 -- documents behind them. Each relation says which documents the text then has, `total`, behind those `before`.
 -- There is one for each place of the reading: outside documents, where a key of a document or of an item may stand, in a
--- skipped value, in a flow list, and where an item must stand. Each has the trees of what is open up to its end, and hands the
--- lines behind that, its `tail`, to the relation of the place that the reading comes to there.
+-- skipped value, in a flow list, and where an item must stand. Each has the trees of what is open up to its end. An item, a
+-- skipped value and a flow list hand the lines behind that, the `tail`, to the relation of the place where the reading goes
+-- on; what stands behind a document are the trees of the others.
 use Rattle.std.proofs.Common.{◌≡◌, ◌≢◌, ℕ, true, List, [], ◌∷◌, ◌++◌, Option, Some, None, Ok}
 use Rattle.std.specs.List.{AllByRecursion}
 use Rattle.macho_stub_lines.specs.declared.keys.ItemKind.{ItemKind}

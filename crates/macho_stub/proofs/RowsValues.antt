@@ -1,6 +1,8 @@
--- Values that are scalars, numbers and flow lists, each with its tree written out and what it says at places that are counted
--- in the value: behind a quote, behind the zeros of a number, and over the lines of a list. That the tree is spelled so, and
--- that what it says is there, is computed; that it is sound is computed by the tests of `RowTests`.
+-- Values that are scalars, numbers and flow lists, each with its tree written out and what it says at places that are
+-- counted in the value: behind a quote, behind the zeros of a number, and over the lines of a list. That the tree is
+-- spelled so, and that what it says is there, is computed; that it is sound is computed by the tests of `RowTests`.
+-- A row says of one value what its slices are: plain, in quotes, empty, with zeros in front, with a comma behind the
+-- last scalar, and over lines.
 use Rattle.std.proofs.Common.{[], ◌∷◌, Some, None, refl, arith}
 use Rattle.std.specs.Prelude.{codes}
 use Rattle.macho_stub_lines.specs.Bytes.{is_plain_byte, is_mark, has_late_control_after, is_passed, is_blank_or_comment, is_tail, unspaced, indent}

@@ -1,8 +1,8 @@
 -- The tests that are computed decide the rules: each says yes exactly where its rule holds.
--- A name is sought by comparing it with each other one, and names are compared byte by byte, so a name that is found is among
--- them, and the other way round. Two documents say the same where each of their parts is the same, and lists are the same
--- where they are as long and the same place by place (`all_same_is`); so the test on documents is a row of tests that are
--- right one by one (`document_same`, `document_test`).
+-- A name is sought by comparing it with each other one, and names are compared byte by byte, so a name that is found is
+-- among them, and the other way round. Two documents say the same where each of their parts is the same, and lists are
+-- the same where they are as long and the same place by place (`all_same_is`); so the test on documents is a row of
+-- tests that are right one by one (`document_same`, `document_test`).
 use Rattle.std.proofs.Common.{◌≡◌, ℕ, ◌&&◌, ◌||◌, Bool, true, false, List, [], ◌∷◌, refl, ap, ◌∙◌, ◌⊎◌, inl, inr}
 use Rattle.std.proofs.lemmas.Bool.{and_parts}
 use Rattle.std.specs.List.{list_any}

@@ -1,8 +1,9 @@
 -- The documents make a library exactly where it is computed.
--- The computing is a chain of choices by tests and of steps. Where it gives a library, each test answered as its rule says
--- (`Ruled`), so the main library and each document are sound, and what is given is what they make (`library_made`). The other
--- way, where the rules hold each test answers so, and the chain computes to the library (`library_back`). What a chain tells
--- that fails is taken apart here too (`bind_err`, `main_steps`), for the faults (`Told`).
+-- The computing is a chain of choices by tests and of steps. Where it gives a library, each test answered as its rule
+-- says (`Ruled`), so the main library and each document are sound, and what is given is what they make
+-- (`library_made`). The other way, where the rules hold each test answers so, and the chain computes to the library
+-- (`library_back`). What a chain tells that fails is taken apart here too (`bind_err`, `main_steps`), for the faults
+-- (`Told`).
 use Rattle.std.proofs.Common.{◌≡◌, ◌≢◌, ℕ, ◌≤◌, ◌||◌, not, Bool, true, false, cond, eqb, List, [], ◌∷◌, length, Ok, Err, refl, sym, ap, ◌∙◌, arith, ◌⊎◌, inl, inr, subst}
 use Rattle.std.proofs.lemmas.List.{nil_from_length}
 use Rattle.std.proofs.lemmas.Bool.{not-true, not-false}

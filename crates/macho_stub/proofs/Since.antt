@@ -1,8 +1,11 @@
 -- What the lines that were read say of where the reading is: the first line of the document is the last head among
--- them; a flow list that is open began at a line behind which, at every line since, a closing bracket may stand; and
--- a key of items has nothing under it but lines that are passed over.
+-- them; a flow list that is open began at a line behind which, at every line since, a closing bracket may stand; and a
+-- key of items has nothing under it but lines that are passed over.
+-- Each line keeps this: by what the step over it leaves (`KeptLines`), a list is as it was or begins at the line. That
+-- a bracket may stand behind an open list is by reading it (`closing_stands`); that none may where no list is open is
+-- by reading too (`no_bracket_at_keys`, `no_bracket_at_item`).
 use Rattle.std.proofs.Common.{◌≡◌, ◌≢◌, ℕ, ◌+◌, Bool, true, false, List, [], ◌∷◌, ◌++◌, length, Option, Some, None, Ok, Err, refl, sym, ap, ◌∙◌, inl, inr, subst, append_assoc}
-use Rattle.std.specs.List.{AllByRecursion}
+use Rattle.std.specs.Str.{bytes_eq}
 use Rattle.macho_stub_lines.specs.declared.fault.StubRule.TheVariants.{S1}
 use Rattle.macho_stub_lines.specs.declared.keys.ItemKind.{ItemKind}
 use Rattle.macho_stub_lines.specs.Bytes.{indent, unspaced, is_passed, has_barred, is_blank_or_comment, is_key_byte, head, has_dash, belongs_to_top, end}
@@ -19,7 +22,7 @@ use Rattle.macho_stub.proofs.Steps.{Closes, keys_state, top_steps, lacking_steps
 use Rattle.macho_stub.proofs.Kept.{Began}
 use Rattle.macho_stub.proofs.KeptLines.{BehindState, NoBarePlace, inside_line_kept, names_line_no_bare, outside_kept, step_kinds}
 use Rattle.macho_stub_lines.proofs.Bind.{not_broken}
-use Rattle.std.specs.Str.{bytes_eq}
+use Rattle.macho_stub_lines.proofs.Runs.{all_append}
 
 abbrev pub HeadsAt : List (List ℕ) → PlaceFields → Type 0
 HeadsAt first Outside = Unit {0}
@@ -47,11 +50,6 @@ known_start = record { reached = reached_start; heads = tt; lists = tt }
 
 -- ---- heads
 
-other_more : (first : List (List ℕ)) (text : List ℕ) → AllByRecursion (λ line. line ≢ head) first → text ≢ head
-    → AllByRecursion (λ line. line ≢ head) (first ++ text ∷ [])
-other_more [] text a n = (n, tt)
-other_more (line ∷ first) text a n = (a.0, other_more first text a.1 n)
-
 head_stays : (number : ℕ) (first : List (List ℕ)) (text : List ℕ) → IsLastHead number first → text ≢ head
     → IsLastHead number (first ++ text ∷ [])
 head_stays number first text h n = record {
@@ -59,7 +57,7 @@ head_stays number first text h n = record {
   behind = h.behind ++ text ∷ [];
   parts = ap (λ (all : List (List ℕ)). all ++ text ∷ []) h.parts ∙ append_assoc h.before (head ∷ h.behind) (text ∷ []);
   here = h.here;
-  none = other_more h.behind text h.none n;
+  none = all_append (λ (line : List ℕ). line ≢ head) h.behind (text ∷ []) h.none (n, tt);
 }
 
 head_here : (first : List (List ℕ)) (text : List ℕ) → text ≡ head → IsLastHead (length first + 1) (first ++ text ∷ [])
@@ -157,11 +155,6 @@ pub no_spare_at_item : (first : List (List ℕ)) (before : List DocumentFields) 
 unfolding line_step has_barred is_passed is_blank_or_comment unspaced indent first_line has_dash
 no_spare_at_item first before document list kind at r m = refused first _ unread_key (length first + 1) S1 r refl m
 
-passed_more : (first : List (List ℕ)) (text : List ℕ) → AllByRecursion (λ line. is_passed line ≡ true) first → is_passed text ≡ true
-    → AllByRecursion (λ line. is_passed line ≡ true) (first ++ text ∷ [])
-passed_more [] text a n = (n, tt)
-passed_more (line ∷ first) text a n = (a.0, passed_more first text a.1 n)
-
 -- ---- a step
 
 -- a line that is passed over
@@ -180,7 +173,7 @@ mode_passed first before document list (NoItem kind at) text p r l = record {
   parts = ap (λ (all : List (List ℕ)). all ++ text ∷ []) l.parts ∙ append_assoc l.first (l.line ∷ l.passed) (text ∷ []);
   here = l.here;
   content = l.content;
-  no_content = passed_more l.passed text l.no_content p;
+  no_content = all_append (λ (line : List ℕ). is_passed line ≡ true) l.passed (text ∷ []) l.no_content (p, tt);
   items = item_stands (first ++ text ∷ []) before document list kind at r;
   no_key = no_spare_at_item (first ++ text ∷ []) before document list kind at r;
 }

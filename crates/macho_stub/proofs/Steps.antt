@@ -1,10 +1,10 @@
 -- Steps over lines that are known in part: a line at column 0 behind the keys of an item or a document, and a line in
 -- the column of an item's keys.
--- A line at column 0 that has content and belongs to no skipped value closes the item that is read, if there is one; where
--- this lacks no key, the line is one of the document with the item in it (`Closes`, `top_steps`), and where it does, the line
--- is refused for it. So a key that isn't read is passed there, and a head or an end is refused exactly as the document that
--- it closes is.
-use Rattle.std.proofs.Common.{◌≡◌, ℕ, ◌&&◌, Bool, true, false, cond, eqb, List, Option, Some, None, Ok, refl, ◌∙◌, arith}
+-- A line at column 0 that has content and belongs to no skipped value closes the item that is read, if there is one;
+-- where this lacks no key, the line is one of the document with the item in it (`Closes`, `top_steps`), and where it
+-- does, the line is refused for it. So a key that isn't read is passed there, and a head or an end is refused exactly
+-- as the document that it closes is.
+use Rattle.std.proofs.Common.{◌≡◌, ℕ, ◌&&◌, Bool, true, false, eqb, List, Option, Some, None, Ok, refl, ◌∙◌, arith}
 use Rattle.macho_stub_lines.specs.declared.fault.StubRule.{StubRule}
 use Rattle.macho_stub_lines.specs.Bytes.{indent, unspaced, is_passed, has_barred, is_blank_or_comment, is_key_byte, is_tail, head, end, has_dash, belongs_to_top}
 use Rattle.macho_stub_lines.specs.Faults.{broken}
@@ -13,7 +13,7 @@ use Rattle.macho_stub.specs.Documents.{ItemFields, DocumentFields}
 use Rattle.macho_stub.specs.Opened.{OpenDocumentFields, with_items}
 use Rattle.macho_stub.specs.Reader.{ItemListFields, Within, StateFields, stays, skipped_value, with_whole, top_line, items_with_last, item_line, line_step}
 use Rattle.macho_stub.specs.Order.{unread_key}
-use Rattle.macho_stub_lines.proofs.Bind.{not_below}
+use Rattle.macho_stub_lines.proofs.Bind.{not_below, one_way}
 use Rattle.macho_stub.proofs.OnlyLines.{top_indent, top_no_dash}
 use Rattle.macho_stub.proofs.PutIn.{mode_at, at_top, at_item}
 
@@ -47,17 +47,10 @@ pub lacking_steps : (before : List DocumentFields) (document : OpenDocumentField
     → line_step (at_item before document list skipped) line text ≡ broken at rule
 unfolding line_step item_line
 lacking_steps before document list true line text at rule e clean some zero =
-    rw (clean, some, zero, not_below list.column 0 (omega arith), e) (by_test (has_dash text && eqb 0 list.dash))
-  where
-    by_test : (t : Bool) → cond t (broken {A = StateFields} at rule) (broken at rule) ≡ broken at rule
-    by_test true = refl
-    by_test false = refl
+    rw (clean, some, zero, not_below list.column 0 (omega arith), e)
+    (one_way (has_dash text && eqb 0 list.dash) (broken {A = StateFields} at rule))
 lacking_steps before document list false line text at rule e clean some zero =
-    rw (clean, some, zero, e) (by_test (has_dash text && eqb 0 list.dash))
-  where
-    by_test : (t : Bool) → cond t (broken {A = StateFields} at rule) (broken at rule) ≡ broken at rule
-    by_test true = refl
-    by_test false = refl
+    rw (clean, some, zero, e) (one_way (has_dash text && eqb 0 list.dash) (broken {A = StateFields} at rule))
 
 -- ---- a key that isn't read, a head and an end
 

@@ -1,6 +1,8 @@
 -- Where the reading of a text breaks off. What was read before a line leads to where the reading is, and each refusal
--- of the next line has its reason there; where all lines are read, the text is refused only inside a flow list, under
--- a key of items, and in an item or a document that lacks a key.
+-- of the next line has its reason there; where all lines are read, the text is refused only inside a flow list, under a
+-- key of items, and in an item or a document that lacks a key.
+-- The lines are read one after the other (`stop_of`): as long as each step gives a state, what is known of it grows
+-- (`Since`), and the first step that doesn't is where the text breaks off (`Elsewhere`, `Whys`).
 use Rattle.std.proofs.Common.{◌≡◌, ℕ, ◌+◌, Bool, true, false, List, [], ◌∷◌, ◌++◌, length, Option, Some, None, refl, sym, ap, ◌∙◌, ◌⊎◌, inl, inr, subst, append_assoc}
 use Rattle.std.specs.Str.Lines.{lines}
 use Rattle.std.proofs.lemmas.List.{append-nil}

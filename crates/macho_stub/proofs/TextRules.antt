@@ -1,7 +1,7 @@
 -- The rules on documents, and the library that they make, from their texts alone.
--- The rules speak of slices, for which the library's symbols are gathered as slices too. What is computed knows no places. So
--- the same is said here of texts: `Ruling` shows it of what is computed, and `Gathered` leads from it to the rules on
--- slices.
+-- The rules speak of slices, for which the library's symbols are gathered as slices too. What is computed knows no
+-- places. So the same is said here of texts: `Ruling` shows it of what is computed, and `Gathered` leads from it to the
+-- rules on slices.
 use Rattle.std.specs.Prelude.{◌≡◌, List, ◌∷◌, true, false}
 use Rattle.std.specs.List.{AllByRecursion}
 use Rattle.macho_stub.specs.Documents.{DocumentFields}

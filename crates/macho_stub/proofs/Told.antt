@@ -3,7 +3,7 @@
 -- So where a test fails, what is told has the tests before it on its side, and that this one doesn't hold (`main_told`,
 -- `document_told`). The documents are judged one after the other: where one is refused, those before it are sound, so it is
 -- the first that isn't (`documents_told`). A fault has one line and one rule, so the rule that is told is that test's.
-use Rattle.std.proofs.Common.{◌≡◌, ◌≢◌, ℕ, ◌<◌, ◌||◌, not, Bool, true, false, cond, List, [], ◌∷◌, length, Ok, refl, sym, ap, arith, ◌⊎◌, inl, inr, subst}
+use Rattle.std.proofs.Common.{◌≡◌, ◌≢◌, ℕ, ◌<◌, ◌||◌, not, cond, List, [], ◌∷◌, length, Ok, refl, sym, ap, arith, ◌⊎◌, inl, inr, subst}
 use Rattle.std.proofs.lemmas.Bool.{not-true, not-false, or_parts}
 use Rattle.std.specs.Str.{bytes_eq}
 use Rattle.std.specs.Prelude.{codes}
@@ -14,9 +14,9 @@ use Rattle.macho_stub.specs.Documents.{ItemFields, DocumentFields}
 use Rattle.macho_stub.specs.Library.{target, has_target}
 use Rattle.macho_stub.specs.Checks.{same_document, is_listed, checked_libraries, checked_main, checked_document, checked_documents, library_of}
 use Rattle.macho_stub.specs.Rules.{Among, IsListed, SaySame, StandsBehindSound, IsToldOf, IsTold}
-use Rattle.macho_stub_lines.proofs.Bind.{chosen, no_ok, same_bytes, bytes_same}
+use Rattle.macho_stub_lines.proofs.Bind.{chosen, same_bytes, bytes_same}
 use Rattle.macho_stub.proofs.Ruled.{clash, target_test, listed_back, document_test}
-use Rattle.macho_stub.proofs.Ruling.{same_err, bind_err, made, main_steps, main_sound, document_sound, same_told, ok_not_told}
+use Rattle.macho_stub.proofs.Ruling.{bind_err, made, main_steps, main_sound, document_sound, same_told, ok_not_told}
 
 -- ---- the main library
 

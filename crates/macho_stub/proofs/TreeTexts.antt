@@ -17,7 +17,7 @@ use Rattle.macho_stub.specs.Opened.{OpenItemOf, OpenItemFields, OpenDocumentOf, 
 use Rattle.macho_stub.specs.Whole.{whole_item, whole_document, wanted, wanted_names}
 use Rattle.macho_stub.specs.Grammar.{no_text}
 use Rattle.macho_stub.proofs.Folded.{IsWholeItem, AreNamesOf, IsWholeDocument}
-use Rattle.macho_stub_lines.proofs.Bind.{bind_ok, same_ok, no_ok}
+use Rattle.macho_stub_lines.proofs.Bind.{bind_ok, same_ok, no_ok, done}
 
 -- the texts of items
 abbrev pub items_texts : List (ItemOf Slice) → List ItemFields
@@ -92,9 +92,6 @@ unwrap_items (Some items) = refl
 unwrap_text : (text : Option Slice) → (unwrap_or text no_text).text ≡ unwrap_or (option_map (λ s. s.text) text) []
 unwrap_text None = refl
 unwrap_text (Some text) = refl
-
-abbrev done : {A : Type 0} → A → Reading A
-done x = Ok x
 
 names_whole : (line : ℕ) (kind : ItemKind) (read : Option (List Slice)) (names : List Slice) → AreNamesOf kind read names
     → wanted_names line kind (option_map texts_of read) ≡ done (texts_of names)

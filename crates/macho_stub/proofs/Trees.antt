@@ -1,6 +1,9 @@
--- The grammar and the text as it is read say the same of a text. The lines of the input with their places are its lines,
--- numbered from 1 on (`numbered`), and those with content the same; so the trees of one lead to trees of the other
--- (`TreesRead`, `TreesFound`), and what they say are the same texts.
+-- The grammar and the text as it is read say the same of a text. The lines of the input with their places are its
+-- lines, numbered from 1 on (`numbered`), and those with content the same; so the trees of one lead to trees of the
+-- other (`TreesRead`, `TreesFound`), and what they say are the same texts.
+-- Bytes that may stand nowhere are a matter of each line's text, which both have. So a text in the grammar is a text as
+-- it is read, with the texts of what it says (`to_read`), and one as it is read is in the grammar, with slices of these
+-- texts (`of_read`).
 use Rattle.std.proofs.Common.{◌≡◌, ℕ, ◌+◌, Bool, true, false, cond, eqb, List, [], ◌∷◌, length, map, refl, sym, ap, ◌∙◌, subst}
 use Rattle.std.specs.List.{AllByRecursion, slice_split}
 use Rattle.std.specs.Str.Lines.{lines}
@@ -14,6 +17,7 @@ use Rattle.macho_stub.proofs.Mappings.{documents_fold, documents_unfold}
 use Rattle.macho_stub.proofs.TreesRead.{read_lines, read_document, documents_lines, documents_read}
 use Rattle.macho_stub.proofs.TreesFoundTop.{documents_found}
 use Rattle.macho_stub_lines.proofs.Places.{same_lines}
+use Rattle.macho_stub_lines.proofs.Runs.{all_made, all_made_of}
 
 abbrev line_texts : List Line → List (List ℕ)
 line_texts lines = map (λ line. line.text) lines
@@ -54,26 +58,22 @@ content_lines : (text : List ℕ) → read_lines (content_of (lines_of text)) �
 content_lines text = same_content 1 (lines_of text) (numbered 1 0 (slice_split (λ b. eqb b line_feed) text))
     ∙ ap (content_from 1) (same_lines text)
 
--- what holds of each line's text
-clean_texts : (all : List Line) → AllByRecursion (λ line. has_barred line.text ≡ false) all
-    → AllByRecursion (λ line. has_barred line ≡ false) (line_texts all)
-clean_texts [] h = tt
-clean_texts (line ∷ more) h = (h.0, clean_texts more h.1)
+-- no byte of the line is one that may stand nowhere
+abbrev IsClean : List ℕ → Type 0
+IsClean line = has_barred line ≡ false
 
-clean_lines : (all : List Line) → AllByRecursion (λ line. has_barred line ≡ false) (line_texts all)
-    → AllByRecursion (λ line. has_barred line.text ≡ false) all
-clean_lines [] h = tt
-clean_lines (line ∷ more) h = (h.0, clean_lines more h.1)
+abbrev line_text : Line → List ℕ
+line_text line = line.text
 
 abbrev AreClean : List (List ℕ) → Type 0
-AreClean texts = AllByRecursion (λ line. has_barred line ≡ false) texts
+AreClean texts = AllByRecursion IsClean texts
 
 -- ---- texts
 
 -- what is in the grammar is a text as it is read
 pub to_read : (text : List ℕ) (says : List (DocumentOf Slice)) → IsStubText text says → IsReadText text (documents_texts says)
 to_read text says is = record {
-  clean = subst AreClean (same_lines text) (clean_texts (lines_of text) is.clean);
+  clean = subst AreClean (same_lines text) (all_made IsClean line_text (lines_of text) is.clean);
   trees = map read_document is.trees;
   lines_of = sym (content_lines text) ∙ ap read_lines is.lines ∙ documents_lines is.trees;
   documents = documents_read is.trees says (documents_fold is.trees says is.documents);
@@ -86,7 +86,7 @@ of_read text says is =
     let d = documents_found is.trees says (content_of (lines_of text)) is.documents (content_lines text ∙ is.lines_of) in (
       d.says,
       record {
-        clean = clean_lines (lines_of text) (subst AreClean (sym (same_lines text)) is.clean);
+        clean = all_made_of IsClean line_text (lines_of text) (subst AreClean (sym (same_lines text)) is.clean);
         trees = d.trees;
         lines = d.parts;
         documents = documents_unfold d.trees d.says d.are_documents;

@@ -1,9 +1,10 @@
--- What is read is in the grammar. From the tree that is read and the lines with their places: the first of the lines are
--- those of the tree, each with its place, and what stands on them has trees of its own (a key with its value, a list, a
--- scalar). So the tree of the grammar is built from the front on, and what follows it is left (`left`).
+-- What is read is in the grammar. From the tree that is read and the lines with their places: the first of the lines
+-- are those of the tree, each with its place, and what stands on them has trees of its own (a key with its value, a
+-- list, a scalar). So the tree of the grammar is built from the front on, and what follows it is left (`left`).
+-- An entry is found of its line and the lines under it, and its value by what its key is (`entry_here`); the others
+-- follow on what is left, for an item's entries (`entries_found`) as for the items of a list (`items_found`).
 use Rattle.std.proofs.Common.{◌≡◌, ℕ, ◌+◌, Bool, true, List, [], ◌∷◌, ◌++◌, replicate, refl, sym, ap, ◌∙◌, inl, inr, subst}
 use Rattle.macho_stub_lines.proofs.Runs.{all_made_of}
-use Rattle.std.specs.List.{AllByRecursion}
 use Rattle.macho_stub_lines.specs.declared.keys.ItemKind.{ItemKind}
 use Rattle.macho_stub_lines.specs.declared.keys.ItemKey.{ItemKey}
 use Rattle.macho_stub_lines.specs.declared.keys.ItemKey.TheVariants as item

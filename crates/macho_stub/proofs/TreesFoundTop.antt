@@ -3,7 +3,7 @@
 -- What stands under a key is by the key: nothing under a number or a scalar, lines of a flow list or of a skipped value, or
 -- items (`under_found`). Entry by entry, the lines that follow are left for the next; behind the entries stands the end of
 -- the document, if there is one, and then the next document's head.
-use Rattle.std.proofs.Common.{◌≡◌, ℕ, List, [], ◌∷◌, length, Option, Some, None, refl, sym, ap, ◌∙◌, subst}
+use Rattle.std.proofs.Common.{◌≡◌, ℕ, List, [], ◌∷◌, Option, Some, None, refl, sym, ap, ◌∙◌, subst}
 use Rattle.std.proofs.lemmas.List.{nil_from_length}
 use Rattle.macho_stub_lines.specs.declared.keys.TopKey.{TopKey}
 use Rattle.macho_stub_lines.specs.declared.keys.TopKey.TheVariants as top

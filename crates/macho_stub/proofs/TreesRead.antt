@@ -3,9 +3,7 @@
 -- reads as what its tree says; so each relation on a tree of the grammar gives that on the tree which is read, with the
 -- texts of the slices.
 use Rattle.std.proofs.Common.{◌≡◌, ℕ, Bool, true, List, [], ◌∷◌, ◌++◌, length, replicate, map, Option, Some, None, refl, ap, ◌∙◌, inl, inr}
-use Rattle.macho_stub_lines.proofs.Runs.{all_made}
 use Rattle.std.proofs.lemmas.List.{map-append}
-use Rattle.std.specs.List.{AllByRecursion}
 use Rattle.macho_stub_lines.specs.declared.keys.ItemKind.{ItemKind}
 use Rattle.macho_stub_lines.specs.declared.keys.ItemKey.{ItemKey}
 use Rattle.macho_stub_lines.specs.declared.keys.ItemKey.TheVariants as item
@@ -26,6 +24,7 @@ use Rattle.macho_stub_lines.proofs.ScalarTrees.{scalar_reads}
 use Rattle.macho_stub_lines.proofs.NumberTrees.{number_reads}
 use Rattle.macho_stub_lines.proofs.EntryTrees.{entry_reads}
 use Rattle.macho_stub_lines.proofs.ListTrees.{list_reads}
+use Rattle.macho_stub_lines.proofs.Runs.{all_made}
 
 -- lines by their numbers and texts
 abbrev pub read_lines : List Line → List ReadLine

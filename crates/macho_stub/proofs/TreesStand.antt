@@ -1,8 +1,9 @@
--- What the grammar says of a text are slices of it. The lines stand in the input at their places; what stands on a line, at
--- a place of the line, stands in the input at the sum; so the value of an entry does, and the scalars of a value do. What
--- is known of an item or a document keeps the property with each entry.
-use Rattle.std.proofs.Common.{◌≡◌, ℕ, ◌+◌, List, [], ◌∷◌, ◌++◌, length, replicate, Option, Some, None, refl, sym, subst, arith}
-use Rattle.macho_stub_lines.proofs.Runs.{all_front, all_behind}
+-- What the grammar says of a text are slices of it. The lines stand in the input at their places; what stands on a
+-- line, at a place of the line, stands in the input at the sum; so the value of an entry does, and the scalars of a
+-- value do. What is known of an item or a document keeps the property with each entry.
+-- An item or a document is whole where what it must have is known; so what it says are slices too, and what it doesn't
+-- say is the empty text, which stands everywhere.
+use Rattle.std.proofs.Common.{◌≡◌, ℕ, ◌+◌, List, [], ◌∷◌, ◌++◌, replicate, Option, Some, None, refl, sym, subst, arith}
 use Rattle.std.specs.Prelude.{unwrap_or}
 use Rattle.std.specs.List.{AllByRecursion}
 use Rattle.std.proofs.lemmas.List.{length-replicate}
@@ -23,6 +24,7 @@ use Rattle.macho_stub.specs.Grammar.{ItemEntry, entries_then, item_value_at, Ite
 use Rattle.macho_stub.proofs.Folded.{GivesNames, ItemValue, ItemEntries, AreNamesOf, IsWholeItem, IsItem, AreItems, AreItemsUnder, TopValue, TopEntries, IsWholeDocument, AreDocuments}
 use Rattle.macho_stub.proofs.Mappings.{documents_fold}
 use Rattle.macho_stub_lines.proofs.Places.{scalar_stands, number_stands, value_stands, list_stands, content_stand, behind_stands, LineStands}
+use Rattle.macho_stub_lines.proofs.Runs.{all_front, all_behind}
 
 abbrev LinesStand : List ℕ → List Line → Type 0
 LinesStand input lines = AllByRecursion (LineStands input) lines

@@ -1,9 +1,9 @@
 -- A second key. Behind the lines that were read another key may stand in its column, one that isn't read; but a line
 -- with this key is refused, whatever follows the key's colon: either that is no value, or the key had come before.
--- A line with the key reads as the same key with another value (`Keyed`). If there is a value at all, the key is refused
--- before it is looked at (`Causes`), since it stood before; if there is none, the line is outside the grammar. So no text of
--- the grammar goes on with it, while a key that isn't read is skipped there. This is done at column 0 (`twice_at_top`) and in
--- the column of an item's keys (`twice_in_item`).
+-- A line with the key reads as the same key with another value (`Keyed`). If there is a value at all, the key is
+-- refused before it is looked at (`Causes`), since it stood before; if there is none, the line is outside the grammar.
+-- So no text of the grammar goes on with it, while a key that isn't read is skipped there. This is done at column 0
+-- (`twice_at_top`) and in the column of an item's keys (`twice_in_item`).
 use Rattle.std.proofs.Common.{◌≡◌, ℕ, ◌+◌, ◌<◌, Bool, true, false, List, ◌∷◌, ◌++◌, length, drop, Option, Ok, refl, sym, ap, ◌∙◌, inl, inr, subst}
 use Rattle.macho_stub_lines.specs.declared.keys.ItemKind.{ItemKind}
 use Rattle.macho_stub_lines.specs.declared.keys.ItemKind.TheVariants.{Libraries, Exports, Reexports}

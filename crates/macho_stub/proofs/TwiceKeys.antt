@@ -1,8 +1,8 @@
--- A key that stands twice, as it is read. A line with a key and its value is one of which a tree is spelled, so what the
--- reading says of the line serves for `StandsTwice`, and the other way round.
--- `StandsTwice` speaks of a tree that is spelled on the line. A sound tree is read as its key and value (`second_key`); and a
--- line that is read with a key has such a tree, with the same key (`stands_twice`). What may stand there in place of the line
--- is spoken of by the key alone.
+-- A key that stands twice, as it is read. A line with a key and its value is one of which a tree is spelled, so what
+-- the reading says of the line serves for `StandsTwice`, and the other way round.
+-- `StandsTwice` speaks of a tree that is spelled on the line. A sound tree is read as its key and value (`second_key`);
+-- and a line that is read with a key has such a tree, with the same key (`stands_twice`). What may stand there in place
+-- of the line is spoken of by the key alone.
 use Rattle.std.proofs.Common.{◌≡◌, ℕ, ◌+◌, false, List, ◌∷◌, ◌++◌, length, Ok, sym, ap, ◌∙◌, subst}
 use Rattle.macho_stub_lines.specs.Bytes.{colon, indent, unspaced, has_barred}
 use Rattle.macho_stub_lines.specs.Spelling.{EntryTree, value_of}

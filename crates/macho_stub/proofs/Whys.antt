@@ -1,6 +1,8 @@
 -- Why a line is refused, in the words of what may stand. By where the reading is: where a key may stand, by the cause
 -- that the tests of the line have; inside a flow list and before a first item, the line is outside the grammar, since
 -- nothing there may lack a key or have a second one.
+-- A line that ends an item or a document which lacks a key is told so (`Lacking`), a key that stood before is told as a
+-- second one (`Twice`), and any other cause is outside the grammar, where neither may hold (`Outsides`, `NoNext`).
 use Rattle.std.proofs.Common.{◌≡◌, ◌≢◌, ℕ, zero, suc, ◌+◌, ◌<◌, Bool, true, false, cond, eqb, ltb, drop, List, [], ◌∷◌, length, Option, Some, None, Err, refl, sym, ap, ◌∙◌, arith, inl, inr, subst}
 use Rattle.std.proofs.lemmas.Bool.{or_parts}
 use Rattle.macho_stub_lines.specs.declared.keys.ItemKind.{ItemKind}

@@ -20,6 +20,11 @@ pub chosen : {A : Type 0} (b : Bool) (x y z : A) → cond b x y ≡ z → ((b �
 chosen true x y z e = inl (refl, e)
 chosen false x y z e = inr (refl, e)
 
+-- a choice of two ways that are one
+pub one_way : {A : Type 0} (b : Bool) (x : A) → cond b x x ≡ x
+one_way true x = refl
+one_way false x = refl
+
 -- a choice whose first way fails
 pub not_broken : {A : Type 0} (b : Bool) (line : ℕ) (rule : StubRule) (r : Reading A) (y : A) → cond b (broken line rule) r ≡ Ok y
     → (b ≡ false) × (r ≡ Ok y)
@@ -32,7 +37,8 @@ pub not_broken_else : {A : Type 0} (b : Bool) (line : ℕ) (rule : StubRule) (r 
 not_broken_else true line rule r y e = (refl, e)
 not_broken_else false line rule r y e = absurd cc
 
-abbrev done : {A : Type 0} → A → Reading A
+-- a value that is read
+abbrev pub done : {A : Type 0} → A → Reading A
 done x = Ok x
 
 -- what a reading gives is one value

@@ -1,8 +1,8 @@
 -- Where a text may be cut: before and behind a byte of ASCII.
 -- The code cuts a line at counted places, and a text of UTF-8 may be cut only between characters. A byte of ASCII is a
--- character by itself, so behind one there is such a place (`cut_behind`), and so there is behind a run of them (`run_cut`):
--- of spaces, of digits, of zeros. Plain bytes may be past ASCII, but what ends their run is ASCII or the end of the bytes, and
--- before such a byte a text may be cut too (`plain_cut`).
+-- character by itself, so behind one there is such a place (`cut_behind`), and so there is behind a run of them
+-- (`run_cut`): of spaces, of digits, of zeros. Plain bytes may be past ASCII, but what ends their run is ASCII or the
+-- end of the bytes, and before such a byte a text may be cut too (`plain_cut`).
 use Rattle.std.proofs.Common.{◌≡◌, ℕ, ◌+◌, ◌-◌, ◌<◌, Bool, true, false, List, length, get_or, arith, inl, inr, subst}
 use Rattle.std.specs.List.{prefix_len}
 use Rattle.std.specs.Str.{IsUtf8, IsCharBoundary}

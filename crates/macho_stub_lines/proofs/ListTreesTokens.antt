@@ -9,15 +9,11 @@ use Rattle.macho_stub_lines.specs.declared.list.TokenKind.TheVariants as token
 use Rattle.macho_stub_lines.specs.declared.fault.StubRule.TheVariants.{S1}
 use Rattle.macho_stub_lines.specs.Bytes.{space, comma, close_bracket, number_sign}
 use Rattle.macho_stub_lines.specs.Scalars.{ScalarSpan, scalar_front}
-use Rattle.macho_stub_lines.specs.Faults.{Reading}
 use Rattle.macho_stub_lines.specs.Lists.{TokenSpan, mark, gap, name_token, token_front, behind}
 use Rattle.macho_stub_lines.specs.Spelling.{ScalarTree, text_of, scalar_bytes, IsScalar}
-use Rattle.macho_stub_lines.proofs.Bind.{eq_at, ne_at, eq_false, no_ok, same_ok}
+use Rattle.macho_stub_lines.proofs.Bind.{eq_at, ne_at, eq_false, no_ok, same_ok, done}
 use Rattle.macho_stub_lines.proofs.ScalarTrees.{EndsPlain, front_found, front_reads}
 use Rattle.macho_stub_lines.proofs.ListTreesRemains.{NoComment, BeginsScalar, scalar_begins}
-
-abbrev done : {A : Type 0} → A → Reading A
-done x = Ok x
 
 -- ---- from the bytes to the token
 

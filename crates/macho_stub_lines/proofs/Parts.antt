@@ -1,6 +1,8 @@
 -- Reading the tokens of a line one after the other, as a loop does.
--- The reading goes byte by byte, and passes the bytes of a token by a count; so from the next token on it is
--- the reading of what follows the token (`list_part_skip`). What was read before stands in front (`goes_on`).
+-- The reading goes byte by byte, and passes the bytes of a token by a count; so from the next token on it is the
+-- reading of what follows the token (`list_part_skip`). What was read before stands in front (`goes_on`).
+-- A token that can't be read, or that may not stand there, fails the whole reading (`ends_at_token`, `ends_at_order`);
+-- at the end of the line, what was read is all (`is_done`).
 use Rattle.std.proofs.Common.{◌≡◌, ℕ, zero, suc, ◌-◌, ◌<◌, List, [], ◌∷◌, ◌++◌, length, drop, Ok, Err, refl, sym, ap, ◌∙◌, append_assoc, arith, Bool, true, false, eqb}
 use Rattle.std.proofs.lemmas.List.{append-nil}
 use Rattle.std.proofs.lemmas.Bool.Decides.{nat_tests}
