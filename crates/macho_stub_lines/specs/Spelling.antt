@@ -38,7 +38,8 @@ pub record IsPlain (text : List ℕ) : Type 0 where
   pub bytes : AllByRecursion (λ b. is_plain_byte b ≡ true) text
   pub controls : has_late_control text ≡ false
 
--- Inside single quotes stands anything but a single quote, inside double quotes anything but these and backslashes.
+-- Inside single quotes stands anything but a single quote, inside double quotes anything but a double quote or a
+-- backslash.
 abbrev pub IsScalar : ScalarTree → Type 0
 IsScalar (Plain text) = IsPlain text
 IsScalar (Single text) = AllByRecursion (λ b. b ≢ single_quote) text
