@@ -31,12 +31,12 @@ use Rattle.macho_stub.proofs.Whys.{same_why, outside_fault, first_outside, keys_
 
 -- ---- inside a flow list
 
-spare_in_list : (line : ℕ) (expect : Expect) → list_part line expect 0 unread_key ≡ outside line
+unread_key_in_list : (line : ℕ) (expect : Expect) → list_part line expect 0 unread_key ≡ outside line
 unfolding list_part token_front behind scalar_front plain_front is_plain_byte is_mark has_late_control_after
-spare_in_list line AfterOpen = refl
-spare_in_list line AfterComma = refl
-spare_in_list line AfterName = refl
-spare_in_list line Closed = refl
+unread_key_in_list line AfterOpen = refl
+unread_key_in_list line AfterComma = refl
+unread_key_in_list line AfterName = refl
+unread_key_in_list line Closed = refl
 
 -- a space is passed
 space_in_list : (line : ℕ) (expect : Expect) (b : ℕ) (rest : List ℕ) → eqb b 35 ≡ false → list_part line expect 0 (b ∷ rest) ≡ outside line
@@ -48,13 +48,13 @@ space_in_list line AfterName b rest n h = rw (n, h) refl
 space_in_list line Closed b rest n h = rw (n, h) refl
 
 spaced_in_list : (line : ℕ) (expect : Expect) (n : ℕ) → list_part line expect 0 (in_column n unread_key) ≡ outside line
-spaced_in_list line expect zero = spare_in_list line expect
-spaced_in_list line expect (suc zero) = space_in_list line expect 97 _ refl (spare_in_list line expect)
+spaced_in_list line expect zero = unread_key_in_list line expect
+spaced_in_list line expect (suc zero) = space_in_list line expect 97 _ refl (unread_key_in_list line expect)
 spaced_in_list line expect (suc (suc n)) = space_in_list line expect space _ refl (spaced_in_list line expect (suc n))
 
-spare_no_end : (n : ℕ) → bytes_eq (in_column n unread_key) end ≡ false
-spare_no_end zero = refl
-spare_no_end (suc n) = refl
+unread_key_no_end : (n : ℕ) → bytes_eq (in_column n unread_key) end ≡ false
+unread_key_no_end zero = refl
+unread_key_no_end (suc n) = refl
 
 -- so no key stands in a flow list
 names_refuse : (before : List DocumentFields) (document : OpenDocumentFields) (list : Option ItemListFields) (names : NameListFields)
@@ -63,7 +63,12 @@ names_refuse : (before : List DocumentFields) (document : OpenDocumentFields) (l
     ≡ outside line
 unfolding line_step names_line has_barred is_blank_or_comment
 names_refuse before document list names line n =
-    rw (item_text_barred n unread_key, item_text_passed n unread_key refl, spare_no_end n, spaced_in_list line names.part.expect n) refl
+    rw (
+      item_text_barred n unread_key,
+      item_text_passed n unread_key refl,
+      unread_key_no_end n,
+      spaced_in_list line names.part.expect n,
+    ) refl
 
 -- inside a flow list a key that isn't read may stand in no column
 pub no_key_in_list : (first : List (List ℕ)) (before : List DocumentFields) (document : OpenDocumentFields) (list : Option ItemListFields)

@@ -18,7 +18,7 @@ use Rattle.macho_stub.specs.Opened.{OpenDocumentFields, with_items, with_key, wi
 use Rattle.macho_stub.specs.Whole.{whole_item, whole_document}
 use Rattle.macho_stub.specs.Reader.{ItemListFields, ModeFields, Keys, Skipped, Names, NoItem, PlaceFields, Outside, Within, StateFields, stays, with_names, with_whole, items_with_last, line_step, lines_from}
 use Rattle.macho_stub.specs.Order.{unread_key, unread_item, closing_bracket}
-use Rattle.macho_stub.proofs.PutIn.{mode_at, at_top, at_item, version_line, targets_line, name_line, libraries_line, with_name, with_targets, with_version, name_steps, targets_steps, version_steps, spare_steps, item_with_targets, item_with_names, item_targets_step, item_libraries_step, close_steps, begun, dash_steps}
+use Rattle.macho_stub.proofs.PutIn.{mode_at, at_top, at_item, version_line, targets_line, name_line, libraries_line, with_name, with_targets, with_version, name_steps, targets_steps, version_steps, unread_key_steps, item_with_targets, item_with_names, item_targets_step, item_libraries_step, close_steps, begun, dash_steps}
 
 -- lines that finish the text from this state
 pub record Finishes (state : StateFields) (line : ℕ) : Type 0 where
@@ -106,7 +106,8 @@ pub item_done : (before : List DocumentFields) (document : OpenDocumentFields) (
     (items : List ItemFields) → items_with_last document.line list ≡ Ok items → Finishes (at_item before document list skipped) line
 item_done before document list skipped line items e =
     step_then _ (at_top before (with_items list.kind items document) true) line unread_key
-    (spare_steps before document list skipped line items e) refl (top_finishes before (with_items list.kind items document) true (line + 1))
+    (unread_key_steps before document list skipped line items e) refl
+    (top_finishes before (with_items list.kind items document) true (line + 1))
 
 -- an item with targets, and with names if it lists libraries, lacks no key
 pub item_whole : (line : ℕ) (list : ItemListFields) (t : List (List ℕ)) (n : Option (List (List ℕ))) (k : ItemKind)

@@ -16,7 +16,7 @@ use Rattle.macho_stub.specs.Opened.{OpenDocumentFields, head_at, has_items, with
 use Rattle.macho_stub.specs.Whole.{whole_document}
 use Rattle.macho_stub.specs.Reader.{Keys, NoItem, InsideFields, StateFields, stays, names_value, top_entry, with_whole, top_line}
 use Rattle.macho_stub_lines.specs.Bytes.{head, end}
-use Rattle.macho_stub_lines.proofs.ReadLists.{ReadLine}
+use Rattle.macho_stub_lines.specs.ReadLists.{ReadLine}
 use Rattle.macho_stub.proofs.Readings.{Under, Plain, Listed, under_then, TopValue, end_then}
 use Rattle.macho_stub_lines.proofs.Bind.{bind_ok, chosen, not_broken, not_broken_else, same_ok, same_bytes, eq_at}
 use Rattle.macho_stub.proofs.Rest.{RestOutside, RestTop, RestInside, Rest}

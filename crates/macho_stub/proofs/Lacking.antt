@@ -24,7 +24,7 @@ use Rattle.macho_stub.proofs.Joined.{spaces_line}
 use Rattle.macho_stub.proofs.PutIn.{at_top, at_item, item_targets_step, item_libraries_step, item_with_targets, item_with_names, targets_line, libraries_line, item_text_barred, item_text_passed}
 use Rattle.macho_stub.proofs.Finish.{item_whole}
 use Rattle.macho_stub.proofs.Reached.{Reached, reached_more, may_stand, refused}
-use Rattle.macho_stub.proofs.Steps.{Closes, keys_state, lacking_steps, spare_at_top, head_at_top, end_at_top}
+use Rattle.macho_stub.proofs.Steps.{Closes, keys_state, lacking_steps, unread_key_at_top, head_at_top, end_at_top}
 
 -- a line with a byte that may stand nowhere is refused
 pub barred_steps : (state : StateFields) (line : ℕ) (text : List ℕ) → has_barred text ≡ true → line_step state line text ≡ outside line
@@ -50,7 +50,7 @@ pub lacks_document : (first : List (List ℕ)) (before : List DocumentFields) (d
 lacks_document first before document whole list skipped at rule r c e =
     let state = keys_state before document list skipped in
     let n = length first + 1 in (
-      may_stand first state (at_top before whole true) unread_key r refl (spare_at_top before document whole list skipped n c),
+      may_stand first state (at_top before whole true) unread_key r refl (unread_key_at_top before document whole list skipped n c),
       refused first state head at rule r (head_at_top before document whole list skipped n at rule c e),
       refused first state end at rule r (end_at_top before document whole list skipped n at rule c e),
     )

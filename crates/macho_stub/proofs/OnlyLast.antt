@@ -11,7 +11,7 @@ use Rattle.macho_stub.specs.Documents.{ItemFields, DocumentFields}
 use Rattle.macho_stub.specs.Opened.{OpenDocumentFields, with_items}
 use Rattle.macho_stub.specs.Whole.{whole_item}
 use Rattle.macho_stub.specs.Reader.{ItemListFields, first_line, items_with_last, within, with_whole, top_line, item_line}
-use Rattle.macho_stub_lines.proofs.ReadLists.{ReadLine}
+use Rattle.macho_stub_lines.specs.ReadLists.{ReadLine}
 use Rattle.macho_stub.proofs.Readings.{ItemTree, column_of, entries_then, items_then, AreItems}
 use Rattle.macho_stub_lines.proofs.Bind.{eq_true, not_below}
 use Rattle.macho_stub.proofs.Rest.{run}

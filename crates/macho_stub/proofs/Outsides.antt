@@ -20,7 +20,7 @@ use Rattle.macho_stub.proofs.OnlyLines.{entry_at_top}
 use Rattle.macho_stub.proofs.Joined.{IsLine}
 use Rattle.macho_stub.proofs.PutIn.{at_top, at_item, item_text_barred, item_text_passed}
 use Rattle.macho_stub.proofs.Reached.{Reached, may_stand, refused}
-use Rattle.macho_stub.proofs.Steps.{Closes, keys_state, spare_at_top}
+use Rattle.macho_stub.proofs.Steps.{Closes, keys_state, unread_key_at_top}
 use Rattle.macho_stub.proofs.Twice.{no_spaces}
 use Rattle.macho_stub.proofs.Goods.{good_at_top, good_in_column}
 use Rattle.macho_stub.proofs.TwiceKeys.{said_of, second_key}
@@ -34,7 +34,7 @@ pub no_item_lacks : (first : List (List ℕ)) (before : List DocumentFields) (do
 unfolding is_passed unspaced indent is_blank_or_comment
 no_item_lacks first before document whole list skipped r c lacks =
     lacks unread_key refl refl (may_stand first (keys_state before document list skipped) (at_top before whole true) unread_key r refl
-    (spare_at_top before document whole list skipped (length first + 1) c))
+    (unread_key_at_top before document whole list skipped (length first + 1) c))
 
 no_ends : (text : List ℕ) → text ≢ head → text ≢ end → EndsDocument text → ⊥
 no_ends text h e d = elim d [ inl is ↦ h is | inr is ↦ e is ]
@@ -119,10 +119,10 @@ deep_no_end text h d = elim d [ inl is ↦ h (ap (λ t. indent t) is) | inr is �
 -- ---- a key that isn't read, in a column
 
 -- where a document's own keys stand, none stands deeper
-spaced_spare : (before : List DocumentFields) (document : OpenDocumentFields) (line n : ℕ)
+spaced_unread_key : (before : List DocumentFields) (document : OpenDocumentFields) (line n : ℕ)
     → line_step (at_top before document false) line (in_column (suc n) unread_key) ≡ outside line
 unfolding line_step top_line entry_at is_key_byte is_blank_or_comment has_barred
-spaced_spare before document line n = rw (item_text_barred (suc n) unread_key, item_text_passed (suc n) unread_key refl) refl
+spaced_unread_key before document line n = rw (item_text_barred (suc n) unread_key, item_text_passed (suc n) unread_key refl) refl
 
 -- in a document where no value is skipped, a key that isn't read may stand at column 0 alone
 pub no_deeper_key : (first : List (List ℕ)) (before : List DocumentFields) (document : OpenDocumentFields) (skipped : Bool) (n : ℕ)
@@ -131,4 +131,4 @@ no_deeper_key first before document skipped zero r h m = refl
 no_deeper_key first before document true (suc n) r h m = h refl
 no_deeper_key first before document false (suc n) r h m =
     absurd (refused first (at_top before document false) (in_column (suc n) unread_key) (length first + 1) S1 r
-    (spaced_spare before document (length first + 1) n) m)
+    (spaced_unread_key before document (length first + 1) n) m)

@@ -100,14 +100,14 @@ version_steps before document false line e = rw e refl
 -- ---- a key that isn't read
 
 -- a key that isn't read, at column 0, ends a list whose last item lacks none
-pub spare_steps : (before : List DocumentFields) (document : OpenDocumentFields) (list : ItemListFields) (skipped : Bool) (line : ℕ)
+pub unread_key_steps : (before : List DocumentFields) (document : OpenDocumentFields) (list : ItemListFields) (skipped : Bool) (line : ℕ)
     (items : List ItemFields) → items_with_last document.line list ≡ Ok items
     → line_step (at_item before document list skipped) line unread_key ≡ Ok (at_top before (with_items list.kind items document) true)
 unfolding line_step has_barred is_passed is_blank_or_comment unspaced indent top_line entry_at is_key_byte is_tail top_key scalar_value
     version_value number_of scalar_front plain_front is_plain_byte is_mark has_late_control_after names_value skipped_value names_line
     list_part token_front behind belongs_to_top has_dash item_line
-spare_steps before document list true line items e = rw (e, not_below list.column 0 (omega arith)) refl
-spare_steps before document list false line items e = rw e refl
+unread_key_steps before document list true line items e = rw (e, not_below list.column 0 (omega arith)) refl
+unread_key_steps before document list false line items e = rw e refl
 
 -- ---- keys of an item
 

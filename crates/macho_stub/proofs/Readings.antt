@@ -11,7 +11,7 @@ use Rattle.macho_stub_lines.specs.declared.keys.ItemKey.TheVariants as item
 use Rattle.macho_stub_lines.specs.declared.keys.TopKey.{TopKey}
 use Rattle.macho_stub_lines.specs.declared.keys.TopKey.TheVariants as top
 use Rattle.macho_stub_lines.specs.Bytes.{space, dash, open_bracket, indent, is_passed, has_barred, head, end, belongs_to_top}
-use Rattle.macho_stub_lines.proofs.ReadLists.{ReadLine, IsReadList}
+use Rattle.macho_stub_lines.specs.ReadLists.{ReadLine, IsReadList}
 use Rattle.macho_stub_lines.specs.Keys.{Entry, entry_at, scalar_value, version_value, top_key, item_key}
 use Rattle.macho_stub.specs.Documents.{ItemFields, DocumentFields}
 use Rattle.macho_stub.specs.Opened.{OpenItemFields, OpenDocumentFields, no_item, head_at, has_key, with_key, has_items, with_items}

@@ -149,11 +149,12 @@ pub item_stands : (first : List (List ℕ)) (before : List DocumentFields) (docu
 item_stands first before document list kind at r = may_stand first _ (at_item before document (begun kind) true) unread_item r refl
     (dash_steps before document list kind at (length first + 1))
 
-pub no_spare_at_item : (first : List (List ℕ)) (before : List DocumentFields) (document : OpenDocumentFields) (list : Option ItemListFields)
-    (kind : ItemKind) (at : ℕ) → Reached first (record { documents = before; place = Within (stays document list (NoItem kind at)) })
+pub no_unread_key_at_item : (first : List (List ℕ)) (before : List DocumentFields) (document : OpenDocumentFields)
+    (list : Option ItemListFields) (kind : ItemKind) (at : ℕ)
+    → Reached first (record { documents = before; place = Within (stays document list (NoItem kind at)) })
     → MayStand first unread_key → ⊥
 unfolding line_step has_barred is_passed is_blank_or_comment unspaced indent first_line has_dash
-no_spare_at_item first before document list kind at r m = refused first _ unread_key (length first + 1) S1 r refl m
+no_unread_key_at_item first before document list kind at r m = refused first _ unread_key (length first + 1) S1 r refl m
 
 -- ---- a step
 
@@ -175,7 +176,7 @@ mode_passed first before document list (NoItem kind at) text p r l = record {
   content = l.content;
   no_content = all_append (λ (line : List ℕ). is_passed line ≡ true) l.passed (text ∷ []) l.no_content (p, tt);
   items = item_stands (first ++ text ∷ []) before document list kind at r;
-  no_key = no_spare_at_item (first ++ text ∷ []) before document list kind at r;
+  no_key = no_unread_key_at_item (first ++ text ∷ []) before document list kind at r;
 }
 
 place_passed : (first : List (List ℕ)) (before : List DocumentFields) (place : PlaceFields) (text : List ℕ) → is_passed text ≡ true
@@ -206,7 +207,7 @@ new_list first before document list (NoItem kind at) text p n r b = record {
   content = p;
   no_content = tt;
   items = item_stands (first ++ text ∷ []) before document list kind at r;
-  no_key = no_spare_at_item (first ++ text ∷ []) before document list kind at r;
+  no_key = no_unread_key_at_item (first ++ text ∷ []) before document list kind at r;
 }
 
 -- a list that goes on, or is closed

@@ -55,12 +55,12 @@ lacking_steps before document list false line text at rule e clean some zero =
 -- ---- a key that isn't read, a head and an end
 
 -- a key that isn't read is read there, and its value is skipped
-pub spare_at_top : (before : List DocumentFields) (document whole : OpenDocumentFields) (list : Option ItemListFields) (skipped : Bool)
+pub unread_key_at_top : (before : List DocumentFields) (document whole : OpenDocumentFields) (list : Option ItemListFields) (skipped : Bool)
     (line : ℕ) → Closes list document whole
     → line_step (keys_state before document list skipped) line unread_key ≡ Ok (at_top before whole true)
 unfolding has_barred is_passed is_blank_or_comment unspaced indent belongs_to_top top_line entry_at is_key_byte is_tail top_key
     skipped_value
-spare_at_top before document whole list skipped line c = top_steps before document whole list skipped line unread_key c refl refl refl
+unread_key_at_top before document whole list skipped line c = top_steps before document whole list skipped line unread_key c refl refl refl
 
 -- a head is refused where the document lacks a key
 pub head_at_top : (before : List DocumentFields) (document whole : OpenDocumentFields) (list : Option ItemListFields) (skipped : Bool)

@@ -9,7 +9,7 @@ use Rattle.std.specs.List.{AllByRecursion, slice_split}
 use Rattle.std.specs.Str.Lines.{lines}
 use Rattle.macho_stub_lines.specs.Bytes.{is_passed, has_barred, line_feed}
 use Rattle.macho_stub_lines.specs.Slices.{Slice, Line, lines_of, lines_of_parts, content_of}
-use Rattle.macho_stub_lines.proofs.ReadLists.{ReadLine}
+use Rattle.macho_stub_lines.specs.ReadLists.{ReadLine}
 use Rattle.macho_stub.specs.Documents.{DocumentOf, DocumentFields, documents_texts}
 use Rattle.macho_stub.specs.Grammar.{IsStubText}
 use Rattle.macho_stub.proofs.Readings.{IsReadText, content_from}

@@ -12,7 +12,7 @@ use Rattle.macho_stub_lines.specs.Bytes.{space, dash}
 use Rattle.macho_stub_lines.specs.Slices.{Slice, Line}
 use Rattle.macho_stub_lines.specs.Spelling.{entry_bytes, value_of}
 use Rattle.macho_stub_lines.specs.Keys.{item_key}
-use Rattle.macho_stub_lines.proofs.ReadLists.{ReadLine, read_line}
+use Rattle.macho_stub_lines.specs.ReadLists.{ReadLine, read_line}
 use Rattle.macho_stub.specs.Documents.{ItemOf, ItemFields, item_texts}
 use Rattle.macho_stub.specs.Opened.{OpenItemOf, OpenItemFields, no_item, with_key}
 use Rattle.macho_stub.specs.Whole.{whole_item}

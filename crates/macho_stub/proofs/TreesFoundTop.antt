@@ -10,7 +10,7 @@ use Rattle.macho_stub_lines.specs.declared.keys.TopKey.TheVariants as top
 use Rattle.macho_stub_lines.specs.Slices.{Slice, Line, texts_of}
 use Rattle.macho_stub_lines.specs.Spelling.{EntryTree, entry_bytes, value_of, value_at}
 use Rattle.macho_stub_lines.specs.Keys.{top_key}
-use Rattle.macho_stub_lines.proofs.ReadLists.{ReadLine, IsReadList}
+use Rattle.macho_stub_lines.specs.ReadLists.{ReadLine, IsReadList}
 use Rattle.macho_stub.specs.Documents.{ItemOf, ItemFields, DocumentOf, DocumentFields, documents_texts}
 use Rattle.macho_stub.specs.Opened.{OpenDocumentOf, OpenDocumentFields, head_at, with_items}
 use Rattle.macho_stub.specs.Whole.{whole_document}

@@ -20,7 +20,7 @@ use Rattle.macho_stub.proofs.OnlyLines.{entry_unspaced}
 use Rattle.macho_stub.proofs.Joined.{spaces_line}
 use Rattle.macho_stub.proofs.PutIn.{at_top, at_item, item_text_barred, item_text_steps}
 use Rattle.macho_stub.proofs.Reached.{Reached, may_stand, refused}
-use Rattle.macho_stub.proofs.Steps.{Closes, keys_state, top_steps, spare_at_top}
+use Rattle.macho_stub.proofs.Steps.{Closes, keys_state, top_steps, unread_key_at_top}
 use Rattle.macho_stub.proofs.Keyed.{HasKey, same_key, key_reads, key_or_outside, key_at_top, key_has_content, key_not_passed, key_no_head, key_no_end}
 use Rattle.macho_stub.proofs.Causes.{top_again, item_again}
 use Rattle.macho_stub.proofs.Lacking.{barred_steps}
@@ -80,7 +80,7 @@ twice_at_top first before document whole list skipped text said r c clean e twic
     let M : ℕ → Type 0 = λ k. MayStand first (in_column k unread_key) in
     stands_twice first text said clean (ap (entry_at n) z.1 ∙ e)
     (subst M (sym z.0) (may_stand first state (at_top before whole true) unread_key r refl
-    (spare_at_top before document whole list skipped n c)))
+    (unread_key_at_top before document whole list skipped n c)))
     (λ rest m.
     let again = said.key ++ colon ∷ rest in
     let N : ℕ → Type 0 = λ k. MayStand first (in_column k again) in
@@ -101,22 +101,22 @@ twice_at_top first before document whole list skipped text said r c clean e twic
 -- ---- in the column of an item's keys
 
 -- a key that isn't read
-spare_key : (before : List DocumentFields) (document : OpenDocumentFields) (list : ItemListFields) (line : ℕ) (kind : ItemKind)
+unread_key_said : (before : List DocumentFields) (document : OpenDocumentFields) (list : ItemListFields) (line : ℕ) (kind : ItemKind)
     → list.kind ≡ kind → within before (item_key_line document list line unread_key) ≡ Ok (at_item before document list true)
 unfolding item_key_line entry_at is_key_byte is_tail item_key skipped_value unspaced indent is_passed is_blank_or_comment
-spare_key before document list line Libraries k = rw k refl
-spare_key before document list line Exports k = rw k refl
-spare_key before document list line Reexports k = rw k refl
+unread_key_said before document list line Libraries k = rw k refl
+unread_key_said before document list line Exports k = rw k refl
+unread_key_said before document list line Reexports k = rw k refl
 
-pub spare_in_column : (first : List (List ℕ)) (before : List DocumentFields) (document : OpenDocumentFields) (list : ItemListFields)
+pub unread_key_in_column : (first : List (List ℕ)) (before : List DocumentFields) (document : OpenDocumentFields) (list : ItemListFields)
     (skipped : Bool) → Reached first (at_item before document list skipped) → list.dash < list.column
     → MayStand first (in_column list.column unread_key)
 unfolding has_barred is_blank_or_comment belongs_to_top
-spare_in_column first before document list skipped r below =
+unread_key_in_column first before document list skipped r below =
     let n = length first + 1 in
     may_stand first (at_item before document list skipped) (at_item before document list true) (in_column list.column unread_key) r
     (spaces_line list.column unread_key refl)
-    (item_text_steps before document list skipped n unread_key refl refl refl below ∙ spare_key before document list n list.kind refl)
+    (item_text_steps before document list skipped n unread_key refl refl refl below ∙ unread_key_said before document list n list.kind refl)
 
 -- and in an item
 abbrev pub then_item : OpenDocumentFields → ItemListFields → ℕ → Entry → Reading InsideFields
@@ -150,7 +150,7 @@ pub twice_in_item : (first : List (List ℕ)) (before : List DocumentFields) (do
 twice_in_item first before document list skipped text said r below clean at e twice =
     let n = length first + 1 in
     let M : ℕ → Type 0 = λ k. MayStand first (in_column k unread_key) in
-    stands_twice first text said clean e (subst M (sym at) (spare_in_column first before document list skipped r below))
+    stands_twice first text said clean e (subst M (sym at) (unread_key_in_column first before document list skipped r below))
     (λ rest m.
     let again = said.key ++ colon ∷ rest in
     let N : ℕ → Type 0 = λ k. MayStand first (in_column k again) in

@@ -12,6 +12,5 @@ pub mod ListTreesTokens
 pub mod NumberTrees
 pub mod Parts
 pub mod Places
-pub mod ReadLists
 pub mod Runs
 pub mod ScalarTrees

@@ -10,7 +10,7 @@ use Rattle.macho_stub_lines.specs.Bytes.{open_bracket, end}
 use Rattle.macho_stub_lines.specs.Slices.{Slice, Line, texts_of}
 use Rattle.macho_stub_lines.specs.Lists.{list_part, with_front}
 use Rattle.macho_stub_lines.specs.FlowLists.{Block, bytes_then, between_then, followed_then, final_then, ListTree, IsFlowList, slices_of}
-use Rattle.macho_stub_lines.proofs.ReadLists.{ReadLine, read_line, GoesOn, IsReadList}
+use Rattle.macho_stub_lines.specs.ReadLists.{ReadLine, read_line, GoesOn, IsReadList}
 use Rattle.macho_stub_lines.proofs.Runs.{all_made, all_made_of}
 use Rattle.macho_stub_lines.proofs.ListTreesShape.{closing, texts_in, slices_say, list_remains, remains_spread}
 use Rattle.macho_stub_lines.proofs.ListTreesReads.{remains_read}

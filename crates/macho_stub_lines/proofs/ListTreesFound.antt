@@ -17,7 +17,7 @@ use Rattle.macho_stub_lines.specs.Spelling.{text_of, scalar_bytes}
 use Rattle.macho_stub_lines.specs.FlowLists.{Block}
 use Rattle.macho_stub_lines.proofs.Bind.{bind_ok, same_ok}
 use Rattle.macho_stub_lines.proofs.Parts.{goes_on}
-use Rattle.macho_stub_lines.proofs.ReadLists.{read_line, GoesOn}
+use Rattle.macho_stub_lines.specs.ReadLists.{read_line, GoesOn}
 use Rattle.macho_stub_lines.proofs.ListTreesTails.{tail_spaced, tail_comment}
 use Rattle.macho_stub_lines.proofs.ListTreesRemains.{Remains, Gap, Turned, Comma, Name, Close, scalar_begins}
 use Rattle.macho_stub_lines.proofs.ListTreesTokens.{named_by, behind_gap, Begins, Spaced, Commented, Parted, Ended, Named, token_found}

@@ -13,7 +13,7 @@ use Rattle.macho_stub_lines.specs.Lists.{TokenSpan, ListPart, mark, gap, names_o
 use Rattle.macho_stub_lines.specs.Spelling.{scalar_bytes}
 use Rattle.macho_stub_lines.specs.FlowLists.{Block, turn_then}
 use Rattle.macho_stub_lines.proofs.Parts.{list_part_step, goes_on}
-use Rattle.macho_stub_lines.proofs.ReadLists.{read_line, GoesOn}
+use Rattle.macho_stub_lines.specs.ReadLists.{read_line, GoesOn}
 use Rattle.macho_stub_lines.proofs.ListTreesTails.{tail_begins, passed_begins}
 use Rattle.macho_stub_lines.proofs.ListTreesRemains.{Remains, Gap, Turned, Comma, Name, Close, ending, scalar_begins, plain_ended, comment_free}
 use Rattle.macho_stub_lines.proofs.ListTreesTokens.{named_by, one_space, space_token, comma_token, close_token, scalar_token, behind_gap}

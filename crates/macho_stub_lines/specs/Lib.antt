@@ -6,3 +6,5 @@ pub mod Faults
 pub mod Scalars
 pub mod Lists
 pub mod Keys
+pub mod ReadLists
+pub mod Laws

@@ -13,5 +13,6 @@
 pub mod bytes;
 pub mod fault;
 pub mod keys;
+pub mod laws;
 pub mod list;
 pub mod scalar;
