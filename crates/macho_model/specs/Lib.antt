@@ -32,5 +32,16 @@ pub mod Values
 pub mod Fixups
 pub mod Faults
 pub mod Valid
+pub mod Addresses
+pub mod Agreement
+pub mod Signature
+pub mod Head
+pub mod SymbolTable
+pub mod SymbolRows
+pub mod ImportTable
+pub mod Zeros
+pub mod Made
+pub mod ReadBack
+pub mod Told
 pub mod Laws
 pub mod SlideLaws
