@@ -19,10 +19,6 @@ pub mod Chain
 pub mod LoadRules
 pub mod Loader
 pub mod Memory
-pub mod Walks
-pub mod Asked
-pub mod WordTests
-pub mod Loaded
 pub mod Stands
 pub mod Exports
 pub mod Rows
