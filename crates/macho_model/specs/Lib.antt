@@ -24,7 +24,6 @@ pub mod Loader
 pub mod Memory
 pub mod Stands
 pub mod Exports
-pub mod SymbolTable
 pub mod Rows
 pub mod Consumed
 pub mod Limits
@@ -32,5 +31,16 @@ pub mod Values
 pub mod Fixups
 pub mod Faults
 pub mod Valid
+pub mod Addresses
+pub mod Agreement
+pub mod Signature
+pub mod Head
+pub mod SymbolTable
+pub mod SymbolRows
+pub mod ImportTable
+pub mod Zeros
+pub mod Made
+pub mod ReadBack
+pub mod Told
 pub mod Laws
 pub mod SlideLaws
