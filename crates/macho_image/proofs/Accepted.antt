@@ -144,9 +144,9 @@ each-fits b n entry none headers h =
 
 -- the only neighbours of a list of two
 neighbours : (test : found.Command → found.Command → Bool) (x y : found.Command) → test x y ≡ true → EachNeighbour (x ∷ y ∷ []) test
-neighbours test x y e zero c d lt at_c at_d =
+neighbours test x y e zero c d (before, at_c) (lt, at_d) =
     subst (λ (z : found.Command). test z d ≡ true) at_c (subst (λ (z : found.Command). test x z ≡ true) at_d e)
-neighbours test x y e (suc k) c d lt at_c at_d = absurd (omega arith)
+neighbours test x y e (suc k) c d before (lt, at_d) = absurd (omega arith)
 
 -- the loader accepts the image
 pub accepted : (b : List ℕ) (n entry : ℕ) (none headers : Bor (List SectionHeader)) → HasHead b n entry none headers → n % SEGMENT_PAGE ≡ 0
