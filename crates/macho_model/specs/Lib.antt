@@ -1,3 +1,4 @@
+pub mod Lists
 pub mod Symbols
 pub mod Commands
 pub mod Objects
@@ -14,6 +15,8 @@ pub mod Meaning
 pub mod Segments
 pub mod WrittenSum
 pub mod Placement
+pub mod OutputSections
+pub mod Order
 pub mod Images
 pub mod Chain
 pub mod LoadRules
@@ -21,6 +24,7 @@ pub mod Loader
 pub mod Memory
 pub mod Stands
 pub mod Exports
+pub mod SymbolTable
 pub mod Rows
 pub mod Consumed
 pub mod Limits
@@ -32,7 +36,6 @@ pub mod Addresses
 pub mod Agreement
 pub mod Signature
 pub mod Head
-pub mod SymbolTable
 pub mod SymbolRows
 pub mod ImportTable
 pub mod Zeros

@@ -6,6 +6,7 @@ use Rattle.macho_bytes.specs.Texts.{name_of}
 use Rattle.macho_records.specs.declared.header.SectionHeader.{SectionHeader}
 use Rattle.macho_model.specs.declared.placed.Counts.{Counts}
 use Rattle.macho_records.specs.Sections.{type_of}
+use Rattle.macho_records.specs.Segments.{protection_of, segment_flags_of}
 use Rattle.macho_records.specs.declared.constants.TheConstants.{S_ZEROFILL}
 use Rattle.macho_model.specs.Links.{Link, SectionId, header_at, carried_of}
 use Rattle.macho_model.specs.Resolution.{chosen_commons}
@@ -82,6 +83,25 @@ segment_names_of l =
     ++ list_if (has_section_in l DATA_CONST || not (length (slots_of l) == 0)) (DATA_CONST ∷ [])
     ++ list_if (has_section_in l DATA || not (length (chosen_commons l) == 0)) (DATA ∷ [])
     ++ other_segments l ++ LINKEDIT ∷ []
+
+-- A segment as its command tells it: its name, what the program may do in it (`VM_PROT_..`), and its flags (`SG_..`).
+pub record SegmentFor : Type 0 where
+  pub name : List ℕ
+  pub protection : ℕ
+  pub flags : ℕ
+
+-- Nothing may be done in `__PAGEZERO`; code is read and run, tables are read; all else is read and written, and
+-- `__DATA_CONST` no more once the loader is done.
+abbrev pub segment_for : List ℕ → SegmentFor
+segment_for name = record {
+  name = name;
+  protection = if bytes_eq name PAGEZERO then 0 else protection_of name;
+  flags = segment_flags_of name;
+}
+
+-- the segments of the image, in order
+unfoldable pub segments_for : Link → List SegmentFor
+segments_for l = map segment_for (segment_names_of l)
 
 -- What output sections are merged by: sections of one segment, name and type are one.
 pub record OutputKey : Type 0 where
