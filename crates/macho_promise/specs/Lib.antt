@@ -1,0 +1,3 @@
+pub mod TrieSays
+pub mod UnwindSays
+pub mod Promise
