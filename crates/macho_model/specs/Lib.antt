@@ -24,7 +24,6 @@ pub mod Loader
 pub mod Memory
 pub mod Stands
 pub mod Exports
-pub mod SymbolTable
 pub mod Rows
 pub mod Consumed
 pub mod Limits
@@ -36,6 +35,7 @@ pub mod Addresses
 pub mod Agreement
 pub mod Signature
 pub mod Head
+pub mod SymbolTable
 pub mod SymbolRows
 pub mod ImportTable
 pub mod Zeros
