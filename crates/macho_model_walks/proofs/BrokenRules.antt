@@ -77,7 +77,7 @@ breaks_not_accepted b L8 place (inr h) a =
     fails_not_each (fixup_commands b) place (λ c. table_fits b (table_of_command b c)) h
     (of_commands (table_of_command b) (table_fits b) (fixup_commands b) a.l8.1)
 breaks_not_accepted b L9 place (t, k, one, within, told, fails) a = true_or_false _ (a.l9 t k one within) fails
-breaks_not_accepted b L10 place (x, s, page, one, on, told, unfit) a = unfit (a.l10 s page x one on)
+breaks_not_accepted b L10 place (x, number, s, page, is, on, told, unfit) a = unfit (a.l10 number s page x is on)
 
 -- the second rule, by the list of all commands
 pub whole_kept : (b : List ℕ) → EachCommand (listed list.All b) (test_of asked.Whole b)
