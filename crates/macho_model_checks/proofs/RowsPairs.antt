@@ -70,7 +70,7 @@ abbrev pub by_number : Link
 by_number = alone (changed (of_text (words8 (0x18 ∷ 8 ∷ [])) (0 ∷ 0x06000001 ∷ 8 ∷ 0x06000001 ∷ [])) 136 (words8 (0x10 ∷ [])))
 
 pub addends_by_number : (map (λ f. f.target) (fields_of by_number (section 0 0)) ≡ target.Section 0 0 0 ∷ target.Section 0 0 0 ∷ [])
-    × (map (λ f. f.addend) (fields_of by_number (section 0 0)) ≡ 8 ∷ 2 ^ 64 - 8 ∷ [])
+    × (map (λ f. f.addend) (fields_of by_number (section 0 0)) ≡ 8 ∷ (2 ^ 64 - 8) ∷ [])
 unfolding header_of commands_from commands_of commands_end segment_of num_sections section_place section_at section_bytes symtab_of num_symbols symbol_place symbol_at strings_of symbol_name relocation_place relocation_at sections_of carried_of template_exponent placed_exponent symbols_of strong_of weak_of commons_of greatest_of libraries_with definition_of chosen_commons initializer_sections unwind_sections uses_of imports_of libraries_needed target_of target_of_relocation slots_of stubs_of fields_of is_supported plain_entries all_entries entries_of le_at le_bytes row_bytes reading words8 words halves name16 entry text_object of_text changed
 addends_by_number = (refl, refl)
 
