@@ -9,6 +9,7 @@ use Rattle.macho_records.specs.Layouts.{segment_command, section_header}
 use Rattle.macho_records.specs.declared.header.SegmentCommand.{SegmentCommand}
 use Rattle.macho_records.specs.declared.header.SectionHeader.{SectionHeader}
 use Rattle.macho_records.specs.declared.constants.TheConstants.{LC_SEGMENT_64}
+use Rattle.macho_records.specs.Segments.{text_of}
 use Rattle.macho_model.specs.declared.placed.Counts.{Counts}
 use Rattle.macho_model.specs.declared.placed.PlacedSegment.{PlacedSegment}
 use Rattle.macho_model.specs.declared.placed.Range64.{Range64}
