@@ -35,6 +35,7 @@ pub mod Addresses
 pub mod Agreement
 pub mod Signature
 pub mod Head
+pub mod SymbolTable
 pub mod SymbolRows
 pub mod ImportTable
 pub mod Zeros
