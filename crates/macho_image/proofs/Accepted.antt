@@ -106,7 +106,7 @@ commands-inside b n entry none headers h =
     rw h.header (le-leb (32 + commands_size (commands_of_image n entry none headers)) (length b) (omega (arith, h.size, h.room)))
 
 -- the end of the commands
-commands-end : (b : List ℕ) (n entry : ℕ) (none headers : Bor (List SectionHeader)) → HasHead b n entry none headers
+pub commands-end : (b : List ℕ) (n entry : ℕ) (none headers : Bor (List SectionHeader)) → HasHead b n entry none headers
     → found.commands_end b ≡ 32 + (72 + (72 + 80 * length headers.now) + 24 + 32)
 unfolding found.header_of found.commands_end
 commands-end b n entry none headers h =

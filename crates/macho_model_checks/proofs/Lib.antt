@@ -22,3 +22,4 @@ pub mod RowsAccepted
 pub mod RowsPlacement
 pub mod RowsStands
 pub mod RowsValid
+pub mod RowsAgreement
