@@ -4,10 +4,12 @@ use Rattle.std.specs.Prelude.{◌≡◌, ℕ, ◌+◌, ◌*◌, ◌-◌, ◌≤�
 use Rattle.std.specs.List.{flat_map, range_with_len}
 use Rattle.macho_bytes.specs.Layouts.{reading, size_of}
 use Rattle.macho_bytes.specs.Texts.{name_of}
+use Rattle.macho_records.specs.Segments.{text_of}
 use Rattle.macho_records.specs.Layouts.{segment_command, section_header}
 use Rattle.macho_records.specs.declared.header.SegmentCommand.{SegmentCommand}
 use Rattle.macho_records.specs.declared.header.SectionHeader.{SectionHeader}
 use Rattle.macho_records.specs.declared.constants.TheConstants.{LC_SEGMENT_64}
+use Rattle.macho_records.specs.Segments.{text_of}
 use Rattle.macho_model.specs.declared.placed.Counts.{Counts}
 use Rattle.macho_model.specs.declared.placed.PlacedSegment.{PlacedSegment}
 use Rattle.macho_model.specs.declared.placed.Range64.{Range64}
@@ -32,7 +34,7 @@ abbrev pub place_by_command : SegmentCommand → SegmentPlace
 place_by_command s = record { name = name_of s.segname; address = s.vmaddr; size = s.vmsize; file_offset = s.fileoff; file_size = s.filesize }
 
 abbrev pub place_told : PlacedSegment → SegmentPlace
-place_told s = record { name = name_of s.name; address = s.address; size = s.size; file_offset = s.file_offset; file_size = s.file_size }
+place_told s = record { name = text_of s.name; address = s.address; size = s.size; file_offset = s.file_offset; file_size = s.file_size }
 
 -- the segments of the file are those of the placement, in order
 abbrev pub SegmentsAgree : List ℕ → Placed → Type 0

@@ -21,7 +21,7 @@ use Rattle.macho_records.specs.declared.commands.BuildVersionCommand.{BuildVersi
 use Rattle.macho_records.specs.declared.commands.BuildToolVersion.{BuildToolVersion}
 use Rattle.macho_records.specs.declared.constants.TheConstants.{CPU_SUBTYPE_ARM64_ALL, CPU_TYPE_ARM64, LC_BUILD_VERSION, LC_CODE_SIGNATURE, LC_DYLD_CHAINED_FIXUPS, LC_DYLD_EXPORTS_TRIE, LC_ID_DYLIB, LC_LOAD_DYLIB, LC_LOAD_DYLINKER, LC_MAIN, LC_RPATH, LC_SEGMENT_64, LC_SYMTAB, LC_UUID, MH_DYLDLINK, MH_DYLIB, MH_EXECUTE, MH_HAS_TLV_DESCRIPTORS, MH_MAGIC_64, MH_NOUNDEFS, MH_PIE, MH_TWOLEVEL, S_THREAD_LOCAL_VARIABLES}
 use Rattle.macho_records.specs.Sections.{type_of}
-use Rattle.macho_records.specs.Segments.{segment_flags_of}
+use Rattle.macho_records.specs.Segments.{bytes_of, text_of, segment_flags_of}
 use Rattle.macho_model.specs.declared.placed.Counts.{Counts}
 use Rattle.macho_model.specs.declared.placed.PlacedSegment.{PlacedSegment}
 use Rattle.macho_model.specs.declared.placed.Range64.{Range64}
@@ -29,9 +29,8 @@ use Rattle.macho_model.specs.Commands.{Command, header_of, commands_of}
 use Rattle.macho_model.specs.Links.{Link}
 use Rattle.macho_model.specs.Needs.{libraries_needed}
 use Rattle.macho_model.specs.Targets.{target_of_name}
-use Rattle.macho_model.specs.Segments.{list_if}
+use Rattle.macho_model.specs.Segments.{list_if, loaded_protection_of}
 use Rattle.macho_model.specs.Placement.{Placed}
-use Rattle.macho_model.specs.LoadRules.{loaded_protection_of}
 use Rattle.macho_model.specs.Addresses.{address_of}
 use Rattle.macho_model.specs.Agreement.{section_headers_at}
 use Rattle.macho_model.specs.Signature.{uuid_written}
@@ -80,21 +79,21 @@ commands_in b = map (command_in b) (commands_of b)
 
 -- a segment's command: it has the protections and the flags of its name, and the headers of its sections behind it
 abbrev pub headers_in : Placed → PlacedSegment → List SectionHeader
-headers_in p s = filter (λ h. bytes_eq (name_of h.segname) (name_of s.name)) p.output_sections
+headers_in p s = filter (λ h. bytes_eq (name_of h.segname) (text_of s.name)) p.output_sections
 
 abbrev pub segment_for : Placed → PlacedSegment → HeadCommand
 segment_for p s = Segment (record {
   cmd = LC_SEGMENT_64;
   cmdsize = size_of segment_command + size_of section_header * length (headers_in p s);
-  segname = s.name;
+  segname = bytes_of s.name;
   vmaddr = s.address;
   vmsize = s.size;
   fileoff = s.file_offset;
   filesize = s.file_size;
-  maxprot = loaded_protection_of (name_of s.name);
-  initprot = loaded_protection_of (name_of s.name);
+  maxprot = loaded_protection_of (text_of s.name);
+  initprot = loaded_protection_of (text_of s.name);
   nsects = length (headers_in p s);
-  flags = segment_flags_of (name_of s.name);
+  flags = segment_flags_of (text_of s.name);
 }) (headers_in p s)
 
 -- where an executable begins, counted from the base; the stack has the default size

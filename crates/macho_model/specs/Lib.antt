@@ -1,3 +1,4 @@
+pub mod Lists
 pub mod Symbols
 pub mod Commands
 pub mod Objects
@@ -14,6 +15,8 @@ pub mod Meaning
 pub mod Segments
 pub mod WrittenSum
 pub mod Placement
+pub mod OutputSections
+pub mod Order
 pub mod Images
 pub mod Chain
 pub mod LoadRules

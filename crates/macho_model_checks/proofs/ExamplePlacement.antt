@@ -4,6 +4,7 @@ use Rattle.std.specs.Prelude.{codes, Option}
 use Rattle.macho_records.specs.declared.header.SectionHeader.{SectionHeader}
 use Rattle.macho_model.specs.declared.placed.Counts.{Counts}
 use Rattle.macho_model.specs.declared.placed.PlacedSegment.{PlacedSegment}
+use Rattle.macho_records.specs.declared.segments.TheConstants.SegmentName as name
 use Rattle.macho_model.specs.declared.placed.PlacedSection.{PlacedSection}
 use Rattle.macho_model.specs.declared.placed.Range64.{Range64}
 use Rattle.macho_model.specs.declared.placed.Linkedit.{Linkedit}
@@ -41,10 +42,10 @@ no_tables = record { fixups = nothing; trie = nothing; symtab = nothing; strtab 
 
 -- the addresses in front of `__TEXT`, and `__TEXT` from an address on
 abbrev pub pagezero_to : ℕ → PlacedSegment
-pagezero_to start = record { name = name16 (codes "__PAGEZERO"); address = 0; size = start; file_offset = 0; file_size = 0 }
+pagezero_to start = record { name = name.PAGEZERO; address = 0; size = start; file_offset = 0; file_size = 0 }
 
 abbrev pub text_from : ℕ → ℕ → PlacedSegment
-text_from start size = record { name = name16 (codes "__TEXT"); address = start; size = size; file_offset = 0; file_size = 0x4000 }
+text_from start size = record { name = name.TEXT; address = start; size = size; file_offset = 0; file_size = 0x4000 }
 
 abbrev pub section_a : ℕ → PlacedSection
 section_a address = record { file = 0; section = 0; segment = 1; address = address }

@@ -22,7 +22,7 @@ use Rattle.macho_model.specs.Fields.{fields_of}
 use Rattle.macho_model.specs.Images.{segments_of, mapped_segments, tables_of}
 use Rattle.macho_model.specs.Memory.{Choice, Holds, HoldsText}
 use Rattle.macho_model.specs.Placement.{Placed, id_of, common_of}
-use Rattle.macho_model.specs.Stands.{IsOutsideField, Denotes, SectionStands, CommonStands, SlotStands, StubStands, LeadsThrough, ImageStands, IsLinked}
+use Rattle.macho_model.specs.Stands.{IsOutsideField, Denotes, SectionStands, CommonStands, SlotStands, StubStands, LeadsThrough, ImageStands, IsLoadable}
 use Rattle.macho_model_checks.proofs.Examples.{words8, words, halves, name16, changed}
 use Rattle.macho_model_checks.proofs.ExampleLinks.{executable_of, entry, text_object, section}
 use Rattle.macho_model_checks.proofs.ExampleImages.{smallest}
@@ -88,8 +88,8 @@ smallest_stands s choice =
     }
 
 -- The smallest link meets the whole promise.
-pub a_is_linked : IsLinked link_a counts_a smallest placed_a
-a_is_linked = record { placed = a_is_placed; accepted = smallest_is_accepted; stands = λ s choice paged fits binds. smallest_stands s choice }
+pub a_is_loadable : IsLoadable link_a counts_a smallest placed_a
+a_is_loadable = record { placed = a_is_placed; accepted = smallest_is_accepted; stands = λ s choice paged fits binds. smallest_stands s choice }
 
 -- memory of an image with one mapped segment and no tables has the file's byte at an offset in its file part
 pub one_byte : (b : List ℕ) (segment : SegmentCommand) (s : ℕ) (choice : Choice) (i v : ℕ) → tables_of b ≡ [] → mapped_segments b ≡ segment ∷ []
