@@ -1,5 +1,5 @@
 use Rattle.macho_commands.proofs.Texts.{HeadersSoFar}
-use Rattle.macho_commands.proofs.command.write_headers.Given as goal
+use Rattle.macho_commands.proofs.segment.write_headers.Given as goal
 
 -- the headers so far are put
 abbrev pub invariant-loop-header : goal.invariant-loop-header
