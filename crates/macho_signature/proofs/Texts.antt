@@ -5,13 +5,11 @@
 -- the signature, so the digests of a file are those of the bytes in front of its signature, before and after it is put.
 use Rattle.std.proofs.Common.{◌≡◌, ℕ, ◌+◌, ◌-◌, ◌*◌, ◌≤◌, List, [], ◌∷◌, ◌++◌, length, take, drop, replicate, refl, sym, ap, ◌∙◌, arith}
 use Rattle.std.proofs.lemmas.List.{length-append, length-replicate, length-take, length-drop}
-use borrow.Rule.Slice.PartMut.{put_mid}
 use Rattle.macho_bytes.specs.Numbers.{big, row_bytes}
 use Rattle.macho_bytes.specs.Texts.{put}
 use Rattle.macho_bytes.specs.Layouts.{spelling}
 use Rattle.macho_bytes.proofs.Numbers.{length-row_big}
 use Rattle.macho_bytes.proofs.Puts.{put-put, length-put}
-use Rattle.macho_bytes.proofs.Writes.{put_mid-whole}
 use Rattle.macho_records.specs.Layouts.{code_directory}
 use Rattle.macho_model.specs.Signature.{Signed, SUPER_BLOB_MAGIC, DIRECTORY_PLACE, directory_size, directory_for, identifier_text, page_count, page_digests, signature_text}
 use Rattle.macho_signature.specs.Sizes.{identifier_size, digests_offset, signature_size}
@@ -24,40 +22,6 @@ length-identifier name =
     let zeros : List ℕ = replicate gap 0 in
     let count : length zeros ≡ gap = length-replicate gap 0 in
     omega (arith, length-append name zeros, count)
-
--- a name and the zeros behind it, written one behind the other
-pub identifier_put : (name out : List ℕ) (end k m : ℕ) (copied filled : List ℕ) → end ≡ 108 + identifier_size (length name) → k ≡ length name
-    → m ≡ end - (108 + length name) → end ≤ length out → copied ≡ name
-    → filled ≡ replicate (length (take m (drop (108 + length name) (put_mid 108 k out copied)))) 0
-    → put_mid (108 + length name) m (put_mid 108 k out copied) filled ≡ put 108 (identifier_text name) out
-identifier_put name out end k m copied filled ends here rest room is zeros =
-    put_mid-whole (108 + length name) m (put_mid 108 k out copied) gap filled (sym count) (omega (arith, long, count)) (zeros ∙ ap (λ (n : ℕ). replicate n 0) whole)
-    ∙ ap (put (108 + length name) gap) first
-    ∙ put-put 108 (108 + length name) name gap out refl (omega (arith, count))
-    ∙ ap (λ (n : ℕ). put 108 (name ++ replicate n 0) out) to_size
-  where
-    gap : List ℕ
-    gap = replicate m 0
-
-    count : length gap ≡ m
-    count = length-replicate m 0
-
-    to_size : m ≡ identifier_size (length name) - length name
-    to_size = omega arith
-
-    first : put_mid 108 k out copied ≡ put 108 name out
-    first = put_mid-whole 108 k out name copied here (omega arith) is
-
-    long : length (put_mid 108 k out copied) ≡ length out
-    long = ap length first ∙ length-put 108 name out (omega arith)
-
-    whole : length (take m (drop (108 + length name) (put_mid 108 k out copied))) ≡ m
-    whole = omega (
-      arith,
-      long,
-      length-take m (drop (108 + length name) (put_mid 108 k out copied)),
-      length-drop (108 + length name) (put_mid 108 k out copied),
-    )
 
 -- the bytes of the whole text
 pub length-signature : (s : Signed) (b : List ℕ) → length (spelling code_directory (directory_for s)) ≡ 88
