@@ -1,4 +1,7 @@
 <<<<<<< HEAD
+<<<<<<< HEAD
+=======
+>>>>>>> commands/main
 -- The symbol table of the image: which symbols of the objects are in it (`mach-o/nlist.h`).
 use Rattle.std.specs.Prelude.{ℕ, ◌==◌, ◌&&◌, ◌||◌, not, if◌then◌else◌, Bool, List, filter}
 use Rattle.macho_records.specs.Symbols.{is_stab_of, is_common_of, is_default_strippable_of}
@@ -17,6 +20,7 @@ is_in_table l s =
     && (if is_global (entry_at l s) then defines l s else not (is_default_strippable_of (entry_at l s) (name_at l s)))
 
 -- the symbols of the table, by object, then number
+<<<<<<< HEAD
 =======
 -- Which symbols of the objects are in the symbol table of an image (`mach-o/nlist.h`).
 use Rattle.std.specs.Prelude.{◌==◌, ◌&&◌, ◌||◌, not, if◌then◌else◌, Bool, List, filter}
@@ -37,5 +41,7 @@ is_in_table l s =
 
 -- the symbols of the table, by object, then symbol
 >>>>>>> st-inputs/main
+=======
+>>>>>>> commands/main
 unfoldable pub table_symbols : Link → List SymbolId
 table_symbols l = filter (is_in_table l) (symbols_of l)
