@@ -7,3 +7,4 @@ pub mod Slides
 pub mod Apart
 pub mod FieldSlides
 pub mod PointerFixups
+pub mod PlainPointers

@@ -44,3 +44,4 @@ pub mod ReadBack
 pub mod Told
 pub mod Laws
 pub mod SlideLaws
+pub mod HeldLaws

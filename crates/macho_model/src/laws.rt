@@ -20,3 +20,23 @@ pub fn fields_denote_at_every_slide()
     ensures moved { PointersMove }
     ensures bound { ImportPointersBind }
 {}
+
+ghost use Rattle.macho_model.specs.HeldLaws.{TextsAreHeld, ZerosAreHeld, NumbersAreHeld, SlotsMove, ImportSlotsBind, PlainPointersStay};
+
+/// Where no chain word has a byte, memory holds the texts and numbers of the file, and zeros behind a segment's file part.
+pub fn what_no_word_covers_is_held()
+    ensures texts { TextsAreHeld }
+    ensures zeros { ZerosAreHeld }
+    ensures numbers { NumbersAreHeld }
+{}
+
+/// A slot stands at every slide by its chain word: of a target that moves, or of an import.
+pub fn slots_stand_at_every_slide()
+    ensures moved { SlotsMove }
+    ensures bound { ImportSlotsBind }
+{}
+
+/// A pointer that no fixup moves denotes at every slide where it does at slide 0.
+pub fn plain_pointers_stay()
+    ensures { PlainPointersStay }
+{}

@@ -24,3 +24,5 @@ pub mod RowsPlacement
 pub mod RowsStands
 pub mod RowsValid
 pub mod RowsConsumed
+pub mod RowsSizes
+pub mod RowsAgreement
