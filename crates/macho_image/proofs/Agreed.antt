@@ -27,6 +27,7 @@ use Rattle.macho_image.specs.Composed.{HasHead}
 use Rattle.macho_image.specs.Shape.{placed_of_image}
 use Rattle.macho_image.proofs.Accepted.{segments-are, commands-end}
 use Rattle.macho_image.proofs.ClearFields.{no_fixup_field}
+use Rattle.macho_image.proofs.Placed.{filter_none}
 use Rattle.macho_image.proofs.Uses.{no_slots}
 
 -- the segments
@@ -52,18 +53,11 @@ flat_none : {X Y : Type 0} (f : X → List Y) (xs : List X) → ((k : ℕ) (d : 
 flat_none f [] none = refl
 flat_none f (x ∷ xs) none = rw (none 0 x (omega arith), flat_none f xs (λ k d lt. none (suc k) d (omega arith))) refl
 
+is_false : (t : Bool) → (t ≡ true → ⊥) → t ≡ false
+is_false t never = elim t as (λ (u : Bool). (u ≡ true → ⊥) → u ≡ false) [ true ↦ λ no. absurd (no refl) | false ↦ λ no. refl ] never
+
 none_kept : {X : Type 0} (test : X → Bool) (xs : List X) → ((x : X) → Contains xs x → test x ≡ true → ⊥) → filter test xs ≡ []
-none_kept {X = X} test xs none = by xs (λ k d lt passes. none (get_or xs k d) (Contains-get_or xs k d lt) passes)
-  where
-    by : (ys : List X) → ((k : ℕ) (d : X) → k < length ys → test (get_or ys k d) ≡ true → ⊥) → filter test ys ≡ []
-    by [] never = refl
-    by (y ∷ ys) never =
-        let rest = by ys (λ k d lt. never (suc k) d (omega arith)) in
-        rw (fails (test y) (never 0 y (omega arith)), rest) refl
-      where
-        fails : (t : Bool) → (t ≡ true → ⊥) → t ≡ false
-        fails true no = absurd (no refl)
-        fails false no = refl
+none_kept test xs none = filter_none test xs (λ k d lt. is_false (test (get_or xs k d)) (none (get_or xs k d) (Contains-get_or xs k d lt)))
 
 -- no word is fixed up
 pub no_fixups : (l : Link) (b : List ℕ) (cs : List Carried) (xss : List (List Branch)) → HasOneObject l b → IsPlainObject b cs → HasAllBranches b cs xss
