@@ -23,3 +23,5 @@ pub mod RowsPlacement
 pub mod RowsStands
 pub mod RowsValid
 pub mod RowsAgreement
+pub mod ExampleCall
+pub mod RowsCall
