@@ -1,2 +1,5 @@
 pub mod Texts
+pub mod Numbered
+pub mod Readable
+pub mod PathTexts
 pub mod Reading

@@ -1,3 +1,3 @@
-pub mod Records
+pub mod Texts
 pub mod Commands
 pub mod Reading

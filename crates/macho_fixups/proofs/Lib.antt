@@ -11,7 +11,13 @@ pub mod ExampleImages
 pub mod Places
 pub mod ChainWrites
 pub mod RunChain
+pub mod RunPages
 pub mod StartReading
 pub mod EntryReading
+pub mod TableTaken
 pub mod TableReading
 pub mod Bounds
+pub mod Puts
+pub mod FileChains
+pub mod NamesRead
+pub mod WordsBeside

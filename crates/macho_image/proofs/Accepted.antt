@@ -22,8 +22,8 @@ use Rattle.macho_model.specs.ObjectRules.{commands_inside}
 use Rattle.macho_model.specs.Grammar.{EachCommand}
 use Rattle.macho_model.specs.LoadRules.{image_head_fits, needed_in_image, protections_fit, file_part_inside, segment_is_paged, segment_ends, begins_behind, text_holds_commands, table_fits}
 use Rattle.macho_model.specs.Loader.{IsAccepted, segment_commands, EachNeighbour}
-use Rattle.macho_commands.specs.Records.{segment_record}
-use Rattle.macho_commands.specs.Commands.{commands_size}
+use Rattle.macho_commands.specs.Commands.{segment_record, commands_size}
+use Rattle.macho_commands.proofs.Reading.{segment-found, entry_point-found}
 use Rattle.macho_image.specs.Composed.{HasHead}
 use Rattle.macho_image.specs.Shape.{pagezero_segment, text_segment, TEXT_PROTECTION, commands_of_image}
 
@@ -33,6 +33,9 @@ pagezero_record = segment_record pagezero_segment 0 0 0
 
 abbrev pub text_record : ℕ → ℕ → SegmentCommand
 text_record n count = segment_record (text_segment n) TEXT_PROTECTION 0 count
+
+abbrev pub entry_record : ℕ → EntryPointCommand
+entry_record entry = record { cmd = LC_MAIN; cmdsize = 24; entryoff = entry; stacksize = 0 }
 
 -- the commands as a reader finds them
 abbrev pub four_commands : ℕ → List found.Command
@@ -54,12 +57,14 @@ commands-are b n entry none headers h =
 -- what the segments' commands say
 pagezero-says : (b : List ℕ) (n entry : ℕ) (none headers : Bor (List SectionHeader)) → HasHead b n entry none headers → reading segment_command b 32 ≡ pagezero_record
 pagezero-says b n entry none headers h =
-    h.commands.each.0.says ∙ ap (λ (hs : List SectionHeader). segment_record pagezero_segment 0 0 (length hs)) h.empty
+    segment-found b 32 (segment_record pagezero_segment 0 0 (length none.now)) none.now refl h.commands.each.0
+    ∙ ap (λ (hs : List SectionHeader). segment_record pagezero_segment 0 0 (length hs)) h.empty
 
 text-says : (b : List ℕ) (n entry : ℕ) (none headers : Bor (List SectionHeader)) → HasHead b n entry none headers
     → reading segment_command b 104 ≡ text_record n (length headers.now)
 text-says b n entry none headers h =
-    ap (λ (hs : List SectionHeader). reading segment_command b (32 + (72 + 80 * length hs))) (sym h.empty) ∙ h.commands.each.1.0.says
+    ap (λ (hs : List SectionHeader). reading segment_command b (32 + (72 + 80 * length hs))) (sym h.empty)
+    ∙ segment-found b (32 + (72 + 80 * length none.now)) (text_record n (length headers.now)) headers.now refl h.commands.each.1.0
 
 -- the segments as a reader finds them
 pub segments-are : (b : List ℕ) (n entry : ℕ) (none headers : Bor (List SectionHeader)) → HasHead b n entry none headers
@@ -144,9 +149,9 @@ each-fits b n entry none headers h =
 
 -- the only neighbours of a list of two
 neighbours : (test : found.Command → found.Command → Bool) (x y : found.Command) → test x y ≡ true → EachNeighbour (x ∷ y ∷ []) test
-neighbours test x y e zero c d lt at_c at_d =
+neighbours test x y e zero c d (before, at_c) (lt, at_d) =
     subst (λ (z : found.Command). test z d ≡ true) at_c (subst (λ (z : found.Command). test x z ≡ true) at_d e)
-neighbours test x y e (suc k) c d lt at_c at_d = absurd (omega arith)
+neighbours test x y e (suc k) c d before (lt, at_d) = absurd (omega arith)
 
 -- the loader accepts the image
 pub accepted : (b : List ℕ) (n entry : ℕ) (none headers : Bor (List SectionHeader)) → HasHead b n entry none headers → n % SEGMENT_PAGE ≡ 0
@@ -196,4 +201,5 @@ entries-are b n entry none headers h =
     let place : at ≡ 32 + (72 + 80 * length none.now) + (72 + 80 * length headers.now) = omega (arith, ap length h.empty) in
     rw (commands-are b n entry none headers h)
     (ap (λ (k : ℕ). (reading entry_point_command b k).entryoff ∷ []) place
-    ∙ ap (λ (r : EntryPointCommand). r.entryoff ∷ []) h.commands.each.1.1.0.says)
+    ∙ ap (λ (r : EntryPointCommand). r.entryoff ∷ [])
+    (entry_point-found b (32 + (72 + 80 * length none.now) + (72 + 80 * length headers.now)) (entry_record entry) refl h.commands.each.1.1.0))

@@ -37,9 +37,8 @@ use Rattle.macho_image.specs.Shape.{placed_of_image}
 use Rattle.macho_image.proofs.First.{first_section, first-header, carried-are}
 use Rattle.macho_image.proofs.Placed.{map-at, no_place, no_carried}
 use Rattle.macho_image.proofs.Uses.{no_branch, no_slots}
-use Rattle.macho_image.proofs.Unsupported.{relocation-is, target-is, type-is, word-is, form_length, form_extern}
+use Rattle.macho_image.proofs.Unsupported.{relocation-is, target-is, type-is, word-is, form_length, form_extern, row-is}
 use Rattle.macho_image.proofs.Denoting.{field_by, field_at, field_count}
-use Rattle.macho_image.proofs.Answered.{row-is}
 use Rattle.macho_image.proofs.Set.{any_default}
 use Rattle.macho_image.proofs.ClearNames.{RisesBelow, those_rise}
 

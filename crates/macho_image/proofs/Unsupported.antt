@@ -139,13 +139,18 @@ lacks_row l b k r true one form lacks =
     (ap is_branch (word-is l b k r one (form_length (relocation_at b k r) form))
     ∙ second (has_form (relocation_at b k r) 2 true true) (is_branch (le_at WORD (section_bytes b k) (relocation_at b k r).r_address)) lacks form)
 
+-- the row of branches
+pub row-is : (l : Link) (s : SectionId) (r : ℕ) → (relocation_in l s r).r_type ≡ ARM64_RELOC_BRANCH26
+    → is_supported l s r ≡ (has_form (relocation_in l s r) 2 true true && is_branch (content_of l s r) && may_be_called l s r)
+unfolding is_supported
+row-is l s r type = rw type refl
+
 pub no_branch_there : (l : Link) (b : List ℕ) (k r : ℕ) → HasOneObject l b → (relocation_at b k r).r_type ≡ ARM64_RELOC_BRANCH26
     → (has_form (relocation_at b k r) 2 true true && is_branch (le_at WORD (section_bytes b k) (relocation_at b k r).r_address)) ≡ false
     → is_supported l (first_section k) r ≡ false
-unfolding is_supported
 no_branch_there l b k r one type lacks =
-    rw (type-is l b k r one type)
-    (and_first (has_form (relocation_in l (first_section k) r) 2 true true && is_branch (content_of l (first_section k) r)) (may_be_called l (first_section k) r)
+    row-is l (first_section k) r (type-is l b k r one type)
+    ∙ (and_first (has_form (relocation_in l (first_section k) r) 2 true true && is_branch (content_of l (first_section k) r)) (may_be_called l (first_section k) r)
     (lacks_row l b k r (has_form (relocation_at b k r) 2 true true) one refl lacks))
 
 -- a branch to what doesn't move with the image
@@ -158,10 +163,9 @@ not_called l b k r one type form nowhere =
 
 pub no_target : (l : Link) (b : List ℕ) (k r : ℕ) → HasOneObject l b → (relocation_at b k r).r_type ≡ ARM64_RELOC_BRANCH26
     → has_form (relocation_at b k r) 2 true true ≡ true → LeadsNowhere b (relocation_at b k r).r_symbolnum → is_supported l (first_section k) r ≡ false
-unfolding is_supported
 no_target l b k r one type form nowhere =
-    rw (type-is l b k r one type)
-    (and_none (has_form (relocation_in l (first_section k) r) 2 true true && is_branch (content_of l (first_section k) r)) (may_be_called l (first_section k) r)
+    row-is l (first_section k) r (type-is l b k r one type)
+    ∙ (and_none (has_form (relocation_in l (first_section k) r) 2 true true && is_branch (content_of l (first_section k) r)) (may_be_called l (first_section k) r)
     (not_called l b k r one type form nowhere))
 
 -- a relocation whose type isn't built yet

@@ -101,10 +101,14 @@ lies_in l f address size =
     nat_le (header_at l f).addr address && nat_lt address ((header_at l f).addr + (header_at l f).size)
     && nat_le (address + size) ((header_at l f).addr + (header_at l f).size)
 
+-- the relocations of an entry's start that name a section
+abbrev pub starts_in : Link → SectionId → ℕ → List ℕ
+starts_in l s e = filter (λ r. not (relocation_in l s r).r_extern) (relocations_in_entry l s e START_PLACE)
+
 -- U5: the function lies in its section
 abbrev pub function_inside : Link → SectionId → ℕ → Bool
 function_inside l s e =
-    list_all (λ r. lies_in l (section_named l s r) (unwind_entry l s e).start (unwind_entry l s e).length) (relocations_in_entry l s e START_PLACE)
+    list_all (λ r. lies_in l (section_named l s r) (unwind_entry l s e).start (unwind_entry l s e).length) (starts_in l s e)
 
 -- An entry, by its section and number.
 pub record EntryId : Type 0 where
@@ -120,8 +124,8 @@ same_section f g = (f.file == g.file) && (f.section == g.section)
 
 abbrev pub same_start : Link → EntryId → EntryId → Bool
 same_start l d e =
-    list_any (λ q. list_any (λ r. same_section (section_named l d.of_section q) (section_named l e.of_section r)) (relocations_in_entry l e.of_section e.entry START_PLACE))
-    (relocations_in_entry l d.of_section d.entry START_PLACE)
+    list_any (λ q. list_any (λ r. same_section (section_named l d.of_section q) (section_named l e.of_section r)) (starts_in l e.of_section e.entry))
+    (starts_in l d.of_section d.entry)
     && ((unwind_entry l d.of_section d.entry).start == (unwind_entry l e.of_section e.entry).start)
 
 -- U6: no other entry begins where this one does
@@ -144,7 +148,8 @@ absent_is_zero relocations word = not (length relocations == 0) || (word == 0)
 
 abbrev pub entry_is_clear : Link → SectionId → ℕ → Bool
 entry_is_clear l s e =
-    (bits 28 2 (unwind_entry l s e).encoding == 0) && absent_is_zero (relocations_in_entry l s e PERSONALITY_PLACE) (unwind_entry l s e).personality
+    (bits 28 2 (unwind_entry l s e).encoding == 0) && absent_is_zero (relocations_in_entry l s e START_PLACE) (unwind_entry l s e).start
+    && absent_is_zero (relocations_in_entry l s e PERSONALITY_PLACE) (unwind_entry l s e).personality
     && absent_is_zero (relocations_in_entry l s e LSDA_PLACE) (unwind_entry l s e).lsda
 
 -- each relocation of an entry passes a test

@@ -6,6 +6,7 @@ use Rattle.macho_records.specs.declared.header.SegmentCommand.{SegmentCommand}
 use Rattle.macho_model.specs.declared.rules.LoadRule.{LoadRule}
 use Rattle.macho_model.specs.declared.rules.LoadRule.TheVariants.{L1, L2, L3, L4, L5, L6, L7, L8, L9, L10}
 use Rattle.macho_records.specs.declared.constants.TheConstants.{LC_DYLD_CHAINED_FIXUPS, LC_SEGMENT_64}
+use Rattle.macho_model.specs.Lists.{IsNumber, EachNext}
 use Rattle.macho_model.specs.Commands.{Command, commands_of, numbered, command_fits}
 use Rattle.macho_model.specs.ObjectRules.{commands_inside}
 use Rattle.macho_model.specs.Grammar.{EachCommand, CommandFails}
@@ -46,7 +47,7 @@ pub record WordFits (b : List ℕ) (s : SegmentCommand) (page a : ℕ) : Type 0 
 
 -- each segment and the one behind it
 abbrev pub EachNeighbour : List Command → (Command → Command → Bool) → Type 0
-EachNeighbour cs test = (k : ℕ) (c d : Command) → k + 1 < length cs → get_or cs k c ≡ c → get_or cs (k + 1) d ≡ d → test c d ≡ true
+EachNeighbour cs test = EachNext (λ c d. test c d ≡ true) cs
 
 -- the commands of segments
 abbrev pub segment_commands : List ℕ → List Command
@@ -68,7 +69,7 @@ pub record IsAccepted (b : List ℕ) : Type 0 where
 -- some segment's command and the one behind it fail a test, told at the latter
 abbrev pub NeighbourFails : List Command → ℕ → (Command → Command → Bool) → Type 0
 NeighbourFails cs place test =
-    (k : ℕ) × (c : Command) × (d : Command) × (k + 1 < length cs) × (get_or cs k c ≡ c) × (get_or cs (k + 1) d ≡ d) × (place ≡ d.at)
+    (k : ℕ) × (c : Command) × (d : Command) × IsNumber cs k c × IsNumber cs (k + 1) d × (place ≡ d.at)
     × (test c d ≡ false)
 
 -- the commands of `__TEXT` segments
@@ -79,14 +80,14 @@ text_commands b = filter (λ c. is_named TEXT (segment_in b c)) (segment_command
 abbrev pub TextIsNotOne : List ℕ → ℕ → Type 0
 TextIsNotOne b place =
     ((text_commands b ≡ []) × (place ≡ 0))
-    ⊎ ((k : ℕ) × (c : Command) × (1 ≤ k) × (k < length (text_commands b)) × (get_or (text_commands b) k c ≡ c) × (place ≡ c.at))
+    ⊎ ((k : ℕ) × (c : Command) × (1 ≤ k) × IsNumber (text_commands b) k c × (place ≡ c.at))
 
 abbrev pub fixup_commands : List ℕ → List Command
 fixup_commands b = numbered LC_DYLD_CHAINED_FIXUPS b
 
 -- a second fixup command, told at its place
 abbrev pub SecondTable : List ℕ → ℕ → Type 0
-SecondTable b place = (k : ℕ) × (c : Command) × (1 ≤ k) × (k < length (fixup_commands b)) × (get_or (fixup_commands b) k c ≡ c) × (place ≡ c.at)
+SecondTable b place = (k : ℕ) × (c : Command) × (1 ≤ k) × IsNumber (fixup_commands b) k c × (place ≡ c.at)
 
 -- an import that fails, told at its entry
 abbrev pub ImportFails : List ℕ → ℕ → Type 0

@@ -34,7 +34,7 @@ each_neighbour cs test = each_below (length cs - 1) (λ k. test (get_or cs k (re
 
 neighbours_pass : (cs : List Command) (test : Command → Command → Bool) → each_neighbour cs test ≡ true → EachNeighbour cs test
 unfolding no_command
-neighbours_pass cs test h k c d lt at_k at_next =
+neighbours_pass cs test h k c d (before, at_k) (lt, at_next) =
     let there = below_pass (length cs - 1) (λ j. test (get_or cs j no_command) (get_or cs (j + 1) no_command)) h k (omega arith) in
     let first : get_or cs k no_command ≡ c = get_or_default cs k no_command c (omega arith) ∙ at_k in
     let second : get_or cs (k + 1) no_command ≡ d = get_or_default cs (k + 1) no_command d lt ∙ at_next in
@@ -44,9 +44,9 @@ pass_neighbours : (cs : List Command) (test : Command → Command → Bool) → 
 unfolding no_command
 pass_neighbours cs test h =
     pass_below (length cs - 1) (λ j. test (get_or cs j no_command) (get_or cs (j + 1) no_command))
-    (λ k lt. h k (get_or cs k no_command) (get_or cs (k + 1) no_command) (omega arith)
-    (get_or_default cs k (get_or cs k no_command) no_command (omega arith))
-    (get_or_default cs (k + 1) (get_or cs (k + 1) no_command) no_command (omega arith)))
+    (λ k lt. h k (get_or cs k no_command) (get_or cs (k + 1) no_command)
+    (omega arith, get_or_default cs k (get_or cs k no_command) no_command (omega arith))
+    (omega arith, get_or_default cs (k + 1) (get_or cs (k + 1) no_command) no_command (omega arith)))
 
 -- a rule's test; the last rule has none here
 abbrev pub load_test : List ℕ → LoadRule → Bool

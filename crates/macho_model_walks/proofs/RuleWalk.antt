@@ -40,7 +40,7 @@ each_by_number b what pass k d lt =
 pub neighbours_by_number : (b : List ℕ) → ((k : ℕ) → k < (header_of b).ncmds → NeighbourPasses b k)
     → EachNeighbour (segment_commands b) (begins_behind b)
 unfolding listed
-neighbours_by_number b pass k c d lt at_k at_next = listed_neighbours lt at_k at_next
+neighbours_by_number b pass k c d (before, at_k) (lt, at_next) = listed_neighbours lt at_k at_next
   where
     listed_neighbours : k + 1 < length (listed list.Segments b) → get_or (listed list.Segments b) k c ≡ c
         → get_or (listed list.Segments b) (k + 1) d ≡ d → begins_behind b c d ≡ true
@@ -56,7 +56,7 @@ pub neighbour_fails : (b : List ℕ) (number place next : ℕ) → IsNth list.Se
     → begins_behind b (command_at b place) (command_at b next) ≡ false → NeighbourFails (segment_commands b) next (begins_behind b)
 unfolding listed
 neighbour_fails b number place next first second fails =
-    (number, command_at b place, command_at b next, second.within, first.is, second.is, refl, fails)
+    (number, command_at b place, command_at b next, (first.within, first.is), (second.within, second.is), refl, fails)
 
 -- the one `__TEXT`
 pub second_text : (b : List ℕ) (place : ℕ) → IsNth list.Texts b 1 place → TextIsNotOne b place
@@ -66,8 +66,10 @@ second_text b place nth =
       1,
       command_at b place,
       omega arith,
-      subst (λ cs. 1 < length cs) same nth.within,
-      subst (λ cs. get_or cs 1 (command_at b place) ≡ command_at b place) same nth.is,
+      (
+        subst (λ cs. 1 < length cs) same nth.within,
+        subst (λ cs. get_or cs 1 (command_at b place) ≡ command_at b place) same nth.is,
+      ),
       refl,
     )
 
@@ -84,7 +86,7 @@ one_text b place nth few = subst (λ cs. length cs ≡ 1) (texts_listed b) (omeg
 -- the one fixup table
 pub second_of_tables : (b : List ℕ) (place : ℕ) → IsNth list.Tables b 1 place → SecondTable b place
 unfolding listed
-second_of_tables b place nth = (1, command_at b place, omega arith, nth.within, nth.is, refl)
+second_of_tables b place nth = (1, command_at b place, omega arith, (nth.within, nth.is), refl)
 
 pub few_tables : (b : List ℕ) → length (listed list.Tables b) ≤ 1 → length (fixup_commands b) ≤ 1
 unfolding listed

@@ -117,8 +117,10 @@ fails_here b n i at passed test is lt fails =
     let all : commands_of b ≡ passed ++ c ∷ rest = is ∙ ap (λ (k : ℕ). passed ++ commands_from b at k) e in (
       length passed,
       c,
-      omega (arith, ap length all, length-append passed (c ∷ rest)),
-      ap (λ xs. get_or xs (length passed) c) all ∙ get_or-append_seam passed c rest c,
+      (
+        omega (arith, ap length all, length-append passed (c ∷ rest)),
+        ap (λ xs. get_or xs (length passed) c) all ∙ get_or-append_seam passed c rest c,
+      ),
       refl,
       fails,
     )

@@ -10,3 +10,7 @@ pub mod Sorting
 pub mod Encoding
 pub mod Layouts
 pub mod Tries
+pub mod Laws
+
+-- definitions of the crate below, which clauses of this one cite
+pub use Rattle.macho_bytes.specs.Uleb

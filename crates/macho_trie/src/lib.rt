@@ -2,6 +2,7 @@
 #![tactic(auto)]
 
 mod build;
+mod laws;
 mod layout;
 mod lookup;
 #[cfg(test)]
@@ -16,6 +17,7 @@ mod trie;
 #[cfg(test)]
 mod trie_tests;
 
+pub use laws::sizes_are_one;
 pub use lookup::{Export, trie_lookup};
 pub use symbols::Symbols;
 pub use trie::Trie;

@@ -29,11 +29,12 @@ pub(crate) enum Says {
 impl Symbols {
     ghost use Rattle.std.specs.Prelude.{◌≡◌, ℕ, [], OnOk, OnErr, false};
     ghost use Rattle.macho_trie.specs.Exports.{REEXPORT, is_reexport, HasNoNul, as_value, as_reexport};
-    ghost use Rattle.macho_trie.specs.Symbols.{symbols_of, with_symbol};
+    ghost use Rattle.macho_trie.specs.Symbols.{symbols_of, names_of, with_name, with_symbol};
 
     /// No names.
     pub fn new(alloc: Global) -> Symbols
-        ensures { symbols_of result ≡ [] }
+        ensures none { symbols_of result ≡ [] }
+        ensures names { names_of result ≡ [] }
     {
         Symbols {
             items: Vec::new(alloc),
@@ -45,6 +46,7 @@ impl Symbols {
     pub fn push(&mut self, name: &[u8], address: u64, flags: u64) -> Result<(), AllocError>
         requires { is_reexport flags ≡ false }
         ensures done { OnOk result (symbols_of self.new ≡ with_symbol (symbols_of self.old) name.now (as_value flags address)) }
+        ensures names { OnOk result (names_of self.new ≡ with_name (names_of self.old) name.now) }
         ensures kept { OnErr result (symbols_of self.new ≡ symbols_of self.old) }
     {
         self.add(name, Says::Value { flags, address })
@@ -60,6 +62,7 @@ impl Symbols {
     ) -> Result<(), AllocError>
         requires { HasNoNul import_name.now }
         ensures done { OnOk result (symbols_of self.new ≡ with_symbol (symbols_of self.old) name.now (as_reexport REEXPORT ordinal import_name.now)) }
+        ensures names { OnOk result (names_of self.new ≡ with_name (names_of self.old) name.now) }
         ensures kept { OnErr result (symbols_of self.new ≡ symbols_of self.old) }
     {
         let there = Vec::from_slice(*self.items.allocator(), import_name)?;
@@ -75,6 +78,7 @@ impl Symbols {
     fn add(&mut self, name: &[u8], says: Says) -> Result<(), AllocError>
         requires { IsSound (said_of says) }
         ensures done { OnOk result (symbols_of self.new ≡ with_symbol (symbols_of self.old) name.now (said_of says)) }
+        ensures names { OnOk result (names_of self.new ≡ with_name (names_of self.old) name.now) }
         ensures kept { OnErr result (symbols_of self.new ≡ symbols_of self.old) }
     {
         let name = Vec::from_slice(*self.items.allocator(), name)?;

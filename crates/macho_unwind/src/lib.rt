@@ -28,6 +28,7 @@
 #![tactic(auto)]
 
 mod bytes;
+mod laws;
 mod lookup;
 mod records;
 mod section;
@@ -37,9 +38,11 @@ mod section_tests;
 mod tests;
 mod writing;
 
+pub use laws::far_page_needs_room;
 pub use lookup::{Found, unwind_lookup};
 pub use macho_unwind_pages::{
-    Personality, ResolvedUnwindInfo, UnwindFault, UnwindInput, output_size, unwind_bound,
+    Personality, ResolvedUnwindInfo, UnwindFault, UnwindInput, ids_are_named, output_size,
+    unwind_bound,
 };
 pub use records::{
     COMPACT_UNWIND_SECTION_NAME, CompactUnwindInfoHeader, CompressedPage, LsdaEntry, PageEntry,
