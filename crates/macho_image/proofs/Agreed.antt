@@ -6,6 +6,7 @@
 use Rattle.std.proofs.Common.{◌≡◌, ℕ, zero, suc, ◌+◌, ◌*◌, ◌-◌, ◌<◌, Bool, true, false, List, [], ◌∷◌, ◌++◌, length, get_or, map, refl, sym, ap, ◌∙◌, arith, Bor}
 use Rattle.std.specs.Prelude.{Contains, filter}
 use Rattle.std.specs.List.{flat_map}
+use Rattle.std.proofs.lemmas.List.{append-nil}
 use Rattle.std.proofs.lemmas.List.Elements.{Contains-get_or}
 use Rattle.macho_records.specs.declared.header.SectionHeader.{SectionHeader}
 use Rattle.macho_model.specs.declared.placed.PlacedSection.{PlacedSection}
@@ -15,7 +16,7 @@ use Rattle.macho_model.specs.Fields.{Field, fields_of}
 use Rattle.macho_model.specs.Values.{needs_fixup}
 use Rattle.macho_model.specs.Segments.{PAGEZERO_SIZE}
 use Rattle.macho_model.specs.Images.{segments_of, base_of}
-use Rattle.macho_model.specs.Agreement.{SegmentsAgree, HeadAgrees}
+use Rattle.macho_model.specs.Agreement.{SegmentsAgree, HeadAgrees, section_headers_at, section_headers_of, HeadersAgree}
 use Rattle.macho_model.specs.ImportTable.{fixup_count}
 use Rattle.macho_model.proofs.EachBelow.{true_or_false}
 use Rattle.macho_image.specs.declared.carried.Carried.{Carried}
@@ -25,7 +26,10 @@ use Rattle.macho_image.specs.Branches.{HasAllBranches}
 use Rattle.macho_image.specs.Counts.{counts_of}
 use Rattle.macho_image.specs.Composed.{HasHead}
 use Rattle.macho_image.specs.Shape.{placed_of_image}
-use Rattle.macho_image.proofs.Accepted.{segments-are, commands-end}
+use Rattle.macho_commands.specs.Commands.{segment_record}
+use Rattle.macho_commands.proofs.Reading.{headers-found}
+use Rattle.macho_image.specs.Shape.{pagezero_segment}
+use Rattle.macho_image.proofs.Accepted.{text_record, segments-are, segment_commands-are, commands-end}
 use Rattle.macho_image.proofs.ClearFields.{no_fixup_field}
 use Rattle.macho_image.proofs.Placed.{filter_none}
 use Rattle.macho_image.proofs.Uses.{no_slots}
@@ -42,6 +46,18 @@ head-agrees l b n entry none given ps headers h are =
     let end = commands-end b n entry none given h in
     let count : length given.now ≡ length headers = ap (λ (hs : List SectionHeader). length hs) are in
     omega (arith, end, count)
+
+-- the section headers: none in front of `__TEXT`
+pub headers-agree : (b : List ℕ) (n entry : ℕ) (none given : Bor (List SectionHeader)) (ps : List PlacedSection) (headers : List SectionHeader)
+    → HasHead b n entry none given → given.now ≡ headers → HeadersAgree b (placed_of_image n ps headers)
+unfolding section_headers_of
+headers-agree b n entry none given ps headers h are =
+    let first : section_headers_at b 32 ≡ [] =
+    headers-found b 32 (segment_record pagezero_segment 0 0 (length none.now)) none.now refl h.commands.each.0 ∙ h.empty in
+    let second : section_headers_at b 104 ≡ given.now =
+    ap (λ (hs : List SectionHeader). section_headers_at b (32 + (72 + 80 * length hs))) (sym h.empty)
+    ∙ headers-found b (32 + (72 + 80 * length none.now)) (text_record n (length given.now)) given.now refl h.commands.each.1.0 in
+    rw (segment_commands-are b n entry none given h, first, second) (append-nil given.now ∙ are)
 
 -- the base of the file
 pub base-is : (b : List ℕ) (n entry : ℕ) (none given : Bor (List SectionHeader)) → HasHead b n entry none given → base_of b ≡ PAGEZERO_SIZE
