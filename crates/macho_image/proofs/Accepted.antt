@@ -83,7 +83,7 @@ pub mapped-are : (b : List ℕ) (n entry : ℕ) (none headers : Bor (List Sectio
 unfolding mapped_segments
 mapped-are b n entry none headers h = rw (segments-are b n entry none headers h) refl
 
-segment_commands-are : (b : List ℕ) (n entry : ℕ) (none headers : Bor (List SectionHeader)) → HasHead b n entry none headers
+pub segment_commands-are : (b : List ℕ) (n entry : ℕ) (none headers : Bor (List SectionHeader)) → HasHead b n entry none headers
     → segment_commands b ≡ two_commands (length headers.now)
 segment_commands-are b n entry none headers h = rw (commands-are b n entry none headers h) refl
 

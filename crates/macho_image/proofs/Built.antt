@@ -31,12 +31,12 @@ use Rattle.macho_model.specs.Words.{is_branch}
 use Rattle.macho_bytes.specs.Numbers.{le_at}
 use Rattle.macho_image.specs.Shape.{placed_of_image}
 use Rattle.macho_image.specs.Linked.{IsImageAlone}
-use Rattle.macho_model.specs.Agreement.{SegmentsAgree, HeadAgrees, EntryAgrees}
+use Rattle.macho_model.specs.Agreement.{CommandsAgree}
 use Rattle.macho_model.specs.Told.{imports_told}
 use Rattle.macho_model.proofs.EachBelow.{true_or_false}
 use Rattle.macho_image.proofs.FirstLinks.{is_first}
 use Rattle.macho_image.proofs.Uses.{no_imports}
-use Rattle.macho_image.proofs.Agreed.{segments-agree, head-agrees, base-is, no_fixups}
+use Rattle.macho_image.proofs.Agreed.{segments-agree, head-agrees, headers-agree, base-is, no_fixups}
 use Rattle.macho_image.proofs.Accepted.{accepted, entries-are}
 use Rattle.macho_image.proofs.Held.{stands, branch_inside}
 use Rattle.macho_image.proofs.Placed.{no_place, no_carried, placed}
@@ -98,17 +98,19 @@ image_alone b cs xss ps end n e address headers image h branches count place beh
       accepted = accepted image.bytes.items n (address - PAGEZERO_SIZE) made.none made.given made.head h.pages (omega (arith, (short b cs ps end n h).1));
       stands = λ s choice whole fits binds. image_stands l b image.bytes.items cs xss ps headers end n (address - PAGEZERO_SIZE) h branches one made s choice;
     });
-    segments = subst (SegmentsAgree image.bytes.items) (sym placement) (segments-agree image.bytes.items n (address - PAGEZERO_SIZE) made.none made.given ps headers made.head);
-    head = subst (HeadAgrees (counts_of l) image.bytes.items) (sym placement)
-        (head-agrees l image.bytes.items n (address - PAGEZERO_SIZE) made.none made.given ps headers made.head made.headers_are);
-    entry = subst (EntryAgrees l image.bytes.items) (sym placement) (record {
-      executable = λ executable. (
-        address - PAGEZERO_SIZE,
-        entries-are image.bytes.items n (address - PAGEZERO_SIZE) made.none made.given made.head,
-        λ s choice. rw (base-is image.bytes.items n (address - PAGEZERO_SIZE) made.none made.given made.head, leads)
-            (target_at l b cs ps headers end n e address s choice h place behind),
-      );
-      library = λ library. absurd (true_or_false l.executable one.executable library);
+    agrees = subst (CommandsAgree l (counts_of l) image.bytes.items) (sym placement) (record {
+      segments = segments-agree image.bytes.items n (address - PAGEZERO_SIZE) made.none made.given ps headers made.head;
+      head = head-agrees l image.bytes.items n (address - PAGEZERO_SIZE) made.none made.given ps headers made.head made.headers_are;
+      headers = headers-agree image.bytes.items n (address - PAGEZERO_SIZE) made.none made.given ps headers made.head made.headers_are;
+      entry = record {
+        executable = λ executable. (
+          address - PAGEZERO_SIZE,
+          entries-are image.bytes.items n (address - PAGEZERO_SIZE) made.none made.given made.head,
+          λ s choice. rw (base-is image.bytes.items n (address - PAGEZERO_SIZE) made.none made.given made.head, leads)
+              (target_at l b cs ps headers end n e address s choice h place behind),
+        );
+        library = λ library. absurd (true_or_false l.executable one.executable library);
+      };
     });
     told = record {
       libraries_are = rw bare.libraries (sym (no_libraries_needed l b one));

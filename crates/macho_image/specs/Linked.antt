@@ -3,7 +3,7 @@ use Rattle.std.specs.Prelude.{◌≡◌, ℕ, ◌+◌, ◌<◌, ◌≤◌, true,
 use Rattle.macho_model.specs.Links.{Link, Input, Object, Dylib, no_input}
 use Rattle.std.specs.Borrow.{Bor}
 use Rattle.macho_model.specs.Grammar.{IsObject}
-use Rattle.macho_model.specs.Agreement.{SegmentsAgree, HeadAgrees, EntryAgrees}
+use Rattle.macho_model.specs.Agreement.{CommandsAgree}
 use Rattle.macho_model.specs.Told.{ToldImport, IsTold}
 use Rattle.macho_model.specs.Targets.{target_of_name}
 use Rattle.macho_model.specs.Stands.{IsLoadable}
@@ -26,11 +26,8 @@ import_of i = record { library = i.library; name = i.name.items }
 pub record IsImageOf (l : Link) (image : LinkedImage) : Type 0 where
   -- the parts are placed, the loader accepts the bytes, and at every slide and choice they stand in memory
   pub linked : IsLoadable l (counts_of l) image.bytes.items (placed_of image.placement)
-  -- the segments of the file are the placement's, and its load commands end where the placement's head ends
-  pub segments : SegmentsAgree image.bytes.items (placed_of image.placement)
-  pub head : HeadAgrees (counts_of l) image.bytes.items (placed_of image.placement)
-  -- an executable begins at its entry, counted from the file's own `__TEXT`
-  pub entry : EntryAgrees l image.bytes.items (placed_of image.placement)
+  -- the load commands say what the placement says: segments, section headers, where the head ends, and the entry
+  pub agrees : CommandsAgree l (counts_of l) image.bytes.items (placed_of image.placement)
   -- the libraries that are needed, the names that are imported, and the words that the loader writes
   pub told : IsTold l (map (λ name. name.items) image.libraries.items) (map import_of image.imports.items) image.fixups
   -- no exported name is told yet

@@ -26,3 +26,5 @@ pub mod RowsValid
 pub mod RowsConsumed
 pub mod RowsSizes
 pub mod RowsAgreement
+pub mod ExampleCall
+pub mod RowsCall
