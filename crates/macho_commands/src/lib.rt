@@ -15,6 +15,7 @@
 #![tactic(auto)]
 
 mod command;
+mod laws;
 mod linkedit;
 mod list;
 mod paths;
@@ -25,6 +26,8 @@ pub use command::Command;
 pub use command::DYLINKER_PATH;
 pub use command::SymbolTable;
 pub use command::Table;
+pub use laws::head_is_read;
+pub use laws::head_keeps_rules;
 pub use list::commands_size;
 pub use list::write_commands;
 pub use paths::path_command_size;
