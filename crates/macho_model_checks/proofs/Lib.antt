@@ -25,4 +25,5 @@ pub mod RowsStands
 pub mod RowsValid
 pub mod RowsConsumed
 pub mod RowsSizes
+pub mod RowsNames
 pub mod RowsAgreement
