@@ -221,10 +221,10 @@ fn has_constants(args: &MachOArgs) -> bool {
         && args.loadable_segment_alignment() == 16_384
         && ["export_dynamic", "O0", "O1", "O2", "O3"]
             .iter()
-            .all(|flag| args.is_ignored_flag(flag))
+            .all(|flag| MachOArgs::is_ignored_flag(flag))
         && !["O4", "-O0", "dynamic", ""]
             .iter()
-            .any(|flag| args.is_ignored_flag(flag))
+            .any(|flag| MachOArgs::is_ignored_flag(flag))
 }
 
 #[test]

@@ -8,3 +8,4 @@ pub mod Apart
 pub mod FieldSlides
 pub mod PointerFixups
 pub mod PlainPointers
+pub mod LinkLaws

@@ -16,7 +16,7 @@ use Rattle.macho_model.specs.Symbols.{is_in_segment}
 use Rattle.macho_records.specs.declared.constants.TheConstants.{ARM64_RELOC_UNSIGNED, S_MOD_INIT_FUNC_POINTERS}
 use Rattle.macho_model.specs.Objects.{section_bytes}
 use Rattle.macho_model.specs.Links.{Link, object_of, SectionId, header_at, is_carried}
-use Rattle.macho_model.specs.Needs.{relocation_in, relocations_of, relocations_at, unwind_sections, distinct, POINTER_SIZE, UNWIND_ENTRY_SIZE, PERSONALITY_PLACE}
+use Rattle.macho_model.specs.Needs.{relocation_in, section_named, relocations_of, relocations_at, unwind_sections, distinct, POINTER_SIZE, UNWIND_ENTRY_SIZE, PERSONALITY_PLACE}
 use Rattle.macho_model.specs.Targets.{target_of_relocation, is_defined, is_import, same_target}
 use Rattle.macho_model.specs.Segments.{TEXT}
 
@@ -79,10 +79,6 @@ abbrev pub single_relocations : Link → SectionId → ℕ → Bool
 single_relocations l s e =
     nat_le (length (relocations_in_entry l s e START_PLACE)) 1 && nat_le (length (relocations_in_entry l s e PERSONALITY_PLACE)) 1
     && nat_le (length (relocations_in_entry l s e LSDA_PLACE)) 1
-
--- the section that a relocation names by number
-abbrev pub section_named : Link → SectionId → ℕ → SectionId
-section_named l s r = record { file = s.file; section = (relocation_in l s r).r_symbolnum - 1 }
 
 -- a section that functions stand in
 abbrev pub holds_functions : Link → SectionId → Bool

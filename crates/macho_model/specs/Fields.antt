@@ -6,7 +6,7 @@ use Rattle.macho_records.specs.declared.relocations.RelocationInfo.{RelocationIn
 use Rattle.macho_model.specs.declared.targets.Target.{Target}
 use Rattle.macho_model.specs.Objects.{section_bytes}
 use Rattle.macho_model.specs.Links.{Link, object_of, SectionId, header_at}
-use Rattle.macho_model.specs.Needs.{relocation_in, relocations_of}
+use Rattle.macho_model.specs.Needs.{relocation_in, section_named, relocations_of}
 use Rattle.macho_model.specs.Targets.{target_of_relocation}
 
 -- A field: its offset in the section, its width in bytes, the type of its relocation, what it refers to, what it
@@ -61,7 +61,7 @@ abbrev pub pointer_addend : Link → SectionId → ℕ → ℕ
 pointer_addend l s r =
     if has_subtrahend l s r then signed (8 * width_of l s r) (content_of l s r)
     else if (relocation_in l s r).r_extern then content_of l s r
-    else (content_of l s r + (2 ^ 64 - (header_at l (record { file = s.file; section = (relocation_in l s r).r_symbolnum - 1 })).addr)) % 2 ^ 64
+    else (content_of l s r + (2 ^ 64 - (header_at l (section_named l s r)).addr)) % 2 ^ 64
 
 -- The addend of any field: that of a pointer; the 24 bits of the addend in front of it, read as signed; else 0.
 abbrev pub addend_of : Link → SectionId → ℕ → ℕ

@@ -45,3 +45,4 @@ pub mod Told
 pub mod Laws
 pub mod SlideLaws
 pub mod HeldLaws
+pub mod LinkLaws

@@ -40,3 +40,27 @@ pub fn slots_stand_at_every_slide()
 pub fn plain_pointers_stay()
     ensures { PlainPointersStay }
 {}
+
+ghost use Rattle.macho_model.specs.LinkLaws.{DefinitionsAgree, NotedTargetsAgree, CommonsAgree, CarriedAgree, ImportsAgree, SlotsAgree, StubsAgree, AllAreNoted, SymbolsGrow, SectionsGrow};
+
+/// Links with the same inputs have the same definitions, commons, carried sections and targets.
+pub fn equal_inputs_have_equal_definitions()
+    ensures definitions { DefinitionsAgree }
+    ensures targets { NotedTargetsAgree }
+    ensures commons { CommonsAgree }
+    ensures carried { CarriedAgree }
+{}
+
+/// Links with the same inputs and the same export lists need the same imports, slots and stubs.
+pub fn equal_lists_have_equal_needs()
+    ensures imports { ImportsAgree }
+    ensures slots { SlotsAgree }
+    ensures stubs { StubsAgree }
+    ensures noted { AllAreNoted }
+{}
+
+/// One input more adds its symbols and its sections behind those of the others.
+pub fn one_input_more_adds_its_own()
+    ensures symbols { SymbolsGrow }
+    ensures sections { SectionsGrow }
+{}

@@ -25,6 +25,7 @@ pub mod RowsStands
 pub mod RowsValid
 pub mod RowsConsumed
 pub mod RowsSizes
+pub mod RowsNames
 pub mod RowsAgreement
 pub mod ExampleCall
 pub mod RowsCall
