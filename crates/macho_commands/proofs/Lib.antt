@@ -11,3 +11,4 @@ pub mod HeadRead
 pub mod HeadRules
 pub mod SegmentRules
 pub mod Kept
+pub mod HeadTexts

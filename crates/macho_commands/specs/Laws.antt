@@ -20,7 +20,11 @@ use Rattle.macho_model.specs.LoadRules.{image_head_fits, needed_in_image, protec
 use Rattle.macho_model.specs.Loader.{segment_commands, EachNeighbour}
 use Rattle.macho_model.specs.Agreement.{SegmentsAgree, section_headers_of, table_of_range}
 use Rattle.macho_model.specs.Signature.{UuidSays}
-use Rattle.macho_model.specs.Head.{headers_in, commands_in, commands_for, HeadSays}
+use Rattle.macho_model.specs.Head.{headers_in, describes_thread_locals, commands_in, commands_for, HeadSays}
+use Rattle.macho_commands.specs.declared.head.ImageKind.{ImageKind}
+use Rattle.macho_commands.specs.declared.command.Command.{Command}
+use Rattle.macho_commands.specs.Commands.{said_by}
+use Rattle.macho_commands.specs.Heads.{HeadIsFound}
 
 -- What the readings of a file find of a link's load commands, with an exports trie of so many bytes.
 pub record HeadReads (l : Link) (counts : Counts) (uuid b : List ℕ) (p : Placed) (trie : ℕ) : Type 0 where
@@ -65,3 +69,10 @@ pub record HeadIsAccepted (b : List ℕ) : Type 0 where
 abbrev pub HeadKeepsRules : Type 0
 HeadKeepsRules =
     (l : Link) (counts : Counts) (uuid b : List ℕ) (p : Placed) → HeadSays l counts uuid b p → IsInOrder l p → HasRoom b p → HeadIsAccepted b
+
+-- a file that has the head of its kind, with commands that say those of a link, has the link's head
+abbrev pub FoundIsSaid : Type 0
+FoundIsSaid =
+    (l : Link) (counts : Counts) (uuid b : List ℕ) (p : Placed) (trie : ℕ) (kind : ImageKind) (commands : List Command) → kind.executable ≡ l.executable
+    → kind.thread_locals ≡ describes_thread_locals p → map said_by commands ≡ commands_for l counts p uuid trie → HeadIsFound kind commands b
+    → HeadSays l counts uuid b p

@@ -1,4 +1,5 @@
 pub mod Texts
 pub mod Commands
 pub mod Reading
+pub mod Heads
 pub mod Laws

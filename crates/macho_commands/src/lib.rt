@@ -15,6 +15,7 @@
 #![tactic(auto)]
 
 mod command;
+mod head;
 mod laws;
 mod linkedit;
 mod list;
@@ -26,6 +27,9 @@ pub use command::Command;
 pub use command::DYLINKER_PATH;
 pub use command::SymbolTable;
 pub use command::Table;
+pub use head::ImageKind;
+pub use head::write_head;
+pub use laws::head_found_is_said;
 pub use laws::head_is_read;
 pub use laws::head_keeps_rules;
 pub use list::commands_size;
