@@ -14,8 +14,6 @@ mod kinds;
 mod names;
 mod relaxation;
 mod stubs;
-#[cfg(test)]
-mod tests;
 mod words;
 
 pub use fields::{RangeFault, fits_instruction, write_field};

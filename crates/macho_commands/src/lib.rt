@@ -3,8 +3,6 @@
 
 mod command;
 mod list;
-#[cfg(test)]
-mod tests;
 
 pub use command::Command;
 pub use list::{commands_size, write_commands};

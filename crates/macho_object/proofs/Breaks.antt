@@ -6,7 +6,7 @@ use Rattle.macho_model.specs.Objects.{num_sections, section_at, section_place, n
 use Rattle.macho_records.specs.declared.constants.TheConstants.{LC_SEGMENT_64, LC_SYMTAB}
 use Rattle.macho_model.specs.ObjectRules.{has_one}
 use Rattle.macho_model.specs.Grammar.{ObjectBreaks, DylibBreaks}
-use Rattle.macho_object.specs.Checks.{SectionBreaks, SymbolBreaks, NameBreaks, RelocationBreaks}
+use Rattle.macho_object.specs.steps.Checks.{SectionBreaks, SymbolBreaks, NameBreaks, RelocationBreaks}
 
 pub section_breaks : (b : List ℕ) (rule : ObjectRule) (place k : ℕ) → has_one LC_SEGMENT_64 b ≡ true → k < num_sections b
     → place ≡ section_place b k → SectionBreaks b k rule → ObjectBreaks b rule place

@@ -1,5 +1,2 @@
 pub mod Views
-pub mod Scans
-pub mod Outlines
-pub mod Checks
-pub mod Wholes
+pub mod steps

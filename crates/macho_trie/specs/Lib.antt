@@ -5,8 +5,7 @@ pub mod Says
 pub mod Symbols
 pub mod Trees
 pub mod Tables
-pub mod Building
 pub mod Sorting
 pub mod Encoding
-pub mod Layouts
 pub mod Tries
+pub mod steps

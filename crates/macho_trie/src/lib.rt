@@ -4,17 +4,11 @@
 mod build;
 mod layout;
 mod lookup;
-#[cfg(test)]
-mod plain;
 mod sort;
 mod spelling;
 mod symbols;
 mod table;
-#[cfg(test)]
-mod tests;
 mod trie;
-#[cfg(test)]
-mod trie_tests;
 
 pub use lookup::{Export, trie_lookup};
 pub use symbols::Symbols;

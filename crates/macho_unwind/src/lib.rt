@@ -31,10 +31,6 @@ mod bytes;
 mod lookup;
 mod records;
 mod section;
-#[cfg(test)]
-mod section_tests;
-#[cfg(test)]
-mod tests;
 mod writing;
 
 pub use lookup::{Found, unwind_lookup};

@@ -19,8 +19,8 @@ use Rattle.macho_unwind_pages.specs.declared.plans.Lsda.{Lsda}
 use Rattle.macho_unwind_pages.specs.Entries.{AreEntries, IsLast, SpansAtMost, input_of, inputs_of, ids_of, code_in, codes_of, ranked}
 use Rattle.macho_unwind_pages.specs.Bounds.{locals_in, tallies_of, most_pages, unwind_bound_of}
 use Rattle.macho_unwind_pages.specs.Plans.{PageList, PlanList, Row, IsPage, IsPlan, IsPlanOf, HasSlot, IsFar, HasFarAddress, HasFarOffset, row_of, page_rows, first_row, row_from, lsda_at, lsda_from, size_of}
-use Rattle.macho_unwind_pages.specs.Paging.{ArePages}
-use Rattle.macho_unwind_pages.specs.Planning.{IsNear, IsBehind, IsNumbered, HasShortCode, IsReady, IsAssembled}
+use Rattle.macho_unwind_pages.specs.steps.Paging.{ArePages}
+use Rattle.macho_unwind_pages.specs.steps.Planning.{IsNear, IsBehind, IsNumbered, HasShortCode, IsReady, IsAssembled}
 use Rattle.macho_unwind_pages.proofs.Charging.{first_start, pages_are_few, pages_are_short}
 use Rattle.macho_unwind_pages.proofs.Gathered.{none, numbered, short_codes, behind, alike, ranked_codes, short_ranks}
 
