@@ -24,8 +24,8 @@ use Rattle.macho_model.specs.LoadRules.{image_head_fits, needed_in_image, protec
 use Rattle.macho_model.specs.Loader.{IsAccepted, segment_commands, EachNeighbour}
 use Rattle.macho_commands.specs.Commands.{segment_record, commands_size}
 use Rattle.macho_commands.proofs.Reading.{segment-found, entry_point-found}
-use Rattle.macho_image.specs.Composed.{HasHead}
-use Rattle.macho_image.specs.Shape.{pagezero_segment, text_segment, TEXT_PROTECTION, commands_of_image}
+use Rattle.macho_image.specs.steps.Composed.{HasHead}
+use Rattle.macho_image.specs.steps.Shape.{pagezero_segment, text_segment, TEXT_PROTECTION, commands_of_image}
 
 -- the records of the two segments
 abbrev pub pagezero_record : SegmentCommand

@@ -21,14 +21,15 @@ use Rattle.macho_model.specs.ImportTable.{fixup_count}
 use Rattle.macho_model.proofs.EachBelow.{true_or_false}
 use Rattle.macho_image.specs.declared.carried.Carried.{Carried}
 use Rattle.macho_image.specs.declared.branch.Branch.{Branch}
-use Rattle.macho_image.specs.First.{IsPlainObject, HasOneObject}
-use Rattle.macho_image.specs.Branches.{HasAllBranches}
+use Rattle.macho_image.specs.steps.First.{IsPlainObject}
+use Rattle.macho_image.specs.First.{HasOneObject}
+use Rattle.macho_image.specs.steps.Branches.{HasAllBranches}
 use Rattle.macho_image.specs.Counts.{counts_of}
-use Rattle.macho_image.specs.Composed.{HasHead}
-use Rattle.macho_image.specs.Shape.{placed_of_image}
+use Rattle.macho_image.specs.steps.Composed.{HasHead}
+use Rattle.macho_image.specs.steps.Shape.{placed_of_image}
 use Rattle.macho_commands.specs.Commands.{segment_record}
 use Rattle.macho_commands.proofs.Reading.{headers-found}
-use Rattle.macho_image.specs.Shape.{pagezero_segment}
+use Rattle.macho_image.specs.steps.Shape.{pagezero_segment}
 use Rattle.macho_image.proofs.Accepted.{text_record, segments-are, segment_commands-are, commands-end}
 use Rattle.macho_image.proofs.ClearFields.{no_fixup_field}
 use Rattle.macho_image.proofs.Placed.{filter_none}

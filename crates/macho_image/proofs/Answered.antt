@@ -44,11 +44,12 @@ use Rattle.macho_image.specs.declared.fault.LinkError.{LinkError}
 use Rattle.macho_image.specs.declared.fault.LinkError.TheVariants as error
 use Rattle.macho_image.specs.declared.fault.Unbuilt.TheVariants as part
 use Rattle.macho_image.specs.Counts.{counts_of}
-use Rattle.macho_image.specs.First.{HasOneObject, HasNoCommon}
+use Rattle.macho_image.specs.First.{HasOneObject}
+use Rattle.macho_image.specs.steps.First.{HasNoCommon}
 use Rattle.macho_image.specs.Branches.{is_later_type}
 use Rattle.macho_image.specs.Refusals.{BUILT_SUM, RefusalStands}
 use Rattle.macho_image.specs.Answered.{INSTRUCTION, IsAnswered}
-use Rattle.macho_image.specs.Referents.{only_symbol}
+use Rattle.macho_image.specs.steps.Referents.{only_symbol}
 use Rattle.macho_image.proofs.First.{first_section, sections-are, first-header, numbered}
 use Rattle.macho_image.proofs.Entries.{and_none, and_left, and_right, at_most}
 use Rattle.macho_image.proofs.Uses.{relocation_no_import}

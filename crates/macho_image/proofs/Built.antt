@@ -13,8 +13,8 @@ use Rattle.macho_model.specs.declared.placed.PlacedSection.{PlacedSection}
 use Rattle.macho_image.specs.declared.carried.Carried.{Carried}
 use Rattle.macho_image.specs.declared.entry.Entry.{Entry}
 use Rattle.macho_image.specs.First.{HasOneObject}
-use Rattle.macho_image.specs.Places.{front_of, IsPlaceIn}
-use Rattle.macho_image.specs.Composed.{IsComposed}
+use Rattle.macho_image.specs.steps.Places.{front_of, IsPlaceIn}
+use Rattle.macho_image.specs.steps.Composed.{IsComposed}
 use Rattle.macho_model.specs.declared.targets.Target.TheVariants as target
 use Rattle.macho_model.specs.Needs.{libraries_needed}
 use Rattle.macho_model.specs.Memory.{Choice}
@@ -22,15 +22,15 @@ use Rattle.macho_model.specs.Stands.{IsAt, ImageStands, IsLoadable}
 use Rattle.macho_layout.specs.Placements.{placed_of}
 use Rattle.macho_image.specs.declared.link.LinkedImage.{LinkedImage}
 use Rattle.macho_image.specs.Counts.{counts_of}
-use Rattle.macho_image.specs.LaidOut.{IsLaidOut}
+use Rattle.macho_image.specs.steps.LaidOut.{IsLaidOut}
 use Rattle.macho_image.specs.declared.branch.Branch.{Branch}
-use Rattle.macho_image.specs.Branches.{WORD, HasBranches, HasAllBranches}
-use Rattle.macho_image.specs.Setting.{IsSettable, EachSettable}
-use Rattle.macho_image.specs.Linked.{IsBare}
+use Rattle.macho_image.specs.steps.Branches.{WORD, HasBranches, HasAllBranches}
+use Rattle.macho_image.specs.steps.Setting.{IsSettable, EachSettable}
+use Rattle.macho_image.specs.steps.Linked.{IsBare}
 use Rattle.macho_model.specs.Words.{is_branch}
 use Rattle.macho_bytes.specs.Numbers.{le_at}
-use Rattle.macho_image.specs.Shape.{placed_of_image}
-use Rattle.macho_image.specs.Linked.{IsImageAlone}
+use Rattle.macho_image.specs.steps.Shape.{placed_of_image}
+use Rattle.macho_image.specs.steps.Linked.{IsImageAlone}
 use Rattle.macho_model.specs.Agreement.{CommandsAgree}
 use Rattle.macho_model.specs.Told.{imports_told}
 use Rattle.macho_model.proofs.EachBelow.{true_or_false}

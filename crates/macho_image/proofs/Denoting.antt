@@ -30,10 +30,10 @@ use Rattle.macho_arm64.proofs.FieldLaws.{branches_to}
 use Rattle.macho_arm64.proofs.ReachLaws.{less_leads}
 use Rattle.macho_image.specs.declared.branch.Branch.{Branch}
 use Rattle.macho_image.specs.declared.entry.Entry.{Entry}
-use Rattle.macho_image.specs.Shape.{placed_of_image}
-use Rattle.macho_image.specs.Setting.{IsAddressOf, IsSetBranch, IsSet}
+use Rattle.macho_image.specs.steps.Shape.{placed_of_image}
+use Rattle.macho_image.specs.steps.Setting.{IsAddressOf, IsSetBranch, IsSet}
 use Rattle.macho_image.specs.First.{HasOneObject}
-use Rattle.macho_image.specs.Branches.{WORD, IsBranch, HasBranches}
+use Rattle.macho_image.specs.steps.Branches.{WORD, IsBranch, HasBranches}
 use Rattle.macho_image.proofs.First.{first_section, object-is, first-header}
 use Rattle.macho_image.proofs.Entries.{and_none}
 use Rattle.macho_image.proofs.Uses.{no_branch}

@@ -24,11 +24,11 @@ use Rattle.macho_model.proofs.Memory.{all_free, text_is_held}
 use Rattle.macho_image.specs.declared.branch.Branch.{Branch}
 use Rattle.macho_image.specs.declared.carried.Carried.{Carried}
 use Rattle.macho_image.specs.First.{HasOneObject}
-use Rattle.macho_image.specs.Branches.{WORD, HasBranches, HasAllBranches}
-use Rattle.macho_image.specs.Setting.{IsSectionPart, AreSectionParts}
-use Rattle.macho_image.specs.Composed.{HasHead}
-use Rattle.macho_image.specs.Places.{front_of, IsPlaceOf, Places}
-use Rattle.macho_image.specs.Shape.{placed_of_image}
+use Rattle.macho_image.specs.steps.Branches.{WORD, HasBranches, HasAllBranches}
+use Rattle.macho_image.specs.steps.Setting.{IsSectionPart, AreSectionParts}
+use Rattle.macho_image.specs.steps.Composed.{HasHead}
+use Rattle.macho_image.specs.steps.Places.{front_of, IsPlaceOf, Places}
+use Rattle.macho_image.specs.steps.Shape.{placed_of_image}
 use Rattle.macho_image.proofs.Accepted.{text_record, mapped-are, tables-are}
 use Rattle.macho_image.proofs.Placed.{no_carried}
 use Rattle.macho_image.proofs.Unsupported.{form_length}

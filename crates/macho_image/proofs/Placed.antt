@@ -22,10 +22,10 @@ use Rattle.macho_model.specs.Placement.{Placed, Span, AreApart, range_span, link
 use Rattle.macho_model.specs.WrittenSum.{section_cost, content_sum, command_sum, unsigned_sum, written_sum_of}
 use Rattle.macho_model.specs.Segments.{PAGEZERO_SIZE, SEGMENT_PAGE, TEXT, segment_rank, segment_names_of, one_if}
 use Rattle.macho_image.specs.declared.carried.Carried.{Carried}
-use Rattle.macho_image.specs.Places.{cost_of, front_of, IsPlaceOf, Places}
-use Rattle.macho_image.specs.First.{id_of_carried, IsPlain, IsFirst}
+use Rattle.macho_image.specs.steps.Places.{cost_of, front_of, IsPlaceOf, Places}
+use Rattle.macho_image.specs.steps.First.{id_of_carried, IsPlain, IsFirst}
 use Rattle.macho_image.specs.Counts.{counts_of}
-use Rattle.macho_image.specs.Shape.{pagezero_segment, text_segment, placed_of_image}
+use Rattle.macho_image.specs.steps.Shape.{pagezero_segment, text_segment, placed_of_image}
 
 -- an element of a mapped list
 pub map-at : {X Y : Type 0} (f : X → Y) (xs : List X) (k : ℕ) (d : X) (e : Y) → k < length xs → get_or (map f xs) k e ≡ f (get_or xs k d)

@@ -24,9 +24,11 @@ use Rattle.macho_image.specs.declared.fault.LinkError.TheVariants as error
 use Rattle.macho_image.specs.declared.fault.Unbuilt.TheVariants as part
 use Rattle.macho_image.proofs.Alone.{asks_alone}
 use Rattle.macho_image.specs.First.{HasOneObject}
-use Rattle.macho_image.specs.Branches.{WORD, is_later_type, share_bytes}
-use Rattle.macho_image.specs.Referents.{only_symbol, LeadsNowhere, HasNoDefinition}
-use Rattle.macho_image.specs.Refusals.{StandsAlone}
+use Rattle.macho_image.specs.steps.Branches.{WORD}
+use Rattle.macho_image.specs.Branches.{is_later_type, share_bytes}
+use Rattle.macho_image.specs.steps.Referents.{only_symbol, LeadsNowhere}
+use Rattle.macho_image.specs.Referents.{HasNoDefinition}
+use Rattle.macho_image.specs.steps.Refusals.{StandsAlone}
 use Rattle.macho_image.proofs.First.{first_section, filter-map, object-is, first-header, sections-are}
 use Rattle.macho_image.proofs.Uses.{no_import}
 use Rattle.macho_image.proofs.Entries.{and_none, and_first, and_left, and_right}

@@ -14,9 +14,6 @@ use Rattle.macho_image.specs.declared.link.ImportName.{ImportName}
 use Rattle.macho_image.specs.declared.linker.InputView.{InputView}
 use Rattle.macho_image.specs.declared.linker.InputView.TheVariants as shown
 use Rattle.macho_image.specs.Counts.{counts_of}
-use Rattle.macho_image.specs.First.{HasOneObject}
-use Rattle.macho_image.specs.declared.entry.Entry.{Entry}
-use Rattle.macho_model.specs.declared.targets.Target.TheVariants as target
 
 -- an import that is told: the number of its library, and its name
 abbrev pub import_of : ImportName → ToldImport
@@ -33,22 +30,6 @@ pub record IsImageOf (l : Link) (image : LinkedImage) : Type 0 where
   -- no exported name is told yet
   pub exports : image.exports.items ≡ []
 
--- an image that needs no library, imports and exports nothing and has no chain word
-pub record IsBare (image : LinkedImage) : Type 0 where
-  pub libraries : image.libraries.items ≡ []
-  pub imports : image.imports.items ≡ []
-  pub exports : image.exports.items ≡ []
-  pub fixups : image.fixups ≡ 0
-
--- an image of an object that begins at a place of it: the image of each link of this object alone whose entry leads there
-pub record IsImageAlone (b : List ℕ) (e : Entry) (image : LinkedImage) : Type 0 where
-  pub alone : (l : Link) → HasOneObject l b → target_of_name l l.entry ≡ target.Section 0 e.section e.offset → IsImageOf l image
-
--- such an image comes only where no refusal stands: in each of these links, and in its placement
-pub record IsClearAlone (b : List ℕ) (e : Entry) (image : LinkedImage) : Type 0 where
-  pub alone : (l : Link) → HasOneObject l b → target_of_name l l.entry ≡ target.Section 0 e.section e.offset → bad_name l ≡ false
-      → NoneStands l (counts_of l) (placed_of image.placement)
-
 -- a view shows an input: an object or a dynamic library by its bytes
 abbrev pub Shows : Input → InputView → Type 0
 Shows (Object b) (shown.Object file) = file ≡ record { bytes = b; is_dynamic = false }
@@ -59,8 +40,3 @@ Shows input view = ⊥
 abbrev pub ShowsInput : Link → ℕ → Option InputView → Type 0
 ShowsInput l index None = length l.inputs ≤ index
 ShowsInput l index (Some view) = (index < length l.inputs) × Shows (get_or l.inputs index no_input) view
-
--- the bytes of the only input, an object; None where there is no input
-abbrev pub IsOnly : List Input → Option (Bor (List ℕ)) → Type 0
-IsOnly inputs None = inputs ≡ []
-IsOnly inputs (Some b) = (inputs ≡ Object b.now ∷ []) × IsObject b.now

@@ -7,8 +7,8 @@ use Rattle.macho_model.specs.Commands.{command_fits}
 use Rattle.macho_model.specs.Objects.{section_at, section_place, num_symbols, symbol_place, relocation_place}
 use Rattle.macho_model.specs.ObjectRules.{needed_in_object, needed_in_dylib, relocations_inside}
 use Rattle.macho_model.specs.Grammar.{ObjectBreaks, DylibBreaks, AreWhole}
-use Rattle.macho_object.specs.Checks.{SectionBreaks, SymbolBreaks, NameBreaks, RelocationBreaks}
-use Rattle.macho_object.specs.Outlines.{HasCommands, IsOutlined}
+use Rattle.macho_object.specs.steps.Checks.{SectionBreaks, SymbolBreaks, NameBreaks, RelocationBreaks}
+use Rattle.macho_object.specs.steps.Outlines.{HasCommands, IsOutlined}
 use Rattle.macho_object.specs.Views.{section_count}
 use Rattle.macho_object.specs.declared.outline.Outline.{Outline}
 use Rattle.macho_object.specs.declared.outline.Places.{Places}

@@ -10,9 +10,9 @@ use Rattle.macho_model.specs.ObjectRules.{path_ends, needed_in_dylib}
 use Rattle.macho_model.specs.Grammar.{IsDylib, DylibBreaks, AreWhole}
 use Rattle.macho_model.specs.declared.rules.ObjectRule.TheVariants.{O9}
 use Rattle.macho_object.specs.declared.outline.Outline.{Outline}
-use Rattle.macho_object.specs.Scans.{command_at}
-use Rattle.macho_object.specs.Outlines.{IsOutlined, path_field_of}
-use Rattle.macho_object.specs.Checks.{NameFits}
+use Rattle.macho_object.specs.steps.Scans.{command_at}
+use Rattle.macho_object.specs.steps.Outlines.{IsOutlined, path_field_of}
+use Rattle.macho_object.specs.steps.Checks.{NameFits}
 
 -- both readings of the command's size are one
 pub same_size : (b : List ℕ) (at : ℕ) → (reading dylib_command b at).cmdsize ≡ (reading load_command b at).cmdsize

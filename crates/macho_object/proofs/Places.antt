@@ -19,8 +19,8 @@ use Rattle.macho_model.specs.declared.rules.ObjectRule.TheVariants.{O3, O4}
 use Rattle.macho_object.specs.declared.commands.Found.TheVariants.{Once}
 use Rattle.macho_object.specs.declared.commands.Tally.{Tally}
 use Rattle.macho_object.specs.declared.outline.Places.{Places}
-use Rattle.macho_object.specs.Scans.{filetype_of, main_number, needed_of, command_at, found_in, IsScanned}
-use Rattle.macho_object.specs.Outlines.{IsNotOnce, HasCommands, SectionStands, main_size}
+use Rattle.macho_object.specs.steps.Scans.{filetype_of, main_number, needed_of, command_at, found_in, IsScanned}
+use Rattle.macho_object.specs.steps.Outlines.{IsNotOnce, HasCommands, SectionStands, main_size}
 use Rattle.macho_object.specs.Views.{section_count}
 use Rattle.macho_object.proofs.Passes.{command_whole}
 

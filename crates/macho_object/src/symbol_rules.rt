@@ -4,8 +4,8 @@ ghost use Rattle.macho_bytes.specs.Numbers.{rounded_up};
 ghost use Rattle.macho_model.specs.Objects.{num_symbols, strings_of};
 ghost use Rattle.macho_model.specs.Grammar.{ObjectBreaks, DylibBreaks};
 ghost use Rattle.macho_records.specs.Symbols.{is_common_of, common_exponent_of, common_size_of};
-ghost use Rattle.macho_object.specs.Outlines.{IsOutlined};
-ghost use Rattle.macho_object.specs.Checks.{NamesEnd, AddressFits, AddressBreaks, NameFits, NamesFit, NameBreaks, SymbolFits, SymbolsFit, SymbolBreaks};
+ghost use Rattle.macho_object.specs.steps.Outlines.{IsOutlined};
+ghost use Rattle.macho_object.specs.steps.Checks.{NamesEnd, AddressFits, AddressBreaks, NameFits, NamesFit, NameBreaks, SymbolFits, SymbolsFit, SymbolBreaks};
 
 use crate::fault::ObjectFault;
 use crate::outline::Outline;

@@ -4,7 +4,4 @@ pub mod Library
 pub mod Rules
 pub mod Order
 pub mod Answer
-pub mod Opened
-pub mod Whole
-pub mod Reader
-pub mod Checks
+pub mod steps
