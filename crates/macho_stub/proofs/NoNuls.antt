@@ -13,6 +13,7 @@ use Rattle.std.proofs.lemmas.List.{get_or-take, get_or-drop, get_or_default, len
 use Rattle.macho_stub_lines.specs.Bytes.{line_feed, tab, is_barred, has_barred}
 use Rattle.macho_stub_lines.specs.Slices.{Slice, StandsIn, texts_of, Line, lines_of_parts}
 use Rattle.macho_stub_lines.proofs.Runs.{all_append}
+use Rattle.macho_stub_lines.proofs.NoNuls.{plain_cons, unbarred}
 use Rattle.macho_stub.specs.Documents.{ItemOf, DocumentOf}
 use Rattle.macho_stub.specs.Grammar.{IsStubText}
 use Rattle.macho_stub.specs.Library.{LibraryFields, has_target, picked, picked_for_target, picked_of_document, gathered}
@@ -22,27 +23,6 @@ use Rattle.macho_stub.proofs.TreesStand.{text_stands}
 -- bytes without a NUL
 abbrev Plain : List ℕ → Type 0
 Plain bytes = All (λ b. b ≢ 0) bytes
-
-plain_cons : (b : ℕ) (bytes : List ℕ) → b ≢ 0 → Plain bytes → Plain (b ∷ bytes)
-plain_cons b bytes first rest zero d lt = first
-plain_cons b bytes first rest (suc k) d lt = rest k d (omega arith)
-
--- bytes of which none is barred
-unbarred : (bytes : List ℕ) → has_barred bytes ≡ false → Plain bytes
-unfolding has_barred
-unbarred [] h = λ k d lt. absurd (omega arith)
-unbarred (b ∷ bytes) h = plain_cons b bytes (not_nul b (first (is_barred b) (has_barred bytes) h)) (unbarred bytes (rest (is_barred b) (has_barred bytes) h))
-  where
-    first : (x y : Bool) → (x || y) ≡ false → x ≡ false
-    first true y e = e
-    first false y e = refl
-
-    rest : (x y : Bool) → (x || y) ≡ false → y ≡ false
-    rest true y e = absurd (cc)
-    rest false y e = e
-
-    not_nul : (b : ℕ) → is_barred b ≡ false → b ≢ 0
-    not_nul b e is = let test : (b == 0) ≡ false = first (b == 0) (b == tab) e in grind (arith, nat_tests)
 
 -- a line with its carriage return
 with_return : (part : List ℕ) → Plain (strip_carriage_return part) → Plain part
