@@ -15,8 +15,6 @@ mod laws;
 mod names;
 mod relaxation;
 mod stubs;
-#[cfg(test)]
-mod tests;
 mod words;
 
 pub use fields::{RangeFault, fits_instruction, write_field};

@@ -1,3 +1,5 @@
-pub mod Records
+pub mod Texts
 pub mod Commands
 pub mod Reading
+pub mod Heads
+pub mod Laws

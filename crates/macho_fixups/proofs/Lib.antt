@@ -6,8 +6,6 @@ pub mod SegmentTexts
 pub mod PutOrder
 pub mod SegmentWrites
 pub mod TableTexts
-pub mod ExampleTables
-pub mod ExampleImages
 pub mod Places
 pub mod ChainWrites
 pub mod RunChain

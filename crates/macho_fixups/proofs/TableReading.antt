@@ -25,7 +25,8 @@ use Rattle.macho_fixups.specs.declared.imports.ImportEntry.{ImportEntry}
 use Rattle.macho_fixups.specs.Runs.{pages_of, start_of}
 use Rattle.macho_fixups.specs.Tables.{offsets_text, segment_text, image_starts_text, image_starts_size, entry_text, table_header, table_text, names_place}
 use Rattle.macho_fixups.specs.Chains.{starts_in, chain_seen, IsAddressOf}
-use Rattle.macho_fixups.specs.Calls.{FitsTable, AreEntries, EntryFits}
+use Rattle.macho_fixups.specs.Calls.{FitsTable, AreEntries}
+use Rattle.macho_fixups.specs.steps.Calls.{EntryFits}
 use Rattle.macho_model.specs.LoadRules.{table_fits}
 use Rattle.macho_fixups.specs.Readings.{IsRead, HasTable, TableReadsBack, told_segment, told_segments}
 use Rattle.macho_fixups.proofs.SegmentWrites.{no_segment, length-offsets}

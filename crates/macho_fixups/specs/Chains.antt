@@ -54,16 +54,6 @@ abbrev pub HaveRoom : List FixupSegment → List Fixup → ℕ → Type 0
 HaveRoom segments fixups n =
     All (λ s. (f : Fixup) → Contains fixups f → Holds s f.address → s.file_offset + s.file_size ≤ n) segments
 
--- an address is one of a segment's file part, whose number is not below another
-pub record IsSegmentOf (segments : List FixupSegment) (a m : ℕ) : Type 0 where
-  pub within : m < length segments
-  pub holds : (d : FixupSegment) → Holds (get_or segments m d) a
-  pub passed : (j : ℕ) (e : FixupSegment) → j < m → (get_or segments j e).address + (get_or segments j e).file_size ≤ a
-
--- the first m segments are behind an address
-pub record ArePassed (segments : List FixupSegment) (m a : ℕ) : Type 0 where
-  pub each : (j : ℕ) (e : FixupSegment) → j < m → (get_or segments j e).address + (get_or segments j e).file_size ≤ a
-
 -- all words stand in a file
 pub record AllStand (segments : List FixupSegment) (fixups : List Fixup) (b : List ℕ) : Type 0 where
   pub each : (k : ℕ) (d : Fixup) → k < length fixups → Stands b (word_part segments fixups k (get_or fixups k d))

@@ -1,7 +1,6 @@
 pub mod Words
 pub mod Runs
 pub mod Tables
-pub mod Cuts
 pub mod Chains
 pub mod Readings
 pub mod Laws
@@ -15,3 +14,4 @@ pub use Rattle.macho_model.specs.Chain
 pub use Rattle.macho_model.specs.Loader
 pub use Rattle.macho_model.specs.LoadRules
 pub use Rattle.macho_model.specs.Memory
+pub mod steps

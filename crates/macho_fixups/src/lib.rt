@@ -3,15 +3,11 @@
 
 mod bytes;
 mod chains;
-#[cfg(test)]
-mod image_tests;
 mod imports;
 mod laws;
 mod run;
 mod starts;
 mod table;
-#[cfg(test)]
-mod tests;
 mod words;
 
 pub use chains::write_chains;

@@ -12,6 +12,7 @@ use Rattle.std.proofs.lemmas.List.Elements.{All-contains, All-filter, All-from_r
 use Rattle.std.proofs.lemmas.List.Folds.{list_any_none}
 use Rattle.std.proofs.lemmas.List.FromFn.{length-range_with_len}
 use Rattle.macho_bytes.specs.Texts.{name_of}
+use Rattle.macho_records.specs.Segments.{text_of}
 use Rattle.macho_records.specs.declared.header.SectionHeader.{SectionHeader}
 use Rattle.macho_model.specs.declared.placed.PlacedSection.{PlacedSection}
 use Rattle.macho_model.specs.declared.placed.PlacedSegment.{PlacedSegment}
@@ -32,9 +33,10 @@ use Rattle.macho_model.specs.Limits.{GREATEST_SYMBOLS, limited, PassesLimit, IsT
 use Rattle.macho_model.specs.Limits as limits
 use Rattle.macho_image.specs.declared.carried.Carried.{Carried}
 use Rattle.macho_image.specs.Counts.{counts_of}
-use Rattle.macho_image.specs.First.{id_of_carried, IsFirst, IsPlainObject, HasOneObject}
-use Rattle.macho_image.specs.Places.{cost_of}
-use Rattle.macho_image.specs.Shape.{pagezero_segment, text_segment, placed_of_image}
+use Rattle.macho_image.specs.steps.First.{id_of_carried, IsFirst, IsPlainObject}
+use Rattle.macho_image.specs.First.{HasOneObject}
+use Rattle.macho_image.specs.steps.Places.{cost_of}
+use Rattle.macho_image.specs.steps.Shape.{pagezero_segment, text_segment, placed_of_image}
 use Rattle.macho_image.proofs.First.{first_symbol, symbols-are, no_consumed}
 use Rattle.macho_image.proofs.Placed.{filter_none, costs-are}
 use Rattle.macho_image.proofs.Built.{no_libraries_needed}
@@ -210,7 +212,7 @@ no_many l b cs what number n ps headers placement one plain first few symbols (i
   where
     by_what : (w : Limit) → PassesLimit l (counts_of l) w number (Some (placed_of_image n ps headers)) → ⊥
     by_what limit.Pages h =
-        two_segments (λ s. may_hold_pointers (name_of s.name) ≡ true → ⊥) n h.0 (λ e. differ (sym e)) (λ e. differ (sym e)) h.1 h.2
+        two_segments (λ s. may_hold_pointers (text_of s.name) ≡ true → ⊥) n h.0 (λ e. differ (sym e)) (λ e. differ (sym e)) h.1 h.2
     by_what limit.Segments h = h
     by_what limit.Libraries h = h
     by_what limit.Sections h = h

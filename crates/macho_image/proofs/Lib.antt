@@ -10,6 +10,7 @@ pub mod Entries
 pub mod NamesSeen
 pub mod Composing
 pub mod Alone
+pub mod Agreed
 pub mod Built
 pub mod Whole
 pub mod Leading
@@ -25,7 +26,6 @@ pub mod Unreached
 pub mod FineTargets
 pub mod Near
 pub mod Answered
-pub mod RowsAnswered
 pub mod ClearNames
 pub mod ClearFields
 pub mod ClearLimits

@@ -1,6 +1,6 @@
 -- What the objects ask for, in the order of one walk: carried relocations, then initializers, then personality
 -- functions of unwind entries, then the plain names of the export lists. From it come imports and libraries.
-use Rattle.std.specs.Prelude.{ℕ, ◌+◌, ◌*◌, ◌/◌, ◌==◌, ◌&&◌, ◌||◌, not, if◌then◌else◌, Bool, true, false, List, [], ◌∷◌, ◌++◌, map, filter, Option, Some, None}
+use Rattle.std.specs.Prelude.{ℕ, ◌+◌, ◌-◌, ◌*◌, ◌/◌, ◌==◌, ◌&&◌, ◌||◌, not, if◌then◌else◌, Bool, true, false, List, [], ◌∷◌, ◌++◌, map, filter, Option, Some, None}
 use Rattle.std.specs.List.{flat_map, filter_map, range_with_len, list_any, position_or_len}
 use Rattle.std.specs.Str.{bytes_eq}
 use Rattle.macho_records.specs.declared.relocations.RelocationInfo.{RelocationInfo}
@@ -31,6 +31,10 @@ pub data Use : Type 0 where
 
 abbrev pub relocation_in : Link → SectionId → ℕ → RelocationInfo
 relocation_in l s r = relocation_at (object_of l s.file) s.section r
+
+-- the section that a relocation names by number, from 1
+abbrev pub section_named : Link → SectionId → ℕ → SectionId
+section_named l s r = record { file = s.file; section = (relocation_in l s r).r_symbolnum - 1 }
 
 -- the relocations of a section, by number
 abbrev pub relocations_of : Link → SectionId → List ℕ
@@ -110,9 +114,9 @@ distinct same (x ∷ xs) = x ∷ filter (λ y. not (same x y)) (distinct same xs
 unfoldable pub imports_of : Link → List (List ℕ)
 imports_of l = distinct bytes_eq (filter (is_imported l) (filter_map (name_used l) (uses_of l)))
 
--- the number of an import
-abbrev pub import_number : Link → List ℕ → ℕ
-import_number l name = position_or_len (bytes_eq name) (imports_of l)
+-- the number of a name among imports; one that isn't among them will be the next
+abbrev pub import_number : List (List ℕ) → List ℕ → ℕ
+import_number noted name = position_or_len (bytes_eq name) noted
 
 -- the number of the library that defines a name, 0 for any other name
 abbrev pub library_file : Option Definition → ℕ
@@ -129,7 +133,7 @@ import_library l name = library_name l (library_file (definition_of l name))
 abbrev pub library_of_input : Input → Option (List ℕ)
 library_of_input (Object bytes) = None
 library_of_input (Dylib bytes) = Some (install_name_of bytes)
-library_of_input (Stub says) = Some says.install_name
+library_of_input (Stub text says) = Some says.install_name
 
 -- some import is bound to the library
 abbrev pub is_needed : Link → List ℕ → Bool

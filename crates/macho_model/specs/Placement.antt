@@ -3,7 +3,6 @@ use Rattle.std.specs.Prelude.{◌≡◌, ℕ, ◌+◌, ◌*◌, ◌-◌, ◌%◌
 use Rattle.std.specs.Str.{bytes_eq}
 use Rattle.std.specs.List.{range_with_len}
 use Rattle.macho_bytes.specs.Layouts.{size_of}
-use Rattle.macho_bytes.specs.Texts.{name_of}
 use Rattle.macho_records.specs.Layouts.{mach_header, segment_command, section_header}
 use Rattle.macho_records.specs.declared.header.SectionHeader.{SectionHeader}
 use Rattle.macho_model.specs.declared.placed.Counts.{Counts}
@@ -16,7 +15,9 @@ use Rattle.macho_model.specs.declared.placed.Range64.{Range64}
 use Rattle.macho_model.specs.declared.placed.Linkedit.{Linkedit}
 use Rattle.macho_model.specs.declared.targets.Target.TheVariants as target
 use Rattle.macho_records.specs.Sections.{is_zerofill}
+use Rattle.macho_records.specs.Segments.{text_of}
 use Rattle.macho_records.specs.Symbols.{common_exponent_of, common_size_of}
+use Rattle.macho_model.specs.Lists.{IsNumber, EachNext}
 use Rattle.macho_model.specs.Links.{Link, SectionId, header_at, carried_of, is_template, placed_exponent}
 use Rattle.macho_model.specs.Resolution.{SymbolId, entry_at, chosen_commons}
 use Rattle.macho_model.specs.Targets.{slots_of, stubs_of, slot_number}
@@ -81,7 +82,7 @@ abbrev pub head_span : Counts → Placed → Span
 head_span counts p = record { start = p.base; size = head_size counts p }
 
 abbrev pub is_segment_named : List ℕ → PlacedSegment → Bool
-is_segment_named name s = bytes_eq (name_of s.name) name
+is_segment_named name s = bytes_eq (text_of s.name) name
 
 -- a table of `__LINKEDIT` has a file range; in memory it stands where the segment's file bytes are mapped to
 abbrev pub linkedit_start : List PlacedSegment → ℕ → ℕ
@@ -116,7 +117,7 @@ LiesInNamed p name in_file span =
 -- a section's segment has the section's segment name and holds it; an empty section lies anywhere in it
 abbrev pub SectionLies : Link → Placed → PlacedSection → Type 0
 SectionLies l p q =
-    (s : PlacedSegment) × (q.segment < length p.segments) × (get_or p.segments q.segment s ≡ s) × (is_segment_named (segment_name l (id_of q)) s ≡ true)
+    (s : PlacedSegment) × IsNumber p.segments q.segment s × (is_segment_named (segment_name l (id_of q)) s ≡ true)
     × LiesIn (not (is_zerofill (header_at l (id_of q))) && not ((header_at l (id_of q)).size == 0)) (section_span l q) s
 
 -- a table that is not empty lies in the file part of `__LINKEDIT`
@@ -164,13 +165,13 @@ pub record IsPaged (s : PlacedSegment) : Type 0 where
 
 -- a segment stands where the one before it ends, in memory and in the file, and behind it in the order of names
 pub record Follows (l : Link) (s t : PlacedSegment) : Type 0 where
-  pub rank : segment_rank l (name_of s.name) < segment_rank l (name_of t.name)
+  pub rank : segment_rank l (text_of s.name) < segment_rank l (text_of t.name)
   pub address : t.address ≡ s.address + s.size
   pub file_offset : t.file_offset ≡ s.file_offset + s.file_size
 
 -- each segment follows the one before it
 abbrev pub EachFollows : Link → List PlacedSegment → Type 0
-EachFollows l segments = (k : ℕ) (s t : PlacedSegment) → k + 1 < length segments → get_or segments k s ≡ s → get_or segments (k + 1) t ≡ t → Follows l s t
+EachFollows l segments = EachNext (Follows l) segments
 
 -- `__TEXT` begins at the image's base, so that all segments behind it stand there or later
 abbrev pub TextBegins : Link → List PlacedSegment → Type 0
@@ -202,11 +203,6 @@ abbrev pub TemplateHolds : Link → Counts → Placed → Option Range64 → Typ
 TemplateHolds l counts p None = template_sections l p ≡ []
 TemplateHolds l counts p (Some r) = HoldsTemplate l counts p r
 
--- the address behind the last segment
-abbrev pub end_of_segments : List PlacedSegment → ℕ → ℕ
-end_of_segments [] end = end
-end_of_segments (s ∷ segments) end = end_of_segments segments (s.address + s.size)
-
 -- THE placement relation.
 pub record IsPlaced (l : Link) (counts : Counts) (p : Placed) : Type 0 where
   -- an executable stands behind its first 4 GiB, a library at 0
@@ -223,5 +219,5 @@ pub record IsPlaced (l : Link) (counts : Counts) (p : Placed) : Type 0 where
   pub in_order : IsInOrder l p
   -- thread-local initial values stand together, apart from all else
   pub template : TemplateHolds l counts p p.template
-  -- the image is no longer than its written sum
-  pub within_sum : end_of_segments p.segments p.base ≤ p.base + written_sum_of l counts
+  -- the image is no longer than its written sum: every segment ends at most that far behind the base
+  pub within_sum : All (λ s. s.address + s.size ≤ p.base + written_sum_of l counts) p.segments

@@ -8,3 +8,4 @@ pub use Rattle.macho_records.specs.Relocations
 pub use Rattle.macho_model.specs.Objects
 pub use Rattle.macho_model.specs.ObjectRules
 pub use Rattle.macho_model.specs.Grammar
+pub mod steps

@@ -4,8 +4,8 @@ ghost use Rattle.macho_records.specs.Relocations.{BitsFit};
 ghost use Rattle.macho_model.specs.Objects.{section_at, relocation_at, relocation_place};
 ghost use Rattle.macho_model.specs.Grammar.{ObjectBreaks};
 ghost use Rattle.macho_object.specs.Views.{RelocationBytes, relocation_of};
-ghost use Rattle.macho_object.specs.Outlines.{IsOutlined};
-ghost use Rattle.macho_object.specs.Checks.{SectionFits, SectionsFit, RelocationFits, RelocationsFit, RelocationBreaks, number_exists};
+ghost use Rattle.macho_object.specs.steps.Outlines.{IsOutlined};
+ghost use Rattle.macho_object.specs.steps.Checks.{SectionFits, SectionsFit, RelocationFits, RelocationsFit, RelocationBreaks, number_exists};
 
 use crate::fault::ObjectFault;
 use crate::outline::Outline;

@@ -8,16 +8,12 @@ mod fixups;
 mod header;
 mod names;
 mod placeholders;
-#[cfg(test)]
-mod record_tests;
 mod relocations;
 mod sections;
 mod segments;
 mod signature;
 mod symbol_names;
 mod symbols;
-#[cfg(test)]
-mod tests;
 mod uleb;
 mod unwind;
 

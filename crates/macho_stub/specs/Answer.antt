@@ -3,13 +3,10 @@ use Rattle.std.specs.Prelude.{◌≢◌, ◌⊎◌, ℕ, List, All}
 use Rattle.std.specs.List.{AllByRecursion}
 use Rattle.macho_stub_lines.specs.declared.fault.StubFault.{StubFault}
 use Rattle.macho_stub_lines.specs.declared.fault.StubFault.TheVariants.{Rule, OutOfMemory}
-use Rattle.macho_stub_lines.specs.Faults.{Reading, ◌>>=◌}
 use Rattle.macho_stub_lines.specs.Slices.{Slice, StandsIn}
 use Rattle.macho_stub.specs.Documents.{ItemOf, DocumentOf, documents_texts}
-use Rattle.macho_stub.specs.Reader.{documents_of}
 use Rattle.macho_stub.specs.Grammar.{IsStubText}
 use Rattle.macho_stub.specs.Library.{LibraryFields}
-use Rattle.macho_stub.specs.Checks.{library_of}
 use Rattle.macho_stub.specs.Rules.{MakesLibrary, IsTold}
 use Rattle.macho_stub.specs.Order.{BreaksOff}
 
@@ -52,7 +49,3 @@ IsToldOfText text OutOfMemory = Unit {0}
 IsToldOfText text (Rule line rule) =
     ((says : List (DocumentOf Slice)) × IsStubText text says × IsTold rule line (documents_texts says))
     ⊎ BreaksOff text line rule
-
--- The documents of a text, and then the library that they make.
-unfoldable pub answer_of : List ℕ → Reading LibraryFields
-answer_of text = documents_of text >>= library_of

@@ -21,21 +21,20 @@
 ghost use Rattle.std.specs.Prelude.{◌≡◌, ℕ, IfErr, IfOk, Ok};
 ghost use Rattle.macho_stub_lines.specs.Faults.{Gives, broken};
 ghost use Rattle.macho_stub.specs.Library.{LibraryFields, library_fields};
-ghost use Rattle.macho_stub.specs.Answer.{IsStub, SaysSlices, HasNoNul, IsToldOfText, answer_of};
+ghost use Rattle.macho_stub.specs.Answer.{IsStub, SaysSlices, HasNoNul, IsToldOfText};
+ghost use Rattle.macho_stub.specs.steps.Answer.{answer_of};
 
 mod document;
 mod library;
 mod reader;
 mod state;
-#[cfg(test)]
-mod tests;
 
 pub use library::DefinedStubLibrary;
 pub use macho_stub_lines::fault::{StubFault, StubRule};
 use std::alloc::Global;
 
 /// The library that the documents of the text make.
-#[tactic(auto, unfolding(crate::specs::Answer::answer_of))]
+#[tactic(auto, unfolding(crate::specs::steps::Answer::answer_of))]
 fn answer<'data>(alloc: Global, input: &'data str) -> Result<DefinedStubLibrary<'data>, StubFault>
     ensures { Gives library_fields result (answer_of input.now) }
 {

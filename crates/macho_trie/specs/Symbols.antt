@@ -1,5 +1,5 @@
 -- The register of exported names: each with what stands for it, in the order in which they were pushed.
-use Rattle.std.specs.Prelude.{ℕ, ◌<◌, ◌≤◌, List, [], ◌∷◌, ◌++◌, length, slice_index, map}
+use Rattle.std.specs.Prelude.{ℕ, List, [], ◌∷◌, ◌++◌, map}
 use Rattle.macho_trie.specs.Exports.{Exported}
 use Rattle.macho_trie.specs.Says.{symbol_of}
 use Rattle.macho_trie.specs.declared.symbols.Symbols.{Symbols}

@@ -5,17 +5,11 @@ mod build;
 mod laws;
 mod layout;
 mod lookup;
-#[cfg(test)]
-mod plain;
 mod sort;
 mod spelling;
 mod symbols;
 mod table;
-#[cfg(test)]
-mod tests;
 mod trie;
-#[cfg(test)]
-mod trie_tests;
 
 pub use laws::sizes_are_one;
 pub use lookup::{Export, trie_lookup};

@@ -1,7 +1,8 @@
 //! The names to be exported, each with what stands for it.
 ghost use Rattle.std.specs.Prelude.{◌<◌, List, length};
 ghost use Rattle.std.specs.List.{All};
-ghost use Rattle.macho_trie.specs.Says.{said_of, IsSound};
+ghost use Rattle.macho_trie.specs.Says.{said_of};
+ghost use Rattle.macho_trie.specs.steps.Says.{IsSound};
 
 use std::alloc::{AllocError, Global};
 
@@ -73,6 +74,21 @@ impl Symbols {
                 name: there,
             },
         )
+    }
+
+    /// How many names there are.
+    pub fn len(&self) -> usize
+        ensures { result ≡ length (names_of self.now) }
+    {
+        self.items.len()
+    }
+
+    /// A name by its number, in the order in which they were pushed.
+    pub fn name(&self, number: usize) -> &[u8]
+        requires { number < length (names_of self.now) }
+        ensures { result.now ≡ name_at (names_of self.now) number }
+    {
+        self.items[number].name.as_slice()
     }
 
     fn add(&mut self, name: &[u8], says: Says) -> Result<(), AllocError>

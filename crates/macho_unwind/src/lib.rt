@@ -32,10 +32,6 @@ mod laws;
 mod lookup;
 mod records;
 mod section;
-#[cfg(test)]
-mod section_tests;
-#[cfg(test)]
-mod tests;
 mod writing;
 
 pub use laws::far_page_needs_room;

@@ -15,8 +15,8 @@ use Rattle.macho_unwind_pages.specs.declared.entries.ResolvedUnwindInfo.{Resolve
 use Rattle.macho_unwind_pages.specs.declared.plans.Lsda.{Lsda}
 use Rattle.macho_unwind_pages.specs.Entries.{AreEntries, IsLast, input_of, inputs_of, ids_of, code_in, codes_of, ranked}
 use Rattle.macho_unwind_pages.specs.Plans.{PlanList, Row, IsPlan, IsPlanOf, HasSlot, IsFar, HasFarAddress, HasFarOffset, row_from, lsda_at, lsda_from}
-use Rattle.macho_unwind_pages.specs.Paging.{ArePages}
-use Rattle.macho_unwind_pages.specs.Planning.{IsNear, IsBehind, IsNumbered, HasShortCode, IsReady, IsAssembled}
+use Rattle.macho_unwind_pages.specs.steps.Paging.{ArePages}
+use Rattle.macho_unwind_pages.specs.steps.Planning.{IsNear, IsBehind, IsNumbered, HasShortCode, IsReady, IsAssembled}
 use Rattle.macho_unwind_pages.proofs.Gathered.{numbered, short_codes, behind, alike, ranked_codes, short_ranks}
 
 -- what the parts are made from

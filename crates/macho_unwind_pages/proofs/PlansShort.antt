@@ -18,7 +18,7 @@ use Rattle.macho_unwind_pages.specs.declared.entries.ResolvedUnwindInfo.{Resolve
 use Rattle.macho_unwind_pages.specs.Entries.{SpansAtMost, input_of, inputs_of, ids_of, code_in, codes_of}
 use Rattle.macho_unwind_pages.specs.Bounds.{globals_of, locals_in, tallies_of, most_pages}
 use Rattle.macho_unwind_pages.specs.Plans.{PageList, PlanList, Row, IsPage, IsPlanOf, AreLocals, codes_on, first_place, row_of, page_rows, first_row, row_from, lsda_at, lsda_from}
-use Rattle.macho_unwind_pages.specs.Paging.{HasFewLocals, ArePages}
+use Rattle.macho_unwind_pages.specs.steps.Paging.{HasFewLocals, ArePages}
 use Rattle.macho_unwind_pages.specs.Laws.{IsShort, PlansAreShort}
 use Rattle.macho_unwind_pages.proofs.FirstUses.{first_inside}
 use Rattle.macho_unwind_pages.proofs.Charging.{first_start, pages_are_few, pages_are_short}

@@ -10,8 +10,6 @@ mod paging;
 mod planning;
 mod plans;
 mod ranking;
-#[cfg(test)]
-mod tests;
 
 pub use bound::{output_size, unwind_bound};
 pub use entries::{Personality, ResolvedUnwindInfo, UnwindFault, UnwindInput};

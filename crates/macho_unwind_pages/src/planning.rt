@@ -2,7 +2,7 @@
 ghost use Rattle.std.specs.Prelude.{◌≡◌, ◌<◌, ◌≤◌, length, IfOk, IfErr, OnOk};
 ghost use Rattle.macho_unwind_pages.specs.Entries.{MOST_PERSONALITIES, AreEntries, inputs_of, ids_of};
 ghost use Rattle.macho_unwind_pages.specs.Plans.{plan_list, IsPlanOf, HasFarOffset};
-ghost use Rattle.macho_unwind_pages.specs.Planning.{IsReady, IsAssembled};
+ghost use Rattle.macho_unwind_pages.specs.steps.Planning.{IsReady, IsAssembled};
 ghost use Rattle.macho_unwind_pages.specs.Laws.{HasFewPages, IsShort};
 ghost use Rattle.macho_unwind_pages.specs.Calls.{PlanFault};
 

@@ -11,7 +11,7 @@ use Rattle.macho_unwind_pages.specs.declared.entries.UnwindInput.{UnwindInput}
 use Rattle.macho_unwind_pages.specs.declared.entries.ResolvedUnwindInfo.{ResolvedUnwindInfo}
 use Rattle.macho_unwind_pages.specs.Entries.{IsLast, ids_of, code_in}
 use Rattle.macho_unwind_pages.specs.Plans.{HasFarOffset, plan_list}
-use Rattle.macho_unwind_pages.specs.Planning.{IsNear, IsBehind, IsReady, IsAssembled}
+use Rattle.macho_unwind_pages.specs.steps.Planning.{IsNear, IsBehind, IsReady, IsAssembled}
 use Rattle.macho_unwind_pages.specs.Calls.{PlanFault}
 use Rattle.macho_unwind_pages.proofs.Gathered.{behind}
 use Rattle.macho_unwind_pages.proofs.PlansShort.{plans_short}
