@@ -3,7 +3,6 @@
 #![tactic(auto)]
 
 #[cfg(test)]
-#[cfg(test)]
 mod fixup_images;
 #[cfg(test)]
 mod fixups;

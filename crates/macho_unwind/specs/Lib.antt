@@ -3,7 +3,6 @@ pub mod Sections
 pub mod Lookup
 pub mod Texts
 pub mod Entries
-pub mod Conditions
 pub mod Laws
 -- definitions of the crate below, which clauses of this one cite
 pub use Rattle.macho_unwind_pages.specs.Orders
