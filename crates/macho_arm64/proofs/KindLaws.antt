@@ -7,17 +7,17 @@ use Rattle.std.proofs.Common.{◌≡◌, ℕ, ◌+◌, ◌^◌, ◌==◌, ◌&&�
 use Rattle.std.specs.Prelude.{is_some, find}
 use Rattle.std.specs.List.{AllByRecursion}
 use Rattle.std.specs.Option.{option_map}
-use Rattle.std.proofs.lemmas.Bool.{cases_Bool, cases_eq, eqb-true, ne_eqb}
+use Rattle.std.proofs.lemmas.Bool.{cases_Bool, cases_eq, eqb-true, eq-eqb, ne_eqb}
 use Rattle.macho_records.specs.declared.relocations.RelocationInfo.{RelocationInfo}
 use Rattle.macho_records.specs.declared.constants.TheConstants.{ARM64_RELOC_ADDEND, ARM64_RELOC_BRANCH26, ARM64_RELOC_GOT_LOAD_PAGE21, ARM64_RELOC_GOT_LOAD_PAGEOFF12, ARM64_RELOC_PAGE21, ARM64_RELOC_PAGEOFF12, ARM64_RELOC_POINTER_TO_GOT, ARM64_RELOC_SUBTRACTOR, ARM64_RELOC_TLVP_LOAD_PAGE21, ARM64_RELOC_TLVP_LOAD_PAGEOFF12, ARM64_RELOC_UNSIGNED}
 use Rattle.macho_model.specs.declared.targets.Target.{Target}
 use Rattle.macho_model.specs.Links.{Link, SectionId}
 use Rattle.macho_model.specs.Needs.{relocation_in}
 use Rattle.macho_model.specs.Targets.{target_of_relocation, is_defined}
-use Rattle.macho_model.specs.Fields.{content_of, follows}
+use Rattle.macho_model.specs.Fields.{content_of, has_subtrahend}
 use Rattle.macho_model.specs.Words.{is_adrp, is_branch, is_ldr}
 use Rattle.macho_model.specs.Stands as stands
-use Rattle.macho_model.specs.Rows.{has_form, next_is_here, is_none, subtractor_fits, addend_fits, pointer_fits, may_be_called, defined_or_import, takes_offset, load_fits, is_supported}
+use Rattle.macho_model.specs.Rows.{has_form, begins_pair, is_none, difference_fits, addend_fits, pointer_fits, may_be_called, defined_or_import, takes_offset, load_fits, is_supported}
 use Rattle.macho_arm64.specs.declared.kinds.FieldSize.TheVariants.{Bytes}
 use Rattle.macho_arm64.specs.declared.kinds.KindRow.{KindRow}
 use Rattle.macho_arm64.specs.declared.kinds.RelocationKindInfo.{RelocationKindInfo}
@@ -173,15 +173,21 @@ of_bytes rel type word four eight t at_four at_eight fits_four fits_eight h =
       | inr three ↦ formed rel type 3 word false eight t at_eight three fits_eight
     ]
 
+of_difference : (l : Link) (s : SectionId) (r type : ℕ) (four eight : RelocationKindInfo) → (relocation_in l s r).r_type ≡ type
+    → kind_at type 2 false ≡ Some four → kind_at type 3 false ≡ Some eight → fits_word four.size (content_of l s r) ≡ true
+    → fits_word eight.size (content_of l s r) ≡ true → difference_fits l s r ≡ true → IsKnown (relocation_in l s r) (content_of l s r)
+of_difference l s r type four eight t at_four at_eight fits_four fits_eight h =
+    of_bytes (relocation_in l s r) type (content_of l s r) four eight t at_four at_eight fits_four fits_eight
+    (left (has_form (relocation_in l s r) 2 false true || has_form (relocation_in l s r) 3 false true) (is_defined (target_of_relocation l s r)) h)
+
 of_pointer : (l : Link) (s : SectionId) (r : ℕ) → (relocation_in l s r).r_type ≡ ARM64_RELOC_UNSIGNED → pointer_fits l s r ≡ true
     → IsKnown (relocation_in l s r) (content_of l s r)
 unfolding kind_among
 of_pointer l s r t h =
-    elim (cases_Bool (follows l s r ARM64_RELOC_SUBTRACTOR)) [
+    elim (cases_Bool (has_subtrahend l s r)) [
       | inl behind ↦
-          let g : ((has_form (relocation_in l s r) 2 false true || has_form (relocation_in l s r) 3 false true)
-          && is_defined (target_of_relocation l s r)) ≡ true = rw behind at h in
-          of_bytes (relocation_in l s r) ARM64_RELOC_UNSIGNED (content_of l s r) _ _ t refl refl refl refl (left _ _ g)
+          let g : difference_fits l s r ≡ true = rw behind at h in
+          of_difference l s r ARM64_RELOC_UNSIGNED _ _ t refl refl refl refl g
       | inr alone ↦
           let g : (((relocation_in l s r).r_length == 3) && not (relocation_in l s r).r_pcrel && not (is_none (target_of_relocation l s r))) ≡ true =
           rw alone at h in
@@ -191,87 +197,67 @@ of_pointer l s r t h =
           (not_true (relocation_in l s r).r_pcrel (right ((relocation_in l s r).r_length == 3) _ both)) refl refl
     ]
 
-of_subtractor : (l : Link) (s : SectionId) (r : ℕ) → (relocation_in l s r).r_type ≡ ARM64_RELOC_SUBTRACTOR → subtractor_fits l s r ≡ true
-    → IsKnown (relocation_in l s r) (content_of l s r)
+of_subtractor : (l : Link) (s : SectionId) (r : ℕ) → (relocation_in l s r).r_type ≡ ARM64_RELOC_SUBTRACTOR
+    → (difference_fits l s r && begins_pair l s r) ≡ true → IsKnown (relocation_in l s r) (content_of l s r)
 unfolding kind_among
 of_subtractor l s r t h =
-    of_bytes (relocation_in l s r) ARM64_RELOC_SUBTRACTOR (content_of l s r) _ _ t refl refl refl refl
-    (left (has_form (relocation_in l s r) 2 false true || has_form (relocation_in l s r) 3 false true) _
-    (left ((has_form (relocation_in l s r) 2 false true || has_form (relocation_in l s r) 3 false true) && next_is_here l s r) _
-    (left (((has_form (relocation_in l s r) 2 false true || has_form (relocation_in l s r) 3 false true) && next_is_here l s r)
-    && ((relocation_in l s (r + 1)).r_type == ARM64_RELOC_UNSIGNED)) _
-    (left ((((has_form (relocation_in l s r) 2 false true || has_form (relocation_in l s r) 3 false true) && next_is_here l s r)
-    && ((relocation_in l s (r + 1)).r_type == ARM64_RELOC_UNSIGNED)) && ((relocation_in l s (r + 1)).r_length == (relocation_in l s r).r_length)) _ h))))
+    of_difference l s r ARM64_RELOC_SUBTRACTOR _ _ t refl refl refl refl (left (difference_fits l s r) (begins_pair l s r) h)
 
-of_addend : (l : Link) (s : SectionId) (r : ℕ) → (relocation_in l s r).r_type ≡ ARM64_RELOC_ADDEND → addend_fits l s r ≡ true
-    → IsKnown (relocation_in l s r) (content_of l s r)
+of_addend : (l : Link) (s : SectionId) (r : ℕ) → (relocation_in l s r).r_type ≡ ARM64_RELOC_ADDEND
+    → (addend_fits l s r && begins_pair l s r) ≡ true → IsKnown (relocation_in l s r) (content_of l s r)
 unfolding kind_among
 of_addend l s r t h =
-    let g = left (((relocation_in l s r).r_length == 2) && not (relocation_in l s r).r_pcrel) (next_is_here l s r)
-    (left (((relocation_in l s r).r_length == 2) && not (relocation_in l s r).r_pcrel && next_is_here l s r) _ h) in
+    let g = left (((relocation_in l s r).r_length == 2) && not (relocation_in l s r).r_pcrel) (begins_pair l s r) h in
     known (relocation_in l s r) ARM64_RELOC_ADDEND 2 (content_of l s r) false _ t
     (eqb-true (relocation_in l s r).r_length 2 (left ((relocation_in l s r).r_length == 2) _ g))
     (not_true (relocation_in l s r).r_pcrel (right ((relocation_in l s r).r_length == 2) _ g)) refl refl
+
+-- one case of a chain of tests
+pick : (t a b : Bool) → t ≡ true → (if t then a else b) ≡ true → a ≡ true
+pick true a b is h = h
+pick false a b is h = absurd (cc)
+
+skip : (t a b : Bool) → t ≡ false → (if t then a else b) ≡ true → b ≡ true
+skip true a b is h = absurd (cc)
+skip false a b is h = h
+
+or_left : (a b : Bool) → a ≡ true → (a || b) ≡ true
+or_left true b h = refl
+or_left false b h = absurd (cc)
+
+or_right : (a b : Bool) → b ≡ true → (a || b) ≡ true
+or_right true b h = refl
+or_right false b h = h
+
+neither : (a b : Bool) → a ≡ false → b ≡ false → (a || b) ≡ false
+neither true b h k = absurd (cc)
+neither false b h k = k
 
 -- A supported relocation is known.
 supported_known : (l : Link) (s : SectionId) (r : ℕ) → is_supported l s r ≡ true → IsKnown (relocation_in l s r) (content_of l s r)
 unfolding is_supported kind_among
 supported_known l s r h0 =
-    elim (cases_eq type ARM64_RELOC_UNSIGNED) [
-      | inl is ↦ of_pointer l s r is (rw is at h0)
-      | inr n0 ↦
-          let h1 = rw (ne_eqb type ARM64_RELOC_UNSIGNED n0) at h0 in
-          elim (cases_eq type ARM64_RELOC_SUBTRACTOR) [
-            | inl is ↦ of_subtractor l s r is (rw is at h1)
-            | inr n1 ↦
-                let h2 = rw (ne_eqb type ARM64_RELOC_SUBTRACTOR n1) at h1 in
-                elim (cases_eq type ARM64_RELOC_BRANCH26) [
-                  | inl is ↦ word_known ARM64_RELOC_BRANCH26 true _ (is_branch w) (may_be_called l s r) is refl (rw is at h2) (λ b. b)
-                  | inr n2 ↦
-                      let h3 = rw (ne_eqb type ARM64_RELOC_BRANCH26 n2) at h2 in
-                      elim (cases_eq type ARM64_RELOC_PAGE21) [
-                        | inl is ↦ word_known ARM64_RELOC_PAGE21 true _ (is_adrp w) (is_defined t) is refl (rw is at h3) (λ b. b)
-                        | inr n3 ↦
-                            let h4 = rw (ne_eqb type ARM64_RELOC_PAGE21 n3) at h3 in
-                            elim (cases_eq type ARM64_RELOC_PAGEOFF12) [
-                              | inl is ↦ word_known ARM64_RELOC_PAGEOFF12 false _ (takes_offset w) (is_defined t) is refl (rw is at h4) (λ b. offset_words w ∙ b)
-                              | inr n4 ↦
-                                  let h5 = rw (ne_eqb type ARM64_RELOC_PAGEOFF12 n4) at h4 in
-                                  elim (cases_eq type ARM64_RELOC_GOT_LOAD_PAGE21) [
-                                    | inl is ↦ word_known ARM64_RELOC_GOT_LOAD_PAGE21 true _ (is_adrp w) (defined_or_import t) is refl (rw is at h5) (λ b. b)
-                                    | inr n5 ↦
-                                        let h6 = rw (ne_eqb type ARM64_RELOC_GOT_LOAD_PAGE21 n5) at h5 in
-                                        elim (cases_eq type ARM64_RELOC_TLVP_LOAD_PAGE21) [
-                                          | inl is ↦ word_known ARM64_RELOC_TLVP_LOAD_PAGE21 true _ (is_adrp w) (defined_or_import t) is refl (rw is at h6) (λ b. b)
-                                          | inr n6 ↦
-                                              let h7 = rw (ne_eqb type ARM64_RELOC_TLVP_LOAD_PAGE21 n6) at h6 in
-                                              elim (cases_eq type ARM64_RELOC_GOT_LOAD_PAGEOFF12) [
-                                                | inl is ↦ word_known ARM64_RELOC_GOT_LOAD_PAGEOFF12 false _ (load_fits w t) (defined_or_import t) is refl (rw is at h7) (λ b. slot_load_fits w (left (is_ldr w) _ b))
-                                                | inr n7 ↦
-                                                    let h8 = rw (ne_eqb type ARM64_RELOC_GOT_LOAD_PAGEOFF12 n7) at h7 in
-                                                    elim (cases_eq type ARM64_RELOC_TLVP_LOAD_PAGEOFF12) [
-                                                      | inl is ↦ word_known ARM64_RELOC_TLVP_LOAD_PAGEOFF12 false _ (load_fits w t) (defined_or_import t) is refl (rw is at h8) (λ b. slot_load_fits w (left (is_ldr w) _ b))
-                                                      | inr n8 ↦
-                                                          let h9 = rw (ne_eqb type ARM64_RELOC_TLVP_LOAD_PAGEOFF12 n8) at h8 in
-                                                          elim (cases_eq type ARM64_RELOC_POINTER_TO_GOT) [
-                                                            | inl is ↦ formed rel ARM64_RELOC_POINTER_TO_GOT 2 w true _ is refl (left (has_form rel 2 true true) _ (rw is at h9)) refl
-                                                            | inr n9 ↦
-                                                                let h10 = rw (ne_eqb type ARM64_RELOC_POINTER_TO_GOT n9) at h9 in
-                                                                elim (cases_eq type ARM64_RELOC_ADDEND) [
-                                                                  | inl is ↦ of_addend l s r is (rw is at h10)
-                                                                  | inr n10 ↦
-                                                                      let no : false ≡ true = rw (ne_eqb type ARM64_RELOC_ADDEND n10) at h10 in absurd (cc)
-                                                                ]
-                                                          ]
-                                                    ]
-                                              ]
-                                        ]
-                                  ]
-                            ]
-                      ]
-                ]
-          ]
-    ]
+    elim (cases_eq type ARM64_RELOC_UNSIGNED) [ inl is ↦ of_pointer l s r is (pick (type == ARM64_RELOC_UNSIGNED) _ _ (eq-eqb type ARM64_RELOC_UNSIGNED is) h0) | inr n0 ↦
+    let h1 = skip (type == ARM64_RELOC_UNSIGNED) _ _ (ne_eqb type ARM64_RELOC_UNSIGNED n0) h0 in
+    elim (cases_eq type ARM64_RELOC_SUBTRACTOR) [ inl is ↦ of_subtractor l s r is (pick (type == ARM64_RELOC_SUBTRACTOR) _ _ (eq-eqb type ARM64_RELOC_SUBTRACTOR is) h1) | inr n1 ↦
+    let h2 = skip (type == ARM64_RELOC_SUBTRACTOR) _ _ (ne_eqb type ARM64_RELOC_SUBTRACTOR n1) h1 in
+    elim (cases_eq type ARM64_RELOC_BRANCH26) [ inl is ↦ word_known ARM64_RELOC_BRANCH26 true _ (is_branch w) (may_be_called l s r) is refl (pick (type == ARM64_RELOC_BRANCH26) _ _ (eq-eqb type ARM64_RELOC_BRANCH26 is) h2) (λ b. b) | inr n2 ↦
+    let h3 = skip (type == ARM64_RELOC_BRANCH26) _ _ (ne_eqb type ARM64_RELOC_BRANCH26 n2) h2 in
+    elim (cases_eq type ARM64_RELOC_PAGE21) [ inl is ↦ word_known ARM64_RELOC_PAGE21 true _ (is_adrp w) (is_defined t) is refl (pick (type == ARM64_RELOC_PAGE21) _ _ (eq-eqb type ARM64_RELOC_PAGE21 is) h3) (λ b. b) | inr n3 ↦
+    let h4 = skip (type == ARM64_RELOC_PAGE21) _ _ (ne_eqb type ARM64_RELOC_PAGE21 n3) h3 in
+    elim (cases_eq type ARM64_RELOC_PAGEOFF12) [ inl is ↦ word_known ARM64_RELOC_PAGEOFF12 false _ (takes_offset w) (is_defined t) is refl (pick (type == ARM64_RELOC_PAGEOFF12) _ _ (eq-eqb type ARM64_RELOC_PAGEOFF12 is) h4) (λ b. offset_words w ∙ b) | inr n4 ↦
+    let h5 = skip (type == ARM64_RELOC_PAGEOFF12) _ _ (ne_eqb type ARM64_RELOC_PAGEOFF12 n4) h4 in
+    elim (cases_eq type ARM64_RELOC_GOT_LOAD_PAGE21) [ inl is ↦ word_known ARM64_RELOC_GOT_LOAD_PAGE21 true _ (is_adrp w) (defined_or_import t) is refl (pick ((type == ARM64_RELOC_GOT_LOAD_PAGE21) || (type == ARM64_RELOC_TLVP_LOAD_PAGE21)) _ _ (or_left (type == ARM64_RELOC_GOT_LOAD_PAGE21) (type == ARM64_RELOC_TLVP_LOAD_PAGE21) (eq-eqb type ARM64_RELOC_GOT_LOAD_PAGE21 is)) h5) (λ b. b) | inr n5 ↦
+    elim (cases_eq type ARM64_RELOC_TLVP_LOAD_PAGE21) [ inl is ↦ word_known ARM64_RELOC_TLVP_LOAD_PAGE21 true _ (is_adrp w) (defined_or_import t) is refl (pick ((type == ARM64_RELOC_GOT_LOAD_PAGE21) || (type == ARM64_RELOC_TLVP_LOAD_PAGE21)) _ _ (or_right (type == ARM64_RELOC_GOT_LOAD_PAGE21) (type == ARM64_RELOC_TLVP_LOAD_PAGE21) (eq-eqb type ARM64_RELOC_TLVP_LOAD_PAGE21 is)) h5) (λ b. b) | inr n6 ↦
+    let h6 = skip ((type == ARM64_RELOC_GOT_LOAD_PAGE21) || (type == ARM64_RELOC_TLVP_LOAD_PAGE21)) _ _ (neither (type == ARM64_RELOC_GOT_LOAD_PAGE21) (type == ARM64_RELOC_TLVP_LOAD_PAGE21) (ne_eqb type ARM64_RELOC_GOT_LOAD_PAGE21 n5) (ne_eqb type ARM64_RELOC_TLVP_LOAD_PAGE21 n6)) h5 in
+    elim (cases_eq type ARM64_RELOC_GOT_LOAD_PAGEOFF12) [ inl is ↦ word_known ARM64_RELOC_GOT_LOAD_PAGEOFF12 false _ (load_fits w t) (defined_or_import t) is refl (pick ((type == ARM64_RELOC_GOT_LOAD_PAGEOFF12) || (type == ARM64_RELOC_TLVP_LOAD_PAGEOFF12)) _ _ (or_left (type == ARM64_RELOC_GOT_LOAD_PAGEOFF12) (type == ARM64_RELOC_TLVP_LOAD_PAGEOFF12) (eq-eqb type ARM64_RELOC_GOT_LOAD_PAGEOFF12 is)) h6) (λ b. slot_load_fits w (left (is_ldr w) _ b)) | inr n7 ↦
+    elim (cases_eq type ARM64_RELOC_TLVP_LOAD_PAGEOFF12) [ inl is ↦ word_known ARM64_RELOC_TLVP_LOAD_PAGEOFF12 false _ (load_fits w t) (defined_or_import t) is refl (pick ((type == ARM64_RELOC_GOT_LOAD_PAGEOFF12) || (type == ARM64_RELOC_TLVP_LOAD_PAGEOFF12)) _ _ (or_right (type == ARM64_RELOC_GOT_LOAD_PAGEOFF12) (type == ARM64_RELOC_TLVP_LOAD_PAGEOFF12) (eq-eqb type ARM64_RELOC_TLVP_LOAD_PAGEOFF12 is)) h6) (λ b. slot_load_fits w (left (is_ldr w) _ b)) | inr n8 ↦
+    let h7 = skip ((type == ARM64_RELOC_GOT_LOAD_PAGEOFF12) || (type == ARM64_RELOC_TLVP_LOAD_PAGEOFF12)) _ _ (neither (type == ARM64_RELOC_GOT_LOAD_PAGEOFF12) (type == ARM64_RELOC_TLVP_LOAD_PAGEOFF12) (ne_eqb type ARM64_RELOC_GOT_LOAD_PAGEOFF12 n7) (ne_eqb type ARM64_RELOC_TLVP_LOAD_PAGEOFF12 n8)) h6 in
+    elim (cases_eq type ARM64_RELOC_POINTER_TO_GOT) [ inl is ↦ formed rel ARM64_RELOC_POINTER_TO_GOT 2 w true _ is refl (left (has_form rel 2 true true) _ (pick (type == ARM64_RELOC_POINTER_TO_GOT) _ _ (eq-eqb type ARM64_RELOC_POINTER_TO_GOT is) h7)) refl | inr n9 ↦
+    let h8 = skip (type == ARM64_RELOC_POINTER_TO_GOT) _ _ (ne_eqb type ARM64_RELOC_POINTER_TO_GOT n9) h7 in
+    elim (cases_eq type ARM64_RELOC_ADDEND) [ inl is ↦ of_addend l s r is (pick (type == ARM64_RELOC_ADDEND) _ _ (eq-eqb type ARM64_RELOC_ADDEND is) h8) | inr n10 ↦
+    let no : false ≡ true = skip (type == ARM64_RELOC_ADDEND) (addend_fits l s r && begins_pair l s r) false (ne_eqb type ARM64_RELOC_ADDEND n10) h8 in absurd (cc)
+    ] ] ] ] ] ] ] ] ] ] ]
   where
     rel : RelocationInfo
     rel = relocation_in l s r

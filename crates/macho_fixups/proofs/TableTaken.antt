@@ -15,7 +15,7 @@ use Rattle.macho_records.specs.declared.fixups.ChainedFixupsHeader.{ChainedFixup
 use Rattle.macho_records.specs.declared.fixups.ChainedStartsInSegment.{ChainedStartsInSegment}
 use Rattle.macho_records.specs.declared.header.SegmentCommand.{SegmentCommand}
 use Rattle.macho_model.specs.Images.{Table, IMPORT_FORMAT, IMPORT_ADDEND_FORMAT, CHAIN_PAGE, fixups_header, import_entry_size, starts_place, starts_count, starts_offset, segment_starts, segments_of, base_of}
-use Rattle.macho_model.specs.LoadRules.{POINTER_FORMAT, starts_fit, table_fits}
+use Rattle.macho_model.specs.LoadRules.{POINTER_FORMAT, starts_fit, starts_all_fit, header_known, parts_inside, table_fits}
 use Rattle.macho_fixups.specs.declared.run.Fixup.{Fixup}
 use Rattle.macho_fixups.specs.declared.run.FixupSegment.{FixupSegment}
 use Rattle.macho_fixups.specs.declared.imports.ImportEntry.{ImportEntry}
@@ -134,7 +134,8 @@ segment_taken base at fixups segments b t k h fits header begins is_at offsets t
         let placed : (((segment_starts b t k).segment_offset + base_of b) % 2 ^ 64
         == get_or (map (λ (c : SegmentCommand). c.vmaddr) (segments_of b)) k 0) ≡ true =
         same _ _ (omega (arith, offset, base_is, above, small, address)) in
-        or_right (starts_offset b t k == 0) _ (and_both _ _ (and_both _ _ (and_both _ _ (and_both _ _ whole listed) paged) formatted) placed)
+        or_right (starts_offset b t k == 0) _
+        (and_both _ _ (and_both _ _ whole listed) (and_both _ _ (and_both _ _ paged formatted) placed))
 
 -- THE table is taken.
 pub table_taken : (base size : ℕ) (fixups : List Fixup) (segments : List FixupSegment) (format : ℕ) (imports : List ImportEntry) (b : List ℕ) (t : Table)
@@ -145,20 +146,7 @@ pub table_taken : (base size : ℕ) (fixups : List Fixup) (segments : List Fixup
     → names_place fixups segments format imports ≤ size → HasTable b t base segments size → table_fits b t ≡ true
 unfolding image_starts_size
 table_taken base size fixups segments format imports b t fits entries header count offsets texts long has =
-    and_both _ _ (and_both _ _ (and_both _ _ (and_both _ _ (and_both _ _ (and_both _ _ (and_both _ _ (and_both _ _ (and_both _ _ (and_both _ _
-    (at_most _ _ has.inside)
-    (at_most _ _ (omega (arith, long, has.room))))
-    (same _ _ (ap (λ (h : ChainedFixupsHeader). h.fixups_version) header)))
-    known)
-    (same _ _ (ap (λ (h : ChainedFixupsHeader). h.symbols_format) header)))
-    (at_most _ _ (omega (arith, long, has.room, starts))))
-    (at_most _ _ (omega (arith, long, has.room, starts, count))))
-    (at_most _ _ (omega (arith, count, has.agree.count))))
-    (at_most _ _ imports_end))
-    (at_most _ _ (omega (arith, long, has.room, ap (λ (h : ChainedFixupsHeader). h.symbols_offset) header))))
-    (all_below (starts_fit b t) (starts_count b t) (λ k lt. segment_taken base (t.at + 28) fixups segments b t k
-    (table_header fixups segments format imports) fits header refl refl offsets texts (omega (arith, lt, count)) (omega (arith, long, has.room))
-    has.begins has.agree))
+    and_both _ _ (and_both _ _ (and_both _ _ (at_most _ _ has.inside) head) parts) all_starts
   where
     starts : (fixups_header b t).starts_offset ≡ 28
     starts = ap (λ (h : ChainedFixupsHeader). h.starts_offset) header
@@ -177,3 +165,27 @@ table_taken base size fixups segments format imports b t fits entries header cou
         ≡ names_place fixups segments format imports =
         ap (λ (h : ChainedFixupsHeader). h.imports_offset + import_entry_size h.imports_format * h.imports_count) header in
         omega (arith, is, long, has.room)
+
+    head : header_known b t ≡ true
+    head =
+        and_both _ _ (and_both _ _ (and_both _ _ (at_most _ _ (omega (arith, long, has.room)))
+        (same _ _ (ap (λ (h : ChainedFixupsHeader). h.fixups_version) header))) known)
+        (same _ _ (ap (λ (h : ChainedFixupsHeader). h.symbols_format) header))
+
+    parts : parts_inside b t ≡ true
+    parts =
+        let count_fits : nat_le ((fixups_header b t).starts_offset + 4) t.size ≡ true = at_most _ _ (omega (arith, long, has.room, starts)) in
+        let offsets_fit : nat_le ((fixups_header b t).starts_offset + 4 + 4 * starts_count b t) t.size ≡ true =
+        at_most _ _ (omega (arith, long, has.room, starts, count)) in
+        let there : nat_le (starts_count b t) (length (segments_of b)) ≡ true = at_most _ _ (omega (arith, count, has.agree.count)) in
+        let entries_fit : nat_le ((fixups_header b t).imports_offset
+        + import_entry_size (fixups_header b t).imports_format * (fixups_header b t).imports_count) t.size ≡ true = at_most _ _ imports_end in
+        let names_fit : nat_le (fixups_header b t).symbols_offset t.size ≡ true =
+        at_most _ _ (omega (arith, long, has.room, ap (λ (h : ChainedFixupsHeader). h.symbols_offset) header)) in
+        and_both _ _ (and_both _ _ (and_both _ _ (and_both _ _ count_fits offsets_fit) there) entries_fit) names_fit
+
+    all_starts : starts_all_fit b t ≡ true
+    all_starts =
+        all_below (starts_fit b t) (starts_count b t) (λ k lt. segment_taken base (t.at + 28) fixups segments b t k
+        (table_header fixups segments format imports) fits header refl refl offsets texts (omega (arith, lt, count)) (omega (arith, long, has.room))
+        has.begins has.agree)

@@ -1,5 +1,5 @@
 -- What the reading of a stub text answers.
-use Rattle.std.specs.Prelude.{◌⊎◌, ℕ, List}
+use Rattle.std.specs.Prelude.{◌≢◌, ◌⊎◌, ℕ, List, All}
 use Rattle.std.specs.List.{AllByRecursion}
 use Rattle.macho_stub_lines.specs.declared.fault.StubFault.{StubFault}
 use Rattle.macho_stub_lines.specs.declared.fault.StubFault.TheVariants.{Rule, OutOfMemory}
@@ -34,6 +34,13 @@ pub record DocumentStands (text : List ℕ) (document : DocumentOf Slice) : Type
 -- What the grammar says of the text are slices of it.
 abbrev pub SaysSlices : List ℕ → Type 0
 SaysSlices text = (says : List (DocumentOf Slice)) → IsStubText text says → AllByRecursion (DocumentStands text) says
+
+-- The texts of a library hold no NUL.
+pub record HasNoNul (library : LibraryFields) : Type 0 where
+  pub install_name : All (λ b. b ≢ 0) library.install_name
+  pub current_version : All (λ b. b ≢ 0) library.current_version
+  pub symbols : All (All (λ b. b ≢ 0)) library.symbols
+  pub weak_symbols : All (All (λ b. b ≢ 0)) library.weak_symbols
 
 -- A fault that is told: memory ran out; or the text is in the grammar, and the rule is the one that is told of its
 -- documents; or the reading of the text breaks off.
