@@ -1,7 +1,6 @@
 //! The records of a Mach-O file as bytes, and their predicates.
 #![tactic(auto)]
 
-mod bytes;
 mod commands;
 mod constants;
 mod fixups;
@@ -14,7 +13,6 @@ mod segments;
 mod signature;
 mod symbol_names;
 mod symbols;
-mod uleb;
 mod unwind;
 
 pub use commands::BuildToolVersion;
@@ -100,6 +98,9 @@ pub use header::LoadCommand;
 pub use header::MachHeader;
 pub use header::SectionHeader;
 pub use header::SegmentCommand;
+pub use macho_numbers::read_uleb;
+pub use macho_numbers::uleb_size;
+pub use macho_numbers::write_uleb;
 pub use names::name_bytes;
 pub use placeholders::BuiltInSectionDetails;
 pub use placeholders::DynamicTagValues;
@@ -117,7 +118,4 @@ pub use symbols::CommonSymbol;
 pub use symbols::SymtabCommand;
 pub use symbols::SymtabEntry;
 pub use symbols::Visibility;
-pub use uleb::read_uleb;
-pub use uleb::uleb_size;
-pub use uleb::write_uleb;
 pub use unwind::UnwindInfoEntry;
