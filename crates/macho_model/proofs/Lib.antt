@@ -9,3 +9,4 @@ pub mod FieldSlides
 pub mod PointerFixups
 pub mod PlainPointers
 pub mod LinkLaws
+pub mod CommonNumbers

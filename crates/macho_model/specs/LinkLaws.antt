@@ -1,7 +1,8 @@
 -- Laws of links: equal inputs give equal definitions, and what one input more adds.
-use Rattle.std.specs.Prelude.{◌≡◌, ℕ, List, [], ◌∷◌, ◌++◌, length}
+use Rattle.std.specs.Prelude.{◌≡◌, ℕ, true, List, [], ◌∷◌, ◌++◌, length, filter}
+use Rattle.std.specs.List.{position_or_len}
 use Rattle.macho_model.specs.Links.{Input, Link, sections_of_file, sections_of, carried_of}
-use Rattle.macho_model.specs.Resolution.{SymbolId, symbols_of_file, symbols_of, definition_of, chosen_commons}
+use Rattle.macho_model.specs.Resolution.{SymbolId, same_symbol, symbols_of_file, symbols_of, definition_of, is_chosen, chosen_commons}
 use Rattle.macho_model.specs.Needs.{imports_of}
 use Rattle.macho_model.specs.Targets.{target_with, target_of, slots_of, stubs_of}
 
@@ -43,3 +44,9 @@ SymbolsGrow = (l : Link) (x : Input) → symbols_of (with_input l x) ≡ symbols
 
 abbrev pub SectionsGrow : Type 0
 SectionsGrow = (l : Link) (x : Input) → sections_of (with_input l x) ≡ sections_of l ++ sections_of_file (length l.inputs) x
+
+-- the number of a chosen common is how many chosen ones stand before it
+abbrev pub CommonsAreCounted : Type 0
+CommonsAreCounted =
+    (l : Link) (before after : List SymbolId) (s : SymbolId) → symbols_of l ≡ before ++ s ∷ after → is_chosen l s ≡ true
+    → position_or_len (same_symbol s) (chosen_commons l) ≡ length (filter (is_chosen l) before)

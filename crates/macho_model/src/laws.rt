@@ -41,7 +41,7 @@ pub fn plain_pointers_stay()
     ensures { PlainPointersStay }
 {}
 
-ghost use Rattle.macho_model.specs.LinkLaws.{DefinitionsAgree, NotedTargetsAgree, CommonsAgree, CarriedAgree, ImportsAgree, SlotsAgree, StubsAgree, AllAreNoted, SymbolsGrow, SectionsGrow};
+ghost use Rattle.macho_model.specs.LinkLaws.{DefinitionsAgree, NotedTargetsAgree, CommonsAgree, CarriedAgree, ImportsAgree, SlotsAgree, StubsAgree, AllAreNoted, SymbolsGrow, SectionsGrow, CommonsAreCounted};
 
 /// Links with the same inputs have the same definitions, commons, carried sections and targets.
 pub fn equal_inputs_have_equal_definitions()
@@ -63,4 +63,9 @@ pub fn equal_lists_have_equal_needs()
 pub fn one_input_more_adds_its_own()
     ensures symbols { SymbolsGrow }
     ensures sections { SectionsGrow }
+{}
+
+/// A chosen common is numbered by how many of the symbols before it are chosen too.
+pub fn chosen_commons_are_counted()
+    ensures { CommonsAreCounted }
 {}

@@ -5,6 +5,7 @@
 -- fixup table (208 bytes), the exports trie (14 of 22), one symbol (16), strings (7), and the signature at 0x8100.
 use Rattle.std.proofs.Common.{ℕ, List, [], ◌∷◌, ◌++◌, replicate, None}
 use Rattle.std.specs.Prelude.{codes}
+use Rattle.macho_bytes.specs.Numbers.{big, row_bytes}
 use Rattle.macho_records.specs.declared.header.SectionHeader.{SectionHeader}
 use Rattle.macho_records.specs.declared.segments.TheConstants.SegmentName as name
 use Rattle.macho_model.specs.declared.placed.Counts.{Counts}
@@ -118,10 +119,20 @@ tables_of_call =
     0x00 ∷ 0x01 ∷ 0x5f ∷ 0x6d ∷ 0x61 ∷ 0x69 ∷ 0x6e ∷ 0x00 ∷ 0x09 ∷ 0x03 ∷ 0x00 ∷ 0x80 ∷ 0x06 ∷ 0x00 ∷ replicate 10 0
     ++ entry 1 0x0f 1 0 0x100000300 ++ 0 ∷ codes "_main" ++ 0 ∷ [] ++ 0 ∷ []
 
--- the image, up to its signature
+-- the signature with zeros in place of its nine digests: super blob, code directory, identifier; its numbers are big-endian
+unfoldable pub big_words : List ℕ → List ℕ
+big_words numbers = row_bytes big 4 numbers
+
+unfoldable pub signature_of_call : List ℕ
+signature_of_call =
+    big_words (0xfade0cc0 ∷ 0x19c ∷ 1 ∷ 0 ∷ 20 ∷ [])
+    ++ big_words (0xfade0c02 ∷ 0x188 ∷ 0x20400 ∷ 0x20002 ∷ 104 ∷ 88 ∷ 0 ∷ 9 ∷ 0x8100 ∷ []) ++ 32 ∷ 2 ∷ 0 ∷ 12 ∷ []
+    ++ big_words (0 ∷ 0 ∷ 0 ∷ 0 ∷ 0 ∷ 0 ∷ 0 ∷ 0 ∷ 0 ∷ 0x4000 ∷ 0 ∷ 1 ∷ []) ++ codes "out" ++ replicate 13 0 ++ replicate 288 0
+
+-- the image
 unfoldable pub call_image : List ℕ
 call_image =
     head_of_call 0x200085
     ++ words (0x94000002 ∷ 0xd65f03c0 ∷ []) ++ words (0x90000030 ∷ 0xf9400210 ∷ 0xd61f0200 ∷ []) ++ replicate 15596 0
     ++ words8 (0x8000000000000000 ∷ []) ++ replicate 16376 0
-    ++ fixups_of_call ++ tables_of_call
+    ++ fixups_of_call ++ tables_of_call ++ signature_of_call

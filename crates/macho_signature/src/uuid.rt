@@ -8,7 +8,7 @@ use crate::digests::{PAGE, sign_pages};
 
 /// A UUID as it is written: version 3 in the high bits of byte 6, variant 10 in those of byte 8 (RFC 9562, section 4).
 #[tactic(auto, unfolding(macho_model::specs::Signature::uuid_written))]
-pub(crate) fn stamped(uuid: [u8; 16]) -> [u8; 16]
+pub fn stamped_uuid(uuid: [u8; 16]) -> [u8; 16]
     ensures { result ≡ uuid_written uuid }
 {
     let mut written = uuid;
@@ -37,7 +37,7 @@ pub fn write_uuid(
     // where all digests were right, they are all right
     ensures anew { Stands signature.old (record { at = hashes_offset; text = digests_of signed.old }) → signature.new ≡ put hashes_offset (digests_of signed.new) signature.old }
 {
-    signed[uuid_offset..uuid_offset + 16].copy_from_slice(&stamped(uuid));
+    signed[uuid_offset..uuid_offset + 16].copy_from_slice(&stamped_uuid(uuid));
     let first = uuid_offset / PAGE;
     let last = (uuid_offset + 15) / PAGE;
     sign_pages(signed, first, last + 1, signature, hashes_offset);

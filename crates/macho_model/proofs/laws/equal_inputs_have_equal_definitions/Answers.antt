@@ -1,3 +1,4 @@
+-- The lemmas say just this.
 use Rattle.macho_model.proofs.LinkLaws.{definitions_agree, noted_targets_agree, commons_agree, carried_agree}
 use Rattle.macho_model.proofs.laws.equal_inputs_have_equal_definitions.Goals as goal
 

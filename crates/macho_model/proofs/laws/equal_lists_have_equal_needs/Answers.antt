@@ -1,3 +1,4 @@
+-- The lemmas say just this.
 use Rattle.macho_model.proofs.LinkLaws.{imports_agree, slots_agree, stubs_agree, all_are_noted}
 use Rattle.macho_model.proofs.laws.equal_lists_have_equal_needs.Goals as goal
 

@@ -1,3 +1,4 @@
+-- The lemmas say just this.
 use Rattle.macho_model.proofs.LinkLaws.{symbols_grow, sections_grow}
 use Rattle.macho_model.proofs.laws.one_input_more_adds_its_own.Goals as goal
 

@@ -10,7 +10,7 @@ use Rattle.macho_signature.proofs.uuid.write_uuid.Goals as goal
 pub returns-clause-done : goal.returns-clause-done
 returns-clause-done c =
     put_mid-whole c.args.uuid_offset _ c.args.signed.now (uuid_written c.args.uuid) c.copy_from_slice.new.self
-    (omega (arith, length-uuid_written c.args.uuid)) (omega (arith, length-uuid_written c.args.uuid)) (c.copy_from_slice.ensures.after ∙ c.stamped.ensures)
+    (omega (arith, length-uuid_written c.args.uuid)) (omega (arith, length-uuid_written c.args.uuid)) (c.copy_from_slice.ensures.after ∙ c.stamped_uuid.ensures)
 
 pub returns-clause-anew : goal.returns-clause-anew
 returns-clause-anew c =
