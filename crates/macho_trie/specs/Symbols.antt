@@ -18,7 +18,3 @@ names_of s = map (λ i. i.name.items) s.items.items
 -- the names with one more at their end
 abbrev pub with_name : List (List ℕ) → List ℕ → List (List ℕ)
 with_name names name = names ++ name ∷ []
-
--- A name of bytes without a NUL.
-pub record IsPlain (name : List ℕ) : Type 0 where
-  pub plain : (k : ℕ) → k < length name → (1 ≤ slice_index name k) × (slice_index name k < 256)

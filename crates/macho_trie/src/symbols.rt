@@ -31,6 +31,7 @@ impl Symbols {
     ghost use Rattle.std.specs.Prelude.{◌≡◌, ℕ, [], OnOk, OnErr, false};
     ghost use Rattle.macho_trie.specs.Exports.{REEXPORT, is_reexport, HasNoNul, as_value, as_reexport};
     ghost use Rattle.macho_trie.specs.Symbols.{symbols_of, names_of, with_name, with_symbol};
+    ghost use Rattle.macho_trie.specs.Tables.{name_at};
 
     /// No names.
     pub fn new(alloc: Global) -> Symbols
