@@ -20,10 +20,11 @@ use Rattle.macho_model.specs.Stands as stands
 use Rattle.macho_model.specs.Rows.{has_form, begins_pair, is_none, difference_fits, addend_fits, pointer_fits, may_be_called, defined_or_import, takes_offset, load_fits, is_supported}
 use Rattle.macho_arm64.specs.declared.kinds.FieldSize.TheVariants.{Bytes}
 use Rattle.macho_arm64.specs.declared.kinds.KindRow.{KindRow}
+use Rattle.macho_arm64.specs.declared.kinds.RelocationKind.TheVariants as way
 use Rattle.macho_arm64.specs.declared.kinds.RelocationKindInfo.{RelocationKindInfo}
 use Rattle.macho_arm64.specs.Kinds.{kinds, kind_among, kind_at, info_of, is_row_of, same_flag}
 use Rattle.macho_arm64.specs.Fields.{fits_word}
-use Rattle.macho_arm64.specs.Laws.{Agrees, size_for, is_paged, KindsAgree, SupportedIsKnown, SupportedFits}
+use Rattle.macho_arm64.specs.Laws.{Agrees, way_of, size_for, is_paged, KindsAgree, SupportedIsKnown, SupportedFits}
 use Rattle.macho_arm64.proofs.KindTable.{kind_is}
 use Rattle.macho_arm64.proofs.FieldLaws.{slot_load_fits}
 use Rattle.macho_arm64.proofs.ReachLaws.{offset_words}
@@ -76,36 +77,40 @@ pointer_size : (width : ℕ) (b : Bool) → Bytes width ≡ size_for (stands.kin
 pointer_size width true = refl
 pointer_size width false = refl
 
+pointer_kind : (b : Bool) → way.Absolute ≡ way_of ARM64_RELOC_UNSIGNED (stands.kind_of ARM64_RELOC_UNSIGNED b)
+pointer_kind true = refl
+pointer_kind false = refl
+
 pointer_page : (b : Bool) → false ≡ is_paged (stands.kind_of ARM64_RELOC_UNSIGNED b)
 pointer_page true = refl
 pointer_page false = refl
 
 rows_agree : AllByRecursion RowAgrees kinds
 rows_agree = (
-  record { size = pointer_size 4; page = pointer_page; implicit = refl },
+  record { kind = pointer_kind; size = pointer_size 4; page = pointer_page; implicit = refl },
   (
-    record { size = pointer_size 8; page = pointer_page; implicit = refl },
+    record { kind = pointer_kind; size = pointer_size 8; page = pointer_page; implicit = refl },
     (
-      record { size = λ b. refl; page = λ b. refl; implicit = refl },
+      record { kind = λ b. refl; size = λ b. refl; page = λ b. refl; implicit = refl },
       (
-        record { size = λ b. refl; page = λ b. refl; implicit = refl },
+        record { kind = λ b. refl; size = λ b. refl; page = λ b. refl; implicit = refl },
         (
-          record { size = λ b. refl; page = λ b. refl; implicit = refl },
+          record { kind = λ b. refl; size = λ b. refl; page = λ b. refl; implicit = refl },
           (
-            record { size = λ b. refl; page = λ b. refl; implicit = refl },
+            record { kind = λ b. refl; size = λ b. refl; page = λ b. refl; implicit = refl },
             (
-              record { size = λ b. refl; page = λ b. refl; implicit = refl },
+              record { kind = λ b. refl; size = λ b. refl; page = λ b. refl; implicit = refl },
               (
-                record { size = λ b. refl; page = λ b. refl; implicit = refl },
+                record { kind = λ b. refl; size = λ b. refl; page = λ b. refl; implicit = refl },
                 (
-                  record { size = λ b. refl; page = λ b. refl; implicit = refl },
+                  record { kind = λ b. refl; size = λ b. refl; page = λ b. refl; implicit = refl },
                   (
-                    record { size = λ b. refl; page = λ b. refl; implicit = refl },
+                    record { kind = λ b. refl; size = λ b. refl; page = λ b. refl; implicit = refl },
                     (
-                      record { size = λ b. refl; page = λ b. refl; implicit = refl },
+                      record { kind = λ b. refl; size = λ b. refl; page = λ b. refl; implicit = refl },
                       (
-                        record { size = λ b. refl; page = λ b. refl; implicit = refl },
-                        (record { size = λ b. refl; page = λ b. refl; implicit = refl }, tt),
+                        record { kind = λ b. refl; size = λ b. refl; page = λ b. refl; implicit = refl },
+                        (record { kind = λ b. refl; size = λ b. refl; page = λ b. refl; implicit = refl }, tt),
                       ),
                     ),
                   ),

@@ -1,7 +1,7 @@
 -- Laws that join fields, stubs and kinds to what they mean in memory and in a link: contracts of functions of `src/laws.rt`.
-use Rattle.std.specs.Prelude.{◌≡◌, ℕ, ◌+◌, ◌%◌, ◌^◌, ◌<◌, ◌≤◌, ◌==◌, Bool, true, false, Some, is_some}
+use Rattle.std.specs.Prelude.{◌≡◌, ℕ, ◌+◌, ◌%◌, ◌^◌, ◌<◌, ◌≤◌, ◌==◌, if◌then◌else◌, Bool, true, false, Some, is_some}
 use Rattle.macho_bytes.specs.Numbers.{page, low, PAGE}
-use Rattle.macho_records.specs.declared.constants.TheConstants.{ARM64_RELOC_UNSIGNED}
+use Rattle.macho_records.specs.declared.constants.TheConstants.{ARM64_RELOC_UNSIGNED, ARM64_RELOC_SUBTRACTOR, ARM64_RELOC_TLVP_LOAD_PAGE21, ARM64_RELOC_TLVP_LOAD_PAGEOFF12}
 use Rattle.macho_records.specs.declared.relocations.RelocationInfo.{RelocationInfo}
 use Rattle.macho_model.specs.Segments.{SEGMENT_PAGE}
 use Rattle.macho_model.specs.Links.{Link, SectionId}
@@ -14,6 +14,8 @@ use Rattle.macho_model.specs.Stands as stands
 use Rattle.macho_model.specs.Values.{less, fits_signed, branch_reaches, page_reaches, offset_fits}
 use Rattle.macho_arm64.specs.declared.kinds.FieldSize.{FieldSize}
 use Rattle.macho_arm64.specs.declared.kinds.FieldSize.TheVariants.{Bytes, Adr, JumpCall, Low12}
+use Rattle.macho_arm64.specs.declared.kinds.RelocationKind.{RelocationKind}
+use Rattle.macho_arm64.specs.declared.kinds.RelocationKind.TheVariants as way
 use Rattle.macho_arm64.specs.declared.kinds.RelocationKindInfo.{RelocationKindInfo}
 use Rattle.macho_arm64.specs.Kinds.{info_of}
 use Rattle.macho_arm64.specs.Fields.{width_of, is_field, fits_word, can_hold, Holds}
@@ -87,6 +89,19 @@ size_for stands.SlotOffset width = Low12
 size_for stands.SlotDistance width = Bytes width
 size_for stands.NoKind width = Bytes 0
 
+-- How the value of a field of a kind comes from its target. A reference to a thread-local variable's slot is known as one
+-- to the variable's descriptor, which it is where that is in the image.
+abbrev pub way_of : ℕ → stands.Kind → RelocationKind
+way_of type stands.Pointer = way.Absolute
+way_of type stands.Difference = way.Absolute
+way_of type stands.Branch = way.Relative
+way_of type stands.Page = way.Relative
+way_of type stands.Offset = way.AbsoluteLowPart
+way_of type stands.SlotPage = if type == ARM64_RELOC_TLVP_LOAD_PAGE21 then way.Relative else way.GotRelative
+way_of type stands.SlotOffset = if type == ARM64_RELOC_TLVP_LOAD_PAGEOFF12 then way.AbsoluteLowPart else way.Got
+way_of type stands.SlotDistance = way.GotRelative
+way_of type stands.NoKind = if type == ARM64_RELOC_SUBTRACTOR then way.MachoSubtraction else way.MachoAddition
+
 -- a kind that speaks of pages
 abbrev pub is_paged : stands.Kind → Bool
 is_paged stands.Page = true
@@ -95,6 +110,7 @@ is_paged kind = false
 
 -- What is known of a relocation of a type and width agrees with the kind that it has in a link, with a subtrahend or without.
 pub record Agrees (info : RelocationKindInfo) (type width : ℕ) : Type 0 where
+  pub kind : (subtracted : Bool) → info.kind ≡ way_of type (stands.kind_of type subtracted)
   pub size : (subtracted : Bool) → info.size ≡ size_for (stands.kind_of type subtracted) width
   pub page : (subtracted : Bool) → info.page ≡ is_paged (stands.kind_of type subtracted)
   pub implicit : info.implicit_addend ≡ (type == ARM64_RELOC_UNSIGNED)

@@ -6,6 +6,7 @@
 mod fixup_images;
 #[cfg(test)]
 mod fixups;
+pub mod laws;
 #[cfg(test)]
 mod objects;
 #[cfg(test)]
