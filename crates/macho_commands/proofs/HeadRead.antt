@@ -2,17 +2,14 @@
 --
 -- The file says the link's commands. So segments are those of the placement, field by field: a name in a record is the
 -- placed name, up to its first NUL. The entry stands alone in an executable; each table of `__LINKEDIT` has one command.
-use Rattle.std.proofs.Common.{◌≡◌, ℕ, ◌-◌, Bool, true, false, List, [], ◌∷◌, map, refl, sym, ap, ◌∙◌}
-use Rattle.macho_model.specs.declared.placed.Counts.{Counts}
+use Rattle.std.proofs.Common.{◌≡◌, Bool, true, false, List, [], ◌∷◌, map, refl, ap, ◌∙◌}
 use Rattle.macho_model.specs.declared.placed.PlacedSegment.{PlacedSegment}
-use Rattle.macho_model.specs.Links.{Link}
 use Rattle.macho_model.specs.Placement.{Placed}
 use Rattle.macho_model.specs.Segments.{list_if}
 use Rattle.macho_model.specs.Agreement.{SegmentPlace, place_by_command, place_told}
-use Rattle.macho_model.specs.Images.{segments_of}
 use Rattle.macho_model.specs.Head.{HeadCommand, segment_for, entry_point_for}
-use Rattle.macho_commands.specs.Laws.{HeadReads, HeadIsRead}
-use Rattle.macho_commands.proofs.Told.{Says, segment_taken, entry_taken, segments-told, headers-told, entry-told, uuid-told, libraries-told, fixups-told, trie-told, symbols-told, strings-told, signature-told}
+use Rattle.macho_commands.specs.Laws.{HeadIsRead}
+use Rattle.macho_commands.proofs.Told.{segment_taken, entry_taken, segments-told, headers-told, entry-told, uuid-told, libraries-told, fixups-told, trie-told, symbols-told, strings-told, signature-told}
 
 -- a segment's command tells the placed segment
 places_agree : (p : Placed) (segments : List PlacedSegment) → map place_by_command (map segment_taken (map (segment_for p) segments)) ≡ map place_told segments

@@ -4,29 +4,22 @@
 -- since a record has the size of its layout. What is asked of a segment's command is asked of its record, and the records
 -- are those of the placement: protections by name, whole pages, one behind the other. Ranks of names rise, so `__TEXT`
 -- stands once; it is there, begins the file and holds the commands.
-use Rattle.std.proofs.Common.{◌≡◌, ℕ, zero, suc, ◌+◌, ◌-◌, ◌*◌, ◌%◌, ◌^◌, ◌<◌, ◌≤◌, ◌⊎◌, ◌==◌, ◌&&◌, nat_le, Bool, true, false, List, [], ◌∷◌, ◌++◌, map, length, get_or, inl, inr, refl, sym, ap, subst, ◌∙◌, arith, All}
-use Rattle.std.specs.Prelude.{◌||◌, filter, sum_by, if◌then◌else◌, Option, Some, None}
+use Rattle.std.proofs.Common.{◌≡◌, ℕ, zero, suc, ◌+◌, ◌*◌, ◌<◌, ◌≤◌, ◌==◌, ◌&&◌, nat_le, Bool, true, false, List, [], ◌∷◌, map, length, get_or, inl, inr, refl, sym, ap, subst, ◌∙◌, arith, All}
+use Rattle.std.specs.Prelude.{◌||◌, sum_by, if◌then◌else◌, Option, Some, None}
 use Rattle.std.proofs.lemmas.Bool.{le-leb}
-use Rattle.std.proofs.lemmas.List.{get_or-map, length-map}
 use Rattle.std.proofs.lemmas.List.Elements.{All-map, All-cons, All-nil, All-append, All-from_recursion}
-use Rattle.macho_bytes.specs.Layouts.{reading, size_of}
-use Rattle.macho_records.specs.Layouts.{mach_header, load_command, segment_command, section_header, symtab_command, entry_point_command, dylinker_command, dylib_command, rpath_command, linkedit_data_command, uuid_command, build_version_command}
+use Rattle.macho_bytes.specs.Layouts.{size_of}
+use Rattle.macho_records.specs.Layouts.{segment_command, section_header, symtab_command, entry_point_command, dylinker_command, dylib_command, rpath_command, linkedit_data_command, uuid_command, build_version_command}
 use Rattle.macho_records.specs.declared.constants.TheConstants.{LC_CODE_SIGNATURE, LC_DYLD_CHAINED_FIXUPS, LC_DYLD_EXPORTS_TRIE, LC_ID_DYLIB, LC_LOAD_DYLIB, MH_DYLIB, MH_EXECUTE}
 use Rattle.macho_records.specs.declared.header.MachHeader.{MachHeader}
-use Rattle.macho_records.specs.declared.header.SegmentCommand.{SegmentCommand}
 use Rattle.macho_model.specs.declared.placed.Counts.{Counts}
-use Rattle.macho_model.specs.declared.placed.PlacedSegment.{PlacedSegment}
-use Rattle.macho_model.specs.Commands.{Command, header_of, commands_of, commands_end, numbered, command_fits, segment_size}
-use Rattle.macho_model.specs.ObjectRules.{commands_inside}
+use Rattle.macho_model.specs.Commands.{Command, commands_of, commands_end, command_fits}
 use Rattle.macho_model.specs.Grammar.{EachCommand}
 use Rattle.macho_model.specs.Links.{Link}
 use Rattle.macho_model.specs.Needs.{libraries_needed}
 use Rattle.macho_model.specs.Segments.{list_if}
-use Rattle.macho_model.specs.Placement.{Placed, IsInOrder}
-use Rattle.macho_model.specs.Images.{segments_of}
-use Rattle.macho_model.specs.LoadRules.{image_head_fits, needed_in_image, segment_in}
-use Rattle.macho_model.specs.Loader.{segment_commands}
-use Rattle.macho_model.specs.Agreement.{section_headers_at}
+use Rattle.macho_model.specs.Placement.{Placed}
+use Rattle.macho_model.specs.LoadRules.{image_head_fits, needed_in_image}
 use Rattle.macho_model.specs.Head.{HeadCommand, Segment, EntryPoint, Uuid, BuildVersion, Dylinker, Dylib, Rpath, LinkeditData, Symtab, Other, segment_for, entry_point_for, uuid_for, versions_for, dylinker_for, dylib_for, rpath_for, linkedit_for, symtab_for, range_size, command_in, commands_in, size_said, header_for, commands_for, HeadSays}
 use Rattle.macho_commands.proofs.Told.{tables_for}
 use Rattle.macho_commands.proofs.Shapes.{IsRead, Shape, a_segment, an_entry_point, a_uuid, a_build_version, a_dylinker, a_dylib, an_rpath, a_symtab, a_table, unknown, shape, size_said-is}
@@ -144,11 +137,11 @@ each-fits l counts uuid b p h =
     let each = each_said b IsWhole (commands_of b) said in
     let inside = commands-end b (commands_end b) (omega (arith, ends-said l counts uuid b p h)) in
     λ k d lt.
-        let c : Command = get_or (commands_of b) k d in
-        let size = size_said-is b c (read_at b (commands_of b) (commands-read b) k d lt) (shape b c) in
-        let it = each k d lt in
-        and-true _ _ (and-true _ _ (le-leb 8 c.size (omega (arith, it.head, size))) (le-leb (c.at + c.size) (commands_end b) (inside k d lt)))
-        (le-leb (needed_in_image b c) c.size (omega (arith, needed-is b c (shape b c), it.needed, size)))
+    let c : Command = get_or (commands_of b) k d in
+    let size = size_said-is b c (read_at b (commands_of b) (commands-read b) k d lt) (shape b c) in
+    let it = each k d lt in
+    and-true _ _ (and-true _ _ (le-leb 8 c.size (omega (arith, it.head, size))) (le-leb (c.at + c.size) (commands_end b) (inside k d lt)))
+    (le-leb (needed_in_image b c) c.size (omega (arith, needed-is b c (shape b c), it.needed, size)))
 
 -- an executable or a dynamic library
 type_known : (e : Bool) → (((if e then MH_EXECUTE else MH_DYLIB) == MH_EXECUTE) || ((if e then MH_EXECUTE else MH_DYLIB) == MH_DYLIB)) ≡ true

@@ -3,26 +3,23 @@
 -- The header stands in front of the commands, and the commands 32 bytes behind the file's start, where the walk begins;
 -- the header tells how many they are. Header fields that count commands and their bytes are the same of the commands and
 -- of what they say.
-use Rattle.std.proofs.Common.{◌≡◌, ℕ, ◌+◌, ◌≤◌, Bool, List, [], ◌∷◌, ◌++◌, length, map, refl, sym, ap, ◌∙◌, arith}
-use Rattle.std.specs.Prelude.{sum_by, if◌then◌else◌}
+use Rattle.std.proofs.Common.{◌≡◌, ℕ, ◌+◌, ◌≤◌, Bool, List, [], ◌∷◌, length, map, refl, sym, ap, ◌∙◌, arith}
+use Rattle.std.specs.Prelude.{sum_by}
 use Rattle.std.proofs.lemmas.List.{length-append, length-map}
 use Rattle.std.proofs.lemmas.List.Sums.{sum_by-cons}
-use Rattle.macho_bytes.specs.Texts.{put, Stands}
+use Rattle.macho_bytes.specs.Texts.{put}
 use Rattle.macho_bytes.specs.Layouts.{spelling, ReadsBack}
 use Rattle.macho_bytes.proofs.Numbers.{stands-front, stands-back}
 use Rattle.macho_bytes.proofs.Puts.{put-put}
 use Rattle.macho_records.specs.Layouts.{mach_header}
 use Rattle.macho_records.specs.declared.header.MachHeader.{MachHeader}
-use Rattle.macho_model.specs.declared.placed.Counts.{Counts}
-use Rattle.macho_model.specs.Links.{Link}
-use Rattle.macho_model.specs.Placement.{Placed}
 use Rattle.macho_model.specs.Commands.{header_of, commands_from, commands_of}
-use Rattle.macho_model.specs.Head.{HeadCommand, command_in, commands_in, size_said, describes_thread_locals, flags_for, header_for, commands_for, HeadSays}
+use Rattle.macho_model.specs.Head.{HeadCommand, command_in, commands_in, size_said, header_for, commands_for}
 use Rattle.macho_commands.specs.declared.head.ImageKind.{ImageKind}
 use Rattle.macho_commands.specs.declared.command.Command.{Command}
 use Rattle.macho_commands.specs.Commands.{said_by, size_of_command, commands_text, commands_size}
 use Rattle.macho_commands.specs.Reading.{ListIsReadable}
-use Rattle.macho_commands.specs.Heads.{flags_of, header_of_kind, head_text, HeadIsFound, HeadIsReadable}
+use Rattle.macho_commands.specs.Heads.{header_of_kind, head_text, HeadIsReadable}
 use Rattle.macho_commands.specs.Laws.{FoundIsSaid}
 
 -- header and commands, put one behind the other

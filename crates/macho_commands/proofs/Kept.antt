@@ -3,25 +3,21 @@
 -- Header and command sizes are those that the file says. Each rule on segments is asked of the placed segments: their
 -- commands have the protections of their names, they are made of whole pages, stand in order and have room in the file
 -- and in memory. `__TEXT` is there once, at the file's start, and is as long as the commands need.
-use Rattle.std.proofs.Common.{◌≡◌, ℕ, ◌+◌, ◌*◌, ◌%◌, ◌^◌, ◌<◌, ◌≤◌, ◌==◌, ◌&&◌, nat_le, Bool, true, false, List, [], ◌∷◌, map, length, get_or, refl, sym, ap, subst, ◌∙◌, arith, All}
-use Rattle.std.specs.Prelude.{filter, Contains, bytes_eq}
+use Rattle.std.proofs.Common.{◌≡◌, ℕ, ◌+◌, ◌%◌, ◌^◌, ◌≤◌, ◌==◌, ◌&&◌, nat_le, Bool, true, List, map, length, get_or, refl, sym, ap, subst, ◌∙◌, arith}
+use Rattle.std.specs.Prelude.{filter}
 use Rattle.std.proofs.lemmas.Bool.{le-leb, eq-eqb}
 use Rattle.std.proofs.lemmas.List.{length-map}
 use Rattle.std.proofs.lemmas.List.Elements.{All-map, All-same}
 use Rattle.macho_records.specs.Segments.{text_of}
 use Rattle.macho_records.specs.declared.header.SegmentCommand.{SegmentCommand}
 use Rattle.macho_bytes.specs.Texts.{name_of}
-use Rattle.macho_model.specs.declared.placed.Counts.{Counts}
 use Rattle.macho_model.specs.declared.placed.PlacedSegment.{PlacedSegment}
 use Rattle.macho_model.specs.Commands.{commands_end}
-use Rattle.macho_model.specs.ObjectRules.{commands_inside}
-use Rattle.macho_model.specs.Links.{Link}
 use Rattle.macho_model.specs.Segments.{TEXT, SEGMENT_PAGE, loaded_protection_of}
-use Rattle.macho_model.specs.Placement.{Placed, IsInOrder, IsPaged, is_segment_named}
-use Rattle.macho_model.specs.Images.{segments_of, segments_named, is_named}
+use Rattle.macho_model.specs.Placement.{Placed, IsPaged, is_segment_named}
+use Rattle.macho_model.specs.Images.{segments_named, is_named}
 use Rattle.macho_model.specs.LoadRules.{text_holds_commands}
-use Rattle.macho_model.specs.Head.{HeadSays}
-use Rattle.macho_commands.specs.Laws.{HasRoom, HeadIsAccepted, HeadKeepsRules}
+use Rattle.macho_commands.specs.Laws.{HeadKeepsRules}
 use Rattle.macho_commands.proofs.Told.{segments-told}
 use Rattle.macho_commands.proofs.HeadRules.{and-true, ends-said, each-fits, head-fits}
 use Rattle.macho_commands.proofs.SegmentRules.{record_for, AreOf, are-of, each_tested, neighbours_follow, one_text, named-records, named_each}

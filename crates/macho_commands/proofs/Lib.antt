@@ -12,3 +12,4 @@ pub mod HeadRules
 pub mod SegmentRules
 pub mod Kept
 pub mod HeadTexts
+pub mod Rows

@@ -3,15 +3,15 @@
 -- Each record begins with the command's number and size, in the same four bytes each as the head that every command has:
 -- so where a record reads back, the head does. Behind the record stand records of one size each, which read back one by
 -- one, or a path, which is the bytes from the record's end to the command's.
-use Rattle.std.proofs.Common.{◌≡◌, ℕ, zero, suc, ◌+◌, ◌*◌, ◌<◌, ◌≤◌, List, [], ◌∷◌, ◌++◌, length, get_or, map, slice_range, refl, ◌⊎◌, sym, ap, subst, ◌∙◌, arith}
+use Rattle.std.proofs.Common.{◌≡◌, ℕ, zero, suc, ◌+◌, ◌*◌, ◌<◌, List, [], ◌∷◌, ◌++◌, length, get_or, map, slice_range, refl, ◌⊎◌, ap, ◌∙◌, arith}
 use Rattle.std.specs.List.{flat_map, range_with_len}
-use Rattle.std.proofs.lemmas.List.{ext_get_or, append-nil}
+use Rattle.std.proofs.lemmas.List.{ext_get_or}
 use Rattle.std.proofs.lemmas.List.FromFn.{length-map-range_with_len, get_or-map-range_with_len}
 use Rattle.macho_bytes.specs.Texts.{Stands}
 use Rattle.macho_bytes.specs.Layouts.{Layout, reading, spelling, size_of, ReadsBack}
 use Rattle.macho_bytes.proofs.Numbers.{stands-front, stands-back}
 use Rattle.macho_bytes.proofs.Tables.{EachLong, table-stands}
-use Rattle.macho_records.specs.Layouts.{load_command, segment_command, section_header, symtab_command, entry_point_command, dylinker_command, dylib_command, rpath_command, linkedit_data_command, uuid_command, build_version_command, build_tool_version}
+use Rattle.macho_records.specs.Layouts.{segment_command, section_header, symtab_command, entry_point_command, dylinker_command, dylib_command, rpath_command, linkedit_data_command, uuid_command, build_version_command, build_tool_version}
 use Rattle.macho_records.specs.declared.header.SegmentCommand.{SegmentCommand}
 use Rattle.macho_records.specs.declared.header.SectionHeader.{SectionHeader}
 use Rattle.macho_records.specs.declared.symbols.SymtabCommand.{SymtabCommand}
@@ -25,10 +25,10 @@ use Rattle.macho_records.specs.declared.commands.BuildVersionCommand.{BuildVersi
 use Rattle.macho_records.specs.declared.commands.BuildToolVersion.{BuildToolVersion}
 use Rattle.macho_records.specs.declared.constants.TheConstants.{LC_BUILD_VERSION, LC_ID_DYLIB, LC_LOAD_DYLIB, LC_LOAD_DYLINKER, LC_MAIN, LC_RPATH, LC_SEGMENT_64, LC_SYMTAB, LC_UUID}
 use Rattle.macho_model.specs.Agreement.{section_headers_at}
-use Rattle.macho_model.specs.Head.{HeadCommand, Segment, EntryPoint, Uuid, BuildVersion, Dylinker, Dylib, Rpath, LinkeditData, Symtab, behind, tools_at, command_in}
+use Rattle.macho_model.specs.Head.{Segment, EntryPoint, Uuid, BuildVersion, Dylinker, Dylib, Rpath, LinkeditData, Symtab, behind, tools_at}
 use Rattle.macho_commands.specs.Texts.{text_said}
 use Rattle.macho_commands.specs.Commands.{IsLinkedit}
-use Rattle.macho_commands.specs.Reading.{EachReadsBack, IsFound, IsReadable, placed_at}
+use Rattle.macho_commands.specs.Reading.{EachReadsBack, IsReadable, placed_at}
 use Rattle.macho_commands.proofs.Numbered.{in_segment, in_entry_point, in_uuid, in_build_version, in_dylinker, in_dylib, in_rpath, in_symtab, in_linkedit}
 
 -- records of one size, one behind the other, are read one by one
@@ -37,9 +37,9 @@ pub records-read : {R : Type 0} (l : Layout R) (w : ℕ) (rs : List R) (none : R
 records-read {R = R} l w rs none b at sized back s =
     ext_get_or none (map f (range_with_len 0 (length rs))) rs (length-map-range_with_len f 0 (length rs))
     (λ k lt.
-        let below : k < length rs = omega (arith, length-map-range_with_len f 0 (length rs)) in
-        get_or-map-range_with_len f 0 (length rs) k k none below (omega arith)
-        ∙ (back.each k none below).back b (at + w * k) (table-stands (spelling l) w rs at k none b each below s))
+    let below : k < length rs = omega (arith, length-map-range_with_len f 0 (length rs)) in
+    get_or-map-range_with_len f 0 (length rs) k k none below (omega arith)
+    ∙ (back.each k none below).back b (at + w * k) (table-stands (spelling l) w rs at k none b each below s))
   where
     f : ℕ → R
     f k = reading l b (at + w * k)

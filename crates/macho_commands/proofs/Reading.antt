@@ -2,7 +2,7 @@
 --
 -- A list's text is the commands' texts joined end to end: the first one stands at the start, the rest behind it, by the
 -- size that its head tells. So the walk over the heads meets exactly the commands, in order, and reads what each says.
-use Rattle.std.proofs.Common.{◌≡◌, ℕ, suc, ◌+◌, ◌*◌, ◌<◌, ◌≤◌, List, [], ◌∷◌, ◌++◌, length, get_or, map, ◌⊎◌, inl, inr, refl, sym, ap, subst, ◌∙◌, arith}
+use Rattle.std.proofs.Common.{◌≡◌, ℕ, suc, ◌+◌, ◌<◌, ◌≤◌, List, [], ◌∷◌, length, get_or, map, inl, inr, refl, sym, ap, subst, ◌∙◌, arith}
 use Rattle.std.proofs.lemmas.Bool.{cases_lt}
 use Rattle.std.proofs.lemmas.List.{get_or_default}
 use Rattle.std.specs.List.{flat_map}
@@ -20,7 +20,7 @@ use Rattle.macho_model.specs.Head.{HeadCommand, Segment, EntryPoint, command_in}
 use Rattle.macho_commands.specs.declared.command.Command.{Command}
 use Rattle.macho_commands.specs.Commands.{said_by, text_of, size_of_command, commands_text}
 use Rattle.macho_commands.proofs.Numbered.{in_segment, in_entry_point}
-use Rattle.macho_commands.specs.Reading.{IsFound, IsReadable, placed_at, placed_commands, EachFound, ListIsFound, ListIsReadable}
+use Rattle.macho_commands.specs.Reading.{IsFound, IsReadable, placed_at, placed_commands, EachFound, ListIsReadable}
 
 -- the first of some commands, and the rest of them
 pub each_found : (commands : List Command) (b : List ℕ) (at : ℕ) → ((k : ℕ) (d : Command) → k < length commands → IsReadable (said_by (get_or commands k d)))

@@ -4,11 +4,11 @@
 -- it is enough to test these. Neighbours follow each other, so none begins below the end of the one before it. Ranks of
 -- names rise from neighbour to neighbour, so from each segment to every later one: two segments of one name would have
 -- one rank, so `__TEXT` stands once where it stands.
-use Rattle.std.proofs.Common.{◌≡◌, ℕ, zero, suc, ◌+◌, ◌*◌, ◌<◌, ◌≤◌, Bool, true, false, List, [], ◌∷◌, map, length, get_or, refl, sym, ap, subst, ◌∙◌, arith, All}
-use Rattle.std.specs.Prelude.{filter, Contains, bytes_eq}
+use Rattle.std.proofs.Common.{◌≡◌, ℕ, zero, suc, ◌+◌, ◌<◌, Bool, true, false, List, [], ◌∷◌, map, length, get_or, refl, sym, ap, subst, ◌∙◌, arith, All}
+use Rattle.std.specs.Prelude.{filter, Contains}
 use Rattle.std.proofs.lemmas.Bool.{le-leb}
 use Rattle.std.proofs.lemmas.List.{get_or-map, length-map, get_or_default}
-use Rattle.std.proofs.lemmas.List.Elements.{All-map, All-cons, All-nil, All-filter, filter_passes}
+use Rattle.std.proofs.lemmas.List.Elements.{All-cons, All-nil, All-filter, filter_passes}
 use Rattle.std.proofs.lemmas.Slice.Eq.{bytes_eq-Decides}
 use Rattle.macho_bytes.specs.Layouts.{reading}
 use Rattle.macho_records.specs.Layouts.{segment_command}
@@ -19,11 +19,11 @@ use Rattle.macho_model.specs.Commands.{Command}
 use Rattle.macho_model.specs.Grammar.{EachCommand}
 use Rattle.macho_model.specs.Links.{Link}
 use Rattle.macho_model.specs.Segments.{TEXT, segment_rank}
-use Rattle.macho_model.specs.Placement.{Placed, Follows, EachFollows, is_segment_named}
+use Rattle.macho_model.specs.Placement.{Placed, EachFollows, is_segment_named}
 use Rattle.macho_model.specs.Images.{segments_of, is_named}
 use Rattle.macho_model.specs.LoadRules.{segment_in, begins_behind}
 use Rattle.macho_model.specs.Loader.{segment_commands, EachNeighbour}
-use Rattle.macho_model.specs.Head.{HeadCommand, segment_for}
+use Rattle.macho_model.specs.Head.{segment_for}
 use Rattle.macho_commands.proofs.Told.{segment_taken}
 
 -- the record of a placed segment
@@ -98,8 +98,8 @@ follows_rise l [] follow = tt
 follows_rise l (s ∷ []) follow = (All-nil (λ t. rank l s < rank l t), tt)
 follows_rise l (s ∷ t ∷ segments) follow =
     let later : EachFollows l (t ∷ segments) = λ k x y lt at_k at_next.
-        let more : suc k + 1 ≡ suc (k + 1) = omega arith in
-        follow (suc k) x y (omega arith) at_k (ap (λ (n : ℕ). get_or (s ∷ t ∷ segments) n y) more ∙ at_next) in
+    let more : suc k + 1 ≡ suc (k + 1) = omega arith in
+    follow (suc k) x y (omega arith) at_k (ap (λ (n : ℕ). get_or (s ∷ t ∷ segments) n y) more ∙ at_next) in
     let rest = follows_rise l (t ∷ segments) later in
     let next : rank l s < rank l t = (follow 0 s t (omega arith) refl refl).rank in
     (All-cons (λ u. rank l s < rank l u) t segments next (λ k d lt. omega (arith, next, rest.0 k d lt)), rest)

@@ -3,15 +3,14 @@
 -- The tests of the number are taken in the order of the definition: where one passes, the number is known; where none
 -- does, the command is another. In each case number and size that the record says are those that the walk met, since a
 -- record begins with them.
-use Rattle.std.proofs.Common.{◌≡◌, ℕ, ◌+◌, ◌⊎◌, ◌==◌, Bool, true, false, List, [], ◌∷◌, ◌++◌, map, inl, inr, refl, sym, ap, ◌∙◌}
-use Rattle.std.specs.Prelude.{◌||◌}
+use Rattle.std.proofs.Common.{◌≡◌, ℕ, ◌⊎◌, ◌==◌, Bool, true, false, List, inl, inr, refl, ap, ◌∙◌}
 use Rattle.std.proofs.lemmas.Bool.{eqb-true}
 use Rattle.macho_bytes.specs.Layouts.{reading, size_of}
 use Rattle.macho_records.specs.Layouts.{load_command, segment_command, symtab_command, entry_point_command, dylinker_command, dylib_command, rpath_command, linkedit_data_command, uuid_command, build_version_command}
 use Rattle.macho_records.specs.declared.constants.TheConstants.{LC_BUILD_VERSION, LC_CODE_SIGNATURE, LC_DYLD_CHAINED_FIXUPS, LC_DYLD_EXPORTS_TRIE, LC_ID_DYLIB, LC_LOAD_DYLIB, LC_LOAD_DYLINKER, LC_MAIN, LC_RPATH, LC_SEGMENT_64, LC_SYMTAB, LC_UUID}
 use Rattle.macho_model.specs.Commands.{Command}
 use Rattle.macho_model.specs.Agreement.{section_headers_at}
-use Rattle.macho_model.specs.Head.{HeadCommand, Segment, EntryPoint, Uuid, BuildVersion, Dylinker, Dylib, Rpath, LinkeditData, Symtab, Other, behind, tools_at, command_in, size_said}
+use Rattle.macho_model.specs.Head.{Segment, EntryPoint, Uuid, BuildVersion, Dylinker, Dylib, Rpath, LinkeditData, Symtab, Other, behind, tools_at, command_in, size_said}
 use Rattle.macho_commands.specs.Texts.{number_said}
 use Rattle.macho_commands.specs.Commands.{IsLinkedit}
 use Rattle.macho_commands.proofs.Numbered.{in_segment, in_entry_point, in_uuid, in_build_version, in_dylinker, in_dylib, in_rpath, in_symtab, in_linkedit}
@@ -64,34 +63,69 @@ tested c n = by (c.number == n) refl
 pub shape : (b : List ℕ) (c : Command) → Shape b c
 unfolding Tested
 shape b c =
-    elim (tested c LC_SEGMENT_64) [ inl n ↦ a_segment n (in_segment b c n) | inr no_segment ↦
-    elim (tested c LC_MAIN) [ inl n ↦ an_entry_point n (in_entry_point b c n) | inr no_entry ↦
-    elim (tested c LC_UUID) [ inl n ↦ a_uuid n (in_uuid b c n) | inr no_uuid ↦
-    elim (tested c LC_BUILD_VERSION) [ inl n ↦ a_build_version n (in_build_version b c n) | inr no_versions ↦
-    elim (tested c LC_LOAD_DYLINKER) [ inl n ↦ a_dylinker n (in_dylinker b c n) | inr no_dylinker ↦
-    elim (tested c LC_ID_DYLIB) [ inl n ↦ a_dylib (inl n) (in_dylib b c (inl n)) | inr no_id ↦
-    elim (tested c LC_LOAD_DYLIB) [ inl n ↦ a_dylib (inr n) (in_dylib b c (inr n)) | inr no_load ↦
-    elim (tested c LC_RPATH) [ inl n ↦ an_rpath n (in_rpath b c n) | inr no_rpath ↦
-    elim (tested c LC_SYMTAB) [ inl n ↦ a_symtab n (in_symtab b c n) | inr no_symtab ↦
-    elim (tested c LC_DYLD_CHAINED_FIXUPS) [ inl n ↦ a_table (inl n) (in_linkedit b c (inl n)) | inr no_fixups ↦
-    elim (tested c LC_DYLD_EXPORTS_TRIE) [ inl n ↦ a_table (inr (inl n)) (in_linkedit b c (inr (inl n))) | inr no_trie ↦
-    elim (tested c LC_CODE_SIGNATURE) [ inl n ↦ a_table (inr (inr n)) (in_linkedit b c (inr (inr n))) | inr no_signature ↦
-    let none : IsUnknown c = record {
-      segment = no_segment;
-      entry_point = no_entry;
-      uuid = no_uuid;
-      build_version = no_versions;
-      dylinker = no_dylinker;
-      id_dylib = no_id;
-      load_dylib = no_load;
-      rpath = no_rpath;
-      symtab = no_symtab;
-      fixups = no_fixups;
-      trie = no_trie;
-      signature = no_signature;
-    } in
-    unknown none (unknown-is b c none)
-    ] ] ] ] ] ] ] ] ] ] ] ]
+    elim (tested c LC_SEGMENT_64) [
+      | inl n ↦ a_segment n (in_segment b c n)
+      | inr no_segment ↦
+          elim (tested c LC_MAIN) [
+            | inl n ↦ an_entry_point n (in_entry_point b c n)
+            | inr no_entry ↦
+                elim (tested c LC_UUID) [
+                  | inl n ↦ a_uuid n (in_uuid b c n)
+                  | inr no_uuid ↦
+                      elim (tested c LC_BUILD_VERSION) [
+                        | inl n ↦ a_build_version n (in_build_version b c n)
+                        | inr no_versions ↦
+                            elim (tested c LC_LOAD_DYLINKER) [
+                              | inl n ↦ a_dylinker n (in_dylinker b c n)
+                              | inr no_dylinker ↦
+                                  elim (tested c LC_ID_DYLIB) [
+                                    | inl n ↦ a_dylib (inl n) (in_dylib b c (inl n))
+                                    | inr no_id ↦
+                                        elim (tested c LC_LOAD_DYLIB) [
+                                          | inl n ↦ a_dylib (inr n) (in_dylib b c (inr n))
+                                          | inr no_load ↦
+                                              elim (tested c LC_RPATH) [
+                                                | inl n ↦ an_rpath n (in_rpath b c n)
+                                                | inr no_rpath ↦
+                                                    elim (tested c LC_SYMTAB) [
+                                                      | inl n ↦ a_symtab n (in_symtab b c n)
+                                                      | inr no_symtab ↦
+                                                          elim (tested c LC_DYLD_CHAINED_FIXUPS) [
+                                                            | inl n ↦ a_table (inl n) (in_linkedit b c (inl n))
+                                                            | inr no_fixups ↦
+                                                                elim (tested c LC_DYLD_EXPORTS_TRIE) [
+                                                                  | inl n ↦ a_table (inr (inl n)) (in_linkedit b c (inr (inl n)))
+                                                                  | inr no_trie ↦
+                                                                      elim (tested c LC_CODE_SIGNATURE) [
+                                                                        | inl n ↦ a_table (inr (inr n)) (in_linkedit b c (inr (inr n)))
+                                                                        | inr no_signature ↦
+                                                                            let none : IsUnknown c = record {
+                                                                              segment = no_segment;
+                                                                              entry_point = no_entry;
+                                                                              uuid = no_uuid;
+                                                                              build_version = no_versions;
+                                                                              dylinker = no_dylinker;
+                                                                              id_dylib = no_id;
+                                                                              load_dylib = no_load;
+                                                                              rpath = no_rpath;
+                                                                              symtab = no_symtab;
+                                                                              fixups = no_fixups;
+                                                                              trie = no_trie;
+                                                                              signature = no_signature;
+                                                                            } in
+                                                                            unknown none (unknown-is b c none)
+                                                                      ]
+                                                                ]
+                                                          ]
+                                                    ]
+                                              ]
+                                        ]
+                                  ]
+                            ]
+                      ]
+                ]
+          ]
+    ]
 
 -- a command whose number and size the bytes say at its place
 pub record IsRead (b : List ℕ) (c : Command) : Type 0 where

@@ -3,32 +3,30 @@
 -- Each reading chooses the commands of a number and takes something of each. That is the same as choosing among what the
 -- file says; and of the commands of a link one piece has the number. So segments, section headers, tables, libraries,
 -- entry and UUID are those of the placement and of the link.
-use Rattle.std.proofs.Common.{◌≡◌, ℕ, zero, suc, ◌+◌, ◌-◌, ◌*◌, ◌==◌, replicate, get_or, take, drop, Bool, true, false, List, [], ◌∷◌, ◌++◌, map, length, slice_range, inl, inr, refl, sym, ap, subst, ◌∙◌, arith, All}
-use Rattle.std.specs.Prelude.{filter, if◌then◌else◌, Option, Some, None}
+use Rattle.std.proofs.Common.{◌≡◌, ℕ, zero, suc, ◌+◌, ◌*◌, ◌==◌, replicate, get_or, take, drop, Bool, true, false, List, [], ◌∷◌, ◌++◌, map, inl, inr, refl, sym, ap, ◌∙◌, arith}
 use Rattle.std.specs.List.{flat_map}
 use Rattle.std.proofs.lemmas.List.{append-nil}
 use Rattle.std.proofs.lemmas.List.Folds.{flat_map-map}
 use Rattle.macho_bytes.specs.Layouts.{reading, size_of}
 use Rattle.macho_bytes.specs.Texts.{name_of}
-use Rattle.macho_records.specs.Layouts.{segment_command, section_header, symtab_command, symtab_entry, entry_point_command, dylib_command, linkedit_data_command, uuid_command}
+use Rattle.macho_records.specs.Layouts.{segment_command, symtab_command, symtab_entry, entry_point_command, dylib_command, uuid_command}
 use Rattle.macho_records.specs.declared.header.SegmentCommand.{SegmentCommand}
 use Rattle.macho_records.specs.declared.header.SectionHeader.{SectionHeader}
 use Rattle.macho_records.specs.declared.symbols.SymtabCommand.{SymtabCommand}
 use Rattle.macho_records.specs.declared.constants.TheConstants.{LC_BUILD_VERSION, LC_CODE_SIGNATURE, LC_DYLD_CHAINED_FIXUPS, LC_DYLD_EXPORTS_TRIE, LC_ID_DYLIB, LC_LOAD_DYLIB, LC_LOAD_DYLINKER, LC_MAIN, LC_RPATH, LC_SEGMENT_64, LC_SYMTAB, LC_UUID}
 use Rattle.macho_model.specs.declared.placed.Counts.{Counts}
-use Rattle.macho_model.specs.declared.placed.PlacedSegment.{PlacedSegment}
 use Rattle.macho_model.specs.Links.{Link}
 use Rattle.macho_model.specs.Needs.{libraries_needed}
 use Rattle.macho_model.specs.Placement.{Placed}
 use Rattle.macho_model.specs.Segments.{list_if}
 use Rattle.macho_model.specs.Commands.{Command, numbered, path_of}
 use Rattle.macho_model.specs.Agreement.{section_headers_at, section_headers_of}
-use Rattle.macho_model.specs.Images.{segments_of, Table, table_of_command, ranges_of, tables_of, tries_of, signatures_of, symbols_range, strings_range, symbol_tables_of, string_tables_of, entries_of_file, libraries_of}
+use Rattle.macho_model.specs.Images.{segments_of, Table, table_of_command, tables_of, tries_of, signatures_of, symbols_range, strings_range, symbol_tables_of, string_tables_of, entries_of_file, libraries_of}
 use Rattle.macho_model.specs.Signature.{uuid_written}
-use Rattle.macho_model.specs.Head.{HeadCommand, Segment, EntryPoint, Uuid, BuildVersion, Dylinker, Dylib, Rpath, LinkeditData, Symtab, Other, headers_in, segment_for, entry_point_for, uuid_for, dylib_for, linkedit_for, symtab_for, path_filled, range_size, commands_for, commands_in, behind}
+use Rattle.macho_model.specs.Head.{HeadCommand, Segment, EntryPoint, Uuid, Dylib, LinkeditData, Symtab, headers_in, segment_for, entry_point_for, uuid_for, dylib_for, linkedit_for, symtab_for, path_filled, range_size, commands_for, commands_in, behind}
 use Rattle.macho_commands.proofs.Numbered.{in_segment, in_entry_point, in_uuid, in_dylib, in_symtab, in_linkedit}
 use Rattle.macho_commands.proofs.Walked.{said_with, chosen_in}
-use Rattle.macho_commands.proofs.Listed.{Pieces, pieces-are, all_kept, none_kept, entry_kept, entry_dropped}
+use Rattle.macho_commands.proofs.Listed.{pieces-are, all_kept, none_kept, entry_kept, entry_dropped}
 
 -- what is taken of a command
 abbrev pub segment_taken : HeadCommand → SegmentCommand

@@ -2,7 +2,7 @@
 --
 -- The walk over the heads meets each command with the number and the size that the bytes say. So choosing the commands
 -- of a number and reading each, and reading all and choosing by the number that each says, give the same list.
-use Rattle.std.proofs.Common.{◌≡◌, ℕ, zero, suc, ◌+◌, ◌≤◌, ◌==◌, Bool, true, false, List, [], ◌∷◌, ◌++◌, map, length, get_or, refl, sym, ap, subst, ◌∙◌, arith, All}
+use Rattle.std.proofs.Common.{◌≡◌, ℕ, zero, suc, ◌+◌, ◌≤◌, ◌==◌, Bool, true, false, List, [], ◌∷◌, map, refl, ap, subst, ◌∙◌, arith, All}
 use Rattle.std.specs.Prelude.{filter, sum_by}
 use Rattle.std.proofs.lemmas.Bool.{eqb-true}
 use Rattle.std.proofs.lemmas.List.{get_or-map, length-map}
@@ -10,10 +10,10 @@ use Rattle.std.proofs.lemmas.List.Elements.{All-cons, All-nil}
 use Rattle.std.proofs.lemmas.List.Sums.{sum_by-cons}
 use Rattle.macho_bytes.specs.Layouts.{reading}
 use Rattle.macho_records.specs.Layouts.{load_command}
-use Rattle.macho_model.specs.Commands.{Command, commands_from, commands_of, commands_end, header_of, numbered}
+use Rattle.macho_model.specs.Commands.{Command, commands_from, commands_of, header_of, numbered}
 use Rattle.macho_model.specs.Head.{HeadCommand, command_in, commands_in, size_said}
 use Rattle.macho_commands.specs.Texts.{number_said}
-use Rattle.macho_commands.proofs.Shapes.{IsRead, Shape, shape, number_said-is, size_said-is}
+use Rattle.macho_commands.proofs.Shapes.{IsRead, shape, number_said-is, size_said-is}
 
 -- each command of a walk is read
 abbrev pub AllRead : List ℕ → List Command → Type 0

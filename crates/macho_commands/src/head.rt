@@ -25,7 +25,11 @@ fn flags_of(kind: ImageKind) -> u32
     ensures { result ≡ flags_of kind }
 {
     let slides = if kind.executable { MH_PIE } else { 0 };
-    let describes = if kind.thread_locals { MH_HAS_TLV_DESCRIPTORS } else { 0 };
+    let describes = if kind.thread_locals {
+        MH_HAS_TLV_DESCRIPTORS
+    } else {
+        0
+    };
     MH_NOUNDEFS + MH_DYLDLINK + MH_TWOLEVEL + slides + describes
 }
 
@@ -36,7 +40,11 @@ fn header_for(kind: ImageKind, commands: &[Command<'_>]) -> MachHeader
     requires few { length commands.now < 2 ^ 32 }
     ensures { result ≡ header_of_kind kind commands.now }
 {
-    let filetype = if kind.executable { MH_EXECUTE } else { MH_DYLIB };
+    let filetype = if kind.executable {
+        MH_EXECUTE
+    } else {
+        MH_DYLIB
+    };
     MachHeader {
         magic: MH_MAGIC_64,
         cputype: CPU_TYPE_ARM64,

@@ -1,4 +1,4 @@
-use Rattle.std.proofs.Common.{arith, ap, subst, ◌∙◌}
+use Rattle.std.proofs.Common.{ap, subst, ◌∙◌}
 use Rattle.macho_bytes.specs.Texts.{put}
 use Rattle.macho_bytes.specs.Layouts.{spelling, ReadsBack}
 use Rattle.macho_records.specs.Layouts.{mach_header}
