@@ -10,8 +10,8 @@ mod rules;
 mod targets;
 
 pub use laws::{
-    fields_denote_at_every_slide, memory_moves_by_the_slide, plain_pointers_stay, segments_are_apart,
-    slots_stand_at_every_slide, what_no_word_covers_is_held,
+    fields_denote_at_every_slide, memory_moves_by_the_slide, plain_pointers_stay,
+    segments_are_apart, slots_stand_at_every_slide, what_no_word_covers_is_held,
 };
 pub use placed::{
     Counts, Linkedit, PlacedCommon, PlacedSection, PlacedSegment, Range64, Slot, Stub,

@@ -28,3 +28,4 @@ pub mod RowsSizes
 pub mod RowsAgreement
 pub mod ExampleCall
 pub mod RowsCall
+pub mod RowsCallChain
