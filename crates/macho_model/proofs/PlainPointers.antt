@@ -2,7 +2,7 @@
 --
 -- Its word is the same at every slide, since no chain word covers it. An offset from the thread-local template compares two
 -- places that move alike; an absolute value does not move at all.
-use Rattle.std.proofs.Common.{◌≡◌, ℕ, ◌+◌, ◌%◌, ◌^◌, ◌==◌, ◌||◌, Bool, true, false, List, refl, sym, subst, arith, Option, Some, None}
+use Rattle.std.proofs.Common.{◌≡◌, ℕ, ◌+◌, ◌==◌, ◌||◌, Bool, true, false, List, refl, sym, subst, arith, Option, Some, None}
 use Rattle.std.specs.Prelude.{is_some}
 use Rattle.macho_model.specs.declared.placed.PlacedSection.{PlacedSection}
 use Rattle.macho_model.specs.declared.placed.Range64.{Range64}
@@ -11,8 +11,7 @@ use Rattle.macho_model.specs.declared.targets.Target.TheVariants as target
 use Rattle.macho_records.specs.Sections.{type_of}
 use Rattle.macho_records.specs.declared.constants.TheConstants.{S_THREAD_LOCAL_VARIABLES}
 use Rattle.macho_model.specs.Links.{Link, SectionId, header_at}
-use Rattle.macho_model.specs.Fields.{Field, content_of}
-use Rattle.macho_model.specs.Meaning.{Same}
+use Rattle.macho_model.specs.Fields.{Field}
 use Rattle.macho_model.specs.Placement.{Placed, id_of}
 use Rattle.macho_model.specs.Memory.{Choice, HoldsNumber}
 use Rattle.macho_model.specs.Stands.{Pointer, Kind, kind_of, is_in_template, is_template_offset, IsAt, PointerSays, Seen, Says, Denotes, seen_in}

@@ -1,7 +1,6 @@
 -- What the loader asks of an image: a test for each rule, of one record: the header, a command, a fixup table, an import.
 use Rattle.std.specs.Prelude.{ℕ, ◌+◌, ◌*◌, ◌%◌, ◌^◌, ◌==◌, nat_le, ◌&&◌, ◌||◌, if◌then◌else◌, Bool, List, length, map, drop, get_or}
 use Rattle.std.specs.List.{list_all, range_with_len}
-use Rattle.std.specs.Str.{bytes_eq}
 use Rattle.macho_bytes.specs.Texts.{name_of}
 use Rattle.macho_bytes.specs.Layouts.{reading, size_of}
 use Rattle.macho_records.specs.Layouts.{mach_header, segment_command, symtab_command, dylib_command, dylinker_command, rpath_command, uuid_command, build_version_command, linkedit_data_command, entry_point_command, chained_fixups_header, chained_starts_in_segment}
@@ -9,7 +8,7 @@ use Rattle.macho_records.specs.declared.header.SegmentCommand.{SegmentCommand}
 use Rattle.macho_records.specs.declared.constants.TheConstants.{CPU_TYPE_ARM64, LC_BUILD_VERSION, LC_CODE_SIGNATURE, LC_DYLD_CHAINED_FIXUPS, LC_DYLD_EXPORTS_TRIE, LC_ID_DYLIB, LC_LOAD_DYLIB, LC_LOAD_DYLINKER, LC_MAIN, LC_RPATH, LC_SEGMENT_64, LC_SYMTAB, LC_UUID, MH_DYLIB, MH_EXECUTE, MH_MAGIC_64}
 use Rattle.macho_model.specs.Commands.{Command, header_of, commands_end, segment_size}
 use Rattle.macho_model.specs.ObjectRules.{has_nul}
-use Rattle.macho_model.specs.Segments.{PAGEZERO, TEXT, SEGMENT_PAGE, loaded_protection_of}
+use Rattle.macho_model.specs.Segments.{SEGMENT_PAGE, loaded_protection_of}
 use Rattle.macho_model.specs.Images.{segments_of, base_of, libraries_of, Table, fixups_header, starts_count, starts_offset, segment_starts, import_entry_size, import_entry, table_names, IMPORT_FORMAT, IMPORT_ADDEND_FORMAT, CHAIN_PAGE}
 
 -- L1: a whole 64-bit arm64 header of an executable or a dynamic library

@@ -16,7 +16,7 @@ use Rattle.macho_model.specs.Links.{Object, Link}
 use Rattle.macho_model.specs.Placement.{Placed}
 use Rattle.macho_model_checks.proofs.Examples.{words8, words, halves, name16}
 use Rattle.macho_model_checks.proofs.ExampleLinks.{executable_of, entry, text_object, system}
-use Rattle.macho_model_checks.proofs.ExamplePlacement.{nothing, section_a, pagezero_to, text_from, header_a}
+use Rattle.macho_model_checks.proofs.ExamplePlacement.{section_a, pagezero_to, text_from, header_a}
 
 -- the object: `bl _exit`, `ret`
 unfoldable pub calls_exit : List ℕ

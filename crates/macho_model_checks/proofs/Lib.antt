@@ -29,3 +29,4 @@ pub mod RowsNames
 pub mod RowsAgreement
 pub mod ExampleCall
 pub mod RowsCall
+pub mod RowsCallChain

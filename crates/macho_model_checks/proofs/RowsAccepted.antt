@@ -4,7 +4,7 @@
 -- differ from it in a header, a segment or the table's head. The change for the last rule gives it one page start, whose word
 -- passes the file part.
 use Rattle.std.proofs.Common.{◌≡◌, ◌≢◌, ℕ, ◌+◌, ◌<◌, ◌==◌, Bool, true, false, List, [], ◌∷◌, ◌++◌, length, refl, sym, subst, arith}
-use Rattle.std.specs.Prelude.{Contains, All}
+use Rattle.std.specs.Prelude.{All}
 use Rattle.std.specs.List.{list_all, AllByRecursion}
 use Rattle.std.proofs.lemmas.List.Elements.{All-from_recursion}
 use Rattle.macho_bytes.specs.Numbers.{le_at, le_bytes, row_bytes}

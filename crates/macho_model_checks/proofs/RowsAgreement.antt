@@ -4,7 +4,7 @@
 -- A loader goes by the load commands of the file alone. So a file may be accepted, and its memory be as the placement tells,
 -- while it begins elsewhere, maps a page twice, or puts data where it may be run: the segments of its commands are not those
 -- of the placement then. And a file without a dynamic linker is no image at all, whatever its placement is.
-use Rattle.std.proofs.Common.{◌≡◌, ℕ, ◌+◌, List, [], ◌∷◌, ◌++◌, length, get_or, map, replicate, refl, ap, ◌∙◌, sym, arith, true, false, None}
+use Rattle.std.proofs.Common.{◌≡◌, ℕ, List, [], ◌∷◌, ◌++◌, length, get_or, map, replicate, refl, ap, ◌∙◌, sym, arith, None}
 use Rattle.std.specs.Prelude.{codes}
 use Rattle.macho_bytes.specs.Numbers.{le_at, le_bytes, row_bytes}
 use Rattle.macho_bytes.specs.Layouts.{reading}
@@ -16,8 +16,8 @@ use Rattle.macho_model.specs.Commands.{header_of, commands_from, commands_of, co
 use Rattle.macho_model.specs.Links.{Link}
 use Rattle.macho_model.specs.Images.{segments_of, base_of, libraries_of, tables_of, entries_of_file}
 use Rattle.macho_model.specs.Placement.{Placed}
-use Rattle.macho_model.specs.Agreement.{SegmentPlace, place_by_command, place_told, SegmentsAgree, HeadAgrees, section_headers_at, section_headers_of, HeadersAgree}
-use Rattle.macho_model.specs.Head.{HeadSays, header_for, commands_for}
+use Rattle.macho_model.specs.Agreement.{SegmentPlace, place_by_command, SegmentsAgree, HeadAgrees, section_headers_at, section_headers_of, HeadersAgree}
+use Rattle.macho_model.specs.Head.{HeadSays, header_for}
 use Rattle.macho_model_checks.proofs.Examples.{words8, words, name16}
 use Rattle.macho_model_checks.proofs.ExampleImages.{smallest}
 use Rattle.macho_model_checks.proofs.ExamplePlacement.{counts_a, placed_a, placed_with, pagezero_to, text_from, header_a, section_a, nothing, no_tables}

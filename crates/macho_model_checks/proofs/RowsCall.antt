@@ -2,13 +2,11 @@
 --
 -- Each part is computed twice: from the bytes that were written out by hand, and from the link and its placement. So the
 -- definitions of header, commands, symbols, imports and section headers are those of the public headers, in this instance.
-use Rattle.std.proofs.Common.{◌≡◌, ◌≢◌, ℕ, zero, suc, ◌+◌, ◌*◌, ◌<◌, ◌==◌, if◌then◌else◌, List, [], ◌∷◌, ◌++◌, length, get_or, map, refl, ap, ◌∙◌, sym, subst, arith, true, false, None}
+use Rattle.std.proofs.Common.{◌≡◌, ℕ, zero, suc, ◌+◌, ◌<◌, ◌==◌, if◌then◌else◌, List, [], ◌∷◌, length, get_or, map, refl, ap, ◌∙◌, sym, arith, true}
 use Rattle.std.specs.Prelude.{codes, slice_range}
 use Rattle.macho_bytes.specs.Numbers.{le_at, le_bytes, be_at, be_bytes, row_bytes}
 use Rattle.macho_bytes.specs.Layouts.{reading}
 use Rattle.macho_records.specs.declared.header.MachHeader.{MachHeader}
-use Rattle.macho_records.specs.declared.header.SegmentCommand.{SegmentCommand}
-use Rattle.macho_model.specs.Lists.{IsNumber}
 use Rattle.macho_records.specs.Layouts.{uuid_command, code_directory}
 use Rattle.macho_records.specs.declared.constants.TheConstants.{LC_UUID}
 use Rattle.macho_model.specs.declared.placed.Counts.{Counts}

@@ -3,7 +3,6 @@
 -- The word at 0x10 of the data leads one step of four bytes on, to 0x14, so both are on the chain. In memory the upper
 -- one stands whole, and the lower one gives its first four bytes alone.
 use Rattle.std.proofs.Common.{◌≡◌, ℕ, ◌+◌, ◌%◌, ◌^◌, ◌≤◌, ◌⊎◌, true, false, List, [], ◌∷◌, take, refl, sym, subst, arith}
-use Rattle.std.specs.Prelude.{Contains}
 use Rattle.std.proofs.lemmas.Bool.Decides.{nat_tests}
 use Rattle.std.proofs.Math.Nat.{mod-lt}
 use Rattle.macho_bytes.specs.Numbers.{le_at, le_bytes, row_bytes}

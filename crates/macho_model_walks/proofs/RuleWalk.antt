@@ -3,18 +3,17 @@
 -- Each command of a list has a number below the count of all. So where those with each number pass, all pass; and one
 -- that is found by its number and fails is one of the list. The same holds of neighbours, of the one `__TEXT` and of the
 -- one fixup table, which are told by the commands with the numbers 0 and 1.
-use Rattle.std.proofs.Common.{◌≡◌, ℕ, ◌+◌, ◌<◌, ◌≤◌, true, false, List, [], ◌∷◌, length, get_or, refl, sym, ap, subst, ◌∙◌, arith, inl, inr, map, All}
+use Rattle.std.proofs.Common.{◌≡◌, ℕ, ◌+◌, ◌<◌, ◌≤◌, true, false, List, [], ◌∷◌, length, get_or, refl, sym, ap, subst, ◌∙◌, arith, inl, inr, map}
 use Rattle.std.specs.Prelude.{Contains}
 use Rattle.std.specs.List.{list_all}
 use Rattle.std.proofs.lemmas.List.{get_or_default, length-map}
-use Rattle.std.proofs.lemmas.List.Elements.{All-map}
 use Rattle.std.proofs.lemmas.List.Folds.{list_all_at}
 use Rattle.macho_model_walks.specs.declared.loader_rules.Asked.{Asked}
 use Rattle.macho_model_walks.specs.declared.walk.Listed.{Listed}
 use Rattle.macho_model_walks.specs.declared.walk.Listed.TheVariants as list
 use Rattle.macho_model.specs.Commands.{Command, header_of}
 use Rattle.macho_model.specs.Grammar.{EachCommand}
-use Rattle.macho_model.specs.LoadRules.{begins_behind, segment_in, import_fits}
+use Rattle.macho_model.specs.LoadRules.{begins_behind, import_fits}
 use Rattle.macho_model.specs.Loader.{segment_commands, text_commands, fixup_commands, EachNeighbour, NeighbourFails, TextIsNotOne, SecondTable, ImportFails, import_count}
 use Rattle.macho_model_walks.specs.steps.Walks.{command_at, listed, IsNth, table_there, chain_segment_at}
 use Rattle.macho_model_walks.specs.steps.Asked.{list_of, test_of, NumberPasses, NeighbourPasses, BadImport, ImportsFit, TableImportsFit, EachImportFits}

@@ -1,14 +1,13 @@
 -- What the plain walks over an image's commands say.
-use Rattle.std.specs.Prelude.{◌≡◌, ℕ, ◌+◌, ◌-◌, ◌<◌, ◌≤◌, ◌*◌, ◌%◌, ◌^◌, ◌==◌, nat_le, nat_lt, ◌||◌, if◌then◌else◌, ◌&&◌, not, Bool, true, List, [], length, get_or, map, filter, slice_index}
-use Rattle.std.specs.List.{list_all, range_with_len}
+use Rattle.std.specs.Prelude.{◌≡◌, ℕ, ◌+◌, ◌-◌, ◌<◌, ◌≤◌, ◌*◌, ◌^◌, ◌==◌, nat_lt, if◌then◌else◌, ◌&&◌, not, Bool, true, List, [], length, get_or, filter, slice_index}
 use Rattle.macho_bytes.specs.Numbers.{le_at}
-use Rattle.macho_bytes.specs.Layouts.{reading, size_of}
-use Rattle.macho_records.specs.Layouts.{load_command, chained_fixups_header}
+use Rattle.macho_bytes.specs.Layouts.{reading}
+use Rattle.macho_records.specs.Layouts.{load_command}
 use Rattle.macho_records.specs.declared.header.SegmentCommand.{SegmentCommand}
 use Rattle.macho_records.specs.declared.constants.TheConstants.{LC_DYLD_CHAINED_FIXUPS, LC_LOAD_DYLIB, LC_SEGMENT_64}
 use Rattle.macho_model.specs.Commands.{Command, commands_of}
 use Rattle.macho_model.specs.Segments.{PAGEZERO, TEXT}
-use Rattle.macho_model.specs.Images.{is_named, segments_of, base_of, Table, table_of_command, fixups_header, starts_count, segment_starts, page_starts, tables_of, import_entry_size, IMPORT_FORMAT, IMPORT_ADDEND_FORMAT, CHAIN_PAGE}
+use Rattle.macho_model.specs.Images.{is_named, Table, table_of_command, fixups_header, starts_count, page_starts, tables_of}
 use Rattle.macho_model.specs.LoadRules.{segment_in}
 use Rattle.macho_model.specs.Chain.{ChainSegment, chain_segment, starts_in_tables, chain_segments, IsFileWord, next_of, WORD_SIZE, STRIDE, OnPageChain}
 use Rattle.macho_model_walks.specs.declared.segment_rules.SegmentNumbers.{SegmentNumbers}

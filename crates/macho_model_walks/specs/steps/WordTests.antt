@@ -8,7 +8,7 @@ use Rattle.macho_model.specs.Lists.{IsNumber}
 use Rattle.macho_model.specs.Images.{segments_of, tables_of, CHAIN_PAGE}
 use Rattle.macho_model.specs.Chain.{ChainSegment, chain_segments, WORD_SIZE, OnPageChain}
 use Rattle.macho_model_walks.specs.declared.walk.Listed.TheVariants as list
-use Rattle.macho_model_walks.specs.steps.Walks.{command_at, IsNth, Leads, segment_there, chain_segment_at}
+use Rattle.macho_model_walks.specs.steps.Walks.{IsNth, Leads, segment_there, chain_segment_at}
 use Rattle.macho_model.specs.Loader.{is_bind, ordinal_of, is_writable, import_count, OnPageOf, WordFits}
 
 -- the word at an address in a segment, and whether it stands whole in its file part
