@@ -5,3 +5,4 @@ pub mod StubLaws
 pub mod RangeLaws
 pub mod ReachLaws
 pub mod Examples
+pub mod KindLaws

@@ -93,6 +93,13 @@ segment-found b at r headers number found =
     sym (in_segment b (placed_at at (Segment r headers)) number) ∙ found.says in
     cc
 
+pub headers-found : (b : List ℕ) (at : ℕ) (r : SegmentCommand) (headers : List SectionHeader) → r.cmd ≡ LC_SEGMENT_64 → IsFound b at (Segment r headers)
+    → section_headers_at b at ≡ headers
+headers-found b at r headers number found =
+    let e : Segment (reading segment_command b at) (section_headers_at b at) ≡ Segment r headers =
+    sym (in_segment b (placed_at at (Segment r headers)) number) ∙ found.says in
+    cc
+
 pub entry_point-found : (b : List ℕ) (at : ℕ) (r : EntryPointCommand) → r.cmd ≡ LC_MAIN → IsFound b at (EntryPoint r) → reading entry_point_command b at ≡ r
 entry_point-found b at r number found =
     let e : EntryPoint (reading entry_point_command b at) ≡ EntryPoint r = sym (in_entry_point b (placed_at at (EntryPoint r)) number) ∙ found.says in

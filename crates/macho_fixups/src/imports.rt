@@ -5,7 +5,8 @@ ghost use Rattle.std.specs.List.{flat_map};
 ghost use Rattle.macho_bytes.specs.Texts.{put};
 ghost use Rattle.macho_model.specs.Images.{import_entry_size};
 ghost use Rattle.macho_fixups.specs.Tables.{entry_text, entry_word};
-ghost use Rattle.macho_fixups.specs.Calls.{AreEntries, EntryFits};
+ghost use Rattle.macho_fixups.specs.Calls.{AreEntries};
+ghost use Rattle.macho_fixups.specs.steps.Calls.{EntryFits};
 
 use crate::bytes::put_u32;
 

@@ -4,7 +4,7 @@ ghost use Rattle.std.specs.List.{flat_map};
 ghost use Rattle.macho_bytes.specs.Texts.{put};
 ghost use Rattle.macho_model.specs.Images.{CHAIN_PAGE};
 ghost use Rattle.macho_fixups.specs.Runs.{AreSorted, AreSegments, pages_of, start_of};
-ghost use Rattle.macho_fixups.specs.Cuts.{IsCut, AreBelow, IsRunOf};
+ghost use Rattle.macho_fixups.specs.steps.Cuts.{IsCut, AreBelow, IsRunOf};
 ghost use Rattle.macho_fixups.specs.Tables.{page_starts_text, starts_size, starts_text};
 
 use crate::bytes::{put_u16, put_u32};

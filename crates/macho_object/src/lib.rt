@@ -29,5 +29,3 @@ pub use file::File;
 pub use macho_model::ObjectRule;
 pub use relocations::RelocationList;
 
-#[cfg(test)]
-mod tests;

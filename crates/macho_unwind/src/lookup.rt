@@ -6,7 +6,7 @@
 ghost use Rattle.std.specs.Prelude.{◌≡◌, ℕ, ◌+◌, ◌<◌, ◌≤◌, ◌^◌, ◌↔◌, IsTrue, IfSome, MatchOption, Option};
 ghost use Rattle.macho_unwind.specs.Sections.{header_of, HasTables, HasPage, IsWhole, entry_at, first_at, word_at, encoding_at, lsda_at};
 ghost use Rattle.macho_unwind.specs.Lookup.{UnwindFinds, IsPageOf, IsFunctionOf, NamesPersonality, HasLsda};
-ghost use Rattle.macho_unwind.specs.Parts.{IsBest, IsPage, IsWordOf};
+ghost use Rattle.macho_unwind.specs.steps.Parts.{IsBest, IsPage, IsWordOf};
 
 use crate::bytes::u32_at;
 use crate::records::{CompactUnwindInfoHeader, CompressedPage, LsdaEntry, PageEntry};

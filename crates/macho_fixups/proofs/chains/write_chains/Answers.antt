@@ -1,6 +1,6 @@
 use Rattle.std.proofs.Common.{length, arith}
 use Rattle.macho_fixups.proofs.ChainWrites.{word_room, word_goes_on}
-use Rattle.macho_fixups.proofs.RunChain.{chain_is_run}
+use Rattle.macho_fixups.proofs.RunPages.{chain_is_run}
 use Rattle.macho_fixups.proofs.chains.write_chains.Goals as goal
 
 pub put_u64-requires : goal.put_u64-requires

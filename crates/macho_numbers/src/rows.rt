@@ -1,0 +1,48 @@
+//! Numbers at an offset from a record's place, and rows of them.
+ghost use Rattle.std.specs.Prelude.{◌≡◌, ◌+◌, ◌*◌, ◌≤◌, length, map};
+ghost use Rattle.macho_bytes.specs.Numbers.{le_at, be_at, little, big, row_bytes, AllBelow};
+ghost use Rattle.macho_bytes.specs.Texts.{put};
+
+use crate::number::Number;
+
+/// The number at an offset from a place, the lowest byte first.
+pub fn little_at<N: Number>(bytes: &[u8], at: usize, offset: usize) -> N
+    requires { at + offset + N.WIDTH ≤ length bytes.now }
+    ensures { N.value result ≡ le_at N.WIDTH bytes.now (at + offset) }
+{
+    N::read_little(bytes, at + offset)
+}
+
+/// The number at an offset from a place, the highest byte first.
+pub fn big_at<N: Number>(bytes: &[u8], at: usize, offset: usize) -> N
+    requires { at + offset + N.WIDTH ≤ length bytes.now }
+    ensures { N.value result ≡ be_at N.WIDTH bytes.now (at + offset) }
+{
+    N::read_big(bytes, at + offset)
+}
+
+/// Writes numbers one behind the other, the lowest byte of each first.
+pub fn put_littles<N: Number>(out: &mut [u8], at: usize, numbers: &[N])
+    requires { at + N.WIDTH * length numbers.now ≤ length out.old }
+    ensures written { out.new ≡ put at (row_bytes little N.WIDTH (map N.value numbers.now)) out.old }
+    ensures fits { AllBelow N.WIDTH (map N.value numbers.now) }
+{
+    let mut place = at;
+    for number in numbers {
+        number.write_little(out, place);
+        place += N::WIDTH;
+    }
+}
+
+/// Writes numbers one behind the other, the highest byte of each first.
+pub fn put_bigs<N: Number>(out: &mut [u8], at: usize, numbers: &[N])
+    requires { at + N.WIDTH * length numbers.now ≤ length out.old }
+    ensures written { out.new ≡ put at (row_bytes big N.WIDTH (map N.value numbers.now)) out.old }
+    ensures fits { AllBelow N.WIDTH (map N.value numbers.now) }
+{
+    let mut place = at;
+    for number in numbers {
+        number.write_big(out, place);
+        place += N::WIDTH;
+    }
+}

@@ -1,0 +1,7 @@
+//! Tests of the crates that read text: command lines and text stubs.
+#![tactic(auto)]
+
+#[cfg(test)]
+mod stubs;
+#[cfg(test)]
+mod words;
