@@ -242,27 +242,59 @@ neither false b h k = k
 supported_known : (l : Link) (s : SectionId) (r : ℕ) → is_supported l s r ≡ true → IsKnown (relocation_in l s r) (content_of l s r)
 unfolding is_supported kind_among
 supported_known l s r h0 =
-    elim (cases_eq type ARM64_RELOC_UNSIGNED) [ inl is ↦ of_pointer l s r is (pick (type == ARM64_RELOC_UNSIGNED) _ _ (eq-eqb type ARM64_RELOC_UNSIGNED is) h0) | inr n0 ↦
-    let h1 = skip (type == ARM64_RELOC_UNSIGNED) _ _ (ne_eqb type ARM64_RELOC_UNSIGNED n0) h0 in
-    elim (cases_eq type ARM64_RELOC_SUBTRACTOR) [ inl is ↦ of_subtractor l s r is (pick (type == ARM64_RELOC_SUBTRACTOR) _ _ (eq-eqb type ARM64_RELOC_SUBTRACTOR is) h1) | inr n1 ↦
-    let h2 = skip (type == ARM64_RELOC_SUBTRACTOR) _ _ (ne_eqb type ARM64_RELOC_SUBTRACTOR n1) h1 in
-    elim (cases_eq type ARM64_RELOC_BRANCH26) [ inl is ↦ word_known ARM64_RELOC_BRANCH26 true _ (is_branch w) (may_be_called l s r) is refl (pick (type == ARM64_RELOC_BRANCH26) _ _ (eq-eqb type ARM64_RELOC_BRANCH26 is) h2) (λ b. b) | inr n2 ↦
-    let h3 = skip (type == ARM64_RELOC_BRANCH26) _ _ (ne_eqb type ARM64_RELOC_BRANCH26 n2) h2 in
-    elim (cases_eq type ARM64_RELOC_PAGE21) [ inl is ↦ word_known ARM64_RELOC_PAGE21 true _ (is_adrp w) (is_defined t) is refl (pick (type == ARM64_RELOC_PAGE21) _ _ (eq-eqb type ARM64_RELOC_PAGE21 is) h3) (λ b. b) | inr n3 ↦
-    let h4 = skip (type == ARM64_RELOC_PAGE21) _ _ (ne_eqb type ARM64_RELOC_PAGE21 n3) h3 in
-    elim (cases_eq type ARM64_RELOC_PAGEOFF12) [ inl is ↦ word_known ARM64_RELOC_PAGEOFF12 false _ (takes_offset w) (is_defined t) is refl (pick (type == ARM64_RELOC_PAGEOFF12) _ _ (eq-eqb type ARM64_RELOC_PAGEOFF12 is) h4) (λ b. offset_words w ∙ b) | inr n4 ↦
-    let h5 = skip (type == ARM64_RELOC_PAGEOFF12) _ _ (ne_eqb type ARM64_RELOC_PAGEOFF12 n4) h4 in
-    elim (cases_eq type ARM64_RELOC_GOT_LOAD_PAGE21) [ inl is ↦ word_known ARM64_RELOC_GOT_LOAD_PAGE21 true _ (is_adrp w) (defined_or_import t) is refl (pick ((type == ARM64_RELOC_GOT_LOAD_PAGE21) || (type == ARM64_RELOC_TLVP_LOAD_PAGE21)) _ _ (or_left (type == ARM64_RELOC_GOT_LOAD_PAGE21) (type == ARM64_RELOC_TLVP_LOAD_PAGE21) (eq-eqb type ARM64_RELOC_GOT_LOAD_PAGE21 is)) h5) (λ b. b) | inr n5 ↦
-    elim (cases_eq type ARM64_RELOC_TLVP_LOAD_PAGE21) [ inl is ↦ word_known ARM64_RELOC_TLVP_LOAD_PAGE21 true _ (is_adrp w) (defined_or_import t) is refl (pick ((type == ARM64_RELOC_GOT_LOAD_PAGE21) || (type == ARM64_RELOC_TLVP_LOAD_PAGE21)) _ _ (or_right (type == ARM64_RELOC_GOT_LOAD_PAGE21) (type == ARM64_RELOC_TLVP_LOAD_PAGE21) (eq-eqb type ARM64_RELOC_TLVP_LOAD_PAGE21 is)) h5) (λ b. b) | inr n6 ↦
-    let h6 = skip ((type == ARM64_RELOC_GOT_LOAD_PAGE21) || (type == ARM64_RELOC_TLVP_LOAD_PAGE21)) _ _ (neither (type == ARM64_RELOC_GOT_LOAD_PAGE21) (type == ARM64_RELOC_TLVP_LOAD_PAGE21) (ne_eqb type ARM64_RELOC_GOT_LOAD_PAGE21 n5) (ne_eqb type ARM64_RELOC_TLVP_LOAD_PAGE21 n6)) h5 in
-    elim (cases_eq type ARM64_RELOC_GOT_LOAD_PAGEOFF12) [ inl is ↦ word_known ARM64_RELOC_GOT_LOAD_PAGEOFF12 false _ (load_fits w t) (defined_or_import t) is refl (pick ((type == ARM64_RELOC_GOT_LOAD_PAGEOFF12) || (type == ARM64_RELOC_TLVP_LOAD_PAGEOFF12)) _ _ (or_left (type == ARM64_RELOC_GOT_LOAD_PAGEOFF12) (type == ARM64_RELOC_TLVP_LOAD_PAGEOFF12) (eq-eqb type ARM64_RELOC_GOT_LOAD_PAGEOFF12 is)) h6) (λ b. slot_load_fits w (left (is_ldr w) _ b)) | inr n7 ↦
-    elim (cases_eq type ARM64_RELOC_TLVP_LOAD_PAGEOFF12) [ inl is ↦ word_known ARM64_RELOC_TLVP_LOAD_PAGEOFF12 false _ (load_fits w t) (defined_or_import t) is refl (pick ((type == ARM64_RELOC_GOT_LOAD_PAGEOFF12) || (type == ARM64_RELOC_TLVP_LOAD_PAGEOFF12)) _ _ (or_right (type == ARM64_RELOC_GOT_LOAD_PAGEOFF12) (type == ARM64_RELOC_TLVP_LOAD_PAGEOFF12) (eq-eqb type ARM64_RELOC_TLVP_LOAD_PAGEOFF12 is)) h6) (λ b. slot_load_fits w (left (is_ldr w) _ b)) | inr n8 ↦
-    let h7 = skip ((type == ARM64_RELOC_GOT_LOAD_PAGEOFF12) || (type == ARM64_RELOC_TLVP_LOAD_PAGEOFF12)) _ _ (neither (type == ARM64_RELOC_GOT_LOAD_PAGEOFF12) (type == ARM64_RELOC_TLVP_LOAD_PAGEOFF12) (ne_eqb type ARM64_RELOC_GOT_LOAD_PAGEOFF12 n7) (ne_eqb type ARM64_RELOC_TLVP_LOAD_PAGEOFF12 n8)) h6 in
-    elim (cases_eq type ARM64_RELOC_POINTER_TO_GOT) [ inl is ↦ formed rel ARM64_RELOC_POINTER_TO_GOT 2 w true _ is refl (left (has_form rel 2 true true) _ (pick (type == ARM64_RELOC_POINTER_TO_GOT) _ _ (eq-eqb type ARM64_RELOC_POINTER_TO_GOT is) h7)) refl | inr n9 ↦
-    let h8 = skip (type == ARM64_RELOC_POINTER_TO_GOT) _ _ (ne_eqb type ARM64_RELOC_POINTER_TO_GOT n9) h7 in
-    elim (cases_eq type ARM64_RELOC_ADDEND) [ inl is ↦ of_addend l s r is (pick (type == ARM64_RELOC_ADDEND) _ _ (eq-eqb type ARM64_RELOC_ADDEND is) h8) | inr n10 ↦
-    let no : false ≡ true = skip (type == ARM64_RELOC_ADDEND) (addend_fits l s r && begins_pair l s r) false (ne_eqb type ARM64_RELOC_ADDEND n10) h8 in absurd (cc)
-    ] ] ] ] ] ] ] ] ] ] ]
+    elim (cases_eq type ARM64_RELOC_UNSIGNED) [
+      | inl is ↦ of_pointer l s r is (pick (type == ARM64_RELOC_UNSIGNED) _ _ (eq-eqb type ARM64_RELOC_UNSIGNED is) h0)
+      | inr n0 ↦
+          let h1 = skip (type == ARM64_RELOC_UNSIGNED) _ _ (ne_eqb type ARM64_RELOC_UNSIGNED n0) h0 in
+          elim (cases_eq type ARM64_RELOC_SUBTRACTOR) [
+            | inl is ↦ of_subtractor l s r is (pick (type == ARM64_RELOC_SUBTRACTOR) _ _ (eq-eqb type ARM64_RELOC_SUBTRACTOR is) h1)
+            | inr n1 ↦
+                let h2 = skip (type == ARM64_RELOC_SUBTRACTOR) _ _ (ne_eqb type ARM64_RELOC_SUBTRACTOR n1) h1 in
+                elim (cases_eq type ARM64_RELOC_BRANCH26) [
+                  | inl is ↦ word_known ARM64_RELOC_BRANCH26 true _ (is_branch w) (may_be_called l s r) is refl (pick (type == ARM64_RELOC_BRANCH26) _ _ (eq-eqb type ARM64_RELOC_BRANCH26 is) h2) (λ b. b)
+                  | inr n2 ↦
+                      let h3 = skip (type == ARM64_RELOC_BRANCH26) _ _ (ne_eqb type ARM64_RELOC_BRANCH26 n2) h2 in
+                      elim (cases_eq type ARM64_RELOC_PAGE21) [
+                        | inl is ↦ word_known ARM64_RELOC_PAGE21 true _ (is_adrp w) (is_defined t) is refl (pick (type == ARM64_RELOC_PAGE21) _ _ (eq-eqb type ARM64_RELOC_PAGE21 is) h3) (λ b. b)
+                        | inr n3 ↦
+                            let h4 = skip (type == ARM64_RELOC_PAGE21) _ _ (ne_eqb type ARM64_RELOC_PAGE21 n3) h3 in
+                            elim (cases_eq type ARM64_RELOC_PAGEOFF12) [
+                              | inl is ↦ word_known ARM64_RELOC_PAGEOFF12 false _ (takes_offset w) (is_defined t) is refl (pick (type == ARM64_RELOC_PAGEOFF12) _ _ (eq-eqb type ARM64_RELOC_PAGEOFF12 is) h4) (λ b. offset_words w ∙ b)
+                              | inr n4 ↦
+                                  let h5 = skip (type == ARM64_RELOC_PAGEOFF12) _ _ (ne_eqb type ARM64_RELOC_PAGEOFF12 n4) h4 in
+                                  elim (cases_eq type ARM64_RELOC_GOT_LOAD_PAGE21) [
+                                    | inl is ↦ word_known ARM64_RELOC_GOT_LOAD_PAGE21 true _ (is_adrp w) (defined_or_import t) is refl (pick ((type == ARM64_RELOC_GOT_LOAD_PAGE21) || (type == ARM64_RELOC_TLVP_LOAD_PAGE21)) _ _ (or_left (type == ARM64_RELOC_GOT_LOAD_PAGE21) (type == ARM64_RELOC_TLVP_LOAD_PAGE21) (eq-eqb type ARM64_RELOC_GOT_LOAD_PAGE21 is)) h5) (λ b. b)
+                                    | inr n5 ↦
+                                        elim (cases_eq type ARM64_RELOC_TLVP_LOAD_PAGE21) [
+                                          | inl is ↦ word_known ARM64_RELOC_TLVP_LOAD_PAGE21 true _ (is_adrp w) (defined_or_import t) is refl (pick ((type == ARM64_RELOC_GOT_LOAD_PAGE21) || (type == ARM64_RELOC_TLVP_LOAD_PAGE21)) _ _ (or_right (type == ARM64_RELOC_GOT_LOAD_PAGE21) (type == ARM64_RELOC_TLVP_LOAD_PAGE21) (eq-eqb type ARM64_RELOC_TLVP_LOAD_PAGE21 is)) h5) (λ b. b)
+                                          | inr n6 ↦
+                                              let h6 = skip ((type == ARM64_RELOC_GOT_LOAD_PAGE21) || (type == ARM64_RELOC_TLVP_LOAD_PAGE21)) _ _ (neither (type == ARM64_RELOC_GOT_LOAD_PAGE21) (type == ARM64_RELOC_TLVP_LOAD_PAGE21) (ne_eqb type ARM64_RELOC_GOT_LOAD_PAGE21 n5) (ne_eqb type ARM64_RELOC_TLVP_LOAD_PAGE21 n6)) h5 in
+                                              elim (cases_eq type ARM64_RELOC_GOT_LOAD_PAGEOFF12) [
+                                                | inl is ↦ word_known ARM64_RELOC_GOT_LOAD_PAGEOFF12 false _ (load_fits w t) (defined_or_import t) is refl (pick ((type == ARM64_RELOC_GOT_LOAD_PAGEOFF12) || (type == ARM64_RELOC_TLVP_LOAD_PAGEOFF12)) _ _ (or_left (type == ARM64_RELOC_GOT_LOAD_PAGEOFF12) (type == ARM64_RELOC_TLVP_LOAD_PAGEOFF12) (eq-eqb type ARM64_RELOC_GOT_LOAD_PAGEOFF12 is)) h6) (λ b. slot_load_fits w (left (is_ldr w) _ b))
+                                                | inr n7 ↦
+                                                    elim (cases_eq type ARM64_RELOC_TLVP_LOAD_PAGEOFF12) [
+                                                      | inl is ↦ word_known ARM64_RELOC_TLVP_LOAD_PAGEOFF12 false _ (load_fits w t) (defined_or_import t) is refl (pick ((type == ARM64_RELOC_GOT_LOAD_PAGEOFF12) || (type == ARM64_RELOC_TLVP_LOAD_PAGEOFF12)) _ _ (or_right (type == ARM64_RELOC_GOT_LOAD_PAGEOFF12) (type == ARM64_RELOC_TLVP_LOAD_PAGEOFF12) (eq-eqb type ARM64_RELOC_TLVP_LOAD_PAGEOFF12 is)) h6) (λ b. slot_load_fits w (left (is_ldr w) _ b))
+                                                      | inr n8 ↦
+                                                          let h7 = skip ((type == ARM64_RELOC_GOT_LOAD_PAGEOFF12) || (type == ARM64_RELOC_TLVP_LOAD_PAGEOFF12)) _ _ (neither (type == ARM64_RELOC_GOT_LOAD_PAGEOFF12) (type == ARM64_RELOC_TLVP_LOAD_PAGEOFF12) (ne_eqb type ARM64_RELOC_GOT_LOAD_PAGEOFF12 n7) (ne_eqb type ARM64_RELOC_TLVP_LOAD_PAGEOFF12 n8)) h6 in
+                                                          elim (cases_eq type ARM64_RELOC_POINTER_TO_GOT) [
+                                                            | inl is ↦ formed rel ARM64_RELOC_POINTER_TO_GOT 2 w true _ is refl (left (has_form rel 2 true true) _ (pick (type == ARM64_RELOC_POINTER_TO_GOT) _ _ (eq-eqb type ARM64_RELOC_POINTER_TO_GOT is) h7)) refl
+                                                            | inr n9 ↦
+                                                                let h8 = skip (type == ARM64_RELOC_POINTER_TO_GOT) _ _ (ne_eqb type ARM64_RELOC_POINTER_TO_GOT n9) h7 in
+                                                                elim (cases_eq type ARM64_RELOC_ADDEND) [
+                                                                  | inl is ↦ of_addend l s r is (pick (type == ARM64_RELOC_ADDEND) _ _ (eq-eqb type ARM64_RELOC_ADDEND is) h8)
+                                                                  | inr n10 ↦
+                                                                      let no : false ≡ true = skip (type == ARM64_RELOC_ADDEND) (addend_fits l s r && begins_pair l s r) false (ne_eqb type ARM64_RELOC_ADDEND n10) h8 in absurd (cc)
+                                                                ]
+                                                          ]
+                                                    ]
+                                              ]
+                                        ]
+                                  ]
+                            ]
+                      ]
+                ]
+          ]
+    ]
   where
     rel : RelocationInfo
     rel = relocation_in l s r
