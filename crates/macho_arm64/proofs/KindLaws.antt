@@ -238,31 +238,24 @@ neither : (a b : Bool) → a ≡ false → b ≡ false → (a || b) ≡ false
 neither true b h k = absurd (cc)
 neither false b h k = k
 
--- A supported relocation is known.
+-- a word with a field of a type
+word_known : (rel : RelocationInfo) (type w : ℕ) (pcrel : Bool) (info : RelocationKindInfo) (test rest : Bool) → rel.r_type ≡ type
+    → kind_at type 2 pcrel ≡ Some info → (has_form rel 2 pcrel true && test && rest) ≡ true → (test ≡ true → fits_word info.size w ≡ true)
+    → IsKnown rel w
+word_known rel type w pcrel info test rest is at h fits =
+    let both = left (has_form rel 2 pcrel true && test) rest h in
+    formed rel type 2 w pcrel info is at (left (has_form rel 2 pcrel true) test both) (fits (right (has_form rel 2 pcrel true) test both))
+
+-- A supported relocation is known. The tests of its type are taken one by one: `from_page` is what is asked of a type that
+-- is none of those before the page's.
 supported_known : (l : Link) (s : SectionId) (r : ℕ) → is_supported l s r ≡ true → IsKnown (relocation_in l s r) (content_of l s r)
 unfolding is_supported kind_among
-supported_known l s r h0 =
-    elim (cases_eq type ARM64_RELOC_UNSIGNED) [ inl is ↦ of_pointer l s r is (pick (type == ARM64_RELOC_UNSIGNED) _ _ (eq-eqb type ARM64_RELOC_UNSIGNED is) h0) | inr n0 ↦
-    let h1 = skip (type == ARM64_RELOC_UNSIGNED) _ _ (ne_eqb type ARM64_RELOC_UNSIGNED n0) h0 in
-    elim (cases_eq type ARM64_RELOC_SUBTRACTOR) [ inl is ↦ of_subtractor l s r is (pick (type == ARM64_RELOC_SUBTRACTOR) _ _ (eq-eqb type ARM64_RELOC_SUBTRACTOR is) h1) | inr n1 ↦
-    let h2 = skip (type == ARM64_RELOC_SUBTRACTOR) _ _ (ne_eqb type ARM64_RELOC_SUBTRACTOR n1) h1 in
-    elim (cases_eq type ARM64_RELOC_BRANCH26) [ inl is ↦ word_known ARM64_RELOC_BRANCH26 true _ (is_branch w) (may_be_called l s r) is refl (pick (type == ARM64_RELOC_BRANCH26) _ _ (eq-eqb type ARM64_RELOC_BRANCH26 is) h2) (λ b. b) | inr n2 ↦
-    let h3 = skip (type == ARM64_RELOC_BRANCH26) _ _ (ne_eqb type ARM64_RELOC_BRANCH26 n2) h2 in
-    elim (cases_eq type ARM64_RELOC_PAGE21) [ inl is ↦ word_known ARM64_RELOC_PAGE21 true _ (is_adrp w) (is_defined t) is refl (pick (type == ARM64_RELOC_PAGE21) _ _ (eq-eqb type ARM64_RELOC_PAGE21 is) h3) (λ b. b) | inr n3 ↦
-    let h4 = skip (type == ARM64_RELOC_PAGE21) _ _ (ne_eqb type ARM64_RELOC_PAGE21 n3) h3 in
-    elim (cases_eq type ARM64_RELOC_PAGEOFF12) [ inl is ↦ word_known ARM64_RELOC_PAGEOFF12 false _ (takes_offset w) (is_defined t) is refl (pick (type == ARM64_RELOC_PAGEOFF12) _ _ (eq-eqb type ARM64_RELOC_PAGEOFF12 is) h4) (λ b. offset_words w ∙ b) | inr n4 ↦
-    let h5 = skip (type == ARM64_RELOC_PAGEOFF12) _ _ (ne_eqb type ARM64_RELOC_PAGEOFF12 n4) h4 in
-    elim (cases_eq type ARM64_RELOC_GOT_LOAD_PAGE21) [ inl is ↦ word_known ARM64_RELOC_GOT_LOAD_PAGE21 true _ (is_adrp w) (defined_or_import t) is refl (pick ((type == ARM64_RELOC_GOT_LOAD_PAGE21) || (type == ARM64_RELOC_TLVP_LOAD_PAGE21)) _ _ (or_left (type == ARM64_RELOC_GOT_LOAD_PAGE21) (type == ARM64_RELOC_TLVP_LOAD_PAGE21) (eq-eqb type ARM64_RELOC_GOT_LOAD_PAGE21 is)) h5) (λ b. b) | inr n5 ↦
-    elim (cases_eq type ARM64_RELOC_TLVP_LOAD_PAGE21) [ inl is ↦ word_known ARM64_RELOC_TLVP_LOAD_PAGE21 true _ (is_adrp w) (defined_or_import t) is refl (pick ((type == ARM64_RELOC_GOT_LOAD_PAGE21) || (type == ARM64_RELOC_TLVP_LOAD_PAGE21)) _ _ (or_right (type == ARM64_RELOC_GOT_LOAD_PAGE21) (type == ARM64_RELOC_TLVP_LOAD_PAGE21) (eq-eqb type ARM64_RELOC_TLVP_LOAD_PAGE21 is)) h5) (λ b. b) | inr n6 ↦
-    let h6 = skip ((type == ARM64_RELOC_GOT_LOAD_PAGE21) || (type == ARM64_RELOC_TLVP_LOAD_PAGE21)) _ _ (neither (type == ARM64_RELOC_GOT_LOAD_PAGE21) (type == ARM64_RELOC_TLVP_LOAD_PAGE21) (ne_eqb type ARM64_RELOC_GOT_LOAD_PAGE21 n5) (ne_eqb type ARM64_RELOC_TLVP_LOAD_PAGE21 n6)) h5 in
-    elim (cases_eq type ARM64_RELOC_GOT_LOAD_PAGEOFF12) [ inl is ↦ word_known ARM64_RELOC_GOT_LOAD_PAGEOFF12 false _ (load_fits w t) (defined_or_import t) is refl (pick ((type == ARM64_RELOC_GOT_LOAD_PAGEOFF12) || (type == ARM64_RELOC_TLVP_LOAD_PAGEOFF12)) _ _ (or_left (type == ARM64_RELOC_GOT_LOAD_PAGEOFF12) (type == ARM64_RELOC_TLVP_LOAD_PAGEOFF12) (eq-eqb type ARM64_RELOC_GOT_LOAD_PAGEOFF12 is)) h6) (λ b. slot_load_fits w (left (is_ldr w) _ b)) | inr n7 ↦
-    elim (cases_eq type ARM64_RELOC_TLVP_LOAD_PAGEOFF12) [ inl is ↦ word_known ARM64_RELOC_TLVP_LOAD_PAGEOFF12 false _ (load_fits w t) (defined_or_import t) is refl (pick ((type == ARM64_RELOC_GOT_LOAD_PAGEOFF12) || (type == ARM64_RELOC_TLVP_LOAD_PAGEOFF12)) _ _ (or_right (type == ARM64_RELOC_GOT_LOAD_PAGEOFF12) (type == ARM64_RELOC_TLVP_LOAD_PAGEOFF12) (eq-eqb type ARM64_RELOC_TLVP_LOAD_PAGEOFF12 is)) h6) (λ b. slot_load_fits w (left (is_ldr w) _ b)) | inr n8 ↦
-    let h7 = skip ((type == ARM64_RELOC_GOT_LOAD_PAGEOFF12) || (type == ARM64_RELOC_TLVP_LOAD_PAGEOFF12)) _ _ (neither (type == ARM64_RELOC_GOT_LOAD_PAGEOFF12) (type == ARM64_RELOC_TLVP_LOAD_PAGEOFF12) (ne_eqb type ARM64_RELOC_GOT_LOAD_PAGEOFF12 n7) (ne_eqb type ARM64_RELOC_TLVP_LOAD_PAGEOFF12 n8)) h6 in
-    elim (cases_eq type ARM64_RELOC_POINTER_TO_GOT) [ inl is ↦ formed rel ARM64_RELOC_POINTER_TO_GOT 2 w true _ is refl (left (has_form rel 2 true true) _ (pick (type == ARM64_RELOC_POINTER_TO_GOT) _ _ (eq-eqb type ARM64_RELOC_POINTER_TO_GOT is) h7)) refl | inr n9 ↦
-    let h8 = skip (type == ARM64_RELOC_POINTER_TO_GOT) _ _ (ne_eqb type ARM64_RELOC_POINTER_TO_GOT n9) h7 in
-    elim (cases_eq type ARM64_RELOC_ADDEND) [ inl is ↦ of_addend l s r is (pick (type == ARM64_RELOC_ADDEND) _ _ (eq-eqb type ARM64_RELOC_ADDEND is) h8) | inr n10 ↦
-    let no : false ≡ true = skip (type == ARM64_RELOC_ADDEND) (addend_fits l s r && begins_pair l s r) false (ne_eqb type ARM64_RELOC_ADDEND n10) h8 in absurd (cc)
-    ] ] ] ] ] ] ] ] ] ] ]
+supported_known l s r h =
+    elim (cases_eq type ARM64_RELOC_UNSIGNED) [
+      | inl is ↦ of_pointer l s r is (pick _ _ from_subtractor (eq-eqb type ARM64_RELOC_UNSIGNED is) h)
+      | inr other ↦
+          from_subtractor_known (skip _ (pointer_fits l s r) _ (ne_eqb type ARM64_RELOC_UNSIGNED other) h)
+    ]
   where
     rel : RelocationInfo
     rel = relocation_in l s r
@@ -276,11 +269,130 @@ supported_known l s r h0 =
     t : Target
     t = target_of_relocation l s r
 
-    word_known : (c : ℕ) (pcrel : Bool) (info : RelocationKindInfo) (test rest : Bool) → type ≡ c → kind_at c 2 pcrel ≡ Some info
-        → (has_form rel 2 pcrel true && test && rest) ≡ true → (test ≡ true → fits_word info.size w ≡ true) → IsKnown rel w
-    word_known c pcrel info test rest is at h fits =
-        let g = left (has_form rel 2 pcrel true && test) rest h in
-        formed rel c 2 w pcrel info is at (left (has_form rel 2 pcrel true) test g) (fits (right (has_form rel 2 pcrel true) test g))
+    from_addend : Bool
+    from_addend = if type == ARM64_RELOC_ADDEND
+        then addend_fits l s r && begins_pair l s r else false
+
+    from_distance : Bool
+    from_distance = if type == ARM64_RELOC_POINTER_TO_GOT
+        then has_form rel 2 true true && defined_or_import t else from_addend
+
+    from_load : Bool
+    from_load = if (type == ARM64_RELOC_GOT_LOAD_PAGEOFF12) || (type == ARM64_RELOC_TLVP_LOAD_PAGEOFF12)
+        then has_form rel 2 false true && load_fits w t && defined_or_import t else from_distance
+
+    from_slot_page : Bool
+    from_slot_page = if (type == ARM64_RELOC_GOT_LOAD_PAGE21) || (type == ARM64_RELOC_TLVP_LOAD_PAGE21)
+        then has_form rel 2 true true && is_adrp w && defined_or_import t else from_load
+
+    from_offset : Bool
+    from_offset = if type == ARM64_RELOC_PAGEOFF12
+        then has_form rel 2 false true && takes_offset w && is_defined t else from_slot_page
+
+    from_page : Bool
+    from_page = if type == ARM64_RELOC_PAGE21
+        then has_form rel 2 true true && is_adrp w && is_defined t else from_offset
+
+    from_branch : Bool
+    from_branch = if type == ARM64_RELOC_BRANCH26
+        then has_form rel 2 true true && is_branch w && may_be_called l s r else from_page
+
+    from_subtractor : Bool
+    from_subtractor = if type == ARM64_RELOC_SUBTRACTOR
+        then difference_fits l s r && begins_pair l s r else from_branch
+
+    no_type : false ≡ true → IsKnown rel w
+    no_type h = absurd (cc)
+
+    from_addend_known : from_addend ≡ true → IsKnown rel w
+    from_addend_known h =
+        elim (cases_eq type ARM64_RELOC_ADDEND) [
+          | inl is ↦
+              let asked = pick _ _ _ (eq-eqb type ARM64_RELOC_ADDEND is) h in
+              of_addend l s r is asked
+          | inr other ↦ no_type (skip _ _ _ (ne_eqb type ARM64_RELOC_ADDEND other) h)
+        ]
+
+    from_distance_known : from_distance ≡ true → IsKnown rel w
+    from_distance_known h =
+        elim (cases_eq type ARM64_RELOC_POINTER_TO_GOT) [
+          | inl is ↦
+              let asked = pick _ _ _ (eq-eqb type ARM64_RELOC_POINTER_TO_GOT is) h in
+              formed rel ARM64_RELOC_POINTER_TO_GOT 2 w true _ is refl (left (has_form rel 2 true true) _ asked) refl
+          | inr other ↦ from_addend_known (skip _ _ _ (ne_eqb type ARM64_RELOC_POINTER_TO_GOT other) h)
+        ]
+
+    from_load_known : from_load ≡ true → IsKnown rel w
+    from_load_known h =
+        elim (cases_eq type ARM64_RELOC_GOT_LOAD_PAGEOFF12) [
+          | inl is ↦
+              let asked = pick _ _ _ (or_left _ _ (eq-eqb type ARM64_RELOC_GOT_LOAD_PAGEOFF12 is)) h in
+              word_known rel ARM64_RELOC_GOT_LOAD_PAGEOFF12 w false _ (load_fits w t) (defined_or_import t) is refl asked
+              (λ b. slot_load_fits w (left (is_ldr w) _ b))
+          | inr first ↦ elim (cases_eq type ARM64_RELOC_TLVP_LOAD_PAGEOFF12) [
+            | inl is ↦
+                let asked = pick _ _ _ (or_right _ _ (eq-eqb type ARM64_RELOC_TLVP_LOAD_PAGEOFF12 is)) h in
+                word_known rel ARM64_RELOC_TLVP_LOAD_PAGEOFF12 w false _ (load_fits w t) (defined_or_import t) is refl asked
+                (λ b. slot_load_fits w (left (is_ldr w) _ b))
+            | inr second ↦
+                let none = neither _ _ (ne_eqb type ARM64_RELOC_GOT_LOAD_PAGEOFF12 first)
+                (ne_eqb type ARM64_RELOC_TLVP_LOAD_PAGEOFF12 second) in
+                from_distance_known (skip _ _ _ none h)
+          ]
+        ]
+
+    from_slot_page_known : from_slot_page ≡ true → IsKnown rel w
+    from_slot_page_known h =
+        elim (cases_eq type ARM64_RELOC_GOT_LOAD_PAGE21) [
+          | inl is ↦
+              let asked = pick _ _ _ (or_left _ _ (eq-eqb type ARM64_RELOC_GOT_LOAD_PAGE21 is)) h in
+              word_known rel ARM64_RELOC_GOT_LOAD_PAGE21 w true _ (is_adrp w) (defined_or_import t) is refl asked (λ b. b)
+          | inr first ↦ elim (cases_eq type ARM64_RELOC_TLVP_LOAD_PAGE21) [
+            | inl is ↦
+                let asked = pick _ _ _ (or_right _ _ (eq-eqb type ARM64_RELOC_TLVP_LOAD_PAGE21 is)) h in
+                word_known rel ARM64_RELOC_TLVP_LOAD_PAGE21 w true _ (is_adrp w) (defined_or_import t) is refl asked (λ b. b)
+            | inr second ↦
+                let none = neither _ _ (ne_eqb type ARM64_RELOC_GOT_LOAD_PAGE21 first)
+                (ne_eqb type ARM64_RELOC_TLVP_LOAD_PAGE21 second) in
+                from_load_known (skip _ _ _ none h)
+          ]
+        ]
+
+    from_offset_known : from_offset ≡ true → IsKnown rel w
+    from_offset_known h =
+        elim (cases_eq type ARM64_RELOC_PAGEOFF12) [
+          | inl is ↦
+              let asked = pick _ _ _ (eq-eqb type ARM64_RELOC_PAGEOFF12 is) h in
+              word_known rel ARM64_RELOC_PAGEOFF12 w false _ (takes_offset w) (is_defined t) is refl asked (λ b. offset_words w ∙ b)
+          | inr other ↦ from_slot_page_known (skip _ _ _ (ne_eqb type ARM64_RELOC_PAGEOFF12 other) h)
+        ]
+
+    from_page_known : from_page ≡ true → IsKnown rel w
+    from_page_known h =
+        elim (cases_eq type ARM64_RELOC_PAGE21) [
+          | inl is ↦
+              let asked = pick _ _ _ (eq-eqb type ARM64_RELOC_PAGE21 is) h in
+              word_known rel ARM64_RELOC_PAGE21 w true _ (is_adrp w) (is_defined t) is refl asked (λ b. b)
+          | inr other ↦ from_offset_known (skip _ _ _ (ne_eqb type ARM64_RELOC_PAGE21 other) h)
+        ]
+
+    from_branch_known : from_branch ≡ true → IsKnown rel w
+    from_branch_known h =
+        elim (cases_eq type ARM64_RELOC_BRANCH26) [
+          | inl is ↦
+              let asked = pick _ _ _ (eq-eqb type ARM64_RELOC_BRANCH26 is) h in
+              word_known rel ARM64_RELOC_BRANCH26 w true _ (is_branch w) (may_be_called l s r) is refl asked (λ b. b)
+          | inr other ↦ from_page_known (skip _ _ _ (ne_eqb type ARM64_RELOC_BRANCH26 other) h)
+        ]
+
+    from_subtractor_known : from_subtractor ≡ true → IsKnown rel w
+    from_subtractor_known h =
+        elim (cases_eq type ARM64_RELOC_SUBTRACTOR) [
+          | inl is ↦
+              let asked = pick _ _ _ (eq-eqb type ARM64_RELOC_SUBTRACTOR is) h in
+              of_subtractor l s r is asked
+          | inr other ↦ from_branch_known (skip _ _ _ (ne_eqb type ARM64_RELOC_SUBTRACTOR other) h)
+        ]
 
 pub known_in_link : SupportedIsKnown
 known_in_link l s r h = ap (λ (o : Option RelocationKindInfo). is_some o) (supported_known l s r h).is
