@@ -2,6 +2,7 @@
 
 believed.py                 the definitions under the clauses of `run`, in reading order, with lines; then the rules below
 believed.py --crate NAME    the files of a crate's specs/, and which definitions of each a public clause rests on
+believed.py --lines         writes the lines of the files that docs/THEOREMS.md lists into it
 
 Refused are: a file of specs/steps/ under a public clause of any crate, a file of specs/ that imports one of specs/steps/,
 and a row of the README's table that names a function or clause that isn't there.
@@ -428,12 +429,38 @@ def wrong_rows(crates):
     return wrong
 
 
+def write_lines():
+    """Writes the lines of the files that a row of docs/THEOREMS.md names: the first by crate and folder, or in macho_model."""
+    path = os.path.join(TOP, "docs", "THEOREMS.md")
+    missing, lines = [], read(path).split("\n")
+    for number, line in enumerate(lines):
+        row = re.match(r"\| ((?:`[\w/]+`(?:, )?)+) \| \d+ \|", line)
+        if not row:
+            continue
+        folder, total = "macho_model/specs", 0
+        for name in re.findall(r"`([\w/]+)`", row.group(1)):
+            folder, name = name.rsplit("/", 1) if "/" in name else (folder, name)
+            file = os.path.join(CRATES, folder, name + ".antt")
+            if os.path.exists(file):
+                total += read(file).count("\n")
+            else:
+                missing.append(f"docs/THEOREMS.md: there is no file '{folder}/{name}'")
+        lines[number] = f"| {row.group(1)} | {total} |" + line[row.end():]
+    with open(path, "w", encoding="utf-8") as file:
+        file.write("\n".join(lines))
+    return missing
+
+
 def main():
     world = World()
     crates = [name for name in sorted(os.listdir(CRATES)) if os.path.isdir(os.path.join(CRATES, name, "src"))]
     if sys.argv[1:2] == ["--crate"]:
         print_crate(world, crates, sys.argv[2])
         return 0
+    if sys.argv[1:2] == ["--lines"]:
+        missing = write_lines()
+        print("\n".join(missing) or "docs/THEOREMS.md: the lines are written")
+        return 1 if missing else 0
     wrong = print_run(world) + wrong_steps(world, crates) + wrong_rows(crates)
     for line in wrong:
         print(f"believed: {line}", file=sys.stderr)
