@@ -1,1 +1,3 @@
 pub mod Placements
+pub mod Plans
+pub mod steps

@@ -1,0 +1,5 @@
+pub mod Distinct
+pub mod Tables
+pub mod Tests
+pub mod RowSteps
+pub mod Costs
