@@ -3,3 +3,4 @@ pub mod Tables
 pub mod Tests
 pub mod RowSteps
 pub mod Costs
+pub mod Numbered

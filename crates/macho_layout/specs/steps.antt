@@ -9,3 +9,4 @@ pub mod Rows
 pub mod Tables
 pub mod Headers
 pub mod Places
+pub mod Laid

@@ -4,10 +4,9 @@
 //! makes, data, initial values of thread-local variables with bytes and without, commons, other zerofill.
 ghost use Rattle.std.specs.Prelude.{◌≡◌, ◌+◌, ◌<◌, ◌≤◌, ◌^◌, ◌*◌, ◌++◌, length, IfOk, OnOk};
 ghost use Rattle.macho_records.specs.Sections.{is_zerofill_type, has_instructions};
-ghost use Rattle.macho_layout.specs.steps.Cells.{class_of, class_of_data, segment_number, merged_cell, made_cells, cells_of, FitSizes, cell_if};
+ghost use Rattle.macho_layout.specs.steps.Cells.{class_of, class_of_data, segment_number, merged_cell, made_cells, cells_of, FitSizes, cell_if, is_template_class};
 ghost use Rattle.macho_layout.specs.steps.Names.{merged_count};
 
-use crate::members::is_template;
 use crate::names::common_name;
 use crate::plan::Plan;
 use crate::spec::OutputName;
@@ -54,6 +53,13 @@ fn has_instructions(flags: u32) -> bool
     flags & (S_ATTR_PURE_INSTRUCTIONS + S_ATTR_SOME_INSTRUCTIONS) != 0
 }
 
+/// Whether a class has initial values of thread-local variables.
+pub(crate) fn is_template_class(class: u32) -> bool
+    ensures { result ≡ is_template_class class }
+{
+    class == TEMPLATE_DATA || class == TEMPLATE_ZEROS
+}
+
 /// The class of a merged output section.
 fn class_of(name: &OutputName, flags: u32) -> u32
     ensures value { result ≡ class_of name.now flags }
@@ -97,7 +103,7 @@ fn class_of_data(name: &OutputName, zeros: bool) -> u32
 }
 
 /// The number of a segment among the mapped ones.
-fn segment_number(names: &[SegmentName], name: SegmentName) -> usize
+pub(crate) fn segment_number(names: &[SegmentName], name: SegmentName) -> usize
     ensures value { result ≡ segment_number names.now name }
     ensures within { result ≤ length names.now }
 {

@@ -8,6 +8,7 @@
 #![tactic(auto)]
 
 mod cells;
+mod compute;
 mod fault;
 mod headers;
 mod linkedit;

@@ -1,5 +1,5 @@
 -- Output sections as cells.
-use Rattle.std.specs.Prelude.{ℕ, ◌+◌, ◌*◌, ◌<◌, ◌^◌, ◌==◌, nat_lt, not, if◌then◌else◌, Bool, List, [], ◌∷◌, ◌++◌, map, length, get_or}
+use Rattle.std.specs.Prelude.{ℕ, ◌+◌, ◌*◌, ◌<◌, ◌^◌, ◌==◌, nat_lt, not, ◌||◌, if◌then◌else◌, Bool, List, [], ◌∷◌, ◌++◌, map, length, get_or}
 use Rattle.std.specs.List.{range_with_len, position_or_len}
 use Rattle.macho_records.specs.declared.segments.SegmentName.{SegmentName}
 use Rattle.macho_records.specs.declared.constants.TheConstants.{S_THREAD_LOCAL_REGULAR, S_THREAD_LOCAL_ZEROFILL}
@@ -62,3 +62,7 @@ pub record FitSizes (p : Planning) (counts : Counts) : Type 0 where
 unfoldable pub cells_of : Planning → Counts → List SegmentName → List Extent → List Cell
 cells_of p counts names extents =
     map (λ number. merged_cell p names number (extent_at extents number)) (range_with_len 0 (length extents)) ++ made_cells p counts (length extents)
+
+-- the classes of the template
+abbrev pub is_template_class : ℕ → Bool
+is_template_class class = class == 5 || class == 6

@@ -1,7 +1,7 @@
 -- The written sum of a plan.
-use Rattle.std.specs.Prelude.{ℕ, ◌+◌, ◌*◌, ◌-◌, ◌/◌, ◌^◌, ◌==◌, nat_lt, not, if◌then◌else◌, Option, Some, None, length, sum_by}
+use Rattle.std.specs.Prelude.{ℕ, ◌+◌, ◌*◌, ◌-◌, ◌/◌, ◌^◌, ◌==◌, ◌≤◌, ◌<◌, nat_lt, not, if◌then◌else◌, Option, Some, None, length, sum_by}
 use Rattle.macho_model.specs.declared.placed.Counts.{Counts}
-use Rattle.macho_model.specs.Segments.{SEGMENT_PAGE, one_if}
+use Rattle.macho_model.specs.Segments.{SEGMENT_PAGE, PAGEZERO_SIZE, one_if}
 use Rattle.macho_model.specs.WrittenSum.{SLOT_SIZE, STUB_SIZE, INITIALIZER_SIZE, SYMBOL_SIZE, SIGNED_PAGE, DIGEST_SIZE, TABLES_FIXED, SIGNATURE_FIXED, padding_of}
 use Rattle.macho_layout.specs.Plans.{Planning}
 use Rattle.macho_layout.specs.steps.Names.{segment_count, merged_count}
@@ -41,3 +41,18 @@ unsigned_sum p counts =
 abbrev pub written_sum : Planning → Counts → ℕ
 written_sum p counts =
     unsigned_sum p counts + SIGNATURE_FIXED + counts.identifier + DIGEST_SIZE * (unsigned_sum p counts / SIGNED_PAGE + 1)
+
+-- the bytes of header and load commands, with the padding behind them
+abbrev pub head_size : Planning → Counts → ℕ
+head_size p counts = 32 + 72 * segment_count p + 80 * output_count p counts + counts.commands + counts.padding
+
+-- the address of the image's first byte
+abbrev pub base_of : Planning → ℕ
+base_of p = if p.executable then PAGEZERO_SIZE else 0
+
+-- what is known before any address is: no limit is passed, and the sum stays well below 2^64
+pub record FitsLimits (p : Planning) (counts : Counts) : Type 0 where
+  pub segments : segment_count p ≤ 6
+  pub sections : output_count p counts ≤ 255
+  pub sum : written_sum p counts + 2 ^ 32 < 2 ^ 64
+  pub entries : counts.import_size ≤ 8
