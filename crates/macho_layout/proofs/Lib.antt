@@ -4,3 +4,5 @@ pub mod Tests
 pub mod RowSteps
 pub mod Costs
 pub mod Numbered
+pub mod Rooms
+pub mod TableRooms

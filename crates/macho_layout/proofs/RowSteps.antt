@@ -130,7 +130,7 @@ segments_push names cells head n a o (x ∷ rs) a' o' r h =
     ∙ ap (λ (k : ℕ). segments_from names head (n + 1) (a + rounded_up SEGMENT_PAGE (x.end - a)) (o + rounded_up SEGMENT_PAGE (x.filled_end - a)) rs ++ row_segment (row_at names head k a' o') r ∷ []) number)
 
 -- what a row's end costs, from its cells
-row-cost : (cells : List Cell) (row : Row) (r : RowCells) → IsRow cells row r
+pub row-cost : (cells : List Cell) (row : Row) (r : RowCells) → IsRow cells row r
     → (row.address ≤ r.filled_end) × (r.filled_end ≤ r.end) × (r.end ≤ row.address + row.front + sum_by cell_cost (of_ranks (9 * row.number) 9 cells))
 row-cost cells row r is =
     let a : AddsCells (of_ranks (9 * row.number) 6 cells) (row.address + row.front) [] r.filled r.filled_end

@@ -1,8 +1,14 @@
 //! Placing a plan.
-ghost use Rattle.std.specs.Prelude.{◌≡◌, ◌+◌, ◌*◌, ◌<◌, ◌≤◌, ◌^◌, length, OnOk, IfOk, IfErr};
+ghost use Rattle.std.specs.Prelude.{◌≡◌, ◌+◌, ◌*◌, ◌<◌, ◌≤◌, ◌^◌, ◌++◌, ◌∷◌, [], length, OnOk, IfOk, IfErr};
 ghost use Rattle.macho_layout.specs.Placements.{placed_of};
-ghost use Rattle.macho_layout.specs.steps.Sums.{head_size, base_of, FitsLimits};
-ghost use Rattle.macho_layout.specs.steps.Laid.{FaultIs};
+ghost use Rattle.macho_layout.specs.steps.Sums.{members_cost, head_size, base_of, FitsLimits};
+ghost use Rattle.macho_model.specs.Segments.{list_if};
+ghost use Rattle.macho_layout.specs.steps.Laid.{FaultIs, IsLaidOut, zero_page};
+ghost use Rattle.macho_cells.specs.Stacks.{AreStacked};
+ghost use Rattle.macho_layout.specs.steps.Names.{mapped_names, merged_count};
+ghost use Rattle.macho_layout.specs.steps.Members.{members_of, first_flags};
+ghost use Rattle.macho_layout.specs.steps.Cells.{cells_of};
+ghost use Rattle.macho_layout.specs.steps.Rows.{AreRows};
 
 use crate::cells::{MADE_INIT_OFFSETS, MADE_SLOTS, MADE_STUBS, MADE_UNWIND_INFO};
 use crate::fault::LayoutFault;
@@ -16,7 +22,7 @@ use crate::plan::Plan;
 use crate::rows::{Rows, place_rows};
 use crate::sums::SEGMENT_PAGE;
 use macho_cells::{Stacked, stack, starts};
-use macho_model::{Counts, Limit, Linkedit, PlacedSegment, Range64};
+use macho_model::{Counts, Limit, PlacedSegment};
 use macho_records::SegmentName;
 use std::alloc::{AllocError, Global};
 
@@ -73,4 +79,121 @@ impl Plan {
     {
         if self.executable { PAGEZERO_SIZE } else { 0 }
     }
+
+    /// Sections and commons in their output sections.
+    fn stacked(&self, alloc: Global) -> Result<Stacked, AllocError>
+        requires few { merged_count self.now ≤ 255 }
+        requires room { members_cost self.now + 2 ^ 14 ≤ 2 ^ 64 }
+        ensures { IfOk result (λ s. AreStacked (first_flags self.now) (members_of self.now) s.extents.items s.placed.items) }
+    {
+        let _executable = self.executable;
+        let flags = self.first_flags(alloc)?;
+        let members = self.members(alloc)?;
+        stack(alloc, &flags, &members)
+    }
+
+    /// The segments with their output sections.
+    fn rows(
+        &self,
+        alloc: Global,
+        counts: &Counts,
+        names: &[SegmentName],
+        stacked: &Stacked,
+    ) -> Result<Rows, AllocError>
+        requires fits { FitsLimits self.now counts.now }
+        requires names { names.now ≡ mapped_names self.now }
+        requires stacked { AreStacked (first_flags self.now) (members_of self.now) stacked.now.extents.items stacked.now.placed.items }
+        ensures { IfOk result (λ r. AreRows (mapped_names self.now) (cells_of self.now counts.now (mapped_names self.now) stacked.now.extents.items) (base_of self.now) (head_size self.now counts.now) (length (mapped_names self.now)) r.segments.items r.placed.items r.address r.offset) }
+    {
+        let _executable = self.executable;
+        let base = self.base();
+        let head = self.head_size(counts);
+        let cells = self.cells(alloc, counts, names, &stacked.extents)?;
+        place_rows(alloc, names, &cells, base, head)
+    }
+
+    /// The placement of rows, with the tables behind them.
+    fn placement(
+        &self,
+        alloc: Global,
+        counts: &Counts,
+        names: &[SegmentName],
+        stacked: &Stacked,
+        rows: Rows,
+    ) -> Result<Placement, AllocError>
+        requires fits { FitsLimits self.now counts.now }
+        requires names { names.now ≡ mapped_names self.now }
+        requires stacked { AreStacked (first_flags self.now) (members_of self.now) stacked.now.extents.items stacked.now.placed.items }
+        requires rows { AreRows (mapped_names self.now) (cells_of self.now counts.now (mapped_names self.now) stacked.now.extents.items) (base_of self.now) (head_size self.now counts.now) (length (mapped_names self.now)) rows.segments.items rows.placed.items rows.address rows.offset }
+        ensures { IfOk result (λ q. IsLaidOut self.now counts.now (placed_of q)) }
+    {
+        let merged = stacked.extents.len();
+        let starts = starts(alloc, merged + 4, &rows.placed)?;
+        let linkedit = tables(counts, rows.offset, pointer_pages(&rows.segments));
+        let size = linkedit.signature.end - rows.offset;
+        let last = PlacedSegment {
+            name: SegmentName::LINKEDIT,
+            address: rows.address,
+            size: size.next_multiple_of(SEGMENT_PAGE),
+            file_offset: rows.offset,
+            file_size: size,
+        };
+        let before = u32::from(self.executable);
+        let init_offsets = start_of(&starts, merged + MADE_INIT_OFFSETS as usize);
+        let unwind = start_of(&starts, merged + MADE_UNWIND_INFO as usize);
+        let stubs = start_of(&starts, merged + MADE_STUBS as usize);
+        let slots = start_of(&starts, merged + MADE_SLOTS as usize);
+        Ok(Placement {
+            base: self.base(),
+            sections: placed_sections(
+                alloc,
+                &self.sections,
+                before,
+                names,
+                &stacked.placed,
+                &starts,
+            )?,
+            commons: placed_commons(
+                alloc,
+                &self.commons,
+                self.sections.len(),
+                &stacked.placed,
+                &starts,
+            )?,
+            slots: placed_slots(alloc, &self.slots, slots)?,
+            stubs: placed_stubs(alloc, &self.stubs, stubs)?,
+            output_sections: self.headers(alloc, &stacked.extents, &rows.segments, &rows.placed)?,
+            init_offsets: range_at(init_offsets, 4 * counts.initializers),
+            unwind: range_at(unwind, counts.unwind),
+            template: template_range(&rows.placed),
+            segments: all_segments(alloc, self.executable, &rows.segments, last)?,
+            linkedit,
+        })
+    }
+}
+
+/// All segments: `__PAGEZERO` of an executable, those that are mapped, and `__LINKEDIT`.
+fn all_segments(
+    alloc: Global,
+    executable: bool,
+    mapped: &[PlacedSegment],
+    last: PlacedSegment,
+) -> Result<Vec<PlacedSegment>, AllocError>
+    ensures { IfOk result (λ segments. segments.items ≡ list_if executable (zero_page ∷ []) ++ mapped.now ++ last ∷ []) }
+{
+    let mut segments = Vec::new(alloc);
+    if executable {
+        segments.push(PlacedSegment {
+            name: SegmentName::PAGEZERO,
+            address: 0,
+            size: PAGEZERO_SIZE,
+            file_offset: 0,
+            file_size: 0,
+        })?;
+    }
+    for segment in mapped {
+        segments.push(*segment)?;
+    }
+    segments.push(last)?;
+    Ok(segments)
 }
