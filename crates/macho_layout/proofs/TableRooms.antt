@@ -25,7 +25,10 @@ use Rattle.macho_layout.specs.steps.Cells.{cells_of}
 use Rattle.macho_layout.specs.steps.Rows.{RowCells, row_segment, row_at, front_at, RowsFrom, segments_from, AreRows}
 use Rattle.macho_layout.specs.steps.Places.{is_pointer_segment, segment_pages, row_pages}
 use Rattle.macho_layout.specs.steps.Sums.{members_cost, written_sum, head_size, base_of, FitsLimits}
-use Rattle.macho_layout.specs.steps.Tables.{tables_cost}
+use Rattle.macho_model.specs.Order.{fixup_room, signature_room}
+use Rattle.std.proofs.lemmas.Nat.{div-mul-add}
+use Rattle.macho_cells.proofs.Multiples.{rounded-near, rounded-above}
+use Rattle.macho_layout.specs.steps.Tables.{tables_cost, tables_end, tables_at, symbols_start, signature_start}
 use Rattle.macho_layout.proofs.RowSteps.{parts-cost, paged-near, row-cost}
 use Rattle.macho_layout.proofs.Rooms.{cells-cost}
 
@@ -99,7 +102,7 @@ rows_pages p cells base head (r ∷ rs) a' o' h =
 pub tables_room : (p : Planning) (counts : Counts) (extents : List Extent) (segments : List PlacedSegment) (placed : List PlacedCell) (address offset : ℕ)
     → FitsLimits p counts → sum_by extent_cost extents ≤ members_cost p
     → AreRows (mapped_names p) (cells_of p counts (mapped_names p) extents) (base_of p) (head_size p counts) (length (mapped_names p)) segments placed address offset
-    → tables_cost counts offset (row_pages segments) + base_of p < 2 ^ 64
+    → tables_cost counts offset (row_pages segments) + base_of p + 0x4000 < 2 ^ 64
 tables_room p counts extents segments placed address offset fits less h =
     let cells : List Cell = cells_of p counts (mapped_names p) extents in
     let pages = rows_pages p (cells_of p counts (mapped_names p) extents) (base_of p) (head_size p counts) h.rows address offset h.stand in
@@ -134,3 +137,29 @@ rows_room p counts extents fits less =
     small : (b : Bool) → one_if b ≤ 1
     small true = omega arith
     small false = omega arith
+
+-- as many segments as rows
+segments_many : (names : List SegmentName) (head n a o : ℕ) (rs : List RowCells) → length (segments_from names head n a o rs) ≡ length rs
+segments_many names head n a o [] = refl
+segments_many names head n a o (r ∷ rs) = omega (arith, segments_many names head (n + 1) (a + rounded_up SEGMENT_PAGE (r.end - a)) (o + rounded_up SEGMENT_PAGE (r.filled_end - a)) rs)
+
+pub rows_many : (names : List SegmentName) (cells : List Cell) (base head count : ℕ) (segments : List PlacedSegment) (placed : List PlacedCell) (address offset : ℕ)
+    → AreRows names cells base head count segments placed address offset → length segments ≡ count
+rows_many names cells base head count segments placed address offset h = ap length h.segments_are ∙ segments_many names head 0 base 0 h.rows ∙ h.many
+
+-- the signature ends where the tables' cost says, or before
+pub tables_end_low : (counts : Counts) (offset pages : ℕ) → (offset ≤ (tables_at counts offset pages).signature.end) × ((tables_at counts offset pages).signature.end ≤ tables_cost counts offset pages)
+tables_end_low counts offset pages =
+    let entries = rounded-near 8 (188 + counts.import_size * counts.imports + counts.name_bytes) (omega arith) in
+    let room = rounded-near 8 (2 * pages) (omega arith) in
+    let symbols = rounded-near 8 (offset + fixup_room counts pages + counts.trie) (omega arith) in
+    let symbols2 = rounded-above 8 (offset + fixup_room counts pages + counts.trie) (omega arith) in
+    let signature = rounded-near 16 (symbols_start counts offset pages + 16 * counts.symbols + counts.strings) (omega arith) in
+    let signature2 = rounded-above 16 (symbols_start counts offset pages + 16 * counts.symbols + counts.strings) (omega arith) in
+    let limit : ℕ = signature_start counts offset pages in
+    let digests : rounded_up 4096 (signature_start counts offset pages) / 4096 ≡ (signature_start counts offset pages + 4095) / 4096
+    = shr-whole (signature_start counts offset pages) in
+    (omega (arith, symbols2, signature2), omega (arith, entries, room, symbols, signature, digests))
+  where
+    shr-whole : (n : ℕ) → rounded_up 4096 n / 4096 ≡ (n + 4095) / 4096
+    shr-whole n = ap (λ (k : ℕ). k / 4096) (omega arith) ∙ div-mul-add ((n + 4095) / 4096) 4096 0 (omega arith)

@@ -1,9 +1,10 @@
 //! Placing a plan.
-ghost use Rattle.std.specs.Prelude.{◌≡◌, ◌+◌, ◌*◌, ◌<◌, ◌≤◌, ◌^◌, ◌++◌, ◌∷◌, [], length, OnOk, IfOk, IfErr};
+ghost use Rattle.std.specs.Prelude.{◌≡◌, ◌+◌, ◌*◌, ◌<◌, ◌≤◌, ◌^◌, ◌++◌, ◌∷◌, ◌&&◌, [], length, OnOk, IfOk, IfErr};
 ghost use Rattle.macho_layout.specs.Placements.{placed_of};
 ghost use Rattle.macho_layout.specs.steps.Sums.{members_cost, head_size, base_of, FitsLimits};
 ghost use Rattle.macho_model.specs.Segments.{list_if};
-ghost use Rattle.macho_layout.specs.steps.Laid.{FaultIs, IsLaidOut, zero_page};
+ghost use Rattle.macho_layout.specs.steps.Laid.{FaultIs, IsLaidOut, FaultStands, IsSmall, is_small_segment, is_small_tables, zero_page};
+ghost use Rattle.std.specs.List.{list_all};
 ghost use Rattle.macho_cells.specs.Stacks.{AreStacked};
 ghost use Rattle.macho_layout.specs.steps.Names.{mapped_names, merged_count};
 ghost use Rattle.macho_layout.specs.steps.Members.{members_of, first_flags};
@@ -22,7 +23,7 @@ use crate::plan::Plan;
 use crate::rows::{Rows, place_rows};
 use crate::sums::SEGMENT_PAGE;
 use macho_cells::{Stacked, stack, starts};
-use macho_model::{Counts, Limit, PlacedSegment};
+use macho_model::{Counts, Limit, Linkedit, PlacedSegment};
 use macho_records::SegmentName;
 use std::alloc::{AllocError, Global};
 
@@ -34,6 +35,8 @@ const MOST_SECTIONS: u64 = 255;
 const PAGEZERO_SIZE: u64 = 0x1_0000_0000;
 /// What the written sum has to stay below 2^64 by.
 const SPARE: u64 = 0x1_0000_0000;
+/// File offsets and sizes are told in 32 bits.
+const LIMIT_32: u64 = 0x1_0000_0000;
 
 impl Plan {
     /// Tests what is known before any address is.
@@ -170,6 +173,45 @@ impl Plan {
             linkedit,
         })
     }
+
+    /// Places the parts of an image.
+    ///
+    /// # Errors
+    ///
+    /// `TooMany` past 6 segments or 255 output sections; `TooLarge` without a placement where the written sum comes within
+    /// 4 GiB of 2^64, and with one where a file offset or size of it needs more than 32 bits; `OutOfMemory`.
+    pub fn compute(&self, alloc: Global, counts: &Counts) -> Result<Placement, LayoutFault>
+        requires { counts.now.import_size ≤ 8 }
+        ensures laid { IfOk result (λ q. IsLaidOut self.now counts.now (placed_of q)) }
+        ensures found { OnOk result (FitsLimits self.now counts.now) }
+        ensures small { IfOk result (λ q. IsSmall (placed_of q)) }
+        ensures why { IfErr result (FaultStands self.now counts.now) }
+    {
+        self.check(counts)?;
+        let names = self.mapped_names(alloc)?;
+        let stacked = self.stacked(alloc)?;
+        let rows = self.rows(alloc, counts, &names, &stacked)?;
+        let placement = self.placement(alloc, counts, &names, &stacked, rows)?;
+        if is_small(&placement.segments, &placement.linkedit) {
+            Ok(placement)
+        } else {
+            Err(LayoutFault::TooLarge {
+                placement: Some(placement),
+            })
+        }
+    }
+}
+
+/// Whether all file offsets and sizes fit 32 bits.
+fn is_small(segments: &[PlacedSegment], tables: &Linkedit) -> bool
+    ensures { result ≡ (list_all is_small_segment segments.now && is_small_tables tables.now) }
+{
+    for segment in segments {
+        if segment.file_offset >= LIMIT_32 || segment.file_size >= LIMIT_32 {
+            return false;
+        }
+    }
+    tables.signature.end < LIMIT_32
 }
 
 /// All segments: `__PAGEZERO` of an executable, those that are mapped, and `__LINKEDIT`.

@@ -1,5 +1,7 @@
 -- What a plan's placement is, step by step.
-use Rattle.std.specs.Prelude.{◌≡◌, ℕ, ◌+◌, ◌-◌, ◌*◌, ◌≤◌, ◌<◌, ◌^◌, List, [], ◌∷◌, ◌++◌, map, length, Option, Some, None}
+use Rattle.std.specs.Prelude.{◌≡◌, ℕ, ◌+◌, ◌-◌, ◌*◌, ◌≤◌, ◌<◌, ◌^◌, List, [], ◌∷◌, ◌++◌, map, length, Option, Some, None, Bool, true, false, nat_lt, ◌&&◌}
+use Rattle.std.specs.List.{list_all}
+use Rattle.macho_layout.specs.Placements.{placed_of}
 use Rattle.macho_model.specs.declared.placed.Counts.{Counts}
 use Rattle.macho_model.specs.declared.targets.Limit.TheVariants as limit
 use Rattle.macho_layout.specs.declared.fault.LayoutFault.{LayoutFault}
@@ -54,21 +56,20 @@ tables_segment address offset t = record {
 abbrev pub made_start : List Extent → List ℕ → ℕ → ℕ
 made_start extents starts made = number_at starts (length extents + made)
 
--- A placement from its members, its rows and the starts of its output sections.
-abbrev pub placement_from : Planning → Counts → List Planned → List Extent → List PlacedMember → List PlacedSegment → List PlacedCell → List ℕ → ℕ → ℕ → Placed
-placement_from p counts planned extents members segments cells starts address offset = record {
-  base = base_of p;
-  segments = list_if p.executable (zero_page ∷ []) ++ segments ++ tables_segment address offset (tables_at counts offset (row_pages segments)) ∷ [];
-  sections = placed_sections (one_if p.executable) (mapped_names p) members starts planned;
-  commons = placed_commons (length p.sections) members starts p.commons;
-  slots = placed_slots (made_start extents starts 3) p.slots;
-  stubs = placed_stubs (made_start extents starts 2) p.stubs;
-  output_sections = map (header_of p extents segments) cells;
-  init_offsets = range_at (made_start extents starts 0) (4 * counts.initializers);
-  unwind = range_at (made_start extents starts 1) counts.unwind;
-  template = template_range cells;
-  linkedit = tables_at counts offset (row_pages segments);
-}
+-- A placement is told by its members, its rows and the starts of its output sections.
+pub record IsFrom (p : Planning) (counts : Counts) (planned : List Planned) (extents : List Extent) (members : List PlacedMember) (rows : List PlacedSegment)
+    (cells : List PlacedCell) (starts : List ℕ) (address offset : ℕ) (q : Placed) : Type 0 where
+  pub base : q.base ≡ base_of p
+  pub segments : q.segments ≡ list_if p.executable (zero_page ∷ []) ++ rows ++ tables_segment address offset (tables_at counts offset (row_pages rows)) ∷ []
+  pub sections : q.sections ≡ placed_sections (one_if p.executable) (mapped_names p) members starts planned
+  pub commons : q.commons ≡ placed_commons (length p.sections) members starts p.commons
+  pub slots : q.slots ≡ placed_slots (made_start extents starts 3) p.slots
+  pub stubs : q.stubs ≡ placed_stubs (made_start extents starts 2) p.stubs
+  pub output_sections : q.output_sections ≡ map (header_of p extents rows) cells
+  pub init_offsets : q.init_offsets ≡ range_at (made_start extents starts 0) (4 * counts.initializers)
+  pub unwind : q.unwind ≡ range_at (made_start extents starts 1) counts.unwind
+  pub template : q.template ≡ template_range cells
+  pub linkedit : q.linkedit ≡ tables_at counts offset (row_pages rows)
 
 -- A placement is made of the plan's members in their output sections, of rows of these, and of the tables behind them.
 pub record IsLaidOut (p : Planning) (counts : Counts) (q : Placed) : Type 0 where
@@ -84,4 +85,28 @@ pub record IsLaidOut (p : Planning) (counts : Counts) (q : Placed) : Type 0 wher
   pub stacked : AreStacked (first_flags p) (members_of p) extents members
   pub rows : AreRows (mapped_names p) (cells_of p counts (mapped_names p) extents) (base_of p) (head_size p counts) (length (mapped_names p)) segments cells address offset
   pub have : HasStarts (length extents + 4) cells starts
-  pub is : q ≡ placement_from p counts planned extents members segments cells starts address offset
+  pub from_them : IsFrom p counts planned extents members segments cells starts address offset q
+
+-- file offsets and sizes are told in 32 bits; the tables end with the signature
+abbrev pub is_small_segment : PlacedSegment → Bool
+is_small_segment s = nat_lt s.file_offset (2 ^ 32) && nat_lt s.file_size (2 ^ 32)
+
+abbrev pub is_small_tables : Linkedit → Bool
+is_small_tables t = nat_lt t.signature.end (2 ^ 32)
+
+abbrev pub is_small : Placed → Bool
+is_small q = list_all is_small_segment q.segments && is_small_tables q.linkedit
+
+pub record IsSmall (q : Placed) : Type 0 where
+  pub small : is_small q ≡ true
+
+-- what is laid out, and doesn't fit 32 bits
+pub record IsTooLarge (p : Planning) (counts : Counts) (q : Placed) : Type 0 where
+  pub laid : IsLaidOut p counts q
+  pub large : is_small q ≡ false
+
+-- why a plan has no placement
+abbrev pub FaultStands : Planning → Counts → LayoutFault → Type 0
+FaultStands p counts (TooLarge (Some placement)) = IsTooLarge p counts (placed_of placement)
+FaultStands p counts OutOfMemory = Unit {0}
+FaultStands p counts fault = FaultIs p counts fault
