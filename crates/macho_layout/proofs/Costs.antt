@@ -16,10 +16,11 @@ use Rattle.macho_layout.specs.declared.spec.SectionSpec.{SectionSpec}
 use Rattle.macho_layout.specs.declared.spec.CommonSpec.{CommonSpec}
 use Rattle.macho_layout.specs.Plans.{Planning}
 use Rattle.macho_layout.specs.declared.spec.Planned.{Planned}
-use Rattle.macho_layout.specs.steps.Plans.{AreSound, specs_of}
+use Rattle.macho_layout.specs.Keys.{specs_of}
+use Rattle.macho_layout.specs.steps.Holding.{AreSound}
 use Rattle.std.proofs.lemmas.List.{get_or-map, length-map}
-use Rattle.macho_layout.specs.steps.Members.{type_of_spec, template_align, placed_align, section_member, common_member, members_of}
-use Rattle.macho_layout.specs.steps.Sums.{fitting, section_cost, members_cost}
+use Rattle.macho_layout.specs.Members.{type_of_spec, template_align, placed_align, section_member, common_member, members_of}
+use Rattle.macho_layout.specs.Sums.{fitting, section_cost, members_cost}
 
 -- the greatest of some numbers that are at most m
 pub most-max : {X : Type 0} (f : X → ℕ) (m a : ℕ) (xs : List X) → a ≤ m → AllByRecursion (λ x. f x ≤ m) xs → fold max a (map f xs) ≤ m

@@ -28,12 +28,13 @@ use Rattle.macho_layout.specs.declared.spec.CommonSpec.{CommonSpec}
 use Rattle.macho_layout.specs.declared.spec.OutputName.{OutputName}
 use Rattle.macho_layout.specs.declared.spec.Planned.{Planned}
 use Rattle.macho_layout.specs.Plans.{Planning}
-use Rattle.macho_layout.specs.steps.Keys.{same_output, output_key_of, outputs_seen}
-use Rattle.macho_layout.specs.steps.Plans.{specs_of, HoldNames, AreSound}
-use Rattle.macho_layout.specs.steps.Names.{section_outputs, merged_count, common_output, has_new_commons, COMMON_NAME}
-use Rattle.macho_layout.specs.steps.Members.{section_member, common_member, members_of, template_align, first_flags}
-use Rattle.macho_layout.specs.steps.Cells.{merged_cell, cell_if, text_cell, made_cells, cells_of}
-use Rattle.macho_layout.specs.steps.Sums.{members_cost}
+use Rattle.macho_layout.specs.Keys.{same_output, output_key_of, outputs_seen}
+use Rattle.macho_layout.specs.Keys.{specs_of}
+use Rattle.macho_layout.specs.steps.Holding.{HoldNames, AreSound}
+use Rattle.macho_layout.specs.Names.{section_outputs, merged_count, common_output, has_new_commons, COMMON_NAME}
+use Rattle.macho_layout.specs.Members.{section_member, common_member, members_of, template_align, first_flags}
+use Rattle.macho_layout.specs.Cells.{merged_cell, cell_if, text_cell, made_cells, cells_of}
+use Rattle.macho_layout.specs.Sums.{members_cost}
 use Rattle.macho_layout.proofs.Costs.{most-max, template-small, placed-small}
 
 -- the first place that passes is inside where some place passes

@@ -10,7 +10,7 @@ use Rattle.std.specs.Int.{next_multiple_of}
 use Rattle.std.proofs.lemmas.Nat.{div-add-mod', le-div, mul-le}
 use Rattle.std.proofs.lemmas.Bool.{ne_eqb}
 use Rattle.std.proofs.lemmas.List.{append-nil, append_assoc, map-append, length_push, get_or_default}
-use Rattle.macho_layout.specs.steps.Keys.{padded}
+use Rattle.macho_layout.specs.Keys.{padded}
 use Rattle.std.proofs.lemmas.List.Concat.{flat_map-append}
 use Rattle.std.proofs.lemmas.List.Sums.{sum_by-append}
 use Rattle.macho_bytes.specs.Numbers.{rounded_up}
@@ -26,7 +26,7 @@ use Rattle.macho_cells.proofs.Rows.{row-rises}
 use Rattle.macho_cells.proofs.Ranks.{of_ranks-append, of_ranks-none, fewer-cost, ranks-cost}
 use Rattle.macho_cells.proofs.Adding.{adds-within}
 use Rattle.macho_layout.specs.declared.rows.Row.{Row}
-use Rattle.macho_layout.specs.steps.Rows.{RowCells, cells_in_row, row_segment, IsRow, AddsRow, row_at, front_at, RowsFrom, segments_from, AreRows}
+use Rattle.macho_layout.specs.Rows.{RowCells, cells_in_row, row_segment, IsRow, AddsRow, row_at, front_at, RowsFrom, segments_from, AreRows}
 
 -- what is rounded keeps its order
 pub rounded-mono : (k a b : ℕ) → 0 < k → a ≤ b → rounded_up k a ≤ rounded_up k b

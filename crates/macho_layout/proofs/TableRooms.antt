@@ -19,16 +19,16 @@ use Rattle.macho_cells.specs.Costs.{extent_cost}
 use Rattle.macho_cells.specs.Ranks.{cell_cost, of_ranks}
 use Rattle.macho_cells.proofs.Ranks.{ranks-cost}
 use Rattle.macho_layout.specs.Plans.{Planning}
-use Rattle.macho_layout.specs.steps.Keys.{padded}
-use Rattle.macho_layout.specs.steps.Names.{mapped_names}
-use Rattle.macho_layout.specs.steps.Cells.{cells_of}
-use Rattle.macho_layout.specs.steps.Rows.{RowCells, row_segment, row_at, front_at, RowsFrom, segments_from, AreRows}
-use Rattle.macho_layout.specs.steps.Places.{is_pointer_segment, segment_pages, row_pages}
-use Rattle.macho_layout.specs.steps.Sums.{members_cost, written_sum, head_size, base_of, FitsLimits}
+use Rattle.macho_layout.specs.Keys.{padded}
+use Rattle.macho_layout.specs.Names.{mapped_names}
+use Rattle.macho_layout.specs.Cells.{cells_of}
+use Rattle.macho_layout.specs.Rows.{RowCells, row_segment, row_at, front_at, RowsFrom, segments_from, AreRows}
+use Rattle.macho_layout.specs.Places.{is_pointer_segment, segment_pages, row_pages}
+use Rattle.macho_layout.specs.Sums.{members_cost, written_sum, head_size, base_of, FitsLimits}
 use Rattle.macho_model.specs.Order.{fixup_room, signature_room}
 use Rattle.std.proofs.lemmas.Nat.{div-mul-add}
 use Rattle.macho_cells.proofs.Multiples.{rounded-near, rounded-above}
-use Rattle.macho_layout.specs.steps.Tables.{tables_cost, tables_end, tables_at, symbols_start, signature_start}
+use Rattle.macho_layout.specs.Tables.{tables_cost, tables_end, tables_at, symbols_start, signature_start}
 use Rattle.macho_layout.proofs.RowSteps.{parts-cost, paged-near, row-cost}
 use Rattle.macho_layout.proofs.Rooms.{cells-cost}
 

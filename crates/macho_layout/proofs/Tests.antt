@@ -8,8 +8,8 @@ use mir.Val.{bool_byte}
 use Rattle.macho_model.specs.Segments.{TEXT, DATA_CONST, DATA, list_if, one_if}
 use Rattle.macho_records.specs.declared.segments.SegmentName.{SegmentName}
 use Rattle.macho_layout.specs.Plans.{Planning}
-use Rattle.macho_layout.specs.steps.Keys.{padded}
-use Rattle.macho_layout.specs.steps.Names.{is_other, section_segments, mapped_names, has_data_const, has_data}
+use Rattle.macho_layout.specs.Keys.{padded}
+use Rattle.macho_layout.specs.Names.{is_other, section_segments, mapped_names, has_data_const, has_data}
 use Rattle.std.proofs.lemmas.List.Sums.{prefix_len-le-length}
 
 pub or_same : (a b r : Bool) → a ≡ true → r ≡ b → r ≡ (not a || b)

@@ -4,8 +4,8 @@
 //! makes, data, initial values of thread-local variables with bytes and without, commons, other zerofill.
 ghost use Rattle.std.specs.Prelude.{◌≡◌, ◌+◌, ◌<◌, ◌≤◌, ◌^◌, ◌*◌, ◌++◌, length, IfOk, OnOk};
 ghost use Rattle.macho_records.specs.Sections.{is_zerofill_type, has_instructions};
-ghost use Rattle.macho_layout.specs.steps.Cells.{class_of, class_of_data, segment_number, merged_cell, made_cells, cells_of, FitSizes, cell_if, is_template_class};
-ghost use Rattle.macho_layout.specs.steps.Names.{merged_count};
+ghost use Rattle.macho_layout.specs.Cells.{class_of, class_of_data, segment_number, merged_cell, made_cells, cells_of, FitSizes, cell_if, is_template_class};
+ghost use Rattle.macho_layout.specs.Names.{merged_count};
 
 use crate::names::common_name;
 use crate::plan::Plan;

@@ -1,15 +1,15 @@
 //! Placing a plan.
 ghost use Rattle.std.specs.Prelude.{◌≡◌, ◌+◌, ◌*◌, ◌<◌, ◌≤◌, ◌^◌, ◌++◌, ◌∷◌, ◌&&◌, [], length, OnOk, IfOk, IfErr};
 ghost use Rattle.macho_layout.specs.Placements.{placed_of};
-ghost use Rattle.macho_layout.specs.steps.Sums.{members_cost, head_size, base_of, FitsLimits};
+ghost use Rattle.macho_layout.specs.Sums.{members_cost, head_size, base_of, FitsLimits};
 ghost use Rattle.macho_model.specs.Segments.{list_if};
-ghost use Rattle.macho_layout.specs.steps.Laid.{FaultIs, IsLaidOut, FaultStands, IsSmall, is_small_segment, is_small_tables, zero_page};
+ghost use Rattle.macho_layout.specs.Laid.{FaultIs, IsLaidOut, FaultStands, IsSmall, is_small_segment, is_small_tables, zero_page};
 ghost use Rattle.std.specs.List.{list_all};
 ghost use Rattle.macho_cells.specs.Stacks.{AreStacked};
-ghost use Rattle.macho_layout.specs.steps.Names.{mapped_names, merged_count};
-ghost use Rattle.macho_layout.specs.steps.Members.{members_of, first_flags};
-ghost use Rattle.macho_layout.specs.steps.Cells.{cells_of};
-ghost use Rattle.macho_layout.specs.steps.Rows.{AreRows};
+ghost use Rattle.macho_layout.specs.Names.{mapped_names, merged_count};
+ghost use Rattle.macho_layout.specs.Members.{members_of, first_flags};
+ghost use Rattle.macho_layout.specs.Cells.{cells_of};
+ghost use Rattle.macho_layout.specs.Rows.{AreRows};
 
 use crate::cells::{MADE_INIT_OFFSETS, MADE_SLOTS, MADE_STUBS, MADE_UNWIND_INFO};
 use crate::fault::LayoutFault;

@@ -1,6 +1,6 @@
 //! The section headers of the image.
 ghost use Rattle.std.specs.Prelude.{◌≡◌, ◌≤◌, length, IfOk, map};
-ghost use Rattle.macho_layout.specs.steps.Headers.{made_title, title_of, header_of, file_offset_of};
+ghost use Rattle.macho_layout.specs.Headers.{made_title, title_of, header_of, file_offset_of};
 
 use crate::cells::{CLASSES, MADE_INIT_OFFSETS, MADE_STUBS, MADE_UNWIND_INFO, is_zerofill};
 use crate::plan::Plan;

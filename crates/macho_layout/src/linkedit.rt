@@ -1,6 +1,6 @@
 //! The tables of `__LINKEDIT`, one behind the other in the file.
 ghost use Rattle.std.specs.Prelude.{◌≡◌, ◌+◌, ◌*◌, ◌<◌, ◌≤◌, ◌^◌};
-ghost use Rattle.macho_layout.specs.steps.Tables.{tables_at, tables_cost};
+ghost use Rattle.macho_layout.specs.Tables.{tables_at, tables_cost};
 ghost use Rattle.macho_model.specs.Order.{fixup_room};
 
 use macho_model::{Counts, Linkedit, Range64};

@@ -1,8 +1,8 @@
 //! The members of output sections: sections and commons, with the alignments that they are placed at.
 ghost use Rattle.std.specs.Prelude.{◌≡◌, ◌<◌, ◌^◌, IfOk};
-ghost use Rattle.macho_layout.specs.steps.Members.{template_align, placed_align, members_of, first_flags};
+ghost use Rattle.macho_layout.specs.Members.{template_align, placed_align, members_of, first_flags};
 ghost use Rattle.macho_records.specs.Sections.{is_template_type};
-ghost use Rattle.macho_layout.specs.steps.Names.{merged_count};
+ghost use Rattle.macho_layout.specs.Names.{merged_count};
 
 use crate::plan::Plan;
 use crate::spec::{CommonSpec, SectionSpec};

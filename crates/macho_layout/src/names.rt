@@ -2,7 +2,7 @@
 ghost use Rattle.std.specs.Prelude.{◌≡◌, ◌+◌, ◌^◌, ◌≤◌, ◌++◌, ◌∷◌, [], length, filter, IfOk, OnOk};
 ghost use Rattle.macho_records.specs.Segments.{text_of};
 ghost use Rattle.macho_model.specs.Segments.{is_known_segment, list_if};
-ghost use Rattle.macho_layout.specs.steps.Names.{is_other, has_data_const, has_data, mapped_names, segment_count, has_new_commons, merged_count, output_at, common_output, COMMON_NAME};
+ghost use Rattle.macho_layout.specs.Names.{is_other, has_data_const, has_data, mapped_names, segment_count, has_new_commons, merged_count, output_at, common_output, COMMON_NAME};
 
 use crate::plan::Plan;
 use crate::spec::OutputName;

@@ -1,6 +1,6 @@
 //! The addresses of sections, commons, slots and stubs, and the ranges of what the linker makes.
 ghost use Rattle.std.specs.Prelude.{◌≡◌, ◌+◌, ◌*◌, ◌%◌, ◌^◌, ◌<◌, length, IfOk};
-ghost use Rattle.macho_layout.specs.steps.Places.{number_at, address_at, range_at, cover, template_range, segment_pages, row_pages, placed_section, placed_sections, placed_commons, placed_slots, placed_stubs};
+ghost use Rattle.macho_layout.specs.Places.{number_at, address_at, range_at, cover, template_range, segment_pages, row_pages, placed_section, placed_sections, placed_commons, placed_slots, placed_stubs};
 
 use crate::cells::{CLASSES, is_template_class, segment_number};
 use crate::spec::{CommonSpec, Planned, SectionSpec, StubSpec};

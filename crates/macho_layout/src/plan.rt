@@ -27,7 +27,8 @@ impl Model for Plan {
     ghost Value = { Planning };
 
     ghost use Rattle.std.specs.Prelude.{◌≡◌, map};
-    ghost use Rattle.macho_layout.specs.steps.Plans.{specs_of, HoldNames, AreSound};
+    ghost use Rattle.macho_layout.specs.Keys.{specs_of};
+    ghost use Rattle.macho_layout.specs.steps.Holding.{HoldNames, AreSound};
 
     ghost view = { λ p. record { executable = p.executable; sections = specs_of p.sections.items; commons = p.commons.items; slots = p.slots.items; stubs = p.stubs.items } };
 

@@ -1,7 +1,7 @@
 //! Rows: the segments one behind the other, and in each its output sections.
 ghost use Rattle.std.specs.Prelude.{◌≡◌, ◌+◌, ◌*◌, ◌<◌, ◌≤◌, ◌^◌, length, IfOk, All, sum_by};
 ghost use Rattle.macho_cells.specs.Ranks.{cell_cost, of_ranks};
-ghost use Rattle.macho_layout.specs.steps.Rows.{AddsRow, AreRows, front_at};
+ghost use Rattle.macho_layout.specs.Rows.{AddsRow, AreRows, front_at};
 
 use crate::cells::{CLASSES, FILLED_CLASSES};
 use crate::sums::SEGMENT_PAGE;

@@ -1,9 +1,9 @@
 //! The written sum: how long the image may be, from sizes alone.
 ghost use Rattle.std.specs.Prelude.{◌≡◌, ◌+◌, ◌<◌, ◌≤◌, ◌^◌, ◌*◌, ◌/◌, length, All, sum_by};
 ghost use Rattle.macho_cells.specs.Costs.{cost_of};
-ghost use Rattle.macho_layout.specs.steps.Names.{segment_count, merged_count};
-ghost use Rattle.macho_layout.specs.steps.Members.{template_align, placed_align, section_member, common_member};
-ghost use Rattle.macho_layout.specs.steps.Sums.{fitting, members_cost, output_count, unsigned_sum, written_sum, section_cost};
+ghost use Rattle.macho_layout.specs.Names.{segment_count, merged_count};
+ghost use Rattle.macho_layout.specs.Members.{template_align, placed_align, section_member, common_member};
+ghost use Rattle.macho_layout.specs.Sums.{fitting, members_cost, output_count, unsigned_sum, written_sum, section_cost};
 
 use crate::members::placed_align;
 use crate::plan::Plan;

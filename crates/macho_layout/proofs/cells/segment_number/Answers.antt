@@ -5,7 +5,7 @@ use Rattle.std.specs.List.{position_or_len}
 use Rattle.std.proofs.lemmas.List.Sums.{position_or_len_is}
 use Rattle.std.proofs.lemmas.List.{get_or_default}
 use Rattle.macho_records.specs.declared.segments.SegmentName.{SegmentName}
-use Rattle.macho_layout.specs.steps.Keys.{padded, same_segment}
+use Rattle.macho_layout.specs.Keys.{padded, same_segment}
 use Rattle.macho_layout.proofs.cells.segment_number.Goals as goal
 
 pub returns-then-eq-clause-value : goal.returns-then-eq-clause-value

@@ -1,6 +1,6 @@
 -- What holds before number k is that the list has the first k.
 use Rattle.std.proofs.Common.{◌≡◌, take}
-use Rattle.macho_layout.specs.steps.Places.{placed_commons}
+use Rattle.macho_layout.specs.Places.{placed_commons}
 use Rattle.macho_layout.proofs.places.placed_commons.Given as goal
 
 abbrev pub invariant-loop-number : goal.invariant-loop-number

@@ -1,6 +1,6 @@
 -- The pages: what holds before segment k is that they are those of the first k, fewer than 2^50 for each.
 use Rattle.std.proofs.Common.{◌≡◌, ◌*◌, ◌^◌, ◌≤◌, take}
-use Rattle.macho_layout.specs.steps.Places.{row_pages}
+use Rattle.macho_layout.specs.Places.{row_pages}
 use Rattle.macho_layout.proofs.places.pointer_pages.Given as goal
 
 abbrev pub invariant-loop-segment : goal.invariant-loop-segment

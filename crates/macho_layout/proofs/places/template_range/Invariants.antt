@@ -1,6 +1,6 @@
 -- The template: what holds before number k is that it is that of the first k.
 use Rattle.std.proofs.Common.{◌≡◌, take}
-use Rattle.macho_layout.specs.steps.Places.{template_range}
+use Rattle.macho_layout.specs.Places.{template_range}
 use Rattle.macho_layout.proofs.places.template_range.Given as goal
 
 abbrev pub invariant-loop-one : goal.invariant-loop-one

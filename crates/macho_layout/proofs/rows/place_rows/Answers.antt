@@ -4,7 +4,7 @@
 -- still below the bound.
 use Rattle.std.proofs.Common.{◌≡◌, ℕ, ◌+◌, ◌≤◌, ◌<◌, List, ◌++◌, ◌∷◌, [], length, sym, ap, ◌∙◌, subst, arith}
 use Rattle.macho_model.specs.declared.placed.PlacedSegment.{PlacedSegment}
-use Rattle.macho_layout.specs.steps.Rows.{AreRows}
+use Rattle.macho_layout.specs.Rows.{AreRows}
 use Rattle.macho_layout.proofs.RowSteps.{rows_none, row_room, after_row}
 use Rattle.macho_layout.proofs.rows.place_rows.Goals as goal
 

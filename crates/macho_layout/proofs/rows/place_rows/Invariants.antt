@@ -1,5 +1,5 @@
 -- All segments: what holds before number k is that the first k rows were placed.
-use Rattle.macho_layout.specs.steps.Rows.{AreRows}
+use Rattle.macho_layout.specs.Rows.{AreRows}
 use Rattle.macho_layout.proofs.rows.place_rows.Given as goal
 
 abbrev pub invariant-loop-number : goal.invariant-loop-number

@@ -3,8 +3,8 @@ use Rattle.std.proofs.Common.{◌≡◌, ℕ, ◌+◌, None, List, [], sum_by, g
 use Rattle.std.proofs.lemmas.List.{take_all}
 use Rattle.std.proofs.lemmas.List.Sums.{sum_by_more, sum_by_more_le}
 use Rattle.macho_layout.specs.declared.spec.Planned.{Planned}
-use Rattle.macho_layout.specs.steps.Members.{placed_align}
-use Rattle.macho_layout.specs.steps.Sums.{fitting, section_cost}
+use Rattle.macho_layout.specs.Members.{placed_align}
+use Rattle.macho_layout.specs.Sums.{fitting, section_cost}
 use Rattle.macho_layout.proofs.Costs.{fitting-none, fitting-some, fitting-is, fitting-below}
 use Rattle.macho_layout.proofs.sums.sections_cost.Goals as goal
 

@@ -1,7 +1,7 @@
 -- What sections cost: what holds before section k is that the sum has the first k.
 use Rattle.std.proofs.Common.{◌≡◌, ◌<◌, ◌^◌, take, sum_by}
-use Rattle.macho_layout.specs.steps.Members.{placed_align}
-use Rattle.macho_layout.specs.steps.Sums.{section_cost}
+use Rattle.macho_layout.specs.Members.{placed_align}
+use Rattle.macho_layout.specs.Sums.{section_cost}
 use Rattle.macho_layout.proofs.sums.sections_cost.Given as goal
 
 abbrev pub invariant-loop-section : goal.invariant-loop-section

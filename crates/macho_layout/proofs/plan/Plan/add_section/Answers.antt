@@ -5,8 +5,9 @@ use Rattle.indexmap.specs.IndexSet.{insert_key}
 use Rattle.macho_records.specs.declared.segments.SegmentName.{SegmentName}
 use Rattle.macho_layout.specs.declared.spec.OutputName.{OutputName}
 use Rattle.macho_layout.specs.declared.spec.Planned.{Planned}
-use Rattle.macho_layout.specs.steps.Keys.{same_segment, same_output, segment_key_of, output_key_of}
-use Rattle.macho_layout.specs.steps.Plans.{specs_of, HoldNames, AreSound}
+use Rattle.macho_layout.specs.Keys.{same_segment, same_output, segment_key_of, output_key_of}
+use Rattle.macho_layout.specs.Keys.{specs_of}
+use Rattle.macho_layout.specs.steps.Holding.{HoldNames, AreSound}
 use Rattle.macho_layout.proofs.Tables.{names_after, sound_more}
 use Rattle.macho_layout.proofs.plan.Plan.add_section.Goals as goal
 

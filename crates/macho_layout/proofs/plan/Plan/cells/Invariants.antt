@@ -2,7 +2,7 @@
 use Rattle.std.proofs.Common.{◌≡◌, map}
 use Rattle.std.specs.List.{range_with_len}
 use Rattle.macho_cells.specs.Stacks.{extent_at}
-use Rattle.macho_layout.specs.steps.Cells.{merged_cell}
+use Rattle.macho_layout.specs.Cells.{merged_cell}
 use Rattle.macho_layout.proofs.plan.Plan.cells.Given as goal
 
 abbrev pub invariant-loop-number : goal.invariant-loop-number

@@ -2,7 +2,7 @@
 use Rattle.std.proofs.Common.{◌≡◌, ℕ, Bool, List, sym, ap, ◌∙◌, arith}
 use Rattle.std.specs.List.{position_or_len}
 use Rattle.macho_layout.specs.declared.spec.OutputName.{OutputName}
-use Rattle.macho_layout.specs.steps.Keys.{same_output}
+use Rattle.macho_layout.specs.Keys.{same_output}
 use Rattle.macho_layout.proofs.Tests.{place_some, place_none}
 use Rattle.macho_layout.proofs.plan.Plan.common_output.Goals as goal
 

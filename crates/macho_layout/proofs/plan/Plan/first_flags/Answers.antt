@@ -5,8 +5,8 @@ use Rattle.std.proofs.Common.{◌≡◌, ℕ, ◌+◌, List, ◌∷◌, [], ◌+
 use Rattle.std.specs.List.{range_with_len}
 use Rattle.std.proofs.lemmas.List.FromFn.{map-range_with_len_more}
 use Rattle.macho_layout.specs.declared.spec.OutputName.{OutputName}
-use Rattle.macho_layout.specs.steps.Names.{output_at, merged_count}
-use Rattle.macho_layout.specs.steps.Members.{first_flags}
+use Rattle.macho_layout.specs.Names.{output_at, merged_count}
+use Rattle.macho_layout.specs.Members.{first_flags}
 use Rattle.macho_layout.proofs.plan.Plan.first_flags.Goals as goal
 
 pub loop-number-preserved : goal.loop-number-preserved

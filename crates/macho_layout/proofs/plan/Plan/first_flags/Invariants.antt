@@ -1,7 +1,7 @@
 -- The types of the output sections: what holds before number k is that the list has those of the first k.
 use Rattle.std.proofs.Common.{◌≡◌, map}
 use Rattle.std.specs.List.{range_with_len}
-use Rattle.macho_layout.specs.steps.Names.{output_at}
+use Rattle.macho_layout.specs.Names.{output_at}
 use Rattle.macho_layout.proofs.plan.Plan.first_flags.Given as goal
 
 abbrev pub invariant-loop-number : goal.invariant-loop-number

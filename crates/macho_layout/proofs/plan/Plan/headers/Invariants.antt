@@ -1,6 +1,6 @@
 -- The headers: what holds before number k is that the list has those of the first k.
 use Rattle.std.proofs.Common.{◌≡◌, map, take}
-use Rattle.macho_layout.specs.steps.Headers.{header_of}
+use Rattle.macho_layout.specs.Headers.{header_of}
 use Rattle.macho_layout.proofs.plan.Plan.headers.Given as goal
 
 abbrev pub invariant-loop-one : goal.invariant-loop-one

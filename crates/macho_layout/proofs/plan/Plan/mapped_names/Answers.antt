@@ -5,8 +5,8 @@ use Rattle.std.proofs.Common.{◌≡◌, List, [], ◌∷◌, ◌++◌, filter, 
 use Rattle.macho_records.specs.declared.segments.SegmentName.{SegmentName}
 use Rattle.macho_model.specs.Segments.{TEXT, DATA_CONST, DATA, list_if}
 use Rattle.macho_layout.specs.Plans.{Planning}
-use Rattle.macho_layout.specs.steps.Keys.{padded}
-use Rattle.macho_layout.specs.steps.Names.{is_other, section_segments, mapped_names, has_data_const, has_data}
+use Rattle.macho_layout.specs.Keys.{padded}
+use Rattle.macho_layout.specs.Names.{is_other, section_segments, mapped_names, has_data_const, has_data}
 use Rattle.macho_layout.proofs.plan.Plan.mapped_names.Goals as goal
 
 pub returns : goal.returns

@@ -6,9 +6,9 @@ use Rattle.macho_cells.specs.declared.members.Member.{Member}
 use Rattle.macho_layout.specs.declared.spec.CommonSpec.{CommonSpec}
 use Rattle.macho_layout.specs.declared.spec.OutputName.{OutputName}
 use Rattle.macho_layout.specs.Plans.{Planning}
-use Rattle.macho_layout.specs.steps.Keys.{same_output}
-use Rattle.macho_layout.specs.steps.Names.{COMMON_NAME, section_outputs}
-use Rattle.macho_layout.specs.steps.Members.{section_member, common_member, members_of}
+use Rattle.macho_layout.specs.Keys.{same_output}
+use Rattle.macho_layout.specs.Names.{COMMON_NAME, section_outputs}
+use Rattle.macho_layout.specs.Members.{section_member, common_member, members_of}
 use Rattle.macho_layout.proofs.plan.Plan.members.Goals as goal
 
 pub overflow_cast-commons : goal.overflow_cast-commons

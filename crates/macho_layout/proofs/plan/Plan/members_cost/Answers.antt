@@ -7,9 +7,9 @@ use Rattle.macho_layout.specs.declared.spec.Planned.{Planned}
 use Rattle.macho_layout.specs.declared.spec.SectionSpec.{SectionSpec}
 use Rattle.macho_layout.specs.declared.spec.CommonSpec.{CommonSpec}
 use Rattle.macho_layout.specs.Plans.{Planning}
-use Rattle.macho_layout.specs.steps.Plans.{specs_of}
-use Rattle.macho_layout.specs.steps.Members.{placed_align, template_align}
-use Rattle.macho_layout.specs.steps.Sums.{fitting, section_cost, members_cost}
+use Rattle.macho_layout.specs.Keys.{specs_of}
+use Rattle.macho_layout.specs.Members.{placed_align, template_align}
+use Rattle.macho_layout.specs.Sums.{fitting, section_cost, members_cost}
 use Rattle.macho_layout.proofs.Costs.{fitting-none, fitting-some, aligns_small, members_split}
 use Rattle.macho_layout.proofs.plan.Plan.members_cost.Goals as goal
 

@@ -2,7 +2,7 @@
 use Rattle.std.proofs.Common.{◌≡◌, ℕ, ◌+◌, Bool, length, sym, ap, ◌∙◌, arith}
 use Rattle.macho_model.specs.Segments.{one_if}
 use Rattle.macho_layout.specs.Plans.{Planning}
-use Rattle.macho_layout.specs.steps.Names.{has_new_commons, section_outputs}
+use Rattle.macho_layout.specs.Names.{has_new_commons, section_outputs}
 use Rattle.macho_layout.proofs.Tests.{one_is, one_small}
 use Rattle.macho_layout.proofs.plan.Plan.merged_count.Goals as goal
 

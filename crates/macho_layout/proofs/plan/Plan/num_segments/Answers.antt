@@ -3,8 +3,8 @@ use Rattle.std.proofs.Common.{◌≡◌, ℕ, ◌+◌, List, [], ◌∷◌, ◌+
 use Rattle.macho_records.specs.declared.segments.SegmentName.{SegmentName}
 use Rattle.macho_model.specs.Segments.{TEXT, DATA_CONST, DATA, list_if, one_if}
 use Rattle.macho_layout.specs.Plans.{Planning}
-use Rattle.macho_layout.specs.steps.Keys.{padded}
-use Rattle.macho_layout.specs.steps.Names.{is_other, section_segments, mapped_names, has_data_const, has_data}
+use Rattle.macho_layout.specs.Keys.{padded}
+use Rattle.macho_layout.specs.Names.{is_other, section_segments, mapped_names, has_data_const, has_data}
 use Rattle.macho_layout.proofs.Tests.{one_is, length-list_if, count_of_names}
 use Rattle.macho_layout.proofs.plan.Plan.num_segments.Goals as goal
 

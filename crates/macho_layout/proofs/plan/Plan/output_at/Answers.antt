@@ -2,7 +2,7 @@
 use Rattle.std.proofs.Common.{◌≡◌, ℕ, sym, ap, ◌∙◌, arith}
 use Rattle.std.specs.Option.{unwrap_or}
 use Rattle.std.proofs.lemmas.Option.{get_or_from_slice_get, unwrap_or-slice_get}
-use Rattle.macho_layout.specs.steps.Names.{COMMON_NAME}
+use Rattle.macho_layout.specs.Names.{COMMON_NAME}
 use Rattle.macho_layout.proofs.plan.Plan.output_at.Goals as goal
 
 pub returns-in-Some : goal.returns-in-Some

@@ -7,7 +7,7 @@ use Rattle.macho_records.specs.declared.segments.SegmentName.{SegmentName}
 use Rattle.macho_model.specs.declared.placed.PlacedSegment.{PlacedSegment}
 use Rattle.macho_cells.specs.declared.place.PlacedCell.{PlacedCell}
 use Rattle.macho_cells.specs.declared.members.Extent.{Extent}
-use Rattle.macho_layout.specs.steps.Names.{mapped_names}
+use Rattle.macho_layout.specs.Names.{mapped_names}
 use Rattle.macho_bytes.specs.Numbers.{rounded_up}
 use Rattle.macho_model.specs.declared.placed.Linkedit.{Linkedit}
 use Rattle.macho_model.specs.Segments.{SEGMENT_PAGE, LINKEDIT, one_if, list_if}
@@ -15,14 +15,14 @@ use Rattle.std.proofs.lemmas.List.{length-map}
 use Rattle.macho_cells.specs.Ranks.{HasStarts}
 use Rattle.macho_layout.specs.declared.spec.CommonSpec.{CommonSpec}
 use Rattle.macho_layout.specs.declared.spec.Planned.{Planned}
-use Rattle.macho_layout.specs.steps.Keys.{padded}
-use Rattle.macho_layout.specs.steps.Plans.{specs_of}
+use Rattle.macho_layout.specs.Keys.{padded}
+use Rattle.macho_layout.specs.Keys.{specs_of}
 use Rattle.macho_layout.specs.Plans.{Planning}
-use Rattle.macho_layout.specs.steps.Laid.{IsLaidOut, made_start, zero_page, tables_segment}
+use Rattle.macho_layout.specs.Laid.{IsLaidOut, made_start, zero_page, tables_segment}
 use Rattle.macho_layout.proofs.Tests.{one_is}
-use Rattle.macho_layout.specs.steps.Places.{row_pages, number_at, range_at, template_range, placed_commons, placed_slots, placed_stubs}
-use Rattle.macho_layout.specs.steps.Tables.{tables_cost, tables_at}
-use Rattle.macho_layout.specs.steps.Sums.{base_of}
+use Rattle.macho_layout.specs.Places.{row_pages, number_at, range_at, template_range, placed_commons, placed_slots, placed_stubs}
+use Rattle.macho_layout.specs.Tables.{tables_cost, tables_at}
+use Rattle.macho_layout.specs.Sums.{base_of}
 use Rattle.macho_layout.proofs.Costs.{members-cost-is}
 use Rattle.macho_layout.proofs.Rooms.{placed_numbered}
 use Rattle.macho_layout.proofs.RowSteps.{paged, paged-near}

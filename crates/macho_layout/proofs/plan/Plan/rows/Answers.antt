@@ -8,9 +8,9 @@ use Rattle.macho_cells.specs.Ranks.{cell_cost}
 use Rattle.macho_layout.specs.declared.spec.SectionSpec.{SectionSpec}
 use Rattle.macho_layout.specs.declared.spec.CommonSpec.{CommonSpec}
 use Rattle.macho_layout.specs.Plans.{Planning}
-use Rattle.macho_layout.specs.steps.Names.{mapped_names}
-use Rattle.macho_layout.specs.steps.Members.{members_of, first_flags}
-use Rattle.macho_layout.specs.steps.Cells.{cells_of}
+use Rattle.macho_layout.specs.Names.{mapped_names}
+use Rattle.macho_layout.specs.Members.{members_of, first_flags}
+use Rattle.macho_layout.specs.Cells.{cells_of}
 use Rattle.macho_layout.proofs.Costs.{members-cost-is}
 use Rattle.macho_layout.proofs.Rooms.{members_small, flags_many, extents_small, cells_small}
 use Rattle.macho_layout.proofs.TableRooms.{rows_room}

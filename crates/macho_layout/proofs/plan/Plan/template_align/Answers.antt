@@ -8,8 +8,8 @@ use Rattle.macho_records.specs.Sections.{is_template_type}
 use Rattle.macho_layout.specs.declared.spec.SectionSpec.{SectionSpec}
 use Rattle.macho_layout.specs.declared.spec.Planned.{Planned}
 use Rattle.macho_layout.specs.Plans.{Planning}
-use Rattle.macho_layout.specs.steps.Plans.{specs_of}
-use Rattle.macho_layout.specs.steps.Members.{type_of_spec, template_align}
+use Rattle.macho_layout.specs.Keys.{specs_of}
+use Rattle.macho_layout.specs.Members.{type_of_spec, template_align}
 use Rattle.macho_layout.proofs.plan.Plan.template_align.Goals as goal
 
 pub returns : goal.returns

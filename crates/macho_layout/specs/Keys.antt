@@ -7,6 +7,7 @@ use Rattle.macho_records.specs.Segments.{bytes_of, name_field}
 use Rattle.macho_model.specs.Needs.{distinct}
 use Rattle.macho_layout.specs.declared.spec.SectionSpec.{SectionSpec}
 use Rattle.macho_layout.specs.declared.spec.OutputName.{OutputName}
+use Rattle.macho_layout.specs.declared.spec.Planned.{Planned}
 
 -- a name with zeros behind its first NUL
 abbrev pub padded : List ℕ → SegmentName
@@ -30,3 +31,7 @@ segments_seen sections = distinct same_segment (map segment_key_of sections)
 
 unfoldable pub outputs_seen : List SectionSpec → List OutputName
 outputs_seen sections = distinct same_output (map output_key_of sections)
+
+-- the sections of a plan, without the numbers of their output sections
+abbrev pub specs_of : List Planned → List SectionSpec
+specs_of sections = map (λ s. s.spec) sections

@@ -4,8 +4,8 @@ use Rattle.macho_model.specs.declared.placed.Counts.{Counts}
 use Rattle.macho_model.specs.Segments.{SEGMENT_PAGE, PAGEZERO_SIZE, one_if}
 use Rattle.macho_model.specs.WrittenSum.{SLOT_SIZE, STUB_SIZE, INITIALIZER_SIZE, SYMBOL_SIZE, SIGNED_PAGE, DIGEST_SIZE, TABLES_FIXED, SIGNATURE_FIXED, padding_of}
 use Rattle.macho_layout.specs.Plans.{Planning}
-use Rattle.macho_layout.specs.steps.Names.{segment_count, merged_count}
-use Rattle.macho_layout.specs.steps.Members.{template_align, placed_align}
+use Rattle.macho_layout.specs.Names.{segment_count, merged_count}
+use Rattle.macho_layout.specs.Members.{template_align, placed_align}
 
 -- a number that fits 64 bits
 abbrev pub fitting : ℕ → Option ℕ

@@ -10,7 +10,7 @@ use Rattle.macho_cells.specs.declared.place.PlacedCell.{PlacedCell}
 use Rattle.macho_cells.specs.Blocks.{IsStack}
 use Rattle.macho_cells.specs.Ranks.{cell_block, cell_cost, of_ranks}
 use Rattle.macho_layout.specs.declared.rows.Row.{Row}
-use Rattle.macho_layout.specs.steps.Keys.{padded}
+use Rattle.macho_layout.specs.Keys.{padded}
 
 -- what was placed for a row: output sections with bytes in the file, those without, and where each kind ends
 pub record RowCells : Type 0 where

@@ -1,4 +1,4 @@
--- A plan as its tables hold it.
+-- A plan as its tables hold it: what is true of them between two calls.
 use Rattle.std.specs.Prelude.{◌≡◌, ℕ, ◌≤◌, ◌<◌, ◌&&◌, ◌==◌, not, if◌then◌else◌, Bool, true, false, List, [], ◌∷◌, ◌++◌, map, filter, length, All, cond}
 use Rattle.std.specs.List.{position_or_len}
 use Rattle.std.specs.Str.{bytes_eq}
@@ -13,10 +13,7 @@ use Rattle.macho_layout.specs.declared.spec.CommonSpec.{CommonSpec}
 use Rattle.macho_layout.specs.declared.spec.OutputName.{OutputName}
 use Rattle.macho_layout.specs.declared.spec.Planned.{Planned}
 use Rattle.macho_layout.specs.Plans.{Planning, MayStand}
-use Rattle.macho_layout.specs.steps.Keys.{same_output, output_key_of, segments_seen, outputs_seen}
-
-abbrev pub specs_of : List Planned → List SectionSpec
-specs_of sections = map (λ s. s.spec) sections
+use Rattle.macho_layout.specs.Keys.{same_output, output_key_of, segments_seen, outputs_seen, specs_of}
 
 -- the tables hold the names of the sections, as first seen, and each section the number of its output section
 pub record HoldNames (sections : List Planned) (keys : List OutputName) (segments : List SegmentName) : Type 0 where

@@ -18,16 +18,16 @@ use Rattle.macho_cells.specs.declared.place.PlacedCell.{PlacedCell}
 use Rattle.macho_cells.specs.Stacks.{AreStacked}
 use Rattle.macho_cells.specs.Ranks.{HasStarts}
 use Rattle.macho_layout.specs.declared.spec.Planned.{Planned}
-use Rattle.macho_layout.specs.steps.Keys.{padded}
-use Rattle.macho_layout.specs.steps.Plans.{specs_of}
-use Rattle.macho_layout.specs.steps.Names.{segment_count, mapped_names}
-use Rattle.macho_layout.specs.steps.Members.{members_of, first_flags}
-use Rattle.macho_layout.specs.steps.Cells.{cells_of}
-use Rattle.macho_layout.specs.steps.Rows.{AreRows}
-use Rattle.macho_layout.specs.steps.Headers.{header_of}
-use Rattle.macho_layout.specs.steps.Tables.{tables_at}
-use Rattle.macho_layout.specs.steps.Places.{number_at, range_at, template_range, row_pages, placed_sections, placed_commons, placed_slots, placed_stubs}
-use Rattle.macho_layout.specs.steps.Sums.{output_count, written_sum, head_size, base_of}
+use Rattle.macho_layout.specs.Keys.{padded}
+use Rattle.macho_layout.specs.Keys.{specs_of}
+use Rattle.macho_layout.specs.Names.{segment_count, mapped_names}
+use Rattle.macho_layout.specs.Members.{members_of, first_flags}
+use Rattle.macho_layout.specs.Cells.{cells_of}
+use Rattle.macho_layout.specs.Rows.{AreRows}
+use Rattle.macho_layout.specs.Headers.{header_of}
+use Rattle.macho_layout.specs.Tables.{tables_at}
+use Rattle.macho_layout.specs.Places.{number_at, range_at, template_range, row_pages, placed_sections, placed_commons, placed_slots, placed_stubs}
+use Rattle.macho_layout.specs.Sums.{output_count, written_sum, head_size, base_of}
 
 -- why a plan has no placement, before any address is known
 abbrev pub FaultIs : Planning → Counts → LayoutFault → Type 0

@@ -11,8 +11,8 @@ use Rattle.macho_cells.specs.declared.place.Cell.{Cell}
 use Rattle.macho_cells.specs.Stacks.{extent_at}
 use Rattle.macho_layout.specs.declared.spec.OutputName.{OutputName}
 use Rattle.macho_layout.specs.Plans.{Planning}
-use Rattle.macho_layout.specs.steps.Keys.{padded, same_segment, same_output}
-use Rattle.macho_layout.specs.steps.Names.{COMMON_NAME, output_at}
+use Rattle.macho_layout.specs.Keys.{padded, same_segment, same_output}
+use Rattle.macho_layout.specs.Names.{COMMON_NAME, output_at}
 
 abbrev pub class_of_data : OutputName → Bool → ℕ
 class_of_data name zeros =

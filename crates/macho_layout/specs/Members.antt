@@ -7,8 +7,8 @@ use Rattle.macho_cells.specs.declared.members.Member.{Member}
 use Rattle.macho_layout.specs.declared.spec.SectionSpec.{SectionSpec}
 use Rattle.macho_layout.specs.declared.spec.CommonSpec.{CommonSpec}
 use Rattle.macho_layout.specs.Plans.{Planning}
-use Rattle.macho_layout.specs.steps.Keys.{same_output, output_key_of}
-use Rattle.macho_layout.specs.steps.Names.{section_outputs, merged_count, output_at, common_output}
+use Rattle.macho_layout.specs.Keys.{same_output, output_key_of}
+use Rattle.macho_layout.specs.Names.{section_outputs, merged_count, output_at, common_output}
 
 abbrev pub type_of_spec : SectionSpec → ℕ
 type_of_spec s = section_type s.flags

@@ -14,8 +14,8 @@ use Rattle.macho_layout.specs.declared.spec.SectionSpec.{SectionSpec}
 use Rattle.macho_layout.specs.declared.spec.CommonSpec.{CommonSpec}
 use Rattle.macho_layout.specs.declared.spec.StubSpec.{StubSpec}
 use Rattle.macho_layout.specs.declared.spec.Planned.{Planned}
-use Rattle.macho_layout.specs.steps.Keys.{padded, same_segment, segment_key_of}
-use Rattle.macho_layout.specs.steps.Cells.{segment_number, is_template_class}
+use Rattle.macho_layout.specs.Keys.{padded, same_segment, segment_key_of}
+use Rattle.macho_layout.specs.Cells.{segment_number, is_template_class}
 use Rattle.macho_model.specs.declared.placed.Range64.{Range64}
 use Rattle.macho_cells.specs.declared.members.Member.{Member}
 use Rattle.macho_cells.specs.declared.members.PlacedMember.{PlacedMember}

@@ -12,8 +12,8 @@ use Rattle.macho_cells.specs.declared.place.PlacedCell.{PlacedCell}
 use Rattle.macho_cells.specs.Stacks.{extent_at}
 use Rattle.macho_layout.specs.declared.headers.Title.{Title}
 use Rattle.macho_layout.specs.Plans.{Planning}
-use Rattle.macho_layout.specs.steps.Keys.{padded}
-use Rattle.macho_layout.specs.steps.Names.{output_at}
+use Rattle.macho_layout.specs.Keys.{padded}
+use Rattle.macho_layout.specs.Names.{output_at}
 
 abbrev pub made_title : SegmentName → List ℕ → ℕ → ℕ → Title
 made_title segment name flags stub_size = record {

@@ -7,7 +7,7 @@ use Rattle.macho_records.specs.Segments.{text_of}
 use Rattle.macho_model.specs.Segments.{TEXT, DATA_CONST, DATA, COMMON, is_known_segment, list_if, one_if}
 use Rattle.macho_layout.specs.declared.spec.OutputName.{OutputName}
 use Rattle.macho_layout.specs.Plans.{Planning}
-use Rattle.macho_layout.specs.steps.Keys.{padded, same_segment, same_output, segments_seen, outputs_seen}
+use Rattle.macho_layout.specs.Keys.{padded, same_segment, same_output, segments_seen, outputs_seen}
 
 -- the segments of the sections, as first seen
 abbrev pub section_segments : Planning → List SegmentName
