@@ -6,3 +6,4 @@ pub mod Costs
 pub mod Numbered
 pub mod Rooms
 pub mod TableRooms
+pub mod Whole

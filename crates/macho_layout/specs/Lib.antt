@@ -10,4 +10,5 @@ pub mod Tables
 pub mod Places
 pub mod Sums
 pub mod Laid
+pub mod Laws
 pub mod steps

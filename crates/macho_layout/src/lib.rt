@@ -11,6 +11,7 @@ mod cells;
 mod compute;
 mod fault;
 mod headers;
+mod laws;
 mod linkedit;
 mod members;
 mod names;
@@ -22,6 +23,7 @@ mod spec;
 mod sums;
 
 pub use fault::LayoutFault;
+pub use laws::what_is_laid_out_is_whole;
 pub use macho_model::{
     Counts, Limit, Linkedit, PlacedCommon, PlacedSection, PlacedSegment, Range64, Slot, Stub,
 };
