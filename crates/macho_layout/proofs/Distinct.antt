@@ -14,7 +14,7 @@ use Rattle.macho_model.specs.Needs.{distinct}
 use Rattle.macho_cells.proofs.Lists.{filter_push_yes, filter_push_no}
 
 -- what is taken out of a list doesn't pass a test: the list passes it as before
-any-filter : {X : Type 0} (p q : X → Bool) (xs : List X) → ((x : X) → p x ≡ false → q x ≡ false) → list_any q (filter p xs) ≡ list_any q xs
+pub any-filter : {X : Type 0} (p q : X → Bool) (xs : List X) → ((x : X) → p x ≡ false → q x ≡ false) → list_any q (filter p xs) ≡ list_any q xs
 any-filter p q [] h = refl
 any-filter {X} p q (x ∷ xs) h = by (any-filter p q xs h) (p x) refl
   where

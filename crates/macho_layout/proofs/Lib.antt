@@ -7,3 +7,6 @@ pub mod Numbered
 pub mod Rooms
 pub mod TableRooms
 pub mod Whole
+pub mod Named
+pub mod SumLaw
+pub mod CostLaw
