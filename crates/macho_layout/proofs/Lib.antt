@@ -10,3 +10,4 @@ pub mod Whole
 pub mod Named
 pub mod SumLaw
 pub mod CostLaw
+pub mod Ends

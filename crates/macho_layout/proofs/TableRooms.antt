@@ -70,11 +70,11 @@ pages_from names cells head n a o (r ∷ rs) a' o' some h =
     )
 
 -- the first of the mapped segments is `__TEXT`
-first_is_text : (p : Planning) (d : SegmentName) → get_or (mapped_names p) 0 d ≡ padded TEXT
+pub first_is_text : (p : Planning) (d : SegmentName) → get_or (mapped_names p) 0 d ≡ padded TEXT
 unfolding mapped_names
 first_is_text p d = refl
 
-names_some : (p : Planning) → 1 ≤ length (mapped_names p)
+pub names_some : (p : Planning) → 1 ≤ length (mapped_names p)
 unfolding mapped_names
 names_some p = omega arith
 
@@ -163,3 +163,17 @@ tables_end_low counts offset pages =
   where
     shr-whole : (n : ℕ) → rounded_up 4096 n / 4096 ≡ (n + 4095) / 4096
     shr-whole n = ap (λ (k : ℕ). k / 4096) (omega arith) ∙ div-mul-add ((n + 4095) / 4096) 4096 0 (omega arith)
+
+-- the tables end within the sum, a page before it
+pub tables_within : (p : Planning) (counts : Counts) (extents : List Extent) (segments : List PlacedSegment) (placed : List PlacedCell) (address offset : ℕ)
+    → FitsLimits p counts → sum_by extent_cost extents ≤ members_cost p
+    → AreRows (mapped_names p) (cells_of p counts (mapped_names p) extents) (base_of p) (head_size p counts) (length (mapped_names p)) segments placed address offset
+    → address - offset + tables_cost counts offset (row_pages segments) + 0x4000 ≤ base_of p + written_sum p counts
+tables_within p counts extents segments placed address offset fits less h =
+    let pages = rows_pages p (cells_of p counts (mapped_names p) extents) (base_of p) (head_size p counts) h.rows address offset h.stand in
+    let same = ap row_pages h.segments_are in
+    let some = names_some p in
+    let all = cells-cost p counts (mapped_names p) extents in
+    let few = ranks-cost cell_cost (9 * length (mapped_names p)) (cells_of p counts (mapped_names p) extents) in
+    let rows = ranks-cost cell_cost (9 * length h.rows) (cells_of p counts (mapped_names p) extents) in
+    omega (arith, pages, same, some, all, few, rows, fits.segments, less, h.within, h.file_within, h.many)

@@ -23,7 +23,10 @@ mod spec;
 mod sums;
 
 pub use fault::LayoutFault;
-pub use laws::what_is_laid_out_is_whole;
+pub use laws::{
+    what_a_plan_counts_is_the_links, what_is_laid_out_ends_within_the_sum,
+    what_is_laid_out_is_whole,
+};
 pub use macho_model::{
     Counts, Limit, Linkedit, PlacedCommon, PlacedSection, PlacedSegment, Range64, Slot, Stub,
 };
