@@ -3,14 +3,14 @@
 -- A carried section is of the template by its type alone, so it is placed at the alignment that the link says: the greatest
 -- of the same sections', taken from the left or from the right. The commons are merged under a name that no section has, or
 -- under that of a section, in the plan and in the link alike.
-use Rattle.std.proofs.Common.{◌≡◌, ℕ, ◌+◌, ◌*◌, ◌-◌, ◌/◌, ◌==◌, ◌&&◌, ◌||◌, nat_lt, not, if◌then◌else◌, Bool, true, false, cond, List, [], ◌∷◌, ◌++◌, map, filter, fold, max, length, length-append, sum, sum_by, refl, sym, ap, ◌∙◌, subst, arith, zero, suc, Decides}
+use Rattle.std.proofs.Common.{◌≡◌, ℕ, ◌+◌, ◌-◌, ◌/◌, ◌==◌, ◌&&◌, not, if◌then◌else◌, Bool, true, false, cond, List, [], ◌∷◌, ◌++◌, map, filter, fold, max, length, sum, sum_by, refl, sym, ap, ◌∙◌, arith, Decides}
 use Rattle.std.specs.List.{list_any, enumerate_from, AllByRecursion}
 use Rattle.std.specs.Str.{bytes_eq}
 use Rattle.std.proofs.Math.Nat.{max_comm, zero-max}
 use Rattle.std.proofs.lemmas.Bool.{and_parts, and_from, eqb-true, eq-eqb}
 use Rattle.std.proofs.lemmas.Slice.Eq.{bytes_eq-Decides}
 use Rattle.std.proofs.lemmas.List.{length-map, append-nil, length_push}
-use Rattle.std.proofs.lemmas.List.Elements.{filter_agree, filter_passes, recursion_from_All}
+use Rattle.std.proofs.lemmas.List.Elements.{filter_passes, recursion_from_All}
 use Rattle.std.proofs.lemmas.List.Folds.{fold-map}
 use Rattle.std.proofs.lemmas.List.Sums.{sum-map, sum_by-cons}
 use Rattle.macho_bytes.specs.Texts.{name_of}
@@ -20,17 +20,15 @@ use Rattle.macho_records.specs.Segments.{name_field}
 use Rattle.macho_records.specs.Sections.{is_template_type, type_of}
 use Rattle.macho_model.specs.declared.placed.Counts.{Counts}
 use Rattle.macho_model.specs.Links.{Link, SectionId, header_at, sections_of, carried_of, is_carried, is_template, template_exponent, placed_exponent, greatest}
-use Rattle.macho_model.specs.Resolution.{SymbolId, chosen_commons}
-use Rattle.macho_model.specs.Targets.{slots_of, stubs_of}
+use Rattle.macho_model.specs.Resolution.{chosen_commons}
+use Rattle.macho_model.specs.Targets.{stubs_of}
 use Rattle.macho_model.specs.declared.targets.Target.TheVariants as target
 use Rattle.macho_model.specs.Needs.{distinct}
 use Rattle.macho_model.specs.Segments.{DATA, COMMON, SEGMENT_PAGE, segment_names_of, same_key, key_of, common_key, output_keys_of, output_count as link_outputs, list_if, one_if, OutputKey}
 use Rattle.macho_model.specs.WrittenSum.{section_cost as link_cost, common_cost, content_sum as link_content, command_sum as link_commands, unsigned_sum as link_unsigned, written_sum_of, file_segments}
-use Rattle.indexmap.specs.IndexSet.{insert_key}
 use Rattle.macho_layout.specs.declared.spec.SectionSpec.{SectionSpec}
 use Rattle.macho_layout.specs.declared.spec.CommonSpec.{CommonSpec}
 use Rattle.macho_layout.specs.declared.spec.StubSpec.{StubSpec}
-use Rattle.macho_layout.specs.declared.spec.OutputName.{OutputName}
 use Rattle.macho_layout.specs.Plans.{Planning, IsPlanOf, spec_of, common_spec_of}
 use Rattle.macho_layout.specs.Keys.{padded, same_segment, same_output}
 use Rattle.macho_layout.specs.Names.{section_outputs, segment_count, merged_count, has_new_commons, COMMON_NAME}
@@ -38,23 +36,22 @@ use Rattle.macho_layout.specs.Members.{type_of_spec, template_align, placed_alig
 use Rattle.macho_layout.specs.Sums.{section_cost, members_cost, content_sum, output_count, unsigned_sum, written_sum}
 use Rattle.macho_layout.proofs.Named.{name_in_field, fields_agree, filter_map_is, distinct_map, any_map, any_agree}
 use Rattle.macho_layout.proofs.Distinct.{distinct_push}
-use Rattle.macho_layout.proofs.Tests.{length-list_if}
 use Rattle.macho_layout.proofs.Whole.{map_map, map_numbered}
-use Rattle.macho_layout.proofs.SumLaw.{segment_key, output_key, outputs_once, outputs_are, commons_many, and_group, segments_same}
+use Rattle.macho_layout.proofs.SumLaw.{output_key, outputs_once, outputs_are, commons_many, and_group, segments_same}
 
 -- the test of keys decides whether they are equal
 key-decides : (a b : OutputKey) → Decides (same_key a b) (a ≡ b)
 key-decides a b = (
   λ t.
-    let all = and_parts (bytes_eq a.segment b.segment && bytes_eq a.name b.name) (a.type == b.type) t in
-    let both = and_parts (bytes_eq a.segment b.segment) (bytes_eq a.name b.name) all.0 in
-    ap (λ (s : List ℕ). record { segment = s; name = a.name; type = a.type }) ((bytes_eq-Decides a.segment b.segment).0 both.0)
-    ∙ ap (λ (n : List ℕ). record { segment = b.segment; name = n; type = a.type }) ((bytes_eq-Decides a.name b.name).0 both.1)
-    ∙ ap (λ (k : ℕ). record { segment = b.segment; name = b.name; type = k }) (eqb-true a.type b.type all.1),
+      let all = and_parts (bytes_eq a.segment b.segment && bytes_eq a.name b.name) (a.type == b.type) t in
+      let both = and_parts (bytes_eq a.segment b.segment) (bytes_eq a.name b.name) all.0 in
+      ap (λ (s : List ℕ). record { segment = s; name = a.name; type = a.type }) ((bytes_eq-Decides a.segment b.segment).0 both.0)
+      ∙ ap (λ (n : List ℕ). record { segment = b.segment; name = n; type = a.type }) ((bytes_eq-Decides a.name b.name).0 both.1)
+      ∙ ap (λ (k : ℕ). record { segment = b.segment; name = b.name; type = k }) (eqb-true a.type b.type all.1),
   λ e. and_from (bytes_eq a.segment b.segment && bytes_eq a.name b.name) (a.type == b.type)
-    (and_from (bytes_eq a.segment b.segment) (bytes_eq a.name b.name) ((bytes_eq-Decides a.segment b.segment).1 (ap (λ (k : OutputKey). k.segment) e))
-    ((bytes_eq-Decides a.name b.name).1 (ap (λ (k : OutputKey). k.name) e)))
-    (eq-eqb a.type b.type (ap (λ (k : OutputKey). k.type) e))
+      (and_from (bytes_eq a.segment b.segment) (bytes_eq a.name b.name) ((bytes_eq-Decides a.segment b.segment).1 (ap (λ (k : OutputKey). k.segment) e))
+      ((bytes_eq-Decides a.name b.name).1 (ap (λ (k : OutputKey). k.name) e)))
+      (eq-eqb a.type b.type (ap (λ (k : OutputKey). k.type) e)),
 )
 
 -- a section has the commons' name in the plan's table exactly where it has it in the link
@@ -80,11 +77,11 @@ merged_same l p plan =
     let mine : length (section_outputs p) ≡ length (outputs_once l) = ap length (outputs_are l p plan) ∙ length-map (outputs_once l) (output_key l) in
     let there : list_any (same_output COMMON_NAME) (section_outputs p) ≡ list_any (same_key common_key) (distinct same_key (map (λ s. key_of (header_at l s)) (carried_of l)))
     = ap (list_any (same_output COMMON_NAME)) (outputs_are l p plan) ∙ any_map (same_output COMMON_NAME) (output_key l) (outputs_once l)
-        ∙ any_agree (λ s. same_output COMMON_NAME (output_key l s)) (λ s. same_key common_key (key_of (header_at l s))) (common_agrees l) (outputs_once l)
-        ∙ sym (ap (list_any (same_key common_key)) once ∙ any_map (same_key common_key) (λ s. key_of (header_at l s)) (outputs_once l)) in
+    ∙ any_agree (λ s. same_output COMMON_NAME (output_key l s)) (λ s. same_key common_key (key_of (header_at l s))) (common_agrees l) (outputs_once l)
+    ∙ sym (ap (list_any (same_key common_key)) once ∙ any_map (same_key common_key) (λ s. key_of (header_at l s)) (outputs_once l)) in
     let new : one_if (has_new_commons p) ≡ one_if (not (length (chosen_commons l) == 0) && not (list_any (same_key common_key) (distinct same_key (map (λ s. key_of (header_at l s)) (carried_of l)))))
     = ap (λ (n : ℕ). one_if (not (n == 0) && not (list_any (same_output COMMON_NAME) (section_outputs p)))) (commons_many l p plan)
-        ∙ ap (λ (b : Bool). one_if (not (length (chosen_commons l) == 0) && not b)) there in
+    ∙ ap (λ (b : Bool). one_if (not (length (chosen_commons l) == 0) && not b)) there in
     let long : length (distinct same_key (map (λ s. key_of (header_at l s)) (carried_of l))) ≡ length (outputs_once l)
     = ap length once ∙ length-map (outputs_once l) (λ s. key_of (header_at l s)) in
     omega (arith, mine, new, long, by (not (length (chosen_commons l) == 0)))
@@ -134,8 +131,8 @@ template_same l p plan =
     let test : SectionSpec → Bool = λ s. is_template_type (type_of_spec s) in
     let kept : filter (λ (s : SectionSpec). is_template_type (type_of_spec s)) p.sections ≡ map (spec_of l) (filter (λ s. is_template (header_at l s)) (sections_of l))
     = ap (filter (λ (s : SectionSpec). is_template_type (type_of_spec s))) plan.sections
-        ∙ filter_map_is (λ (s : SectionSpec). is_template_type (type_of_spec s)) (spec_of l) (filter (λ s. is_carried (header_at l s)) (sections_of l))
-        ∙ ap (map (spec_of l)) (filter_both (λ s. is_template_type (type_of (header_at l s))) (λ s. is_carried (header_at l s)) (sections_of l)) in
+    ∙ filter_map_is (λ (s : SectionSpec). is_template_type (type_of_spec s)) (spec_of l) (filter (λ s. is_carried (header_at l s)) (sections_of l))
+    ∙ ap (map (spec_of l)) (filter_both (λ s. is_template_type (type_of (header_at l s))) (λ s. is_carried (header_at l s)) (sections_of l)) in
     ap (λ (ss : List SectionSpec). fold max 0 (map (λ (s : SectionSpec). s.align) ss)) kept
     ∙ ap (fold max 0) (map_map (λ (s : SectionSpec). s.align) (spec_of l) (filter (λ s. is_template (header_at l s)) (sections_of l)))
     ∙ fold_greatest 0 (map (λ s. (header_at l s).align) (filter (λ s. is_template (header_at l s)) (sections_of l)))
@@ -166,15 +163,15 @@ unfolding members_cost
 members_same l p plan =
     let sections : sum_by (λ (s : SectionSpec). section_cost s.size (placed_align (template_align p) s)) p.sections ≡ sum_by (link_cost l) (carried_of l)
     = ap (sum_by (λ (s : SectionSpec). section_cost s.size (placed_align (template_align p) s))) plan.sections
-        ∙ fold-map (λ (n : ℕ) (s : SectionSpec). n + section_cost s.size (placed_align (template_align p) s)) (spec_of l) 0 (carried_of l)
-        ∙ sums_agree (λ s. section_cost (header_at l s).size (placed_align (template_align p) (spec_of l s))) (link_cost l) (carried_of l)
-          (all_carried l (λ s. section_cost (header_at l s).size (placed_align (template_align p) (spec_of l s))) (link_cost l)
-          (λ s carried. ap (λ (e : ℕ). section_cost (header_at l s).size e) (align_same l p s plan carried))) in
+    ∙ fold-map (λ (n : ℕ) (s : SectionSpec). n + section_cost s.size (placed_align (template_align p) s)) (spec_of l) 0 (carried_of l)
+    ∙ sums_agree (λ s. section_cost (header_at l s).size (placed_align (template_align p) (spec_of l s))) (link_cost l) (carried_of l)
+    (all_carried l (λ s. section_cost (header_at l s).size (placed_align (template_align p) (spec_of l s))) (link_cost l)
+    (λ s carried. ap (λ (e : ℕ). section_cost (header_at l s).size e) (align_same l p s plan carried))) in
     let commons : sum_by (λ (c : CommonSpec). section_cost c.size c.align) p.commons ≡ sum_by (common_cost l) (chosen_commons l)
     = ap (sum_by (λ (c : CommonSpec). section_cost c.size c.align)) plan.commons
-        ∙ sym (sum-map (λ (c : CommonSpec). section_cost c.size c.align) (map (common_spec_of l) (enumerate_from 0 (chosen_commons l))))
-        ∙ ap sum (map_numbered (λ (c : CommonSpec). section_cost c.size c.align) (common_spec_of l) (common_cost l) (λ n x. refl) 0 (chosen_commons l))
-        ∙ sum-map (common_cost l) (chosen_commons l) in
+    ∙ sym (sum-map (λ (c : CommonSpec). section_cost c.size c.align) (map (common_spec_of l) (enumerate_from 0 (chosen_commons l))))
+    ∙ ap sum (map_numbered (λ (c : CommonSpec). section_cost c.size c.align) (common_spec_of l) (common_cost l) (λ n x. refl) 0 (chosen_commons l))
+    ∙ sum-map (common_cost l) (chosen_commons l) in
     omega (arith, sections, commons)
 
 -- the sums are the same

@@ -2,11 +2,11 @@
 --
 -- No alignment passes that of a page, so neither does the greatest of some, nor the one that a section is placed at. A sum that
 -- doesn't fit stays one that doesn't when more is added. Sections and commons cost what their members do.
-use Rattle.std.proofs.Common.{◌≡◌, ℕ, ◌+◌, ◌*◌, ◌-◌, ◌^◌, ◌<◌, ◌≤◌, ◌==◌, nat_lt, if◌then◌else◌, Bool, true, false, cond, Option, Some, None, List, [], ◌∷◌, ◌++◌, map, filter, fold, max, length, get_or, All, take, sum_by, refl, sym, ap, ◌∙◌, subst, arith, ltb}
+use Rattle.std.proofs.Common.{◌≡◌, ℕ, ◌+◌, ◌^◌, ◌<◌, ◌≤◌, ◌==◌, Bool, true, false, cond, Some, None, List, [], ◌∷◌, map, filter, fold, max, get_or, All, sum_by, refl, sym, ap, ◌∙◌, subst, arith, ltb}
 use Rattle.std.specs.List.{AllByRecursion}
 use Rattle.std.proofs.Math.Nat.{max-le}
 use Rattle.std.proofs.lemmas.Bool.{ltb-true, ltb-false, lt-ltb, le-ltb}
-use Rattle.std.proofs.lemmas.List.Elements.{recursion_from_All, All-from_recursion, All-filter}
+use Rattle.std.proofs.lemmas.List.Elements.{recursion_from_All, All-filter}
 use Rattle.std.proofs.lemmas.List.Folds.{fold-map}
 use Rattle.std.proofs.lemmas.List.Sums.{sum_by-append}
 use Rattle.macho_records.specs.Sections.{is_template_type}
@@ -17,7 +17,6 @@ use Rattle.macho_layout.specs.declared.spec.CommonSpec.{CommonSpec}
 use Rattle.macho_layout.specs.Plans.{Planning}
 use Rattle.macho_layout.specs.declared.spec.Planned.{Planned}
 use Rattle.macho_layout.specs.Keys.{specs_of}
-use Rattle.macho_layout.specs.steps.Holding.{AreSound}
 use Rattle.std.proofs.lemmas.List.{get_or-map, length-map}
 use Rattle.macho_layout.specs.Members.{type_of_spec, template_align, placed_align, section_member, common_member, members_of}
 use Rattle.macho_layout.specs.Sums.{fitting, section_cost, members_cost}

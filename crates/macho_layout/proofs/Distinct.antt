@@ -3,12 +3,11 @@
 -- By recursion on the list. The first element y takes its repeats out of what the others leave. Where the new element is y,
 -- it is taken out, whether or not the others left it. Where it is another one, taking out y leaves it, and leaves the same
 -- answer to whether it stood there. A map that keeps the test commutes with taking repeats out.
-use Rattle.std.proofs.Common.{◌≡◌, ℕ, ◌+◌, Bool, true, false, cond, not, ◌||◌, List, [], ◌∷◌, ◌++◌, map, filter, length, Decides, refl, sym, ap, ◌∙◌, arith, eqb, ◌<◌, ◌≤◌}
+use Rattle.std.proofs.Common.{◌≡◌, ◌+◌, Bool, true, false, cond, not, ◌||◌, List, [], ◌∷◌, ◌++◌, filter, length, Decides, refl, sym, ap, ◌∙◌, arith, eqb, ◌<◌, ◌≤◌}
 use Rattle.std.specs.List.{list_any, position_or_len}
 use Rattle.std.proofs.lemmas.Bool.{false≢true, not_from_true, not_from_false, false_from_ne_true, not-false, ne_eqb, eqb-true}
-use Rattle.std.proofs.lemmas.List.{append-nil, length_push}
+use Rattle.std.proofs.lemmas.List.{length_push}
 use Rattle.std.proofs.lemmas.List.Folds.{position_or_len_push}
-use Rattle.std.proofs.lemmas.List.Elements.{filter-append}
 use Rattle.indexmap.specs.IndexSet.{insert_key}
 use Rattle.macho_model.specs.Needs.{distinct}
 use Rattle.macho_cells.proofs.Lists.{filter_push_yes, filter_push_no}
@@ -34,10 +33,12 @@ put_in {X} same d D y x = by (same x y) refl
     known : (a : Bool) → x ≡ y → others same y (cond a D (D ++ x ∷ [])) ≡ others same y D
     known true e = refl
     known false e = filter_push_no (λ z. not (same y z)) D x (not_from_true (same y x) ((d y x).1 (sym e)))
+
     new : (a : Bool) → (x ≡ y → ⊥) → y ∷ others same y (cond a D (D ++ x ∷ [])) ≡ cond a (y ∷ others same y D) (y ∷ others same y D ++ x ∷ [])
     new true e = refl
     new false e =
         ap (λ (zs : List X). y ∷ zs) (filter_push_yes (λ z. not (same y z)) D x (not_from_false (same y x) (false_from_ne_true (same y x) (λ t. e (sym ((d y x).0 t))))))
+
     by : (b : Bool) → same x y ≡ b → y ∷ others same y (insert_key same D x) ≡ insert_key same (y ∷ others same y D) x
     by true is =
         ap (λ (zs : List X). y ∷ zs) (known (list_any (same x) D) ((d x y).0 is))

@@ -3,16 +3,16 @@
 -- A name that was put in a field of 16 bytes is read back as it was, since zeros follow it. So two fields are equal exactly
 -- where their names are, and tables of fields have as many elements as lists of names. Taking repeats out commutes
 -- with a map, under the test of what the map gives.
-use Rattle.std.proofs.Common.{◌≡◌, ℕ, ◌+◌, ◌-◌, ◌<◌, ◌≤◌, ◌==◌, ◌&&◌, ◌||◌, not, Bool, true, false, cond, List, [], ◌∷◌, ◌++◌, map, filter, length, take, replicate, eqb, get_or, Decides, refl, sym, ap, ◌∙◌, subst, arith, zero, suc}
-use Rattle.std.specs.List.{list_any, prefix_len, before_first}
+use Rattle.std.proofs.Common.{◌≡◌, ℕ, ◌+◌, ◌-◌, ◌==◌, ◌||◌, not, Bool, true, false, cond, List, [], ◌∷◌, ◌++◌, map, filter, length, take, replicate, refl, sym, ap, ◌∙◌, arith, zero, suc}
+use Rattle.std.specs.List.{list_any, prefix_len}
 use Rattle.std.specs.Str.{bytes_eq}
 use Rattle.std.proofs.lemmas.Bool.{eq-eqb, not-false}
 use Rattle.std.proofs.lemmas.Bool.Decides.{same_from_decides}
 use Rattle.std.proofs.lemmas.Slice.Eq.{bytes_eq-Decides}
-use Rattle.std.proofs.lemmas.List.{length-take-le, take_at, get_or-take, take-append-le, take_all}
+use Rattle.std.proofs.lemmas.List.{take_at, get_or-take}
 use Rattle.std.proofs.lemmas.List.Elements.{filter_agree}
 use Rattle.std.proofs.lemmas.List.Folds.{prefix_len-append, length-prefix_len}
-use Rattle.std.proofs.lemmas.List.Sums.{prefix_len_is, prefix_len_passes, prefix_len-le-length}
+use Rattle.std.proofs.lemmas.List.Sums.{prefix_len_is, prefix_len_passes}
 use Rattle.macho_bytes.specs.Texts.{name_of}
 use Rattle.macho_records.specs.Segments.{name_field}
 use Rattle.macho_model.specs.Needs.{distinct}
@@ -30,8 +30,8 @@ cut_whole bytes =
     let long : length (name_of bytes) ≡ prefix_len (λ (b : ℕ). not (b == 0)) bytes = length-prefix_len (λ (b : ℕ). not (b == 0)) bytes in
     prefix_len_is (λ (b : ℕ). not (b == 0)) (name_of bytes) (length (name_of bytes)) 0 (omega arith)
     (λ k low.
-      ap (λ (b : ℕ). not (b == 0)) (get_or-take (prefix_len (λ (b : ℕ). not (b == 0)) bytes) bytes k 0 (omega arith))
-      ∙ prefix_len_passes (λ (b : ℕ). not (b == 0)) bytes k 0 (omega arith))
+    ap (λ (b : ℕ). not (b == 0)) (get_or-take (prefix_len (λ (b : ℕ). not (b == 0)) bytes) bytes k 0 (omega arith))
+    ∙ prefix_len_passes (λ (b : ℕ). not (b == 0)) bytes k 0 (omega arith))
     (λ low. absurd (omega arith))
 
 -- a name in a field is read back
@@ -41,9 +41,9 @@ name_in_field bytes =
     let z : List ℕ = replicate (16 - length (name_of bytes)) 0 in
     let cut : prefix_len (λ (b : ℕ). not (b == 0)) (name_field bytes) ≡ length (name_of bytes)
     = prefix_len-append (λ (b : ℕ). not (b == 0)) n z
-        ∙ ap (λ (t : Bool). cond t (length (name_of bytes) + prefix_len (λ (b : ℕ). not (b == 0)) (replicate (16 - length (name_of bytes)) 0)) (prefix_len (λ (b : ℕ). not (b == 0)) (name_of bytes)))
-          (eq-eqb (prefix_len (λ (b : ℕ). not (b == 0)) (name_of bytes)) (length (name_of bytes)) (cut_whole bytes))
-        ∙ omega (arith, no_name (16 - length (name_of bytes))) in
+    ∙ ap (λ (t : Bool). cond t (length (name_of bytes) + prefix_len (λ (b : ℕ). not (b == 0)) (replicate (16 - length (name_of bytes)) 0)) (prefix_len (λ (b : ℕ). not (b == 0)) (name_of bytes)))
+    (eq-eqb (prefix_len (λ (b : ℕ). not (b == 0)) (name_of bytes)) (length (name_of bytes)) (cut_whole bytes))
+    ∙ omega (arith, no_name (16 - length (name_of bytes))) in
     ap (λ (k : ℕ). take k (name_field bytes)) cut ∙ take_at (name_of bytes) (replicate (16 - length (name_of bytes)) 0) (length (name_of bytes)) refl
 
 -- fields are equal exactly where their names are
@@ -51,9 +51,10 @@ pub fields_agree : (a b : List ℕ) → bytes_eq (name_field a) (name_field b) �
 fields_agree a b =
     let names = bytes_eq-Decides (name_of a) (name_of b) in
     let fields = bytes_eq-Decides (name_field a) (name_field b) in
-    same_from_decides (bytes_eq (name_field a) (name_field b)) (bytes_eq (name_of a) (name_of b))
-    (λ t. sym (name_in_field a) ∙ ap name_of (fields.0 t) ∙ name_in_field b,
-    λ e. fields.1 (ap (λ (n : List ℕ). n ++ replicate (16 - length n) 0) e)) names
+    same_from_decides (bytes_eq (name_field a) (name_field b)) (bytes_eq (name_of a) (name_of b)) (
+      λ t. sym (name_in_field a) ∙ ap name_of (fields.0 t) ∙ name_in_field b,
+      λ e. fields.1 (ap (λ (n : List ℕ). n ++ replicate (16 - length n) 0) e),
+    ) names
 
 -- a filter of a map
 pub filter_map_is : {X Y : Type 0} (p : Y → Bool) (g : X → Y) (xs : List X) → filter p (map g xs) ≡ map g (filter (λ x. p (g x)) xs)

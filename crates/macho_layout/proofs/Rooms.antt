@@ -3,13 +3,13 @@
 -- Each section has the number of an output section, and so have the commons: that of their name, which is the next number
 -- where no section has it. No alignment passes a page's. All cells cost what sections, commons and what the linker makes have in
 -- bytes, and at most 16 bytes more for the alignments of what it makes.
-use Rattle.std.proofs.Common.{◌≡◌, ℕ, ◌+◌, ◌*◌, ◌-◌, ◌/◌, ◌^◌, ◌<◌, ◌≤◌, ◌==◌, ◌&&◌, zero, suc, nat_lt, not, if◌then◌else◌, Bool, true, false, cond, List, [], ◌∷◌, ◌++◌, map, filter, fold, max, length, get_or, All, sum_by, refl, sym, ap, ◌∙◌, subst, arith, ltb, inl, inr}
-use Rattle.std.specs.List.{AllByRecursion, range_with_len, list_any, position_or_len}
-use Rattle.std.proofs.lemmas.Bool.{cases_lt, cases_Bool, ltb-true, false≢true, ne_eqb}
+use Rattle.std.proofs.Common.{◌≡◌, ℕ, ◌+◌, ◌*◌, ◌<◌, ◌≤◌, ◌==◌, ◌&&◌, zero, suc, nat_lt, not, Bool, true, false, cond, List, [], ◌∷◌, ◌++◌, map, filter, length, get_or, All, sum_by, refl, sym, ap, ◌∙◌, subst, arith, inl, inr}
+use Rattle.std.specs.List.{range_with_len, list_any, position_or_len}
+use Rattle.std.proofs.lemmas.Bool.{cases_lt, cases_Bool, false≢true, ne_eqb}
 use Rattle.std.proofs.lemmas.List.{get_or-map, length-map}
 use Rattle.std.proofs.lemmas.List.Elements.{recursion_from_All, All-from_recursion, All-filter, All-map, All-append, All-same}
 use Rattle.std.proofs.lemmas.List.Folds.{fold-map, Any-from_list_any}
-use Rattle.std.proofs.lemmas.List.FromFn.{fill_by_all, length-map-range_with_len, get_or-map-range_with_len, length-range_with_len}
+use Rattle.std.proofs.lemmas.List.FromFn.{fill_by_all, length-map-range_with_len, get_or-map-range_with_len}
 use Rattle.std.proofs.lemmas.List.Sums.{sum_by-append, sum_by-cons, fails_before_first, prefix_len-le-length}
 use Rattle.macho_model.specs.declared.placed.Counts.{Counts}
 use Rattle.macho_model.specs.Segments.{one_if}
@@ -19,22 +19,20 @@ use Rattle.macho_cells.specs.declared.members.PlacedMember.{PlacedMember}
 use Rattle.macho_cells.specs.declared.members.Extent.{Extent}
 use Rattle.macho_cells.specs.declared.place.Cell.{Cell}
 use Rattle.macho_cells.specs.declared.place.PlacedCell.{PlacedCell}
-use Rattle.macho_cells.specs.Costs.{extent_cost, cost_of}
+use Rattle.macho_cells.specs.Costs.{extent_cost}
 use Rattle.macho_cells.specs.Stacks.{extent_at, empty_extent, members_in, is_in_cell, AreStacked}
 use Rattle.macho_cells.specs.Ranks.{cell_cost, of_ranks, has_rank}
 use Rattle.macho_cells.proofs.Ranks.{of_ranks-none, of_ranks-more}
 use Rattle.macho_layout.specs.declared.spec.SectionSpec.{SectionSpec}
-use Rattle.macho_layout.specs.declared.spec.CommonSpec.{CommonSpec}
 use Rattle.macho_layout.specs.declared.spec.OutputName.{OutputName}
 use Rattle.macho_layout.specs.declared.spec.Planned.{Planned}
 use Rattle.macho_layout.specs.Plans.{Planning}
 use Rattle.macho_layout.specs.Keys.{same_output, output_key_of, outputs_seen}
 use Rattle.macho_layout.specs.Keys.{specs_of}
-use Rattle.macho_layout.specs.steps.Holding.{HoldNames, AreSound}
+use Rattle.macho_layout.specs.steps.Holding.{HoldNames}
 use Rattle.macho_layout.specs.Names.{section_outputs, merged_count, common_output, has_new_commons, COMMON_NAME}
 use Rattle.macho_layout.specs.Members.{section_member, common_member, members_of, template_align, first_flags}
 use Rattle.macho_layout.specs.Cells.{merged_cell, cell_if, text_cell, made_cells, cells_of}
-use Rattle.macho_layout.specs.Sums.{members_cost}
 use Rattle.macho_layout.proofs.Costs.{most-max, template-small, placed-small}
 
 -- the first place that passes is inside where some place passes
@@ -68,10 +66,10 @@ members_there p sections keys segments e h =
     let table : keys ≡ section_outputs p = h.keys_are ∙ ap outputs_seen (sym e) in
     let one : All (λ s. position_or_len (same_output (output_key_of s)) (section_outputs p) < merged_count p) (specs_of sections)
     = All-map (λ s. position_or_len (same_output (output_key_of s)) (section_outputs p) < merged_count p) (λ (s : Planned). s.spec) sections
-        (λ k d low.
-          let place = ap (position_or_len (same_output (output_key_of (get_or sections k d).spec))) table in
-          let long = ap length table in
-          omega (arith, h.outputs k d low, h.within k d low, place, long)) in
+    (λ k d low.
+    let place = ap (position_or_len (same_output (output_key_of (get_or sections k d).spec))) table in
+    let long = ap length table in
+    omega (arith, h.outputs k d low, h.within k d low, place, long)) in
     All-append (λ m. m.cell < merged_count p) (map (section_member p) p.sections) (map (common_member p) p.commons)
     (All-map (λ m. m.cell < merged_count p) (section_member p) p.sections
     (subst (λ (ss : List SectionSpec). All (λ s. position_or_len (same_output (output_key_of s)) (section_outputs p) < merged_count p) ss) (sym e) one))
@@ -100,7 +98,7 @@ pub extents_small : (flags : List ℕ) (members : List Member) (extents : List E
 extents_small flags members extents placed c s small there =
     let each = unmapped (λ (m : Member). m.exponent ≤ 14) (λ (q : PlacedMember). q.member) placed members s.same small in
     let most = most-max (λ (q : PlacedMember). q.member.exponent) 14 0 (members_in c placed) (omega arith)
-        (recursion_from_All (λ (q : PlacedMember). q.member.exponent ≤ 14) (members_in c placed) (All-filter (is_in_cell c) (λ (q : PlacedMember). q.member.exponent ≤ 14) placed each)) in
+    (recursion_from_All (λ (q : PlacedMember). q.member.exponent ≤ 14) (members_in c placed) (All-filter (is_in_cell c) (λ (q : PlacedMember). q.member.exponent ≤ 14) placed each)) in
     omega (arith, s.exponents c there, most)
 
 -- a cell that isn't empty
@@ -121,8 +119,8 @@ cells_keep P p counts names extents merged a b c d =
     let made = All-append P _ _ (All-append P _ _ (All-append P _ _ (if_small P _ a) (if_small P _ b)) (if_small P _ c)) (if_small P _ d) in
     All-append P (map (λ number. merged_cell p names number (extent_at extents number)) (range_with_len 0 (length extents))) (made_cells p counts (length extents))
     (λ k e low.
-      let inside : k < length extents = omega (arith, length-map-range_with_len (λ number. merged_cell p names number (extent_at extents number)) 0 (length extents)) in
-      subst P (sym (get_or-map-range_with_len (λ number. merged_cell p names number (extent_at extents number)) 0 (length extents) k k e inside (omega arith))) (merged k inside)) made
+    let inside : k < length extents = omega (arith, length-map-range_with_len (λ number. merged_cell p names number (extent_at extents number)) 0 (length extents)) in
+    subst P (sym (get_or-map-range_with_len (λ number. merged_cell p names number (extent_at extents number)) 0 (length extents) k k e inside (omega arith))) (merged k inside)) made
 
 pub cells_small : (p : Planning) (counts : Counts) (names : List SegmentName) (extents : List Extent) → ((c : ℕ) → c < length extents → (extent_at extents c).exponent ≤ 14)
     → All (λ c. c.exponent ≤ 14) (cells_of p counts names extents)

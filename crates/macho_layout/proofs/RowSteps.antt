@@ -4,7 +4,7 @@
 -- cells need; rounding to a page adds less than a page. The ranks of the next row follow those of the rows so far, so its
 -- cells are the next ones, and together they cost what all ranks so far do. The file part of a row is no longer than its
 -- memory, so offsets grow no faster than addresses.
-use Rattle.std.proofs.Common.{◌≡◌, ℕ, ◌+◌, ◌*◌, ◌-◌, ◌/◌, ◌%◌, ◌^◌, ◌<◌, ◌≤◌, ◌==◌, if◌then◌else◌, Bool, List, [], ◌∷◌, ◌++◌, length, map, get_or, sum_by, refl, sym, ap, ◌∙◌, subst, arith}
+use Rattle.std.proofs.Common.{◌≡◌, ℕ, ◌+◌, ◌*◌, ◌-◌, ◌/◌, ◌^◌, ◌<◌, ◌≤◌, if◌then◌else◌, Bool, List, [], ◌∷◌, ◌++◌, length, map, get_or, sum_by, refl, sym, ap, ◌∙◌, subst, arith}
 use Rattle.std.specs.List.{flat_map}
 use Rattle.std.specs.Int.{next_multiple_of}
 use Rattle.std.proofs.lemmas.Nat.{div-add-mod', le-div, mul-le}
@@ -21,9 +21,9 @@ use Rattle.macho_model.specs.Segments.{SEGMENT_PAGE}
 use Rattle.macho_cells.specs.declared.place.Cell.{Cell}
 use Rattle.macho_cells.specs.declared.place.PlacedCell.{PlacedCell}
 use Rattle.macho_cells.specs.Ranks.{cell_block, cell_cost, of_ranks, AddsCells}
-use Rattle.macho_cells.proofs.Multiples.{rounded-near, rounded-above}
+use Rattle.macho_cells.proofs.Multiples.{rounded-near}
 use Rattle.macho_cells.proofs.Rows.{row-rises}
-use Rattle.macho_cells.proofs.Ranks.{of_ranks-append, of_ranks-none, fewer-cost, ranks-cost}
+use Rattle.macho_cells.proofs.Ranks.{of_ranks-append, of_ranks-none, ranks-cost}
 use Rattle.macho_cells.proofs.Adding.{adds-within}
 use Rattle.macho_layout.specs.declared.rows.Row.{Row}
 use Rattle.macho_layout.specs.Rows.{RowCells, cells_in_row, row_segment, IsRow, AddsRow, row_at, front_at, RowsFrom, segments_from, AreRows}
@@ -109,13 +109,19 @@ rows_push names cells head n a o [] a' o' r h is =
     let number : n + 0 ≡ n = omega arith in
     let place = subst (λ (k : ℕ). IsRow cells (row_at names head k a' o') r) number is in
     let address = subst (λ (k : ℕ). IsRow cells (row_at names head n k o') r) (sym h.0) place in
-    let offset = subst (λ (k : ℕ). IsRow cells (row_at names head n a k) r) (sym h.1) address in
-    (offset, (ap (λ (k : ℕ). k + rounded_up SEGMENT_PAGE (r.end - k)) h.0,
-    ap (λ (k : ℕ). o + rounded_up SEGMENT_PAGE (r.filled_end - k)) h.0 ∙ ap (λ (k : ℕ). k + rounded_up SEGMENT_PAGE (r.filled_end - a')) h.1))
+    let offset = subst (λ (k : ℕ). IsRow cells (row_at names head n a k) r) (sym h.1) address in (
+      offset,
+      (
+        ap (λ (k : ℕ). k + rounded_up SEGMENT_PAGE (r.end - k)) h.0,
+        ap (λ (k : ℕ). o + rounded_up SEGMENT_PAGE (r.filled_end - k)) h.0 ∙ ap (λ (k : ℕ). k + rounded_up SEGMENT_PAGE (r.filled_end - a')) h.1,
+      ),
+    )
 rows_push names cells head n a o (x ∷ rs) a' o' r h is =
-    let number : n + length (x ∷ rs) ≡ n + 1 + length rs = omega arith in
-    (h.0, rows_push names cells head (n + 1) (a + rounded_up SEGMENT_PAGE (x.end - a)) (o + rounded_up SEGMENT_PAGE (x.filled_end - a)) rs a' o' r h.1
-    (subst (λ (k : ℕ). IsRow cells (row_at names head k a' o') r) number is))
+    let number : n + length (x ∷ rs) ≡ n + 1 + length rs = omega arith in (
+      h.0,
+      rows_push names cells head (n + 1) (a + rounded_up SEGMENT_PAGE (x.end - a)) (o + rounded_up SEGMENT_PAGE (x.filled_end - a)) rs a' o' r h.1
+          (subst (λ (k : ℕ). IsRow cells (row_at names head k a' o') r) number is),
+    )
 
 segments_push : (names : List SegmentName) (cells : List Cell) (head n a o : ℕ) (rs : List RowCells) (a' o' : ℕ) (r : RowCells) → RowsFrom names cells head n a o rs a' o'
     → segments_from names head n a o (rs ++ r ∷ []) ≡ segments_from names head n a o rs ++ row_segment (row_at names head (n + length rs) a' o') r ∷ []
@@ -213,7 +219,7 @@ pub after_row : (names : List SegmentName) (cells : List Cell) (base head n : �
     → AfterRow names cells base head n segments new address offset s
 after_row names cells base head n segments placed new address offset d front s low is fits h b =
     let more = rows_more names cells base head n segments placed new address offset s h
-        (subst (λ (row : Row). AddsRow cells row placed new s) (row_is names head n address offset d front low is) b) in
+    (subst (λ (row : Row). AddsRow cells row placed new s) (row_is names head n address offset d front low is) b) in
     let all = ranks-cost cell_cost (9 * (n + 1)) cells in
     record {
       rows = more;

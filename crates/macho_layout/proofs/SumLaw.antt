@@ -4,42 +4,31 @@
 -- tables exactly where their names and types agree, so there are as many segments and output sections. A carried section is placed at
 -- the same alignment, and costs the same; the alignment of the template is the greatest of the same sections'. So each term
 -- of the sums is the same.
-use Rattle.std.proofs.Common.{◌≡◌, ℕ, ◌+◌, ◌*◌, ◌-◌, ◌/◌, ◌^◌, ◌<◌, ◌≤◌, ◌==◌, ◌&&◌, ◌||◌, nat_lt, not, if◌then◌else◌, Bool, true, false, cond, List, [], ◌∷◌, ◌++◌, map, filter, fold, max, length, length-append, sum, sum_by, refl, sym, ap, ◌∙◌, subst, arith}
-use Rattle.std.specs.List.{list_any, enumerate_from, AllByRecursion}
+use Rattle.std.proofs.Common.{◌≡◌, ℕ, ◌==◌, ◌&&◌, ◌||◌, not, Bool, true, false, List, [], ◌∷◌, ◌++◌, map, filter, length, length-append, refl, sym, ap, ◌∙◌, arith}
+use Rattle.std.specs.List.{list_any, enumerate_from}
 use Rattle.std.specs.Str.{bytes_eq}
-use Rattle.std.proofs.Math.Nat.{max_comm}
 use Rattle.std.proofs.lemmas.Bool.Decides.{same_from_decides}
 use Rattle.std.proofs.lemmas.Slice.Eq.{bytes_eq-Decides}
 use Rattle.std.proofs.lemmas.List.{length-map}
-use Rattle.std.proofs.lemmas.List.Elements.{filter_agree, filter_passes, recursion_from_All}
+use Rattle.std.proofs.lemmas.List.Elements.{filter_agree}
 use Rattle.std.proofs.lemmas.List.FromFn.{length-enumerate_from}
-use Rattle.std.proofs.lemmas.List.Folds.{fold-map}
-use Rattle.std.proofs.lemmas.List.Sums.{sum-map, sum_by-cons}
 use Rattle.macho_bytes.specs.Texts.{name_of}
-use Rattle.macho_bytes.specs.Layouts.{size_of}
-use Rattle.macho_records.specs.Layouts.{mach_header, segment_command, section_header}
 use Rattle.macho_records.specs.declared.segments.SegmentName.{SegmentName}
-use Rattle.macho_records.specs.Segments.{name_field, text_of}
-use Rattle.macho_records.specs.Sections.{is_template_type, type_of}
-use Rattle.macho_model.specs.declared.placed.Counts.{Counts}
-use Rattle.macho_model.specs.Links.{Link, SectionId, header_at, sections_of, carried_of, is_carried, is_template, template_exponent, placed_exponent, greatest}
-use Rattle.macho_model.specs.Resolution.{SymbolId, chosen_commons}
-use Rattle.macho_model.specs.Targets.{slots_of, stubs_of}
+use Rattle.macho_records.specs.Segments.{name_field}
+use Rattle.macho_records.specs.Sections.{type_of}
+use Rattle.macho_model.specs.Links.{Link, SectionId, header_at, carried_of}
+use Rattle.macho_model.specs.Resolution.{chosen_commons}
+use Rattle.macho_model.specs.Targets.{slots_of}
 use Rattle.macho_model.specs.Needs.{distinct}
-use Rattle.macho_model.specs.Segments.{PAGEZERO, TEXT, DATA_CONST, DATA, LINKEDIT, segment_name, is_known_segment, other_segments, has_section_in, segment_names_of, same_key, key_of, common_key, output_keys_of, output_count as link_outputs, list_if, one_if, OutputKey}
-use Rattle.macho_model.specs.WrittenSum.{section_cost as link_cost, common_cost, content_sum as link_content, command_sum as link_commands, unsigned_sum as link_unsigned, written_sum_of, file_segments}
+use Rattle.macho_model.specs.Segments.{PAGEZERO, TEXT, DATA_CONST, DATA, LINKEDIT, segment_name, is_known_segment, other_segments, has_section_in, segment_names_of, same_key, key_of, list_if, one_if}
 use Rattle.macho_layout.specs.declared.spec.SectionSpec.{SectionSpec}
-use Rattle.macho_layout.specs.declared.spec.CommonSpec.{CommonSpec}
 use Rattle.macho_layout.specs.declared.spec.OutputName.{OutputName}
 use Rattle.macho_layout.specs.Plans.{Planning, IsPlanOf, spec_of, common_spec_of}
 use Rattle.macho_layout.specs.Keys.{padded, same_segment, same_output, segment_key_of, output_key_of, segments_seen, outputs_seen}
-use Rattle.macho_layout.specs.Names.{is_other, section_segments, section_outputs, has_segment, has_data, has_data_const, mapped_names, segment_count, merged_count, has_new_commons, COMMON_NAME}
-use Rattle.macho_layout.specs.Members.{type_of_spec, template_align, placed_align}
-use Rattle.macho_layout.specs.Sums.{section_cost, members_cost, content_sum, output_count, unsigned_sum, written_sum}
+use Rattle.macho_layout.specs.Names.{is_other, section_segments, section_outputs, has_segment, has_data, has_data_const, segment_count}
 use Rattle.macho_layout.proofs.Named.{name_in_field, fields_agree, filter_map_is, distinct_map, distinct_agree, any_distinct, any_map, any_agree}
-use Rattle.macho_layout.proofs.Distinct.{distinct_push}
 use Rattle.macho_layout.proofs.Tests.{count_of_names, length-list_if}
-use Rattle.macho_layout.proofs.Whole.{map_map, map_numbered}
+use Rattle.macho_layout.proofs.Whole.{map_map}
 
 -- the segment and the output section of a carried section, in the tables of a plan
 abbrev pub segment_key : Link → SectionId → SegmentName
@@ -97,11 +86,11 @@ others_many l p plan =
     let mine : filter is_other (section_segments p) ≡ map (segment_key l) (filter (λ s. is_other (segment_key l s)) (segments_once l))
     = ap (filter is_other) (segments_are l p plan) ∙ filter_map_is is_other (segment_key l) (segments_once l) in
     let theirs : filter (λ name. not (is_known_segment name)) (distinct bytes_eq (map (segment_name l) (carried_of l)))
-        ≡ map (segment_name l) (filter (λ s. not (is_known_segment (segment_name l s))) (segments_once l))
+    ≡ map (segment_name l) (filter (λ s. not (is_known_segment (segment_name l s))) (segments_once l))
     = ap (filter (λ name. not (is_known_segment name))) (distinct_map bytes_eq (segment_name l) (carried_of l))
-        ∙ filter_map_is (λ name. not (is_known_segment name)) (segment_name l) (segments_once l) in
+    ∙ filter_map_is (λ name. not (is_known_segment name)) (segment_name l) (segments_once l) in
     let same = filter_agree (λ s. is_other (segment_key l s)) (λ s. not (is_known_segment (segment_name l s)))
-        (λ s. ap (λ (n : List ℕ). not (is_known_segment n)) (twice (header_at l s).segname)) (segments_once l) in
+    (λ s. ap (λ (n : List ℕ). not (is_known_segment n)) (twice (header_at l s).segname)) (segments_once l) in
     ap length mine ∙ length-map (filter (λ s. is_other (segment_key l s)) (segments_once l)) (segment_key l) ∙ ap length same
     ∙ sym (ap length theirs ∙ length-map (filter (λ s. not (is_known_segment (segment_name l s))) (segments_once l)) (segment_name l))
 
@@ -114,12 +103,12 @@ segment_there : (l : Link) (p : Planning) (name : List ℕ) → IsPlanOf l p →
 segment_there l p name plan whole =
     let agree : (s : SectionId) → same_segment (padded name) (segment_key l s) ≡ bytes_eq (segment_name l s) name
     = λ s. fields_agree name (name_field (header_at l s).segname) ∙ ap (λ (n : List ℕ). bytes_eq n (name_of (name_field (header_at l s).segname))) whole
-        ∙ ap (bytes_eq name) (name_in_field (header_at l s).segname) ∙ bytes_turn name (segment_name l s) in
+    ∙ ap (bytes_eq name) (name_in_field (header_at l s).segname) ∙ bytes_turn name (segment_name l s) in
     ap (list_any (same_segment (padded name))) (segments_are l p plan)
     ∙ any_map (same_segment (padded name)) (segment_key l) (segments_once l)
     ∙ any_agree (λ s. same_segment (padded name) (segment_key l s)) (λ s. bytes_eq (segment_name l s) name) agree (segments_once l)
     ∙ any_distinct (λ a b. bytes_eq (segment_name l a) (segment_name l b)) (λ s. bytes_eq (segment_name l s) name)
-      (λ a b t. ap (λ (n : List ℕ). bytes_eq n name) ((bytes_eq-Decides (segment_name l a) (segment_name l b)).0 t)) (carried_of l)
+    (λ a b t. ap (λ (n : List ℕ). bytes_eq n name) ((bytes_eq-Decides (segment_name l a) (segment_name l b)).0 t)) (carried_of l)
 
 or_turn : (a b : Bool) → (a || b) ≡ (b || a)
 or_turn true true = refl
@@ -137,10 +126,10 @@ unfolding segment_names_of
 segments_same l p plan =
     let const : has_data_const p ≡ (has_section_in l DATA_CONST || not (length (slots_of l) == 0))
     = ap (λ (n : ℕ). not (n == 0) || has_segment p (padded DATA_CONST)) (ap length plan.slots)
-        ∙ ap (λ (b : Bool). not (length (slots_of l) == 0) || b) (segment_there l p DATA_CONST plan refl) ∙ or_turn (not (length (slots_of l) == 0)) (has_section_in l DATA_CONST) in
+    ∙ ap (λ (b : Bool). not (length (slots_of l) == 0) || b) (segment_there l p DATA_CONST plan refl) ∙ or_turn (not (length (slots_of l) == 0)) (has_section_in l DATA_CONST) in
     let written : has_data p ≡ (has_section_in l DATA || not (length (chosen_commons l) == 0))
     = ap (λ (n : ℕ). not (n == 0) || has_segment p (padded DATA)) (commons_many l p plan)
-        ∙ ap (λ (b : Bool). not (length (chosen_commons l) == 0) || b) (segment_there l p DATA plan refl) ∙ or_turn (not (length (chosen_commons l) == 0)) (has_section_in l DATA) in
+    ∙ ap (λ (b : Bool). not (length (chosen_commons l) == 0) || b) (segment_there l p DATA plan refl) ∙ or_turn (not (length (chosen_commons l) == 0)) (has_section_in l DATA) in
     let a : List (List ℕ) = list_if l.executable (PAGEZERO ∷ []) in
     let b : List (List ℕ) = TEXT ∷ [] in
     let c : List (List ℕ) = list_if (has_section_in l DATA_CONST || not (length (slots_of l) == 0)) (DATA_CONST ∷ []) in

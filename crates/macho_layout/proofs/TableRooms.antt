@@ -4,9 +4,9 @@
 -- The first row is `__TEXT`, in which the loader writes no pointers. So the pages of fixups are at most what all cells cost,
 -- over a page, and one for each row. The sum counts two bytes for each page of what the parts have, and two pages for
 -- each segment, of which a row takes less than one; the others pay for the alignments of what the linker makes.
-use Rattle.std.proofs.Common.{◌≡◌, ℕ, ◌+◌, ◌*◌, ◌-◌, ◌/◌, ◌^◌, ◌<◌, ◌≤◌, ◌==◌, ◌||◌, if◌then◌else◌, Bool, true, false, cond, List, [], ◌∷◌, ◌++◌, map, length, get_or, sum_by, refl, sym, ap, ◌∙◌, subst, arith}
+use Rattle.std.proofs.Common.{◌≡◌, ℕ, ◌+◌, ◌*◌, ◌-◌, ◌/◌, ◌^◌, ◌<◌, ◌≤◌, if◌then◌else◌, Bool, true, false, cond, List, [], ◌∷◌, length, get_or, sum_by, refl, ap, ◌∙◌, arith}
 use Rattle.std.proofs.lemmas.Bool.{ne_eqb}
-use Rattle.std.proofs.lemmas.List.Sums.{sum_by-cons, sum_by-append}
+use Rattle.std.proofs.lemmas.List.Sums.{sum_by-cons}
 use Rattle.macho_bytes.specs.Numbers.{rounded_up}
 use Rattle.macho_records.specs.declared.segments.SegmentName.{SegmentName}
 use Rattle.macho_model.specs.declared.placed.Counts.{Counts}
@@ -25,10 +25,10 @@ use Rattle.macho_layout.specs.Cells.{cells_of}
 use Rattle.macho_layout.specs.Rows.{RowCells, row_segment, row_at, front_at, RowsFrom, segments_from, AreRows}
 use Rattle.macho_layout.specs.Places.{is_pointer_segment, segment_pages, row_pages}
 use Rattle.macho_layout.specs.Sums.{members_cost, written_sum, head_size, base_of, FitsLimits}
-use Rattle.macho_model.specs.Order.{fixup_room, signature_room}
+use Rattle.macho_model.specs.Order.{fixup_room}
 use Rattle.std.proofs.lemmas.Nat.{div-mul-add}
 use Rattle.macho_cells.proofs.Multiples.{rounded-near, rounded-above}
-use Rattle.macho_layout.specs.Tables.{tables_cost, tables_end, tables_at, symbols_start, signature_start}
+use Rattle.macho_layout.specs.Tables.{tables_cost, tables_at, symbols_start, signature_start}
 use Rattle.macho_layout.proofs.RowSteps.{parts-cost, paged-near, row-cost}
 use Rattle.macho_layout.proofs.Rooms.{cells-cost}
 
@@ -55,7 +55,7 @@ pages_from names cells head n a o (r ∷ rs) a' o' some h =
     let place : 9 * n + 9 ≡ 9 * (n + 1) = omega arith in
     let parts : sum_by cell_cost (of_ranks (9 * n) (9 * length (r ∷ rs)) cells) ≡ sum_by cell_cost (of_ranks (9 * n) 9 cells) + sum_by cell_cost (of_ranks (9 * (n + 1)) (9 * length rs) cells)
     = ap (λ (k : ℕ). sum_by cell_cost (of_ranks (9 * n) k cells)) long ∙ parts-cost (9 * n) 9 (9 * length rs) cells
-        ∙ ap (λ (k : ℕ). sum_by cell_cost (of_ranks (9 * n) 9 cells) + sum_by cell_cost (of_ranks k (9 * length rs) cells)) place in
+    ∙ ap (λ (k : ℕ). sum_by cell_cost (of_ranks (9 * n) 9 cells) + sum_by cell_cost (of_ranks k (9 * length rs) cells)) place in
     omega (
       arith,
       sum_by-cons segment_pages (row_segment (row_at names head n a o) r) (segments_from names head (n + 1) (a + rounded_up SEGMENT_PAGE (r.end - a)) (o + rounded_up SEGMENT_PAGE (r.filled_end - a)) rs),
@@ -118,6 +118,7 @@ tables_room p counts extents segments placed address offset fits less h =
     by : (b : Bool) → (if b then 0x100000000 else 0) ≤ 2 ^ 32
     by true = omega arith
     by false = omega arith
+
     small : (b : Bool) → one_if b ≤ 1
     small true = omega arith
     small false = omega arith
@@ -134,6 +135,7 @@ rows_room p counts extents fits less =
     by : (b : Bool) → (if b then 0x100000000 else 0) ≤ 2 ^ 32
     by true = omega arith
     by false = omega arith
+
     small : (b : Bool) → one_if b ≤ 1
     small true = omega arith
     small false = omega arith

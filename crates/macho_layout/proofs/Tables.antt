@@ -2,13 +2,12 @@
 --
 -- Names are put into a table unless they are there, which is what taking repeats out of one name more gives. A section that was there keeps the
 -- place of its output section, since it is inside the table; the new one has the place of its name, also where it goes last.
-use Rattle.std.proofs.Common.{◌≡◌, ℕ, ◌+◌, ◌<◌, ◌≤◌, ◌==◌, ◌&&◌, Bool, true, false, cond, eqb, List, [], ◌∷◌, ◌++◌, map, length, get_or, All, Decides, refl, sym, ap, ◌∙◌, subst, arith}
+use Rattle.std.proofs.Common.{◌≡◌, ℕ, ◌<◌, ◌≤◌, ◌==◌, ◌&&◌, Bool, List, [], ◌∷◌, ◌++◌, map, length, get_or, Decides, refl, sym, ap, ◌∙◌, subst, arith}
 use Rattle.std.specs.List.{list_any, position_or_len}
-use Rattle.std.specs.Str.{bytes_eq}
 use Rattle.std.proofs.lemmas.Bool.{and_parts, and_from, eqb-true, eq-eqb}
 use Rattle.std.proofs.lemmas.Slice.Eq.{bytes_eq-Decides}
 use Rattle.std.proofs.lemmas.List.{map_push}
-use Rattle.std.proofs.lemmas.List.Elements.{All-push, All-weaker}
+use Rattle.std.proofs.lemmas.List.Elements.{All-push}
 use Rattle.indexmap.specs.IndexSet.{insert_key}
 use Rattle.macho_records.specs.declared.segments.SegmentName.{SegmentName}
 use Rattle.macho_model.specs.Needs.{distinct}
@@ -35,16 +34,16 @@ same_parts a b segment name kind =
 pub output-decides : (a b : OutputName) → Decides (same_output a b) (a ≡ b)
 output-decides a b = (
   λ t.
-    let all = and_parts (same_segment a.segment b.segment) (same_segment a.name b.name && (a.kind == b.kind)) t in
-    let rest = and_parts (same_segment a.name b.name) (a.kind == b.kind) all.1 in
-    let segment : a.segment ≡ b.segment = (segment-decides a.segment b.segment).0 all.0 in
-    let name : a.name ≡ b.name = (segment-decides a.name b.name).0 rest.0 in
-    let kind : a.kind ≡ b.kind = eqb-true a.kind b.kind rest.1 in
-    same_parts a b segment name kind,
+      let all = and_parts (same_segment a.segment b.segment) (same_segment a.name b.name && (a.kind == b.kind)) t in
+      let rest = and_parts (same_segment a.name b.name) (a.kind == b.kind) all.1 in
+      let segment : a.segment ≡ b.segment = (segment-decides a.segment b.segment).0 all.0 in
+      let name : a.name ≡ b.name = (segment-decides a.name b.name).0 rest.0 in
+      let kind : a.kind ≡ b.kind = eqb-true a.kind b.kind rest.1 in
+      same_parts a b segment name kind,
   λ e. and_from (same_segment a.segment b.segment) (same_segment a.name b.name && (a.kind == b.kind))
-    ((segment-decides a.segment b.segment).1 (ap (λ (n : OutputName). n.segment) e))
-    (and_from (same_segment a.name b.name) (a.kind == b.kind) ((segment-decides a.name b.name).1 (ap (λ (n : OutputName). n.name) e))
-    (eq-eqb a.kind b.kind (ap (λ (n : OutputName). n.kind) e)))
+      ((segment-decides a.segment b.segment).1 (ap (λ (n : OutputName). n.segment) e))
+      (and_from (same_segment a.name b.name) (a.kind == b.kind) ((segment-decides a.name b.name).1 (ap (λ (n : OutputName). n.name) e))
+      (eq-eqb a.kind b.kind (ap (λ (n : OutputName). n.kind) e))),
 )
 
 -- the names of one section more
@@ -95,7 +94,7 @@ pub names_after : (sections now next : List Planned) (keys room wide : List Outp
     → x.output ≡ position_or_len (same_output k) room → x.output < length wide → HoldNames sections keys segments → HoldNames next wide broad
 names_after sections now next keys room wide segments space broad x k g a b c d e f i j at inside h =
     let more = names_more sections keys segments x (at ∙ ap (λ (n : OutputName). position_or_len (same_output n) room) d ∙ ap (position_or_len (same_output (output_key_of x.spec))) b)
-        (subst (λ (ks : List OutputName). x.output < length ks) (i ∙ ap (insert_key same_output room) d ∙ ap (λ (ks : List OutputName). insert_key same_output ks (output_key_of x.spec)) b) inside) h in
+    (subst (λ (ks : List OutputName). x.output < length ks) (i ∙ ap (insert_key same_output room) d ∙ ap (λ (ks : List OutputName). insert_key same_output ks (output_key_of x.spec)) b) inside) h in
     rw (f, a, i, b, d, j, c, e) more
 
 -- no section
@@ -103,5 +102,5 @@ pub names_none : HoldNames [] [] [] × AreSound [] []
 unfolding outputs_seen segments_seen
 names_none = (
   record { keys_are = refl; segments_are = refl; outputs = λ i d low. absurd (omega arith); within = λ i d low. absurd (omega arith) },
-  record { sections_small = λ i d low. absurd (omega arith); commons_small = λ i d low. absurd (omega arith); places = λ i d low. absurd (omega arith) }
+  record { sections_small = λ i d low. absurd (omega arith); commons_small = λ i d low. absurd (omega arith); places = λ i d low. absurd (omega arith) },
 )

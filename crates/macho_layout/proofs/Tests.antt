@@ -1,9 +1,9 @@
 -- Tests of lists that may be empty, and places in tables.
 --
 -- A list of length 0 is empty. Where a table has no element that passes, the first place that passes is its length.
-use Rattle.std.proofs.Common.{◌≡◌, ℕ, ◌+◌, ◌<◌, ◌==◌, ◌||◌, ◌&&◌, not, Bool, true, false, cond, Option, Some, None, List, [], ◌∷◌, ◌++◌, filter, length-append, length, ltb, get_or, refl, sym, ap, ◌∙◌, arith, inl, inr, ◌≤◌}
-use Rattle.std.specs.List.{position, position_or_len, slice_get}
-use Rattle.std.proofs.lemmas.Bool.{eq-eqb, eqb-true, ne_eqb, eqb-false, cases_lt, ltb-false}
+use Rattle.std.proofs.Common.{◌≡◌, ℕ, ◌+◌, ◌==◌, ◌||◌, ◌&&◌, not, Bool, true, false, cond, Some, None, List, [], ◌∷◌, ◌++◌, filter, length-append, length, ltb, refl, sym, ap, ◌∙◌, arith, ◌≤◌}
+use Rattle.std.specs.List.{position, position_or_len}
+use Rattle.std.proofs.lemmas.Bool.{eq-eqb, eqb-true, ne_eqb, eqb-false, ltb-false}
 use mir.Val.{bool_byte}
 use Rattle.macho_model.specs.Segments.{TEXT, DATA_CONST, DATA, list_if, one_if}
 use Rattle.macho_records.specs.declared.segments.SegmentName.{SegmentName}

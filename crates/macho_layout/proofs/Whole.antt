@@ -2,31 +2,29 @@
 --
 -- The placed sections are the plan's, one by one, with addresses beside them; the plan's are the carried ones of the link. So
 -- without addresses the lists are the same. Commons are numbered by their places, and slots and stubs are those of the plan.
-use Rattle.std.proofs.Common.{◌≡◌, ℕ, ◌+◌, List, [], ◌∷◌, map, length, get_or, if◌then◌else◌, All, IsPermutation, refl, sym, ap, ◌∙◌, subst, arith}
+use Rattle.std.proofs.Common.{◌≡◌, ℕ, ◌+◌, List, [], ◌∷◌, map, length, if◌then◌else◌, All, IsPermutation, refl, sym, ap, ◌∙◌, subst}
 use Rattle.std.specs.List.{enumerate_from, range_with_len, AllByRecursion}
 use Rattle.std.proofs.lemmas.List.{map-id}
 use Rattle.std.proofs.lemmas.List.Elements.{recursion_from_All, All-from_recursion}
 use Rattle.std.proofs.lemmas.List.Sorted.{IsPermutation-refl}
 use Rattle.macho_model.specs.declared.placed.Counts.{Counts}
-use Rattle.macho_model.specs.declared.placed.PlacedSection.{PlacedSection}
 use Rattle.macho_model.specs.declared.placed.PlacedCommon.{PlacedCommon}
 use Rattle.macho_model.specs.declared.placed.Slot.{Slot}
 use Rattle.macho_model.specs.declared.placed.Stub.{Stub}
 use Rattle.macho_model.specs.declared.targets.Target.{Target}
 use Rattle.macho_model.specs.declared.targets.Target.TheVariants as target
 use Rattle.macho_model.specs.Links.{Link, SectionId, carried_of}
-use Rattle.macho_model.specs.Resolution.{SymbolId, chosen_commons}
+use Rattle.macho_model.specs.Resolution.{chosen_commons}
 use Rattle.macho_model.specs.Targets.{slots_of, stubs_of, slot_number}
-use Rattle.macho_model.specs.Placement.{Placed, IsWholeList, id_of}
+use Rattle.macho_model.specs.Placement.{Placed, id_of}
 use Rattle.macho_layout.specs.declared.spec.SectionSpec.{SectionSpec}
 use Rattle.macho_layout.specs.declared.spec.CommonSpec.{CommonSpec}
 use Rattle.macho_layout.specs.declared.spec.StubSpec.{StubSpec}
 use Rattle.macho_layout.specs.declared.spec.Planned.{Planned}
 use Rattle.macho_layout.specs.Plans.{Planning, IsPlanOf, spec_of, common_spec_of}
-use Rattle.macho_layout.specs.Keys.{specs_of}
 use Rattle.macho_layout.specs.Names.{mapped_names}
-use Rattle.macho_layout.specs.Places.{placed_section, placed_sections, placed_commons, placed_slots, placed_stubs, address_at, behind}
-use Rattle.macho_layout.specs.Laid.{IsLaidOut, made_start}
+use Rattle.macho_layout.specs.Places.{placed_section, address_at}
+use Rattle.macho_layout.specs.Laid.{IsLaidOut}
 use Rattle.macho_layout.specs.Laws.{BaseIsLinks, ListsAreWhole, SectionsAreListed, CommonsAreListed}
 
 -- a map of a map

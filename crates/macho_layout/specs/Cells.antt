@@ -1,5 +1,5 @@
 -- Output sections as cells.
-use Rattle.std.specs.Prelude.{ℕ, ◌+◌, ◌*◌, ◌<◌, ◌^◌, ◌==◌, nat_lt, not, ◌||◌, if◌then◌else◌, Bool, List, [], ◌∷◌, ◌++◌, map, length, get_or}
+use Rattle.std.specs.Prelude.{ℕ, ◌+◌, ◌*◌, ◌<◌, ◌^◌, ◌==◌, nat_lt, not, ◌||◌, if◌then◌else◌, Bool, List, [], ◌∷◌, ◌++◌, map, length}
 use Rattle.std.specs.List.{range_with_len, position_or_len}
 use Rattle.macho_records.specs.declared.segments.SegmentName.{SegmentName}
 use Rattle.macho_records.specs.declared.constants.TheConstants.{S_THREAD_LOCAL_REGULAR, S_THREAD_LOCAL_ZEROFILL}

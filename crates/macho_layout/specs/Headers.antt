@@ -1,5 +1,5 @@
 -- The section headers of a placed plan.
-use Rattle.std.specs.Prelude.{ℕ, ◌+◌, ◌*◌, ◌-◌, ◌/◌, ◌%◌, ◌^◌, ◌==◌, nat_lt, if◌then◌else◌, List, length, get_or, codes, bit_and}
+use Rattle.std.specs.Prelude.{ℕ, ◌+◌, ◌-◌, ◌/◌, ◌%◌, ◌^◌, ◌==◌, nat_lt, if◌then◌else◌, List, length, get_or, codes, bit_and}
 use Rattle.macho_records.specs.declared.header.SectionHeader.{SectionHeader}
 use Rattle.macho_records.specs.declared.segments.SegmentName.{SegmentName}
 use Rattle.macho_records.specs.declared.constants.TheConstants.{S_ATTR_PURE_INSTRUCTIONS, S_ATTR_SOME_INSTRUCTIONS, S_INIT_FUNC_OFFSETS, S_NON_LAZY_SYMBOL_POINTERS, S_SYMBOL_STUBS}
@@ -26,11 +26,11 @@ made_title segment name flags stub_size = record {
 abbrev pub title_of : Planning → List Extent → ℕ → Title
 title_of p extents number =
     if nat_lt number (length extents) then
-      record { name = output_at p number; flags = bit_and (extent_at extents number).flags KEPT_FLAGS; stub_size = 0 }
+    record { name = output_at p number; flags = bit_and (extent_at extents number).flags KEPT_FLAGS; stub_size = 0 }
     else if number - length extents == 0 then made_title (padded TEXT) (codes "__init_offsets") S_INIT_FUNC_OFFSETS 0
     else if number - length extents == 1 then made_title (padded TEXT) (codes "__unwind_info") 0 0
     else if number - length extents == 2 then
-      made_title (padded TEXT) (codes "__stubs") (S_SYMBOL_STUBS + S_ATTR_PURE_INSTRUCTIONS + S_ATTR_SOME_INSTRUCTIONS) 12
+    made_title (padded TEXT) (codes "__stubs") (S_SYMBOL_STUBS + S_ATTR_PURE_INSTRUCTIONS + S_ATTR_SOME_INSTRUCTIONS) 12
     else made_title (padded DATA_CONST) (codes "__got") S_NON_LAZY_SYMBOL_POINTERS 0
 
 abbrev pub no_segment : PlacedSegment
@@ -40,8 +40,8 @@ no_segment = record { name = padded TEXT; address = 0; size = 0; file_offset = 0
 abbrev pub file_offset_of : List PlacedSegment → PlacedCell → ℕ
 file_offset_of segments q =
     if nat_lt (q.cell.rank / 9) (length segments) then
-      ((q.start + (2 ^ 64 - (get_or segments (q.cell.rank / 9) no_segment).address)) % 2 ^ 64 + (get_or segments (q.cell.rank / 9) no_segment).file_offset)
-      % 2 ^ 64 % 2 ^ 32
+    ((q.start + (2 ^ 64 - (get_or segments (q.cell.rank / 9) no_segment).address)) % 2 ^ 64 + (get_or segments (q.cell.rank / 9) no_segment).file_offset)
+    % 2 ^ 64 % 2 ^ 32
     else 0
 
 -- the header of a placed output section

@@ -1,5 +1,5 @@
 -- What a plan's placement is, step by step.
-use Rattle.std.specs.Prelude.{◌≡◌, ℕ, ◌+◌, ◌-◌, ◌*◌, ◌≤◌, ◌<◌, ◌^◌, List, [], ◌∷◌, ◌++◌, map, length, Option, Some, None, Bool, true, false, nat_lt, ◌&&◌}
+use Rattle.std.specs.Prelude.{◌≡◌, ℕ, ◌+◌, ◌-◌, ◌*◌, ◌≤◌, ◌<◌, ◌^◌, List, [], ◌∷◌, ◌++◌, map, length, Some, None, Bool, true, false, nat_lt, ◌&&◌}
 use Rattle.std.specs.List.{list_all}
 use Rattle.macho_layout.specs.Placements.{placed_of}
 use Rattle.macho_model.specs.declared.placed.Counts.{Counts}

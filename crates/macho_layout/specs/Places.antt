@@ -1,5 +1,5 @@
 -- Addresses of parts.
-use Rattle.std.specs.Prelude.{ℕ, ◌+◌, ◌*◌, ◌%◌, ◌/◌, ◌^◌, ◌==◌, nat_lt, ◌||◌, if◌then◌else◌, Bool, List, [], length, get_or, map, filter, fold, sum_by, Option, Some, None}
+use Rattle.std.specs.Prelude.{ℕ, ◌+◌, ◌*◌, ◌%◌, ◌/◌, ◌^◌, nat_lt, ◌||◌, if◌then◌else◌, Bool, List, [], length, get_or, map, filter, fold, sum_by, Option, Some, None}
 use Rattle.std.specs.List.{enumerate_from}
 use Rattle.macho_records.specs.declared.segments.SegmentName.{SegmentName}
 use Rattle.macho_model.specs.declared.targets.Target.{Target}
@@ -17,7 +17,6 @@ use Rattle.macho_layout.specs.declared.spec.Planned.{Planned}
 use Rattle.macho_layout.specs.Keys.{padded, same_segment, segment_key_of}
 use Rattle.macho_layout.specs.Cells.{segment_number, is_template_class}
 use Rattle.macho_model.specs.declared.placed.Range64.{Range64}
-use Rattle.macho_cells.specs.declared.members.Member.{Member}
 use Rattle.macho_cells.specs.declared.members.PlacedMember.{PlacedMember}
 
 abbrev pub behind : ℕ → ℕ → ℕ
@@ -33,7 +32,7 @@ no_member = record { member = record { cell = 0; exponent = 0; flags = 0; size =
 abbrev pub address_at : List PlacedMember → List ℕ → ℕ → ℕ
 address_at members starts number =
     if nat_lt number (length members) then
-      behind (number_at starts (get_or members number no_member).member.cell) (get_or members number no_member).offset
+    behind (number_at starts (get_or members number no_member).member.cell) (get_or members number no_member).offset
     else 0
 
 abbrev pub range_at : ℕ → ℕ → Range64

@@ -1,5 +1,5 @@
 -- What is to be placed, in plain lists, and whose plan it is.
-use Rattle.std.specs.Prelude.{◌≡◌, ℕ, ◌+◌, ◌≤◌, ◌==◌, ◌||◌, Bool, true, false, List, [], ◌∷◌, ◌++◌, map, length, All}
+use Rattle.std.specs.Prelude.{◌≡◌, ℕ, ◌==◌, ◌||◌, Bool, true, false, List, [], ◌∷◌, ◌++◌, map, All}
 use Rattle.std.specs.Str.{bytes_eq}
 use Rattle.std.specs.List.{enumerate_from}
 use Rattle.macho_records.specs.Segments.{name_field, text_of}

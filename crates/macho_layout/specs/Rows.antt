@@ -66,7 +66,7 @@ RowsFrom names cells head number address offset [] to_address to_offset = (addre
 RowsFrom names cells head number address offset (r ∷ rs) to_address to_offset =
     IsRow cells (row_at names head number address offset) r
     × RowsFrom names cells head (number + 1) (address + rounded_up SEGMENT_PAGE (r.end - address))
-      (offset + rounded_up SEGMENT_PAGE (r.filled_end - address)) rs to_address to_offset
+    (offset + rounded_up SEGMENT_PAGE (r.filled_end - address)) rs to_address to_offset
 
 -- their segments
 abbrev pub segments_from : List SegmentName → ℕ → ℕ → ℕ → ℕ → List RowCells → List PlacedSegment
@@ -74,7 +74,7 @@ segments_from names head number address offset [] = []
 segments_from names head number address offset (r ∷ rs) =
     row_segment (row_at names head number address offset) r
     ∷ segments_from names head (number + 1) (address + rounded_up SEGMENT_PAGE (r.end - address))
-      (offset + rounded_up SEGMENT_PAGE (r.filled_end - address)) rs
+    (offset + rounded_up SEGMENT_PAGE (r.filled_end - address)) rs
 
 -- so many rows were placed
 pub record AreRows (names : List SegmentName) (cells : List Cell) (base head count : ℕ) (segments : List PlacedSegment) (placed : List PlacedCell)

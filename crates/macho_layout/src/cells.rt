@@ -24,20 +24,32 @@ pub(crate) const CLASSES: u32 = 9;
 pub(crate) const FILLED_CLASSES: u32 = 6;
 
 const CODE: u32 = 0;
+
 const INIT_OFFSETS: u32 = 1;
+
 const UNWIND_INFO: u32 = 2;
+
 const STUBS: u32 = 3;
+
 const SLOTS: u32 = 3;
+
 const DATA: u32 = 4;
+
 const TEMPLATE_DATA: u32 = 5;
+
 const TEMPLATE_ZEROS: u32 = 6;
+
 const COMMONS: u32 = 7;
+
 const ZEROS: u32 = 8;
 
 /// The numbers of what the linker makes count from behind the merged output sections.
 pub(crate) const MADE_INIT_OFFSETS: u32 = 0;
+
 pub(crate) const MADE_UNWIND_INFO: u32 = 1;
+
 pub(crate) const MADE_STUBS: u32 = 2;
+
 pub(crate) const MADE_SLOTS: u32 = 3;
 
 /// Whether sections of a type have no bytes in the file.
@@ -133,7 +145,12 @@ impl Plan {
     }
 
     /// Adds the cells of what the linker makes, where they aren't empty.
-    fn made_cells(&self, counts: &Counts, first: u32, cells: &mut Vec<Cell>) -> Result<(), AllocError>
+    fn made_cells(
+        &self,
+        counts: &Counts,
+        first: u32,
+        cells: &mut Vec<Cell>,
+    ) -> Result<(), AllocError>
         requires number { first < 2 ^ 31 }
         requires sizes { FitSizes self.now counts.now }
         ensures { OnOk result (cells.new.items ≡ cells.old.items ++ made_cells self.now counts.now first) }
@@ -150,7 +167,10 @@ impl Plan {
             exponent: 2,
             size,
         };
-        push_filled(cells, text(MADE_INIT_OFFSETS, INIT_OFFSETS, 4 * counts.initializers))?;
+        push_filled(
+            cells,
+            text(MADE_INIT_OFFSETS, INIT_OFFSETS, 4 * counts.initializers),
+        )?;
         push_filled(cells, text(MADE_UNWIND_INFO, UNWIND_INFO, counts.unwind))?;
         push_filled(cells, text(MADE_STUBS, STUBS, 12 * self.stubs.len() as u64))?;
         push_filled(cells, slots)

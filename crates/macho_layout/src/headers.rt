@@ -64,7 +64,12 @@ impl Plan {
             let flags = S_SYMBOL_STUBS + S_ATTR_PURE_INSTRUCTIONS + S_ATTR_SOME_INSTRUCTIONS;
             made_title(SegmentName::TEXT, b"__stubs", flags, 12)
         } else {
-            made_title(SegmentName::DATA_CONST, b"__got", S_NON_LAZY_SYMBOL_POINTERS, 0)
+            made_title(
+                SegmentName::DATA_CONST,
+                b"__got",
+                S_NON_LAZY_SYMBOL_POINTERS,
+                0,
+            )
         }
     }
 
@@ -83,7 +88,11 @@ impl Plan {
             segname: title.name.segment.into_bytes(),
             addr: one.start,
             size: one.cell.size,
-            offset: if is_zerofill(title.name.kind) { 0 } else { file_offset(segments, one) },
+            offset: if is_zerofill(title.name.kind) {
+                0
+            } else {
+                file_offset(segments, one)
+            },
             align: u32::from(one.cell.exponent),
             reloff: 0,
             nreloc: 0,
@@ -118,7 +127,10 @@ fn file_offset(segments: &[PlacedSegment], one: &PlacedCell) -> u32
 {
     match segments.get((one.cell.rank / CLASSES) as usize) {
         Some(segment) => {
-            let offset = one.start.wrapping_sub(segment.address).wrapping_add(segment.file_offset);
+            let offset = one
+                .start
+                .wrapping_sub(segment.address)
+                .wrapping_add(segment.file_offset);
             (offset % 0x1_0000_0000) as u32
         }
         None => 0,

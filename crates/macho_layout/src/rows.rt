@@ -37,7 +37,13 @@ fn place_row(
     let first = CLASSES * row.number;
     let start = row.address + row.front;
     let filled = place_ranks(cells, first, FILLED_CLASSES, start, placed)?;
-    let end = place_ranks(cells, first + FILLED_CLASSES, CLASSES - FILLED_CLASSES, filled, placed)?;
+    let end = place_ranks(
+        cells,
+        first + FILLED_CLASSES,
+        CLASSES - FILLED_CLASSES,
+        filled,
+        placed,
+    )?;
     Ok(PlacedSegment {
         name: row.name,
         address: row.address,

@@ -1,18 +1,12 @@
 -- A plan as its tables hold it: what is true of them between two calls.
-use Rattle.std.specs.Prelude.{◌≡◌, ℕ, ◌≤◌, ◌<◌, ◌&&◌, ◌==◌, not, if◌then◌else◌, Bool, true, false, List, [], ◌∷◌, ◌++◌, map, filter, length, All, cond}
+use Rattle.std.specs.Prelude.{◌≡◌, ◌≤◌, ◌<◌, List, length, All}
 use Rattle.std.specs.List.{position_or_len}
-use Rattle.std.specs.Str.{bytes_eq}
 use Rattle.macho_records.specs.declared.segments.SegmentName.{SegmentName}
-use Rattle.macho_records.specs.Segments.{text_of}
-use Rattle.macho_records.specs.Sections.{section_type}
-use Rattle.macho_records.specs.declared.constants.TheConstants.{S_THREAD_LOCAL_REGULAR, S_THREAD_LOCAL_ZEROFILL, S_THREAD_LOCAL_VARIABLES}
-use Rattle.macho_model.specs.Needs.{distinct}
-use Rattle.macho_model.specs.Segments.{PAGEZERO, LINKEDIT, DATA}
 use Rattle.macho_layout.specs.declared.spec.SectionSpec.{SectionSpec}
 use Rattle.macho_layout.specs.declared.spec.CommonSpec.{CommonSpec}
 use Rattle.macho_layout.specs.declared.spec.OutputName.{OutputName}
 use Rattle.macho_layout.specs.declared.spec.Planned.{Planned}
-use Rattle.macho_layout.specs.Plans.{Planning, MayStand}
+use Rattle.macho_layout.specs.Plans.{MayStand}
 use Rattle.macho_layout.specs.Keys.{same_output, output_key_of, segments_seen, outputs_seen, specs_of}
 
 -- the tables hold the names of the sections, as first seen, and each section the number of its output section

@@ -1,7 +1,6 @@
 -- The number of a segment: the first place of its name, or the length where there is none.
-use Rattle.std.proofs.Common.{◌≡◌, ℕ, ◌+◌, ◌<◌, Bool, true, false, get_or, refl, sym, ap, ◌∙◌, List, [], length, inl, inr, arith}
+use Rattle.std.proofs.Common.{◌≡◌, ℕ, get_or, sym, ap, ◌∙◌, [], length, inl, inr, arith}
 use Rattle.std.proofs.lemmas.Bool.{cases_lt}
-use Rattle.std.specs.List.{position_or_len}
 use Rattle.std.proofs.lemmas.List.Sums.{position_or_len_is}
 use Rattle.std.proofs.lemmas.List.{get_or_default}
 use Rattle.macho_records.specs.declared.segments.SegmentName.{SegmentName}

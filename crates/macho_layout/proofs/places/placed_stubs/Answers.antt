@@ -1,5 +1,5 @@
 -- One stub more is added at the end.
-use Rattle.std.proofs.Common.{refl, ℕ, ◌+◌, ◌*◌}
+use Rattle.std.proofs.Common.{refl}
 use Rattle.macho_layout.proofs.Numbered.{numbered_more}
 use Rattle.macho_layout.proofs.places.placed_stubs.Goals as goal
 

@@ -1,5 +1,5 @@
 -- A row: what it needs is what its front and its cells cost, and a page.
-use Rattle.std.proofs.Common.{◌≡◌, ℕ, ◌+◌, ◌*◌, ◌-◌, ◌≤◌, ◌∙◌, arith}
+use Rattle.std.proofs.Common.{◌+◌, ◌*◌, ◌-◌, ◌∙◌, arith}
 use Rattle.macho_cells.proofs.Ranks.{fewer-cost}
 use Rattle.macho_cells.specs.Ranks.{cell_cost}
 use Rattle.macho_layout.proofs.RowSteps.{spans_row, room_of_zeros, paged, paged-near, adds_row}

@@ -2,9 +2,7 @@
 --
 -- No row is placed at the base. The next row has room, since its cells are some of all cells and it costs a page more; what is behind it is
 -- still below the bound.
-use Rattle.std.proofs.Common.{◌≡◌, ℕ, ◌+◌, ◌≤◌, ◌<◌, List, ◌++◌, ◌∷◌, [], length, sym, ap, ◌∙◌, subst, arith}
-use Rattle.macho_model.specs.declared.placed.PlacedSegment.{PlacedSegment}
-use Rattle.macho_layout.specs.Rows.{AreRows}
+use Rattle.std.proofs.Common.{length, arith}
 use Rattle.macho_layout.proofs.RowSteps.{rows_none, row_room, after_row}
 use Rattle.macho_layout.proofs.rows.place_rows.Goals as goal
 
@@ -22,16 +20,22 @@ place_row-requires-clause-room c =
 
 pub overflow_add-address : goal.overflow_add-address
 overflow_add-address c =
-    omega (arith, (after_row c.args.names.now c.args.cells.now c.args.base c.args.head c.loop-number.number c.loop-number.segments.items c.loop-number.placed.items c.place_row.new.placed.items
-    c.loop-number.address c.loop-number.offset _ c.front_at.result c.in_ok-segment.segment c.loop-number-test.true c.front_at.ensures c.requires.room c.loop-number.invariant c.in_ok-segment.ensures).address_fits)
+    omega (
+      arith,
+      (after_row c.args.names.now c.args.cells.now c.args.base c.args.head c.loop-number.number c.loop-number.segments.items c.loop-number.placed.items c.place_row.new.placed.items
+          c.loop-number.address c.loop-number.offset _ c.front_at.result c.in_ok-segment.segment c.loop-number-test.true c.front_at.ensures c.requires.room c.loop-number.invariant c.in_ok-segment.ensures).address_fits,
+    )
 
 pub overflow_add-offset : goal.overflow_add-offset
 overflow_add-offset c =
-    omega (arith, (after_row c.args.names.now c.args.cells.now c.args.base c.args.head c.loop-number.number c.loop-number.segments.items c.loop-number.placed.items c.place_row.new.placed.items
-    c.loop-number.address c.loop-number.offset _ c.front_at.result c.in_ok-segment.segment c.loop-number-test.true c.front_at.ensures c.requires.room c.loop-number.invariant c.in_ok-segment.ensures).offset_fits)
+    omega (
+      arith,
+      (after_row c.args.names.now c.args.cells.now c.args.base c.args.head c.loop-number.number c.loop-number.segments.items c.loop-number.placed.items c.place_row.new.placed.items
+          c.loop-number.address c.loop-number.offset _ c.front_at.result c.in_ok-segment.segment c.loop-number-test.true c.front_at.ensures c.requires.room c.loop-number.invariant c.in_ok-segment.ensures).offset_fits,
+    )
 
 pub loop-number-preserved : goal.loop-number-preserved
 loop-number-preserved c =
     let more = after_row c.args.names.now c.args.cells.now c.args.base c.args.head c.loop-number.number c.loop-number.segments.items c.loop-number.placed.items c.place_row.new.placed.items
-        c.loop-number.address c.loop-number.offset _ c.front_at.result c.in_ok-segment.segment c.loop-number-test.true c.front_at.ensures c.requires.room c.loop-number.invariant c.in_ok-segment.ensures in
+    c.loop-number.address c.loop-number.offset _ c.front_at.result c.in_ok-segment.segment c.loop-number-test.true c.front_at.ensures c.requires.room c.loop-number.invariant c.in_ok-segment.ensures in
     rw (c.in_ok-push.ensures.items) more.rows

@@ -1,10 +1,10 @@
 -- What sections cost: where the next one doesn't fit any more, neither do all.
-use Rattle.std.proofs.Common.{◌≡◌, ℕ, ◌+◌, None, List, [], sum_by, get_or, take, sym, ap, ◌∙◌, arith}
+use Rattle.std.proofs.Common.{ℕ, [], sum_by, get_or, ap, ◌∙◌, arith}
 use Rattle.std.proofs.lemmas.List.{take_all}
 use Rattle.std.proofs.lemmas.List.Sums.{sum_by_more, sum_by_more_le}
 use Rattle.macho_layout.specs.declared.spec.Planned.{Planned}
 use Rattle.macho_layout.specs.Members.{placed_align}
-use Rattle.macho_layout.specs.Sums.{fitting, section_cost}
+use Rattle.macho_layout.specs.Sums.{section_cost}
 use Rattle.macho_layout.proofs.Costs.{fitting-none, fitting-some, fitting-is, fitting-below}
 use Rattle.macho_layout.proofs.sums.sections_cost.Goals as goal
 

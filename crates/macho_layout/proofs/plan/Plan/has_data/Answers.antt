@@ -1,5 +1,4 @@
 -- The table of segments holds those of the sections.
-use Rattle.std.proofs.Common.{sym}
 use Rattle.macho_layout.proofs.Tests.{or_same, is_zero}
 use Rattle.macho_layout.proofs.plan.Plan.has_data.Goals as goal
 

@@ -1,5 +1,4 @@
 -- The table of names holds those of the sections.
-use Rattle.std.proofs.Common.{sym, ap, ◌∙◌}
 use Rattle.macho_layout.proofs.Tests.{and_same, is_some_length}
 use Rattle.macho_layout.proofs.plan.Plan.has_new_commons.Goals as goal
 

@@ -1,7 +1,7 @@
 -- The segments that are mapped from the file, in order.
 --
 -- Each step adds its names at the end; the tests and the table are those of the plan.
-use Rattle.std.proofs.Common.{◌≡◌, List, [], ◌∷◌, ◌++◌, filter, Bool, sym, ap, ◌∙◌}
+use Rattle.std.proofs.Common.{◌≡◌, List, [], ◌∷◌, ◌++◌, filter, Bool, ap, ◌∙◌}
 use Rattle.macho_records.specs.declared.segments.SegmentName.{SegmentName}
 use Rattle.macho_model.specs.Segments.{TEXT, DATA_CONST, DATA, list_if}
 use Rattle.macho_layout.specs.Plans.{Planning}

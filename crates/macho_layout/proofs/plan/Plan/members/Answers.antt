@@ -1,8 +1,7 @@
 -- The members: one section or common more adds its member at the end.
-use Rattle.std.proofs.Common.{◌≡◌, ℕ, List, ◌++◌, map, not, take, sym, ap, ◌∙◌, arith}
+use Rattle.std.proofs.Common.{List, ◌++◌, map, not, ap, ◌∙◌, arith}
 use Rattle.std.proofs.lemmas.List.{take_all}
 use Rattle.std.proofs.lemmas.List.Sums.{prefix_len-le-length}
-use Rattle.macho_cells.specs.declared.members.Member.{Member}
 use Rattle.macho_layout.specs.declared.spec.CommonSpec.{CommonSpec}
 use Rattle.macho_layout.specs.declared.spec.OutputName.{OutputName}
 use Rattle.macho_layout.specs.Plans.{Planning}

@@ -1,14 +1,11 @@
 -- What sections and commons cost.
 --
 -- No alignment passes that of a page. Where the sections alone don't fit, all don't; else the commons are added.
-use Rattle.std.proofs.Common.{◌≡◌, ℕ, ◌+◌, ◌≤◌, List, All, None, sum_by, map, get_or, sym, ap, ◌∙◌, subst, arith}
-use Rattle.std.proofs.lemmas.List.Folds.{fold-map}
+use Rattle.std.proofs.Common.{◌≤◌, List, All, sum_by, sym, ap, ◌∙◌, subst, arith}
 use Rattle.macho_layout.specs.declared.spec.Planned.{Planned}
-use Rattle.macho_layout.specs.declared.spec.SectionSpec.{SectionSpec}
 use Rattle.macho_layout.specs.declared.spec.CommonSpec.{CommonSpec}
 use Rattle.macho_layout.specs.Plans.{Planning}
-use Rattle.macho_layout.specs.Keys.{specs_of}
-use Rattle.macho_layout.specs.Members.{placed_align, template_align}
+use Rattle.macho_layout.specs.Members.{placed_align}
 use Rattle.macho_layout.specs.Sums.{fitting, section_cost, members_cost}
 use Rattle.macho_layout.proofs.Costs.{fitting-none, fitting-some, aligns_small, members_split}
 use Rattle.macho_layout.proofs.plan.Plan.members_cost.Goals as goal

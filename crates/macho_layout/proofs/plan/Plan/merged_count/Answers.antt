@@ -1,5 +1,5 @@
 -- The table of names holds those of the sections.
-use Rattle.std.proofs.Common.{◌≡◌, ℕ, ◌+◌, Bool, length, sym, ap, ◌∙◌, arith}
+use Rattle.std.proofs.Common.{◌≡◌, Bool, length, ap, ◌∙◌, arith}
 use Rattle.macho_model.specs.Segments.{one_if}
 use Rattle.macho_layout.specs.Plans.{Planning}
 use Rattle.macho_layout.specs.Names.{has_new_commons, section_outputs}

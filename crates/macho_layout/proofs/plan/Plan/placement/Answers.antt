@@ -2,11 +2,9 @@
 --
 -- The numbers of the placed output sections are those of the cells. The tables end below 2^64, since what they cost is below the sum.
 -- Each part of the placement is what its call answers.
-use Rattle.std.proofs.Common.{◌≡◌, ℕ, ◌+◌, ◌-◌, ◌*◌, ◌^◌, ◌<◌, [], ◌∷◌, ◌++◌, ◌≤◌, List, Bool, All, length, sum_by, refl, sym, ap, ◌∙◌, subst, arith}
-use Rattle.macho_records.specs.declared.segments.SegmentName.{SegmentName}
+use Rattle.std.proofs.Common.{◌≡◌, ℕ, ◌+◌, ◌-◌, ◌*◌, ◌^◌, ◌<◌, [], ◌∷◌, ◌++◌, List, Bool, All, length, refl, sym, ap, ◌∙◌, subst, arith}
 use Rattle.macho_model.specs.declared.placed.PlacedSegment.{PlacedSegment}
 use Rattle.macho_cells.specs.declared.place.PlacedCell.{PlacedCell}
-use Rattle.macho_cells.specs.declared.members.Extent.{Extent}
 use Rattle.macho_layout.specs.Names.{mapped_names}
 use Rattle.macho_bytes.specs.Numbers.{rounded_up}
 use Rattle.macho_model.specs.declared.placed.Linkedit.{Linkedit}
@@ -18,11 +16,10 @@ use Rattle.macho_layout.specs.declared.spec.Planned.{Planned}
 use Rattle.macho_layout.specs.Keys.{padded}
 use Rattle.macho_layout.specs.Keys.{specs_of}
 use Rattle.macho_layout.specs.Plans.{Planning}
-use Rattle.macho_layout.specs.Laid.{IsLaidOut, made_start, zero_page, tables_segment}
+use Rattle.macho_layout.specs.Laid.{made_start, zero_page, tables_segment}
 use Rattle.macho_layout.proofs.Tests.{one_is}
 use Rattle.macho_layout.specs.Places.{row_pages, number_at, range_at, template_range, placed_commons, placed_slots, placed_stubs}
 use Rattle.macho_layout.specs.Tables.{tables_cost, tables_at}
-use Rattle.macho_layout.specs.Sums.{base_of}
 use Rattle.macho_layout.proofs.Costs.{members-cost-is}
 use Rattle.macho_layout.proofs.Rooms.{placed_numbered}
 use Rattle.macho_layout.proofs.RowSteps.{paged, paged-near}
@@ -45,14 +42,14 @@ pointer_pages-requires c =
 pub tables-linkedit-requires : goal.tables-linkedit-requires
 tables-linkedit-requires c =
     let room = tables_room c.args.self.now c.args.counts.now c.args.stacked.now.extents.items c.args.rows.segments.items c.args.rows.placed.items c.args.rows.address c.args.rows.offset
-        c.requires.fits (omega (arith, c.requires.stacked.within, members-cost-is c.args.self.now)) c.requires.rows in
+    c.requires.fits (omega (arith, c.requires.stacked.within, members-cost-is c.args.self.now)) c.requires.rows in
     let pages : c.pointer_pages.result ≡ row_pages c.args.rows.segments.items = c.pointer_pages.ensures ∙ ap row_pages c.deref-2.ensures.value in
     subst (λ (n : ℕ). tables_cost c.args.counts.now c.args.rows.offset n < 2 ^ 64) (sym pages) (omega (arith, room))
 
 pub next_multiple_of-requires-clause-fits : goal.next_multiple_of-requires-clause-fits
 next_multiple_of-requires-clause-fits c =
     let room = tables_room c.args.self.now c.args.counts.now c.args.stacked.now.extents.items c.args.rows.segments.items c.args.rows.placed.items c.args.rows.address c.args.rows.offset
-        c.requires.fits (omega (arith, c.requires.stacked.within, members-cost-is c.args.self.now)) c.requires.rows in
+    c.requires.fits (omega (arith, c.requires.stacked.within, members-cost-is c.args.self.now)) c.requires.rows in
     let pages : c.pointer_pages.result ≡ row_pages c.args.rows.segments.items = c.pointer_pages.ensures ∙ ap row_pages c.deref-2.ensures.value in
     let end : c.tables-linkedit.result.signature.end ≡ (tables_at c.args.counts.now c.args.rows.offset c.pointer_pages.result).signature.end
     = ap (λ (t : Linkedit). t.signature.end) c.tables-linkedit.ensures in
@@ -71,16 +68,16 @@ returns c =
     let many : c.len.result ≡ length (c.args.self.now).sections = inside ∙ ap (λ (p : Planning). length p.sections) c.self.view_is in
     let first : c.start_of-init_offsets.result ≡ made_start c.args.stacked.now.extents.items c.in_ok-starts.starts.items 0
     = c.start_of-init_offsets.ensures ∙ ap (λ (xs : List ℕ). number_at xs (c.len-merged.result + 0)) c.deref-3.ensures.value
-        ∙ ap (λ (n : ℕ). number_at c.in_ok-starts.starts.items (n + 0)) merged in
+    ∙ ap (λ (n : ℕ). number_at c.in_ok-starts.starts.items (n + 0)) merged in
     let second : c.start_of-unwind.result ≡ made_start c.args.stacked.now.extents.items c.in_ok-starts.starts.items 1
     = c.start_of-unwind.ensures ∙ ap (λ (xs : List ℕ). number_at xs (c.len-merged.result + 1)) c.deref-4.ensures.value
-        ∙ ap (λ (n : ℕ). number_at c.in_ok-starts.starts.items (n + 1)) merged in
+    ∙ ap (λ (n : ℕ). number_at c.in_ok-starts.starts.items (n + 1)) merged in
     let third : c.start_of-stubs.result ≡ made_start c.args.stacked.now.extents.items c.in_ok-starts.starts.items 2
     = c.start_of-stubs.ensures ∙ ap (λ (xs : List ℕ). number_at xs (c.len-merged.result + 2)) c.deref-5.ensures.value
-        ∙ ap (λ (n : ℕ). number_at c.in_ok-starts.starts.items (n + 2)) merged in
+    ∙ ap (λ (n : ℕ). number_at c.in_ok-starts.starts.items (n + 2)) merged in
     let fourth : c.start_of-slots.result ≡ made_start c.args.stacked.now.extents.items c.in_ok-starts.starts.items 3
     = c.start_of-slots.ensures ∙ ap (λ (xs : List ℕ). number_at xs (c.len-merged.result + 3)) c.deref-6.ensures.value
-        ∙ ap (λ (n : ℕ). number_at c.in_ok-starts.starts.items (n + 3)) merged in
+    ∙ ap (λ (n : ℕ). number_at c.in_ok-starts.starts.items (n + 3)) merged in
     let pages : c.pointer_pages.result ≡ row_pages c.args.rows.segments.items = c.pointer_pages.ensures ∙ ap row_pages c.deref-2.ensures.value in
     let tables : c.tables-linkedit.result ≡ tables_at c.args.counts.now c.args.rows.offset (row_pages c.args.rows.segments.items)
     = c.tables-linkedit.ensures ∙ ap (λ (n : ℕ). tables_at c.args.counts.now c.args.rows.offset n) pages in

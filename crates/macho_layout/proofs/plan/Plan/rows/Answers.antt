@@ -1,14 +1,12 @@
 -- The segments with their output sections: what they need is below the sum.
-use Rattle.std.proofs.Common.{◌≡◌, ℕ, ◌+◌, ◌*◌, ◌<◌, ◌≤◌, List, All, length, sum_by, sym, ap, ◌∙◌, subst, arith}
+use Rattle.std.proofs.Common.{◌≤◌, List, All, length, sum_by, sym, ap, ◌∙◌, subst, arith}
 use Rattle.macho_records.specs.declared.segments.SegmentName.{SegmentName}
 use Rattle.macho_cells.specs.declared.members.Extent.{Extent}
 use Rattle.macho_cells.specs.declared.place.Cell.{Cell}
-use Rattle.macho_cells.specs.Costs.{extent_cost}
 use Rattle.macho_cells.specs.Ranks.{cell_cost}
 use Rattle.macho_layout.specs.declared.spec.SectionSpec.{SectionSpec}
 use Rattle.macho_layout.specs.declared.spec.CommonSpec.{CommonSpec}
 use Rattle.macho_layout.specs.Plans.{Planning}
-use Rattle.macho_layout.specs.Names.{mapped_names}
 use Rattle.macho_layout.specs.Members.{members_of, first_flags}
 use Rattle.macho_layout.specs.Cells.{cells_of}
 use Rattle.macho_layout.proofs.Costs.{members-cost-is}
@@ -34,8 +32,8 @@ place_rows-requires-clause-small c =
 pub place_rows-requires-clause-room : goal.place_rows-requires-clause-room
 place_rows-requires-clause-room c =
     let same = ap (sum_by cell_cost) (c.deref-2.ensures.value ∙ c.in_ok-cells.ensures
-        ∙ ap (λ (es : List Extent). cells_of c.args.self.now c.args.counts.now c.args.names.now es) c.deref.ensures.value
-        ∙ ap (λ (ns : List SegmentName). cells_of c.args.self.now c.args.counts.now ns c.args.stacked.now.extents.items) c.requires.names) in
+    ∙ ap (λ (es : List Extent). cells_of c.args.self.now c.args.counts.now c.args.names.now es) c.deref.ensures.value
+    ∙ ap (λ (ns : List SegmentName). cells_of c.args.self.now c.args.counts.now ns c.args.stacked.now.extents.items) c.requires.names) in
     let names = ap (λ (ns : List SegmentName). length ns) c.requires.names in
     let room = rows_room c.args.self.now c.args.counts.now c.args.stacked.now.extents.items c.requires.fits (omega (arith, c.requires.stacked.within, members-cost-is c.args.self.now)) in
     omega (arith, same, names, room, c.base-base.ensures, c.head_size-head.ensures)

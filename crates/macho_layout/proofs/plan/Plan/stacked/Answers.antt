@@ -7,7 +7,6 @@ use Rattle.macho_layout.specs.declared.spec.SectionSpec.{SectionSpec}
 use Rattle.macho_layout.specs.declared.spec.CommonSpec.{CommonSpec}
 use Rattle.macho_layout.specs.Plans.{Planning}
 use Rattle.macho_layout.specs.Names.{merged_count}
-use Rattle.macho_layout.specs.Members.{members_of, first_flags}
 use Rattle.macho_layout.proofs.Costs.{members-cost-is}
 use Rattle.macho_layout.proofs.Rooms.{members_there, members_small, flags_many}
 use Rattle.macho_layout.proofs.plan.Plan.stacked.Goals as goal

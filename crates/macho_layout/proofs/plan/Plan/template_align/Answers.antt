@@ -2,7 +2,7 @@
 --
 -- A section of the template takes the greater of the alignment so far and its own; another is passed over. Behind the last section it is
 -- that of the whole template.
-use Rattle.std.proofs.Common.{◌≡◌, ℕ, List, map, filter, fold, max, take, sym, ap, ◌∙◌, arith}
+use Rattle.std.proofs.Common.{List, map, filter, fold, max, ap, ◌∙◌, arith}
 use Rattle.std.proofs.lemmas.List.{take_all}
 use Rattle.macho_records.specs.Sections.{is_template_type}
 use Rattle.macho_layout.specs.declared.spec.SectionSpec.{SectionSpec}
