@@ -7,12 +7,12 @@ ghost use Rattle.macho_bytes.specs.Texts.{put};
 ghost use Rattle.macho_model.specs.Meaning.{address};
 ghost use Rattle.macho_arm64.specs.Fields.{width_of, field_at, is_field, fits_word, can_hold, fits_signed, Holds};
 
-use macho_numbers::{Number, put_little};
 use crate::kinds::FieldSize;
 use crate::words::{
     PAGE_SIZE, is_add, is_adrp, is_branch, is_ldr, is_load_store, scale_of, with_imm12, with_imm21,
     with_imm26,
 };
+use macho_numbers::{Number, put_little};
 
 /// The value does not fit the field.
 #[derive(Clone, Copy, Debug, PartialEq, Eq)]

@@ -8,9 +8,9 @@ ghost use Rattle.std.specs.Prelude.{◌≡◌, ◌+◌, ◌≤◌, length, true,
 ghost use Rattle.macho_bytes.specs.Numbers.{le_at};
 ghost use Rattle.macho_arm64.specs.Relaxations.{relaxation_of, relaxed_kind, can_relax, is_relaxable, IsMadeAdd, MakesAdd, Relaxes};
 
-use macho_numbers::{Number, put_little};
 use crate::kinds::{FieldSize, MachOAArch64, RelocationKind, RelocationKindInfo};
 use crate::words::is_ldr;
+use macho_numbers::{Number, put_little};
 use macho_records::{
     ARM64_RELOC_GOT_LOAD_PAGE21, ARM64_RELOC_GOT_LOAD_PAGEOFF12, ARM64_RELOC_TLVP_LOAD_PAGEOFF12,
     RelocationInfo,

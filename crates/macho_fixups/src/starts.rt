@@ -7,8 +7,8 @@ ghost use Rattle.macho_fixups.specs.Runs.{AreSorted, AreSegments, pages_of, star
 ghost use Rattle.macho_fixups.specs.steps.Cuts.{IsCut, AreBelow, IsRunOf};
 ghost use Rattle.macho_fixups.specs.Tables.{page_starts_text, starts_size, starts_text};
 
-use macho_numbers::put_little;
 use crate::run::{CHAIN_PAGE, Fixup, FixupSegment, SegmentRun, has_next, skip_below};
+use macho_numbers::put_little;
 use macho_records::ChainedStartsInSegment;
 
 /// A page without a chain (`DYLD_CHAINED_PTR_START_NONE`).

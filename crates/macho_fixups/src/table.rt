@@ -17,10 +17,10 @@ ghost use Rattle.macho_fixups.specs.Tables.{image_starts_text, image_starts_size
 ghost use Rattle.macho_fixups.specs.Readings.{TableReadsBack};
 ghost use Rattle.macho_fixups.specs.Calls.{AreEntries, FitsTable, all_pages};
 
-use macho_numbers::{put_little, put_text};
 use crate::imports::{ImportEntry, entry_size, write_imports};
 use crate::run::{Fixup, FixupSegment};
 use crate::starts::{starts_size, write_starts};
+use macho_numbers::{put_little, put_text};
 use macho_records::ChainedFixupsHeader;
 
 /// The place of the starts: behind the header.

@@ -8,8 +8,8 @@ ghost use Rattle.macho_unwind.specs.Sections.{header_of, HasTables, HasPage, IsW
 ghost use Rattle.macho_unwind.specs.Lookup.{UnwindFinds, IsPageOf, IsFunctionOf, NamesPersonality, HasLsda};
 ghost use Rattle.macho_unwind.specs.steps.Parts.{IsBest, IsPage, IsWordOf};
 
-use macho_numbers::little_at;
 use crate::records::{CompactUnwindInfoHeader, CompressedPage, LsdaEntry, PageEntry};
+use macho_numbers::little_at;
 
 /// `UNWIND_SECOND_LEVEL_COMPRESSED`: the kind of a page whose functions are words of an index and an offset.
 pub(crate) const COMPRESSED: u32 = 3;

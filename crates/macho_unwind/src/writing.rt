@@ -8,9 +8,9 @@ ghost use Rattle.macho_unwind.specs.Layouts.{page_entry};
 ghost use Rattle.macho_unwind.specs.steps.Says.{PlanIsFound, WriteFault};
 ghost use Rattle.macho_bytes.specs.Layouts.{spelling};
 
-use macho_numbers::put_littles;
 use crate::lookup::COMPRESSED;
 use crate::records::{CompactUnwindInfoHeader, CompressedPage, LsdaEntry, PageEntry};
+use macho_numbers::put_littles;
 use macho_unwind_pages::{Lsda, Page, Plan, UnwindFault};
 use std::alloc::Global;
 
