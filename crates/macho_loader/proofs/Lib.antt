@@ -1,0 +1,4 @@
+pub mod Cursors
+pub mod NameEnds
+pub mod ListWalks
+pub mod ChainWalks
