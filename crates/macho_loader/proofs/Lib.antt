@@ -2,3 +2,4 @@ pub mod Cursors
 pub mod NameEnds
 pub mod ListWalks
 pub mod ChainWalks
+pub mod Segments
