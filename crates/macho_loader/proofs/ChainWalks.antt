@@ -44,7 +44,7 @@ commands_rise b cs h i (suc m) e before within =
           subst (λ k. EndsBefore (segment_in b (get_or cs k e)) (segment_in b (get_or cs (suc m) e))) (sym here) next
     ]
 
-segments_rise : (b : List ℕ) → EachNeighbour (segment_commands b) (begins_behind b) → AllPairs EndsBefore (segments_of b)
+pub segments_rise : (b : List ℕ) → EachNeighbour (segment_commands b) (begins_behind b) → AllPairs EndsBefore (segments_of b)
 unfolding segments_of
 segments_rise b neighbours i j d before within =
     let long : j < length (segment_commands b) = omega (arith, within, length-map (segment_commands b) (segment_in b)) in
@@ -55,7 +55,7 @@ segments_rise b neighbours i j d before within =
     rw (at_i, at_j) rise
 
 -- a segment that has a word there holds its address in memory
-holds_address : (b : List ℕ) (number place a word : ℕ) → StandApart b → IsNth list.Segments b number place
+pub holds_address : (b : List ℕ) (number place a word : ℕ) → StandApart b → IsNth list.Segments b number place
     → HasWord b (segment_there b place) a word → Holds_address (segment_there b place) a
 holds_address b number place a word apart nth has =
     let s = segment_there b place in

@@ -3,3 +3,4 @@ pub mod NameEnds
 pub mod ListWalks
 pub mod ChainWalks
 pub mod Segments
+pub mod ChainLookups

@@ -1,1 +1,2 @@
+pub mod Fixups
 pub mod steps

@@ -2,3 +2,4 @@
 pub mod Cursors
 pub mod Names
 pub mod Words
+pub mod Held

@@ -25,7 +25,7 @@ fn end_of_names(names: &[u8]) -> u64
 }
 
 /// The names of a fixup table, up to its end.
-fn names_of(bytes: &[u8], place: u64) -> &[u8]
+pub(crate) fn names_of(bytes: &[u8], place: u64) -> &[u8]
     ensures { result.now ≡ table_names bytes.now (table_there bytes.now place) }
 {
     let table = table_at(bytes, place);

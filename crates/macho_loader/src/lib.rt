@@ -13,11 +13,13 @@
 mod accept;
 mod command_rules;
 mod cursor;
+mod fixups;
 mod import_rules;
 mod loaded;
 mod table_rules;
 mod word_rules;
 
+pub use fixups::LoadedFixup;
 pub use loaded::Loaded;
 pub use macho_model::LoadRule;
 pub use macho_model_walks::LoadFault;

@@ -1,0 +1,24 @@
+-- What a look-up by address says of the segments.
+use Rattle.std.specs.Prelude.{ℕ, List, ◌<◌}
+use Rattle.macho_model_walks.specs.declared.walk.Listed.TheVariants as list
+use Rattle.macho_model_walks.specs.steps.Walks.{IsNth, HasWord, Leads, segment_there}
+use Rattle.macho_model_walks.specs.steps.WordTests.{address_in}
+use Rattle.macho_loader.specs.declared.fixups.Held.{Held}
+use Rattle.macho_loader.specs.steps.Words.{IsReached}
+
+-- a word that a segment has at an address; or no segment has one
+pub record IsHeld (b : List ℕ) (address : ℕ) (h : Held) : Type 0 where
+  pub nth : IsNth list.Segments b h.number h.place
+  pub has : HasWord b (segment_there b h.place) address h.word
+
+-- the segment with a number has no word at an address, and none has
+abbrev pub NthHasNoWord : List ℕ → ℕ → ℕ → Type 0
+NthHasNoWord b number address = (place word : ℕ) → IsNth list.Segments b number place → HasWord b (segment_there b place) address word → ⊥
+
+abbrev pub HasNoWord : List ℕ → ℕ → Type 0
+HasNoWord b address = (number : ℕ) → NthHasNoWord b number address
+
+-- a walk is on its way from an offset to another one: what the first leads to is what it leads to from where it stands
+pub record IsOnWay (b : List ℕ) (place page from to offset : ℕ) : Type 0 where
+  pub reached : IsReached b place page from offset
+  pub onward : Leads b (address_in b place from) (address_in b place to) → Leads b (address_in b place offset) (address_in b place to)
