@@ -3,20 +3,20 @@
 -- Each word on the chain fits in the page of a segment, so the segment has a word there; and one segment alone has a word at an
 -- address, by its number too. So a look-up asks that segment, and the page that the address is in. A walk from the page's
 -- start that stands below the address leads there exactly where its next word does.
-use Rattle.std.proofs.Common.{◌≡◌, ℕ, ◌+◌, ◌*◌, ◌-◌, ◌/◌, ◌<◌, ◌≤◌, true, List, length, get_or, refl, sym, ap, subst, ◌∙◌, arith, inl, inr}
+use Rattle.std.proofs.Common.{◌≡◌, ℕ, ◌+◌, ◌*◌, ◌-◌, ◌/◌, ◌<◌, ◌≤◌, true, List, length, get_or, slice_index, refl, sym, ap, subst, ◌∙◌, arith, inl, inr}
 use Rattle.std.proofs.lemmas.Bool.{cases_lt}
 use Rattle.std.proofs.lemmas.List.{get_or_default}
 use Rattle.macho_bytes.specs.Numbers.{le_at}
 use Rattle.macho_records.specs.declared.header.SegmentCommand.{SegmentCommand}
-use Rattle.macho_model.specs.Images.{segments_of, tables_of, fixups_header, CHAIN_PAGE}
+use Rattle.macho_model.specs.Images.{segments_of, tables_of, fixups_header, CHAIN_PAGE, NO_START}
 use Rattle.macho_model.specs.Chain.{chain_segments, chain_segment, next_of, WORD_SIZE, STRIDE, OnChainOf, OnPageChain}
 use Rattle.macho_model.specs.Loader.{IsAccepted, WordFits, is_bind, ordinal_of, import_count}
 use Rattle.macho_model_walks.specs.declared.walk.Listed.TheVariants as list
-use Rattle.macho_model_walks.specs.steps.Walks.{IsNth, HasWord, Leads, listed, segment_there, table_there, chain_segment_at}
+use Rattle.macho_model_walks.specs.steps.Walks.{IsNth, HasWord, Leads, listed, starts_of, segment_there, table_there, chain_segment_at}
 use Rattle.macho_model_walks.specs.steps.WordTests.{address_in, FitFrom}
 use Rattle.macho_model.proofs.Apart.{EndsBefore}
 use Rattle.macho_model_walks.proofs.ChainSets.{page_has_start}
-use Rattle.macho_model_walks.proofs.WordWalk.{on_some_page, numbered_segment, nth_number, nth_one, segment_has_word, starts_missing, leads_no_lower, page_chain_found}
+use Rattle.macho_model_walks.proofs.WordWalk.{on_some_page, numbered_segment, nth_number, nth_one, segment_has_word, starts_missing, leads_no_lower, page_chain_found, page_chain_only}
 use Rattle.macho_model_walks.proofs.RuleWalk.{import_count_found}
 use Rattle.macho_loader.specs.steps.Words.{StandApart, IsFittingWord, IsReached}
 use Rattle.macho_loader.specs.steps.Held.{IsOnWay}
@@ -155,3 +155,28 @@ pub way_passes : (b : List ℕ) (place page from to offset : ℕ) → IsOnWay b 
     → Leads b (address_in b place from) (address_in b place to) → ⊥
 way_passes b place page from to offset way past leads =
     leads_no_lower b (address_in b place offset) (address_in b place to) (omega (arith, past)) (way.onward leads)
+
+-- the page that an address is in, and its first word
+pub page_within : (b : List ℕ) (number place page a : ℕ) → OnPageChain (chain_segments b) b (chain_segment_at b number place) page a
+    → page < length (starts_of b number)
+page_within b number place page a on = page_has_start (chain_segments b) b (chain_segment_at b number place) page a on
+
+pub led_from_start : (b : List ℕ) (number place page start a : ℕ) → page < length (starts_of b number)
+    → start ≡ slice_index (starts_of b number) page → (start ≡ NO_START → ⊥) → Leads b (address_in b place (16384 * page + start)) a
+    → OnPageChain (chain_segments b) b (chain_segment_at b number place) page a
+led_from_start b number place page start a within is some leads =
+    let same : address_in b place (16384 * page + start) ≡ (segment_there b place).vmaddr + CHAIN_PAGE * page + start = omega arith in
+    page_chain_found b number place page a (segment_there b place).vmaddr start within is some refl (subst (λ x. Leads b x a) same leads)
+
+pub not_led_from_start : (b : List ℕ) (number place page start a : ℕ) → start ≡ slice_index (starts_of b number) page
+    → (Leads b (address_in b place (16384 * page + start)) a → ⊥)
+    → OnPageChain (chain_segments b) b (chain_segment_at b number place) page a → ⊥
+not_led_from_start b number place page start a is none on =
+    let same : (segment_there b place).vmaddr + CHAIN_PAGE * page + start ≡ address_in b place (16384 * page + start) = omega arith in
+    page_chain_only b number place page a (segment_there b place).vmaddr start is refl
+    (λ leads. none (subst (λ x. Leads b x a) same leads)) on
+
+-- an offset in the segment stands for its address
+pub address_back : (b : List ℕ) (place a word address : ℕ) → HasWord b (segment_there b place) a word
+    → address ≡ (segment_there b place).vmaddr → address_in b place (a - address) ≡ a
+address_back b place a word address has at = let from = has.from in omega (arith, from, at)

@@ -10,6 +10,6 @@ abbrev pub fixup_of : LoadedFixup → model.LoadedFixup
 fixup_of (answer.Rebase value) = model.LoadedFixup.Rebase value
 fixup_of (answer.Bind library name addend) = model.LoadedFixup.Bind library name.now (cast_unsigned w64 addend)
 
-abbrev pub fixup_in : Option LoadedFixup → Option model.LoadedFixup
-fixup_in None = None
-fixup_in (Some f) = Some (fixup_of f)
+abbrev pub found_of : Option LoadedFixup → Option model.LoadedFixup
+found_of None = None
+found_of (Some f) = Some (fixup_of f)

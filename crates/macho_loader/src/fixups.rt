@@ -5,20 +5,18 @@
 //!     word   target   high      next      0
 //!     bits   0 to 23  24 to 31  51 to 62  63        an import: the number of its entry, an addend
 //!     word   ordinal  addend    next      1
-ghost use Rattle.std.specs.Prelude.{◌≡◌, ◌+◌, ◌*◌, ◌%◌, ◌^◌, ◌<◌, ℕ, length, drop, true, false, Some, None};
+ghost use Rattle.std.specs.Prelude.{◌≡◌, ◌+◌, ◌*◌, ◌%◌, ◌^◌, ◌<◌, drop, true, false, Some, None};
 ghost use Rattle.macho_model.specs.Chain.{OnChainOf};
-ghost use Rattle.macho_model.specs.Images.{base_of, import_entry, import_name, table_names, fixups_header};
-ghost use Rattle.macho_model.specs.Loader.{IsAccepted, is_bind, ordinal_of};
-ghost use Rattle.macho_model.specs.Memory.{rebase_target, rebase_high, bind_addend};
+ghost use Rattle.macho_model.specs.Images.{base_of, table_names};
+ghost use Rattle.macho_model.specs.Loader.{IsAccepted};
+ghost use Rattle.macho_model.specs.Memory.{rebase_target, rebase_high};
 ghost use Rattle.macho_model.specs.ReadBack.{IsLoadedFixup};
-ghost use Rattle.macho_model.specs.ReadBack.LoadedFixup as model;
 ghost use Rattle.macho_bytes.specs.Texts.{name_of};
-ghost use Rattle.macho_model_walks.specs.steps.Walks.{IsNth, HasWord, Leads, segment_there, table_there};
+ghost use Rattle.macho_model_walks.specs.steps.Walks.{HasWord, Leads, segment_there, table_there};
 ghost use Rattle.macho_model_walks.specs.steps.WordTests.{address_in, FitFrom};
-ghost use Rattle.macho_model_walks.specs.declared.walk.Listed.TheVariants as list;
-ghost use Rattle.macho_loader.specs.Fixups.{fixup_of, fixup_in};
+ghost use Rattle.macho_loader.specs.Fixups.{fixup_of, found_of};
 ghost use Rattle.macho_loader.specs.steps.Words.{StandApart, IsChained};
-ghost use Rattle.macho_loader.specs.steps.Held.{IsHeld, HasNoWord};
+ghost use Rattle.macho_loader.specs.steps.Held.{IsHeld, HasNoWord, import_said};
 ghost use Rattle.macho_loader.specs.declared.fixups.Held.{Held};
 
 use crate::cursor::{first, step_from};
@@ -143,9 +141,7 @@ fn name_at(bytes: &[u8], table: u64, offset: u32) -> &[u8]
 
 /// The import of a word that binds.
 fn bound<'a>(bytes: &'a [u8], table: u64, word: u64) -> LoadedFixup<'a>
-    ensures { fixup_of result ≡ model.Bind (import_entry bytes.now (table_there bytes.now table) (ordinal_of word)).library
-        (import_name bytes.now (table_there bytes.now table) (import_entry bytes.now (table_there bytes.now table) (ordinal_of word)))
-        (((import_entry bytes.now (table_there bytes.now table) (ordinal_of word)).addend + bind_addend word) % 2 ^ 64) }
+    ensures { fixup_of result ≡ import_said bytes.now (table_there bytes.now table) word }
 {
     let number = ordinal(word);
     let entry = u32_from(bytes, place_of_import(bytes, table, number), 0);
@@ -161,7 +157,7 @@ fn bound<'a>(bytes: &'a [u8], table: u64, word: u64) -> LoadedFixup<'a>
 pub(crate) fn fixup_in<'a>(bytes: &'a [u8], base: u64, address: u64) -> Option<LoadedFixup<'a>>
     requires accepted { IsAccepted bytes.now }
     requires base { base ≡ base_of bytes.now }
-    ensures { IsLoadedFixup bytes.now address (fixup_in result) }
+    ensures { IsLoadedFixup bytes.now address (found_of result) }
 {
     let table = nth(bytes, Listed::Tables, 0)?;
     let held = word_held(bytes, address)?;

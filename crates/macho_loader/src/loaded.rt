@@ -3,9 +3,12 @@ ghost use Rattle.std.specs.Prelude.{◌≡◌, length, IfOk, IfErr, OnOk, OnErr}
 ghost use Rattle.std.specs.List.{slice_get};
 ghost use Rattle.macho_model.specs.Images.{base_of, segments_of};
 ghost use Rattle.macho_model.specs.Loader.{IsAccepted, ImageBreaks};
+ghost use Rattle.macho_model.specs.ReadBack.{IsLoadedFixup};
+ghost use Rattle.macho_loader.specs.Fixups.{found_of};
 
 use crate::accept::check_rules;
 use crate::cursor::count_listed;
+use crate::fixups::{LoadedFixup, fixup_in};
 use macho_model_walks::{Listed, LoadFault, base_address, nth};
 use macho_records::SegmentCommand;
 use std::marker::Model;
@@ -84,5 +87,13 @@ impl<'a> Loaded<'a> {
             Some(place) => SegmentCommand::read(self.bytes, place as usize),
             None => None,
         }
+    }
+
+    /// What the loader makes of the word at an address of the image's own; None exactly where no word of a chain stands
+    /// there.
+    pub fn fixup_at(&self, address: u64) -> Option<LoadedFixup<'a>>
+        ensures { IsLoadedFixup self.now address (found_of result) }
+    {
+        fixup_in(self.bytes, self.base, address)
     }
 }
