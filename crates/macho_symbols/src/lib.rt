@@ -1,4 +1,8 @@
-//! Symbols: what references lead to.
+//! Symbols: which definition each global name of a link has, and what its symbols lead to.
 #![tactic(auto)]
+
+
+mod files;
+mod notes;
 
 pub use macho_model::Target;
