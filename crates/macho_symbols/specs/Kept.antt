@@ -1,7 +1,7 @@
 -- What a resolver keeps of its inputs, so that it needs none of their bytes: a row for each symbol of an object, and a
 -- row for each name that a library offers.
-use Rattle.std.specs.Prelude.{◌≡◌, ℕ, ◌-◌, ◌&&◌, ◌||◌, not, if◌then◌else◌, Bool, true, false, List, [], ◌++◌, length, map, filter, Option, Some, None, get_or}
-use Rattle.std.specs.List.{range_with_len}
+use Rattle.std.specs.Prelude.{◌≡◌, ℕ, ◌-◌, ◌&&◌, ◌||◌, not, if◌then◌else◌, Bool, true, false, List, [], ◌++◌, length, map, filter, Option, Some, None, is_none, get_or}
+use Rattle.std.specs.List.{range_with_len, sum_by}
 use Rattle.macho_records.specs.declared.symbols.SymtabEntry.{SymtabEntry}
 use Rattle.macho_records.specs.Symbols.{is_common_of, common_exponent_of, is_external_of, is_hidden_of, is_weak_of}
 use Rattle.macho_model.specs.Symbols.{is_absolute, is_in_section, is_global}
@@ -107,3 +107,17 @@ kept_of (Stub says) = kept_stub says
 -- A resolver keeps these inputs, in order.
 pub record Keeps (inputs : List Input) (files : List FileRows) : Type 0 where
   pub are : files ≡ map kept_of inputs
+
+-- rows and files by number
+abbrev pub no_row : Row
+no_row = record { name = []; sort = Nowhere; number = 0; value = 0; global = false; weak = false; hidden = false }
+
+abbrev pub no_file : FileRows
+no_file = record { library = None; rows = [] }
+
+-- how many symbols the objects have
+abbrev pub symbols_in : FileRows → ℕ
+symbols_in f = if is_none f.library then length f.rows else 0
+
+unfoldable pub symbol_count : List FileRows → ℕ
+symbol_count files = sum_by symbols_in files

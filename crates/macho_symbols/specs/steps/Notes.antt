@@ -56,3 +56,7 @@ bytes_of (Some v) = Some v.items
 pub record AreNoted (text : List ℕ) (notes : List Note) (rows : List Row) : Type 0 where
   pub held : IsHeld text notes
   pub are : map (row_in text) notes ≡ rows
+
+-- the row of a note, with its name
+abbrev pub named_row : List ℕ → Note → Row
+named_row name n = record { name = name; sort = n.sort; number = n.number; value = n.value; global = n.global; weak = n.weak; hidden = n.hidden }
