@@ -6,6 +6,7 @@ use Rattle.macho_records.specs.declared.constants.TheConstants.{LC_SEGMENT_64, L
 use Rattle.macho_records.specs.declared.header.SegmentCommand.{SegmentCommand}
 use Rattle.macho_records.specs.declared.commands.EntryPointCommand.{EntryPointCommand}
 use Rattle.macho_records.specs.declared.commands.DylinkerCommand.{DylinkerCommand}
+use Rattle.macho_records.specs.Segments.{bytes_of}
 use Rattle.macho_model.specs.declared.placed.PlacedSegment.{PlacedSegment}
 use Rattle.macho_commands.specs.declared.command.TheConstants.{DYLINKER_PATH, DYLINKER_SIZE}
 
@@ -14,7 +15,7 @@ abbrev pub segment_record : PlacedSegment → ℕ → ℕ → ℕ → SegmentCom
 segment_record s protection segment_flags count = record {
   cmd = LC_SEGMENT_64;
   cmdsize = 72 + 80 * count;
-  segname = s.name;
+  segname = bytes_of s.name;
   vmaddr = s.address;
   vmsize = s.size;
   fileoff = s.file_offset;

@@ -103,7 +103,7 @@ fn write_segment(
     let record = SegmentCommand {
         cmd: LC_SEGMENT_64,
         cmdsize: (72 + 80 * headers.len()) as u32,
-        segname: segment.name,
+        segname: segment.name.into_bytes(),
         vmaddr: segment.address,
         vmsize: segment.size,
         fileoff: segment.file_offset,

@@ -6,7 +6,7 @@ use crate::imports::ImportEntry;
 use crate::run::{Fixup, FixupSegment};
 use crate::words::FixupKind;
 use crate::{table_size, write_chained_fixup_table, write_chains};
-use macho_model::{first_broken_rule, is_on_chain, memory_byte};
+use macho_model_walks::{first_broken_rule, is_on_chain, memory_byte};
 use std::alloc::{AllocError, Global};
 use std::test::Fail;
 

@@ -18,7 +18,7 @@ use Rattle.macho_image.specs.Composed.{IsComposed}
 use Rattle.macho_model.specs.declared.targets.Target.TheVariants as target
 use Rattle.macho_model.specs.Needs.{libraries_needed}
 use Rattle.macho_model.specs.Memory.{Choice}
-use Rattle.macho_model.specs.Stands.{IsAt, ImageStands, IsLinked}
+use Rattle.macho_model.specs.Stands.{IsAt, ImageStands, IsLoadable}
 use Rattle.macho_layout.specs.Placements.{placed_of}
 use Rattle.macho_image.specs.declared.link.LinkedImage.{LinkedImage}
 use Rattle.macho_image.specs.Counts.{counts_of}
@@ -84,7 +84,7 @@ pub image_alone : (b : List ℕ) (cs : List Carried) (xss : List (List Branch)) 
     → placed_of image.placement ≡ placed_of_image n ps headers → IsBare image → IsImageAlone b e image
 image_alone b cs xss ps end n e address headers image h branches count place behind made placement bare = record {
   alone = λ l one leads. record {
-    linked = subst (IsLinked l (counts_of l) image.bytes.items) (sym placement) (record {
+    linked = subst (IsLoadable l (counts_of l) image.bytes.items) (sym placement) (record {
       placed = placed l (front_of (length cs)) end n cs ps headers (is_first l b cs xss one h.object h.plain branches) h.places count refl h.small.few h.holds h.near h.pages;
       accepted = accepted image.bytes.items n (address - PAGEZERO_SIZE) made.none made.given made.head h.pages (omega (arith, (short b cs ps end n h).1));
       stands = λ s choice whole fits binds. image_stands l b image.bytes.items cs xss ps headers end n (address - PAGEZERO_SIZE) h branches one made s choice;

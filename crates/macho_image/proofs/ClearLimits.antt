@@ -12,6 +12,7 @@ use Rattle.std.proofs.lemmas.List.Elements.{All-contains, All-filter, All-from_r
 use Rattle.std.proofs.lemmas.List.Folds.{list_any_none}
 use Rattle.std.proofs.lemmas.List.FromFn.{length-range_with_len}
 use Rattle.macho_bytes.specs.Texts.{name_of}
+use Rattle.macho_records.specs.Segments.{text_of}
 use Rattle.macho_records.specs.declared.header.SectionHeader.{SectionHeader}
 use Rattle.macho_model.specs.declared.placed.PlacedSection.{PlacedSection}
 use Rattle.macho_model.specs.declared.placed.PlacedSegment.{PlacedSegment}
@@ -210,7 +211,7 @@ no_many l b cs what number n ps headers placement one plain first few symbols (i
   where
     by_what : (w : Limit) → PassesLimit l (counts_of l) w number (Some (placed_of_image n ps headers)) → ⊥
     by_what limit.Pages h =
-        two_segments (λ s. may_hold_pointers (name_of s.name) ≡ true → ⊥) n h.0 (λ e. differ (sym e)) (λ e. differ (sym e)) h.1 h.2
+        two_segments (λ s. may_hold_pointers (text_of s.name) ≡ true → ⊥) n h.0 (λ e. differ (sym e)) (λ e. differ (sym e)) h.1 h.2
     by_what limit.Segments h = h
     by_what limit.Libraries h = h
     by_what limit.Sections h = h

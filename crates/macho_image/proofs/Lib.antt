@@ -25,7 +25,6 @@ pub mod Unreached
 pub mod FineTargets
 pub mod Near
 pub mod Answered
-pub mod RowsAnswered
 pub mod ClearNames
 pub mod ClearFields
 pub mod ClearLimits

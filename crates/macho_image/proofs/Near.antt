@@ -9,7 +9,7 @@ use Rattle.std.specs.Prelude.{◌==◌, Contains}
 use Rattle.std.proofs.lemmas.Bool.{cases_lt}
 use Rattle.std.proofs.lemmas.Bool.Decides.{nat_tests}
 use Rattle.std.proofs.lemmas.Slice.Eq.{bytes_eq-Decides}
-use Rattle.macho_bytes.specs.Texts.{name_of}
+use Rattle.macho_records.specs.Segments.{text_of}
 use Rattle.macho_records.specs.Sections.{is_zerofill}
 use Rattle.macho_model.specs.declared.placed.Counts.{Counts}
 use Rattle.macho_model.specs.declared.placed.PlacedSegment.{PlacedSegment}
@@ -69,7 +69,7 @@ section_inside l counts p q placed among =
 
 -- the ranks of segments rise
 first_rank : (l : Link) (s : PlacedSegment) (segments : List PlacedSegment) (k : ℕ) (d : PlacedSegment) → EachFollows l (s ∷ segments) → k < length segments
-    → segment_rank l (name_of s.name) < segment_rank l (name_of (get_or segments k d).name)
+    → segment_rank l (text_of s.name) < segment_rank l (text_of (get_or segments k d).name)
 first_rank l s [] k d follow lt = absurd (omega arith)
 first_rank l s (t ∷ segments) zero d follow lt = (follow 0 s t (omega arith) refl refl).rank
 first_rank l s (t ∷ segments) (suc k) d follow lt =
@@ -78,7 +78,7 @@ first_rank l s (t ∷ segments) (suc k) d follow lt =
     omega (arith, next, rest)
 
 ranks_rise : (l : Link) (segments : List PlacedSegment) (i j : ℕ) (d : PlacedSegment) → EachFollows l segments → i < j → j < length segments
-    → segment_rank l (name_of (get_or segments i d).name) < segment_rank l (name_of (get_or segments j d).name)
+    → segment_rank l (text_of (get_or segments i d).name) < segment_rank l (text_of (get_or segments j d).name)
 ranks_rise l [] i j d follow before lt = absurd (omega arith)
 ranks_rise l (s ∷ segments) i zero d follow before lt = absurd (omega arith)
 ranks_rise l (s ∷ segments) zero (suc j) d follow before lt = first_rank l s segments j d follow (omega arith)
@@ -87,7 +87,7 @@ ranks_rise l (s ∷ segments) (suc i) (suc j) d follow before lt =
 
 -- so a name has one segment
 one_segment : (l : Link) (segments : List PlacedSegment) (i j : ℕ) (d : PlacedSegment) → EachFollows l segments → i < length segments → j < length segments
-    → name_of (get_or segments i d).name ≡ name_of (get_or segments j d).name → i ≡ j
+    → text_of (get_or segments i d).name ≡ text_of (get_or segments j d).name → i ≡ j
 one_segment l segments i j d follow in_i in_j same =
     let ranks = ap (segment_rank l) same in
     elim (cases_lt i j) [
@@ -108,10 +108,10 @@ section_behind l counts p q placed among in_text =
     behind : (s : PlacedSegment) → q.segment < length p.segments → get_or p.segments q.segment s ≡ s → is_segment_named (segment_name l (id_of q)) s ≡ true
         → s.address ≤ q.address → (t : PlacedSegment) → Contains p.segments t → is_segment_named TEXT t ≡ true → t.address ≡ base_of_link l → p.base ≤ q.address
     behind s lt at named from t there text is_base =
-        let name_s = (bytes_eq-Decides (name_of s.name) (segment_name l (id_of q))).0 named ∙ in_text in
-        let name_t = (bytes_eq-Decides (name_of t.name) TEXT).0 text in
+        let name_s = (bytes_eq-Decides (text_of s.name) (segment_name l (id_of q))).0 named ∙ in_text in
+        let name_t = (bytes_eq-Decides (text_of t.name) TEXT).0 text in
         let element_t : get_or p.segments there.0 s ≡ t = any_default p.segments there.0 s t there.1 ∙ there.2 in
-        let names = ap (λ (x : PlacedSegment). name_of x.name) at ∙ name_s ∙ sym (ap (λ (x : PlacedSegment). name_of x.name) element_t ∙ name_t) in
+        let names = ap (λ (x : PlacedSegment). text_of x.name) at ∙ name_s ∙ sym (ap (λ (x : PlacedSegment). text_of x.name) element_t ∙ name_t) in
         let same = one_segment l p.segments q.segment there.0 s placed.in_order.follow lt there.1 names in
         let equal : s ≡ t = sym at ∙ ap (λ (i : ℕ). get_or p.segments i s) same ∙ element_t in
         omega (arith, placed.base, is_base, ap (λ (x : PlacedSegment). x.address) equal, from)

@@ -8,7 +8,7 @@ use Rattle.macho_model.specs.Placement.{Placed}
 use Rattle.macho_model.specs.Needs.{imports_of, libraries_needed}
 use Rattle.macho_model.specs.Targets.{target_of_name}
 use Rattle.macho_model.specs.Memory.{Choice}
-use Rattle.macho_model.specs.Stands.{IsAt, IsLinked}
+use Rattle.macho_model.specs.Stands.{IsAt, IsLoadable}
 use Rattle.macho_model.specs.Faults.{bad_name, NoneStands}
 use Rattle.macho_layout.specs.Placements.{placed_of}
 use Rattle.macho_image.specs.declared.link.LinkedImage.{LinkedImage}
@@ -28,7 +28,7 @@ EntersAt l b p =
 -- THE image of a link: what every link promises, the entry of an executable, and nothing told beside.
 pub record IsImageOf (l : Link) (image : LinkedImage) : Type 0 where
   -- the parts are placed, the loader accepts the bytes, and at every slide and choice they stand in memory
-  pub linked : IsLinked l (counts_of l) image.bytes.items (placed_of image.placement)
+  pub linked : IsLoadable l (counts_of l) image.bytes.items (placed_of image.placement)
   -- an executable begins at its entry
   pub entry : l.executable ≡ true → EntersAt l image.bytes.items (placed_of image.placement)
   -- the libraries that are needed, and the names that are imported

@@ -1,8 +1,9 @@
 -- The shape of an executable of one text segment: its two segments, its header and its load commands.
-use Rattle.std.specs.Prelude.{ℕ, List, [], ◌∷◌, ◌++◌, length, codes, replicate, None}
+use Rattle.std.specs.Prelude.{ℕ, List, [], ◌∷◌, length, None}
 use Rattle.std.specs.Borrow.{Bor}
 use Rattle.macho_records.specs.declared.constants.TheConstants.{MH_MAGIC_64, CPU_TYPE_ARM64, MH_EXECUTE}
 use Rattle.macho_records.specs.declared.header.MachHeader.{MachHeader}
+use Rattle.macho_records.specs.declared.segments.TheConstants.SegmentName as name
 use Rattle.macho_records.specs.declared.header.SectionHeader.{SectionHeader}
 use Rattle.macho_model.specs.declared.placed.PlacedSegment.{PlacedSegment}
 use Rattle.macho_model.specs.declared.placed.PlacedSection.{PlacedSection}
@@ -15,10 +16,10 @@ use Rattle.macho_commands.specs.Commands.{commands_size}
 
 -- the segment that keeps the first 4 GiB free, and the one of code
 abbrev pub pagezero_segment : PlacedSegment
-pagezero_segment = record { name = codes "__PAGEZERO" ++ replicate 6 0; address = 0; size = PAGEZERO_SIZE; file_offset = 0; file_size = 0 }
+pagezero_segment = record { name = name.PAGEZERO; address = 0; size = PAGEZERO_SIZE; file_offset = 0; file_size = 0 }
 
 abbrev pub text_segment : ℕ → PlacedSegment
-text_segment n = record { name = codes "__TEXT" ++ replicate 10 0; address = PAGEZERO_SIZE; size = n; file_offset = 0; file_size = n }
+text_segment n = record { name = name.TEXT; address = PAGEZERO_SIZE; size = n; file_offset = 0; file_size = n }
 
 -- read and execute
 abbrev pub TEXT_PROTECTION : ℕ

@@ -13,7 +13,7 @@ use crate::write::write_image;
 use macho_commands::Command;
 use macho_layout::{PlacedSection, PlacedSegment};
 use macho_object::File;
-use macho_records::SectionHeader;
+use macho_records::{SectionHeader, SegmentName};
 use std::alloc::{AllocError, Global};
 
 /// What the text segment may be accessed for: read and execute.
@@ -24,7 +24,7 @@ pub(crate) fn pagezero_segment() -> PlacedSegment
     ensures { result ≡ pagezero_segment }
 {
     PlacedSegment {
-        name: *b"__PAGEZERO\0\0\0\0\0\0",
+        name: SegmentName::PAGEZERO,
         address: 0,
         size: BASE,
         file_offset: 0,
@@ -37,7 +37,7 @@ pub(crate) fn text_segment(size: u64) -> PlacedSegment
     ensures { result ≡ text_segment size }
 {
     PlacedSegment {
-        name: *b"__TEXT\0\0\0\0\0\0\0\0\0\0",
+        name: SegmentName::TEXT,
         address: BASE,
         size,
         file_offset: 0,

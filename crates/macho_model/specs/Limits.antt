@@ -1,7 +1,7 @@
 -- The greatest numbers that the format takes, and when a link or an image passes one.
 use Rattle.std.specs.Prelude.{◌≡◌, ℕ, ◌+◌, ◌-◌, ◌/◌, ◌^◌, ◌<◌, ◌≤◌, ◌⊎◌, length, Option, Some, None, Contains, true}
 use Rattle.std.specs.FinMap.{empty}
-use Rattle.macho_bytes.specs.Texts.{name_of}
+use Rattle.macho_records.specs.Segments.{text_of}
 use Rattle.macho_model.specs.declared.targets.Target.{Target}
 use Rattle.macho_model.specs.declared.targets.Limit.{Limit}
 use Rattle.macho_model.specs.declared.targets.Limit.TheVariants as limit
@@ -14,9 +14,10 @@ use Rattle.macho_model.specs.Resolution.{symbols_of}
 use Rattle.macho_model.specs.Needs.{libraries_needed, initializer_sections}
 use Rattle.macho_model.specs.Targets.{target_of_relocation}
 use Rattle.macho_model.specs.Consumed.{personality_targets, EntryId, entries_of_link, relocations_in_entry, section_named, unwind_entry, START_PLACE, LSDA_PLACE}
-use Rattle.macho_model.specs.Segments.{SEGMENT_PAGE, may_hold_pointers, segment_names_of, output_count}
+use Rattle.macho_model.specs.Segments.{may_hold_pointers, segment_names_of, output_count}
 use Rattle.macho_model.specs.WrittenSum.{written_sum_of}
 use Rattle.macho_model.specs.Placement.{Placed, linkedit_ranges}
+use Rattle.macho_model.specs.Order.{pages_of}
 use Rattle.macho_model.specs.Stands.{IsAt, SlotAt, SectionAt}
 
 -- the greatest numbers that the format takes
@@ -55,14 +56,10 @@ limited l counts limit.NameBytes = (counts.name_bytes, GREATEST_NAME_BYTES)
 limited l counts limit.Symbols = (length (symbols_of l) + length (plain_entries l.export_lists), GREATEST_SYMBOLS)
 limited l counts limit.Pages = (0, GREATEST_PAGES)
 
--- the pages of a segment's file part
-abbrev pub pages_of : PlacedSegment → ℕ
-pages_of s = (s.file_size + (SEGMENT_PAGE - 1)) / SEGMENT_PAGE
-
 abbrev pub PassesLimit : Link → Counts → Limit → ℕ → Option Placed → Type 0
 PassesLimit l counts what number None = (number ≡ (limited l counts what).0) × ((limited l counts what).1 < number)
 PassesLimit l counts limit.Pages number (Some p) =
-    (s : PlacedSegment) × Contains p.segments s × (may_hold_pointers (name_of s.name) ≡ true) × (number ≡ pages_of s) × (GREATEST_PAGES < number)
+    (s : PlacedSegment) × Contains p.segments s × (may_hold_pointers (text_of s.name) ≡ true) × (number ≡ pages_of s) × (GREATEST_PAGES < number)
 PassesLimit l counts what number (Some p) = ⊥
 
 -- the numbers that are written in 32 bits

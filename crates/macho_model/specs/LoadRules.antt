@@ -6,10 +6,10 @@ use Rattle.macho_bytes.specs.Texts.{name_of}
 use Rattle.macho_bytes.specs.Layouts.{reading, size_of}
 use Rattle.macho_records.specs.Layouts.{mach_header, segment_command, symtab_command, dylib_command, dylinker_command, rpath_command, uuid_command, build_version_command, linkedit_data_command, entry_point_command, chained_fixups_header, chained_starts_in_segment}
 use Rattle.macho_records.specs.declared.header.SegmentCommand.{SegmentCommand}
-use Rattle.macho_records.specs.declared.constants.TheConstants.{CPU_TYPE_ARM64, LC_BUILD_VERSION, LC_CODE_SIGNATURE, LC_DYLD_CHAINED_FIXUPS, LC_DYLD_EXPORTS_TRIE, LC_ID_DYLIB, LC_LOAD_DYLIB, LC_LOAD_DYLINKER, LC_MAIN, LC_RPATH, LC_SEGMENT_64, LC_SYMTAB, LC_UUID, MH_DYLIB, MH_EXECUTE, MH_MAGIC_64, VM_PROT_EXECUTE, VM_PROT_READ, VM_PROT_WRITE}
+use Rattle.macho_records.specs.declared.constants.TheConstants.{CPU_TYPE_ARM64, LC_BUILD_VERSION, LC_CODE_SIGNATURE, LC_DYLD_CHAINED_FIXUPS, LC_DYLD_EXPORTS_TRIE, LC_ID_DYLIB, LC_LOAD_DYLIB, LC_LOAD_DYLINKER, LC_MAIN, LC_RPATH, LC_SEGMENT_64, LC_SYMTAB, LC_UUID, MH_DYLIB, MH_EXECUTE, MH_MAGIC_64}
 use Rattle.macho_model.specs.Commands.{Command, header_of, commands_end, segment_size}
 use Rattle.macho_model.specs.ObjectRules.{has_nul}
-use Rattle.macho_model.specs.Segments.{PAGEZERO, TEXT, LINKEDIT, SEGMENT_PAGE}
+use Rattle.macho_model.specs.Segments.{PAGEZERO, TEXT, SEGMENT_PAGE, loaded_protection_of}
 use Rattle.macho_model.specs.Images.{segments_of, base_of, libraries_of, Table, fixups_header, starts_count, starts_offset, segment_starts, import_entry_size, import_entry, table_names, IMPORT_FORMAT, IMPORT_ADDEND_FORMAT, CHAIN_PAGE}
 
 -- L1: a whole 64-bit arm64 header of an executable or a dynamic library
@@ -31,13 +31,6 @@ needed_in_image b c =
     else if c.number == LC_MAIN then size_of entry_point_command
     else if (c.number == LC_CODE_SIGNATURE) || (c.number == LC_DYLD_EXPORTS_TRIE) || (c.number == LC_DYLD_CHAINED_FIXUPS)
     then size_of linkedit_data_command else 0
-
--- what a segment of a name may be accessed for (`mach/vm_prot.h`)
-abbrev pub loaded_protection_of : List ℕ → ℕ
-loaded_protection_of name =
-    if bytes_eq name PAGEZERO then 0
-    else if bytes_eq name TEXT then VM_PROT_READ + VM_PROT_EXECUTE
-    else if bytes_eq name LINKEDIT then VM_PROT_READ else VM_PROT_READ + VM_PROT_WRITE
 
 abbrev pub segment_in : List ℕ → Command → SegmentCommand
 segment_in b c = reading segment_command b c.at

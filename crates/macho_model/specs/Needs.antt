@@ -110,9 +110,9 @@ distinct same (x ∷ xs) = x ∷ filter (λ y. not (same x y)) (distinct same xs
 unfoldable pub imports_of : Link → List (List ℕ)
 imports_of l = distinct bytes_eq (filter (is_imported l) (filter_map (name_used l) (uses_of l)))
 
--- the number of an import
-abbrev pub import_number : Link → List ℕ → ℕ
-import_number l name = position_or_len (bytes_eq name) (imports_of l)
+-- the number of a name among imports; one that isn't among them will be the next
+abbrev pub import_number : List (List ℕ) → List ℕ → ℕ
+import_number noted name = position_or_len (bytes_eq name) noted
 
 -- the number of the library that defines a name, 0 for any other name
 abbrev pub library_file : Option Definition → ℕ
@@ -129,7 +129,7 @@ import_library l name = library_name l (library_file (definition_of l name))
 abbrev pub library_of_input : Input → Option (List ℕ)
 library_of_input (Object bytes) = None
 library_of_input (Dylib bytes) = Some (install_name_of bytes)
-library_of_input (Stub says) = Some says.install_name
+library_of_input (Stub text says) = Some says.install_name
 
 -- some import is bound to the library
 abbrev pub is_needed : Link → List ℕ → Bool

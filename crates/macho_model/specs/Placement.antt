@@ -3,7 +3,6 @@ use Rattle.std.specs.Prelude.{◌≡◌, ℕ, ◌+◌, ◌*◌, ◌-◌, ◌%◌
 use Rattle.std.specs.Str.{bytes_eq}
 use Rattle.std.specs.List.{range_with_len}
 use Rattle.macho_bytes.specs.Layouts.{size_of}
-use Rattle.macho_bytes.specs.Texts.{name_of}
 use Rattle.macho_records.specs.Layouts.{mach_header, segment_command, section_header}
 use Rattle.macho_records.specs.declared.header.SectionHeader.{SectionHeader}
 use Rattle.macho_model.specs.declared.placed.Counts.{Counts}
@@ -16,6 +15,7 @@ use Rattle.macho_model.specs.declared.placed.Range64.{Range64}
 use Rattle.macho_model.specs.declared.placed.Linkedit.{Linkedit}
 use Rattle.macho_model.specs.declared.targets.Target.TheVariants as target
 use Rattle.macho_records.specs.Sections.{is_zerofill}
+use Rattle.macho_records.specs.Segments.{text_of}
 use Rattle.macho_records.specs.Symbols.{common_exponent_of, common_size_of}
 use Rattle.macho_model.specs.Links.{Link, SectionId, header_at, carried_of, is_template, placed_exponent}
 use Rattle.macho_model.specs.Resolution.{SymbolId, entry_at, chosen_commons}
@@ -81,7 +81,7 @@ abbrev pub head_span : Counts → Placed → Span
 head_span counts p = record { start = p.base; size = head_size counts p }
 
 abbrev pub is_segment_named : List ℕ → PlacedSegment → Bool
-is_segment_named name s = bytes_eq (name_of s.name) name
+is_segment_named name s = bytes_eq (text_of s.name) name
 
 -- a table of `__LINKEDIT` has a file range; in memory it stands where the segment's file bytes are mapped to
 abbrev pub linkedit_start : List PlacedSegment → ℕ → ℕ
@@ -164,7 +164,7 @@ pub record IsPaged (s : PlacedSegment) : Type 0 where
 
 -- a segment stands where the one before it ends, in memory and in the file, and behind it in the order of names
 pub record Follows (l : Link) (s t : PlacedSegment) : Type 0 where
-  pub rank : segment_rank l (name_of s.name) < segment_rank l (name_of t.name)
+  pub rank : segment_rank l (text_of s.name) < segment_rank l (text_of t.name)
   pub address : t.address ≡ s.address + s.size
   pub file_offset : t.file_offset ≡ s.file_offset + s.file_size
 

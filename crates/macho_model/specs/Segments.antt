@@ -6,7 +6,8 @@ use Rattle.macho_bytes.specs.Texts.{name_of}
 use Rattle.macho_records.specs.declared.header.SectionHeader.{SectionHeader}
 use Rattle.macho_model.specs.declared.placed.Counts.{Counts}
 use Rattle.macho_records.specs.Sections.{type_of}
-use Rattle.macho_records.specs.declared.constants.TheConstants.{S_ZEROFILL}
+use Rattle.macho_records.specs.Segments.{segment_flags_of}
+use Rattle.macho_records.specs.declared.constants.TheConstants.{S_ZEROFILL, VM_PROT_READ, VM_PROT_WRITE, VM_PROT_EXECUTE}
 use Rattle.macho_model.specs.Links.{Link, SectionId, header_at, carried_of}
 use Rattle.macho_model.specs.Resolution.{chosen_commons}
 use Rattle.macho_model.specs.Needs.{distinct}
@@ -82,6 +83,24 @@ segment_names_of l =
     ++ list_if (has_section_in l DATA_CONST || not (length (slots_of l) == 0)) (DATA_CONST ∷ [])
     ++ list_if (has_section_in l DATA || not (length (chosen_commons l) == 0)) (DATA ∷ [])
     ++ other_segments l ++ LINKEDIT ∷ []
+
+-- A segment as its command tells it: its name, what the program may do in it (`VM_PROT_..`), and its flags (`SG_..`).
+pub record SegmentFor : Type 0 where
+  pub name : List ℕ
+  pub protection : ℕ
+  pub flags : ℕ
+
+-- what a segment of a name may be accessed for (`mach/vm_prot.h`)
+abbrev pub loaded_protection_of : List ℕ → ℕ
+loaded_protection_of name =
+    if bytes_eq name PAGEZERO then 0
+    else if bytes_eq name TEXT then VM_PROT_READ + VM_PROT_EXECUTE
+    else if bytes_eq name LINKEDIT then VM_PROT_READ else VM_PROT_READ + VM_PROT_WRITE
+
+-- The segments of the image, in order; `__DATA_CONST` is read only once the loader is done (`SG_READ_ONLY`).
+unfoldable pub segments_for : Link → List SegmentFor
+segments_for l =
+    map (λ name. record { name = name; protection = loaded_protection_of name; flags = segment_flags_of name }) (segment_names_of l)
 
 -- What output sections are merged by: sections of one segment, name and type are one.
 pub record OutputKey : Type 0 where

@@ -169,7 +169,7 @@ pub record ImageStands (l : Link) (b : List ℕ) (p : Placed) (s : ℕ) (choice 
 
 -- THE promise of a link: its parts are placed, the loader accepts the bytes, and at every slide of whole pages that
 -- fits, for every choice that binds all imports, the image stands.
-pub record IsLinked (l : Link) (counts : Counts) (b : List ℕ) (p : Placed) : Type 0 where
+pub record IsLoadable (l : Link) (counts : Counts) (b : List ℕ) (p : Placed) : Type 0 where
   pub placed : IsPlaced l counts p
   pub accepted : IsAccepted b
   pub stands : (s : ℕ) (choice : Choice) → s % SEGMENT_PAGE ≡ 0 → FitsSlide b s → BindsAll b choice → ImageStands l b p s choice

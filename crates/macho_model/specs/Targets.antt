@@ -8,7 +8,7 @@ use Rattle.macho_records.specs.Symbols.{is_common_of}
 use Rattle.macho_records.specs.declared.constants.TheConstants.{ARM64_RELOC_BRANCH26, ARM64_RELOC_GOT_LOAD_PAGE21, ARM64_RELOC_GOT_LOAD_PAGEOFF12, ARM64_RELOC_POINTER_TO_GOT, ARM64_RELOC_TLVP_LOAD_PAGE21, ARM64_RELOC_TLVP_LOAD_PAGEOFF12}
 use Rattle.macho_model.specs.Links.{Link, SectionId, header_at, is_carried}
 use Rattle.macho_model.specs.Resolution.{SymbolId, Definition, Symbol, Library, ImageBase, entry_at, name_at, same_symbol, section_of_symbol, stands_in_carried, definition_of, chosen_commons}
-use Rattle.macho_model.specs.Needs.{Use, ByRelocation, ByInitializer, ByPersonality, ByName, relocation_in, symbol_of_relocation, import_number, uses_of, distinct}
+use Rattle.macho_model.specs.Needs.{Use, ByRelocation, ByInitializer, ByPersonality, ByName, relocation_in, symbol_of_relocation, imports_of, import_number, uses_of, distinct}
 
 -- the place of a symbol in its section
 abbrev pub place_of_symbol : Link → SymbolId → Target
@@ -22,22 +22,31 @@ own_target l s =
     else if is_common_of (entry_at l s) then target.Common (position_or_len (same_symbol s) (chosen_commons l))
     else target.None
 
-abbrev pub target_of_definition : Link → List ℕ → Option Definition → Target
-target_of_definition l name None = target.None
-target_of_definition l name (Some (Symbol s)) = own_target l s
-target_of_definition l name (Some (Library file)) = target.Import (import_number l name)
-target_of_definition l name (Some ImageBase) = target.Base
+-- what a definition of a name leads to, where some imports are noted
+abbrev pub definition_target : Link → List (List ℕ) → List ℕ → Option Definition → Target
+definition_target l noted name None = target.None
+definition_target l noted name (Some (Symbol s)) = own_target l s
+definition_target l noted name (Some (Library file)) = target.Import (import_number noted name)
+definition_target l noted name (Some ImageBase) = target.Base
 
--- the target of a global name
+-- The target of a symbol where some imports are noted: that of its name where it is global, its own place or value where
+-- it is local.
+abbrev pub target_with : Link → List (List ℕ) → SymbolId → Target
+target_with l noted s =
+    if is_global (entry_at l s) then definition_target l noted (name_at l s) (definition_of l (name_at l s))
+    else if is_local (entry_at l s) && (stands_in_carried l s || is_absolute (entry_at l s)) then own_target l s
+    else target.None
+
+-- the target of a global name, where all imports are noted
+abbrev pub target_of_definition : Link → List ℕ → Option Definition → Target
+target_of_definition l name d = definition_target l (imports_of l) name d
+
 abbrev pub target_of_name : Link → List ℕ → Target
 target_of_name l name = target_of_definition l name (definition_of l name)
 
--- The target of a symbol: that of its name where it is global, its own place or value where it is local.
+-- The target of a symbol, where all imports are noted.
 unfoldable pub target_of : Link → SymbolId → Target
-target_of l s =
-    if is_global (entry_at l s) then target_of_name l (name_at l s)
-    else if is_local (entry_at l s) && (stands_in_carried l s || is_absolute (entry_at l s)) then own_target l s
-    else target.None
+target_of l s = target_with l (imports_of l) s
 
 abbrev pub target_of_symbol : Link → Option SymbolId → Target
 target_of_symbol l None = target.None

@@ -1,13 +1,6 @@
 //! Laws of the definitions: each is the contract of a function that does nothing.
 ghost use Rattle.macho_model.specs.SlideLaws.{FieldsMove, PointersMove, ImportPointersBind};
-ghost use Rattle.macho_model.specs.Laws.{BrokenIsRefused, BrokenIsNoObject, BrokenIsNoDylib, UnchainedIsEmpty, MemoryMoves, MemoryMovesBack, SegmentsAreApart};
-
-/// A file that breaks a rule is not taken, as an object, as a library or as an image.
-pub fn what_breaks_a_rule_is_refused()
-    ensures image { BrokenIsRefused }
-    ensures object { BrokenIsNoObject }
-    ensures dylib { BrokenIsNoDylib }
-{}
+ghost use Rattle.macho_model.specs.Laws.{UnchainedIsEmpty, MemoryMoves, MemoryMovesBack, SegmentsAreApart};
 
 /// The chain of a file without fixup tables is empty; outside chain words memory at a slide is memory at slide 0, moved.
 pub fn memory_moves_by_the_slide()

@@ -1,5 +1,7 @@
 //! The parts of a placement: which address and which file range each thing got.
 
+use macho_records::SegmentName;
+
 /// A range of addresses, or of file offsets: from `start` up to `end`, which it does not contain.
 #[derive(Clone, Copy)]
 pub struct Range64 {
@@ -12,8 +14,8 @@ pub struct Range64 {
 /// A segment of the image.
 #[derive(Clone, Copy)]
 pub struct PlacedSegment {
-    /// The name, filled with zeros.
-    pub name: [u8; 16],
+    /// Its name.
+    pub name: SegmentName,
     /// The address of its first byte.
     pub address: u64,
     /// Its bytes in memory.

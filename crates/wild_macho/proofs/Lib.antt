@@ -5,4 +5,3 @@ pub mod Jobs
 pub mod Determined
 pub mod Sure
 pub mod JobRows
-pub mod AnsweredRow

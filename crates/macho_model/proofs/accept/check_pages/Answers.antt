@@ -1,8 +1,0 @@
--- The commands that were asked are those of segments.
-use Rattle.std.proofs.Common.{refl}
-use Rattle.macho_model.specs.Walks.{listed}
-use Rattle.macho_model.proofs.accept.check_pages.Goals as goal
-
-pub returns-in-None-clause-ok : goal.returns-in-None-clause-ok
-unfolding listed
-returns-in-None-clause-ok c = c.in-None.ensures.only refl

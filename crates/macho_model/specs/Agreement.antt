@@ -1,0 +1,82 @@
+-- What ties a file to the placement that tells of it: what the load commands say, read from the bytes, is what the placement
+-- says (`mach-o/loader.h`). Without it each could be right by itself: a loader goes by the commands alone.
+use Rattle.std.specs.Prelude.{◌≡◌, ℕ, ◌+◌, ◌*◌, ◌-◌, ◌≤◌, true, false, List, [], ◌∷◌, map}
+use Rattle.std.specs.List.{flat_map, range_with_len}
+use Rattle.macho_bytes.specs.Layouts.{reading, size_of}
+use Rattle.macho_bytes.specs.Texts.{name_of}
+use Rattle.macho_records.specs.Segments.{text_of}
+use Rattle.macho_records.specs.Layouts.{segment_command, section_header}
+use Rattle.macho_records.specs.declared.header.SegmentCommand.{SegmentCommand}
+use Rattle.macho_records.specs.declared.header.SectionHeader.{SectionHeader}
+use Rattle.macho_records.specs.declared.constants.TheConstants.{LC_SEGMENT_64}
+use Rattle.macho_records.specs.Segments.{text_of}
+use Rattle.macho_model.specs.declared.placed.Counts.{Counts}
+use Rattle.macho_model.specs.declared.placed.PlacedSegment.{PlacedSegment}
+use Rattle.macho_model.specs.declared.placed.Range64.{Range64}
+use Rattle.macho_model.specs.Commands.{commands_end, numbered}
+use Rattle.macho_model.specs.Links.{Link}
+use Rattle.macho_model.specs.Targets.{target_of_name}
+use Rattle.macho_model.specs.Images.{segments_of, base_of, Table, tables_of, tries_of, signatures_of, symbol_tables_of, string_tables_of, entries_of_file}
+use Rattle.macho_model.specs.Placement.{Placed, head_size}
+use Rattle.macho_model.specs.Memory.{Choice}
+use Rattle.macho_model.specs.Stands.{IsAt}
+
+-- A segment's place: its name, its addresses, and its bytes in the file.
+pub record SegmentPlace : Type 0 where
+  pub name : List ℕ
+  pub address : ℕ
+  pub size : ℕ
+  pub file_offset : ℕ
+  pub file_size : ℕ
+
+-- as its command says it, and as the placement does
+abbrev pub place_by_command : SegmentCommand → SegmentPlace
+place_by_command s = record { name = name_of s.segname; address = s.vmaddr; size = s.vmsize; file_offset = s.fileoff; file_size = s.filesize }
+
+abbrev pub place_told : PlacedSegment → SegmentPlace
+place_told s = record { name = text_of s.name; address = s.address; size = s.size; file_offset = s.file_offset; file_size = s.file_size }
+
+-- the segments of the file are those of the placement, in order
+abbrev pub SegmentsAgree : List ℕ → Placed → Type 0
+SegmentsAgree b p = map place_by_command (segments_of b) ≡ map place_told p.segments
+
+-- the load commands of the file end, with the padding behind them, where the placement's head ends
+abbrev pub HeadAgrees : Counts → List ℕ → Placed → Type 0
+HeadAgrees counts b p = commands_end b + counts.padding ≡ head_size counts p
+
+-- the section headers behind a segment's command, and those of a file, in order
+unfoldable pub section_headers_at : List ℕ → ℕ → List SectionHeader
+section_headers_at b at =
+    map (λ k. reading section_header b (at + size_of segment_command + size_of section_header * k)) (range_with_len 0 (reading segment_command b at).nsects)
+
+unfoldable pub section_headers_of : List ℕ → List SectionHeader
+section_headers_of b = flat_map (λ c. section_headers_at b c.at) (numbered LC_SEGMENT_64 b)
+
+-- the section headers of the file are the placement's output sections, in order
+abbrev pub HeadersAgree : List ℕ → Placed → Type 0
+HeadersAgree b p = section_headers_of b ≡ p.output_sections
+
+abbrev pub table_of_range : Range64 → Table
+table_of_range r = record { at = r.start; size = r.end - r.start }
+
+-- The tables of `__LINKEDIT` that the commands of the file name, one of each kind, stand in the placement's ranges.
+pub record TablesAgree (b : List ℕ) (p : Placed) : Type 0 where
+  pub fixups : tables_of b ≡ table_of_range p.linkedit.fixups ∷ []
+  -- the exports trie begins where its range does, and may be shorter
+  pub trie_size : ℕ
+  pub trie : tries_of b ≡ record { at = p.linkedit.trie.start; size = trie_size } ∷ []
+  pub trie_fits : p.linkedit.trie.start + trie_size ≤ p.linkedit.trie.end
+  pub symbols : symbol_tables_of b ≡ table_of_range p.linkedit.symtab ∷ []
+  pub strings : string_tables_of b ≡ table_of_range p.linkedit.strtab ∷ []
+  pub signature : signatures_of b ≡ table_of_range p.linkedit.signature ∷ []
+
+-- an executable begins at one place, counted from where the file's own `__TEXT` is: at its entry, at every slide
+abbrev pub EntersAt : Link → List ℕ → Placed → Type 0
+EntersAt l b p =
+    (offset : ℕ) × (entries_of_file b ≡ offset ∷ [])
+    × ((s : ℕ) (choice : Choice) → IsAt l p s choice (target_of_name l l.entry) (base_of b + offset + s))
+
+-- an executable begins at its entry; a dynamic library begins nowhere
+pub record EntryAgrees (l : Link) (b : List ℕ) (p : Placed) : Type 0 where
+  pub executable : l.executable ≡ true → EntersAt l b p
+  pub library : l.executable ≡ false → entries_of_file b ≡ []

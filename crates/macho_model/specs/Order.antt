@@ -1,0 +1,142 @@
+-- In which order the parts of a placement stand, and that each stands as low as it may: a placement is told by the link
+-- and its counts alone.
+use Rattle.std.specs.Prelude.{◌≡◌, ℕ, ◌+◌, ◌*◌, ◌-◌, ◌/◌, ◌^◌, ◌≤◌, ◌==◌, ◌&&◌, not, if◌then◌else◌, Bool, List, [], ◌∷◌, length, map, filter, All, AllPairs, sum_by}
+use Rattle.std.specs.Str.{bytes_eq}
+use Rattle.std.specs.List.{range_with_len}
+use Rattle.macho_bytes.specs.Numbers.{rounded_up}
+use Rattle.macho_records.specs.Segments.{text_of}
+use Rattle.macho_model.specs.declared.placed.Counts.{Counts}
+use Rattle.macho_model.specs.declared.placed.PlacedSegment.{PlacedSegment}
+use Rattle.macho_model.specs.declared.placed.Range64.{Range64}
+use Rattle.macho_model.specs.Lists.{IsNumber, EachNext}
+use Rattle.macho_model.specs.Links.{Link, carried_of, greatest}
+use Rattle.macho_model.specs.Resolution.{chosen_commons}
+use Rattle.macho_model.specs.Segments.{PAGEZERO, TEXT, LINKEDIT, SEGMENT_PAGE, PAGEZERO_SIZE, may_hold_pointers, segment_names_of}
+use Rattle.macho_model.specs.WrittenSum.{INITIALIZER_SIZE, SYMBOL_SIZE, SIGNED_PAGE, DIGEST_SIZE, SIGNATURE_FIXED}
+use Rattle.macho_model.specs.Placement.{Placed, id_of, head_size, is_segment_named, linkedit_ranges}
+use Rattle.macho_model.specs.OutputSections.{OutputSection, output_sections_in, output_sections_of, is_zeros, key_of_output, Piece, end_of_piece, pieces_of, extent_of, POINTER_EXPONENT}
+
+-- what stands first in a segment: header, commands and padding in `__TEXT`, nothing in any other
+abbrev pub front_of : Counts → Placed → PlacedSegment → Piece
+front_of counts p s = record { start = s.address; size = if bytes_eq (text_of s.name) TEXT then head_size counts p else 0; exponent = 0 }
+
+-- the output sections of a placed segment, and those with bytes in the file
+abbrev pub sections_in : Link → Counts → PlacedSegment → List OutputSection
+sections_in l counts s = output_sections_in l counts (text_of s.name)
+
+abbrev pub filled_in : Link → Counts → PlacedSegment → List OutputSection
+filled_in l counts s = filter (λ o. not (is_zeros (key_of_output o))) (sections_in l counts s)
+
+-- The row of a segment: its front, and then its output sections.
+unfoldable pub row_of : Link → Counts → Placed → PlacedSegment → List OutputSection → List Piece
+row_of l counts p s sections = front_of counts p s ∷ map (extent_of l p) sections
+
+-- the tables of `__LINKEDIT`, in file offsets; a signature begins at a multiple of 16
+abbrev pub table_piece : ℕ → Range64 → Piece
+table_piece exponent r = record { start = r.start; size = r.end - r.start; exponent = exponent }
+
+abbrev pub SIGNATURE_EXPONENT : ℕ
+SIGNATURE_EXPONENT = 4
+
+-- the file offset of `__LINKEDIT`, 0 where there is none
+abbrev pub first_offset : List PlacedSegment → ℕ
+first_offset [] = 0
+first_offset (s ∷ segments) = s.file_offset
+
+abbrev pub linkedit_front : Placed → Piece
+linkedit_front p = record { start = first_offset (filter (is_segment_named LINKEDIT) p.segments); size = 0; exponent = 0 }
+
+abbrev pub tables_of : Placed → List Piece
+tables_of p =
+    linkedit_front p ∷ table_piece POINTER_EXPONENT p.linkedit.fixups ∷ table_piece 0 p.linkedit.trie ∷ table_piece POINTER_EXPONENT p.linkedit.symtab
+    ∷ table_piece 0 p.linkedit.strtab ∷ table_piece SIGNATURE_EXPONENT p.linkedit.signature ∷ []
+
+-- a piece ends before another begins
+abbrev pub EndsBefore : Piece → Piece → Type 0
+EndsBefore c d = end_of_piece c ≤ d.start
+
+-- THE order of a placement.
+pub record StandInOrder (l : Link) (counts : Counts) (p : Placed) : Type 0 where
+  -- the segments are those of the link
+  pub segments : map (λ s. text_of s.name) p.segments ≡ segment_names_of l
+  -- sections are listed by file, then section, and commons by number
+  pub sections : map id_of p.sections ≡ carried_of l
+  pub commons : map (λ c. c.id) p.commons ≡ range_with_len 0 (length (chosen_commons l))
+  -- in a segment stand its front and its output sections, one behind the other
+  pub rows : All (λ s. AllPairs EndsBefore (row_of l counts p s (sections_in l counts s))) p.segments
+  -- and in an output section its pieces
+  pub pieces : All (λ o. AllPairs EndsBefore (pieces_of l p o)) (output_sections_of l counts)
+  -- the tables of `__LINKEDIT` stand in the order of their commands, the signature last
+  pub tables : AllPairs EndsBefore (tables_of p)
+
+-- a piece begins at the least multiple of its alignment that is not below the end of the one before it
+abbrev pub BeginsLeast : Piece → Piece → Type 0
+BeginsLeast c d = d.start ≡ rounded_up (2 ^ d.exponent) (end_of_piece c)
+
+-- the bytes from the start of a segment to the end of the last of its pieces
+abbrev pub used_by : PlacedSegment → List Piece → ℕ
+used_by s row = greatest (map end_of_piece row) - s.address
+
+-- the bytes of a segment in the file: up to its last data, or to the end of the signature, where the file ends
+abbrev pub least_file_size : Link → Counts → Placed → PlacedSegment → ℕ
+least_file_size l counts p s =
+    if bytes_eq (text_of s.name) PAGEZERO then 0
+    else if bytes_eq (text_of s.name) LINKEDIT then p.linkedit.signature.end - s.file_offset
+    else rounded_up SEGMENT_PAGE (used_by s (row_of l counts p s (filled_in l counts s)))
+
+-- the bytes of a segment in memory: whole pages
+abbrev pub least_size : Link → Counts → Placed → PlacedSegment → ℕ
+least_size l counts p s =
+    if bytes_eq (text_of s.name) PAGEZERO then PAGEZERO_SIZE
+    else if bytes_eq (text_of s.name) LINKEDIT then rounded_up SEGMENT_PAGE (p.linkedit.signature.end - s.file_offset)
+    else rounded_up SEGMENT_PAGE (used_by s (row_of l counts p s (sections_in l counts s)))
+
+-- the pages of the segments that the loader writes pointers in
+abbrev pub pages_of : PlacedSegment → ℕ
+pages_of s = (s.file_size + (SEGMENT_PAGE - 1)) / SEGMENT_PAGE
+
+abbrev pub pointer_pages : Placed → ℕ
+pointer_pages p = sum_by pages_of (filter (λ s. may_hold_pointers (text_of s.name)) p.segments)
+
+-- The room of a fixup table: 188 bytes of records, the import entries and names, and two bytes for each page
+-- (`mach-o/fixup-chains.h`).
+abbrev pub fixup_room : Counts → ℕ → ℕ
+fixup_room counts pages = rounded_up 8 (188 + counts.import_size * counts.imports + counts.name_bytes) + rounded_up 8 (2 * pages)
+
+-- the room of a signature: its records, the identifier, and a digest for each page before it
+abbrev pub signature_room : Counts → ℕ → ℕ
+signature_room counts limit = SIGNATURE_FIXED + counts.identifier + DIGEST_SIZE * (rounded_up SIGNED_PAGE limit / SIGNED_PAGE)
+
+-- a range has so many bytes
+abbrev pub HasRoom : Range64 → ℕ → Type 0
+HasRoom r room = r.end ≡ r.start + room
+
+-- The ranges that the linker fills have the room that was counted.
+pub record HaveRoom (counts : Counts) (p : Placed) : Type 0 where
+  pub initializers : HasRoom p.init_offsets (INITIALIZER_SIZE * counts.initializers)
+  pub unwind : HasRoom p.unwind counts.unwind
+  pub fixups : HasRoom p.linkedit.fixups (fixup_room counts (pointer_pages p))
+  pub trie : HasRoom p.linkedit.trie counts.trie
+  pub symbols : HasRoom p.linkedit.symtab (SYMBOL_SIZE * counts.symbols)
+  pub strings : HasRoom p.linkedit.strtab counts.strings
+  pub signature : HasRoom p.linkedit.signature (signature_room counts p.linkedit.signature.start)
+
+-- THE least places: nothing stands higher than what is in front of it, its alignment and its room ask for.
+pub record AreLeast (l : Link) (counts : Counts) (p : Placed) : Type 0 where
+  pub rows : All (λ s. EachNext BeginsLeast (row_of l counts p s (sections_in l counts s))) p.segments
+  pub pieces : All (λ o. EachNext BeginsLeast (pieces_of l p o)) (output_sections_of l counts)
+  pub tables : EachNext BeginsLeast (tables_of p)
+  -- a segment ends with the page of its last piece, its file bytes with that of its last data
+  pub sizes : All (λ s. s.size ≡ least_size l counts p s) p.segments
+  pub file_sizes : All (λ s. s.file_size ≡ least_file_size l counts p s) p.segments
+  pub rooms : HaveRoom counts p
+
+-- a table lies in the file bytes of `__LINKEDIT`, an empty one too
+abbrev pub LiesInFile : List PlacedSegment → Range64 → Type 0
+LiesInFile segments r =
+    All (λ s. (s.file_offset ≤ r.start) × (r.start ≤ r.end) × (r.end ≤ s.file_offset + s.file_size)) (filter (is_segment_named LINKEDIT) segments)
+
+-- What the placement relation leaves free: the file offset of the first segment, and where an empty table stands.
+pub record IsLow (p : Placed) : Type 0 where
+  pub front : (s : PlacedSegment) → IsNumber p.segments 0 s → s.file_offset ≡ 0
+  pub tables : All (LiesInFile p.segments) (linkedit_ranges p)

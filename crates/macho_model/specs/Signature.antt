@@ -1,0 +1,129 @@
+-- The UUID of an image, and its signature: a code directory with a SHA-256 digest (FIPS 180-4) of each 4 KiB page of the file
+-- in front of it (`cs_blobs.h` of xnu). Its numbers are big-endian.
+use Rattle.std.specs.Prelude.{◌≡◌, ℕ, ◌+◌, ◌*◌, ◌-◌, ◌/◌, ◌%◌, ◌^◌, ◌<◌, ◌==◌, if◌then◌else◌, Bool, List, [], ◌∷◌, ◌++◌, length, map, min, replicate, slice_index, slice_range}
+use Rattle.std.specs.List.{flat_map, range_with_len}
+use Rattle.sha2.specs.Sha256.{sha256}
+use Rattle.macho_bytes.specs.Numbers.{big, row_bytes, rounded_up}
+use Rattle.macho_bytes.specs.Layouts.{reading, size_of, spelling}
+use Rattle.macho_records.specs.Layouts.{uuid_command, code_directory}
+use Rattle.macho_records.specs.declared.constants.TheConstants.{LC_UUID}
+use Rattle.macho_records.specs.declared.header.SegmentCommand.{SegmentCommand}
+use Rattle.macho_records.specs.declared.signature.CodeDirectory.{CodeDirectory}
+use Rattle.macho_model.specs.Commands.{numbered}
+use Rattle.macho_model.specs.Links.{Link}
+use Rattle.macho_model.specs.Segments.{TEXT}
+use Rattle.macho_model.specs.WrittenSum.{SIGNED_PAGE, DIGEST_SIZE}
+use Rattle.macho_model.specs.Images.{signatures_of, segments_named}
+use Rattle.macho_model.specs.Faults.{last_part}
+
+-- the 16 bytes of a UUID as they are written: version 3 in the upper half of byte 6, the variant 10 in the highest bits of
+-- byte 8 (RFC 9562)
+abbrev pub uuid_byte : ℕ → ℕ → ℕ
+uuid_byte k byte = if k == 6 then 0x30 + byte % 16 else if k == 8 then 0x80 + byte % 64 else byte
+
+unfoldable pub uuid_written : List ℕ → List ℕ
+uuid_written uuid = map (λ k. uuid_byte k (slice_index uuid k)) (range_with_len 0 16)
+
+-- the file has one UUID command, which holds this UUID
+abbrev pub UuidSays : List ℕ → List ℕ → Type 0
+UuidSays uuid b = map (λ c. (reading uuid_command b c.at).uuid) (numbered LC_UUID b) ≡ uuid_written uuid ∷ []
+
+-- the digest of page k of the bytes below a limit; the last page is cut there
+unfoldable pub page_digest : List ℕ → ℕ → ℕ → List ℕ
+page_digest b k limit = sha256 (slice_range b (SIGNED_PAGE * k) (min (SIGNED_PAGE * (k + 1)) limit))
+
+abbrev pub page_count : ℕ → ℕ
+page_count limit = (limit + (SIGNED_PAGE - 1)) / SIGNED_PAGE
+
+-- the digests of all pages, in order
+unfoldable pub page_digests : List ℕ → ℕ → List ℕ
+page_digests b limit = flat_map (λ k. page_digest b k limit) (range_with_len 0 (page_count limit))
+
+-- a name with at least one NUL behind it, filled with zeros to a multiple of 16 bytes
+abbrev pub identifier_text : List ℕ → List ℕ
+identifier_text name = name ++ replicate (rounded_up 16 (length name + 1) - length name) 0
+
+-- What is signed: the name of the file, whether it is an executable, the file range of its `__TEXT`, and the limit of the
+-- signed bytes.
+pub record Signed : Type 0 where
+  pub name : List ℕ
+  pub executable : Bool
+  pub text_offset : ℕ
+  pub text_size : ℕ
+  pub limit : ℕ
+
+-- `CSMAGIC_EMBEDDED_SIGNATURE`, `CSMAGIC_CODEDIRECTORY`; the flags `CS_ADHOC` and `CS_LINKER_SIGNED`; `CS_EXECSEG_MAIN_BINARY`
+abbrev pub SUPER_BLOB_MAGIC : ℕ
+SUPER_BLOB_MAGIC = 0xfade0cc0
+
+abbrev pub DIRECTORY_MAGIC : ℕ
+DIRECTORY_MAGIC = 0xfade0c02
+
+abbrev pub LINKER_SIGNED : ℕ
+LINKER_SIGNED = 0x20002
+
+abbrev pub MAIN_BINARY : ℕ
+MAIN_BINARY = 1
+
+-- the super blob has a head of three words and one index of two: the code directory's type and place
+abbrev pub DIRECTORY_PLACE : ℕ
+DIRECTORY_PLACE = 20
+
+-- the bytes of a code directory with its identifier and its digests
+abbrev pub directory_size : Signed → ℕ
+directory_size s = size_of code_directory + length (identifier_text s.name) + DIGEST_SIZE * page_count s.limit
+
+abbrev pub directory_for : Signed → CodeDirectory
+directory_for s = record {
+  magic = DIRECTORY_MAGIC;
+  length = directory_size s;
+  version = 0x20400;
+  flags = LINKER_SIGNED;
+  hash_offset = size_of code_directory + length (identifier_text s.name);
+  ident_offset = size_of code_directory;
+  special_slots = 0;
+  code_slots = page_count s.limit;
+  code_limit = s.limit;
+  hash_size = DIGEST_SIZE;
+  -- `CS_HASHTYPE_SHA256`, and pages of 2 ^ 12 bytes
+  hash_type = 2;
+  platform = 0;
+  page_exponent = 12;
+  spare = 0;
+  scatter_offset = 0;
+  team_offset = 0;
+  spare2 = 0;
+  code_limit64 = 0;
+  exec_base = s.text_offset;
+  exec_limit = s.text_size;
+  exec_flags = if s.executable then MAIN_BINARY else 0;
+}
+
+-- the bytes of a signature: the super blob with one code directory, the identifier, the digests
+unfoldable pub signature_text : Signed → List ℕ → List ℕ
+signature_text s b =
+    row_bytes big 4 (SUPER_BLOB_MAGIC ∷ (DIRECTORY_PLACE + directory_size s) ∷ 1 ∷ 0 ∷ DIRECTORY_PLACE ∷ [])
+    ++ spelling code_directory (directory_for s) ++ identifier_text s.name ++ page_digests b s.limit
+
+-- what is signed of an image: all bytes in front of the signature, under the last part of the output's path
+abbrev pub signed_of : Link → SegmentCommand → ℕ → Signed
+signed_of l text limit = record {
+  name = last_part l.output;
+  executable = l.executable;
+  text_offset = text.fileoff;
+  text_size = text.filesize;
+  limit = limit;
+}
+
+-- The file is signed: its one signature begins at the limit of what it signs, ends with the file, and is the text of what
+-- stands in front of it in these very bytes.
+pub record IsSigned (l : Link) (b : List ℕ) : Type 0 where
+  pub limit : ℕ
+  pub size : ℕ
+  pub one : signatures_of b ≡ record { at = limit; size = size } ∷ []
+  pub ends : length b ≡ limit + size
+  -- the limit and the sizes are told in 32 bits
+  pub small : length b < 2 ^ 32
+  pub text : SegmentCommand
+  pub text_is : segments_named TEXT b ≡ text ∷ []
+  pub says : slice_range b limit (length b) ≡ signature_text (signed_of l text limit) b

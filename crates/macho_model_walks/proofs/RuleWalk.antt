@@ -1,0 +1,178 @@
+-- What a walk over the commands of a list says of a rule of the loader.
+--
+-- Each command of a list has a number below the count of all. So where those with each number pass, all pass; and one
+-- that is found by its number and fails is one of the list. The same holds of neighbours, of the one `__TEXT` and of the
+-- one fixup table, which are told by the commands with the numbers 0 and 1.
+use Rattle.std.proofs.Common.{◌≡◌, ℕ, ◌+◌, ◌<◌, ◌≤◌, true, false, List, [], ◌∷◌, length, get_or, refl, sym, ap, subst, ◌∙◌, arith, inl, inr, map, All}
+use Rattle.std.specs.Prelude.{Contains}
+use Rattle.std.specs.List.{list_any, list_all}
+use Rattle.std.proofs.lemmas.List.{get_or_default, length-map}
+use Rattle.std.proofs.lemmas.List.Elements.{All-map}
+use Rattle.std.proofs.lemmas.List.Folds.{list_any_none, list_all_at}
+use Rattle.macho_model_walks.specs.declared.loader_rules.Asked.{Asked}
+use Rattle.macho_model_walks.specs.declared.walk.Listed.{Listed}
+use Rattle.macho_model_walks.specs.declared.walk.Listed.TheVariants as list
+use Rattle.macho_model.specs.Commands.{Command, header_of}
+use Rattle.macho_model.specs.Grammar.{EachCommand}
+use Rattle.macho_model.specs.LoadRules.{begins_behind, segment_in, import_fits}
+use Rattle.macho_model.specs.Loader.{segment_commands, text_commands, fixup_commands, EachNeighbour, NeighbourFails, TextIsNotOne, SecondTable, ImportFails, import_count}
+use Rattle.macho_model_walks.specs.steps.Walks.{command_at, listed, IsNth, table_there, chain_segment_at}
+use Rattle.macho_model_walks.specs.steps.Asked.{list_of, test_of, NumberPasses, NeighbourPasses, BadImport, ImportsFit, TableImportsFit, EachImportFits}
+use Rattle.macho_model_walks.specs.steps.WordTests.{holds_word, import_exists, NthLacks, NthImportExists}
+use Rattle.macho_model.specs.Images.{table_of_command, tables_of, fixups_header, mapped_segments}
+use Rattle.macho_model.specs.Chain.{chain_segments}
+use Rattle.macho_model_walks.proofs.ListedLaws.{texts_listed, tables_are, mapped_are, nth_image}
+use Rattle.macho_model_walks.proofs.WordWalk.{few_listed_of, nth_exists, nth_one, chain_at, count_of_chain}
+use Rattle.macho_model.proofs.EachBelow.{pass_all}
+use Rattle.macho_model_walks.proofs.WordFitting.{found_any}
+
+-- a command by its number, whatever stands behind the last
+at_number : (which : Listed) (b : List ℕ) (number place : ℕ) (d : Command) → IsNth which b number place
+    → get_or (listed which b) number d ≡ command_at b place
+at_number which b number place d nth = get_or_default (listed which b) number d (command_at b place) nth.within ∙ nth.is
+
+pub each_by_number : (b : List ℕ) (what : Asked) → ((k : ℕ) → k < (header_of b).ncmds → NumberPasses b what k)
+    → EachCommand (listed (list_of what) b) (test_of what b)
+each_by_number b what pass k d lt =
+    let there = nth_exists (list_of what) b k lt in
+    subst (λ c. test_of what b c ≡ true) (sym (at_number (list_of what) b k there.0 d there.1))
+    (pass k (omega (arith, lt, few_listed_of (list_of what) b)) there.0 there.1)
+
+pub neighbours_by_number : (b : List ℕ) → ((k : ℕ) → k < (header_of b).ncmds → NeighbourPasses b k)
+    → EachNeighbour (segment_commands b) (begins_behind b)
+unfolding listed
+neighbours_by_number b pass k c d lt at_k at_next = listed_neighbours lt at_k at_next
+  where
+    listed_neighbours : k + 1 < length (listed list.Segments b) → get_or (listed list.Segments b) k c ≡ c
+        → get_or (listed list.Segments b) (k + 1) d ≡ d → begins_behind b c d ≡ true
+    listed_neighbours within at_first at_second =
+        let first = nth_exists list.Segments b k (omega (arith, within)) in
+        let second = nth_exists list.Segments b (k + 1) within in
+        let is_first : command_at b first.0 ≡ c = sym (at_number list.Segments b k first.0 c first.1) ∙ at_first in
+        let is_second : command_at b second.0 ≡ d = sym (at_number list.Segments b (k + 1) second.0 d second.1) ∙ at_second in
+        rw (← is_first, ← is_second)
+        (pass k (omega (arith, within, few_listed_of list.Segments b)) first.0 second.0 first.1 second.1)
+
+pub neighbour_fails : (b : List ℕ) (number place next : ℕ) → IsNth list.Segments b number place → IsNth list.Segments b (number + 1) next
+    → begins_behind b (command_at b place) (command_at b next) ≡ false → NeighbourFails (segment_commands b) next (begins_behind b)
+unfolding listed
+neighbour_fails b number place next first second fails =
+    (number, command_at b place, command_at b next, second.within, first.is, second.is, refl, fails)
+
+-- the one `__TEXT`
+pub second_text : (b : List ℕ) (place : ℕ) → IsNth list.Texts b 1 place → TextIsNotOne b place
+second_text b place nth =
+    let same = texts_listed b in
+    inr (
+      1,
+      command_at b place,
+      omega arith,
+      subst (λ cs. 1 < length cs) same nth.within,
+      subst (λ cs. get_or cs 1 (command_at b place) ≡ command_at b place) same nth.is,
+      refl,
+    )
+
+empty_list : {X : Type 0} (xs : List X) → length xs ≤ 0 → xs ≡ []
+empty_list [] h = refl
+empty_list (x ∷ xs) h = absurd (omega (arith, h))
+
+pub no_text : (b : List ℕ) → length (listed list.Texts b) ≤ 0 → TextIsNotOne b 0
+no_text b none = inl (empty_list (text_commands b) (subst (λ cs. length cs ≤ 0) (texts_listed b) none), refl)
+
+pub one_text : (b : List ℕ) (place : ℕ) → IsNth list.Texts b 0 place → length (listed list.Texts b) ≤ 1 → length (text_commands b) ≡ 1
+one_text b place nth few = subst (λ cs. length cs ≡ 1) (texts_listed b) (omega (arith, few, nth.within))
+
+-- the one fixup table
+pub second_of_tables : (b : List ℕ) (place : ℕ) → IsNth list.Tables b 1 place → SecondTable b place
+unfolding listed
+second_of_tables b place nth = (1, command_at b place, omega arith, nth.within, nth.is, refl)
+
+pub few_tables : (b : List ℕ) → length (listed list.Tables b) ≤ 1 → length (fixup_commands b) ≤ 1
+unfolding listed
+few_tables b h = h
+
+-- a table by its command, and its imports
+pub table_contains : (b : List ℕ) (number place : ℕ) → IsNth list.Tables b number place → Contains (tables_of b) (table_there b place)
+table_contains b number place nth =
+    let same = tables_are b in
+    let long = length-map (listed list.Tables b) (table_of_command b) in
+    subst (λ ts. Contains ts (table_there b place)) (sym same)
+    (number, omega (arith, nth.within, long), nth_image (table_of_command b) list.Tables b number place (table_there b place) nth)
+
+pub import_fails : (b : List ℕ) (number table place : ℕ) → IsNth list.Tables b number table → BadImport b (table_there b table) place
+    → ImportFails b place
+import_fails b number table place nth bad =
+    (table_there b table, bad.number, table_contains b number table nth, bad.among, bad.is, bad.fails)
+
+pub same_table : (b : List ℕ) (number place table : ℕ) → IsNth list.Tables b number place → IsNth list.Tables b number table
+    → ImportsFit b (table_there b table) → ImportsFit b (table_there b place)
+same_table b number place table nth other fit =
+    subst (λ p. ImportsFit b (table_there b p)) (nth_one list.Tables b number table place other nth) fit
+
+pub each_import : (b : List ℕ) → ((k : ℕ) → k < (header_of b).ncmds → TableImportsFit b k) → EachImportFits b
+each_import b fit t k (number, within, is) among =
+    let same = tables_are b in
+    let there = nth_exists list.Tables b number (subst (λ n. number < n) (length-map (listed list.Tables b) (table_of_command b))
+    (subst (λ ts. number < length ts) same within)) in
+    let here : table_there b there.0 ≡ t =
+    sym (nth_image (table_of_command b) list.Tables b number there.0 t there.1) ∙ sym (ap (λ ts. get_or ts number t) same) ∙ is in
+    subst (λ x. import_fits b x k ≡ true) here
+    (fit number (omega (arith, there.1.within, few_listed_of list.Tables b)) there.0 there.1 k
+    (subst (λ x. k < (fixups_header b x).imports_count) (sym here) among))
+
+-- how many imports there are, by the first table
+first_count : (b : List ℕ) (cs : List Command) (c : Command) → 0 < length cs → get_or cs 0 c ≡ c
+    → import_count b (map (table_of_command b) cs) ≡ (fixups_header b (table_of_command b c)).imports_count
+first_count b [] c some is = absurd (omega (arith, some))
+first_count b (x ∷ cs) c some is = ap (λ (y : Command). (fixups_header b (table_of_command b y)).imports_count) is
+
+pub import_count_found : (b : List ℕ) (place : ℕ) → IsNth list.Tables b 0 place
+    → import_count b (tables_of b) ≡ (fixups_header b (table_there b place)).imports_count
+import_count_found b place nth =
+    ap (λ ts. import_count b ts) (tables_are b) ∙ first_count b (listed list.Tables b) (command_at b place) nth.within nth.is
+
+no_count : (b : List ℕ) (cs : List Command) → length cs ≤ 0 → import_count b (map (table_of_command b) cs) ≡ 0
+no_count b [] none = refl
+no_count b (x ∷ cs) none = absurd (omega (arith, none))
+
+pub import_count_missing : (b : List ℕ) → length (listed list.Tables b) ≤ 0 → import_count b (tables_of b) ≡ 0
+import_count_missing b none = ap (λ ts. import_count b ts) (tables_are b) ∙ no_count b (listed list.Tables b) none
+
+-- a word that a mapped segment holds, or none
+pub held_by : (b : List ℕ) (number place a : ℕ) → IsNth list.Mapped b number place → holds_word a (segment_in b (command_at b place)) ≡ true
+    → list_any (holds_word a) (mapped_segments b) ≡ true
+held_by b number place a nth holds =
+    let s = segment_in b (command_at b place) in
+    let long = length-map (listed list.Mapped b) (segment_in b) in
+    subst (λ xs. list_any (holds_word a) xs ≡ true) (sym (mapped_are b))
+    (found_any (holds_word a) (map (segment_in b) (listed list.Mapped b)) s
+    (number, omega (arith, nth.within, long), nth_image (segment_in b) list.Mapped b number place s nth) holds)
+
+pub held_by_none : (b : List ℕ) (a : ℕ) → ((k : ℕ) → k < (header_of b).ncmds → NthLacks b k a)
+    → list_any (holds_word a) (mapped_segments b) ≡ false
+held_by_none b a none =
+    let all : All (λ s. holds_word a s ≡ false) (map (segment_in b) (listed list.Mapped b)) =
+    All-map (λ s. holds_word a s ≡ false) (segment_in b) (listed list.Mapped b) (λ k d lt.
+    let there = nth_exists list.Mapped b k lt in
+    subst (λ c. holds_word a (segment_in b c) ≡ false) (sym (at_number list.Mapped b k there.0 d there.1))
+    (none k (omega (arith, lt, few_listed_of list.Mapped b)) there.0 there.1)) in
+    subst (λ xs. list_any (holds_word a) xs ≡ false) (sym (mapped_are b))
+    (list_any_none (holds_word a) (map (segment_in b) (listed list.Mapped b)) all)
+
+-- an import that does not exist in the segment of a command, or all that do
+pub import_lacks : (b : List ℕ) (number place a : ℕ) → IsNth list.Segments b number place
+    → import_exists b a (chain_segment_at b 0 place) ≡ false
+    → list_all (import_exists b a) (chain_segments b) ≡ false
+import_lacks b number place a nth fails =
+    let s = chain_segment_at b number place in
+    let long = count_of_chain b in
+    list_all_at (import_exists b a) (chain_segments b) number s (omega (arith, nth.within, long))
+    (subst (λ x. import_exists b a x ≡ false) (sym (chain_at b number place s nth)) fails)
+
+pub imports_exist : (b : List ℕ) (a : ℕ) → ((k : ℕ) → k < (header_of b).ncmds → NthImportExists b k a)
+    → list_all (import_exists b a) (chain_segments b) ≡ true
+imports_exist b a each =
+    pass_all (import_exists b a) (chain_segments b) (λ k d lt.
+    let there = nth_exists list.Segments b k (omega (arith, lt, count_of_chain b)) in
+    subst (λ x. import_exists b a x ≡ true) (sym (chain_at b k there.0 d there.1))
+    (each k (omega (arith, there.1.within, few_listed_of list.Segments b)) there.0 there.1))

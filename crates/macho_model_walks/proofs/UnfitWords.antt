@@ -1,0 +1,171 @@
+-- The walk along a page's chain, which stops at a word that does not fit.
+--
+-- A word that does not fit is told where it stands. One that fits is in its page, so a step from it stays near the page,
+-- and it is one of finitely many. All that it leads to are itself and what its steps lead to, whatever segment they are
+-- read in; so where it fits and those fit, all fit. The words of the page's chain are those that its start leads to.
+use Rattle.std.proofs.Common.{◌≡◌, ℕ, ◌+◌, ◌*◌, ◌-◌, ◌^◌, ◌<◌, ◌≤◌, nat_le, Bool, true, false, ◌&&◌, List, length, slice_index, refl, sym, ap, subst, ◌∙◌, arith, inl, inr}
+use Rattle.std.specs.List.{list_all, list_any}
+use Rattle.std.proofs.lemmas.Bool.{leb-true, cases_lt}
+use Rattle.macho_model_walks.specs.declared.walk.Listed.TheVariants as list
+use Rattle.macho_model.specs.Commands.{header_of}
+use Rattle.macho_model.specs.Grammar.{EachCommand}
+use Rattle.macho_model.specs.Images.{NO_START, CHAIN_PAGE, mapped_segments}
+use Rattle.macho_model.specs.LoadRules.{segment_in, file_part_inside}
+use Rattle.macho_model.specs.Chain.{ChainSegment, chain_segments, WORD_SIZE, next_of, STRIDE, OnPageChain}
+use Rattle.macho_model.specs.Loader.{segment_commands, WordFits, WordFails}
+use Rattle.macho_model_walks.specs.steps.Walks.{command_at, listed, IsNth, StepIn, Leads, starts_of, chain_segment_at}
+use Rattle.macho_model_walks.specs.steps.Walks as walks
+use Rattle.macho_model_walks.specs.steps.WordTests.{holds_word, import_exists, stands_in_page, word_fits_test, address_in, UnfitFrom, FitFrom, UnfitOnPage, FitOnPage, FitOnNth, EachWordFits}
+use Rattle.macho_model.proofs.EachBelow.{true_or_false, and_left, and_right}
+use Rattle.macho_model_walks.proofs.WordFitting.{word_fits, fits_word}
+use Rattle.macho_model_walks.proofs.WordWalk.{step_leads, step_of_word, page_chain_found, page_chain_none, from_start, numbered_segment, few_listed_of, chain_contains, nth_one}
+
+-- a word that passes ends in its page
+pub in_page : (b : List ℕ) (number place page offset : ℕ)
+    → word_fits_test b (chain_segment_at b number place) page (address_in b place offset) ≡ true
+    → offset + 8 ≤ 16384 * (page + 1)
+in_page b number place page offset h =
+    let s = chain_segment_at b number place in
+    let a = address_in b place offset in
+    let both = and_left (stands_in_page s page a && list_any (holds_word a) (mapped_segments b))
+    (list_all (import_exists b a) (chain_segments b)) h in
+    let page_holds = and_left (stands_in_page s page a) (list_any (holds_word a) (mapped_segments b)) both in
+    let end = leb-true (a + WORD_SIZE) (s.address + CHAIN_PAGE * (page + 1))
+    (and_right (nat_le (s.address + CHAIN_PAGE * page) a) (nat_le (a + WORD_SIZE) (s.address + CHAIN_PAGE * (page + 1))) page_holds) in
+    omega (arith, end)
+
+-- a step goes on by a byte at least
+pub step_goes : (b : List ℕ) (number a n : ℕ) → StepIn b number a n → 1 ≤ n
+step_goes b number a n step = let s = step.step in let goes = s.goes in let is = s.is in omega (arith, goes, is)
+
+-- a word that fails
+pub unfit_here : (b : List ℕ) (number place page offset : ℕ) → offset < 2 ^ 32
+    → word_fits_test b (chain_segment_at b number place) page (address_in b place offset) ≡ false → UnfitFrom b number place page offset
+    offset
+unfit_here b number place page offset small fails =
+    record {
+      leads = walks.Leads.here (address_in b place offset);
+      unfit = λ fits. true_or_false (word_fits_test b (chain_segment_at b number place) page (address_in b place offset))
+          (fits_word b (chain_segment_at b number place) page (address_in b place offset) fits) fails;
+      small = small;
+    }
+
+same_address : (b : List ℕ) (place offset n : ℕ) → address_in b place (offset + n) ≡ address_in b place offset + n
+same_address b place offset n = omega arith
+
+pub unfit_behind : (b : List ℕ) (other number place page offset n x : ℕ) → StepIn b other (address_in b place offset) n
+    → UnfitFrom b number place page (offset + n) x → UnfitFrom b number place page offset x
+unfit_behind b other number place page offset n x step unfit =
+    record {
+      leads = step_leads b other (address_in b place offset) n (address_in b place x) step
+          (subst (λ a. Leads b a (address_in b place x)) (same_address b place offset n) unfit.leads);
+      unfit = unfit.unfit;
+      small = unfit.small;
+    }
+
+-- a word that passes, and so do all that its steps lead to
+fit_all : (b : List ℕ) (s : ChainSegment) (page a c : ℕ) → word_fits_test b s page a ≡ true
+    → ((other n d : ℕ) → other < (header_of b).ncmds → StepIn b other a n → Leads b (a + n) d → WordFits b s page d) → Leads b a c →
+    WordFits b s page c
+fit_all b s page _ _ passes rest (walks.Leads.here a) = word_fits b s page a passes
+fit_all b s page _ _ passes rest (walks.Leads.on a word c stands goes leads) =
+    let step = step_of_word b a word stands goes in rest step.0 (STRIDE * next_of word) c step.1 step.2 leads
+
+pub fit_from : (b : List ℕ) (number place page offset : ℕ)
+    → word_fits_test b (chain_segment_at b number place) page (address_in b place offset) ≡ true
+    → ((other n : ℕ) → other < (header_of b).ncmds → StepIn b other (address_in b place offset) n → FitFrom b number place page
+    (offset + n))
+    → FitFrom b number place page offset
+fit_from b number place page offset passes rest a leads =
+    fit_all b (chain_segment_at b number place) page (address_in b place offset) a passes
+    (λ other n d within step on. rest other n within step d (subst (λ x. Leads b x d) (sym (same_address b place offset n)) on)) leads
+
+-- of a page: its start, and what it leads to
+start_address : (b : List ℕ) (number place page start : ℕ) → start ≡ slice_index (starts_of b number) page
+    → address_in b place (16384 * page + start) ≡ (segment_in b (command_at b place)).vmaddr + CHAIN_PAGE * page + slice_index
+    (starts_of b number) page
+start_address b number place page start is = omega (arith, is)
+
+pub unfit_on_page : (b : List ℕ) (number place page start x : ℕ) → page < length (starts_of b number)
+    → start ≡ slice_index (starts_of b number) page
+    → (start ≡ NO_START → ⊥) → UnfitFrom b number place page (16384 * page + start) x → UnfitOnPage b number place page x
+unfit_on_page b number place page start x within is some unfit =
+    record {
+      on = page_chain_found b number place page (address_in b place x) (segment_in b (command_at b place)).vmaddr start within is some refl
+          (subst (λ a. Leads b a (address_in b place x)) (start_address b number place page start is ∙ sym
+          (ap (λ n. (segment_in b (command_at b place)).vmaddr + CHAIN_PAGE * page + n) is)) unfit.leads);
+      unfit = unfit.unfit;
+      small = unfit.small;
+    }
+
+pub fit_on_page : (b : List ℕ) (number place page start : ℕ) → start ≡ slice_index (starts_of b number) page
+    → FitFrom b number place page (16384 * page + start) → FitOnPage b number place page
+fit_on_page b number place page start is fit a on =
+    let f = from_start b (chain_segment_at b number place) page a on in
+    fit a (subst (λ x. Leads b x a) (sym (start_address b number place page start is)) f.leads)
+
+pub fit_without_start : (b : List ℕ) (number place page start : ℕ) → start ≡ slice_index (starts_of b number) page → start ≡ NO_START
+    → FitOnPage b number place page
+fit_without_start b number place page start is none a on = absurd (page_chain_none b number place page a start is none on)
+
+-- of a segment, told by the file offset
+pub word_fails : (b : List ℕ) (number place page offset start x : ℕ) → IsNth list.Segments b number place
+    → start ≡ (segment_in b (command_at b place)).fileoff → start + offset ≡ x → UnfitOnPage b number place page offset → WordFails b x
+word_fails b number place page offset start x nth at is unfit =
+    (address_in b place offset, chain_segment_at b number place, page, chain_contains b number place nth, unfit.on, told, unfit.unfit)
+  where
+    told : x ≡ (segment_in b (command_at b place)).fileoff + (address_in b place offset - (segment_in b (command_at b place)).vmaddr)
+    told = omega (arith, at, is)
+
+-- of all: each segment has a number
+pub each_word : (b : List ℕ) → ((k : ℕ) → k < (header_of b).ncmds → FitOnNth b k) → EachWordFits b
+each_word b fit s page a one on =
+    let n = numbered_segment b s one in
+    subst (λ x. OnPageChain (chain_segments b) b x page a → WordFits b x page a) (sym n.is)
+    (fit n.number (omega (arith, n.nth.within, few_listed_of list.Segments b)) n.place n.nth page a) on
+
+-- a rule that each segment's command keeps, of the one at a place
+pub kept_at : (b : List ℕ) (number place : ℕ) → EachCommand (segment_commands b) (file_part_inside b) → IsNth list.Segments b number place
+    → file_part_inside b (command_at b place) ≡ true
+unfolding listed
+kept_at b number place each nth = subst (λ c. file_part_inside b c ≡ true) nth.is (each number (command_at b place) nth.within)
+
+-- the same at the address that is read
+pub test_at : (b : List ℕ) (number place page offset address : ℕ) (t r : Bool) → address ≡ (segment_in b (command_at b place)).vmaddr
+    → r ≡ word_fits_test b (chain_segment_at b number place) page (address + offset) → r ≡ t
+    → word_fits_test b (chain_segment_at b number place) page (address_in b place offset) ≡ t
+test_at b number place page offset address t r at is said =
+    subst (λ a. word_fits_test b (chain_segment_at b number place) page (a + offset) ≡ t) at (sym is ∙ said)
+
+pub step_from : (b : List ℕ) (other place offset address n : ℕ) → address ≡ (segment_in b (command_at b place)).vmaddr
+    → StepIn b other (address + offset) n → StepIn b other (address_in b place offset) n
+step_from b other place offset address n at step = subst (λ a. StepIn b other (a + offset) n) at step
+
+pub step_back : (b : List ℕ) (other place offset address n : ℕ) → address ≡ (segment_in b (command_at b place)).vmaddr
+    → StepIn b other (address_in b place offset) n → StepIn b other (address + offset) n
+step_back b other place offset address n at step = subst (λ a. StepIn b other (a + offset) n) (sym at) step
+
+-- one segment more whose steps lead to words that fit
+pub one_fits : (b : List ℕ) (number place page offset i : ℕ)
+    → ((k n : ℕ) → k < i → StepIn b k (address_in b place offset) n → FitFrom b number place page (offset + n))
+    → ((n : ℕ) → StepIn b i (address_in b place offset) n → FitFrom b number place page (offset + n))
+    → (k n : ℕ) → k < i + 1 → StepIn b k (address_in b place offset) n → FitFrom b number place page (offset + n)
+one_fits b number place page offset i before here k n within step =
+    elim (cases_lt k i) [
+      | inl lt ↦ before k n lt step
+      | inr le ↦ let same : k ≡ i = omega (arith, le, within) in here n (subst (λ j. StepIn b j (address_in b place offset) n) same step)
+    ]
+
+-- the file bytes of a segment begin inside the file
+pub begins_inside : (b : List ℕ) (place : ℕ) → file_part_inside b (command_at b place) ≡ true
+    → (segment_in b (command_at b place)).fileoff ≤ length b
+begins_inside b place h =
+    let s = segment_in b (command_at b place) in
+    let end = leb-true (s.fileoff + s.filesize) (length b) (and_left (nat_le (s.fileoff + s.filesize) (length b))
+    (nat_le s.filesize s.vmsize) h) in
+    omega (arith, end)
+
+pub same_segment_fits : (b : List ℕ) (number place found page : ℕ) → IsNth list.Segments b number place → IsNth list.Segments b number found
+    → FitOnPage b number found page → FitOnPage b number place page
+same_segment_fits b number place found page nth other fit =
+    subst (λ p. FitOnPage b number p page) (nth_one list.Segments b number found place other nth) fit

@@ -1,0 +1,25 @@
+-- The two segments are those whose commands were found.
+use Rattle.std.proofs.Common.{◌≡◌, ◌+◌, true, refl, sym, subst, ◌∙◌}
+use Rattle.macho_model_walks.specs.declared.walk.Listed.TheVariants as list
+use Rattle.macho_model.specs.Loader.{segment_commands, NeighbourFails}
+use Rattle.macho_model.specs.LoadRules.{begins_behind}
+use Rattle.macho_model_walks.specs.steps.Walks.{command_at}
+use Rattle.macho_model_walks.proofs.RuleWalk.{neighbour_fails}
+use Rattle.macho_model_walks.proofs.WordWalk.{nth_one, some_is}
+use Rattle.macho_model_walks.proofs.loader_rules.overlapping.Goals as goal
+
+pub returns-then-follows-clause-only : goal.returns-then-follows-clause-only
+returns-then-follows-clause-only c _ place next first second =
+    let b = c.args.bytes.now in
+    let same_first = nth_one list.Segments b c.args.number c.in-Some.place place (c.in-Some.ensures.found c.in-Some.place refl) first in
+    let same_second = nth_one list.Segments b (c.args.number + 1) c.in-Some-nth.next next
+    (c.in-Some-nth.ensures.found c.in-Some-nth.next refl) second in
+    subst (λ p. begins_behind b (command_at b p) (command_at b next) ≡ true) same_first
+    (subst (λ q. begins_behind b (command_at b c.in-Some.place) (command_at b q) ≡ true) same_second
+    (sym c.follows.ensures ∙ c.if-follows.true))
+
+pub returns-else-follows-clause-found : goal.returns-else-follows-clause-found
+returns-else-follows-clause-found c place is =
+    subst (λ p. NeighbourFails (segment_commands c.args.bytes.now) p (begins_behind c.args.bytes.now)) (some_is c.in-Some-nth.next place is)
+    (neighbour_fails c.args.bytes.now c.args.number c.in-Some.place c.in-Some-nth.next (c.in-Some.ensures.found c.in-Some.place refl)
+    (c.in-Some-nth.ensures.found c.in-Some-nth.next refl) (sym c.follows.ensures ∙ c.if-follows.false))

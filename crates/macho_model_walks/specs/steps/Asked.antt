@@ -1,0 +1,85 @@
+-- What the plain functions that look for a broken rule of the loader ask of the commands.
+use Rattle.std.specs.Prelude.{◌≡◌, ℕ, ◌+◌, ◌<◌, ◌≤◌, Bool, true, false, List, length, Contains, All}
+use Rattle.macho_model_walks.specs.declared.loader_rules.Asked.{Asked}
+use Rattle.macho_model_walks.specs.declared.loader_rules.Asked.TheVariants as asked
+use Rattle.macho_model_walks.specs.declared.walk.Listed.{Listed}
+use Rattle.macho_model_walks.specs.declared.walk.Listed.TheVariants as list
+use Rattle.macho_model.specs.Commands.{Command, commands_of, command_fits}
+use Rattle.macho_model.specs.Images.{Table, table_of_command, tables_of, fixups_header, import_place, segments_named}
+use Rattle.macho_model.specs.LoadRules.{image_head_fits, needed_in_image, segment_in, protections_fit, file_part_inside, segment_is_paged, segment_ends, begins_behind, text_holds_commands, table_fits, import_fits}
+use Rattle.macho_model.specs.declared.rules.LoadRule.{LoadRule}
+use Rattle.macho_model.specs.declared.rules.LoadRule.TheVariants.{L1, L2, L3, L4, L5, L6, L7, L8, L9, L10}
+use Rattle.macho_model.specs.ObjectRules.{commands_inside}
+use Rattle.macho_model.specs.Grammar.{EachCommand, CommandFails}
+use Rattle.macho_model.specs.Segments.{TEXT}
+use Rattle.macho_model.specs.Chain.{ChainSegment, chain_segments, OnPageChain}
+use Rattle.macho_model.specs.Loader.{WordFits, EachNeighbour, NeighbourFails, segment_commands}
+use Rattle.macho_model_walks.specs.steps.Walks.{command_at, listed, IsNth, table_there}
+
+-- the commands that are asked
+abbrev pub list_of : Asked → Listed
+list_of asked.Whole = list.All
+list_of asked.Protections = list.Segments
+list_of asked.FileBytes = list.Segments
+list_of asked.Pages = list.Segments
+list_of asked.End = list.Segments
+list_of asked.Commands = list.Texts
+list_of asked.Table = list.Tables
+
+-- the test that each is to pass
+abbrev pub test_of : Asked → List ℕ → Command → Bool
+test_of asked.Whole b c = command_fits (needed_in_image b) b c
+test_of asked.Protections b c = protections_fit b c
+test_of asked.FileBytes b c = file_part_inside b c
+test_of asked.Pages b c = segment_is_paged b c
+test_of asked.End b c = segment_ends b c
+test_of asked.Commands b c = text_holds_commands b (segment_in b c)
+test_of asked.Table b c = table_fits b (table_of_command b c)
+
+-- the command with a number, if there is one, passes
+abbrev pub NumberPasses : List ℕ → Asked → ℕ → Type 0
+NumberPasses b what number = (place : ℕ) → IsNth (list_of what) b number place → test_of what b (command_at b place) ≡ true
+
+-- a command that is asked fails, and a segment begins before the end of the one before it; each told at its place
+abbrev pub AskedFails : List ℕ → Asked → ℕ → Type 0
+AskedFails b what place = CommandFails (listed (list_of what) b) place (test_of what b)
+
+abbrev pub BeginsBefore : List ℕ → ℕ → Type 0
+BeginsBefore b place = NeighbourFails (segment_commands b) place (begins_behind b)
+
+-- the segments with a number and the next one, if there are both, stand in order
+abbrev pub NeighbourPasses : List ℕ → ℕ → Type 0
+NeighbourPasses b number =
+    (place next : ℕ) → IsNth list.Segments b number place → IsNth list.Segments b (number + 1) next
+    → begins_behind b (command_at b place) (command_at b next) ≡ true
+
+-- an import of a table fails, told at its entry
+pub record BadImport (b : List ℕ) (t : Table) (place : ℕ) : Type 0 where
+  pub number : ℕ
+  pub among : number < (fixups_header b t).imports_count
+  pub is : place ≡ import_place b t number
+  pub fails : import_fits b t number ≡ false
+
+-- the imports of a table fit, of the table with a number, and of each
+abbrev pub ImportsFit : List ℕ → Table → Type 0
+ImportsFit b t = (k : ℕ) → k < (fixups_header b t).imports_count → import_fits b t k ≡ true
+
+abbrev pub TableImportsFit : List ℕ → ℕ → Type 0
+TableImportsFit b number = (place : ℕ) → IsNth list.Tables b number place → ImportsFit b (table_there b place)
+
+abbrev pub EachImportFits : List ℕ → Type 0
+EachImportFits b = (t : Table) (k : ℕ) → Contains (tables_of b) t → k < (fixups_header b t).imports_count → import_fits b t k ≡ true
+
+-- what an accepted image keeps, rule by rule: the fields of `IsAccepted`
+abbrev pub LoadKeeps : List ℕ → LoadRule → Type 0
+LoadKeeps b L1 = image_head_fits b ≡ true
+LoadKeeps b L2 = (commands_inside b ≡ true) × EachCommand (commands_of b) (command_fits (needed_in_image b) b)
+LoadKeeps b L3 = EachCommand (segment_commands b) (protections_fit b)
+LoadKeeps b L4 = EachCommand (segment_commands b) (file_part_inside b)
+LoadKeeps b L5 = EachCommand (segment_commands b) (segment_is_paged b)
+LoadKeeps b L6 = EachCommand (segment_commands b) (segment_ends b) × EachNeighbour (segment_commands b) (begins_behind b)
+LoadKeeps b L7 = (length (segments_named TEXT b) ≡ 1) × All (λ s. text_holds_commands b s ≡ true) (segments_named TEXT b)
+LoadKeeps b L8 = (length (tables_of b) ≤ 1) × All (λ t. table_fits b t ≡ true) (tables_of b)
+LoadKeeps b L9 = (t : Table) (k : ℕ) → Contains (tables_of b) t → k < (fixups_header b t).imports_count → import_fits b t k ≡ true
+LoadKeeps b L10 =
+    (s : ChainSegment) (page a : ℕ) → Contains (chain_segments b) s → OnPageChain (chain_segments b) b s page a → WordFits b s page a

@@ -1,0 +1,181 @@
+//! The tests that the loader makes of one load command.
+//!
+//! A segment's command (`struct segment_command_64` of mach-o/loader.h) is read field by field:
+//!
+//!     8   the name, 16 bytes        40  the file offset, 8      60  the protections at first, 4
+//!     24  the address, 8            48  the bytes in the file   64  the number of sections, 4
+//!     32  the bytes in memory       56  the most protections
+ghost use Rattle.std.specs.Prelude.{◌≡◌};
+ghost use Rattle.macho_bytes.specs.Layouts.{reading};
+ghost use Rattle.macho_bytes.specs.Texts.{name_of};
+ghost use Rattle.macho_records.specs.Layouts.{segment_command};
+ghost use Rattle.macho_model.specs.Commands.{command_fits, commands_end};
+ghost use Rattle.macho_model.specs.ObjectRules.{commands_inside};
+ghost use Rattle.macho_model.specs.Segments.{loaded_protection_of};
+ghost use Rattle.macho_model.specs.LoadRules.{image_head_fits, needed_in_image, segment_in, protections_fit, file_part_inside, segment_is_paged, segment_ends, begins_behind, text_holds_commands};
+ghost use Rattle.macho_model_walks.specs.steps.Walks.{command_at, SaysSegment};
+
+use crate::reads::{u32_from, u64_from};
+use crate::walk::is_segment_named;
+use macho_records::{
+    CPU_TYPE_ARM64, LC_BUILD_VERSION, LC_CODE_SIGNATURE, LC_DYLD_CHAINED_FIXUPS,
+    LC_DYLD_EXPORTS_TRIE, LC_ID_DYLIB, LC_LOAD_DYLIB, LC_LOAD_DYLINKER, LC_MAIN, LC_RPATH,
+    LC_SEGMENT_64, LC_SYMTAB, LC_UUID, MH_DYLIB, MH_EXECUTE, MH_MAGIC_64, VM_PROT_EXECUTE,
+    VM_PROT_READ, VM_PROT_WRITE,
+};
+
+/// The bytes of a page of a segment.
+const SEGMENT_PAGE: u64 = 0x4000;
+
+/// The numbers of a segment's command.
+#[derive(Clone, Copy)]
+pub(crate) struct SegmentNumbers {
+    /// The address of its first byte.
+    pub(crate) address: u64,
+    /// Its bytes in memory.
+    pub(crate) size: u64,
+    /// The file offset of its first byte.
+    pub(crate) file_offset: u64,
+    /// Its bytes in the file.
+    pub(crate) file_size: u64,
+    /// What it may ever be accessed for.
+    pub(crate) most: u32,
+    /// What it may be accessed for at first.
+    pub(crate) first: u32,
+}
+
+/// The numbers of the segment's command at a place.
+#[tactic(auto, unfolding(macho_bytes::specs::Layouts::reading))]
+pub(crate) fn segment_at(bytes: &[u8], place: u64) -> SegmentNumbers
+    ensures { SaysSegment result (reading segment_command bytes.now place) }
+{
+    SegmentNumbers {
+        address: u64_from(bytes, place, 24),
+        size: u64_from(bytes, place, 32),
+        file_offset: u64_from(bytes, place, 40),
+        file_size: u64_from(bytes, place, 48),
+        most: u32_from(bytes, place, 56),
+        first: u32_from(bytes, place, 60),
+    }
+}
+
+/// Whether the header is whole, of a 64-bit arm64 executable or dynamic library.
+#[tactic(auto, unfolding(macho_bytes::specs::Layouts::reading, macho_model::specs::Commands::header_of))]
+pub(crate) fn head_fits(bytes: &[u8]) -> bool
+    ensures { result ≡ image_head_fits bytes.now }
+{
+    let file_type = u32_from(bytes, 0, 12);
+    bytes.len() >= 32
+        && u32_from(bytes, 0, 0) == MH_MAGIC_64
+        && u32_from(bytes, 0, 4) == CPU_TYPE_ARM64
+        && (file_type == MH_EXECUTE || file_type == MH_DYLIB)
+}
+
+/// The place where the load commands end.
+#[tactic(auto, unfolding(macho_bytes::specs::Layouts::reading, macho_model::specs::Commands::header_of, macho_model::specs::Commands::commands_end))]
+pub(crate) fn end_of_commands(bytes: &[u8]) -> u64
+    ensures { result ≡ commands_end bytes.now }
+{
+    32 + u32_from(bytes, 0, 20) as u64
+}
+
+/// Whether the load commands end inside the file.
+pub(crate) fn commands_end_inside(bytes: &[u8]) -> bool
+    ensures { result ≡ commands_inside bytes.now }
+{
+    end_of_commands(bytes) <= bytes.len() as u64
+}
+
+/// The bytes of the record of a command, by its number; 0 for one that is not known.
+#[tactic(auto, unfolding(macho_bytes::specs::Layouts::reading))]
+fn needed(bytes: &[u8], place: u64) -> u64
+    ensures { result ≡ needed_in_image bytes.now (command_at bytes.now place) }
+{
+    match u32_from(bytes, place, 0) {
+        LC_SEGMENT_64 => 72 + 80 * u32_from(bytes, place, 64) as u64,
+        LC_SYMTAB | LC_LOAD_DYLIB | LC_ID_DYLIB | LC_UUID | LC_BUILD_VERSION | LC_MAIN => 24,
+        LC_LOAD_DYLINKER | LC_RPATH => 12,
+        LC_CODE_SIGNATURE | LC_DYLD_EXPORTS_TRIE | LC_DYLD_CHAINED_FIXUPS => 16,
+        _ => 0,
+    }
+}
+
+/// Whether a command stands where commands do, and is as long as its record.
+#[tactic(auto, unfolding(macho_bytes::specs::Layouts::reading))]
+pub(crate) fn is_whole(bytes: &[u8], place: u64) -> bool
+    ensures { result ≡ command_fits (needed_in_image bytes.now) bytes.now (command_at bytes.now place) }
+{
+    let size = u32_from(bytes, place, 4) as u64;
+    let end = end_of_commands(bytes);
+    size >= 8 && place <= end && size <= end - place && needed(bytes, place) <= size
+}
+
+/// What a segment may be accessed for, by its name.
+fn wanted_protection(bytes: &[u8], place: u64) -> u32
+    ensures { result ≡ loaded_protection_of (name_of (reading segment_command bytes.now place).segname) }
+{
+    if is_segment_named(bytes, place, b"__PAGEZERO".as_slice()) {
+        0
+    } else if is_segment_named(bytes, place, b"__TEXT".as_slice()) {
+        VM_PROT_READ + VM_PROT_EXECUTE
+    } else if is_segment_named(bytes, place, b"__LINKEDIT".as_slice()) {
+        VM_PROT_READ
+    } else {
+        VM_PROT_READ + VM_PROT_WRITE
+    }
+}
+
+/// Whether a segment has the protections of its name.
+pub(crate) fn protections_are_right(bytes: &[u8], place: u64) -> bool
+    ensures { result ≡ protections_fit bytes.now (command_at bytes.now place) }
+{
+    let segment = segment_at(bytes, place);
+    let wanted = wanted_protection(bytes, place);
+    segment.most == wanted && segment.first == wanted
+}
+
+/// Whether a segment's file bytes stand inside the file, and are at most its bytes in memory.
+pub(crate) fn file_bytes_are_inside(bytes: &[u8], place: u64) -> bool
+    ensures { result ≡ file_part_inside bytes.now (command_at bytes.now place) }
+{
+    let segment = segment_at(bytes, place);
+    let length = bytes.len() as u64;
+    segment.file_size <= length
+        && segment.file_offset <= length - segment.file_size
+        && segment.file_size <= segment.size
+}
+
+/// Whether a segment is made of whole pages.
+pub(crate) fn is_paged(bytes: &[u8], place: u64) -> bool
+    ensures { result ≡ segment_is_paged bytes.now (command_at bytes.now place) }
+{
+    let segment = segment_at(bytes, place);
+    segment.address % SEGMENT_PAGE == 0
+        && segment.size % SEGMENT_PAGE == 0
+        && segment.file_offset % SEGMENT_PAGE == 0
+}
+
+/// Whether a segment ends at 2^64 at most.
+pub(crate) fn ends_below(bytes: &[u8], place: u64) -> bool
+    ensures { result ≡ segment_ends bytes.now (command_at bytes.now place) }
+{
+    let segment = segment_at(bytes, place);
+    segment.size == 0 || segment.address <= u64::MAX - (segment.size - 1)
+}
+
+/// Whether a segment begins where another one ends, or behind.
+pub(crate) fn follows(bytes: &[u8], place: u64, next: u64) -> bool
+    ensures { result ≡ begins_behind bytes.now (command_at bytes.now place) (command_at bytes.now next) }
+{
+    let segment = segment_at(bytes, place);
+    let behind = segment_at(bytes, next);
+    segment.address <= behind.address && segment.size <= behind.address - segment.address
+}
+
+/// Whether a segment begins the file and holds the load commands.
+pub(crate) fn holds_commands(bytes: &[u8], place: u64) -> bool
+    ensures { result ≡ text_holds_commands bytes.now (segment_in bytes.now (command_at bytes.now place)) }
+{
+    let segment = segment_at(bytes, place);
+    segment.file_offset == 0 && end_of_commands(bytes) <= segment.file_size
+}

@@ -1,0 +1,199 @@
+//! Whether the words of the chains fit: the loader's last rule, asked of each word that a page's start leads to.
+ghost use Rattle.std.specs.Prelude.{◌≡◌, ◌≤◌, ◌<◌, ◌+◌, ◌*◌, ℕ, true, false, length, Some, None};
+ghost use Rattle.std.specs.List.{list_all, list_any};
+ghost use Rattle.macho_model.specs.LoadRules.{segment_in, file_part_inside};
+ghost use Rattle.macho_model.specs.Images.{mapped_segments, tables_of};
+ghost use Rattle.macho_model.specs.Chain.{chain_segments};
+ghost use Rattle.macho_model.specs.Loader.{is_bind, ordinal_of, import_count, segment_commands, WordFails};
+ghost use Rattle.macho_model.specs.Grammar.{EachCommand};
+ghost use Rattle.macho_model_walks.specs.steps.Walks.{command_at, IsNth, starts_of, chain_segment_at};
+ghost use Rattle.macho_model_walks.specs.steps.WordTests.{holds_word, import_exists, word_fits_test, NthLacks, NthImportExists, UnfitFrom, FitFrom, UnfitOnPage, FitOnPage, FitOnNth, EachWordFits};
+ghost use Rattle.macho_model_walks.specs.declared.walk.Listed.TheVariants as list;
+
+use crate::chain_words::{CHAIN_PAGE, NO_START, pages_of, start_of, step_in, word_of};
+use crate::segment_rules::segment_at;
+use crate::table_rules::table_at;
+use crate::walk::{Listed, count_of, nth};
+
+/// Whether a segment may be written to, and a word at an address stands in its file part.
+fn holds(bytes: &[u8], place: u64, address: u128) -> bool
+    ensures { result ≡ holds_word address (segment_in bytes.now (command_at bytes.now place)) }
+{
+    let segment = segment_at(bytes, place);
+    let start = segment.address as u128;
+    let is_writable = (segment.first >> 1) & 1 == 1;
+    is_writable
+        && start <= address
+        && address <= u128::MAX - 8
+        && address + 8 <= start + segment.file_size as u128
+}
+
+/// Whether the mapped segment with a number holds a word.
+fn nth_holds(bytes: &[u8], number: u32, address: u128) -> bool
+    ensures found { result ≡ true → list_any (holds_word address) (mapped_segments bytes.now) ≡ true }
+    ensures only { result ≡ false → NthLacks bytes.now number address }
+{
+    match nth(bytes, Listed::Mapped, number) {
+        Some(place) => holds(bytes, place, address),
+        None => false,
+    }
+}
+
+/// Whether some mapped segment holds a word.
+fn is_held(bytes: &[u8], address: u128) -> bool
+    ensures { result ≡ list_any (holds_word address) (mapped_segments bytes.now) }
+{
+    for number in 0..count_of(bytes) {
+        if nth_holds(bytes, number, address) {
+            return true;
+        }
+    }
+    false
+}
+
+/// How many imports the image has, by its first fixup table.
+pub(crate) fn count_of_imports(bytes: &[u8]) -> u32
+    ensures { result ≡ import_count bytes.now (tables_of bytes.now) }
+{
+    match nth(bytes, Listed::Tables, 0) {
+        Some(place) => table_at(bytes, place).imports_count,
+        None => 0,
+    }
+}
+
+/// Whether a word binds an import.
+pub(crate) fn binds(word: u64) -> bool
+    ensures { result ≡ is_bind word }
+{
+    word >> 63 == 1
+}
+
+/// The number of the import that a word binds.
+pub(crate) fn ordinal(word: u64) -> u32
+    ensures { result ≡ ordinal_of word }
+{
+    (word & 0xff_ffff) as u32
+}
+
+/// Whether the import of the word exists that a segment has at an address, if it has one that binds.
+fn import_is_there(bytes: &[u8], place: u64, address: u128) -> bool
+    ensures { result ≡ import_exists bytes.now address (chain_segment_at bytes.now 0 place) }
+{
+    match word_of(bytes, place, address) {
+        Some(word) => !binds(word) || ordinal(word) < count_of_imports(bytes),
+        None => true,
+    }
+}
+
+/// The same of the segment with a number.
+fn nth_import_is_there(bytes: &[u8], number: u32, address: u128) -> bool
+    ensures found { result ≡ false → list_all (import_exists bytes.now address) (chain_segments bytes.now) ≡ false }
+    ensures only { result ≡ true → NthImportExists bytes.now number address }
+{
+    match nth(bytes, Listed::Segments, number) {
+        Some(place) => import_is_there(bytes, place, address),
+        None => true,
+    }
+}
+
+/// Whether the import exists in whatever segment the word is read.
+fn imports_are_there(bytes: &[u8], address: u128) -> bool
+    ensures { result ≡ list_all (import_exists bytes.now address) (chain_segments bytes.now) }
+{
+    for number in 0..count_of(bytes) {
+        if !nth_import_is_there(bytes, number, address) {
+            return false;
+        }
+    }
+    true
+}
+
+/// Whether a word of a page's chain stands in the page and in a writable segment, and its import exists.
+fn fits(bytes: &[u8], number: u32, place: u64, page: u16, address: u128) -> bool
+    ensures { result ≡ word_fits_test bytes.now (chain_segment_at bytes.now number place) page address }
+{
+    let start = segment_at(bytes, place).address as u128 + CHAIN_PAGE * page as u128;
+    let is_held = is_held(bytes, address);
+    let imports_are_there = imports_are_there(bytes, address);
+    start <= address
+        && address <= u128::MAX - 8
+        && address + 8 <= start + CHAIN_PAGE
+        && is_held
+        && imports_are_there
+}
+
+/// The offset in its segment of the first word that does not fit, of those that the word at an offset leads to.
+fn unfit_from(bytes: &[u8], number: u32, place: u64, page: u16, offset: u64) -> Option<u64>
+    requires { offset < 4294967296 }
+    ensures found { (x : ℕ) → result ≡ Some x → UnfitFrom bytes.now number place page offset x }
+    ensures only { result ≡ None → FitFrom bytes.now number place page offset }
+{
+    let address = segment_at(bytes, place).address as u128 + offset as u128;
+    if !fits(bytes, number, place, page, address) {
+        return Some(offset);
+    }
+    for other in 0..count_of(bytes) {
+        if let Some(step) = step_in(bytes, other, address) {
+            if let Some(unfit) = unfit_from(bytes, number, place, page, offset + step) {
+                return Some(unfit);
+            }
+        }
+    }
+    None
+}
+
+/// The offset in its segment of the first word of a page's chain that does not fit.
+fn unfit_on_page(bytes: &[u8], number: u32, place: u64, page: u16) -> Option<u64>
+    requires { page < length (starts_of bytes.now number) }
+    ensures found { (x : ℕ) → result ≡ Some x → UnfitOnPage bytes.now number place page x }
+    ensures only { result ≡ None → FitOnPage bytes.now number place page }
+{
+    let start = start_of(bytes, number, page);
+    if start == NO_START {
+        return None;
+    }
+    let first = 16384 * page as u64 + start as u64;
+    unfit_from(bytes, number, place, page, first)
+}
+
+/// The file offset of the first word of a segment's chains that does not fit.
+fn unfit_on_segment(bytes: &[u8], number: u32, place: u64) -> Option<u64>
+    requires nth { IsNth list.Segments bytes.now number place }
+    requires inside { file_part_inside bytes.now (command_at bytes.now place) ≡ true }
+    ensures found { (x : ℕ) → result ≡ Some x → WordFails bytes.now x }
+    ensures only { result ≡ None → (page : ℕ) → FitOnPage bytes.now number place page }
+{
+    let start = segment_at(bytes, place).file_offset;
+    for page in 0..pages_of(bytes, number) {
+        if let Some(offset) = unfit_on_page(bytes, number, place, page) {
+            return Some(start + offset);
+        }
+    }
+    None
+}
+
+/// The same of the segment with a number.
+fn unfit_on_nth(bytes: &[u8], number: u32) -> Option<u64>
+    requires { EachCommand (segment_commands bytes.now) (file_part_inside bytes.now) }
+    ensures found { (x : ℕ) → result ≡ Some x → WordFails bytes.now x }
+    ensures only { result ≡ None → FitOnNth bytes.now number }
+{
+    match nth(bytes, Listed::Segments, number) {
+        Some(place) => unfit_on_segment(bytes, number, place),
+        None => None,
+    }
+}
+
+/// The file offset of the first chain word that does not fit.
+pub(crate) fn first_unfit_word(bytes: &[u8]) -> Option<u64>
+    requires { EachCommand (segment_commands bytes.now) (file_part_inside bytes.now) }
+    ensures found { (x : ℕ) → result ≡ Some x → WordFails bytes.now x }
+    ensures only { result ≡ None → EachWordFits bytes.now }
+{
+    for number in 0..count_of(bytes) {
+        if let Some(place) = unfit_on_nth(bytes, number) {
+            return Some(place);
+        }
+    }
+    None
+}

@@ -1,0 +1,5 @@
+pub mod Inputs
+pub mod Sizes
+pub mod TrieSays
+pub mod UnwindSays
+pub mod Promise

@@ -1,0 +1,1 @@
+-- The sizes of a link that are known before addresses are.

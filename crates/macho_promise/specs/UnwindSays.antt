@@ -1,0 +1,62 @@
+-- What the unwind information of an image says: look-up of an offset finds the entry of its function.
+use Rattle.std.specs.Prelude.{◌≡◌, ℕ, ◌+◌, ◌*◌, ◌-◌, List, [], map, slice_get, slice_range, Option, Some, None, option_map}
+use Rattle.macho_model.specs.Links.{Link, SectionId, header_at}
+use Rattle.macho_model.specs.Needs.{PERSONALITY_PLACE}
+use Rattle.macho_model.specs.Targets.{slot_number, target_of_relocation}
+use Rattle.macho_model.specs.Consumed.{EntryId, entries_of_link, relocations_in_entry, section_named, unwind_entry, START_PLACE, LSDA_PLACE}
+use Rattle.macho_model.specs.Placement.{Placed}
+use Rattle.macho_model.specs.Addresses.{section_address, slot_address, offset_in_file}
+use Rattle.macho_unwind_pages.specs.declared.entries.Personality.{Personality}
+use Rattle.macho_unwind_pages.specs.declared.entries.ResolvedUnwindInfo.{ResolvedUnwindInfo}
+use Rattle.macho_unwind.specs.Sections.{WORD, entry_at, page_at, last_entry}
+use Rattle.macho_unwind.specs.Entries.{FindsEntries, FindsOnlyEntries}
+
+-- the relocation of an address of an entry, where it has one
+abbrev pub relocation_of : Link → EntryId → ℕ → Option ℕ
+relocation_of l d place = slice_get (relocations_in_entry l d.of_section d.entry place) 0
+
+-- where a byte of the input is that a relocation by section number leads to
+abbrev pub moved : Link → Placed → EntryId → ℕ → ℕ → ℕ
+moved l p d address r = section_address p d.of_section.file (section_named l d.of_section r).section + (address - (header_at l (section_named l d.of_section r)).addr)
+
+abbrev pub start_of : Link → Placed → EntryId → Option ℕ → ℕ
+start_of l p d (Some r) = moved l p d (unwind_entry l d.of_section d.entry).start r
+start_of l p d None = 0
+
+-- a personality function is named by the number of its slot, and found through the slot
+abbrev pub personality_of : Link → Placed → EntryId → ℕ → Personality
+personality_of l p d r = record { id = slot_number l (target_of_relocation l d.of_section r); slot = slot_address p (target_of_relocation l d.of_section r) }
+
+-- an entry of the inputs at its final address
+abbrev pub resolved : Link → Placed → EntryId → ResolvedUnwindInfo
+resolved l p d = record {
+  start = start_of l p d (relocation_of l d START_PLACE);
+  length = (unwind_entry l d.of_section d.entry).length;
+  encoding = (unwind_entry l d.of_section d.entry).encoding;
+  personality = option_map (personality_of l p d) (relocation_of l d PERSONALITY_PLACE);
+  lsda = option_map (moved l p d (unwind_entry l d.of_section d.entry).lsda) (relocation_of l d LSDA_PLACE);
+}
+
+unfoldable pub resolved_entries : Link → Placed → List ResolvedUnwindInfo
+resolved_entries l p = map (resolved l p) (entries_of_link l)
+
+-- the bytes of the range of unwind information
+unfoldable pub unwind_bytes : List ℕ → Placed → List ℕ
+unwind_bytes b p = slice_range b (offset_in_file p p.unwind.start) (offset_in_file p p.unwind.start + (p.unwind.end - p.unwind.start))
+
+-- their content ends with the encodings of the last page
+abbrev pub last_page : List ℕ → ℕ
+last_page bytes = last_entry bytes - 1
+
+unfoldable pub unwind_content : List ℕ → ℕ
+unwind_content bytes =
+    (entry_at bytes (last_page bytes)).page_offset + (page_at bytes (last_page bytes)).local_opcodes_offset
+    + WORD * (page_at bytes (last_page bytes)).local_opcodes_len
+
+-- THE unwind information of the file: every offset finds the entry with the greatest start not above it, and nothing before
+-- the first start or from the end of the last function on.
+pub record UnwindSays (l : Link) (b : List ℕ) (p : Placed) : Type 0 where
+  pub found : FindsEntries p.base (resolved_entries l p) (unwind_bytes b p)
+  pub only : FindsOnlyEntries p.base (resolved_entries l p) (unwind_bytes b p)
+  -- without entries there is no range
+  pub empty : resolved_entries l p ≡ [] → p.unwind.end ≡ p.unwind.start

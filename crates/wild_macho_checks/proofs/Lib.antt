@@ -1,0 +1,2 @@
+pub mod RowsAnswered
+pub mod AnsweredRow

@@ -1,0 +1,2 @@
+//! Instances of the promises of `run` and `link_image`, written out and computed.
+#![tactic(auto)]
