@@ -1,3 +1,6 @@
+pub mod Chains
+pub mod ChainsMore
 pub mod Entries
+pub mod Improving
 pub mod Lists
 pub mod Noting

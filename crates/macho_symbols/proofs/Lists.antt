@@ -1,5 +1,5 @@
 -- Lists: one more index of a range, a filter of one element, equal maps, and slices of a list that has grown.
-use Rattle.std.proofs.Common.{◌≡◌, ℕ, ◌+◌, ◌-◌, ◌<◌, ◌≤◌, Bool, true, false, cond, List, [], ◌∷◌, ◌++◌, length, map, get_or, slice_range, take, drop, refl, ap, sym, ◌∙◌, arith, append-nil, length-append, suc, inl, inr, ◌⊎◌, length-drop}
+use Rattle.std.proofs.Common.{◌≡◌, ℕ, ◌+◌, ◌-◌, ◌<◌, ◌≤◌, Bool, true, false, cond, List, [], ◌∷◌, ◌++◌, length, map, get_or, set, slice_range, take, drop, refl, ap, sym, ◌∙◌, arith, append-nil, length-append, suc, zero, inl, inr, ◌⊎◌, length-drop}
 use Rattle.std.proofs.lemmas.List.{drop-append-le, take-append-le}
 use Rattle.std.proofs.Math.Seq.{drop-append_seam, take-length}
 use Rattle.std.proofs.lemmas.Bool.{cases_lt}
@@ -39,3 +39,9 @@ slice_front xs ys from to within = by_order (cases_lt to from)
 pub slice_behind : (xs ys : List ℕ) → slice_range (xs ++ ys) (length xs) (length xs + length ys) ≡ ys
 slice_behind xs ys =
     let all : length xs + length ys - length xs ≡ length ys = omega arith in rw (all, drop-append_seam xs ys, take-length ys) refl
+
+-- an element is put in place of one that a function takes to the same
+pub map_set_same : {X Y : Type 0} (f : X → Y) (xs : List X) (i : ℕ) (y d : X) → f y ≡ f (get_or xs i d) → map f (set xs i y) ≡ map f xs
+map_set_same f [] i y d same = refl
+map_set_same f (x ∷ xs) zero y d same = rw same refl
+map_set_same f (x ∷ xs) (suc i) y d same = rw (map_set_same f xs i y d same) refl

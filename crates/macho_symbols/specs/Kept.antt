@@ -102,7 +102,7 @@ reading_of stub = record { install_name = stub.install_name.now; names = texts s
 abbrev pub kept_of : Input → FileRows
 kept_of (Object b) = kept_object b
 kept_of (Dylib b) = kept_dylib b
-kept_of (Stub says) = kept_stub says
+kept_of (Stub text says) = kept_stub says
 
 -- A resolver keeps these inputs, in order.
 pub record Keeps (inputs : List Input) (files : List FileRows) : Type 0 where

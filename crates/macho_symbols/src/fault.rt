@@ -1,4 +1,7 @@
 //! What refuses a link's symbols.
+ghost use Rattle.std.specs.Prelude.{◌≡◌};
+ghost use Rattle.macho_symbols.specs.declared.fault.SymbolFault.TheVariants.{OutOfMemory};
+
 use std::alloc::{AllocError, AllocFailed};
 
 /// Why symbols are not resolved, a use is not noted or names are not exported. Files are told by their numbers.
@@ -30,12 +33,16 @@ pub enum SymbolFault {
 }
 
 impl From<AllocError> for SymbolFault {
+    ghost from_gives = { λ _ fault. fault ≡ OutOfMemory };
+
     fn from(_error: AllocError) -> SymbolFault {
         SymbolFault::OutOfMemory
     }
 }
 
 impl<T: Drop> From<AllocFailed<T>> for SymbolFault {
+    ghost from_gives = { λ _ fault. fault ≡ OutOfMemory };
+
     fn from(_error: AllocFailed<T>) -> SymbolFault {
         SymbolFault::OutOfMemory
     }

@@ -2,12 +2,12 @@
 //!
 //! The string table of an object or of a dynamic library is copied once, and a note holds a place and a length in it:
 //! names that share bytes there share them here.
-ghost use Rattle.std.specs.Prelude.{◌≡◌, ℕ, List, ◌+◌, ◌<◌, ◌||◌, true, false, map, IfOk, OnOk, IfSome, is_some, ◌++◌, slice_range};
+ghost use Rattle.std.specs.Prelude.{◌≡◌, ℕ, List, ◌+◌, ◌<◌, ◌||◌, true, false, map, IfOk, OnOk, IfSome, is_some, is_none, ◌++◌, slice_range, length, get_or};
 ghost use Rattle.macho_model.specs.Objects.{num_symbols, strings_of, symbol_name};
 ghost use Rattle.macho_model.specs.Symbols.{is_in_section, is_absolute};
 ghost use Rattle.macho_stub_lines.specs.Lists.{texts};
-ghost use Rattle.macho_symbols.specs.Kept.{Row, kept_object, kept_dylib, kept_stub, reading_of, rows_of_object, rows_of_dylib, offered_row, is_offered};
-ghost use Rattle.macho_symbols.specs.steps.Notes.{AreNoted, IsString, row_in};
+ghost use Rattle.macho_symbols.specs.Kept.{Row, kept_object, kept_dylib, kept_stub, reading_of, rows_of_object, rows_of_dylib, offered_row, is_offered, no_row};
+ghost use Rattle.macho_symbols.specs.steps.Notes.{AreNoted, IsString, CommonFits, row_in, named_row};
 
 use crate::notes::{Name, Note, Sort, is_absolute, is_in_section, name_at, note_of};
 use macho_object::File;
@@ -182,5 +182,39 @@ impl FileNames {
             text,
             notes,
         })
+    }
+}
+
+impl FileNames {
+    /// How many rows there are.
+    pub(crate) fn len(&self) -> usize
+        ensures { result ≡ length self.now.rows }
+    {
+        self.notes.len()
+    }
+
+    /// Whether it is an object.
+    pub(crate) fn is_object(&self) -> bool
+        ensures { result ≡ is_none self.now.library }
+    {
+        self.library.is_none()
+    }
+
+    /// The name of a row.
+    pub(crate) fn name(&self, row: usize) -> &[u8]
+        requires { row < length self.now.rows }
+        ensures { result.now ≡ (get_or self.now.rows row no_row).name }
+    {
+        let name = self.notes[row].name;
+        &self.text[name.at..name.at + name.length]
+    }
+
+    /// The note of a row.
+    pub(crate) fn note(&self, row: usize) -> Note
+        requires { row < length self.now.rows }
+        ensures row { named_row (get_or self.now.rows row no_row).name result ≡ get_or self.now.rows row no_row }
+        ensures small { CommonFits result.sort result.number result.value }
+    {
+        self.notes[row]
     }
 }

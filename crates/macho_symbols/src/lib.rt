@@ -2,7 +2,10 @@
 #![tactic(auto)]
 
 
+mod fault;
 mod files;
 mod notes;
+mod table;
 
+pub use fault::SymbolFault;
 pub use macho_model::Target;

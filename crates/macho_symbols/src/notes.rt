@@ -4,12 +4,13 @@
 //! the start of the first section:
 //!
 //!     name 1, 5 bytes   sort Section   number 0   value 16   global, not weak, not hidden
-ghost use Rattle.std.specs.Prelude.{◌≡◌, ◌^◌, ◌<◌, ◌≤◌, true, false, length, if◌then◌else◌};
+ghost use Rattle.std.specs.Prelude.{◌≡◌, ◌^◌, ◌<◌, ◌≤◌, true, false, ◌==◌, length, if◌then◌else◌};
 ghost use Rattle.macho_records.specs.Symbols.{is_common_of, common_of, common_size_of};
 ghost use Rattle.macho_model.specs.Symbols.{is_global, is_absolute, is_in_section};
 ghost use Rattle.macho_model.specs.Links.{is_carried};
 ghost use Rattle.macho_model.specs.Objects.{num_symbols, strings_of, symbol_at};
 ghost use Rattle.macho_symbols.specs.Kept.{in_carried, sort_of, number_of, value_of, row_of_symbol};
+ghost use Rattle.macho_symbols.specs.steps.Events.{strength_of, size_of_common};
 ghost use Rattle.macho_symbols.specs.steps.Notes.{row_in, IsString, CommonFits};
 
 use macho_object::File;
@@ -221,5 +222,42 @@ pub(crate) fn note_of(file: &File<'_>, index: u32, last: Name) -> Note
         global: is_global(symbol),
         weak: symbol.is_weak(),
         hidden: symbol.is_hidden(),
+    }
+}
+
+impl Note {
+    /// How strong a definition it is, from 0 for none to 4.
+    pub(crate) fn strength(self) -> u8
+        ensures { result ≡ strength_of self.sort self.weak }
+    {
+        match self.sort {
+            Sort::Section | Sort::Absolute => {
+                if self.weak {
+                    3
+                } else {
+                    4
+                }
+            }
+            Sort::Common => 2,
+            Sort::Offered => 1,
+            Sort::Nowhere => 0,
+        }
+    }
+
+    /// Whether it is a strong definition.
+    pub(crate) fn is_strong(self) -> bool
+        ensures { result ≡ (strength_of self.sort self.weak == 4) }
+    {
+        self.strength() == 4
+    }
+
+    /// The size of a common, 0 of another symbol.
+    pub(crate) fn common_size(self) -> u64
+        ensures { result ≡ size_of_common self.sort self.value }
+    {
+        match self.sort {
+            Sort::Common => self.value,
+            _ => 0,
+        }
     }
 }

@@ -3,13 +3,16 @@
 --
 --     heads    for each bucket, one more than the number of its newest entry, 0 for none
 --     next     one more than the number of the entry before in the bucket, 0 for none
-use Rattle.std.specs.Prelude.{◌≡◌, ℕ, ◌+◌, ◌*◌, ◌%◌, ◌^◌, ◌<◌, ◌≤◌, List, [], ◌∷◌, length, map, filter, get_or, bit_xor, Some, None, Option, All}
+use Rattle.std.specs.Prelude.{◌≡◌, ℕ, ◌+◌, ◌*◌, ◌%◌, ◌^◌, ◌<◌, ◌≤◌, List, [], ◌∷◌, ◌++◌, length, map, filter, get_or, set, ◌==◌, ◌&&◌, true, false, Bool, bit_xor, Some, None, Option, All}
 use Rattle.std.specs.List.{fold}
 use Rattle.macho_symbols.specs.declared.table.Entry.{Entry}
 use Rattle.macho_symbols.specs.declared.fault.SymbolFault.{SymbolFault}
 use Rattle.macho_symbols.specs.declared.fault.SymbolFault.TheVariants.{DuplicateSymbol, UndefinedSymbol, ExportListMissing, OutOfMemory}
-use Rattle.macho_symbols.specs.Kept.{FileRows}
-use Rattle.macho_symbols.specs.steps.Events.{Event, row_at, row_count, event_at, best_of, is_strong_of}
+use Rattle.macho_symbols.specs.Kept.{FileRows, Row}
+use Rattle.macho_symbols.specs.steps.Events.{Event, row_at, row_count, event_at, best_of, is_strong_of, beats, strength}
+
+abbrev pub no_entry : Entry
+no_entry = record { next = 0; row = 0; file = 0; id = 0 }
 
 -- the number that a name is looked for by: the hash FNV-1a of 64 bits
 abbrev pub hash_step : ℕ → ℕ → ℕ
@@ -21,13 +24,16 @@ hash_of name = fold hash_step 14695981039346656037 name
 abbrev pub bucket_of : List ℕ → List ℕ → ℕ
 bucket_of heads name = hash_of name % length heads
 
--- Entries with these names are found from the heads by their next.
+-- Entries with these names are found from the heads by their next: from a bucket's newest entry to its older ones, and
+-- no further than to entries of that bucket.
 pub record AreChained (heads nexts : List ℕ) (names : List (List ℕ)) : Type 0 where
   pub some : 1 ≤ length heads
   pub long : length nexts ≡ length names
   pub newest : (b : ℕ) → b < length heads → get_or heads b 0 ≤ length names
+  pub begins : (b m : ℕ) → b < length heads → get_or heads b 0 ≡ m + 1 → bucket_of heads (get_or names m []) ≡ b
   pub reached : (k : ℕ) → k < length names → k < get_or heads (bucket_of heads (get_or names k [])) 0
   pub older : (j : ℕ) → j < length names → get_or nexts j 0 ≤ j
+  pub stays : (j m : ℕ) → j < length names → get_or nexts j 0 ≡ m + 1 → bucket_of heads (get_or names m []) ≡ bucket_of heads (get_or names j [])
   pub onward : (j k : ℕ) → k < j → j < length names → bucket_of heads (get_or names k []) ≡ bucket_of heads (get_or names j []) → k < get_or nexts j 0
 
 abbrev pub entry_name : List FileRows → Entry → List ℕ
@@ -74,3 +80,44 @@ IsClash es (DuplicateSymbol name first second) = AreTwo es name.items first seco
 IsClash es (UndefinedSymbol name file) = ⊥
 IsClash es (ExportListMissing name) = ⊥
 IsClash es OutOfMemory = Unit {0}
+
+-- a number is that of a name's entry
+abbrev pub IsEntryOf : List FileRows → List Entry → List ℕ → ℕ → Type 0
+IsEntryOf files entries name j = (j < length entries) × (get_or (names_of files entries) j [] ≡ name)
+
+-- Where a look-up of a name has come: all its entries are older than the one before this place, which is of its bucket.
+pub record IsAhead (files : List FileRows) (heads : List ℕ) (entries : List Entry) (name : List ℕ) (at : ℕ) : Type 0 where
+  pub within : at ≤ length entries
+  pub ahead : (k : ℕ) → k < length entries → get_or (names_of files entries) k [] ≡ name → k < at
+  pub same : (m : ℕ) → at ≡ m + 1 → bucket_of heads (get_or (names_of files entries) m []) ≡ bucket_of heads name
+
+-- an entry was added, for the row of a file
+pub record IsAdded (old new : List Entry) (file row : ℕ) : Type 0 where
+  pub entry : Entry
+  pub are : new ≡ old ++ entry ∷ []
+  pub file_is : entry.file ≡ file
+  pub row_is : entry.row ≡ row
+
+-- the row that an entry leads to, by the entry's number
+abbrev pub row_of_entry : List FileRows → List Entry → ℕ → Row
+row_of_entry files entries number = row_at files (get_or entries number no_entry).file (get_or entries number no_entry).row
+
+-- both rows are strong
+abbrev pub both_strong : Row → Row → Bool
+both_strong old new = (strength old == 4) && (strength new == 4)
+
+-- the entry of a name leads to a better row, where that is better
+pub record IsImproved (files : List FileRows) (old new : List Entry) (number file row : ℕ) : Type 0 where
+  pub kept : beats (row_at files file row) (row_of_entry files old number) ≡ false → new ≡ old
+  pub better : beats (row_at files file row) (row_of_entry files old number) ≡ true
+      → new ≡ set old number (record (get_or old number no_entry) { file = file; row = row })
+  pub single : both_strong (row_of_entry files old number) (row_at files file row) ≡ false
+
+-- both rows of a name are strong, and that is told
+abbrev pub AreBothStrong : List FileRows → List Entry → ℕ → ℕ → ℕ → SymbolFault → Type 0
+AreBothStrong files old number file row (DuplicateSymbol name first second) =
+    (name.items ≡ (row_at files file row).name) × (first ≡ (get_or old number no_entry).file) × (second ≡ file)
+    × (both_strong (row_of_entry files old number) (row_at files file row) ≡ true)
+AreBothStrong files old number file row (UndefinedSymbol name undefined) = ⊥
+AreBothStrong files old number file row (ExportListMissing name) = ⊥
+AreBothStrong files old number file row OutOfMemory = Unit {0}
