@@ -12,7 +12,7 @@ use Rattle.macho_symbols.specs.steps.Tables.{IsTable, IsThere, IsNowhere, AreCha
 below_more : (k n : ℕ) → k < n + 1 → (k < n) ⊎ (k ≡ n)
 below_more k n h = elim (cases_lt k n) [ inl less ↦ inl less | inr more ↦ inr (omega arith) ]
 
-same_or_not : (k n : ℕ) → (k ≡ n) ⊎ (k ≢ n)
+pub same_or_not : (k n : ℕ) → (k ≡ n) ⊎ (k ≢ n)
 same_or_not k n = elim (cases_lt k n) [ inl less ↦ inr (omega arith) | inr more ↦ elim (cases_lt n k) [ inl greater ↦ inr (omega arith) | inr less ↦ inl (omega arith) ] ]
 
 last_of : {X : Type 0} (xs : List X) (x d : X) (k : ℕ) → k ≡ length xs → get_or (xs ++ x ∷ []) k d ≡ x

@@ -1,6 +1,11 @@
+pub mod Best
 pub mod Chains
 pub mod ChainsMore
 pub mod Entries
 pub mod Improving
+pub mod Knowing
+pub mod KnowingBetter
 pub mod Lists
+pub mod Order
+pub mod Taking
 pub mod Noting

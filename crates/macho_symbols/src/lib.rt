@@ -5,6 +5,7 @@
 mod fault;
 mod files;
 mod notes;
+mod resolve;
 mod table;
 
 pub use fault::SymbolFault;

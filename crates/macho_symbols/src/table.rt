@@ -5,11 +5,11 @@
 //!
 //!     heads     0  2  0  1             of four buckets, two hold one entry each
 //!     entries   { next 0, file 0, row 3 }  { next 0, file 1, row 0 }
-ghost use Rattle.std.specs.Prelude.{◌≡◌, ℕ, ◌+◌, ◌<◌, ◌≤◌, length, IfSome, IfNone, IfErr, OnOk, get_or};
+ghost use Rattle.std.specs.Prelude.{◌≡◌, ℕ, ◌+◌, ◌<◌, ◌≤◌, length, IfSome, IfNone, IfErr, OnOk, get_or, true, [], ◌∷◌};
 ghost use Rattle.macho_symbols.specs.Kept.{no_file};
-ghost use Rattle.macho_symbols.specs.steps.Events.{row_at, row_count, beats};
+ghost use Rattle.macho_symbols.specs.steps.Events.{row_at, row_count, event_at, beats};
 ghost use Rattle.macho_symbols.specs.steps.Notes.{named_row, CommonFits};
-ghost use Rattle.macho_symbols.specs.steps.Tables.{hash_of, bucket_of, IsTable, IsEntryOf, IsNowhere, IsAdded, IsImproved, AreBothStrong, IsThere, no_entry, both_strong, names_of};
+ghost use Rattle.macho_symbols.specs.steps.Tables.{hash_of, bucket_of, IsTable, IsEntryOf, IsNowhere, IsAdded, TakesIn, Refuses, IsThere, no_entry, both_strong, names_of};
 
 use crate::fault::SymbolFault;
 use crate::files::FileNames;
@@ -50,6 +50,14 @@ fn hash(name: &[u8]) -> u64
         hash = (hash ^ u64::from(*byte)).wrapping_mul(1_099_511_628_211);
     }
     hash
+}
+
+/// How many rows a file has.
+pub(crate) fn rows_in(files: &[FileNames], file: u32) -> usize
+    requires { file < length files.now }
+    ensures { result ≡ row_count files.now file }
+{
+    files[file as usize].len()
 }
 
 /// The name of a row of some files.
@@ -101,7 +109,7 @@ impl Table {
 
 impl Table {
     /// Adds a name, which a row brings.
-    fn add(&mut self, files: &[FileNames], file: u32, row: usize) -> Result<(), AllocError>
+    pub(crate) fn add(&mut self, files: &[FileNames], file: u32, row: usize) -> Result<(), AllocError>
         requires file { file < length files.now }
         requires row { row < row_count files.now file }
         requires table { IsTable files.now self.old.heads.items self.old.entries.items }
@@ -160,7 +168,7 @@ impl Table {
 
 impl Table {
     /// Takes the row of a file for the best one of its name, where it is.
-    fn improve(
+    pub(crate) fn improve(
         &mut self,
         files: &[FileNames],
         number: usize,
@@ -170,10 +178,11 @@ impl Table {
         requires file { file < length files.now }
         requires row { row < row_count files.now file }
         requires table { IsTable files.now self.old.heads.items self.old.entries.items }
+        requires global { (row_at files.now file row).global ≡ true }
         requires entry { IsEntryOf files.now self.old.entries.items (row_at files.now file row).name number }
         ensures table { OnOk result (IsTable files.now self.new.heads.items self.new.entries.items) }
-        ensures done { OnOk result (IsImproved files.now self.old.entries.items self.new.entries.items number file row) }
-        ensures why { IfErr result (λ fault. AreBothStrong files.now self.old.entries.items number file row fault) }
+        ensures done { OnOk result (TakesIn files.now self.old.heads.items self.old.entries.items self.new.heads.items self.new.entries.items (event_at files.now file row ∷ [])) }
+        ensures why { IfErr result (Refuses files.now self.old.heads.items self.old.entries.items (event_at files.now file row ∷ [])) }
     {
         let entry = self.entry(number);
         if are_strong(files, file, row, entry) {

@@ -121,3 +121,20 @@ AreBothStrong files old number file row (DuplicateSymbol name first second) =
 AreBothStrong files old number file row (UndefinedSymbol name undefined) = ⊥
 AreBothStrong files old number file row (ExportListMissing name) = ⊥
 AreBothStrong files old number file row OutOfMemory = Unit {0}
+
+-- the names of a table hold nothing new after an event: it was of no name
+abbrev pub IsNameless : Event → Type 0
+IsNameless e = e.row.global ≡ false
+
+-- the table is whole, and knows these events
+pub record IsKnown (files : List FileRows) (heads : List ℕ) (entries : List Entry) (es : List Event) : Type 0 where
+  pub table : IsTable files heads entries
+  pub knows : Knows files es entries
+
+-- The table takes more events in: whatever events it knew before, it now knows these behind them.
+pub record TakesIn (files : List FileRows) (heads : List ℕ) (entries : List Entry) (new_heads : List ℕ) (new_entries : List Entry) (more : List Event) : Type 0 where
+  pub says : (es : List Event) → IsKnown files heads entries es → IsKnown files new_heads new_entries (es ++ more)
+
+-- A refusal to take more events in is a clash among those and what the table knew.
+pub record Refuses (files : List FileRows) (heads : List ℕ) (entries : List Entry) (more : List Event) (fault : SymbolFault) : Type 0 where
+  pub says : (es : List Event) → IsKnown files heads entries es → IsClash (es ++ more) fault
