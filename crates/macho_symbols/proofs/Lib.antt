@@ -1,4 +1,5 @@
 pub mod Best
+pub mod Bridge
 pub mod Chains
 pub mod ChainsMore
 pub mod Entries
@@ -8,4 +9,5 @@ pub mod KnowingBetter
 pub mod Lists
 pub mod Order
 pub mod Taking
+pub mod ListsMore
 pub mod Noting

@@ -2,3 +2,4 @@
 pub mod Events
 pub mod Notes
 pub mod Tables
+pub mod Targets
