@@ -28,7 +28,7 @@ ahead_first files heads entries name at table within is = record {
   same = λ m e. table.chained.begins (bucket_of heads name) m within (sym is ∙ e);
 }
 
-cases_eq : (k n : ℕ) → k ≤ n → (k ≡ n) ⊎ (k < n)
+pub cases_eq : (k n : ℕ) → k ≤ n → (k ≡ n) ⊎ (k < n)
 cases_eq k n h = elim (cases_lt k n) [ inl less ↦ inr less | inr more ↦ inl (omega arith) ]
 
 -- it goes on to the next, where an entry is of another name

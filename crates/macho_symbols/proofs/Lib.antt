@@ -2,11 +2,15 @@ pub mod Best
 pub mod Bridge
 pub mod Chains
 pub mod ChainsMore
+pub mod Classes
+pub mod Defined
 pub mod Entries
+pub mod Greatest
 pub mod Improving
 pub mod Knowing
 pub mod KnowingBetter
 pub mod Lists
+pub mod Offering
 pub mod Order
 pub mod Taking
 pub mod ListsMore
