@@ -9,7 +9,7 @@ use Rattle.macho_symbols.specs.Kept.{FileRows}
 use Rattle.macho_symbols.specs.steps.Tables.{IsTable, IsThere, IsNowhere, AreChained, hash_of, bucket_of, entry_name, names_of, nexts_of}
 
 -- a number below that of a longer list is one of the shorter, or the last
-below_more : (k n : ℕ) → k < n + 1 → (k < n) ⊎ (k ≡ n)
+pub below_more : (k n : ℕ) → k < n + 1 → (k < n) ⊎ (k ≡ n)
 below_more k n h = elim (cases_lt k n) [ inl less ↦ inl less | inr more ↦ inr (omega arith) ]
 
 pub same_or_not : (k n : ℕ) → (k ≡ n) ⊎ (k ≢ n)

@@ -7,8 +7,10 @@ pub mod Defined
 pub mod Entries
 pub mod Greatest
 pub mod Improving
+pub mod Keeping
 pub mod Knowing
 pub mod KnowingBetter
+pub mod Leading
 pub mod Lists
 pub mod Offering
 pub mod Order

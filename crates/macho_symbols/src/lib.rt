@@ -6,7 +6,11 @@ mod fault;
 mod files;
 mod notes;
 mod resolve;
+mod resolver;
+mod solved;
 mod table;
 
 pub use fault::SymbolFault;
 pub use macho_model::Target;
+pub use resolver::Resolver;
+pub use solved::{Common, Import};
