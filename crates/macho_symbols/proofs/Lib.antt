@@ -1,13 +1,14 @@
+pub mod Beginning
 pub mod Best
 pub mod Bridge
 pub mod Chains
 pub mod ChainsMore
+pub mod ChosenOnes
 pub mod Classes
 pub mod Defined
 pub mod Entries
 pub mod Greatest
 pub mod Improving
-pub mod Keeping
 pub mod Knowing
 pub mod KnowingBetter
 pub mod Leading
@@ -15,5 +16,6 @@ pub mod Lists
 pub mod Offering
 pub mod Order
 pub mod Taking
+pub mod Targeted
 pub mod ListsMore
 pub mod Noting

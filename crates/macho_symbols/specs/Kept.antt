@@ -1,12 +1,13 @@
 -- What a resolver keeps of its inputs, so that it needs none of their bytes: a row for each symbol of an object, and a
 -- row for each name that a library offers.
-use Rattle.std.specs.Prelude.{◌≡◌, ℕ, ◌-◌, ◌&&◌, ◌||◌, not, if◌then◌else◌, Bool, true, false, List, [], ◌++◌, length, map, filter, Option, Some, None, is_none, get_or}
+use Rattle.std.specs.Prelude.{◌≡◌, ℕ, ◌-◌, ◌<◌, ◌&&◌, ◌||◌, not, if◌then◌else◌, Bool, true, false, List, [], ◌++◌, length, map, filter, Option, Some, None, is_none, get_or}
 use Rattle.std.specs.List.{range_with_len, sum_by}
 use Rattle.macho_records.specs.declared.symbols.SymtabEntry.{SymtabEntry}
 use Rattle.macho_records.specs.Symbols.{is_common_of, common_exponent_of, is_external_of, is_hidden_of, is_weak_of}
 use Rattle.macho_model.specs.Symbols.{is_absolute, is_in_section, is_global}
 use Rattle.macho_model.specs.Objects.{num_symbols, symbol_at, symbol_name, section_at, install_name_of}
-use Rattle.macho_model.specs.Links.{Input, Object, Dylib, Stub, StubReading, is_carried}
+use Rattle.macho_model.specs.Links.{Input, Object, Dylib, Stub, StubReading, Link, is_carried}
+use Rattle.macho_model.specs.Resolution.{SymbolId}
 use Rattle.macho_stub.specs.declared.library.DefinedStubLibrary.{DefinedStubLibrary}
 use Rattle.macho_stub_lines.specs.Lists.{texts}
 use Rattle.macho_symbols.specs.declared.notes.Sort.{Sort}
@@ -121,3 +122,21 @@ symbols_in f = if is_none f.library then length f.rows else 0
 
 unfoldable pub symbol_count : List FileRows → ℕ
 symbol_count files = sum_by symbols_in files
+
+-- What resolved symbols keep: the rows of the files, and the names of the imports noted so far.
+pub record ResolvedRows : Type 0 where
+  pub files : List FileRows
+  pub noted : List (List ℕ)
+
+-- The symbols of this link's inputs are resolved, and these imports are noted.
+pub record IsResolved (l : Link) (noted : List (List ℕ)) (r : ResolvedRows) : Type 0 where
+  pub keeps : r.files ≡ map kept_of l.inputs
+  pub notes : r.noted ≡ noted
+
+abbrev pub symbol_id : ℕ → ℕ → SymbolId
+symbol_id file symbol = record { file = file; symbol = symbol }
+
+-- a file is an object, and has a symbol
+abbrev pub HasSymbol : ResolvedRows → ℕ → ℕ → Type 0
+HasSymbol r file symbol =
+    (file < length r.files) × (is_none (get_or r.files file no_file).library ≡ true) × (symbol < length (get_or r.files file no_file).rows)

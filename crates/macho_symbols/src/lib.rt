@@ -2,15 +2,18 @@
 #![tactic(auto)]
 
 
+mod choosing;
 mod fault;
 mod files;
 mod notes;
 mod resolve;
+mod resolved;
 mod resolver;
 mod solved;
 mod table;
 
 pub use fault::SymbolFault;
 pub use macho_model::Target;
+pub use resolved::Resolved;
 pub use resolver::Resolver;
 pub use solved::{Common, Import};

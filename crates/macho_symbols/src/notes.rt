@@ -5,7 +5,7 @@
 //!
 //!     name 1, 5 bytes   sort Section   number 0   value 16   global, not weak, not hidden
 ghost use Rattle.std.specs.Prelude.{◌≡◌, ◌^◌, ◌<◌, ◌≤◌, true, false, ◌==◌, length, if◌then◌else◌};
-ghost use Rattle.macho_records.specs.Symbols.{is_common_of, common_of, common_size_of};
+ghost use Rattle.macho_records.specs.Symbols.{is_common_of, common_of, common_size_of, common_exponent_of};
 ghost use Rattle.macho_model.specs.Symbols.{is_global, is_absolute, is_in_section};
 ghost use Rattle.macho_model.specs.Links.{is_carried};
 ghost use Rattle.macho_model.specs.Objects.{num_symbols, strings_of, symbol_at};
@@ -128,6 +128,7 @@ fn as_common(file: &File<'_>, index: u32, symbol: SymtabEntry) -> Option<CommonS
     requires entry { symbol ≡ symbol_at file.now.bytes index }
     ensures is { result ≡ common_of symbol }
     ensures small { is_common_of symbol ≡ true → common_size_of symbol < 2 ^ 64 }
+    ensures low { common_exponent_of symbol < 16 }
 {
     let _object = file.is_dynamic();
     symbol.as_common()

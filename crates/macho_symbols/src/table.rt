@@ -5,16 +5,16 @@
 //!
 //!     heads     0  2  0  1             of four buckets, two hold one entry each
 //!     entries   { next 0, file 0, row 3 }  { next 0, file 1, row 0 }
-ghost use Rattle.std.specs.Prelude.{◌≡◌, ℕ, ◌+◌, ◌<◌, ◌≤◌, length, IfSome, IfNone, IfErr, OnOk, get_or, true, [], ◌∷◌};
+ghost use Rattle.std.specs.Prelude.{◌≡◌, ℕ, ◌+◌, ◌<◌, ◌≤◌, length, IfSome, IfNone, IfErr, IfOk, OnOk, get_or, true, [], ◌∷◌};
 ghost use Rattle.macho_symbols.specs.Kept.{no_file};
 ghost use Rattle.macho_symbols.specs.steps.Events.{row_at, row_count, event_at, beats};
 ghost use Rattle.macho_symbols.specs.steps.Notes.{named_row, CommonFits};
-ghost use Rattle.macho_symbols.specs.steps.Tables.{hash_of, bucket_of, IsTable, IsEntryOf, IsNowhere, IsAdded, TakesIn, Refuses, IsThere, no_entry, both_strong, names_of};
+ghost use Rattle.macho_symbols.specs.steps.Tables.{IsEmptyTable, hash_of, bucket_of, IsTable, IsEntryOf, IsNowhere, IsAdded, TakesIn, Refuses, IsThere, no_entry, both_strong, names_of};
 
 use crate::fault::SymbolFault;
 use crate::files::FileNames;
 use crate::notes::Note;
-use std::alloc::AllocError;
+use std::alloc::{AllocError, Global};
 
 /// What is known of a name.
 #[derive(Clone, Copy)]
@@ -31,6 +31,9 @@ pub(crate) struct Entry {
 
 /// The number of an entry that has none.
 pub(crate) const NO_ID: u32 = u32::MAX;
+
+/// How many names share a bucket, where all are full.
+const NAMES_PER_BUCKET: usize = 2;
 
 /// The table of names.
 #[derive(Drop)]
@@ -80,6 +83,17 @@ pub(crate) fn note_in(files: &[FileNames], file: u32, row: usize) -> Note
 }
 
 impl Table {
+    /// A table without names, with room for some.
+    pub(crate) fn new(alloc: Global, names: usize) -> Result<Table, AllocError>
+        ensures { IfOk result (λ t. IsEmptyTable t.heads.items t.entries.items) }
+    {
+        let buckets = names / NAMES_PER_BUCKET + 1;
+        Ok(Table {
+            heads: vec![in alloc; 0usize; buckets]?,
+            entries: Vec::with_capacity(alloc, names)?,
+        })
+    }
+
     /// The bucket of a name.
     fn bucket(&self, name: &[u8]) -> usize
         requires { 1 ≤ length self.now.heads.items }

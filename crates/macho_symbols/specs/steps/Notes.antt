@@ -27,7 +27,7 @@ IsWithin text n = n.name.at + n.name.length ≤ length text
 
 -- the size of a common, rounded up to its alignment, fits 64 bits
 abbrev pub CommonFits : Sort → ℕ → ℕ → Type 0
-CommonFits Common exponent size = rounded_up (2 ^ exponent) size < 2 ^ 64
+CommonFits Common exponent size = (exponent < 16) × (rounded_up (2 ^ exponent) size < 2 ^ 64)
 CommonFits Section number value = Unit {0}
 CommonFits Absolute number value = Unit {0}
 CommonFits Offered number value = Unit {0}

@@ -138,3 +138,7 @@ pub record TakesIn (files : List FileRows) (heads : List ℕ) (entries : List En
 -- A refusal to take more events in is a clash among those and what the table knew.
 pub record Refuses (files : List FileRows) (heads : List ℕ) (entries : List Entry) (more : List Event) (fault : SymbolFault) : Type 0 where
   pub says : (es : List Event) → IsKnown files heads entries es → IsClash (es ++ more) fault
+
+-- a table without names: whatever the files, it knows of no event
+pub record IsEmptyTable (heads : List ℕ) (entries : List Entry) : Type 0 where
+  pub knows : (files : List FileRows) → IsKnown files heads entries []

@@ -44,7 +44,7 @@ defines_in files e = e.row.global && is_symbol (id_of e) (definition_by e.row.na
 
 -- the commons that define their names, in order
 unfoldable pub chosen_in : List FileRows → List Event
-chosen_in files = filter (defines_in files) (filter (λ e. (strength e.row == 2) && e.row.global) (events files))
+chosen_in files = filter (λ e. (strength e.row == 2) && defines_in files e) (events files)
 
 -- where a row leads by itself
 abbrev pub own_in : List FileRows → Event → Sort → Target
@@ -75,3 +75,14 @@ named_in files noted name = led_in files noted name (best_of name (events files)
 
 abbrev pub target_in : List FileRows → List (List ℕ) → Event → Target
 target_in files noted e = if e.row.global then named_in files noted e.row.name else own_in files e e.row.sort
+
+abbrev pub is_of_object : Sort → Bool
+is_of_object Section = true
+is_of_object Absolute = true
+is_of_object Common = true
+is_of_object Offered = false
+is_of_object Nowhere = false
+
+-- an event is a common that defines its name
+abbrev pub is_chosen_in : List FileRows → Event → Bool
+is_chosen_in files e = (strength e.row == 2) && defines_in files e

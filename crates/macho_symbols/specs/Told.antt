@@ -1,0 +1,14 @@
+-- What is told of chosen commons and of imports, by the link alone.
+use Rattle.std.specs.Prelude.{◌≡◌, ℕ, List, map}
+use Rattle.macho_records.specs.Symbols.{common_size_of, common_exponent_of}
+use Rattle.macho_model.specs.Links.{Link}
+use Rattle.macho_model.specs.Resolution.{SymbolId, entry_at, chosen_commons}
+use Rattle.macho_symbols.specs.declared.solved.Common.{Common}
+
+-- a common with its size, rounded up to its alignment, and the exponent of that
+abbrev pub common_of : Link → SymbolId → Common
+common_of l s = record { file = s.file; symbol = s.symbol; size = common_size_of (entry_at l s); align = common_exponent_of (entry_at l s) }
+
+-- the commons that define their names, in order
+abbrev pub CommonsAre : Link → List Common → Type 0
+CommonsAre l commons = commons ≡ map (common_of l) (chosen_commons l)
