@@ -1,9 +1,16 @@
 //! The resolver: it takes the symbols of inputs in, and resolves them once it has all.
-ghost use Rattle.std.specs.Prelude.{◌≡◌, ℕ, ◌+◌, ◌^◌, ◌-◌, ◌<◌, List, [], ◌∷◌, ◌++◌, length, true, false, IfOk, OnOk, OnErr};
-ghost use Rattle.macho_model.specs.Links.{Input, Object, Dylib, Stub};
-ghost use Rattle.macho_symbols.specs.Kept.{Keeps, reading_of};
+ghost use Rattle.std.specs.Prelude.{◌≡◌, ℕ, ◌+◌, ◌^◌, ◌-◌, ◌<◌, ◌≤◌, List, [], ◌∷◌, ◌++◌, length, true, false, IfOk, IfErr, OnOk, OnErr};
+ghost use Rattle.macho_model.specs.Links.{Input, Link, Object, Dylib, Stub};
+ghost use Rattle.macho_model.specs.Resolution.{strong_of};
+ghost use Rattle.macho_symbols.specs.Told.{IsDuplicateOf};
+ghost use Rattle.macho_symbols.specs.Kept.{Keeps, IsResolved, reading_of};
 
+use crate::choosing::chosen_commons;
+use crate::fault::SymbolFault;
 use crate::files::FileNames;
+use crate::resolved::Resolved;
+use crate::solved::Solved;
+use crate::table::Table;
 use macho_object::File;
 use macho_stub::DefinedStubLibrary;
 use std::alloc::{AllocError, Global};
@@ -97,4 +104,42 @@ impl Resolver {
         let names = FileNames::of_stub(self.alloc, stub)?;
         self.add(names)
     }
+}
+
+impl Resolver {
+    /// Resolves the symbols of all inputs.
+    ///
+    /// # Errors
+    ///
+    /// A name has two strong definitions, or there is not enough memory. The resolver is consumed.
+    pub fn resolve(self) -> Result<Resolved, SymbolFault>
+        ensures done { (l : Link) → Keeps l.inputs self → IfOk result (λ r. IsResolved l [] r) }
+        ensures single { (l : Link) → Keeps l.inputs self → OnOk result ((name : List ℕ) → length (strong_of l name) ≤ 1) }
+        ensures why { (l : Link) → Keeps l.inputs self → IfErr result (IsDuplicateOf l) }
+    {
+        let alloc = self.alloc;
+        let files = self.files;
+        let mut table = Table::new(alloc, named_rows(&files))?;
+        if let Err(fault) = table.take_files(&files) {
+            return Err(fault);
+        }
+        let commons = chosen_commons(alloc, &files, &table)?;
+        Ok(Resolved {
+            solved: Solved {
+                files,
+                table,
+                commons,
+                imports: Vec::new(alloc),
+            },
+        })
+    }
+}
+
+/// How many rows may bring a name.
+fn named_rows(files: &[FileNames]) -> usize {
+    let mut rows = 0usize;
+    for file in files {
+        rows = rows.saturating_add(file.len());
+    }
+    rows
 }
