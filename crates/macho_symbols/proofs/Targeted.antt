@@ -1,7 +1,7 @@
 -- Where names and symbols lead by the model, and by the rows. The definition of a name is what its best event gives it. A
 -- best event of an object is a symbol of the link with its row, and a symbol leads by itself where its row does: into its
 -- section, to its value, or to its number among the commons that define their names.
-use Rattle.std.proofs.Common.{◌≡◌, ℕ, ◌-◌, ◌<◌, ◌⊎◌, inl, inr, Bool, true, false, ◌&&◌, ◌||◌, ◌==◌, not, if◌then◌else◌, Option, Some, None, List, [], ◌∷◌, length, map, filter, get_or, All, is_none, suc, refl, ap, subst, sym, ◌∙◌, arith}
+use Rattle.std.proofs.Common.{◌≡◌, ℕ, ◌-◌, ◌<◌, ◌≤◌, ◌⊎◌, inl, inr, Bool, true, false, ◌&&◌, ◌||◌, ◌==◌, not, if◌then◌else◌, Option, Some, None, List, [], ◌∷◌, length, map, filter, get_or, All, is_none, suc, refl, ap, subst, sym, ◌∙◌, arith}
 use Rattle.std.proofs.lemmas.List.{length-map}
 use Rattle.std.proofs.lemmas.List.Elements.{filter_passes}
 use Rattle.std.specs.List.{position_or_len}
@@ -14,19 +14,23 @@ use Rattle.macho_model.specs.declared.targets.Target.TheVariants as target
 use Rattle.macho_model.specs.Symbols.{is_absolute, is_in_section, is_global, is_local}
 use Rattle.macho_model.specs.Objects.{section_at}
 use Rattle.macho_model.specs.Links.{Link, Input, Object, Dylib, Stub, no_input, object_of, is_carried}
-use Rattle.macho_model.specs.Resolution.{SymbolId, Definition, Symbol, Library, ImageBase, DSO_HANDLE, symbols_of, entry_at, name_at, same_symbol, is_symbol, defines, definition_of, chosen_commons, stands_in_carried}
+use Rattle.macho_model.specs.Resolution.{SymbolId, Definition, Symbol, Library, ImageBase, DSO_HANDLE, symbols_of, entry_at, name_at, same_symbol, is_symbol, defines, definition_of, chosen_commons, stands_in_carried, strong_of}
+use Rattle.macho_model.specs.Faults.{IsDuplicate}
+use Rattle.macho_symbols.specs.declared.fault.SymbolFault.{SymbolFault}
+use Rattle.macho_symbols.specs.declared.fault.SymbolFault.TheVariants.{DuplicateSymbol, UndefinedSymbol, ExportListMissing, OutOfMemory}
+use Rattle.macho_symbols.specs.steps.Tables.{IsClash}
 use Rattle.macho_model.specs.Needs.{import_number}
 use Rattle.macho_model.specs.Targets.{own_target, definition_target, target_with}
 use Rattle.macho_symbols.specs.declared.notes.Sort.{Sort}
 use Rattle.macho_symbols.specs.declared.notes.Sort.TheVariants.{Section, Absolute, Common, Offered, Nowhere}
 use Rattle.macho_symbols.specs.Kept.{Row, FileRows, kept_of, row_of_symbol, sort_of, in_carried, kept_name, offered_row, no_file, ResolvedRows, IsResolved, HasSymbol, symbol_id}
-use Rattle.macho_symbols.specs.Told.{common_of}
+use Rattle.macho_symbols.specs.Told.{common_of, IsDuplicateOf}
 use Rattle.macho_symbols.specs.steps.Solved.{common_told}
-use Rattle.macho_symbols.specs.steps.Events.{Event, event_at, row_count, events, strength, strength_of, best_of, is_level}
+use Rattle.macho_symbols.specs.steps.Events.{Event, event_at, row_count, events, strength, strength_of, best_of, is_level, is_strong_of}
 use Rattle.macho_symbols.specs.steps.Targets.{row_of, event_of, id_of, image_base, defined_as, definition_by, is_of_object, defines_in, chosen_in, own_in, base_target, lead_in, led_in, named_in, target_in}
 use Rattle.macho_symbols.proofs.Best.{best_is, IsBest, and_false}
 use Rattle.macho_symbols.proofs.Bridge.{passing, row_kept, count_kept, file_at}
-use Rattle.macho_symbols.proofs.Classes.{common_alone}
+use Rattle.macho_symbols.proofs.Classes.{common_alone, strong_class}
 use Rattle.macho_symbols.proofs.Defined.{definition_is}
 use Rattle.macho_symbols.proofs.KnowingBetter.{filter_same_test}
 use Rattle.macho_symbols.proofs.ListsMore.{filter-map, filter-filter}
@@ -244,3 +248,23 @@ defines_here l noted r file symbol is there =
 
 pub commons_here : (l : Link) (noted : List (List ℕ)) (r : ResolvedRows) → IsResolved l noted r → map common_told (chosen_in r.files) ≡ map (common_of l) (chosen_commons l)
 commons_here l noted r is = ap (λ fs. map common_told (chosen_in fs)) is.keeps ∙ commons_are l
+
+-- two strong definitions among the events are two of the link
+pub clash_is : (l : Link) (fault : SymbolFault) → IsClash (events (map kept_of l.inputs)) fault → IsDuplicateOf l fault
+clash_is l OutOfMemory clash = tt
+clash_is l (UndefinedSymbol name file) clash = clash
+clash_is l (ExportListMissing name) clash = clash
+clash_is l (DuplicateSymbol name first second) clash = of (strong_of l name.items) refl (strong_class l name.items ∙ clash.strong)
+  where
+    of : (xs : List SymbolId) → strong_of l name.items ≡ xs → map (event_of l) xs ≡ clash.a ∷ clash.b ∷ clash.more → IsDuplicate l name.items first second
+    of [] is e = cc
+    of (x ∷ []) is e = cc
+    of (x ∷ (y ∷ ys)) is e =
+        let left : event_of l x ≡ clash.a = cc in
+        let right : event_of l y ≡ clash.b = cc in
+        (0, 1, x, y, omega arith, omega (arith, ap length is), ap (λ zs. get_or zs 0 x) is, ap (λ zs. get_or zs 1 y) is,
+         ap (λ z. z.file) left ∙ clash.left, ap (λ z. z.file) right ∙ clash.right)
+
+-- no name has two of them, where the events have none
+pub single_is : (l : Link) (name : List ℕ) → length (filter (is_strong_of name) (events (map kept_of l.inputs))) ≤ 1 → length (strong_of l name) ≤ 1
+single_is l name single = omega (arith, single, ap length (strong_class l name), length-map (strong_of l name) (event_of l))

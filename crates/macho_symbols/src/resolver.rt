@@ -9,7 +9,7 @@ use crate::choosing::chosen_commons;
 use crate::fault::SymbolFault;
 use crate::files::FileNames;
 use crate::resolved::Resolved;
-use crate::solved::Solved;
+use crate::solved::{Solved, UNNUMBERED};
 use crate::table::Table;
 use macho_object::File;
 use macho_stub::DefinedStubLibrary;
@@ -124,12 +124,14 @@ impl Resolver {
             return Err(fault);
         }
         let commons = chosen_commons(alloc, &files, &table)?;
+        let numbers = vec![in alloc; UNNUMBERED; table.entries.len()]?;
         Ok(Resolved {
             solved: Solved {
                 files,
                 table,
                 commons,
                 imports: Vec::new(alloc),
+                numbers,
             },
         })
     }

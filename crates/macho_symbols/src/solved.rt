@@ -10,7 +10,7 @@ ghost use Rattle.macho_model.specs.Needs.{import_number};
 
 use crate::files::FileNames;
 use crate::notes::Sort;
-use crate::table::{NO_ID, Table, name_in, note_in};
+use crate::table::{Table, name_in, note_in};
 use macho_model::Target;
 
 /// A symbol of a library that something of the link uses.
@@ -44,7 +44,12 @@ pub(crate) struct Solved {
     pub(crate) table: Table,
     pub(crate) commons: Vec<Common>,
     pub(crate) imports: Vec<Import>,
+    /// For each name of the table the number of its import, or `UNNUMBERED`.
+    pub(crate) numbers: Vec<u32>,
 }
+
+/// The number of a name whose import isn't noted.
+pub(crate) const UNNUMBERED: u32 = u32::MAX;
 
 /// Whether a common is that of a row.
 fn is_at(common: Common, file: u32, row: usize) -> bool
@@ -109,8 +114,8 @@ impl Solved {
         requires entry { IsEntryOf self.now.files.items self.now.table.entries.items name.now number }
         ensures { result ≡ import_number (noted_of self.now.imports.items) name.now }
     {
-        let id = self.table.entry(number).id;
-        if id == NO_ID {
+        let id = self.numbers[number];
+        if id == UNNUMBERED {
             self.imports.len() as u32
         } else {
             id

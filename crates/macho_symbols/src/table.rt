@@ -25,12 +25,7 @@ pub(crate) struct Entry {
     pub(crate) row: usize,
     /// The file of that row.
     pub(crate) file: u32,
-    /// The number of the common or of the import that the name leads to, once it has one.
-    pub(crate) id: u32,
 }
-
-/// The number of an entry that has none.
-pub(crate) const NO_ID: u32 = u32::MAX;
 
 /// How many names share a bucket, where all are full.
 const NAMES_PER_BUCKET: usize = 2;
@@ -133,12 +128,7 @@ impl Table {
     {
         let bucket = self.bucket(name_in(files, file, row));
         let next = self.heads[bucket];
-        self.entries.push(Entry {
-            next,
-            row,
-            file,
-            id: NO_ID,
-        })?;
+        self.entries.push(Entry { next, row, file })?;
         self.heads[bucket] = self.entries.len();
         Ok(())
     }

@@ -1,17 +1,16 @@
 -- What holds once all rows were taken in: the table knows all events, the commons are those that were chosen, and each
 -- entry has the number of its import, where that is noted.
-use Rattle.std.specs.Prelude.{◌≡◌, ℕ, ◌-◌, ◌^◌, ◌<◌, ◌≤◌, ◌≢◌, List, length, map, All, Some}
+use Rattle.std.specs.Prelude.{◌≡◌, ℕ, ◌+◌, ◌-◌, ◌^◌, ◌<◌, ◌≤◌, ◌≢◌, List, [], length, map, get_or, Some}
 use Rattle.macho_bytes.specs.Numbers.{rounded_up}
 use Rattle.macho_model.specs.Resolution.{SymbolId, Library}
 use Rattle.macho_model.specs.Needs.{import_number}
 use Rattle.macho_symbols.specs.declared.solved.Common.{Common}
 use Rattle.macho_symbols.specs.declared.solved.Import.{Import}
 use Rattle.macho_symbols.specs.declared.solved.Solved.{Solved}
-use Rattle.macho_symbols.specs.declared.table.Entry.{Entry}
-use Rattle.macho_symbols.specs.declared.table.TheConstants.{NO_ID}
+use Rattle.macho_symbols.specs.declared.solved.TheConstants.{UNNUMBERED}
 use Rattle.macho_symbols.specs.Kept.{FileRows}
 use Rattle.macho_symbols.specs.steps.Events.{Event, events, best_of}
-use Rattle.macho_symbols.specs.steps.Tables.{IsKnown, entry_name}
+use Rattle.macho_symbols.specs.steps.Tables.{IsKnown, names_of}
 use Rattle.macho_symbols.specs.steps.Targets.{chosen_in, definition_by}
 
 abbrev pub common_id : Common → SymbolId
@@ -25,15 +24,17 @@ common_told e = record { file = e.file; symbol = e.at; size = rounded_up (2 ^ e.
 abbrev pub noted_of : List Import → List (List ℕ)
 noted_of imports = map (λ i. i.name.items) imports
 
--- an entry has its import's number where that is noted, and else none
-pub record IsNotedAs (files : List FileRows) (noted : List (List ℕ)) (e : Entry) : Type 0 where
-  pub fresh : e.id ≡ NO_ID → import_number noted (entry_name files e) ≡ length noted
-  pub old : e.id ≢ NO_ID → e.id ≡ import_number noted (entry_name files e)
+-- a name has its import's number where that is noted, and else none
+pub record IsNumbered (noted : List (List ℕ)) (name : List ℕ) (number : ℕ) : Type 0 where
+  pub fresh : number ≡ UNNUMBERED → import_number noted name ≡ length noted
+  pub old : number ≢ UNNUMBERED → number ≡ import_number noted name
 
 -- all that is known
 pub record IsSolved (s : Solved) : Type 0 where
   pub known : IsKnown s.files.items s.table.heads.items s.table.entries.items (events s.files.items)
   pub commons : s.commons.items ≡ map common_told (chosen_in s.files.items)
   pub few_commons : length s.commons.items < 2 ^ 32
-  pub few_imports : length s.imports.items < 2 ^ 32
-  pub numbers : All (IsNotedAs s.files.items (noted_of s.imports.items)) s.table.entries.items
+  pub few_imports : length s.imports.items < UNNUMBERED + 1
+  pub long : length s.numbers.items ≡ length s.table.entries.items
+  pub numbers : (j : ℕ) → j < length s.numbers.items
+      → IsNumbered (noted_of s.imports.items) (get_or (names_of s.files.items s.table.entries.items) j []) (get_or s.numbers.items j 0)

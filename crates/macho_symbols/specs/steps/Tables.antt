@@ -12,7 +12,7 @@ use Rattle.macho_symbols.specs.Kept.{FileRows, Row}
 use Rattle.macho_symbols.specs.steps.Events.{Event, row_at, row_count, event_at, best_of, is_strong_of, beats, strength}
 
 abbrev pub no_entry : Entry
-no_entry = record { next = 0; row = 0; file = 0; id = 0 }
+no_entry = record { next = 0; row = 0; file = 0 }
 
 -- the number that a name is looked for by: the hash FNV-1a of 64 bits
 abbrev pub hash_step : ℕ → ℕ → ℕ
