@@ -19,3 +19,4 @@ pub mod Taking
 pub mod Targeted
 pub mod ListsMore
 pub mod Noting
+pub mod NotingUses

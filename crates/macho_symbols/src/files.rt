@@ -7,6 +7,7 @@ ghost use Rattle.macho_model.specs.Objects.{num_symbols, strings_of, symbol_name
 ghost use Rattle.macho_model.specs.Symbols.{is_in_section, is_absolute};
 ghost use Rattle.macho_stub_lines.specs.Lists.{texts};
 ghost use Rattle.macho_symbols.specs.Kept.{Row, kept_object, kept_dylib, kept_stub, reading_of, rows_of_object, rows_of_dylib, offered_row, is_offered, no_row};
+ghost use Rattle.macho_symbols.specs.steps.Events.{library_text};
 ghost use Rattle.macho_symbols.specs.steps.Notes.{AreNoted, IsString, CommonFits, row_in, named_row};
 
 use crate::notes::{Name, Note, Sort, is_absolute, is_in_section, name_at, note_of};
@@ -198,6 +199,16 @@ impl FileNames {
         ensures { result ≡ is_none self.now.library }
     {
         self.library.is_none()
+    }
+
+    /// The install name of a library, empty for an object.
+    pub(crate) fn library(&self) -> &[u8]
+        ensures { result.now ≡ library_text self.now.library }
+    {
+        match &self.library {
+            Some(name) => name.as_slice(),
+            None => &[],
+        }
     }
 
     /// The name of a row.

@@ -1,13 +1,14 @@
 //! What is known once all rows were taken in: where names and symbols lead, and which imports are noted.
-ghost use Rattle.std.specs.Prelude.{◌≡◌, ◌^◌, ◌<◌, length, map};
+ghost use Rattle.std.specs.Prelude.{◌≡◌, ◌^◌, ◌<◌, ◌++◌, ◌∷◌, [], length, map, OnOk, OnErr, IfErr};
 ghost use Rattle.macho_symbols.specs.steps.Events.{row_at, row_count, event_at};
 ghost use Rattle.macho_symbols.specs.steps.Tables.{IsEntryOf};
 ghost use Rattle.macho_symbols.specs.steps.Targets.{named_in, target_in, own_in, base_target, chosen_in, id_of};
-ghost use Rattle.macho_symbols.specs.steps.Solved.{IsSolved, common_id, noted_of};
+ghost use Rattle.macho_symbols.specs.steps.Solved.{IsSolved, IsUnchanged, common_id, noted_of, library_in};
 ghost use Rattle.std.specs.List.{position_or_len};
 ghost use Rattle.macho_model.specs.Resolution.{same_symbol};
 ghost use Rattle.macho_model.specs.Needs.{import_number};
 
+use crate::fault::SymbolFault;
 use crate::files::FileNames;
 use crate::notes::Sort;
 use crate::table::{Table, name_in, note_in};
@@ -56,6 +57,14 @@ fn is_at(common: Common, file: u32, row: usize) -> bool
     ensures { result ≡ same_symbol (record { file = file; symbol = row }) (common_id common) }
 {
     file == common.file && row == common.symbol as usize
+}
+
+/// The install name of a library, by its number.
+fn library_in(files: &[FileNames], file: u32) -> &[u8]
+    requires { file < length files.now }
+    ensures { result.now ≡ library_in files.now file }
+{
+    files[file as usize].library()
 }
 
 /// The number of a chosen common.
@@ -161,5 +170,41 @@ impl Solved {
         } else {
             own_target(&self.files, &self.commons, file, row)
         }
+    }
+}
+
+impl Solved {
+    /// Notes a name that a library defines, and that isn't noted yet.
+    fn note(&mut self, file: u32, row: usize) -> Result<(), SymbolFault>
+        requires file { file < length self.old.files.items }
+        requires row { row < row_count self.old.files.items file }
+        requires solved { IsSolved self.old }
+        requires import { named_in self.old.files.items (noted_of self.old.imports.items) (row_at self.old.files.items file row).name
+            ≡ Target.Import (length (noted_of self.old.imports.items)) }
+        ensures solved { OnOk result (IsSolved self.new) }
+        ensures files { self.new.files.items ≡ self.old.files.items }
+        ensures noted { OnOk result (noted_of self.new.imports.items ≡ noted_of self.old.imports.items ++ (row_at self.old.files.items file row).name ∷ []) }
+        ensures kept { OnErr result (IsUnchanged self.old self.new) }
+        ensures why { IfErr result (λ fault. fault ≡ SymbolFault.OutOfMemory) }
+    {
+        let alloc = *self.imports.allocator();
+        let name = name_in(&self.files, file, row);
+        let Some(number) = self.table.find(&self.files, name) else {
+            unreachable!()
+        };
+        let library = self.table.entry(number).file;
+        // Objects have fewer symbols than that together.
+        if self.imports.len() >= UNNUMBERED as usize {
+            return Err(SymbolFault::OutOfMemory);
+        }
+        let id = self.imports.len() as u32;
+        let import = Import {
+            file: library,
+            library: Vec::from_slice(alloc, library_in(&self.files, library))?,
+            name: Vec::from_slice(alloc, name)?,
+        };
+        self.imports.push(import)?;
+        self.numbers[number] = id;
+        Ok(())
     }
 }

@@ -85,3 +85,8 @@ ties a b = (strength a == strength b) && (common_size a == common_size b)
 -- an event of the name is as good as another
 abbrev pub is_level : List ℕ → Event → Event → Bool
 is_level name b e = ties b.row e.row && is_of name e
+
+-- an install name, empty where there is none
+abbrev pub library_text : Option (List ℕ) → List ℕ
+library_text None = []
+library_text (Some name) = name

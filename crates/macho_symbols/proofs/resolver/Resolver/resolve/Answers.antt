@@ -4,7 +4,8 @@ use Rattle.macho_symbols.specs.Kept.{FileRows, kept_of}
 use Rattle.macho_symbols.specs.steps.Events.{events, is_strong_of}
 use Rattle.macho_symbols.specs.steps.Tables.{IsClash, IsKnown}
 use Rattle.macho_symbols.specs.declared.solved.TheConstants.{UNNUMBERED}
-use Rattle.macho_symbols.specs.steps.Solved.{IsNumbered}
+use Rattle.macho_symbols.specs.steps.Solved.{IsNumbered, IsImportIn}
+use Rattle.std.proofs.lemmas.List.Elements.{All-nil}
 use Rattle.macho_symbols.proofs.Targeted.{clash_is, single_is}
 use Rattle.macho_symbols.proofs.resolver.Resolver.resolve.Goals as goal
 
@@ -23,7 +24,7 @@ unnumbered : (numbers : List ℕ) (n : ℕ) (name : List ℕ) (j : ℕ) → numb
 unnumbered numbers n name j is within =
     let here : get_or numbers j 0 ≡ UNNUMBERED =
         ap (λ ns. get_or ns j 0) is ∙ get_or-replicate n j UNNUMBERED 0 (omega (arith, within, ap length is, length-replicate {A = ℕ} n UNNUMBERED)) in
-    record { fresh = λ e. refl; old = λ other. absurd (other here) }
+    record { fresh = λ e. refl; old = λ other. absurd (other here); there = λ other. absurd (other here) }
 
 pub invariant_of-result : goal.invariant_of-result
 invariant_of-result c = record {
@@ -31,6 +32,7 @@ invariant_of-result c = record {
   commons = rw (← c.deref-3.ensures.value) c.in_ok-commons.ensures.commons;
   few_commons = c.in_ok-commons.ensures.few;
   few_imports = omega (arith, ap length c.new-2.ensures.items);
+  libraries = rw c.new-2.ensures.items (All-nil (IsImportIn c.self.inside.files.items));
   long =
     ap length (c.in_ok-numbers.ensures.items_if_clones_equal (λ y e. e)) ∙ length-replicate {A = ℕ} c.len.result UNNUMBERED ∙ c.len.ensures ∙ vec_len_is c.take_files.new.self.entries;
   numbers = λ j h. rw c.new-2.ensures.items (unnumbered _ _ _ j (c.in_ok-numbers.ensures.items_if_clones_equal (λ y e. e)) h);
