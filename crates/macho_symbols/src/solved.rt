@@ -1,9 +1,9 @@
 //! What is known once all rows were taken in: where names and symbols lead, and which imports are noted.
-ghost use Rattle.std.specs.Prelude.{◌≡◌, ◌^◌, ◌<◌, ◌++◌, ◌∷◌, [], length, map, OnOk, OnErr, IfErr};
+ghost use Rattle.std.specs.Prelude.{◌≡◌, ◌^◌, ◌<◌, ◌++◌, ◌∷◌, [], length, map, OnOk, OnErr, IfOk, IfErr};
 ghost use Rattle.macho_symbols.specs.steps.Events.{row_at, row_count, event_at};
 ghost use Rattle.macho_symbols.specs.steps.Tables.{IsEntryOf};
-ghost use Rattle.macho_symbols.specs.steps.Targets.{named_in, target_in, own_in, base_target, chosen_in, id_of};
-ghost use Rattle.macho_symbols.specs.steps.Solved.{IsSolved, IsUnchanged, common_id, noted_of, library_in};
+ghost use Rattle.macho_symbols.specs.steps.Targets.{named_in, target_in, own_in, base_target, chosen_in, id_of, is_next, is_nothing, noting_in};
+ghost use Rattle.macho_symbols.specs.steps.Solved.{IsSolved, IsUnchanged, IsFoundIn, IsUndefinedIn, common_id, noted_of, library_in};
 ghost use Rattle.std.specs.List.{position_or_len};
 ghost use Rattle.macho_model.specs.Resolution.{same_symbol};
 ghost use Rattle.macho_model.specs.Needs.{import_number};
@@ -206,5 +206,60 @@ impl Solved {
         self.imports.push(import)?;
         self.numbers[number] = id;
         Ok(())
+    }
+}
+
+/// Whether a target is an import of a number.
+fn is_import(target: Target, number: usize) -> bool
+    ensures { result ≡ is_next number target }
+{
+    match target {
+        Target::Import { id } => id as usize == number,
+        _ => false,
+    }
+}
+
+/// Whether a target is nothing.
+fn is_nothing(target: Target) -> bool
+    ensures { result ≡ is_nothing target }
+{
+    match target {
+        Target::None => true,
+        _ => false,
+    }
+}
+
+impl Solved {
+    /// Notes a use of a symbol, and tells what it leads to.
+    pub(crate) fn note_use(&mut self, file: u32, row: usize) -> Result<Target, SymbolFault>
+        requires file { file < length self.old.files.items }
+        requires row { row < row_count self.old.files.items file }
+        requires solved { IsSolved self.old }
+        ensures solved { OnOk result (IsSolved self.new) }
+        ensures files { self.new.files.items ≡ self.old.files.items }
+        ensures noted { OnOk result (noted_of self.new.imports.items ≡ noting_in self.old.files.items (noted_of self.old.imports.items) (event_at self.old.files.items file row)) }
+        ensures target { IfOk result (λ t. t ≡ target_in self.old.files.items (noted_of self.old.imports.items) (event_at self.old.files.items file row)) }
+        ensures found { OnOk result (IsFoundIn self.old.files.items (noted_of self.old.imports.items) (event_at self.old.files.items file row)) }
+        ensures kept { OnErr result (IsUnchanged self.old self.new) }
+        ensures why { IfErr result (IsUndefinedIn self.old.files.items (noted_of self.old.imports.items) (event_at self.old.files.items file row)) }
+    {
+        let target = self.target(file, row);
+        if !note_in(&self.files, file, row).global {
+            return Ok(target);
+        }
+        if is_nothing(target) {
+            let alloc = *self.imports.allocator();
+            return Err(SymbolFault::UndefinedSymbol {
+                name: Vec::from_slice(alloc, name_in(&self.files, file, row))?,
+                file,
+            });
+        }
+        if !is_import(target, self.imports.len()) {
+            return Ok(target);
+        }
+        if let Err(fault) = self.note(file, row) {
+            return Err(fault);
+        }
+        Ok(target)
     }
 }

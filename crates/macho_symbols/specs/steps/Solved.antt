@@ -1,6 +1,6 @@
 -- What holds once all rows were taken in: the table knows all events, the commons are those that were chosen, and each
 -- entry has the number of its import, where that is noted.
-use Rattle.std.specs.Prelude.{◌≡◌, ℕ, ◌+◌, ◌-◌, ◌^◌, ◌<◌, ◌≤◌, ◌≢◌, List, [], length, map, get_or, All, Option, Some, None}
+use Rattle.std.specs.Prelude.{◌≡◌, ℕ, ◌+◌, ◌-◌, ◌^◌, ◌<◌, ◌≤◌, ◌≢◌, List, [], length, map, get_or, All, Option, Some, None, true, false}
 use Rattle.macho_bytes.specs.Numbers.{rounded_up}
 use Rattle.macho_model.specs.Resolution.{SymbolId, Library}
 use Rattle.macho_model.specs.Needs.{import_number}
@@ -11,7 +11,9 @@ use Rattle.macho_symbols.specs.declared.solved.TheConstants.{UNNUMBERED}
 use Rattle.macho_symbols.specs.Kept.{FileRows, no_file}
 use Rattle.macho_symbols.specs.steps.Events.{Event, events, best_of, library_text}
 use Rattle.macho_symbols.specs.steps.Tables.{IsKnown, names_of}
-use Rattle.macho_symbols.specs.steps.Targets.{chosen_in, definition_by}
+use Rattle.macho_symbols.specs.steps.Targets.{chosen_in, definition_by, named_in, is_nothing}
+use Rattle.macho_symbols.specs.declared.fault.SymbolFault.{SymbolFault}
+use Rattle.macho_symbols.specs.declared.fault.SymbolFault.TheVariants.{DuplicateSymbol, UndefinedSymbol, ExportListMissing, OutOfMemory}
 
 abbrev pub common_id : Common → SymbolId
 common_id c = record { file = c.file; symbol = c.symbol }
@@ -58,3 +60,15 @@ pub record IsUnchanged (old new : Solved) : Type 0 where
   pub commons : new.commons.items ≡ old.commons.items
   pub imports : new.imports.items ≡ old.imports.items
   pub numbers : new.numbers.items ≡ old.numbers.items
+
+-- a use is found: its name has a target, if it has a name
+abbrev pub IsFoundIn : List FileRows → List (List ℕ) → Event → Type 0
+IsFoundIn files noted e = e.row.global ≡ true → is_nothing (named_in files noted e.row.name) ≡ false
+
+-- a use is refused: its name has no target
+abbrev pub IsUndefinedIn : List FileRows → List (List ℕ) → Event → SymbolFault → Type 0
+IsUndefinedIn files noted e (UndefinedSymbol name file) =
+    (e.row.global ≡ true) × (is_nothing (named_in files noted e.row.name) ≡ true) × (name.items ≡ e.row.name) × (file ≡ e.file)
+IsUndefinedIn files noted e (DuplicateSymbol name first second) = ⊥
+IsUndefinedIn files noted e (ExportListMissing name) = ⊥
+IsUndefinedIn files noted e OutOfMemory = Unit {0}

@@ -1,5 +1,5 @@
 -- What the rows of all files say of names and symbols: the definition of a name, and where it leads.
-use Rattle.std.specs.Prelude.{◌≡◌, ℕ, ◌==◌, ◌&&◌, if◌then◌else◌, Bool, true, false, List, [], filter, map, Option, Some, None}
+use Rattle.std.specs.Prelude.{◌≡◌, ℕ, ◌==◌, ◌&&◌, if◌then◌else◌, Bool, true, false, List, [], ◌∷◌, ◌++◌, length, filter, map, Option, Some, None}
 use Rattle.std.specs.List.{position_or_len}
 use Rattle.std.specs.Str.{bytes_eq}
 use Rattle.macho_model.specs.declared.targets.Target.{Target}
@@ -86,3 +86,25 @@ is_of_object Nowhere = false
 -- an event is a common that defines its name
 abbrev pub is_chosen_in : List FileRows → Event → Bool
 is_chosen_in files e = (strength e.row == 2) && defines_in files e
+
+-- a target is the import of a number; it is nothing
+abbrev pub is_next : ℕ → Target → Bool
+is_next n (target.Import id) = id == n
+is_next n (target.Section file section offset) = false
+is_next n (target.Common id) = false
+is_next n target.Base = false
+is_next n (target.Absolute value) = false
+is_next n target.None = false
+
+abbrev pub is_nothing : Target → Bool
+is_nothing target.None = true
+is_nothing (target.Section file section offset) = false
+is_nothing (target.Common id) = false
+is_nothing (target.Import id) = false
+is_nothing target.Base = false
+is_nothing (target.Absolute value) = false
+
+-- the imports that are noted after a use
+abbrev pub noting_in : List FileRows → List (List ℕ) → Event → List (List ℕ)
+noting_in files noted e =
+    if e.row.global && is_next (length noted) (named_in files noted e.row.name) then noted ++ e.row.name ∷ [] else noted
