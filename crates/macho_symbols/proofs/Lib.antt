@@ -17,6 +17,7 @@ pub mod Offering
 pub mod Order
 pub mod Taking
 pub mod Targeted
+pub mod UsesHere
 pub mod ListsMore
 pub mod Noting
 pub mod NotingUses
