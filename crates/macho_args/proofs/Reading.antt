@@ -10,7 +10,7 @@ use Rattle.std.proofs.Math.Seq.{drop-cons}
 use Rattle.std.proofs.lemmas.List.{drop-map, drop-drop}
 use Rattle.std.proofs.lemmas.Result.{IfOk-weaker, IfErr-weaker}
 use Rattle.macho_args.specs.declared.fault.ArgsFault.{ArgsFault}
-use Rattle.macho_args.specs.Effects.{HasCause}
+use Rattle.macho_args.specs.steps.Effects.{HasCause}
 use Rattle.macho_args.specs.Settings.{Settings, fresh}
 use Rattle.macho_args.specs.Words.{read_from, read_word, reading, texts_of, read_all, without_inputs}
 

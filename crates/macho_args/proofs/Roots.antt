@@ -20,12 +20,13 @@ use Rattle.macho_args.specs.declared.options.Valued.TheVariants.{Output, Entry, 
 use Rattle.macho_args.specs.declared.options.Valued.TheVariants.{Rpath, LibraryPath, FrameworkPath, Root, Library, Framework}
 use Rattle.macho_args.specs.declared.options.Valued.TheVariants.{Arch, Mllvm, Uuid, Generate}
 use Rattle.macho_args.specs.declared.fault.ArgsFault.TheVariants.{Unknown, Unsupported, BadVersion, BadPlatform, BadUuid, BadNumber, OutOfMemory}
-use Rattle.macho_args.specs.Effects.{HasCause, uuid_of, count_of, with_versions}
+use Rattle.macho_args.specs.steps.Effects.{HasCause}
+use Rattle.macho_args.specs.Effects.{uuid_of, count_of, with_versions}
 use Rattle.macho_args.specs.Effects.{◌>>=◌, at_root, joined, with_flag, with_value, with_platform}
 use Rattle.std.specs.FinMap.{get}
 use Rattle.macho_args.specs.Store.{CanonicalPaths, Directories}
 use Rattle.macho_args.specs.SearchPaths.{FollowsRoot, IsParsed, IsRefused, IsRootFor}
-use Rattle.macho_args.specs.KeptRoot.{keep_root, settled, SettlesRoot}
+use Rattle.macho_args.specs.steps.KeptRoot.{keep_root, settled, SettlesRoot}
 use Rattle.macho_args.specs.Options.{option_named, joined_option}
 use Rattle.macho_args.specs.Settings.{Settings, Input, fresh}
 use Rattle.macho_args.specs.Version.{version_of}

@@ -2,13 +2,11 @@
 --
 -- Then the root for each path is the look-up, so both choices of roots are one function, and the words say the
 -- same by both. The framework paths move by membership, place by place.
-use Rattle.std.proofs.Common.{◌≡◌, ℕ, List, [], ◌∷◌, ◌++◌, drop, refl, ap, sym, ◌∙◌, Option, Some, None, Result, Ok}
+use Rattle.std.proofs.Common.{◌≡◌, ℕ, List, [], ◌∷◌, ◌++◌, refl, ap, sym, ◌∙◌, Option, Some, None, Ok}
 use Rattle.std.specs.FinMap.{get}
-use Rattle.std.specs.FinSet.{contains}
 use Rattle.std.specs.List.{AllZip}
 use Rattle.std.specs.Option.{unwrap_or}
-use Rattle.macho_args.specs.Effects.{joined}
-use Rattle.macho_args.specs.SearchPaths.{FollowsRoot, IsBelow, IsMoved, IsParsed, IsRootFor, moved, standard_frameworks}
+use Rattle.macho_args.specs.SearchPaths.{FollowsRoot, IsMoved, IsParsed, IsRootFor, moved, standard_frameworks}
 use Rattle.macho_args.specs.Settings.{Settings}
 use Rattle.macho_args.specs.Store.{CanonicalPaths, Directories}
 use Rattle.macho_args.specs.Words.{args_of}

@@ -1,5 +1,5 @@
 -- What each option does to the settings, and which values it takes.
-use Rattle.std.specs.Prelude.{◌≡◌, ℕ, ◌+◌, ◌==◌, List, [], ◌∷◌, ◌++◌, codes, true, ◌⊎◌, nat_eq, if◌then◌else◌}
+use Rattle.std.specs.Prelude.{ℕ, ◌+◌, ◌==◌, List, [], ◌∷◌, ◌++◌, codes, true, nat_eq, if◌then◌else◌}
 use Rattle.std.specs.Prelude.{Option, Some, None, option_and_then, Result, Ok, Err}
 use Rattle.std.specs.List.{starts_with, ends_with, list_any}
 use Rattle.std.specs.Option.{ok_or}
@@ -7,7 +7,7 @@ use Rattle.std.specs.Result.{result_ok}
 use Rattle.std.specs.Str.{bytes_eq}
 use Rattle.hex.specs.Hex.{decode_sized}
 use Rattle.macho_args.specs.declared.fault.ArgsFault.{ArgsFault}
-use Rattle.macho_args.specs.declared.fault.ArgsFault.TheVariants.{Unsupported, OutOfMemory}
+use Rattle.macho_args.specs.declared.fault.ArgsFault.TheVariants.{Unsupported}
 use Rattle.macho_args.specs.declared.fault.ArgsFault.TheVariants.{BadVersion, BadPlatform, BadArch, BadUuid, BadNumber}
 use Rattle.macho_args.specs.declared.options.Flag.{Flag}
 use Rattle.macho_args.specs.declared.options.Flag.TheVariants.{Dylib, DeadStripDylibs, HeaderpadMaxInstallNames, Map}
@@ -24,10 +24,6 @@ infixl 10 ◌>>=◌
 abbrev pub ◌>>=◌ : {A B : Type 0} → Result A ArgsFault → (A → Result B ArgsFault) → Result B ArgsFault
 Ok x >>= f = f x
 Err fault >>= f = Err fault
-
--- Why a step was refused: it is the fault that its meaning has, or memory ran out.
-abbrev pub HasCause : {A : Type 0} → Result A ArgsFault → ArgsFault → Type 0
-HasCause meaning fault = (fault ≡ OutOfMemory) ⊎ (meaning ≡ Err fault)
 
 -- a flag is set
 abbrev pub with_flag : Flag → Settings → Settings

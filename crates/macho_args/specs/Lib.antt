@@ -6,4 +6,4 @@ pub mod Options
 pub mod Effects
 pub mod Words
 pub mod SearchPaths
-pub mod KeptRoot
+pub mod steps

@@ -1,7 +1,6 @@
 -- The options of the command line, one row for each name. The manual page ld(1) of Apple's linker says what
 -- they mean there.
 use Rattle.std.specs.Prelude.{ℕ, List, [], ◌∷◌, codes, Option, Some, None, nat_eq, if◌then◌else◌}
-use Rattle.std.specs.Borrow.{Bor}
 use Rattle.std.specs.List.{starts_with}
 use Rattle.std.specs.Map.{lookup}
 use Rattle.std.specs.Str.{bytes_eq}
@@ -55,10 +54,6 @@ option_rows =
 -- the option whose name is the word
 unfoldable pub option_named : List ℕ → Option LinkOption
 option_named word = lookup (λ name. bytes_eq name word) option_rows
-
--- a row of the program's table, without where its name lies in memory
-abbrev pub plain_row : Bor (List ℕ) × LinkOption → List ℕ × LinkOption
-plain_row row = (row.0.now, row.1)
 
 -- The option whose value stands in the same word, behind its two letters. A word that is a name of the
 -- table isn't read so.

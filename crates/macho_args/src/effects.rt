@@ -26,8 +26,9 @@ const MAX_GENERATED: u32 = 10_000;
 
 impl MachOArgs {
     ghost use Rattle.macho_args.specs.Settings.{settings_of, framework};
-    ghost use Rattle.macho_args.specs.Effects.{HasCause, with_flag, with_value, with_once, with_platform};
-    ghost use Rattle.macho_args.specs.KeptRoot.{keep_root};
+    ghost use Rattle.macho_args.specs.steps.Effects.{HasCause};
+    ghost use Rattle.macho_args.specs.Effects.{with_flag, with_value, with_once, with_platform};
+    ghost use Rattle.macho_args.specs.steps.KeptRoot.{keep_root};
 
     /// Sets a flag.
     pub(crate) fn set_flag(&mut self, flag: Flag)

@@ -10,7 +10,7 @@ use crate::version::SemanticVersion;
 use std::alloc::{AllocError, Global};
 
 /// The platform that the output is for, as `-platform_version` gives it.
-#[derive(Debug, Drop)]
+#[derive(Debug, PartialEq, Eq, Drop)]
 pub struct PlatformVersion {
     /// The platform's name, `macos`.
     pub platform: String,
@@ -227,7 +227,7 @@ impl MachOArgs {
     }
 
     /// Whether the flag, without its `-`, is taken and ignored: `export_dynamic`, `O0`, `O1`, `O2` or `O3`.
-    pub fn is_ignored_flag(&self, flag: &str) -> bool
+    pub fn is_ignored_flag(flag: &str) -> bool
         ensures { result ≡ list_any (λ name. bytes_eq name flag.now) ignored_flags }
     {
         IGNORED_FLAGS.contains(&flag)

@@ -13,8 +13,6 @@ mod options;
 mod outside;
 mod parse;
 mod search_paths;
-#[cfg(test)]
-mod tests;
 mod version;
 mod words;
 

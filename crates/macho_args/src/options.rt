@@ -11,7 +11,8 @@
 ghost use Rattle.std.specs.Prelude.{◌≡◌, map};
 ghost use Rattle.std.specs.Map.{lookup};
 ghost use Rattle.std.specs.Str.{bytes_eq};
-ghost use Rattle.macho_args.specs.Options.{option_named as option_of, plain_row};
+ghost use Rattle.macho_args.specs.Options.{option_named as option_of};
+ghost use Rattle.macho_args.specs.steps.Options.{plain_row};
 
 /// What a word that is an option's name stands for.
 #[derive(Clone, Copy, Debug, PartialEq, Eq)]

@@ -6,8 +6,8 @@
 ghost use Rattle.std.specs.Prelude.{◌≡◌, ◌+◌, ◌-◌, ◌<◌, ◌^◌, length, drop};
 ghost use Rattle.std.specs.Prelude.{Ok, Err, OnOk, OnErr, IfOk, IfErr, MatchResult, ◌⊎◌};
 ghost use Rattle.macho_args.specs.declared.fault.ArgsFault.TheVariants.{OutOfMemory};
-ghost use Rattle.macho_args.specs.Effects.{HasCause};
-ghost use Rattle.macho_args.specs.KeptRoot.{keep_root};
+ghost use Rattle.macho_args.specs.steps.Effects.{HasCause};
+ghost use Rattle.macho_args.specs.steps.KeptRoot.{keep_root};
 ghost use Rattle.macho_args.specs.Options.{joined_option};
 ghost use Rattle.macho_args.specs.SearchPaths.{IsParsed, IsRefused};
 ghost use Rattle.macho_args.specs.Settings.{settings_of, fresh};

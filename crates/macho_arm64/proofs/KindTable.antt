@@ -7,7 +7,7 @@ use Rattle.std.specs.Prelude.{IfOk, OnErr}
 use Rattle.std.specs.Option.{ok_or}
 use Rattle.macho_records.specs.declared.relocations.RelocationInfo.{RelocationInfo}
 use Rattle.macho_arm64.specs.declared.kinds.TheConstants.{KINDS}
-use Rattle.macho_arm64.specs.Kinds.{kinds, kind_among, kind_at, kind_of}
+use Rattle.macho_arm64.specs.Kinds.{kinds, kind_among, kind_at, info_of}
 
 pub one_table : KINDS ≡ kinds
 one_table = refl
@@ -23,7 +23,7 @@ none-ok_or None e = refl
 
 -- a relocation of a type, length and pcrel has their kind; and each row of the table is found by them
 pub kind_is : (rel : RelocationInfo) (type length : ℕ) (pcrel : Bool) → rel.r_type ≡ type → rel.r_length ≡ length → rel.r_pcrel ≡ pcrel
-    → kind_of rel ≡ kind_at type length pcrel
+    → info_of rel ≡ kind_at type length pcrel
 kind_is rel type length pcrel t n p = rw (t, n, p) refl
 
 pub each_row_is_found : map (λ k. kind_at k.r_type k.r_length k.r_pcrel) kinds ≡ map (λ k. Some k.info) kinds

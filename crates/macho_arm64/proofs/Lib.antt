@@ -5,3 +5,5 @@ pub mod StubLaws
 pub mod RangeLaws
 pub mod ReachLaws
 pub mod Examples
+pub mod KindLaws
+pub mod SupportedKinds

@@ -2,17 +2,15 @@
 --
 -- The values are differences of addresses modulo 2 ^ 64. That of two pages is whole pages, since 2 ^ 64 is; an offset in
 -- a page is below a page. What is left of each test is the one that the definition of a reach has.
-use Rattle.std.proofs.Common.{◌≡◌, ℕ, ◌+◌, ◌%◌, ◌^◌, ◌<◌, ◌≤◌, ◌==◌, nat_lt, ◌&&◌, ◌||◌, Bool, true, false, arith, sym, ◌∙◌, refl}
-use Rattle.std.proofs.Math.Nat.{mod-eq_of_lt}
+use Rattle.std.proofs.Common.{◌≡◌, ℕ, ◌+◌, ◌%◌, ◌^◌, ◌<◌, ◌≤◌, ◌==◌, nat_lt, ◌&&◌, ◌||◌, Bool, true, false, arith, sym, refl}
 use Rattle.std.proofs.lemmas.Bool.Decides.{nat_tests}
 use Rattle.macho_bytes.specs.Numbers.{bits, page, low, PAGE}
 use Rattle.macho_model.specs.Words.{is_add, is_ldr, is_load_store, scale_of}
 use Rattle.macho_model.specs.Rows.{takes_offset}
 use Rattle.macho_model.specs.Meaning.{Same, address}
-use Rattle.macho_model.specs.Values as values
-use Rattle.macho_model.specs.Values.{less, branch_reaches, page_reaches, offset_fits}
+use Rattle.macho_model.specs.Values.{less, fits_signed, branch_reaches, page_reaches, offset_fits}
 use Rattle.macho_arm64.specs.declared.kinds.FieldSize.TheVariants.{Bytes, Adr, JumpCall, Low12}
-use Rattle.macho_arm64.specs.Fields.{fits_word, fits_signed, can_hold}
+use Rattle.macho_arm64.specs.Fields.{fits_word, can_hold}
 
 -- what a difference is for: it leads from the one to the other
 pub less_leads : (x place : ℕ) → Same (less x place + place) x
@@ -21,9 +19,6 @@ less_leads x place = omega arith
 less_below : (x y : ℕ) → less x y < 2 ^ 64
 less_below x y = omega arith
 
-same_fits : (n value : ℕ) → value < 2 ^ 64 → fits_signed n value ≡ values.fits_signed n value
-same_fits n value small = let e : value % 2 ^ 64 ≡ value = mod-eq_of_lt small in rw e refl
-
 and_zero : (b : Bool) (n : ℕ) → n ≡ 0 → (b && (n == 0)) ≡ b
 and_zero true n is = rw is refl
 and_zero false n is = refl
@@ -31,27 +26,26 @@ and_zero false n is = refl
 and_below : (b : Bool) (n : ℕ) → n < PAGE → (nat_lt n PAGE && b) ≡ b
 and_below b n below = let test : nat_lt n PAGE ≡ true = grind (arith, nat_tests) in rw test refl
 
-out_of_33 : (n : ℕ) → 2 ^ 32 ≤ n → n + 2 ^ 32 < 2 ^ 64 → values.fits_signed 33 n ≡ false
+out_of_33 : (n : ℕ) → 2 ^ 32 ≤ n → n + 2 ^ 32 < 2 ^ 64 → fits_signed 33 n ≡ false
 out_of_33 n low high = grind (arith, nat_tests)
 
 -- a branch
 pub branch_can_hold : (word place x : ℕ) → can_hold JumpCall word (less x place) ≡ branch_reaches place x
-branch_can_hold word place x = rw (same_fits 28 (less x place) (less_below x place)) refl
+branch_can_hold word place x = refl
 
 -- the page of an ADRP
 pub page_can_hold : (word place x : ℕ) → can_hold Adr word (less (page (address x)) (page place)) ≡ page_reaches place x
 page_can_hold word place x =
     let whole : less (page (address x)) (page place) % PAGE ≡ 0 = omega arith in
     and_zero (fits_signed 33 (less (page (address x)) (page place))) (less (page (address x)) (page place) % PAGE) whole
-    ∙ same_fits 33 (less (page (address x)) (page place)) (less_below (page (address x)) (page place))
 
 -- an offset in a page
 pub offset_can_hold : (word x : ℕ) → can_hold Low12 word (low (address x)) ≡ offset_fits word x
 offset_can_hold word x = and_below (low (address x) % scale_of word == 0) (low (address x)) (omega arith)
 
 -- a difference or a distance of 4 bytes
-pub distance_can_hold : (word x y : ℕ) → can_hold (Bytes 4) word (less x y) ≡ values.fits_signed 32 (less x y)
-distance_can_hold word x y = same_fits 32 (less x y) (less_below x y)
+pub distance_can_hold : (word x y : ℕ) → can_hold (Bytes 4) word (less x y) ≡ fits_signed 32 (less x y)
+distance_can_hold word x y = refl
 
 -- a slot that is too far from its stub, where no address comes near 2 ^ 64
 pub stub_too_far : (place slot : ℕ) → page place + 2 ^ 32 ≤ slot → slot + 2 ^ 32 < 2 ^ 64 → page_reaches place slot ≡ false

@@ -1,7 +1,9 @@
 -- What a relocated field holds: the number that its word stands for, which numbers it can hold, and what of the word
 -- is no part of the number. Numbers are taken modulo 2 ^ 64. (Instructions: Arm Architecture Reference Manual for
 -- A-profile, chapter C6.)
-use Rattle.std.specs.Prelude.{◌≡◌, ℕ, ◌*◌, ◌-◌, ◌%◌, ◌^◌, ◌==◌, nat_lt, nat_le, ◌&&◌, ◌||◌, Bool, true, List}
+-- a number modulo 2 ^ 64 that n bits hold as two's complement
+pub use Rattle.macho_model.specs.Values.{fits_signed}
+use Rattle.std.specs.Prelude.{◌≡◌, ℕ, ◌*◌, ◌%◌, ◌==◌, nat_lt, ◌&&◌, ◌||◌, Bool, true, List}
 use Rattle.macho_bytes.specs.Numbers.{le_at, signed, PAGE}
 use Rattle.macho_model.specs.Words.{is_adrp, imm21, is_branch, imm26, is_add, is_ldr, is_load_store, imm12, scale_of, without_imm21, without_imm26, without_imm12}
 use Rattle.macho_model.specs.Meaning.{address}
@@ -43,10 +45,6 @@ rest_of (Bytes n) word = 0
 rest_of Adr word = without_imm21 word
 rest_of JumpCall word = without_imm26 word
 rest_of Low12 word = without_imm12 word
-
--- a number modulo 2 ^ 64 that n bits hold as two's complement
-abbrev pub fits_signed : ℕ → ℕ → Bool
-fits_signed n value = nat_lt value (2 ^ (n - 1)) || nat_le (2 ^ 64 - 2 ^ (n - 1)) value
 
 -- The numbers that a field can hold: any in 8 bytes, a signed one of 32 bits in 4; whole pages within 4 GiB; whole
 -- words within 128 MiB; an offset in a page that is a multiple of the instruction's scale.

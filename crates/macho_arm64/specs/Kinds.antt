@@ -55,9 +55,9 @@ kind_among rows type length pcrel = option_map (λ k. k.info) (find (is_row_of t
 abbrev pub kind_at : ℕ → ℕ → Bool → Option RelocationKindInfo
 kind_at type length pcrel = kind_among kinds type length pcrel
 
--- the kind of a relocation
-abbrev pub kind_of : RelocationInfo → Option RelocationKindInfo
-kind_of r = kind_at r.r_type r.r_length r.r_pcrel
+-- what is known of a relocation: its kind
+abbrev pub info_of : RelocationInfo → Option RelocationKindInfo
+info_of r = kind_at r.r_type r.r_length r.r_pcrel
 
 -- the names of the types from 0 on, without their prefix
 abbrev pub type_names : List (List ℕ)

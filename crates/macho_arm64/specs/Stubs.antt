@@ -1,9 +1,7 @@
 -- Stubs: three instructions that go on to an import through its slot; and where an image begins.
-use Rattle.std.specs.Prelude.{ℕ, ◌^◌, Bool, if◌then◌else◌}
-
 -- the bytes of a stub
-abbrev pub STUB_SIZE : ℕ
-STUB_SIZE = 12
+pub use Rattle.macho_model.specs.WrittenSum.{STUB_SIZE}
+use Rattle.std.specs.Prelude.{ℕ, ◌^◌, Bool, if◌then◌else◌}
 
 -- how far an ADRP reaches forward, from the start of its page
 abbrev pub ADRP_REACH : ℕ

@@ -1,6 +1,6 @@
 //! Which field a relocation is of, by its type, length and pcrel (`mach-o/arm64/reloc.h`).
 ghost use Rattle.std.specs.Prelude.{◌≡◌, None, Some, IfOk, OnErr};
-ghost use Rattle.macho_arm64.specs.Kinds.{kind_among, kind_of, is_row_of};
+ghost use Rattle.macho_arm64.specs.Kinds.{kind_among, info_of, is_row_of};
 
 use macho_records::{
     ARM64_RELOC_ADDEND, ARM64_RELOC_BRANCH26, ARM64_RELOC_GOT_LOAD_PAGE21,
@@ -121,8 +121,8 @@ const KINDS: [KindRow; 13] = [
 impl MachOAArch64 {
     /// The kind of a relocation, by its type, length and pcrel. Refused where there is no such relocation.
     pub fn relocation_from_raw(rel: RelocationInfo) -> Result<RelocationKindInfo, UnknownRelocation>
-        ensures found { IfOk result (λ info. kind_of rel ≡ Some info) }
-        ensures why { OnErr result (kind_of rel ≡ None) }
+        ensures found { IfOk result (λ info. info_of rel ≡ Some info) }
+        ensures why { OnErr result (info_of rel ≡ None) }
     {
         kind_in(&KINDS, rel).ok_or(UnknownRelocation)
     }

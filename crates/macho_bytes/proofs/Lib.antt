@@ -10,3 +10,4 @@ pub mod Rounding
 pub mod Sequences
 pub mod Ulebs
 pub mod UlebRows
+pub mod Fills

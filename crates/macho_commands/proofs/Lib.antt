@@ -1,2 +1,15 @@
 pub mod Texts
+pub mod Numbered
+pub mod Readable
+pub mod PathTexts
 pub mod Reading
+pub mod Shapes
+pub mod Walked
+pub mod Listed
+pub mod Told
+pub mod HeadRead
+pub mod HeadRules
+pub mod SegmentRules
+pub mod Kept
+pub mod HeadTexts
+pub mod Rows

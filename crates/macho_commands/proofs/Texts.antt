@@ -3,10 +3,10 @@
 -- A section header has 80 bytes, since it reads back. So the headers joined end to end have 80 bytes each, and the
 -- next one is written at 80 times its number behind the first. The loop over commands goes the same way, with each
 -- command's own size.
-use Rattle.std.proofs.Common.{◌≡◌, ℕ, suc, ◌+◌, ◌*◌, ◌^◌, ◌<◌, ◌≤◌, ◌⊎◌, List, [], ◌∷◌, ◌++◌, length, get_or, take, refl, sym, ap, subst, ◌∙◌, arith, All, inl, inr}
+use Rattle.std.proofs.Common.{◌≡◌, ℕ, suc, ◌+◌, ◌*◌, ◌<◌, ◌≤◌, List, [], ◌∷◌, length, get_or, take, refl, sym, ap, subst, ◌∙◌, arith, inl, inr}
 use Rattle.std.specs.List.{flat_map}
 use Rattle.std.specs.Prelude.{sum_by}
-use Rattle.std.proofs.Math.Nat.{mul-suc, mul-add}
+use Rattle.std.proofs.Math.Nat.{mul-suc}
 use Rattle.std.proofs.lemmas.Bool.{cases_lt}
 use Rattle.std.proofs.lemmas.List.{length-append, take_all, get_or_default}
 use Rattle.std.proofs.lemmas.List.Sums.{sum_by_more, sum_by_more_le}
@@ -18,6 +18,7 @@ use Rattle.macho_records.specs.Layouts.{section_header}
 use Rattle.macho_records.specs.declared.header.SectionHeader.{SectionHeader}
 use Rattle.macho_commands.specs.declared.command.Command.{Command}
 use Rattle.macho_commands.specs.Commands.{text_of, size_of_command}
+use Rattle.macho_commands.specs.steps.Writing.{EachReadsBack}
 
 -- texts of one length joined end to end
 pub length-flat_map_same : {X : Type 0} (f : X → List ℕ) (w : ℕ) (xs : List X) → ((i : ℕ) (d : X) → i < length xs → length (f (get_or xs i d)) ≡ w)
@@ -31,7 +32,7 @@ length-flat_map_same f w (x ∷ xs) each =
 pub record HeadersSoFar (at place i : ℕ) (headers : List SectionHeader) (before now : List ℕ) : Type 0 where
   pub texts : MoreTexts (spelling section_header) at place (take i headers) before now
   pub here : place ≡ at + 80 * i
-  pub each : (k : ℕ) (d : SectionHeader) → k < i → length (spelling section_header (get_or headers k d)) ≡ 80
+  pub each : (k : ℕ) (d : SectionHeader) → k < i → ReadsBack section_header (get_or headers k d)
 
 pub headers_begin : (at : ℕ) (headers : List SectionHeader) (out : List ℕ) → at ≤ length out → HeadersSoFar at at 0 headers out out
 headers_begin at headers out fits = record {
@@ -54,16 +55,18 @@ headers_go_on at place i headers d before out now lt room so_far back is =
         | inl less ↦ so_far.each k e less
         | inr last ↦
             let same : k ≡ i = omega arith in
-            let Long : ℕ → Type 0 = λ n. length (spelling section_header (get_or headers n e)) ≡ 80 in
-            subst Long (sym same) (ap (λ (h : SectionHeader). length (spelling section_header h)) (get_or_default headers i e d lt) ∙ long)
+            let Back : ℕ → Type 0 = λ n. ReadsBack section_header (get_or headers n e) in
+            subst Back (sym same) (subst (ReadsBack section_header) (get_or_default headers i d e lt) back)
       ];
     }
 
 pub headers_end : (at place i : ℕ) (headers : List SectionHeader) (before now : List ℕ) → length headers ≤ i → HeadersSoFar at place i headers before now
     → (now ≡ put at (flat_map (spelling section_header) headers) before) × (length (flat_map (spelling section_header) headers) ≡ 80 * length headers)
+    × EachReadsBack section_header headers
 headers_end at place i headers before now past so_far = (
   (texts_end (spelling section_header) at place i headers before now past so_far.texts).written,
-  length-flat_map_same (spelling section_header) 80 headers (λ k d lt. so_far.each k d (omega arith)),
+  length-flat_map_same (spelling section_header) 80 headers (λ k d lt. (so_far.each k d (omega arith)).long),
+  record { each = λ k d lt. so_far.each k d (omega arith) },
 )
 
 -- the first i of some commands are put, one behind the other

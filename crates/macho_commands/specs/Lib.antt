@@ -1,3 +1,6 @@
-pub mod Records
+pub mod Texts
 pub mod Commands
 pub mod Reading
+pub mod Heads
+pub mod Laws
+pub mod steps

@@ -1,32 +1,52 @@
-//! One load command: its record, and what stands behind it.
-//!
-//! The commands of the smallest executable (`mach-o/loader.h`):
-//!
-//!     32   LC_SEGMENT_64     72 bytes            `__PAGEZERO`
-//!     104  LC_SEGMENT_64     72 + 80 a section   `__TEXT`, its section headers behind it
-//!     256  LC_MAIN           24 bytes            the file offset of the entry
-//!     280  LC_LOAD_DYLINKER  32 bytes            "/usr/lib/dyld" at 12, zeros to the end
-ghost use Rattle.std.specs.Prelude.{◌≡◌, ℕ, ◌+◌, ◌*◌, ◌<◌, ◌≤◌, ◌^◌, ◌++◌, length, take};
-ghost use Rattle.std.specs.List.{flat_map};
+//! One load command: what it says, how many bytes it has, and its bytes.
+ghost use Rattle.std.specs.Prelude.{◌≡◌, ◌+◌, ◌≤◌, length};
 ghost use Rattle.macho_bytes.specs.Texts.{put};
-ghost use Rattle.macho_bytes.specs.Layouts.{spelling, ReadsBack};
-ghost use Rattle.macho_records.specs.Layouts.{section_header, segment_command, entry_point_command, dylinker_command};
 
+use crate::linkedit::{write_linkedit, write_symtab};
+use crate::paths::{path_command_size, write_dylib, write_dylinker, write_rpath};
+use crate::records::{write_build_version, write_entry_point, write_uuid};
+use crate::segment::write_segment;
 use macho_model::PlacedSegment;
 use macho_records::{
-    DylinkerCommand, EntryPointCommand, LC_LOAD_DYLINKER, LC_MAIN, LC_SEGMENT_64, SectionHeader,
-    SegmentCommand,
+    BuildToolVersion, BuildVersionCommand, DylibCommand, DylinkerCommand, EntryPointCommand,
+    LC_CODE_SIGNATURE, LC_DYLD_CHAINED_FIXUPS, LC_DYLD_EXPORTS_TRIE, LC_ID_DYLIB, LC_LOAD_DYLIB,
+    LinkeditDataCommand, RpathCommand, SectionHeader, SegmentCommand, SymtabCommand, UuidCommand,
 };
 
-/// The path of the dynamic linker with the zeros behind it, and the size of the command that holds it.
-pub const DYLINKER_PATH: [u8; 20] = *b"/usr/lib/dyld\0\0\0\0\0\0\0";
-/// The bytes of that command.
-pub const DYLINKER_SIZE: u32 = 32;
+/// The path of the system's dynamic linker.
+pub const DYLINKER_PATH: [u8; 13] = *b"/usr/lib/dyld";
 
-/// A load command that the linker writes.
+/// The version of a needed library that is written: 1356.0.0, as 16, 8 and 8 bits.
+pub(crate) const LIBRARY_VERSION: u32 = 0x054c_0000;
+/// The oldest version of a needed library that is written: 1.0.0.
+pub(crate) const LIBRARY_COMPATIBILITY: u32 = 0x0001_0000;
+
+/// A range of the file, in `__LINKEDIT`.
+#[derive(Clone, Copy)]
+pub struct Table {
+    /// The file offset of its first byte.
+    pub offset: u32,
+    /// Its bytes.
+    pub size: u32,
+}
+
+/// The symbol table and its strings.
+#[derive(Clone, Copy)]
+pub struct SymbolTable {
+    /// The file offset of the first symbol.
+    pub symbols_offset: u32,
+    /// How many symbols there are.
+    pub symbols: u32,
+    /// The file offset of the names.
+    pub strings_offset: u32,
+    /// The bytes of the names.
+    pub strings_size: u32,
+}
+
+/// A load command that the linker writes (`mach-o/loader.h`).
 #[derive(Clone, Copy)]
 pub enum Command<'a> {
-    /// A segment, and the headers of its sections.
+    /// `LC_SEGMENT_64`: a segment, and the headers of its sections.
     Segment {
         /// Where the segment stands.
         segment: PlacedSegment,
@@ -37,17 +57,52 @@ pub enum Command<'a> {
         /// The headers of its sections, in order.
         headers: &'a [SectionHeader],
     },
-    /// Where an executable begins.
+    /// `LC_MAIN`: where an executable begins.
     EntryPoint {
         /// The file offset of the first instruction.
         offset: u64,
     },
-    /// The dynamic linker.
+    /// `LC_UUID`: the name of this build.
+    Uuid {
+        /// The bytes as they stand in the file.
+        uuid: [u8; 16],
+    },
+    /// `LC_BUILD_VERSION`: for which macOS the file was built, and by this linker.
+    BuildVersion {
+        /// The least version of the system, as 16, 8 and 8 bits.
+        minimum: u32,
+        /// The version of the SDK.
+        sdk: u32,
+    },
+    /// `LC_LOAD_DYLINKER`: the system's dynamic linker.
     Dylinker,
+    /// `LC_ID_DYLIB`: the name of this library.
+    IdDylib {
+        /// Its install name.
+        name: &'a [u8],
+    },
+    /// `LC_LOAD_DYLIB`: a library that is needed.
+    LoadDylib {
+        /// Its install name.
+        name: &'a [u8],
+    },
+    /// `LC_RPATH`: a path to search `@rpath` in.
+    Rpath {
+        /// The path.
+        path: &'a [u8],
+    },
+    /// `LC_DYLD_CHAINED_FIXUPS`: the fixup table.
+    ChainedFixups(Table),
+    /// `LC_DYLD_EXPORTS_TRIE`: the exports trie.
+    ExportsTrie(Table),
+    /// `LC_SYMTAB`: the symbol table.
+    Symtab(SymbolTable),
+    /// `LC_CODE_SIGNATURE`: the signature.
+    CodeSignature(Table),
 }
 
 impl Command<'_> {
-    ghost use Rattle.macho_commands.specs.Commands.{text_of, Fits, size_of_command};
+    ghost use Rattle.macho_commands.specs.Commands.{text_of, Fits, size_of_command, said_by};
     ghost use Rattle.macho_commands.specs.Reading.{IsReadable};
 
     /// The bytes of the command.
@@ -59,7 +114,16 @@ impl Command<'_> {
             Command::Segment { headers, .. } => SegmentCommand::SIZE
                 + SectionHeader::SIZE * headers.len(),
             Command::EntryPoint { .. } => EntryPointCommand::SIZE,
-            Command::Dylinker => DYLINKER_SIZE as usize,
+            Command::Uuid { .. } => UuidCommand::SIZE,
+            Command::BuildVersion { .. } => BuildVersionCommand::SIZE + BuildToolVersion::SIZE,
+            Command::Dylinker => path_command_size(DylinkerCommand::SIZE, DYLINKER_PATH.len()),
+            Command::IdDylib { name } => path_command_size(DylibCommand::SIZE, name.len()),
+            Command::LoadDylib { name } => path_command_size(DylibCommand::SIZE, name.len()),
+            Command::Rpath { path } => path_command_size(RpathCommand::SIZE, path.len()),
+            Command::ChainedFixups(_) => LinkeditDataCommand::SIZE,
+            Command::ExportsTrie(_) => LinkeditDataCommand::SIZE,
+            Command::Symtab(_) => SymtabCommand::SIZE,
+            Command::CodeSignature(_) => LinkeditDataCommand::SIZE,
         }
     }
 
@@ -69,7 +133,7 @@ impl Command<'_> {
         requires room { at + size_of_command self.now ≤ length out.old }
         ensures written { out.new ≡ put at (text_of self.now) out.old }
         ensures long { length (text_of self.now) ≡ size_of_command self.now }
-        ensures readable { IsReadable self.now }
+        ensures readable { IsReadable (said_by self.now) }
     {
         match self {
             Command::Segment {
@@ -77,91 +141,30 @@ impl Command<'_> {
                 protection,
                 flags,
                 headers,
-            } => { write_segment(segment, *protection, *flags, headers, out, at) }
+            } => write_segment(segment, *protection, *flags, headers, out, at),
             Command::EntryPoint { offset } => write_entry_point(*offset, out, at),
+            Command::Uuid { uuid } => write_uuid(*uuid, out, at),
+            Command::BuildVersion { minimum, sdk } => {
+                write_build_version(*minimum, *sdk, out, at)
+            }
             Command::Dylinker => write_dylinker(out, at),
+            Command::IdDylib { name } => write_dylib(LC_ID_DYLIB, 1, 0, 0, name, out, at),
+            Command::LoadDylib { name } => write_dylib(
+                LC_LOAD_DYLIB,
+                2,
+                LIBRARY_VERSION,
+                LIBRARY_COMPATIBILITY,
+                name,
+                out,
+                at,
+            ),
+            Command::Rpath { path } => write_rpath(path, out, at),
+            Command::ChainedFixups(table) => {
+                write_linkedit(LC_DYLD_CHAINED_FIXUPS, *table, out, at)
+            }
+            Command::ExportsTrie(table) => write_linkedit(LC_DYLD_EXPORTS_TRIE, *table, out, at),
+            Command::Symtab(tables) => write_symtab(*tables, out, at),
+            Command::CodeSignature(table) => write_linkedit(LC_CODE_SIGNATURE, *table, out, at),
         }
     }
-}
-
-ghost use Rattle.macho_commands.specs.Records.{segment_record, entry_point_record, dylinker_record, dylinker_text};
-
-fn write_segment(
-    segment: &PlacedSegment,
-    protection: u32,
-    flags: u32,
-    headers: &[SectionHeader],
-    out: &mut [u8],
-    at: usize,
-)
-    requires small { 72 + 80 * length headers.now < 2 ^ 32 }
-    requires room { at + (72 + 80 * length headers.now) ≤ length out.old }
-    ensures written { out.new ≡ put at (spelling segment_command (segment_record segment.now protection flags (length headers.now)) ++ flat_map (spelling section_header) headers.now) out.old }
-    ensures long { length (spelling segment_command (segment_record segment.now protection flags (length headers.now)) ++ flat_map (spelling section_header) headers.now) ≡ 72 + 80 * length headers.now }
-    ensures back { ReadsBack segment_command (segment_record segment.now protection flags (length headers.now)) }
-{
-    let record = SegmentCommand {
-        cmd: LC_SEGMENT_64,
-        cmdsize: (72 + 80 * headers.len()) as u32,
-        segname: segment.name.into_bytes(),
-        vmaddr: segment.address,
-        vmsize: segment.size,
-        fileoff: segment.file_offset,
-        filesize: segment.file_size,
-        maxprot: protection,
-        initprot: protection,
-        nsects: headers.len() as u32,
-        flags,
-    };
-    record.write(out, at);
-    write_headers(headers, out, at + SegmentCommand::SIZE);
-}
-
-fn write_headers(headers: &[SectionHeader], out: &mut [u8], at: usize)
-    requires { at + 80 * length headers.now ≤ length out.old }
-    ensures written { out.new ≡ put at (flat_map (spelling section_header) headers.now) out.old }
-    ensures long { length (flat_map (spelling section_header) headers.now) ≡ 80 * length headers.now }
-{
-    let mut place = at;
-    for header in headers {
-        header.write(out, place);
-        place += SectionHeader::SIZE;
-    }
-}
-
-fn write_entry_point(offset: u64, out: &mut [u8], at: usize)
-    requires { at + 24 ≤ length out.old }
-    ensures written { out.new ≡ put at (spelling entry_point_command (entry_point_record offset)) out.old }
-    ensures long { length (spelling entry_point_command (entry_point_record offset)) ≡ 24 }
-    ensures back { ReadsBack entry_point_command (entry_point_record offset) }
-{
-    let record = EntryPointCommand {
-        cmd: LC_MAIN,
-        cmdsize: EntryPointCommand::SIZE as u32,
-        entryoff: offset,
-        stacksize: 0,
-    };
-    record.write(out, at);
-}
-
-fn write_dylinker(out: &mut [u8], at: usize)
-    requires { at + 32 ≤ length out.old }
-    ensures written { out.new ≡ put at dylinker_text out.old }
-    ensures long { length dylinker_text ≡ 32 }
-    ensures back { ReadsBack dylinker_command dylinker_record }
-{
-    let record = DylinkerCommand {
-        cmd: LC_LOAD_DYLINKER,
-        cmdsize: DYLINKER_SIZE,
-        name_offset: DylinkerCommand::SIZE as u32,
-    };
-    record.write(out, at);
-    put_path(out, at + DylinkerCommand::SIZE);
-}
-
-fn put_path(out: &mut [u8], at: usize)
-    requires { at + 20 ≤ length out.old }
-    ensures { out.new ≡ put at DYLINKER_PATH out.old }
-{
-    out[at..at + DYLINKER_PATH.len()].copy_from_slice(&DYLINKER_PATH);
 }

@@ -1,14 +1,14 @@
--- The laws on the room for a table.
+-- The laws on the room for a table, and that a segment without a fixup has no pages.
 --
 -- A fixup of a segment is below its end, so its page is one of those that the file part covers, counted from a segment
 -- that begins at a page: the greatest of these counts is no more than all. Rounding up keeps order, and so do sums.
-use Rattle.std.proofs.Common.{◌+◌, ◌-◌, ◌*◌, ◌/◌, ◌≤◌, get_or, arith, inl, inr}
+use Rattle.std.proofs.Common.{◌≡◌, ◌+◌, ◌-◌, ◌*◌, ◌/◌, ◌≤◌, Bool, false, get_or, arith, ap, inl, inr, if◌then◌else◌}
 use Rattle.std.proofs.Math.Nat.{mul-le-mul_left}
 use Rattle.std.proofs.lemmas.Bool.{cases_lt}
 use Rattle.macho_model.specs.Images.{CHAIN_PAGE}
 use Rattle.macho_fixups.specs.declared.run.Fixup.{Fixup}
-use Rattle.macho_fixups.specs.Runs.{pages_with}
-use Rattle.macho_fixups.specs.Laws.{PagesAreBounded, RoomGrows}
+use Rattle.macho_fixups.specs.Runs.{pages_with, pages_of, is_in}
+use Rattle.macho_fixups.specs.Laws.{PagesAreBounded, RoomGrows, NoFixupNoPages}
 use Rattle.macho_fixups.proofs.Cuts.{pages_of-below, pages_with-in, pages_with-out}
 
 -- a segment's pages
@@ -29,3 +29,12 @@ pages_bounded s fixups whole =
 pub room_grows : RoomGrows
 room_grows size entries more_entries names more_names pages more_pages a b c =
     let product : size * entries ≤ size * more_entries = mul-le-mul_left size a in omega (arith, product, b, c)
+
+-- no fixup, no pages
+pub none_no_pages : NoFixupNoPages
+none_no_pages s fixups none =
+    let few : pages_of s fixups ≤ 0 = pages_of-below s fixups 0 (λ k d lt. of_none (get_or fixups k d) (none k d lt)) in omega (arith, few)
+  where
+    of_none : (f : Fixup) → is_in s f.address ≡ false → pages_with s f ≤ 0
+    of_none f out =
+        let is : pages_with s f ≡ 0 = ap (λ (t : Bool). if t then f.address / CHAIN_PAGE - s.address / CHAIN_PAGE + 1 else 0) out in omega (arith, is)

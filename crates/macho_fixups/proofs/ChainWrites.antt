@@ -18,7 +18,8 @@ use Rattle.macho_fixups.specs.declared.run.Fixup.{Fixup}
 use Rattle.macho_fixups.specs.declared.run.FixupSegment.{FixupSegment}
 use Rattle.macho_fixups.specs.Words.{has_word, word_of, IsWordOf}
 use Rattle.macho_fixups.specs.Runs.{AreFixups, AreSegments}
-use Rattle.macho_fixups.specs.Chains.{place_of, step_of, word_part, AreWritten, HaveWords, HaveRoom, IsSegmentOf, ArePassed}
+use Rattle.macho_fixups.specs.Chains.{place_of, step_of, word_part, AreWritten, HaveWords, HaveRoom}
+use Rattle.macho_fixups.specs.steps.Chains.{IsSegmentOf, ArePassed}
 use Rattle.macho_fixups.proofs.SegmentWrites.{no_segment}
 use Rattle.macho_fixups.proofs.Places.{place_of-at, places_apart}
 

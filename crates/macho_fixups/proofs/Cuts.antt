@@ -13,7 +13,7 @@ use Rattle.macho_model.specs.Images.{NO_START, CHAIN_PAGE}
 use Rattle.macho_fixups.specs.declared.run.Fixup.{Fixup}
 use Rattle.macho_fixups.specs.declared.run.FixupSegment.{FixupSegment}
 use Rattle.macho_fixups.specs.Runs.{AreSorted, pages_with, pages_of, start_of, is_in}
-use Rattle.macho_fixups.specs.Cuts.{AreBelow, AreBelowFrom, IsSkip, IsCut}
+use Rattle.macho_fixups.specs.steps.Cuts.{AreBelow, AreBelowFrom, IsSkip, IsCut}
 
 -- nothing is passed yet
 pub none_below : (fixups : List Fixup) (from bound : ℕ) → AreBelowFrom fixups from bound from

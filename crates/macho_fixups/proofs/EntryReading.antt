@@ -18,7 +18,8 @@ use Rattle.macho_model.specs.Images.{Table, fixups_header, import_entry_size, im
 use Rattle.macho_model.specs.Images as images
 use Rattle.macho_fixups.specs.declared.imports.ImportEntry.{ImportEntry}
 use Rattle.macho_fixups.specs.Tables.{entry_text, entry_word}
-use Rattle.macho_fixups.specs.Calls.{AreEntries, EntryFits}
+use Rattle.macho_fixups.specs.Calls.{AreEntries}
+use Rattle.macho_fixups.specs.steps.Calls.{EntryFits}
 use Rattle.macho_fixups.specs.Readings.{entry_seen}
 
 -- the length of an entry

@@ -17,7 +17,7 @@ use Rattle.macho_bytes.proofs.Sequences.{MoreTexts, texts_begin, texts_go_on, te
 use Rattle.macho_model.specs.Images.{import_entry_size}
 use Rattle.macho_fixups.specs.declared.imports.ImportEntry.{ImportEntry}
 use Rattle.macho_fixups.specs.Tables.{entry_text, entry_word}
-use Rattle.macho_fixups.specs.Calls.{EntryFits}
+use Rattle.macho_fixups.specs.steps.Calls.{EntryFits}
 use Rattle.std.specs.Prelude.{All}
 use Rattle.std.proofs.lemmas.Bool.{cases_lt}
 

@@ -14,8 +14,8 @@ use Rattle.macho_bytes.proofs.Sequences.{MoreTexts, texts_begin, texts_go_on, te
 use Rattle.macho_model.specs.Images.{NO_START, CHAIN_PAGE}
 use Rattle.macho_fixups.specs.declared.run.Fixup.{Fixup}
 use Rattle.macho_fixups.specs.Runs.{AreSorted, start_of}
-use Rattle.macho_fixups.specs.Cuts.{IsCut}
-use Rattle.macho_fixups.specs.Cuts.{IsSkip}
+use Rattle.macho_fixups.specs.steps.Cuts.{IsCut}
+use Rattle.macho_fixups.specs.steps.Cuts.{IsSkip}
 use Rattle.macho_fixups.specs.Tables.{page_starts_text}
 use Rattle.macho_fixups.proofs.Cuts.{start_of-here, start_of-none, cut_of, below_cut}
 

@@ -12,7 +12,8 @@ use Rattle.std.proofs.lemmas.List.Elements.{All-contains}
 use Rattle.macho_model.specs.Chain.{WORD_SIZE}
 use Rattle.macho_fixups.specs.declared.run.FixupSegment.{FixupSegment}
 use Rattle.macho_fixups.specs.Runs.{AreSegments, Holds, is_in}
-use Rattle.macho_fixups.specs.Chains.{place_of, IsSegmentOf, ArePassed}
+use Rattle.macho_fixups.specs.Chains.{place_of}
+use Rattle.macho_fixups.specs.steps.Chains.{IsSegmentOf, ArePassed}
 use Rattle.macho_fixups.proofs.SegmentWrites.{no_segment}
 
 -- a segment behind which an address stands doesn't have it

@@ -16,12 +16,11 @@ use Rattle.macho_bytes.specs.Numbers.{little, le_at}
 use Rattle.macho_model.specs.Images.{NO_START, CHAIN_PAGE}
 use Rattle.macho_model.specs.Chain.{ChainSegment, OnChain, IsFileWord, WORD_SIZE, STRIDE, next_of}
 use Rattle.macho_model.specs.Chain as chain
-use Rattle.macho_fixups.specs.declared.words.FixupKind.TheVariants.{Rebase}
 use Rattle.macho_fixups.specs.declared.run.Fixup.{Fixup}
 use Rattle.macho_fixups.specs.declared.run.FixupSegment.{FixupSegment}
 use Rattle.macho_fixups.specs.Words.{IsWordOf, word_of}
 use Rattle.macho_fixups.specs.Runs.{AreFixups, AreSegments, Holds, pages_of, start_of}
-use Rattle.macho_fixups.specs.Chains.{place_of, step_of, step_between, starts_in, chain_seen, AllStand, IsStepOf, ChainIsRun}
+use Rattle.macho_fixups.specs.Chains.{place_of, step_of, step_between, starts_in, chain_seen, AllStand, IsStepOf}
 use Rattle.macho_fixups.proofs.Cuts.{pages_of-above, pages_with-in, start_of-here}
 use Rattle.macho_fixups.proofs.SegmentWrites.{no_segment}
 use Rattle.macho_fixups.proofs.Places.{place_of-at, numbered, number_of}
@@ -51,7 +50,7 @@ pub record HasFirst (fixups : List Fixup) (number : ℕ) (d : Fixup) : Type 0 wh
   pub on : (get_or fixups k d).address / CHAIN_PAGE ≡ number
   pub at : (get_or fixups k d).address % CHAIN_PAGE ≡ start_of fixups number
 
-start_of-found : (fixups : List Fixup) (number : ℕ) (d : Fixup) → start_of fixups number ≢ NO_START → HasFirst fixups number d
+pub start_of-found : (fixups : List Fixup) (number : ℕ) (d : Fixup) → start_of fixups number ≢ NO_START → HasFirst fixups number d
 unfolding start_of
 start_of-found [] number d some = absurd (some refl)
 start_of-found (f ∷ fixups) number d some =
@@ -68,7 +67,7 @@ start_of-found (f ∷ fixups) number d some =
 abbrev pub IsSeen : List FixupSegment → List Fixup → ChainSegment → Type 0
 IsSeen segments fixups g = (s : FixupSegment) × Contains segments s × (g ≡ chain_seen fixups s)
 
-seen_of : (segments : List FixupSegment) (fixups : List Fixup) (g : ChainSegment) → Contains (map (chain_seen fixups) segments) g → IsSeen segments fixups g
+pub seen_of : (segments : List FixupSegment) (fixups : List Fixup) (g : ChainSegment) → Contains (map (chain_seen fixups) segments) g → IsSeen segments fixups g
 seen_of segments fixups g one =
     All-contains (IsSeen segments fixups) (map (chain_seen fixups) segments) g
     (λ k d lt.
@@ -78,7 +77,7 @@ seen_of segments fixups g one =
       get_or-map (chain_seen fixups) segments k no_segment d within,
     )) one
 
-is_seen : (segments : List FixupSegment) (fixups : List Fixup) (s : FixupSegment) → Contains segments s
+pub is_seen : (segments : List FixupSegment) (fixups : List Fixup) (s : FixupSegment) → Contains segments s
     → Contains (map (chain_seen fixups) segments) (chain_seen fixups s)
 is_seen segments fixups s one =
     let n = number_of segments s one in
@@ -88,7 +87,7 @@ is_seen segments fixups s one =
     (All-contains_itself (map (chain_seen fixups) segments) n.number (chain_seen fixups s) within)
 
 -- the place of an address that a segment holds
-place_in : (segments : List FixupSegment) (s : FixupSegment) (a : ℕ) → AreSegments segments → Contains segments s → Holds s a
+pub place_in : (segments : List FixupSegment) (s : FixupSegment) (a : ℕ) → AreSegments segments → Contains segments s → Holds s a
     → place_of segments a ≡ s.file_offset + (a - s.address)
 place_in segments s a order one holds =
     let n = number_of segments s one in
@@ -103,7 +102,7 @@ standing segments fixups b k d words stand lt =
     (place_of segments (get_or fixups k d).address) (words k d lt).fits (stand.each k d lt)
 
 -- a file's word at a fixup is that of the run
-word_is : (segments : List FixupSegment) (fixups : List Fixup) (b : List ℕ) (k word : ℕ) (d : Fixup) → AreSegments segments → AreWords fixups
+pub word_is : (segments : List FixupSegment) (fixups : List Fixup) (b : List ℕ) (k word : ℕ) (d : Fixup) → AreSegments segments → AreWords fixups
     → AllStand segments fixups b → k < length fixups → IsFileWord (map (chain_seen fixups) segments) b (get_or fixups k d).address word
     → word ≡ word_of (get_or fixups k d).kind (step_of fixups k)
 word_is segments fixups b k word d order words stand lt w =
@@ -139,7 +138,7 @@ exact a b steps le four_a four_b some is =
     ] is
 
 -- where a word leads on, the next fixup is there
-leads : (fixups : List Fixup) (k : ℕ) (d : Fixup) (segments : List FixupSegment) → AreFixups segments fixups → k < length fixups → 1 ≤ step_of fixups k
+pub leads : (fixups : List Fixup) (k : ℕ) (d : Fixup) (segments : List FixupSegment) → AreFixups segments fixups → k < length fixups → 1 ≤ step_of fixups k
     → (k + 1 < length fixups) × ((get_or fixups k d).address + STRIDE * step_of fixups k ≡ (get_or fixups (k + 1) d).address)
 leads fixups k d segments run lt some =
     elim (cases_lt (k + 1) (length fixups)) [
@@ -159,25 +158,25 @@ pub record IsNumbered (fixups : List Fixup) (a : ℕ) (d : Fixup) : Type 0 where
   pub is : (get_or fixups k d).address ≡ a
 
 -- page number by the segment's
-page_address : (s start number page a : ℕ) → s % CHAIN_PAGE ≡ 0 → number ≡ s / CHAIN_PAGE + page → a / CHAIN_PAGE ≡ number → a % CHAIN_PAGE ≡ start
+pub page_address : (s start number page a : ℕ) → s % CHAIN_PAGE ≡ 0 → number ≡ s / CHAIN_PAGE + page → a / CHAIN_PAGE ≡ number → a % CHAIN_PAGE ≡ start
     → a ≡ s + CHAIN_PAGE * page + start
 page_address s start number page a whole is on at = omega (arith, whole, is, on, at)
 
 -- a page's start among the starts of its segment
-start_in : (fixups : List Fixup) (s : FixupSegment) (page : ℕ) → page < pages_of s fixups
+pub start_in : (fixups : List Fixup) (s : FixupSegment) (page : ℕ) → page < pages_of s fixups
     → slice_index (starts_in fixups s) page ≡ start_of fixups (s.address / CHAIN_PAGE + page)
 start_in fixups s page lt =
     get_or-map (λ (p : ℕ). start_of fixups (s.address / CHAIN_PAGE + p)) (range_with_len 0 (pages_of s fixups)) page 0 0
     (omega (arith, length-range_with_len 0 (pages_of s fixups)))
     ∙ ap (λ (p : ℕ). start_of fixups (s.address / CHAIN_PAGE + p)) (get_or-range_with_len 0 (pages_of s fixups) page 0 lt ∙ omega arith)
 
-starts_long : (fixups : List Fixup) (s : FixupSegment) → length (starts_in fixups s) ≡ pages_of s fixups
+pub starts_long : (fixups : List Fixup) (s : FixupSegment) → length (starts_in fixups s) ≡ pages_of s fixups
 starts_long fixups s =
     length-map (range_with_len 0 (pages_of s fixups)) (λ (p : ℕ). start_of fixups (s.address / CHAIN_PAGE + p))
     ∙ length-range_with_len 0 (pages_of s fixups)
 
 -- all of the chain are fixups
-only : (segments : List FixupSegment) (fixups : List Fixup) (b : List ℕ) (d : Fixup) → AreFixups segments fixups → AreSegments segments
+pub only : (segments : List FixupSegment) (fixups : List Fixup) (b : List ℕ) (d : Fixup) → AreFixups segments fixups → AreSegments segments
     → AreWords fixups → AllStand segments fixups b → (a : ℕ) → OnChain (map (chain_seen fixups) segments) b a → IsNumbered fixups a d
 only segments fixups b d run order words stand _ (chain.OnChain.first g page one within some) =
     let seen = seen_of segments fixups g one in
@@ -228,7 +227,7 @@ first_on segments fixups b k d run order lt before =
         (chain.OnChain.first (chain_seen fixups s) page (is_seen segments fixups s one) (omega (arith, few, starts_long fixups s)) some)
 
 -- all fixups are on the chain
-found : (segments : List FixupSegment) (fixups : List Fixup) (b : List ℕ) (d : Fixup) → AreFixups segments fixups → AreSegments segments
+pub found : (segments : List FixupSegment) (fixups : List Fixup) (b : List ℕ) (d : Fixup) → AreFixups segments fixups → AreSegments segments
     → AreWords fixups → AllStand segments fixups b → (k : ℕ) → k < length fixups
     → OnChain (map (chain_seen fixups) segments) b (get_or fixups k d).address
 found segments fixups b d run order words stand zero lt =
@@ -276,7 +275,7 @@ found segments fixups b d run order words stand (suc k) lt =
         (word_there segments fixups b k d run order words stand within) (omega (arith, goes, some)))
 
 -- the steps of a fixup are those to the next one of its page
-steps_lead : (segments : List FixupSegment) (fixups : List Fixup) (k : ℕ) (d : Fixup) → AreFixups segments fixups → k < length fixups
+pub steps_lead : (segments : List FixupSegment) (fixups : List Fixup) (k : ℕ) (d : Fixup) → AreFixups segments fixups → k < length fixups
     → IsStepOf fixups k d (step_of fixups k)
 steps_lead segments fixups k d run lt = record {
   next = λ some. leads fixups k d segments run lt some;
@@ -309,32 +308,3 @@ steps_lead segments fixups k d run lt = record {
           let steps : step_of fixups k ≡ ((get_or fixups (k + 1) d).address - (get_or fixups k d).address) / STRIDE = between more ∙ rw yes refl in
           absurd (omega (arith, steps, none, ordered))
     ]
-
--- THE chain is the run.
-pub chain_is_run : (segments : List FixupSegment) (fixups : List Fixup) → AreFixups segments fixups → AreSegments segments → AreWords fixups
-    → ChainIsRun segments fixups
-chain_is_run segments fixups run order words =
-    record {
-      set = λ b a stand. (
-        λ on. let k = only segments fixups b no_fixup run order words stand a on in
-            (get_or fixups k.k no_fixup, All-contains_itself fixups k.k no_fixup k.within, k.is),
-        λ one. back b a stand one.0 one.1 one.2,
-      );
-      says = λ b k word d stand lt w.
-          subst (λ (v : ℕ). IsWordOf (get_or fixups k d).kind (step_of fixups k) v) (sym (word_is segments fixups b k word d order words stand lt w))
-          (words k d lt);
-      onward = λ b k word d stand lt w.
-          let goes : step_of fixups k ≡ next_of word =
-          sym (ap (λ (v : ℕ). next_of v) (word_is segments fixups b k word d order words stand lt w) ∙ (words k d lt).leads) in
-          subst (λ (n : ℕ). IsStepOf fixups k d n) goes (steps_lead segments fixups k d run lt);
-    }
-  where
-    no_fixup : Fixup
-    no_fixup = record { address = 0; kind = Rebase 0 }
-
-    back : (b : List ℕ) (a : ℕ) → AllStand segments fixups b → (f : Fixup) → Contains fixups f → f.address ≡ a
-        → OnChain (map (chain_seen fixups) segments) b a
-    back b a stand f one is =
-        subst (λ (x : ℕ). OnChain (map (chain_seen fixups) segments) b x) is
-        (All-contains (λ (g : Fixup). OnChain (map (chain_seen fixups) segments) b g.address) fixups f
-        (λ k d lt. found segments fixups b d run order words stand k lt) one)

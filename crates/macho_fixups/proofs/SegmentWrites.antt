@@ -18,7 +18,7 @@ use Rattle.macho_bytes.proofs.Tables.{flat_map-more}
 use Rattle.macho_fixups.specs.declared.run.Fixup.{Fixup}
 use Rattle.macho_fixups.specs.declared.run.FixupSegment.{FixupSegment}
 use Rattle.macho_fixups.specs.Runs.{AreSegments, pages_of}
-use Rattle.macho_fixups.specs.Cuts.{AreBelow, IsCut}
+use Rattle.macho_fixups.specs.steps.Cuts.{AreBelow, IsCut}
 use Rattle.macho_fixups.specs.Tables.{offsets_text, segment_text, segment_size, starts_text, starts_size}
 use Rattle.macho_fixups.proofs.Cuts.{below_cut}
 use Rattle.macho_fixups.proofs.PutOrder.{put_swap, put_in_front}

@@ -3,7 +3,7 @@
 -- The number of segments and the offsets stand one behind the other, and behind them what is told of each segment, at
 -- the place that its offset tells. There its record says how many pages it has, and each page's start stands two
 -- bytes behind the one before it. A segment without pages has the offset 0, and no starts are read.
-use Rattle.std.proofs.Common.{◌≡◌, ℕ, zero, suc, ◌+◌, ◌*◌, ◌/◌, ◌%◌, ◌^◌, ◌<◌, ◌==◌, Bool, true, false, List, [], ◌∷◌, ◌++◌, length, get_or, take, arith, refl, ap, subst, ◌∙◌, inl, inr, if◌then◌else◌}
+use Rattle.std.proofs.Common.{◌≡◌, ℕ, zero, suc, ◌+◌, ◌*◌, ◌/◌, ◌%◌, ◌^◌, ◌<◌, ◌≤◌, ◌==◌, Bool, true, false, List, [], ◌∷◌, ◌++◌, length, get_or, take, arith, refl, sym, ap, subst, ◌∙◌, inl, inr, if◌then◌else◌}
 use Rattle.std.specs.Prelude.{sum_by}
 use Rattle.std.specs.List.{flat_map, range_with_len}
 use Rattle.std.proofs.lemmas.Bool.{cases_lt}
@@ -13,19 +13,21 @@ use Rattle.std.proofs.lemmas.List.Sums.{sum_by-cons}
 use Rattle.std.proofs.lemmas.List.FromFn.{length-range_with_len, get_or-range_with_len}
 use Rattle.macho_bytes.specs.Numbers.{little, le_at, le_bytes}
 use Rattle.macho_bytes.specs.Texts.{Stands}
-use Rattle.macho_bytes.specs.Layouts.{spelling}
+use Rattle.macho_bytes.specs.Layouts.{spelling, ReadsBack}
 use Rattle.macho_bytes.proofs.Numbers.{little_is_sound, number-stands, stands-front, stands-back}
-use Rattle.macho_bytes.proofs.Layouts.{length-spelling}
+use Rattle.macho_bytes.proofs.Layouts.{length-spelling, reads_back}
 use Rattle.macho_bytes.proofs.Tables.{EachLong, length-table, table-stands}
 use Rattle.macho_records.specs.Layouts.{chained_starts_in_segment}
 use Rattle.macho_records.specs.declared.fixups.ChainedStartsInSegment.{ChainedStartsInSegment}
-use Rattle.macho_model.specs.Images.{CHAIN_PAGE}
+use Rattle.macho_model.specs.Images.{CHAIN_PAGE, Table, starts_place, starts_offset, segment_starts, segment_starts_place}
 use Rattle.macho_fixups.specs.declared.run.Fixup.{Fixup}
 use Rattle.macho_fixups.specs.declared.run.FixupSegment.{FixupSegment}
 use Rattle.macho_fixups.specs.Runs.{pages_of, start_of}
 use Rattle.macho_fixups.specs.Tables.{offsets_text, segment_text, segment_size, starts_text, starts_size, starts_record, page_starts_text}
 use Rattle.macho_fixups.proofs.FirstWords.{start_text}
-use Rattle.macho_fixups.proofs.SegmentWrites.{offset_at}
+use Rattle.macho_fixups.specs.Calls.{FitsTable}
+use Rattle.macho_fixups.proofs.Cuts.{pages_of-no_bytes}
+use Rattle.macho_fixups.proofs.SegmentWrites.{offset_at, sum_bound}
 
 -- each start has two bytes
 two_bytes : (fixups : List Fixup) (first pages : ℕ) → EachLong (start_text fixups first) 2 (range_with_len 0 pages)
@@ -128,3 +130,88 @@ start_stands b fixups p first pages page s lt =
     number-stands little little_is_sound 2 (start_of fixups (first + get_or (range_with_len 0 pages) page 0)) b (p + 2 * page)
     (start_small fixups (first + get_or (range_with_len 0 pages) page 0)) here
     ∙ ap (λ (n : ℕ). start_of fixups (first + n)) number
+
+-- the record of a segment reads back
+record_back : (base pages : ℕ) (s : FixupSegment) → pages ≤ 65535 → s.address < 2 ^ 64 → ReadsBack chained_starts_in_segment (starts_record base s pages)
+record_back base pages s few fits =
+    reads_back chained_starts_in_segment (starts_record base s pages) little_is_sound
+    (((omega arith, tt), refl), (((omega arith, (omega arith, tt)), refl), (((omega arith, tt), refl), (((omega arith, tt), refl), (((omega arith, tt), refl), tt)))))
+    refl
+
+-- the sum of the texts in front of a segment's
+abbrev pub texts_before : List Fixup → List FixupSegment → ℕ → ℕ
+texts_before fixups segments k = sum_by (segment_size fixups) (take k segments)
+
+-- the offset that stands for segment k, where all starts have a place
+offset_read : (base at : ℕ) (fixups : List Fixup) (segments : List FixupSegment) (b : List ℕ) (t : Table) (k : ℕ) (d : FixupSegment)
+    → FitsTable base fixups segments → starts_place b t ≡ at
+    → Stands b (record { at = at + 4; text = offsets_text (4 + 4 * length segments) fixups segments }) → k < length segments
+    → starts_offset b t k ≡ offset_at (4 + 4 * length segments + texts_before fixups segments k) fixups (get_or segments k d)
+offset_read base at fixups segments b t k d fits place offsets lt =
+    ap (λ (p : ℕ). le_at 4 b (p + 4 + 4 * k)) place
+    ∙ offset_stands b fixups (at + 4) (4 + 4 * length segments) segments k d
+    (omega (arith, sum_bound fixups segments fits.pages, fits.count)) offsets lt
+
+-- a segment without pages has the offset 0
+pub no_offset : (base at : ℕ) (fixups : List Fixup) (segments : List FixupSegment) (b : List ℕ) (t : Table) (k : ℕ) (d : FixupSegment)
+    → FitsTable base fixups segments → starts_place b t ≡ at
+    → Stands b (record { at = at + 4; text = offsets_text (4 + 4 * length segments) fixups segments }) → k < length segments
+    → pages_of (get_or segments k d) fixups ≡ 0 → starts_offset b t k ≡ 0
+no_offset base at fixups segments b t k d fits place offsets lt none =
+    let yes : (pages_of (get_or segments k d) fixups == 0) ≡ true = grind (arith, nat_tests) in
+    offset_read base at fixups segments b t k d fits place offsets lt
+    ∙ ap (λ (e : Bool). if e then 0 else 4 + 4 * length segments + texts_before fixups segments k) yes
+
+-- What is read of a segment with pages: where its record is, what it says, and that its starts stand behind it.
+pub record IsRecordRead (base : ℕ) (fixups : List Fixup) (segments : List FixupSegment) (b : List ℕ) (t : Table) (k : ℕ) (s : FixupSegment)
+    : Type 0 where
+  pub offset : starts_offset b t k ≡ 4 + 4 * length segments + texts_before fixups segments k
+  pub is : segment_starts b t k ≡ starts_record base s (pages_of s fixups)
+  pub behind : Stands b (record {
+    at = segment_starts_place b t k + 22;
+    text = page_starts_text fixups (s.address / CHAIN_PAGE) (pages_of s fixups);
+  })
+
+pub record_read : (base at : ℕ) (fixups : List Fixup) (segments : List FixupSegment) (b : List ℕ) (t : Table) (k : ℕ) (d : FixupSegment)
+    → FitsTable base fixups segments → starts_place b t ≡ at
+    → Stands b (record { at = at + 4; text = offsets_text (4 + 4 * length segments) fixups segments })
+    → Stands b (record { at = at + 4 + 4 * length segments; text = flat_map (segment_text base fixups) segments }) → k < length segments
+    → 0 < pages_of (get_or segments k d) fixups → IsRecordRead base fixups segments b t k (get_or segments k d)
+unfolding segment_text
+record_read base at fixups segments b t k d fits place offsets texts lt some =
+    record {
+      offset = offset;
+      is = (record_back base pages s (fits.pages k d lt) small).back b (segment_starts_place b t k)
+          (stands-front b (segment_starts_place b t k) (spelling chained_starts_in_segment (starts_record base s pages)) _ parts);
+      behind = stands-back b (segment_starts_place b t k) (segment_starts_place b t k + 22)
+          (spelling chained_starts_in_segment (starts_record base s pages))
+          (page_starts_text fixups (s.address / CHAIN_PAGE) pages) (omega (arith, record_long (starts_record base s pages))) parts;
+    }
+  where
+    s : FixupSegment
+    s = get_or segments k d
+
+    pages : ℕ
+    pages = pages_of s fixups
+
+    offset : starts_offset b t k ≡ 4 + 4 * length segments + texts_before fixups segments k
+    offset =
+        let other : (pages == 0) ≡ false = grind (arith, nat_tests) in
+        offset_read base at fixups segments b t k d fits place offsets lt
+        ∙ ap (λ (e : Bool). if e then 0 else 4 + 4 * length segments + texts_before fixups segments k) other
+
+    here : segment_starts_place b t k ≡ at + 4 + 4 * length segments + texts_before fixups segments k
+    here = omega (arith, place, offset)
+
+    small : s.address < 2 ^ 64
+    small = omega (arith, fits.order.ends k d lt, fits.order.sizes k d lt, pages_of-no_bytes s fixups some)
+
+    parts : Stands b (record {
+      at = segment_starts_place b t k;
+      text = spelling chained_starts_in_segment (starts_record base s pages)
+          ++ page_starts_text fixups (s.address / CHAIN_PAGE) pages;
+    })
+    parts =
+        subst (λ (x : List ℕ). Stands b (record { at = segment_starts_place b t k; text = x })) (text_some base pages fixups s some)
+        (subst (λ (n : ℕ). Stands b (record { at = n; text = segment_text base fixups s })) (sym here)
+        (text_stands b base (at + 4 + 4 * length segments) fixups segments k d texts lt))

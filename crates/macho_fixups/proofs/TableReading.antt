@@ -3,8 +3,8 @@
 -- The parts of the table stand where the lengths before them end. The header's record reads back, and tells that the
 -- starts begin at 28. There the offsets of the segments stand, and each leads to what is told of its segment: the
 -- record says how many pages there are, and their starts are read as they were written.
-use Rattle.std.proofs.Common.{◌≡◌, ℕ, ◌+◌, ◌*◌, ◌/◌, ◌^◌, ◌<◌, ◌≤◌, ◌==◌, Bool, true, false, List, [], ◌++◌, length, map, get_or, take, arith, refl, sym, ap, subst, ◌∙◌, inl, inr, if◌then◌else◌}
-use Rattle.std.specs.Prelude.{sum_by, ◌↔◌, All}
+use Rattle.std.proofs.Common.{◌≡◌, ℕ, ◌+◌, ◌*◌, ◌/◌, ◌<◌, ◌≤◌, ◌==◌, Bool, true, false, List, [], ◌++◌, length, map, get_or, arith, refl, sym, ap, subst, ◌∙◌, inl, inr, if◌then◌else◌}
+use Rattle.std.specs.Prelude.{◌↔◌, All}
 use Rattle.std.specs.List.{flat_map, range_with_len, enumerate_from}
 use Rattle.macho_model.specs.Chain.{ChainSegment, OnChain}
 use Rattle.std.proofs.lemmas.Bool.{cases_lt}
@@ -15,8 +15,7 @@ use Rattle.macho_bytes.specs.Numbers.{little, le_at, le_bytes}
 use Rattle.macho_bytes.specs.Texts.{Stands}
 use Rattle.macho_bytes.specs.Layouts.{spelling, ReadsBack}
 use Rattle.macho_bytes.proofs.Numbers.{little_is_sound, number-stands, stands-front, stands-back}
-use Rattle.macho_bytes.proofs.Layouts.{reads_back}
-use Rattle.macho_records.specs.Layouts.{chained_fixups_header, chained_starts_in_segment}
+use Rattle.macho_records.specs.Layouts.{chained_fixups_header}
 use Rattle.macho_records.specs.declared.fixups.ChainedStartsInSegment.{ChainedStartsInSegment}
 use Rattle.macho_records.specs.declared.fixups.ChainedFixupsHeader.{ChainedFixupsHeader}
 use Rattle.macho_model.specs.Images.{CHAIN_PAGE, Table, fixups_header, starts_place, starts_offset, segment_starts, segment_starts_place, page_start, page_starts}
@@ -24,15 +23,17 @@ use Rattle.macho_fixups.specs.declared.run.Fixup.{Fixup}
 use Rattle.macho_fixups.specs.declared.run.FixupSegment.{FixupSegment}
 use Rattle.macho_fixups.specs.declared.imports.ImportEntry.{ImportEntry}
 use Rattle.macho_fixups.specs.Runs.{pages_of, start_of}
-use Rattle.macho_fixups.specs.Tables.{offsets_text, segment_text, segment_size, starts_record, page_starts_text, image_starts_text, image_starts_size, entry_text, table_header, table_text, names_place}
+use Rattle.macho_fixups.specs.Tables.{offsets_text, segment_text, image_starts_text, image_starts_size, entry_text, table_header, table_text, names_place}
 use Rattle.macho_fixups.specs.Chains.{starts_in, chain_seen, IsAddressOf}
-use Rattle.macho_fixups.specs.Calls.{FitsTable, AreEntries, EntryFits}
-use Rattle.macho_fixups.specs.Readings.{IsRead, TableReadsBack, told_segment, told_segments}
-use Rattle.macho_fixups.proofs.Cuts.{pages_of-no_bytes}
-use Rattle.macho_fixups.proofs.SegmentWrites.{no_segment, offset_at, sum_bound, length-offsets}
+use Rattle.macho_fixups.specs.Calls.{FitsTable, AreEntries}
+use Rattle.macho_fixups.specs.steps.Calls.{EntryFits}
+use Rattle.macho_model.specs.LoadRules.{table_fits}
+use Rattle.macho_fixups.specs.Readings.{IsRead, HasTable, TableReadsBack, told_segment, told_segments}
+use Rattle.macho_fixups.proofs.SegmentWrites.{no_segment, length-offsets}
 use Rattle.macho_fixups.proofs.TableTexts.{header_long}
 use Rattle.macho_fixups.proofs.EntryReading.{entry_read}
-use Rattle.macho_fixups.proofs.StartReading.{text_some, record_long, offset_stands, text_stands, start_stands}
+use Rattle.macho_fixups.proofs.TableTaken.{table_taken}
+use Rattle.macho_fixups.proofs.StartReading.{no_offset, record_read, start_stands}
 
 -- lists of numbers that agree at each place
 same_map : (f g : ℕ → ℕ) (n : ℕ) → ((k : ℕ) → k < n → f k ≡ g k) → map f (range_with_len 0 n) ≡ map g (range_with_len 0 n)
@@ -48,20 +49,12 @@ same_map f g n each =
         get_or-map f (range_with_len 0 n) i 0 0 within ∙ ap f number ∙ each i (omega (arith, lt, long)) ∙ sym (ap g number)
         ∙ sym (get_or-map g (range_with_len 0 n) i 0 0 within)
 
--- the record of a segment reads back
-record_back : (base pages : ℕ) (s : FixupSegment) → pages ≤ 65535 → s.address < 2 ^ 64 → ReadsBack chained_starts_in_segment (starts_record base s pages)
-record_back base pages s few fits =
-    reads_back chained_starts_in_segment (starts_record base s pages) little_is_sound
-    (((omega arith, tt), refl), (((omega arith, (omega arith, tt)), refl), (((omega arith, tt), refl), (((omega arith, tt), refl), (((omega arith, tt), refl), tt)))))
-    refl
-
 -- The starts of segment k, with the place of all starts.
 pub starts_read : (base at : ℕ) (fixups : List Fixup) (segments : List FixupSegment) (b : List ℕ) (t : Table) (k : ℕ) (d : FixupSegment)
     → FitsTable base fixups segments → starts_place b t ≡ at
     → Stands b (record { at = at + 4; text = offsets_text (4 + 4 * length segments) fixups segments })
     → Stands b (record { at = at + 4 + 4 * length segments; text = flat_map (segment_text base fixups) segments }) → k < length segments
     → page_starts b t k ≡ starts_in fixups (get_or segments k d)
-unfolding segment_text
 starts_read base at fixups segments b t k d fits place offsets texts lt =
     elim (cases_lt 0 pages) [ inl some ↦ with_pages some | inr none ↦ without none ]
   where
@@ -71,48 +64,22 @@ starts_read base at fixups segments b t k d fits place offsets texts lt =
     pages : ℕ
     pages = pages_of s fixups
 
-    sum : ℕ
-    sum = sum_by (segment_size fixups) (take k segments)
-
-    offset : starts_offset b t k ≡ offset_at (4 + 4 * length segments + sum) fixups s
-    offset = ap (λ (p : ℕ). le_at 4 b (p + 4 + 4 * k)) place
-        ∙ offset_stands b fixups (at + 4) (4 + 4 * length segments) segments k d
-        (omega (arith, sum_bound fixups segments fits.pages, fits.count)) offsets lt
-
     without : pages ≤ 0 → page_starts b t k ≡ starts_in fixups s
     without none =
         let zero_pages : pages ≡ 0 = omega arith in
-        let yes : (pages == 0) ≡ true = grind (arith, nat_tests) in
-        let is : starts_offset b t k ≡ 0 = offset ∙ ap (λ (e : Bool). if e then 0 else 4 + 4 * length segments + sum) yes in
+        let is : starts_offset b t k ≡ 0 = no_offset base at fixups segments b t k d fits place offsets lt zero_pages in
         let skip : (starts_offset b t k == 0) ≡ true = grind (arith, nat_tests) in
         ap (λ (e : Bool). if e then [] else map (page_start b t k) (range_with_len 0 (segment_starts b t k).page_count)) skip
         ∙ ap (λ (n : ℕ). map (λ (p : ℕ). start_of fixups (s.address / CHAIN_PAGE + p)) (range_with_len 0 n)) (sym zero_pages)
 
     with_pages : 0 < pages → page_starts b t k ≡ starts_in fixups s
     with_pages some =
-        let other : (pages == 0) ≡ false = grind (arith, nat_tests) in
-        let is : starts_offset b t k ≡ 4 + 4 * length segments + sum = offset ∙ ap (λ (e : Bool). if e then 0 else 4 + 4 * length segments + sum) other in
-        let goes : (starts_offset b t k == 0) ≡ false = grind (arith, nat_tests) in
-        let here : segment_starts_place b t k ≡ at + 4 + 4 * length segments + sum = omega (arith, place, is) in
-        let whole = text_stands b base (at + 4 + 4 * length segments) fixups segments k d texts lt in
-        let parts : Stands b (record {
-          at = segment_starts_place b t k;
-          text = spelling chained_starts_in_segment (starts_record base s pages)
-              ++ page_starts_text fixups (s.address / CHAIN_PAGE) pages;
-        }) =
-        subst (λ (x : List ℕ). Stands b (record { at = segment_starts_place b t k; text = x })) (text_some base pages fixups s some)
-        (subst (λ (n : ℕ). Stands b (record { at = n; text = segment_text base fixups s })) (sym here) whole) in
-        let small : s.address < 2 ^ 64 = omega (arith, fits.order.ends k d lt, fits.order.sizes k d lt, pages_of-no_bytes s fixups some) in
-        let record_is : segment_starts b t k ≡ starts_record base s pages =
-        (record_back base pages s (fits.pages k d lt) small).back b (segment_starts_place b t k)
-        (stands-front b (segment_starts_place b t k) (spelling chained_starts_in_segment (starts_record base s pages)) _ parts) in
-        let behind : Stands b (record { at = segment_starts_place b t k + 22; text = page_starts_text fixups (s.address / CHAIN_PAGE) pages }) =
-        stands-back b (segment_starts_place b t k) (segment_starts_place b t k + 22) (spelling chained_starts_in_segment (starts_record base s pages))
-        (page_starts_text fixups (s.address / CHAIN_PAGE) pages) (omega (arith, record_long (starts_record base s pages))) parts in
+        let told = record_read base at fixups segments b t k d fits place offsets texts lt some in
+        let goes : (starts_offset b t k == 0) ≡ false = (let far : starts_offset b t k ≡ _ = told.offset in grind (arith, nat_tests)) in
         ap (λ (e : Bool). if e then [] else map (page_start b t k) (range_with_len 0 (segment_starts b t k).page_count)) goes
-        ∙ ap (λ (r : ChainedStartsInSegment). map (page_start b t k) (range_with_len 0 r.page_count)) record_is
+        ∙ ap (λ (r : ChainedStartsInSegment). map (page_start b t k) (range_with_len 0 r.page_count)) told.is
         ∙ same_map (page_start b t k) (λ (p : ℕ). start_of fixups (s.address / CHAIN_PAGE + p)) pages
-        (λ page less. start_stands b fixups (segment_starts_place b t k + 22) (s.address / CHAIN_PAGE) pages page behind less)
+        (λ page less. start_stands b fixups (segment_starts_place b t k + 22) (s.address / CHAIN_PAGE) pages page told.behind less)
 
 -- segments with the starts that are told are those with the starts of the run
 told_are : (b : List ℕ) (t : Table) (fixups : List Fixup) (segments : List FixupSegment)
@@ -147,7 +114,7 @@ pub table_reads_back : (base : ℕ) (fixups : List Fixup) (segments : List Fixup
     → TableReadsBack base fixups segments format imports names
 unfolding table_text image_starts_text
 table_reads_back base fixups segments format imports names fits known entry_fits back long whole =
-    record { read = λ b t stands. read b t stands }
+    record { read = λ b t stands. read b t stands; taken = λ b t stands has. taken b t stands has }
   where
     header : ChainedFixupsHeader
     header = table_header fixups segments format imports
@@ -161,21 +128,40 @@ table_reads_back base fixups segments format imports names fits known entry_fits
     image : List ℕ
     image = image_starts_text base fixups segments
 
+    told_starts : (b : List ℕ) (t : Table) → Stands b (record { at = t.at; text = head ++ (image ++ (entries ++ names)) })
+        → Stands b (record { at = t.at + 28; text = image ++ (entries ++ names) })
+    told_starts b t stands = stands-back b t.at (t.at + 28) head (image ++ (entries ++ names)) (omega (arith, header_long header)) stands
+
+    behind_count : (b : List ℕ) (t : Table) → Stands b (record { at = t.at; text = head ++ (image ++ (entries ++ names)) })
+        → Stands b (record {
+          at = t.at + 28 + 4;
+          text = offsets_text (4 + 4 * length segments) fixups segments ++ flat_map (segment_text base fixups) segments;
+        })
+    behind_count b t stands =
+        stands-back b (t.at + 28) (t.at + 28 + 4) (le_bytes 4 (length segments))
+        (offsets_text (4 + 4 * length segments) fixups segments ++ flat_map (segment_text base fixups) segments)
+        (omega (arith, little_is_sound.long 4 (length segments))) (stands-front b (t.at + 28) image (entries ++ names) (told_starts b t stands))
+
+    offsets_there : (b : List ℕ) (t : Table) → Stands b (record { at = t.at; text = head ++ (image ++ (entries ++ names)) })
+        → Stands b (record { at = t.at + 28 + 4; text = offsets_text (4 + 4 * length segments) fixups segments })
+    offsets_there b t stands = stands-front b (t.at + 28 + 4) (offsets_text (4 + 4 * length segments) fixups segments) _ (behind_count b t stands)
+
+    texts_there : (b : List ℕ) (t : Table) → Stands b (record { at = t.at; text = head ++ (image ++ (entries ++ names)) })
+        → Stands b (record { at = t.at + 28 + 4 + 4 * length segments; text = flat_map (segment_text base fixups) segments })
+    texts_there b t stands =
+        stands-back b (t.at + 28 + 4) (t.at + 28 + 4 + 4 * length segments) (offsets_text (4 + 4 * length segments) fixups segments) _
+        (omega (arith, length-offsets (4 + 4 * length segments) fixups segments)) (behind_count b t stands)
+
     read : (b : List ℕ) (t : Table) → Stands b (record { at = t.at; text = head ++ (image ++ (entries ++ names)) })
         → IsRead b t fixups segments format imports names
     read b t stands =
         let header_is : fixups_header b t ≡ header = back.back b t.at (stands-front b t.at head (image ++ (entries ++ names)) stands) in
         let place : starts_place b t ≡ t.at + 28 = ap (λ (h : ChainedFixupsHeader). t.at + h.starts_offset) header_is in
-        let rest = stands-back b t.at (t.at + 28) head (image ++ (entries ++ names)) (omega (arith, header_long header)) stands in
+        let rest = told_starts b t stands in
         let starts = stands-front b (t.at + 28) image (entries ++ names) rest in
-        let behind_count = stands-back b (t.at + 28) (t.at + 28 + 4) (le_bytes 4 (length segments))
-        (offsets_text (4 + 4 * length segments) fixups segments ++ flat_map (segment_text base fixups) segments)
-        (omega (arith, little_is_sound.long 4 (length segments))) starts in
         let each : (k : ℕ) (d : FixupSegment) → k < length segments → page_starts b t k ≡ starts_in fixups (get_or segments k d) =
         λ k d lt. starts_read base (t.at + 28) fixups segments b t k d fits place
-        (stands-front b (t.at + 28 + 4) (offsets_text (4 + 4 * length segments) fixups segments) _ behind_count)
-        (stands-back b (t.at + 28 + 4) (t.at + 28 + 4 + 4 * length segments) (offsets_text (4 + 4 * length segments) fixups segments) _
-        (omega (arith, length-offsets (4 + 4 * length segments) fixups segments)) behind_count) lt in
+        (offsets_there b t stands) (texts_there b t stands) lt in
         let told = told_are b t fixups segments each in
         record {
           header = header_is;
@@ -201,3 +187,9 @@ table_reads_back base fixups segments format imports names fits known entry_fits
               ))
               (stands-back b (t.at + 28) (t.at + 28 + length image) image (entries ++ names) refl rest);
         }
+
+    taken : (b : List ℕ) (t : Table) → Stands b (record { at = t.at; text = head ++ (image ++ (entries ++ names)) })
+        → HasTable b t base segments (length (head ++ (image ++ (entries ++ names)))) → table_fits b t ≡ true
+    taken b t stands has =
+        table_taken base (length (head ++ (image ++ (entries ++ names)))) fixups segments format imports b t fits known (read b t stands).header
+        (read b t stands).count (offsets_there b t stands) (texts_there b t stands) (omega (arith, whole)) has

@@ -1,6 +1,5 @@
 -- What the writer of the table asks.
 use Rattle.std.specs.Prelude.{◌≡◌, ℕ, ◌^◌, ◌<◌, ◌≤◌, ◌⊎◌, List, length, All, sum_by, pos}
-use Rattle.std.specs.Int.{w32, cast_unsigned}
 use Rattle.macho_model.specs.Images.{IMPORT_FORMAT, IMPORT_ADDEND_FORMAT}
 use Rattle.macho_fixups.specs.declared.run.Fixup.{Fixup}
 use Rattle.macho_fixups.specs.declared.run.FixupSegment.{FixupSegment}
@@ -25,8 +24,3 @@ pub record FitsTable (base : ℕ) (fixups : List Fixup) (segments : List FixupSe
   pub count : length segments ≤ 6
   pub pages : All (λ s. pages_of s fixups ≤ 65535) segments
   pub above : All (λ s. (pages_of s fixups ≡ 0) ⊎ (base ≤ s.address)) segments
-
--- the fields of an entry fit 8 and 32 bits
-pub record EntryFits (e : ImportEntry) : Type 0 where
-  pub library_fits : e.library < 256
-  pub addend_fits : cast_unsigned w32 e.addend < 2 ^ 32

@@ -4,7 +4,7 @@ use Rattle.std.specs.List.{range_with_len}
 use Rattle.macho_bytes.specs.Numbers.{le_bytes}
 use Rattle.macho_bytes.specs.Texts.{Part, Stands, IsOutside}
 use Rattle.macho_model.specs.Images.{CHAIN_PAGE}
-use Rattle.macho_model.specs.Chain.{WORD_SIZE, STRIDE, ChainSegment, IsFileWord, next_of, OnChain}
+use Rattle.macho_model.specs.Chain.{WORD_SIZE, STRIDE, ChainSegment, IsFileWord, next_of, OnChain, OnPageChain}
 use Rattle.macho_fixups.specs.declared.run.Fixup.{Fixup}
 use Rattle.macho_fixups.specs.declared.run.FixupSegment.{FixupSegment}
 use Rattle.macho_fixups.specs.Words.{has_word, word_of, IsWordOf}
@@ -54,16 +54,6 @@ abbrev pub HaveRoom : List FixupSegment → List Fixup → ℕ → Type 0
 HaveRoom segments fixups n =
     All (λ s. (f : Fixup) → Contains fixups f → Holds s f.address → s.file_offset + s.file_size ≤ n) segments
 
--- an address is one of a segment's file part, whose number is not below another
-pub record IsSegmentOf (segments : List FixupSegment) (a m : ℕ) : Type 0 where
-  pub within : m < length segments
-  pub holds : (d : FixupSegment) → Holds (get_or segments m d) a
-  pub passed : (j : ℕ) (e : FixupSegment) → j < m → (get_or segments j e).address + (get_or segments j e).file_size ≤ a
-
--- the first m segments are behind an address
-pub record ArePassed (segments : List FixupSegment) (m a : ℕ) : Type 0 where
-  pub each : (j : ℕ) (e : FixupSegment) → j < m → (get_or segments j e).address + (get_or segments j e).file_size ≤ a
-
 -- all words stand in a file
 pub record AllStand (segments : List FixupSegment) (fixups : List Fixup) (b : List ℕ) : Type 0 where
   pub each : (k : ℕ) (d : Fixup) → k < length fixups → Stands b (word_part segments fixups k (get_or fixups k d))
@@ -90,6 +80,13 @@ pub record IsStepOf (fixups : List Fixup) (k : ℕ) (d : Fixup) (steps : ℕ) : 
   pub page : 1 ≤ steps → address_of fixups (k + 1) d / CHAIN_PAGE ≡ address_of fixups k d / CHAIN_PAGE
   pub last : steps ≡ 0 → k + 1 < length fixups → address_of fixups k d / CHAIN_PAGE < address_of fixups (k + 1) d / CHAIN_PAGE
 
+-- A word of the chain of a segment's page is that of a fixup. It stands whole in that page, and in the segment's file part.
+pub record IsPageWord (fixups : List Fixup) (g : ChainSegment) (page a : ℕ) : Type 0 where
+  pub one : IsAddressOf fixups a
+  pub page_from : g.address + CHAIN_PAGE * page ≤ a
+  pub page_to : a + WORD_SIZE ≤ g.address + CHAIN_PAGE * (page + 1)
+  pub inside : a + WORD_SIZE ≤ g.address + g.file_size
+
 -- In every file in which the words stand, and whose page starts are those of the run, the chain is the run.
 pub record ChainIsRun (segments : List FixupSegment) (fixups : List Fixup) : Type 0 where
   pub set : (b : List ℕ) (a : ℕ) → AllStand segments fixups b → OnChain (map (chain_seen fixups) segments) b a ↔ IsAddressOf fixups a
@@ -98,3 +95,6 @@ pub record ChainIsRun (segments : List FixupSegment) (fixups : List Fixup) : Typ
   -- so a page's chain goes through its fixups in the order of their addresses, each once
   pub onward : (b : List ℕ) (k word : ℕ) (d : Fixup) → AllStand segments fixups b → k < length fixups
       → IsFileWord (map (chain_seen fixups) segments) b (get_or fixups k d).address word → IsStepOf fixups k d (next_of word)
+  -- and every word of it is that of a fixup of its page
+  pub pages : (b : List ℕ) (g : ChainSegment) (page a : ℕ) → AllStand segments fixups b → Contains (map (chain_seen fixups) segments) g
+      → OnPageChain (map (chain_seen fixups) segments) b g page a → IsPageWord fixups g page a

@@ -30,10 +30,6 @@ pub record IsWordOf (kind : FixupKind) (next word : ℕ) : Type 0 where
   pub says : Says kind word
   pub leads : next_of word ≡ next
 
--- the steps that a word has room for
-abbrev pub STEPS : ℕ
-STEPS = 4096
-
 -- that word, as a sum of its fields
 unfoldable pub word_of : FixupKind → ℕ → ℕ
 word_of (Rebase target) next = target % 2 ^ 36 + target / 2 ^ 56 * 2 ^ 36 + next * 2 ^ 51

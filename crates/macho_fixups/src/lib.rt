@@ -1,22 +1,20 @@
 //! Chained fixups: the words that the loader writes anew, and the table that says where each page's chain begins.
 #![tactic(auto)]
 
-mod bytes;
 mod chains;
-#[cfg(test)]
-mod image_tests;
 mod imports;
 mod laws;
 mod run;
 mod starts;
 mod table;
-#[cfg(test)]
-mod tests;
 mod words;
 
 pub use chains::write_chains;
 pub use imports::ImportEntry;
-pub use laws::{pages_are_bounded, room_grows};
+pub use laws::{
+    bytes_beside_words_stay, chains_are_told, names_are_read, no_fixup_no_pages, pages_are_bounded,
+    places_are_in_segments, room_grows,
+};
 pub use run::{Fixup, FixupSegment};
 pub use table::{table_size, write_chained_fixup_table};
 pub use words::{FixupKind, NotEncodable, write_bind_encoding, write_rebase_encoding};

@@ -1,6 +1,6 @@
 //! The sorted run of fixups, and the part of it that stands in a segment.
 ghost use Rattle.std.specs.Prelude.{◌≡◌, ◌+◌, ◌≤◌, length, nat_lt, true, false};
-ghost use Rattle.macho_fixups.specs.Cuts.{IsSkip, IsNextBelow, IsNoneBelow};
+ghost use Rattle.macho_fixups.specs.steps.Cuts.{IsSkip, IsNextBelow, IsNoneBelow};
 
 use crate::words::FixupKind;
 

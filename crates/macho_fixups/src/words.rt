@@ -12,7 +12,8 @@ ghost use Rattle.std.specs.Prelude.{◌≡◌, ◌<◌, ◌^◌, ◌%◌, ◌*�
 ghost use Rattle.macho_bytes.specs.Numbers.{le_at, le_bytes};
 ghost use Rattle.macho_model.specs.Chain.{WORD_SIZE};
 ghost use Rattle.macho_fixups.specs.declared.words.FixupKind.TheVariants.{Rebase, Bind};
-ghost use Rattle.macho_fixups.specs.Words.{has_word, FitsOrdinal, IsWordOf, word_of, STEPS};
+ghost use Rattle.macho_fixups.specs.Words.{has_word, FitsOrdinal, IsWordOf, word_of};
+ghost use Rattle.macho_fixups.specs.steps.Words.{STEPS};
 
 /// What the loader makes of a word.
 #[derive(Clone, Copy, Debug, PartialEq, Eq)]

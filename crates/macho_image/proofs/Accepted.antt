@@ -17,15 +17,15 @@ use Rattle.macho_records.specs.declared.constants.TheConstants.{LC_SEGMENT_64, L
 use Rattle.macho_model.specs.Commands as found
 use Rattle.macho_model.specs.Images.{segments_of, mapped_segments, tables_of, segments_named, entries_of_file}
 use Rattle.macho_model.specs.Segments.{TEXT, SEGMENT_PAGE, PAGEZERO_SIZE}
-use Rattle.macho_model.proofs.PageChains.{no_page_chain}
+use Rattle.macho_model.proofs.PageChains.{no_page_of}
 use Rattle.macho_model.specs.ObjectRules.{commands_inside}
 use Rattle.macho_model.specs.Grammar.{EachCommand}
 use Rattle.macho_model.specs.LoadRules.{image_head_fits, needed_in_image, protections_fit, file_part_inside, segment_is_paged, segment_ends, begins_behind, text_holds_commands, table_fits}
 use Rattle.macho_model.specs.Loader.{IsAccepted, segment_commands, EachNeighbour}
-use Rattle.macho_commands.specs.Records.{segment_record}
-use Rattle.macho_commands.specs.Commands.{commands_size}
-use Rattle.macho_image.specs.Composed.{HasHead}
-use Rattle.macho_image.specs.Shape.{pagezero_segment, text_segment, TEXT_PROTECTION, commands_of_image}
+use Rattle.macho_commands.specs.Commands.{segment_record, commands_size}
+use Rattle.macho_commands.proofs.Reading.{segment-found, entry_point-found}
+use Rattle.macho_image.specs.steps.Composed.{HasHead}
+use Rattle.macho_image.specs.steps.Shape.{pagezero_segment, text_segment, TEXT_PROTECTION, commands_of_image}
 
 -- the records of the two segments
 abbrev pub pagezero_record : SegmentCommand
@@ -33,6 +33,9 @@ pagezero_record = segment_record pagezero_segment 0 0 0
 
 abbrev pub text_record : ℕ → ℕ → SegmentCommand
 text_record n count = segment_record (text_segment n) TEXT_PROTECTION 0 count
+
+abbrev pub entry_record : ℕ → EntryPointCommand
+entry_record entry = record { cmd = LC_MAIN; cmdsize = 24; entryoff = entry; stacksize = 0 }
 
 -- the commands as a reader finds them
 abbrev pub four_commands : ℕ → List found.Command
@@ -54,12 +57,14 @@ commands-are b n entry none headers h =
 -- what the segments' commands say
 pagezero-says : (b : List ℕ) (n entry : ℕ) (none headers : Bor (List SectionHeader)) → HasHead b n entry none headers → reading segment_command b 32 ≡ pagezero_record
 pagezero-says b n entry none headers h =
-    h.commands.each.0.says ∙ ap (λ (hs : List SectionHeader). segment_record pagezero_segment 0 0 (length hs)) h.empty
+    segment-found b 32 (segment_record pagezero_segment 0 0 (length none.now)) none.now refl h.commands.each.0
+    ∙ ap (λ (hs : List SectionHeader). segment_record pagezero_segment 0 0 (length hs)) h.empty
 
 text-says : (b : List ℕ) (n entry : ℕ) (none headers : Bor (List SectionHeader)) → HasHead b n entry none headers
     → reading segment_command b 104 ≡ text_record n (length headers.now)
 text-says b n entry none headers h =
-    ap (λ (hs : List SectionHeader). reading segment_command b (32 + (72 + 80 * length hs))) (sym h.empty) ∙ h.commands.each.1.0.says
+    ap (λ (hs : List SectionHeader). reading segment_command b (32 + (72 + 80 * length hs))) (sym h.empty)
+    ∙ segment-found b (32 + (72 + 80 * length none.now)) (text_record n (length headers.now)) headers.now refl h.commands.each.1.0
 
 -- the segments as a reader finds them
 pub segments-are : (b : List ℕ) (n entry : ℕ) (none headers : Bor (List SectionHeader)) → HasHead b n entry none headers
@@ -78,7 +83,7 @@ pub mapped-are : (b : List ℕ) (n entry : ℕ) (none headers : Bor (List Sectio
 unfolding mapped_segments
 mapped-are b n entry none headers h = rw (segments-are b n entry none headers h) refl
 
-segment_commands-are : (b : List ℕ) (n entry : ℕ) (none headers : Bor (List SectionHeader)) → HasHead b n entry none headers
+pub segment_commands-are : (b : List ℕ) (n entry : ℕ) (none headers : Bor (List SectionHeader)) → HasHead b n entry none headers
     → segment_commands b ≡ two_commands (length headers.now)
 segment_commands-are b n entry none headers h = rw (commands-are b n entry none headers h) refl
 
@@ -106,7 +111,7 @@ commands-inside b n entry none headers h =
     rw h.header (le-leb (32 + commands_size (commands_of_image n entry none headers)) (length b) (omega (arith, h.size, h.room)))
 
 -- the end of the commands
-commands-end : (b : List ℕ) (n entry : ℕ) (none headers : Bor (List SectionHeader)) → HasHead b n entry none headers
+pub commands-end : (b : List ℕ) (n entry : ℕ) (none headers : Bor (List SectionHeader)) → HasHead b n entry none headers
     → found.commands_end b ≡ 32 + (72 + (72 + 80 * length headers.now) + 24 + 32)
 unfolding found.header_of found.commands_end
 commands-end b n entry none headers h =
@@ -144,9 +149,9 @@ each-fits b n entry none headers h =
 
 -- the only neighbours of a list of two
 neighbours : (test : found.Command → found.Command → Bool) (x y : found.Command) → test x y ≡ true → EachNeighbour (x ∷ y ∷ []) test
-neighbours test x y e zero c d lt at_c at_d =
+neighbours test x y e zero c d (before, at_c) (lt, at_d) =
     subst (λ (z : found.Command). test z d ≡ true) at_c (subst (λ (z : found.Command). test x z ≡ true) at_d e)
-neighbours test x y e (suc k) c d lt at_c at_d = absurd (omega arith)
+neighbours test x y e (suc k) c d before (lt, at_d) = absurd (omega arith)
 
 -- the loader accepts the image
 pub accepted : (b : List ℕ) (n entry : ℕ) (none headers : Bor (List SectionHeader)) → HasHead b n entry none headers → n % SEGMENT_PAGE ≡ 0
@@ -170,7 +175,7 @@ accepted b n entry none headers h pages high = record {
   );
   l8 = (omega (arith, ap length tables), All-same (λ t. table_fits b t ≡ true) (tables_of b) [] tables (All-nil (λ t. table_fits b t ≡ true)));
   l9 = λ t k one lt. absurd (omega (arith, one.1, ap length tables));
-  l10 = λ s page a one on. absurd (no_page_chain b tables s page a one on);
+  l10 = λ number s page a is on. absurd (no_page_of b tables number s page a is on);
 }
   where
     pagezero : reading segment_command b 32 ≡ pagezero_record
@@ -196,4 +201,5 @@ entries-are b n entry none headers h =
     let place : at ≡ 32 + (72 + 80 * length none.now) + (72 + 80 * length headers.now) = omega (arith, ap length h.empty) in
     rw (commands-are b n entry none headers h)
     (ap (λ (k : ℕ). (reading entry_point_command b k).entryoff ∷ []) place
-    ∙ ap (λ (r : EntryPointCommand). r.entryoff ∷ []) h.commands.each.1.1.0.says)
+    ∙ ap (λ (r : EntryPointCommand). r.entryoff ∷ [])
+    (entry_point-found b (32 + (72 + 80 * length none.now) + (72 + 80 * length headers.now)) (entry_record entry) refl h.commands.each.1.1.0))

@@ -7,7 +7,7 @@ use Rattle.std.proofs.lemmas.List.{append-nil, append_assoc, length-append, get_
 use Rattle.macho_bytes.specs.Texts.{put, Part, end_of, Apart}
 use Rattle.macho_bytes.specs.Images.{IsImage, zeros}
 use Rattle.macho_bytes.proofs.Images.{adds_last, zeros_image}
-use Rattle.macho_image.specs.Parts.{PartsFit, Adds}
+use Rattle.macho_image.specs.steps.Parts.{PartsFit, Adds}
 
 -- parts without their last ones
 front_fits : (n : ℕ) (ps qs : List Part) → PartsFit n (ps ++ qs) → PartsFit n ps

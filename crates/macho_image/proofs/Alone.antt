@@ -16,11 +16,14 @@ use Rattle.macho_image.specs.declared.fault.Unbuilt.{Unbuilt}
 use Rattle.macho_image.specs.declared.fault.Unbuilt.TheVariants as part
 use Rattle.macho_image.specs.Counts.{counts_of}
 use Rattle.macho_image.specs.declared.branch.Branch.{Branch}
-use Rattle.macho_image.specs.Branches.{HasAllBranches}
-use Rattle.macho_image.specs.Places.{cost_of}
-use Rattle.macho_image.specs.First.{id_of_carried, IsFirst, IsPlainObject, HasOneObject}
-use Rattle.macho_image.specs.Unbuilt.{AsksForPart, AsksFor}
-use Rattle.macho_image.specs.Refusals.{BUILT_SECTIONS, BUILT_SUM, IsUnbuilt, RefusalStands, StandsAlone}
+use Rattle.macho_image.specs.steps.Branches.{HasAllBranches}
+use Rattle.macho_image.specs.steps.Places.{cost_of}
+use Rattle.macho_image.specs.steps.First.{id_of_carried, IsFirst, IsPlainObject}
+use Rattle.macho_image.specs.First.{HasOneObject}
+use Rattle.macho_image.specs.Unbuilt.{AsksForPart}
+use Rattle.macho_image.specs.steps.Unbuilt.{AsksFor}
+use Rattle.macho_image.specs.Refusals.{BUILT_SECTIONS, BUILT_SUM, IsUnbuilt, RefusalStands}
+use Rattle.macho_image.specs.steps.Refusals.{StandsAlone}
 use Rattle.macho_image.proofs.First.{object-is}
 use Rattle.macho_image.proofs.FirstLinks.{is_first}
 use Rattle.macho_image.proofs.Placed.{costs-are}

@@ -29,7 +29,7 @@ use Rattle.macho_model.specs.ObjectRules.{field_inside}
 use Rattle.macho_model.specs.Links.{Link, SectionId, header_at, sections_of, carried_of, is_carried, placed_exponent}
 use Rattle.macho_model.specs.Needs.{relocation_in, relocations_of}
 use Rattle.macho_model.specs.Targets.{target_of, target_of_relocation, is_defined, is_import}
-use Rattle.macho_model.specs.Fields.{Field, fields_of, field_of, content_of, follows, is_prefix_type}
+use Rattle.macho_model.specs.Fields.{Field, fields_of, field_of, content_of, has_addend, is_with_addend, is_prefix_type}
 use Rattle.macho_model.specs.WrittenSum.{written_sum_of}
 use Rattle.macho_model.specs.Segments.{TEXT, segment_name}
 use Rattle.macho_model.specs.declared.placed.PlacedSection.{PlacedSection}
@@ -44,17 +44,18 @@ use Rattle.macho_image.specs.declared.fault.LinkError.{LinkError}
 use Rattle.macho_image.specs.declared.fault.LinkError.TheVariants as error
 use Rattle.macho_image.specs.declared.fault.Unbuilt.TheVariants as part
 use Rattle.macho_image.specs.Counts.{counts_of}
-use Rattle.macho_image.specs.First.{HasOneObject, HasNoCommon}
+use Rattle.macho_image.specs.First.{HasOneObject}
+use Rattle.macho_image.specs.steps.First.{HasNoCommon}
 use Rattle.macho_image.specs.Branches.{is_later_type}
 use Rattle.macho_image.specs.Refusals.{BUILT_SUM, RefusalStands}
 use Rattle.macho_image.specs.Answered.{INSTRUCTION, IsAnswered}
-use Rattle.macho_image.specs.Referents.{only_symbol}
+use Rattle.macho_image.specs.steps.Referents.{only_symbol}
 use Rattle.macho_image.proofs.First.{first_section, sections-are, first-header, numbered}
 use Rattle.macho_image.proofs.Entries.{and_none, and_left, and_right, at_most}
 use Rattle.macho_image.proofs.Uses.{relocation_no_import}
 use Rattle.macho_image.proofs.Leading.{fails}
 use Rattle.macho_image.proofs.Alone.{part_alone}
-use Rattle.macho_image.proofs.Unsupported.{is_among_carried, relocation-is, target-is, type-is, no_such_type, type_from, form_length, form_extern}
+use Rattle.macho_image.proofs.Unsupported.{is_among_carried, relocation-is, target-is, type-is, no_such_type, type_from, form_length, form_extern, row-is}
 use Rattle.macho_image.proofs.FineTargets.{IsFine, target_fine, no_stubs_alone}
 use Rattle.macho_image.proofs.Near.{section_inside, section_behind, reaches}
 use Rattle.macho_image.proofs.Placed.{map-at}
@@ -108,11 +109,6 @@ pub record IsCall (l : Link) (b : List ℕ) (k r : ℕ) : Type 0 where
   pub four : (relocation_at b k r).r_length ≡ 2
   pub fine : IsFine b (target_of_relocation l (first_section k) r)
   pub defined : is_defined (target_of_relocation l (first_section k) r) ≡ true
-
-pub row-is : (l : Link) (s : SectionId) (r : ℕ) → (relocation_in l s r).r_type ≡ ARM64_RELOC_BRANCH26
-    → is_supported l s r ≡ (has_form (relocation_in l s r) 2 true true && is_branch (content_of l s r) && may_be_called l s r)
-unfolding is_supported
-row-is l s r type = rw type refl
 
 or_none : (p q c : Bool) → (p || (q && c)) ≡ true → q ≡ false → p ≡ true
 or_none true q c e f = refl
@@ -185,15 +181,16 @@ call l a k r lt carried below = record {
         (first_of (relocation_at b k r).r_extern (nat_lt (relocation_at b k r).r_symbolnum (num_symbols b)) _ (form_extern (relocation_at b k r) form) (a.keeps.o5.1 k r lt below))
 
 -- no addend stands in front of a branch
-no_addend : (l : Link) (s : SectionId) (r n : ℕ) → ((i : ℕ) → i < n → (relocation_in l s i).r_type ≡ ARM64_RELOC_BRANCH26) → r < n → follows l s r ARM64_RELOC_ADDEND ≡ false
+no_addend : (l : Link) (s : SectionId) (r n : ℕ) → ((i : ℕ) → i < n → (relocation_in l s i).r_type ≡ ARM64_RELOC_BRANCH26) → r < n → has_addend l s r ≡ false
 no_addend l s zero n types lt = refl
 no_addend l s (suc r) n types lt =
-    and_none (nat_le 1 (suc r)) ((relocation_in l s (suc r - 1)).r_type == ARM64_RELOC_ADDEND)
-    (ap (λ (t : ℕ). t == ARM64_RELOC_ADDEND) (ap (λ (i : ℕ). (relocation_in l s i).r_type) (omega arith) ∙ types r (omega arith)))
+    let same : suc r - 1 ≡ r = omega arith in
+    and_none (nat_le 1 (suc r)) (is_with_addend (relocation_in l s (suc r - 1)) (relocation_in l s (suc r)))
+    (ap (λ (i : ℕ). is_with_addend (relocation_in l s i) (relocation_in l s (suc r))) same ∙ rw (types r (omega arith)) refl)
 
-addend-is : (l : Link) (s : SectionId) (r : ℕ) → (relocation_in l s r).r_type ≡ ARM64_RELOC_BRANCH26 → follows l s r ARM64_RELOC_ADDEND ≡ false
+addend-is : (l : Link) (s : SectionId) (r : ℕ) → (relocation_in l s r).r_type ≡ ARM64_RELOC_BRANCH26 → has_addend l s r ≡ false
     → (field_of l s r).addend ≡ 0
-addend-is l s r type none = rw (type, none) refl
+addend-is l s r type none = rw (none, type) refl
 
 -- a multiple of a power of two that is at least four is one of four
 of_four : (e n : ℕ) → 4 ≤ 2 ^ e → n % 2 ^ e ≡ 0 → n % 4 ≡ 0
@@ -355,7 +352,7 @@ no_range l a p (site.Field file section relocation) kept (f, address, of, at, ou
     in_reach l a p own.0 here.0 relocation address kept own.1 own.2
     (omega (arith, here.1, ap (λ (h : SectionHeader). h.nreloc) (first-header l a.object a.alone own.0))) here.2 here.3
 no_range l a p (site.Slot index) kept bad = absurd bad
-no_range l a p (site.Stub index) kept (stub, x, lt, is, slot, far) =
+no_range l a p (site.Stub index) kept (stub, x, (lt, is), slot, far) =
     let none : length p.stubs ≡ 0 =
     sym (length-map p.stubs (λ s. target.Import s.import)) ∙ ap length (kept.whole_list.stubs ∙ no_stubs_alone l a.object a.alone) in
     omega (arith, lt, none)

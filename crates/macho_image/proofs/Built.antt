@@ -13,8 +13,8 @@ use Rattle.macho_model.specs.declared.placed.PlacedSection.{PlacedSection}
 use Rattle.macho_image.specs.declared.carried.Carried.{Carried}
 use Rattle.macho_image.specs.declared.entry.Entry.{Entry}
 use Rattle.macho_image.specs.First.{HasOneObject}
-use Rattle.macho_image.specs.Places.{front_of, IsPlaceIn}
-use Rattle.macho_image.specs.Composed.{IsComposed}
+use Rattle.macho_image.specs.steps.Places.{front_of, IsPlaceIn}
+use Rattle.macho_image.specs.steps.Composed.{IsComposed}
 use Rattle.macho_model.specs.declared.targets.Target.TheVariants as target
 use Rattle.macho_model.specs.Needs.{libraries_needed}
 use Rattle.macho_model.specs.Memory.{Choice}
@@ -22,17 +22,21 @@ use Rattle.macho_model.specs.Stands.{IsAt, ImageStands, IsLoadable}
 use Rattle.macho_layout.specs.Placements.{placed_of}
 use Rattle.macho_image.specs.declared.link.LinkedImage.{LinkedImage}
 use Rattle.macho_image.specs.Counts.{counts_of}
-use Rattle.macho_image.specs.LaidOut.{IsLaidOut}
+use Rattle.macho_image.specs.steps.LaidOut.{IsLaidOut}
 use Rattle.macho_image.specs.declared.branch.Branch.{Branch}
-use Rattle.macho_image.specs.Branches.{WORD, HasBranches, HasAllBranches}
-use Rattle.macho_image.specs.Setting.{IsSettable, EachSettable}
-use Rattle.macho_image.specs.Linked.{IsBare}
+use Rattle.macho_image.specs.steps.Branches.{WORD, HasBranches, HasAllBranches}
+use Rattle.macho_image.specs.steps.Setting.{IsSettable, EachSettable}
+use Rattle.macho_image.specs.steps.Linked.{IsBare}
 use Rattle.macho_model.specs.Words.{is_branch}
 use Rattle.macho_bytes.specs.Numbers.{le_at}
-use Rattle.macho_image.specs.Shape.{placed_of_image}
-use Rattle.macho_image.specs.Linked.{EntersAt, IsImageAlone}
+use Rattle.macho_image.specs.steps.Shape.{placed_of_image}
+use Rattle.macho_image.specs.steps.Linked.{IsImageAlone}
+use Rattle.macho_model.specs.Agreement.{CommandsAgree}
+use Rattle.macho_model.specs.Told.{imports_told}
+use Rattle.macho_model.proofs.EachBelow.{true_or_false}
 use Rattle.macho_image.proofs.FirstLinks.{is_first}
 use Rattle.macho_image.proofs.Uses.{no_imports}
+use Rattle.macho_image.proofs.Agreed.{segments-agree, head-agrees, headers-agree, base-is, no_fixups}
 use Rattle.macho_image.proofs.Accepted.{accepted, entries-are}
 use Rattle.macho_image.proofs.Held.{stands, branch_inside}
 use Rattle.macho_image.proofs.Placed.{no_place, no_carried, placed}
@@ -55,6 +59,11 @@ target_at l b cs ps headers end n e address s choice h place behind =
 pub no_libraries_needed : (l : Link) (b : List ℕ) → HasOneObject l b → libraries_needed l ≡ []
 unfolding libraries_needed
 no_libraries_needed l b one = rw one.inputs refl
+
+-- and no import is told
+none_told : (l : Link) (b : List ℕ) → HasOneObject l b → imports_told l ≡ []
+unfolding imports_told
+none_told l b one = rw (no_imports l b one) refl
 
 -- the image stands
 image_stands : (l : Link) (b out : List ℕ) (cs : List Carried) (xss : List (List Branch)) (ps : List PlacedSection) (headers : List SectionHeader) (end n entry : ℕ)
@@ -89,14 +98,25 @@ image_alone b cs xss ps end n e address headers image h branches count place beh
       accepted = accepted image.bytes.items n (address - PAGEZERO_SIZE) made.none made.given made.head h.pages (omega (arith, (short b cs ps end n h).1));
       stands = λ s choice whole fits binds. image_stands l b image.bytes.items cs xss ps headers end n (address - PAGEZERO_SIZE) h branches one made s choice;
     });
-    entry = λ executable. subst (EntersAt l image.bytes.items) (sym placement) (
-      address - PAGEZERO_SIZE,
-      entries-are image.bytes.items n (address - PAGEZERO_SIZE) made.none made.given made.head,
-      λ s choice. rw leads (target_at l b cs ps headers end n e address s choice h place behind),
-    );
-    libraries = rw bare.libraries (sym (no_libraries_needed l b one));
-    imports = rw bare.imports (sym (no_imports l b one));
-    fixups = bare.fixups;
+    agrees = subst (CommandsAgree l (counts_of l) image.bytes.items) (sym placement) (record {
+      segments = segments-agree image.bytes.items n (address - PAGEZERO_SIZE) made.none made.given ps headers made.head;
+      head = head-agrees l image.bytes.items n (address - PAGEZERO_SIZE) made.none made.given ps headers made.head made.headers_are;
+      headers = headers-agree image.bytes.items n (address - PAGEZERO_SIZE) made.none made.given ps headers made.head made.headers_are;
+      entry = record {
+        executable = λ executable. (
+          address - PAGEZERO_SIZE,
+          entries-are image.bytes.items n (address - PAGEZERO_SIZE) made.none made.given made.head,
+          λ s choice. rw (base-is image.bytes.items n (address - PAGEZERO_SIZE) made.none made.given made.head, leads)
+              (target_at l b cs ps headers end n e address s choice h place behind),
+        );
+        library = λ library. absurd (true_or_false l.executable one.executable library);
+      };
+    });
+    told = record {
+      libraries_are = rw bare.libraries (sym (no_libraries_needed l b one));
+      imports_are = rw bare.imports (sym (none_told l b one));
+      fixups_are = bare.fixups ∙ sym (no_fixups l b cs xss one h.plain branches);
+    };
     exports = bare.exports;
   };
 }

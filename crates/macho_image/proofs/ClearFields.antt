@@ -28,18 +28,18 @@ use Rattle.macho_model.specs.Values.{section_id, FieldOf, needs_fixup, branch_re
 use Rattle.macho_model.proofs.EachBelow.{and_both}
 use Rattle.macho_image.specs.declared.branch.Branch.{Branch}
 use Rattle.macho_image.specs.declared.carried.Carried.{Carried}
-use Rattle.macho_image.specs.First.{id_of_carried, IsPlainObject, HasOneObject}
-use Rattle.macho_image.specs.Branches.{WORD, AreApart, IsBranch, HasBranches, HasAllBranches}
-use Rattle.macho_image.specs.Places.{IsPlaceIn}
-use Rattle.macho_image.specs.Setting.{IsAddressOf}
-use Rattle.macho_image.specs.LaidOut.{IsLaidOut}
-use Rattle.macho_image.specs.Shape.{placed_of_image}
+use Rattle.macho_image.specs.steps.First.{id_of_carried, IsPlainObject}
+use Rattle.macho_image.specs.First.{HasOneObject}
+use Rattle.macho_image.specs.steps.Branches.{WORD, AreApart, IsBranch, HasBranches, HasAllBranches}
+use Rattle.macho_image.specs.steps.Places.{IsPlaceIn}
+use Rattle.macho_image.specs.steps.Setting.{IsAddressOf}
+use Rattle.macho_image.specs.steps.LaidOut.{IsLaidOut}
+use Rattle.macho_image.specs.steps.Shape.{placed_of_image}
 use Rattle.macho_image.proofs.First.{first_section, first-header, carried-are}
 use Rattle.macho_image.proofs.Placed.{map-at, no_place, no_carried}
 use Rattle.macho_image.proofs.Uses.{no_branch, no_slots}
-use Rattle.macho_image.proofs.Unsupported.{relocation-is, target-is, type-is, word-is, form_length, form_extern}
+use Rattle.macho_image.proofs.Unsupported.{relocation-is, target-is, type-is, word-is, form_length, form_extern, row-is}
 use Rattle.macho_image.proofs.Denoting.{field_by, field_at, field_count}
-use Rattle.macho_image.proofs.Answered.{row-is}
 use Rattle.macho_image.proofs.Set.{any_default}
 use Rattle.macho_image.proofs.ClearNames.{RisesBelow, those_rise}
 

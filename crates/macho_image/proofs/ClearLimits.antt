@@ -33,9 +33,10 @@ use Rattle.macho_model.specs.Limits.{GREATEST_SYMBOLS, limited, PassesLimit, IsT
 use Rattle.macho_model.specs.Limits as limits
 use Rattle.macho_image.specs.declared.carried.Carried.{Carried}
 use Rattle.macho_image.specs.Counts.{counts_of}
-use Rattle.macho_image.specs.First.{id_of_carried, IsFirst, IsPlainObject, HasOneObject}
-use Rattle.macho_image.specs.Places.{cost_of}
-use Rattle.macho_image.specs.Shape.{pagezero_segment, text_segment, placed_of_image}
+use Rattle.macho_image.specs.steps.First.{id_of_carried, IsFirst, IsPlainObject}
+use Rattle.macho_image.specs.First.{HasOneObject}
+use Rattle.macho_image.specs.steps.Places.{cost_of}
+use Rattle.macho_image.specs.steps.Shape.{pagezero_segment, text_segment, placed_of_image}
 use Rattle.macho_image.proofs.First.{first_symbol, symbols-are, no_consumed}
 use Rattle.macho_image.proofs.Placed.{filter_none, costs-are}
 use Rattle.macho_image.proofs.Built.{no_libraries_needed}

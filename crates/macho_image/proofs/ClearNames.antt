@@ -23,10 +23,12 @@ use Rattle.macho_model.specs.Targets.{target_of}
 use Rattle.macho_model.specs.Faults.{IsDuplicate, IsUndefined}
 use Rattle.macho_image.specs.declared.branch.Branch.{Branch}
 use Rattle.macho_image.specs.declared.carried.Carried.{Carried}
-use Rattle.macho_image.specs.First.{IsPlainObject, HasOneObject}
-use Rattle.macho_image.specs.Branches.{IsBranch, HasAllBranches}
-use Rattle.macho_image.specs.Definitions.{is_object_definition, defines_name, NamesDiffer}
-use Rattle.macho_image.specs.Referents.{only_symbol}
+use Rattle.macho_image.specs.steps.First.{IsPlainObject}
+use Rattle.macho_image.specs.First.{HasOneObject}
+use Rattle.macho_image.specs.steps.Branches.{IsBranch, HasAllBranches}
+use Rattle.macho_image.specs.Definitions.{is_object_definition}
+use Rattle.macho_image.specs.steps.Definitions.{defines_name, NamesDiffer}
+use Rattle.macho_image.specs.steps.Referents.{only_symbol}
 use Rattle.macho_image.proofs.First.{first_section, first_symbol}
 use Rattle.macho_image.proofs.Entries.{strong-are, and_left, and_right}
 use Rattle.macho_image.proofs.Placed.{no_carried}

@@ -18,11 +18,11 @@ use Rattle.macho_commands.specs.Commands.{commands_text, commands_size}
 use Rattle.macho_commands.specs.Reading.{ListIsReadable}
 use Rattle.macho_commands.specs.declared.command.Command.TheVariants.{Segment, EntryPoint, Dylinker}
 use Rattle.macho_model.specs.declared.placed.PlacedSegment.{PlacedSegment}
-use Rattle.macho_image.specs.Shape.{pagezero_segment, text_segment, TEXT_PROTECTION, header_of_image, commands_of_image}
-use Rattle.macho_image.specs.Parts.{header_part, commands_part, section_part, parts_of_image, PartsFit, IsWritable}
-use Rattle.macho_image.specs.Setting.{IsSectionPart, AreSectionParts}
+use Rattle.macho_image.specs.steps.Shape.{pagezero_segment, text_segment, TEXT_PROTECTION, header_of_image, commands_of_image}
+use Rattle.macho_image.specs.steps.Parts.{header_part, commands_part, section_part, parts_of_image, PartsFit, IsWritable}
+use Rattle.macho_image.specs.steps.Setting.{IsSectionPart, AreSectionParts}
 use Rattle.macho_image.specs.declared.branch.Branch.{Branch}
-use Rattle.macho_image.specs.Composed.{StandBehind, IsWritten, IsComposed}
+use Rattle.macho_image.specs.steps.Composed.{StandBehind, IsWritten, IsComposed}
 use Rattle.macho_image.proofs.Placed.{no_place}
 
 -- a section's part is as long as its bytes, and begins where they do

@@ -17,7 +17,7 @@ use Rattle.macho_model.specs.declared.placed.PlacedSection.{PlacedSection}
 use Rattle.macho_model.specs.Objects.{section_at, section_bytes, relocation_at}
 use Rattle.macho_model.specs.Links.{Link, SectionId, object_of, header_at}
 use Rattle.macho_model.specs.Needs.{relocation_in, relocations_of}
-use Rattle.macho_model.specs.Fields.{Field, fields_of, field_of, is_prefix_type, follows, content_of}
+use Rattle.macho_model.specs.Fields.{Field, fields_of, field_of, is_prefix_type, is_difference, is_with_addend, has_subtrahend, has_addend, content_of}
 use Rattle.std.proofs.lemmas.List.Elements.{Contains-get_or}
 use Rattle.std.proofs.lemmas.List.Edits.{length-between, get_or-between}
 use Rattle.macho_model.proofs.Memory.{number_of_text, le_at-between}
@@ -30,10 +30,10 @@ use Rattle.macho_arm64.proofs.FieldLaws.{branches_to}
 use Rattle.macho_arm64.proofs.ReachLaws.{less_leads}
 use Rattle.macho_image.specs.declared.branch.Branch.{Branch}
 use Rattle.macho_image.specs.declared.entry.Entry.{Entry}
-use Rattle.macho_image.specs.Shape.{placed_of_image}
-use Rattle.macho_image.specs.Setting.{IsAddressOf, IsSetBranch, IsSet}
+use Rattle.macho_image.specs.steps.Shape.{placed_of_image}
+use Rattle.macho_image.specs.steps.Setting.{IsAddressOf, IsSetBranch, IsSet}
 use Rattle.macho_image.specs.First.{HasOneObject}
-use Rattle.macho_image.specs.Branches.{WORD, IsBranch, HasBranches}
+use Rattle.macho_image.specs.steps.Branches.{WORD, IsBranch, HasBranches}
 use Rattle.macho_image.proofs.First.{first_section, object-is, first-header}
 use Rattle.macho_image.proofs.Entries.{and_none}
 use Rattle.macho_image.proofs.Uses.{no_branch}
@@ -61,14 +61,26 @@ fields-are l b k n xs one has count =
     ∙ ap (λ (x : RelocationInfo). not (is_prefix_type x.r_type)) (relocation-is l b k i one)
     ∙ ap (λ (t : ℕ). not (is_prefix_type t)) (has.each i no_branch within).type) ∙ ap (range_with_len 0) header)
 
--- the type of the relocation in front of one is a branch's too
-pub no_pair : (l : Link) (b : List ℕ) (k n r type : ℕ) (xs : List Branch) → HasOneObject l b → HasBranches b k n xs → r < n → (ARM64_RELOC_BRANCH26 == type) ≡ false
-    → follows l (first_section k) r type ≡ false
-no_pair l b k n zero type xs one has lt other = refl
-no_pair l b k n (suc r) type xs one has lt other =
-    and_none (nat_le 1 (suc r)) ((relocation_in l (first_section k) (suc r - 1)).r_type == type)
-    (ap (λ (t : ℕ). t == type) (ap (λ (i : ℕ). (relocation_in l (first_section k) i).r_type) (omega arith) ∙ ap (λ (x : RelocationInfo). x.r_type) (relocation-is l b k r one)
-    ∙ (has.each r no_branch (omega arith)).type) ∙ other)
+-- the relocation in front of one is a branch too, so it is no part of a pair
+type_before : (l : Link) (b : List ℕ) (k n r : ℕ) (xs : List Branch) → HasOneObject l b → HasBranches b k n xs → suc r < n
+    → (relocation_in l (first_section k) (suc r - 1)).r_type ≡ ARM64_RELOC_BRANCH26
+type_before l b k n r xs one has lt =
+    ap (λ (i : ℕ). (relocation_in l (first_section k) i).r_type) (omega arith) ∙ ap (λ (x : RelocationInfo). x.r_type) (relocation-is l b k r one)
+    ∙ (has.each r no_branch (omega arith)).type
+
+pub no_subtrahend : (l : Link) (b : List ℕ) (k n r : ℕ) (xs : List Branch) → HasOneObject l b → HasBranches b k n xs → r < n
+    → has_subtrahend l (first_section k) r ≡ false
+no_subtrahend l b k n zero xs one has lt = refl
+no_subtrahend l b k n (suc r) xs one has lt =
+    and_none (nat_le 1 (suc r)) (is_difference (relocation_in l (first_section k) (suc r - 1)) (relocation_in l (first_section k) (suc r)))
+    (rw (type_before l b k n r xs one has lt) refl)
+
+pub no_addend : (l : Link) (b : List ℕ) (k n r : ℕ) (xs : List Branch) → HasOneObject l b → HasBranches b k n xs → r < n
+    → has_addend l (first_section k) r ≡ false
+no_addend l b k n zero xs one has lt = refl
+no_addend l b k n (suc r) xs one has lt =
+    and_none (nat_le 1 (suc r)) (is_with_addend (relocation_in l (first_section k) (suc r - 1)) (relocation_in l (first_section k) (suc r)))
+    (rw (type_before l b k n r xs one has lt) refl)
 
 -- what is known of a field
 pub record IsBranchField (l : Link) (x : Branch) (r : ℕ) (f : Field) : Type 0 where
@@ -92,8 +104,8 @@ branch_field l b k n r xs d one has lt =
       width = ap (λ (x : RelocationInfo). 2 ^ x.r_length) same ∙ ap (λ (n : ℕ). 2 ^ n) (form_length (relocation_at b k r) is.form);
       type = type;
       target_is = target-is l b k r one (form_extern (relocation_at b k r) is.form) is.type ∙ is.leads.leads l one;
-      subtrahend = rw (no_pair l b k n r ARM64_RELOC_SUBTRACTOR xs one has lt refl) refl;
-      addend = rw (type, no_pair l b k n r ARM64_RELOC_ADDEND xs one has lt refl) refl;
+      subtrahend = rw (no_subtrahend l b k n r xs one has lt) refl;
+      addend = rw (no_addend l b k n r xs one has lt, type) refl;
     }
 
 -- a branch as a field

@@ -26,7 +26,8 @@ use Rattle.macho_model.specs.Resolution.{SymbolId, same_symbol, commons_of, chos
 use Rattle.macho_model.specs.Targets.{own_target, target_of_definition}
 use Rattle.macho_model.specs.Consumed.{is_section_target}
 use Rattle.macho_image.specs.First.{HasOneObject}
-use Rattle.macho_image.specs.Definitions.{LiesInCarried, in_carried, defines_name, IsDefinitionOf, IsEntry}
+use Rattle.macho_image.specs.steps.Definitions.{LiesInCarried, defines_name, IsDefinitionOf, IsEntry}
+use Rattle.macho_image.specs.Definitions.{in_carried}
 use Rattle.macho_image.specs.declared.entry.Entry.{Entry}
 use Rattle.macho_image.proofs.First.{first_symbol, filter-map, object-is, symbols-are}
 use Rattle.macho_image.proofs.Placed.{filter_none}

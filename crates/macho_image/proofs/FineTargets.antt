@@ -16,9 +16,11 @@ use Rattle.macho_model.specs.Links.{Link}
 use Rattle.macho_model.specs.Resolution.{SymbolId, Definition, Symbol, Library, ImageBase, DSO_HANDLE, entry_at, name_at, stands_in_carried, first_or, strong_of, weak_of, commons_of, greatest_of, symbols_of, definition_of, is_strong, is_weak, has_name}
 use Rattle.macho_model.specs.Needs.{Use, ByRelocation, ByInitializer, ByPersonality, ByName, relocation_in, uses_of, distinct}
 use Rattle.macho_model.specs.Targets.{own_target, target_of_definition, target_of, target_of_relocation, is_import, stub_of_use, stubs_of, same_target}
-use Rattle.macho_image.specs.First.{HasOneObject, HasNoCommon}
-use Rattle.macho_image.specs.Definitions.{in_carried, LiesInCarried}
-use Rattle.macho_image.specs.Referents.{only_symbol}
+use Rattle.macho_image.specs.First.{HasOneObject}
+use Rattle.macho_image.specs.steps.First.{HasNoCommon}
+use Rattle.macho_image.specs.Definitions.{in_carried}
+use Rattle.macho_image.specs.steps.Definitions.{LiesInCarried}
+use Rattle.macho_image.specs.steps.Referents.{only_symbol}
 use Rattle.macho_image.proofs.First.{symbols-are, first_symbol, numbered}
 use Rattle.macho_image.proofs.Entries.{and_none, own_by, own-is, lies_at}
 use Rattle.macho_image.proofs.Uses.{no_libraries, relocation_no_import, filter_map_none}

@@ -13,7 +13,8 @@ use Rattle.macho_model.specs.Objects.{num_sections, section_at, num_symbols, sym
 use Rattle.macho_model.specs.Links.{Link, SectionId, object_of, header_at, sections_of, carried_of, is_carried, is_consumed}
 use Rattle.macho_model.specs.Resolution.{SymbolId, symbols_of, chosen_commons, entry_at, defines}
 use Rattle.macho_image.specs.declared.carried.Carried.{Carried}
-use Rattle.macho_image.specs.First.{id_of_carried, IsPlainObject, HasOneObject}
+use Rattle.macho_image.specs.steps.First.{id_of_carried, IsPlainObject}
+use Rattle.macho_image.specs.First.{HasOneObject}
 use Rattle.macho_image.proofs.Placed.{map-at, filter_none}
 
 -- a section and a symbol of the only file

@@ -13,8 +13,9 @@ use Rattle.macho_model.specs.Links.{Link, SectionId, header_at, is_carried, is_t
 use Rattle.macho_model.specs.Segments.{TEXT}
 use Rattle.macho_image.specs.declared.carried.Carried.{Carried}
 use Rattle.macho_image.specs.declared.branch.Branch.{Branch}
-use Rattle.macho_image.specs.First.{id_of_carried, IsFirst, IsPlainObject, HasOneObject}
-use Rattle.macho_image.specs.Branches.{HasAllBranches}
+use Rattle.macho_image.specs.steps.First.{id_of_carried, IsFirst, IsPlainObject}
+use Rattle.macho_image.specs.First.{HasOneObject}
+use Rattle.macho_image.specs.steps.Branches.{HasAllBranches}
 use Rattle.macho_image.proofs.First.{carried-are, first-header, no_commons}
 use Rattle.macho_image.proofs.Uses.{no_slots, no_stubs}
 

@@ -10,7 +10,8 @@ use Rattle.std.proofs.lemmas.List.{get_or_append_left, get_or_push, length_push,
 use Rattle.macho_model.specs.Objects.{section_at, relocation_at}
 use Rattle.macho_image.specs.declared.branch.Branch.{Branch}
 use Rattle.macho_image.specs.declared.carried.Carried.{Carried}
-use Rattle.macho_image.specs.Branches.{WORD, AreApart, IsBranch, HasBranches, HasAllBranches, SeenPlaces, IsWithinThree, TouchesOne, TouchesNone, share_bytes}
+use Rattle.macho_image.specs.steps.Branches.{WORD, AreApart, IsBranch, HasBranches, HasAllBranches, SeenPlaces, IsWithinThree, TouchesOne, TouchesNone}
+use Rattle.macho_image.specs.Branches.{share_bytes}
 use Rattle.macho_image.proofs.Uses.{no_branch}
 use Rattle.macho_image.proofs.Unsupported.{form_length}
 

@@ -20,15 +20,15 @@ use Rattle.macho_model.specs.Images.{mapped_segments}
 use Rattle.macho_model.specs.Segments.{PAGEZERO_SIZE}
 use Rattle.macho_model.specs.Memory.{Choice, HoldsText}
 use Rattle.macho_model.specs.Stands.{SectionStands, CommonStands, SlotStands, StubStands, ImageStands}
-use Rattle.macho_model.proofs.Memory.{text_is_held}
+use Rattle.macho_model.proofs.Memory.{all_free, text_is_held}
 use Rattle.macho_image.specs.declared.branch.Branch.{Branch}
 use Rattle.macho_image.specs.declared.carried.Carried.{Carried}
 use Rattle.macho_image.specs.First.{HasOneObject}
-use Rattle.macho_image.specs.Branches.{WORD, HasBranches, HasAllBranches}
-use Rattle.macho_image.specs.Setting.{IsSectionPart, AreSectionParts}
-use Rattle.macho_image.specs.Composed.{HasHead}
-use Rattle.macho_image.specs.Places.{front_of, IsPlaceOf, Places}
-use Rattle.macho_image.specs.Shape.{placed_of_image}
+use Rattle.macho_image.specs.steps.Branches.{WORD, HasBranches, HasAllBranches}
+use Rattle.macho_image.specs.steps.Setting.{IsSectionPart, AreSectionParts}
+use Rattle.macho_image.specs.steps.Composed.{HasHead}
+use Rattle.macho_image.specs.steps.Places.{front_of, IsPlaceOf, Places}
+use Rattle.macho_image.specs.steps.Shape.{placed_of_image}
 use Rattle.macho_image.proofs.Accepted.{text_record, mapped-are, tables-are}
 use Rattle.macho_image.proofs.Placed.{no_carried}
 use Rattle.macho_image.proofs.Unsupported.{form_length}
@@ -44,7 +44,8 @@ mapped b n entry none headers h =
 part_held : (out : List ℕ) (n entry : ℕ) (none headers : Bor (List SectionHeader)) (at : ℕ) (text : List ℕ) (s : ℕ) (choice : Choice) → HasHead out n entry none headers
     → Stands out (record { at = at; text = text }) → at + length text ≤ n → HoldsText out s choice (PAGEZERO_SIZE + at + s) text
 part_held out n entry none headers at text s choice head stands inside =
-    text_is_held out s choice (text_record n (length headers.now)) at text (tables-are out n entry none headers head) (mapped out n entry none headers head)
+    text_is_held out s choice (text_record n (length headers.now)) at text
+    (all_free out (PAGEZERO_SIZE + at) (length text) (tables-are out n entry none headers head)) (mapped out n entry none headers head)
     inside (omega arith) (subst (λ (a : ℕ). Stands out (record { at = a; text = text })) (omega arith) stands)
 
 -- a branch lies in its section's bytes

@@ -19,13 +19,13 @@ use Rattle.macho_model.specs.Segments.{PAGEZERO_SIZE}
 use Rattle.macho_model.specs.declared.placed.PlacedSection.{PlacedSection}
 use Rattle.macho_image.specs.declared.carried.Carried.{Carried}
 use Rattle.macho_image.specs.declared.entry.Entry.{Entry}
-use Rattle.macho_image.specs.First.{IsFound, IsPlainObject}
-use Rattle.macho_image.specs.Places.{IsInFile, HasPlace, IsPlaceIn}
-use Rattle.macho_image.specs.Parts.{IsWritable}
-use Rattle.macho_image.specs.Definitions.{LiesInCarried}
-use Rattle.macho_image.specs.Composed.{StandBehind}
-use Rattle.macho_image.specs.Branches.{IsCarriedWithBytes}
-use Rattle.macho_image.specs.LaidOut.{IsLaidOut}
+use Rattle.macho_image.specs.steps.First.{IsFound, IsPlainObject}
+use Rattle.macho_image.specs.steps.Places.{IsInFile, HasPlace, IsPlaceIn}
+use Rattle.macho_image.specs.steps.Parts.{IsWritable}
+use Rattle.macho_image.specs.steps.Definitions.{LiesInCarried}
+use Rattle.macho_image.specs.steps.Composed.{StandBehind}
+use Rattle.macho_image.specs.steps.Branches.{IsCarriedWithBytes}
+use Rattle.macho_image.specs.steps.LaidOut.{IsLaidOut}
 use Rattle.macho_image.proofs.Placed.{map-at, no_place, no_carried}
 
 -- a test that a section with bytes has to pass

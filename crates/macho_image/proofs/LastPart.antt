@@ -9,7 +9,7 @@ use Rattle.std.proofs.lemmas.List.{take-append-drop, get_or-drop, get_or-take, l
 use Rattle.std.proofs.Math.Seq.{drop-append_seam}
 use Rattle.std.proofs.lemmas.List.Sums.{take_while-cons}
 use Rattle.macho_model.specs.Faults.{SLASH, last_part}
-use Rattle.macho_image.specs.Paths.{IsBehindLast}
+use Rattle.macho_image.specs.steps.Paths.{IsBehindLast}
 
 -- all of a beginning passes, and what stands behind it fails at once
 taken : (p : ℕ → Bool) (u v : List ℕ) → All (λ b. p b ≡ true) u → ((d : ℕ) → 0 < length v → p (get_or v 0 d) ≡ false) → take_while p (u ++ v) ≡ u

@@ -17,9 +17,11 @@ use Rattle.macho_model.specs.Links.{Link}
 use Rattle.macho_model.specs.Resolution.{entry_at}
 use Rattle.macho_model.specs.Targets.{target_of_definition, target_of_name, target_of, is_defined}
 use Rattle.macho_image.specs.First.{HasOneObject}
-use Rattle.macho_image.specs.Definitions.{in_carried, is_object_definition, defines_name, IsDefinitionOf}
-use Rattle.macho_image.specs.Referents.{IsOwn, IsReferent, LeadsNowhere, HasNoDefinition, only_symbol}
-use Rattle.macho_image.specs.Names.{SeenNames}
+use Rattle.macho_image.specs.Definitions.{in_carried, is_object_definition}
+use Rattle.macho_image.specs.steps.Definitions.{defines_name, IsDefinitionOf}
+use Rattle.macho_image.specs.steps.Referents.{IsOwn, IsReferent, LeadsNowhere, only_symbol}
+use Rattle.macho_image.specs.Referents.{HasNoDefinition}
+use Rattle.macho_image.specs.steps.Names.{SeenNames}
 use Rattle.macho_image.specs.declared.referent.Referent.{Referent}
 use Rattle.macho_image.specs.declared.referent.Referent.TheVariants.{Section, Elsewhere, Undefined}
 use Rattle.macho_image.proofs.First.{object-is}

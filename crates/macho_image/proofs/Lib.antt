@@ -10,6 +10,7 @@ pub mod Entries
 pub mod NamesSeen
 pub mod Composing
 pub mod Alone
+pub mod Agreed
 pub mod Built
 pub mod Whole
 pub mod Leading

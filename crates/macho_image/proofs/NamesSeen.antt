@@ -7,7 +7,7 @@ use Rattle.std.proofs.lemmas.Bool.{cases_lt}
 use Rattle.std.proofs.lemmas.Slice.Eq.{bytes_eq-Decides}
 use Rattle.macho_model.specs.Objects.{num_symbols, symbol_name}
 use Rattle.macho_image.specs.Definitions.{is_object_definition, NamesMeet}
-use Rattle.macho_image.specs.Names.{same_text, SeenNames}
+use Rattle.macho_image.specs.steps.Names.{same_text, SeenNames}
 
 -- no symbol was looked at
 pub seen_none : (b : List ℕ) (find : Bor (List ℕ) → Option ℕ) → ((q : Bor (List ℕ)) → find q ≡ None) → SeenNames b 0 find

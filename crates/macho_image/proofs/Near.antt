@@ -16,33 +16,16 @@ use Rattle.macho_model.specs.declared.placed.PlacedSegment.{PlacedSegment}
 use Rattle.macho_model.specs.declared.placed.PlacedSection.{PlacedSection}
 use Rattle.macho_model.specs.Links.{Link, header_at}
 use Rattle.macho_model.specs.Segments.{TEXT, base_of_link, segment_name, segment_rank}
-use Rattle.macho_model.specs.Placement.{Placed, id_of, is_segment_named, SectionLies, IsPaged, EachFollows, end_of_segments, IsPlaced}
+use Rattle.macho_model.specs.Placement.{Placed, id_of, is_segment_named, SectionLies, IsPaged, EachFollows, IsPlaced}
 use Rattle.macho_model.specs.Values.{branch_reaches}
 use Rattle.macho_model.specs.WrittenSum.{written_sum_of}
 use Rattle.macho_image.proofs.Set.{any_default}
 
 -- each of the later segments follows the one before it too
 later_follow : (l : Link) (s : PlacedSegment) (segments : List PlacedSegment) → EachFollows l (s ∷ segments) → EachFollows l segments
-later_follow l s segments follow k a b lt at_a at_b =
+later_follow l s segments follow k a b (before, at_a) (lt, at_b) =
     let next : suc (k + 1) ≡ suc k + 1 = omega arith in
-    follow (suc k) a b (omega arith) at_a (subst (λ (n : ℕ). get_or (s ∷ segments) n b ≡ b) next at_b)
-
--- the first of segments ends where the last one does, or before
-first_before_end : (l : Link) (s : PlacedSegment) (segments : List PlacedSegment) (end : ℕ) → EachFollows l (s ∷ segments)
-    → s.address + s.size ≤ end_of_segments (s ∷ segments) end
-first_before_end l s [] end follow = omega arith
-first_before_end l s (t ∷ segments) end follow =
-    let later = first_before_end l t segments (s.address + s.size) (later_follow l s (t ∷ segments) follow) in
-    omega (arith, later, (follow 0 s t (omega arith) refl refl).address)
-
--- so does each
-before_end : (l : Link) (segments : List PlacedSegment) (end k : ℕ) (s : PlacedSegment) → EachFollows l segments → k < length segments
-    → get_or segments k s ≡ s → s.address + s.size ≤ end_of_segments segments end
-before_end l [] end k s follow lt at = absurd (omega arith)
-before_end l (t ∷ segments) end zero s follow lt at =
-    subst (λ (x : PlacedSegment). x.address + x.size ≤ end_of_segments (t ∷ segments) end) at (first_before_end l t segments end follow)
-before_end l (t ∷ segments) end (suc k) s follow lt at =
-    before_end l segments (t.address + t.size) k s (later_follow l t segments follow) (omega arith) at
+    follow (suc k) a b (omega arith, at_a) (omega arith, subst (λ (n : ℕ). get_or (s ∷ segments) n b ≡ b) next at_b)
 
 if_at_most : (b : Bool) (m n : ℕ) → m ≤ n → (if b then m else n) ≤ n
 if_at_most true m n le = le
@@ -53,7 +36,7 @@ pub section_inside : (l : Link) (counts : Counts) (p : Placed) (q : PlacedSectio
     → q.address + (header_at l (id_of q)).size ≤ p.base + written_sum_of l counts
 section_inside l counts p q placed among =
     let lies = subst (SectionLies l p) among.2 (placed.in_segment.sections among.0 q among.1) in
-    ends_inside lies.0 lies.1 lies.2 lies.4.to
+    ends_inside lies.0 lies.1.0 lies.1.1 lies.3.to
   where
     in_file : Bool
     in_file = not (is_zerofill (header_at l (id_of q))) && not ((header_at l (id_of q)).size == 0)
@@ -64,16 +47,17 @@ section_inside l counts p q placed among =
     ends_inside s lt at to =
         let paged = subst IsPaged at (placed.in_order.paged q.segment s lt) in
         let part = if_at_most in_file s.file_size s.size paged.file_size in
-        let segment = before_end l p.segments p.base q.segment s placed.in_order.follow lt at in
-        omega (arith, to, part, segment, placed.within_sum)
+        let end : s.address + s.size ≤ p.base + written_sum_of l counts =
+        subst (λ (x : PlacedSegment). x.address + x.size ≤ p.base + written_sum_of l counts) at (placed.within_sum q.segment s lt) in
+        omega (arith, to, part, end)
 
 -- the ranks of segments rise
 first_rank : (l : Link) (s : PlacedSegment) (segments : List PlacedSegment) (k : ℕ) (d : PlacedSegment) → EachFollows l (s ∷ segments) → k < length segments
     → segment_rank l (text_of s.name) < segment_rank l (text_of (get_or segments k d).name)
 first_rank l s [] k d follow lt = absurd (omega arith)
-first_rank l s (t ∷ segments) zero d follow lt = (follow 0 s t (omega arith) refl refl).rank
+first_rank l s (t ∷ segments) zero d follow lt = (follow 0 s t (omega arith, refl) (omega arith, refl)).rank
 first_rank l s (t ∷ segments) (suc k) d follow lt =
-    let next = (follow 0 s t (omega arith) refl refl).rank in
+    let next = (follow 0 s t (omega arith, refl) (omega arith, refl)).rank in
     let rest = first_rank l t segments k d (later_follow l s (t ∷ segments) follow) (omega arith) in
     omega (arith, next, rest)
 
@@ -103,7 +87,7 @@ pub section_behind : (l : Link) (counts : Counts) (p : Placed) (q : PlacedSectio
     → segment_name l (id_of q) ≡ TEXT → p.base ≤ q.address
 section_behind l counts p q placed among in_text =
     let lies = subst (SectionLies l p) among.2 (placed.in_segment.sections among.0 q among.1) in
-    behind lies.0 lies.1 lies.2 lies.3 lies.4.from placed.in_order.begins.0 placed.in_order.begins.1 placed.in_order.begins.2 placed.in_order.begins.3
+    behind lies.0 lies.1.0 lies.1.1 lies.2 lies.3.from placed.in_order.begins.0 placed.in_order.begins.1 placed.in_order.begins.2 placed.in_order.begins.3
   where
     behind : (s : PlacedSegment) → q.segment < length p.segments → get_or p.segments q.segment s ≡ s → is_segment_named (segment_name l (id_of q)) s ≡ true
         → s.address ≤ q.address → (t : PlacedSegment) → Contains p.segments t → is_segment_named TEXT t ≡ true → t.address ≡ base_of_link l → p.base ≤ q.address

@@ -22,10 +22,10 @@ use Rattle.macho_model.specs.Placement.{Placed, Span, AreApart, range_span, link
 use Rattle.macho_model.specs.WrittenSum.{section_cost, content_sum, command_sum, unsigned_sum, written_sum_of}
 use Rattle.macho_model.specs.Segments.{PAGEZERO_SIZE, SEGMENT_PAGE, TEXT, segment_rank, segment_names_of, one_if}
 use Rattle.macho_image.specs.declared.carried.Carried.{Carried}
-use Rattle.macho_image.specs.Places.{cost_of, front_of, IsPlaceOf, Places}
-use Rattle.macho_image.specs.First.{id_of_carried, IsPlain, IsFirst}
+use Rattle.macho_image.specs.steps.Places.{cost_of, front_of, IsPlaceOf, Places}
+use Rattle.macho_image.specs.steps.First.{id_of_carried, IsPlain, IsFirst}
 use Rattle.macho_image.specs.Counts.{counts_of}
-use Rattle.macho_image.specs.Shape.{pagezero_segment, text_segment, placed_of_image}
+use Rattle.macho_image.specs.steps.Shape.{pagezero_segment, text_segment, placed_of_image}
 
 -- an element of a mapped list
 pub map-at : {X Y : Type 0} (f : X → Y) (xs : List X) (k : ℕ) (d : X) (e : Y) → k < length xs → get_or (map f xs) k e ≡ f (get_or xs k d)
@@ -111,8 +111,7 @@ section_lies : (l : Link) (front end n : ℕ) (c : Carried) (q : PlacedSection) 
     → IsAtPlace l front end c q → PAGEZERO_SIZE ≤ front → end ≤ PAGEZERO_SIZE + n → SectionLies l (placed_of_image n sections headers) q
 section_lies l front end n c q sections headers h low high = (
   text_segment n,
-  rw h.place.segment (omega arith),
-  rw h.place.segment refl,
+  (rw h.place.segment (omega arith), rw h.place.segment refl),
   subst (λ (x : SectionHeader). bytes_eq (codes "__TEXT") (name_of x.segname) ≡ true) (sym (header-at l front end c q h)) (named c h.plain.text),
   record {
     from = omega (arith, h.place.from);
@@ -197,8 +196,8 @@ unfolding segment_rank
 follows l n = record { rank = omega arith; address = refl; file_offset = refl }
 
 two_follow : (l : Link) (s t : PlacedSegment) → Follows l s t → EachFollows l (s ∷ t ∷ [])
-two_follow l s t f zero x y lt at_x at_y = subst (λ (z : PlacedSegment). Follows l z y) at_x (subst (λ (z : PlacedSegment). Follows l s z) at_y f)
-two_follow l s t f (suc k) x y lt at_x at_y = absurd (omega arith)
+two_follow l s t f zero x y (before, at_x) (lt, at_y) = subst (λ (z : PlacedSegment). Follows l z y) at_x (subst (λ (z : PlacedSegment). Follows l s z) at_y f)
+two_follow l s t f (suc k) x y before (lt, at_y) = absurd (omega arith)
 
 -- THE placement relation holds
 pub placed : (l : Link) (front end n : ℕ) (cs : List Carried) (ps : List PlacedSection) (headers : List SectionHeader) → IsFirst l cs → Places front cs ps end
@@ -240,5 +239,6 @@ placed l front end n cs ps headers first places count is few high near pages = r
     begins = (text_segment n, (1, omega arith, refl), refl, rw first.executable refl);
   };
   template = no_template l front end n cs ps headers first places;
-  within_sum = omega (arith, within l front end n cs ps first places few is near);
+  within_sum = All-from_recursion (λ s. s.address + s.size ≤ (placed_of_image n ps headers).base + written_sum_of l (counts_of l)) (pagezero_segment ∷ text_segment n ∷ [])
+      (omega arith, (omega (arith, within l front end n cs ps first places few is near), tt));
 }

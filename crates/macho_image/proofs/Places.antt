@@ -11,7 +11,7 @@ use Rattle.std.proofs.lemmas.List.Sums.{sum_by_more}
 use Rattle.std.proofs.Math.Nat.{one-le-pow}
 use Rattle.macho_model.specs.declared.placed.PlacedSection.{PlacedSection}
 use Rattle.macho_image.specs.declared.carried.Carried.{Carried}
-use Rattle.macho_image.specs.Places.{cost_of, IsPlaceOf, Places}
+use Rattle.macho_image.specs.steps.Places.{cost_of, IsPlaceOf, Places}
 
 -- a place stands within a later end too
 within_later : (front : ℕ) (c : Carried) (q : PlacedSection) (end later : ℕ) → end ≤ later → IsPlaceOf front c q end → IsPlaceOf front c q later

@@ -14,10 +14,11 @@ use Rattle.macho_model.specs.Objects.{num_sections, section_at}
 use Rattle.macho_object.specs.Views.{FileBytes, section_count, of_section}
 use Rattle.macho_image.specs.declared.fault.Unbuilt.{Unbuilt}
 use Rattle.macho_image.specs.declared.fault.Unbuilt.TheVariants as part
-use Rattle.macho_image.specs.Unbuilt.{IsElsewhere, IsNotPlain, AsksForPart}
+use Rattle.macho_image.specs.Unbuilt.{IsElsewhere, AsksForPart}
+use Rattle.macho_image.specs.steps.Unbuilt.{IsNotPlain}
 use Rattle.macho_model.specs.Links.{is_carried, is_consumed}
 use Rattle.macho_image.specs.declared.carried.Carried.{Carried}
-use Rattle.macho_image.specs.First.{IsFound, IsPlainHeader, HasSections}
+use Rattle.macho_image.specs.steps.First.{IsFound, IsPlainHeader, HasSections}
 
 -- the numbers below n + 1
 range-more : (n : ℕ) → range_with_len 0 (n + 1) ≡ range_with_len 0 n ++ n ∷ []

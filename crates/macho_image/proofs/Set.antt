@@ -17,8 +17,8 @@ use Rattle.macho_arm64.specs.declared.kinds.FieldSize.TheVariants.{JumpCall}
 use Rattle.macho_arm64.specs.Fields.{Holds, can_hold}
 use Rattle.macho_arm64.proofs.ReachLaws.{branch_can_hold}
 use Rattle.macho_image.specs.declared.branch.Branch.{Branch}
-use Rattle.macho_image.specs.Branches.{WORD, AreApart}
-use Rattle.macho_image.specs.Setting.{IsAddressOf, IsSetBranch, IsSet, CannotReach}
+use Rattle.macho_image.specs.steps.Branches.{WORD, AreApart}
+use Rattle.macho_image.specs.steps.Setting.{IsAddressOf, IsSetBranch, IsSet, CannotReach}
 
 -- a number whose bytes are the same in two lists
 same_number : (w at : ℕ) (a b : List ℕ) → at + w ≤ length a → at + w ≤ length b → ((i : ℕ) → at ≤ i → i < at + w → slice_index a i ≡ slice_index b i)

@@ -19,12 +19,12 @@ use Rattle.macho_image.specs.declared.branch.Branch.{Branch}
 use Rattle.macho_image.specs.declared.carried.Carried.{Carried}
 use Rattle.macho_image.specs.declared.fault.LinkError.TheVariants as error
 use Rattle.macho_image.specs.First.{HasOneObject}
-use Rattle.macho_image.specs.Places.{front_of, IsPlaceOf}
-use Rattle.macho_image.specs.Shape.{placed_of_image}
-use Rattle.macho_image.specs.LaidOut.{IsLaidOut}
-use Rattle.macho_image.specs.Branches.{HasBranches, HasAllBranches}
-use Rattle.macho_image.specs.Setting.{CannotReach, SectionCannotReach}
-use Rattle.macho_image.specs.Refusals.{StandsAlone}
+use Rattle.macho_image.specs.steps.Places.{front_of, IsPlaceOf}
+use Rattle.macho_image.specs.steps.Shape.{placed_of_image}
+use Rattle.macho_image.specs.steps.LaidOut.{IsLaidOut}
+use Rattle.macho_image.specs.steps.Branches.{HasBranches, HasAllBranches}
+use Rattle.macho_image.specs.steps.Setting.{CannotReach, SectionCannotReach}
+use Rattle.macho_image.specs.steps.Refusals.{StandsAlone}
 use Rattle.macho_image.proofs.First.{first_section}
 use Rattle.macho_image.proofs.FirstLinks.{is_first}
 use Rattle.macho_image.proofs.Uses.{no_branch}

@@ -24,9 +24,11 @@ use Rattle.macho_image.specs.declared.fault.LinkError.TheVariants as error
 use Rattle.macho_image.specs.declared.fault.Unbuilt.TheVariants as part
 use Rattle.macho_image.proofs.Alone.{asks_alone}
 use Rattle.macho_image.specs.First.{HasOneObject}
-use Rattle.macho_image.specs.Branches.{WORD, is_later_type, share_bytes}
-use Rattle.macho_image.specs.Referents.{only_symbol, LeadsNowhere, HasNoDefinition}
-use Rattle.macho_image.specs.Refusals.{StandsAlone}
+use Rattle.macho_image.specs.steps.Branches.{WORD}
+use Rattle.macho_image.specs.Branches.{is_later_type, share_bytes}
+use Rattle.macho_image.specs.steps.Referents.{only_symbol, LeadsNowhere}
+use Rattle.macho_image.specs.Referents.{HasNoDefinition}
+use Rattle.macho_image.specs.steps.Refusals.{StandsAlone}
 use Rattle.macho_image.proofs.First.{first_section, filter-map, object-is, first-header, sections-are}
 use Rattle.macho_image.proofs.Uses.{no_import}
 use Rattle.macho_image.proofs.Entries.{and_none, and_first, and_left, and_right}
@@ -139,13 +141,18 @@ lacks_row l b k r true one form lacks =
     (ap is_branch (word-is l b k r one (form_length (relocation_at b k r) form))
     ∙ second (has_form (relocation_at b k r) 2 true true) (is_branch (le_at WORD (section_bytes b k) (relocation_at b k r).r_address)) lacks form)
 
+-- the row of branches
+pub row-is : (l : Link) (s : SectionId) (r : ℕ) → (relocation_in l s r).r_type ≡ ARM64_RELOC_BRANCH26
+    → is_supported l s r ≡ (has_form (relocation_in l s r) 2 true true && is_branch (content_of l s r) && may_be_called l s r)
+unfolding is_supported
+row-is l s r type = rw type refl
+
 pub no_branch_there : (l : Link) (b : List ℕ) (k r : ℕ) → HasOneObject l b → (relocation_at b k r).r_type ≡ ARM64_RELOC_BRANCH26
     → (has_form (relocation_at b k r) 2 true true && is_branch (le_at WORD (section_bytes b k) (relocation_at b k r).r_address)) ≡ false
     → is_supported l (first_section k) r ≡ false
-unfolding is_supported
 no_branch_there l b k r one type lacks =
-    rw (type-is l b k r one type)
-    (and_first (has_form (relocation_in l (first_section k) r) 2 true true && is_branch (content_of l (first_section k) r)) (may_be_called l (first_section k) r)
+    row-is l (first_section k) r (type-is l b k r one type)
+    ∙ (and_first (has_form (relocation_in l (first_section k) r) 2 true true && is_branch (content_of l (first_section k) r)) (may_be_called l (first_section k) r)
     (lacks_row l b k r (has_form (relocation_at b k r) 2 true true) one refl lacks))
 
 -- a branch to what doesn't move with the image
@@ -158,10 +165,9 @@ not_called l b k r one type form nowhere =
 
 pub no_target : (l : Link) (b : List ℕ) (k r : ℕ) → HasOneObject l b → (relocation_at b k r).r_type ≡ ARM64_RELOC_BRANCH26
     → has_form (relocation_at b k r) 2 true true ≡ true → LeadsNowhere b (relocation_at b k r).r_symbolnum → is_supported l (first_section k) r ≡ false
-unfolding is_supported
 no_target l b k r one type form nowhere =
-    rw (type-is l b k r one type)
-    (and_none (has_form (relocation_in l (first_section k) r) 2 true true && is_branch (content_of l (first_section k) r)) (may_be_called l (first_section k) r)
+    row-is l (first_section k) r (type-is l b k r one type)
+    ∙ (and_none (has_form (relocation_in l (first_section k) r) 2 true true && is_branch (content_of l (first_section k) r)) (may_be_called l (first_section k) r)
     (not_called l b k r one type form nowhere))
 
 -- a relocation whose type isn't built yet

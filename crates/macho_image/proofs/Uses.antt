@@ -21,8 +21,9 @@ use Rattle.macho_model.specs.Targets.{own_target, target_of_definition, target_o
 use Rattle.macho_model.specs.ExportLists.{plain_entries, all_entries}
 use Rattle.macho_image.specs.declared.carried.Carried.{Carried}
 use Rattle.macho_image.specs.declared.branch.Branch.{Branch}
-use Rattle.macho_image.specs.First.{id_of_carried, IsPlainObject, HasOneObject}
-use Rattle.macho_image.specs.Branches.{HasAllBranches}
+use Rattle.macho_image.specs.steps.First.{id_of_carried, IsPlainObject}
+use Rattle.macho_image.specs.First.{HasOneObject}
+use Rattle.macho_image.specs.steps.Branches.{HasAllBranches}
 use Rattle.macho_image.proofs.First.{object-is, first-header, carried-are, no_consumed}
 use Rattle.macho_image.proofs.Placed.{map-at, filter_none, no_carried}
 

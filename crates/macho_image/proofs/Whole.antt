@@ -13,9 +13,11 @@ use Rattle.macho_image.specs.declared.link.LinkedImage.{LinkedImage}
 use Rattle.macho_image.specs.declared.fault.LinkError.{LinkError}
 use Rattle.macho_image.specs.declared.fault.LinkError.TheVariants as error
 use Rattle.macho_image.specs.First.{HasOneObject}
-use Rattle.macho_image.specs.Definitions.{IsEntry}
-use Rattle.macho_image.specs.Linked.{IsImageOf, IsImageAlone}
-use Rattle.macho_image.specs.Refusals.{RefusalStands, StandsAlone, IsEntryRefusal}
+use Rattle.macho_image.specs.steps.Definitions.{IsEntry}
+use Rattle.macho_image.specs.Linked.{IsImageOf}
+use Rattle.macho_image.specs.steps.Linked.{IsImageAlone}
+use Rattle.macho_image.specs.Refusals.{RefusalStands}
+use Rattle.macho_image.specs.steps.Refusals.{StandsAlone, IsEntryRefusal}
 use Rattle.macho_image.specs.Answered.{IsAnswered}
 use Rattle.macho_image.proofs.Entries.{own_name}
 use Rattle.macho_image.proofs.Answered.{only_memory}

@@ -12,17 +12,17 @@ use Rattle.macho_bytes.specs.Layouts.{spelling}
 use Rattle.macho_records.specs.Layouts.{mach_header}
 use Rattle.macho_commands.specs.declared.command.Command.{Command}
 use Rattle.macho_commands.specs.Commands.{commands_text, commands_size}
-use Rattle.macho_image.specs.Shape.{header_of_image}
-use Rattle.macho_image.specs.Parts.{header_part, commands_part, parts_of_image}
-use Rattle.macho_image.specs.Composed.{StandBehind, IsWritten}
+use Rattle.macho_image.specs.steps.Shape.{header_of_image}
+use Rattle.macho_image.specs.steps.Parts.{header_part, commands_part, parts_of_image}
+use Rattle.macho_image.specs.steps.Composed.{StandBehind, IsWritten}
 use Rattle.macho_image.proofs.Composing.{parts_fit}
 use Rattle.macho_model.specs.declared.placed.PlacedSection.{PlacedSection}
 use Rattle.macho_image.specs.declared.branch.Branch.{Branch}
 use Rattle.macho_bytes.proofs.Writes.{put_mid-whole}
 use Rattle.macho_model.specs.Objects.{section_bytes}
 use Rattle.macho_model.specs.Segments.{PAGEZERO_SIZE}
-use Rattle.macho_image.specs.Parts.{Adds, IsWritable}
-use Rattle.macho_image.specs.Setting.{IsSet, IsSectionPart, WritesSection, WritesSections}
+use Rattle.macho_image.specs.steps.Parts.{Adds, IsWritable}
+use Rattle.macho_image.specs.steps.Setting.{IsSet, IsSectionPart, WritesSection, WritesSections}
 use Rattle.macho_image.proofs.Adds.{adds_put, adds_none, adds_then, adds_to_zeros}
 use Rattle.macho_image.proofs.Set.{any_default}
 

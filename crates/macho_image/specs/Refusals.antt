@@ -13,7 +13,6 @@ use Rattle.macho_image.specs.declared.fault.InputFault.TheVariants as input
 use Rattle.macho_image.specs.declared.fault.Unbuilt.{Unbuilt}
 use Rattle.macho_image.specs.declared.fault.Unbuilt.TheVariants as part
 use Rattle.macho_image.specs.Counts.{counts_of}
-use Rattle.macho_image.specs.First.{HasOneObject}
 use Rattle.macho_image.specs.Unbuilt.{AsksForPart}
 
 -- the most sections and the longest written sum that are built yet
@@ -58,13 +57,3 @@ abbrev pub ArgsRefused : Link → LinkError → Type 0
 ArgsRefused l error.BadName = model.bad_name l ≡ true
 ArgsRefused l error.OutOfMemory = Unit {0}
 ArgsRefused l fault = ⊥
-
--- a refusal stands in every link of an object alone
-pub record StandsAlone (b : List ℕ) (e : LinkError) : Type 0 where
-  pub stands : (l : Link) → HasOneObject l b → RefusalStands l e
-
--- the refusal of an entry of this name, or for want of memory
-abbrev pub IsEntryRefusal : List ℕ → LinkError → Type 0
-IsEntryRefusal entry (error.EntryNotDefined name) = name.items ≡ entry
-IsEntryRefusal entry error.OutOfMemory = Unit {0}
-IsEntryRefusal entry fault = ⊥

@@ -8,8 +8,6 @@ use Rattle.macho_model.specs.Links.{is_carried, is_consumed, is_initializers, is
 use Rattle.macho_model.specs.Segments.{TEXT}
 use Rattle.macho_image.specs.Definitions.{NamesMeet}
 use Rattle.macho_image.specs.Branches.{SomeRelocation, HasLaterType, SharesBytes, UsesUndefined}
-use Rattle.macho_image.specs.declared.fault.LinkError.{LinkError}
-use Rattle.macho_image.specs.declared.fault.LinkError.TheVariants as error
 use Rattle.macho_image.specs.declared.fault.Unbuilt.{Unbuilt}
 use Rattle.macho_image.specs.declared.fault.Unbuilt.TheVariants as part
 
@@ -37,14 +35,3 @@ AsksForPart b part.Segment = SomeCarried b IsElsewhere ⊎ SomeCommon b
 AsksForPart b part.Initializer = SomeConsumed b is_initializers
 AsksForPart b part.Unwind = SomeConsumed b is_unwind_entries
 AsksForPart b what = ⊥
-
--- a refusal of an object before it is placed: for want of memory, or since it asks for a part
-abbrev pub AsksFor : List ℕ → LinkError → Type 0
-AsksFor b (error.Unbuilt what) = AsksForPart b what
-AsksFor b error.OutOfMemory = Unit {0}
-AsksFor b fault = ⊥
-
--- what a header is lacking to be plain
-abbrev pub IsNotPlain : SectionHeader → Unbuilt → Type 0
-IsNotPlain h part.Segment = IsElsewhere h
-IsNotPlain h what = ⊥

@@ -12,10 +12,11 @@ ghost use Rattle.macho_model.specs.Objects.{num_sections, num_symbols, section_a
 ghost use Rattle.macho_model.specs.Links.{is_carried};
 ghost use Rattle.macho_model.specs.Words.{is_branch};
 ghost use Rattle.macho_model.specs.Rows.{has_form};
-ghost use Rattle.macho_image.specs.First.{IsPlainObject, IsFound};
-ghost use Rattle.macho_image.specs.Names.{same_text, SeenNames};
-ghost use Rattle.macho_image.specs.Branches.{IsBranch, HasBranches, HasAllBranches, is_later_type, IsCarriedWithBytes, TouchesOne, TouchesNone};
-ghost use Rattle.macho_image.specs.Refusals.{StandsAlone};
+ghost use Rattle.macho_image.specs.steps.First.{IsPlainObject, IsFound};
+ghost use Rattle.macho_image.specs.steps.Names.{same_text, SeenNames};
+ghost use Rattle.macho_image.specs.steps.Branches.{IsBranch, HasBranches, HasAllBranches, IsCarriedWithBytes, TouchesOne, TouchesNone};
+ghost use Rattle.macho_image.specs.Branches.{is_later_type};
+ghost use Rattle.macho_image.specs.steps.Refusals.{StandsAlone};
 ghost use Rattle.macho_image.specs.declared.fault.LinkError.TheVariants.{UnsupportedRelocation};
 
 use crate::carried::Carried;

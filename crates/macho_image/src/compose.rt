@@ -1,10 +1,10 @@
 //! Composing: the bytes of an image from its sections, their headers and its entry.
 ghost use Rattle.std.specs.Prelude.{◌≡◌, ◌+◌, ◌*◌, ◌<◌, ◌≤◌, ◌^◌, false, length, map, All, IfOk, IfErr};
-ghost use Rattle.macho_image.specs.Shape.{pagezero_segment, text_segment};
-ghost use Rattle.macho_image.specs.Parts.{IsWritable};
-ghost use Rattle.macho_image.specs.Composed.{StandBehind, IsComposed};
-ghost use Rattle.macho_image.specs.Setting.{EachSettable};
-ghost use Rattle.macho_image.specs.Unwritten.{IsUnwritten};
+ghost use Rattle.macho_image.specs.steps.Shape.{pagezero_segment, text_segment};
+ghost use Rattle.macho_image.specs.steps.Parts.{IsWritable};
+ghost use Rattle.macho_image.specs.steps.Composed.{StandBehind, IsComposed};
+ghost use Rattle.macho_image.specs.steps.Setting.{EachSettable};
+ghost use Rattle.macho_image.specs.steps.Unwritten.{IsUnwritten};
 ghost use Rattle.macho_image.specs.declared.compose.Unwritten.TheVariants.{OutOfMemory};
 
 use crate::branch::Branch;

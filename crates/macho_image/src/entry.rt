@@ -1,7 +1,8 @@
 //! The entry of an executable: where its name leads.
 ghost use Rattle.std.specs.Prelude.{◌≡◌, ◌-◌, ◌<◌, false, Some, None, option_copied, if◌then◌else◌};
 ghost use Rattle.macho_model.specs.Objects.{num_symbols, symbol_at};
-ghost use Rattle.macho_image.specs.Definitions.{in_carried, defined_name, defines_name, IsFirstDefinition, IsDefinitionOf, IsEntry};
+ghost use Rattle.macho_image.specs.Definitions.{in_carried};
+ghost use Rattle.macho_image.specs.steps.Definitions.{defined_name, defines_name, IsFirstDefinition, IsDefinitionOf, IsEntry};
 
 use crate::scan::is_carried;
 use macho_object::File;

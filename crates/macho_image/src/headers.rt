@@ -1,7 +1,7 @@
 //! The section headers of the image.
 ghost use Rattle.std.specs.Prelude.{◌≡◌, length, ◌≤◌, ◌<◌, ◌^◌, IfOk, All};
-ghost use Rattle.macho_image.specs.Headers.{HasHeaders, header_at_place};
-ghost use Rattle.macho_image.specs.Places.{IsInFile};
+ghost use Rattle.macho_image.specs.steps.Headers.{HasHeaders, header_at_place};
+ghost use Rattle.macho_image.specs.steps.Places.{IsInFile};
 
 use crate::carried::Carried;
 use crate::place::BASE;

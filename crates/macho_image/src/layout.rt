@@ -2,8 +2,8 @@
 ghost use Rattle.std.specs.Prelude.{◌≡◌, ◌+◌, ◌-◌, ◌*◌, ◌^◌, ◌%◌, ◌<◌, ◌≤◌, IfOk, All};
 ghost use Rattle.macho_model.specs.Segments.{PAGEZERO_SIZE, SEGMENT_PAGE};
 ghost use Rattle.macho_layout.specs.Placements.{placed_of};
-ghost use Rattle.macho_image.specs.Shape.{placed_of_image};
-ghost use Rattle.macho_image.specs.Places.{HasPlace, IsPlaceIn};
+ghost use Rattle.macho_image.specs.steps.Shape.{placed_of_image};
+ghost use Rattle.macho_image.specs.steps.Places.{HasPlace, IsPlaceIn};
 
 use crate::compose::{pagezero_segment, text_segment};
 use crate::entry::Entry;

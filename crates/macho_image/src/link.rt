@@ -1,19 +1,21 @@
 //! The link: from what was gathered to the bytes of an image.
 ghost use Rattle.std.specs.Prelude.{◌≡◌, ◌≤◌, false, Some, map, IfOk, IfErr};
-ghost use Rattle.macho_image.specs.First.{IsPlainObject};
-ghost use Rattle.macho_image.specs.Places.{IsPlaceable};
-ghost use Rattle.macho_image.specs.Definitions.{LiesInCarried, NamesDiffer};
+ghost use Rattle.macho_image.specs.steps.First.{IsPlainObject};
+ghost use Rattle.macho_image.specs.steps.Places.{IsPlaceable};
+ghost use Rattle.macho_image.specs.steps.Definitions.{LiesInCarried, NamesDiffer};
 ghost use Rattle.macho_image.specs.Counts.{counts_of};
 ghost use Rattle.macho_layout.specs.Placements.{placed_of};
 ghost use Rattle.macho_model.specs.Objects.{num_symbols};
 ghost use Rattle.macho_model.specs.Limits.{GREATEST_SYMBOLS};
 ghost use Rattle.macho_model.specs.Faults.{NoneStands};
-ghost use Rattle.macho_image.specs.LaidOut.{IsLaidOut};
-ghost use Rattle.macho_image.specs.Linked.{IsImageOf, IsImageAlone, IsClearAlone, IsBare};
+ghost use Rattle.macho_image.specs.steps.LaidOut.{IsLaidOut};
+ghost use Rattle.macho_image.specs.Linked.{IsImageOf};
+ghost use Rattle.macho_image.specs.steps.Linked.{IsImageAlone, IsClearAlone, IsBare};
 ghost use Rattle.macho_image.specs.Answered.{IsAnswered};
-ghost use Rattle.macho_image.specs.Branches.{HasAllBranches};
+ghost use Rattle.macho_image.specs.steps.Branches.{HasAllBranches};
 ghost use Rattle.macho_image.specs.declared.fault.LinkError.TheVariants.{OutOfMemory};
-ghost use Rattle.macho_image.specs.Refusals.{RefusalStands, StandsAlone, IsEntryRefusal};
+ghost use Rattle.macho_image.specs.Refusals.{RefusalStands};
+ghost use Rattle.macho_image.specs.steps.Refusals.{StandsAlone, IsEntryRefusal};
 
 use crate::branch::{Branch, all_branches};
 use crate::carried::Carried;

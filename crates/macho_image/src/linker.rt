@@ -5,7 +5,8 @@ ghost use Rattle.macho_model.specs.Links.{Object};
 ghost use Rattle.macho_model.specs.Grammar.{IsObject};
 ghost use Rattle.macho_model.specs.Faults.{bad_name};
 ghost use Rattle.macho_image.specs.Linkers.{link_of, IsPlainly, with_input};
-ghost use Rattle.macho_image.specs.Linked.{ShowsInput, IsOnly};
+ghost use Rattle.macho_image.specs.Linked.{ShowsInput};
+ghost use Rattle.macho_image.specs.steps.Linked.{IsOnly};
 ghost use Rattle.macho_image.specs.Refusals.{ArgsRefused, ObjectRefused};
 
 use crate::fault::{InputFault, LinkError, Unbuilt};

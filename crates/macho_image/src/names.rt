@@ -2,8 +2,8 @@
 ghost use Rattle.std.specs.Prelude.{◌≡◌, false, IfErr, IfOk};
 ghost use Rattle.std.specs.HashMap.{get};
 ghost use Rattle.macho_model.specs.Objects.{num_symbols};
-ghost use Rattle.macho_image.specs.Names.{same_text, SeenNames};
-ghost use Rattle.macho_image.specs.Unbuilt.{AsksFor};
+ghost use Rattle.macho_image.specs.steps.Names.{same_text, SeenNames};
+ghost use Rattle.macho_image.specs.steps.Unbuilt.{AsksFor};
 
 use crate::entry::defined_name;
 use crate::fault::{LinkError, Unbuilt};

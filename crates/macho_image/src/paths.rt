@@ -3,7 +3,7 @@ ghost use Rattle.std.specs.Prelude.{◌≡◌, length, ◌==◌, ◌||◌, codes
 ghost use Rattle.std.specs.Str.{bytes_eq};
 ghost use Rattle.std.specs.List.{list_any};
 ghost use Rattle.macho_model.specs.Faults.{last_part, has_zero};
-ghost use Rattle.macho_image.specs.Paths.{IsBehindLast};
+ghost use Rattle.macho_image.specs.steps.Paths.{IsBehindLast};
 
 /// What separates the parts of a path.
 const SLASH: u8 = b'/';

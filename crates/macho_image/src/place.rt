@@ -6,7 +6,7 @@
 //!     0x100000000  `__TEXT`      32 bytes of header, the load commands, the sections, each at its alignment,
 //!                                zeros up to a multiple of 16 KiB
 ghost use Rattle.std.specs.Prelude.{◌≡◌, ◌+◌, ◌*◌, ◌^◌, ◌%◌, ◌<◌, ◌≤◌, length, IfOk, All, sum_by};
-ghost use Rattle.macho_image.specs.Places.{cost_of, Places, front_of, IsPlaceable};
+ghost use Rattle.macho_image.specs.steps.Places.{cost_of, Places, front_of, IsPlaceable};
 
 use crate::carried::Carried;
 use macho_layout::{PlacedSection, Range64};

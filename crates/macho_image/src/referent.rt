@@ -2,8 +2,8 @@
 ghost use Rattle.std.specs.Prelude.{◌≡◌, ◌<◌, false};
 ghost use Rattle.std.specs.HashMap.{get};
 ghost use Rattle.macho_model.specs.Objects.{num_symbols};
-ghost use Rattle.macho_image.specs.Names.{same_text, SeenNames};
-ghost use Rattle.macho_image.specs.Referents.{IsOwn, IsReferent};
+ghost use Rattle.macho_image.specs.steps.Names.{same_text, SeenNames};
+ghost use Rattle.macho_image.specs.steps.Referents.{IsOwn, IsReferent};
 
 use crate::entry::{Entry, carried_section};
 use indexmap::IndexMap;

@@ -4,9 +4,10 @@ ghost use Rattle.std.specs.Prelude.{◌≡◌, ◌<◌, ℕ, false, OnOk, IfOk, 
 ghost use Rattle.macho_model.specs.Objects.{num_sections, section_at, num_symbols, symbol_at};
 ghost use Rattle.macho_records.specs.Symbols.{is_common_of};
 ghost use Rattle.macho_model.specs.Links.{is_carried};
-ghost use Rattle.macho_image.specs.First.{HasSections, HasNoCommon, IsPlainHeader};
-ghost use Rattle.macho_image.specs.Kinds.{IsOfKind};
-ghost use Rattle.macho_image.specs.Unbuilt.{AsksFor, AsksForPart, IsNotPlain};
+ghost use Rattle.macho_image.specs.steps.First.{HasSections, HasNoCommon, IsPlainHeader};
+ghost use Rattle.macho_image.specs.steps.Kinds.{IsOfKind};
+ghost use Rattle.macho_image.specs.steps.Unbuilt.{AsksFor, IsNotPlain};
+ghost use Rattle.macho_image.specs.Unbuilt.{AsksForPart};
 
 use crate::carried::Carried;
 use crate::fault::{LinkError, Unbuilt};

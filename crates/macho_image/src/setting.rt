@@ -1,7 +1,7 @@
 //! Setting branches: in the bytes of a section at its place, each branch goes to its target's place.
 ghost use Rattle.std.specs.Prelude.{◌≡◌, ◌+◌, ◌<◌, ◌^◌, length, All, OnOk, IfErr};
 ghost use Rattle.macho_model.specs.Values.{less};
-ghost use Rattle.macho_image.specs.Setting.{AreSettable, IsSet, CannotReach};
+ghost use Rattle.macho_image.specs.steps.Setting.{AreSettable, IsSet, CannotReach};
 
 use crate::branch::Branch;
 use crate::layout::entry_address;

@@ -1,6 +1,6 @@
 //! The size of what is linked: that it can be placed.
 ghost use Rattle.std.specs.Prelude.{◌≡◌, ◌≤◌, ◌<◌, ◌⊎◌, length, sum_by, All, true, false};
-ghost use Rattle.macho_image.specs.Places.{cost_of, IsPlaceable};
+ghost use Rattle.macho_image.specs.steps.Places.{cost_of, IsPlaceable};
 ghost use Rattle.macho_image.specs.Refusals.{BUILT_SECTIONS, BUILT_SUM};
 
 use crate::carried::Carried;

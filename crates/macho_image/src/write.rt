@@ -10,10 +10,10 @@ ghost use Rattle.macho_bytes.specs.Layouts.{ReadsBack};
 ghost use Rattle.macho_records.specs.Layouts.{mach_header};
 ghost use Rattle.macho_commands.specs.Commands.{Fits, commands_text, commands_size};
 ghost use Rattle.macho_commands.specs.Reading.{ListIsReadable};
-ghost use Rattle.macho_image.specs.Shape.{header_of_image};
-ghost use Rattle.macho_image.specs.Parts.{header_part, commands_part, Adds, IsWritable};
-ghost use Rattle.macho_image.specs.Setting.{AreSettable, EachSettable, WritesSection, WritesSections, CannotReach, SectionCannotReach};
-ghost use Rattle.macho_image.specs.Composed.{StandBehind, IsWritten};
+ghost use Rattle.macho_image.specs.steps.Shape.{header_of_image};
+ghost use Rattle.macho_image.specs.steps.Parts.{header_part, commands_part, Adds, IsWritable};
+ghost use Rattle.macho_image.specs.steps.Setting.{AreSettable, EachSettable, WritesSection, WritesSections, CannotReach, SectionCannotReach};
+ghost use Rattle.macho_image.specs.steps.Composed.{StandBehind, IsWritten};
 
 use crate::branch::Branch;
 use crate::place::BASE;

@@ -25,8 +25,8 @@ commands_rise : (b : List ℕ) (cs : List Command) → EachNeighbour cs (begins_
     → EndsBefore (segment_in b (get_or cs i e)) (segment_in b (get_or cs j e))
 commands_rise b cs h i zero e before within = absurd (omega (arith, before))
 commands_rise b cs h i (suc m) e before within =
-    let step = h m (get_or cs m e) (get_or cs (m + 1) e) (omega (arith, within)) (get_or_default cs m (get_or cs m e) e (omega (arith, within)))
-    (get_or_default cs (m + 1) (get_or cs (m + 1) e) e (omega (arith, within))) in
+    let step = h m (get_or cs m e) (get_or cs (m + 1) e) (omega (arith, within), get_or_default cs m (get_or cs m e) e (omega (arith, within)))
+    (omega (arith, within), get_or_default cs (m + 1) (get_or cs (m + 1) e) e (omega (arith, within))) in
     let same : m + 1 ≡ suc m = omega arith in
     let next : EndsBefore (segment_in b (get_or cs m e)) (segment_in b (get_or cs (suc m) e)) =
     subst (λ k. EndsBefore (segment_in b (get_or cs m e)) (segment_in b (get_or cs k e))) same

@@ -7,3 +7,6 @@ pub mod Slides
 pub mod Apart
 pub mod FieldSlides
 pub mod PointerFixups
+pub mod PlainPointers
+pub mod LinkLaws
+pub mod CommonNumbers

@@ -1,9 +1,9 @@
--- What memory holds of a file without fixup tables.
+-- What memory holds where no chain word has a byte.
 --
--- Such a file has no chain word, so at every address of a mapped segment memory holds the segment's own byte: the file's
--- where the file has one, zero behind. A text that stands in the file part of a segment is therefore held at the
--- segment's address plus its offset there, and so is each number that its bytes make, since a number of w bytes reads
--- no byte but those. The slide is added to the address alone.
+-- At such an address of a mapped segment memory holds the segment's own byte: the file's where the file has one, zero behind. A
+-- text that stands in the file part of a segment is therefore held at the segment's address plus its offset there, and so is
+-- each number that its bytes make, since a number of w bytes reads no byte but those. The slide is added to the address alone.
+-- A file without fixup tables has no chain word, so all of it is such.
 use Rattle.std.proofs.Common.{◌≡◌, ℕ, ◌+◌, ◌-◌, ◌<◌, ◌≤◌, nat_lt, if◌then◌else◌, false, List, [], length, drop, slice_range, slice_index, get_or, refl, sym, ap, subst, ◌∙◌, arith, inl, inr}
 use Rattle.std.specs.Prelude.{Contains}
 use Rattle.std.proofs.lemmas.Bool.{lt-ltb}
@@ -14,8 +14,10 @@ use Rattle.macho_bytes.specs.Numbers.{le_at}
 use Rattle.macho_bytes.specs.Texts.{Stands}
 use Rattle.macho_records.specs.declared.header.SegmentCommand.{SegmentCommand}
 use Rattle.macho_model.specs.Images.{mapped_segments, tables_of}
-use Rattle.macho_model.specs.Memory.{Choice, IsSegmentByte, Holds, HoldsText, HoldsNumber}
+use Rattle.macho_model.specs.Memory.{Choice, Covers, IsSegmentByte, Holds, HoldsText, HoldsNumber}
+use Rattle.macho_model.specs.HeldLaws.{IsFree}
 use Rattle.macho_model.proofs.Unchained.{uncovered}
+use Rattle.macho_model.proofs.ChainMemory.{unfixed_byte_is_held}
 
 -- a byte of a segment by its place in it
 pub segment_file_byte : (b : List ℕ) (segment : SegmentCommand) (i : ℕ) → Contains (mapped_segments b) segment → i < segment.filesize → i < segment.vmsize
@@ -43,39 +45,45 @@ segment_zero b segment i one behind in_memory =
         let same : segment.vmaddr + i - segment.vmaddr ≡ i = omega arith in
         rw (same, past i segment.filesize behind) refl
 
--- without tables memory holds each byte of a segment, at its address plus the slide
-pub unchained_byte : (b : List ℕ) (s : ℕ) (choice : Choice) (a v : ℕ) → tables_of b ≡ [] → IsSegmentByte b a v → Holds b s choice (a + s) v
-unchained_byte b s choice a v none byte = record { a = a; slid = refl; byte = inr ((λ word_at covers. uncovered b none a word_at covers), byte) }
+-- a file without fixup tables has no chain word
+pub all_free : (b : List ℕ) (a n : ℕ) → tables_of b ≡ [] → IsFree b a n
+all_free b a n none k within word_at covers = uncovered b none (a + k) word_at covers
 
--- so it holds the file's byte at an offset in the segment, where the file has one
-pub file_byte_is_held : (b : List ℕ) (s : ℕ) (choice : Choice) (segment : SegmentCommand) (i : ℕ) → tables_of b ≡ [] → Contains (mapped_segments b) segment
-    → i < segment.filesize → i < segment.vmsize → Holds b s choice (segment.vmaddr + i + s) (slice_index b (segment.fileoff + i))
-file_byte_is_held b s choice segment i none one in_file in_memory =
-    unchained_byte b s choice (segment.vmaddr + i) (slice_index b (segment.fileoff + i)) none (segment_file_byte b segment i one in_file in_memory)
+-- memory holds the file's byte at an offset in a segment, where the file has one
+pub file_byte_is_held : (b : List ℕ) (s : ℕ) (choice : Choice) (segment : SegmentCommand) (i : ℕ) → ((word_at : ℕ) → Covers b word_at (segment.vmaddr + i) → ⊥)
+    → Contains (mapped_segments b) segment → i < segment.filesize → i < segment.vmsize → Holds b s choice (segment.vmaddr + i + s) (slice_index b (segment.fileoff + i))
+file_byte_is_held b s choice segment i free one in_file in_memory =
+    unfixed_byte_is_held b s choice (segment.vmaddr + i) (slice_index b (segment.fileoff + i)) free (segment_file_byte b segment i one in_file in_memory)
 
 -- and zero behind
-pub zero_is_held : (b : List ℕ) (s : ℕ) (choice : Choice) (segment : SegmentCommand) (i : ℕ) → tables_of b ≡ [] → Contains (mapped_segments b) segment
-    → segment.filesize ≤ i → i < segment.vmsize → Holds b s choice (segment.vmaddr + i + s) 0
-zero_is_held b s choice segment i none one behind in_memory =
-    unchained_byte b s choice (segment.vmaddr + i) 0 none (segment_zero b segment i one behind in_memory)
+pub zero_is_held : (b : List ℕ) (s : ℕ) (choice : Choice) (segment : SegmentCommand) (i : ℕ) → ((word_at : ℕ) → Covers b word_at (segment.vmaddr + i) → ⊥)
+    → Contains (mapped_segments b) segment → segment.filesize ≤ i → i < segment.vmsize → Holds b s choice (segment.vmaddr + i + s) 0
+zero_is_held b s choice segment i free one behind in_memory =
+    unfixed_byte_is_held b s choice (segment.vmaddr + i) 0 free (segment_zero b segment i one behind in_memory)
+
+-- a byte of a free range
+free_at : (b : List ℕ) (a n i k : ℕ) → IsFree b (a + i) n → k < n → (word_at : ℕ) → Covers b word_at (a + (i + k)) → ⊥
+free_at b a n i k free within word_at covers =
+    let here : a + (i + k) ≡ a + i + k = omega arith in
+    free k within word_at (subst (λ (x : ℕ). Covers b word_at x) here covers)
 
 -- a text of the file is held, where it stands in the file part of a segment
-pub text_is_held : (b : List ℕ) (s : ℕ) (choice : Choice) (segment : SegmentCommand) (i : ℕ) (text : List ℕ) → tables_of b ≡ []
+pub text_is_held : (b : List ℕ) (s : ℕ) (choice : Choice) (segment : SegmentCommand) (i : ℕ) (text : List ℕ) → IsFree b (segment.vmaddr + i) (length text)
     → Contains (mapped_segments b) segment → i + length text ≤ segment.filesize → segment.filesize ≤ segment.vmsize
     → Stands b (record { at = segment.fileoff + i; text = text }) → HoldsText b s choice (segment.vmaddr + i + s) text
-text_is_held b s choice segment i text none one fits small stands k within =
+text_is_held b s choice segment i text free one fits small stands k within =
     let at_k : slice_index text k ≡ slice_index b (segment.fileoff + (i + k)) =
     ap (λ (t : List ℕ). get_or t k 0) (sym stands.same)
     ∙ get_or-between b (segment.fileoff + i) (segment.fileoff + i + length text) k 0 (omega arith) ∙ ap (λ (j : ℕ). get_or b j 0) (omega arith) in
     let here : segment.vmaddr + i + s + k ≡ segment.vmaddr + (i + k) + s = omega arith in
-    rw (here, at_k) (file_byte_is_held b s choice segment (i + k) none one (omega arith) (omega arith))
+    rw (here, at_k) (file_byte_is_held b s choice segment (i + k) (free_at b segment.vmaddr (length text) i k free within) one (omega arith) (omega arith))
 
 -- zeros are held, where they stand behind the file part
-pub zeros_are_held : (b : List ℕ) (s : ℕ) (choice : Choice) (segment : SegmentCommand) (i n : ℕ) → tables_of b ≡ [] → Contains (mapped_segments b) segment
-    → segment.filesize ≤ i → i + n ≤ segment.vmsize → (k : ℕ) → k < n → Holds b s choice (segment.vmaddr + i + k + s) 0
-zeros_are_held b s choice segment i n none one behind fits k within =
+pub zeros_are_held : (b : List ℕ) (s : ℕ) (choice : Choice) (segment : SegmentCommand) (i n : ℕ) → IsFree b (segment.vmaddr + i) n
+    → Contains (mapped_segments b) segment → segment.filesize ≤ i → i + n ≤ segment.vmsize → (k : ℕ) → k < n → Holds b s choice (segment.vmaddr + i + k + s) 0
+zeros_are_held b s choice segment i n free one behind fits k within =
     let here : segment.vmaddr + i + k ≡ segment.vmaddr + (i + k) = omega arith in
-    rw here (zero_is_held b s choice segment (i + k) none one (omega arith) (omega arith))
+    rw here (zero_is_held b s choice segment (i + k) (free_at b segment.vmaddr n i k free within) one (omega arith) (omega arith))
 
 -- a text that is held is a number that is held
 pub number_of_text : (b : List ℕ) (s : ℕ) (choice : Choice) (w x : ℕ) (text : List ℕ) → length text ≡ w → HoldsText b s choice x text
@@ -88,10 +96,10 @@ unfolding le_at
 le_at-between w bytes at = little_from-take 0 w (at + w - at) (drop at bytes) (omega arith)
 
 -- a number of the file is held, where it stands in the file part of a segment
-pub number_is_held : (b : List ℕ) (s : ℕ) (choice : Choice) (segment : SegmentCommand) (w i : ℕ) → tables_of b ≡ [] → Contains (mapped_segments b) segment
-    → i + w ≤ segment.filesize → segment.filesize ≤ segment.vmsize → segment.fileoff + segment.filesize ≤ length b
+pub number_is_held : (b : List ℕ) (s : ℕ) (choice : Choice) (segment : SegmentCommand) (w i : ℕ) → IsFree b (segment.vmaddr + i) w
+    → Contains (mapped_segments b) segment → i + w ≤ segment.filesize → segment.filesize ≤ segment.vmsize → segment.fileoff + segment.filesize ≤ length b
     → HoldsNumber b s choice w (segment.vmaddr + i + s) (le_at w b (segment.fileoff + i))
-number_is_held b s choice segment w i none one fits small inside =
+number_is_held b s choice segment w i free one fits small inside =
     rw (← le_at-between w b (segment.fileoff + i))
     (number_of_text b s choice w (segment.vmaddr + i + s) (slice_range b (segment.fileoff + i) (segment.fileoff + i + w)) long held)
   where
@@ -100,14 +108,15 @@ number_is_held b s choice segment w i none one fits small inside =
 
     held : HoldsText b s choice (segment.vmaddr + i + s) (slice_range b (segment.fileoff + i) (segment.fileoff + i + w))
     held =
-        text_is_held b s choice segment i (slice_range b (segment.fileoff + i) (segment.fileoff + i + w)) none one (omega (arith, long)) small
+        text_is_held b s choice segment i (slice_range b (segment.fileoff + i) (segment.fileoff + i + w))
+        (λ k within. free k (omega (arith, within, long))) one (omega (arith, long)) small
         (record { within = omega (arith, long); same = ap (λ (e : ℕ). slice_range b (segment.fileoff + i) (segment.fileoff + i + e)) long })
 
 -- the byte at an address behind the slide, and where no segment has one
 pub memory_found : (b : List ℕ) (s x v : ℕ) (choice : Choice) → s ≤ x → tables_of b ≡ [] → IsSegmentByte b (x - s) v → Holds b s choice x v
 memory_found b s x v choice behind none byte =
     let here : x - s + s ≡ x = omega (arith, behind) in
-    subst (λ y. Holds b s choice y v) here (unchained_byte b s choice (x - s) v none byte)
+    subst (λ y. Holds b s choice y v) here (unfixed_byte_is_held b s choice (x - s) v (uncovered b none (x - s)) byte)
 
 pub memory_lacks : (b : List ℕ) (s x v : ℕ) (choice : Choice) → tables_of b ≡ [] → (IsSegmentByte b (x - s) v → ⊥) → Holds b s choice x v → ⊥
 memory_lacks b s x v choice none lacks held =

@@ -49,7 +49,7 @@ pointer_denotes l b p c q f word x h wide kind plain moves at same s choice =
     record {
       word = moved_value b word s;
       held = rw wide (moved_is_held b (q.address + f.offset) word h s choice);
-      says = rw kind (x + s, defined_moves l p c choice f.target x s moves at, rw plain points);
+      says = rw kind (x + s, defined_moves l p c choice f.target x s moves at, rw plain points, wide);
     }
 
 -- So does a slot of a target that moves.
@@ -83,7 +83,7 @@ import_pointer_denotes l b p q f id h wide kind plain is s choice x chooses =
     record {
       word = (x + f.addend) % 2 ^ 64;
       held = rw wide (bound_is_held l b (q.address + f.offset) id f.addend h s choice x chooses);
-      says = rw kind (x, at, rw plain points);
+      says = rw kind (x, at, rw plain points, wide);
     }
 
 -- So does the slot of an import.

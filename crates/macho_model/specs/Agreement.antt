@@ -80,3 +80,10 @@ EntersAt l b p =
 pub record EntryAgrees (l : Link) (b : List ℕ) (p : Placed) : Type 0 where
   pub executable : l.executable ≡ true → EntersAt l b p
   pub library : l.executable ≡ false → entries_of_file b ≡ []
+
+-- What the load commands say is what the placement says.
+pub record CommandsAgree (l : Link) (counts : Counts) (b : List ℕ) (p : Placed) : Type 0 where
+  pub segments : SegmentsAgree b p
+  pub head : HeadAgrees counts b p
+  pub headers : HeadersAgree b p
+  pub entry : EntryAgrees l b p

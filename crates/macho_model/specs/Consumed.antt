@@ -16,7 +16,7 @@ use Rattle.macho_model.specs.Symbols.{is_in_segment}
 use Rattle.macho_records.specs.declared.constants.TheConstants.{ARM64_RELOC_UNSIGNED, S_MOD_INIT_FUNC_POINTERS}
 use Rattle.macho_model.specs.Objects.{section_bytes}
 use Rattle.macho_model.specs.Links.{Link, object_of, SectionId, header_at, is_carried}
-use Rattle.macho_model.specs.Needs.{relocation_in, relocations_of, relocations_at, unwind_sections, distinct, POINTER_SIZE, UNWIND_ENTRY_SIZE, PERSONALITY_PLACE}
+use Rattle.macho_model.specs.Needs.{relocation_in, section_named, relocations_of, relocations_at, unwind_sections, distinct, POINTER_SIZE, UNWIND_ENTRY_SIZE, PERSONALITY_PLACE}
 use Rattle.macho_model.specs.Targets.{target_of_relocation, is_defined, is_import, same_target}
 use Rattle.macho_model.specs.Segments.{TEXT}
 
@@ -80,10 +80,6 @@ single_relocations l s e =
     nat_le (length (relocations_in_entry l s e START_PLACE)) 1 && nat_le (length (relocations_in_entry l s e PERSONALITY_PLACE)) 1
     && nat_le (length (relocations_in_entry l s e LSDA_PLACE)) 1
 
--- the section that a relocation names by number
-abbrev pub section_named : Link → SectionId → ℕ → SectionId
-section_named l s r = record { file = s.file; section = (relocation_in l s r).r_symbolnum - 1 }
-
 -- a section that functions stand in
 abbrev pub holds_functions : Link → SectionId → Bool
 holds_functions l f =
@@ -101,10 +97,14 @@ lies_in l f address size =
     nat_le (header_at l f).addr address && nat_lt address ((header_at l f).addr + (header_at l f).size)
     && nat_le (address + size) ((header_at l f).addr + (header_at l f).size)
 
+-- the relocations of an entry's start that name a section
+abbrev pub starts_in : Link → SectionId → ℕ → List ℕ
+starts_in l s e = filter (λ r. not (relocation_in l s r).r_extern) (relocations_in_entry l s e START_PLACE)
+
 -- U5: the function lies in its section
 abbrev pub function_inside : Link → SectionId → ℕ → Bool
 function_inside l s e =
-    list_all (λ r. lies_in l (section_named l s r) (unwind_entry l s e).start (unwind_entry l s e).length) (relocations_in_entry l s e START_PLACE)
+    list_all (λ r. lies_in l (section_named l s r) (unwind_entry l s e).start (unwind_entry l s e).length) (starts_in l s e)
 
 -- An entry, by its section and number.
 pub record EntryId : Type 0 where
@@ -120,8 +120,8 @@ same_section f g = (f.file == g.file) && (f.section == g.section)
 
 abbrev pub same_start : Link → EntryId → EntryId → Bool
 same_start l d e =
-    list_any (λ q. list_any (λ r. same_section (section_named l d.of_section q) (section_named l e.of_section r)) (relocations_in_entry l e.of_section e.entry START_PLACE))
-    (relocations_in_entry l d.of_section d.entry START_PLACE)
+    list_any (λ q. list_any (λ r. same_section (section_named l d.of_section q) (section_named l e.of_section r)) (starts_in l e.of_section e.entry))
+    (starts_in l d.of_section d.entry)
     && ((unwind_entry l d.of_section d.entry).start == (unwind_entry l e.of_section e.entry).start)
 
 -- U6: no other entry begins where this one does
@@ -144,7 +144,8 @@ absent_is_zero relocations word = not (length relocations == 0) || (word == 0)
 
 abbrev pub entry_is_clear : Link → SectionId → ℕ → Bool
 entry_is_clear l s e =
-    (bits 28 2 (unwind_entry l s e).encoding == 0) && absent_is_zero (relocations_in_entry l s e PERSONALITY_PLACE) (unwind_entry l s e).personality
+    (bits 28 2 (unwind_entry l s e).encoding == 0) && absent_is_zero (relocations_in_entry l s e START_PLACE) (unwind_entry l s e).start
+    && absent_is_zero (relocations_in_entry l s e PERSONALITY_PLACE) (unwind_entry l s e).personality
     && absent_is_zero (relocations_in_entry l s e LSDA_PLACE) (unwind_entry l s e).lsda
 
 -- each relocation of an entry passes a test

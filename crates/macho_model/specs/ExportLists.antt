@@ -1,6 +1,7 @@
 -- Export lists: a text of lines, each a name or a pattern in which `*` stands for any run of bytes.
-use Rattle.std.specs.Prelude.{ℕ, ◌+◌, ◌==◌, ◌&&◌, ◌||◌, not, if◌then◌else◌, Bool, false, List, [], ◌∷◌, length, map, filter, drop, reverse, take_while}
+use Rattle.std.specs.Prelude.{ℕ, ◌+◌, ◌==◌, ◌&&◌, ◌||◌, not, if◌then◌else◌, Bool, List, [], ◌∷◌, length, map, filter, take, drop, reverse, take_while}
 use Rattle.std.specs.List.{flat_map, list_any, before_first, range_with_len, slice_split}
+use Rattle.std.specs.Str.{bytes_eq}
 
 -- the bytes of the format
 abbrev pub NEWLINE : ℕ
@@ -42,18 +43,13 @@ all_entries texts = flat_map entries_of texts
 unfoldable pub plain_entries : List (List ℕ) → List (List ℕ)
 plain_entries texts = filter (λ e. not (is_pattern e)) (all_entries texts)
 
--- a name matches an entry: a star takes any run of bytes, every other byte itself
+-- A name matches an entry: behind a star some rest of the name matches the rest of the entry; any other byte is the
+-- first one of the name.
 abbrev pub matches : List ℕ → List ℕ → Bool
 matches [] name = length name == 0
-matches (c ∷ entry) name = matched_from c (λ rest. matches entry rest) name
-  where
-    matched_from : ℕ → (List ℕ → Bool) → List ℕ → Bool
-    matched_from c rest_matches name =
-        if c == STAR then list_any (λ k. rest_matches (drop k name)) (range_with_len 0 (length name + 1)) else begins c rest_matches name
-      where
-        begins : ℕ → (List ℕ → Bool) → List ℕ → Bool
-        begins c rest_matches [] = false
-        begins c rest_matches (b ∷ bs) = (b == c) && rest_matches bs
+matches (c ∷ entry) name =
+    if c == STAR then list_any (λ k. matches entry (drop k name)) (range_with_len 0 (length name + 1))
+    else bytes_eq (take 1 name) (c ∷ []) && matches entry (drop 1 name)
 
 -- the lists contain a name
 abbrev pub listed : List (List ℕ) → List ℕ → Bool

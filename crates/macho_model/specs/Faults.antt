@@ -7,6 +7,7 @@ use Rattle.macho_model.specs.declared.rules.UnwindRule.TheVariants.{U1}
 use Rattle.macho_model.specs.declared.targets.Limit.{Limit}
 use Rattle.macho_model.specs.declared.targets.Site.{Site}
 use Rattle.macho_model.specs.declared.placed.Counts.{Counts}
+use Rattle.macho_model.specs.Lists.{IsNumber}
 use Rattle.macho_model.specs.ExportLists.{plain_entries}
 use Rattle.macho_model.specs.Links.{Link, SectionId, header_at, carried_of}
 use Rattle.macho_model.specs.Symbols.{is_global}
@@ -43,8 +44,8 @@ pub data LinkFault : Type 0 where
 -- a name has two strong definitions, in these files
 abbrev pub IsDuplicate : Link → List ℕ → ℕ → ℕ → Type 0
 IsDuplicate l name first second =
-    (i : ℕ) × (j : ℕ) × (s : SymbolId) × (t : SymbolId) × (i < j) × (j < length (strong_of l name)) × (get_or (strong_of l name) i s ≡ s)
-    × (get_or (strong_of l name) j t ≡ t) × (s.file ≡ first) × (t.file ≡ second)
+    (i : ℕ) × (j : ℕ) × (s : SymbolId) × (t : SymbolId) × (i < j) × IsNumber (strong_of l name) i s
+    × IsNumber (strong_of l name) j t × (s.file ≡ first) × (t.file ≡ second)
 
 -- a use names a symbol: that of a consumed section only where its relocation has the form that is read
 abbrev pub names_symbol : Link → Use → Bool

@@ -4,6 +4,7 @@ use Rattle.std.specs.Prelude.{◌≡◌, ℕ, ◌<◌, ◌≤◌, ◌⊎◌, not
 use Rattle.macho_model.specs.declared.rules.ObjectRule.{ObjectRule}
 use Rattle.macho_model.specs.declared.rules.ObjectRule.TheVariants.{O1, O2, O3, O4, O5, O6, O7, O8, O9, O10, O11, O12, O13, O14}
 use Rattle.macho_records.specs.declared.constants.TheConstants.{LC_ID_DYLIB, LC_SEGMENT_64, LC_SYMTAB, MH_DYLIB, MH_OBJECT}
+use Rattle.macho_model.specs.Lists.{IsNumber}
 use Rattle.macho_model.specs.Commands.{Command, commands_of, numbered, place_of, command_fits}
 use Rattle.macho_model.specs.Objects.{num_sections, section_place, section_at, num_symbols, symbol_place, relocation_place}
 use Rattle.macho_model.specs.ObjectRules.{head_fits, commands_inside, needed_in_object, needed_in_dylib, has_one, tables_inside, symbol_section_exists, relocation_number_exists, data_inside, exponent_fits, value_in_section, name_ends, path_ends, relocations_inside, field_inside, thread_local_in_data, zerofill_unrelocated, global_has_name, common_fits}
@@ -21,10 +22,14 @@ EachRelocation b test = (k r : ℕ) → k < num_sections b → r < (section_at b
 abbrev pub EachCommand : List Command → (Command → Bool) → Type 0
 EachCommand cs test = All (λ c. test c ≡ true) cs
 
+-- the load commands are whole; where they aren't, nothing that they tell of is looked at
+abbrev pub AreWhole : List ℕ → (Command → Bool) → Type 0
+AreWhole b fits = (commands_inside b ≡ true) × EachCommand (commands_of b) fits
+
 -- The bytes are a relocatable object: one field for each rule.
 pub record IsObject (b : List ℕ) : Type 0 where
   pub o1 : head_fits MH_OBJECT b ≡ true
-  pub o2 : (commands_inside b ≡ true) × EachCommand (commands_of b) (command_fits (needed_in_object b) b)
+  pub o2 : AreWhole b (command_fits (needed_in_object b) b)
   pub o3 : (has_one LC_SEGMENT_64 b ≡ true) × (has_one LC_SYMTAB b ≡ true)
   pub o4 : tables_inside b ≡ true
   pub o5 : EachSymbol b (symbol_section_exists b) × EachRelocation b (relocation_number_exists b)
@@ -41,7 +46,7 @@ pub record IsObject (b : List ℕ) : Type 0 where
 -- The bytes are a dynamic library: its segments are not read, so no rule speaks of sections.
 pub record IsDylib (b : List ℕ) : Type 0 where
   pub o1 : head_fits MH_DYLIB b ≡ true
-  pub o2 : (commands_inside b ≡ true) × EachCommand (commands_of b) (command_fits needed_in_dylib b)
+  pub o2 : AreWhole b (command_fits needed_in_dylib b)
   pub o3 : (has_one LC_ID_DYLIB b ≡ true) × (has_one LC_SYMTAB b ≡ true)
   pub o4 : tables_inside b ≡ true
   pub o9 : EachSymbol b (name_ends b) × EachCommand (numbered LC_ID_DYLIB b) (path_ends b)
@@ -52,61 +57,64 @@ abbrev pub IsFile : Bool → List ℕ → Type 0
 IsFile false b = IsObject b
 IsFile true b = IsDylib b
 
--- some section, symbol, relocation or command whose record stands at a place fails a test; where the command that tells
--- of such records isn't there once, there are none
+-- Some section, symbol, relocation or command whose record stands at a place fails a test. Where the command that tells of
+-- such records isn't there once, or their table isn't whole, there are none.
 abbrev pub SectionFails : List ℕ → ℕ → (ℕ → Bool) → Type 0
 SectionFails b place test = (has_one LC_SEGMENT_64 b ≡ true) × (k : ℕ) × (k < num_sections b) × (place ≡ section_place b k) × (test k ≡ false)
 
 abbrev pub SymbolFails : List ℕ → ℕ → (ℕ → Bool) → Type 0
-SymbolFails b place test = (has_one LC_SYMTAB b ≡ true) × (k : ℕ) × (k < num_symbols b) × (place ≡ symbol_place b k) × (test k ≡ false)
+SymbolFails b place test =
+    (has_one LC_SYMTAB b ≡ true) × (tables_inside b ≡ true) × (k : ℕ) × (k < num_symbols b) × (place ≡ symbol_place b k) × (test k ≡ false)
 
 abbrev pub RelocationFails : List ℕ → ℕ → (ℕ → ℕ → Bool) → Type 0
 RelocationFails b place test =
-    (has_one LC_SEGMENT_64 b ≡ true) × (k : ℕ) × (r : ℕ) × (k < num_sections b) × (r < (section_at b k).nreloc) × (place ≡ relocation_place b k r) × (test k r ≡ false)
+    (has_one LC_SEGMENT_64 b ≡ true) × (k : ℕ) × (r : ℕ) × (k < num_sections b) × (relocations_inside b k ≡ true) × (r < (section_at b k).nreloc)
+    × (place ≡ relocation_place b k r) × (test k r ≡ false)
 
 abbrev pub CommandFails : List Command → ℕ → (Command → Bool) → Type 0
 CommandFails cs place test =
-    (k : ℕ) × (c : Command) × (k < length cs) × (get_or cs k c ≡ c) × (place ≡ c.at) × (test c ≡ false)
+    (k : ℕ) × (c : Command) × IsNumber cs k c × (place ≡ c.at) × (test c ≡ false)
 
 -- there is no command of a number, told at place 0, or a second one, told at its place
 abbrev pub IsNotOne : ℕ → List ℕ → ℕ → Type 0
 IsNotOne n b place =
     ((numbered n b ≡ []) × (place ≡ 0))
-    ⊎ ((k : ℕ) × (c : Command) × (1 ≤ k) × (k < length (numbered n b)) × (get_or (numbered n b) k c ≡ c) × (place ≡ c.at))
+    ⊎ ((k : ℕ) × (c : Command) × (1 ≤ k) × IsNumber (numbered n b) k c × (place ≡ c.at))
 
--- An object breaks a rule at a place: that rule's test fails for the record that stands there.
+-- A record of an object breaks a rule: that rule's test fails for the record at the place.
+abbrev pub ObjectRecordBreaks : List ℕ → ObjectRule → ℕ → Type 0
+ObjectRecordBreaks b O3 place = IsNotOne LC_SEGMENT_64 b place ⊎ IsNotOne LC_SYMTAB b place
+ObjectRecordBreaks b O4 place = (has_one LC_SYMTAB b ≡ true) × (place ≡ place_of LC_SYMTAB b) × (tables_inside b ≡ false)
+ObjectRecordBreaks b O5 place = SymbolFails b place (symbol_section_exists b) ⊎ RelocationFails b place (relocation_number_exists b)
+ObjectRecordBreaks b O6 place = SectionFails b place (data_inside b)
+ObjectRecordBreaks b O7 place = SectionFails b place (exponent_fits b)
+ObjectRecordBreaks b O8 place = SymbolFails b place (λ k. not (symbol_section_exists b k) || value_in_section b k)
+ObjectRecordBreaks b O9 place = SymbolFails b place (name_ends b)
+ObjectRecordBreaks b O10 place = SectionFails b place (relocations_inside b) ⊎ RelocationFails b place (field_inside b)
+ObjectRecordBreaks b O11 place = SectionFails b place (thread_local_in_data b)
+ObjectRecordBreaks b O12 place = SectionFails b place (zerofill_unrelocated b)
+ObjectRecordBreaks b O13 place = SymbolFails b place (global_has_name b)
+ObjectRecordBreaks b O14 place = SymbolFails b place (common_fits b)
+ObjectRecordBreaks b rule place = ⊥
+
+-- An object breaks a rule at a place: the header, a command, or a record that whole commands tell of.
 abbrev pub ObjectBreaks : List ℕ → ObjectRule → ℕ → Type 0
 ObjectBreaks b O1 place = (place ≡ 0) × (head_fits MH_OBJECT b ≡ false)
 ObjectBreaks b O2 place = ((place ≡ 0) × (commands_inside b ≡ false)) ⊎ CommandFails (commands_of b) place (command_fits (needed_in_object b) b)
-ObjectBreaks b O3 place = IsNotOne LC_SEGMENT_64 b place ⊎ IsNotOne LC_SYMTAB b place
-ObjectBreaks b O4 place = (has_one LC_SYMTAB b ≡ true) × (place ≡ place_of LC_SYMTAB b) × (tables_inside b ≡ false)
-ObjectBreaks b O5 place = SymbolFails b place (symbol_section_exists b) ⊎ RelocationFails b place (relocation_number_exists b)
-ObjectBreaks b O6 place = SectionFails b place (data_inside b)
-ObjectBreaks b O7 place = SectionFails b place (exponent_fits b)
-ObjectBreaks b O8 place = SymbolFails b place (λ k. not (symbol_section_exists b k) || value_in_section b k)
-ObjectBreaks b O9 place = SymbolFails b place (name_ends b)
-ObjectBreaks b O10 place = SectionFails b place (relocations_inside b) ⊎ RelocationFails b place (field_inside b)
-ObjectBreaks b O11 place = SectionFails b place (thread_local_in_data b)
-ObjectBreaks b O12 place = SectionFails b place (zerofill_unrelocated b)
-ObjectBreaks b O13 place = SymbolFails b place (global_has_name b)
-ObjectBreaks b O14 place = SymbolFails b place (common_fits b)
+ObjectBreaks b rule place = AreWhole b (command_fits (needed_in_object b) b) × ObjectRecordBreaks b rule place
 
--- A dynamic library breaks a rule at a place.
+-- The same of a dynamic library.
+abbrev pub DylibRecordBreaks : List ℕ → ObjectRule → ℕ → Type 0
+DylibRecordBreaks b O3 place = IsNotOne LC_ID_DYLIB b place ⊎ IsNotOne LC_SYMTAB b place
+DylibRecordBreaks b O4 place = (has_one LC_SYMTAB b ≡ true) × (place ≡ place_of LC_SYMTAB b) × (tables_inside b ≡ false)
+DylibRecordBreaks b O9 place = SymbolFails b place (name_ends b) ⊎ CommandFails (numbered LC_ID_DYLIB b) place (path_ends b)
+DylibRecordBreaks b O13 place = SymbolFails b place (global_has_name b)
+DylibRecordBreaks b rule place = ⊥
+
 abbrev pub DylibBreaks : List ℕ → ObjectRule → ℕ → Type 0
 DylibBreaks b O1 place = (place ≡ 0) × (head_fits MH_DYLIB b ≡ false)
 DylibBreaks b O2 place = ((place ≡ 0) × (commands_inside b ≡ false)) ⊎ CommandFails (commands_of b) place (command_fits needed_in_dylib b)
-DylibBreaks b O3 place = IsNotOne LC_ID_DYLIB b place ⊎ IsNotOne LC_SYMTAB b place
-DylibBreaks b O4 place = (has_one LC_SYMTAB b ≡ true) × (place ≡ place_of LC_SYMTAB b) × (tables_inside b ≡ false)
-DylibBreaks b O5 place = ⊥
-DylibBreaks b O6 place = ⊥
-DylibBreaks b O7 place = ⊥
-DylibBreaks b O8 place = ⊥
-DylibBreaks b O9 place = SymbolFails b place (name_ends b) ⊎ CommandFails (numbered LC_ID_DYLIB b) place (path_ends b)
-DylibBreaks b O10 place = ⊥
-DylibBreaks b O11 place = ⊥
-DylibBreaks b O12 place = ⊥
-DylibBreaks b O13 place = SymbolFails b place (global_has_name b)
-DylibBreaks b O14 place = ⊥
+DylibBreaks b rule place = AreWhole b (command_fits needed_in_dylib b) × DylibRecordBreaks b rule place
 
 -- A file of a kind (a dynamic library or not) breaks a rule at a place.
 abbrev pub Breaks : Bool → List ℕ → ObjectRule → ℕ → Type 0

@@ -44,3 +44,5 @@ pub mod ReadBack
 pub mod Told
 pub mod Laws
 pub mod SlideLaws
+pub mod HeldLaws
+pub mod LinkLaws

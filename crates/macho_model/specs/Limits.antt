@@ -11,9 +11,9 @@ use Rattle.macho_model.specs.declared.placed.Range64.{Range64}
 use Rattle.macho_model.specs.ExportLists.{plain_entries}
 use Rattle.macho_model.specs.Links.{Link, SectionId, header_at}
 use Rattle.macho_model.specs.Resolution.{symbols_of}
-use Rattle.macho_model.specs.Needs.{libraries_needed, initializer_sections}
+use Rattle.macho_model.specs.Needs.{section_named, libraries_needed, initializer_sections}
 use Rattle.macho_model.specs.Targets.{target_of_relocation}
-use Rattle.macho_model.specs.Consumed.{personality_targets, EntryId, entries_of_link, relocations_in_entry, section_named, unwind_entry, START_PLACE, LSDA_PLACE}
+use Rattle.macho_model.specs.Consumed.{personality_targets, EntryId, entries_of_link, relocations_in_entry, unwind_entry, START_PLACE, LSDA_PLACE}
 use Rattle.macho_model.specs.Segments.{may_hold_pointers, segment_names_of, output_count}
 use Rattle.macho_model.specs.WrittenSum.{written_sum_of}
 use Rattle.macho_model.specs.Placement.{Placed, linkedit_ranges}

@@ -2,9 +2,9 @@
 use Rattle.std.specs.Prelude.{ℕ, ◌==◌, ◌&&◌, ◌||◌, not, if◌then◌else◌, Bool, List, [], ◌∷◌, map, filter, Option, codes, get_or, max}
 use Rattle.std.specs.List.{flat_map, enumerate_from, range_with_len}
 use Rattle.macho_records.specs.declared.header.SectionHeader.{SectionHeader}
-use Rattle.macho_records.specs.Sections.{should_exclude_of, type_of}
+use Rattle.macho_records.specs.Sections.{should_exclude_of, type_of, is_template_type}
 use Rattle.macho_model.specs.Symbols.{has_section_name}
-use Rattle.macho_records.specs.declared.constants.TheConstants.{S_THREAD_LOCAL_REGULAR, S_THREAD_LOCAL_VARIABLES, S_THREAD_LOCAL_ZEROFILL}
+use Rattle.macho_records.specs.declared.constants.TheConstants.{S_THREAD_LOCAL_VARIABLES}
 use Rattle.macho_model.specs.Objects.{num_sections, section_at}
 
 -- what a stub text says: its library's install name, and the names that it offers
@@ -74,7 +74,7 @@ is_consumed h = not (should_exclude_of h) && (is_initializers h || is_unwind_ent
 
 -- a carried section of the thread-local template
 abbrev pub is_template : SectionHeader → Bool
-is_template h = is_carried h && ((type_of h == S_THREAD_LOCAL_REGULAR) || (type_of h == S_THREAD_LOCAL_ZEROFILL))
+is_template h = is_carried h && is_template_type (type_of h)
 
 -- the sections of one file
 abbrev pub sections_of_file : ℕ → Input → List SectionId

@@ -1,7 +1,6 @@
 -- What the loader asks of an image: a test for each rule, of one record: the header, a command, a fixup table, an import.
 use Rattle.std.specs.Prelude.{ℕ, ◌+◌, ◌*◌, ◌%◌, ◌^◌, ◌==◌, nat_le, ◌&&◌, ◌||◌, if◌then◌else◌, Bool, List, length, map, drop, get_or}
 use Rattle.std.specs.List.{list_all, range_with_len}
-use Rattle.std.specs.Str.{bytes_eq}
 use Rattle.macho_bytes.specs.Texts.{name_of}
 use Rattle.macho_bytes.specs.Layouts.{reading, size_of}
 use Rattle.macho_records.specs.Layouts.{mach_header, segment_command, symtab_command, dylib_command, dylinker_command, rpath_command, uuid_command, build_version_command, linkedit_data_command, entry_point_command, chained_fixups_header, chained_starts_in_segment}
@@ -9,7 +8,7 @@ use Rattle.macho_records.specs.declared.header.SegmentCommand.{SegmentCommand}
 use Rattle.macho_records.specs.declared.constants.TheConstants.{CPU_TYPE_ARM64, LC_BUILD_VERSION, LC_CODE_SIGNATURE, LC_DYLD_CHAINED_FIXUPS, LC_DYLD_EXPORTS_TRIE, LC_ID_DYLIB, LC_LOAD_DYLIB, LC_LOAD_DYLINKER, LC_MAIN, LC_RPATH, LC_SEGMENT_64, LC_SYMTAB, LC_UUID, MH_DYLIB, MH_EXECUTE, MH_MAGIC_64}
 use Rattle.macho_model.specs.Commands.{Command, header_of, commands_end, segment_size}
 use Rattle.macho_model.specs.ObjectRules.{has_nul}
-use Rattle.macho_model.specs.Segments.{PAGEZERO, TEXT, SEGMENT_PAGE, loaded_protection_of}
+use Rattle.macho_model.specs.Segments.{SEGMENT_PAGE, loaded_protection_of}
 use Rattle.macho_model.specs.Images.{segments_of, base_of, libraries_of, Table, fixups_header, starts_count, starts_offset, segment_starts, import_entry_size, import_entry, table_names, IMPORT_FORMAT, IMPORT_ADDEND_FORMAT, CHAIN_PAGE}
 
 -- L1: a whole 64-bit arm64 header of an executable or a dynamic library
@@ -67,26 +66,45 @@ text_holds_commands b s = (s.fileoff == 0) && nat_le (commands_end b) s.filesize
 abbrev pub POINTER_FORMAT : ℕ
 POINTER_FORMAT = 6
 
--- L8, of a segment's starts: they stand inside the table, and have the known page size and format and the segment's place
+-- the address of a segment by its number, 0 where there is none
+abbrev pub segment_address : List ℕ → ℕ → ℕ
+segment_address b k = get_or (map (λ s. s.vmaddr) (segments_of b)) k 0
+
+-- L8, of a segment's starts: they have the known page size and format and the segment's place
+abbrev pub starts_known : List ℕ → Table → ℕ → Bool
+starts_known b t k =
+    ((segment_starts b t k).page_size == CHAIN_PAGE) && ((segment_starts b t k).pointer_format == POINTER_FORMAT)
+    && (((segment_starts b t k).segment_offset + base_of b) % 2 ^ 64 == segment_address b k)
+
+-- and stand inside the table; a segment without fixups has none
 abbrev pub starts_fit : List ℕ → Table → ℕ → Bool
 starts_fit b t k =
     (starts_offset b t k == 0)
     || (nat_le ((fixups_header b t).starts_offset + starts_offset b t k + size_of chained_starts_in_segment) t.size
-    && nat_le ((fixups_header b t).starts_offset + starts_offset b t k + size_of chained_starts_in_segment + 2 *
-    (segment_starts b t k).page_count) t.size
-    && ((segment_starts b t k).page_size == CHAIN_PAGE) && ((segment_starts b t k).pointer_format == POINTER_FORMAT)
-    && (((segment_starts b t k).segment_offset + base_of b) % 2 ^ 64 == get_or (map (λ s. s.vmaddr) (segments_of b)) k 0))
+    && nat_le ((fixups_header b t).starts_offset + starts_offset b t k + size_of chained_starts_in_segment + 2 * (segment_starts b t k).page_count) t.size
+    && starts_known b t k)
 
--- L8, of a table: it stands inside the file, its parts inside it, and versions and formats are the known ones
-abbrev pub table_fits : List ℕ → Table → Bool
-table_fits b t =
-    nat_le (t.at + t.size) (length b) && nat_le (size_of chained_fixups_header) t.size && ((fixups_header b t).fixups_version == 0)
+abbrev pub starts_all_fit : List ℕ → Table → Bool
+starts_all_fit b t = list_all (starts_fit b t) (range_with_len 0 (starts_count b t))
+
+-- L8, of a table's header: it is whole, and has known versions and formats
+abbrev pub header_known : List ℕ → Table → Bool
+header_known b t =
+    nat_le (size_of chained_fixups_header) t.size && ((fixups_header b t).fixups_version == 0)
     && (((fixups_header b t).imports_format == IMPORT_FORMAT) || ((fixups_header b t).imports_format == IMPORT_ADDEND_FORMAT))
-    && ((fixups_header b t).symbols_format == 0) && nat_le ((fixups_header b t).starts_offset + 4) t.size
-    && nat_le ((fixups_header b t).starts_offset + 4 + 4 * starts_count b t) t.size && nat_le (starts_count b t) (length (segments_of b))
-    && nat_le ((fixups_header b t).imports_offset + import_entry_size (fixups_header b t).imports_format *
-    (fixups_header b t).imports_count) t.size
-    && nat_le (fixups_header b t).symbols_offset t.size && list_all (starts_fit b t) (range_with_len 0 (starts_count b t))
+    && ((fixups_header b t).symbols_format == 0)
+
+-- of its parts: starts of segments that are there, import entries and names stand inside it
+abbrev pub parts_inside : List ℕ → Table → Bool
+parts_inside b t =
+    nat_le ((fixups_header b t).starts_offset + 4) t.size && nat_le ((fixups_header b t).starts_offset + 4 + 4 * starts_count b t) t.size
+    && nat_le (starts_count b t) (length (segments_of b))
+    && nat_le ((fixups_header b t).imports_offset + import_entry_size (fixups_header b t).imports_format * (fixups_header b t).imports_count) t.size
+    && nat_le (fixups_header b t).symbols_offset t.size
+
+-- L8, of a table: it stands inside the file, and so on
+abbrev pub table_fits : List ℕ → Table → Bool
+table_fits b t = nat_le (t.at + t.size) (length b) && header_known b t && parts_inside b t && starts_all_fit b t
 
 -- L9: an import's library is one of the image's, and its name ends in the table
 abbrev pub import_fits : List ℕ → Table → ℕ → Bool

@@ -1,17 +1,19 @@
 -- When the loader accepts an image: the tests of `LoadRules`, asked of each record, and of each word on the chain. A
 -- refusal names a rule and the file offset of what breaks it.
-use Rattle.std.specs.Prelude.{◌≡◌, ℕ, ◌+◌, ◌-◌, ◌<◌, ◌≤◌, ◌⊎◌, ◌==◌, Bool, true, false, List, [], ◌∷◌, length, get_or, filter, All, Contains, ◌*◌}
+use Rattle.std.specs.Prelude.{◌≡◌, ℕ, ◌+◌, ◌-◌, ◌<◌, ◌≤◌, ◌⊎◌, ◌==◌, Bool, true, false, List, [], ◌∷◌, length, filter, All, Contains, ◌*◌}
 use Rattle.macho_bytes.specs.Numbers.{bits}
 use Rattle.macho_records.specs.declared.header.SegmentCommand.{SegmentCommand}
 use Rattle.macho_model.specs.declared.rules.LoadRule.{LoadRule}
 use Rattle.macho_model.specs.declared.rules.LoadRule.TheVariants.{L1, L2, L3, L4, L5, L6, L7, L8, L9, L10}
 use Rattle.macho_records.specs.declared.constants.TheConstants.{LC_DYLD_CHAINED_FIXUPS, LC_SEGMENT_64}
+use Rattle.macho_model.specs.Lists.{IsNumber, EachNext}
 use Rattle.macho_model.specs.Commands.{Command, commands_of, numbered, command_fits}
 use Rattle.macho_model.specs.ObjectRules.{commands_inside}
 use Rattle.macho_model.specs.Grammar.{EachCommand, CommandFails}
 use Rattle.macho_model.specs.Segments.{TEXT}
-use Rattle.macho_model.specs.Images.{mapped_segments, is_named, segments_named, Table, table_of_command, tables_of, fixups_header, import_place, CHAIN_PAGE}
-use Rattle.macho_model.specs.Chain.{ChainSegment, chain_segments, IsFileWord, WORD_SIZE, OnPageChain}
+use Rattle.macho_model.specs.Lists.{IsNumber}
+use Rattle.macho_model.specs.Images.{segments_of, is_named, segments_named, Table, table_of_command, tables_of, fixups_header, import_place, CHAIN_PAGE}
+use Rattle.macho_model.specs.Chain.{chain_segment, chain_segments, IsFileWord, WORD_SIZE, OnPageChain}
 use Rattle.macho_model.specs.LoadRules.{image_head_fits, needed_in_image, segment_in, protections_fit, file_part_inside, segment_is_paged, segment_ends, begins_behind, text_holds_commands, table_fits, import_fits}
 
 -- a chain word binds an import, by number, or moves with the image (`mach-o/fixup-chains.h`)
@@ -30,21 +32,22 @@ abbrev pub import_count : List ℕ → List Table → ℕ
 import_count b [] = 0
 import_count b (t ∷ tables) = (fixups_header b t).imports_count
 
--- L10: a word of a page's chain stands whole in that page and in the file bytes of a writable segment, and its import
--- exists
-pub record WordFits (b : List ℕ) (s : ChainSegment) (page a : ℕ) : Type 0 where
-  pub segment : SegmentCommand
-  pub one : Contains (mapped_segments b) segment
-  pub writable : is_writable segment ≡ true
-  pub from : segment.vmaddr ≤ a
-  pub to : a + WORD_SIZE ≤ segment.vmaddr + segment.filesize
-  pub page_from : s.address + CHAIN_PAGE * page ≤ a
-  pub page_to : a + WORD_SIZE ≤ s.address + CHAIN_PAGE * (page + 1)
+-- an address is on the chain of a page of a segment, by the segment's number
+abbrev pub OnPageOf : List ℕ → ℕ → SegmentCommand → ℕ → ℕ → Type 0
+OnPageOf b number s page a = OnPageChain (chain_segments b) b (chain_segment b (number, s)) page a
+
+-- L10: a word of a page's chain stands whole in that page and in the file bytes of the page's segment, which may be written
+-- to; and its import exists
+pub record WordFits (b : List ℕ) (s : SegmentCommand) (page a : ℕ) : Type 0 where
+  pub writable : is_writable s ≡ true
+  pub page_from : s.vmaddr + CHAIN_PAGE * page ≤ a
+  pub page_to : a + WORD_SIZE ≤ s.vmaddr + CHAIN_PAGE * (page + 1)
+  pub to : a + WORD_SIZE ≤ s.vmaddr + s.filesize
   pub import : (word : ℕ) → IsFileWord (chain_segments b) b a word → is_bind word ≡ true → ordinal_of word < import_count b (tables_of b)
 
 -- each segment and the one behind it
 abbrev pub EachNeighbour : List Command → (Command → Command → Bool) → Type 0
-EachNeighbour cs test = (k : ℕ) (c d : Command) → k + 1 < length cs → get_or cs k c ≡ c → get_or cs (k + 1) d ≡ d → test c d ≡ true
+EachNeighbour cs test = EachNext (λ c d. test c d ≡ true) cs
 
 -- the commands of segments
 abbrev pub segment_commands : List ℕ → List Command
@@ -61,12 +64,12 @@ pub record IsAccepted (b : List ℕ) : Type 0 where
   pub l7 : (length (segments_named TEXT b) ≡ 1) × All (λ s. text_holds_commands b s ≡ true) (segments_named TEXT b)
   pub l8 : (length (tables_of b) ≤ 1) × All (λ t. table_fits b t ≡ true) (tables_of b)
   pub l9 : (t : Table) (k : ℕ) → Contains (tables_of b) t → k < (fixups_header b t).imports_count → import_fits b t k ≡ true
-  pub l10 : (s : ChainSegment) (page a : ℕ) → Contains (chain_segments b) s → OnPageChain (chain_segments b) b s page a → WordFits b s page a
+  pub l10 : (number : ℕ) (s : SegmentCommand) (page a : ℕ) → IsNumber (segments_of b) number s → OnPageOf b number s page a → WordFits b s page a
 
 -- some segment's command and the one behind it fail a test, told at the latter
 abbrev pub NeighbourFails : List Command → ℕ → (Command → Command → Bool) → Type 0
 NeighbourFails cs place test =
-    (k : ℕ) × (c : Command) × (d : Command) × (k + 1 < length cs) × (get_or cs k c ≡ c) × (get_or cs (k + 1) d ≡ d) × (place ≡ d.at)
+    (k : ℕ) × (c : Command) × (d : Command) × IsNumber cs k c × IsNumber cs (k + 1) d × (place ≡ d.at)
     × (test c d ≡ false)
 
 -- the commands of `__TEXT` segments
@@ -77,14 +80,14 @@ text_commands b = filter (λ c. is_named TEXT (segment_in b c)) (segment_command
 abbrev pub TextIsNotOne : List ℕ → ℕ → Type 0
 TextIsNotOne b place =
     ((text_commands b ≡ []) × (place ≡ 0))
-    ⊎ ((k : ℕ) × (c : Command) × (1 ≤ k) × (k < length (text_commands b)) × (get_or (text_commands b) k c ≡ c) × (place ≡ c.at))
+    ⊎ ((k : ℕ) × (c : Command) × (1 ≤ k) × IsNumber (text_commands b) k c × (place ≡ c.at))
 
 abbrev pub fixup_commands : List ℕ → List Command
 fixup_commands b = numbered LC_DYLD_CHAINED_FIXUPS b
 
 -- a second fixup command, told at its place
 abbrev pub SecondTable : List ℕ → ℕ → Type 0
-SecondTable b place = (k : ℕ) × (c : Command) × (1 ≤ k) × (k < length (fixup_commands b)) × (get_or (fixup_commands b) k c ≡ c) × (place ≡ c.at)
+SecondTable b place = (k : ℕ) × (c : Command) × (1 ≤ k) × IsNumber (fixup_commands b) k c × (place ≡ c.at)
 
 -- an import that fails, told at its entry
 abbrev pub ImportFails : List ℕ → ℕ → Type 0
@@ -95,8 +98,8 @@ ImportFails b place =
 -- a chain word that does not fit, told at its file offset in the segment of its page
 abbrev pub WordFails : List ℕ → ℕ → Type 0
 WordFails b place =
-    (a : ℕ) × (s : ChainSegment) × (page : ℕ) × Contains (chain_segments b) s × OnPageChain (chain_segments b) b s page a
-    × (place ≡ s.file_offset + (a - s.address)) × (WordFits b s page a → ⊥)
+    (a : ℕ) × (number : ℕ) × (s : SegmentCommand) × (page : ℕ) × IsNumber (segments_of b) number s × OnPageOf b number s page a
+    × (place ≡ s.fileoff + (a - s.vmaddr)) × (WordFits b s page a → ⊥)
 
 -- An image breaks a rule of the loader at a place.
 abbrev pub ImageBreaks : List ℕ → LoadRule → ℕ → Type 0

@@ -1,6 +1,6 @@
 -- What the objects ask for, in the order of one walk: carried relocations, then initializers, then personality
 -- functions of unwind entries, then the plain names of the export lists. From it come imports and libraries.
-use Rattle.std.specs.Prelude.{ℕ, ◌+◌, ◌*◌, ◌/◌, ◌==◌, ◌&&◌, ◌||◌, not, if◌then◌else◌, Bool, true, false, List, [], ◌∷◌, ◌++◌, map, filter, Option, Some, None}
+use Rattle.std.specs.Prelude.{ℕ, ◌+◌, ◌-◌, ◌*◌, ◌/◌, ◌==◌, ◌&&◌, ◌||◌, not, if◌then◌else◌, Bool, true, false, List, [], ◌∷◌, ◌++◌, map, filter, Option, Some, None}
 use Rattle.std.specs.List.{flat_map, filter_map, range_with_len, list_any, position_or_len}
 use Rattle.std.specs.Str.{bytes_eq}
 use Rattle.macho_records.specs.declared.relocations.RelocationInfo.{RelocationInfo}
@@ -31,6 +31,10 @@ pub data Use : Type 0 where
 
 abbrev pub relocation_in : Link → SectionId → ℕ → RelocationInfo
 relocation_in l s r = relocation_at (object_of l s.file) s.section r
+
+-- the section that a relocation names by number, from 1
+abbrev pub section_named : Link → SectionId → ℕ → SectionId
+section_named l s r = record { file = s.file; section = (relocation_in l s r).r_symbolnum - 1 }
 
 -- the relocations of a section, by number
 abbrev pub relocations_of : Link → SectionId → List ℕ

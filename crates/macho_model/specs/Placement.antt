@@ -17,6 +17,7 @@ use Rattle.macho_model.specs.declared.targets.Target.TheVariants as target
 use Rattle.macho_records.specs.Sections.{is_zerofill}
 use Rattle.macho_records.specs.Segments.{text_of}
 use Rattle.macho_records.specs.Symbols.{common_exponent_of, common_size_of}
+use Rattle.macho_model.specs.Lists.{IsNumber, EachNext}
 use Rattle.macho_model.specs.Links.{Link, SectionId, header_at, carried_of, is_template, placed_exponent}
 use Rattle.macho_model.specs.Resolution.{SymbolId, entry_at, chosen_commons}
 use Rattle.macho_model.specs.Targets.{slots_of, stubs_of, slot_number}
@@ -116,7 +117,7 @@ LiesInNamed p name in_file span =
 -- a section's segment has the section's segment name and holds it; an empty section lies anywhere in it
 abbrev pub SectionLies : Link → Placed → PlacedSection → Type 0
 SectionLies l p q =
-    (s : PlacedSegment) × (q.segment < length p.segments) × (get_or p.segments q.segment s ≡ s) × (is_segment_named (segment_name l (id_of q)) s ≡ true)
+    (s : PlacedSegment) × IsNumber p.segments q.segment s × (is_segment_named (segment_name l (id_of q)) s ≡ true)
     × LiesIn (not (is_zerofill (header_at l (id_of q))) && not ((header_at l (id_of q)).size == 0)) (section_span l q) s
 
 -- a table that is not empty lies in the file part of `__LINKEDIT`
@@ -170,7 +171,7 @@ pub record Follows (l : Link) (s t : PlacedSegment) : Type 0 where
 
 -- each segment follows the one before it
 abbrev pub EachFollows : Link → List PlacedSegment → Type 0
-EachFollows l segments = (k : ℕ) (s t : PlacedSegment) → k + 1 < length segments → get_or segments k s ≡ s → get_or segments (k + 1) t ≡ t → Follows l s t
+EachFollows l segments = EachNext (Follows l) segments
 
 -- `__TEXT` begins at the image's base, so that all segments behind it stand there or later
 abbrev pub TextBegins : Link → List PlacedSegment → Type 0
@@ -202,11 +203,6 @@ abbrev pub TemplateHolds : Link → Counts → Placed → Option Range64 → Typ
 TemplateHolds l counts p None = template_sections l p ≡ []
 TemplateHolds l counts p (Some r) = HoldsTemplate l counts p r
 
--- the address behind the last segment
-abbrev pub end_of_segments : List PlacedSegment → ℕ → ℕ
-end_of_segments [] end = end
-end_of_segments (s ∷ segments) end = end_of_segments segments (s.address + s.size)
-
 -- THE placement relation.
 pub record IsPlaced (l : Link) (counts : Counts) (p : Placed) : Type 0 where
   -- an executable stands behind its first 4 GiB, a library at 0
@@ -223,5 +219,5 @@ pub record IsPlaced (l : Link) (counts : Counts) (p : Placed) : Type 0 where
   pub in_order : IsInOrder l p
   -- thread-local initial values stand together, apart from all else
   pub template : TemplateHolds l counts p p.template
-  -- the image is no longer than its written sum
-  pub within_sum : end_of_segments p.segments p.base ≤ p.base + written_sum_of l counts
+  -- the image is no longer than its written sum: every segment ends at most that far behind the base
+  pub within_sum : All (λ s. s.address + s.size ≤ p.base + written_sum_of l counts) p.segments

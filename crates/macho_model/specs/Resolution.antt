@@ -117,8 +117,11 @@ abbrev pub defines : Link → SymbolId → Bool
 defines l s = is_global (entry_at l s) && is_symbol s (definition_of l (name_at l s))
 
 -- the commons that define their name, by file and symbol; they are numbered by their place here
+abbrev pub is_chosen : Link → SymbolId → Bool
+is_chosen l s = is_common_of (entry_at l s) && defines l s
+
 unfoldable pub chosen_commons : Link → List SymbolId
-chosen_commons l = filter (λ s. is_common_of (entry_at l s) && defines l s) (symbols_of l)
+chosen_commons l = filter (is_chosen l) (symbols_of l)
 
 -- the install name of a library
 abbrev pub install_name_in : Input → List ℕ

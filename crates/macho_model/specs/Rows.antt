@@ -8,7 +8,7 @@ use Rattle.macho_records.specs.declared.relocations.RelocationInfo.{RelocationIn
 use Rattle.macho_model.specs.Links.{Link, SectionId, header_at}
 use Rattle.macho_model.specs.Needs.{relocation_in}
 use Rattle.macho_model.specs.Targets.{target_of_relocation, is_import, is_defined}
-use Rattle.macho_model.specs.Fields.{follows, content_of, takes_addend}
+use Rattle.macho_model.specs.Fields.{content_of, has_subtrahend, has_addend, is_pair}
 use Rattle.macho_model.specs.Words.{is_adrp, is_branch, is_add, is_ldr, is_load_store, written_register, REGISTER_31}
 
 -- a relocation's length, whether it is relative to its place, and whether it names a symbol
@@ -18,36 +18,32 @@ has_form rel length pcrel extern = (rel.r_length == length) && same_flag rel.r_p
     same_flag : Bool → Bool → Bool
     same_flag a b = if a then b else not b
 
--- the relocation behind one stands at the same place
-abbrev pub next_is_here : Link → SectionId → ℕ → Bool
-next_is_here l s r = nat_lt (r + 1) (header_at l s).nreloc && ((relocation_in l s (r + 1)).r_address == (relocation_in l s r).r_address)
+-- the relocation behind one is the other one of its pair
+abbrev pub begins_pair : Link → SectionId → ℕ → Bool
+begins_pair l s r = nat_lt (r + 1) (header_at l s).nreloc && is_pair (relocation_in l s r) (relocation_in l s (r + 1))
 
 abbrev pub is_none : Target → Bool
 is_none target.None = true
 is_none t = false
 
--- A subtrahend stands immediately in front of a pointer of the same place and length; both targets move with the image.
-abbrev pub subtractor_fits : Link → SectionId → ℕ → Bool
-subtractor_fits l s r =
-    (has_form (relocation_in l s r) 2 false true || has_form (relocation_in l s r) 3 false true) && next_is_here l s r
-    && ((relocation_in l s (r + 1)).r_type == ARM64_RELOC_UNSIGNED) && ((relocation_in l s (r + 1)).r_length == (relocation_in l s r).r_length)
-    && is_defined (target_of_relocation l s r)
+-- a difference of 4 or 8 bytes: both targets move with the image
+abbrev pub difference_fits : Link → SectionId → ℕ → Bool
+difference_fits l s r =
+    (has_form (relocation_in l s r) 2 false true || has_form (relocation_in l s r) 3 false true) && is_defined (target_of_relocation l s r)
 
--- An addend stands immediately in front of a branch, a page or an offset of the same place.
+-- an addend has no target
 abbrev pub addend_fits : Link → SectionId → ℕ → Bool
-addend_fits l s r =
-    ((relocation_in l s r).r_length == 2) && not (relocation_in l s r).r_pcrel && next_is_here l s r && takes_addend (relocation_in l s (r + 1)).r_type
+addend_fits l s r = ((relocation_in l s r).r_length == 2) && not (relocation_in l s r).r_pcrel
 
--- a pointer of 8 bytes to anything, or a difference of 4 or 8 bytes whose targets move with the image
+-- a pointer of 8 bytes to anything, or what a subtrahend stands in front of
 abbrev pub pointer_fits : Link → SectionId → ℕ → Bool
 pointer_fits l s r =
-    if follows l s r ARM64_RELOC_SUBTRACTOR
-    then (has_form (relocation_in l s r) 2 false true || has_form (relocation_in l s r) 3 false true) && is_defined (target_of_relocation l s r)
+    if has_subtrahend l s r then difference_fits l s r
     else ((relocation_in l s r).r_length == 3) && not (relocation_in l s r).r_pcrel && not (is_none (target_of_relocation l s r))
 
 -- a target that may be called: one that moves with the image, or an import without addend
 abbrev pub may_be_called : Link → SectionId → ℕ → Bool
-may_be_called l s r = is_defined (target_of_relocation l s r) || (is_import (target_of_relocation l s r) && not (follows l s r ARM64_RELOC_ADDEND))
+may_be_called l s r = is_defined (target_of_relocation l s r) || (is_import (target_of_relocation l s r) && not (has_addend l s r))
 
 abbrev pub defined_or_import : Target → Bool
 defined_or_import t = is_defined t || is_import t
@@ -67,7 +63,7 @@ is_supported l s r = supported (relocation_in l s r) (target_of_relocation l s r
     supported : RelocationInfo → Target → ℕ → Bool
     supported rel t w =
         if rel.r_type == ARM64_RELOC_UNSIGNED then pointer_fits l s r
-        else if rel.r_type == ARM64_RELOC_SUBTRACTOR then subtractor_fits l s r
+        else if rel.r_type == ARM64_RELOC_SUBTRACTOR then difference_fits l s r && begins_pair l s r
         else if rel.r_type == ARM64_RELOC_BRANCH26 then has_form rel 2 true true && is_branch w && may_be_called l s r
         else if rel.r_type == ARM64_RELOC_PAGE21 then has_form rel 2 true true && is_adrp w && is_defined t
         else if rel.r_type == ARM64_RELOC_PAGEOFF12 then has_form rel 2 false true && takes_offset w && is_defined t
@@ -75,7 +71,7 @@ is_supported l s r = supported (relocation_in l s r) (target_of_relocation l s r
         else if (rel.r_type == ARM64_RELOC_GOT_LOAD_PAGEOFF12) || (rel.r_type == ARM64_RELOC_TLVP_LOAD_PAGEOFF12)
         then has_form rel 2 false true && load_fits w t && defined_or_import t
         else if rel.r_type == ARM64_RELOC_POINTER_TO_GOT then has_form rel 2 true true && defined_or_import t
-        else if rel.r_type == ARM64_RELOC_ADDEND then addend_fits l s r
+        else if rel.r_type == ARM64_RELOC_ADDEND then addend_fits l s r && begins_pair l s r
         else false
 
 -- two relocations of a section share a byte
@@ -84,15 +80,6 @@ share_byte l s q r =
     nat_lt (relocation_in l s q).r_address ((relocation_in l s r).r_address + 2 ^ (relocation_in l s r).r_length)
     && nat_lt (relocation_in l s r).r_address ((relocation_in l s q).r_address + 2 ^ (relocation_in l s q).r_length)
 
--- two relocations are a pair: a subtrahend in front of a pointer of its place and length, or an addend in front of a
--- branch, a page or an offset of its place
+-- two relocations of a section are a pair
 abbrev pub are_pair : Link → SectionId → ℕ → ℕ → Bool
-are_pair l s q r =
-    (r == q + 1) && ((relocation_in l s q).r_address == (relocation_in l s r).r_address)
-    && (is_difference (relocation_in l s q) (relocation_in l s r) || has_addend (relocation_in l s q) (relocation_in l s r))
-  where
-    is_difference : RelocationInfo → RelocationInfo → Bool
-    is_difference p q = (p.r_type == ARM64_RELOC_SUBTRACTOR) && (q.r_type == ARM64_RELOC_UNSIGNED) && (p.r_length == q.r_length)
-
-    has_addend : RelocationInfo → RelocationInfo → Bool
-    has_addend p q = (p.r_type == ARM64_RELOC_ADDEND) && takes_addend q.r_type
+are_pair l s q r = (r == q + 1) && is_pair (relocation_in l s q) (relocation_in l s r)

@@ -87,14 +87,17 @@ PointerSays false template s word x = PointsTo word x
 PointerSays true None s word x = ⊥
 PointerSays true (Some r) s word x = Same (word + (r.start + s)) x
 
--- a load of a target's address: of an import from its slot, else made an ADD of the address itself
+-- a load of a target's address: of an import from its slot, else made an ADD of the address itself; of a value that does not
+-- move there is none
 abbrev pub LoadSays : Link → Placed → ℕ → Choice → Target → ℕ → ℕ → Type 0
 LoadSays l p s choice (target.Import id) word input = (slot : ℕ) × SlotAt p s (target.Import id) slot × LoadsFrom word input slot
+LoadSays l p s choice (target.Absolute value) word input = ⊥
 LoadSays l p s choice t word input = (x : ℕ) × IsAt l p s choice t x × AddsTo word input x
 
 -- the page that such a load begins with: of the slot, or of the target itself
 abbrev pub LoadIsAt : Link → Placed → ℕ → Choice → Target → ℕ → Type 0
 LoadIsAt l p s choice (target.Import id) x = SlotAt p s (target.Import id) x
+LoadIsAt l p s choice (target.Absolute value) x = ⊥
 LoadIsAt l p s choice t x = IsAt l p s choice t x
 
 -- where the subtrahend of a difference is
@@ -102,25 +105,35 @@ abbrev pub SubtrahendIsAt : Link → Placed → ℕ → Choice → Option Target
 SubtrahendIsAt l p s choice None x = ⊥
 SubtrahendIsAt l p s choice (Some t) x = IsAt l p s choice t x
 
--- What a field says, by its kind: at a place, with the word that is there and the one that the input has.
-abbrev pub Says : Link → Placed → ℕ → Choice → SectionId → Field → ℕ → ℕ → ℕ → Kind → Type 0
-Says l p s choice id f place word input Pointer =
-    (x : ℕ) × IsAt l p s choice f.target x × PointerSays (is_template_offset l id f) p.template s word (x + f.addend)
-Says l p s choice id f place word input Difference =
-    (x : ℕ) × (y : ℕ) × IsAt l p s choice f.target x × SubtrahendIsAt l p s choice f.subtrahend y × IsDifference f.width word x y f.addend
-Says l p s choice id f place word input Branch = (x : ℕ) × CallIsAt l p s choice f.target x × BranchesTo place word input (x + f.addend)
-Says l p s choice id f place word input Page = (x : ℕ) × IsAt l p s choice f.target x × PagesTo place word input (x + f.addend)
-Says l p s choice id f place word input Offset = (x : ℕ) × IsAt l p s choice f.target x × OffsetsTo word input (x + f.addend)
-Says l p s choice id f place word input SlotPage = (x : ℕ) × LoadIsAt l p s choice f.target x × PagesTo place word input x
-Says l p s choice id f place word input SlotOffset = LoadSays l p s choice f.target word input
-Says l p s choice id f place word input SlotDistance = (slot : ℕ) × SlotAt p s f.target slot × IsDistance place word slot
-Says l p s choice id f place word input NoKind = ⊥
+-- What is seen of a field: its place in memory, the word that is there, and the one that the input has.
+pub record Seen : Type 0 where
+  pub place : ℕ
+  pub word : ℕ
+  pub input : ℕ
+
+-- What a field says, by its kind; a pointer has 8 bytes.
+abbrev pub Says : Link → Placed → ℕ → Choice → SectionId → Field → Seen → Kind → Type 0
+Says l p s choice id f seen Pointer =
+    (x : ℕ) × IsAt l p s choice f.target x × PointerSays (is_template_offset l id f) p.template s seen.word (x + f.addend) × (f.width ≡ 8)
+Says l p s choice id f seen Difference =
+    (x : ℕ) × (y : ℕ) × IsAt l p s choice f.target x × SubtrahendIsAt l p s choice f.subtrahend y × IsDifference f.width seen.word x y f.addend
+Says l p s choice id f seen Branch = (x : ℕ) × CallIsAt l p s choice f.target x × BranchesTo seen.place seen.word seen.input (x + f.addend)
+Says l p s choice id f seen Page = (x : ℕ) × IsAt l p s choice f.target x × PagesTo seen.place seen.word seen.input (x + f.addend)
+Says l p s choice id f seen Offset = (x : ℕ) × IsAt l p s choice f.target x × OffsetsTo seen.word seen.input (x + f.addend)
+Says l p s choice id f seen SlotPage = (x : ℕ) × LoadIsAt l p s choice f.target x × PagesTo seen.place seen.word seen.input x
+Says l p s choice id f seen SlotOffset = LoadSays l p s choice f.target seen.word seen.input
+Says l p s choice id f seen SlotDistance = (slot : ℕ) × SlotAt p s f.target slot × IsDistance seen.place seen.word slot
+Says l p s choice id f seen NoKind = ⊥
+
+-- a field of a placed section is seen with a word, at a slide
+abbrev pub seen_in : Link → ℕ → PlacedSection → Field → ℕ → Seen
+seen_in l s q f word = record { place = q.address + f.offset + s; word = word; input = content_of l (id_of q) f.relocation }
 
 -- A field of a placed section denotes its target and addend in memory.
 pub record Denotes (l : Link) (b : List ℕ) (p : Placed) (s : ℕ) (choice : Choice) (q : PlacedSection) (f : Field) : Type 0 where
   pub word : ℕ
   pub held : HoldsNumber b s choice f.width (q.address + f.offset + s) word
-  pub says : Says l p s choice (id_of q) f (q.address + f.offset + s) word (content_of l (id_of q) f.relocation) (kind_of f.type (is_some f.subtrahend))
+  pub says : Says l p s choice (id_of q) f (seen_in l s q f word) (kind_of f.type (is_some f.subtrahend))
 
 -- an offset in a section is in none of its fields
 abbrev pub IsOutsideField : ℕ → Field → Type 0

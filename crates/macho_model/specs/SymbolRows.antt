@@ -11,7 +11,7 @@ use Rattle.macho_model.specs.Resolution.{SymbolId, entry_at, name_at, section_of
 use Rattle.macho_model.specs.Targets.{own_target}
 use Rattle.macho_model.specs.declared.placed.Counts.{Counts}
 use Rattle.macho_model.specs.Segments.{OutputKey, same_key, key_of, common_key}
-use Rattle.macho_model.specs.OutputSections.{OutputSection, Merged, InitOffsets, UnwindInfo, Stubs, Slots, output_sections_of}
+use Rattle.macho_model.specs.OutputSections.{OutputSection, Merged, output_sections_of}
 use Rattle.macho_model.specs.Placement.{Placed}
 use Rattle.macho_model.specs.Exports.{is_listed}
 use Rattle.macho_model.specs.Addresses.{address_of}

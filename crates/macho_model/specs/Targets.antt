@@ -8,7 +8,7 @@ use Rattle.macho_records.specs.Symbols.{is_common_of}
 use Rattle.macho_records.specs.declared.constants.TheConstants.{ARM64_RELOC_BRANCH26, ARM64_RELOC_GOT_LOAD_PAGE21, ARM64_RELOC_GOT_LOAD_PAGEOFF12, ARM64_RELOC_POINTER_TO_GOT, ARM64_RELOC_TLVP_LOAD_PAGE21, ARM64_RELOC_TLVP_LOAD_PAGEOFF12}
 use Rattle.macho_model.specs.Links.{Link, SectionId, header_at, is_carried}
 use Rattle.macho_model.specs.Resolution.{SymbolId, Definition, Symbol, Library, ImageBase, entry_at, name_at, same_symbol, section_of_symbol, stands_in_carried, definition_of, chosen_commons}
-use Rattle.macho_model.specs.Needs.{Use, ByRelocation, ByInitializer, ByPersonality, ByName, relocation_in, symbol_of_relocation, imports_of, import_number, uses_of, distinct}
+use Rattle.macho_model.specs.Needs.{Use, ByRelocation, ByInitializer, ByPersonality, ByName, relocation_in, section_named, symbol_of_relocation, imports_of, import_number, uses_of, distinct}
 
 -- the place of a symbol in its section
 abbrev pub place_of_symbol : Link → SymbolId → Target
@@ -60,7 +60,7 @@ target_of_section l s = if is_carried (header_at l s) then target.Section s.file
 unfoldable pub target_of_relocation : Link → SectionId → ℕ → Target
 target_of_relocation l s r =
     if (relocation_in l s r).r_extern then target_of_symbol l (symbol_of_relocation l s r)
-    else target_of_section l (record { file = s.file; section = (relocation_in l s r).r_symbolnum - 1 })
+    else target_of_section l (section_named l s r)
 
 abbrev pub is_import : Target → Bool
 is_import (target.Import id) = true

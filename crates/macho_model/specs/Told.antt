@@ -41,9 +41,8 @@ pub record ExportsAreTold (l : Link) (exports : List ToldExport) : Type 0 where
   pub each : All (λ e. IsToldExport l e.name e.weak × (e.target ≡ target_of_name l e.name)) exports
   pub all : (name : List ℕ) (weak : Bool) → IsToldExport l name weak → Contains (map (λ e. e.name) exports) name
 
--- What is told is what the link has.
-pub record IsTold (l : Link) (libraries : List (List ℕ)) (imports : List ToldImport) (exports : List ToldExport) (fixups : ℕ) : Type 0 where
+-- The libraries, the imports and the number of fixups that are told are those of the link.
+pub record IsTold (l : Link) (libraries : List (List ℕ)) (imports : List ToldImport) (fixups : ℕ) : Type 0 where
   pub libraries_are : libraries ≡ libraries_needed l
   pub imports_are : imports ≡ imports_told l
-  pub exports_are : ExportsAreTold l exports
   pub fixups_are : fixups ≡ fixup_count l

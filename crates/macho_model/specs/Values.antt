@@ -8,6 +8,7 @@ use Rattle.macho_model.specs.declared.targets.Site.TheVariants as site
 use Rattle.macho_model.specs.declared.targets.Target.{Target}
 use Rattle.macho_model.specs.declared.targets.Target.TheVariants as target
 use Rattle.macho_model.specs.declared.placed.Stub.{Stub}
+use Rattle.macho_model.specs.Lists.{IsNumber}
 use Rattle.macho_model.specs.Links.{Link, SectionId, carried_of}
 use Rattle.macho_model.specs.Targets.{is_import, slots_of}
 use Rattle.macho_model.specs.Fields.{Field, fields_of, content_of}
@@ -53,7 +54,7 @@ BadRebase l p (site.Field file section relocation) =
     (f : Field) × (x : ℕ) × FieldOf l (section_id file section) relocation f × (needs_fixup l (section_id file section) f ≡ true)
     × (is_import f.target ≡ false) × IsAt l p 0 no_choice f.target x × IsNotEncodable p ((x + f.addend) % 2 ^ 64)
 BadRebase l p (site.Slot index) =
-    (t : Target) × (x : ℕ) × (index < length (slots_of l)) × (get_or (slots_of l) index t ≡ t) × (is_import t ≡ false) × IsAt l p 0
+    (t : Target) × (x : ℕ) × IsNumber (slots_of l) index t × (is_import t ≡ false) × IsAt l p 0
     no_choice t x
     × IsNotEncodable p x
 BadRebase l p (site.Stub index) = ⊥
@@ -99,5 +100,5 @@ BadRange l p (site.Field file section relocation) =
     (kind_of f.type (is_some f.subtrahend))
 BadRange l p (site.Slot index) = ⊥
 BadRange l p (site.Stub index) =
-    (stub : Stub) × (x : ℕ) × (index < length p.stubs) × (get_or p.stubs index stub ≡ stub) × SlotAt p 0 (target.Import stub.import) x
+    (stub : Stub) × (x : ℕ) × IsNumber p.stubs index stub × SlotAt p 0 (target.Import stub.import) x
     × (page_reaches stub.address x ≡ false)

@@ -20,3 +20,52 @@ pub fn fields_denote_at_every_slide()
     ensures moved { PointersMove }
     ensures bound { ImportPointersBind }
 {}
+
+ghost use Rattle.macho_model.specs.HeldLaws.{TextsAreHeld, ZerosAreHeld, NumbersAreHeld, SlotsMove, ImportSlotsBind, PlainPointersStay};
+
+/// Where no chain word has a byte, memory holds the texts and numbers of the file, and zeros behind a segment's file part.
+pub fn what_no_word_covers_is_held()
+    ensures texts { TextsAreHeld }
+    ensures zeros { ZerosAreHeld }
+    ensures numbers { NumbersAreHeld }
+{}
+
+/// A slot stands at every slide by its chain word: of a target that moves, or of an import.
+pub fn slots_stand_at_every_slide()
+    ensures moved { SlotsMove }
+    ensures bound { ImportSlotsBind }
+{}
+
+/// A pointer that no fixup moves denotes at every slide where it does at slide 0.
+pub fn plain_pointers_stay()
+    ensures { PlainPointersStay }
+{}
+
+ghost use Rattle.macho_model.specs.LinkLaws.{DefinitionsAgree, NotedTargetsAgree, CommonsAgree, CarriedAgree, ImportsAgree, SlotsAgree, StubsAgree, AllAreNoted, SymbolsGrow, SectionsGrow, CommonsAreCounted};
+
+/// Links with the same inputs have the same definitions, commons, carried sections and targets.
+pub fn equal_inputs_have_equal_definitions()
+    ensures definitions { DefinitionsAgree }
+    ensures targets { NotedTargetsAgree }
+    ensures commons { CommonsAgree }
+    ensures carried { CarriedAgree }
+{}
+
+/// Links with the same inputs and the same export lists need the same imports, slots and stubs.
+pub fn equal_lists_have_equal_needs()
+    ensures imports { ImportsAgree }
+    ensures slots { SlotsAgree }
+    ensures stubs { StubsAgree }
+    ensures noted { AllAreNoted }
+{}
+
+/// One input more adds its symbols and its sections behind those of the others.
+pub fn one_input_more_adds_its_own()
+    ensures symbols { SymbolsGrow }
+    ensures sections { SectionsGrow }
+{}
+
+/// A chosen common is numbered by how many of the symbols before it are chosen too.
+pub fn chosen_commons_are_counted()
+    ensures { CommonsAreCounted }
+{}

@@ -9,7 +9,12 @@ mod placed;
 mod rules;
 mod targets;
 
-pub use laws::{fields_denote_at_every_slide, memory_moves_by_the_slide, segments_are_apart};
+pub use laws::{
+    chosen_commons_are_counted, equal_inputs_have_equal_definitions, equal_lists_have_equal_needs,
+    fields_denote_at_every_slide, memory_moves_by_the_slide, one_input_more_adds_its_own,
+    plain_pointers_stay, segments_are_apart, slots_stand_at_every_slide,
+    what_no_word_covers_is_held,
+};
 pub use placed::{
     Counts, Linkedit, PlacedCommon, PlacedSection, PlacedSegment, Range64, Slot, Stub,
 };

@@ -1,5 +1,6 @@
 -- Small images written out by hand, for the computed facts of this folder.
 use Rattle.std.proofs.Common.{ℕ, List, [], ◌∷◌, ◌++◌, replicate}
+use Rattle.macho_records.specs.declared.header.SegmentCommand.{SegmentCommand}
 use Rattle.std.specs.Prelude.{codes, length, ◌+◌, ◌*◌, ◌^◌}
 use Rattle.macho_model_checks.proofs.Examples.{words8, words, halves, name16}
 
@@ -61,3 +62,37 @@ two_pages =
 -- upper half is the lower half of the other, which has the target 0x80000 and no next word.
 unfoldable pub overlapping : List ℕ
 overlapping = image_with_fixups 1 (halves (0x10 ∷ 0 ∷ [])) (words (0 ∷ 0 ∷ 0 ∷ 0 ∷ 0x138 ∷ 0x80000 ∷ 0 ∷ 0 ∷ []))
+
+-- the command of `__DATA` in an image of one page of data, and that of `__TEXT`
+abbrev pub data_of_size : ℕ → SegmentCommand
+data_of_size filesize = record {
+  cmd = 0x19;
+  cmdsize = 72;
+  segname = name16 (codes "__DATA");
+  vmaddr = 0x100004000;
+  vmsize = 0x8000;
+  fileoff = 0x4000;
+  filesize = filesize;
+  maxprot = 3;
+  initprot = 3;
+  nsects = 0;
+  flags = 0;
+}
+
+abbrev pub data_command : SegmentCommand
+data_command = data_of_size 32
+
+abbrev pub text_command : SegmentCommand
+text_command = record {
+  cmd = 0x19;
+  cmdsize = 72;
+  segname = name16 (codes "__TEXT");
+  vmaddr = 0x100000000;
+  vmsize = 0x4000;
+  fileoff = 0;
+  filesize = 0x4000;
+  maxprot = 5;
+  initprot = 5;
+  nsects = 0;
+  flags = 0;
+}

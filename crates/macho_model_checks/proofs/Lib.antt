@@ -11,6 +11,7 @@ pub mod RowsObjects
 pub mod RowsRules
 pub mod RowsDylibs
 pub mod RowsLinks
+pub mod RowsPairs
 pub mod RowsFields
 pub mod RowsExports
 pub mod RowsTemplate
@@ -22,3 +23,10 @@ pub mod RowsAccepted
 pub mod RowsPlacement
 pub mod RowsStands
 pub mod RowsValid
+pub mod RowsConsumed
+pub mod RowsSizes
+pub mod RowsNames
+pub mod RowsAgreement
+pub mod ExampleCall
+pub mod RowsCall
+pub mod RowsCallChain

@@ -4,7 +4,6 @@
 -- where the rule is kept. The last rule speaks of each word on the chain, and is shown apart. So the tests, computed,
 -- show of an example that it is accepted, or which rule it breaks, and that it keeps the others.
 use Rattle.std.proofs.Common.{◌≡◌, ◌≢◌, ℕ, ◌+◌, ◌-◌, nat_le, ◌==◌, Bool, true, false, not, ◌&&◌, List, [], ◌∷◌, length, get_or, map, refl, sym, ap, ◌∙◌, arith}
-use Rattle.std.specs.Prelude.{Contains}
 use Rattle.std.specs.List.{list_all}
 use Rattle.std.proofs.lemmas.Bool.{leb-true, le-leb}
 use Rattle.std.proofs.lemmas.List.{get_or_default}
@@ -15,9 +14,9 @@ use Rattle.macho_model.specs.Commands.{Command, commands_of, command_fits}
 use Rattle.macho_model.specs.ObjectRules.{commands_inside}
 use Rattle.macho_model.specs.Segments.{TEXT}
 use Rattle.macho_model.specs.Images.{segments_named, tables_of, fixups_header}
-use Rattle.macho_model.specs.Chain.{ChainSegment, chain_segments, OnPageChain}
 use Rattle.macho_model.specs.LoadRules.{image_head_fits, needed_in_image, protections_fit, file_part_inside, segment_is_paged, segment_ends, begins_behind, text_holds_commands, table_fits, import_fits}
-use Rattle.macho_model.specs.Loader.{WordFits, EachNeighbour, segment_commands, IsAccepted}
+use Rattle.macho_model.specs.Loader.{EachNeighbour, segment_commands, IsAccepted}
+use Rattle.macho_model_walks.specs.steps.WordTests.{EachWordFits}
 use Rattle.macho_model_walks.specs.steps.Asked.{LoadKeeps}
 use Rattle.macho_model.proofs.EachBelow.{each_below, true_or_false, and_left, and_right, and_both, is_equal, equal_is, same_number, other_number, all_pass, pass_all, below_pass, pass_below}
 
@@ -35,7 +34,7 @@ each_neighbour cs test = each_below (length cs - 1) (λ k. test (get_or cs k (re
 
 neighbours_pass : (cs : List Command) (test : Command → Command → Bool) → each_neighbour cs test ≡ true → EachNeighbour cs test
 unfolding no_command
-neighbours_pass cs test h k c d lt at_k at_next =
+neighbours_pass cs test h k c d (before, at_k) (lt, at_next) =
     let there = below_pass (length cs - 1) (λ j. test (get_or cs j no_command) (get_or cs (j + 1) no_command)) h k (omega arith) in
     let first : get_or cs k no_command ≡ c = get_or_default cs k no_command c (omega arith) ∙ at_k in
     let second : get_or cs (k + 1) no_command ≡ d = get_or_default cs (k + 1) no_command d lt ∙ at_next in
@@ -45,9 +44,9 @@ pass_neighbours : (cs : List Command) (test : Command → Command → Bool) → 
 unfolding no_command
 pass_neighbours cs test h =
     pass_below (length cs - 1) (λ j. test (get_or cs j no_command) (get_or cs (j + 1) no_command))
-    (λ k lt. h k (get_or cs k no_command) (get_or cs (k + 1) no_command) (omega arith)
-    (get_or_default cs k (get_or cs k no_command) no_command (omega arith))
-    (get_or_default cs (k + 1) (get_or cs (k + 1) no_command) no_command (omega arith)))
+    (λ k lt. h k (get_or cs k no_command) (get_or cs (k + 1) no_command)
+    (omega arith, get_or_default cs k (get_or cs k no_command) no_command (omega arith))
+    (omega arith, get_or_default cs (k + 1) (get_or cs (k + 1) no_command) no_command (omega arith)))
 
 -- a rule's test; the last rule has none here
 abbrev pub load_test : List ℕ → LoadRule → Bool
@@ -186,8 +185,7 @@ load_kept b h rule some =
     load_test_shows b rule some (sym (load_verdict_at b rule) ∙ ap (λ (v : List Bool). get_or v (load_number rule) false) h ∙ at_load_rule (λ r. true) rule)
 
 -- An example whose tests are all true, and whose chain words fit, is accepted.
-pub is_accepted : (b : List ℕ) → load_verdict b ≡ load_all_pass
-    → ((s : ChainSegment) (page a : ℕ) → Contains (chain_segments b) s → OnPageChain (chain_segments b) b s page a → WordFits b s page a) → IsAccepted b
+pub is_accepted : (b : List ℕ) → load_verdict b ≡ load_all_pass → EachWordFits b → IsAccepted b
 is_accepted b h words = accepted_keeping b (each_load_rule b (load_kept b h) words)
 
 -- one rule with a test is broken, and all others with tests are kept

@@ -3,8 +3,8 @@
 -- The image has a fixup table and an import, and no page start: so its chain is empty, and so are the chains of the images that
 -- differ from it in a header, a segment or the table's head. The change for the last rule gives it one page start, whose word
 -- passes the file part.
-use Rattle.std.proofs.Common.{◌≡◌, ◌≢◌, ℕ, ◌+◌, ◌<◌, ◌==◌, Bool, true, false, List, [], ◌∷◌, ◌++◌, length, refl, arith}
-use Rattle.std.specs.Prelude.{Contains, All}
+use Rattle.std.proofs.Common.{◌≡◌, ◌≢◌, ℕ, ◌+◌, ◌<◌, ◌==◌, Bool, true, false, List, [], ◌∷◌, ◌++◌, length, refl, sym, subst, arith}
+use Rattle.std.specs.Prelude.{All}
 use Rattle.std.specs.List.{list_all, AllByRecursion}
 use Rattle.std.proofs.lemmas.List.Elements.{All-from_recursion}
 use Rattle.macho_bytes.specs.Numbers.{le_at, le_bytes, row_bytes}
@@ -13,17 +13,19 @@ use Rattle.macho_model.specs.declared.rules.LoadRule.{LoadRule}
 use Rattle.macho_model.specs.declared.rules.LoadRule.TheVariants.{L1, L2, L3, L4, L5, L6, L7, L8, L9, L10}
 use Rattle.macho_model.specs.Commands.{header_of, commands_from, commands_of, commands_end}
 use Rattle.macho_model.specs.Images.{segments_of, mapped_segments, base_of, libraries_of, tables_of}
-use Rattle.macho_model.specs.Chain.{ChainSegment, chain_segments, OnPageChain}
+use Rattle.macho_model.specs.Lists.{IsNumber}
+use Rattle.macho_model.specs.Chain.{ChainSegment, chain_segment, chain_segments, OnPageChain}
 use Rattle.macho_model.specs.Chain as chain
 use Rattle.macho_model.specs.Loader.{IsAccepted}
 use Rattle.macho_model_walks.specs.steps.Asked.{LoadKeeps}
 use Rattle.macho_model_walks.specs.steps.WordTests.{word_fits_test}
 use Rattle.macho_model_checks.proofs.Examples.{words8, words, halves, name16, changed}
-use Rattle.macho_model_checks.proofs.ExampleImages.{image_with_fixups, one_page}
+use Rattle.macho_model_checks.proofs.ExampleImages.{image_with_fixups, one_page, data_command}
 use Rattle.macho_model.proofs.EachBelow.{true_or_false, is_equal}
 use Rattle.macho_model_checks.proofs.ValidTests.{one_passes}
 use Rattle.macho_model_checks.proofs.LoaderTests.{HasTest, load_number, load_verdict, load_all_but, load_all_pass, is_accepted, load_breaks_alone, load_kept}
 use Rattle.macho_model_walks.proofs.WordFitting.{fits_word}
+use Rattle.macho_model.proofs.PageChains.{number_in_chain}
 
 -- no segment has a page start
 abbrev pub has_no_start : List ℕ → Bool
@@ -36,8 +38,9 @@ page_has_start segments b s page _ (chain.OnPageChain.next a word on stands goes
 
 -- so without page starts the rule on chain words is kept
 pub no_words : (b : List ℕ) → has_no_start b ≡ true → LoadKeeps b L10
-no_words b none s page a one on =
-    let empty = is_equal (length s.starts) 0 (one_passes (λ (x : ChainSegment). length x.starts == 0) (chain_segments b) s none one) in
+no_words b none number segment page a is on =
+    let s = chain_segment b (number, segment) in
+    let empty = is_equal (length s.starts) 0 (one_passes (λ (x : ChainSegment). length x.starts == 0) (chain_segments b) s none (number_in_chain b number segment is)) in
     let within = page_has_start (chain_segments b) b s page a on in
     absurd (omega (arith, empty, within))
 
@@ -124,10 +127,10 @@ word_passes = changed unchained (320 + 40) (words (16 ∷ 24 ∷ []) ++ halves (
 abbrev pub data_segment : ChainSegment
 data_segment = record { address = 0x100004000; file_offset = 0x4000; file_size = 32; starts = 0x1c ∷ [] }
 
-word_facts : (load_verdict word_passes ≡ load_all_pass) × Contains (chain_segments word_passes) data_segment
-    × (word_fits_test word_passes data_segment 0 0x10000401c ≡ false)
+word_facts : (load_verdict word_passes ≡ load_all_pass) × IsNumber (segments_of word_passes) 2 data_command
+    × (chain_segment word_passes (2, data_command) ≡ data_segment) × (word_fits_test word_passes data_command 0 0x10000401c ≡ false)
 unfolding load_verdict commands_end chain_segments mapped_segments tables_of base_of segments_of commands_of commands_from header_of libraries_of reading le_at row_bytes le_bytes words8 words halves name16 image_with_fixups one_page changed unchained word_passes
-word_facts = (refl, (2, omega arith, refl), refl)
+word_facts = (refl, (omega arith, refl), refl, refl)
 
 word_on : OnPageChain (chain_segments word_passes) word_passes data_segment 0 0x10000401c
 word_on = chain.OnPageChain.first (omega arith) (λ same. omega (arith, same))
@@ -137,8 +140,9 @@ last_rule_alone = record { broken = breaks; others = others }
   where
     breaks : LoadKeeps word_passes L10 → ⊥
     breaks kept =
-        true_or_false (word_fits_test word_passes data_segment 0 0x10000401c)
-        (fits_word word_passes data_segment 0 0x10000401c (kept data_segment 0 0x10000401c word_facts.1 word_on)) word_facts.2
+        let on = subst (λ s. OnPageChain (chain_segments word_passes) word_passes s 0 0x10000401c) (sym word_facts.2) word_on in
+        true_or_false (word_fits_test word_passes data_command 0 0x10000401c)
+        (fits_word word_passes data_command 0 0x10000401c (kept 2 data_command 0 0x10000401c word_facts.1 on)) word_facts.3
 
     others : (other : LoadRule) → load_number other ≢ load_number L10 → LoadKeeps word_passes other
     others L1 apart = load_kept word_passes word_facts.0 L1 tt

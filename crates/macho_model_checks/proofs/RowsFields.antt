@@ -1,9 +1,15 @@
 -- What relocated words say at their places, by computing, each at slide 0 and at another slide of whole pages. Words and
 -- immediates are those of the Arm Architecture Reference Manual (chapter C6).
-use Rattle.std.proofs.Common.{◌≡◌, ℕ, ◌+◌, ◌-◌, ◌^◌, true, false, [], ◌∷◌, refl}
+use Rattle.std.proofs.Common.{◌≡◌, ℕ, ◌+◌, ◌-◌, ◌^◌, ◌⊎◌, true, false, [], ◌∷◌, refl, arith, inl, inr}
 use Rattle.macho_bytes.specs.Numbers.{le_at, signed}
 use Rattle.macho_bytes.specs.Layouts.{reading}
 use Rattle.macho_records.specs.Relocations.{relocation_info}
+use Rattle.macho_model.specs.declared.targets.Target.TheVariants as target
+use Rattle.macho_model.specs.Links.{Link, SectionId}
+use Rattle.macho_model.specs.Fields.{Field}
+use Rattle.macho_model.specs.Placement.{Placed}
+use Rattle.macho_model.specs.Memory.{Choice}
+use Rattle.macho_model.specs.Stands.{Pointer, Seen, Says, LoadSays, LoadIsAt}
 use Rattle.macho_model.specs.Words.{is_branch, is_adrp, is_add, is_ldr, is_load_store, load_scale, scale_of}
 use Rattle.macho_model.specs.Meaning.{PointsTo, IsDifference, BranchesTo, PagesTo, OffsetsTo, AddsTo, LoadsFrom, IsDistance, GoesThrough}
 
@@ -109,3 +115,14 @@ a_stub = record { pages = (refl, refl); reaches = refl; load = (refl, refl, refl
 pub a_stub_slid : GoesThrough (0x100004000 + slide) (0x100008010 + slide) (word_of 0x30 0x00 0x00 0x90) (word_of 0x10 0x0a 0x40 0xf9) (word_of 0x00 0x02 0x1f 0xd6)
 unfolding le_at
 a_stub_slid = record { pages = (refl, refl); reaches = refl; load = (refl, refl, refl); offset = refl; leaves = refl }
+
+-- a pointer has 8 bytes: one of 4 says nothing, whatever word is there
+pub short_pointer_says_nothing : (l : Link) (p : Placed) (s : ℕ) (choice : Choice) (id : SectionId) (f : Field) (seen : Seen) → f.width ≡ 4
+    → Says l p s choice id f seen Pointer → ⊥
+short_pointer_says_nothing l p s choice id f seen four says = absurd (omega (arith, four, says.3))
+
+-- and a value that does not move is not loaded, nor is its page
+pub value_is_not_loaded : (l : Link) (p : Placed) (s : ℕ) (choice : Choice) (value word input x : ℕ)
+    → LoadSays l p s choice (target.Absolute value) word input ⊎ LoadIsAt l p s choice (target.Absolute value) x → ⊥
+value_is_not_loaded l p s choice value word input x (inl says) = says
+value_is_not_loaded l p s choice value word input x (inr at) = at

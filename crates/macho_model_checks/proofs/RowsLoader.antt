@@ -15,7 +15,7 @@ use Rattle.macho_model.specs.Loader.{IsAccepted}
 use Rattle.macho_model_checks.proofs.Examples.{words8, words, halves, name16, changed}
 use Rattle.macho_model_checks.proofs.ExampleImages.{smallest, image_with_fixups, one_page, two_pages}
 use Rattle.macho_model_checks.proofs.LoaderTests.{load_verdict, load_all_but, load_all_pass, is_accepted, LoadBreaksAlone, load_breaks_alone}
-use Rattle.macho_model.proofs.PageChains.{no_page_chain}
+use Rattle.macho_model.proofs.PageChains.{no_page_of}
 
 -- the commands of the smallest image, its base, and the addresses of what is mapped
 pub commands_of_smallest : commands_of smallest ≡
@@ -35,7 +35,7 @@ no_tables = refl
 
 pub smallest_is_accepted : IsAccepted smallest
 unfolding load_verdict tables_of base_of segments_of commands_of commands_from commands_end header_of libraries_of reading le_at row_bytes le_bytes words8 words name16 smallest
-smallest_is_accepted = is_accepted smallest refl (λ s page a one on. absurd (no_page_chain smallest no_tables s page a one on))
+smallest_is_accepted = is_accepted smallest refl (λ number s page a is on. absurd (no_page_of smallest no_tables number s page a is on))
 
 -- what the image with fixups says of its segments, its library and its table
 pub segments_of_one_page : (map (λ s. s.vmaddr) (mapped_segments one_page) ≡ 0x100000000 ∷ 0x100004000 ∷ [])

@@ -2,20 +2,20 @@
 --
 -- The word at 0x10 of the data leads one step of four bytes on, to 0x14, so both are on the chain. In memory the upper
 -- one stands whole, and the lower one gives its first four bytes alone.
-use Rattle.std.proofs.Common.{◌≡◌, ℕ, ◌+◌, ◌%◌, ◌^◌, ◌≤◌, ◌⊎◌, true, false, List, [], ◌∷◌, take, refl, subst, arith}
-use Rattle.std.specs.Prelude.{Contains}
+use Rattle.std.proofs.Common.{◌≡◌, ℕ, ◌+◌, ◌%◌, ◌^◌, ◌≤◌, ◌⊎◌, true, false, List, [], ◌∷◌, take, refl, sym, subst, arith}
 use Rattle.std.proofs.lemmas.Bool.Decides.{nat_tests}
 use Rattle.std.proofs.Math.Nat.{mod-lt}
 use Rattle.macho_bytes.specs.Numbers.{le_at, le_bytes, row_bytes}
 use Rattle.macho_bytes.specs.Layouts.{reading}
 use Rattle.macho_model.specs.Commands.{header_of, commands_from, commands_of, commands_end}
 use Rattle.macho_model.specs.Images.{segments_of, mapped_segments, base_of, libraries_of, tables_of}
-use Rattle.macho_model.specs.Chain.{ChainSegment, chain_segments, IsFileWord, OnChain, OnPageChain, OnChainOf}
+use Rattle.macho_model.specs.Lists.{IsNumber}
+use Rattle.macho_model.specs.Chain.{ChainSegment, chain_segment, chain_segments, IsFileWord, OnChain, OnPageChain, OnChainOf}
 use Rattle.macho_model.specs.Chain as chain
 use Rattle.macho_model.specs.Loader.{IsAccepted}
 use Rattle.macho_model.specs.Memory.{Choice, IsFixed, HoldsText, HoldsNumber}
 use Rattle.macho_model_checks.proofs.Examples.{words8, words, halves, name16, changed}
-use Rattle.macho_model_checks.proofs.ExampleImages.{image_with_fixups, one_page, two_pages, overlapping, rebase, bind}
+use Rattle.macho_model_checks.proofs.ExampleImages.{image_with_fixups, one_page, two_pages, overlapping, rebase, bind, data_of_size, data_command, text_command}
 use Rattle.macho_model.proofs.EachBelow.{true_or_false}
 use Rattle.macho_model_checks.proofs.LoaderTests.{load_verdict, load_all_pass}
 use Rattle.macho_model_walks.proofs.ChainSets.{is_closed, is_among, chain_within}
@@ -104,36 +104,58 @@ other_rules_are_kept = refl
 abbrev pub data_that_passes : ChainSegment
 data_that_passes = record { address = 0x100004000; file_offset = 0x4000; file_size = 32; starts = 0x1c ∷ [] }
 
-its_segment : Contains (chain_segments passes_the_file_part) data_that_passes
+its_segment : IsNumber (segments_of passes_the_file_part) 2 data_command × (chain_segment passes_the_file_part (2, data_command) ≡ data_that_passes)
 unfolding chain_segments mapped_segments tables_of base_of segments_of commands_of commands_from header_of libraries_of reading le_at row_bytes le_bytes words8 words halves name16 image_with_fixups one_page changed passes_the_file_part
-its_segment = (2, omega arith, refl)
+its_segment = ((omega arith, refl), refl)
 
 on_passing : OnPageChain (chain_segments passes_the_file_part) passes_the_file_part data_that_passes 0 0x10000401c
 on_passing = chain.OnPageChain.first (omega arith) (λ same. omega (arith, same))
 
-its_test_fails : word_fits_test passes_the_file_part data_that_passes 0 0x10000401c ≡ false
+its_test_fails : word_fits_test passes_the_file_part data_command 0 0x10000401c ≡ false
 unfolding chain_segments mapped_segments tables_of base_of segments_of commands_of commands_from header_of libraries_of reading le_at row_bytes le_bytes words8 words halves name16 image_with_fixups one_page changed passes_the_file_part
 its_test_fails = refl
 
 pub passing_is_refused : IsAccepted passes_the_file_part → ⊥
 passing_is_refused is =
-    true_or_false (word_fits_test passes_the_file_part data_that_passes 0 0x10000401c)
-    (fits_word passes_the_file_part data_that_passes 0 0x10000401c (is.l10 data_that_passes 0 0x10000401c its_segment on_passing)) its_test_fails
+    let on = subst (λ s. OnPageChain (chain_segments passes_the_file_part) passes_the_file_part s 0 0x10000401c) (sym its_segment.1) on_passing in
+    true_or_false (word_fits_test passes_the_file_part data_command 0 0x10000401c)
+    (fits_word passes_the_file_part data_command 0 0x10000401c (is.l10 2 data_command 0 0x10000401c its_segment.0 on)) its_test_fails
 
 -- the same of a word over the end of a page, and of a word that binds an import that is not there
 unfoldable pub passes_the_page : List ℕ
 passes_the_page = changed two_pages (320 + 44 + 22) (halves (0x3ffc ∷ []))
 
-abbrev pub data_over_a_page : ChainSegment
-data_over_a_page = record { address = 0x100004000; file_offset = 0x4000; file_size = 0x4010; starts = 0x3ffc ∷ 8 ∷ [] }
-
-pub page_is_refused : (load_verdict passes_the_page ≡ load_all_pass) × (word_fits_test passes_the_page data_over_a_page 0 0x100007ffc ≡ false)
+pub page_is_refused : (load_verdict passes_the_page ≡ load_all_pass) × (word_fits_test passes_the_page (data_of_size 0x4010) 0 0x100007ffc ≡ false)
 unfolding load_verdict commands_end chain_segments mapped_segments tables_of base_of segments_of commands_of commands_from header_of libraries_of reading le_at row_bytes le_bytes words8 words halves name16 image_with_fixups two_pages changed passes_the_page
 page_is_refused = (refl, refl)
 
 unfoldable pub binds_nothing : List ℕ
 binds_nothing = changed one_page 0x4018 (words8 (bind 1 5 0 ∷ []))
 
-pub import_is_refused : (load_verdict binds_nothing ≡ load_all_pass) × (word_fits_test binds_nothing data_of_page 0 0x100004018 ≡ false)
+pub import_is_refused : (load_verdict binds_nothing ≡ load_all_pass) × (word_fits_test binds_nothing data_command 0 0x100004018 ≡ false)
 unfolding load_verdict commands_end chain_segments mapped_segments tables_of base_of segments_of commands_of commands_from header_of libraries_of reading le_at row_bytes le_bytes words8 words halves name16 image_with_fixups one_page changed binds_nothing
 import_is_refused = (refl, refl)
+
+-- A page start of `__TEXT`, of a page behind its end, leads to a word in `__DATA`: that segment may be written to and holds
+-- the word, but it is not the segment of the page. All other rules are kept.
+unfoldable pub from_another_segment : List ℕ
+from_another_segment =
+    changed (changed (image_with_fixups 2 (halves (0xffff ∷ 0x10 ∷ [])) (words8 (0x1122 ∷ 0x3344 ∷ rebase 0x138 0 2 ∷ bind 0 5 0 ∷ [])))
+    (320 + 36) (words (16 ∷ 0 ∷ []))) (320 + 52) (words8 (0 ∷ []))
+
+abbrev pub text_with_starts : ChainSegment
+text_with_starts = record { address = 0x100000000; file_offset = 0; file_size = 0x4000; starts = 0xffff ∷ 0x10 ∷ [] }
+
+another_segment : (load_verdict from_another_segment ≡ load_all_pass) × IsNumber (segments_of from_another_segment) 1 text_command
+    × (chain_segment from_another_segment (1, text_command) ≡ text_with_starts) × (word_fits_test from_another_segment text_command 1 0x100004010 ≡ false)
+unfolding load_verdict commands_end chain_segments mapped_segments tables_of base_of segments_of commands_of commands_from header_of libraries_of reading le_at row_bytes le_bytes words8 words halves name16 image_with_fixups changed from_another_segment
+another_segment = (refl, (omega arith, refl), refl, refl)
+
+on_another : OnPageChain (chain_segments from_another_segment) from_another_segment text_with_starts 1 0x100004010
+on_another = chain.OnPageChain.first (omega arith) (λ same. omega (arith, same))
+
+pub another_segment_is_refused : IsAccepted from_another_segment → ⊥
+another_segment_is_refused is =
+    let on = subst (λ s. OnPageChain (chain_segments from_another_segment) from_another_segment s 1 0x100004010) (sym another_segment.2) on_another in
+    true_or_false (word_fits_test from_another_segment text_command 1 0x100004010)
+    (fits_word from_another_segment text_command 1 0x100004010 (is.l10 1 text_command 1 0x100004010 another_segment.1 on)) another_segment.3

@@ -17,7 +17,7 @@ use Rattle.macho_model.specs.declared.placed.PlacedSection.{PlacedSection}
 use Rattle.macho_model.specs.Links.{SectionId, header_at, carried_of, placed_exponent}
 use Rattle.macho_model.specs.Segments.{TEXT, base_of_link, segment_rank}
 use Rattle.macho_model.specs.WrittenSum.{written_sum_of}
-use Rattle.macho_model.specs.Placement.{Placed, Span, AreApart, spans_with, spans_of, SectionLies, TableLies, end_of_segments, IsWholeList, IsAligned, IsInSegment, IsPaged, Follows, EachFollows, IsInOrder, TextBegins, TemplateHolds, is_segment_named, template_sections, LiesIn, IsPlaced, id_of, section_span, head_span, range_span, linkedit_span, linkedit_ranges}
+use Rattle.macho_model.specs.Placement.{Placed, Span, AreApart, spans_with, spans_of, SectionLies, TableLies, IsWholeList, IsAligned, IsInSegment, IsPaged, Follows, EachFollows, IsInOrder, TextBegins, TemplateHolds, is_segment_named, template_sections, LiesIn, IsPlaced, id_of, section_span, head_span, range_span, linkedit_span, linkedit_ranges}
 use Rattle.macho_model.proofs.EachBelow.{true_or_false, and_left, and_right, and_both, either, or_first, or_second, is_equal, equal_is, same_number, other_number}
 use Rattle.macho_model_checks.proofs.Examples.{name16}
 use Rattle.macho_model_checks.proofs.ExampleLinks.{section}
@@ -43,7 +43,7 @@ Part p InSegment = IsInSegment link_a p
 Part p NonOverlapping = AllPairs AreApart (spans_of link_a counts_a p)
 Part p InOrder = IsInOrder link_a p
 Part p Template = TemplateHolds link_a counts_a p p.template
-Part p WithinSum = end_of_segments p.segments p.base ≤ p.base + written_sum_of link_a counts_a
+Part p WithinSum = All (λ (s : PlacedSegment). s.address + s.size ≤ p.base + written_sum_of link_a counts_a) p.segments
 
 pub placed_by_parts : (p : Placed) → ((part : PlacementPart) → Part p part) → IsPlaced link_a counts_a p
 placed_by_parts p h = record {
@@ -89,7 +89,7 @@ module _ (base start address size : ℕ) (template : Option Range64) where
 
   lies : start ≤ address → address + 8 ≤ start + 0x4000 → SectionLies link_a (placed_with base start address size template) (section_a address)
   unfolding name16
-  lies from to = rw section_of_a (text_from start size, omega arith, refl, refl, record { from = from; to = to })
+  lies from to = rw section_of_a (text_from start size, (omega arith, refl), refl, record { from = from; to = to })
 
   in_segment : start ≤ address → address + 8 ≤ start + 0x4000 → IsInSegment link_a (placed_with base start address size template)
   in_segment from to = record {
@@ -134,8 +134,8 @@ module _ (base start address size : ℕ) (template : Option Range64) where
   follows = record { rank = omega arith; address = omega arith; file_offset = refl }
 
   each_follows : EachFollows link_a (pagezero_to start ∷ text_from start size ∷ [])
-  each_follows zero s t within at_s at_t = rw (← at_s, ← at_t) follows
-  each_follows (suc k) s t within at_s at_t = absurd (omega (arith, within))
+  each_follows zero s t (before, at_s) (within, at_t) = rw (← at_s, ← at_t) follows
+  each_follows (suc k) s t before (within, at_t) = absurd (omega (arith, within))
 
   begins : start ≡ 0x100000000 → TextBegins link_a (pagezero_to start ∷ text_from start size ∷ [])
   unfolding name16
@@ -185,7 +185,8 @@ part_holds base start address size template InOrder h =
 part_holds base start address size template Template h = no_template base start address size template (none_is template h)
 part_holds base start address size template WithinSum h =
     let fits = leb-true (start + size) (base + 66806) h in
-    rw sum_a fits
+    rw sum_a (All-from_recursion (λ (s : PlacedSegment). s.address + s.size ≤ base + 66806) (pagezero_to start ∷ text_from start size ∷ [])
+    (omega (arith, fits), (omega (arith, fits), tt)))
 
 -- The placement of the smallest image meets the relation.
 all_asked : (part : PlacementPart) → asks 0x100000000 0x100000000 0x100000138 0x4000 None part ≡ true
@@ -248,7 +249,7 @@ part_asks base start address size template Aligned h =
     equal_is (address % 4) 0 (rw exponent_a at first)
 part_asks base start address size template InSegment h =
     let lies = h.sections 0 (section_a address) (omega arith) in
-    let both = inside start address size lies.0 lies.2 lies.4 in
+    let both = inside start address size lies.0 lies.1.1 lies.3 in
     and_both (nat_le start address) (nat_le (address + 8) (start + 0x4000)) (le-leb start address both.0) (le-leb (address + 8) (start + 0x4000) both.1)
 part_asks base start address size template NonOverlapping h =
     elim (beside_needed base start address size template (first_two base start address size template h)) [
@@ -264,7 +265,9 @@ part_asks base start address size None Template h = refl
 part_asks base start address size (Some r) Template h =
     let none = ap (λ (xs : List PlacedSection). length xs) (no_template_sections base start address size (Some r)) in
     let some = h.some in absurd (omega arith)
-part_asks base start address size template WithinSum h = le-leb (start + size) (base + 66806) (rw sum_a at h)
+part_asks base start address size template WithinSum h =
+    let second = h 1 (text_from start size) (omega arith) in
+    le-leb (start + size) (base + 66806) (rw sum_a at second)
 
 -- THE changes: to which numbers, and which part that breaks.
 pub record PlacementChange : Type 0 where

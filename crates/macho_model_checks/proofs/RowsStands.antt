@@ -29,7 +29,7 @@ use Rattle.macho_model_checks.proofs.ExampleImages.{smallest}
 use Rattle.macho_model_checks.proofs.ExamplePlacement.{link_a, counts_a, section_a, placed_a}
 use Rattle.macho_model_checks.proofs.FactsA.{section_of_a, bytes_of_a, fields_a}
 use Rattle.macho_model.proofs.Unchained.{uncovered}
-use Rattle.macho_model.proofs.Memory.{text_is_held}
+use Rattle.macho_model.proofs.Memory.{all_free, text_is_held}
 use Rattle.macho_model_checks.proofs.RowsLoader.{no_tables, smallest_is_accepted}
 use Rattle.macho_model_checks.proofs.RowsPlacement.{a_is_placed}
 
@@ -65,7 +65,7 @@ code_stands = record { within = omega arith; same = refl }
 code_is_held : (s : ℕ) (choice : Choice) → HoldsText smallest s choice (0x100000138 + s) code
 unfolding text_segment
 code_is_held s choice =
-    text_is_held smallest s choice text_segment 0x138 code no_tables (rw one_segment (0, omega arith, refl)) (omega arith) (omega arith) code_stands
+    text_is_held smallest s choice text_segment 0x138 code (all_free smallest 0x100000138 8 no_tables) (rw one_segment (0, omega arith, refl)) (omega arith) (omega arith) code_stands
 
 section_stands : (s : ℕ) (choice : Choice) → SectionStands link_a smallest placed_a s choice (section_a 0x100000138)
 section_stands s choice =
@@ -201,7 +201,7 @@ zeros_stand = record { within = omega arith; same = refl }
 zeros_are_held : (s : ℕ) (choice : Choice) → HoldsText smallest s choice (0x100000200 + s) (0 ∷ 0 ∷ 0 ∷ 0 ∷ [])
 unfolding text_segment
 zeros_are_held s choice =
-    text_is_held smallest s choice text_segment 0x200 (0 ∷ 0 ∷ 0 ∷ 0 ∷ []) no_tables (rw one_segment (0, omega arith, refl)) (omega arith) (omega arith) zeros_stand
+    text_is_held smallest s choice text_segment 0x200 (0 ∷ 0 ∷ 0 ∷ 0 ∷ []) (all_free smallest 0x100000200 4 no_tables) (rw one_segment (0, omega arith, refl)) (omega arith) (omega arith) zeros_stand
 
 zero_at : (i : ℕ) → i < 4 → slice_index (0 ∷ 0 ∷ 0 ∷ 0 ∷ []) i ≡ 0
 zero_at zero lt = refl

@@ -23,13 +23,13 @@ use Rattle.macho_model_walks.proofs.ListedLaws.{all_listed, texts_listed, texts_
 
 -- one that fails is not among those that pass
 pub fails_not_each : (cs : List Command) (place : ℕ) (test : Command → Bool) → CommandFails cs place test → EachCommand cs test → ⊥
-fails_not_each cs place test (k, c, within, is, told, fails) each =
+fails_not_each cs place test (k, c, (within, is), told, fails) each =
     true_or_false (test c) (subst (λ x. test x ≡ true) is (each k c within)) fails
 
 neighbours_fail : (cs : List Command) (place : ℕ) (test : Command → Command → Bool) → NeighbourFails cs place test → EachNeighbour cs test
     → ⊥
-neighbours_fail cs place test (k, c, d, within, first, second, told, fails) each =
-    true_or_false (test c d) (each k c d within first second) fails
+neighbours_fail cs place test (k, c, d, first, second, told, fails) each =
+    true_or_false (test c d) (each k c d first second) fails
 
 -- the segments named `__TEXT`, by their commands
 pub texts_by_command : (b : List ℕ) → segments_named TEXT b ≡ map (segment_in b) (text_commands b)
@@ -41,7 +41,7 @@ count_of_texts b = ap (λ (xs : List SegmentCommand). length xs) (texts_by_comma
 not_one_text : (b : List ℕ) (place : ℕ) → TextIsNotOne b place → length (segments_named TEXT b) ≡ 1 → ⊥
 not_one_text b place (inl (none, at)) one =
     let count = count_of_texts b in let empty = ap (λ (cs : List Command). length cs) none in omega (arith, count, empty, one)
-not_one_text b place (inr (k, c, least, within, is, told)) one = let count = count_of_texts b in omega (arith, count, least, within, one)
+not_one_text b place (inr (k, c, least, (within, is), told)) one = let count = count_of_texts b in omega (arith, count, least, within, one)
 
 -- what holds of each image of a command holds of the commands, and back
 of_commands : {X : Type 0} (f : Command → X) (test : X → Bool) (cs : List Command) → All (λ x. test x ≡ true) (map f cs)
@@ -53,7 +53,7 @@ of_commands f test cs each k d within =
 -- a second fixup table
 two_tables : (b : List ℕ) (place : ℕ) → SecondTable b place → length (tables_of b) ≤ 1 → ⊥
 unfolding tables_of
-two_tables b place (k, c, least, within, is, told) few =
+two_tables b place (k, c, least, (within, is), told) few =
     let count = length-map (fixup_commands b) (table_of_command b) in omega (arith, count, least, within, few)
 
 -- A rule that is told is broken: the image is not accepted.
@@ -77,7 +77,7 @@ breaks_not_accepted b L8 place (inr h) a =
     fails_not_each (fixup_commands b) place (λ c. table_fits b (table_of_command b c)) h
     (of_commands (table_of_command b) (table_fits b) (fixup_commands b) a.l8.1)
 breaks_not_accepted b L9 place (t, k, one, within, told, fails) a = true_or_false _ (a.l9 t k one within) fails
-breaks_not_accepted b L10 place (x, s, page, one, on, told, unfit) a = unfit (a.l10 s page x one on)
+breaks_not_accepted b L10 place (x, number, s, page, is, on, told, unfit) a = unfit (a.l10 number s page x is on)
 
 -- the second rule, by the list of all commands
 pub whole_kept : (b : List ℕ) → EachCommand (listed list.All b) (test_of asked.Whole b)

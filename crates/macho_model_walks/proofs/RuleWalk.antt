@@ -3,28 +3,26 @@
 -- Each command of a list has a number below the count of all. So where those with each number pass, all pass; and one
 -- that is found by its number and fails is one of the list. The same holds of neighbours, of the one `__TEXT` and of the
 -- one fixup table, which are told by the commands with the numbers 0 and 1.
-use Rattle.std.proofs.Common.{◌≡◌, ℕ, ◌+◌, ◌<◌, ◌≤◌, true, false, List, [], ◌∷◌, length, get_or, refl, sym, ap, subst, ◌∙◌, arith, inl, inr, map, All}
+use Rattle.std.proofs.Common.{◌≡◌, ℕ, ◌+◌, ◌<◌, ◌≤◌, true, false, List, [], ◌∷◌, length, get_or, refl, sym, ap, subst, ◌∙◌, arith, inl, inr, map}
 use Rattle.std.specs.Prelude.{Contains}
-use Rattle.std.specs.List.{list_any, list_all}
+use Rattle.std.specs.List.{list_all}
 use Rattle.std.proofs.lemmas.List.{get_or_default, length-map}
-use Rattle.std.proofs.lemmas.List.Elements.{All-map}
-use Rattle.std.proofs.lemmas.List.Folds.{list_any_none, list_all_at}
+use Rattle.std.proofs.lemmas.List.Folds.{list_all_at}
 use Rattle.macho_model_walks.specs.declared.loader_rules.Asked.{Asked}
 use Rattle.macho_model_walks.specs.declared.walk.Listed.{Listed}
 use Rattle.macho_model_walks.specs.declared.walk.Listed.TheVariants as list
 use Rattle.macho_model.specs.Commands.{Command, header_of}
 use Rattle.macho_model.specs.Grammar.{EachCommand}
-use Rattle.macho_model.specs.LoadRules.{begins_behind, segment_in, import_fits}
+use Rattle.macho_model.specs.LoadRules.{begins_behind, import_fits}
 use Rattle.macho_model.specs.Loader.{segment_commands, text_commands, fixup_commands, EachNeighbour, NeighbourFails, TextIsNotOne, SecondTable, ImportFails, import_count}
 use Rattle.macho_model_walks.specs.steps.Walks.{command_at, listed, IsNth, table_there, chain_segment_at}
 use Rattle.macho_model_walks.specs.steps.Asked.{list_of, test_of, NumberPasses, NeighbourPasses, BadImport, ImportsFit, TableImportsFit, EachImportFits}
-use Rattle.macho_model_walks.specs.steps.WordTests.{holds_word, import_exists, NthLacks, NthImportExists}
-use Rattle.macho_model.specs.Images.{table_of_command, tables_of, fixups_header, mapped_segments}
+use Rattle.macho_model_walks.specs.steps.WordTests.{import_exists, NthImportExists}
+use Rattle.macho_model.specs.Images.{table_of_command, tables_of, fixups_header}
 use Rattle.macho_model.specs.Chain.{chain_segments}
-use Rattle.macho_model_walks.proofs.ListedLaws.{texts_listed, tables_are, mapped_are, nth_image}
+use Rattle.macho_model_walks.proofs.ListedLaws.{texts_listed, tables_are, nth_image}
 use Rattle.macho_model_walks.proofs.WordWalk.{few_listed_of, nth_exists, nth_one, chain_at, count_of_chain}
 use Rattle.macho_model.proofs.EachBelow.{pass_all}
-use Rattle.macho_model_walks.proofs.WordFitting.{found_any}
 
 -- a command by its number, whatever stands behind the last
 at_number : (which : Listed) (b : List ℕ) (number place : ℕ) (d : Command) → IsNth which b number place
@@ -41,7 +39,7 @@ each_by_number b what pass k d lt =
 pub neighbours_by_number : (b : List ℕ) → ((k : ℕ) → k < (header_of b).ncmds → NeighbourPasses b k)
     → EachNeighbour (segment_commands b) (begins_behind b)
 unfolding listed
-neighbours_by_number b pass k c d lt at_k at_next = listed_neighbours lt at_k at_next
+neighbours_by_number b pass k c d (before, at_k) (lt, at_next) = listed_neighbours lt at_k at_next
   where
     listed_neighbours : k + 1 < length (listed list.Segments b) → get_or (listed list.Segments b) k c ≡ c
         → get_or (listed list.Segments b) (k + 1) d ≡ d → begins_behind b c d ≡ true
@@ -57,7 +55,7 @@ pub neighbour_fails : (b : List ℕ) (number place next : ℕ) → IsNth list.Se
     → begins_behind b (command_at b place) (command_at b next) ≡ false → NeighbourFails (segment_commands b) next (begins_behind b)
 unfolding listed
 neighbour_fails b number place next first second fails =
-    (number, command_at b place, command_at b next, second.within, first.is, second.is, refl, fails)
+    (number, command_at b place, command_at b next, (first.within, first.is), (second.within, second.is), refl, fails)
 
 -- the one `__TEXT`
 pub second_text : (b : List ℕ) (place : ℕ) → IsNth list.Texts b 1 place → TextIsNotOne b place
@@ -67,8 +65,10 @@ second_text b place nth =
       1,
       command_at b place,
       omega arith,
-      subst (λ cs. 1 < length cs) same nth.within,
-      subst (λ cs. get_or cs 1 (command_at b place) ≡ command_at b place) same nth.is,
+      (
+        subst (λ cs. 1 < length cs) same nth.within,
+        subst (λ cs. get_or cs 1 (command_at b place) ≡ command_at b place) same nth.is,
+      ),
       refl,
     )
 
@@ -85,7 +85,7 @@ one_text b place nth few = subst (λ cs. length cs ≡ 1) (texts_listed b) (omeg
 -- the one fixup table
 pub second_of_tables : (b : List ℕ) (place : ℕ) → IsNth list.Tables b 1 place → SecondTable b place
 unfolding listed
-second_of_tables b place nth = (1, command_at b place, omega arith, nth.within, nth.is, refl)
+second_of_tables b place nth = (1, command_at b place, omega arith, (nth.within, nth.is), refl)
 
 pub few_tables : (b : List ℕ) → length (listed list.Tables b) ≤ 1 → length (fixup_commands b) ≤ 1
 unfolding listed
@@ -137,27 +137,6 @@ no_count b (x ∷ cs) none = absurd (omega (arith, none))
 
 pub import_count_missing : (b : List ℕ) → length (listed list.Tables b) ≤ 0 → import_count b (tables_of b) ≡ 0
 import_count_missing b none = ap (λ ts. import_count b ts) (tables_are b) ∙ no_count b (listed list.Tables b) none
-
--- a word that a mapped segment holds, or none
-pub held_by : (b : List ℕ) (number place a : ℕ) → IsNth list.Mapped b number place → holds_word a (segment_in b (command_at b place)) ≡ true
-    → list_any (holds_word a) (mapped_segments b) ≡ true
-held_by b number place a nth holds =
-    let s = segment_in b (command_at b place) in
-    let long = length-map (listed list.Mapped b) (segment_in b) in
-    subst (λ xs. list_any (holds_word a) xs ≡ true) (sym (mapped_are b))
-    (found_any (holds_word a) (map (segment_in b) (listed list.Mapped b)) s
-    (number, omega (arith, nth.within, long), nth_image (segment_in b) list.Mapped b number place s nth) holds)
-
-pub held_by_none : (b : List ℕ) (a : ℕ) → ((k : ℕ) → k < (header_of b).ncmds → NthLacks b k a)
-    → list_any (holds_word a) (mapped_segments b) ≡ false
-held_by_none b a none =
-    let all : All (λ s. holds_word a s ≡ false) (map (segment_in b) (listed list.Mapped b)) =
-    All-map (λ s. holds_word a s ≡ false) (segment_in b) (listed list.Mapped b) (λ k d lt.
-    let there = nth_exists list.Mapped b k lt in
-    subst (λ c. holds_word a (segment_in b c) ≡ false) (sym (at_number list.Mapped b k there.0 d there.1))
-    (none k (omega (arith, lt, few_listed_of list.Mapped b)) there.0 there.1)) in
-    subst (λ xs. list_any (holds_word a) xs ≡ false) (sym (mapped_are b))
-    (list_any_none (holds_word a) (map (segment_in b) (listed list.Mapped b)) all)
 
 -- an import that does not exist in the segment of a command, or all that do
 pub import_lacks : (b : List ℕ) (number place a : ℕ) → IsNth list.Segments b number place

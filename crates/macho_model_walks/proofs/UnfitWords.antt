@@ -3,35 +3,28 @@
 -- A word that does not fit is told where it stands. One that fits is in its page, so a step from it stays near the page,
 -- and it is one of finitely many. All that it leads to are itself and what its steps lead to, whatever segment they are
 -- read in; so where it fits and those fit, all fit. The words of the page's chain are those that its start leads to.
-use Rattle.std.proofs.Common.{◌≡◌, ℕ, ◌+◌, ◌*◌, ◌-◌, ◌^◌, ◌<◌, ◌≤◌, nat_le, Bool, true, false, ◌&&◌, List, length, slice_index, refl, sym, ap, subst, ◌∙◌, arith, inl, inr}
-use Rattle.std.specs.List.{list_all, list_any}
+use Rattle.std.proofs.Common.{◌≡◌, ℕ, ◌+◌, ◌*◌, ◌-◌, ◌^◌, ◌<◌, ◌≤◌, nat_le, Bool, true, false, List, length, slice_index, refl, sym, ap, subst, ◌∙◌, arith, inl, inr}
 use Rattle.std.proofs.lemmas.Bool.{leb-true, cases_lt}
 use Rattle.macho_model_walks.specs.declared.walk.Listed.TheVariants as list
 use Rattle.macho_model.specs.Commands.{header_of}
 use Rattle.macho_model.specs.Grammar.{EachCommand}
-use Rattle.macho_model.specs.Images.{NO_START, CHAIN_PAGE, mapped_segments}
+use Rattle.macho_model.specs.Images.{NO_START, CHAIN_PAGE}
 use Rattle.macho_model.specs.LoadRules.{segment_in, file_part_inside}
-use Rattle.macho_model.specs.Chain.{ChainSegment, chain_segments, WORD_SIZE, next_of, STRIDE, OnPageChain}
-use Rattle.macho_model.specs.Loader.{segment_commands, WordFits, WordFails}
-use Rattle.macho_model_walks.specs.steps.Walks.{command_at, listed, IsNth, StepIn, Leads, starts_of, chain_segment_at}
+use Rattle.macho_records.specs.declared.header.SegmentCommand.{SegmentCommand}
+use Rattle.macho_model.specs.Chain.{next_of, STRIDE}
+use Rattle.macho_model.specs.Loader.{segment_commands, OnPageOf, WordFits, WordFails}
+use Rattle.macho_model_walks.specs.steps.Walks.{command_at, listed, IsNth, StepIn, Leads, segment_there, starts_of, chain_segment_at}
 use Rattle.macho_model_walks.specs.steps.Walks as walks
-use Rattle.macho_model_walks.specs.steps.WordTests.{holds_word, import_exists, stands_in_page, word_fits_test, address_in, UnfitFrom, FitFrom, UnfitOnPage, FitOnPage, FitOnNth, EachWordFits}
-use Rattle.macho_model.proofs.EachBelow.{true_or_false, and_left, and_right}
+use Rattle.macho_model_walks.specs.steps.WordTests.{word_fits_test, address_in, UnfitFrom, FitFrom, UnfitOnPage, FitOnPage, FitOnNth, EachWordFits}
+use Rattle.macho_model.proofs.EachBelow.{true_or_false, and_left}
 use Rattle.macho_model_walks.proofs.WordFitting.{word_fits, fits_word}
-use Rattle.macho_model_walks.proofs.WordWalk.{step_leads, step_of_word, page_chain_found, page_chain_none, from_start, numbered_segment, few_listed_of, chain_contains, nth_one}
+use Rattle.macho_model_walks.proofs.WordWalk.{step_leads, step_of_word, page_chain_found, page_chain_none, from_start, nth_number, number_place, few_listed_of, nth_one}
 
 -- a word that passes ends in its page
-pub in_page : (b : List ℕ) (number place page offset : ℕ)
-    → word_fits_test b (chain_segment_at b number place) page (address_in b place offset) ≡ true
+pub in_page : (b : List ℕ) (place page offset : ℕ) → word_fits_test b (segment_there b place) page (address_in b place offset) ≡ true
     → offset + 8 ≤ 16384 * (page + 1)
-in_page b number place page offset h =
-    let s = chain_segment_at b number place in
-    let a = address_in b place offset in
-    let both = and_left (stands_in_page s page a && list_any (holds_word a) (mapped_segments b))
-    (list_all (import_exists b a) (chain_segments b)) h in
-    let page_holds = and_left (stands_in_page s page a) (list_any (holds_word a) (mapped_segments b)) both in
-    let end = leb-true (a + WORD_SIZE) (s.address + CHAIN_PAGE * (page + 1))
-    (and_right (nat_le (s.address + CHAIN_PAGE * page) a) (nat_le (a + WORD_SIZE) (s.address + CHAIN_PAGE * (page + 1))) page_holds) in
+in_page b place page offset h =
+    let end = (word_fits b (segment_there b place) page (address_in b place offset) h).page_to in
     omega (arith, end)
 
 -- a step goes on by a byte at least
@@ -40,13 +33,13 @@ step_goes b number a n step = let s = step.step in let goes = s.goes in let is =
 
 -- a word that fails
 pub unfit_here : (b : List ℕ) (number place page offset : ℕ) → offset < 2 ^ 32
-    → word_fits_test b (chain_segment_at b number place) page (address_in b place offset) ≡ false → UnfitFrom b number place page offset
+    → word_fits_test b (segment_there b place) page (address_in b place offset) ≡ false → UnfitFrom b number place page offset
     offset
 unfit_here b number place page offset small fails =
     record {
       leads = walks.Leads.here (address_in b place offset);
-      unfit = λ fits. true_or_false (word_fits_test b (chain_segment_at b number place) page (address_in b place offset))
-          (fits_word b (chain_segment_at b number place) page (address_in b place offset) fits) fails;
+      unfit = λ fits. true_or_false (word_fits_test b (segment_there b place) page (address_in b place offset))
+          (fits_word b (segment_there b place) page (address_in b place offset) fits) fails;
       small = small;
     }
 
@@ -64,7 +57,7 @@ unfit_behind b other number place page offset n x step unfit =
     }
 
 -- a word that passes, and so do all that its steps lead to
-fit_all : (b : List ℕ) (s : ChainSegment) (page a c : ℕ) → word_fits_test b s page a ≡ true
+fit_all : (b : List ℕ) (s : SegmentCommand) (page a c : ℕ) → word_fits_test b s page a ≡ true
     → ((other n d : ℕ) → other < (header_of b).ncmds → StepIn b other a n → Leads b (a + n) d → WordFits b s page d) → Leads b a c →
     WordFits b s page c
 fit_all b s page _ _ passes rest (walks.Leads.here a) = word_fits b s page a passes
@@ -72,12 +65,12 @@ fit_all b s page _ _ passes rest (walks.Leads.on a word c stands goes leads) =
     let step = step_of_word b a word stands goes in rest step.0 (STRIDE * next_of word) c step.1 step.2 leads
 
 pub fit_from : (b : List ℕ) (number place page offset : ℕ)
-    → word_fits_test b (chain_segment_at b number place) page (address_in b place offset) ≡ true
+    → word_fits_test b (segment_there b place) page (address_in b place offset) ≡ true
     → ((other n : ℕ) → other < (header_of b).ncmds → StepIn b other (address_in b place offset) n → FitFrom b number place page
     (offset + n))
     → FitFrom b number place page offset
 fit_from b number place page offset passes rest a leads =
-    fit_all b (chain_segment_at b number place) page (address_in b place offset) a passes
+    fit_all b (segment_there b place) page (address_in b place offset) a passes
     (λ other n d within step on. rest other n within step d (subst (λ x. Leads b x d) (sym (same_address b place offset n)) on)) leads
 
 -- of a page: its start, and what it leads to
@@ -112,17 +105,17 @@ fit_without_start b number place page start is none a on = absurd (page_chain_no
 pub word_fails : (b : List ℕ) (number place page offset start x : ℕ) → IsNth list.Segments b number place
     → start ≡ (segment_in b (command_at b place)).fileoff → start + offset ≡ x → UnfitOnPage b number place page offset → WordFails b x
 word_fails b number place page offset start x nth at is unfit =
-    (address_in b place offset, chain_segment_at b number place, page, chain_contains b number place nth, unfit.on, told, unfit.unfit)
+    (address_in b place offset, number, segment_there b place, page, nth_number b number place nth, unfit.on, told, unfit.unfit)
   where
     told : x ≡ (segment_in b (command_at b place)).fileoff + (address_in b place offset - (segment_in b (command_at b place)).vmaddr)
     told = omega (arith, at, is)
 
 -- of all: each segment has a number
 pub each_word : (b : List ℕ) → ((k : ℕ) → k < (header_of b).ncmds → FitOnNth b k) → EachWordFits b
-each_word b fit s page a one on =
-    let n = numbered_segment b s one in
-    subst (λ x. OnPageChain (chain_segments b) b x page a → WordFits b x page a) (sym n.is)
-    (fit n.number (omega (arith, n.nth.within, few_listed_of list.Segments b)) n.place n.nth page a) on
+each_word b fit number s page a is on =
+    let there = number_place b number s is in
+    subst (λ x. OnPageOf b number x page a → WordFits b x page a) there.2
+    (fit number (omega (arith, there.1.within, few_listed_of list.Segments b)) there.0 there.1 page a) on
 
 -- a rule that each segment's command keeps, of the one at a place
 pub kept_at : (b : List ℕ) (number place : ℕ) → EachCommand (segment_commands b) (file_part_inside b) → IsNth list.Segments b number place
@@ -132,10 +125,10 @@ kept_at b number place each nth = subst (λ c. file_part_inside b c ≡ true) nt
 
 -- the same at the address that is read
 pub test_at : (b : List ℕ) (number place page offset address : ℕ) (t r : Bool) → address ≡ (segment_in b (command_at b place)).vmaddr
-    → r ≡ word_fits_test b (chain_segment_at b number place) page (address + offset) → r ≡ t
-    → word_fits_test b (chain_segment_at b number place) page (address_in b place offset) ≡ t
+    → r ≡ word_fits_test b (segment_there b place) page (address + offset) → r ≡ t
+    → word_fits_test b (segment_there b place) page (address_in b place offset) ≡ t
 test_at b number place page offset address t r at is said =
-    subst (λ a. word_fits_test b (chain_segment_at b number place) page (a + offset) ≡ t) at (sym is ∙ said)
+    subst (λ a. word_fits_test b (segment_there b place) page (a + offset) ≡ t) at (sym is ∙ said)
 
 pub step_from : (b : List ℕ) (other place offset address n : ℕ) → address ≡ (segment_in b (command_at b place)).vmaddr
     → StepIn b other (address + offset) n → StepIn b other (address_in b place offset) n

@@ -14,12 +14,13 @@ use Rattle.macho_bytes.specs.Numbers.{le_at}
 use Rattle.macho_records.specs.declared.header.SegmentCommand.{SegmentCommand}
 use Rattle.macho_model_walks.specs.declared.walk.Listed.{Listed}
 use Rattle.macho_model_walks.specs.declared.walk.Listed.TheVariants as list
+use Rattle.macho_model.specs.Lists.{IsNumber}
 use Rattle.macho_model.specs.Commands.{Command, header_of, commands_of}
 use Rattle.macho_model.specs.Images.{segments_of, Table, table_of_command, starts_count, starts_offset, segment_starts, page_start, NO_START, CHAIN_PAGE}
 use Rattle.macho_model.specs.LoadRules.{segment_in}
 use Rattle.macho_model.specs.Chain.{ChainSegment, chain_segment, chain_segments, starts_in_tables, IsFileWord, next_of, WORD_SIZE, STRIDE, OnChain, OnPageChain}
 use Rattle.macho_model.specs.Chain as chain
-use Rattle.macho_model_walks.specs.steps.Walks.{command_at, is_listed, listed, IsNth, HasWord, StepOf, StepIn, Leads, table_there, starts_in, starts_of, chain_segment_at}
+use Rattle.macho_model_walks.specs.steps.Walks.{command_at, is_listed, listed, IsNth, HasWord, StepOf, StepIn, Leads, segment_there, table_there, starts_in, starts_of, chain_segment_at}
 use Rattle.macho_model_walks.specs.steps.Walks as walks
 use Rattle.macho_model.proofs.PageChains.{page_on_chain}
 use Rattle.macho_model_walks.proofs.SegmentWalk.{at_its_place, length-commands}
@@ -82,6 +83,24 @@ chain_contains b number place nth = (
   chain_at b number place
       (chain_segment b (number, segment_in b (command_at b place))) nth,
 )
+
+-- a segment by its number and by its place is one
+pub nth_number : (b : List ℕ) (number place : ℕ) → IsNth list.Segments b number place → IsNumber (segments_of b) number (segment_there b place)
+nth_number b number place nth = (
+  omega (arith, nth.within, count_of_segments b),
+  ap (λ (xs : List SegmentCommand). get_or xs number (segment_there b place)) (segments_are b)
+      ∙ nth_image (segment_in b) list.Segments b number place (segment_there b place) nth,
+)
+
+pub number_place : (b : List ℕ) (number : ℕ) (s : SegmentCommand) → IsNumber (segments_of b) number s
+    → (place : ℕ) × IsNth list.Segments b number place × (segment_there b place ≡ s)
+number_place b number s is =
+    let there = nth_exists list.Segments b number (omega (arith, is.0, count_of_segments b)) in (
+      there.0,
+      there.1,
+      sym (nth_image (segment_in b) list.Segments b number there.0 s there.1)
+          ∙ sym (ap (λ (xs : List SegmentCommand). get_or xs number s) (segments_are b)) ∙ is.1,
+    )
 
 -- each segment of the chain has a number and a place
 pub record IsNumbered (b : List ℕ) (s : ChainSegment) : Type 0 where

@@ -1,13 +1,13 @@
 //! Whether the words of the chains fit: the loader's last rule, asked of each word that a page's start leads to.
 ghost use Rattle.std.specs.Prelude.{◌≡◌, ◌≤◌, ◌<◌, ◌+◌, ◌*◌, ℕ, true, false, length, Some, None};
-ghost use Rattle.std.specs.List.{list_all, list_any};
-ghost use Rattle.macho_model.specs.LoadRules.{segment_in, file_part_inside};
-ghost use Rattle.macho_model.specs.Images.{mapped_segments, tables_of};
+ghost use Rattle.std.specs.List.{list_all};
+ghost use Rattle.macho_model.specs.LoadRules.{file_part_inside};
+ghost use Rattle.macho_model.specs.Images.{tables_of};
 ghost use Rattle.macho_model.specs.Chain.{chain_segments};
 ghost use Rattle.macho_model.specs.Loader.{is_bind, ordinal_of, import_count, segment_commands, WordFails};
 ghost use Rattle.macho_model.specs.Grammar.{EachCommand};
-ghost use Rattle.macho_model_walks.specs.steps.Walks.{command_at, IsNth, starts_of, chain_segment_at};
-ghost use Rattle.macho_model_walks.specs.steps.WordTests.{holds_word, import_exists, word_fits_test, NthLacks, NthImportExists, UnfitFrom, FitFrom, UnfitOnPage, FitOnPage, FitOnNth, EachWordFits};
+ghost use Rattle.macho_model_walks.specs.steps.Walks.{command_at, IsNth, segment_there, starts_of, chain_segment_at};
+ghost use Rattle.macho_model_walks.specs.steps.WordTests.{page_holds, import_exists, word_fits_test, NthImportExists, UnfitFrom, FitFrom, UnfitOnPage, FitOnPage, FitOnNth, EachWordFits};
 ghost use Rattle.macho_model_walks.specs.declared.walk.Listed.TheVariants as list;
 
 use crate::chain_words::{CHAIN_PAGE, NO_START, pages_of, start_of, step_in, word_of};
@@ -15,40 +15,19 @@ use crate::segment_rules::segment_at;
 use crate::table_rules::table_at;
 use crate::walk::{Listed, count_of, nth};
 
-/// Whether a segment may be written to, and a word at an address stands in its file part.
-fn holds(bytes: &[u8], place: u64, address: u128) -> bool
-    ensures { result ≡ holds_word address (segment_in bytes.now (command_at bytes.now place)) }
+/// Whether a word at an address stands in a page of a segment and in its file part, and the segment may be written to.
+fn page_has(bytes: &[u8], place: u64, page: u16, address: u128) -> bool
+    ensures { result ≡ page_holds (segment_there bytes.now place) page address }
 {
     let segment = segment_at(bytes, place);
     let start = segment.address as u128;
+    let page_start = start + CHAIN_PAGE * page as u128;
     let is_writable = (segment.first >> 1) & 1 == 1;
     is_writable
-        && start <= address
+        && page_start <= address
         && address <= u128::MAX - 8
+        && address + 8 <= page_start + CHAIN_PAGE
         && address + 8 <= start + segment.file_size as u128
-}
-
-/// Whether the mapped segment with a number holds a word.
-fn nth_holds(bytes: &[u8], number: u32, address: u128) -> bool
-    ensures found { result ≡ true → list_any (holds_word address) (mapped_segments bytes.now) ≡ true }
-    ensures only { result ≡ false → NthLacks bytes.now number address }
-{
-    match nth(bytes, Listed::Mapped, number) {
-        Some(place) => holds(bytes, place, address),
-        None => false,
-    }
-}
-
-/// Whether some mapped segment holds a word.
-fn is_held(bytes: &[u8], address: u128) -> bool
-    ensures { result ≡ list_any (holds_word address) (mapped_segments bytes.now) }
-{
-    for number in 0..count_of(bytes) {
-        if nth_holds(bytes, number, address) {
-            return true;
-        }
-    }
-    false
 }
 
 /// How many imports the image has, by its first fixup table.
@@ -108,18 +87,12 @@ fn imports_are_there(bytes: &[u8], address: u128) -> bool
     true
 }
 
-/// Whether a word of a page's chain stands in the page and in a writable segment, and its import exists.
-fn fits(bytes: &[u8], number: u32, place: u64, page: u16, address: u128) -> bool
-    ensures { result ≡ word_fits_test bytes.now (chain_segment_at bytes.now number place) page address }
+/// Whether a word of a page's chain stands in the page of its segment, which may be written to, and its import exists.
+fn fits(bytes: &[u8], place: u64, page: u16, address: u128) -> bool
+    ensures { result ≡ word_fits_test bytes.now (segment_there bytes.now place) page address }
 {
-    let start = segment_at(bytes, place).address as u128 + CHAIN_PAGE * page as u128;
-    let is_held = is_held(bytes, address);
     let imports_are_there = imports_are_there(bytes, address);
-    start <= address
-        && address <= u128::MAX - 8
-        && address + 8 <= start + CHAIN_PAGE
-        && is_held
-        && imports_are_there
+    page_has(bytes, place, page, address) && imports_are_there
 }
 
 /// The offset in its segment of the first word that does not fit, of those that the word at an offset leads to.
@@ -129,7 +102,7 @@ fn unfit_from(bytes: &[u8], number: u32, place: u64, page: u16, offset: u64) -> 
     ensures only { result ≡ None → FitFrom bytes.now number place page offset }
 {
     let address = segment_at(bytes, place).address as u128 + offset as u128;
-    if !fits(bytes, number, place, page, address) {
+    if !fits(bytes, place, page, address) {
         return Some(offset);
     }
     for other in 0..count_of(bytes) {

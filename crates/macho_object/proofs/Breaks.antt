@@ -1,40 +1,85 @@
--- A record that breaks a rule of its own is one that the file breaks, at the record's place.
-use Rattle.std.proofs.Common.{◌≡◌, true, ℕ, ◌<◌, List, inl, inr}
+-- A record that breaks a rule of its own is one that the file breaks, at the record's place: the commands are passed by then,
+-- and so are the symbol table and the section's table of relocations.
+use Rattle.std.proofs.Common.{◌≡◌, true, false, Bool, ℕ, ◌<◌, List, inl, inr, arith, refl}
 use Rattle.macho_model.specs.declared.rules.ObjectRule.{ObjectRule}
 use Rattle.macho_model.specs.declared.rules.ObjectRule.TheVariants.{O5, O6, O7, O8, O9, O10, O11, O12, O13, O14}
-use Rattle.macho_model.specs.Objects.{num_sections, section_at, section_place, num_symbols, symbol_place, relocation_place}
-use Rattle.macho_records.specs.declared.constants.TheConstants.{LC_SEGMENT_64, LC_SYMTAB}
-use Rattle.macho_model.specs.ObjectRules.{has_one}
-use Rattle.macho_model.specs.Grammar.{ObjectBreaks, DylibBreaks}
-use Rattle.macho_object.specs.Checks.{SectionBreaks, SymbolBreaks, NameBreaks, RelocationBreaks}
+use Rattle.macho_model.specs.Commands.{command_fits}
+use Rattle.macho_model.specs.Objects.{section_at, section_place, num_symbols, symbol_place, relocation_place}
+use Rattle.macho_model.specs.ObjectRules.{needed_in_object, needed_in_dylib, relocations_inside}
+use Rattle.macho_model.specs.Grammar.{ObjectBreaks, DylibBreaks, AreWhole}
+use Rattle.macho_object.specs.steps.Checks.{SectionBreaks, SymbolBreaks, NameBreaks, RelocationBreaks}
+use Rattle.macho_object.specs.steps.Outlines.{HasCommands, IsOutlined}
+use Rattle.macho_object.specs.Views.{section_count}
+use Rattle.macho_object.specs.declared.outline.Outline.{Outline}
+use Rattle.macho_object.specs.declared.outline.Places.{Places}
 
-pub section_breaks : (b : List ℕ) (rule : ObjectRule) (place k : ℕ) → has_one LC_SEGMENT_64 b ≡ true → k < num_sections b
-    → place ≡ section_place b k → SectionBreaks b k rule → ObjectBreaks b rule place
-section_breaks b O6 place k one lt at h = (one, k, lt, at, h)
-section_breaks b O7 place k one lt at h = (one, k, lt, at, h)
-section_breaks b O10 place k one lt at h = inl (one, k, lt, at, h)
-section_breaks b O11 place k one lt at h = (one, k, lt, at, h)
-section_breaks b O12 place k one lt at h = (one, k, lt, at, h)
-section_breaks b _ place k one lt at h = absurd h
+-- commands that were passed are whole
+pub whole_object : (b : List ℕ) (p : Places) (dyn : Bool) → HasCommands dyn b p → dyn ≡ false → AreWhole b (command_fits (needed_in_object b) b)
+whole_object b p false h is = (h.inside, h.each)
+whole_object b p true h is = absurd cc
 
-pub symbol_breaks : (b : List ℕ) (rule : ObjectRule) (place k : ℕ) → has_one LC_SYMTAB b ≡ true → k < num_symbols b
-    → place ≡ symbol_place b k → SymbolBreaks b k rule → ObjectBreaks b rule place
-symbol_breaks b O5 place k one lt at h = inl (one, k, lt, at, h)
-symbol_breaks b O8 place k one lt at h = (one, k, lt, at, h)
-symbol_breaks b O9 place k one lt at h = (one, k, lt, at, h)
-symbol_breaks b O13 place k one lt at h = (one, k, lt, at, h)
-symbol_breaks b O14 place k one lt at h = (one, k, lt, at, h)
-symbol_breaks b _ place k one lt at h = absurd h
+pub whole_library : (b : List ℕ) (p : Places) (dyn : Bool) → HasCommands dyn b p → dyn ≡ true → AreWhole b (command_fits needed_in_dylib b)
+whole_library b p true h is = (h.inside, h.each)
+whole_library b p false h is = absurd cc
 
-pub name_breaks : (b : List ℕ) (rule : ObjectRule) (place k : ℕ) → has_one LC_SYMTAB b ≡ true → k < num_symbols b
-    → place ≡ symbol_place b k → NameBreaks b k rule → DylibBreaks b rule place
-name_breaks b O9 place k one lt at h = inl (one, k, lt, at, h)
-name_breaks b O13 place k one lt at h = (one, k, lt, at, h)
-name_breaks b _ place k one lt at h = absurd h
+-- a file whose sections are read is an object
+has_sections : (dyn : Bool) (b : List ℕ) (n k : ℕ) → n ≡ section_count dyn b → k < n → dyn ≡ false
+has_sections false b n k is lt = refl
+has_sections true b n k is lt = absurd (omega (arith, is, lt))
 
-pub relocation_breaks : (b : List ℕ) (rule : ObjectRule) (place k r : ℕ) → has_one LC_SEGMENT_64 b ≡ true → k < num_sections b
-    → r < (section_at b k).nreloc
-    → place ≡ relocation_place b k r → RelocationBreaks b k r rule → ObjectBreaks b rule place
-relocation_breaks b O5 place k r one lt more at h = inr (one, k, r, lt, more, at, h)
-relocation_breaks b O10 place k r one lt more at h = inr (one, k, r, lt, more, at, h)
-relocation_breaks b _ place k r one lt more at h = absurd h
+pub section_breaks : (o : Outline) (rule : ObjectRule) (place k : ℕ) → IsOutlined o → k < o.num_sections
+    → place ≡ section_place o.input.now k → SectionBreaks o.input.now k rule → ObjectBreaks o.input.now rule place
+section_breaks o rule place k known lt at h =
+    breaks rule (whole_object b o.places o.is_dynamic known.commands (has_sections o.is_dynamic b o.num_sections k known.sections_is lt)) h
+  where
+    b : List ℕ
+    b = o.input.now
+
+    breaks : (rule : ObjectRule) → AreWhole b (command_fits (needed_in_object b) b) → SectionBreaks b k rule → ObjectBreaks b rule place
+    breaks O6 whole h = (whole, ((known.sections k lt).one_segment, k, (known.sections k lt).among, at, h))
+    breaks O7 whole h = (whole, ((known.sections k lt).one_segment, k, (known.sections k lt).among, at, h))
+    breaks O10 whole h = (whole, inl ((known.sections k lt).one_segment, k, (known.sections k lt).among, at, h))
+    breaks O11 whole h = (whole, ((known.sections k lt).one_segment, k, (known.sections k lt).among, at, h))
+    breaks O12 whole h = (whole, ((known.sections k lt).one_segment, k, (known.sections k lt).among, at, h))
+    breaks _ whole h = absurd h
+
+pub symbol_breaks : (o : Outline) (rule : ObjectRule) (place k : ℕ) → IsOutlined o → o.is_dynamic ≡ false → k < num_symbols o.input.now
+    → place ≡ symbol_place o.input.now k → SymbolBreaks o.input.now k rule → ObjectBreaks o.input.now rule place
+symbol_breaks o rule place k known object lt at h = breaks rule (whole_object b o.places o.is_dynamic known.commands object) h
+  where
+    b : List ℕ
+    b = o.input.now
+
+    breaks : (rule : ObjectRule) → AreWhole b (command_fits (needed_in_object b) b) → SymbolBreaks b k rule → ObjectBreaks b rule place
+    breaks O5 whole h = (whole, inl (known.commands.one_symtab, known.tables, k, lt, at, h))
+    breaks O8 whole h = (whole, (known.commands.one_symtab, known.tables, k, lt, at, h))
+    breaks O9 whole h = (whole, (known.commands.one_symtab, known.tables, k, lt, at, h))
+    breaks O13 whole h = (whole, (known.commands.one_symtab, known.tables, k, lt, at, h))
+    breaks O14 whole h = (whole, (known.commands.one_symtab, known.tables, k, lt, at, h))
+    breaks _ whole h = absurd h
+
+pub name_breaks : (o : Outline) (rule : ObjectRule) (place k : ℕ) → IsOutlined o → o.is_dynamic ≡ true → k < num_symbols o.input.now
+    → place ≡ symbol_place o.input.now k → NameBreaks o.input.now k rule → DylibBreaks o.input.now rule place
+name_breaks o rule place k known library lt at h = breaks rule (whole_library b o.places o.is_dynamic known.commands library) h
+  where
+    b : List ℕ
+    b = o.input.now
+
+    breaks : (rule : ObjectRule) → AreWhole b (command_fits needed_in_dylib b) → NameBreaks b k rule → DylibBreaks b rule place
+    breaks O9 whole h = (whole, inl (known.commands.one_symtab, known.tables, k, lt, at, h))
+    breaks O13 whole h = (whole, (known.commands.one_symtab, known.tables, k, lt, at, h))
+    breaks _ whole h = absurd h
+
+pub relocation_breaks : (o : Outline) (rule : ObjectRule) (place k r : ℕ) → IsOutlined o → k < o.num_sections
+    → relocations_inside o.input.now k ≡ true → r < (section_at o.input.now k).nreloc
+    → place ≡ relocation_place o.input.now k r → RelocationBreaks o.input.now k r rule → ObjectBreaks o.input.now rule place
+relocation_breaks o rule place k r known lt inside more at h =
+    breaks rule (whole_object b o.places o.is_dynamic known.commands (has_sections o.is_dynamic b o.num_sections k known.sections_is lt)) h
+  where
+    b : List ℕ
+    b = o.input.now
+
+    breaks : (rule : ObjectRule) → AreWhole b (command_fits (needed_in_object b) b) → RelocationBreaks b k r rule → ObjectBreaks b rule place
+    breaks O5 whole h = (whole, inr ((known.sections k lt).one_segment, k, r, (known.sections k lt).among, inside, more, at, h))
+    breaks O10 whole h = (whole, inr ((known.sections k lt).one_segment, k, r, (known.sections k lt).among, inside, more, at, h))
+    breaks _ whole h = absurd h

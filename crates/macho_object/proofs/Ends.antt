@@ -12,7 +12,7 @@ use Rattle.std.proofs.lemmas.List.Sums.{fails_before_first}
 use Rattle.macho_bytes.specs.Texts.{name_of}
 use Rattle.macho_bytes.proofs.Names.{name_of-whole}
 use Rattle.macho_model.specs.ObjectRules.{has_nul}
-use Rattle.macho_object.specs.Checks.{NamesEnd}
+use Rattle.macho_object.specs.steps.Checks.{NamesEnd}
 
 -- the tests of an order
 below : (m n : ℕ) → m < n → ltb m n ≡ true

@@ -4,15 +4,15 @@ use Rattle.std.proofs.lemmas.List.Elements.{All-cons, All-nil, All-same}
 use Rattle.macho_bytes.specs.Layouts.{reading}
 use Rattle.macho_bytes.specs.Texts.{name_of}
 use Rattle.macho_records.specs.Layouts.{load_command, dylib_command}
-use Rattle.macho_model.specs.Commands.{numbered}
+use Rattle.macho_model.specs.Commands.{numbered, command_fits}
 use Rattle.macho_model.specs.Objects.{install_name_of, first_path, num_symbols}
-use Rattle.macho_model.specs.ObjectRules.{path_ends}
-use Rattle.macho_model.specs.Grammar.{IsDylib, DylibBreaks}
+use Rattle.macho_model.specs.ObjectRules.{path_ends, needed_in_dylib}
+use Rattle.macho_model.specs.Grammar.{IsDylib, DylibBreaks, AreWhole}
 use Rattle.macho_model.specs.declared.rules.ObjectRule.TheVariants.{O9}
 use Rattle.macho_object.specs.declared.outline.Outline.{Outline}
-use Rattle.macho_object.specs.Scans.{command_at}
-use Rattle.macho_object.specs.Outlines.{IsOutlined, path_field_of}
-use Rattle.macho_object.specs.Checks.{NameFits}
+use Rattle.macho_object.specs.steps.Scans.{command_at}
+use Rattle.macho_object.specs.steps.Outlines.{IsOutlined, path_field_of}
+use Rattle.macho_object.specs.steps.Checks.{NameFits}
 
 -- both readings of the command's size are one
 pub same_size : (b : List ℕ) (at : ℕ) → (reading dylib_command b at).cmdsize ≡ (reading load_command b at).cmdsize
@@ -26,9 +26,9 @@ install_name_is b main only = ap (first_path b) only
 
 -- a path that does not end breaks the rule of names
 pub path_breaks : (b : List ℕ) (main : ℕ) → numbered 13 b ≡ command_at b main ∷ [] → path_ends b (command_at b main) ≡ false
-    → DylibBreaks b O9 main
-path_breaks b main only fails =
-    inr (0, command_at b main, omega (arith, ap length only), ap (λ cs. get_or cs 0 (command_at b main)) only, refl, fails)
+    → AreWhole b (command_fits needed_in_dylib b) → DylibBreaks b O9 main
+path_breaks b main only fails whole =
+    (whole, inr (0, command_at b main, (omega (arith, ap length only), ap (λ cs. get_or cs 0 (command_at b main)) only), refl, fails))
 
 -- a library that keeps every rule
 pub is_library : (o : Outline) → IsOutlined o → o.is_dynamic ≡ true → path_ends o.input.now (command_at o.input.now o.places.main) ≡ true

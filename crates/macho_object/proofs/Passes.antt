@@ -19,7 +19,7 @@ use Rattle.macho_model.specs.Grammar.{EachCommand, CommandFails, Breaks}
 use Rattle.macho_model.specs.declared.rules.ObjectRule.TheVariants.{O2}
 use Rattle.macho_object.specs.declared.commands.Found.TheVariants.{Nowhere}
 use Rattle.macho_object.specs.declared.commands.Tally.{Tally}
-use Rattle.macho_object.specs.Scans.{main_number, needed_of, command_at, found_in, found_again, found_if, IsScanned}
+use Rattle.macho_object.specs.steps.Scans.{main_number, needed_of, command_at, found_in, found_again, found_if, IsScanned}
 
 -- The commands of a file in front of a place are passed: each fits, and those of both numbers are noted.
 pub record IsPassed (dyn : Bool) (b : List ℕ) (left at : ℕ) (t : Tally) : Type 0 where
@@ -117,8 +117,10 @@ fails_here b n i at passed test is lt fails =
     let all : commands_of b ≡ passed ++ c ∷ rest = is ∙ ap (λ (k : ℕ). passed ++ commands_from b at k) e in (
       length passed,
       c,
-      omega (arith, ap length all, length-append passed (c ∷ rest)),
-      ap (λ xs. get_or xs (length passed) c) all ∙ get_or-append_seam passed c rest c,
+      (
+        omega (arith, ap length all, length-append passed (c ∷ rest)),
+        ap (λ xs. get_or xs (length passed) c) all ∙ get_or-append_seam passed c rest c,
+      ),
       refl,
       fails,
     )

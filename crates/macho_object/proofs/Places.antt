@@ -10,16 +10,17 @@ use Rattle.std.proofs.lemmas.List.Elements.{All-nil, All-cons, All-head, All-sam
 use Rattle.macho_bytes.specs.Layouts.{reading, size_of}
 use Rattle.macho_records.specs.Layouts.{mach_header, load_command, segment_command, symtab_command, dylib_command}
 use Rattle.macho_records.specs.declared.constants.TheConstants.{LC_SYMTAB}
+use Rattle.macho_model.specs.Lists.{IsNumber}
 use Rattle.macho_model.specs.Commands.{Command, commands_of, commands_from, commands_end, numbered, header_of, command_fits, place_of, first_place}
 use Rattle.macho_model.specs.Objects.{num_sections, segment_of, section_place}
-use Rattle.macho_model.specs.ObjectRules.{head_fits}
+use Rattle.macho_model.specs.ObjectRules.{head_fits, tables_inside}
 use Rattle.macho_model.specs.Grammar.{Breaks}
-use Rattle.macho_model.specs.declared.rules.ObjectRule.TheVariants.{O3}
+use Rattle.macho_model.specs.declared.rules.ObjectRule.TheVariants.{O3, O4}
 use Rattle.macho_object.specs.declared.commands.Found.TheVariants.{Once}
 use Rattle.macho_object.specs.declared.commands.Tally.{Tally}
 use Rattle.macho_object.specs.declared.outline.Places.{Places}
-use Rattle.macho_object.specs.Scans.{filetype_of, main_number, needed_of, command_at, found_in, IsScanned}
-use Rattle.macho_object.specs.Outlines.{IsNotOnce, HasCommands, SectionStands, main_size}
+use Rattle.macho_object.specs.steps.Scans.{filetype_of, main_number, needed_of, command_at, found_in, IsScanned}
+use Rattle.macho_object.specs.steps.Outlines.{IsNotOnce, HasCommands, SectionStands, main_size}
 use Rattle.macho_object.specs.Views.{section_count}
 use Rattle.macho_object.proofs.Passes.{command_whole}
 
@@ -31,10 +32,10 @@ only_one (c ∷ d ∷ cs) at is = absurd (cc)
 
 -- a command not found once breaks the rule that there is one
 not_one : (cs : List Command) (place : ℕ) → IsNotOnce (found_in cs) place
-    → ((cs ≡ []) × (place ≡ 0)) ⊎ ((k : ℕ) × (c : Command) × (1 ≤ k) × (k < length cs) × (get_or cs k c ≡ c) × (place ≡ c.at))
+    → ((cs ≡ []) × (place ≡ 0)) ⊎ ((k : ℕ) × (c : Command) × (1 ≤ k) × IsNumber cs k c × (place ≡ c.at))
 not_one [] place is = inl (refl, is)
 not_one (c ∷ []) place is = absurd is
-not_one (c ∷ d ∷ cs) place is = inr (1, d, omega arith, omega arith, refl, is)
+not_one (c ∷ d ∷ cs) place is = inr (1, d, omega arith, (omega arith, refl), is)
 
 -- each command is the one that begins at its own place
 own_place : (b : List ℕ) (at n : ℕ) → All (λ c. c ≡ command_at b c.at) (commands_from b at n)
@@ -122,8 +123,8 @@ has_commands dyn b t p head s main symtab =
 
 -- where the symbol table does not stand once, the rule of the commands that stand once is broken
 pub breaks_symtab : (dyn : Bool) (b : List ℕ) (t : Tally) (place : ℕ) → IsScanned dyn b t → IsNotOnce t.symtab place → Breaks dyn b O3 place
-breaks_symtab false b t place s not = inr (not_one (numbered 2 b) place (rw s.symtab_is at not))
-breaks_symtab true b t place s not = inr (not_one (numbered 2 b) place (rw s.symtab_is at not))
+breaks_symtab false b t place s not = ((s.inside, s.each), inr (not_one (numbered 2 b) place (rw s.symtab_is at not)))
+breaks_symtab true b t place s not = ((s.inside, s.each), inr (not_one (numbered 2 b) place (rw s.symtab_is at not)))
 
 -- each section's header stands in the segment's command
 pub sections_stand : (dyn : Bool) (b : List ℕ) (p : Places) (n k : ℕ) → HasCommands dyn b p → n ≡ section_count dyn b → k < n
@@ -139,3 +140,12 @@ sections_stand false b p n k h is lt =
       room = omega (arith, place, count, h.main_room);
     }
 sections_stand true b p n k h is lt = absurd (omega (arith, is))
+
+pub breaks_main : (dyn : Bool) (b : List ℕ) (t : Tally) (place : ℕ) → IsScanned dyn b t → IsNotOnce t.main place → Breaks dyn b O3 place
+breaks_main false b t place s not = ((s.inside, s.each), inl (not_one (numbered 25 b) place (rw s.main_is at not)))
+breaks_main true b t place s not = ((s.inside, s.each), inl (not_one (numbered 13 b) place (rw s.main_is at not)))
+
+-- where the symbols or the strings do not stand inside the file, their rule is broken
+pub breaks_tables : (dyn : Bool) (b : List ℕ) (p : Places) → HasCommands dyn b p → tables_inside b ≡ false → Breaks dyn b O4 p.symtab
+breaks_tables false b p h not = ((h.inside, h.each), (h.one_symtab, sym (ap first_place h.symtab_only), not))
+breaks_tables true b p h not = ((h.inside, h.each), (h.one_symtab, sym (ap first_place h.symtab_only), not))

@@ -6,9 +6,9 @@ use Rattle.macho_model.specs.Commands.{numbered}
 use Rattle.macho_model.specs.ObjectRules.{path_ends}
 use Rattle.macho_model.specs.Grammar.{IsFile}
 use Rattle.macho_object.specs.declared.outline.Outline.{Outline}
-use Rattle.macho_object.specs.Scans.{command_at}
-use Rattle.macho_object.specs.Outlines.{IsOutlined}
-use Rattle.macho_object.specs.Wholes.{IsWhole}
+use Rattle.macho_object.specs.steps.Scans.{command_at}
+use Rattle.macho_object.specs.steps.Outlines.{IsOutlined}
+use Rattle.macho_object.specs.steps.Wholes.{IsWhole}
 
 of_kind : (o : Outline) (dyn : Bool) → o.is_dynamic ≡ dyn → IsOutlined o → IsFile o.is_dynamic o.input.now → IsFile dyn o.input.now
     → IsWhole o

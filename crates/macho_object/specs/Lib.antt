@@ -1,5 +1,7 @@
 pub mod Views
-pub mod Scans
-pub mod Outlines
-pub mod Checks
-pub mod Wholes
+-- definitions of crates below, which clauses of this one cite
+pub use Rattle.macho_records.specs.Relocations
+pub use Rattle.macho_model.specs.Objects
+pub use Rattle.macho_model.specs.ObjectRules
+pub use Rattle.macho_model.specs.Grammar
+pub mod steps

@@ -5,7 +5,7 @@ ghost use Rattle.macho_records.specs.Layouts.{load_command};
 ghost use Rattle.macho_model.specs.Commands.{header_of, commands_end, command_fits};
 ghost use Rattle.macho_model.specs.ObjectRules.{commands_inside};
 ghost use Rattle.macho_model.specs.Grammar.{Breaks};
-ghost use Rattle.macho_object.specs.Scans.{needed_of, command_at, whole_command, main_number, found_if, IsScanned};
+ghost use Rattle.macho_object.specs.steps.Scans.{needed_of, command_at, whole_command, main_number, found_if, IsScanned};
 
 use crate::fault::ObjectFault;
 use macho_model::ObjectRule;

@@ -24,7 +24,7 @@ impl<'data> Model for File<'data> {
 
     ghost view = { λ f. record { bytes = f.outline.input.now; is_dynamic = f.outline.is_dynamic } };
 
-    ghost use Rattle.macho_object.specs.Wholes.{IsWhole};
+    ghost use Rattle.macho_object.specs.steps.Wholes.{IsWhole};
 
     ghost invariant = { λ f. IsWhole f.outline };
 }

@@ -3,7 +3,7 @@ ghost use Rattle.std.specs.Prelude.{◌≡◌, ◌+◌, ◌≤◌, true, false, 
 ghost use Rattle.macho_model.specs.Commands.{header_of};
 ghost use Rattle.macho_model.specs.ObjectRules.{head_fits};
 ghost use Rattle.macho_model.specs.Grammar.{Breaks};
-ghost use Rattle.macho_object.specs.Scans.{filetype_of};
+ghost use Rattle.macho_object.specs.steps.Scans.{filetype_of};
 
 use crate::fault::ObjectFault;
 use macho_model::ObjectRule;

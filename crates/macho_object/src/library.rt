@@ -6,7 +6,7 @@
 //!     02 00 00 00 00 00 01 00 00 00 01 00   time stamp, current version, compatibility version
 //!     2f 61 00 00 00 00 00 00               `/a` and zeros
 ghost use Rattle.std.specs.Prelude.{◌≡◌, true, option_copied};
-ghost use Rattle.macho_object.specs.Outlines.{IsOutlined, path_field_of, ending_path};
+ghost use Rattle.macho_object.specs.steps.Outlines.{IsOutlined, path_field_of, ending_path};
 
 use crate::outline::Outline;
 use macho_records::{DylibCommand, name_bytes};

@@ -4,7 +4,7 @@ ghost use Rattle.macho_model.specs.Objects.{symtab_of};
 ghost use Rattle.macho_model.specs.ObjectRules.{tables_inside};
 ghost use Rattle.macho_model.specs.Grammar.{Breaks};
 ghost use Rattle.macho_object.specs.Views.{section_count};
-ghost use Rattle.macho_object.specs.Outlines.{HasCommands, IsOutlined, IsNotOnce};
+ghost use Rattle.macho_object.specs.steps.Outlines.{HasCommands, IsOutlined, IsNotOnce};
 
 use crate::commands::{Found, scan};
 use crate::fault::ObjectFault;

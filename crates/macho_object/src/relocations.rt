@@ -1,10 +1,11 @@
 //! Relocations of an object's sections, and the rules that each keeps.
-ghost use Rattle.std.specs.Prelude.{◌≡◌, ℕ, ◌+◌, ◌*◌, ◌^◌, nat_le, ◌<◌, ◌≤◌, true, false, OnOk, IfErr, MatchOption, length};
+ghost use Rattle.std.specs.Prelude.{◌≡◌, ℕ, ◌+◌, ◌*◌, ◌^◌, nat_le, ◌<◌, ◌≤◌, true, false, OnOk, IfErr, IfSome, MatchOption, length};
+ghost use Rattle.macho_records.specs.Relocations.{BitsFit};
 ghost use Rattle.macho_model.specs.Objects.{section_at, relocation_at, relocation_place};
 ghost use Rattle.macho_model.specs.Grammar.{ObjectBreaks};
 ghost use Rattle.macho_object.specs.Views.{RelocationBytes, relocation_of};
-ghost use Rattle.macho_object.specs.Outlines.{IsOutlined};
-ghost use Rattle.macho_object.specs.Checks.{SectionFits, SectionsFit, RelocationFits, RelocationsFit, RelocationBreaks, number_exists};
+ghost use Rattle.macho_object.specs.steps.Outlines.{IsOutlined};
+ghost use Rattle.macho_object.specs.steps.Checks.{SectionFits, SectionsFit, RelocationFits, RelocationsFit, RelocationBreaks, number_exists};
 
 use crate::fault::ObjectFault;
 use crate::outline::Outline;
@@ -126,7 +127,8 @@ impl RelocationList<'_> {
     /// A relocation, None where the index is too large.
     #[tactic(auto, unfolding(macho_model::specs::Objects::relocation_place, macho_model::specs::Objects::relocation_at))]
     pub fn get(&self, index: u32) -> Option<RelocationInfo>
-        ensures { result ≡ relocation_of self.now index }
+        ensures done { result ≡ relocation_of self.now index }
+        ensures bits { IfSome result BitsFit }
     {
         if index >= self.header.nreloc {
             return None;

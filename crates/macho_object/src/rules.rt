@@ -1,7 +1,7 @@
 //! Whether a file keeps every rule of its kind.
 ghost use Rattle.std.specs.Prelude.{◌≡◌, true, false, OnOk, IfErr};
 ghost use Rattle.macho_model.specs.Grammar.{IsObject, IsDylib, ObjectBreaks, DylibBreaks};
-ghost use Rattle.macho_object.specs.Outlines.{IsOutlined};
+ghost use Rattle.macho_object.specs.steps.Outlines.{IsOutlined};
 
 use crate::fault::ObjectFault;
 use crate::outline::Outline;

@@ -5,8 +5,8 @@ ghost use Rattle.macho_model.specs.ObjectRules.{is_thread_local};
 ghost use Rattle.macho_model.specs.Grammar.{ObjectBreaks};
 ghost use Rattle.macho_model.specs.Symbols.{is_in_segment};
 ghost use Rattle.macho_records.specs.Sections.{is_zerofill, type_of};
-ghost use Rattle.macho_object.specs.Outlines.{IsOutlined};
-ghost use Rattle.macho_object.specs.Checks.{SectionFits, SectionsFit, SectionBreaks};
+ghost use Rattle.macho_object.specs.steps.Outlines.{IsOutlined};
+ghost use Rattle.macho_object.specs.steps.Checks.{SectionFits, SectionsFit, SectionBreaks};
 
 use crate::fault::ObjectFault;
 use crate::outline::Outline;

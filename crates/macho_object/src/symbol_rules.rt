@@ -1,11 +1,11 @@
 //! The rules that symbols keep.
-ghost use Rattle.std.specs.Prelude.{◌≡◌, ◌^◌, ◌<◌, ◌&&◌, ◌||◌, nat_le, nat_lt, false, not, OnOk, IfErr, MatchOption};
+ghost use Rattle.std.specs.Prelude.{◌≡◌, ◌^◌, ◌<◌, ◌&&◌, ◌||◌, nat_le, nat_lt, false, not, OnOk, IfErr, MatchOption, true};
 ghost use Rattle.macho_bytes.specs.Numbers.{rounded_up};
 ghost use Rattle.macho_model.specs.Objects.{num_symbols, strings_of};
 ghost use Rattle.macho_model.specs.Grammar.{ObjectBreaks, DylibBreaks};
 ghost use Rattle.macho_records.specs.Symbols.{is_common_of, common_exponent_of, common_size_of};
-ghost use Rattle.macho_object.specs.Outlines.{IsOutlined};
-ghost use Rattle.macho_object.specs.Checks.{NamesEnd, AddressFits, AddressBreaks, NameFits, NamesFit, NameBreaks, SymbolFits, SymbolsFit, SymbolBreaks};
+ghost use Rattle.macho_object.specs.steps.Outlines.{IsOutlined};
+ghost use Rattle.macho_object.specs.steps.Checks.{NamesEnd, AddressFits, AddressBreaks, NameFits, NamesFit, NameBreaks, SymbolFits, SymbolsFit, SymbolBreaks};
 
 use crate::fault::ObjectFault;
 use crate::outline::Outline;
@@ -19,7 +19,8 @@ impl Outline<'_> {
     /// Whether each symbol of a library keeps the rules on names.
     #[tactic(auto, unfolding(macho_model::specs::Objects::num_symbols))]
     pub(crate) fn check_names(&self) -> Result<(), ObjectFault>
-        requires { IsOutlined self.now }
+        requires outlined { IsOutlined self.now }
+        requires library { self.now.is_dynamic ≡ true }
         ensures ok { OnOk result (NamesFit self.now.input.now) }
         ensures why { IfErr result (λ f. DylibBreaks self.now.input.now f.rule f.place) }
     {
@@ -33,6 +34,7 @@ impl Outline<'_> {
     #[tactic(auto, using(crate::proofs::Breaks::name_breaks))]
     fn check_name(&self, index: u32, end: usize) -> Result<(), ObjectFault>
         requires outlined { IsOutlined self.now }
+        requires library { self.now.is_dynamic ≡ true }
         requires among { index < num_symbols self.now.input.now }
         requires end { NamesEnd (strings_of self.now.input.now) end }
         ensures ok { OnOk result (NameFits self.now.input.now index) }

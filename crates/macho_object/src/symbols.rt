@@ -4,8 +4,8 @@ ghost use Rattle.macho_model.specs.Objects.{num_symbols, section_at, symbol_at, 
 ghost use Rattle.macho_model.specs.ObjectRules.{name_ends};
 ghost use Rattle.macho_model.specs.Symbols.{is_in_section};
 ghost use Rattle.macho_records.specs.Symbols.{is_stab_of};
-ghost use Rattle.macho_object.specs.Outlines.{IsOutlined};
-ghost use Rattle.macho_object.specs.Checks.{AddressFits};
+ghost use Rattle.macho_object.specs.steps.Outlines.{IsOutlined};
+ghost use Rattle.macho_object.specs.steps.Checks.{AddressFits};
 
 use crate::outline::Outline;
 use macho_records::{N_SECT, N_STAB, N_TYPE, SymtabEntry, name_bytes};

@@ -1,5 +1,5 @@
 pub mod Inputs
-pub mod Sizes
 pub mod TrieSays
+pub mod Sizes
 pub mod UnwindSays
 pub mod Promise

@@ -7,18 +7,21 @@ use Rattle.macho_model.specs.OutputSections.{output_sections_for}
 use Rattle.macho_model.specs.Order.{StandInOrder, AreLeast, IsLow}
 use Rattle.macho_model.specs.Stands.{IsLoadable}
 use Rattle.macho_model.specs.Fixups.{ChainIsWhole}
-use Rattle.macho_model.specs.Agreement.{SegmentsAgree, HeadAgrees, HeadersAgree, TablesAgree, EntryAgrees}
+use Rattle.macho_model.specs.Agreement.{CommandsAgree, TablesAgree}
 use Rattle.macho_model.specs.Signature.{UuidSays, IsSigned}
 use Rattle.macho_model.specs.Head.{HeadSays}
 use Rattle.macho_model.specs.SymbolRows.{SymbolsSay}
 use Rattle.macho_model.specs.ImportTable.{ImportTableSays, LibrariesSay}
 use Rattle.macho_model.specs.Zeros.{IsZeroElsewhere}
 use Rattle.macho_model.specs.Made.{InitOffsetsSay, TemplateHeaders}
+use Rattle.macho_promise.specs.Sizes.{AreCounts}
 use Rattle.macho_promise.specs.TrieSays.{TrieSays}
 use Rattle.macho_promise.specs.UnwindSays.{UnwindSays, unwind_bytes, unwind_content}
 
 -- Where things are, beside `IsPlaced`: of the link and the placement alone.
 pub record IsLaidOut (l : Link) (counts : Counts) (p : Placed) : Type 0 where
+  -- the sizes are those of the link
+  pub counted : AreCounts l counts
   -- parts stand in the stated order, each as low as it may
   pub order : StandInOrder l counts p
   pub least : AreLeast l counts p
@@ -28,11 +31,10 @@ pub record IsLaidOut (l : Link) (counts : Counts) (p : Placed) : Type 0 where
 
 -- What the load commands say is what the placement says.
 pub record Agrees (l : Link) (counts : Counts) (b : List ℕ) (p : Placed) : Type 0 where
-  pub segments : SegmentsAgree b p
-  pub head : HeadAgrees counts b p
-  pub headers : HeadersAgree b p
+  -- segments, section headers, the end of the commands and the entry
+  pub commands : CommandsAgree l counts b p
+  -- the tables of `__LINKEDIT`
   pub tables : TablesAgree b p
-  pub entry : EntryAgrees l b p
 
 -- What the dynamic linker reads beside the bytes of sections.
 pub record Tells (l : Link) (b : List ℕ) (p : Placed) : Type 0 where
@@ -60,7 +62,7 @@ pub record IsWritten (l : Link) (counts : Counts) (uuid : List ℕ) (b : List �
 pub record IsLinked (l : Link) (counts : Counts) (uuid : List ℕ) (b : List ℕ) (p : Placed) : Type 0 where
   -- each part has its place, the loader accepts the bytes, and at every slide the image stands in memory
   pub loadable : IsLoadable l counts b p
-  -- order, least places and section headers
+  -- sizes, order, least places and section headers
   pub laid_out : IsLaidOut l counts p
   -- the load commands say what the placement does
   pub agrees : Agrees l counts b p

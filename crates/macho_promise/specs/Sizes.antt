@@ -1,1 +1,110 @@
--- The sizes of a link that are known before addresses are.
+-- The sizes of a link that are known before addresses are: of load commands, of the parts that the linker makes, of the
+-- tables of `__LINKEDIT`. Each is what the link asks for, so that the room that is kept is never passed.
+use Rattle.std.specs.Prelude.{◌≡◌, ℕ, ◌+◌, ◌*◌, ◌-◌, ◌^◌, ◌==◌, ◌&&◌, not, if◌then◌else◌, List, [], ◌∷◌, length, map, filter, sum_by, Option, Some, None, slice_get, option_map}
+use Rattle.macho_bytes.specs.Layouts.{size_of}
+use Rattle.macho_records.specs.Layouts.{entry_point_command, uuid_command, build_version_command, build_tool_version, dylinker_command, dylib_command, rpath_command, linkedit_data_command, symtab_command}
+use Rattle.macho_records.specs.Sections.{is_zerofill}
+use Rattle.macho_model.specs.declared.placed.Counts.{Counts}
+use Rattle.macho_model.specs.declared.targets.Target.{Target}
+use Rattle.macho_model.specs.declared.targets.Target.TheVariants as target
+use Rattle.macho_model.specs.Links.{Link, header_at, carried_of}
+use Rattle.macho_model.specs.Symbols.{is_in_segment}
+use Rattle.macho_model.specs.Resolution.{name_at}
+use Rattle.macho_model.specs.Needs.{imports_of, import_library, libraries_needed, PERSONALITY_PLACE}
+use Rattle.macho_model.specs.Targets.{slot_number, target_of_relocation}
+use Rattle.macho_model.specs.Consumed.{EntryId, entries_of_link, relocations_in_entry, unwind_entry, LSDA_PLACE}
+use Rattle.macho_model.specs.Segments.{TEXT, one_if}
+use Rattle.macho_model.specs.WrittenSum.{section_cost}
+use Rattle.macho_model.specs.Exports.{library_number}
+use Rattle.macho_model.specs.Fixups.{import_entries_of, entries_have_addends}
+use Rattle.macho_model.specs.Faults.{last_part}
+use Rattle.macho_model.specs.Made.{initializers_of}
+use Rattle.macho_model.specs.Signature.{identifier_text}
+use Rattle.macho_model.specs.Head.{DYLINKER, path_command_size}
+use Rattle.macho_model.specs.SymbolTable.{table_symbols}
+use Rattle.macho_model.specs.Told.{ToldExport, ExportsAreTold}
+use Rattle.macho_unwind_pages.specs.declared.entries.UnwindInput.{UnwindInput}
+use Rattle.macho_unwind_pages.specs.Bounds.{unwind_bound_of}
+use Rattle.macho_trie.specs.Exports.{Exported, as_value, as_reexport, REEXPORT}
+use Rattle.macho_promise.specs.TrieSays.{IsTrieOf}
+
+-- an executable's entry and dynamic linker, or a library's own name
+abbrev pub own_commands_size : Link → ℕ
+own_commands_size l =
+    if l.executable then size_of entry_point_command + path_command_size (size_of dylinker_command) DYLINKER
+    else path_command_size (size_of dylib_command) l.install_name
+
+abbrev pub versions_size : Option (ℕ × ℕ) → ℕ
+versions_size None = 0
+versions_size (Some versions) = size_of build_version_command + size_of build_tool_version
+
+-- the load commands but the segments': fixups, trie and signature have one of the same record each
+unfoldable pub commands_size : Link → ℕ
+commands_size l =
+    own_commands_size l + size_of uuid_command + versions_size l.versions + sum_by (path_command_size (size_of dylib_command)) (libraries_needed l)
+    + sum_by (path_command_size (size_of rpath_command)) l.rpaths + 3 * size_of linkedit_data_command + size_of symtab_command
+
+-- the room for longer names that is asked for: so much for each path that names a library or is searched
+abbrev pub NAME_ROOM : ℕ
+NAME_ROOM = 1024
+
+abbrev pub padding_size : Link → ℕ
+padding_size l = if l.headerpad then NAME_ROOM * (length (libraries_needed l) + length l.rpaths + one_if (not l.executable)) else 0
+
+-- an unwind entry before it has addresses; a personality is named by the number of its slot
+abbrev pub unwind_input : Link → EntryId → UnwindInput
+unwind_input l d = record {
+  encoding = (unwind_entry l d.of_section d.entry).encoding;
+  personality =
+      option_map (λ r. slot_number l (target_of_relocation l d.of_section r)) (slice_get (relocations_in_entry l d.of_section d.entry PERSONALITY_PLACE) 0);
+  lsda = not (length (relocations_in_entry l d.of_section d.entry LSDA_PLACE) == 0);
+}
+
+-- the starts of functions are at most so far apart: they stand in sections of `__TEXT` with bytes in the file
+abbrev pub text_span : Link → ℕ
+text_span l = sum_by (section_cost l) (filter (λ s. is_in_segment TEXT (header_at l s) && not (is_zerofill (header_at l s))) (carried_of l))
+
+abbrev pub unwind_size : Link → ℕ
+unwind_size l = if length (entries_of_link l) == 0 then 0 else unwind_bound_of (map (unwind_input l) (entries_of_link l)) (text_span l)
+
+-- a text with the NUL behind it
+abbrev pub text_size : List ℕ → ℕ
+text_size text = length text + 1
+
+-- an entry of the import table is a word, or a word and an addend
+abbrev pub import_size : Link → ℕ
+import_size l = if entries_have_addends l then 8 else 4
+
+-- The sizes of a link whose exports trie has a size. The strings of the symbol table begin with a NUL.
+unfoldable pub counts_with : Link → ℕ → Counts
+counts_with l trie = record {
+  commands = commands_size l;
+  padding = padding_size l;
+  initializers = length (initializers_of l);
+  unwind = unwind_size l;
+  imports = length (import_entries_of l);
+  import_size = import_size l;
+  name_bytes = sum_by text_size (imports_of l);
+  trie = trie;
+  symbols = length (table_symbols l);
+  strings = 1 + sum_by (λ s. text_size (name_at l s)) (table_symbols l);
+  identifier = length (identifier_text (last_part l.output));
+}
+
+-- what keeps the place of an exported name in the trie: the greatest address, or the number of its library
+abbrev pub kept_for : Link → List ℕ → Target → Exported
+kept_for l name (target.Import id) = as_reexport REEXPORT (library_number l (import_library l name)) []
+kept_for l name t = as_value 0 (2 ^ 64 - 1)
+
+-- The size of the exports trie, before addresses are known.
+pub record IsTrieSize (l : Link) (size : ℕ) : Type 0 where
+  pub exports : List ToldExport
+  pub told : ExportsAreTold l exports
+  pub bytes : List ℕ
+  pub trie : IsTrieOf (map (λ e. (e.name, kept_for l e.name e.target)) exports) bytes
+  pub long : length bytes ≡ size
+
+-- THE sizes of a link.
+pub record AreCounts (l : Link) (counts : Counts) : Type 0 where
+  pub trie : IsTrieSize l counts.trie
+  pub are : counts ≡ counts_with l counts.trie

@@ -1,9 +1,9 @@
 -- What the unwind information of an image says: look-up of an offset finds the entry of its function.
 use Rattle.std.specs.Prelude.{◌≡◌, ℕ, ◌+◌, ◌*◌, ◌-◌, List, [], map, slice_get, slice_range, Option, Some, None, option_map}
-use Rattle.macho_model.specs.Links.{Link, SectionId, header_at}
-use Rattle.macho_model.specs.Needs.{PERSONALITY_PLACE}
+use Rattle.macho_model.specs.Links.{Link, header_at}
+use Rattle.macho_model.specs.Needs.{section_named, PERSONALITY_PLACE}
 use Rattle.macho_model.specs.Targets.{slot_number, target_of_relocation}
-use Rattle.macho_model.specs.Consumed.{EntryId, entries_of_link, relocations_in_entry, section_named, unwind_entry, START_PLACE, LSDA_PLACE}
+use Rattle.macho_model.specs.Consumed.{EntryId, entries_of_link, relocations_in_entry, unwind_entry, START_PLACE, LSDA_PLACE}
 use Rattle.macho_model.specs.Placement.{Placed}
 use Rattle.macho_model.specs.Addresses.{section_address, slot_address, offset_in_file}
 use Rattle.macho_unwind_pages.specs.declared.entries.Personality.{Personality}

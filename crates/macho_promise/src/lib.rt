@@ -1,3 +1,3 @@
-//! What the linker promises of an image, whole: the definitions that need both the model of a link and the look-ups of an
-//! exports trie and of unwind information. There is no code here: the definitions are in `specs`.
+//! The promise of an image: definitions that need words of the exports trie, of compact unwind information or of stub texts
+//! beside those of the model. No code.
 #![tactic(auto)]

@@ -9,7 +9,7 @@ ghost use Rattle.macho_bytes.specs.Texts.{put};
 ghost use Rattle.macho_bytes.specs.Layouts.{read_of, size_of, spelling, ReadsBack};
 ghost use Rattle.macho_records.specs.Layouts.{entry_point_command, dylinker_command, dylib_command, rpath_command, linkedit_data_command, uuid_command, build_version_command, build_tool_version};
 
-use crate::bytes::{put_text, put_u32s, put_u64s, text_at, u32_at, u64_at};
+use macho_numbers::{little_at, put_littles, put_text, text_at};
 
 /// `struct entry_point_command` of mach-o/loader.h, `LC_MAIN`: where an executable begins.
 #[derive(Clone, Copy)]
@@ -37,10 +37,10 @@ impl EntryPointCommand {
             return None;
         }
         Some(EntryPointCommand {
-            cmd: u32_at(bytes, at, 0),
-            cmdsize: u32_at(bytes, at, 4),
-            entryoff: u64_at(bytes, at, 8),
-            stacksize: u64_at(bytes, at, 16),
+            cmd: little_at(bytes, at, 0),
+            cmdsize: little_at(bytes, at, 4),
+            entryoff: little_at(bytes, at, 8),
+            stacksize: little_at(bytes, at, 16),
         })
     }
 
@@ -52,8 +52,8 @@ impl EntryPointCommand {
         ensures back { ReadsBack entry_point_command self.now }
     {
         let r = *self;
-        put_u32s(out, at, &[r.cmd, r.cmdsize]);
-        put_u64s(out, at + 8, &[r.entryoff, r.stacksize]);
+        put_littles(out, at, &[r.cmd, r.cmdsize]);
+        put_littles(out, at + 8, &[r.entryoff, r.stacksize]);
     }
 }
 
@@ -81,9 +81,9 @@ impl DylinkerCommand {
             return None;
         }
         Some(DylinkerCommand {
-            cmd: u32_at(bytes, at, 0),
-            cmdsize: u32_at(bytes, at, 4),
-            name_offset: u32_at(bytes, at, 8),
+            cmd: little_at(bytes, at, 0),
+            cmdsize: little_at(bytes, at, 4),
+            name_offset: little_at(bytes, at, 8),
         })
     }
 
@@ -95,7 +95,7 @@ impl DylinkerCommand {
         ensures back { ReadsBack dylinker_command self.now }
     {
         let r = *self;
-        put_u32s(out, at, &[r.cmd, r.cmdsize, r.name_offset]);
+        put_littles(out, at, &[r.cmd, r.cmdsize, r.name_offset]);
     }
 }
 
@@ -129,12 +129,12 @@ impl DylibCommand {
             return None;
         }
         Some(DylibCommand {
-            cmd: u32_at(bytes, at, 0),
-            cmdsize: u32_at(bytes, at, 4),
-            name_offset: u32_at(bytes, at, 8),
-            timestamp: u32_at(bytes, at, 12),
-            current_version: u32_at(bytes, at, 16),
-            compatibility_version: u32_at(bytes, at, 20),
+            cmd: little_at(bytes, at, 0),
+            cmdsize: little_at(bytes, at, 4),
+            name_offset: little_at(bytes, at, 8),
+            timestamp: little_at(bytes, at, 12),
+            current_version: little_at(bytes, at, 16),
+            compatibility_version: little_at(bytes, at, 20),
         })
     }
 
@@ -146,7 +146,7 @@ impl DylibCommand {
         ensures back { ReadsBack dylib_command self.now }
     {
         let r = *self;
-        put_u32s(
+        put_littles(
             out,
             at,
             &[
@@ -185,9 +185,9 @@ impl RpathCommand {
             return None;
         }
         Some(RpathCommand {
-            cmd: u32_at(bytes, at, 0),
-            cmdsize: u32_at(bytes, at, 4),
-            name_offset: u32_at(bytes, at, 8),
+            cmd: little_at(bytes, at, 0),
+            cmdsize: little_at(bytes, at, 4),
+            name_offset: little_at(bytes, at, 8),
         })
     }
 
@@ -199,7 +199,7 @@ impl RpathCommand {
         ensures back { ReadsBack rpath_command self.now }
     {
         let r = *self;
-        put_u32s(out, at, &[r.cmd, r.cmdsize, r.name_offset]);
+        put_littles(out, at, &[r.cmd, r.cmdsize, r.name_offset]);
     }
 }
 
@@ -229,10 +229,10 @@ impl LinkeditDataCommand {
             return None;
         }
         Some(LinkeditDataCommand {
-            cmd: u32_at(bytes, at, 0),
-            cmdsize: u32_at(bytes, at, 4),
-            dataoff: u32_at(bytes, at, 8),
-            datasize: u32_at(bytes, at, 12),
+            cmd: little_at(bytes, at, 0),
+            cmdsize: little_at(bytes, at, 4),
+            dataoff: little_at(bytes, at, 8),
+            datasize: little_at(bytes, at, 12),
         })
     }
 
@@ -244,7 +244,7 @@ impl LinkeditDataCommand {
         ensures back { ReadsBack linkedit_data_command self.now }
     {
         let r = *self;
-        put_u32s(out, at, &[r.cmd, r.cmdsize, r.dataoff, r.datasize]);
+        put_littles(out, at, &[r.cmd, r.cmdsize, r.dataoff, r.datasize]);
     }
 }
 
@@ -272,8 +272,8 @@ impl UuidCommand {
             return None;
         }
         Some(UuidCommand {
-            cmd: u32_at(bytes, at, 0),
-            cmdsize: u32_at(bytes, at, 4),
+            cmd: little_at(bytes, at, 0),
+            cmdsize: little_at(bytes, at, 4),
             uuid: text_at(bytes, at, 8),
         })
     }
@@ -286,7 +286,7 @@ impl UuidCommand {
         ensures back { ReadsBack uuid_command self.now }
     {
         let r = *self;
-        put_u32s(out, at, &[r.cmd, r.cmdsize]);
+        put_littles(out, at, &[r.cmd, r.cmdsize]);
         put_text(out, at + 8, &r.uuid);
     }
 }
@@ -321,12 +321,12 @@ impl BuildVersionCommand {
             return None;
         }
         Some(BuildVersionCommand {
-            cmd: u32_at(bytes, at, 0),
-            cmdsize: u32_at(bytes, at, 4),
-            platform: u32_at(bytes, at, 8),
-            minos: u32_at(bytes, at, 12),
-            sdk: u32_at(bytes, at, 16),
-            ntools: u32_at(bytes, at, 20),
+            cmd: little_at(bytes, at, 0),
+            cmdsize: little_at(bytes, at, 4),
+            platform: little_at(bytes, at, 8),
+            minos: little_at(bytes, at, 12),
+            sdk: little_at(bytes, at, 16),
+            ntools: little_at(bytes, at, 20),
         })
     }
 
@@ -338,7 +338,7 @@ impl BuildVersionCommand {
         ensures back { ReadsBack build_version_command self.now }
     {
         let r = *self;
-        put_u32s(
+        put_littles(
             out,
             at,
             &[r.cmd, r.cmdsize, r.platform, r.minos, r.sdk, r.ntools],
@@ -368,8 +368,8 @@ impl BuildToolVersion {
             return None;
         }
         Some(BuildToolVersion {
-            tool: u32_at(bytes, at, 0),
-            version: u32_at(bytes, at, 4),
+            tool: little_at(bytes, at, 0),
+            version: little_at(bytes, at, 4),
         })
     }
 
@@ -381,6 +381,6 @@ impl BuildToolVersion {
         ensures back { ReadsBack build_tool_version self.now }
     {
         let r = *self;
-        put_u32s(out, at, &[r.tool, r.version]);
+        put_littles(out, at, &[r.tool, r.version]);
     }
 }

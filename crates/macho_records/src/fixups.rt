@@ -10,7 +10,7 @@ ghost use Rattle.macho_bytes.specs.Texts.{put};
 ghost use Rattle.macho_bytes.specs.Layouts.{read_of, size_of, spelling, ReadsBack};
 ghost use Rattle.macho_records.specs.Layouts.{chained_fixups_header, chained_starts_in_segment};
 
-use crate::bytes::{put_u16s, put_u32s, put_u64s, u16_at, u32_at, u64_at};
+use macho_numbers::{little_at, put_littles};
 
 /// `struct dyld_chained_fixups_header` of mach-o/fixup-chains.h: the head of the fixup table.
 #[derive(Clone, Copy)]
@@ -44,13 +44,13 @@ impl ChainedFixupsHeader {
             return None;
         }
         Some(ChainedFixupsHeader {
-            fixups_version: u32_at(bytes, at, 0),
-            starts_offset: u32_at(bytes, at, 4),
-            imports_offset: u32_at(bytes, at, 8),
-            symbols_offset: u32_at(bytes, at, 12),
-            imports_count: u32_at(bytes, at, 16),
-            imports_format: u32_at(bytes, at, 20),
-            symbols_format: u32_at(bytes, at, 24),
+            fixups_version: little_at(bytes, at, 0),
+            starts_offset: little_at(bytes, at, 4),
+            imports_offset: little_at(bytes, at, 8),
+            symbols_offset: little_at(bytes, at, 12),
+            imports_count: little_at(bytes, at, 16),
+            imports_format: little_at(bytes, at, 20),
+            symbols_format: little_at(bytes, at, 24),
         })
     }
 
@@ -62,7 +62,7 @@ impl ChainedFixupsHeader {
         ensures back { ReadsBack chained_fixups_header self.now }
     {
         let r = *self;
-        put_u32s(
+        put_littles(
             out,
             at,
             &[
@@ -108,12 +108,12 @@ impl ChainedStartsInSegment {
             return None;
         }
         Some(ChainedStartsInSegment {
-            size: u32_at(bytes, at, 0),
-            page_size: u16_at(bytes, at, 4),
-            pointer_format: u16_at(bytes, at, 6),
-            segment_offset: u64_at(bytes, at, 8),
-            max_valid_pointer: u32_at(bytes, at, 16),
-            page_count: u16_at(bytes, at, 20),
+            size: little_at(bytes, at, 0),
+            page_size: little_at(bytes, at, 4),
+            pointer_format: little_at(bytes, at, 6),
+            segment_offset: little_at(bytes, at, 8),
+            max_valid_pointer: little_at(bytes, at, 16),
+            page_count: little_at(bytes, at, 20),
         })
     }
 
@@ -125,10 +125,10 @@ impl ChainedStartsInSegment {
         ensures back { ReadsBack chained_starts_in_segment self.now }
     {
         let r = *self;
-        put_u32s(out, at, &[r.size]);
-        put_u16s(out, at + 4, &[r.page_size, r.pointer_format]);
-        put_u64s(out, at + 8, &[r.segment_offset]);
-        put_u32s(out, at + 16, &[r.max_valid_pointer]);
-        put_u16s(out, at + 20, &[r.page_count]);
+        put_littles(out, at, &[r.size]);
+        put_littles(out, at + 4, &[r.page_size, r.pointer_format]);
+        put_littles(out, at + 8, &[r.segment_offset]);
+        put_littles(out, at + 16, &[r.max_valid_pointer]);
+        put_littles(out, at + 20, &[r.page_count]);
     }
 }

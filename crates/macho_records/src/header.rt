@@ -10,7 +10,7 @@ ghost use Rattle.macho_bytes.specs.Texts.{put};
 ghost use Rattle.macho_bytes.specs.Layouts.{read_of, size_of, spelling, ReadsBack};
 ghost use Rattle.macho_records.specs.Layouts.{mach_header, load_command, segment_command, section_header};
 
-use crate::bytes::{put_text, put_u32s, put_u64s, text_at, u32_at, u64_at};
+use macho_numbers::{little_at, put_littles, put_text, text_at};
 
 /// `struct mach_header_64` of mach-o/loader.h: the head of every 64-bit Mach-O file.
 #[derive(Clone, Copy)]
@@ -46,14 +46,14 @@ impl MachHeader {
             return None;
         }
         Some(MachHeader {
-            magic: u32_at(bytes, at, 0),
-            cputype: u32_at(bytes, at, 4),
-            cpusubtype: u32_at(bytes, at, 8),
-            filetype: u32_at(bytes, at, 12),
-            ncmds: u32_at(bytes, at, 16),
-            sizeofcmds: u32_at(bytes, at, 20),
-            flags: u32_at(bytes, at, 24),
-            reserved: u32_at(bytes, at, 28),
+            magic: little_at(bytes, at, 0),
+            cputype: little_at(bytes, at, 4),
+            cpusubtype: little_at(bytes, at, 8),
+            filetype: little_at(bytes, at, 12),
+            ncmds: little_at(bytes, at, 16),
+            sizeofcmds: little_at(bytes, at, 20),
+            flags: little_at(bytes, at, 24),
+            reserved: little_at(bytes, at, 28),
         })
     }
 
@@ -65,7 +65,7 @@ impl MachHeader {
         ensures back { ReadsBack mach_header self.now }
     {
         let r = *self;
-        put_u32s(
+        put_littles(
             out,
             at,
             &[
@@ -104,8 +104,8 @@ impl LoadCommand {
             return None;
         }
         Some(LoadCommand {
-            cmd: u32_at(bytes, at, 0),
-            cmdsize: u32_at(bytes, at, 4),
+            cmd: little_at(bytes, at, 0),
+            cmdsize: little_at(bytes, at, 4),
         })
     }
 
@@ -117,7 +117,7 @@ impl LoadCommand {
         ensures back { ReadsBack load_command self.now }
     {
         let r = *self;
-        put_u32s(out, at, &[r.cmd, r.cmdsize]);
+        put_littles(out, at, &[r.cmd, r.cmdsize]);
     }
 }
 
@@ -161,17 +161,17 @@ impl SegmentCommand {
             return None;
         }
         Some(SegmentCommand {
-            cmd: u32_at(bytes, at, 0),
-            cmdsize: u32_at(bytes, at, 4),
+            cmd: little_at(bytes, at, 0),
+            cmdsize: little_at(bytes, at, 4),
             segname: text_at(bytes, at, 8),
-            vmaddr: u64_at(bytes, at, 24),
-            vmsize: u64_at(bytes, at, 32),
-            fileoff: u64_at(bytes, at, 40),
-            filesize: u64_at(bytes, at, 48),
-            maxprot: u32_at(bytes, at, 56),
-            initprot: u32_at(bytes, at, 60),
-            nsects: u32_at(bytes, at, 64),
-            flags: u32_at(bytes, at, 68),
+            vmaddr: little_at(bytes, at, 24),
+            vmsize: little_at(bytes, at, 32),
+            fileoff: little_at(bytes, at, 40),
+            filesize: little_at(bytes, at, 48),
+            maxprot: little_at(bytes, at, 56),
+            initprot: little_at(bytes, at, 60),
+            nsects: little_at(bytes, at, 64),
+            flags: little_at(bytes, at, 68),
         })
     }
 
@@ -183,10 +183,10 @@ impl SegmentCommand {
         ensures back { ReadsBack segment_command self.now }
     {
         let r = *self;
-        put_u32s(out, at, &[r.cmd, r.cmdsize]);
+        put_littles(out, at, &[r.cmd, r.cmdsize]);
         put_text(out, at + 8, &r.segname);
-        put_u64s(out, at + 24, &[r.vmaddr, r.vmsize, r.fileoff, r.filesize]);
-        put_u32s(out, at + 56, &[r.maxprot, r.initprot, r.nsects, r.flags]);
+        put_littles(out, at + 24, &[r.vmaddr, r.vmsize, r.fileoff, r.filesize]);
+        put_littles(out, at + 56, &[r.maxprot, r.initprot, r.nsects, r.flags]);
     }
 }
 
@@ -234,16 +234,16 @@ impl SectionHeader {
         Some(SectionHeader {
             sectname: text_at(bytes, at, 0),
             segname: text_at(bytes, at, 16),
-            addr: u64_at(bytes, at, 32),
-            size: u64_at(bytes, at, 40),
-            offset: u32_at(bytes, at, 48),
-            align: u32_at(bytes, at, 52),
-            reloff: u32_at(bytes, at, 56),
-            nreloc: u32_at(bytes, at, 60),
-            flags: u32_at(bytes, at, 64),
-            reserved1: u32_at(bytes, at, 68),
-            reserved2: u32_at(bytes, at, 72),
-            reserved3: u32_at(bytes, at, 76),
+            addr: little_at(bytes, at, 32),
+            size: little_at(bytes, at, 40),
+            offset: little_at(bytes, at, 48),
+            align: little_at(bytes, at, 52),
+            reloff: little_at(bytes, at, 56),
+            nreloc: little_at(bytes, at, 60),
+            flags: little_at(bytes, at, 64),
+            reserved1: little_at(bytes, at, 68),
+            reserved2: little_at(bytes, at, 72),
+            reserved3: little_at(bytes, at, 76),
         })
     }
 
@@ -257,8 +257,8 @@ impl SectionHeader {
         let r = *self;
         put_text(out, at, &r.sectname);
         put_text(out, at + 16, &r.segname);
-        put_u64s(out, at + 32, &[r.addr, r.size]);
-        put_u32s(
+        put_littles(out, at + 32, &[r.addr, r.size]);
+        put_littles(
             out,
             at + 48,
             &[

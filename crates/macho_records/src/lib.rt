@@ -1,24 +1,18 @@
 //! The records of a Mach-O file as bytes, and their predicates.
 #![tactic(auto)]
 
-mod bytes;
 mod commands;
 mod constants;
 mod fixups;
 mod header;
 mod names;
 mod placeholders;
-#[cfg(test)]
-mod record_tests;
 mod relocations;
 mod sections;
 mod segments;
 mod signature;
 mod symbol_names;
 mod symbols;
-#[cfg(test)]
-mod tests;
-mod uleb;
 mod unwind;
 
 pub use commands::BuildToolVersion;
@@ -104,6 +98,9 @@ pub use header::LoadCommand;
 pub use header::MachHeader;
 pub use header::SectionHeader;
 pub use header::SegmentCommand;
+pub use macho_numbers::read_uleb;
+pub use macho_numbers::uleb_size;
+pub use macho_numbers::write_uleb;
 pub use names::name_bytes;
 pub use placeholders::BuiltInSectionDetails;
 pub use placeholders::DynamicTagValues;
@@ -122,7 +119,4 @@ pub use symbols::rounded_up;
 pub use symbols::SymtabCommand;
 pub use symbols::SymtabEntry;
 pub use symbols::Visibility;
-pub use uleb::read_uleb;
-pub use uleb::uleb_size;
-pub use uleb::write_uleb;
 pub use unwind::UnwindInfoEntry;

@@ -14,7 +14,7 @@ ghost use Rattle.macho_bytes.specs.Texts.{put};
 ghost use Rattle.macho_bytes.specs.Layouts.{read_of, size_of, spelling, ReadsBack};
 ghost use Rattle.macho_records.specs.Relocations.{relocation_info, BitsFit, packed_word};
 
-use crate::bytes::{put_u32s, u32_at};
+use macho_numbers::{little_at, put_littles};
 
 /// `struct relocation_info` of `mach-o/reloc.h`: a relocation.
 #[derive(Clone, Copy)]
@@ -46,9 +46,9 @@ impl RelocationInfo {
         if bytes.len() < Self::SIZE || bytes.len() - Self::SIZE < at {
             return None;
         }
-        let word = u32_at(bytes, at, 4);
+        let word: u32 = little_at(bytes, at, 4);
         Some(RelocationInfo {
-            r_address: u32_at(bytes, at, 0),
+            r_address: little_at(bytes, at, 0),
             r_symbolnum: word & 0xff_ffff,
             r_pcrel: (word >> 24) & 1 == 1,
             r_length: ((word >> 25) & 3) as u8,
@@ -65,7 +65,7 @@ impl RelocationInfo {
         ensures written { out.new ≡ put at (spelling relocation_info self.now) out.old }
         ensures back { ReadsBack relocation_info self.now }
     {
-        put_u32s(out, at, &[self.r_address, self.word()]);
+        put_littles(out, at, &[self.r_address, self.word()]);
     }
 
     /// The bits of all fields but the address.

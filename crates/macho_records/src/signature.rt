@@ -7,7 +7,7 @@ ghost use Rattle.macho_bytes.specs.Texts.{put};
 ghost use Rattle.macho_bytes.specs.Layouts.{read_of, size_of, spelling, ReadsBack};
 ghost use Rattle.macho_records.specs.Layouts.{code_directory};
 
-use crate::bytes::{be_u8_at, be_u32_at, be_u64_at, put_be_u32s, put_be_u64s, put_u8s};
+use macho_numbers::{big_at, put_bigs};
 
 /// `struct __CodeDirectory` of cs_blobs.h (xnu): what a code signature signs. Big-endian.
 #[derive(Clone, Copy)]
@@ -69,27 +69,27 @@ impl CodeDirectory {
             return None;
         }
         Some(CodeDirectory {
-            magic: be_u32_at(bytes, at, 0),
-            length: be_u32_at(bytes, at, 4),
-            version: be_u32_at(bytes, at, 8),
-            flags: be_u32_at(bytes, at, 12),
-            hash_offset: be_u32_at(bytes, at, 16),
-            ident_offset: be_u32_at(bytes, at, 20),
-            special_slots: be_u32_at(bytes, at, 24),
-            code_slots: be_u32_at(bytes, at, 28),
-            code_limit: be_u32_at(bytes, at, 32),
-            hash_size: be_u8_at(bytes, at, 36),
-            hash_type: be_u8_at(bytes, at, 37),
-            platform: be_u8_at(bytes, at, 38),
-            page_exponent: be_u8_at(bytes, at, 39),
-            spare: be_u32_at(bytes, at, 40),
-            scatter_offset: be_u32_at(bytes, at, 44),
-            team_offset: be_u32_at(bytes, at, 48),
-            spare2: be_u32_at(bytes, at, 52),
-            code_limit64: be_u64_at(bytes, at, 56),
-            exec_base: be_u64_at(bytes, at, 64),
-            exec_limit: be_u64_at(bytes, at, 72),
-            exec_flags: be_u64_at(bytes, at, 80),
+            magic: big_at(bytes, at, 0),
+            length: big_at(bytes, at, 4),
+            version: big_at(bytes, at, 8),
+            flags: big_at(bytes, at, 12),
+            hash_offset: big_at(bytes, at, 16),
+            ident_offset: big_at(bytes, at, 20),
+            special_slots: big_at(bytes, at, 24),
+            code_slots: big_at(bytes, at, 28),
+            code_limit: big_at(bytes, at, 32),
+            hash_size: big_at(bytes, at, 36),
+            hash_type: big_at(bytes, at, 37),
+            platform: big_at(bytes, at, 38),
+            page_exponent: big_at(bytes, at, 39),
+            spare: big_at(bytes, at, 40),
+            scatter_offset: big_at(bytes, at, 44),
+            team_offset: big_at(bytes, at, 48),
+            spare2: big_at(bytes, at, 52),
+            code_limit64: big_at(bytes, at, 56),
+            exec_base: big_at(bytes, at, 64),
+            exec_limit: big_at(bytes, at, 72),
+            exec_flags: big_at(bytes, at, 80),
         })
     }
 
@@ -101,7 +101,7 @@ impl CodeDirectory {
         ensures back { ReadsBack code_directory self.now }
     {
         let r = *self;
-        put_be_u32s(
+        put_bigs(
             out,
             at,
             &[
@@ -116,17 +116,17 @@ impl CodeDirectory {
                 r.code_limit,
             ],
         );
-        put_u8s(
+        put_bigs(
             out,
             at + 36,
             &[r.hash_size, r.hash_type, r.platform, r.page_exponent],
         );
-        put_be_u32s(
+        put_bigs(
             out,
             at + 40,
             &[r.spare, r.scatter_offset, r.team_offset, r.spare2],
         );
-        put_be_u64s(
+        put_bigs(
             out,
             at + 56,
             &[r.code_limit64, r.exec_base, r.exec_limit, r.exec_flags],

@@ -14,8 +14,8 @@ ghost use Rattle.macho_bytes.specs.Layouts.{read_of, size_of, spelling, ReadsBac
 ghost use Rattle.macho_records.specs.Layouts.{symtab_command, symtab_entry};
 ghost use Rattle.macho_records.specs.Symbols.{is_stab_of, is_undefined_of, is_absolute_of, is_external_of, is_local_of, is_hidden_of, is_weak_of, visibility_of, is_common_of, common_exponent_of, common_size_of, common_of, is_default_strippable_of, with_hidden_of};
 
-use crate::bytes::{put_u8s, put_u16s, put_u32s, put_u64s, u8_at, u16_at, u32_at, u64_at};
 use crate::constants::{N_ABS, N_EXT, N_PEXT, N_STAB, N_TYPE, N_UNDF, N_WEAK_DEF};
+use macho_numbers::{little_at, put_littles};
 
 /// `struct symtab_command` of mach-o/loader.h: where symbols and their names stand.
 #[derive(Clone, Copy)]
@@ -47,12 +47,12 @@ impl SymtabCommand {
             return None;
         }
         Some(SymtabCommand {
-            cmd: u32_at(bytes, at, 0),
-            cmdsize: u32_at(bytes, at, 4),
-            symoff: u32_at(bytes, at, 8),
-            nsyms: u32_at(bytes, at, 12),
-            stroff: u32_at(bytes, at, 16),
-            strsize: u32_at(bytes, at, 20),
+            cmd: little_at(bytes, at, 0),
+            cmdsize: little_at(bytes, at, 4),
+            symoff: little_at(bytes, at, 8),
+            nsyms: little_at(bytes, at, 12),
+            stroff: little_at(bytes, at, 16),
+            strsize: little_at(bytes, at, 20),
         })
     }
 
@@ -64,7 +64,7 @@ impl SymtabCommand {
         ensures back { ReadsBack symtab_command self.now }
     {
         let r = *self;
-        put_u32s(
+        put_littles(
             out,
             at,
             &[r.cmd, r.cmdsize, r.symoff, r.nsyms, r.stroff, r.strsize],
@@ -100,11 +100,11 @@ impl SymtabEntry {
             return None;
         }
         Some(SymtabEntry {
-            n_strx: u32_at(bytes, at, 0),
-            n_type: u8_at(bytes, at, 4),
-            n_sect: u8_at(bytes, at, 5),
-            n_desc: u16_at(bytes, at, 6),
-            n_value: u64_at(bytes, at, 8),
+            n_strx: little_at(bytes, at, 0),
+            n_type: little_at(bytes, at, 4),
+            n_sect: little_at(bytes, at, 5),
+            n_desc: little_at(bytes, at, 6),
+            n_value: little_at(bytes, at, 8),
         })
     }
 
@@ -116,10 +116,10 @@ impl SymtabEntry {
         ensures back { ReadsBack symtab_entry self.now }
     {
         let r = *self;
-        put_u32s(out, at, &[r.n_strx]);
-        put_u8s(out, at + 4, &[r.n_type, r.n_sect]);
-        put_u16s(out, at + 6, &[r.n_desc]);
-        put_u64s(out, at + 8, &[r.n_value]);
+        put_littles(out, at, &[r.n_strx]);
+        put_littles(out, at + 4, &[r.n_type, r.n_sect]);
+        put_littles(out, at + 6, &[r.n_desc]);
+        put_littles(out, at + 8, &[r.n_value]);
     }
 }
 

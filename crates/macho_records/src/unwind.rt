@@ -7,7 +7,7 @@ ghost use Rattle.macho_bytes.specs.Texts.{put};
 ghost use Rattle.macho_bytes.specs.Layouts.{read_of, size_of, spelling, ReadsBack};
 ghost use Rattle.macho_records.specs.Layouts.{unwind_info_entry};
 
-use crate::bytes::{put_u32s, put_u64s, u32_at, u64_at};
+use macho_numbers::{little_at, put_littles};
 
 /// An entry of `__LD,__compact_unwind`, mach-o/compact_unwind_encoding.h: how a function is unwound, as compilers write it.
 #[derive(Clone, Copy)]
@@ -37,11 +37,11 @@ impl UnwindInfoEntry {
             return None;
         }
         Some(UnwindInfoEntry {
-            start: u64_at(bytes, at, 0),
-            length: u32_at(bytes, at, 8),
-            encoding: u32_at(bytes, at, 12),
-            personality: u64_at(bytes, at, 16),
-            lsda: u64_at(bytes, at, 24),
+            start: little_at(bytes, at, 0),
+            length: little_at(bytes, at, 8),
+            encoding: little_at(bytes, at, 12),
+            personality: little_at(bytes, at, 16),
+            lsda: little_at(bytes, at, 24),
         })
     }
 
@@ -53,8 +53,8 @@ impl UnwindInfoEntry {
         ensures back { ReadsBack unwind_info_entry self.now }
     {
         let r = *self;
-        put_u64s(out, at, &[r.start]);
-        put_u32s(out, at + 8, &[r.length, r.encoding]);
-        put_u64s(out, at + 16, &[r.personality, r.lsda]);
+        put_littles(out, at, &[r.start]);
+        put_littles(out, at + 8, &[r.length, r.encoding]);
+        put_littles(out, at + 16, &[r.personality, r.lsda]);
     }
 }

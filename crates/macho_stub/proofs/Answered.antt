@@ -8,10 +8,11 @@ use Rattle.std.specs.Prelude.{IfOk, IfErr}
 use Rattle.macho_stub_lines.specs.declared.fault.StubFault.{StubFault}
 use Rattle.macho_stub_lines.specs.declared.fault.StubFault.TheVariants.{Rule, OutOfMemory}
 use Rattle.macho_stub_lines.specs.Faults.{Fault, Reading, broken, Gives, ◌>>=◌}
-use Rattle.macho_stub.specs.Reader.{documents_of}
+use Rattle.macho_stub.specs.steps.Reader.{documents_of}
 use Rattle.macho_stub.specs.Library.{LibraryFields}
-use Rattle.macho_stub.specs.Checks.{library_of}
-use Rattle.macho_stub.specs.Answer.{IsStub, IsToldOfText, answer_of}
+use Rattle.macho_stub.specs.steps.Checks.{library_of}
+use Rattle.macho_stub.specs.Answer.{IsStub, IsToldOfText}
+use Rattle.macho_stub.specs.steps.Answer.{answer_of}
 use Rattle.macho_stub_lines.specs.declared.fault.StubRule.{StubRule}
 use Rattle.macho_stub_lines.proofs.Bind.{bind_ok, no_ok, same_ok}
 use Rattle.macho_stub.proofs.Ruling.{bind_err, library_made, library_back}

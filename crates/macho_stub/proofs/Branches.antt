@@ -8,8 +8,8 @@ use Rattle.macho_stub_lines.specs.declared.keys.ItemKind.{ItemKind}
 use Rattle.macho_stub_lines.specs.Faults.{Reading}
 use Rattle.macho_stub_lines.specs.Keys.{Entry, top_key}
 use Rattle.macho_stub.specs.Documents.{ItemFields, DocumentFields}
-use Rattle.macho_stub.specs.Opened.{OpenDocumentFields, head_at, with_items}
-use Rattle.macho_stub.specs.Reader.{Keys, InsideFields, Outside, Within, StateFields, stays, first_line, top_entry, within, top_line}
+use Rattle.macho_stub.specs.steps.Opened.{OpenDocumentFields, head_at, with_items}
+use Rattle.macho_stub.specs.steps.Reader.{Keys, InsideFields, Outside, Within, StateFields, stays, first_line, top_entry, within, top_line}
 
 -- behind the documents, at the head of another
 abbrev pub at_head : ℕ → List DocumentFields → Reading StateFields

@@ -17,8 +17,8 @@ use Rattle.macho_stub_lines.specs.Bytes.{indent, unspaced, head, end, has_dash}
 use Rattle.macho_stub_lines.specs.Faults.{Fault, Reading, ◌>>=◌, broken, outside}
 use Rattle.macho_stub_lines.specs.Keys.{Entry, entry_at, scalar_value, version_value, top_key}
 use Rattle.macho_stub.specs.Documents.{ItemFields, DocumentFields}
-use Rattle.macho_stub.specs.Opened.{OpenDocumentFields, with_items, has_items, has_key}
-use Rattle.macho_stub.specs.Reader.{ItemListFields, InsideFields, NoItem, StateFields, stays, skipped_value, item_entry, item_key_line, first_line, top_entry, within, with_whole, top_line, items_with_last, item_line}
+use Rattle.macho_stub.specs.steps.Opened.{OpenDocumentFields, with_items, has_items, has_key}
+use Rattle.macho_stub.specs.steps.Reader.{ItemListFields, InsideFields, NoItem, StateFields, stays, skipped_value, item_entry, item_key_line, first_line, top_entry, within, with_whole, top_line, items_with_last, item_line}
 use Rattle.macho_stub.specs.Order.{EndsDocument}
 use Rattle.macho_stub_lines.proofs.Bind.{chosen, same_bytes, eq_at, ne_at, other_bytes}
 use Rattle.macho_stub.proofs.Ruling.{bind_err, same_err, ok_not_told}

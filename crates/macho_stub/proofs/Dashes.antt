@@ -7,7 +7,7 @@ use Rattle.std.specs.Str.{IsUtf8, IsCharBoundary}
 use Rattle.std.proofs.lemmas.Str.{IsUtf8-drop, IsCharBoundary-from_rest}
 use Rattle.std.proofs.lemmas.Bool.Decides.{nat_tests}
 use Rattle.macho_stub_lines.specs.Bytes.{is_space, indent, has_dash}
-use Rattle.macho_stub.specs.Reader.{key_column}
+use Rattle.macho_stub.specs.steps.Reader.{key_column}
 use Rattle.macho_stub_lines.proofs.Cuts.{cut_behind, run_cut, space_ascii}
 
 dash_at : (line : List ℕ) → has_dash line ≡ true → get_or line (indent line) 0 ≡ 45

@@ -15,8 +15,8 @@ use Rattle.macho_stub_lines.specs.Scalars.{scalar_front, plain_front}
 use Rattle.macho_stub_lines.specs.Faults.{broken, outside}
 use Rattle.macho_stub_lines.specs.Lists.{list_part, token_front, behind}
 use Rattle.macho_stub.specs.Documents.{DocumentFields}
-use Rattle.macho_stub.specs.Opened.{OpenDocumentFields, head_at}
-use Rattle.macho_stub.specs.Reader.{ItemListFields, NameListFields, ModeFields, PlaceFields, Outside, Within, Keys, Skipped, Names, NoItem, StateFields, stays, names_line, first_line, key_line, belongs, inside_line, content_line, line_step, within}
+use Rattle.macho_stub.specs.steps.Opened.{OpenDocumentFields, head_at}
+use Rattle.macho_stub.specs.steps.Reader.{ItemListFields, NameListFields, ModeFields, PlaceFields, Outside, Within, Keys, Skipped, Names, NoItem, StateFields, stays, names_line, first_line, key_line, belongs, inside_line, content_line, line_step, within}
 use Rattle.macho_stub.specs.Order.{MayStand, IsWhy, unread_key, unread_item, closing_bracket, in_column}
 use Rattle.macho_stub_lines.proofs.Bind.{chosen}
 use Rattle.macho_stub.proofs.Ruling.{same_err, ok_not_told}

@@ -20,9 +20,9 @@ use Rattle.macho_stub_lines.specs.Faults.{Reading, ◌>>=◌, broken, outside}
 use Rattle.macho_stub_lines.specs.Lists.{list_part, with_front}
 use Rattle.macho_stub_lines.specs.Keys.{entry_at, scalar_value, version_value, top_key, item_key}
 use Rattle.macho_stub.specs.Documents.{ItemFields, DocumentFields}
-use Rattle.macho_stub.specs.Opened.{OpenItemFields, OpenDocumentFields, no_item, with_items, has_items}
-use Rattle.macho_stub.specs.Whole.{wanted, wanted_names, whole_item, whole_document}
-use Rattle.macho_stub.specs.Reader.{ItemListFields, NameListFields, ModeFields, Keys, Skipped, Names, NoItem, InsideFields, PlaceFields, Outside, Within, StateFields, stays, with_names, behind_expect, names_line, names_value, opened, skipped_value, item_entry, item_key_line, key_column, first_line, top_entry, within, with_whole, top_line, items_with_last, item_line, key_line, inside_line, content_line, line_step}
+use Rattle.macho_stub.specs.steps.Opened.{OpenItemFields, OpenDocumentFields, no_item, with_items, has_items}
+use Rattle.macho_stub.specs.steps.Whole.{wanted, wanted_names, whole_item, whole_document}
+use Rattle.macho_stub.specs.steps.Reader.{ItemListFields, NameListFields, ModeFields, Keys, Skipped, Names, NoItem, InsideFields, PlaceFields, Outside, Within, StateFields, stays, with_names, behind_expect, names_line, names_value, opened, skipped_value, item_entry, item_key_line, key_column, first_line, top_entry, within, with_whole, top_line, items_with_last, item_line, key_line, inside_line, content_line, line_step}
 use Rattle.macho_stub.proofs.FineLines.{Fine, AnyOf, outside_at, here_at, lacking_at, fine_ok, fine_err, fine_here, fine_bind, fine_if, weaker, free, entry_fine, scalar_fine, version_fine, front_fine, part_fine}
 use Rattle.macho_stub.proofs.Branches.{at_head, at_end, at_entry, then_first, then_top}
 

@@ -13,7 +13,7 @@ use Rattle.macho_stub_lines.specs.Spelling.{IsEntry, value_of, value_at, IsScala
 use Rattle.macho_stub_lines.specs.FlowLists.{IsFlowList}
 use Rattle.macho_stub_lines.specs.Keys.{top_key, item_key}
 use Rattle.macho_stub.specs.Documents.{ItemOf, DocumentOf}
-use Rattle.macho_stub.specs.Opened.{OpenItemOf, OpenDocumentOf, no_item, head_at, has_key, with_key, has_items, with_items}
+use Rattle.macho_stub.specs.steps.Opened.{OpenItemOf, OpenDocumentOf, no_item, head_at, has_key, with_key, has_items, with_items}
 use Rattle.macho_stub.specs.Grammar.{IsSkipped, is_deeper, ItemEntry, item_value_at, ItemTree, column_of, Under, Lines, Listed, IsSkippedUnder, IsListUnder, TopEntry, DocumentTree, no_text}
 
 -- ---- items

@@ -13,9 +13,9 @@ use Rattle.macho_stub_lines.specs.declared.fault.StubRule.TheVariants.{S1}
 use Rattle.macho_stub_lines.specs.Bytes.{space, indent, unspaced, is_passed, has_barred, has_dash, head, end}
 use Rattle.macho_stub_lines.specs.Faults.{Reading, ◌>>=◌, outside}
 use Rattle.macho_stub.specs.Documents.{ItemFields, DocumentFields}
-use Rattle.macho_stub.specs.Opened.{OpenDocumentFields, head_at, with_items}
-use Rattle.macho_stub.specs.Whole.{whole_item, whole_document}
-use Rattle.macho_stub.specs.Reader.{ItemListFields, ModeFields, Keys, Skipped, Names, NoItem, InsideFields, PlaceFields, Outside, Within, StateFields, stays, within, with_whole, items_with_last, item_line, item_key_line, first_line, names_line, key_line, belongs, inside_line, content_line, line_step, ended_document, ended_inside, ended, lines_from, start, documents_of}
+use Rattle.macho_stub.specs.steps.Opened.{OpenDocumentFields, head_at, with_items}
+use Rattle.macho_stub.specs.steps.Whole.{whole_item, whole_document}
+use Rattle.macho_stub.specs.steps.Reader.{ItemListFields, ModeFields, Keys, Skipped, Names, NoItem, InsideFields, PlaceFields, Outside, Within, StateFields, stays, within, with_whole, items_with_last, item_line, item_key_line, first_line, names_line, key_line, belongs, inside_line, content_line, line_step, ended_document, ended_inside, ended, lines_from, start, documents_of}
 use Rattle.macho_stub_lines.specs.ReadLists.{ReadLine}
 use Rattle.macho_stub.proofs.Readings.{content_from, IsReadLines, IsReadText, items_then, AreItems, AreDocuments}
 use Rattle.macho_stub_lines.proofs.Bind.{bind_ok, chosen, not_broken, not_broken_else, same_ok, no_ok, same_bytes, eq_at, other_bytes}

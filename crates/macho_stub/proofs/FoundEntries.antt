@@ -12,8 +12,8 @@ use Rattle.macho_stub_lines.specs.declared.fault.StubRule.TheVariants.{S1}
 use Rattle.macho_stub_lines.specs.Bytes.{open_bracket}
 use Rattle.macho_stub_lines.specs.Lists.{ListPart, list_part, with_front}
 use Rattle.macho_stub.specs.Documents.{DocumentFields}
-use Rattle.macho_stub.specs.Opened.{OpenDocumentFields}
-use Rattle.macho_stub.specs.Reader.{ItemListFields, NameListFields, Skipped, InsideFields, stays, with_names, behind_expect, behind_part, names_line, opened, names_value, skipped_value}
+use Rattle.macho_stub.specs.steps.Opened.{OpenDocumentFields}
+use Rattle.macho_stub.specs.steps.Reader.{ItemListFields, NameListFields, Skipped, InsideFields, stays, with_names, behind_expect, behind_part, names_line, opened, names_value, skipped_value}
 use Rattle.macho_stub_lines.specs.ReadLists.{ReadLine, IsReadList}
 use Rattle.macho_stub_lines.proofs.Bind.{bind_ok, chosen, not_broken_else, same_ok, eq_at, ne_at}
 use Rattle.macho_stub.proofs.Rest.{RestBehind, RestSkipped, RestNames, RestInside}

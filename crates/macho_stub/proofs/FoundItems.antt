@@ -12,8 +12,8 @@ use Rattle.macho_stub_lines.specs.declared.fault.StubRule.TheVariants.{S1, S3}
 use Rattle.macho_stub_lines.specs.Bytes.{space, dash, indent, has_dash}
 use Rattle.macho_stub_lines.specs.Keys.{entry_at, item_key}
 use Rattle.macho_stub.specs.Documents.{ItemFields, DocumentFields}
-use Rattle.macho_stub.specs.Opened.{OpenItemFields, OpenDocumentFields, no_item, has_key, with_key}
-use Rattle.macho_stub.specs.Reader.{ItemListFields, InsideFields, names_value, item_entry, item_key_line, key_column, first_line}
+use Rattle.macho_stub.specs.steps.Opened.{OpenItemFields, OpenDocumentFields, no_item, has_key, with_key}
+use Rattle.macho_stub.specs.steps.Reader.{ItemListFields, InsideFields, names_value, item_entry, item_key_line, key_column, first_line}
 use Rattle.macho_stub_lines.specs.ReadLists.{ReadLine}
 use Rattle.macho_stub.proofs.Readings.{IsItemEntry, ItemEntries, ItemTree, items_then, ItemValue, entries_then}
 use Rattle.macho_stub_lines.proofs.Bind.{bind_ok, not_broken, not_broken_else}

@@ -12,9 +12,9 @@ use Rattle.macho_stub_lines.specs.declared.fault.StubRule.TheVariants.{S1, S3}
 use Rattle.macho_stub_lines.specs.Faults.{◌>>=◌, outside}
 use Rattle.macho_stub_lines.specs.Keys.{Entry, entry_at, scalar_value, version_value, top_key}
 use Rattle.macho_stub.specs.Documents.{DocumentFields}
-use Rattle.macho_stub.specs.Opened.{OpenDocumentFields, head_at, has_items, with_items}
-use Rattle.macho_stub.specs.Whole.{whole_document}
-use Rattle.macho_stub.specs.Reader.{Keys, NoItem, InsideFields, StateFields, stays, names_value, top_entry, with_whole, top_line}
+use Rattle.macho_stub.specs.steps.Opened.{OpenDocumentFields, head_at, has_items, with_items}
+use Rattle.macho_stub.specs.steps.Whole.{whole_document}
+use Rattle.macho_stub.specs.steps.Reader.{Keys, NoItem, InsideFields, StateFields, stays, names_value, top_entry, with_whole, top_line}
 use Rattle.macho_stub_lines.specs.Bytes.{head, end}
 use Rattle.macho_stub_lines.specs.ReadLists.{ReadLine}
 use Rattle.macho_stub.proofs.Readings.{Under, Plain, Listed, under_then, TopValue, end_then}

@@ -10,8 +10,8 @@ use Rattle.macho_stub_lines.specs.declared.fault.StubFault.TheVariants.{Rule, Ou
 use Rattle.macho_stub.specs.declared.document.Document.{Document}
 use Rattle.macho_stub_lines.specs.Faults.{Reading, ◌>>=◌, Fails, broken}
 use Rattle.macho_stub.specs.Documents.{DocumentFields}
-use Rattle.macho_stub.specs.Opened.{document_of}
-use Rattle.macho_stub.specs.Checks.{checked_document, checked_documents}
+use Rattle.macho_stub.specs.steps.Opened.{document_of}
+use Rattle.macho_stub.specs.steps.Checks.{checked_document, checked_documents}
 
 -- one element more is gathered
 pub flat_more : {A X Y : Type 0} (f : X → List Y) (view : A → X) (front all : List Y) (xs : List A) (i : ℕ) (x : A) → i < length xs → x

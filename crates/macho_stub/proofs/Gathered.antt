@@ -9,7 +9,7 @@ use Rattle.std.specs.List.{flat_map, AllByRecursion}
 use Rattle.macho_stub_lines.specs.Slices.{Slice, texts_of}
 use Rattle.macho_stub.specs.Documents.{ItemOf, DocumentOf, DocumentFields, item_texts, document_texts, documents_texts}
 use Rattle.macho_stub.specs.Library.{LibraryFields, has_target, picked, picked_for_target, picked_of_document, gathered}
-use Rattle.macho_stub.specs.Checks.{texts_for_target, texts_of_document, gathered_texts}
+use Rattle.macho_stub.specs.steps.Checks.{texts_for_target, texts_of_document, gathered_texts}
 use Rattle.macho_stub.specs.Rules.{IsSoundMain, IsSoundDocument, MakesLibrary}
 use Rattle.macho_stub.proofs.TextRules.{MakesOfTexts}
 

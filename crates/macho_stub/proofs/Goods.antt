@@ -18,8 +18,8 @@ use Rattle.macho_stub_lines.specs.Lists.{list_part, token_front, behind}
 use Rattle.macho_stub_lines.specs.Faults.{Reading, ◌>>=◌, broken, outside}
 use Rattle.macho_stub_lines.specs.Keys.{Entry, entry_at, entry_behind, top_key, item_key, scalar_value, version_value, number_of}
 use Rattle.macho_stub.specs.Documents.{DocumentFields}
-use Rattle.macho_stub.specs.Opened.{OpenDocumentFields, has_items, has_key, with_key}
-use Rattle.macho_stub.specs.Reader.{ItemListFields, InsideFields, Within, Keys, Skipped, NoItem, StateFields, stays, names_value, names_line, skipped_value, top_entry, item_entry, item_key_line, within}
+use Rattle.macho_stub.specs.steps.Opened.{OpenDocumentFields, has_items, has_key, with_key}
+use Rattle.macho_stub.specs.steps.Reader.{ItemListFields, InsideFields, Within, Keys, Skipped, NoItem, StateFields, stays, names_value, names_line, skipped_value, top_entry, item_entry, item_key_line, within}
 use Rattle.macho_stub.specs.Order.{MayStand, in_column}
 use Rattle.macho_stub.proofs.Joined.{IsLine, has_line_feed, take_line, spaces_line}
 use Rattle.macho_stub.proofs.PutIn.{at_item, item_text_steps}

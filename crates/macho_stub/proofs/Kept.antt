@@ -18,8 +18,8 @@ use Rattle.macho_stub_lines.specs.Faults.{Reading, ◌>>=◌, broken, outside}
 use Rattle.macho_stub_lines.specs.Lists.{ListPart, list_part, with_front}
 use Rattle.macho_stub_lines.specs.Keys.{entry_at, scalar_value, version_value, item_key}
 use Rattle.macho_stub.specs.Documents.{ItemFields}
-use Rattle.macho_stub.specs.Opened.{OpenDocumentFields, with_items, has_items, has_key, with_top_key, no_item}
-use Rattle.macho_stub.specs.Reader.{ItemListFields, NameListFields, ModeFields, Keys, Skipped, Names, NoItem, InsideFields, stays, with_names, behind_expect, behind_part, names_line, names_value, opened, skipped_value, item_entry, item_key_line, key_column, first_line, top_entry}
+use Rattle.macho_stub.specs.steps.Opened.{OpenDocumentFields, with_items, has_items, has_key, with_top_key, no_item}
+use Rattle.macho_stub.specs.steps.Reader.{ItemListFields, NameListFields, ModeFields, Keys, Skipped, Names, NoItem, InsideFields, stays, with_names, behind_expect, behind_part, names_line, names_value, opened, skipped_value, item_entry, item_key_line, key_column, first_line, top_entry}
 use Rattle.macho_stub_lines.proofs.Bind.{bind_ok, not_broken, not_broken_else, same_ok, no_ok}
 
 -- what is read has this

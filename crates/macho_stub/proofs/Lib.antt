@@ -63,3 +63,4 @@ pub mod Twice
 pub mod TwiceKeys
 pub mod Walk
 pub mod Whys
+pub mod NoNuls

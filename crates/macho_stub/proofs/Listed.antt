@@ -10,8 +10,8 @@ use Rattle.std.specs.Cmp.Lexicographic.{slice_cmp}
 use Rattle.std.specs.BTreeSet.{BTreeSet, UpdatesBy}
 use Rattle.std.proofs.lemmas.Map.Text.{is_eq-slice_cmp}
 use Rattle.macho_stub.specs.declared.document.Item.{Item}
-use Rattle.macho_stub.specs.Opened.{item_of, items_of}
-use Rattle.macho_stub.specs.Checks.{holds, is_listed}
+use Rattle.macho_stub.specs.steps.Opened.{item_of, items_of}
+use Rattle.macho_stub.specs.steps.Checks.{holds, is_listed}
 use Rattle.macho_stub_lines.specs.Lists.{texts}
 
 -- after a name is put in, it is there, and what was there is

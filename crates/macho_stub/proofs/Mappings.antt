@@ -14,7 +14,7 @@ use Rattle.macho_stub_lines.specs.Slices.{Slice}
 use Rattle.macho_stub_lines.specs.Spelling.{value_of, value_at}
 use Rattle.macho_stub_lines.specs.Keys.{top_key}
 use Rattle.macho_stub.specs.Documents.{ItemOf, DocumentOf}
-use Rattle.macho_stub.specs.Opened.{OpenDocumentOf, head_at, with_items}
+use Rattle.macho_stub.specs.steps.Opened.{OpenDocumentOf, head_at, with_items}
 use Rattle.macho_stub.specs.Grammar.{Under, Lines, Listed, IsSkippedUnder, AreItemsUnder, TopEntry, SaysNumber, SaysScalar, SaysList, SaysItems, IsTopValue, IsTopEntry, DocumentTree, no_text, IsDocument, AreDocuments}
 use Rattle.macho_stub.proofs.Folded as folded
 use Rattle.macho_stub.proofs.MappingsFields.{Mapping, HasKey, Step, Steps, Agree, none_of, gives, gives_or, once, steps_keep, known, known_given, known_or, known_keep, agree, agree_or, steps}

@@ -15,7 +15,7 @@ use Rattle.macho_stub_lines.specs.Slices.{Slice}
 use Rattle.macho_stub_lines.specs.Spelling.{value_of}
 use Rattle.macho_stub_lines.specs.Keys.{item_key}
 use Rattle.macho_stub.specs.Documents.{ItemOf}
-use Rattle.macho_stub.specs.Opened.{OpenItemOf, no_item, with_key}
+use Rattle.macho_stub.specs.steps.Opened.{OpenItemOf, no_item, with_key}
 use Rattle.macho_stub.specs.Grammar.{NoneTwice, IsSkipped, ItemEntry, item_value_at, is_deeper, SaysNames, IsItemValue, IsItemEntry, ItemTree, column_of, entries_of, AreNames, IsItem, AreItems}
 use Rattle.macho_stub.proofs.Folded as folded
 use Rattle.macho_stub.proofs.MappingsFields.{Mapping, HasKey, Step, Steps, Agree, none_of, gives, gives_or, once, known, known_given, known_or, agree, agree_or, steps}

@@ -17,8 +17,8 @@ use Rattle.macho_stub_lines.specs.Scalars.{scalar_front, plain_front}
 use Rattle.macho_stub_lines.specs.Faults.{outside}
 use Rattle.macho_stub_lines.specs.Lists.{list_part, token_front, behind}
 use Rattle.macho_stub.specs.Documents.{documents_texts, DocumentFields}
-use Rattle.macho_stub.specs.Opened.{OpenDocumentFields}
-use Rattle.macho_stub.specs.Reader.{ItemListFields, NameListFields, ModeFields, Keys, Skipped, Names, NoItem, PlaceFields, Outside, Within, StateFields, stays, names_line, line_step, lines_from, start}
+use Rattle.macho_stub.specs.steps.Opened.{OpenDocumentFields}
+use Rattle.macho_stub.specs.steps.Reader.{ItemListFields, NameListFields, ModeFields, Keys, Skipped, Names, NoItem, PlaceFields, Outside, Within, StateFields, stays, names_line, line_step, lines_from, start}
 use Rattle.macho_stub.specs.Order.{MayBegin, MayStand, LacksInItem, LacksInDocument, IsLastHead, IsOpenAlong, IsCutList, IsBareKey, IsWhyAtEnd, BreaksOff, unread_key, unread_item, closing_bracket}
 use Rattle.macho_stub_lines.proofs.Bind.{bind_ok}
 use Rattle.macho_stub.proofs.Joined.{AreLines, lines_are_lines}

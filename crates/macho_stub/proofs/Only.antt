@@ -18,9 +18,9 @@ use Rattle.macho_stub_lines.specs.Bytes.{space, dash, is_passed, has_barred, end
 use Rattle.macho_stub_lines.specs.Faults.{Reading, ◌>>=◌, outside, broken}
 use Rattle.macho_stub_lines.specs.Keys.{Entry, entry_at, scalar_value, version_value, top_key}
 use Rattle.macho_stub.specs.Documents.{ItemFields, DocumentFields}
-use Rattle.macho_stub.specs.Opened.{OpenDocumentFields, head_at, with_items}
-use Rattle.macho_stub.specs.Whole.{whole_document}
-use Rattle.macho_stub.specs.Reader.{Keys, NoItem, Outside, Within, StateFields, stays, with_names, names_value, skipped_value, top_entry, first_line, within, with_whole, top_line, content_line, line_step, lines_from, start, documents_of}
+use Rattle.macho_stub.specs.steps.Opened.{OpenDocumentFields, head_at, with_items}
+use Rattle.macho_stub.specs.steps.Whole.{whole_document}
+use Rattle.macho_stub.specs.steps.Reader.{Keys, NoItem, Outside, Within, StateFields, stays, with_names, names_value, skipped_value, top_entry, first_line, within, with_whole, top_line, content_line, line_step, lines_from, start, documents_of}
 use Rattle.macho_stub_lines.specs.ReadLists.{ReadLine}
 use Rattle.macho_stub.proofs.Readings.{content_from, Under, Plain, Listed, under_then, TopEntry, IsListUnder, IsSkippedUnder, AreItemsUnder, TopValue, IsTopEntry, TopEntries, top_entries_then, DocumentTree, end_then, documents_then, AreDocuments, IsReadText, IsReadLines, items_then, entries_then, column_of}
 use Rattle.macho_stub_lines.proofs.Bind.{eq_true}

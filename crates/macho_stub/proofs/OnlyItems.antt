@@ -15,8 +15,8 @@ use Rattle.macho_stub_lines.specs.Bytes.{is_space, space, dash, indent, unspaced
 use Rattle.macho_stub_lines.specs.Faults.{Reading, ◌>>=◌, outside, broken}
 use Rattle.macho_stub_lines.specs.Keys.{Entry, entry_at, item_key}
 use Rattle.macho_stub.specs.Documents.{ItemFields, DocumentFields}
-use Rattle.macho_stub.specs.Opened.{OpenItemFields, OpenDocumentFields, no_item, has_key, with_items}
-use Rattle.macho_stub.specs.Reader.{ItemListFields, InsideFields, names_value, item_entry, item_key_line, key_column, first_line, items_with_last, within, top_line, item_line}
+use Rattle.macho_stub.specs.steps.Opened.{OpenItemFields, OpenDocumentFields, no_item, has_key, with_items}
+use Rattle.macho_stub.specs.steps.Reader.{ItemListFields, InsideFields, names_value, item_entry, item_key_line, key_column, first_line, items_with_last, within, top_line, item_line}
 use Rattle.macho_stub_lines.specs.ReadLists.{ReadLine}
 use Rattle.macho_stub.proofs.Readings.{ItemEntry, GivesNames, ItemValue, IsItemEntry, ItemEntries, entries_then, ItemTree, column_of, IsItem}
 use Rattle.macho_stub_lines.proofs.Bind.{eq_true, eq_false, not_below}

@@ -8,9 +8,9 @@ use Rattle.macho_stub_lines.specs.declared.keys.ItemKind.{ItemKind}
 use Rattle.macho_stub_lines.specs.Bytes.{space, dash, indent, unspaced, has_dash}
 use Rattle.macho_stub_lines.specs.Faults.{◌>>=◌}
 use Rattle.macho_stub.specs.Documents.{ItemFields, DocumentFields}
-use Rattle.macho_stub.specs.Opened.{OpenDocumentFields, with_items}
-use Rattle.macho_stub.specs.Whole.{whole_item}
-use Rattle.macho_stub.specs.Reader.{ItemListFields, first_line, items_with_last, within, with_whole, top_line, item_line}
+use Rattle.macho_stub.specs.steps.Opened.{OpenDocumentFields, with_items}
+use Rattle.macho_stub.specs.steps.Whole.{whole_item}
+use Rattle.macho_stub.specs.steps.Reader.{ItemListFields, first_line, items_with_last, within, with_whole, top_line, item_line}
 use Rattle.macho_stub_lines.specs.ReadLists.{ReadLine}
 use Rattle.macho_stub.proofs.Readings.{ItemTree, column_of, entries_then, items_then, AreItems}
 use Rattle.macho_stub_lines.proofs.Bind.{eq_true, not_below}

@@ -13,8 +13,8 @@ use Rattle.macho_stub_lines.specs.declared.list.Expect.TheVariants.{AfterOpen, A
 use Rattle.macho_stub_lines.specs.Faults.{Reading, ◌>>=◌, outside}
 use Rattle.macho_stub_lines.specs.Lists.{ListPart, list_part, with_front}
 use Rattle.macho_stub.specs.Documents.{DocumentFields}
-use Rattle.macho_stub.specs.Opened.{OpenDocumentFields}
-use Rattle.macho_stub.specs.Reader.{ItemListFields, Keys, Skipped, Names, InsideFields, Within, stays, with_names, behind_expect, behind_part, names_line, opened, names_value, skipped_value, within, belongs, key_line}
+use Rattle.macho_stub.specs.steps.Opened.{OpenDocumentFields}
+use Rattle.macho_stub.specs.steps.Reader.{ItemListFields, Keys, Skipped, Names, InsideFields, Within, stays, with_names, behind_expect, behind_part, names_line, opened, names_value, skipped_value, within, belongs, key_line}
 use Rattle.macho_stub_lines.specs.ReadLists.{ReadLine, GoesOn, IsReadList}
 use Rattle.macho_stub.proofs.Readings.{IsSkipped}
 use Rattle.macho_stub_lines.proofs.Bind.{eq_true, eq_false, bytes_differ}

@@ -12,8 +12,8 @@ use Rattle.macho_stub_lines.specs.Bytes.{space, dash, colon, indent, unspaced, i
 use Rattle.macho_stub_lines.specs.Faults.{broken, outside}
 use Rattle.macho_stub_lines.specs.Keys.{Entry, entry_at, top_key, item_key}
 use Rattle.macho_stub.specs.Documents.{DocumentFields}
-use Rattle.macho_stub.specs.Opened.{OpenDocumentFields}
-use Rattle.macho_stub.specs.Reader.{ItemListFields, top_entry, item_entry, top_line, line_step}
+use Rattle.macho_stub.specs.steps.Opened.{OpenDocumentFields}
+use Rattle.macho_stub.specs.steps.Reader.{ItemListFields, top_entry, item_entry, top_line, line_step}
 use Rattle.macho_stub.specs.Order.{MayStand, LacksInItem, EndsDocument, EndsWithout, StandsTwice, unread_key, in_column}
 use Rattle.macho_stub_lines.proofs.Bind.{no_ok, same_ok}
 use Rattle.macho_stub.proofs.OnlyLines.{entry_at_top}

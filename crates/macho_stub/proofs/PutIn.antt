@@ -19,8 +19,8 @@ use Rattle.macho_stub_lines.specs.Scalars.{scalar_front, plain_front}
 use Rattle.macho_stub_lines.specs.Lists.{list_part, token_front, behind}
 use Rattle.macho_stub_lines.specs.Keys.{entry_at, top_key, item_key, scalar_value, version_value, number_of}
 use Rattle.macho_stub.specs.Documents.{ItemFields, DocumentFields}
-use Rattle.macho_stub.specs.Opened.{OpenDocumentFields, no_item, with_items}
-use Rattle.macho_stub.specs.Reader.{ItemListFields, NameListFields, ModeFields, Keys, Skipped, Names, NoItem, Within, StateFields, stays, with_names, names_line, names_value, skipped_value, item_key_line, key_column, first_line, within, top_line, items_with_last, item_line, line_step}
+use Rattle.macho_stub.specs.steps.Opened.{OpenDocumentFields, no_item, with_items}
+use Rattle.macho_stub.specs.steps.Reader.{ItemListFields, NameListFields, ModeFields, Keys, Skipped, Names, NoItem, Within, StateFields, stays, with_names, names_line, names_value, skipped_value, item_key_line, key_column, first_line, within, top_line, items_with_last, item_line, line_step}
 use Rattle.macho_stub.specs.Order.{unread_key, unread_item, closing_bracket}
 
 -- ---- where keys may stand

@@ -10,7 +10,7 @@ use Rattle.macho_stub_lines.specs.Faults.{◌>>=◌, broken}
 use Rattle.macho_stub_lines.specs.declared.fault.StubRule.{StubRule}
 use Rattle.macho_stub_lines.specs.Slices.{Slice}
 use Rattle.macho_stub.specs.Documents.{DocumentOf, DocumentFields, documents_texts}
-use Rattle.macho_stub.specs.Reader.{StateFields, line_step, lines_from, start}
+use Rattle.macho_stub.specs.steps.Reader.{StateFields, line_step, lines_from, start}
 use Rattle.macho_stub.specs.Grammar.{IsStubText}
 use Rattle.macho_stub.proofs.Trees.{to_read, of_read}
 use Rattle.macho_stub.specs.Order.{MayBegin, MayStand}

@@ -14,8 +14,8 @@ use Rattle.macho_stub_lines.specs.Bytes.{space, dash, open_bracket, indent, is_p
 use Rattle.macho_stub_lines.specs.ReadLists.{ReadLine, IsReadList}
 use Rattle.macho_stub_lines.specs.Keys.{Entry, entry_at, scalar_value, version_value, top_key, item_key}
 use Rattle.macho_stub.specs.Documents.{ItemFields, DocumentFields}
-use Rattle.macho_stub.specs.Opened.{OpenItemFields, OpenDocumentFields, no_item, head_at, has_key, with_key, has_items, with_items}
-use Rattle.macho_stub.specs.Whole.{whole_item, whole_document}
+use Rattle.macho_stub.specs.steps.Opened.{OpenItemFields, OpenDocumentFields, no_item, head_at, has_key, with_key, has_items, with_items}
+use Rattle.macho_stub.specs.steps.Whole.{whole_item, whole_document}
 
 -- the lines with content, from this number on: those that aren't passed over
 abbrev pub content_from : ℕ → List (List ℕ) → List ReadLine

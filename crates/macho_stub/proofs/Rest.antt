@@ -12,9 +12,9 @@ use Rattle.macho_stub_lines.specs.declared.list.Expect.TheVariants.{Closed}
 use Rattle.macho_stub_lines.specs.Faults.{Reading, ◌>>=◌}
 use Rattle.macho_stub_lines.specs.Lists.{ListPart}
 use Rattle.macho_stub.specs.Documents.{ItemFields, DocumentFields}
-use Rattle.macho_stub.specs.Opened.{OpenItemFields, OpenDocumentFields, with_items}
-use Rattle.macho_stub.specs.Whole.{whole_item, whole_document}
-use Rattle.macho_stub.specs.Reader.{ItemListFields, ModeFields, Keys, Skipped, Names, NoItem, InsideFields, PlaceFields, Outside, Within, with_names, belongs, content_line, ended}
+use Rattle.macho_stub.specs.steps.Opened.{OpenItemFields, OpenDocumentFields, with_items}
+use Rattle.macho_stub.specs.steps.Whole.{whole_item, whole_document}
+use Rattle.macho_stub.specs.steps.Reader.{ItemListFields, ModeFields, Keys, Skipped, Names, NoItem, InsideFields, PlaceFields, Outside, Within, with_names, belongs, content_line, ended}
 use Rattle.macho_stub_lines.specs.ReadLists.{ReadLine, GoesOn}
 use Rattle.macho_stub.proofs.Readings.{ItemEntry, entries_then, ItemEntries, ItemTree, items_then, AreItems, TopEntry, top_entries_then, TopEntries, DocumentTree, end_then, documents_then, AreDocuments}
 use Rattle.macho_stub_lines.specs.Bytes.{end}

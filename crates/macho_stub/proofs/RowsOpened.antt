@@ -8,11 +8,11 @@ use Rattle.macho_stub_lines.specs.Lists.{list_part, token_front, behind}
 use Rattle.macho_stub_lines.specs.Keys.{entry_at, scalar_value, version_value, number_of, top_key, item_key}
 use Rattle.macho_stub_lines.specs.Faults.{Reading}
 use Rattle.macho_stub.specs.Documents.{DocumentFields}
-use Rattle.macho_stub.specs.Whole.{whole_item, whole_document}
-use Rattle.macho_stub.specs.Reader.{documents_of, lines_from, line_step, item_line, items_with_last, top_line, with_whole, first_line, key_column, item_key_line, skipped_value, names_value, names_line}
+use Rattle.macho_stub.specs.steps.Whole.{whole_item, whole_document}
+use Rattle.macho_stub.specs.steps.Reader.{documents_of, lines_from, line_step, item_line, items_with_last, top_line, with_whole, first_line, key_column, item_key_line, skipped_value, names_value, names_line}
 use Rattle.macho_stub.specs.Library.{LibraryFields, has_target}
-use Rattle.macho_stub.specs.Checks.{library_of, checked_documents, checked_document, checked_main, is_listed, same_document, same_items, same_item, same_names, all_same, gathered_texts}
-use Rattle.macho_stub.specs.Answer.{answer_of}
+use Rattle.macho_stub.specs.steps.Checks.{library_of, checked_documents, checked_document, checked_main, is_listed, same_document, same_items, same_item, same_names, all_same, gathered_texts}
+use Rattle.macho_stub.specs.steps.Answer.{answer_of}
 
 -- the documents that are read of a text
 unfoldable pub documents_opened : List ℕ → Reading (List DocumentFields)

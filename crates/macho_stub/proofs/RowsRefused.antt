@@ -28,7 +28,7 @@ use Rattle.macho_stub_lines.proofs.NumberTrees.{number_reads}
 use Rattle.macho_stub_lines.proofs.EntryTrees.{entry_reads}
 use Rattle.macho_stub_lines.proofs.ListTrees.{list_reads}
 use Rattle.macho_stub.specs.Documents.{ItemOf, ItemFields, DocumentOf, DocumentFields, documents_texts}
-use Rattle.macho_stub.specs.Reader.{documents_of}
+use Rattle.macho_stub.specs.steps.Reader.{documents_of}
 use Rattle.macho_stub.specs.Grammar.{NoneTwice, ItemEntry, ItemTree, IsItem, entries_of, IsStubText}
 use Rattle.macho_stub.proofs.Trees.{of_read}
 use Rattle.macho_stub.proofs.Found.{documents_found}

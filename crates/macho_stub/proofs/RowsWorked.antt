@@ -13,7 +13,8 @@ use Rattle.macho_stub_lines.specs.declared.fault.StubRule.TheVariants.{S2, S4, S
 use Rattle.macho_stub_lines.specs.Faults.{broken}
 use Rattle.macho_stub_lines.proofs.Bind.{same_ok}
 use Rattle.macho_stub.specs.Library.{LibraryFields}
-use Rattle.macho_stub.specs.Answer.{IsStub, DocumentStands, IsToldOfText, answer_of}
+use Rattle.macho_stub.specs.Answer.{IsStub, DocumentStands, IsToldOfText}
+use Rattle.macho_stub.specs.steps.Answer.{answer_of}
 use Rattle.macho_stub.proofs.TreesStand.{text_stands}
 use Rattle.macho_stub.proofs.Answered.{answer_found, answer_only, answer_told}
 use Rattle.macho_stub.proofs.RowsOpened.{answer_opened}

@@ -9,7 +9,7 @@ use Rattle.std.specs.List.{list_any}
 use Rattle.std.specs.Str.{bytes_eq}
 use Rattle.macho_stub.specs.Documents.{ItemFields, DocumentFields}
 use Rattle.macho_stub.specs.Library.{target, has_target}
-use Rattle.macho_stub.specs.Checks.{all_same, same_names, same_item, same_items, same_document, is_listed}
+use Rattle.macho_stub.specs.steps.Checks.{all_same, same_names, same_item, same_items, same_document, is_listed}
 use Rattle.macho_stub.specs.Rules.{Among, IsListed, SaySame}
 use Rattle.macho_stub_lines.proofs.Bind.{same_bytes, bytes_same}
 

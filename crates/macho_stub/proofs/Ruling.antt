@@ -15,7 +15,7 @@ use Rattle.macho_stub_lines.specs.declared.fault.StubRule.TheVariants.{S2, S4, S
 use Rattle.macho_stub_lines.specs.Faults.{Fault, Reading, ◌>>=◌, broken}
 use Rattle.macho_stub.specs.Documents.{ItemFields, DocumentFields}
 use Rattle.macho_stub.specs.Library.{target, has_target, LibraryFields}
-use Rattle.macho_stub.specs.Checks.{same_document, is_listed, gathered_texts, checked_libraries, checked_main, checked_document, checked_documents, library_of}
+use Rattle.macho_stub.specs.steps.Checks.{same_document, is_listed, gathered_texts, checked_libraries, checked_main, checked_document, checked_documents, library_of}
 use Rattle.macho_stub.specs.Rules.{Among, IsSoundMain, IsSoundDocument}
 use Rattle.macho_stub.proofs.TextRules.{MakesOfTexts}
 use Rattle.macho_stub_lines.proofs.Bind.{bind_ok, chosen, not_broken, same_ok, no_ok, same_bytes, bytes_same, eq_at, ne_at, eq_false}

@@ -5,7 +5,7 @@
 -- the end of the lists, which are as long. They are by recursion on the lists and the place together.
 use Rattle.std.proofs.Common.{◌≡◌, ℕ, zero, suc, ◌<◌, ◌≤◌, Bool, true, false, ◌&&◌, ◌||◌, not, List, [], ◌∷◌, length, get_or, drop, map, refl, sym, ap, ◌∙◌, arith}
 use Rattle.std.specs.List.{list_any}
-use Rattle.macho_stub.specs.Checks.{all_same}
+use Rattle.macho_stub.specs.steps.Checks.{all_same}
 
 -- one place more that agrees
 pub same_more : {A X : Type 0} (same : X → X → Bool) (view : A → X) (xs ys : List A) (i : ℕ) (d e : A) (total : Bool) → i < length xs

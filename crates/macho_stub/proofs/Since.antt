@@ -12,8 +12,8 @@ use Rattle.macho_stub_lines.specs.Bytes.{indent, unspaced, is_passed, has_barred
 use Rattle.macho_stub_lines.specs.Faults.{Reading, outside}
 use Rattle.macho_stub_lines.specs.Keys.{entry_at}
 use Rattle.macho_stub.specs.Documents.{ItemFields, DocumentFields}
-use Rattle.macho_stub.specs.Opened.{OpenDocumentFields, head_at, with_items}
-use Rattle.macho_stub.specs.Reader.{ItemListFields, NameListFields, ModeFields, Keys, Skipped, Names, NoItem, InsideFields, PlaceFields, Outside, Within, StateFields, stays, first_line, top_line, items_with_last, content_line, line_step, start, names_line, within}
+use Rattle.macho_stub.specs.steps.Opened.{OpenDocumentFields, head_at, with_items}
+use Rattle.macho_stub.specs.steps.Reader.{ItemListFields, NameListFields, ModeFields, Keys, Skipped, Names, NoItem, InsideFields, PlaceFields, Outside, Within, StateFields, stays, first_line, top_line, items_with_last, content_line, line_step, start, names_line, within}
 use Rattle.macho_stub.specs.Order.{MayStand, IsLastHead, IsOpenAlong, IsCutList, IsBareKey, unread_key, unread_item, closing_bracket}
 use Rattle.macho_stub.proofs.PutIn.{at_item, begun, close_steps, dash_steps}
 use Rattle.macho_stub.proofs.Joined.{IsLine}

@@ -11,7 +11,7 @@ use Rattle.std.proofs.lemmas.List.{get_or-drop, get_or_past, drop-drop}
 use Rattle.std.proofs.Math.Seq.{drop-cons}
 use Rattle.std.proofs.Math.Numerals.{one-add}
 use Rattle.macho_stub_lines.specs.Bytes.{is_space, space, dash, indent, unspaced, has_dash}
-use Rattle.macho_stub.specs.Reader.{key_column}
+use Rattle.macho_stub.specs.steps.Reader.{key_column}
 use Rattle.macho_stub_lines.proofs.Bind.{eq_at}
 
 -- a line is its first spaces and the rest

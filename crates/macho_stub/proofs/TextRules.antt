@@ -6,7 +6,7 @@ use Rattle.std.specs.Prelude.{◌≡◌, List, ◌∷◌, true, false}
 use Rattle.std.specs.List.{AllByRecursion}
 use Rattle.macho_stub.specs.Documents.{DocumentFields}
 use Rattle.macho_stub.specs.Library.{LibraryFields}
-use Rattle.macho_stub.specs.Checks.{gathered_texts}
+use Rattle.macho_stub.specs.steps.Checks.{gathered_texts}
 use Rattle.macho_stub.specs.Rules.{IsSoundMain, IsSoundDocument}
 
 -- The documents keep the rules, the first is the main library, and the library is what they say: by document, the

@@ -12,7 +12,7 @@ use Rattle.macho_stub_lines.specs.declared.fault.StubRule.TheVariants.{S2, S4, S
 use Rattle.macho_stub_lines.specs.Faults.{◌>>=◌, broken}
 use Rattle.macho_stub.specs.Documents.{ItemFields, DocumentFields}
 use Rattle.macho_stub.specs.Library.{target, has_target}
-use Rattle.macho_stub.specs.Checks.{same_document, is_listed, checked_libraries, checked_main, checked_document, checked_documents, library_of}
+use Rattle.macho_stub.specs.steps.Checks.{same_document, is_listed, checked_libraries, checked_main, checked_document, checked_documents, library_of}
 use Rattle.macho_stub.specs.Rules.{Among, IsListed, SaySame, StandsBehindSound, IsToldOf, IsTold}
 use Rattle.macho_stub_lines.proofs.Bind.{chosen, same_bytes, bytes_same}
 use Rattle.macho_stub.proofs.Ruled.{clash, target_test, listed_back, document_test}

@@ -13,7 +13,7 @@ use Rattle.macho_stub_lines.specs.declared.fault.StubRule.TheVariants.{S1, S2, S
 use Rattle.macho_stub_lines.specs.Faults.{Reading, ◌>>=◌, broken}
 use Rattle.macho_stub.specs.Documents.{ItemFields, DocumentFields}
 use Rattle.macho_stub.specs.Library.{target, has_target, LibraryFields}
-use Rattle.macho_stub.specs.Checks.{same_document, is_listed, checked_libraries, checked_main, checked_document, checked_documents, library_of}
+use Rattle.macho_stub.specs.steps.Checks.{same_document, is_listed, checked_libraries, checked_main, checked_document, checked_documents, library_of}
 use Rattle.macho_stub.specs.Rules.{Among, IsListed, SaySame, IsSoundMain, IsSoundDocument, StandsBehindSound, IsToldOf, IsTold}
 use Rattle.macho_stub_lines.proofs.Bind.{eq_false, same_bytes, bytes_same}
 use Rattle.macho_stub.proofs.Ruled.{target_held, target_test, listed, document_same}

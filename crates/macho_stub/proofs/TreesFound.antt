@@ -14,8 +14,8 @@ use Rattle.macho_stub_lines.specs.Spelling.{entry_bytes, value_of}
 use Rattle.macho_stub_lines.specs.Keys.{item_key}
 use Rattle.macho_stub_lines.specs.ReadLists.{ReadLine, read_line}
 use Rattle.macho_stub.specs.Documents.{ItemOf, ItemFields, item_texts}
-use Rattle.macho_stub.specs.Opened.{OpenItemOf, OpenItemFields, no_item, with_key}
-use Rattle.macho_stub.specs.Whole.{whole_item}
+use Rattle.macho_stub.specs.steps.Opened.{OpenItemOf, OpenItemFields, no_item, with_key}
+use Rattle.macho_stub.specs.steps.Whole.{whole_item}
 use Rattle.macho_stub.specs.Grammar.{IsSkipped, ItemEntry, entries_then, item_value_at, is_deeper, ItemTree, item_then, items_then}
 use Rattle.macho_stub.proofs.Folded.{GivesNames, ItemValue, IsItemEntry, ItemEntries, IsItem, AreItems}
 use Rattle.macho_stub.proofs.Readings as read

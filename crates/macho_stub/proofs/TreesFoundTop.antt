@@ -12,8 +12,8 @@ use Rattle.macho_stub_lines.specs.Spelling.{EntryTree, entry_bytes, value_of, va
 use Rattle.macho_stub_lines.specs.Keys.{top_key}
 use Rattle.macho_stub_lines.specs.ReadLists.{ReadLine, IsReadList}
 use Rattle.macho_stub.specs.Documents.{ItemOf, ItemFields, DocumentOf, DocumentFields, documents_texts}
-use Rattle.macho_stub.specs.Opened.{OpenDocumentOf, OpenDocumentFields, head_at, with_items}
-use Rattle.macho_stub.specs.Whole.{whole_document}
+use Rattle.macho_stub.specs.steps.Opened.{OpenDocumentOf, OpenDocumentFields, head_at, with_items}
+use Rattle.macho_stub.specs.steps.Whole.{whole_document}
 use Rattle.macho_stub_lines.specs.Bytes.{head, end, belongs_to_top}
 use Rattle.macho_stub.specs.Grammar.{ItemTree, Under, Lines, Listed, under_then, TopEntry, top_entries_then, DocumentTree, end_then, documents_then}
 use Rattle.macho_stub.proofs.Folded.{AreItems, AreItemsUnder, TopValue, TopEntries, AreDocuments}

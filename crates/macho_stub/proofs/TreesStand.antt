@@ -18,7 +18,7 @@ use Rattle.macho_stub_lines.specs.Slices.{Slice, Line, StandsIn}
 use Rattle.macho_stub_lines.specs.Spelling.{entry_bytes, value_of, value_at}
 use Rattle.macho_stub_lines.specs.Keys.{top_key, item_key}
 use Rattle.macho_stub.specs.Documents.{ItemOf, DocumentOf}
-use Rattle.macho_stub.specs.Opened.{OpenItemOf, OpenDocumentOf, no_item, head_at, with_key, with_items}
+use Rattle.macho_stub.specs.steps.Opened.{OpenItemOf, OpenDocumentOf, no_item, head_at, with_key, with_items}
 use Rattle.macho_stub.specs.Answer.{ItemStands, DocumentStands}
 use Rattle.macho_stub.specs.Grammar.{ItemEntry, entries_then, item_value_at, ItemTree, column_of, item_then, items_then, Under, Lines, Listed, under_then, TopEntry, top_entries_then, IsListUnder, DocumentTree, end_then, documents_then, no_text, IsStubText}
 use Rattle.macho_stub.proofs.Folded.{GivesNames, ItemValue, ItemEntries, AreNamesOf, IsWholeItem, IsItem, AreItems, AreItemsUnder, TopValue, TopEntries, IsWholeDocument, AreDocuments}

@@ -13,8 +13,8 @@ use Rattle.macho_stub_lines.specs.Bytes.{colon, indent, unspaced, is_passed, has
 use Rattle.macho_stub_lines.specs.Faults.{Reading, ◌>>=◌, broken}
 use Rattle.macho_stub_lines.specs.Keys.{Entry, entry_at, entry_behind, top_key, item_key}
 use Rattle.macho_stub.specs.Documents.{DocumentFields}
-use Rattle.macho_stub.specs.Opened.{OpenDocumentFields}
-use Rattle.macho_stub.specs.Reader.{ItemListFields, InsideFields, StateFields, skipped_value, top_entry, item_entry, item_key_line, within, top_line, line_step}
+use Rattle.macho_stub.specs.steps.Opened.{OpenDocumentFields}
+use Rattle.macho_stub.specs.steps.Reader.{ItemListFields, InsideFields, StateFields, skipped_value, top_entry, item_entry, item_key_line, within, top_line, line_step}
 use Rattle.macho_stub.specs.Order.{MayStand, StandsTwice, unread_key, in_column}
 use Rattle.macho_stub.proofs.OnlyLines.{entry_unspaced}
 use Rattle.macho_stub.proofs.Joined.{spaces_line}

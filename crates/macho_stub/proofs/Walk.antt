@@ -9,7 +9,7 @@ use Rattle.macho_stub_lines.specs.declared.fault.StubFault.{StubFault}
 use Rattle.macho_stub_lines.specs.declared.fault.StubFault.TheVariants.{Rule, OutOfMemory}
 use Rattle.macho_stub_lines.specs.Faults.{Reading, ◌>>=◌, Fails}
 use Rattle.macho_stub.specs.Documents.{DocumentFields}
-use Rattle.macho_stub.specs.Reader.{StateFields, line_step, lines_from, ended}
+use Rattle.macho_stub.specs.steps.Reader.{StateFields, line_step, lines_from, ended}
 
 -- a step over the line at i
 one_step : (state : StateFields) (all : List (List ℕ)) (i : ℕ) (text : List ℕ) → i < length all → text ≡ get_or all i text

@@ -14,8 +14,8 @@ use Rattle.macho_stub_lines.specs.Bytes.{indent, unspaced, is_passed, is_barred,
 use Rattle.macho_stub_lines.specs.Faults.{Fault, Reading, ◌>>=◌, broken, outside}
 use Rattle.macho_stub_lines.specs.Keys.{Entry, entry_at, top_key, item_key}
 use Rattle.macho_stub.specs.Documents.{ItemFields, DocumentFields}
-use Rattle.macho_stub.specs.Opened.{OpenDocumentFields, with_items, has_key, no_item}
-use Rattle.macho_stub.specs.Reader.{ItemListFields, InsideFields, StateFields, names_value, top_entry, item_entry, item_key_line, key_column, first_line, with_whole, items_with_last, key_line, belongs}
+use Rattle.macho_stub.specs.steps.Opened.{OpenDocumentFields, with_items, has_key, no_item}
+use Rattle.macho_stub.specs.steps.Reader.{ItemListFields, InsideFields, StateFields, names_value, top_entry, item_entry, item_key_line, key_column, first_line, with_whole, items_with_last, key_line, belongs}
 use Rattle.macho_stub.specs.Order.{MayStand, EndsWithout, IsLastHead, IsWhy, unread_key, in_column}
 use Rattle.macho_stub_lines.proofs.Bind.{eq_false, chosen}
 use Rattle.macho_stub.proofs.Ruling.{bind_err, same_err}

@@ -1,15 +1,12 @@
 -- What the reading of a stub text answers.
-use Rattle.std.specs.Prelude.{◌⊎◌, ℕ, List}
+use Rattle.std.specs.Prelude.{◌≢◌, ◌⊎◌, ℕ, List, All}
 use Rattle.std.specs.List.{AllByRecursion}
 use Rattle.macho_stub_lines.specs.declared.fault.StubFault.{StubFault}
 use Rattle.macho_stub_lines.specs.declared.fault.StubFault.TheVariants.{Rule, OutOfMemory}
-use Rattle.macho_stub_lines.specs.Faults.{Reading, ◌>>=◌}
 use Rattle.macho_stub_lines.specs.Slices.{Slice, StandsIn}
 use Rattle.macho_stub.specs.Documents.{ItemOf, DocumentOf, documents_texts}
-use Rattle.macho_stub.specs.Reader.{documents_of}
 use Rattle.macho_stub.specs.Grammar.{IsStubText}
 use Rattle.macho_stub.specs.Library.{LibraryFields}
-use Rattle.macho_stub.specs.Checks.{library_of}
 use Rattle.macho_stub.specs.Rules.{MakesLibrary, IsTold}
 use Rattle.macho_stub.specs.Order.{BreaksOff}
 
@@ -38,6 +35,13 @@ pub record DocumentStands (text : List ℕ) (document : DocumentOf Slice) : Type
 abbrev pub SaysSlices : List ℕ → Type 0
 SaysSlices text = (says : List (DocumentOf Slice)) → IsStubText text says → AllByRecursion (DocumentStands text) says
 
+-- The texts of a library hold no NUL.
+pub record HasNoNul (library : LibraryFields) : Type 0 where
+  pub install_name : All (λ b. b ≢ 0) library.install_name
+  pub current_version : All (λ b. b ≢ 0) library.current_version
+  pub symbols : All (All (λ b. b ≢ 0)) library.symbols
+  pub weak_symbols : All (All (λ b. b ≢ 0)) library.weak_symbols
+
 -- A fault that is told: memory ran out; or the text is in the grammar, and the rule is the one that is told of its
 -- documents; or the reading of the text breaks off.
 abbrev pub IsToldOfText : List ℕ → StubFault → Type 0
@@ -45,7 +49,3 @@ IsToldOfText text OutOfMemory = Unit {0}
 IsToldOfText text (Rule line rule) =
     ((says : List (DocumentOf Slice)) × IsStubText text says × IsTold rule line (documents_texts says))
     ⊎ BreaksOff text line rule
-
--- The documents of a text, and then the library that they make.
-unfoldable pub answer_of : List ℕ → Reading LibraryFields
-answer_of text = documents_of text >>= library_of

@@ -4,7 +4,11 @@ pub mod Library
 pub mod Rules
 pub mod Order
 pub mod Answer
-pub mod Opened
-pub mod Whole
-pub mod Reader
-pub mod Checks
+pub mod steps
+-- definitions of the crate below, which clauses of this one cite
+pub use Rattle.macho_stub_lines.specs.Bytes
+pub use Rattle.macho_stub_lines.specs.Slices
+pub use Rattle.macho_stub_lines.specs.Spelling
+pub use Rattle.macho_stub_lines.specs.FlowLists
+pub use Rattle.macho_stub_lines.specs.Keys
+pub use Rattle.macho_stub_lines.specs.Faults

@@ -4,8 +4,8 @@ ghost use Rattle.std.specs.Prelude.{◌≡◌, ℕ, [], Some, None, is_some, unw
 ghost use Rattle.std.specs.Option.{option_map};
 ghost use Rattle.macho_stub_lines.specs.Faults.{Gives};
 ghost use Rattle.macho_stub_lines.specs.Lists.{texts};
-ghost use Rattle.macho_stub.specs.Opened.{item_of, open_item_of, items_of, document_of, open_document_of, no_item, head_at, has_key, with_key, with_top_key, has_items, with_items};
-ghost use Rattle.macho_stub.specs.Whole.{wanted, wanted_names, whole_item, whole_document};
+ghost use Rattle.macho_stub.specs.steps.Opened.{item_of, open_item_of, items_of, document_of, open_document_of, no_item, head_at, has_key, with_key, with_top_key, has_items, with_items};
+ghost use Rattle.macho_stub.specs.steps.Whole.{wanted, wanted_names, whole_item, whole_document};
 
 use macho_stub_lines::fault::{StubFault, StubRule};
 use macho_stub_lines::keys::{ItemKey, ItemKind};
@@ -150,7 +150,7 @@ impl<'data> OpenItem<'data> {
     }
 
     /// The whole item, in a document at this line.
-    #[tactic(auto, unfolding(crate::specs::Whole::whole_item))]
+    #[tactic(auto, unfolding(crate::specs::steps::Whole::whole_item))]
     pub fn whole(self, alloc: Global, line: u64, kind: ItemKind) -> Result<Item<'data>, StubFault>
         ensures { Gives item_of result (whole_item line kind (open_item_of self.entry)) }
     {
@@ -226,7 +226,7 @@ impl<'data> OpenDocument<'data> {
     }
 
     /// The whole document.
-    #[tactic(auto, unfolding(crate::specs::Whole::whole_document))]
+    #[tactic(auto, unfolding(crate::specs::steps::Whole::whole_document))]
     pub fn whole(self, alloc: Global) -> Result<Document<'data>, StubFault>
         ensures { Gives document_of result (whole_document (open_document_of self.entry)) }
     {

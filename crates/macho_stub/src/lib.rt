@@ -21,21 +21,20 @@
 ghost use Rattle.std.specs.Prelude.{◌≡◌, ℕ, IfErr, IfOk, Ok};
 ghost use Rattle.macho_stub_lines.specs.Faults.{Gives, broken};
 ghost use Rattle.macho_stub.specs.Library.{LibraryFields, library_fields};
-ghost use Rattle.macho_stub.specs.Answer.{IsStub, SaysSlices, IsToldOfText, answer_of};
+ghost use Rattle.macho_stub.specs.Answer.{IsStub, SaysSlices, HasNoNul, IsToldOfText};
+ghost use Rattle.macho_stub.specs.steps.Answer.{answer_of};
 
 mod document;
 mod library;
 mod reader;
 mod state;
-#[cfg(test)]
-mod tests;
 
 pub use library::DefinedStubLibrary;
 pub use macho_stub_lines::fault::{StubFault, StubRule};
 use std::alloc::Global;
 
 /// The library that the documents of the text make.
-#[tactic(auto, unfolding(crate::specs::Answer::answer_of))]
+#[tactic(auto, unfolding(crate::specs::steps::Answer::answer_of))]
 fn answer<'data>(alloc: Global, input: &'data str) -> Result<DefinedStubLibrary<'data>, StubFault>
     ensures { Gives library_fields result (answer_of input.now) }
 {
@@ -57,6 +56,8 @@ pub fn parse_defined_library<'data>(
     ensures found { IfOk result (λ library. IsStub input.now (library_fields library)) }
     // What it says are slices of the input, each at the place where the grammar has it.
     ensures slices { SaysSlices input.now }
+    // No text of the answer holds a NUL.
+    ensures plain { IfOk result (λ library. HasNoNul (library_fields library)) }
     // What is in the grammar and keeps the rules is read, unless memory runs out.
     ensures only { (says : LibraryFields) → IsStub input.now says → Gives library_fields result (Ok says) }
     // A rule that is told is broken at its line, and is the first: in the text, and then in what it says.

@@ -6,9 +6,9 @@ ghost use Rattle.std.specs.Str.{bytes_eq};
 ghost use Rattle.macho_stub_lines.specs.declared.fault.StubFault.TheVariants.{OutOfMemory};
 ghost use Rattle.macho_stub_lines.specs.Faults.{Gives};
 ghost use Rattle.macho_stub_lines.specs.Lists.{texts};
-ghost use Rattle.macho_stub.specs.Opened.{item_of, items_of, document_of};
+ghost use Rattle.macho_stub.specs.steps.Opened.{item_of, items_of, document_of};
 ghost use Rattle.macho_stub.specs.Library.{has_target, picked, library_fields};
-ghost use Rattle.macho_stub.specs.Checks.{texts_for_target, texts_of_document, is_listed, holds, gathered_texts, same_names, same_item, same_items, same_document, checked_libraries, checked_main, checked_document, checked_documents, library_of};
+ghost use Rattle.macho_stub.specs.steps.Checks.{texts_for_target, texts_of_document, is_listed, holds, gathered_texts, same_names, same_item, same_items, same_document, checked_libraries, checked_main, checked_document, checked_documents, library_of};
 
 use crate::document::{Document, Item};
 use macho_stub_lines::fault::{StubFault, StubRule};
@@ -52,7 +52,7 @@ fn has_target(targets: &[&str]) -> bool
 }
 
 /// Whether the names are the same.
-#[tactic(auto, unfolding(crate::specs::Checks::same_names))]
+#[tactic(auto, unfolding(crate::specs::steps::Checks::same_names))]
 fn same_names(left: &[&str], right: &[&str]) -> bool
     ensures { result ≡ same_names (texts left.now) (texts right.now) }
 {
@@ -68,7 +68,7 @@ fn same_names(left: &[&str], right: &[&str]) -> bool
 }
 
 /// Whether the items say the same.
-#[tactic(auto, unfolding(crate::specs::Checks::same_item))]
+#[tactic(auto, unfolding(crate::specs::steps::Checks::same_item))]
 fn same_item(left: &Item<'_>, right: &Item<'_>) -> bool
     ensures { result ≡ same_item (item_of left.now) (item_of right.now) }
 {
@@ -78,7 +78,7 @@ fn same_item(left: &Item<'_>, right: &Item<'_>) -> bool
 }
 
 /// Whether the lists of items say the same.
-#[tactic(auto, unfolding(crate::specs::Checks::same_items))]
+#[tactic(auto, unfolding(crate::specs::steps::Checks::same_items))]
 fn same_items(left: &[Item<'_>], right: &[Item<'_>]) -> bool
     ensures { result ≡ same_items (items_of left.now) (items_of right.now) }
 {
@@ -94,7 +94,7 @@ fn same_items(left: &[Item<'_>], right: &[Item<'_>]) -> bool
 }
 
 /// Whether the documents say the same.
-#[tactic(auto, unfolding(crate::specs::Checks::same_document))]
+#[tactic(auto, unfolding(crate::specs::steps::Checks::same_document))]
 fn same_document(left: &Document<'_>, right: &Document<'_>) -> bool
     ensures { result ≡ same_document (document_of left.now) (document_of right.now) }
 {
@@ -132,7 +132,7 @@ fn checked_libraries(line: u64, items: &[Item<'_>]) -> Result<(), StubFault>
 }
 
 /// Checks the main library.
-#[tactic(auto, unfolding(crate::specs::Checks::checked_main))]
+#[tactic(auto, unfolding(crate::specs::steps::Checks::checked_main))]
 fn checked_main(main: &Document<'_>) -> Result<(), StubFault>
     ensures { Gives (λ u. u) result (checked_main (document_of main.now)) }
 {
@@ -162,7 +162,7 @@ fn with_listed<'data>(
 }
 
 /// The libraries that the items list, so that each is looked up without a walk over all.
-#[tactic(auto, unfolding(crate::specs::Checks::is_listed))]
+#[tactic(auto, unfolding(crate::specs::steps::Checks::is_listed))]
 fn listed_of<'data>(alloc: Global, items: &[Item<'data>]) -> Result<BTreeSet<&'data str>, StubFault>
     ensures done { IfOk result (λ new. (name : List ℕ) → holds new name ≡ is_listed name (items_of items.now)) }
     ensures why { IfErr result (λ fault. fault ≡ OutOfMemory) }
@@ -175,7 +175,7 @@ fn listed_of<'data>(alloc: Global, items: &[Item<'data>]) -> Result<BTreeSet<&'d
 }
 
 /// Checks a document against the main one and the libraries that it lists.
-#[tactic(auto, unfolding(crate::specs::Checks::checked_document))]
+#[tactic(auto, unfolding(crate::specs::steps::Checks::checked_document))]
 fn checked_document(
     main: &Document<'_>,
     listed: &BTreeSet<&str>,
@@ -257,7 +257,7 @@ fn with_document<'data>(
 }
 
 /// The symbols of all documents, or the weak ones.
-#[tactic(auto, unfolding(crate::specs::Checks::gathered_texts))]
+#[tactic(auto, unfolding(crate::specs::steps::Checks::gathered_texts))]
 fn gathered<'data>(
     alloc: Global,
     documents: &[Document<'data>],
@@ -273,7 +273,7 @@ fn gathered<'data>(
 }
 
 /// The library that the documents make.
-#[tactic(auto, unfolding(crate::specs::Checks::library_of))]
+#[tactic(auto, unfolding(crate::specs::steps::Checks::library_of))]
 pub fn library_of<'data>(
     alloc: Global,
     documents: &[Document<'data>],

@@ -13,9 +13,9 @@ ghost use Rattle.std.specs.Option.{option_map};
 ghost use Rattle.macho_stub_lines.specs.Bytes.{indent, is_passed, has_barred, head, end, has_dash, belongs_to_top};
 ghost use Rattle.macho_stub_lines.specs.Faults.{Gives};
 ghost use Rattle.macho_stub_lines.specs.Lists.{texts, part_of};
-ghost use Rattle.macho_stub.specs.Opened.{items_of, item_of, document_of, open_document_of, open_item_of, no_item, head_at};
-ghost use Rattle.macho_stub.specs.Whole.{whole_item, whole_document};
-ghost use Rattle.macho_stub.specs.Reader.{Keys, Within, item_list_of, name_list_of, mode_of, inside_of, place_of, state_of, stays, with_names, behind_part, names_line, opened, names_value, skipped_value, once, item_entry, item_key_line, key_column, first_line, top_entry, within, with_whole, top_line, items_with_last, item_line, key_line, belongs, inside_line, content_line, line_step, ended_document, ended_inside, ended, lines_from, start, documents_of};
+ghost use Rattle.macho_stub.specs.steps.Opened.{items_of, item_of, document_of, open_document_of, open_item_of, no_item, head_at};
+ghost use Rattle.macho_stub.specs.steps.Whole.{whole_item, whole_document};
+ghost use Rattle.macho_stub.specs.steps.Reader.{Keys, Within, item_list_of, name_list_of, mode_of, inside_of, place_of, state_of, stays, with_names, behind_part, names_line, opened, names_value, skipped_value, once, item_entry, item_key_line, key_column, first_line, top_entry, within, with_whole, top_line, items_with_last, item_line, key_line, belongs, inside_line, content_line, line_step, ended_document, ended_inside, ended, lines_from, start, documents_of};
 
 use crate::document::{Document, Item, OpenDocument, head_at, no_item};
 use crate::state::{Inside, ItemList, Mode, NameList, Place, State};
@@ -111,7 +111,7 @@ fn behind_part<'data>(
 }
 
 /// Reads a line of a flow list.
-#[tactic(auto, unfolding(crate::specs::Reader::names_line))]
+#[tactic(auto, unfolding(crate::specs::steps::Reader::names_line))]
 fn names_line<'data>(
     document: OpenDocument<'data>,
     list: Option<ItemList<'data>>,
@@ -143,7 +143,7 @@ fn opened<'data>(alloc: Global, line: u64, key: ItemKey) -> NameList<'data>
 }
 
 /// Reads the value of a key as a flow list.
-#[tactic(auto, unfolding(crate::specs::Reader::names_value))]
+#[tactic(auto, unfolding(crate::specs::steps::Reader::names_value))]
 fn names_value<'data>(
     alloc: Global,
     document: OpenDocument<'data>,
@@ -168,7 +168,7 @@ fn names_value<'data>(
 }
 
 /// Skips the value of a key.
-#[tactic(auto, unfolding(crate::specs::Reader::skipped_value))]
+#[tactic(auto, unfolding(crate::specs::steps::Reader::skipped_value))]
 fn skipped_value<'data>(
     alloc: Global,
     document: OpenDocument<'data>,
@@ -227,7 +227,7 @@ fn item_entry<'data>(
 }
 
 /// Reads a key of an item, from the key on.
-#[tactic(auto, unfolding(crate::specs::Reader::item_key_line))]
+#[tactic(auto, unfolding(crate::specs::steps::Reader::item_key_line))]
 fn item_key_line<'data>(
     alloc: Global,
     document: OpenDocument<'data>,
@@ -244,7 +244,7 @@ fn item_key_line<'data>(
 }
 
 /// The column of the key behind a line's dash.
-#[tactic(auto, unfolding(crate::specs::Reader::key_column, macho_stub_lines::specs::Bytes::has_dash))]
+#[tactic(auto, unfolding(crate::specs::steps::Reader::key_column, macho_stub_lines::specs::Bytes::has_dash))]
 fn key_column(line: &str) -> usize
     requires { has_dash line.now ≡ true }
     ensures { result ≡ key_column line.now }
@@ -254,7 +254,7 @@ fn key_column(line: &str) -> usize
 }
 
 /// Reads the first line of an item, behind other items.
-#[tactic(auto, unfolding(crate::specs::Reader::first_line))]
+#[tactic(auto, unfolding(crate::specs::steps::Reader::first_line))]
 fn first_line<'data>(
     alloc: Global,
     document: OpenDocument<'data>,
@@ -401,7 +401,7 @@ fn items_entry<'data>(
 }
 
 /// The documents with this one behind them, as a whole.
-#[tactic(auto, unfolding(crate::specs::Reader::with_whole))]
+#[tactic(auto, unfolding(crate::specs::steps::Reader::with_whole))]
 fn with_whole<'data>(
     alloc: Global,
     mut documents: Vec<Document<'data>>,
@@ -426,7 +426,7 @@ fn within<'data>(documents: Vec<Document<'data>>, inside: Inside<'data>) -> Stat
 }
 
 /// Reads a line behind the keys of a document.
-#[tactic(auto, unfolding(crate::specs::Reader::top_line))]
+#[tactic(auto, unfolding(crate::specs::steps::Reader::top_line))]
 fn top_line<'data>(
     alloc: Global,
     documents: Vec<Document<'data>>,
@@ -454,7 +454,7 @@ fn top_line<'data>(
 }
 
 /// The items with the last as a whole.
-#[tactic(auto, unfolding(crate::specs::Reader::items_with_last))]
+#[tactic(auto, unfolding(crate::specs::steps::Reader::items_with_last))]
 fn items_with_last<'data>(
     alloc: Global,
     line: u64,
@@ -474,7 +474,7 @@ fn items_with_last<'data>(
 }
 
 /// Reads a line behind the keys of an item.
-#[tactic(auto, unfolding(crate::specs::Reader::item_line))]
+#[tactic(auto, unfolding(crate::specs::steps::Reader::item_line))]
 fn item_line<'data>(
     alloc: Global,
     documents: Vec<Document<'data>>,
@@ -608,7 +608,7 @@ fn content_line<'data>(
 }
 
 /// Reads a line.
-#[tactic(auto, unfolding(crate::specs::Reader::line_step))]
+#[tactic(auto, unfolding(crate::specs::steps::Reader::line_step))]
 fn line_step<'data>(
     alloc: Global,
     state: State<'data>,
@@ -693,7 +693,7 @@ fn ended<'data>(alloc: Global, state: State<'data>) -> Result<Vec<Document<'data
 }
 
 /// The documents of a text.
-#[tactic(auto, unfolding(crate::specs::Reader::documents_of))]
+#[tactic(auto, unfolding(crate::specs::steps::Reader::documents_of))]
 pub fn documents_of<'data>(
     alloc: Global,
     text: &'data str,

@@ -14,3 +14,4 @@ pub mod Parts
 pub mod Places
 pub mod Runs
 pub mod ScalarTrees
+pub mod NoNuls

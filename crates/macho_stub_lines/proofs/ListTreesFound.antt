@@ -13,7 +13,8 @@ use Rattle.macho_stub_lines.specs.Bytes.{space, number_sign, is_tail}
 use Rattle.macho_stub_lines.specs.Slices.{Line}
 use Rattle.macho_stub_lines.specs.Faults.{◌>>=◌}
 use Rattle.macho_stub_lines.specs.Lists.{TokenSpan, ListPart, names_of, token_front, behind, list_part, with_front}
-use Rattle.macho_stub_lines.specs.Spelling.{text_of, scalar_bytes}
+use Rattle.macho_stub_lines.specs.steps.Spelling.{text_of}
+use Rattle.macho_stub_lines.specs.Spelling.{scalar_bytes}
 use Rattle.macho_stub_lines.specs.FlowLists.{Block}
 use Rattle.macho_stub_lines.proofs.Bind.{bind_ok, same_ok}
 use Rattle.macho_stub_lines.proofs.Parts.{goes_on}

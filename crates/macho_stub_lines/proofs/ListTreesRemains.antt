@@ -5,7 +5,8 @@
 -- of plain bytes is the scalar; and no number sign is first, so that a space before it begins no comment.
 use Rattle.std.proofs.Common.{◌≡◌, ◌≢◌, ℕ, Bool, true, false, List, [], ◌∷◌, refl, arith, inl, inr, ◌⊎◌, ap, sym, ◌∙◌}
 use Rattle.macho_stub_lines.specs.Bytes.{space, comma, close_bracket, number_sign, single_quote, double_quote, is_mark, is_plain_byte, is_tail}
-use Rattle.macho_stub_lines.specs.Spelling.{ScalarTree, Plain, Single, Double, text_of, scalar_bytes, IsScalar}
+use Rattle.macho_stub_lines.specs.Spelling.{ScalarTree, Plain, Single, Double, scalar_bytes, IsScalar}
+use Rattle.macho_stub_lines.specs.steps.Spelling.{text_of}
 use Rattle.macho_stub_lines.specs.FlowLists.{Block, bytes_then, turn_then}
 use Rattle.macho_stub_lines.proofs.ScalarTrees.{EndsPlain, tail_ends}
 use Rattle.macho_stub_lines.proofs.ListTreesTails.{tail_begins}

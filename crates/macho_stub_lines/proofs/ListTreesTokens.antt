@@ -10,7 +10,8 @@ use Rattle.macho_stub_lines.specs.declared.fault.StubRule.TheVariants.{S1}
 use Rattle.macho_stub_lines.specs.Bytes.{space, comma, close_bracket, number_sign}
 use Rattle.macho_stub_lines.specs.Scalars.{ScalarSpan, scalar_front}
 use Rattle.macho_stub_lines.specs.Lists.{TokenSpan, mark, gap, name_token, token_front, behind}
-use Rattle.macho_stub_lines.specs.Spelling.{ScalarTree, text_of, scalar_bytes, IsScalar}
+use Rattle.macho_stub_lines.specs.Spelling.{ScalarTree, scalar_bytes, IsScalar}
+use Rattle.macho_stub_lines.specs.steps.Spelling.{text_of}
 use Rattle.macho_stub_lines.proofs.Bind.{eq_at, ne_at, eq_false, no_ok, same_ok, done}
 use Rattle.macho_stub_lines.proofs.ScalarTrees.{EndsPlain, front_found, front_reads}
 use Rattle.macho_stub_lines.proofs.ListTreesRemains.{NoComment, BeginsScalar, scalar_begins}

@@ -12,7 +12,8 @@ use Rattle.macho_stub_lines.specs.Scalars.{ScalarSpan, in_single, in_double, pla
 use Rattle.macho_stub_lines.specs.declared.fault.StubRule.TheVariants.{S1}
 use Rattle.macho_stub_lines.specs.Slices.{Slice}
 use Rattle.macho_stub_lines.specs.Keys.{alone, scalar_value}
-use Rattle.macho_stub_lines.specs.Spelling.{ScalarTree, Plain, Single, Double, text_of, scalar_bytes, slice_of, IsPlain, IsScalar, IsScalarValue}
+use Rattle.macho_stub_lines.specs.Spelling.{ScalarTree, Plain, Single, Double, scalar_bytes, slice_of, IsPlain, IsScalar, IsScalarValue}
+use Rattle.macho_stub_lines.specs.steps.Spelling.{text_of}
 use Rattle.macho_stub_lines.proofs.Bind.{eq_at, eq_true, eq_false, not_broken_else, no_ok, same_ok}
 use Rattle.macho_stub_lines.proofs.Runs.{Stops, Passes, Run, run_of, run_len, first_behind, all_weaker}
 

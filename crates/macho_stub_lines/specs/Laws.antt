@@ -1,5 +1,6 @@
 -- What is read on lines are trees, and every tree is read.
-use Rattle.std.specs.Prelude.{◌≡◌, ℕ, List, map, Ok}
+use Rattle.std.specs.Prelude.{◌≡◌, ◌≢◌, ℕ, false, List, map, All, Ok}
+use Rattle.macho_stub_lines.specs.Bytes.{has_barred}
 use Rattle.macho_stub_lines.specs.Slices.{Slice, Line, texts_of}
 use Rattle.macho_stub_lines.specs.Spelling.{IsScalarValue, IsNumberValue, EntryTree, IsEntry, entry_bytes, value_of}
 use Rattle.macho_stub_lines.specs.FlowLists.{IsFlowList}
@@ -37,3 +38,7 @@ pub record ListsAreTrees : Type 0 where
       → (says : List Slice) × IsFlowList at value more says × (texts_of says ≡ names)
   pub only : (number at : ℕ) (value : List ℕ) (more : List Line) (says : List Slice) → IsFlowList at value more says
       → IsReadList number value (map read_line more) (texts_of says)
+
+-- bytes of which none is barred hold no NUL
+abbrev pub UnbarredIsPlain : Type 0
+UnbarredIsPlain = (bytes : List ℕ) → has_barred bytes ≡ false → All (λ b. b ≢ 0) bytes

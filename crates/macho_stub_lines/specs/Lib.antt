@@ -8,3 +8,4 @@ pub mod Lists
 pub mod Keys
 pub mod ReadLists
 pub mod Laws
+pub mod steps

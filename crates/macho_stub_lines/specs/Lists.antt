@@ -5,7 +5,6 @@ use Rattle.std.specs.Borrow.{Bor}
 use Rattle.macho_stub_lines.specs.declared.list.Expect.{Expect}
 use Rattle.macho_stub_lines.specs.declared.list.Expect.TheVariants.{AfterOpen, AfterComma, AfterName, Closed}
 use Rattle.macho_stub_lines.specs.declared.list.OpenList.{OpenList}
-use Rattle.macho_stub_lines.specs.declared.list.Token.{Token}
 use Rattle.macho_stub_lines.specs.declared.list.TokenKind.{TokenKind}
 use Rattle.macho_stub_lines.specs.declared.list.TokenKind.TheVariants.{Gap, Comma, Close, Name}
 use Rattle.macho_stub_lines.specs.Bytes.{space, comma, close_bracket, number_sign}
@@ -21,9 +20,6 @@ pub record TokenSpan : Type 0 where
   pub kind : TokenKind
   pub text : List ℕ
   pub width : ℕ
-
-abbrev pub token_of : Token → TokenSpan
-token_of token = record { kind = token.kind; text = token.text.now; width = token.width }
 
 -- a token that says nothing
 abbrev pub mark : TokenKind → ℕ → TokenSpan

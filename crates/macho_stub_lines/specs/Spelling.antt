@@ -15,12 +15,6 @@ pub data ScalarTree : Type 0 where
   Single : List ℕ → ScalarTree
   Double : List ℕ → ScalarTree
 
--- its text, and how it is spelled
-abbrev pub text_of : ScalarTree → List ℕ
-text_of (Plain text) = text
-text_of (Single text) = text
-text_of (Double text) = text
-
 abbrev pub scalar_bytes : ScalarTree → List ℕ
 scalar_bytes (Plain text) = text
 scalar_bytes (Single text) = single_quote ∷ (text ++ single_quote ∷ [])

@@ -8,7 +8,8 @@
 ghost use Rattle.std.specs.Prelude.{◌++◌, Ok, ◌≡◌, ◌≤◌, ◌<◌, ◌+◌, ◌-◌, ℕ, length, drop, slice_index, IfOk};
 ghost use Rattle.std.specs.Str.{IsCharBoundary};
 ghost use Rattle.macho_stub_lines.specs.Faults.{Gives};
-ghost use Rattle.macho_stub_lines.specs.Lists.{gap, mark, names_of, part_of, texts, token_of, token_front, behind, list_part, with_front};
+ghost use Rattle.macho_stub_lines.specs.Lists.{gap, mark, names_of, part_of, texts, token_front, behind, list_part, with_front};
+ghost use Rattle.macho_stub_lines.specs.steps.Lists.{token_of};
 
 use crate::bytes::{after, byte_at};
 use crate::fault::{StubFault, StubRule};

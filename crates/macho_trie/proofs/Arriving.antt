@@ -9,7 +9,7 @@ use Rattle.std.proofs.lemmas.Bool.Decides.{nat_tests}
 use Rattle.std.proofs.lemmas.List.{take-take, get_or-take}
 use Rattle.macho_trie.specs.Trees.{Edges, no_edge, edge, edge_count, BeginsAbove}
 use Rattle.macho_trie.specs.Tables.{first_edges, later_edges, name_at, trees_of}
-use Rattle.macho_trie.specs.Building.{names_along, names_open, AreAbove, BeginsWith, IsOpenAt, IsClosing, IsClosed, IsReady, arrived, AreOpenAt, AreClosing, AreReady, root_node}
+use Rattle.macho_trie.specs.steps.Building.{names_along, names_open, AreAbove, BeginsWith, IsOpenAt, IsClosing, IsClosed, IsReady, arrived, AreOpenAt, AreClosing, AreReady, root_node}
 use Rattle.macho_trie.proofs.Building.{node_count-rows}
 use Rattle.macho_trie.specs.declared.table.Row.{Row}
 use Rattle.macho_trie.specs.declared.build.Open.{Open}

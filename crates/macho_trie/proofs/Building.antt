@@ -8,10 +8,10 @@ use Rattle.std.proofs.Common.{◌≡◌, ◌⊎◌, ℕ, zero, suc, ◌+◌, ◌
 use Rattle.std.proofs.lemmas.Bool.{cases_lt, lt-ltb}
 use Rattle.std.proofs.lemmas.Bool.Decides.{nat_tests}
 use Rattle.std.proofs.lemmas.List.{append-nil, take-take, drop-take, get_or-take, get_or-drop, length-take, length-drop, take-append-drop}
-use Rattle.macho_trie.specs.Symbols.{IsPlain}
+use Rattle.macho_trie.specs.steps.Symbols.{IsPlain}
 use Rattle.macho_trie.specs.Trees.{Edges, no_edge, edge, edge_count, node_count, IsLabel, BeginsAbove, AreRadix}
 use Rattle.macho_trie.specs.Tables.{first_edges, later_edges, name_at, symbol_at, trees_of}
-use Rattle.macho_trie.specs.Building.{ending, names_along, names_open, IsGroup, AreAbove, BeginsWith, IsClosing, IsClosed, closed_row, hanging_depth, adopted, AreClosed, AreClosedRows}
+use Rattle.macho_trie.specs.steps.Building.{ending, names_along, names_open, IsGroup, AreAbove, BeginsWith, IsClosing, IsClosed, closed_row, hanging_depth, adopted, AreClosed, AreClosedRows}
 use Rattle.macho_trie.specs.declared.table.Row.{Row}
 use Rattle.macho_trie.specs.declared.build.Open.{Open}
 

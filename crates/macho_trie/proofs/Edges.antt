@@ -8,7 +8,8 @@ use Rattle.std.specs.List.{find}
 use Rattle.std.proofs.lemmas.List.{take_rest}
 use Rattle.macho_bytes.specs.Uleb.{uleb_at}
 use Rattle.macho_trie.specs.Nodes.{Edge, ended_name, edge_at, edges_at}
-use Rattle.macho_trie.specs.Lookup.{leads, step_of, noted, step_among}
+use Rattle.macho_trie.specs.Lookup.{leads}
+use Rattle.macho_trie.specs.steps.Lookup.{step_of, noted, step_among}
 
 pub no_label : (bytes : List ℕ) (at : ℕ) → None ≡ ended_name (take (length bytes - at) (drop at bytes)) → None ≡ edge_at bytes at
 unfolding edge_at

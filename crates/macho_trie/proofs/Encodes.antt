@@ -13,12 +13,13 @@ use Rattle.std.proofs.Math.ListN.{get_or-eq_default}
 use Rattle.macho_bytes.specs.Uleb.{uleb_of, uleb_at}
 use Rattle.macho_bytes.proofs.Ulebs.{groups_last, length-uleb_of, uleb_of-grows}
 use Rattle.macho_trie.specs.Exports.{Exported, as_value, as_reexport}
-use Rattle.macho_trie.specs.Says.{symbol_of, said_of, IsSound}
+use Rattle.macho_trie.specs.Says.{symbol_of, said_of}
+use Rattle.macho_trie.specs.steps.Says.{IsSound}
 use Rattle.macho_trie.specs.Symbols.{symbols_of, names_of}
 use Rattle.macho_trie.specs.Trees.{Edges, no_edge, edge, LeadsTo, edge_count, node_count}
 use Rattle.macho_trie.specs.Tables.{name_at, trees_of, IsTable}
 use Rattle.macho_trie.specs.Encoding.{export_bytes, terminal_bytes, says_of, edges_bytes, node_bytes, tree_bytes, node_sizes, place_of, total_of, terminal_size, AreLeast, IsExportsTrie}
-use Rattle.macho_trie.specs.Layouts.{names_at, says_at, size_at, tree_at, AreLaidOut}
+use Rattle.macho_trie.specs.steps.Layouts.{names_at, says_at, size_at, tree_at, AreLaidOut}
 use Rattle.macho_trie.specs.Tries.{IsTrieOf, IsSizeOf, IsShortest, IsRoomFor, AreNoLarger, Reserves, AreReserved}
 use Rattle.macho_trie.specs.declared.layout.Layout.{Layout}
 use Rattle.macho_trie.specs.declared.symbols.Symbols.{Symbols}

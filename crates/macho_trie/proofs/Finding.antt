@@ -10,7 +10,8 @@ use Rattle.macho_trie.specs.Exports.{Exported, exported_of}
 use Rattle.macho_trie.specs.declared.lookup.Export.{Export}
 use Rattle.std.proofs.lemmas.List.{take_rest}
 use Rattle.macho_trie.specs.Nodes.{Edge, Node, edges_at, terminal_at, node_at}
-use Rattle.macho_trie.specs.Lookup.{leads, step_of, step_among, IsStep, Visits, Finds, here, along}
+use Rattle.macho_trie.specs.Lookup.{leads, Finds, here, along}
+use Rattle.macho_trie.specs.steps.Lookup.{step_of, step_among, IsStep, Visits}
 
 -- what maps to something is something
 from_map : {X Y : Type 0} (f : X → Y) (o : Option X) (y : Y) → Some y ≡ option_map f o → (x : X) × (o ≡ Some x) × (y ≡ f x)

@@ -6,7 +6,7 @@ use Rattle.std.proofs.Common.{◌≡◌, ℕ, List, [], ◌∷◌, ◌++◌, get
 use Rattle.std.proofs.lemmas.List.{append-nil}
 use Rattle.std.proofs.lemmas.List.Elements.{Contains-append_left, Contains-append_right, Contains-append_cases}
 use Rattle.macho_trie.specs.Trees.{Edges, no_edge, edge, LeadsTo}
-use Rattle.macho_trie.specs.Building.{ending, names_along}
+use Rattle.macho_trie.specs.steps.Building.{ending, names_along}
 
 ending_has : (way : List ℕ) (mark : Option ℕ) (s : ℕ) → mark ≡ Some s → Contains (ending way mark) (way, s)
 ending_has way mark s is =

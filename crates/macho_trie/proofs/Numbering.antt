@@ -8,7 +8,7 @@ use Rattle.std.specs.List.{All}
 use Rattle.std.proofs.lemmas.List.{length-map, length-drop, get_or-map, drop-map}
 use Rattle.macho_trie.specs.Trees.{Edges, edge, node_count}
 use Rattle.macho_trie.specs.Tables.{first_edges, later_edges, label_of, symbol_at, trees_of, row_at, trees_from, IsRow, SpellTrees, AreRows}
-use Rattle.macho_trie.specs.Building.{IsClosedRow, AreClosedRows, numbered, numbered_rows}
+use Rattle.macho_trie.specs.steps.Building.{IsClosedRow, AreClosedRows, numbered, numbered_rows}
 use Rattle.macho_trie.specs.declared.table.Row.{Row}
 use Rattle.macho_trie.proofs.Building.{node_count-split, node_count-rows}
 

@@ -10,9 +10,10 @@ use Rattle.std.proofs.lemmas.Bool.{cases_lt}
 use Rattle.std.proofs.lemmas.List.{length-set, set-get_or, get_or-set_same, get_or-set_other}
 use Rattle.std.proofs.lemmas.List.Sums.{sum_by-cons, sum_by-append, sum_by-set}
 use Rattle.macho_bytes.specs.Uleb.{uleb_of}
-use Rattle.macho_trie.specs.Trees.{Edges, no_edge, edge, node_count, IsOneTree}
+use Rattle.macho_trie.specs.Trees.{Edges, no_edge, edge, node_count}
+use Rattle.macho_trie.specs.steps.Trees.{IsOneTree}
 use Rattle.macho_trie.specs.Encoding.{edges_size, node_sizes, place_of}
-use Rattle.macho_trie.specs.Layouts.{AreListed, AreLow, IsNarrow, IsLookedAt}
+use Rattle.macho_trie.specs.steps.Layouts.{AreListed, AreLow, IsNarrow, IsLookedAt}
 use Rattle.macho_trie.proofs.Sizes.{length-node_sizes}
 use Rattle.macho_trie.proofs.Widths.{low_raised, place_at}
 

@@ -13,7 +13,7 @@ use Rattle.std.proofs.Math.Seq.{take-append_seam, drop-append_seam, get_or-appen
 use Rattle.macho_bytes.specs.Uleb.{uleb_of, groups_of, uleb_at}
 use Rattle.macho_bytes.proofs.Ulebs.{uleb_reads_back, length-uleb_of}
 use Rattle.macho_trie.specs.Exports.{Exported, as_value, as_reexport, HasNoNul}
-use Rattle.macho_trie.specs.Says.{IsSound}
+use Rattle.macho_trie.specs.steps.Says.{IsSound}
 use Rattle.macho_trie.specs.Nodes.{Edge, Node, ended_name, export_in, terminal_between, terminal_at, edge_at, edges_at, node_at}
 use Rattle.macho_trie.specs.Trees.{Edges, no_edge, edge, edge_count, node_count, IsLabel, AreRadix}
 use Rattle.macho_trie.specs.Encoding.{export_bytes, terminal_bytes, edges_bytes, node_bytes}

@@ -8,7 +8,7 @@ use Rattle.std.proofs.lemmas.Bool.{lt-ltb}
 use Rattle.std.proofs.lemmas.Bool.Decides.{nat_tests}
 use Rattle.macho_trie.specs.Trees.{Edges, no_edge, edge}
 use Rattle.macho_trie.specs.Tables.{first_edges, later_edges, name_at, symbol_at, trees_of}
-use Rattle.macho_trie.specs.Building.{ending, names_along, AreAbove, IsRoot, closed_row, deepest, arrived, AreOpenAt, AreClosing, AreClosed, AreReady, AreRoot, AreClosedRows, ClosedAs, ArrivedAs, RootedAs, numbered_rows}
+use Rattle.macho_trie.specs.steps.Building.{ending, names_along, AreAbove, IsRoot, closed_row, deepest, arrived, AreOpenAt, AreClosing, AreClosed, AreReady, AreRoot, AreClosedRows, ClosedAs, ArrivedAs, RootedAs, numbered_rows}
 use Rattle.macho_trie.specs.declared.table.Row.{Row}
 use Rattle.macho_trie.specs.declared.build.Open.{Open}
 use Rattle.macho_trie.proofs.Numbering.{trees-numbered, numbered_sound}

@@ -23,7 +23,8 @@ use Rattle.std.proofs.lemmas.Map.Keys.{IsDistinct-IsPermutation}
 use Rattle.std.proofs.lemmas.Map.Made.{AllPairs-from_IsDistinct, IsDistinct-from_AllPairs}
 use Rattle.macho_trie.specs.Tables.{name_at}
 use Rattle.macho_trie.proofs.Arriving.{IsLess}
-use Rattle.macho_trie.specs.Sorting.{AreDistinct, pair_at, AreSorted, AreShared}
+use Rattle.macho_trie.specs.Sorting.{AreDistinct}
+use Rattle.macho_trie.specs.steps.Sorting.{pair_at, AreSorted, AreShared}
 
 -- all names with their numbers
 abbrev pub numbered : List (List ℕ) → ℕ → List (List ℕ × ℕ)

@@ -10,7 +10,7 @@ use Rattle.std.proofs.Math.Seq.{take-append-add}
 use Rattle.std.proofs.lemmas.List.Sums.{sum_by-cons, sum_by-append, sum_by-take-le}
 use Rattle.macho_bytes.specs.Uleb.{uleb_of}
 use Rattle.macho_trie.specs.Exports.{Exported, as_value}
-use Rattle.macho_trie.specs.Says.{IsSound}
+use Rattle.macho_trie.specs.steps.Says.{IsSound}
 use Rattle.macho_trie.specs.Nodes.{node_at}
 use Rattle.macho_trie.specs.Lookup.{Finds, here, along, trie_finds}
 use Rattle.macho_trie.specs.Trees.{Edges, no_edge, edge, LeadsTo, edge_count, node_count, AreRadix}

@@ -12,8 +12,9 @@ use Rattle.std.specs.declared.cmp.Ordering.TheVariants.{Less}
 use Rattle.std.specs.declared.alloc.AllocError.{AllocError}
 use Rattle.macho_trie.specs.Trees.{no_edge, LeadsTo}
 use Rattle.macho_trie.specs.Tables.{name_at, trees_of, IsTable}
-use Rattle.macho_trie.specs.Building.{names_along, names_open, deepest, AreOpenAt, AreClosed, AreReady, ClosedAs, ArrivedAs, StepsAs, RootedAs, root_node}
-use Rattle.macho_trie.specs.Sorting.{pair_at, AreSorted, AreShared, HaveNoNul}
+use Rattle.macho_trie.specs.steps.Building.{names_along, names_open, deepest, AreOpenAt, AreClosed, AreReady, ClosedAs, ArrivedAs, StepsAs, RootedAs, root_node}
+use Rattle.macho_trie.specs.steps.Sorting.{pair_at, AreSorted, AreShared}
+use Rattle.macho_trie.specs.Sorting.{HaveNoNul}
 use Rattle.macho_trie.specs.Exports.{HasNoNul}
 use Rattle.macho_trie.specs.declared.table.Row.{Row}
 use Rattle.macho_trie.specs.declared.build.Open.{Open}

@@ -13,7 +13,7 @@ use Rattle.macho_bytes.proofs.Ulebs.{length-uleb_of, uleb_of-grows}
 use Rattle.macho_trie.specs.Trees.{Edges, no_edge, edge, node_count}
 use Rattle.macho_trie.specs.Encoding.{edges_size, node_sizes, place_of, total_of, AreWide, AreLeast}
 use Rattle.macho_trie.proofs.Sizes.{length-node_sizes}
-use Rattle.macho_trie.specs.Layouts.{needed, AreLow}
+use Rattle.macho_trie.specs.steps.Layouts.{needed, AreLow}
 
 -- each number of a list is at most that of another one
 abbrev pub AreAtMost : List ℕ → List ℕ → Type 0

@@ -5,8 +5,10 @@ pub mod Says
 pub mod Symbols
 pub mod Trees
 pub mod Tables
-pub mod Building
 pub mod Sorting
 pub mod Encoding
-pub mod Layouts
 pub mod Tries
+pub mod Laws
+-- definitions of the crate below, which clauses of this one cite
+pub use Rattle.macho_bytes.specs.Uleb
+pub mod steps

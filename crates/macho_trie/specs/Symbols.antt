@@ -1,5 +1,5 @@
 -- The register of exported names: each with what stands for it, in the order in which they were pushed.
-use Rattle.std.specs.Prelude.{ℕ, ◌<◌, ◌≤◌, List, [], ◌∷◌, ◌++◌, length, slice_index, map}
+use Rattle.std.specs.Prelude.{ℕ, List, [], ◌∷◌, ◌++◌, map}
 use Rattle.macho_trie.specs.Exports.{Exported}
 use Rattle.macho_trie.specs.Says.{symbol_of}
 use Rattle.macho_trie.specs.declared.symbols.Symbols.{Symbols}
@@ -15,6 +15,6 @@ with_symbol symbols name x = symbols ++ (name, x) ∷ []
 abbrev pub names_of : Symbols → List (List ℕ)
 names_of s = map (λ i. i.name.items) s.items.items
 
--- A name of bytes without a NUL.
-pub record IsPlain (name : List ℕ) : Type 0 where
-  pub plain : (k : ℕ) → k < length name → (1 ≤ slice_index name k) × (slice_index name k < 256)
+-- the names with one more at their end
+abbrev pub with_name : List (List ℕ) → List ℕ → List (List ℕ)
+with_name names name = names ++ name ∷ []

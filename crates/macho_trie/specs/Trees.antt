@@ -39,8 +39,3 @@ abbrev pub AreRadix : Edges → Type 0
 AreRadix no_edge = Unit {0}
 AreRadix (edge label symbol below rest) =
     IsLabel label × (IsSome symbol ⊎ (2 ≤ edge_count below)) × AreRadix below × BeginsAbove (slice_index label 0) rest × AreRadix rest
-
--- one tree alone, or none
-abbrev pub IsOneTree : Edges → Type 0
-IsOneTree no_edge = Unit {0}
-IsOneTree (edge label symbol below rest) = rest ≡ no_edge

@@ -4,16 +4,18 @@
 //! node `_fo` and the node `_foobar`. The next name `_foo` leaves that way at `_foo`: the node `_foobar` is closed, its row is
 //! put in front of the others, and it hangs at a new node `_foo`, where the name ends.
 ghost use Rattle.std.specs.Prelude.{◌≡◌, ℕ, ◌+◌, ◌<◌, ◌≤◌, ◌++◌, [], ◌∷◌, List, ◌^◌, OnOk, IfOk, length, map, false, true, reverse};
-ghost use Rattle.macho_trie.specs.Symbols.{names_of, IsPlain};
+ghost use Rattle.macho_trie.specs.Symbols.{names_of};
+ghost use Rattle.macho_trie.specs.steps.Symbols.{IsPlain};
 ghost use Rattle.macho_trie.specs.Exports.{HasNoNul};
 ghost use Rattle.macho_trie.specs.Tables.{name_at, IsTable};
-ghost use Rattle.macho_trie.specs.Sorting.{AreSorted, HaveNoNul};
+ghost use Rattle.macho_trie.specs.steps.Sorting.{AreSorted};
+ghost use Rattle.macho_trie.specs.Sorting.{HaveNoNul};
 ghost use Rattle.std.specs.Cmp.Lexicographic.{slice_cmp};
 ghost use Rattle.std.specs.List.{All};
 ghost use Rattle.std.specs.Ordering.{nat_cmp};
 ghost use Rattle.std.specs.declared.cmp.Ordering.TheVariants.{Less};
-ghost use Rattle.macho_trie.specs.Building.{numbered_rows, names_in, rows_in, open_in, root_node, deepest, adopted, MayClose, Closes, IsAt};
-ghost use Rattle.macho_trie.specs.Building.{IsReadyFor, Arrives, Steps, IsAtRoot, IsRooted};
+ghost use Rattle.macho_trie.specs.steps.Building.{numbered_rows, names_in, rows_in, open_in, root_node, deepest, adopted, MayClose, Closes, IsAt};
+ghost use Rattle.macho_trie.specs.steps.Building.{IsReadyFor, Arrives, Steps, IsAtRoot, IsRooted};
 
 use crate::sort::shared_length;
 use crate::symbols::Symbols;

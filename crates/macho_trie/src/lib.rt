@@ -2,20 +2,16 @@
 #![tactic(auto)]
 
 mod build;
+mod laws;
 mod layout;
 mod lookup;
-#[cfg(test)]
-mod plain;
 mod sort;
 mod spelling;
 mod symbols;
 mod table;
-#[cfg(test)]
-mod tests;
 mod trie;
-#[cfg(test)]
-mod trie_tests;
 
+pub use laws::sizes_are_one;
 pub use lookup::{Export, trie_lookup};
 pub use symbols::Symbols;
 pub use trie::Trie;

@@ -14,7 +14,8 @@ ghost use Rattle.std.specs.Prelude.{◌≡◌, ℕ, ◌+◌, ◌<◌, ◌≤◌,
 ghost use Rattle.std.specs.Option.{option_map};
 ghost use Rattle.macho_trie.specs.Exports.{exported_of, Exported};
 ghost use Rattle.macho_trie.specs.Nodes.{export_in, ended_name, edge_at, edges_at, terminal_at, node_at};
-ghost use Rattle.macho_trie.specs.Lookup.{trie_finds, Visits, IsStep, step_among, noted};
+ghost use Rattle.macho_trie.specs.Lookup.{trie_finds};
+ghost use Rattle.macho_trie.specs.steps.Lookup.{Visits, IsStep, step_among, noted};
 
 use macho_records::read_uleb;
 use memchr::memchr;

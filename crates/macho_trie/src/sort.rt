@@ -1,7 +1,8 @@
 //! Names in order.
 ghost use Rattle.std.specs.Prelude.{◌≡◌, IfOk, map};
 ghost use Rattle.macho_trie.specs.Symbols.{names_of};
-ghost use Rattle.macho_trie.specs.Sorting.{AreDistinct, AreSorted, AreShared};
+ghost use Rattle.macho_trie.specs.Sorting.{AreDistinct};
+ghost use Rattle.macho_trie.specs.steps.Sorting.{AreSorted, AreShared};
 
 use crate::symbols::Symbols;
 use std::alloc::{AllocError, Global};

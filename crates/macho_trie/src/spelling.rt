@@ -10,7 +10,7 @@ ghost use Rattle.std.specs.Prelude.{◌≡◌, ℕ, ◌+◌, ◌<◌, ◌≤◌,
 ghost use Rattle.std.specs.Option.{option_map};
 ghost use Rattle.macho_trie.specs.Tables.{symbol_at, name_at, label_of};
 ghost use Rattle.macho_bytes.specs.Uleb.{uleb_of};
-ghost use Rattle.macho_trie.specs.Layouts.{names_at, says_at, tree_at, children_of, IsLaid};
+ghost use Rattle.macho_trie.specs.steps.Layouts.{names_at, says_at, tree_at, children_of, IsLaid};
 ghost use Rattle.macho_trie.specs.Encoding.{edges_bytes, export_bytes, terminal_bytes, tree_bytes};
 ghost use Rattle.macho_trie.specs.Says.{said_of};
 

@@ -1,7 +1,8 @@
 //! The names to be exported, each with what stands for it.
 ghost use Rattle.std.specs.Prelude.{◌<◌, List, length};
 ghost use Rattle.std.specs.List.{All};
-ghost use Rattle.macho_trie.specs.Says.{said_of, IsSound};
+ghost use Rattle.macho_trie.specs.Says.{said_of};
+ghost use Rattle.macho_trie.specs.steps.Says.{IsSound};
 
 use std::alloc::{AllocError, Global};
 
@@ -29,11 +30,13 @@ pub(crate) enum Says {
 impl Symbols {
     ghost use Rattle.std.specs.Prelude.{◌≡◌, ℕ, [], OnOk, OnErr, false};
     ghost use Rattle.macho_trie.specs.Exports.{REEXPORT, is_reexport, HasNoNul, as_value, as_reexport};
-    ghost use Rattle.macho_trie.specs.Symbols.{symbols_of, with_symbol};
+    ghost use Rattle.macho_trie.specs.Symbols.{symbols_of, names_of, with_name, with_symbol};
+    ghost use Rattle.macho_trie.specs.Tables.{name_at};
 
     /// No names.
     pub fn new(alloc: Global) -> Symbols
-        ensures { symbols_of result ≡ [] }
+        ensures none { symbols_of result ≡ [] }
+        ensures names { names_of result ≡ [] }
     {
         Symbols {
             items: Vec::new(alloc),
@@ -45,6 +48,7 @@ impl Symbols {
     pub fn push(&mut self, name: &[u8], address: u64, flags: u64) -> Result<(), AllocError>
         requires { is_reexport flags ≡ false }
         ensures done { OnOk result (symbols_of self.new ≡ with_symbol (symbols_of self.old) name.now (as_value flags address)) }
+        ensures names { OnOk result (names_of self.new ≡ with_name (names_of self.old) name.now) }
         ensures kept { OnErr result (symbols_of self.new ≡ symbols_of self.old) }
     {
         self.add(name, Says::Value { flags, address })
@@ -60,6 +64,7 @@ impl Symbols {
     ) -> Result<(), AllocError>
         requires { HasNoNul import_name.now }
         ensures done { OnOk result (symbols_of self.new ≡ with_symbol (symbols_of self.old) name.now (as_reexport REEXPORT ordinal import_name.now)) }
+        ensures names { OnOk result (names_of self.new ≡ with_name (names_of self.old) name.now) }
         ensures kept { OnErr result (symbols_of self.new ≡ symbols_of self.old) }
     {
         let there = Vec::from_slice(*self.items.allocator(), import_name)?;
@@ -72,9 +77,25 @@ impl Symbols {
         )
     }
 
+    /// How many names there are.
+    pub fn len(&self) -> usize
+        ensures { result ≡ length (names_of self.now) }
+    {
+        self.items.len()
+    }
+
+    /// A name by its number, in the order in which they were pushed.
+    pub fn name(&self, number: usize) -> &[u8]
+        requires { number < length (names_of self.now) }
+        ensures { result.now ≡ name_at (names_of self.now) number }
+    {
+        self.items[number].name.as_slice()
+    }
+
     fn add(&mut self, name: &[u8], says: Says) -> Result<(), AllocError>
         requires { IsSound (said_of says) }
         ensures done { OnOk result (symbols_of self.new ≡ with_symbol (symbols_of self.old) name.now (said_of says)) }
+        ensures names { OnOk result (names_of self.new ≡ with_name (names_of self.old) name.now) }
         ensures kept { OnErr result (symbols_of self.new ≡ symbols_of self.old) }
     {
         let name = Vec::from_slice(*self.items.allocator(), name)?;

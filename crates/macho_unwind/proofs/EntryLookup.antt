@@ -1,17 +1,16 @@
 -- Look-up in the section of entries finds each offset's entry, and nothing else.
 --
--- The plan says of an offset what its entry says, and the bytes say what the plan says. The other way round: where
+-- The plan says of an offset what its entry says, and all bytes that begin with its text say what the plan says. The other way round: where
 -- look-up finds something, some row starts at the offset or before it, so some entry does, and the greatest of these is the
 -- offset's entry; look-up finds it, and finds one thing at most.
-use Rattle.std.proofs.Common.{◌≡◌, ℕ, ◌+◌, ◌<◌, ◌≤◌, List, [], ◌∷◌, length, get_or, None, ap, ◌∙◌, arith}
+use Rattle.std.proofs.Common.{◌≡◌, ℕ, ◌+◌, ◌<◌, ◌≤◌, List, [], ◌∷◌, length, get_or, None, ap, subst, ◌∙◌, arith}
 use Rattle.macho_bytes.specs.Texts.{Stands}
 use Rattle.macho_bytes.proofs.Puts.{stands_by_bytes}
 use Rattle.macho_unwind_pages.specs.declared.entries.ResolvedUnwindInfo.{ResolvedUnwindInfo}
 use Rattle.macho_unwind_pages.specs.Entries.{AreEntries, inputs_of, ids_of, named_ids}
 use Rattle.macho_unwind_pages.specs.declared.paging.Row.{Row}
 use Rattle.macho_unwind_pages.specs.Plans.{PlanList, IsPlanOf}
-use Rattle.macho_unwind.specs.Texts.{section_text}
-use Rattle.macho_unwind.specs.Entries.{found_for, IsEntryOf, FindsEntries, FindsOnlyEntries, IsSectionOf}
+use Rattle.macho_unwind.specs.Entries.{found_for, IsEntryOf, BeginsWith, FindsEntries, FindsOnlyEntries, FindsNothing, IsSectionOf}
 use Rattle.macho_unwind.proofs.Uniqueness.{finds-unique}
 use Rattle.macho_unwind.proofs.Standing.{section-parts}
 use Rattle.macho_unwind.proofs.PlanLookup.{IsGiven, found-where-said, covered-where-found}
@@ -27,19 +26,20 @@ stands-whole bytes text is =
     stands_by_bytes bytes (record { at = 0; text = text }) (omega (arith, ap (λ (t : List ℕ). length t) is))
     (λ i h. ap (λ (k : ℕ). get_or bytes k 0) (omega arith) ∙ ap (λ (t : List ℕ). get_or t i 0) is)
 
-pub section-given : (text : ℕ) (entries : List ResolvedUnwindInfo) (bytes : List ℕ) (s : IsSectionOf text entries bytes)
-    → IsGiven bytes s.plan
-section-given text entries bytes s = record {
+-- the section's plan, in bytes that begin with the section
+pub section-given : (text : ℕ) (entries : List ResolvedUnwindInfo) (section bytes : List ℕ) (s : IsSectionOf text entries section)
+    → BeginsWith bytes section → IsGiven bytes s.plan
+section-given text entries section bytes s begins = record {
   formed = s.of_entries.formed;
   places = s.places;
-  stands = section-parts bytes s.plan (stands-whole bytes (section_text s.plan) s.is);
+  stands = section-parts bytes s.plan (subst (λ (t : List ℕ). BeginsWith bytes t) s.is begins);
 }
 
 -- look-up in the entries' section finds each offset's entry
-pub finds-entries : (text : ℕ) (entries : List ResolvedUnwindInfo) (bytes : List ℕ) → AreEntries text entries
-    → IsSectionOf text entries bytes → FindsEntries text entries bytes
-finds-entries text entries bytes are s offset e of =
-    found-where-said bytes s.plan offset (found_for text e) (section-given text entries bytes s)
+pub finds-entries : (text : ℕ) (entries : List ResolvedUnwindInfo) (section : List ℕ) → AreEntries text entries
+    → IsSectionOf text entries section → FindsEntries text entries section
+finds-entries text entries section are s bytes begins offset e of =
+    found-where-said bytes s.plan offset (found_for text e) (section-given text entries section bytes s begins)
     (said-of-entry text entries s.plan offset e are s.of_entries of)
 
 -- an entry that isn't there
@@ -47,10 +47,10 @@ abbrev pub no_entry : ResolvedUnwindInfo
 no_entry = record { start = 0; length = 0; encoding = 0; personality = None; lsda = None }
 
 -- what look-up finds there of an offset is what the entry of the offset says
-pub finds-only-entries : (text : ℕ) (entries : List ResolvedUnwindInfo) (bytes : List ℕ) → AreEntries text entries
-    → IsSectionOf text entries bytes → FindsOnlyEntries text entries bytes
-finds-only-entries text entries bytes are s offset x finds =
-    let covered = covered-where-found bytes s.plan offset x (section-given text entries bytes s) finds in
+pub finds-only-entries : (text : ℕ) (entries : List ResolvedUnwindInfo) (section : List ℕ) → AreEntries text entries
+    → IsSectionOf text entries section → FindsOnlyEntries text entries section
+finds-only-entries text entries section are s bytes begins offset x finds =
+    let covered = covered-where-found bytes s.plan offset x (section-given text entries section bytes s begins) finds in
     let m = entry-of-row text entries s.plan s.of_entries no_entry covered.row covered.one in
     let start = ap (λ (r : Row). r.start) m.is in
     let top = top-of (λ (e : ResolvedUnwindInfo). e.start) (text + offset) entries m.item m.one (omega (arith, start, covered.up_to)) in
@@ -62,15 +62,15 @@ finds-only-entries text entries bytes are s offset x finds =
     } in record {
       entry = top.item;
       of_offset = of;
-      is = finds-unique bytes offset x (found_for text top.item) finds (finds-entries text entries bytes are s offset top.item of);
+      is = finds-unique bytes offset x (found_for text top.item) finds (finds-entries text entries section are s bytes begins offset top.item of);
     }
 
 -- no bytes say anything
-pub nothing-finds : (text : ℕ) (entries : List ResolvedUnwindInfo) (bytes : List ℕ) → bytes ≡ [] → FindsOnlyEntries text entries bytes
-nothing-finds text entries bytes empty offset x finds = absurd (omega (arith, finds.tables.header, ap (λ (t : List ℕ). length t) empty))
+pub nothing-finds : (bytes : List ℕ) → bytes ≡ [] → FindsNothing bytes
+nothing-finds bytes empty offset x finds = absurd (omega (arith, finds.tables.header, ap (λ (t : List ℕ). length t) empty))
 
-pub no-entry-of : (text : ℕ) (entries : List ResolvedUnwindInfo) (bytes : List ℕ) → length entries ≡ 0 → FindsEntries text entries bytes
-no-entry-of text entries bytes none offset e of = absurd (omega (arith, of.one.1))
+pub no-entry-of : (text : ℕ) (entries : List ResolvedUnwindInfo) (section : List ℕ) → length entries ≡ 0 → FindsEntries text entries section
+no-entry-of text entries section none bytes begins offset e of = absurd (omega (arith, of.one.1))
 
 -- no entries name no personality
 pub no-ids : (entries : List ResolvedUnwindInfo) → length entries ≡ 0 → length (ids_of (inputs_of entries)) ≤ 3

@@ -18,7 +18,7 @@ use Rattle.macho_unwind_pages.specs.Entries.{AreEntries, inputs_of, ids_of, plac
 use Rattle.macho_unwind_pages.specs.declared.paging.Row.{Row}
 use Rattle.macho_unwind_pages.specs.Plans.{PlanList, rows_of, row_from, lsda_at, lsda_from, IsPlanOf, HasSlot}
 use Rattle.macho_unwind.specs.Sections.{personality_in, without_personality}
-use Rattle.macho_unwind.specs.Says.{NamesSlot, IsLsdaOf, PlanSays}
+use Rattle.macho_unwind.specs.steps.Says.{NamesSlot, IsLsdaOf, PlanSays}
 use Rattle.macho_unwind.specs.Entries.{found_for, IsEntryOf}
 use Rattle.macho_unwind.proofs.Members.{found_in, found_from}
 use Rattle.macho_unwind.proofs.Greatest.{top-of}

@@ -14,5 +14,4 @@ pub mod Greatest
 pub mod EntryRows
 pub mod EntryLookup
 pub mod Rows
-pub mod Fitness
 pub mod OnePlace

@@ -1,17 +1,22 @@
 -- The section of entries is that of their one plan.
 --
 -- Entries have one plan. So where the last page of one has a place of 32 bits, there is no plan of the entries whose last page
--- hasn't. No entries have no page, and the tables before it are small.
-use Rattle.std.proofs.Common.{◌≡◌, ℕ, ◌-◌, ◌<◌, List, [], ◌∷◌, length, map, take, get_or, refl, ap, ◌∙◌, arith, length-append}
+-- hasn't. No entries have no page, and the tables before it are small. The last page stands in the section, which has no more bytes
+-- than are told before: so where it is far, these are many.
+use Rattle.std.proofs.Common.{◌≡◌, ℕ, ◌-◌, ◌<◌, List, [], ◌∷◌, length, map, take, get_or, refl, ap, ◌∙◌, arith, length-append, inl, inr}
 use Rattle.std.specs.List.{flat_map, sum_by}
 use Rattle.std.proofs.lemmas.List.{length-map, nil_from_length}
+use Rattle.std.proofs.lemmas.Bool.{cases_lt}
+use Rattle.std.proofs.lemmas.List.Sums.{sum_by-take-le}
 use Rattle.std.proofs.lemmas.List.Sorted.{length_permutation}
 use Rattle.macho_unwind_pages.specs.declared.entries.ResolvedUnwindInfo.{ResolvedUnwindInfo}
 use Rattle.macho_unwind_pages.specs.Entries.{inputs_of, ids_of}
 use Rattle.macho_unwind_pages.specs.Plans.{PageList, PlanList, IsPage, IsPlanOf, page_rows, row_of, page_size, row_from, lsda_from}
 use Rattle.macho_unwind_pages.proofs.OnePlan.{plans_are_one}
+use Rattle.macho_unwind_pages.proofs.PlansShort.{plans_short}
 use Rattle.macho_unwind.specs.Texts.{HasPlaces, last_place, section_text}
 use Rattle.macho_unwind.specs.Entries.{IsSectionOf, HasFarPage}
+use Rattle.macho_unwind.specs.Laws.{FarPageNeedsRoom}
 
 -- the bytes of a plan of entries are their section
 pub is_section : (text : ℕ) (entries : List ResolvedUnwindInfo) (plan : PlanList) (bytes : List ℕ) → 0 < length entries
@@ -53,3 +58,17 @@ no_page_at_all text entries none far =
     let before : sum_by page_size (take (length far.plan.pages - 1) far.plan.pages) ≡ 0
     = ap (λ (l : List PageList). sum_by page_size (take (length l - 1) l)) pages in
     omega (arith, far.far, before, ap length pages, lsdas, a.formed.globals, a.formed.personalities)
+
+-- a page too far away needs room for it
+pub far_page : FarPageNeedsRoom
+far_page text span entries are far spans =
+    elim (cases_lt 0 (length entries)) [
+      | inr none ↦ absurd (no_page_at_all text entries (omega arith) far)
+      | inl some ↦
+          omega (
+            arith,
+            far.far,
+            (plans_short text entries far.plan some are far.of_entries).1 span spans,
+            sum_by-take-le page_size far.plan.pages (length far.plan.pages - 1),
+          )
+    ]

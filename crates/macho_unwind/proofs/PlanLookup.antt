@@ -20,7 +20,7 @@ use Rattle.macho_unwind.specs.declared.lookup.Found.{Found}
 use Rattle.macho_unwind.specs.Sections.{last_entry, first_at, page_at, word_at, start_at, offset_in, index_in, encoding_at, personality_in, lsda_count, lsda_at}
 use Rattle.macho_unwind.specs.Lookup.{IsGreatestUpTo, IsFunctionOf, NamesPersonality, IsLsda, HasLsda, UnwindFinds}
 use Rattle.macho_unwind.specs.Texts.{HasPlaces, page_of, lsda_for}
-use Rattle.macho_unwind.specs.Says.{NamesSlot, IsLsdaOf, PlanSays}
+use Rattle.macho_unwind.specs.steps.Says.{NamesSlot, IsLsdaOf, PlanSays}
 use Rattle.macho_unwind.proofs.Standing.{PlanStands}
 use Rattle.macho_unwind.proofs.Readback.{formed_at, header-read, entry-read, last-read, head-read, word-read, encoding-read, personality-read, tables-read}
 use Rattle.macho_unwind.proofs.LsdaReadback.{no_lsda, HasRange, range-of, lsda-read, page-whole}

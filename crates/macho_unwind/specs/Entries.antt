@@ -1,5 +1,6 @@
 -- What a section says of the entries that it was made of.
 use Rattle.std.specs.Prelude.{◌≡◌, ℕ, ◌+◌, ◌-◌, ◌^◌, ◌<◌, ◌≤◌, ◌⊎◌, List, length, All, Contains, option_map}
+use Rattle.macho_bytes.specs.Texts.{Stands}
 use Rattle.macho_unwind_pages.specs.declared.entries.ResolvedUnwindInfo.{ResolvedUnwindInfo}
 use Rattle.macho_unwind_pages.specs.declared.entries.UnwindFault.{UnwindFault}
 use Rattle.macho_unwind_pages.specs.declared.entries.UnwindFault.TheVariants.{TooManyPersonalities, OffsetTooLarge, OutOfMemory}
@@ -28,10 +29,14 @@ pub record IsEntryOf (text : ℕ) (entries : List ResolvedUnwindInfo) (offset : 
   pub greatest : All (λ f. f.start ≤ text + offset → f.start ≤ e.start) entries
   pub before_end : All (λ f. IsLast entries f → text + offset < f.start + f.length) entries
 
--- look-up of an offset finds its entry
+-- bytes begin with a section; room that is kept for it may follow
+abbrev pub BeginsWith : List ℕ → List ℕ → Type 0
+BeginsWith bytes section = Stands bytes (record { at = 0; text = section })
+
+-- in all bytes that begin with a section look-up of an offset finds its entry
 abbrev pub FindsEntries : ℕ → List ResolvedUnwindInfo → List ℕ → Type 0
-FindsEntries text entries bytes =
-    (offset : ℕ) (e : ResolvedUnwindInfo) → IsEntryOf text entries offset e
+FindsEntries text entries section =
+    (bytes : List ℕ) → BeginsWith bytes section → (offset : ℕ) (e : ResolvedUnwindInfo) → IsEntryOf text entries offset e
     → UnwindFinds bytes offset (found_for text e)
 
 -- An entry of an offset, of which this is what is to be found.
@@ -40,10 +45,14 @@ pub record IsFoundFor (text : ℕ) (entries : List ResolvedUnwindInfo) (offset :
   pub of_offset : IsEntryOf text entries offset entry
   pub is : x ≡ found_for text entry
 
--- look-up of an offset finds nothing else
+-- and it finds nothing else
 abbrev pub FindsOnlyEntries : ℕ → List ResolvedUnwindInfo → List ℕ → Type 0
-FindsOnlyEntries text entries bytes =
-    (offset : ℕ) (x : Found) → UnwindFinds bytes offset x → IsFoundFor text entries offset x
+FindsOnlyEntries text entries section =
+    (bytes : List ℕ) → BeginsWith bytes section → (offset : ℕ) (x : Found) → UnwindFinds bytes offset x → IsFoundFor text entries offset x
+
+-- look-up finds nothing in the bytes
+abbrev pub FindsNothing : List ℕ → Type 0
+FindsNothing bytes = (offset : ℕ) (x : Found) → UnwindFinds bytes offset x → ⊥
 
 -- the bytes are at most as many as the bound for any span that the starts keep to
 abbrev pub FitsTheBound : List ResolvedUnwindInfo → List ℕ → Type 0

@@ -1,8 +1,12 @@
 pub mod Layouts
 pub mod Sections
 pub mod Lookup
-pub mod Parts
 pub mod Texts
-pub mod Says
 pub mod Entries
-pub mod Conditions
+pub mod Laws
+-- definitions of the crate below, which clauses of this one cite
+pub use Rattle.macho_unwind_pages.specs.Orders
+pub use Rattle.macho_unwind_pages.specs.Bounds
+pub use Rattle.macho_unwind_pages.specs.Plans
+pub use Rattle.macho_unwind_pages.specs.Calls
+pub mod steps

@@ -27,19 +27,17 @@
 //! ```
 #![tactic(auto)]
 
-mod bytes;
+mod laws;
 mod lookup;
 mod records;
 mod section;
-#[cfg(test)]
-mod section_tests;
-#[cfg(test)]
-mod tests;
 mod writing;
 
+pub use laws::far_page_needs_room;
 pub use lookup::{Found, unwind_lookup};
 pub use macho_unwind_pages::{
-    Personality, ResolvedUnwindInfo, UnwindFault, UnwindInput, output_size, unwind_bound,
+    Personality, ResolvedUnwindInfo, UnwindFault, UnwindInput, ids_are_named, output_size,
+    unwind_bound,
 };
 pub use records::{
     COMPACT_UNWIND_SECTION_NAME, CompactUnwindInfoHeader, CompressedPage, LsdaEntry, PageEntry,

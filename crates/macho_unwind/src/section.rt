@@ -2,7 +2,7 @@
 ghost use Rattle.std.specs.Prelude.{◌≡◌, ℕ, ◌<◌, ◌≤◌, [], length, IfOk, IfErr, OnOk};
 ghost use Rattle.macho_unwind_pages.specs.Entries.{MOST_PERSONALITIES, AreEntries, inputs_of, ids_of};
 ghost use Rattle.macho_unwind_pages.specs.Plans.{HasFarOffset};
-ghost use Rattle.macho_unwind.specs.Entries.{FindsEntries, FindsOnlyEntries, IsSectionOf, FitsTheBound, HasFarPage, BuildFault};
+ghost use Rattle.macho_unwind.specs.Entries.{FindsEntries, FindsOnlyEntries, FindsNothing, IsSectionOf, FitsTheBound, HasFarPage, BuildFault};
 
 use crate::writing::section_bytes;
 use macho_unwind_pages::{ResolvedUnwindInfo, UnwindFault, plan};
@@ -20,7 +20,8 @@ pub fn build(
 ) -> Result<Vec<u8>, UnwindFault>
     requires { AreEntries text_start entries.now }
     ensures found { IfOk result (λ v. FindsEntries text_start entries.now v.items) }
-    ensures only { IfOk result (λ v. FindsOnlyEntries text_start entries.now v.items) }
+    ensures only { IfOk result (λ v. 0 < length entries.now → FindsOnlyEntries text_start entries.now v.items) }
+    ensures nothing { IfOk result (λ v. length entries.now ≡ 0 → FindsNothing v.items) }
     ensures done { IfOk result (λ v. 0 < length entries.now → IsSectionOf text_start entries.now v.items) }
     ensures empty { IfOk result (λ v. length entries.now ≡ 0 → v.items ≡ []) }
     ensures room { IfOk result (λ v. FitsTheBound entries.now v.items) }

@@ -10,7 +10,7 @@ use Rattle.std.proofs.lemmas.List.{length-map, map-append}
 use Rattle.std.proofs.lemmas.List.Sums.{sum_by-cons, sum_by-append}
 use Rattle.macho_unwind_pages.specs.Bounds.{PAGE_SPAN, locals_in}
 use Rattle.macho_unwind_pages.specs.Plans.{PageList, Row, IsPage, IsClosedTo, AreClosed, row_of, page_rows, first_row, page_size}
-use Rattle.macho_unwind_pages.specs.Paging.{HasFewLocals, ArePages}
+use Rattle.macho_unwind_pages.specs.steps.Paging.{HasFewLocals, ArePages}
 
 -- the functions of a page whose code not every page may name
 abbrev pub own_count : List ℕ → PageList → ℕ

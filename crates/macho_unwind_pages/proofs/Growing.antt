@@ -10,7 +10,7 @@ use Rattle.std.proofs.lemmas.List.Elements.{All-push, All-contains, Contains-app
 use Rattle.std.proofs.lemmas.List.Quantifiers.{all_pairs_push}
 use Rattle.macho_unwind_pages.specs.Bounds.{PAGE_SPAN, MOST_LOCALS, MOST_WORDS, locals_in}
 use Rattle.macho_unwind_pages.specs.Plans.{PageList, Row, IsNamed, IsPage, AreLocals, row_of, page_rows, codes_on, first_place, first_row}
-use Rattle.macho_unwind_pages.specs.Paging.{IsFull, IsOpenTo, Adds, HasFewLocals, empty_page}
+use Rattle.macho_unwind_pages.specs.steps.Paging.{IsFull, IsOpenTo, Adds, HasFewLocals, empty_page}
 use Rattle.macho_unwind_pages.proofs.Naming.{is_in}
 use Rattle.macho_unwind_pages.proofs.FirstUses.{first_inside, first_stays, first_at_end, names_codes}
 use Rattle.std.proofs.lemmas.List.Sums.{sum_by-append}

@@ -15,3 +15,5 @@ pub mod OnePage
 pub mod OneDivision
 pub mod OneTables
 pub mod OnePlan
+pub mod PlansShort
+pub mod NamedIds

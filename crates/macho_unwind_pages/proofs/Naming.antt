@@ -11,7 +11,7 @@ use Rattle.std.proofs.lemmas.List.Folds.{list_any-append}
 use Rattle.std.proofs.lemmas.Map.Views.{list_any-from_Contains, Contains-from_any}
 use Rattle.indexmap.specs.IndexMap.{IndexMap, keys}
 use Rattle.macho_unwind_pages.specs.Plans.{PageList, Row, IsNamed}
-use Rattle.macho_unwind_pages.specs.Paging.{globals_in, IsOpenTo, Names, Adds}
+use Rattle.macho_unwind_pages.specs.steps.Paging.{globals_in, IsOpenTo, Names, Adds}
 
 -- a list in which the test finds a code has the code
 pub is_in : (xs : List ℕ) (code : ℕ) → list_any (λ other. code == other) xs ≡ true → Contains xs code

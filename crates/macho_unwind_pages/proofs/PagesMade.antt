@@ -11,7 +11,7 @@ use Rattle.std.proofs.lemmas.List.Elements.{All-push}
 use Rattle.std.proofs.lemmas.List.Quantifiers.{all_pairs_push}
 use Rattle.macho_unwind_pages.specs.Bounds.{PAGE_SPAN}
 use Rattle.macho_unwind_pages.specs.Plans.{PageList, Row, IsPage, IsClosedTo, AreClosed, AreLocals, page_rows, first_row}
-use Rattle.macho_unwind_pages.specs.Paging.{IsOpenTo, Adds, ArePages, HasFewLocals, empty_page}
+use Rattle.macho_unwind_pages.specs.steps.Paging.{IsOpenTo, Adds, ArePages, HasFewLocals, empty_page}
 use Rattle.macho_unwind_pages.proofs.Growing.{IsOpenPage, AllBefore, is_page, empty_is_open, rows_more, first_kept, first_new, words_more, page_more}
 
 -- closed pages and an open one, of functions of which the last starts at an offset

@@ -3,26 +3,21 @@
 -- The sorted run is a permutation of the entries, so all that is said of each entry or counted over all is the same of it: codes,
 -- those that not every page may name, and data. So the law of pages and bytes gives the bound of the entries. A page's first start
 -- is that of one of its functions, so it lies between the least start and the span above it.
-use Rattle.std.proofs.Common.{◌≡◌, ℕ, zero, suc, ◌+◌, ◌-◌, ◌/◌, ◌^◌, ◌<◌, ◌≤◌, ◌==◌, not, true, cond, Option, None, Some, IfSome, is_some, List, [], ◌∷◌, ◌++◌, length, map, take, get_or, IsPermutation, refl, sym, ap, subst, ◌∙◌, arith, inl, inr, ◌⊎◌, length-append}
+use Rattle.std.proofs.Common.{◌≡◌, ℕ, zero, suc, ◌+◌, ◌-◌, ◌^◌, ◌<◌, ◌≤◌, ◌==◌, true, Option, None, Some, IfSome, List, [], ◌∷◌, ◌++◌, length, map, take, get_or, IsPermutation, sym, ap, subst, ◌∙◌, arith, inl, inr, ◌⊎◌}
 use Rattle.std.specs.Prelude.{IsSomeAnd, Result, Ok, Err, IsErrAnd, IfErr}
-use Rattle.std.specs.List.{All, AllPairs, flat_map, count_by, list_any}
-use Rattle.std.proofs.lemmas.Bool.{ne_eqb}
-use Rattle.std.proofs.lemmas.List.{get_or-map, length-map, length-take, get_or_append_left, get_or-append-add, get_or_default}
+use Rattle.std.specs.List.{All, AllPairs, flat_map, list_any}
+use Rattle.std.proofs.lemmas.List.{length-take}
 use Rattle.std.proofs.lemmas.List.Elements.{All-map, All-append, All-take}
-use Rattle.std.proofs.lemmas.List.Sums.{sum_by-cons}
-use Rattle.std.proofs.lemmas.List.Sorted.{All-permutation, Contains-permutation, IsPermutation-sym, IsPermutation-map, length_permutation, sum_by-IsPermutation}
-use Rattle.std.proofs.lemmas.Simd.{map-map}
+use Rattle.std.proofs.lemmas.List.Sorted.{All-permutation, Contains-permutation, IsPermutation-sym, length_permutation}
 use Rattle.macho_unwind_pages.specs.declared.entries.UnwindInput.{UnwindInput}
 use Rattle.macho_unwind_pages.specs.declared.entries.Personality.{Personality}
 use Rattle.macho_unwind_pages.specs.declared.entries.ResolvedUnwindInfo.{ResolvedUnwindInfo}
 use Rattle.macho_unwind_pages.specs.declared.plans.Lsda.{Lsda}
-use Rattle.macho_unwind_pages.specs.Entries.{AreEntries, IsLast, SpansAtMost, input_of, inputs_of, ids_of, code_in, codes_of, ranked}
-use Rattle.macho_unwind_pages.specs.Bounds.{locals_in, tallies_of, most_pages, unwind_bound_of}
-use Rattle.macho_unwind_pages.specs.Plans.{PageList, PlanList, Row, IsPage, IsPlan, IsPlanOf, HasSlot, IsFar, HasFarAddress, HasFarOffset, row_of, page_rows, first_row, row_from, lsda_at, lsda_from, size_of}
-use Rattle.macho_unwind_pages.specs.Paging.{ArePages}
-use Rattle.macho_unwind_pages.specs.Planning.{IsNear, IsBehind, IsNumbered, HasShortCode, IsReady, IsAssembled}
-use Rattle.macho_unwind_pages.proofs.Charging.{first_start, pages_are_few, pages_are_short}
-use Rattle.macho_unwind_pages.proofs.Gathered.{none, numbered, short_codes, behind, alike, ranked_codes, short_ranks}
+use Rattle.macho_unwind_pages.specs.Entries.{AreEntries, IsLast, input_of, inputs_of, ids_of, code_in, codes_of, ranked}
+use Rattle.macho_unwind_pages.specs.Plans.{PlanList, Row, IsPlan, IsPlanOf, HasSlot, IsFar, HasFarAddress, HasFarOffset, row_from, lsda_at, lsda_from}
+use Rattle.macho_unwind_pages.specs.steps.Paging.{ArePages}
+use Rattle.macho_unwind_pages.specs.steps.Planning.{IsNear, IsBehind, IsNumbered, HasShortCode, IsReady, IsAssembled}
+use Rattle.macho_unwind_pages.proofs.Gathered.{numbered, short_codes, behind, alike, ranked_codes, short_ranks}
 
 -- what the parts are made from
 ready_of : (text : ℕ) (entries run : List ResolvedUnwindInfo) → 0 < length entries → AreEntries text entries → IsPermutation entries run
@@ -117,56 +112,6 @@ lsda_short text (e ∷ run) near =
         first zero d h = (omega (arith, (near 0 e (omega arith)).start), omega (arith, low))
         first (suc k) d h = absurd (omega arith)
 
-lsda_length : (text : ℕ) (run : List ResolvedUnwindInfo) → length (flat_map (lsda_from text) run) ≡ count_by (λ e. is_some e.lsda) run
-lsda_length text [] = refl
-lsda_length text (e ∷ run) =
-    length-append (lsda_from text e) (flat_map (lsda_from text) run) ∙ ap (λ (n : ℕ). length (lsda_from text e) + n) (lsda_length text run)
-    ∙ ap (λ (n : ℕ). n + count_by (λ e. is_some e.lsda) run) (one e.lsda)
-    ∙ sym (sum_by-cons (λ (f : ResolvedUnwindInfo). cond (is_some f.lsda) 1 0) e run)
-  where
-    one : (o : Option ℕ) → length (lsda_at text e.start o) ≡ cond (is_some o) 1 0
-    one None = refl
-    one (Some address) = refl
-
-lsda_inputs : (entries : List ResolvedUnwindInfo) → count_by (λ e. e.lsda) (inputs_of entries) ≡ count_by (λ e. is_some e.lsda) entries
-lsda_inputs [] = refl
-lsda_inputs (e ∷ entries) =
-    sum_by-cons (λ (i : UnwindInput). cond i.lsda 1 0) (input_of e) (inputs_of entries)
-    ∙ ap (λ (n : ℕ). cond (is_some e.lsda) 1 0 + n) (lsda_inputs entries)
-    ∙ sym (sum_by-cons (λ (f : ResolvedUnwindInfo). cond (is_some f.lsda) 1 0) e entries)
-
--- what holds of all functions holds of the first ones of pages
-first_rows : (P : Row → Type 0) (globals : List ℕ) (pages : List PageList) → All (IsPage globals) pages
-    → All P (flat_map (page_rows globals) pages) → (k : ℕ) (d : PageList) → k < length pages → P (first_row globals (get_or pages k d))
-first_rows P globals [] is all k d h = absurd (omega arith)
-first_rows P globals (p ∷ ps) is all zero d h =
-    let some : 0 < length (page_rows globals p) = omega (arith, (is 0 p (omega arith)).some, length-map p.words (row_of globals p)) in
-    let r : Row = record { start = 0; code = 0 } in
-    subst P (get_or_append_left (page_rows globals p) (flat_map (page_rows globals) ps) r 0 some
-    ∙ get_or-map (row_of globals p) p.words 0 0 r (is 0 p (omega arith)).some)
-    (all 0 r (omega (arith, length-append (page_rows globals p) (flat_map (page_rows globals) ps))))
-first_rows P globals (p ∷ ps) is all (suc k) d h =
-    first_rows P globals ps (λ j e w. is (suc j) e (omega arith))
-    (λ j e w. subst P (get_or-append-add (page_rows globals p) (flat_map (page_rows globals) ps) j e)
-    (all (length (page_rows globals p) + j) e (omega (arith, length-append (page_rows globals p) (flat_map (page_rows globals) ps)))))
-    k d (omega arith)
-
--- the codes that not every page may name, over the run and over the entries
-own_of_run : (text : ℕ) (globals ids : List ℕ) (entries run : List ResolvedUnwindInfo) → IsPermutation entries run
-    → locals_in globals (map (λ row. row.code) (map (row_from text ids) run)) ≡ locals_in globals (map (code_in ids) (inputs_of entries))
-own_of_run text globals ids entries run moved =
-    let code : ResolvedUnwindInfo → ℕ = λ e. code_in ids (input_of e) in
-    ap (locals_in globals) (map-map (λ (row : Row). row.code) (row_from text ids) run)
-    ∙ sum_by-IsPermutation (λ (c : ℕ). cond (not (list_any (λ global. c == global) globals)) 1 0)
-    (map (λ e. code_in ids (input_of e)) entries)
-    (map (λ e. code_in ids (input_of e)) run) (IsPermutation-map (λ e. code_in ids (input_of e)) entries run moved)
-    ∙ ap (locals_in globals) (sym (map-map (code_in ids) input_of entries))
-
-some_most : (entries : List UnwindInput) (span : ℕ) → 0 < length entries
-    → most_pages (tallies_of entries) span ≡ 1 + span / 16777216 + (tallies_of entries).local / 32
-    + ((tallies_of entries).entries + (tallies_of entries).local) / 1020
-some_most entries span some = rw (ne_eqb (length entries) 0 (λ e. absurd (omega arith))) refl
-
 -- the parts that the code makes
 pub assembled_of : (text : ℕ) (ids codes : List ℕ) (run : List ResolvedUnwindInfo) (rows : List Row) (ranks : List ℕ) (plan : PlanList)
     → IsReady text ids codes run → ranks ≡ ranked codes → rows ≡ map (row_from text ids) run → ArePages (take 224 ranks) rows plan.pages
@@ -239,68 +184,6 @@ is_plan text ids codes run plan are is low = record {
   end = low;
 }
 
-few_pages : (text : ℕ) (entries run : List ResolvedUnwindInfo) (plan : PlanList)
-    → IsReady text (ids_of (inputs_of entries)) (codes_of (inputs_of entries)) run
-    → IsAssembled text (ids_of (inputs_of entries)) (codes_of (inputs_of entries)) run plan → IsPermutation entries run
-    → (span : ℕ) → SpansAtMost span entries → length plan.pages ≤ most_pages (tallies_of (inputs_of entries)) span
-few_pages text entries run plan are is moved span spans =
-    let ids = ids_of (inputs_of entries) in
-    let rows = map (row_from text ids) run in
-    let first : ResolvedUnwindInfo = get_or run 0 none in
-    let over_run : All (λ e. All (λ f. f.start ≤ e.start + span) run) run
-    = All-permutation (λ e. All (λ f. f.start ≤ e.start + span) run) entries run moved
-    (λ k d h. All-permutation (λ f. f.start ≤ (get_or entries k d).start + span) entries run moved (spans k d h)) in
-    let above : All (λ r. (get_or run 0 none).start - text ≤ r.start) rows
-    = All-map (λ r. (get_or run 0 none).start - text ≤ r.start) (row_from text ids) run (λ k d h. least_first k d h) in
-    let below : All (λ r. r.start ≤ (get_or run 0 none).start - text + span) rows
-    = All-map (λ r. r.start ≤ (get_or run 0 none).start - text + span) (row_from text ids) run
-    (λ k d h. omega (arith, over_run 0 none are.some k d h, (are.behind k d h).start, (are.behind 0 none are.some).start)) in
-    let firsts_above = first_rows (λ r. (get_or run 0 none).start - text ≤ r.start) plan.globals plan.pages is.pages.each
-    (subst (All (λ r. (get_or run 0 none).start - text ≤ r.start)) (sym is.pages.rows) above) in
-    let firsts_below = first_rows (λ r. r.start ≤ (get_or run 0 none).start - text + span) plan.globals plan.pages is.pages.each
-    (subst (All (λ r. r.start ≤ (get_or run 0 none).start - text + span)) (sym is.pages.rows) below) in
-    let law = pages_are_few plan.globals rows plan.pages ((get_or run 0 none).start - text) span is.pages
-    (λ k d h. omega (arith, first_start plan.globals (get_or plan.pages k d) (is.pages.each k d h), firsts_above k d h))
-    (λ k d h. omega (arith, first_start plan.globals (get_or plan.pages k d) (is.pages.each k d h), firsts_below k d h)) in
-    omega (
-      arith,
-      law,
-      length-map run (row_from text (ids_of (inputs_of entries))),
-      length_permutation entries run moved,
-      length-map entries input_of,
-      own_of_run text plan.globals (ids_of (inputs_of entries)) entries run moved,
-      ap (λ g. locals_in g (codes_of (inputs_of entries))) is.globals,
-      some_most (inputs_of entries) span (omega (arith, length-map entries input_of, are.some, length_permutation entries run moved)),
-    )
-  where
-    least_first : (k : ℕ) (d : ResolvedUnwindInfo) → k < length run → (get_or run 0 none).start - text ≤ (get_or run k d).start - text
-    least_first zero d h = omega (arith, ap (λ (e : ResolvedUnwindInfo). e.start) (get_or_default run 0 none d h))
-    least_first (suc k) d h =
-        let first = ap (λ (e : ResolvedUnwindInfo). e.start) (get_or_default run 0 none d are.some) in
-        omega (arith, are.rising 0 (suc k) d (omega arith) h, first)
-
-short_plan : (text : ℕ) (entries run : List ResolvedUnwindInfo) (plan : PlanList)
-    → IsReady text (ids_of (inputs_of entries)) (codes_of (inputs_of entries)) run
-    → IsAssembled text (ids_of (inputs_of entries)) (codes_of (inputs_of entries)) run plan → IsPermutation entries run
-    → (span : ℕ) → SpansAtMost span entries → size_of plan ≤ unwind_bound_of (inputs_of entries) span
-short_plan text entries run plan are is moved span spans =
-    omega (
-      arith,
-      few_pages text entries run plan are is moved span spans,
-      pages_are_short plan.globals (map (row_from text (ids_of (inputs_of entries))) run) plan.pages is.pages,
-      length-map run (row_from text (ids_of (inputs_of entries))),
-      length_permutation entries run moved,
-      length-map entries input_of,
-      own_of_run text plan.globals (ids_of (inputs_of entries)) entries run moved,
-      ap (λ g. locals_in g (codes_of (inputs_of entries))) is.globals,
-      ap length is.globals,
-      is.count,
-      ap length is.lsdas,
-      lsda_length text run,
-      sum_by-IsPermutation (λ (e : ResolvedUnwindInfo). cond (is_some e.lsda) 1 0) entries run moved,
-      lsda_inputs entries,
-    )
-
 pub planned : (text : ℕ) (entries run : List ResolvedUnwindInfo) (plan : PlanList) (end : ℕ)
     → IsReady text (ids_of (inputs_of entries)) (codes_of (inputs_of entries)) run
     → IsAssembled text (ids_of (inputs_of entries)) (codes_of (inputs_of entries)) run plan → IsPermutation entries run
@@ -324,8 +207,6 @@ planned text entries run plan end are is moved end_is low ends = record {
     All-permutation (λ e. IsLast run e → e.start + e.length ≡ text + end) run entries (IsPermutation-sym entries run moved) ends k d h
         (All-permutation (λ f. f.start ≤ (get_or entries k d).start) entries run moved last),
   );
-  few = few_pages text entries run plan are is moved;
-  short = short_plan text entries run plan are is moved;
 }
 
 -- the plan, from what the code knows

@@ -9,7 +9,7 @@ use Rattle.std.proofs.lemmas.Bool.{cases_eq, cases_lt}
 use Rattle.std.proofs.lemmas.Bool.Decides.{nat_tests, Decides-eqb}
 use Rattle.std.proofs.lemmas.List.{take_more, take_all, get_or-map, length-map, length-take, get_or-take, length-set, get_or-set_same, get_or-set_other}
 use Rattle.std.proofs.lemmas.Option.{slice_get_within, get_or_from_slice_get, slice_get-get_or}
-use Rattle.macho_unwind_pages.specs.Ranks.{IsNumberOf}
+use Rattle.macho_unwind_pages.specs.steps.Ranks.{IsNumberOf}
 use Rattle.std.proofs.lemmas.List.Elements.{All-push}
 use Rattle.std.proofs.lemmas.List.Sorted.{IsPermutation-map}
 use Rattle.std.proofs.lemmas.Map.Keys.{IsDistinct-IsPermutation}
@@ -18,7 +18,7 @@ use Rattle.macho_unwind_pages.specs.declared.entries.Personality.{Personality}
 use Rattle.macho_unwind_pages.specs.declared.entries.ResolvedUnwindInfo.{ResolvedUnwindInfo}
 use Rattle.macho_unwind_pages.specs.Entries.{place_in}
 use Rattle.macho_unwind_pages.specs.Plans.{HasSlot}
-use Rattle.macho_unwind_pages.specs.Planning.{IsNear, IsNumbered, AreAlike}
+use Rattle.macho_unwind_pages.specs.steps.Planning.{IsNear, IsNumbered, AreAlike}
 
 -- what holds of the first i and of the next one holds of one more
 pub all_more : {X : Type 0} (P : X → Type 0) (xs : List X) (i : ℕ) (d : X) → i < length xs → All P (take i xs) → P (get_or xs i d)

@@ -8,8 +8,8 @@ use Rattle.macho_unwind_pages.specs.declared.entries.ResolvedUnwindInfo.{Resolve
 use Rattle.macho_unwind_pages.specs.declared.plans.Page.{Page}
 use Rattle.macho_unwind_pages.specs.declared.plans.Lsda.{Lsda}
 use Rattle.macho_unwind_pages.specs.declared.plans.Plan.{Plan}
-use Rattle.macho_unwind_pages.specs.Entries.{MOST_PERSONALITIES, input_of, inputs_of, ids_of, place_in, code_in, codes_of, IsLast, SpansAtMost}
-use Rattle.macho_unwind_pages.specs.Bounds.{PAGE_SPAN, MOST_GLOBALS, MOST_LOCALS, MOST_WORDS, globals_of, tallies_of, most_pages, unwind_bound_of}
+use Rattle.macho_unwind_pages.specs.Entries.{MOST_PERSONALITIES, input_of, inputs_of, ids_of, place_in, code_in, codes_of, IsLast}
+use Rattle.macho_unwind_pages.specs.Bounds.{PAGE_SPAN, MOST_GLOBALS, MOST_LOCALS, MOST_WORDS, globals_of}
 
 -- a page and a plan without where their lists lie in memory
 pub record PageList : Type 0 where
@@ -157,9 +157,6 @@ pub record IsPlanOf (text : ℕ) (entries : List ResolvedUnwindInfo) (plan : Pla
   pub slots : All (HasSlot text (ids_of (inputs_of entries)) plan.personalities) entries
   pub lsdas : plan.lsdas ≡ flat_map (lsda_from text) run
   pub end : All (λ e. IsLast entries e → plan.end ≡ e.start + e.length - text) entries
-  -- for any span that the starts keep to, the room told before suffices
-  pub few : (span : ℕ) → SpansAtMost span entries → length plan.pages ≤ most_pages (tallies_of (inputs_of entries)) span
-  pub short : (span : ℕ) → SpansAtMost span entries → size_of plan ≤ unwind_bound_of (inputs_of entries) span
 
 -- an address whose offset from the text's start doesn't fit 32 bits
 abbrev pub IsFar : ℕ → ℕ → Type 0

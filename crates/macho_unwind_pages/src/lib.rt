@@ -10,12 +10,10 @@ mod paging;
 mod planning;
 mod plans;
 mod ranking;
-#[cfg(test)]
-mod tests;
 
 pub use bound::{output_size, unwind_bound};
 pub use entries::{Personality, ResolvedUnwindInfo, UnwindFault, UnwindInput};
-pub use laws::plans_are_one;
+pub use laws::{ids_are_named, plans_are_one, plans_are_short};
 pub use paging::Row;
 pub use planning::plan;
 pub use plans::{Lsda, Page, Plan};

@@ -7,7 +7,7 @@ ghost use Rattle.macho_unwind_pages.specs.Entries.{MOST_PERSONALITIES, IsLast};
 ghost use Rattle.macho_unwind_pages.specs.declared.entries.ResolvedUnwindInfo.{ResolvedUnwindInfo};
 ghost use Rattle.macho_unwind_pages.specs.declared.entries.UnwindFault.TheVariants.{OffsetTooLarge};
 ghost use Rattle.macho_unwind_pages.specs.Plans.{row_from, lsda_from, HasSlot, HasFarAddress, HasFarOffset};
-ghost use Rattle.macho_unwind_pages.specs.Planning.{IsNear, IsBehind, IsNumbered, AreAlike, HasShortCode};
+ghost use Rattle.macho_unwind_pages.specs.steps.Planning.{IsNear, IsBehind, IsNumbered, AreAlike, HasShortCode};
 
 use crate::entries::{ResolvedUnwindInfo, UnwindFault};
 use crate::numbering::{code, input, place};

@@ -6,9 +6,9 @@ ghost use Rattle.std.specs.Bool.{OnTrue, OnFalse};
 ghost use Rattle.std.specs.List.{AllPairs, list_any};
 ghost use Rattle.indexmap.specs.IndexMap.{keys};
 ghost use Rattle.macho_unwind_pages.specs.Bounds.{MOST_LOCALS};
-ghost use Rattle.macho_unwind_pages.specs.Ranks.{IsNumberOf};
+ghost use Rattle.macho_unwind_pages.specs.steps.Ranks.{IsNumberOf};
 ghost use Rattle.macho_unwind_pages.specs.Plans.{page_list, IsNamed, IsClosedTo};
-ghost use Rattle.macho_unwind_pages.specs.Paging.{globals_in, empty_page, IsFull, IsOpenTo, Names, Adds, ArePages};
+ghost use Rattle.macho_unwind_pages.specs.steps.Paging.{globals_in, empty_page, IsFull, IsOpenTo, Names, Adds, ArePages};
 
 use crate::plans::Page;
 use crate::ranking::{MOST_GLOBALS, global_number};

@@ -2,7 +2,8 @@
 ghost use Rattle.std.specs.Prelude.{◌≡◌, ◌<◌, ◌≤◌, length, IfOk, IfErr, OnOk};
 ghost use Rattle.macho_unwind_pages.specs.Entries.{MOST_PERSONALITIES, AreEntries, inputs_of, ids_of};
 ghost use Rattle.macho_unwind_pages.specs.Plans.{plan_list, IsPlanOf, HasFarOffset};
-ghost use Rattle.macho_unwind_pages.specs.Planning.{IsReady, IsAssembled};
+ghost use Rattle.macho_unwind_pages.specs.steps.Planning.{IsReady, IsAssembled};
+ghost use Rattle.macho_unwind_pages.specs.Laws.{HasFewPages, IsShort};
 ghost use Rattle.macho_unwind_pages.specs.Calls.{PlanFault};
 
 use crate::entries::{ResolvedUnwindInfo, UnwindFault};
@@ -51,6 +52,8 @@ pub fn plan(
     requires some { 0 < length entries.now }
     requires entries { AreEntries text_start entries.now }
     ensures done { IfOk result (λ p. IsPlanOf text_start entries.now (plan_list p)) }
+    ensures pages { IfOk result (λ p. HasFewPages entries.now (plan_list p)) }
+    ensures short { IfOk result (λ p. IsShort entries.now (plan_list p)) }
     ensures few { OnOk result (length (ids_of (inputs_of entries.now)) ≤ MOST_PERSONALITIES) }
     ensures near { OnOk result (¬ HasFarOffset text_start entries.now) }
     ensures why { IfErr result (PlanFault text_start entries.now) }

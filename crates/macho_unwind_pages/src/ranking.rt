@@ -5,7 +5,7 @@ ghost use Rattle.std.specs.Ordering.{nat_cmp, ordering_then};
 ghost use Rattle.indexmap.specs.IndexMap.{keys};
 ghost use Rattle.macho_unwind_pages.specs.Entries.{ranked};
 ghost use Rattle.macho_unwind_pages.specs.Bounds.{locals_in};
-ghost use Rattle.macho_unwind_pages.specs.Ranks.{Counts, IsNumberOf};
+ghost use Rattle.macho_unwind_pages.specs.steps.Ranks.{Counts, IsNumberOf};
 
 use indexmap::IndexMap;
 use std::alloc::{AllocError, Global};

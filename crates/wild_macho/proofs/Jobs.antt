@@ -16,7 +16,7 @@ use Rattle.macho_image.specs.Linkers.{link_of, with_input}
 use Rattle.wild_macho.specs.Devices.{ReadsFile}
 use Rattle.wild_macho.specs.Heads.{has_object_head}
 use Rattle.wild_macho.specs.Job.{HeldAt, IsInput, Links}
-use Rattle.wild_macho.specs.Reading.{IsOneFile}
+use Rattle.wild_macho.specs.steps.Reading.{IsOneFile}
 
 -- the first of one file at most is all
 pub only-file : (specs : List InputSpec) (spec : InputSpec) → IsOneFile (map input_of specs) → slice_get specs 0 ≡ Some spec

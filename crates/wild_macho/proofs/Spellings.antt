@@ -20,7 +20,7 @@ use Rattle.macho_args.specs.declared.fields.InputSpec.{InputSpec}
 use Rattle.macho_args.specs.declared.fault.ArgsFault.TheVariants.{MissingValue, Unknown}
 use Rattle.macho_image.specs.Linkers.{IsPlainly}
 use Rattle.wild_macho.specs.CommandLine.{Item, Output, Path, spelled, spelled_all, output_of, inputs_of, IsItem, AreItems, settings_by, WordsSay, WordsBreak, StandsBehind, output_option, has_no_dash}
-use Rattle.wild_macho.specs.Reading.{HasRead, IsOption, IsPath, IsOneFile}
+use Rattle.wild_macho.specs.steps.Reading.{HasRead, IsOption, IsPath, IsOneFile}
 
 -- the word at a place, and those behind it
 pub text-behind : {A : Type 0} (words : List (String A)) (place : ℕ) (word : String A) → place < length words

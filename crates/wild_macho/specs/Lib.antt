@@ -6,4 +6,4 @@ pub mod Heads
 pub mod CommandLine
 pub mod Job
 pub mod Runs
-pub mod Reading
+pub mod steps

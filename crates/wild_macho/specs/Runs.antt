@@ -104,12 +104,6 @@ LeavesNothing (Some Write) old new = ⊥
 LeavesNothing (Some Print) old new = ⊥
 LeavesNothing (Some fault) old new = new ≡ old
 
--- An image by settings: what they link has it.
-pub record IsMade (told : Option Store) (s : Settings) (image : LinkedImage) : Type 0 where
-  pub link : Link
-  pub links : Links told s link
-  pub is_image : IsImageOf link image
-
 -- THE image of a run: that of the job of the words and of the store before the run, which has a link and an output
 -- path; and what stands under the paths after the run.
 pub record HasImage (words : List (List ℕ)) (old new : Option Store) (fault : Option Fault) (image : LinkedImage)
@@ -119,17 +113,6 @@ pub record HasImage (words : List (List ℕ)) (old new : Option Store) (fault : 
   pub job : JobOf words old link output
   pub is_image : IsImageOf link image
   pub left : LeavesImage fault old new output image.bytes.items
-
--- the same by settings
-pub record IsWritten (s : Settings) (old new : Option Store) (fault : Option Fault) (image : LinkedImage) : Type 0 where
-  pub made : IsMade old s image
-  pub left : LeavesImage fault old new s.output image.bytes.items
-
--- a fault that comes before the image is written
-abbrev pub IsEarly : Fault → Type 0
-IsEarly Write = ⊥
-IsEarly Print = ⊥
-IsEarly fault = Unit {0}
 
 -- No device failed, and none stands at the last value of its count.
 pub record NoneFailed (old new : Failures) : Type 0 where

@@ -1,7 +1,7 @@
 //! Why a run answers no image, or does not write it.
 
 ghost use Rattle.std.specs.Prelude.{◌≡◌};
-ghost use Rattle.wild_macho.specs.Reading.{words_fault, link_fault, input_fault};
+ghost use Rattle.wild_macho.specs.steps.Reading.{words_fault, link_fault, input_fault};
 
 use macho_args::ArgsFault;
 use macho_image::LinkError;

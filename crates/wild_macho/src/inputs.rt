@@ -10,8 +10,9 @@ ghost use Rattle.wild_macho.specs.Devices.{OnlyReads};
 ghost use Rattle.wild_macho.specs.Faults.{CountsOn};
 ghost use Rattle.wild_macho.specs.Heads.{has_object_head};
 ghost use Rattle.wild_macho.specs.Job.{HeldAt, Links};
-ghost use Rattle.wild_macho.specs.Reading.{IsOneFile};
-ghost use Rattle.wild_macho.specs.Runs.{Failures, JobFails, IsEarly};
+ghost use Rattle.wild_macho.specs.steps.Reading.{IsOneFile};
+ghost use Rattle.wild_macho.specs.Runs.{Failures, JobFails};
+ghost use Rattle.wild_macho.specs.steps.Runs.{IsEarly};
 
 use crate::fault::Fault;
 use crate::file_system::{FileFault, Files};

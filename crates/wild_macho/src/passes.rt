@@ -12,8 +12,9 @@ ghost use Rattle.macho_image.specs.Linked.{IsImageOf};
 ghost use Rattle.wild_macho.specs.Devices.{OnlyReads, OnlyWrites};
 ghost use Rattle.wild_macho.specs.Faults.{CountsOn};
 ghost use Rattle.wild_macho.specs.Job.{Links, JobOf};
-ghost use Rattle.wild_macho.specs.Reading.{IsOneFile};
-ghost use Rattle.wild_macho.specs.Runs.{Failures, JobFails, RunFails, IsEarly, IsMade, IsWritten, HasImage, LeavesImage, LeavesNothing, status_of};
+ghost use Rattle.wild_macho.specs.steps.Reading.{IsOneFile};
+ghost use Rattle.wild_macho.specs.Runs.{Failures, JobFails, RunFails, HasImage, LeavesImage, LeavesNothing, status_of};
+ghost use Rattle.wild_macho.specs.steps.Runs.{IsEarly, IsMade, IsWritten};
 ghost use Rattle.wild_macho.specs.Runs.{failures, KeepsPaths, IsSure, IsAnsweredJob, NoneFailed};
 
 use crate::fault::Fault;

@@ -9,7 +9,7 @@ ghost use Rattle.macho_args.specs.Settings.{settings_of};
 ghost use Rattle.macho_args.specs.Words.{texts_of};
 ghost use Rattle.macho_image.specs.Linkers.{IsPlainly};
 ghost use Rattle.wild_macho.specs.CommandLine.{WordsSay, WordsBreak};
-ghost use Rattle.wild_macho.specs.Reading.{HasRead, IsOneFile, IsOption, IsPath};
+ghost use Rattle.wild_macho.specs.steps.Reading.{HasRead, IsOneFile, IsOption, IsPath};
 
 use macho_args::{ArgsFault, InputSpec, MachOArgs};
 use std::alloc::Global;

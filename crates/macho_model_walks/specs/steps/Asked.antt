@@ -5,15 +5,16 @@ use Rattle.macho_model_walks.specs.declared.loader_rules.Asked.TheVariants as as
 use Rattle.macho_model_walks.specs.declared.walk.Listed.{Listed}
 use Rattle.macho_model_walks.specs.declared.walk.Listed.TheVariants as list
 use Rattle.macho_model.specs.Commands.{Command, commands_of, command_fits}
-use Rattle.macho_model.specs.Images.{Table, table_of_command, tables_of, fixups_header, import_place, segments_named}
+use Rattle.macho_model.specs.Images.{segments_of, Table, table_of_command, tables_of, fixups_header, import_place, segments_named}
 use Rattle.macho_model.specs.LoadRules.{image_head_fits, needed_in_image, segment_in, protections_fit, file_part_inside, segment_is_paged, segment_ends, begins_behind, text_holds_commands, table_fits, import_fits}
 use Rattle.macho_model.specs.declared.rules.LoadRule.{LoadRule}
 use Rattle.macho_model.specs.declared.rules.LoadRule.TheVariants.{L1, L2, L3, L4, L5, L6, L7, L8, L9, L10}
 use Rattle.macho_model.specs.ObjectRules.{commands_inside}
 use Rattle.macho_model.specs.Grammar.{EachCommand, CommandFails}
 use Rattle.macho_model.specs.Segments.{TEXT}
-use Rattle.macho_model.specs.Chain.{ChainSegment, chain_segments, OnPageChain}
-use Rattle.macho_model.specs.Loader.{WordFits, EachNeighbour, NeighbourFails, segment_commands}
+use Rattle.macho_records.specs.declared.header.SegmentCommand.{SegmentCommand}
+use Rattle.macho_model.specs.Lists.{IsNumber}
+use Rattle.macho_model.specs.Loader.{OnPageOf, WordFits, EachNeighbour, NeighbourFails, segment_commands}
 use Rattle.macho_model_walks.specs.steps.Walks.{command_at, listed, IsNth, table_there}
 
 -- the commands that are asked
@@ -82,4 +83,4 @@ LoadKeeps b L7 = (length (segments_named TEXT b) ≡ 1) × All (λ s. text_holds
 LoadKeeps b L8 = (length (tables_of b) ≤ 1) × All (λ t. table_fits b t ≡ true) (tables_of b)
 LoadKeeps b L9 = (t : Table) (k : ℕ) → Contains (tables_of b) t → k < (fixups_header b t).imports_count → import_fits b t k ≡ true
 LoadKeeps b L10 =
-    (s : ChainSegment) (page a : ℕ) → Contains (chain_segments b) s → OnPageChain (chain_segments b) b s page a → WordFits b s page a
+    (number : ℕ) (s : SegmentCommand) (page a : ℕ) → IsNumber (segments_of b) number s → OnPageOf b number s page a → WordFits b s page a

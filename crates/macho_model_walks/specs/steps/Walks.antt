@@ -1,15 +1,14 @@
 -- What the plain walks over an image's commands say.
-use Rattle.std.specs.Prelude.{◌≡◌, ℕ, ◌+◌, ◌-◌, ◌<◌, ◌≤◌, ◌*◌, ◌%◌, ◌^◌, ◌==◌, nat_le, nat_lt, ◌||◌, if◌then◌else◌, ◌&&◌, not, Bool, true, List, [], length, get_or, map, filter, slice_index}
-use Rattle.std.specs.List.{list_all, range_with_len}
+use Rattle.std.specs.Prelude.{◌≡◌, ℕ, ◌+◌, ◌-◌, ◌<◌, ◌≤◌, ◌*◌, ◌^◌, ◌==◌, nat_lt, if◌then◌else◌, ◌&&◌, not, Bool, true, List, [], length, get_or, filter, slice_index}
 use Rattle.macho_bytes.specs.Numbers.{le_at}
-use Rattle.macho_bytes.specs.Layouts.{reading, size_of}
-use Rattle.macho_records.specs.Layouts.{load_command, chained_fixups_header}
+use Rattle.macho_bytes.specs.Layouts.{reading}
+use Rattle.macho_records.specs.Layouts.{load_command}
 use Rattle.macho_records.specs.declared.header.SegmentCommand.{SegmentCommand}
 use Rattle.macho_records.specs.declared.constants.TheConstants.{LC_DYLD_CHAINED_FIXUPS, LC_LOAD_DYLIB, LC_SEGMENT_64}
 use Rattle.macho_model.specs.Commands.{Command, commands_of}
 use Rattle.macho_model.specs.Segments.{PAGEZERO, TEXT}
-use Rattle.macho_model.specs.Images.{is_named, segments_of, base_of, Table, table_of_command, fixups_header, starts_count, segment_starts, page_starts, tables_of, import_entry_size, IMPORT_FORMAT, IMPORT_ADDEND_FORMAT, CHAIN_PAGE}
-use Rattle.macho_model.specs.LoadRules.{segment_in, starts_fit, POINTER_FORMAT}
+use Rattle.macho_model.specs.Images.{is_named, Table, table_of_command, fixups_header, starts_count, page_starts, tables_of}
+use Rattle.macho_model.specs.LoadRules.{segment_in}
 use Rattle.macho_model.specs.Chain.{ChainSegment, chain_segment, starts_in_tables, chain_segments, IsFileWord, next_of, WORD_SIZE, STRIDE, OnPageChain}
 use Rattle.macho_model_walks.specs.declared.segment_rules.SegmentNumbers.{SegmentNumbers}
 use Rattle.macho_model_walks.specs.declared.table_rules.FixupTable.{FixupTable}
@@ -47,10 +46,6 @@ pub record SaysSegment (r : SegmentNumbers) (s : SegmentCommand) : Type 0 where
   pub most : r.most ≡ s.maxprot
   pub first : r.first ≡ s.initprot
 
--- the address of a segment by its number, 0 where there is none
-abbrev pub segment_address : List ℕ → ℕ → ℕ
-segment_address b k = get_or (map (λ s. s.vmaddr) (segments_of b)) k 0
-
 -- the segment and the fixup table of the command at a place
 abbrev pub segment_there : List ℕ → ℕ → SegmentCommand
 segment_there b place = segment_in b (command_at b place)
@@ -70,29 +65,6 @@ pub record SaysTable (b : List ℕ) (t : Table) (r : FixupTable) : Type 0 where
   pub imports_format : r.imports_format ≡ (fixups_header b t).imports_format
   pub symbols_format : r.symbols_format ≡ (fixups_header b t).symbols_format
   pub small : r.at < 2 ^ 32 × r.size < 2 ^ 32
-
--- parts of the tests of a table
-abbrev pub starts_known : List ℕ → Table → ℕ → Bool
-starts_known b t k =
-    ((segment_starts b t k).page_size == CHAIN_PAGE) && ((segment_starts b t k).pointer_format == POINTER_FORMAT)
-    && (((segment_starts b t k).segment_offset + base_of b) % 2 ^ 64 == segment_address b k)
-
-abbrev pub starts_all_fit : List ℕ → Table → Bool
-starts_all_fit b t = list_all (starts_fit b t) (range_with_len 0 (starts_count b t))
-
-abbrev pub header_known : List ℕ → Table → Bool
-header_known b t =
-    nat_le (size_of chained_fixups_header) t.size && ((fixups_header b t).fixups_version == 0)
-    && (((fixups_header b t).imports_format == IMPORT_FORMAT) || ((fixups_header b t).imports_format == IMPORT_ADDEND_FORMAT))
-    && ((fixups_header b t).symbols_format == 0)
-
-abbrev pub parts_inside : List ℕ → Table → Bool
-parts_inside b t =
-    nat_le ((fixups_header b t).starts_offset + 4) t.size && nat_le ((fixups_header b t).starts_offset + 4 + 4 * starts_count b t) t.size
-    && nat_le (starts_count b t) (length (segments_of b))
-    && nat_le ((fixups_header b t).imports_offset + import_entry_size (fixups_header b t).imports_format *
-    (fixups_header b t).imports_count) t.size
-    && nat_le (fixups_header b t).symbols_offset t.size
 
 -- a segment has a byte at an address: one of the file, or zero behind its file bytes
 pub record SegmentHas (b : List ℕ) (s : SegmentCommand) (a v : ℕ) : Type 0 where

@@ -1,15 +1,15 @@
--- Whether a word of a chain fits, as one test: the last rule of the loader asks for a segment that holds the word, of
--- finitely many, and that its import exists.
-use Rattle.std.specs.Prelude.{◌≡◌, ℕ, ◌+◌, ◌*◌, ◌-◌, ◌^◌, ◌<◌, nat_le, nat_lt, ◌&&◌, ◌||◌, not, Bool, true, false, List, Contains}
-use Rattle.std.specs.List.{list_all, list_any}
+-- Whether a word of a chain fits, as one test: the last rule of the loader asks that the page's segment holds the word, and
+-- that its import exists, in whatever segment it is read.
+use Rattle.std.specs.Prelude.{◌≡◌, ℕ, ◌+◌, ◌*◌, ◌-◌, ◌^◌, ◌<◌, nat_le, nat_lt, ◌&&◌, ◌||◌, not, Bool, true, List}
+use Rattle.std.specs.List.{list_all}
 use Rattle.macho_bytes.specs.Numbers.{le_at}
 use Rattle.macho_records.specs.declared.header.SegmentCommand.{SegmentCommand}
-use Rattle.macho_model.specs.Images.{mapped_segments, tables_of, CHAIN_PAGE}
+use Rattle.macho_model.specs.Lists.{IsNumber}
+use Rattle.macho_model.specs.Images.{segments_of, tables_of, CHAIN_PAGE}
 use Rattle.macho_model.specs.Chain.{ChainSegment, chain_segments, WORD_SIZE, OnPageChain}
 use Rattle.macho_model_walks.specs.declared.walk.Listed.TheVariants as list
-use Rattle.macho_model.specs.LoadRules.{segment_in}
-use Rattle.macho_model_walks.specs.steps.Walks.{command_at, IsNth, Leads, chain_segment_at}
-use Rattle.macho_model.specs.Loader.{is_bind, ordinal_of, is_writable, import_count, WordFits}
+use Rattle.macho_model_walks.specs.steps.Walks.{IsNth, Leads, segment_there, chain_segment_at}
+use Rattle.macho_model.specs.Loader.{is_bind, ordinal_of, is_writable, import_count, OnPageOf, WordFits}
 
 -- the word at an address in a segment, and whether it stands whole in its file part
 abbrev pub word_in : List ℕ → ChainSegment → ℕ → ℕ
@@ -18,54 +18,46 @@ word_in b s a = le_at WORD_SIZE b (s.file_offset + (a - s.address))
 abbrev pub stands_in : ChainSegment → ℕ → Bool
 stands_in s a = nat_le s.address a && nat_le (a + WORD_SIZE) (s.address + s.file_size)
 
--- a segment holds a word: it may be written to, and the word stands in its file part
-abbrev pub holds_word : ℕ → SegmentCommand → Bool
-holds_word a s = is_writable s && nat_le s.vmaddr a && nat_le (a + WORD_SIZE) (s.vmaddr + s.filesize)
+-- a segment's page holds a word: the segment may be written to, and the word stands in the page and in the file part
+abbrev pub page_holds : SegmentCommand → ℕ → ℕ → Bool
+page_holds s page a =
+    is_writable s && nat_le (s.vmaddr + CHAIN_PAGE * page) a && nat_le (a + WORD_SIZE) (s.vmaddr + CHAIN_PAGE * (page + 1))
+    && nat_le (a + WORD_SIZE) (s.vmaddr + s.filesize)
 
 -- the import of a word exists, where a segment has a word there and it binds one
 abbrev pub import_exists : List ℕ → ℕ → ChainSegment → Bool
 import_exists b a s =
     not (stands_in s a) || not (is_bind (word_in b s a)) || nat_lt (ordinal_of (word_in b s a)) (import_count b (tables_of b))
 
--- a word stands in a page
-abbrev pub stands_in_page : ChainSegment → ℕ → ℕ → Bool
-stands_in_page s page a = nat_le (s.address + CHAIN_PAGE * page) a && nat_le (a + WORD_SIZE) (s.address + CHAIN_PAGE * (page + 1))
+abbrev pub word_fits_test : List ℕ → SegmentCommand → ℕ → ℕ → Bool
+word_fits_test b s page a = page_holds s page a && list_all (import_exists b a) (chain_segments b)
 
-abbrev pub word_fits_test : List ℕ → ChainSegment → ℕ → ℕ → Bool
-word_fits_test b s page a =
-    (stands_in_page s page a && list_any (holds_word a) (mapped_segments b)) && list_all (import_exists b a) (chain_segments b)
-
--- the mapped segment with a number, if there is one, does not hold a word; and the import of a word exists in the segment
--- with a number, if there is one
-abbrev pub NthLacks : List ℕ → ℕ → ℕ → Type 0
-NthLacks b number a = (place : ℕ) → IsNth list.Mapped b number place → holds_word a (segment_in b (command_at b place)) ≡ false
-
+-- the import of a word exists in the segment with a number, if there is one
 abbrev pub NthImportExists : List ℕ → ℕ → ℕ → Type 0
 NthImportExists b number a = (place : ℕ) → IsNth list.Segments b number place → import_exists b a (chain_segment_at b 0 place) ≡ true
 
 -- the address of an offset in the segment of a command
 abbrev pub address_in : List ℕ → ℕ → ℕ → ℕ
-address_in b place offset = (segment_in b (command_at b place)).vmaddr + offset
+address_in b place offset = (segment_there b place).vmaddr + offset
 
 -- a word does not fit that the word at an offset leads to; or each fits
 pub record UnfitFrom (b : List ℕ) (number place page offset x : ℕ) : Type 0 where
   pub leads : Leads b (address_in b place offset) (address_in b place x)
-  pub unfit : WordFits b (chain_segment_at b number place) page (address_in b place x) → ⊥
+  pub unfit : WordFits b (segment_there b place) page (address_in b place x) → ⊥
   pub small : x < 2 ^ 32
 
 abbrev pub FitFrom : List ℕ → ℕ → ℕ → ℕ → ℕ → Type 0
-FitFrom b number place page offset = (a : ℕ) → Leads b (address_in b place offset) a → WordFits b (chain_segment_at b number place) page a
+FitFrom b number place page offset = (a : ℕ) → Leads b (address_in b place offset) a → WordFits b (segment_there b place) page a
 
 -- a word of a page's chain does not fit, or each fits
 pub record UnfitOnPage (b : List ℕ) (number place page x : ℕ) : Type 0 where
   pub on : OnPageChain (chain_segments b) b (chain_segment_at b number place) page (address_in b place x)
-  pub unfit : WordFits b (chain_segment_at b number place) page (address_in b place x) → ⊥
+  pub unfit : WordFits b (segment_there b place) page (address_in b place x) → ⊥
   pub small : x < 2 ^ 32
 
 abbrev pub FitOnPage : List ℕ → ℕ → ℕ → ℕ → Type 0
 FitOnPage b number place page =
-    (a : ℕ) → OnPageChain (chain_segments b) b (chain_segment_at b number place) page a → WordFits b (chain_segment_at b number place)
-    page a
+    (a : ℕ) → OnPageChain (chain_segments b) b (chain_segment_at b number place) page a → WordFits b (segment_there b place) page a
 
 -- each word of the segment with a number fits, if there is one, and each word of the file
 abbrev pub FitOnNth : List ℕ → ℕ → Type 0
@@ -73,4 +65,4 @@ FitOnNth b number = (place : ℕ) → IsNth list.Segments b number place → (pa
 
 abbrev pub EachWordFits : List ℕ → Type 0
 EachWordFits b =
-    (s : ChainSegment) (page a : ℕ) → Contains (chain_segments b) s → OnPageChain (chain_segments b) b s page a → WordFits b s page a
+    (number : ℕ) (s : SegmentCommand) (page a : ℕ) → IsNumber (segments_of b) number s → OnPageOf b number s page a → WordFits b s page a

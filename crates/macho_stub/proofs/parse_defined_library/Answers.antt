@@ -1,5 +1,6 @@
 use Rattle.macho_stub.specs.Library.{library_fields}
 use Rattle.macho_stub.proofs.Answered.{found, only, fault, told}
+use Rattle.macho_stub.proofs.NoNuls.{plain_answer}
 use Rattle.macho_stub.proofs.TreesStand.{text_stands}
 use Rattle.macho_stub.proofs.parse_defined_library.Goals as goal
 
@@ -17,3 +18,6 @@ returns-clause-fault c = fault library_fields c.args.input.now c.answer.result c
 
 pub returns-clause-told : goal.returns-clause-told
 returns-clause-told c = λ line rule is. told library_fields c.args.input.now c.answer.result line rule c.answer.ensures is
+
+pub returns-clause-plain : goal.returns-clause-plain
+returns-clause-plain c = plain_answer library_fields c.args.input.now c.answer.result (returns-clause-found c)

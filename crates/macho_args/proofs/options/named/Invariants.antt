@@ -2,7 +2,7 @@
 use Rattle.std.proofs.Common.{◌≡◌, map, drop}
 use Rattle.std.specs.Map.{lookup}
 use Rattle.std.specs.Str.{bytes_eq}
-use Rattle.macho_args.specs.Options.{plain_row}
+use Rattle.macho_args.specs.steps.Options.{plain_row}
 use Rattle.macho_args.proofs.options.named.Given as goal
 
 abbrev pub invariant-loop-row : goal.invariant-loop-row

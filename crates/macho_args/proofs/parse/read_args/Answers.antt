@@ -1,6 +1,6 @@
 -- What the words say is the fold, and then the rule on inputs.
 use Rattle.std.proofs.lemmas.Result.{err_from_is_err_and}
-use Rattle.macho_args.specs.KeptRoot.{keep_root}
+use Rattle.macho_args.specs.steps.KeptRoot.{keep_root}
 use Rattle.macho_args.specs.Settings.{settings_of}
 use Rattle.macho_args.specs.Words.{texts_of}
 use Rattle.macho_args.proofs.Reading.{all-refused, all-beside, all-said}

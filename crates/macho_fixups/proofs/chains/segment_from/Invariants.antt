@@ -1,5 +1,5 @@
 use Rattle.std.proofs.Common.{length, ◌-◌}
-use Rattle.macho_fixups.specs.Chains.{ArePassed}
+use Rattle.macho_fixups.specs.steps.Chains.{ArePassed}
 use Rattle.macho_fixups.proofs.chains.segment_from.Given as goal
 
 -- the segments so far are behind

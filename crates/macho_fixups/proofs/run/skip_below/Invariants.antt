@@ -1,5 +1,5 @@
 use Rattle.std.proofs.Common.{length, ◌-◌, ◌≤◌, ◌+◌}
-use Rattle.macho_fixups.specs.Cuts.{AreBelowFrom}
+use Rattle.macho_fixups.specs.steps.Cuts.{AreBelowFrom}
 use Rattle.macho_fixups.proofs.run.skip_below.Given as goal
 
 -- the fixups so far are below

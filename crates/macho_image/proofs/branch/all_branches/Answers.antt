@@ -2,7 +2,7 @@ use Rattle.std.proofs.Common.{◌∙◌, ℕ, [], ◌∷◌, Bool, get_or, map, 
 use Rattle.std.proofs.lemmas.List.{map-append}
 use Rattle.macho_records.specs.declared.header.SectionHeader.{SectionHeader}
 use Rattle.macho_model.specs.Grammar.{IsFile}
-use Rattle.macho_image.specs.Branches.{HasBranches}
+use Rattle.macho_image.specs.steps.Branches.{HasBranches}
 use Rattle.macho_image.proofs.Placed.{no_carried}
 use Rattle.macho_image.proofs.Gathering.{sections_more}
 use Rattle.macho_image.proofs.Laid.{carried_with_bytes}

@@ -1,5 +1,5 @@
 use Rattle.std.proofs.Common.{take, map}
-use Rattle.macho_image.specs.Branches.{HasAllBranches}
+use Rattle.macho_image.specs.steps.Branches.{HasAllBranches}
 use Rattle.macho_image.proofs.branch.all_branches.Given as goal
 
 -- the sections so far have their branches

@@ -1,8 +1,8 @@
 use Rattle.std.proofs.Common.{◌≡◌, ◌<◌, ℕ, Some, cond, nat_eq, length, sym, subst, arith}
 use Rattle.std.specs.HashMap.{get}
 use Rattle.macho_image.specs.declared.fault.LinkError.TheVariants.{OutOfMemory}
-use Rattle.macho_image.specs.Branches.{HasBranches}
-use Rattle.macho_image.specs.Refusals.{StandsAlone}
+use Rattle.macho_image.specs.steps.Branches.{HasBranches}
+use Rattle.macho_image.specs.steps.Refusals.{StandsAlone}
 use Rattle.macho_image.proofs.Alone.{asks_alone, err_with}
 use Rattle.macho_image.proofs.Unsupported.{shared_alone}
 use Rattle.macho_image.proofs.Gathering.{gathered_more, seen_more, touching}

@@ -1,6 +1,6 @@
 use Rattle.std.proofs.Common.{nat_eq}
 use Rattle.std.specs.HashMap.{get}
-use Rattle.macho_image.specs.Branches.{HasBranches, SeenPlaces}
+use Rattle.macho_image.specs.steps.Branches.{HasBranches, SeenPlaces}
 use Rattle.macho_image.proofs.branch.branches_of.Given as goal
 
 -- the relocations so far are branches, and their places were seen

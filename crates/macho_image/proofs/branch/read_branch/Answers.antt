@@ -5,9 +5,11 @@ use Rattle.macho_records.specs.declared.constants.TheConstants.{ARM64_RELOC_ADDE
 use Rattle.macho_model.specs.Objects.{section_bytes}
 use Rattle.macho_model.specs.Words.{is_branch}
 use Rattle.macho_model.specs.Rows.{has_form}
-use Rattle.macho_image.specs.Branches.{is_later_type, WORD}
-use Rattle.macho_image.specs.Referents.{LeadsNowhere, HasNoDefinition}
-use Rattle.macho_image.specs.Refusals.{StandsAlone}
+use Rattle.macho_image.specs.Branches.{is_later_type}
+use Rattle.macho_image.specs.steps.Branches.{WORD}
+use Rattle.macho_image.specs.steps.Referents.{LeadsNowhere}
+use Rattle.macho_image.specs.Referents.{HasNoDefinition}
+use Rattle.macho_image.specs.steps.Refusals.{StandsAlone}
 use Rattle.macho_image.proofs.First.{first_section}
 use Rattle.macho_image.proofs.Entries.{and_left}
 use Rattle.macho_image.proofs.Unsupported.{refused, no_such_type, no_branch_there, no_target, later_alone, undefined_alone, type_from, form_extern, relocation-is}

@@ -1,6 +1,6 @@
 use Rattle.std.proofs.Common.{ap, ◌∙◌, sym, inl, inr, arith}
 use Rattle.std.proofs.lemmas.Bool.{cases_lt}
-use Rattle.macho_image.specs.Definitions.{defines_name}
+use Rattle.macho_image.specs.steps.Definitions.{defines_name}
 use Rattle.macho_image.proofs.entry.first_definition.Goals as goal
 
 pub loop-index-preserved : goal.loop-index-preserved

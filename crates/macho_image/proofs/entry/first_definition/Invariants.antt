@@ -1,5 +1,5 @@
 use Rattle.std.proofs.Common.{◌≡◌, ℕ, ◌<◌, false}
-use Rattle.macho_image.specs.Definitions.{defines_name}
+use Rattle.macho_image.specs.steps.Definitions.{defines_name}
 use Rattle.macho_image.proofs.entry.first_definition.Given as goal
 
 -- no symbol so far defines the name

@@ -2,7 +2,7 @@ use Rattle.std.proofs.Common.{◌≡◌, ℕ, ◌<◌, length, get_or}
 use Rattle.macho_records.specs.declared.header.SectionHeader.{SectionHeader}
 use Rattle.macho_model.specs.declared.placed.PlacedSection.{PlacedSection}
 use Rattle.macho_image.specs.declared.carried.Carried.{Carried}
-use Rattle.macho_image.specs.Headers.{header_at_place}
+use Rattle.macho_image.specs.steps.Headers.{header_at_place}
 use Rattle.macho_image.proofs.headers.image_headers.Given as goal
 
 -- the sections so far have their headers

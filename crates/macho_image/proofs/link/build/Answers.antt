@@ -1,11 +1,11 @@
 use Rattle.std.proofs.Common.{ℕ, ◌-◌, ◌+◌, ◌*◌, ◌<◌, ◌^◌, List, All, length, map, refl, subst, sym, arith}
 use Rattle.macho_records.specs.declared.header.SectionHeader.{SectionHeader}
 use Rattle.macho_model.specs.declared.placed.PlacedSection.{PlacedSection}
-use Rattle.macho_image.specs.Places.{IsInFile, HasPlace, IsPlaceIn}
-use Rattle.macho_image.specs.Parts.{IsWritable}
-use Rattle.macho_image.specs.Setting.{EachSettable, SectionCannotReach}
-use Rattle.macho_image.specs.Unwritten.{IsUnwritten}
-use Rattle.macho_image.specs.Composed.{StandBehind, IsComposed}
+use Rattle.macho_image.specs.steps.Places.{IsInFile, HasPlace, IsPlaceIn}
+use Rattle.macho_image.specs.steps.Parts.{IsWritable}
+use Rattle.macho_image.specs.steps.Setting.{EachSettable, SectionCannotReach}
+use Rattle.macho_image.specs.steps.Unwritten.{IsUnwritten}
+use Rattle.macho_image.specs.steps.Composed.{StandBehind, IsComposed}
 use Rattle.macho_image.proofs.Laid.{in_file, low, writable, stand_behind, has_place, entry_near, entry_inside}
 use Rattle.macho_image.proofs.Built.{image_alone, settable}
 use Rattle.macho_image.proofs.Clear.{clear_alone}

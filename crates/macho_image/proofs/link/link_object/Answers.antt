@@ -2,9 +2,10 @@ use Rattle.std.proofs.Common.{List, Bool, subst, map, ◌<◌, ◌⊎◌, length
 use Rattle.std.specs.Prelude.{sum_by}
 use Rattle.macho_model.specs.Grammar.{IsFile}
 use Rattle.macho_image.specs.declared.carried.Carried.{Carried}
-use Rattle.macho_image.specs.Places.{cost_of}
-use Rattle.macho_image.specs.Branches.{HasAllBranches}
-use Rattle.macho_image.specs.Refusals.{StandsAlone, BUILT_SECTIONS, BUILT_SUM}
+use Rattle.macho_image.specs.steps.Places.{cost_of}
+use Rattle.macho_image.specs.steps.Branches.{HasAllBranches}
+use Rattle.macho_image.specs.steps.Refusals.{StandsAlone}
+use Rattle.macho_image.specs.Refusals.{BUILT_SECTIONS, BUILT_SUM}
 use Rattle.macho_image.proofs.Alone.{asks_alone, size_alone, err_with}
 use Rattle.macho_image.proofs.link.link_object.Goals as goal
 

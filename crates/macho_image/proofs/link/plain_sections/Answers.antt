@@ -1,5 +1,5 @@
 use Rattle.macho_image.specs.declared.fault.LinkError.TheVariants.{Unbuilt}
-use Rattle.macho_image.specs.Refusals.{StandsAlone}
+use Rattle.macho_image.specs.steps.Refusals.{StandsAlone}
 use Rattle.macho_image.proofs.Alone.{asks_alone, err_with}
 use Rattle.macho_image.proofs.link.plain_sections.Goals as goal
 

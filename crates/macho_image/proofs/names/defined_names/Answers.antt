@@ -3,7 +3,7 @@ use Rattle.std.specs.HashMap.{get}
 use Rattle.macho_model.specs.Objects.{symbol_name}
 use Rattle.macho_image.specs.Definitions.{is_object_definition}
 use Rattle.macho_image.proofs.Entries.{none_if, some_if}
-use Rattle.macho_image.specs.Names.{same_text}
+use Rattle.macho_image.specs.steps.Names.{same_text}
 use Rattle.macho_image.proofs.NamesSeen.{seen_passed, seen_more, seen_again, absent}
 use Rattle.macho_image.proofs.names.defined_names.Goals as goal
 use Rattle.macho_image.proofs.names.defined_names.Goals.{in-Some+in_ok-insert+else-is_some, in_default}

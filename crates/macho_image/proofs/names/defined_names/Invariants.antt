@@ -1,5 +1,5 @@
 use Rattle.std.specs.HashMap.{get}
-use Rattle.macho_image.specs.Names.{same_text, SeenNames}
+use Rattle.macho_image.specs.steps.Names.{same_text, SeenNames}
 use Rattle.macho_image.proofs.names.defined_names.Given as goal
 
 -- the names that the symbols so far define, each once

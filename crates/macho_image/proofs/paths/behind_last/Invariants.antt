@@ -1,4 +1,4 @@
-use Rattle.macho_image.specs.Paths.{IsBehindLast}
+use Rattle.macho_image.specs.steps.Paths.{IsBehindLast}
 use Rattle.macho_image.proofs.paths.behind_last.Given as goal
 
 abbrev pub invariant-loop-place : goal.invariant-loop-place

@@ -1,5 +1,5 @@
 use Rattle.std.proofs.Common.{length, refl}
-use Rattle.macho_image.specs.Places.{front_of}
+use Rattle.macho_image.specs.steps.Places.{front_of}
 use Rattle.macho_image.proofs.Places.{places_more}
 use Rattle.macho_image.proofs.place.place_sections.Goals as goal
 

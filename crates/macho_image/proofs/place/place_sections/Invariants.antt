@@ -1,5 +1,5 @@
 use Rattle.std.proofs.Common.{take, length}
-use Rattle.macho_image.specs.Places.{Places, front_of}
+use Rattle.macho_image.specs.steps.Places.{Places, front_of}
 use Rattle.macho_image.proofs.place.place_sections.Given as goal
 
 -- the sections so far have places

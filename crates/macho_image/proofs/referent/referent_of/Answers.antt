@@ -4,7 +4,7 @@ use Rattle.macho_records.specs.declared.symbols.SymtabEntry.{SymtabEntry}
 use Rattle.macho_records.specs.Symbols.{is_stab_of, is_external_of}
 use Rattle.macho_model.specs.Grammar.{IsFile}
 use Rattle.macho_model.specs.Objects.{num_symbols, symbol_at, symbol_name}
-use Rattle.macho_image.specs.Names.{same_text}
+use Rattle.macho_image.specs.steps.Names.{same_text}
 use Rattle.macho_image.proofs.Entries.{none_if, some_if}
 use Rattle.macho_image.proofs.Leading.{stab_leads, local_leads, global_leads, stab_from, plain_from, not_true, not_false, no_definition}
 use Rattle.macho_image.proofs.referent.referent_of.Goals as goal

@@ -1,4 +1,4 @@
-use Rattle.macho_image.specs.First.{HasSections}
+use Rattle.macho_image.specs.steps.First.{HasSections}
 use Rattle.macho_image.proofs.scan.carried_sections.Given as goal
 
 -- the carried ones of the sections so far

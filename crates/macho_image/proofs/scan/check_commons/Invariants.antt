@@ -1,4 +1,4 @@
-use Rattle.macho_image.specs.First.{HasNoCommon}
+use Rattle.macho_image.specs.steps.First.{HasNoCommon}
 use Rattle.macho_image.proofs.scan.check_commons.Given as goal
 
 -- none of the symbols so far is a common

@@ -3,7 +3,7 @@ use Rattle.macho_bytes.specs.Numbers.{le_at}
 use Rattle.macho_model.specs.Words.{is_branch}
 use Rattle.macho_model.specs.Values.{less}
 use Rattle.macho_image.specs.declared.branch.Branch.{Branch}
-use Rattle.macho_image.specs.Branches.{WORD, AreApart}
+use Rattle.macho_image.specs.steps.Branches.{WORD, AreApart}
 use Rattle.macho_image.proofs.Uses.{no_branch}
 use Rattle.macho_image.proofs.Set.{any_default, word_still, set_more, reaches_from, far_from}
 use Rattle.macho_image.proofs.setting.set_branches.Goals as goal

@@ -1,4 +1,4 @@
-use Rattle.macho_image.specs.Setting.{IsSet}
+use Rattle.macho_image.specs.steps.Setting.{IsSet}
 use Rattle.macho_image.proofs.setting.set_branches.Given as goal
 
 -- the branches so far are set

@@ -1,6 +1,6 @@
 use Rattle.std.proofs.Common.{◌≡◌, ◌+◌, ◌*◌, ◌^◌, take}
 use Rattle.std.specs.Prelude.{sum_by}
-use Rattle.macho_image.specs.Places.{cost_of}
+use Rattle.macho_image.specs.steps.Places.{cost_of}
 use Rattle.macho_image.proofs.size.is_placeable.Given as goal
 
 -- what is left, and what the sections so far cost

@@ -4,8 +4,8 @@ use Rattle.macho_bytes.specs.Layouts.{spelling}
 use Rattle.macho_records.specs.Layouts.{mach_header}
 use Rattle.macho_records.specs.declared.header.MachHeader.{MachHeader}
 use Rattle.macho_records.specs.declared.constants.TheConstants.{MH_MAGIC_64, CPU_TYPE_ARM64, MH_EXECUTE}
-use Rattle.macho_image.specs.Shape.{EXECUTABLE_FLAGS}
-use Rattle.macho_image.specs.Parts.{header_part}
+use Rattle.macho_image.specs.steps.Shape.{EXECUTABLE_FLAGS}
+use Rattle.macho_image.specs.steps.Parts.{header_part}
 use Rattle.macho_image.proofs.Adds.{adds_put}
 use Rattle.macho_image.proofs.write.write_header.Goals as goal
 

@@ -1,4 +1,4 @@
-use Rattle.macho_image.specs.Parts.{commands_part}
+use Rattle.macho_image.specs.steps.Parts.{commands_part}
 use Rattle.macho_image.proofs.Adds.{adds_put}
 use Rattle.macho_image.proofs.write.write_load_commands.Goals as goal
 

@@ -1,7 +1,7 @@
 use Rattle.std.proofs.Common.{◌<◌, ◌∙◌, [], length, map, get_or, sym, ap, subst, arith}
 use Rattle.std.proofs.lemmas.List.{length-map}
 use Rattle.macho_model.specs.Objects.{section_bytes}
-use Rattle.macho_image.specs.Setting.{AreSettable, WritesSection}
+use Rattle.macho_image.specs.steps.Setting.{AreSettable, WritesSection}
 use Rattle.macho_image.proofs.Placed.{map-at, no_place}
 use Rattle.macho_image.proofs.Written.{written_more}
 use Rattle.macho_image.proofs.write.write_sections.Goals as goal

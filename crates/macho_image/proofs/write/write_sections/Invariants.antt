@@ -1,5 +1,5 @@
 use Rattle.std.proofs.Common.{◌≡◌, length, map}
-use Rattle.macho_image.specs.Setting.{WritesSections}
+use Rattle.macho_image.specs.steps.Setting.{WritesSections}
 use Rattle.macho_image.proofs.write.write_sections.Given as goal
 
 -- the sections so far are written

@@ -1,7 +1,7 @@
 use Rattle.std.proofs.Common.{map, arith, add-one}
 use Rattle.std.proofs.lemmas.Result.{err_from_is_err_and}
-use Rattle.macho_stub.specs.Opened.{document_of}
-use Rattle.macho_stub.specs.Checks.{checked_documents}
+use Rattle.macho_stub.specs.steps.Opened.{document_of}
+use Rattle.macho_stub.specs.steps.Checks.{checked_documents}
 use Rattle.macho_stub.proofs.Gather.{next_is_sound, next_is_broken, all_are_sound}
 use Rattle.macho_stub.proofs.library.checked_documents.Goals as goal
 

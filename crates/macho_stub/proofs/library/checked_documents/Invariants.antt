@@ -1,6 +1,6 @@
 use Rattle.std.proofs.Common.{◌≡◌, drop, map}
-use Rattle.macho_stub.specs.Opened.{document_of}
-use Rattle.macho_stub.specs.Checks.{checked_documents}
+use Rattle.macho_stub.specs.steps.Opened.{document_of}
+use Rattle.macho_stub.specs.steps.Checks.{checked_documents}
 use Rattle.macho_stub.proofs.library.checked_documents.Given as goal
 
 abbrev pub invariant-loop-document : goal.invariant-loop-document

@@ -1,8 +1,8 @@
 use Rattle.std.proofs.Common.{◌≡◌, ◌++◌, drop, map}
 use Rattle.std.specs.List.{flat_map}
 use Rattle.macho_stub_lines.specs.Lists.{texts}
-use Rattle.macho_stub.specs.Opened.{document_of}
-use Rattle.macho_stub.specs.Checks.{texts_of_document}
+use Rattle.macho_stub.specs.steps.Opened.{document_of}
+use Rattle.macho_stub.specs.steps.Checks.{texts_of_document}
 use Rattle.macho_stub.proofs.library.gathered.Given as goal
 
 abbrev pub invariant-loop-document : goal.invariant-loop-document

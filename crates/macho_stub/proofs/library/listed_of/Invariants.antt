@@ -1,6 +1,6 @@
 use Rattle.std.proofs.Common.{◌≡◌, ◌||◌, ℕ, List, drop}
-use Rattle.macho_stub.specs.Opened.{items_of}
-use Rattle.macho_stub.specs.Checks.{holds, is_listed}
+use Rattle.macho_stub.specs.steps.Opened.{items_of}
+use Rattle.macho_stub.specs.steps.Checks.{holds, is_listed}
 use Rattle.macho_stub.proofs.library.listed_of.Given as goal
 
 abbrev pub invariant-loop-item : goal.invariant-loop-item

@@ -1,6 +1,6 @@
 use Rattle.std.proofs.Common.{true, false, sym, arith, add-one}
-use Rattle.macho_stub.specs.Opened.{item_of}
-use Rattle.macho_stub.specs.Checks.{same_item, same_items}
+use Rattle.macho_stub.specs.steps.Opened.{item_of}
+use Rattle.macho_stub.specs.steps.Checks.{same_item, same_items}
 use Rattle.macho_stub.proofs.Same.{same_more, differs, all_agree, other_length, at_places}
 use Rattle.macho_stub.proofs.library.same_items.Goals as goal
 

@@ -1,6 +1,6 @@
 use Rattle.std.proofs.Common.{◌≡◌, drop}
-use Rattle.macho_stub.specs.Opened.{items_of}
-use Rattle.macho_stub.specs.Checks.{all_same, same_item}
+use Rattle.macho_stub.specs.steps.Opened.{items_of}
+use Rattle.macho_stub.specs.steps.Checks.{all_same, same_item}
 use Rattle.macho_stub.proofs.library.same_items.Given as goal
 
 abbrev pub invariant-loop-i : goal.invariant-loop-i

@@ -1,6 +1,6 @@
 use Rattle.std.proofs.Common.{ℕ, List, Bor, sym, arith, add-one}
 use Rattle.std.specs.Str.{bytes_eq}
-use Rattle.macho_stub.specs.Checks.{same_names}
+use Rattle.macho_stub.specs.steps.Checks.{same_names}
 use Rattle.macho_stub.proofs.Same.{same_more, differs, all_agree, other_length, not_true, not_false}
 use Rattle.macho_stub.proofs.library.same_names.Goals as goal
 

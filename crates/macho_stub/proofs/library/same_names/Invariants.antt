@@ -1,7 +1,7 @@
 use Rattle.std.proofs.Common.{◌≡◌, drop}
 use Rattle.std.specs.Str.{bytes_eq}
 use Rattle.macho_stub_lines.specs.Lists.{texts}
-use Rattle.macho_stub.specs.Checks.{all_same}
+use Rattle.macho_stub.specs.steps.Checks.{all_same}
 use Rattle.macho_stub.proofs.library.same_names.Given as goal
 
 abbrev pub invariant-loop-i : goal.invariant-loop-i

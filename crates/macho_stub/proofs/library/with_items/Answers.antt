@@ -1,7 +1,7 @@
 use Rattle.std.proofs.Common.{◌≡◌, ◌++◌, arith, add-one}
 use Rattle.macho_stub_lines.specs.Lists.{texts}
-use Rattle.macho_stub.specs.Opened.{item_of}
-use Rattle.macho_stub.specs.Checks.{texts_for_target}
+use Rattle.macho_stub.specs.steps.Opened.{item_of}
+use Rattle.macho_stub.specs.steps.Checks.{texts_for_target}
 use Rattle.macho_stub_lines.proofs.Bind.{same_ok}
 use Rattle.macho_stub.proofs.Gather.{flat_more}
 use Rattle.macho_stub.proofs.library.with_items.Goals as goal

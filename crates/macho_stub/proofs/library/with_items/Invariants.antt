@@ -1,8 +1,8 @@
 use Rattle.std.proofs.Common.{◌≡◌, ◌++◌, drop}
 use Rattle.std.specs.List.{flat_map}
 use Rattle.macho_stub_lines.specs.Lists.{texts}
-use Rattle.macho_stub.specs.Opened.{items_of}
-use Rattle.macho_stub.specs.Checks.{texts_for_target}
+use Rattle.macho_stub.specs.steps.Opened.{items_of}
+use Rattle.macho_stub.specs.steps.Checks.{texts_for_target}
 use Rattle.macho_stub.proofs.library.with_items.Given as goal
 
 abbrev pub invariant-loop-item : goal.invariant-loop-item

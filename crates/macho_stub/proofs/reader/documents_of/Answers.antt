@@ -4,7 +4,7 @@ use Rattle.std.proofs.lemmas.Iterator.Consumers.{YieldsList-turn, YieldsList-end
 use Rattle.std.proofs.lemmas.Iterator.Splits.{YieldsList-from_lines}
 use Rattle.std.proofs.lemmas.List.{length_push}
 use Rattle.std.proofs.lemmas.Result.{err_from_is_err_and}
-use Rattle.macho_stub.specs.Reader.{state_of, start, lines_from, documents_of}
+use Rattle.macho_stub.specs.steps.Reader.{state_of, start, lines_from, documents_of}
 use Rattle.macho_stub.proofs.Walk.{one_line_more, fault_at_line, no_line_more}
 use Rattle.macho_stub.proofs.reader.documents_of.Goals as goal
 

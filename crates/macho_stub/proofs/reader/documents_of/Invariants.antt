@@ -1,6 +1,6 @@
 use Rattle.std.proofs.Common.{◌≡◌, ◌≤◌, ◌+◌, length, drop}
 use Rattle.std.specs.Str.Lines.{lines}
-use Rattle.macho_stub.specs.Reader.{state_of, start, lines_from}
+use Rattle.macho_stub.specs.steps.Reader.{state_of, start, lines_from}
 use Rattle.macho_stub.proofs.reader.documents_of.Given as goal
 
 -- the reading of the lines that are left is the reading of all

@@ -1,6 +1,7 @@
 use Rattle.std.proofs.Common.{◌≡◌, ◌++◌}
 use Rattle.std.proofs.lemmas.Result.{err_from_is_err_and}
-use Rattle.macho_stub_lines.specs.Lists.{texts, token_of, names_of, list_part, with_front}
+use Rattle.macho_stub_lines.specs.Lists.{texts, names_of, list_part, with_front}
+use Rattle.macho_stub_lines.specs.steps.Lists.{token_of}
 use Rattle.macho_stub_lines.proofs.Bind.{same_ok}
 use Rattle.macho_stub_lines.proofs.Parts.{some_left, none_left, goes_on, ends_at_token, ends_at_order, is_done}
 use Rattle.macho_stub_lines.proofs.list.list_part.Goals as goal

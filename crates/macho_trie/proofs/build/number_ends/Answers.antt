@@ -1,6 +1,6 @@
 use Rattle.std.proofs.Common.{false, length, sym, ◌∙◌, arith}
 use Rattle.std.proofs.lemmas.List.{ext_get_or, length-map, get_or-map}
-use Rattle.macho_trie.specs.Building.{numbered, numbered_rows}
+use Rattle.macho_trie.specs.steps.Building.{numbered, numbered_rows}
 use Rattle.macho_trie.specs.declared.table.Row.{Row}
 use Rattle.macho_trie.proofs.build.number_ends.Goals as goal
 

@@ -1,5 +1,5 @@
 use Rattle.std.proofs.Common.{◌≡◌, ℕ, ◌<◌, ◌≤◌, length, get_or}
-use Rattle.macho_trie.specs.Building.{numbered}
+use Rattle.macho_trie.specs.steps.Building.{numbered}
 use Rattle.macho_trie.specs.declared.table.Row.{Row}
 use Rattle.macho_trie.proofs.build.number_ends.Given as goal
 

@@ -1,6 +1,6 @@
 use Rattle.std.proofs.Common.{◌-◌, length, arith, ap, ◌∙◌}
 use Rattle.macho_trie.specs.Symbols.{names_of}
-use Rattle.macho_trie.specs.Building.{names_in, rows_in, open_in}
+use Rattle.macho_trie.specs.steps.Building.{names_in, rows_in, open_in}
 use Rattle.macho_trie.proofs.Stepping.{item_ok, item_plain, items_less, built_first, built_next, finished_items}
 use Rattle.macho_trie.proofs.build.table_of.Goals as goal
 

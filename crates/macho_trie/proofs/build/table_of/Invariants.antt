@@ -1,6 +1,6 @@
 use Rattle.std.proofs.Common.{◌≡◌, ◌<◌, length, map}
 use Rattle.macho_trie.specs.Symbols.{names_of}
-use Rattle.macho_trie.specs.Building.{names_in, rows_in, open_in}
+use Rattle.macho_trie.specs.steps.Building.{names_in, rows_in, open_in}
 use Rattle.macho_trie.proofs.Sorting.{seen}
 use Rattle.macho_trie.proofs.Stepping.{AreBuilt}
 use Rattle.macho_trie.proofs.build.table_of.Given as goal

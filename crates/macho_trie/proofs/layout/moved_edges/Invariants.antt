@@ -1,6 +1,6 @@
 use Rattle.std.proofs.Common.{◌≡◌, ◌<◌, ◌-◌, [], length}
 use Rattle.std.specs.List.{All}
-use Rattle.macho_trie.specs.Layouts.{AreListed}
+use Rattle.macho_trie.specs.steps.Layouts.{AreListed}
 use Rattle.macho_trie.proofs.layout.moved_edges.Given as goal
 
 -- all on the list are in front, and without a moved place there is none

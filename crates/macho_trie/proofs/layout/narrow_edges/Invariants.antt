@@ -1,6 +1,6 @@
 use Rattle.std.proofs.Common.{◌≡◌, ◌<◌, ◌≤◌, ℕ, [], length, slice_index}
 use Rattle.std.specs.List.{All}
-use Rattle.macho_trie.specs.Layouts.{IsNarrow, AreListed, needed}
+use Rattle.macho_trie.specs.steps.Layouts.{IsNarrow, AreListed, needed}
 use Rattle.macho_trie.proofs.layout.narrow_edges.Given as goal
 
 -- all on the list are too narrow and in front, and where it is empty none so far is

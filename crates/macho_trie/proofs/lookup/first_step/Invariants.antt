@@ -1,6 +1,6 @@
 use Rattle.std.proofs.Common.{◌≡◌, ◌≤◌, ◌-◌, length, IfSome}
 use Rattle.macho_trie.specs.Nodes.{edges_at}
-use Rattle.macho_trie.specs.Lookup.{IsStep}
+use Rattle.macho_trie.specs.steps.Lookup.{IsStep}
 use Rattle.macho_trie.proofs.Edges.{behind}
 use Rattle.macho_trie.proofs.lookup.first_step.Given as goal
 

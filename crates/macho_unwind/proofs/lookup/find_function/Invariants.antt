@@ -4,7 +4,7 @@
 -- then each of their offsets is above the limit.
 use Rattle.std.proofs.Common.{ℕ}
 use Rattle.macho_unwind.specs.Sections.{word_at, offset_in}
-use Rattle.macho_unwind.specs.Parts.{IsBest}
+use Rattle.macho_unwind.specs.steps.Parts.{IsBest}
 use Rattle.macho_unwind.proofs.lookup.find_function.Given as goal
 
 -- the best function so far, by its offset in the page

@@ -3,7 +3,7 @@
 -- What holds before entry k: of the entries before it, the best one is known with its first address; or none was told, and
 -- then each of their first addresses is above the offset.
 use Rattle.macho_unwind.specs.Sections.{first_at}
-use Rattle.macho_unwind.specs.Parts.{IsBest}
+use Rattle.macho_unwind.specs.steps.Parts.{IsBest}
 use Rattle.macho_unwind.proofs.lookup.find_page.Given as goal
 
 -- the best entry so far

@@ -39,10 +39,7 @@ returns-clause-found c =
     c.in_ok-bytes.ensures.places c.in_ok-bytes.ensures.done)
 
 pub returns-clause-only : goal.returns-clause-only
-returns-clause-only c =
-    let test = c.is_empty.ensures in
-    let full = c.if-is_empty.false in
-    let some : 0 < length c.args.entries.now = grind (arith, nat_tests) in
+returns-clause-only c some =
     finds-only-entries c.args.text_start c.args.entries.now _ c.requires
     (is_section c.args.text_start c.args.entries.now (plan_list c.in_ok-plan.plan) _ some c.in_ok-plan.ensures.done
     c.in_ok-bytes.ensures.places c.in_ok-bytes.ensures.done)

@@ -1,7 +1,7 @@
 -- Whether the addresses of all entries are told by offsets of 32 bits.
 --
 -- If it holds of the first k entries and of entry k, it holds of the first k + 1. At the end the first k are all.
-use Rattle.macho_unwind_pages.specs.Planning.{IsNear}
+use Rattle.macho_unwind_pages.specs.steps.Planning.{IsNear}
 use Rattle.macho_unwind_pages.proofs.Told.{all_more, all_done}
 use Rattle.macho_unwind_pages.proofs.offsets.are_near.Goals as goal
 

@@ -7,7 +7,7 @@
 use Rattle.std.proofs.Common.{◌++◌, ◌∷◌, [], map, ap, ◌∙◌, arith}
 use Rattle.std.proofs.lemmas.List.{map_push}
 use Rattle.macho_unwind_pages.specs.Plans.{page_list}
-use Rattle.macho_unwind_pages.specs.Paging.{globals_in}
+use Rattle.macho_unwind_pages.specs.steps.Paging.{globals_in}
 use Rattle.macho_unwind_pages.proofs.PagesMade.{made_first, made_taken, made_next, made_all}
 use Rattle.macho_unwind_pages.proofs.paging.paged.Goals as goal
 use Rattle.macho_unwind_pages.proofs.paging.paged.Goals.{then-is_closed_to+in_ok-next+in_ok-push, else-is_closed_to+in_ok-add}

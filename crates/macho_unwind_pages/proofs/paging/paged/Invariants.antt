@@ -5,7 +5,7 @@
 use Rattle.std.proofs.Common.{◌-◌, ◌<◌, map, take}
 use Rattle.std.specs.Prelude.{slice_index_or}
 use Rattle.macho_unwind_pages.specs.Plans.{Row, page_list}
-use Rattle.macho_unwind_pages.specs.Paging.{globals_in}
+use Rattle.macho_unwind_pages.specs.steps.Paging.{globals_in}
 use Rattle.macho_unwind_pages.proofs.PagesMade.{ArePagesTo}
 use Rattle.macho_unwind_pages.proofs.paging.paged.Given as goal
 

@@ -9,7 +9,7 @@ use Rattle.std.proofs.lemmas.List.{length-map}
 use Rattle.std.proofs.lemmas.List.Elements.{All-map}
 use Rattle.indexmap.specs.IndexMap.{keys}
 use Rattle.macho_unwind_pages.specs.Plans.{Row, row_from, page_list}
-use Rattle.macho_unwind_pages.specs.Paging.{ArePages, globals_in}
+use Rattle.macho_unwind_pages.specs.steps.Paging.{ArePages, globals_in}
 use Rattle.macho_unwind_pages.proofs.Gathered.{rows_rise, short_ranks}
 use Rattle.macho_unwind_pages.specs.Entries.{ranked}
 use Rattle.macho_unwind_pages.proofs.Planned.{assembled_of}

@@ -11,9 +11,10 @@ use Rattle.macho_unwind_pages.specs.declared.entries.UnwindInput.{UnwindInput}
 use Rattle.macho_unwind_pages.specs.declared.entries.ResolvedUnwindInfo.{ResolvedUnwindInfo}
 use Rattle.macho_unwind_pages.specs.Entries.{IsLast, ids_of, code_in}
 use Rattle.macho_unwind_pages.specs.Plans.{HasFarOffset, plan_list}
-use Rattle.macho_unwind_pages.specs.Planning.{IsNear, IsBehind, IsReady, IsAssembled}
+use Rattle.macho_unwind_pages.specs.steps.Planning.{IsNear, IsBehind, IsReady, IsAssembled}
 use Rattle.macho_unwind_pages.specs.Calls.{PlanFault}
 use Rattle.macho_unwind_pages.proofs.Gathered.{behind}
+use Rattle.macho_unwind_pages.proofs.PlansShort.{plans_short}
 use Rattle.macho_unwind_pages.proofs.Planned.{ready, planned_from, not_far, far_of_run, err_is}
 use Rattle.macho_unwind_pages.proofs.planning.plan.Goals as goal
 
@@ -104,3 +105,11 @@ returns-clause-near c =
     (subst (λ (l : List ResolvedUnwindInfo). All (λ e. IsLast l e → e.start + e.length ≡ c.args.text_start + c.in_ok-end.end) l)
     c.as_slice-2.ensures.value c.in_ok-end.ensures.done)
     (search rules)
+
+pub returns-clause-pages : goal.returns-clause-pages
+returns-clause-pages c =
+    (plans_short c.args.text_start c.args.entries.now (plan_list c.in_ok-plan.plan) c.requires.some c.requires.entries (returns-clause-done c)).0
+
+pub returns-clause-short : goal.returns-clause-short
+returns-clause-short c =
+    (plans_short c.args.text_start c.args.entries.now (plan_list c.in_ok-plan.plan) c.requires.some c.requires.entries (returns-clause-done c)).1

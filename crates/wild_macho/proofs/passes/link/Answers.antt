@@ -5,7 +5,7 @@ use Rattle.macho_model.specs.Links.{Link}
 use Rattle.macho_image.specs.declared.fault.LinkError.{LinkError}
 use Rattle.macho_image.specs.declared.fault.LinkError.TheVariants as error
 use Rattle.macho_image.specs.Refusals.{RefusalStands}
-use Rattle.wild_macho.specs.Reading.{link_fault}
+use Rattle.wild_macho.specs.steps.Reading.{link_fault}
 use Rattle.wild_macho.specs.Job.{Links}
 use Rattle.wild_macho.specs.Runs.{Failures, JobFails}
 use Rattle.wild_macho.proofs.passes.link.Goals as goal

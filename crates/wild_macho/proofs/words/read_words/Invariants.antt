@@ -2,7 +2,7 @@
 use Rattle.std.proofs.Common.{length, ◌-◌, ◌≤◌}
 use Rattle.macho_args.specs.Settings.{settings_of}
 use Rattle.macho_args.specs.Words.{texts_of}
-use Rattle.wild_macho.specs.Reading.{HasRead}
+use Rattle.wild_macho.specs.steps.Reading.{HasRead}
 use Rattle.wild_macho.proofs.words.read_words.Given as goal
 
 abbrev pub invariant-loop-place : goal.invariant-loop-place

@@ -1,7 +1,7 @@
 -- A value is passed over, and another word is read: one turn of the fold.
 use Rattle.std.proofs.Common.{◌+◌}
 use Rattle.std.proofs.lemmas.List.{take_rest}
-use Rattle.macho_args.specs.KeptRoot.{keep_root}
+use Rattle.macho_args.specs.steps.KeptRoot.{keep_root}
 use Rattle.macho_args.proofs.Reading.{turn-value, turn-done, turn-why}
 use Rattle.macho_args.proofs.fields.MachOArgs.read_next.Goals as goal
 

@@ -1,7 +1,7 @@
 -- After the last word nothing is left to read.
 use Rattle.std.proofs.Common.{sym, ◌∙◌}
 use Rattle.std.proofs.Math.ListN.{drop_of_length-le}
-use Rattle.macho_args.specs.KeptRoot.{keep_root}
+use Rattle.macho_args.specs.steps.KeptRoot.{keep_root}
 use Rattle.macho_args.specs.Settings.{settings_of}
 use Rattle.macho_args.proofs.Reading.{read-nothing}
 use Rattle.macho_args.proofs.fields.MachOArgs.read_words.Goals as goal

@@ -1,6 +1,6 @@
 -- What is left of the words, read from the fields so far, is what all words say.
 use Rattle.std.proofs.Common.{◌≡◌, drop}
-use Rattle.macho_args.specs.KeptRoot.{keep_root}
+use Rattle.macho_args.specs.steps.KeptRoot.{keep_root}
 use Rattle.macho_args.specs.Settings.{settings_of}
 use Rattle.macho_args.specs.Words.{read_from, texts_of}
 use Rattle.macho_args.proofs.fields.MachOArgs.read_words.Given as goal

@@ -1,5 +1,5 @@
 use Rattle.std.proofs.Common.{ℕ, ◌<◌}
-use Rattle.macho_object.specs.Checks.{NameFits}
+use Rattle.macho_object.specs.steps.Checks.{NameFits}
 use Rattle.macho_object.proofs.outline.Outline.check_names.Given as goal
 
 abbrev pub invariant-loop-index : goal.invariant-loop-index

@@ -1,7 +1,10 @@
-use Rattle.std.proofs.Common.{◌≡◌, ℕ, ◌+◌, ◌<◌, nat_le, List, length, sym, subst, arith}
+use Rattle.std.proofs.Common.{rules, ◌≡◌, ℕ, ◌+◌, ◌<◌, nat_le, List, length, sym, subst, arith}
 use Rattle.macho_bytes.specs.Layouts.{reading, size_of}
 use Rattle.macho_records.specs.Relocations.{relocation_info}
 use Rattle.macho_records.specs.declared.relocations.RelocationInfo.{RelocationInfo}
+use Rattle.macho_model.specs.declared.rules.ObjectRule.TheVariants.{O5, O10}
+use Rattle.macho_model.specs.Objects.{relocation_place, relocation_at}
+use Rattle.macho_object.proofs.Breaks.{relocation_breaks}
 use Rattle.macho_object.proofs.Options.{some_if}
 use Rattle.macho_object.proofs.outline.Outline.check_relocation.Goals as goal
 
@@ -18,3 +21,15 @@ is_inside-requires c =
     let b = c.args.self.now.input.now in
     let at = c.relocation_place-place.result in
     short_read b at _ (some_if (nat_le (at + size_of relocation_info) (length b)) _ (reading relocation_info b at) c.in-Some.ensures.done).1
+
+pub returns-then-not-names_target-clause-why : goal.returns-then-not-names_target-clause-why
+unfolding relocation_place relocation_at
+returns-then-not-names_target-clause-why c =
+    relocation_breaks c.args.self.now O5 _ c.args.section c.args.index c.requires.outlined c.requires.among c.requires.fits.relocations
+    (search rules) (search rules) (search rules)
+
+pub returns-then-not-is_inside-clause-why : goal.returns-then-not-is_inside-clause-why
+unfolding relocation_place relocation_at
+returns-then-not-is_inside-clause-why c =
+    relocation_breaks c.args.self.now O10 _ c.args.section c.args.index c.requires.outlined c.requires.among c.requires.fits.relocations
+    (search rules) (search rules) (search rules)

@@ -1,5 +1,5 @@
 use Rattle.std.proofs.Common.{ℕ, ◌<◌}
-use Rattle.macho_object.specs.Checks.{SymbolFits}
+use Rattle.macho_object.specs.steps.Checks.{SymbolFits}
 use Rattle.macho_object.proofs.outline.Outline.check_symbols.Given as goal
 
 abbrev pub invariant-loop-index : goal.invariant-loop-index

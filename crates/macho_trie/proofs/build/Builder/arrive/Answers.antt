@@ -1,6 +1,6 @@
 use Rattle.std.proofs.Common.{◌≡◌, ℕ, ◌∷◌, length, refl, sym, ap, ◌∙◌, arith}
 use Rattle.std.proofs.lemmas.List.{length-reverse}
-use Rattle.macho_trie.specs.Building.{names_in, rows_in, open_in}
+use Rattle.macho_trie.specs.steps.Building.{names_in, rows_in, open_in}
 use Rattle.macho_trie.specs.Tables.{name_at}
 use Rattle.macho_trie.specs.declared.build.Open.{Open}
 use Rattle.macho_trie.proofs.Closing.{reverse-last}

@@ -1,5 +1,5 @@
 use Rattle.std.proofs.Common.{ap, arith}
-use Rattle.macho_trie.specs.Building.{names_in, rows_in, open_in}
+use Rattle.macho_trie.specs.steps.Building.{names_in, rows_in, open_in}
 use Rattle.macho_trie.specs.Symbols.{names_of}
 use Rattle.macho_trie.proofs.Closing.{few_children, last_two, next_group, closed_after}
 use Rattle.macho_trie.proofs.build.Builder.close.Goals as goal

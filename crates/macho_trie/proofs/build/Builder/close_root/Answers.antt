@@ -1,7 +1,7 @@
 use Rattle.std.proofs.Common.{List, ◌≡◌, length, ◌≤◌, sym, subst, ap, ◌∙◌, arith}
 use Rattle.std.specs.List.{All}
 use Rattle.std.proofs.lemmas.List.{length-map, with_items_is}
-use Rattle.macho_trie.specs.Building.{numbered, numbered_rows, names_in, rows_in}
+use Rattle.macho_trie.specs.steps.Building.{numbered, numbered_rows, names_in, rows_in}
 use Rattle.macho_trie.specs.declared.table.Row.{Row}
 use Rattle.macho_trie.proofs.Closing.{few_children}
 use Rattle.macho_trie.proofs.Rooting.{last_root, rooted_closed, rooted_after}

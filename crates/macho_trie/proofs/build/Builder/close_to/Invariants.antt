@@ -1,5 +1,5 @@
 use Rattle.std.proofs.Common.{◌≡◌, true}
-use Rattle.macho_trie.specs.Building.{names_in, rows_in, open_in, deepest, ClosedAs}
+use Rattle.macho_trie.specs.steps.Building.{names_in, rows_in, open_in, deepest, ClosedAs}
 use Rattle.macho_trie.proofs.build.Builder.close_to.Given as goal
 
 abbrev pub invariant-loop-depth : goal.invariant-loop-depth

@@ -1,5 +1,5 @@
 use Rattle.std.proofs.Common.{◌≡◌, length, ap, arith, rules}
-use Rattle.macho_trie.specs.Building.{names_in, rows_in, open_in}
+use Rattle.macho_trie.specs.steps.Building.{names_in, rows_in, open_in}
 use Rattle.macho_trie.proofs.Rooting.{root_of_opened, root_of_closed}
 use Rattle.macho_trie.proofs.build.Builder.finish.Goals as goal
 

@@ -1,4 +1,4 @@
-use Rattle.macho_trie.specs.Building.{names_in, rows_in, open_in}
+use Rattle.macho_trie.specs.steps.Building.{names_in, rows_in, open_in}
 use Rattle.macho_trie.proofs.Stepping.{names_less, ready_all, steps_as}
 use Rattle.macho_trie.proofs.build.Builder.step.Goals as goal
 

@@ -1,6 +1,6 @@
 use Rattle.std.proofs.Common.{length, sum, ap, sym, subst, ◌∙◌, arith, List, ℕ}
 use Rattle.std.proofs.lemmas.List.{length-replicate, with_items_is}
-use Rattle.macho_trie.specs.Layouts.{size_at, tree_at, AreLow, AreLowWidths}
+use Rattle.macho_trie.specs.steps.Layouts.{size_at, tree_at, AreLow, AreLowWidths}
 use Rattle.std.proofs.lemmas.Bool.{eqb-true}
 use Rattle.macho_trie.proofs.Widths.{low_first}
 use Rattle.macho_trie.proofs.Looks.{seen_by, seen_short, none_narrow, fewer_left, nothing_in}

@@ -1,5 +1,5 @@
 use Rattle.std.proofs.Common.{◌-◌, ◌*◌, length, sum}
-use Rattle.macho_trie.specs.Layouts.{AreLowWidths}
+use Rattle.macho_trie.specs.steps.Layouts.{AreLowWidths}
 use Rattle.macho_trie.proofs.layout.Layout.lay_out.Given as goal
 
 abbrev pub invariant-looks : goal.invariant-looks

@@ -3,7 +3,7 @@ use Rattle.std.specs.List.{range_with_len}
 use Rattle.std.proofs.lemmas.List.FromFn.{map-range_with_len_more, length-map-range_with_len, get_or-map-range_with_len}
 use Rattle.macho_trie.specs.Tables.{row_at, symbol_at}
 use Rattle.macho_trie.specs.Encoding.{place_of}
-use Rattle.macho_trie.specs.Layouts.{names_at, size_at, tree_at}
+use Rattle.macho_trie.specs.steps.Layouts.{names_at, size_at, tree_at}
 use Rattle.macho_trie.proofs.Sizes.{place_first, place_more}
 use Rattle.macho_trie.proofs.layout.Layout.places.Goals as goal
 

@@ -1,7 +1,7 @@
 use Rattle.std.proofs.Common.{◌≡◌, map, slice_index}
 use Rattle.std.specs.List.{range_with_len}
 use Rattle.macho_trie.specs.Encoding.{place_of}
-use Rattle.macho_trie.specs.Layouts.{size_at, tree_at}
+use Rattle.macho_trie.specs.steps.Layouts.{size_at, tree_at}
 use Rattle.macho_trie.proofs.layout.Layout.places.Given as goal
 
 abbrev pub invariant-loop-row : goal.invariant-loop-row

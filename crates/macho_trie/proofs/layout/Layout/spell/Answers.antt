@@ -1,6 +1,6 @@
 use Rattle.std.proofs.Common.{slice_index, arith}
 use Rattle.macho_trie.specs.Encoding.{tree_bytes}
-use Rattle.macho_trie.specs.Layouts.{names_at, says_at, tree_at}
+use Rattle.macho_trie.specs.steps.Layouts.{names_at, says_at, tree_at}
 use Rattle.macho_trie.proofs.Cursor.{row_sound}
 use Rattle.macho_trie.proofs.Spells.{node_spelled}
 use Rattle.macho_trie.proofs.layout.Layout.spell.Goals as goal

@@ -1,7 +1,7 @@
 use Rattle.std.proofs.Common.{◌≡◌, ◌++◌, slice_index}
 use Rattle.macho_trie.specs.Tables.{trees_from}
 use Rattle.macho_trie.specs.Encoding.{tree_bytes}
-use Rattle.macho_trie.specs.Layouts.{names_at, says_at, tree_at}
+use Rattle.macho_trie.specs.steps.Layouts.{names_at, says_at, tree_at}
 use Rattle.macho_trie.proofs.layout.Layout.spell.Given as goal
 
 -- what is written and the bytes of the rows that are left are the bytes of all

@@ -2,7 +2,7 @@ use Rattle.std.proofs.Common.{ap, sym, ◌≡◌, true, ◌∙◌, arith, rules}
 use Rattle.std.proofs.lemmas.List.{length-map}
 use Rattle.std.proofs.lemmas.Result.{IfOk-weaker}
 use Rattle.macho_trie.specs.Says.{said_of}
-use Rattle.macho_trie.specs.Layouts.{says_at}
+use Rattle.macho_trie.specs.steps.Layouts.{says_at}
 use Rattle.macho_trie.proofs.Sizes.{terminal_is, says_is}
 use Rattle.macho_trie.proofs.layout.Layout.terminal_size.Goals as goal
 

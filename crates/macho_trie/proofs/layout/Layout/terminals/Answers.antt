@@ -2,7 +2,7 @@ use Rattle.std.proofs.Common.{ap, sym, ◌∷◌, ◌++◌, [], ◌∙◌, arith
 use Rattle.std.specs.List.{range_with_len}
 use Rattle.std.proofs.lemmas.List.FromFn.{map-range_with_len_more}
 use Rattle.macho_trie.specs.Tables.{row_at, symbol_at}
-use Rattle.macho_trie.specs.Layouts.{names_at, size_at}
+use Rattle.macho_trie.specs.steps.Layouts.{names_at, size_at}
 use Rattle.macho_trie.proofs.Cursor.{row_sound}
 use Rattle.macho_trie.proofs.layout.Layout.terminals.Goals as goal
 

@@ -1,7 +1,7 @@
 use Rattle.std.proofs.Common.{◌≡◌, ℕ, map}
 use Rattle.std.specs.List.{range_with_len}
 use Rattle.macho_trie.specs.Tables.{row_at, symbol_at}
-use Rattle.macho_trie.specs.Layouts.{size_at}
+use Rattle.macho_trie.specs.steps.Layouts.{size_at}
 use Rattle.macho_trie.proofs.layout.Layout.terminals.Given as goal
 
 abbrev pub invariant-loop-row : goal.invariant-loop-row

@@ -1,6 +1,6 @@
 use Rattle.std.proofs.Common.{ℕ, ◌+◌, length, slice_index, refl, sym, subst, arith}
 use Rattle.macho_trie.specs.Encoding.{place_of}
-use Rattle.macho_trie.specs.Layouts.{names_at, size_at, tree_at}
+use Rattle.macho_trie.specs.steps.Layouts.{names_at, size_at, tree_at}
 use Rattle.macho_trie.proofs.Building.{node_count-rows}
 use Rattle.macho_trie.proofs.Widths.{length-places}
 use Rattle.macho_trie.proofs.Raising.{AreWidening, widening_first, widening_more}

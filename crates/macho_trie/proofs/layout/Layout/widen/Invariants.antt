@@ -1,4 +1,4 @@
-use Rattle.macho_trie.specs.Layouts.{size_at, tree_at}
+use Rattle.macho_trie.specs.steps.Layouts.{size_at, tree_at}
 use Rattle.macho_trie.proofs.Raising.{AreWidening}
 use Rattle.macho_trie.proofs.layout.Layout.widen.Given as goal
 

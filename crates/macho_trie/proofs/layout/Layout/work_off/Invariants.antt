@@ -1,5 +1,5 @@
 use Rattle.std.proofs.Common.{◌≡◌, ◌⊎◌, ◌-◌, ◌*◌, ◌+◌, ◌<◌, length, sum, slice_index}
-use Rattle.macho_trie.specs.Layouts.{ArePlaces, AreListed, AreLowWidths, IsNarrow}
+use Rattle.macho_trie.specs.steps.Layouts.{ArePlaces, AreListed, AreLowWidths, IsNarrow}
 use Rattle.macho_trie.proofs.Looks.{rank}
 use Rattle.macho_trie.proofs.layout.Layout.work_off.Given as goal
 

@@ -1,6 +1,6 @@
 use Rattle.std.proofs.Common.{◌-◌, slice_index}
 use Rattle.macho_trie.specs.Tables.{row_at}
-use Rattle.macho_trie.specs.Layouts.{names_at}
+use Rattle.macho_trie.specs.steps.Layouts.{names_at}
 use Rattle.macho_trie.proofs.Spells.{IsSpelling}
 use Rattle.macho_trie.proofs.layout.Layout.write_edges.Given as goal
 

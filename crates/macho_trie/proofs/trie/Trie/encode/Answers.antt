@@ -1,7 +1,7 @@
 use Rattle.std.proofs.Common.{ℕ, List, length, slice_index, arith, ap, ◌∙◌}
 use Rattle.std.proofs.lemmas.Result.{IfOk-weaker}
 use Rattle.macho_trie.specs.Encoding.{tree_bytes}
-use Rattle.macho_trie.specs.Layouts.{says_at, tree_at}
+use Rattle.macho_trie.specs.steps.Layouts.{says_at, tree_at}
 use Rattle.macho_trie.specs.declared.layout.Layout.{Layout}
 use Rattle.macho_trie.proofs.Encodes.{places_long, table_of_trie, exports_trie, length_is, found_all, found_only, names_long, no_bytes}
 use Rattle.macho_trie.proofs.trie.Trie.encode.Goals as goal

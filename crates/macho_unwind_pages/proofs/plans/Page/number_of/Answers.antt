@@ -4,7 +4,7 @@
 -- asked, and has none. So the two joined have the code exactly where the second one has it.
 use Rattle.std.proofs.Common.{◌==◌, ap, sym, ◌∙◌, is_some}
 use Rattle.std.specs.List.{list_any}
-use Rattle.macho_unwind_pages.specs.Paging.{globals_in}
+use Rattle.macho_unwind_pages.specs.steps.Paging.{globals_in}
 use Rattle.macho_unwind_pages.proofs.Naming.{found_in_second}
 use Rattle.macho_unwind_pages.proofs.plans.Page.number_of.Goals as goal
 

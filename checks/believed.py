@@ -1,0 +1,471 @@
+"""The definitions that the clauses of public functions rest on, read from the sources.
+
+believed.py                 the definitions under the clauses of `run`, in reading order, with lines; then the rules below
+believed.py --crate NAME    the files of a crate's specs/, and which definitions of each a public clause rests on
+believed.py --lines         writes the lines of the files that docs/THEOREMS.md lists into it
+
+Refused are: a file of specs/steps/ under a public clause of any crate, a file of specs/ that imports one of specs/steps/,
+and a row of the README's table that names a function or clause that isn't there.
+"""
+import os
+import re
+import sys
+
+TOP = os.path.dirname(os.path.dirname(os.path.abspath(__file__)))
+CRATES = os.path.join(TOP, "crates")
+NAME = r"[^\s(){}\[\],;.]+"
+
+
+def read(path):
+    with open(path, encoding="utf-8") as file:
+        return file.read()
+
+
+def names_of(text):
+    """The names of an import list, as {name here: name there}."""
+    names = {}
+    for part in text.split(","):
+        words = part.split()
+        if len(words) == 3 and words[1] == "as":
+            names[words[2]] = words[0]
+        elif words:
+            names[words[0]] = words[0]
+    return names
+
+
+USE = re.compile(r"(?:pub )?(?:ghost )?use (Rattle\.[^\s{;]*?)(?:\.\{([^}]*)\}|(?: as (\S+?))?);?\s*$", re.M)
+
+
+def imports_of(text):
+    """Names that stand for an item, and names that stand for a module."""
+    items, modules = {}, {}
+    for use in USE.finditer(text):
+        module, names, alias = use.group(1), use.group(2), use.group(3)
+        if names is not None:
+            for here, there in names_of(names).items():
+                items[here] = (module, there)
+        else:
+            modules[alias or module.rsplit(".", 1)[1]] = module
+    return items, modules
+
+
+SIGNATURE = re.compile(r"(?:(?:abbrev|unfoldable|opaque|pub|record|data) )+(" + NAME + r")|(" + NAME + r") :(?:\s|$)")
+NO_DEFINITION = re.compile(r"(?:pub )?(?:use|mod|ruleset|syntax)\b")
+
+
+class Definition:
+    def __init__(self, name, start):
+        self.name = name
+        self.start = start
+        self.end = start
+        self.text = ""
+
+    def add(self, number, line):
+        self.end = number
+        self.text += line + "\n"
+
+
+class Specs:
+    """One file of definitions."""
+
+    def __init__(self, module, path):
+        self.module = module
+        self.path = path
+        self.text = read(path)
+        self.items, self.modules = imports_of(self.text)
+        self.lines = self.text.count("\n")
+        self.definitions = {}
+        self.owner = {}
+        self.read_definitions()
+
+    def read_definitions(self):
+        comment, now, inside = None, None, False
+        for number, line in enumerate(self.text.split("\n")):
+            # what stands in a module with parameters stands two places in
+            if line[:1].strip():
+                inside = line.startswith("module ")
+                if inside:
+                    comment, now = None, None
+                    continue
+            elif inside:
+                line = line[2:]
+            if not line.strip():
+                comment = None
+            elif line.startswith(("--", "infix")):
+                comment, now = (number if comment is None else comment), None
+            elif line[0].isspace() or (line.startswith("unfolding ") and now):
+                if now:
+                    now.add(number, line)
+            elif NO_DEFINITION.match(line):
+                comment, now = None, None
+            else:
+                signature = SIGNATURE.match(line)
+                if signature:
+                    name = signature.group(1) or signature.group(2)
+                    now = self.definitions.setdefault(name, Definition(name, number if comment is None else comment))
+                    self.owner[name] = name
+                else:
+                    now = self.definitions.get(line.split(" ", 1)[0], now)
+                comment = None
+                if now:
+                    now.add(number, line)
+        for definition in self.definitions.values():
+            if "data " in definition.text.split(":", 1)[0]:
+                for cases in re.findall(r"^\s+([^:\n]+?) :", definition.text, re.M):
+                    for case in cases.split():
+                        self.owner.setdefault(case, definition.name)
+
+
+class World:
+    def __init__(self):
+        self.files = {}
+        self.handed = {}
+        for crate in sorted(os.listdir(CRATES)):
+            folder = os.path.join(CRATES, crate, "specs")
+            for at, _, names in os.walk(folder):
+                for name in sorted(names):
+                    if not name.endswith(".antt"):
+                        continue
+                    path = os.path.join(at, name)
+                    inner = os.path.relpath(path, folder)[: -len(".antt")].replace(os.sep, ".")
+                    module = f"Rattle.{crate}.specs.{inner}"
+                    if inner == "Lib":
+                        for use in re.findall(r"^pub use (Rattle\.\S+)$", read(path), re.M):
+                            self.handed[f"Rattle.{crate}.specs.{use.split('.specs.', 1)[1]}"] = use
+                        continue
+                    self.files[module] = Specs(module, path)
+
+    def module(self, name):
+        while name in self.handed:
+            name = self.handed[name]
+        return name
+
+    def find(self, module, name):
+        """The definition (module, name) that a name of a module stands for, or None."""
+        module = self.module(module)
+        file = self.files.get(module)
+        if file is None:
+            return None
+        if name in file.owner:
+            return (module, file.owner[name])
+        if name in file.items:
+            return self.find(*file.items[name])
+        return None
+
+    def uses(self, text, items, modules, module=None):
+        """The definitions that a text names."""
+        found = []
+        text = re.sub(r"--.*", "", text)
+        for match in re.finditer(r"(Rattle(?:\.\w+)+)\.\{?(" + NAME + r")\}?|(" + NAME + r")(?:\.(" + NAME + r"))?", text):
+            if match.group(1):
+                one = self.find(match.group(1), match.group(2))
+            else:
+                first, second = match.group(3), match.group(4)
+                one = None
+                if second and first in modules:
+                    one = self.find(modules[first], second)
+                elif first in items:
+                    one = self.find(*items[first])
+                elif module and first in self.files[module].owner:
+                    one = (module, self.files[module].owner[first])
+            if one:
+                found.append(one)
+        words = set(text.split())
+        here = [(name, (module, name)) for name in self.files[module].owner] if module else []
+        for name, place in list(items.items()) + here:
+            signs = [sign for sign in name.split("◌") if sign]
+            if "◌" in name and (words.issuperset(signs) or (signs == [">>="] and "←" in words)):
+                one = self.find(*place)
+                if one:
+                    found.append(one)
+        return found
+
+    def uses_of(self, one):
+        module, name = one
+        file = self.files[module]
+        return [use for use in self.uses(file.definitions[name].text, file.items, file.modules, module) if use != one]
+
+    def closure(self, roots):
+        """The definitions under some, each behind those that it rests on."""
+        order, seen = [], set()
+        for root in roots:
+            stack = [(root, None)]
+            while stack:
+                one, rest = stack.pop()
+                if rest is None:
+                    if one in seen:
+                        continue
+                    seen.add(one)
+                    rest = iter(self.uses_of(one))
+                for use in rest:
+                    if use not in seen:
+                        stack.append((one, rest))
+                        stack.append((use, None))
+                        break
+                else:
+                    order.append(one)
+        return order
+
+
+def block(text, at, opening="{", closing="}"):
+    """The place behind the bracket that closes the one at a place."""
+    depth = 0
+    while at < len(text):
+        if text[at] == opening:
+            depth += 1
+        elif text[at] == closing:
+            depth -= 1
+            if depth == 0:
+                return at + 1
+        at += 1
+    return at
+
+
+CLAUSE = re.compile(r"\s*(?://[^\n]*\n\s*)*(requires|ensures)\s*([\w]*)\s*\{")
+
+
+class Function:
+    def __init__(self, crate, path, owner, name, is_public, clauses):
+        self.crate, self.path, self.owner, self.name = crate, path, owner, name
+        self.is_public, self.clauses = is_public, clauses
+
+
+def exported_of(crate):
+    """The names that a crate's root hands out."""
+    root = os.path.join(CRATES, crate, "src", "lib.rt")
+    if not os.path.exists(root):
+        return set(), set()
+    text = re.sub(r"//[^\n]*", "", read(root))
+    names, modules = set(), set(re.findall(r"\bpub mod (\w+)", text))
+    for path in re.findall(r"\bpub use ([^;]+);", text):
+        for part in re.findall(r"\{([^}]*)\}", path) or [path.rsplit("::", 1)[-1]]:
+            names |= {word.split()[-1].rsplit("::", 1)[-1] for word in part.split(",") if word.strip()}
+    names |= set(re.findall(r"\bpub (?:fn|struct|enum|trait|type) (\w+)", text))
+    return names, modules
+
+
+def owners_of(text):
+    """The impl and trait blocks of a file: (start, end, type, is public by itself)."""
+    blocks = []
+    for head in re.finditer(r"^(?:pub(?:\([a-z]+\))? )?(impl|trait)\b([^{;]*)\{", text, re.M):
+        start = text.index("{", head.start())
+        words = head.group(2)
+        words = re.sub(r"^<[^>]*(?:<[^>]*>[^>]*)*>", "", words)
+        is_trait_impl = head.group(1) == "impl" and re.search(r"\bfor\b", words) is not None
+        target = words.split(" for ")[-1] if is_trait_impl else words
+        name = re.search(r"(\w+)", target.replace("&", "").replace("mut ", ""))
+        blocks.append((start, block(text, start), name.group(1) if name else "", head.group(1) == "trait" or is_trait_impl,
+                       words))
+    return blocks
+
+
+def functions_of(crate):
+    """The functions of a crate with their clauses, and its ghost members that callers see."""
+    exported, modules = exported_of(crate)
+    functions = []
+    folder = os.path.join(CRATES, crate, "src")
+    for at, _, names in os.walk(folder):
+        for file in sorted(names):
+            if not file.endswith(".rt") or "tests" in file:
+                continue
+            path = os.path.join(at, file)
+            text = read(path)
+            items, used = imports_of(text)
+            blocks = owners_of(text)
+            is_open = os.path.splitext(file)[0] in modules or file == "lib.rt"
+            for head in re.finditer(r"^([ \t]*)(pub(?:\([a-z]+\))? )?(?:const )?(?:unsafe )?fn (\w+)", text, re.M):
+                owner = next((b for b in blocks if b[0] < head.start() < b[1]), None)
+                name = head.group(3)
+                is_pub = (head.group(2) or "").strip() == "pub"
+                if owner:
+                    is_public = (is_pub or owner[3]) and owner[2] in exported
+                else:
+                    is_public = is_pub and (name in exported or is_open)
+                at_clause = text.index("(", head.end())
+                at_clause = block(text, at_clause, "(", ")")
+                stop = re.compile(r"[^{;]*?(?=\s(?:requires|ensures)\b|\{|;)", re.S).match(text, at_clause)
+                at_clause = stop.end() if stop else at_clause
+                clauses = []
+                while True:
+                    clause = CLAUSE.match(text, at_clause)
+                    if not clause:
+                        break
+                    end = block(text, clause.end() - 1)
+                    clauses.append((clause.group(1), clause.group(2), text[clause.end(): end - 1]))
+                    at_clause = end
+                function = Function(crate, path, owner[2] if owner else None, name, is_public, clauses)
+                function.items, function.modules = items, used
+                functions.append(function)
+            for head in re.finditer(r"^[ \t]+ghost (\w+)\s*(?:=|:)\s*\{", text, re.M):
+                owner = next((b for b in blocks if b[0] < head.start() < b[1]), None)
+                start = text.index("{", head.start())
+                member = Function(crate, path, owner[2] if owner else None, head.group(1),
+                                  bool(owner) and owner[2] in exported and head.group(1) not in ("invariant", "from_gives"),
+                                  [("ghost", head.group(1), text[start + 1: block(text, start) - 1])])
+                member.items, member.modules = items, used
+                functions.append(member)
+    return functions
+
+
+def roots_of(world, functions):
+    roots = []
+    for function in functions:
+        for _, _, text in function.clauses:
+            roots += world.uses(text, function.items, function.modules)
+    return list(dict.fromkeys(roots))
+
+
+def is_step(module):
+    return ".specs.steps." in module
+
+
+def lines_of(world, one):
+    definition = world.files[one[0]].definitions[one[1]]
+    return definition.end - definition.start + 1
+
+
+def short(module):
+    return module.replace("Rattle.", "").replace(".specs.", "/specs/").replace("steps.", "steps/")
+
+
+def print_crate(world, crates, crate):
+    believed = set()
+    for one in crates:
+        believed |= set(world.closure(roots_of(world, [f for f in functions_of(one) if f.is_public])))
+    for module, file in world.files.items():
+        if not module.startswith(f"Rattle.{crate}.specs.") or not file.definitions:
+            continue
+        cited = [name for name in file.definitions if (module, name) in believed]
+        rest = [name for name in file.definitions if (module, name) not in believed]
+        print(f"{short(module)}: {file.lines} lines, {len(cited)} under public clauses, {len(rest)} not")
+        if cited and rest:
+            print("    cited:", " ".join(cited))
+            print("    not:  ", " ".join(rest))
+
+
+def print_run(world):
+    functions = [f for f in functions_of("wild_macho") if f.name == "run" and f.is_public and f.owner is None]
+    if len(functions) != 1:
+        return ["there is no public function `run` in wild_macho"]
+    order = world.closure(roots_of(world, functions))
+    by_file = {}
+    for one in order:
+        by_file.setdefault(one[0], []).append(one)
+    # a file stands behind those that its definitions under `run` rest on
+    files, seen = [], set()
+
+    def visit(module):
+        if module in seen:
+            return
+        seen.add(module)
+        for one in by_file[module]:
+            for use in world.uses_of(one):
+                visit(use[0])
+        files.append(module)
+
+    for module in by_file:
+        visit(module)
+    total = whole = count = 0
+    print("lines  definitions under the clauses of `run`, in reading order")
+    for module in files:
+        lines = sum(lines_of(world, one) for one in by_file[module])
+        total, whole, count = total + lines, whole + world.files[module].lines, count + len(by_file[module])
+        print(f"{lines:5}  {short(module)}: {', '.join(one[1] for one in by_file[module])}")
+    print(f"{total:5}  lines in {count} definitions of {len(files)} files, which have {whole} lines in all")
+    return [f"{short(module)} is a file of steps, under `run`" for module in files if is_step(module)]
+
+
+def wrong_steps(world, crates):
+    wrong = []
+    for module, file in world.files.items():
+        if is_step(module) or module.endswith(".specs.steps"):
+            continue
+        for used in [m for m, _ in file.items.values()] + list(file.modules.values()):
+            if is_step(world.module(used)):
+                wrong.append(f"{short(module)} imports {short(used)}")
+    for crate in crates:
+        for function in functions_of(crate):
+            if function.is_public:
+                steps = {one[0] for one in world.closure(roots_of(world, [function])) if is_step(one[0])}
+                wrong += [f"{crate} {function.name} rests on {short(module)}" for module in sorted(steps)]
+    return sorted(set(wrong))
+
+
+def wrong_rows(crates):
+    """Rows of the README whose function or clause isn't there."""
+    wrong = []
+    table = re.search(r"^\| sentence \|.*?(?=^\s*$)", read(os.path.join(TOP, "README.md")), re.M | re.S)
+    if not table:
+        return ["README.md has no table of sentences"]
+    for row in table.group(0).split("\n")[2:]:
+        cells = [cell.strip() for cell in row.strip().strip("|").split(" | ")]
+        if len(cells) != 3:
+            if row.strip():
+                wrong.append(f"README.md: a row of {len(cells)} cells: {row[:60]}")
+            continue
+        words = re.findall(r"`([^`]+)`", cells[1])
+        crate, functions = (words[0], words[1:]) if words else ("", [])
+        if crate not in crates:
+            wrong.append(f"README.md: there is no crate '{crate}'")
+            continue
+        known = [f for f in functions_of(crate) if f.is_public]
+        clauses = set()
+        if not functions:
+            wrong.append(f"README.md: a row of {crate} names no function: {cells[0][:60]}")
+        for function in functions:
+            owner, _, name = function.rpartition("::")
+            named = [f for f in known if f.name == name and (len(owner) <= 1 or f.owner == owner)]
+            named += [f for f in known if not owner and f.owner == function]
+            if not named:
+                wrong.append(f"README.md: {crate} has no public '{function}'")
+            for one in named:
+                clauses |= {label or kind for kind, label, _ in one.clauses}
+        for clause in re.findall(r"`([^`]+)`", cells[2]):
+            if "/" in clause:
+                if not os.path.exists(os.path.join(CRATES, clause + ".antt")):
+                    wrong.append(f"README.md: there is no file '{clause}'")
+            elif clause not in clauses:
+                wrong.append(f"README.md: {crate} {', '.join(functions)} has no clause '{clause}'")
+    return wrong
+
+
+def write_lines():
+    """Writes the lines of the files that a row of docs/THEOREMS.md names: the first by crate and folder, or in macho_model."""
+    path = os.path.join(TOP, "docs", "THEOREMS.md")
+    missing, lines = [], read(path).split("\n")
+    for number, line in enumerate(lines):
+        row = re.match(r"\| ((?:`[\w/]+`(?:, )?)+) \| \d+ \|", line)
+        if not row:
+            continue
+        folder, total = "macho_model/specs", 0
+        for name in re.findall(r"`([\w/]+)`", row.group(1)):
+            folder, name = name.rsplit("/", 1) if "/" in name else (folder, name)
+            file = os.path.join(CRATES, folder, name + ".antt")
+            if os.path.exists(file):
+                total += read(file).count("\n")
+            else:
+                missing.append(f"docs/THEOREMS.md: there is no file '{folder}/{name}'")
+        lines[number] = f"| {row.group(1)} | {total} |" + line[row.end():]
+    with open(path, "w", encoding="utf-8") as file:
+        file.write("\n".join(lines))
+    return missing
+
+
+def main():
+    world = World()
+    crates = [name for name in sorted(os.listdir(CRATES)) if os.path.isdir(os.path.join(CRATES, name, "src"))]
+    if sys.argv[1:2] == ["--crate"]:
+        print_crate(world, crates, sys.argv[2])
+        return 0
+    if sys.argv[1:2] == ["--lines"]:
+        missing = write_lines()
+        print("\n".join(missing) or "docs/THEOREMS.md: the lines are written")
+        return 1 if missing else 0
+    wrong = print_run(world) + wrong_steps(world, crates) + wrong_rows(crates)
+    for line in wrong:
+        print(f"believed: {line}", file=sys.stderr)
+    return 1 if wrong else 0
+
+
+if __name__ == "__main__":
+    sys.exit(main())

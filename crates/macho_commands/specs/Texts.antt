@@ -1,0 +1,31 @@
+-- The bytes of a load command: its record, and what stands behind it (`mach-o/loader.h`).
+use Rattle.std.specs.Prelude.{ℕ, List, [], ◌++◌}
+use Rattle.std.specs.List.{flat_map}
+use Rattle.macho_bytes.specs.Layouts.{spelling}
+use Rattle.macho_records.specs.Layouts.{segment_command, section_header, symtab_command, entry_point_command, dylinker_command, dylib_command, rpath_command, linkedit_data_command, uuid_command, build_version_command, build_tool_version}
+use Rattle.macho_model.specs.Head.{HeadCommand, Segment, EntryPoint, Uuid, BuildVersion, Dylinker, Dylib, Rpath, LinkeditData, Symtab, Other}
+
+unfoldable pub text_said : HeadCommand → List ℕ
+text_said (Segment command headers) = spelling segment_command command ++ flat_map (spelling section_header) headers
+text_said (EntryPoint command) = spelling entry_point_command command
+text_said (Uuid command) = spelling uuid_command command
+text_said (BuildVersion command tools) = spelling build_version_command command ++ flat_map (spelling build_tool_version) tools
+text_said (Dylinker command path) = spelling dylinker_command command ++ path
+text_said (Dylib command path) = spelling dylib_command command ++ path
+text_said (Rpath command path) = spelling rpath_command command ++ path
+text_said (LinkeditData command) = spelling linkedit_data_command command
+text_said (Symtab command) = spelling symtab_command command
+text_said (Other number size) = []
+
+-- the number of a command, as it says itself
+abbrev pub number_said : HeadCommand → ℕ
+number_said (Segment command headers) = command.cmd
+number_said (EntryPoint command) = command.cmd
+number_said (Uuid command) = command.cmd
+number_said (BuildVersion command tools) = command.cmd
+number_said (Dylinker command path) = command.cmd
+number_said (Dylib command path) = command.cmd
+number_said (Rpath command path) = command.cmd
+number_said (LinkeditData command) = command.cmd
+number_said (Symtab command) = command.cmd
+number_said (Other number size) = number

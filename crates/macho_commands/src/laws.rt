@@ -1,0 +1,18 @@
+//! Laws on the load commands of a link: each is the contract of a function that does nothing.
+ghost use Rattle.macho_commands.specs.Laws.{FoundIsSaid, HeadIsRead, HeadKeepsRules};
+
+/// A head that was written with commands that say those of a link is the link's head, in every file that begins with it.
+pub fn head_found_is_said()
+    ensures { FoundIsSaid }
+{}
+
+/// Segments, section headers, entry, UUID, libraries and tables of a file that says a link's load commands are those of the
+/// link and of its placement.
+pub fn head_is_read()
+    ensures { HeadIsRead }
+{}
+
+/// A file with the header and the load commands of a link whose segments are placed keeps the loader's rules on them.
+pub fn head_keeps_rules()
+    ensures { HeadKeepsRules }
+{}

@@ -1,0 +1,3 @@
+pub mod ExampleTables
+pub mod ExampleImages
+pub mod Fitness

@@ -1,0 +1,11 @@
+use Rattle.std.proofs.Common.{length, ◌-◌, ◌≤◌}
+use Rattle.macho_format_tests.proofs.plain_tries.+write_node.Given as goal
+
+abbrev pub invariant-loop-begin : goal.invariant-loop-begin
+invariant-loop-begin l = l.begin ≤ length l.below
+
+abbrev pub decreases-loop-begin : goal.decreases-loop-begin
+decreases-loop-begin l = length l.below - l.begin
+
+abbrev pub decreases-write_node : goal.decreases-write_node
+decreases-write_node l = l.levels

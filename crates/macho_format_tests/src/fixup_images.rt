@@ -1,0 +1,180 @@
+//! An image with words and a table of both writers, read by the plain functions of the chain, of memory and of the loader.
+ghost use Rattle.std.specs.Prelude.{◌≡◌, ◌≤◌, IfOk, length, vec_len};
+
+use macho_fixups::{
+    Fixup, FixupKind, FixupSegment, ImportEntry, table_size, write_chained_fixup_table,
+    write_chains,
+};
+use macho_model_walks::{first_broken_rule, is_on_chain, memory_byte};
+use std::alloc::{AllocError, Global};
+use std::test::Fail;
+
+/// The header and the commands of an image: `__PAGEZERO`, `__TEXT` of a page, `__DATA` of three pages, one library, and a
+/// fixup table of 224 bytes at 320.
+const HEAD: [u8; 320] = [
+    // 0: header: executable, 5 commands of 288 bytes
+    0xcf, 0xfa, 0xed, 0xfe, 0x0c, 0, 0, 1, 0, 0, 0, 0, 2, 0, 0, 0, //
+    5, 0, 0, 0, 32, 1, 0, 0, 0x85, 0, 0x20, 0, 0, 0, 0, 0, //
+    // 32: `__PAGEZERO`
+    0x19, 0, 0, 0, 72, 0, 0, 0, 0x5f, 0x5f, 0x50, 0x41, 0x47, 0x45, 0x5a, 0x45, //
+    0x52, 0x4f, 0, 0, 0, 0, 0, 0, 0, 0, 0, 0, 0, 0, 0, 0, //
+    0, 0, 0, 0, 1, 0, 0, 0, 0, 0, 0, 0, 0, 0, 0, 0, //
+    0, 0, 0, 0, 0, 0, 0, 0, 0, 0, 0, 0, 0, 0, 0, 0, //
+    0, 0, 0, 0, 0, 0, 0, 0, //
+    // 104: `__TEXT`: a page at 0x100000000
+    0x19, 0, 0, 0, 72, 0, 0, 0, 0x5f, 0x5f, 0x54, 0x45, 0x58, 0x54, 0, 0, //
+    0, 0, 0, 0, 0, 0, 0, 0, 0, 0, 0, 0, 1, 0, 0, 0, //
+    0, 0x40, 0, 0, 0, 0, 0, 0, 0, 0, 0, 0, 0, 0, 0, 0, //
+    0, 0x40, 0, 0, 0, 0, 0, 0, 5, 0, 0, 0, 5, 0, 0, 0, //
+    0, 0, 0, 0, 0, 0, 0, 0, //
+    // 176: `__DATA`: three pages at 0x100004000, of the file 0x8010 bytes from 0x4000 on
+    0x19, 0, 0, 0, 72, 0, 0, 0, 0x5f, 0x5f, 0x44, 0x41, 0x54, 0x41, 0, 0, //
+    0, 0, 0, 0, 0, 0, 0, 0, 0, 0x40, 0, 0, 1, 0, 0, 0, //
+    0, 0xc0, 0, 0, 0, 0, 0, 0, 0, 0x40, 0, 0, 0, 0, 0, 0, //
+    0x10, 0x80, 0, 0, 0, 0, 0, 0, 3, 0, 0, 0, 3, 0, 0, 0, //
+    0, 0, 0, 0, 0, 0, 0, 0, //
+    // 248: the library /usr/lib/libSystem.B.dylib
+    0x0c, 0, 0, 0, 56, 0, 0, 0, 24, 0, 0, 0, 2, 0, 0, 0, //
+    0, 0, 0x4c, 5, 0, 0, 1, 0, 0x2f, 0x75, 0x73, 0x72, 0x2f, 0x6c, 0x69, 0x62, //
+    0x2f, 0x6c, 0x69, 0x62, 0x53, 0x79, 0x73, 0x74, 0x65, 0x6d, 0x2e, 0x42, //
+    0x2e, 0x64, 0x79, 0x6c, 0x69, 0x62, 0, 0, 0, 0, 0, 0, //
+    // 304: the fixup table
+    0x34, 0, 0, 0x80, 16, 0, 0, 0, 0x40, 1, 0, 0, 0xe0, 0, 0, 0,
+];
+
+const SEGMENTS: [FixupSegment; 3] = [
+    FixupSegment {
+        address: 0,
+        size: 0x1_0000_0000,
+        file_offset: 0,
+        file_size: 0,
+    },
+    FixupSegment {
+        address: 0x1_0000_0000,
+        size: 0x4000,
+        file_offset: 0,
+        file_size: 0x4000,
+    },
+    FixupSegment {
+        address: 0x1_0000_4000,
+        size: 0xc000,
+        file_offset: 0x4000,
+        file_size: 0x8010,
+    },
+];
+
+/// Three words on the first page, none on the second, one on the third.
+const FIXUPS: [Fixup; 4] = [
+    Fixup {
+        address: 0x1_0000_4010,
+        kind: FixupKind::Rebase { target: 0x138 },
+    },
+    Fixup {
+        address: 0x1_0000_4018,
+        kind: FixupKind::Bind {
+            ordinal: 0,
+            addend: 5,
+        },
+    },
+    Fixup {
+        address: 0x1_0000_7ff8,
+        kind: FixupKind::Bind {
+            ordinal: 1,
+            addend: 0,
+        },
+    },
+    Fixup {
+        address: 0x1_0000_c008,
+        kind: FixupKind::Rebase {
+            target: 0x7f00_0000_0000_4000,
+        },
+    },
+];
+
+/// What the loader makes of them: the image is moved by 0x10000, and `_exit` is at 0x180000000.
+const VALUES: [u64; 4] = [
+    0x1_0001_0138,
+    0x1_8000_0005,
+    0x1_7fff_fff8,
+    0x7f00_0001_0001_4000,
+];
+
+/// `_exit` of the first library, plain and less 8.
+const IMPORTS: [ImportEntry; 2] = [
+    ImportEntry {
+        library: 1,
+        name_offset: 1,
+        addend: 0,
+    },
+    ImportEntry {
+        library: 1,
+        name_offset: 1,
+        addend: -8,
+    },
+];
+
+/// The header and the commands, and zeros.
+fn head(alloc: Global) -> Result<Vec<u8>, AllocError>
+    ensures { IfOk result (λ image. vec_len image ≡ 0xc010) }
+{
+    let mut image = vec![in alloc; 0u8; 0xc010]?;
+    image[..HEAD.len()].copy_from_slice(&HEAD);
+    Ok(image)
+}
+
+fn add_table(image: &mut [u8])
+    requires { 0xc010 ≤ length image.old }
+{
+    write_chained_fixup_table(
+        &mut image[320..544],
+        &SEGMENTS,
+        0x1_0000_0000,
+        &FIXUPS,
+        2,
+        &IMPORTS,
+        b"\0_exit\0",
+    );
+}
+
+/// What both writers wrote.
+fn written(alloc: Global) -> Result<Vec<u8>, Fail> {
+    let mut image = head(alloc)?;
+    add_table(&mut image);
+    match write_chains(&FIXUPS, &SEGMENTS, &mut image) {
+        Ok(()) => Ok(image),
+        Err(_) => Err("words".into()),
+    }
+}
+
+/// The eight bytes of memory at an address, the lowest first.
+fn word_at(image: &[u8], address: u64) -> Option<u64> {
+    let mut word = 0;
+    for back in 0..8u64 {
+        let at = address.checked_add(7 - back)?;
+        let byte = memory_byte(image, 0x1_0000, &[0x1_8000_0000, 0x1_8000_0000], at)?;
+        word = (word << 8) | u64::from(byte);
+    }
+    Some(word)
+}
+
+#[test]
+fn the_set_of_words_is_that_of_the_fixups(rt: HostRuntime) -> Result<(), Fail> {
+    let image = written(rt.alloc())?;
+    assert_eq!(rt; table_size(2, 8, 7, 3), 224);
+    for step in 0..0x2404u64 {
+        let address = 0x1_0000_3000 + 4 * step;
+        let wanted = FIXUPS.iter().any(|fixup| fixup.address == address);
+        assert!(rt; is_on_chain(&image, address) == wanted, "{address}");
+    }
+    Ok(())
+}
+
+#[test]
+fn the_loader_takes_words_and_table(rt: HostRuntime) -> Result<(), Fail> {
+    let image = written(rt.alloc())?;
+    assert!(rt; first_broken_rule(&image).is_ok());
+    for (fixup, value) in FIXUPS.iter().zip(VALUES) {
+        assert_eq!(rt; word_at(&image, fixup.address + 0x1_0000), Some(value));
+    }
+    Ok(())
+}

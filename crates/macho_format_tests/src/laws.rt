@@ -1,0 +1,175 @@
+//! Callers of the formats' laws: each says of its own values what the law says of all.
+ghost use Rattle.std.specs.Prelude.{◌≡◌, ℕ, ◌+◌, ◌-◌, ◌*◌, ◌%◌, ◌^◌, ◌<◌, ◌≤◌, ◌⊎◌, ◌↔◌, true, Some, [], ◌∷◌, List, length, get_or, slice_index, All, Contains, is_some};
+ghost use Rattle.std.specs.List.{range_with_len};
+ghost use Rattle.macho_bytes.specs.Numbers.{low, page};
+ghost use Rattle.macho_model.specs.Segments.{SEGMENT_PAGE};
+ghost use Rattle.macho_model.specs.Images.{tables_of};
+ghost use Rattle.macho_model.specs.Chain.{WORD_SIZE, OnChainOf};
+ghost use Rattle.macho_model.specs.Meaning.{Same, BranchesTo};
+ghost use Rattle.macho_model.specs.Values.{less, branch_reaches};
+ghost use Rattle.macho_model.specs.Words.{is_branch};
+ghost use Rattle.macho_fixups.specs.Runs.{AreSegments, Holds, pages_of};
+ghost use Rattle.macho_fixups.specs.Chains.{place_of, AllStand, IsAddressOf, ChainIsRun};
+ghost use Rattle.macho_fixups.specs.Tables.{names_place};
+ghost use Rattle.macho_fixups.specs.Readings.{IsRead, AreSegmentsOf};
+ghost use Rattle.macho_fixups.specs.Laws.{IsNameAt, NameIsRead, IsRunOver};
+ghost use Rattle.macho_unwind_pages.specs.Entries.{AreEntries, SpansAtMost, inputs_of, ids_of};
+ghost use Rattle.macho_unwind_pages.specs.Bounds.{unwind_bound_of};
+ghost use Rattle.macho_unwind_pages.specs.Plans.{PlanList, IsPlanOf, size_of};
+ghost use Rattle.macho_unwind_pages.specs.Laws.{Names};
+ghost use Rattle.macho_unwind.specs.Entries.{HasFarPage};
+ghost use Rattle.macho_trie.specs.Symbols.{names_of, symbols_of};
+ghost use Rattle.macho_trie.specs.Tries.{IsSizeOf};
+ghost use Rattle.macho_arm64.specs.declared.kinds.FieldSize.TheVariants.{JumpCall};
+ghost use Rattle.macho_arm64.specs.Kinds.{info_of};
+ghost use Rattle.macho_arm64.specs.Fields.{Holds as HoldsValue, can_hold};
+
+use macho_arm64::{RelocationKindInfo, fields_denote, kinds_agree, reaches_agree};
+use macho_fixups::{
+    Fixup, FixupSegment, ImportEntry, bytes_beside_words_stay, chains_are_told, names_are_read,
+    no_fixup_no_pages, places_are_in_segments,
+};
+use macho_records::RelocationInfo;
+use macho_trie::{Symbols, Trie, sizes_are_one};
+use macho_unwind::{ResolvedUnwindInfo, UnwindInput, far_page_needs_room, ids_are_named};
+use macho_unwind_pages::plans_are_short;
+
+/// A segment of an image without fixups has no pages with chains.
+pub fn segment_without_fixups(segment: FixupSegment)
+    ensures { pages_of segment [] ≡ 0 }
+{
+    no_fixup_no_pages();
+}
+
+/// A word's place is counted from its segment's.
+pub fn place_in_its_segment(segments: &[FixupSegment], segment: FixupSegment, address: u64)
+    requires order { AreSegments segments.now }
+    requires one { Contains segments.now segment }
+    requires holds { Holds segment address }
+    ensures { place_of segments.now address ≡ segment.file_offset + (address - segment.address) }
+{
+    places_are_in_segments();
+}
+
+/// The chain of a file with one table is the run that was written.
+pub fn chain_of_a_file(
+    file: &[u8],
+    at: u64,
+    size: u64,
+    fixups: &[Fixup],
+    segments: &[FixupSegment],
+    format: u32,
+    imports: &[ImportEntry],
+    names: &[u8],
+)
+    requires one { tables_of file.now ≡ record { at = at; size = size } ∷ [] }
+    requires agree { AreSegmentsOf file.now segments.now }
+    requires read { IsRead file.now (record { at = at; size = size }) fixups.now segments.now format imports.now names.now }
+    requires run { ChainIsRun segments.now fixups.now }
+    requires stand { AllStand segments.now fixups.now file.now }
+    ensures { (a : ℕ) → OnChainOf file.now a ↔ IsAddressOf fixups.now a }
+{
+    chains_are_told();
+}
+
+/// The name of an import is read.
+pub fn name_of_an_import(
+    file: &[u8],
+    at: u64,
+    size: u64,
+    fixups: &[Fixup],
+    segments: &[FixupSegment],
+    format: u32,
+    imports: &[ImportEntry],
+    names: &[u8],
+    index: usize,
+    name: &[u8],
+)
+    requires read { IsRead file.now (record { at = at; size = size }) fixups.now segments.now format imports.now names.now }
+    requires room { names_place fixups.now segments.now format imports.now + length names.now ≤ size }
+    requires index { index < length imports.now }
+    requires name { (d : _) → IsNameAt names.now (get_or imports.now index d).name_offset name.now }
+    ensures { NameIsRead file.now (record { at = at; size = size }) index name.now }
+{
+    names_are_read();
+}
+
+/// A byte that no word covers stays.
+pub fn byte_beside_words(
+    segments: &[FixupSegment],
+    fixups: &[Fixup],
+    before: &[u8],
+    now: &[u8],
+    segment: FixupSegment,
+    address: u64,
+)
+    requires over { IsRunOver segments.now fixups.now before.now now.now }
+    requires one { Contains segments.now segment }
+    requires low { segment.address ≤ address }
+    requires high { address < segment.address + segment.file_size }
+    requires apart { All (λ f. (address < f.address) ⊎ (f.address + WORD_SIZE ≤ address)) fixups.now }
+    ensures { slice_index now.now (segment.file_offset + (address - segment.address)) ≡ slice_index before.now (segment.file_offset + (address - segment.address)) }
+{
+    bytes_beside_words_stay();
+}
+
+/// Entries whose last page would be far have a bound of 4 GiB or more.
+pub fn bound_of_far_entries(text: u64, span: u64, entries: &[ResolvedUnwindInfo])
+    requires entries { AreEntries text entries.now }
+    requires far { HasFarPage text entries.now }
+    requires spans { SpansAtMost span entries.now }
+    ensures { 2 ^ 32 ≤ unwind_bound_of (inputs_of entries.now) span }
+{
+    far_page_needs_room();
+}
+
+/// Entries that name the numbers below a count have these ids.
+pub fn ids_by_number(entries: &[UnwindInput], count: usize)
+    requires { (id : ℕ) → (id < count) ↔ Names entries.now id }
+    ensures { ids_of entries.now ≡ range_with_len 0 count }
+{
+    ids_are_named();
+}
+
+/// Every plan of entries has no more bytes than their bound.
+pub fn plans_of_entries(text: u64, span: u64, entries: &[ResolvedUnwindInfo])
+    requires some { 0 < length entries.now }
+    requires entries { AreEntries text entries.now }
+    requires spans { SpansAtMost span entries.now }
+    ensures { (plan : PlanList) → IsPlanOf text entries.now plan → size_of plan ≤ unwind_bound_of (inputs_of entries.now) span }
+{
+    plans_are_short();
+}
+
+/// A size that a trie has is its only one.
+pub fn size_of_a_trie(trie: &Trie, symbols: &Symbols, size: usize)
+    requires { IsSizeOf trie.now (names_of symbols.now) (symbols_of symbols.now) size }
+    ensures { (n : ℕ) → IsSizeOf trie.now (names_of symbols.now) (symbols_of symbols.now) n → n ≡ size }
+{
+    sizes_are_one();
+}
+
+/// A branch that holds the distance to a function leads to it at every slide.
+pub fn branch_at_a_slide(input: u32, word: u32, value: u64, place: u64, target: u64, slide: u64)
+    requires holds { HoldsValue JumpCall input word value }
+    requires leads { Same (value + place) target }
+    ensures { BranchesTo (place + slide) word input (target + slide) }
+{
+    fields_denote();
+}
+
+/// A branch can hold the distance to a function where it reaches it.
+pub fn branch_in_reach(word: u32, place: u64, target: u64)
+    ensures { can_hold JumpCall word (less target place) ≡ branch_reaches place target }
+{
+    reaches_agree();
+}
+
+/// What is known of a branch is that it is written to a branch's immediate.
+pub fn field_of_a_branch(relocation: RelocationInfo, info: RelocationKindInfo)
+    requires known { info_of relocation ≡ Some info }
+    requires branch { relocation.r_type ≡ 2 }
+    ensures { info.size ≡ JumpCall }
+{
+    kinds_agree();
+}

@@ -1,0 +1,5 @@
+-- The code's own steps: what private functions say, and what loops keep. No clause of a public function cites them.
+pub mod Checks
+pub mod Outlines
+pub mod Scans
+pub mod Wholes

@@ -1,9 +1,0 @@
-use Rattle.std.proofs.Common.{◌≡◌, ◌+◌, ◌*◌, take}
-use Rattle.macho_bytes.specs.Numbers.{big, row_bytes}
-use Rattle.macho_bytes.specs.Texts.{put}
-use Rattle.macho_records.proofs.bytes.put_be_u32s.Given as goal
-
--- the numbers so far are put
-abbrev pub invariant-loop-number : goal.invariant-loop-number
-invariant-loop-number l =
-    (l.place ≡ l.at + 4 * l.number-index) × (l.out ≡ put l.at (row_bytes big 4 (take l.number-index l.numbers)) l.initial.out)

@@ -1,8 +1,0 @@
-use Rattle.std.proofs.Common.{refl}
-use Rattle.macho_bytes.specs.Numbers.{le_bytes}
-use Rattle.macho_bytes.proofs.Writes.{put_mid-front}
-use Rattle.macho_records.proofs.bytes.put_u32.Goals as goal
-
-pub returns : goal.returns
-unfolding le_bytes
-returns c = put_mid-front c.args.at _ c.args.out.now (le_bytes 4 c.args.number) c.write_u32.new.buf refl c.requires c.write_u32.ensures

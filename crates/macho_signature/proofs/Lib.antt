@@ -1,0 +1,4 @@
+pub mod Pages
+pub mod Anew
+pub mod Texts
+pub mod Files

@@ -1,0 +1,6 @@
+-- The code's own steps: what private functions say, and what loops keep. No clause of a public function cites them.
+pub mod Answer
+pub mod Checks
+pub mod Opened
+pub mod Reader
+pub mod Whole
