@@ -3,14 +3,13 @@
 -- Each word on the chain fits in the page of a segment, so the segment has a word there; and one segment alone has a word at an
 -- address, by its number too. So a look-up asks that segment, and the page that the address is in. A walk from the page's
 -- start that stands below the address leads there exactly where its next word does.
-use Rattle.std.proofs.Common.{◌≡◌, ℕ, ◌+◌, ◌*◌, ◌-◌, ◌/◌, ◌<◌, ◌≤◌, true, List, length, get_or, slice_index, refl, sym, ap, subst, ◌∙◌, arith, inl, inr}
+use Rattle.std.proofs.Common.{◌≡◌, ℕ, ◌+◌, ◌*◌, ◌-◌, ◌/◌, ◌<◌, ◌≤◌, true, List, length, get_or, slice_index, refl, ap, subst, arith, inl, inr}
 use Rattle.std.proofs.lemmas.Bool.{cases_lt}
 use Rattle.std.proofs.lemmas.List.{get_or_default}
 use Rattle.macho_bytes.specs.Numbers.{le_at}
-use Rattle.macho_records.specs.declared.header.SegmentCommand.{SegmentCommand}
-use Rattle.macho_model.specs.Images.{segments_of, tables_of, fixups_header, CHAIN_PAGE, NO_START}
-use Rattle.macho_model.specs.Chain.{chain_segments, chain_segment, next_of, WORD_SIZE, STRIDE, OnChainOf, OnPageChain}
-use Rattle.macho_model.specs.Loader.{IsAccepted, WordFits, is_bind, ordinal_of, import_count}
+use Rattle.macho_model.specs.Images.{segments_of, fixups_header, CHAIN_PAGE, NO_START}
+use Rattle.macho_model.specs.Chain.{chain_segments, next_of, WORD_SIZE, STRIDE, OnChainOf, OnPageChain}
+use Rattle.macho_model.specs.Loader.{IsAccepted, WordFits, is_bind, ordinal_of}
 use Rattle.macho_model_walks.specs.declared.walk.Listed.TheVariants as list
 use Rattle.macho_model_walks.specs.steps.Walks.{IsNth, HasWord, Leads, listed, starts_of, segment_there, table_there, chain_segment_at}
 use Rattle.macho_model_walks.specs.steps.WordTests.{address_in, FitFrom}
@@ -20,7 +19,7 @@ use Rattle.macho_model_walks.proofs.WordWalk.{on_some_page, numbered_segment, nt
 use Rattle.macho_model_walks.proofs.RuleWalk.{import_count_found}
 use Rattle.macho_loader.specs.steps.Words.{StandApart, IsFittingWord, IsReached}
 use Rattle.macho_loader.specs.steps.Held.{IsOnWay}
-use Rattle.macho_loader.proofs.ChainWalks.{segments_rise, holds_address, leads_next, reached_first, reached_more}
+use Rattle.macho_loader.proofs.ChainWalks.{segments_rise, holds_address, leads_next, reached_more}
 
 -- the segments of an accepted image stand apart
 pub stand_apart : (b : List ℕ) → IsAccepted b → StandApart b
@@ -46,9 +45,9 @@ one_number b i p j q a w v apart at_i at_j has_w has_v =
     elim (cases_lt i j) [
       | inl before ↦ absurd (not_before b i p j q a w v apart at_i at_j has_w has_v before)
       | inr le ↦ elim (cases_lt j i) [
-          | inl before ↦ absurd (not_before b j q i p a v w apart at_j at_i has_v has_w before)
-          | inr ge ↦ omega (arith, le, ge)
-        ]
+        | inl before ↦ absurd (not_before b j q i p a v w apart at_j at_i has_v has_w before)
+        | inr ge ↦ omega (arith, le, ge)
+      ]
     ]
 
 -- where a word on the chain stands

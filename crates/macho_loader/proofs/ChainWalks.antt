@@ -4,7 +4,7 @@
 -- has a word at an address, and a word that fits has one next word. What it leads to is itself and what that next one leads
 -- to: the walk keeps that all fit where the rest fits. A step leads upwards, and a word that fits is in its page, so the
 -- walk ends.
-use Rattle.std.proofs.Common.{◌≡◌, ℕ, zero, suc, ◌+◌, ◌*◌, ◌-◌, ◌<◌, ◌≤◌, ◌^◌, nat_le, Bool, true, false, ◌&&◌, List, length, get_or, slice_index, refl, sym, ap, subst, ◌∙◌, arith, inl, inr, ◌⊎◌}
+use Rattle.std.proofs.Common.{◌≡◌, ℕ, zero, suc, ◌+◌, ◌*◌, ◌-◌, ◌<◌, ◌≤◌, ◌^◌, nat_le, true, ◌&&◌, List, length, get_or, slice_index, refl, sym, ap, subst, ◌∙◌, arith, inl, inr, ◌⊎◌}
 use Rattle.std.specs.Prelude.{AllPairs}
 use Rattle.std.proofs.lemmas.Bool.{cases_lt, leb-true, le-leb}
 use Rattle.std.proofs.lemmas.List.{get_or_default, get_or-map, length-map}
@@ -13,14 +13,14 @@ use Rattle.macho_records.specs.declared.header.SegmentCommand.{SegmentCommand}
 use Rattle.macho_model.specs.Commands.{Command}
 use Rattle.macho_model.specs.Images.{segments_of, tables_of, CHAIN_PAGE, fixups_header, page_start}
 use Rattle.macho_model.specs.Chain.{chain_segments, IsFileWord, next_of, WORD_SIZE, STRIDE}
-use Rattle.macho_model.specs.LoadRules.{segment_in, begins_behind, file_part_inside}
+use Rattle.macho_model.specs.LoadRules.{segment_in, begins_behind}
 use Rattle.macho_model.specs.Loader.{segment_commands, EachNeighbour, WordFits, is_bind, ordinal_of, is_writable, import_count}
 use Rattle.macho_model_walks.specs.declared.walk.Listed.TheVariants as list
 use Rattle.macho_model_walks.specs.steps.Walks.{command_at, IsNth, HasWord, Leads, segment_there, table_there, starts_in, starts_of}
 use Rattle.macho_model_walks.specs.steps.Walks as walks
 use Rattle.macho_model_walks.specs.steps.WordTests.{page_holds, address_in, FitFrom, UnfitFrom}
 use Rattle.macho_model.proofs.Apart.{EndsBefore, Holds_address, one_holds}
-use Rattle.macho_model.proofs.EachBelow.{true_or_false, and_left, and_right}
+use Rattle.macho_model.proofs.EachBelow.{and_left, and_right}
 use Rattle.macho_model_walks.proofs.WordWalk.{word_in_segment, segment_has_word, nth_number, leads_more, starts_found, start_is}
 use Rattle.macho_model_walks.proofs.RuleWalk.{import_count_found}
 use Rattle.macho_model_walks.proofs.UnfitWords.{kept_at}

@@ -2,7 +2,7 @@
 --
 -- Of the first commands so many are of the list as were counted. One command more that is of the list has that count for its
 -- number, and is counted; one that is not leaves the count. Behind the last command all of the list have been counted.
-use Rattle.std.proofs.Common.{◌≡◌, ℕ, ◌+◌, ◌*◌, ◌-◌, ◌<◌, ◌≤◌, Bool, true, false, List, length, refl, sym, ap, subst, ◌∙◌, arith}
+use Rattle.std.proofs.Common.{◌≡◌, ℕ, ◌+◌, ◌<◌, ◌≤◌, true, false, List, length, arith}
 use Rattle.macho_bytes.specs.Numbers.{le_at}
 use Rattle.macho_model.specs.Commands.{header_of}
 use Rattle.macho_model_walks.specs.declared.walk.Listed.{Listed}
@@ -10,8 +10,7 @@ use Rattle.macho_model_walks.specs.steps.Walks.{command_at, is_listed, listed, I
 use Rattle.macho_model_walks.proofs.NthWalk.{Passed, none_passed, listed_passed, other_passed, nth_here, all_passed}
 use Rattle.macho_model_walks.proofs.WordWalk.{few_listed_of}
 use Rattle.macho_loader.specs.declared.cursor.Cursor.{Cursor}
-use Rattle.macho_loader.specs.declared.cursor.Step.{Step}
-use Rattle.macho_loader.specs.steps.Cursors.{IsAt, IsStep}
+use Rattle.macho_loader.specs.steps.Cursors.{IsAt}
 
 -- the same as a walk that looks for the command with a number
 to_passed : (which : Listed) (b : List ℕ) (at : Cursor) → IsAt which b at → Passed which b at.number at.index at.place 0

@@ -2,19 +2,18 @@
 --
 -- The command is whole and stands inside the file, so the record is there. Its number in the list of segments' commands is
 -- the segment's.
-use Rattle.std.proofs.Common.{◌≡◌, ℕ, zero, suc, ◌+◌, ◌==◌, ◌≤◌, nat_le, true, ◌&&◌, List, [], ◌∷◌, length, refl, sym, ap, subst, ◌∙◌, arith, Some, None, Option}
+use Rattle.std.proofs.Common.{◌≡◌, ℕ, zero, suc, ◌+◌, ◌==◌, ◌≤◌, nat_le, true, ◌&&◌, List, [], ◌∷◌, length, refl, sym, ap, subst, ◌∙◌, arith, Some, None}
 use Rattle.std.specs.List.{slice_get}
 use Rattle.std.proofs.lemmas.Bool.{leb-true, le-leb}
 use Rattle.std.proofs.lemmas.Option.{slice_get-get_or}
 use Rattle.std.proofs.lemmas.List.Elements.{All-filter, filter_passes}
-use Rattle.macho_bytes.specs.Layouts.{reading, read_of, size_of}
+use Rattle.macho_bytes.specs.Layouts.{read_of, size_of}
 use Rattle.macho_records.specs.Layouts.{segment_command, load_command}
 use Rattle.macho_records.specs.declared.header.SegmentCommand.{SegmentCommand}
 use Rattle.macho_records.specs.declared.constants.TheConstants.{LC_SEGMENT_64}
 use Rattle.macho_model.specs.Commands.{Command, commands_of, commands_end, command_fits, segment_size}
 use Rattle.macho_model.specs.Images.{segments_of}
-use Rattle.macho_model.specs.ObjectRules.{commands_inside}
-use Rattle.macho_model.specs.LoadRules.{needed_in_image, segment_in}
+use Rattle.macho_model.specs.LoadRules.{needed_in_image}
 use Rattle.macho_model.specs.Loader.{IsAccepted}
 use Rattle.macho_model_walks.specs.declared.walk.Listed.TheVariants as list
 use Rattle.macho_model_walks.specs.steps.Walks.{command_at, is_listed, listed, IsNth, segment_there}

@@ -1,5 +1,5 @@
 -- What the loader's view says of a word on a chain, in the words of the definitions.
-use Rattle.std.specs.Prelude.{ℕ, List, Option, Some, None}
+use Rattle.std.specs.Prelude.{Option, Some, None}
 use Rattle.std.specs.Int.{w64, cast_unsigned}
 use Rattle.macho_model.specs.ReadBack as model
 use Rattle.macho_loader.specs.declared.fixups.LoadedFixup.{LoadedFixup}

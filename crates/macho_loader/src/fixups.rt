@@ -118,7 +118,13 @@ fn is_on_chain(bytes: &[u8], segment: Chained, address: u64, word: u64) -> bool
     if start == NO_START {
         return false;
     }
-    leads_to(bytes, segment, page, 16384 * page as u64 + start as u64, offset)
+    leads_to(
+        bytes,
+        segment,
+        page,
+        16384 * page as u64 + start as u64,
+        offset,
+    )
 }
 
 /// The value of a word that moves with the image.

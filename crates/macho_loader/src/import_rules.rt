@@ -29,7 +29,11 @@ pub(crate) fn names_of(bytes: &[u8], place: u64) -> &[u8]
     ensures { result.now ≡ table_names bytes.now (table_there bytes.now place) }
 {
     let table = table_at(bytes, place);
-    range_from(bytes, table.at + table.symbols as u64, table.at + table.size)
+    range_from(
+        bytes,
+        table.at + table.symbols as u64,
+        table.at + table.size,
+    )
 }
 
 /// How many libraries the image needs.

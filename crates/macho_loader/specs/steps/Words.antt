@@ -1,5 +1,5 @@
 -- What the walks along the chains say of the words that they came to.
-use Rattle.std.specs.Prelude.{◌≡◌, ℕ, ◌+◌, ◌<◌, ◌≤◌, ◌^◌, List}
+use Rattle.std.specs.Prelude.{◌≡◌, ℕ, ◌<◌, ◌^◌, List}
 use Rattle.macho_model.specs.Grammar.{EachCommand}
 use Rattle.macho_model.specs.LoadRules.{file_part_inside, begins_behind}
 use Rattle.macho_model.specs.Loader.{segment_commands, EachNeighbour, WordFits}

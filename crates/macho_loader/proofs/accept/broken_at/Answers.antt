@@ -1,5 +1,5 @@
 -- What the walks say of the commands of a list is what the rules say.
-use Rattle.std.proofs.Common.{◌≡◌, refl, sym, subst, ◌∙◌, inl, inr}
+use Rattle.std.proofs.Common.{refl, sym, subst, ◌∙◌, inl, inr}
 use Rattle.macho_model.specs.Loader.{ImageBreaks}
 use Rattle.macho_model_walks.specs.steps.Walks.{listed}
 use Rattle.macho_model_walks.specs.steps.Asked.{LoadKeeps}

@@ -1,5 +1,5 @@
 -- The segment that the walk came to begins behind the one before it; behind the last one all do.
-use Rattle.std.proofs.Common.{◌≡◌, ◌+◌, ◌-◌, ◌≤◌, true, refl, sym, ap, subst, ◌∙◌, arith}
+use Rattle.std.proofs.Common.{◌≡◌, ◌+◌, ◌-◌, ◌≤◌, refl, sym, ap, subst, ◌∙◌, arith}
 use Rattle.std.specs.Prelude.{unwrap_or}
 use Rattle.macho_model_walks.specs.declared.walk.Listed.TheVariants as list
 use Rattle.macho_model_walks.specs.steps.Walks.{IsNth}

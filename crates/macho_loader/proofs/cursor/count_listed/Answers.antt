@@ -1,5 +1,5 @@
 -- One more has passed, and has its number in the list.
-use Rattle.std.proofs.Common.{◌+◌, refl, arith}
+use Rattle.std.proofs.Common.{refl, arith}
 use Rattle.macho_loader.proofs.cursor.count_listed.Goals as goal
 
 pub loop-step-init : goal.loop-step-init

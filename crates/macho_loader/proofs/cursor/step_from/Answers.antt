@@ -1,5 +1,5 @@
 -- A command of the list has been come to, or one more has been passed.
-use Rattle.std.proofs.Common.{◌+◌, ◌<◌, true, sym, ap, subst, ◌∙◌, arith}
+use Rattle.std.proofs.Common.{◌<◌, sym, ap, subst, ◌∙◌, arith}
 use Rattle.std.specs.Prelude.{unwrap_or}
 use Rattle.macho_model.specs.Commands.{header_of}
 use Rattle.macho_loader.specs.steps.Cursors.{IsStep}

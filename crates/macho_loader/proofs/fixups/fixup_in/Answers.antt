@@ -1,5 +1,5 @@
 -- What is found is the word of the chain; where none is found, there is no table, no word, or none on the chain.
-use Rattle.std.proofs.Common.{◌≡◌, ◌+◌, ◌*◌, ◌^◌, ◌%◌, Some, refl, sym, ap, subst, ◌∙◌}
+use Rattle.std.proofs.Common.{◌+◌, ◌*◌, ◌^◌, ◌%◌, Some, refl, sym, ap, subst, ◌∙◌}
 use Rattle.macho_model.specs.Memory.{rebase_target, rebase_high}
 use Rattle.macho_model.specs.ReadBack.{IsLoadedFixup}
 use Rattle.macho_model_walks.specs.steps.Walks.{table_there}

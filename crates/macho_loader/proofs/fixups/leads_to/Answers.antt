@@ -1,5 +1,5 @@
 -- The walk goes on from a word that fits, up to the end or to the last word.
-use Rattle.std.proofs.Common.{◌≡◌, ◌≤◌, ◌<◌, refl, arith}
+use Rattle.std.proofs.Common.{◌<◌, refl, arith}
 use Rattle.std.proofs.lemmas.Bool.Decides.{nat_tests}
 use Rattle.macho_loader.proofs.ChainWalks.{reached_first}
 use Rattle.macho_loader.proofs.ChainLookups.{way_first, way_more, way_ends, way_passes}

@@ -1,5 +1,5 @@
 -- The segment that the walk came to has no word there.
-use Rattle.std.proofs.Common.{◌+◌, refl, sym, subst, arith}
+use Rattle.std.proofs.Common.{refl, subst, arith}
 use Rattle.macho_model_walks.specs.declared.walk.Listed.TheVariants as list
 use Rattle.macho_model_walks.specs.steps.Walks.{HasWord, segment_there}
 use Rattle.macho_model_walks.proofs.WordWalk.{nth_one}

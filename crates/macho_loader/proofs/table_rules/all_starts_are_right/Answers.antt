@@ -1,5 +1,5 @@
 -- The segment that the walk came to has the number; one that fails makes the answer false, at the end all have passed.
-use Rattle.std.proofs.Common.{◌≡◌, ◌+◌, refl, sym, subst, ◌∙◌, arith}
+use Rattle.std.proofs.Common.{◌+◌, refl, sym, subst, ◌∙◌, arith}
 use Rattle.macho_model.specs.Images.{starts_count}
 use Rattle.macho_model.specs.LoadRules.{starts_fit}
 use Rattle.macho_model_walks.specs.declared.walk.Listed.TheVariants as list

@@ -1,5 +1,5 @@
 -- The walk goes on from a word that fits, up to the last word or to one that does not fit.
-use Rattle.std.proofs.Common.{◌≡◌, ◌≤◌, ◌<◌, refl, arith}
+use Rattle.std.proofs.Common.{refl, arith}
 use Rattle.macho_loader.proofs.ChainWalks.{reached_first, reached_more, all_fit}
 use Rattle.macho_loader.proofs.word_rules.unfit_from.Goals as goal
 
