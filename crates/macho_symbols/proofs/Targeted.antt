@@ -262,7 +262,7 @@ clash_is l (DuplicateSymbol name first second) clash = of (strong_of l name.item
     of (x ∷ (y ∷ ys)) is e =
         let left : event_of l x ≡ clash.a = cc in
         let right : event_of l y ≡ clash.b = cc in
-        (0, 1, x, y, omega arith, omega (arith, ap length is), ap (λ zs. get_or zs 0 x) is, ap (λ zs. get_or zs 1 y) is,
+        (0, 1, x, y, omega arith, (omega (arith, ap length is), ap (λ zs. get_or zs 0 x) is), (omega (arith, ap length is), ap (λ zs. get_or zs 1 y) is),
          ap (λ z. z.file) left ∙ clash.left, ap (λ z. z.file) right ∙ clash.right)
 
 -- no name has two of them, where the events have none
