@@ -30,3 +30,7 @@ pub mod RowsAgreement
 pub mod ExampleCall
 pub mod RowsCall
 pub mod RowsCallChain
+pub mod RowsCallFixups
+pub mod RowsCallUnwind
+pub mod RowsCallOrder
+pub mod RowsCallTrie
