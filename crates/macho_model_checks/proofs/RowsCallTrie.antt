@@ -80,7 +80,7 @@ from_strong false m s [] false h = absurd (let no : false ≡ true = ap is_in_ob
 
 definition_here : (name : List ℕ) → definition_of calling name
     ≡ first_or (map Symbol (if bytes_eq (codes "_main") name then main_symbol ∷ [] else []))
-      (first_or (map Library (libraries_with calling name)) (if bytes_eq name DSO_HANDLE then Some ImageBase else None))
+    (first_or (map Library (libraries_with calling name)) (if bytes_eq name DSO_HANDLE then Some ImageBase else None))
 unfolding commands_end commands_of commands_from header_of reading le_at row_bytes le_bytes words8 words halves name16 entry text_object calls_exit head_of_call fixups_of_call tables_of_call be_at be_bytes big_words signature_of_call call_image segment_of num_sections section_place section_at section_bytes symtab_of num_symbols symbol_place symbol_at strings_of symbol_name relocation_place relocation_at sections_of carried_of template_exponent placed_exponent symbols_of strong_of weak_of commons_of greatest_of definition_of chosen_commons initializer_sections unwind_sections uses_of imports_of libraries_needed target_of target_of_relocation slots_of stubs_of fields_of plain_entries all_entries entries_of other_segments segment_names_of output_keys_of own_entries import_entries_of entries_have_addends fixup_count names_text
 definition_here name = refl
 
@@ -103,11 +103,11 @@ exported_is : (name : List ℕ) (e : Export) → ExportedAs calling placed_call 
 exported_is name _ (exports.ExportedAs.from_object s e exported value) =
     let who = named_main name s exported.0 in
     let here : ValueOf calling placed_call (weak_flag calling main_symbol) (target_of_name calling (codes "_main")) e =
-        subst (λ n. ValueOf calling placed_call (weak_flag calling main_symbol) (target_of_name calling n) e) who.0
-        (subst (λ (m : SymbolId). ValueOf calling placed_call (weak_flag calling m) (target_of_name calling name) e) who.1 value) in
+    subst (λ n. ValueOf calling placed_call (weak_flag calling main_symbol) (target_of_name calling n) e) who.0
+    (subst (λ (m : SymbolId). ValueOf calling placed_call (weak_flag calling m) (target_of_name calling name) e) who.1 value) in
     let there : ValueOf calling placed_call 0 (target.Section 0 0 0) e =
-        subst (λ (u : Target). ValueOf calling placed_call 0 u e) main_facts.0
-        (subst (λ w. ValueOf calling placed_call w (target_of_name calling (codes "_main")) e) main_facts.1 here) in
+    subst (λ (u : Target). ValueOf calling placed_call 0 u e) main_facts.0
+    (subst (λ w. ValueOf calling placed_call w (target_of_name calling (codes "_main")) e) main_facts.1 here) in
     (who.0, value_is e there)
 exported_is name _ (exports.ExportedAs.from_library one lists listed) = absurd (let no : false ≡ true = lists in cc)
 
@@ -240,15 +240,18 @@ unfolding trie_of_call place_of uleb_of groups_of
 text_there = refl
 
 exact_trie : IsTrieText main_says trie_of_call
-exact_trie = inr (omega arith, record {
-  symbol = None;
-  below = main_edges;
-  radix = main_radix;
-  names = λ name s. (names_one name s, one_named name s);
-  width = one_byte;
-  least = least_widths;
-  text = text_there;
-})
+exact_trie = inr (
+  omega arith,
+  record {
+    symbol = None;
+    below = main_edges;
+    radix = main_radix;
+    names = λ name s. (names_one name s, one_named name s);
+    width = one_byte;
+    least = least_widths;
+    text = text_there;
+  },
+)
 
 -- THE exports trie
 found_in : (name : List ℕ) (e : Export) → ExportedAs calling placed_call name e → trie_finds trie_of_call name (trie_export e)
