@@ -34,3 +34,4 @@ pub mod RowsCallFixups
 pub mod RowsCallUnwind
 pub mod RowsCallOrder
 pub mod RowsCallTrie
+pub mod RowsCallZeros
