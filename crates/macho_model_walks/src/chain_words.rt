@@ -20,7 +20,7 @@ pub(crate) const NO_START: u16 = 0xffff;
 pub(crate) const CHAIN_PAGE: u128 = 0x4000;
 
 /// The word that a segment has at an address, if it stands whole in its file part.
-pub(crate) fn word_of(bytes: &[u8], place: u64, address: u128) -> Option<u64>
+pub fn word_of(bytes: &[u8], place: u64, address: u128) -> Option<u64>
     ensures found { (w : ℕ) → result ≡ Some w → HasWord bytes.now (segment_there bytes.now place) address w }
     ensures only { (w : ℕ) → HasWord bytes.now (segment_there bytes.now place) address w → result ≡ Some w }
 {
@@ -37,7 +37,7 @@ pub(crate) fn word_of(bytes: &[u8], place: u64, address: u128) -> Option<u64>
 }
 
 /// The steps from a word to the next one of its page, 0 at the last.
-fn steps_of(word: u64) -> u64
+pub fn steps_of(word: u64) -> u64
     ensures { result ≡ next_of word }
 {
     (word >> 51) & 0xfff
@@ -100,7 +100,7 @@ pub(crate) fn pages_of(bytes: &[u8], number: u32) -> u16
 }
 
 /// How many pages of a segment have a start in a table.
-fn pages_in(bytes: &[u8], table: u64, number: u32) -> u16
+pub fn pages_in(bytes: &[u8], table: u64, number: u32) -> u16
     ensures { result ≡ length (starts_in bytes.now (table_there bytes.now table) number) }
 {
     if number >= count_of_starts(bytes, table) {

@@ -26,7 +26,7 @@ fn rebased(bytes: &[u8], slide: u64, word: u64) -> u64
 }
 
 /// The addend of an import entry, modulo 2^64.
-fn addend_of(bytes: &[u8], table: u64, number: u32) -> u64
+pub fn addend_of(bytes: &[u8], table: u64, number: u32) -> u64
     ensures { result ≡ entry_addend bytes.now (table_there bytes.now table) number }
 {
     if table_at(bytes, table).imports_format != 2 {
@@ -41,7 +41,7 @@ fn addend_of(bytes: &[u8], table: u64, number: u32) -> u64
 }
 
 /// The addend of a word that binds.
-fn addend_in(word: u64) -> u64
+pub fn addend_in(word: u64) -> u64
     ensures { result ≡ bind_addend word }
 {
     (word >> 24) & 0xff

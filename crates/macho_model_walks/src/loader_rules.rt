@@ -17,7 +17,7 @@ use crate::walk::{Listed, count_of, nth};
 
 /// What is asked of each command of a list.
 #[derive(Clone, Copy)]
-pub(crate) enum Asked {
+pub enum Asked {
     /// Of each: is it whole?
     Whole,
     /// Of a segment: has it the protections of its name?
@@ -36,7 +36,7 @@ pub(crate) enum Asked {
 
 impl Asked {
     /// The commands that are asked.
-    fn list(self) -> Listed
+    pub fn list(self) -> Listed
         ensures { result ≡ list_of self }
     {
         match self {
@@ -48,7 +48,7 @@ impl Asked {
     }
 
     /// Whether the command at a place passes.
-    fn passes(self, bytes: &[u8], place: u64) -> bool
+    pub fn passes(self, bytes: &[u8], place: u64) -> bool
         ensures { result ≡ test_of self bytes.now (command_at bytes.now place) }
     {
         match self {
@@ -128,7 +128,7 @@ pub(crate) fn first_overlapping(bytes: &[u8]) -> Option<u64>
 }
 
 /// The place that tells that there is not one `__TEXT`: 0 where there is none, else that of a second one.
-pub(crate) fn other_text(bytes: &[u8]) -> Option<u64>
+pub fn other_text(bytes: &[u8]) -> Option<u64>
     ensures found { (place : ℕ) → result ≡ Some place → TextIsNotOne bytes.now place }
     ensures only { result ≡ None → length (text_commands bytes.now) ≡ 1 }
 {
@@ -139,7 +139,7 @@ pub(crate) fn other_text(bytes: &[u8]) -> Option<u64>
 }
 
 /// The place of a second fixup table.
-pub(crate) fn second_table(bytes: &[u8]) -> Option<u64>
+pub fn second_table(bytes: &[u8]) -> Option<u64>
     ensures found { (place : ℕ) → result ≡ Some place → SecondTable bytes.now place }
     ensures only { result ≡ None → length (fixup_commands bytes.now) ≤ 1 }
 {

@@ -14,7 +14,7 @@ pub(crate) fn file_byte(bytes: &[u8], start: u64, offset: u64) -> u8
 
 /// The number of two bytes at a sum of offsets, the lowest first.
 #[tactic(auto, using(crate::proofs::ByteReads::le_at_two, crate::proofs::ByteReads::le_at_behind))]
-pub(crate) fn u16_from(bytes: &[u8], start: u64, offset: u64) -> u16
+pub fn u16_from(bytes: &[u8], start: u64, offset: u64) -> u16
     ensures { result ≡ le_at 2 bytes.now (start + offset) }
 {
     if start > u64::MAX - offset {
@@ -28,7 +28,7 @@ pub(crate) fn u16_from(bytes: &[u8], start: u64, offset: u64) -> u16
 
 /// The number of four bytes at a sum of offsets.
 #[tactic(auto, using(crate::proofs::ByteReads::le_at_four, crate::proofs::ByteReads::le_at_behind))]
-pub(crate) fn u32_from(bytes: &[u8], start: u64, offset: u64) -> u32
+pub fn u32_from(bytes: &[u8], start: u64, offset: u64) -> u32
     ensures { result ≡ le_at 4 bytes.now (start + offset) }
 {
     if start > u64::MAX - offset {
@@ -42,7 +42,7 @@ pub(crate) fn u32_from(bytes: &[u8], start: u64, offset: u64) -> u32
 
 /// The number of eight bytes at a sum of offsets.
 #[tactic(auto, using(crate::proofs::ByteReads::le_at_eight, crate::proofs::ByteReads::le_at_behind))]
-pub(crate) fn u64_from(bytes: &[u8], start: u64, offset: u64) -> u64
+pub fn u64_from(bytes: &[u8], start: u64, offset: u64) -> u64
     ensures { result ≡ le_at 8 bytes.now (start + offset) }
 {
     if start > u64::MAX - offset {
@@ -55,7 +55,7 @@ pub(crate) fn u64_from(bytes: &[u8], start: u64, offset: u64) -> u64
 }
 
 /// The bytes of the file from a place up to another, as many as there are.
-pub(crate) fn range_from(bytes: &[u8], start: u64, end: u64) -> &[u8]
+pub fn range_from(bytes: &[u8], start: u64, end: u64) -> &[u8]
     ensures { result.now ≡ slice_range bytes.now start end }
 {
     let length = bytes.len() as u64;

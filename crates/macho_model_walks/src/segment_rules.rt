@@ -29,24 +29,24 @@ const SEGMENT_PAGE: u64 = 0x4000;
 
 /// The numbers of a segment's command.
 #[derive(Clone, Copy)]
-pub(crate) struct SegmentNumbers {
+pub struct SegmentNumbers {
     /// The address of its first byte.
-    pub(crate) address: u64,
+    pub address: u64,
     /// Its bytes in memory.
-    pub(crate) size: u64,
+    pub size: u64,
     /// The file offset of its first byte.
-    pub(crate) file_offset: u64,
+    pub file_offset: u64,
     /// Its bytes in the file.
-    pub(crate) file_size: u64,
+    pub file_size: u64,
     /// What it may ever be accessed for.
-    pub(crate) most: u32,
+    pub most: u32,
     /// What it may be accessed for at first.
-    pub(crate) first: u32,
+    pub first: u32,
 }
 
 /// The numbers of the segment's command at a place.
 #[tactic(auto, unfolding(macho_bytes::specs::Layouts::reading))]
-pub(crate) fn segment_at(bytes: &[u8], place: u64) -> SegmentNumbers
+pub fn segment_at(bytes: &[u8], place: u64) -> SegmentNumbers
     ensures { SaysSegment result (reading segment_command bytes.now place) }
 {
     SegmentNumbers {
@@ -61,7 +61,7 @@ pub(crate) fn segment_at(bytes: &[u8], place: u64) -> SegmentNumbers
 
 /// Whether the header is whole, of a 64-bit arm64 executable or dynamic library.
 #[tactic(auto, unfolding(macho_bytes::specs::Layouts::reading, macho_model::specs::Commands::header_of))]
-pub(crate) fn head_fits(bytes: &[u8]) -> bool
+pub fn head_fits(bytes: &[u8]) -> bool
     ensures { result ≡ image_head_fits bytes.now }
 {
     let file_type = u32_from(bytes, 0, 12);
@@ -80,7 +80,7 @@ pub(crate) fn end_of_commands(bytes: &[u8]) -> u64
 }
 
 /// Whether the load commands end inside the file.
-pub(crate) fn commands_end_inside(bytes: &[u8]) -> bool
+pub fn commands_end_inside(bytes: &[u8]) -> bool
     ensures { result ≡ commands_inside bytes.now }
 {
     end_of_commands(bytes) <= bytes.len() as u64
@@ -102,7 +102,7 @@ fn needed(bytes: &[u8], place: u64) -> u64
 
 /// Whether a command stands where commands do, and is as long as its record.
 #[tactic(auto, unfolding(macho_bytes::specs::Layouts::reading))]
-pub(crate) fn is_whole(bytes: &[u8], place: u64) -> bool
+pub fn is_whole(bytes: &[u8], place: u64) -> bool
     ensures { result ≡ command_fits (needed_in_image bytes.now) bytes.now (command_at bytes.now place) }
 {
     let size = u32_from(bytes, place, 4) as u64;
@@ -126,7 +126,7 @@ fn wanted_protection(bytes: &[u8], place: u64) -> u32
 }
 
 /// Whether a segment has the protections of its name.
-pub(crate) fn protections_are_right(bytes: &[u8], place: u64) -> bool
+pub fn protections_are_right(bytes: &[u8], place: u64) -> bool
     ensures { result ≡ protections_fit bytes.now (command_at bytes.now place) }
 {
     let segment = segment_at(bytes, place);
@@ -135,7 +135,7 @@ pub(crate) fn protections_are_right(bytes: &[u8], place: u64) -> bool
 }
 
 /// Whether a segment's file bytes stand inside the file, and are at most its bytes in memory.
-pub(crate) fn file_bytes_are_inside(bytes: &[u8], place: u64) -> bool
+pub fn file_bytes_are_inside(bytes: &[u8], place: u64) -> bool
     ensures { result ≡ file_part_inside bytes.now (command_at bytes.now place) }
 {
     let segment = segment_at(bytes, place);
@@ -146,7 +146,7 @@ pub(crate) fn file_bytes_are_inside(bytes: &[u8], place: u64) -> bool
 }
 
 /// Whether a segment is made of whole pages.
-pub(crate) fn is_paged(bytes: &[u8], place: u64) -> bool
+pub fn is_paged(bytes: &[u8], place: u64) -> bool
     ensures { result ≡ segment_is_paged bytes.now (command_at bytes.now place) }
 {
     let segment = segment_at(bytes, place);
@@ -156,7 +156,7 @@ pub(crate) fn is_paged(bytes: &[u8], place: u64) -> bool
 }
 
 /// Whether a segment ends at 2^64 at most.
-pub(crate) fn ends_below(bytes: &[u8], place: u64) -> bool
+pub fn ends_below(bytes: &[u8], place: u64) -> bool
     ensures { result ≡ segment_ends bytes.now (command_at bytes.now place) }
 {
     let segment = segment_at(bytes, place);
@@ -164,7 +164,7 @@ pub(crate) fn ends_below(bytes: &[u8], place: u64) -> bool
 }
 
 /// Whether a segment begins where another one ends, or behind.
-pub(crate) fn follows(bytes: &[u8], place: u64, next: u64) -> bool
+pub fn follows(bytes: &[u8], place: u64, next: u64) -> bool
     ensures { result ≡ begins_behind bytes.now (command_at bytes.now place) (command_at bytes.now next) }
 {
     let segment = segment_at(bytes, place);
@@ -173,7 +173,7 @@ pub(crate) fn follows(bytes: &[u8], place: u64, next: u64) -> bool
 }
 
 /// Whether a segment begins the file and holds the load commands.
-pub(crate) fn holds_commands(bytes: &[u8], place: u64) -> bool
+pub fn holds_commands(bytes: &[u8], place: u64) -> bool
     ensures { result ≡ text_holds_commands bytes.now (segment_in bytes.now (command_at bytes.now place)) }
 {
     let segment = segment_at(bytes, place);

@@ -19,30 +19,30 @@ const POINTER_FORMAT: u16 = 6;
 
 /// The range of a fixup table and the numbers of its header.
 #[derive(Clone, Copy)]
-pub(crate) struct FixupTable {
+pub struct FixupTable {
     /// The file offset of its first byte.
-    pub(crate) at: u64,
+    pub at: u64,
     /// Its bytes.
-    pub(crate) size: u64,
+    pub size: u64,
     /// The version of the format.
-    pub(crate) version: u32,
+    pub version: u32,
     /// The place of the starts, from the table's.
-    pub(crate) starts: u32,
+    pub starts: u32,
     /// The place of the imports.
-    pub(crate) imports: u32,
+    pub imports: u32,
     /// The place of the names.
-    pub(crate) symbols: u32,
+    pub symbols: u32,
     /// How many imports there are.
-    pub(crate) imports_count: u32,
+    pub imports_count: u32,
     /// The format of the imports.
-    pub(crate) imports_format: u32,
+    pub imports_format: u32,
     /// The format of the names.
-    pub(crate) symbols_format: u32,
+    pub symbols_format: u32,
 }
 
 /// The fixup table of the command at a place.
 #[tactic(auto, unfolding(macho_bytes::specs::Layouts::reading))]
-pub(crate) fn table_at(bytes: &[u8], place: u64) -> FixupTable
+pub fn table_at(bytes: &[u8], place: u64) -> FixupTable
     ensures { SaysTable bytes.now (table_there bytes.now place) result }
 {
     let at = u32_from(bytes, place, 8) as u64;
@@ -70,7 +70,7 @@ pub(crate) fn address_of(bytes: &[u8], number: u32) -> u64
 }
 
 /// The address of the first byte of `__TEXT`, 0 where there is none.
-pub(crate) fn base_address(bytes: &[u8]) -> u64
+pub fn base_address(bytes: &[u8]) -> u64
     ensures { result ≡ base_of bytes.now }
 {
     match nth(bytes, Listed::Texts, 0) {
@@ -89,21 +89,21 @@ pub(crate) fn place_of_starts(bytes: &[u8], place: u64) -> u64
 }
 
 /// The number of segments that the starts have an offset for.
-pub(crate) fn count_of_starts(bytes: &[u8], place: u64) -> u32
+pub fn count_of_starts(bytes: &[u8], place: u64) -> u32
     ensures { result ≡ starts_count bytes.now (table_there bytes.now place) }
 {
     u32_from(bytes, place_of_starts(bytes, place), 0)
 }
 
 /// The offset of a segment's starts, 0 where it has none.
-pub(crate) fn offset_of_starts(bytes: &[u8], place: u64, number: u32) -> u32
+pub fn offset_of_starts(bytes: &[u8], place: u64, number: u32) -> u32
     ensures { result ≡ starts_offset bytes.now (table_there bytes.now place) number }
 {
     u32_from(bytes, place_of_starts(bytes, place) + 4, 4 * number as u64)
 }
 
 /// The place of a segment's starts.
-fn place_of_segment(bytes: &[u8], place: u64, number: u32) -> u64
+pub fn place_of_segment(bytes: &[u8], place: u64, number: u32) -> u64
     ensures value { result ≡ segment_starts_place bytes.now (table_there bytes.now place) number }
     ensures small { result < 2 ^ 34 }
 {
@@ -112,14 +112,14 @@ fn place_of_segment(bytes: &[u8], place: u64, number: u32) -> u64
 
 /// The number of pages that a segment's starts are of.
 #[tactic(auto, unfolding(macho_bytes::specs::Layouts::reading))]
-pub(crate) fn count_of_pages(bytes: &[u8], place: u64, number: u32) -> u16
+pub fn count_of_pages(bytes: &[u8], place: u64, number: u32) -> u16
     ensures { result ≡ (segment_starts bytes.now (table_there bytes.now place) number).page_count }
 {
     u16_from(bytes, place_of_segment(bytes, place, number), 20)
 }
 
 /// The start of a page's chain, from the page's first byte.
-pub(crate) fn start_of_page(bytes: &[u8], place: u64, number: u32, page: u16) -> u16
+pub fn start_of_page(bytes: &[u8], place: u64, number: u32, page: u16) -> u16
     ensures { result ≡ page_start bytes.now (table_there bytes.now place) number page }
 {
     u16_from(
@@ -196,7 +196,7 @@ fn has_libraries(bytes: &[u8], count: u32) -> bool
 }
 
 /// Whether the header of a fixup table is a known one.
-fn header_is_known(bytes: &[u8], place: u64) -> bool
+pub fn header_is_known(bytes: &[u8], place: u64) -> bool
     ensures { result ≡ header_known bytes.now (table_there bytes.now place) }
 {
     let table = table_at(bytes, place);
@@ -215,7 +215,7 @@ fn entry_size(format: u32) -> u64
 }
 
 /// Whether the parts of a fixup table stand inside it.
-fn parts_are_inside(bytes: &[u8], place: u64) -> bool
+pub fn parts_are_inside(bytes: &[u8], place: u64) -> bool
     ensures { result ≡ parts_inside bytes.now (table_there bytes.now place) }
 {
     let table = table_at(bytes, place);
@@ -241,7 +241,7 @@ pub(crate) fn table_is_right(bytes: &[u8], place: u64) -> bool
 }
 
 /// The place of an import entry.
-pub(crate) fn place_of_import(bytes: &[u8], place: u64, number: u32) -> u64
+pub fn place_of_import(bytes: &[u8], place: u64, number: u32) -> u64
     ensures { result ≡ import_place bytes.now (table_there bytes.now place) number }
 {
     let table = table_at(bytes, place);
@@ -264,14 +264,14 @@ fn name_is_ended(bytes: &[u8], place: u64, offset: u32) -> bool
 }
 
 /// The number of the library of an import entry, from 1.
-fn library_of(word: u32) -> u32
+pub fn library_of(word: u32) -> u32
     ensures { result ≡ bits 0 8 word }
 {
     word & 0xff
 }
 
 /// The place of an import's name among the names.
-fn name_offset_of(word: u32) -> u32
+pub fn name_offset_of(word: u32) -> u32
     ensures { result ≡ bits 9 23 word }
 {
     word >> 9

@@ -13,7 +13,7 @@ use macho_records::{LC_DYLD_CHAINED_FIXUPS, LC_LOAD_DYLIB, LC_SEGMENT_64, name_b
 
 /// Which load commands of a file.
 #[derive(Clone, Copy)]
-pub(crate) enum Listed {
+pub enum Listed {
     /// Each.
     All,
     /// Those of segments.
@@ -41,7 +41,7 @@ pub(crate) fn is_segment_named(bytes: &[u8], place: u64, name: &[u8]) -> bool
 
 /// Whether the command at a place is one of a list.
 #[tactic(auto, unfolding(macho_bytes::specs::Layouts::reading))]
-fn is_listed(bytes: &[u8], list: Listed, place: u64) -> bool
+pub fn is_listed(bytes: &[u8], list: Listed, place: u64) -> bool
     ensures { result ≡ is_listed list bytes.now (command_at bytes.now place) }
 {
     let number = u32_from(bytes, place, 0);
@@ -61,14 +61,14 @@ fn is_listed(bytes: &[u8], list: Listed, place: u64) -> bool
 
 /// How many load commands the header tells of.
 #[tactic(auto, unfolding(macho_bytes::specs::Layouts::reading, macho_model::specs::Commands::header_of))]
-pub(crate) fn count_of(bytes: &[u8]) -> u32
+pub fn count_of(bytes: &[u8]) -> u32
     ensures { result ≡ (header_of bytes.now).ncmds }
 {
     u32_from(bytes, 0, 16)
 }
 
 /// The place of a command by its number in a list, from 0; None behind the last.
-pub(crate) fn nth(bytes: &[u8], list: Listed, number: u32) -> Option<u64>
+pub fn nth(bytes: &[u8], list: Listed, number: u32) -> Option<u64>
     ensures found { (place : ℕ) → result ≡ Some place → IsNth list bytes.now number place }
     ensures only { result ≡ None → length (listed list bytes.now) ≤ number }
 {

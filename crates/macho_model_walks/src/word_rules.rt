@@ -16,7 +16,7 @@ use crate::table_rules::table_at;
 use crate::walk::{Listed, count_of, nth};
 
 /// Whether a word at an address stands in a page of a segment and in its file part, and the segment may be written to.
-fn page_has(bytes: &[u8], place: u64, page: u16, address: u128) -> bool
+pub fn page_has(bytes: &[u8], place: u64, page: u16, address: u128) -> bool
     ensures { result ≡ page_holds (segment_there bytes.now place) page address }
 {
     let segment = segment_at(bytes, place);
@@ -41,14 +41,14 @@ pub(crate) fn count_of_imports(bytes: &[u8]) -> u32
 }
 
 /// Whether a word binds an import.
-pub(crate) fn binds(word: u64) -> bool
+pub fn binds(word: u64) -> bool
     ensures { result ≡ is_bind word }
 {
     word >> 63 == 1
 }
 
 /// The number of the import that a word binds.
-pub(crate) fn ordinal(word: u64) -> u32
+pub fn ordinal(word: u64) -> u32
     ensures { result ≡ ordinal_of word }
 {
     (word & 0xff_ffff) as u32

@@ -1,0 +1,2 @@
+pub mod Fixups
+pub mod steps

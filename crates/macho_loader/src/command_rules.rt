@@ -1,0 +1,53 @@
+//! The rules that speak of one load command, or of a segment and the one behind it.
+ghost use Rattle.std.specs.Prelude.{◌≡◌, ℕ, Some, None};
+ghost use Rattle.macho_model.specs.Grammar.{EachCommand};
+ghost use Rattle.macho_model.specs.LoadRules.{begins_behind};
+ghost use Rattle.macho_model.specs.Loader.{segment_commands, EachNeighbour};
+ghost use Rattle.macho_model_walks.specs.steps.Walks.{command_at, listed};
+ghost use Rattle.macho_model_walks.specs.steps.Asked.{test_of, list_of, AskedFails, BeginsBefore};
+
+use crate::cursor::{first, step_from};
+use crate::table_rules::table_is_right;
+use macho_model_walks::{Asked, Listed, follows};
+
+/// Whether a command passes.
+fn passes(bytes: &[u8], asked: Asked, place: u64) -> bool
+    ensures { result ≡ test_of asked bytes.now (command_at bytes.now place) }
+{
+    match asked {
+        Asked::Table => table_is_right(bytes, place),
+        _ => asked.passes(bytes, place),
+    }
+}
+
+/// The place of the first command of its list that fails what is asked.
+pub(crate) fn first_failing(bytes: &[u8], asked: Asked) -> Option<u64>
+    ensures found { (place : ℕ) → result ≡ Some place → AskedFails bytes.now asked place }
+    ensures only { result ≡ None → EachCommand (listed (list_of asked) bytes.now) (test_of asked bytes.now) }
+{
+    let mut at = first();
+    while let Some(step) = step_from(bytes, asked.list(), at) {
+        if !passes(bytes, asked, step.place) {
+            return Some(step.place);
+        }
+        at = step.next;
+    }
+    None
+}
+
+/// The place of the first segment that begins before the end of the one before it.
+pub(crate) fn first_overlapping(bytes: &[u8]) -> Option<u64>
+    ensures found { (place : ℕ) → result ≡ Some place → BeginsBefore bytes.now place }
+    ensures only { result ≡ None → EachNeighbour (segment_commands bytes.now) (begins_behind bytes.now) }
+{
+    let mut at = first();
+    let mut last = 0u64;
+    while let Some(step) = step_from(bytes, Listed::Segments, at) {
+        if at.number > 0 && !follows(bytes, last, step.place) {
+            return Some(step.place);
+        }
+        last = step.place;
+        at = step.next;
+    }
+    None
+}

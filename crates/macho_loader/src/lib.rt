@@ -1,0 +1,25 @@
+//! The loader's view of a finished image: whether it is accepted, its segments, and what each word of its chains says.
+//!
+//! Acceptance is ten rules, asked one after the other in a walk each. A walk over the load commands goes from one to the
+//! next by its size:
+//!
+//!     0   header        cf fa ed fe 0c 00 00 01 ..
+//!     32  command 0     19 00 00 00 48 00 00 00 ..     a segment without sections, 72 bytes
+//!     104 command 1     19 00 00 00 98 00 00 00 ..     behind it the next one
+//!
+//! and a walk over a page's chain from a word to the next by bits 51 to 62 of the word, in steps of four bytes.
+#![tactic(auto)]
+
+mod accept;
+mod command_rules;
+mod cursor;
+mod fixups;
+mod import_rules;
+mod loaded;
+mod table_rules;
+mod word_rules;
+
+pub use fixups::LoadedFixup;
+pub use loaded::Loaded;
+pub use macho_model::LoadRule;
+pub use macho_model_walks::LoadFault;

@@ -1,0 +1,122 @@
+//! An executable with a slot that leads to `_exit` of the one library, and a pointer to its function, as an independent
+//! script composed it from mach-o/loader.h and mach-o/fixup-chains.h.
+use macho_loader::{LoadFault, LoadRule, Loaded, LoadedFixup};
+
+/// The header and the load commands.
+const HEAD: [u8; 920] =
+    *b"\xcf\xfa\xed\xfe\x0c\0\0\x01\0\0\0\0\x02\0\0\0\x0d\0\0\0x\x03\0\0\x85\0 \0\0\0\0\0\
+    \x19\0\0\0H\0\0\0__PAGEZERO\0\0\0\0\0\0\0\0\0\0\0\0\0\0\0\0\0\0\x01\0\0\0\0\0\0\0\0\0\0\
+    \0\0\0\0\0\0\0\0\0\0\0\0\0\0\0\0\0\0\0\0\0\0\0\0\0\x19\0\0\0\xe8\0\0\0__TEXT\0\0\0\0\0\
+    \0\0\0\0\0\0\0\0\0\x01\0\0\0\0@\0\0\0\0\0\0\0\0\0\0\0\0\0\0\0@\0\0\0\0\0\0\x05\0\0\0\
+    \x05\0\0\0\x02\0\0\0\0\0\0\0__text\0\0\0\0\0\0\0\0\0\0__TEXT\0\0\0\0\0\0\0\0\0\0\x98\
+    \x03\0\0\x01\0\0\0\x08\0\0\0\0\0\0\0\x98\x03\0\0\x02\0\0\0\0\0\0\0\0\0\0\0\0\x04\0\x80\
+    \0\0\0\0\0\0\0\0\0\0\0\0__stubs\0\0\0\0\0\0\0\0\0__TEXT\0\0\0\0\0\0\0\0\0\0\xa0\x03\0\0\
+    \x01\0\0\0\x0c\0\0\0\0\0\0\0\xa0\x03\0\0\x02\0\0\0\0\0\0\0\0\0\0\0\x08\x04\0\x80\0\0\0\
+    \0\x0c\0\0\0\0\0\0\0\x19\0\0\0\x98\0\0\0__DATA_CONST\0\0\0\0\0@\0\0\x01\0\0\0\0@\0\0\0\
+    \0\0\0\0@\0\0\0\0\0\0\0@\0\0\0\0\0\0\x03\0\0\0\x03\0\0\0\x01\0\0\0\x10\0\0\0__got\0\0\0\
+    \0\0\0\0\0\0\0\0__DATA_CONST\0\0\0\0\0@\0\0\x01\0\0\0\x08\0\0\0\0\0\0\0\0@\0\0\x03\0\0\
+    \0\0\0\0\0\0\0\0\0\x06\0\0\0\0\0\0\0\0\0\0\0\0\0\0\0\x19\0\0\0\x98\0\0\0__DATA\0\0\0\0\
+    \0\0\0\0\0\0\0\x80\0\0\x01\0\0\0\0@\0\0\0\0\0\0\0\x80\0\0\0\0\0\0\0@\0\0\0\0\0\0\x03\0\
+    \0\0\x03\0\0\0\x01\0\0\0\0\0\0\0__data\0\0\0\0\0\0\0\0\0\0__DATA\0\0\0\0\0\0\0\0\0\0\0\
+    \x80\0\0\x01\0\0\0\x08\0\0\0\0\0\0\0\0\x80\0\0\x03\0\0\0\0\0\0\0\0\0\0\0\0\0\0\0\0\0\0\
+    \0\0\0\0\0\0\0\0\0\x19\0\0\0H\0\0\0__LINKEDIT\0\0\0\0\0\0\0\xc0\0\0\x01\0\0\0\0@\0\0\0\
+    \0\0\0\0\xc0\0\0\0\0\0\0\x1c\x03\0\0\0\0\0\0\x01\0\0\0\x01\0\0\0\0\0\0\0\0\0\0\0(\0\0\
+    \x80\x18\0\0\0\x98\x03\0\0\0\0\0\0\0\0\0\0\0\0\0\0\x1b\0\0\0\x18\0\0\0\0\x01\x02\x03\
+    \x04\x056\x07\x88\x09\x0a\x0b\x0c\x0d\x0e\x0f\x0e\0\0\0 \0\0\0\x0c\0\0\0/usr/lib/dyld\0\
+    \0\0\0\0\0\0\x0c\0\0\08\0\0\0\x18\0\0\0\x02\0\0\0\0\0L\x05\0\0\x01\0/usr/lib/libSystem.\
+    B.dylib\0\0\0\0\0\04\0\0\x80\x10\0\0\0\0\xc0\0\0\xd0\0\0\03\0\0\x80\x10\0\0\0\xd0\xc0\0\
+    \0\x0e\0\0\0\x02\0\0\0\x18\0\0\0\xe8\xc0\0\0\x01\0\0\0\xf8\xc0\0\0\x07\0\0\0\x1d\0\0\0\
+    \x10\0\0\0\0\xc1\0\0\x1c\x02\0\0";
+
+/// The fixup table at 0xc000: two segments with starts, one import of format 1.
+const TABLE: [u8; 110] =
+    *b"\0\0\0\0\x1c\0\0\0d\0\0\0h\0\0\0\x01\0\0\0\x01\0\0\0\0\0\0\0\x05\0\0\0\0\0\0\0\0\0\0\
+    \0\x18\0\0\00\0\0\0\0\0\0\0\x18\0\0\0\0@\x06\0\0@\0\0\0\0\0\0\0\0\0\0\x01\0\0\0\x18\0\0\
+    \0\0@\x06\0\0\x80\0\0\0\0\0\0\0\0\0\0\x01\0\0\0\x01\0\0\0_exit\0";
+
+/// The bytes of the file.
+const SIZE: usize = 49_948;
+
+fn image() -> [u8; SIZE] {
+    let mut image = [0; SIZE];
+    image[..920].copy_from_slice(&HEAD);
+    image[0x4007] = 0x80;
+    image[0x8000..0x8002].copy_from_slice(&[0x98, 3]);
+    image[0xc000..0xc06e].copy_from_slice(&TABLE);
+    image
+}
+
+fn fixup(image: &[u8], address: u64) -> Option<LoadedFixup<'_>> {
+    match Loaded::accept(image) {
+        Ok(loaded) => loaded.fixup_at(address),
+        Err(_) => None,
+    }
+}
+
+#[test]
+fn it_is_accepted_with_its_segments(rt: HostRuntime) {
+    let image = image();
+    match Loaded::accept(&image) {
+        Ok(loaded) => {
+            assert_eq!(rt; loaded.base(), 0x1_0000_0000);
+            assert_eq!(rt; loaded.num_segments(), 5);
+            assert_eq!(rt; loaded.segment(1).map(|s| s.vmaddr), Some(0x1_0000_0000));
+            assert_eq!(rt; loaded.segment(4).map(|s| s.fileoff), Some(0xc000));
+            assert!(rt; loaded.segment(5).is_none());
+        }
+        Err(_) => assert!(rt; false),
+    }
+}
+
+#[test]
+fn the_slot_leads_to_the_import_and_the_pointer_moves(rt: HostRuntime) {
+    let image = image();
+    assert_eq!(rt;
+        fixup(&image, 0x1_0000_4000),
+        Some(LoadedFixup::Bind {
+            library: 1,
+            name: b"_exit",
+            addend: 0,
+        })
+    );
+    assert_eq!(rt;
+        fixup(&image, 0x1_0000_8000),
+        Some(LoadedFixup::Rebase { value: 0x1_0000_0398 })
+    );
+}
+
+#[test]
+fn nothing_else_is_on_the_chain(rt: HostRuntime) {
+    let image = image();
+    for address in [
+        0,
+        0x4000,
+        0x1_0000_0398,
+        0x1_0000_3fff,
+        0x1_0000_4004,
+        0x1_0000_4008,
+        0x1_0000_8008,
+        u64::MAX,
+    ] {
+        assert!(rt; fixup(&image, address).is_none(), "{address}");
+    }
+}
+
+#[test]
+fn a_file_without_its_last_byte_is_refused(rt: HostRuntime) {
+    let image = image();
+    assert_eq!(rt;
+        Loaded::accept(&image[..SIZE - 1]).err(),
+        Some(LoadFault {
+            rule: LoadRule::L4,
+            place: 640,
+        })
+    );
+    assert_eq!(rt;
+        Loaded::accept(&[]).err(),
+        Some(LoadFault {
+            rule: LoadRule::L1,
+            place: 0,
+        })
+    );
+}
