@@ -11,7 +11,8 @@ use Rattle.macho_model.specs.Images.{segments_of, fixups_header, CHAIN_PAGE, NO_
 use Rattle.macho_model.specs.Chain.{chain_segments, next_of, WORD_SIZE, STRIDE, OnChainOf, OnPageChain}
 use Rattle.macho_model.specs.Loader.{IsAccepted, WordFits, is_bind, ordinal_of}
 use Rattle.macho_model_walks.specs.declared.walk.Listed.TheVariants as list
-use Rattle.macho_model_walks.specs.steps.Walks.{IsNth, HasWord, Leads, listed, starts_of, segment_there, table_there, chain_segment_at}
+use Rattle.macho_model_walks.specs.Readings.{IsNth, HasWord, listed, segment_there, table_there}
+use Rattle.macho_model_walks.specs.steps.Walks.{Leads, starts_of, chain_segment_at}
 use Rattle.macho_model_walks.specs.steps.WordTests.{address_in, FitFrom}
 use Rattle.macho_model.proofs.Apart.{EndsBefore}
 use Rattle.macho_model_walks.proofs.ChainSets.{page_has_start}

@@ -8,7 +8,7 @@ use Rattle.std.proofs.lemmas.Bool.{cases_lt, leb-true}
 use Rattle.macho_model.specs.Images.{Table, segments_of, starts_count, fixups_header, import_entry_size}
 use Rattle.macho_model.specs.LoadRules.{begins_behind, parts_inside}
 use Rattle.macho_model_walks.specs.declared.walk.Listed.TheVariants as list
-use Rattle.macho_model_walks.specs.steps.Walks.{command_at, IsNth}
+use Rattle.macho_model_walks.specs.Readings.{command_at, IsNth}
 use Rattle.macho_model_walks.specs.steps.Asked.{NeighbourPasses}
 use Rattle.macho_model.proofs.EachBelow.{and_left, and_right}
 use Rattle.macho_model_walks.proofs.WordWalk.{nth_one}

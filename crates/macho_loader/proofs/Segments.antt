@@ -16,7 +16,7 @@ use Rattle.macho_model.specs.Images.{segments_of}
 use Rattle.macho_model.specs.LoadRules.{needed_in_image}
 use Rattle.macho_model.specs.Loader.{IsAccepted}
 use Rattle.macho_model_walks.specs.declared.walk.Listed.TheVariants as list
-use Rattle.macho_model_walks.specs.steps.Walks.{command_at, is_listed, listed, IsNth, segment_there}
+use Rattle.macho_model_walks.specs.Readings.{command_at, is_listed, listed, IsNth, segment_there}
 use Rattle.macho_model.proofs.EachBelow.{and_left, and_right}
 use Rattle.macho_model_walks.proofs.WordWalk.{nth_number}
 use Rattle.macho_model_walks.proofs.ListedLaws.{count_of_segments}

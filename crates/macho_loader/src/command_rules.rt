@@ -3,8 +3,8 @@ ghost use Rattle.std.specs.Prelude.{◌≡◌, ℕ, Some, None};
 ghost use Rattle.macho_model.specs.Grammar.{EachCommand};
 ghost use Rattle.macho_model.specs.LoadRules.{begins_behind};
 ghost use Rattle.macho_model.specs.Loader.{segment_commands, EachNeighbour};
-ghost use Rattle.macho_model_walks.specs.steps.Walks.{command_at, listed};
-ghost use Rattle.macho_model_walks.specs.steps.Asked.{test_of, list_of, AskedFails, BeginsBefore};
+ghost use Rattle.macho_model_walks.specs.Readings.{command_at, listed, test_of, list_of};
+ghost use Rattle.macho_model_walks.specs.steps.Asked.{AskedFails, BeginsBefore};
 
 use crate::cursor::{first, step_from};
 use crate::table_rules::table_is_right;

@@ -4,7 +4,7 @@ ghost use Rattle.macho_model.specs.ObjectRules.{has_nul};
 ghost use Rattle.macho_model.specs.Images.{table_names, libraries_of};
 ghost use Rattle.macho_model.specs.LoadRules.{import_fits};
 ghost use Rattle.macho_model.specs.Loader.{ImportFails};
-ghost use Rattle.macho_model_walks.specs.steps.Walks.{table_there};
+ghost use Rattle.macho_model_walks.specs.Readings.{table_there};
 ghost use Rattle.macho_model_walks.specs.steps.Asked.{BadImport, ImportsFit, EachImportFits};
 ghost use Rattle.macho_loader.specs.steps.Names.{EndsBelow};
 

@@ -16,8 +16,7 @@ use Rattle.macho_model.specs.Segments.{TEXT}
 use Rattle.macho_model.specs.Images.{segments_named, table_of_command, tables_of}
 use Rattle.macho_model.specs.LoadRules.{needed_in_image, segment_in, text_holds_commands, table_fits}
 use Rattle.macho_model.specs.Loader.{text_commands, fixup_commands, NeighbourFails, EachNeighbour, TextIsNotOne, SecondTable, IsAccepted, ImageBreaks}
-use Rattle.macho_model_walks.specs.steps.Walks.{listed}
-use Rattle.macho_model_walks.specs.steps.Asked.{test_of}
+use Rattle.macho_model_walks.specs.Readings.{listed, test_of}
 use Rattle.macho_model.proofs.EachBelow.{true_or_false}
 use Rattle.macho_model_walks.proofs.ListedLaws.{all_listed, texts_listed, texts_are}
 

@@ -13,7 +13,7 @@ use Rattle.macho_model.specs.Segments.{PAGEZERO, TEXT}
 use Rattle.macho_model.specs.Images.{is_named, segments_of, mapped_segments, segments_named, base_of, first_address, libraries_of, table_of_command, tables_of}
 use Rattle.macho_model.specs.LoadRules.{segment_in, segment_address}
 use Rattle.macho_model.specs.Loader.{segment_commands, text_commands, fixup_commands}
-use Rattle.macho_model_walks.specs.steps.Walks.{command_at, listed, IsNth}
+use Rattle.macho_model_walks.specs.Readings.{command_at, listed, IsNth}
 
 -- two filters are one
 two_filters : {X : Type 0} (p q : X → Bool) (xs : List X) → filter (λ x. p x && q x) xs ≡ filter q (filter p xs)

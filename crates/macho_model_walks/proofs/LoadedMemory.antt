@@ -16,7 +16,8 @@ use Rattle.macho_model.specs.Images.{mapped_segments, table_of_command, tables_o
 use Rattle.macho_model.specs.Chain.{WORD_SIZE}
 use Rattle.macho_model.specs.Loader.{is_bind, ordinal_of}
 use Rattle.macho_model.specs.Memory.{Choice, IsBound, Becomes, Covers, IsFixed, IsSegmentByte, Holds}
-use Rattle.macho_model_walks.specs.steps.Walks.{command_at, listed, IsNth, HasWord, SegmentHas, NthLacksByte, table_there}
+use Rattle.macho_model_walks.specs.Readings.{command_at, listed, IsNth, HasWord, table_there}
+use Rattle.macho_model_walks.specs.steps.Walks.{SegmentHas, NthLacksByte}
 use Rattle.macho_model_walks.specs.steps.Made.{CoversLast, IsUncovered, IsMade, IsWordByte, BoundIn, BoundByNth, MakesNothing, NthMakesNothing}
 use Rattle.macho_model_walks.specs.Loaded.{Gives}
 use Rattle.macho_model.proofs.EachBelow.{true_or_false}

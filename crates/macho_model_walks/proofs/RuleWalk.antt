@@ -15,8 +15,9 @@ use Rattle.macho_model.specs.Commands.{Command, header_of}
 use Rattle.macho_model.specs.Grammar.{EachCommand}
 use Rattle.macho_model.specs.LoadRules.{begins_behind, import_fits}
 use Rattle.macho_model.specs.Loader.{segment_commands, text_commands, fixup_commands, EachNeighbour, NeighbourFails, TextIsNotOne, SecondTable, ImportFails, import_count}
-use Rattle.macho_model_walks.specs.steps.Walks.{command_at, listed, IsNth, table_there, chain_segment_at}
-use Rattle.macho_model_walks.specs.steps.Asked.{list_of, test_of, NumberPasses, NeighbourPasses, BadImport, ImportsFit, TableImportsFit, EachImportFits}
+use Rattle.macho_model_walks.specs.Readings.{command_at, listed, IsNth, table_there, list_of, test_of}
+use Rattle.macho_model_walks.specs.steps.Walks.{chain_segment_at}
+use Rattle.macho_model_walks.specs.steps.Asked.{NumberPasses, NeighbourPasses, BadImport, ImportsFit, TableImportsFit, EachImportFits}
 use Rattle.macho_model_walks.specs.steps.WordTests.{import_exists, NthImportExists}
 use Rattle.macho_model.specs.Images.{table_of_command, tables_of, fixups_header}
 use Rattle.macho_model.specs.Chain.{chain_segments}

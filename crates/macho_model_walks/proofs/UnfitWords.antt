@@ -13,7 +13,8 @@ use Rattle.macho_model.specs.LoadRules.{segment_in, file_part_inside}
 use Rattle.macho_records.specs.declared.header.SegmentCommand.{SegmentCommand}
 use Rattle.macho_model.specs.Chain.{next_of, STRIDE}
 use Rattle.macho_model.specs.Loader.{segment_commands, OnPageOf, WordFits, WordFails}
-use Rattle.macho_model_walks.specs.steps.Walks.{command_at, listed, IsNth, StepIn, Leads, segment_there, starts_of, chain_segment_at}
+use Rattle.macho_model_walks.specs.Readings.{command_at, listed, IsNth, segment_there}
+use Rattle.macho_model_walks.specs.steps.Walks.{StepIn, Leads, starts_of, chain_segment_at}
 use Rattle.macho_model_walks.specs.steps.Walks as walks
 use Rattle.macho_model_walks.specs.steps.WordTests.{word_fits_test, address_in, UnfitFrom, FitFrom, UnfitOnPage, FitOnPage, FitOnNth, EachWordFits}
 use Rattle.macho_model.proofs.EachBelow.{true_or_false, and_left}

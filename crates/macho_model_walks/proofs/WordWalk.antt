@@ -20,7 +20,8 @@ use Rattle.macho_model.specs.Images.{segments_of, Table, table_of_command, start
 use Rattle.macho_model.specs.LoadRules.{segment_in}
 use Rattle.macho_model.specs.Chain.{ChainSegment, chain_segment, chain_segments, starts_in_tables, IsFileWord, next_of, WORD_SIZE, STRIDE, OnChain, OnPageChain}
 use Rattle.macho_model.specs.Chain as chain
-use Rattle.macho_model_walks.specs.steps.Walks.{command_at, is_listed, listed, IsNth, HasWord, StepOf, StepIn, Leads, segment_there, table_there, starts_in, starts_of, chain_segment_at}
+use Rattle.macho_model_walks.specs.Readings.{command_at, is_listed, listed, IsNth, HasWord, segment_there, table_there, starts_in}
+use Rattle.macho_model_walks.specs.steps.Walks.{StepOf, StepIn, Leads, starts_of, chain_segment_at}
 use Rattle.macho_model_walks.specs.steps.Walks as walks
 use Rattle.macho_model.proofs.PageChains.{page_on_chain}
 use Rattle.macho_model_walks.proofs.SegmentWalk.{at_its_place, length-commands}

@@ -3,7 +3,7 @@ ghost use Rattle.std.specs.Prelude.{◌≡◌, false, ℕ, Some, None};
 ghost use Rattle.macho_model.specs.Images.{entry_addend};
 ghost use Rattle.macho_model.specs.Loader.{is_bind};
 ghost use Rattle.macho_model.specs.Memory.{Choice, Becomes, bind_addend};
-ghost use Rattle.macho_model_walks.specs.steps.Walks.{table_there};
+ghost use Rattle.macho_model_walks.specs.Readings.{table_there};
 ghost use Rattle.macho_model_walks.specs.steps.Made.{BindsFor, BindsNothing, BoundIn, BoundByNth, MakesIt, MakesNothing, NthMakesNothing, IsMadeFor, IsNeverMade};
 
 use crate::chain_words::word_of;

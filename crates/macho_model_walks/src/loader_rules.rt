@@ -5,8 +5,8 @@ ghost use Rattle.std.specs.Prelude.{◌≡◌, ◌≤◌, ◌<◌, ℕ, length, 
 ghost use Rattle.macho_model.specs.Grammar.{EachCommand};
 ghost use Rattle.macho_model.specs.LoadRules.{begins_behind};
 ghost use Rattle.macho_model.specs.Loader.{segment_commands, text_commands, fixup_commands, EachNeighbour, TextIsNotOne, SecondTable, ImportFails};
-ghost use Rattle.macho_model_walks.specs.steps.Walks.{command_at, listed, table_there};
-ghost use Rattle.macho_model_walks.specs.steps.Asked.{test_of, list_of, AskedFails, BeginsBefore, NumberPasses, NeighbourPasses, BadImport, ImportsFit, TableImportsFit, EachImportFits};
+ghost use Rattle.macho_model_walks.specs.Readings.{command_at, listed, table_there, test_of, list_of};
+ghost use Rattle.macho_model_walks.specs.steps.Asked.{AskedFails, BeginsBefore, NumberPasses, NeighbourPasses, BadImport, ImportsFit, TableImportsFit, EachImportFits};
 
 use crate::segment_rules::{
     ends_below, file_bytes_are_inside, follows, holds_commands, is_paged, is_whole,

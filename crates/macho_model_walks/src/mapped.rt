@@ -7,7 +7,8 @@ ghost use Rattle.std.specs.Prelude.{◌≡◌, ◌<◌, ℕ, Some, None, slice_i
 ghost use Rattle.macho_bytes.specs.Numbers.{le_bytes};
 ghost use Rattle.macho_model.specs.Chain.{WORD_SIZE};
 ghost use Rattle.macho_model.specs.Memory.{IsSegmentByte};
-ghost use Rattle.macho_model_walks.specs.steps.Walks.{segment_there, SegmentHas, NthLacksByte};
+ghost use Rattle.macho_model_walks.specs.Readings.{segment_there};
+ghost use Rattle.macho_model_walks.specs.steps.Walks.{SegmentHas, NthLacksByte};
 ghost use Rattle.macho_model_walks.specs.steps.Made.{CoversLast, IsUncovered, IsByteFor, HasNoByte};
 ghost use Rattle.macho_model_walks.specs.Loaded.{HoldsFor, HoldsNothing};
 

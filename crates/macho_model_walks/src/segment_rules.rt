@@ -13,7 +13,7 @@ ghost use Rattle.macho_model.specs.Commands.{command_fits, commands_end};
 ghost use Rattle.macho_model.specs.ObjectRules.{commands_inside};
 ghost use Rattle.macho_model.specs.Segments.{loaded_protection_of};
 ghost use Rattle.macho_model.specs.LoadRules.{image_head_fits, needed_in_image, segment_in, protections_fit, file_part_inside, segment_is_paged, segment_ends, begins_behind, text_holds_commands};
-ghost use Rattle.macho_model_walks.specs.steps.Walks.{command_at, SaysSegment};
+ghost use Rattle.macho_model_walks.specs.Readings.{command_at, SaysSegment};
 
 use crate::reads::{u32_from, u64_from};
 use crate::walk::is_segment_named;

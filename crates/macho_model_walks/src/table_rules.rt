@@ -5,7 +5,7 @@ ghost use Rattle.macho_bytes.specs.Numbers.{bits};
 ghost use Rattle.macho_model.specs.ObjectRules.{has_nul};
 ghost use Rattle.macho_model.specs.Images.{starts_place, starts_count, starts_offset, segment_starts_place, segment_starts, page_start, import_entry_size, import_place, table_names, base_of, libraries_of, segments_of};
 ghost use Rattle.macho_model.specs.LoadRules.{segment_address, starts_known, starts_fit, starts_all_fit, header_known, parts_inside, table_fits, import_fits};
-ghost use Rattle.macho_model_walks.specs.steps.Walks.{listed, table_there, SaysTable};
+ghost use Rattle.macho_model_walks.specs.Readings.{listed, table_there, SaysTable};
 
 use crate::reads::{range_from, u16_from, u32_from, u64_from};
 use crate::segment_rules::segment_at;

@@ -6,8 +6,9 @@ ghost use Rattle.macho_model.specs.Images.{tables_of};
 ghost use Rattle.macho_model.specs.Chain.{chain_segments};
 ghost use Rattle.macho_model.specs.Loader.{is_bind, ordinal_of, import_count, segment_commands, WordFails};
 ghost use Rattle.macho_model.specs.Grammar.{EachCommand};
-ghost use Rattle.macho_model_walks.specs.steps.Walks.{command_at, IsNth, segment_there, starts_of, chain_segment_at};
-ghost use Rattle.macho_model_walks.specs.steps.WordTests.{page_holds, import_exists, word_fits_test, NthImportExists, UnfitFrom, FitFrom, UnfitOnPage, FitOnPage, FitOnNth, EachWordFits};
+ghost use Rattle.macho_model_walks.specs.Readings.{command_at, IsNth, segment_there, page_holds};
+ghost use Rattle.macho_model_walks.specs.steps.Walks.{starts_of, chain_segment_at};
+ghost use Rattle.macho_model_walks.specs.steps.WordTests.{import_exists, word_fits_test, NthImportExists, UnfitFrom, FitFrom, UnfitOnPage, FitOnPage, FitOnNth, EachWordFits};
 ghost use Rattle.macho_model_walks.specs.declared.walk.Listed.TheVariants as list;
 
 use crate::chain_words::{CHAIN_PAGE, NO_START, pages_of, start_of, step_in, word_of};

@@ -2,7 +2,7 @@
 use Rattle.std.specs.Prelude.{◌≡◌, ℕ, ◌+◌, ◌*◌, ◌-◌, ◌<◌, ◌≤◌, List, length, filter, drop, take}
 use Rattle.macho_model.specs.Commands.{header_of, commands_of, commands_from}
 use Rattle.macho_model_walks.specs.declared.walk.Listed.{Listed}
-use Rattle.macho_model_walks.specs.steps.Walks.{is_listed, IsNth}
+use Rattle.macho_model_walks.specs.Readings.{is_listed, IsNth}
 use Rattle.macho_loader.specs.declared.cursor.Cursor.{Cursor}
 use Rattle.macho_loader.specs.declared.cursor.Step.{Step}
 

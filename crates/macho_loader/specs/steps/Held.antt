@@ -5,7 +5,8 @@ use Rattle.macho_model.specs.Loader.{ordinal_of}
 use Rattle.macho_model.specs.Memory.{bind_addend}
 use Rattle.macho_model.specs.ReadBack as model
 use Rattle.macho_model_walks.specs.declared.walk.Listed.TheVariants as list
-use Rattle.macho_model_walks.specs.steps.Walks.{IsNth, HasWord, Leads, segment_there}
+use Rattle.macho_model_walks.specs.Readings.{IsNth, HasWord, segment_there}
+use Rattle.macho_model_walks.specs.steps.Walks.{Leads}
 use Rattle.macho_model_walks.specs.steps.WordTests.{address_in}
 use Rattle.macho_loader.specs.declared.fixups.Held.{Held}
 use Rattle.macho_loader.specs.steps.Words.{IsReached}

@@ -15,27 +15,7 @@ use Rattle.macho_model.specs.Segments.{TEXT}
 use Rattle.macho_records.specs.declared.header.SegmentCommand.{SegmentCommand}
 use Rattle.macho_model.specs.Lists.{IsNumber}
 use Rattle.macho_model.specs.Loader.{OnPageOf, WordFits, EachNeighbour, NeighbourFails, segment_commands}
-use Rattle.macho_model_walks.specs.steps.Walks.{command_at, listed, IsNth, table_there}
-
--- the commands that are asked
-abbrev pub list_of : Asked → Listed
-list_of asked.Whole = list.All
-list_of asked.Protections = list.Segments
-list_of asked.FileBytes = list.Segments
-list_of asked.Pages = list.Segments
-list_of asked.End = list.Segments
-list_of asked.Commands = list.Texts
-list_of asked.Table = list.Tables
-
--- the test that each is to pass
-abbrev pub test_of : Asked → List ℕ → Command → Bool
-test_of asked.Whole b c = command_fits (needed_in_image b) b c
-test_of asked.Protections b c = protections_fit b c
-test_of asked.FileBytes b c = file_part_inside b c
-test_of asked.Pages b c = segment_is_paged b c
-test_of asked.End b c = segment_ends b c
-test_of asked.Commands b c = text_holds_commands b (segment_in b c)
-test_of asked.Table b c = table_fits b (table_of_command b c)
+use Rattle.macho_model_walks.specs.Readings.{command_at, listed, IsNth, table_there, list_of, test_of}
 
 -- the command with a number, if there is one, passes
 abbrev pub NumberPasses : List ℕ → Asked → ℕ → Type 0

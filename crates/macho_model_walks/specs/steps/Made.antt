@@ -7,7 +7,7 @@ use Rattle.macho_model.specs.Images.{Table, fixups_header, import_entry}
 use Rattle.macho_model.specs.Chain.{chain_segments, IsFileWord, WORD_SIZE}
 use Rattle.macho_model.specs.Loader.{is_bind, ordinal_of}
 use Rattle.macho_model.specs.LoadRules.{segment_in}
-use Rattle.macho_model_walks.specs.steps.Walks.{command_at, IsNth, HasWord, table_there}
+use Rattle.macho_model_walks.specs.Readings.{command_at, IsNth, HasWord, table_there}
 use Rattle.macho_model.specs.Memory.{Choice, IsBound, Becomes, Covers, bind_addend}
 use Rattle.macho_model_walks.specs.Loaded.{Gives}
 

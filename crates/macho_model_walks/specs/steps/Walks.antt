@@ -10,61 +10,11 @@ use Rattle.macho_model.specs.Segments.{PAGEZERO, TEXT}
 use Rattle.macho_model.specs.Images.{is_named, Table, table_of_command, fixups_header, starts_count, page_starts, tables_of}
 use Rattle.macho_model.specs.LoadRules.{segment_in}
 use Rattle.macho_model.specs.Chain.{ChainSegment, chain_segment, starts_in_tables, chain_segments, IsFileWord, next_of, WORD_SIZE, STRIDE, OnPageChain}
+use Rattle.macho_model_walks.specs.Readings.{command_at, IsNth, HasWord}
 use Rattle.macho_model_walks.specs.declared.segment_rules.SegmentNumbers.{SegmentNumbers}
 use Rattle.macho_model_walks.specs.declared.table_rules.FixupTable.{FixupTable}
 use Rattle.macho_model_walks.specs.declared.walk.Listed.{Listed}
 use Rattle.macho_model_walks.specs.declared.walk.Listed.TheVariants as list
-
--- the command that stands at a place
-abbrev pub command_at : List ℕ → ℕ → Command
-command_at b at = record { at = at; number = (reading load_command b at).cmd; size = (reading load_command b at).cmdsize }
-
--- a command is one of a list
-abbrev pub is_listed : Listed → List ℕ → Command → Bool
-is_listed list.All b c = true
-is_listed list.Segments b c = c.number == LC_SEGMENT_64
-is_listed list.Mapped b c = (c.number == LC_SEGMENT_64) && not (is_named PAGEZERO (segment_in b c))
-is_listed list.Texts b c = (c.number == LC_SEGMENT_64) && is_named TEXT (segment_in b c)
-is_listed list.Tables b c = c.number == LC_DYLD_CHAINED_FIXUPS
-is_listed list.Libraries b c = c.number == LC_LOAD_DYLIB
-
--- the load commands of a list
-unfoldable pub listed : Listed → List ℕ → List Command
-listed which b = filter (is_listed which b) (commands_of b)
-
--- a command of a list, by its number in it, stands at a place
-pub record IsNth (which : Listed) (b : List ℕ) (number place : ℕ) : Type 0 where
-  pub within : number < length (listed which b)
-  pub is : get_or (listed which b) number (command_at b place) ≡ command_at b place
-
--- the numbers that were read of a segment's command
-pub record SaysSegment (r : SegmentNumbers) (s : SegmentCommand) : Type 0 where
-  pub address : r.address ≡ s.vmaddr
-  pub size : r.size ≡ s.vmsize
-  pub file_offset : r.file_offset ≡ s.fileoff
-  pub file_size : r.file_size ≡ s.filesize
-  pub most : r.most ≡ s.maxprot
-  pub first : r.first ≡ s.initprot
-
--- the segment and the fixup table of the command at a place
-abbrev pub segment_there : List ℕ → ℕ → SegmentCommand
-segment_there b place = segment_in b (command_at b place)
-
-abbrev pub table_there : List ℕ → ℕ → Table
-table_there b place = table_of_command b (command_at b place)
-
--- the numbers that were read of a table
-pub record SaysTable (b : List ℕ) (t : Table) (r : FixupTable) : Type 0 where
-  pub at : r.at ≡ t.at
-  pub size : r.size ≡ t.size
-  pub version : r.version ≡ (fixups_header b t).fixups_version
-  pub starts : r.starts ≡ (fixups_header b t).starts_offset
-  pub imports : r.imports ≡ (fixups_header b t).imports_offset
-  pub symbols : r.symbols ≡ (fixups_header b t).symbols_offset
-  pub imports_count : r.imports_count ≡ (fixups_header b t).imports_count
-  pub imports_format : r.imports_format ≡ (fixups_header b t).imports_format
-  pub symbols_format : r.symbols_format ≡ (fixups_header b t).symbols_format
-  pub small : r.at < 2 ^ 32 × r.size < 2 ^ 32
 
 -- a segment has a byte at an address: one of the file, or zero behind its file bytes
 pub record SegmentHas (b : List ℕ) (s : SegmentCommand) (a v : ℕ) : Type 0 where
@@ -76,12 +26,6 @@ pub record SegmentHas (b : List ℕ) (s : SegmentCommand) (a v : ℕ) : Type 0 w
 abbrev pub NthLacksByte : List ℕ → ℕ → ℕ → Type 0
 NthLacksByte b number a =
     (place : ℕ) → IsNth list.Mapped b number place → (v : ℕ) → SegmentHas b (segment_in b (command_at b place)) a v → ⊥
-
--- a segment has a word at an address, whole in its file part
-pub record HasWord (b : List ℕ) (s : SegmentCommand) (a word : ℕ) : Type 0 where
-  pub from : s.vmaddr ≤ a
-  pub to : a + WORD_SIZE ≤ s.vmaddr + s.filesize
-  pub is : word ≡ le_at WORD_SIZE b (s.fileoff + (a - s.vmaddr))
 
 -- the segment of a command has a word at an address that leads on by so many bytes
 pub record StepOf (b : List ℕ) (place a n : ℕ) : Type 0 where
@@ -100,10 +44,6 @@ pub record StepIn (b : List ℕ) (number a n : ℕ) : Type 0 where
 pub data Leads (b : List ℕ) : ℕ → ℕ → Type 0 where
   here : (a : ℕ) → Leads b a a
   on : (a word c : ℕ) → IsFileWord (chain_segments b) b a word → 1 ≤ next_of word → Leads b (a + STRIDE * next_of word) c → Leads b a c
-
--- the page starts of a segment in a table, and in the first table of the file
-abbrev pub starts_in : List ℕ → Table → ℕ → List ℕ
-starts_in b t k = if nat_lt k (starts_count b t) then page_starts b t k else []
 
 abbrev pub starts_of : List ℕ → ℕ → List ℕ
 starts_of b k = starts_in_tables b (tables_of b) k

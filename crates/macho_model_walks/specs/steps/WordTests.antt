@@ -8,7 +8,8 @@ use Rattle.macho_model.specs.Lists.{IsNumber}
 use Rattle.macho_model.specs.Images.{segments_of, tables_of, CHAIN_PAGE}
 use Rattle.macho_model.specs.Chain.{ChainSegment, chain_segments, WORD_SIZE, OnPageChain}
 use Rattle.macho_model_walks.specs.declared.walk.Listed.TheVariants as list
-use Rattle.macho_model_walks.specs.steps.Walks.{IsNth, Leads, segment_there, chain_segment_at}
+use Rattle.macho_model_walks.specs.Readings.{IsNth, segment_there, page_holds}
+use Rattle.macho_model_walks.specs.steps.Walks.{Leads, chain_segment_at}
 use Rattle.macho_model.specs.Loader.{is_bind, ordinal_of, is_writable, import_count, OnPageOf, WordFits}
 
 -- the word at an address in a segment, and whether it stands whole in its file part
@@ -17,12 +18,6 @@ word_in b s a = le_at WORD_SIZE b (s.file_offset + (a - s.address))
 
 abbrev pub stands_in : ChainSegment → ℕ → Bool
 stands_in s a = nat_le s.address a && nat_le (a + WORD_SIZE) (s.address + s.file_size)
-
--- a segment's page holds a word: the segment may be written to, and the word stands in the page and in the file part
-abbrev pub page_holds : SegmentCommand → ℕ → ℕ → Bool
-page_holds s page a =
-    is_writable s && nat_le (s.vmaddr + CHAIN_PAGE * page) a && nat_le (a + WORD_SIZE) (s.vmaddr + CHAIN_PAGE * (page + 1))
-    && nat_le (a + WORD_SIZE) (s.vmaddr + s.filesize)
 
 -- the import of a word exists, where a segment has a word there and it binds one
 abbrev pub import_exists : List ℕ → ℕ → ChainSegment → Bool

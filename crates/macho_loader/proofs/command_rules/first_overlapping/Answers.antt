@@ -2,7 +2,7 @@
 use Rattle.std.proofs.Common.{◌≡◌, ◌+◌, ◌-◌, ◌≤◌, refl, sym, ap, subst, ◌∙◌, arith}
 use Rattle.std.specs.Prelude.{unwrap_or}
 use Rattle.macho_model_walks.specs.declared.walk.Listed.TheVariants as list
-use Rattle.macho_model_walks.specs.steps.Walks.{IsNth}
+use Rattle.macho_model_walks.specs.Readings.{IsNth}
 use Rattle.macho_model_walks.specs.steps.Asked.{BeginsBefore}
 use Rattle.macho_model_walks.proofs.RuleWalk.{neighbour_fails, neighbours_by_number}
 use Rattle.macho_loader.proofs.ListWalks.{order_more}

@@ -2,7 +2,7 @@
 use Rattle.std.proofs.Common.{ℕ, ◌+◌, ◌-◌, ◌<◌, ◌≤◌}
 use Rattle.macho_model.specs.Commands.{header_of}
 use Rattle.macho_model_walks.specs.declared.walk.Listed.TheVariants as list
-use Rattle.macho_model_walks.specs.steps.Walks.{IsNth}
+use Rattle.macho_model_walks.specs.Readings.{IsNth}
 use Rattle.macho_model_walks.specs.steps.Asked.{NeighbourPasses}
 use Rattle.macho_loader.specs.steps.Cursors.{IsAt}
 use Rattle.macho_loader.proofs.command_rules.first_overlapping.Given as goal

@@ -2,7 +2,7 @@
 use Rattle.std.proofs.Common.{◌+◌, ◌*◌, ◌^◌, ◌%◌, Some, refl, sym, ap, subst, ◌∙◌}
 use Rattle.macho_model.specs.Memory.{rebase_target, rebase_high}
 use Rattle.macho_model.specs.ReadBack.{IsLoadedFixup}
-use Rattle.macho_model_walks.specs.steps.Walks.{table_there}
+use Rattle.macho_model_walks.specs.Readings.{table_there}
 use Rattle.macho_model_walks.proofs.WordWalk.{segment_has_word}
 use Rattle.macho_model_walks.proofs.RuleWalk.{table_contains}
 use Rattle.macho_loader.specs.Fixups.{found_of}

@@ -2,8 +2,8 @@
 use Rattle.std.proofs.Common.{◌≡◌, ◌+◌, ◌<◌, true, refl, sym, subst, ◌∙◌, arith}
 use Rattle.macho_model.specs.Images.{tables_of}
 use Rattle.macho_model.specs.Loader.{is_bind, ordinal_of, import_count}
-use Rattle.macho_model_walks.specs.steps.Walks.{HasWord, segment_there}
-use Rattle.macho_model_walks.specs.steps.WordTests.{page_holds, address_in}
+use Rattle.macho_model_walks.specs.Readings.{HasWord, segment_there, page_holds}
+use Rattle.macho_model_walks.specs.steps.WordTests.{address_in}
 use Rattle.macho_model.proofs.EachBelow.{true_or_false}
 use Rattle.macho_model_walks.proofs.WordWalk.{some_is}
 use Rattle.macho_model_walks.proofs.RuleWalk.{import_count_found}

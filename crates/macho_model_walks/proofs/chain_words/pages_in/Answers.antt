@@ -1,7 +1,7 @@
 -- The table has as many starts for the segment as its record says.
 use Rattle.std.proofs.Common.{sym, ◌∙◌, arith}
 use Rattle.std.proofs.lemmas.Bool.Decides.{nat_tests}
-use Rattle.macho_model_walks.specs.steps.Walks.{table_there}
+use Rattle.macho_model_walks.specs.Readings.{table_there}
 use Rattle.macho_model_walks.proofs.WordWalk.{length_starts}
 use Rattle.macho_model_walks.proofs.chain_words.pages_in.Goals as goal
 

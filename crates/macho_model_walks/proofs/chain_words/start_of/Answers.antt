@@ -1,6 +1,6 @@
 -- The starts are those of the first table; without one there are none.
 use Rattle.std.proofs.Common.{◌<◌, ℕ, List, length, slice_index, refl, sym, ap, subst, ◌∙◌, arith}
-use Rattle.macho_model_walks.specs.steps.Walks.{table_there}
+use Rattle.macho_model_walks.specs.Readings.{table_there}
 use Rattle.macho_model_walks.proofs.WordWalk.{starts_found, starts_missing, start_is}
 use Rattle.macho_model_walks.proofs.chain_words.start_of.Goals as goal
 

@@ -1,7 +1,7 @@
 -- The table with the number is the one whose command was found.
 use Rattle.std.proofs.Common.{refl, subst}
 use Rattle.macho_model_walks.specs.declared.walk.Listed.TheVariants as list
-use Rattle.macho_model_walks.specs.steps.Walks.{table_there}
+use Rattle.macho_model_walks.specs.Readings.{table_there}
 use Rattle.macho_model_walks.specs.steps.Made.{BoundIn}
 use Rattle.macho_model_walks.proofs.WordWalk.{nth_one}
 use Rattle.macho_model_walks.proofs.fixed.bound_by_nth.Goals as goal

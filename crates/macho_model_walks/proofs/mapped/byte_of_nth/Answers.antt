@@ -2,7 +2,8 @@
 use Rattle.std.proofs.Common.{refl, subst}
 use Rattle.macho_model_walks.specs.declared.walk.Listed.TheVariants as list
 use Rattle.macho_model.specs.LoadRules.{segment_in}
-use Rattle.macho_model_walks.specs.steps.Walks.{command_at, SegmentHas}
+use Rattle.macho_model_walks.specs.Readings.{command_at}
+use Rattle.macho_model_walks.specs.steps.Walks.{SegmentHas}
 use Rattle.macho_model_walks.proofs.WordWalk.{nth_one}
 use Rattle.macho_model_walks.proofs.LoadedMemory.{byte_found}
 use Rattle.macho_model_walks.proofs.mapped.byte_of_nth.Goals as goal

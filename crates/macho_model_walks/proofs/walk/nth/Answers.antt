@@ -1,7 +1,7 @@
 -- The walk stands at a command; what has passed of the list is counted.
 use Rattle.std.proofs.Common.{◌+◌, arith, sym, ap, subst, ◌∙◌}
 use Rattle.std.specs.Prelude.{unwrap_or}
-use Rattle.macho_model_walks.specs.steps.Walks.{IsNth}
+use Rattle.macho_model_walks.specs.Readings.{IsNth}
 use Rattle.macho_model_walks.proofs.NthWalk.{Passed, none_passed, listed_passed, other_passed, nth_here, all_passed}
 use Rattle.macho_model_walks.proofs.walk.nth.Goals as goal
 use Rattle.macho_model_walks.proofs.walk.nth.Goals.{then-is_listed+else-left-eq0, else-is_listed}
