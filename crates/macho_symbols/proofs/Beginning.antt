@@ -1,11 +1,9 @@
 -- An empty table knows of no event: no bucket leads anywhere, and no name is among its none.
-use Rattle.std.proofs.Common.{◌≡◌, ℕ, ◌+◌, ◌<◌, ◌≤◌, List, [], length, get_or, replicate, Some, None, All, refl, arith, sym, ◌∙◌}
+use Rattle.std.proofs.Common.{◌≡◌, ℕ, ◌<◌, ◌≤◌, [], length, get_or, replicate, Some, refl, arith}
 use Rattle.std.proofs.lemmas.List.{get_or-replicate, length-replicate}
 use Rattle.std.proofs.lemmas.List.Elements.{All-nil}
-use Rattle.macho_symbols.specs.declared.table.Entry.{Entry}
-use Rattle.macho_symbols.specs.Kept.{FileRows}
 use Rattle.macho_symbols.specs.steps.Events.{event_at, best_of}
-use Rattle.macho_symbols.specs.steps.Tables.{IsEmptyTable, IsKnown, IsThere, entry_name}
+use Rattle.macho_symbols.specs.steps.Tables.{IsEmptyTable, IsThere, entry_name}
 
 pub empty_knows : (n : ℕ) → 1 ≤ n → IsEmptyTable (replicate n 0) []
 unfolding best_of

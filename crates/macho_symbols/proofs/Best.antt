@@ -1,6 +1,6 @@
 -- The best event of a name. With any event to begin from: the best is beaten by none, and is the first of those that are
 -- as good as it. By recursion on the events, where what the events so far gave is what the rest begins from.
-use Rattle.std.proofs.Common.{◌≡◌, ℕ, ◌<◌, ◌⊎◌, inl, inr, Bool, true, false, ◌&&◌, Option, Some, None, IfSome, List, [], ◌∷◌, ◌++◌, length, filter, get_or, All, refl, ap, subst, sym, ◌∙◌, arith}
+use Rattle.std.proofs.Common.{◌≡◌, ℕ, ◌⊎◌, inl, inr, Bool, true, false, ◌&&◌, Option, Some, None, IfSome, List, [], ◌∷◌, ◌++◌, filter, All, refl, ap, subst, sym, ◌∙◌}
 use Rattle.std.specs.List.{fold}
 use Rattle.std.proofs.lemmas.List.Sums.{fold_push}
 use Rattle.std.proofs.lemmas.List.Elements.{All-nil, All-cons}
@@ -40,6 +40,7 @@ unbeaten name acc (x ∷ xs) b e = of (is_of name x) refl acc (unbeaten name (wi
     more : (acc : Option Event) → NotBeaten b acc → (is_of name x ≡ true → beats x.row b.row ≡ false)
         → All (λ y. is_of name y ≡ true → beats y.row b.row ≡ false) xs → Unbeaten name acc (x ∷ xs) b
     more acc first own rest = record { first = first; rest = All-cons (λ y. is_of name y ≡ true → beats y.row b.row ≡ false) x xs own rest }
+
     against : (a : Event) (t : Bool) → beats x.row a.row ≡ t → NotBeaten b (better (Some a) x) → (beats a.row b.row ≡ false) × (beats x.row b.row ≡ false)
     against a true passes h =
         let own : beats x.row b.row ≡ false = rw (better_yes a x passes) at h in (chain a (beats a.row b.row) refl passes own, own)
@@ -49,6 +50,7 @@ unbeaten name acc (x ∷ xs) b e = of (is_of name x) refl acc (unbeaten name (wi
         chain a false p passes own = p
     against a false fails h =
         let old : beats a.row b.row ≡ false = rw (better_none a x fails) at h in (old, not_beats_not_beats x.row a.row b.row fails old)
+
     of : (t : Bool) → is_of name x ≡ t → (acc : Option Event) → Unbeaten name (with_event name acc x) xs b → Unbeaten name acc (x ∷ xs) b
     of false other acc u = more acc (rw (with_other name acc x other) at u.first) (λ own. absurd (false≢true (sym other ∙ own))) u.rest
     of true own None u = let h : beats x.row b.row ≡ false = rw (with_own name None x own) at u.first in more None tt (λ _. h) u.rest
@@ -79,6 +81,7 @@ begins name acc (x ∷ xs) b e = of (is_of name x) refl acc (begins name (with_e
     taken acc own is over =
         let level : is_level name b x ≡ true = rw (← is, own, ties_itself x.row) refl in
         record { more = filter (is_level name b) xs; are = rw level (ap (λ y. y ∷ filter (is_level name b) xs) is); over = subst (λ y. IfSome acc (λ a. beats y.row a.row ≡ true)) is over }
+
     against : (a : Event) (t : Bool) → beats x.row a.row ≡ t → is_of name x ≡ true → (better (Some a) x ≡ Some b) ⊎ Beginning name (better (Some a) x) xs b
         → (Some a ≡ Some b) ⊎ Beginning name (Some a) (x ∷ xs) b
     against a true passes own (inl is) = let same : x ≡ b = cc (is, better_yes a x passes) in inr (taken (Some a) own same passes)
@@ -93,6 +96,7 @@ begins name acc (x ∷ xs) b e = of (is_of name x) refl acc (begins name (with_e
         let over : beats b.row a.row ≡ true = rw (better_none a x fails) at r.over in
         let apart : is_level name b x ≡ false = rw (ties_beats b.row x.row a.row over fails) refl in
         inr (record { more = r.more; are = skipped name b x xs r.more apart r.are; over = over })
+
     of : (t : Bool) → is_of name x ≡ t → (acc : Option Event) → (with_event name acc x ≡ Some b) ⊎ Beginning name (with_event name acc x) xs b → (acc ≡ Some b) ⊎ Beginning name acc (x ∷ xs) b
     of false other acc (inl is) = inl (sym (with_other name acc x other) ∙ is)
     of false other acc (inr r) =

@@ -1,14 +1,14 @@
 -- The rows that are kept of a link's inputs, and the link's own symbols. The events are the symbols of the objects, each
 -- with its row, and the names that libraries offer. So what a filter leaves of the symbols, by a test of their rows that
 -- no offered name passes, are the events that the same test leaves.
-use Rattle.std.proofs.Common.{◌≡◌, ℕ, ◌+◌, ◌<◌, ◌≤◌, Bool, true, false, ◌&&◌, Option, Some, None, List, [], ◌∷◌, ◌++◌, length, map, filter, get_or, refl, ap, subst, sym, ◌∙◌, arith}
-use Rattle.std.specs.List.{flat_map, range_with_len, enumerate_from}
+use Rattle.std.proofs.Common.{◌≡◌, ℕ, ◌<◌, Bool, false, List, [], ◌++◌, length, map, filter, get_or, refl, ap, sym, ◌∙◌, arith}
+use Rattle.std.specs.List.{flat_map, range_with_len}
 use Rattle.std.proofs.lemmas.List.{get_or-map, length-map}
-use Rattle.std.proofs.lemmas.List.FromFn.{length-map-range_with_len, get_or-map-range_with_len, length-range_with_len}
-use Rattle.macho_model.specs.Links.{Input, Object, Dylib, Stub, StubReading, Link, no_input, object_of, object_bytes}
+use Rattle.std.proofs.lemmas.List.FromFn.{length-map-range_with_len, get_or-map-range_with_len}
+use Rattle.macho_model.specs.Links.{Input, Object, Dylib, Stub, StubReading, Link, no_input, object_bytes}
 use Rattle.macho_model.specs.Objects.{num_symbols, symbol_name}
 use Rattle.macho_model.specs.Resolution.{SymbolId, symbols_of, symbols_of_file}
-use Rattle.macho_symbols.specs.Kept.{Row, FileRows, no_file, no_row, kept_of, row_of_symbol, rows_of_object, rows_of_dylib, rows_of_stub, offered_row, is_offered}
+use Rattle.macho_symbols.specs.Kept.{Row, no_file, no_row, kept_of, row_of_symbol, rows_of_object, rows_of_dylib, rows_of_stub, offered_row, is_offered}
 use Rattle.macho_symbols.specs.steps.Events.{Event, row_at, row_count, event_at, events_of_file, events_of, events}
 use Rattle.macho_symbols.specs.steps.Targets.{row_of, event_of}
 use Rattle.macho_symbols.proofs.ListsMore.{enumerated, flat_map-map, filter-flat_map, map-flat_map, flat_map_same, filter_made, filter_nothing}
@@ -65,15 +65,15 @@ unfolding events_of_file
 passing_file l test none i within (Object b) is =
     rw (count_kept l i b within is)
     (sym (filter_made (λ e. test e.row) (λ s. test (row_of l s)) (event_at (map kept_of l.inputs) i) (λ k. record { file = i; symbol = k }) (event_of l) 0 (num_symbols b)
-        (λ k low high.
-            let same = row_kept l i k b within is (omega (arith, high)) in
-            (ap (λ r. record { file = i; at = k; row = r }) (sym same), ap test same))))
+    (λ k low high.
+    let same = row_kept l i k b within is (omega (arith, high)) in
+    (ap (λ r. record { file = i; at = k; row = r }) (sym same), ap test same))))
 passing_file l test none i within (Dylib b) is =
     sym (filter_nothing (λ e. test e.row) (event_at (map kept_of l.inputs) i) 0 (row_count (map kept_of l.inputs) i)
-        (λ k low high. let row = dylib_row l i k b within is (omega (arith, high)) in ap test row.1 ∙ none row.0))
+    (λ k low high. let row = dylib_row l i k b within is (omega (arith, high)) in ap test row.1 ∙ none row.0))
 passing_file l test none i within (Stub text says) is =
     sym (filter_nothing (λ e. test e.row) (event_at (map kept_of l.inputs) i) 0 (row_count (map kept_of l.inputs) i)
-        (λ k low high. let row = stub_row l i k text says within is (omega (arith, high)) in ap test row.1 ∙ none row.0))
+    (λ k low high. let row = stub_row l i k text says within is (omega (arith, high)) in ap test row.1 ∙ none row.0))
 
 -- The symbols that pass a test of rows are the events that pass it.
 pub passing : (l : Link) (test : Row → Bool) → PassesNone test

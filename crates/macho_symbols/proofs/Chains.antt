@@ -1,13 +1,12 @@
 -- Chains of entries. A name is looked for from the newest entry of its bucket on. What is ahead: every entry of the name
 -- is older than the place that is looked at, since the chain leaves out no entry of the bucket. A new entry becomes the
 -- newest of its bucket, and leads to the one that was it: so every older entry is still ahead of it.
-use Rattle.std.proofs.Common.{◌≡◌, ℕ, ◌+◌, ◌-◌, ◌<◌, ◌≤◌, ◌⊎◌, inl, inr, Bool, true, false, List, [], ◌∷◌, ◌++◌, length, map, get_or, set, All, refl, ap, sym, ◌∙◌, subst, arith, length-append, length-set}
+use Rattle.std.proofs.Common.{◌≡◌, ℕ, ◌-◌, ◌<◌, ◌≤◌, ◌⊎◌, inl, inr, List, [], length, get_or, ap, sym, ◌∙◌, subst, arith}
 use Rattle.std.proofs.lemmas.List.{get_or-map, length-map}
 use Rattle.std.proofs.lemmas.Bool.{cases_lt}
 use Rattle.macho_symbols.specs.declared.table.Entry.{Entry}
-use Rattle.macho_symbols.specs.Kept.{FileRows, no_file}
-use Rattle.macho_symbols.specs.steps.Events.{row_at, row_count}
-use Rattle.macho_symbols.specs.steps.Tables.{IsTable, IsThere, IsNowhere, IsEntryOf, AreChained, IsAhead, bucket_of, entry_name, names_of, nexts_of}
+use Rattle.macho_symbols.specs.Kept.{FileRows}
+use Rattle.macho_symbols.specs.steps.Tables.{IsTable, IsAhead, bucket_of, entry_name, names_of, nexts_of}
 
 -- the name and the next of an entry, by its number
 pub name_of_entry : (files : List FileRows) (entries : List Entry) (i : ℕ) (d : Entry) → i < length entries → get_or (names_of files entries) i [] ≡ entry_name files (get_or entries i d)
@@ -22,9 +21,9 @@ pub ahead_first : (files : List FileRows) (heads : List ℕ) (entries : List Ent
 ahead_first files heads entries name at table within is = record {
   within = omega (arith, table.chained.newest (bucket_of heads name) within, length-map entries (entry_name files));
   ahead = λ k h named.
-    let reached : k < get_or heads (bucket_of heads (get_or (names_of files entries) k [])) 0 = table.chained.reached k (omega (arith, length-map entries (entry_name files))) in
-    let here : k < get_or heads (bucket_of heads name) 0 = subst (λ (n : List ℕ). k < get_or heads (bucket_of heads n) 0) named reached in
-    omega arith;
+      let reached : k < get_or heads (bucket_of heads (get_or (names_of files entries) k [])) 0 = table.chained.reached k (omega (arith, length-map entries (entry_name files))) in
+      let here : k < get_or heads (bucket_of heads name) 0 = subst (λ (n : List ℕ). k < get_or heads (bucket_of heads n) 0) named reached in
+      omega arith;
   same = λ m e. table.chained.begins (bucket_of heads name) m within (sym is ∙ e);
 }
 
@@ -43,9 +42,9 @@ ahead_next files heads entries name at e d table here some is other =
     record {
       within = omega (arith, table.chained.older (at - 1) (omega (arith, long)), next);
       ahead = λ k h is_name.
-        let before : k < at - 1 = not_here k h is_name (cases_eq k (at - 1) (omega (arith, here.ahead k h is_name))) named in
-        let bucket = ap (bucket_of heads) is_name ∙ sym same in
-        subst (λ n. k < n) next (table.chained.onward (at - 1) k before (omega (arith, long)) bucket);
+          let before : k < at - 1 = not_here k h is_name (cases_eq k (at - 1) (omega (arith, here.ahead k h is_name))) named in
+          let bucket = ap (bucket_of heads) is_name ∙ sym same in
+          subst (λ n. k < n) next (table.chained.onward (at - 1) k before (omega (arith, long)) bucket);
       same = λ m is_next. table.chained.stays (at - 1) m (omega (arith, long)) (next ∙ is_next) ∙ same;
     }
   where

@@ -1,6 +1,6 @@
 -- A chain with one entry more: the new entry is the newest of its bucket, and the one that was it comes next.
-use Rattle.std.proofs.Common.{◌≡◌, ℕ, ◌+◌, ◌-◌, ◌%◌, ◌<◌, ◌≤◌, ◌≢◌, ◌⊎◌, inl, inr, List, [], ◌∷◌, ◌++◌, length, map, get_or, set, All, refl, ap, sym, ◌∙◌, subst, arith, length-append, length-set}
-use Rattle.std.proofs.lemmas.List.{get_or-map, length-map, map-append, get_or_append_left, get_or-set_same, get_or-set_other}
+use Rattle.std.proofs.Common.{◌≡◌, ℕ, ◌+◌, ◌%◌, ◌<◌, ◌≤◌, ◌≢◌, ◌⊎◌, inl, inr, List, [], ◌∷◌, ◌++◌, length, get_or, set, ap, sym, ◌∙◌, arith, length-append, length-set}
+use Rattle.std.proofs.lemmas.List.{length-map, map-append, get_or_append_left, get_or-set_same, get_or-set_other}
 use Rattle.std.proofs.lemmas.List.Elements.{All-push}
 use Rattle.std.proofs.Math.Seq.{get_or-append_seam}
 use Rattle.std.proofs.lemmas.Bool.{cases_lt}
@@ -24,17 +24,17 @@ bucket_kept heads b v name = ap (λ n. hash_of name % n) (length-set heads b v)
 -- the head of a bucket, once a name is added
 heads_cases : (heads : List ℕ) (b v c : ℕ) → b < length heads → ((c ≡ b) × (get_or (set heads b v) c 0 ≡ v)) ⊎ ((c ≢ b) × (get_or (set heads b v) c 0 ≡ get_or heads c 0))
 heads_cases heads b v c within = elim (same_or_not c b) [
-      inl same ↦ inl (same, ap (λ j. get_or (set heads b v) j 0) same ∙ get_or-set_same heads b v 0 within)
-    | inr other ↦ inr (other, get_or-set_other heads b c v 0 other)
-    ]
+  | inl same ↦ inl (same, ap (λ j. get_or (set heads b v) j 0) same ∙ get_or-set_same heads b v 0 within)
+  | inr other ↦ inr (other, get_or-set_other heads b c v 0 other)
+]
 
 -- a name of the longer list: the new one, or one that was there
 names_cases : (names : List (List ℕ)) (name : List ℕ) (k : ℕ) → k < length (names ++ name ∷ [])
     → ((k < length names) × (get_or (names ++ name ∷ []) k [] ≡ get_or names k [])) ⊎ ((k ≡ length names) × (get_or (names ++ name ∷ []) k [] ≡ name))
 names_cases names name k within = elim (below_more k (length names) (omega (arith, within, length-append names (name ∷ [])))) [
-      inl before ↦ inl (before, get_or_append_left names (name ∷ []) [] k before)
-    | inr last ↦ inr (last, last_of names name [] k last)
-    ]
+  | inl before ↦ inl (before, get_or_append_left names (name ∷ []) [] k before)
+  | inr last ↦ inr (last, last_of names name [] k last)
+]
 
 -- the longer chain
 pub chained_more : (heads nexts : List ℕ) (names : List (List ℕ)) (b : ℕ) (name : List ℕ) → AreChained heads nexts names → b ≡ bucket_of heads name → b < length heads
@@ -52,10 +52,12 @@ chained_more heads nexts names b name ch is inside = record {
   where
     longer : length (names ++ name ∷ []) ≡ length names + 1
     longer = length-append names (name ∷ [])
+
     newest : (c : ℕ) → c < length (set heads b (length names + 1)) → ((c ≡ b) × (get_or (set heads b (length names + 1)) c 0 ≡ length names + 1)) ⊎ ((c ≢ b) × (get_or (set heads b (length names + 1)) c 0 ≡ get_or heads c 0))
         → get_or (set heads b (length names + 1)) c 0 ≤ length (names ++ name ∷ [])
     newest c h (inl p) = omega (arith, p.1, longer)
     newest c h (inr p) = omega (arith, p.1, longer, ch.newest c (omega (arith, h, length-set heads b (length names + 1))))
+
     begins : (c m : ℕ) → c < length (set heads b (length names + 1)) → get_or (set heads b (length names + 1)) c 0 ≡ m + 1
         → ((c ≡ b) × (get_or (set heads b (length names + 1)) c 0 ≡ length names + 1)) ⊎ ((c ≢ b) × (get_or (set heads b (length names + 1)) c 0 ≡ get_or heads c 0))
         → bucket_of (set heads b (length names + 1)) (get_or (names ++ name ∷ []) m []) ≡ c
@@ -65,21 +67,24 @@ chained_more heads nexts names b name ch is inside = record {
         let old = ch.newest c (omega (arith, h, length-set heads b (length names + 1))) in
         bucket_kept heads b (length names + 1) _ ∙ ap (bucket_of heads) (get_or_append_left names (name ∷ []) [] m (omega (arith, p.1, e, old)))
         ∙ ch.begins c m (omega (arith, h, length-set heads b (length names + 1))) (sym p.1 ∙ e)
+
     reached : (k : ℕ) → ((k < length names) × (get_or (names ++ name ∷ []) k [] ≡ get_or names k [])) ⊎ ((k ≡ length names) × (get_or (names ++ name ∷ []) k [] ≡ name))
         → k < get_or (set heads b (length names + 1)) (bucket_of (set heads b (length names + 1)) (get_or (names ++ name ∷ []) k [])) 0
     reached k (inl p) =
         let home = bucket_kept heads b (length names + 1) _ ∙ ap (bucket_of heads) p.1 in
         rw home (elim (heads_cases heads b (length names + 1) (bucket_of heads (get_or names k [])) inside) [
-              inl q ↦ omega (arith, q.1, p.0)
-            | inr q ↦ omega (arith, q.1, ch.reached k p.0)
-            ])
+          | inl q ↦ omega (arith, q.1, p.0)
+          | inr q ↦ omega (arith, q.1, ch.reached k p.0)
+        ])
     reached k (inr p) =
         let home = bucket_kept heads b (length names + 1) _ ∙ ap (bucket_of heads) p.1 ∙ sym is in
         rw home (omega (arith, p.0, get_or-set_same heads b (length names + 1) 0 inside))
+
     older : (j : ℕ) → ((j < length names) × (get_or (names ++ name ∷ []) j [] ≡ get_or names j [])) ⊎ ((j ≡ length names) × (get_or (names ++ name ∷ []) j [] ≡ name))
         → get_or (nexts ++ get_or heads b 0 ∷ []) j 0 ≤ j
     older j (inl p) = omega (arith, get_or_append_left nexts (get_or heads b 0 ∷ []) 0 j (omega (arith, p.0, ch.long)), ch.older j p.0)
     older j (inr p) = omega (arith, last_of nexts (get_or heads b 0) 0 j (p.0 ∙ sym ch.long), ch.newest b inside, p.0)
+
     stays : (j m : ℕ) → get_or (nexts ++ get_or heads b 0 ∷ []) j 0 ≡ m + 1
         → ((j < length names) × (get_or (names ++ name ∷ []) j [] ≡ get_or names j [])) ⊎ ((j ≡ length names) × (get_or (names ++ name ∷ []) j [] ≡ name))
         → bucket_of (set heads b (length names + 1)) (get_or (names ++ name ∷ []) m []) ≡ bucket_of (set heads b (length names + 1)) (get_or (names ++ name ∷ []) j [])
@@ -91,6 +96,7 @@ chained_more heads nexts names b name ch is inside = record {
         let old : get_or heads b 0 ≡ m + 1 = sym (last_of nexts (get_or heads b 0) 0 j (p.0 ∙ sym ch.long)) ∙ e in
         bucket_kept heads b (length names + 1) _ ∙ ap (bucket_of heads) (get_or_append_left names (name ∷ []) [] m (omega (arith, ch.newest b inside, old)))
         ∙ ch.begins b m inside old ∙ is ∙ sym (ap (bucket_of heads) p.1) ∙ sym (bucket_kept heads b (length names + 1) _)
+
     onward : (j k : ℕ) → k < j
         → bucket_of (set heads b (length names + 1)) (get_or (names ++ name ∷ []) k []) ≡ bucket_of (set heads b (length names + 1)) (get_or (names ++ name ∷ []) j [])
         → ((j < length names) × (get_or (names ++ name ∷ []) j [] ≡ get_or names j [])) ⊎ ((j ≡ length names) × (get_or (names ++ name ∷ []) j [] ≡ name))

@@ -1,5 +1,5 @@
 -- Chosen commons, one row and one file more; and when a row is the definition of its name, by its name's entry.
-use Rattle.std.proofs.Common.{◌≡◌, ℕ, ◌+◌, ◌<◌, Bool, true, false, ◌&&◌, ◌==◌, Option, Some, None, List, [], ◌∷◌, ◌++◌, length, map, filter, get_or, refl, ap, subst, sym, ◌∙◌, arith, append-nil, append_assoc, if◌then◌else◌}
+use Rattle.std.proofs.Common.{◌≡◌, ℕ, ◌+◌, Bool, true, false, ◌&&◌, ◌==◌, Some, None, List, [], ◌∷◌, ◌++◌, map, filter, get_or, refl, ap, subst, sym, ◌∙◌, append-nil, append_assoc, if◌then◌else◌}
 use Rattle.std.specs.Str.{bytes_eq}
 use Rattle.std.proofs.lemmas.List.{map-append}
 use Rattle.std.proofs.lemmas.List.Elements.{filter-append}
@@ -22,24 +22,29 @@ pub chosen_more : (files : List FileRows) (file row : ℕ) (old : List Common) (
     → (old ++ map common_told (filter (is_chosen_in files) (events_of_file files file row))) ++ c ∷ [] ≡ old ++ map common_told (filter (is_chosen_in files) (events_of_file files file (row + 1)))
 chosen_more files file row old c chosen is =
     let before = events_of_file files file row in
-    rw (file_rows_more files file row, filter-append (is_chosen_in files) before (event_at files file row ∷ []), filter_one (is_chosen_in files) (event_at files file row) chosen,
-        map-append common_told (filter (is_chosen_in files) before) (event_at files file row ∷ []), append_assoc old (map common_told (filter (is_chosen_in files) before)) (c ∷ []))
+    rw (
+      file_rows_more files file row,
+      filter-append (is_chosen_in files) before (event_at files file row ∷ []),
+      filter_one (is_chosen_in files) (event_at files file row) chosen,
+      map-append common_told (filter (is_chosen_in files) before) (event_at files file row ∷ []),
+      append_assoc old (map common_told (filter (is_chosen_in files) before)) (c ∷ []),
+    )
     (ap (λ x. old ++ (map common_told (filter (is_chosen_in files) before) ++ x ∷ [])) is)
 
 pub not_chosen_more : (files : List FileRows) (file row : ℕ) → is_chosen_in files (event_at files file row) ≡ false
     → filter (is_chosen_in files) (events_of_file files file row) ≡ filter (is_chosen_in files) (events_of_file files file (row + 1))
 not_chosen_more files file row other =
     sym (ap (filter (is_chosen_in files)) (file_rows_more files file row) ∙ filter-append (is_chosen_in files) (events_of_file files file row) (event_at files file row ∷ [])
-        ∙ ap (λ xs. filter (is_chosen_in files) (events_of_file files file row) ++ xs) (filter_none (is_chosen_in files) (event_at files file row) other)
-        ∙ append-nil (filter (is_chosen_in files) (events_of_file files file row)))
+    ∙ ap (λ xs. filter (is_chosen_in files) (events_of_file files file row) ++ xs) (filter_none (is_chosen_in files) (event_at files file row) other)
+    ∙ append-nil (filter (is_chosen_in files) (events_of_file files file row)))
 
 pub chosen_files_more : (files : List FileRows) (file : ℕ)
     → map common_told (filter (is_chosen_in files) (events_of files file)) ++ map common_told (filter (is_chosen_in files) (events_of_file files file (row_count files file)))
     ≡ map common_told (filter (is_chosen_in files) (events_of files (file + 1)))
 chosen_files_more files file =
     sym (ap (λ es. map common_told (filter (is_chosen_in files) es)) (files_more files file)
-        ∙ ap (map common_told) (filter-append (is_chosen_in files) (events_of files file) (events_of_file files file (row_count files file)))
-        ∙ map-append common_told (filter (is_chosen_in files) (events_of files file)) (filter (is_chosen_in files) (events_of_file files file (row_count files file))))
+    ∙ ap (map common_told) (filter-append (is_chosen_in files) (events_of files file) (events_of_file files file (row_count files file)))
+    ∙ map-append common_told (filter (is_chosen_in files) (events_of files file)) (filter (is_chosen_in files) (events_of_file files file (row_count files file))))
 
 -- a symbol is what an event gives its name, where that is the event's own place in an object
 symbol_by : (name : List ℕ) (sort : Sort) (e b : Event) → is_symbol (id_of e) (defined_as name sort b) ≡ (is_of_object sort && ((e.file == b.file) && (e.at == b.at)))
@@ -67,8 +72,8 @@ pub defines_by_entry : (files : List FileRows) (heads : List ℕ) (entries : Lis
 defines_by_entry files heads entries file row number best sort known global of_name is same =
     let named : entry_name files (get_or entries number no_entry) ≡ (row_at files file row).name = sym (name_of_entry files entries number no_entry of_name.0) ∙ of_name.1 in
     let leads : best_of (row_at files file row).name (events files) ≡ Some (event_at files best.file best.row) =
-        subst (λ n. best_of n (events files) ≡ Some (event_at files (get_or entries number no_entry).file (get_or entries number no_entry).row)) named (known.knows.each number no_entry of_name.0)
-        ∙ ap (λ x. Some (event_at files x.file x.row)) (sym is) in
+    subst (λ n. best_of n (events files) ≡ Some (event_at files (get_or entries number no_entry).file (get_or entries number no_entry).row)) named (known.knows.each number no_entry of_name.0)
+    ∙ ap (λ x. Some (event_at files x.file x.row)) (sym is) in
     ap (λ t. t && is_symbol (id_of (event_at files file row)) (definition_by (row_at files file row).name (best_of (row_at files file row).name (events files)))) global
     ∙ ap (λ o. is_symbol (id_of (event_at files file row)) (definition_by (row_at files file row).name o)) leads
     ∙ ap (λ s. is_symbol (id_of (event_at files file row)) (defined_as (row_at files file row).name s (event_at files best.file best.row))) (sym same)

@@ -1,19 +1,19 @@
 -- The classes of definitions by rows. A symbol is strong, weak or a common by the model's words where its row is of that
 -- strength: by cases on the five tests of its entry.
-use Rattle.std.proofs.Common.{◌≡◌, ℕ, ◌-◌, ◌<◌, Bool, true, false, ◌&&◌, ◌||◌, ◌==◌, not, if◌then◌else◌, List, [], ◌∷◌, map, filter, refl, ap, sym, ◌∙◌, arith}
+use Rattle.std.proofs.Common.{◌≡◌, ℕ, ◌-◌, Bool, true, false, ◌&&◌, ◌||◌, ◌==◌, not, if◌then◌else◌, List, [], map, filter, refl, ap, sym, ◌∙◌, arith}
 use Rattle.std.specs.Str.{bytes_eq}
 use Rattle.std.proofs.lemmas.Bool.{false≢true}
 use Rattle.std.proofs.lemmas.Bool.Decides.{nat_tests}
 use Rattle.macho_records.specs.declared.symbols.SymtabEntry.{SymtabEntry}
 use Rattle.macho_records.specs.Symbols.{is_common_of, is_weak_of, is_stab_of, is_external_of, symbol_type_of}
-use Rattle.macho_model.specs.Symbols.{is_absolute, is_in_section, is_global}
+use Rattle.macho_model.specs.Symbols.{is_absolute, is_global}
 use Rattle.macho_model.specs.Links.{Link, object_of, is_carried}
 use Rattle.macho_model.specs.Objects.{section_at}
 use Rattle.macho_model.specs.Resolution.{SymbolId, symbols_of, strong_of, weak_of, commons_of, is_strong, is_weak, has_name, entry_at, name_at}
 use Rattle.macho_symbols.specs.declared.notes.Sort.{Sort}
-use Rattle.macho_symbols.specs.declared.notes.Sort.TheVariants.{Section, Absolute, Common, Offered, Nowhere}
-use Rattle.macho_symbols.specs.Kept.{Row, FileRows, kept_of, row_of_symbol, sort_of, in_carried, offered_row}
-use Rattle.macho_symbols.specs.steps.Events.{Event, strength, strength_of, is_of, events}
+use Rattle.macho_symbols.specs.declared.notes.Sort.TheVariants.{Section, Absolute, Common, Nowhere}
+use Rattle.macho_symbols.specs.Kept.{Row, kept_of, row_of_symbol, in_carried}
+use Rattle.macho_symbols.specs.steps.Events.{strength, strength_of, is_of, events}
 use Rattle.macho_symbols.specs.steps.Targets.{row_of, event_of}
 use Rattle.macho_symbols.proofs.Best.{and_false}
 use Rattle.macho_symbols.proofs.Bridge.{passing, PassesNone}
@@ -105,4 +105,4 @@ unfolding commons_of row_of_symbol
 common_class l name =
     class_of l 2 name (λ s. is_common_of (entry_at l s) && has_name l name s) refl
     (λ s. common_test (is_global (entry_at l s)) (in_carried (object_of l s.file) (entry_at l s)) (is_absolute (entry_at l s)) (is_common_of (entry_at l s)) (is_weak_of (entry_at l s)) (name_at l s) name
-        (common_alone (object_of l s.file) (entry_at l s)))
+    (common_alone (object_of l s.file) (entry_at l s)))

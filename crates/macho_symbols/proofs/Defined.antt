@@ -1,18 +1,15 @@
 -- The definition of a name is what its best event gives it. The best is the first of those that are as good as it, and
 -- none is better. So the classes above its own are empty, and it is the first of its own class: of the strong ones, of the
 -- weak ones, of the greatest commons, or of those that libraries offer.
-use Rattle.std.proofs.Common.{◌≡◌, ℕ, ◌+◌, ◌<◌, ◌≤◌, ◌⊎◌, inl, inr, Bool, true, false, ◌&&◌, ◌==◌, nat_le, nat_lt, if◌then◌else◌, Option, Some, None, List, [], ◌∷◌, ◌++◌, length, map, filter, get_or, All, refl, ap, subst, sym, ◌∙◌, arith, suc, zero}
-use Rattle.std.specs.List.{list_all, list_any, range_with_len, flat_map}
-use Rattle.std.specs.Str.{bytes_eq}
+use Rattle.std.proofs.Common.{◌≡◌, ℕ, ◌<◌, Bool, true, false, ◌&&◌, ◌==◌, Option, Some, None, List, [], ◌∷◌, map, filter, All, refl, ap, sym, ◌∙◌, arith, suc}
 use Rattle.std.proofs.lemmas.Bool.{false≢true}
-use Rattle.std.proofs.lemmas.Bool.Decides.{nat_tests}
 use Rattle.macho_model.specs.Links.{Link}
-use Rattle.macho_model.specs.Resolution.{SymbolId, Definition, Symbol, Library, ImageBase, first_or, definition_of, strong_of, weak_of, commons_of, greatest_of, libraries_with, entry_at}
+use Rattle.macho_model.specs.Resolution.{SymbolId, Definition, Symbol, Library, first_or, definition_of, strong_of, weak_of, commons_of, greatest_of, libraries_with}
 use Rattle.macho_symbols.specs.declared.notes.Sort.{Sort}
 use Rattle.macho_symbols.specs.declared.notes.Sort.TheVariants.{Section, Absolute, Common, Offered, Nowhere}
-use Rattle.macho_symbols.specs.Kept.{Row, FileRows, kept_of}
-use Rattle.macho_symbols.specs.steps.Events.{Event, strength, strength_of, beats, ties, common_size, is_of, is_level, events, best_of}
-use Rattle.macho_symbols.specs.steps.Targets.{row_of, event_of, id_of, image_base, defined_as, definition_by}
+use Rattle.macho_symbols.specs.Kept.{kept_of}
+use Rattle.macho_symbols.specs.steps.Events.{Event, strength, strength_of, beats, is_of, is_level, events, best_of}
+use Rattle.macho_symbols.specs.steps.Targets.{event_of, id_of, image_base, defined_as, definition_by}
 use Rattle.macho_symbols.proofs.Order.{equal_by_test, stronger_beats, ties_strength}
 use Rattle.macho_symbols.proofs.Best.{best_is, IsBest, none_of, and_false}
 use Rattle.macho_symbols.proofs.Classes.{strong_class, weak_class, common_class}
@@ -85,12 +82,14 @@ definition_is l name = of (best_of name (events (map kept_of l.inputs))) refl
         ≡ Some (Symbol (id_of b))
     strong b is s =
         let first = first_of_class name (events (map kept_of l.inputs)) b 4 is s refl in first_symbol l (strong_of l name) b first.0 _ (strong_class l name ∙ first.1)
+
     weak : (b : Event) → IsBest name (events (map kept_of l.inputs)) b → strength b.row ≡ 3
         → first_or (map Symbol (strong_of l name)) (first_or (map Symbol (weak_of l name)) (first_or (map Symbol (greatest_of l name)) (first_or (map Library (libraries_with l name)) (image_base name))))
         ≡ Some (Symbol (id_of b))
     weak b is s =
         let first = first_of_class name (events (map kept_of l.inputs)) b 3 is s refl in
         rw (strong_empty l name (none_above name _ b 4 is.unbeaten (omega (arith, s)))) (first_symbol l (weak_of l name) b first.0 _ (weak_class l name ∙ first.1))
+
     by_sort : (b : Event) → IsBest name (events (map kept_of l.inputs)) b → (sort : Sort) (weak : Bool) → b.row.sort ≡ sort → b.row.weak ≡ weak
         → first_or (map Symbol (strong_of l name)) (first_or (map Symbol (weak_of l name)) (first_or (map Symbol (greatest_of l name)) (first_or (map Library (libraries_with l name)) (image_base name))))
         ≡ defined_as name sort b
@@ -107,17 +106,30 @@ definition_is l name = of (best_of name (events (map kept_of l.inputs))) refl
         let s : strength b.row ≡ 1 = ap (λ s. strength_of s b.row.weak) e in
         let first = first_of_class name (events (map kept_of l.inputs)) b 1 is s refl in
         let libraries = libraries_first l name b first.0 first.1 in
-        rw (strong_empty l name (none_above name _ b 4 is.unbeaten (omega (arith, s))), weak_empty l name (none_above name _ b 3 is.unbeaten (omega (arith, s))),
-            greatest_empty l name (none_above name _ b 2 is.unbeaten (omega (arith, s))), libraries.1) refl
+        rw (
+          strong_empty l name (none_above name _ b 4 is.unbeaten (omega (arith, s))),
+          weak_empty l name (none_above name _ b 3 is.unbeaten (omega (arith, s))),
+          greatest_empty l name (none_above name _ b 2 is.unbeaten (omega (arith, s))),
+          libraries.1,
+        ) refl
     by_sort b is Nowhere t e w =
         let s : strength b.row ≡ 0 = ap (λ s. strength_of s b.row.weak) e in
-        rw (strong_empty l name (none_above name _ b 4 is.unbeaten (omega (arith, s))), weak_empty l name (none_above name _ b 3 is.unbeaten (omega (arith, s))),
-            greatest_empty l name (none_above name _ b 2 is.unbeaten (omega (arith, s))), libraries_empty l name (none_above name _ b 1 is.unbeaten (omega (arith, s)))) refl
+        rw (
+          strong_empty l name (none_above name _ b 4 is.unbeaten (omega (arith, s))),
+          weak_empty l name (none_above name _ b 3 is.unbeaten (omega (arith, s))),
+          greatest_empty l name (none_above name _ b 2 is.unbeaten (omega (arith, s))),
+          libraries_empty l name (none_above name _ b 1 is.unbeaten (omega (arith, s))),
+        ) refl
+
     of : (o : Option Event) → best_of name (events (map kept_of l.inputs)) ≡ o
         → first_or (map Symbol (strong_of l name)) (first_or (map Symbol (weak_of l name)) (first_or (map Symbol (greatest_of l name)) (first_or (map Library (libraries_with l name)) (image_base name))))
         ≡ definition_by name o
     of None e =
         let none = none_of name (events (map kept_of l.inputs)) e in
-        rw (strong_empty l name (none_at_all name _ 4 none), weak_empty l name (none_at_all name _ 3 none), greatest_empty l name (none_at_all name _ 2 none),
-            libraries_empty l name (none_at_all name _ 1 none)) refl
+        rw (
+          strong_empty l name (none_at_all name _ 4 none),
+          weak_empty l name (none_at_all name _ 3 none),
+          greatest_empty l name (none_at_all name _ 2 none),
+          libraries_empty l name (none_at_all name _ 1 none),
+        ) refl
     of (Some b) e = by_sort b (best_is name (events (map kept_of l.inputs)) b e) b.row.sort b.row.weak refl refl

@@ -1,9 +1,6 @@
 -- What the rules of an object or of a library say of its symbols' entries: names begin inside the string table, and
 -- commons are small. Each is one rule, asked of one symbol.
-use Rattle.std.proofs.Common.{◌≡◌, ℕ, ◌<◌, ◌≤◌, ◌^◌, Bool, true, false, List, length, arith, length-drop, slice_range, take, drop, not, ◌&&◌, ◌-◌, ◌+◌, ◌==◌, if◌then◌else◌, Some, None, refl, ap, ◌∙◌, sym, [], min, eqb}
-use Rattle.std.proofs.lemmas.List.{length-take}
-use Rattle.std.proofs.lemmas.Grind.{common_steps}
-use Rattle.macho_bytes.specs.Texts.{name_of}
+use Rattle.std.proofs.Common.{◌≡◌, ℕ, ◌<◌, ◌≤◌, ◌^◌, Bool, true, false, List, length, arith, length-drop, slice_range, ◌&&◌, ◌+◌, if◌then◌else◌, Some, None, refl, ap, ◌∙◌, sym, []}
 use Rattle.macho_records.specs.declared.header.SectionHeader.{SectionHeader}
 use Rattle.macho_model.specs.Links.{is_carried}
 use Rattle.macho_model.specs.Objects.{section_at, symbol_name}
@@ -11,15 +8,15 @@ use Rattle.macho_object.specs.Views.{FileBytes, of_symbol_section, section_index
 use Rattle.macho_records.specs.declared.symbols.SymtabEntry.{SymtabEntry}
 use Rattle.macho_records.specs.Symbols.{is_weak_of, is_hidden_of}
 use Rattle.macho_symbols.specs.declared.notes.Sort.{Sort}
-use Rattle.macho_symbols.specs.Kept.{Row, in_carried, kept_name, sort_of, number_of, value_of, row_of_symbol}
+use Rattle.macho_symbols.specs.Kept.{in_carried, kept_name, sort_of, number_of, value_of, row_of_symbol}
 use Rattle.macho_symbols.specs.steps.Notes.{IsString, string_at}
 use Rattle.macho_symbols.specs.declared.notes.Name.{Name}
 use Rattle.std.proofs.lemmas.Bool.Decides.{nat_tests}
-use Rattle.macho_records.specs.Symbols.{is_common_of, common_size_of, is_stab_of}
+use Rattle.macho_records.specs.Symbols.{is_common_of, common_size_of}
 use Rattle.macho_model.specs.Objects.{num_symbols, symbol_at, strings_of}
-use Rattle.macho_model.specs.ObjectRules.{common_fits, name_ends}
+use Rattle.macho_model.specs.ObjectRules.{name_ends}
 use Rattle.macho_model.specs.Symbols.{is_global}
-use Rattle.macho_model.specs.Grammar.{IsObject, IsFile}
+use Rattle.macho_model.specs.Grammar.{IsFile}
 
 -- a common of an object is small
 pub commons_are_small : (dyn : Bool) (b : List ℕ) (k : ℕ) → IsFile dyn b → dyn ≡ false → k < num_symbols b → is_common_of (symbol_at b k) ≡ true → common_size_of (symbol_at b k) < 2 ^ 64

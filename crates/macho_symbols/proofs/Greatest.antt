@@ -1,18 +1,16 @@
 -- The best event of a name, where it is a common: the first of the greatest. Of the name's commons none is greater than
 -- it, since none beats it; so those than which none is greater are those of its size, and they are the events as good as it.
-use Rattle.std.proofs.Common.{◌≡◌, ℕ, ◌+◌, ◌<◌, ◌≤◌, ◌≢◌, Bool, true, false, ◌&&◌, ◌==◌, nat_le, nat_lt, ◌||◌, List, [], ◌∷◌, length, map, filter, get_or, All, refl, ap, subst, sym, ◌∙◌, arith, suc, zero}
+use Rattle.std.proofs.Common.{◌≡◌, ℕ, ◌<◌, ◌≤◌, ◌≢◌, Bool, true, false, ◌&&◌, ◌==◌, nat_le, nat_lt, ◌||◌, List, [], ◌∷◌, length, map, filter, get_or, refl, ap, sym, ◌∙◌, arith, suc, zero}
 use Rattle.std.specs.List.{list_all}
-use Rattle.std.proofs.lemmas.Bool.{false≢true}
 use Rattle.std.proofs.lemmas.Bool.Decides.{nat_tests}
 use Rattle.std.proofs.lemmas.List.{get_or-map, length-map}
 use Rattle.std.proofs.lemmas.List.Elements.{filter_passes, All-filter}
 use Rattle.macho_records.specs.Symbols.{is_common_of}
 use Rattle.macho_model.specs.Links.{Link, object_of}
 use Rattle.macho_model.specs.Resolution.{SymbolId, symbols_of, commons_of, greatest_of, entry_at, has_name}
-use Rattle.macho_symbols.specs.declared.notes.Sort.{Sort}
-use Rattle.macho_symbols.specs.declared.notes.Sort.TheVariants.{Section, Absolute, Common, Offered, Nowhere}
+use Rattle.macho_symbols.specs.declared.notes.Sort.TheVariants.{Common}
 use Rattle.macho_symbols.specs.Kept.{Row, kept_of, row_of_symbol, sort_of, value_of}
-use Rattle.macho_symbols.specs.steps.Events.{Event, strength, beats, ties, common_size, size_of_common, is_of, is_level, events}
+use Rattle.macho_symbols.specs.steps.Events.{Event, strength, beats, common_size, size_of_common, is_of, is_level, events}
 use Rattle.macho_symbols.specs.steps.Targets.{row_of, event_of, id_of}
 use Rattle.macho_symbols.proofs.Order.{equal_by_test}
 use Rattle.macho_symbols.proofs.Best.{IsBest}
@@ -91,11 +89,11 @@ common_row l name b is s k d within =
     let es = events (map kept_of l.inputs) in
     let symbol = get_or (commons_of l name) k d in
     let common : is_common_of (entry_at l symbol) ≡ true =
-        first_part _ _ (filter_passes (λ (t : SymbolId). is_common_of (entry_at l t) && has_name l name t) (symbols_of l) k d within) in
+    first_part _ _ (filter_passes (λ (t : SymbolId). is_common_of (entry_at l t) && has_name l name t) (symbols_of l) k d within) in
     let test : Event → Bool = λ e. (strength e.row == 2) && is_of name e in
     let long : length (filter test es) ≡ length (commons_of l name) = ap length (sym (common_class l name)) ∙ length-map (commons_of l name) (event_of l) in
     let here : get_or (filter test es) k (event_of l d) ≡ event_of l symbol =
-        ap (λ xs. get_or xs k (event_of l d)) (sym (common_class l name)) ∙ get_or-map (event_of l) (commons_of l name) k d (event_of l d) within in
+    ap (λ xs. get_or xs k (event_of l d)) (sym (common_class l name)) ∙ get_or-map (event_of l) (commons_of l name) k d (event_of l d) within in
     let passes = both _ _ (filter_passes test es k (event_of l d) (omega (arith, within, long))) in
     let strong : strength (row_of l symbol) ≡ 2 = ap (λ e. strength e.row) (sym here) ∙ equal_by_test _ 2 passes.0 in
     let beaten = All-filter test (λ x. is_of name x ≡ true → beats x.row b.row ≡ false) es is.unbeaten k (event_of l d) (omega (arith, within, long)) passes.1 in
@@ -111,7 +109,7 @@ levels l name b is s =
     let test : Event → Bool = λ e. (strength e.row == 2) && is_of name e in
     sym (filter-map sizes (event_of l) (commons_of l name)) ∙ ap (filter sizes) (common_class l name) ∙ filter-filter sizes test es
     ∙ filter_same_test (λ x. sizes x && test x) (is_level name b) es
-        (λ x. sym (ap (λ n. ((n == strength x.row) && sizes x) && is_of name x) s ∙ level_test (strength x.row) (sizes x) (is_of name x)))
+    (λ x. sym (ap (λ n. ((n == strength x.row) && sizes x) && is_of name x) s ∙ level_test (strength x.row) (sizes x) (is_of name x)))
     ∙ is.first
 
 -- the best common is the first of the greatest
@@ -132,6 +130,7 @@ greatest_first l name b is s =
             let passes = filter_passes (λ (s : SymbolId). common_size b.row == common_size (row_of l s)) (commons_of l name) 0 x (omega (arith, ap length e)) in
             let here : (common_size b.row == common_size (row_of l x)) ≡ true = ap (λ ys. common_size b.row == common_size (row_of l (get_or ys 0 x))) (sym e) ∙ passes in
             (from.0, from.1, ap (λ y. common_size (row_of l y)) from.2 ∙ sym (equal_by_test _ _ here))
+
     agree : (k : ℕ) (d : SymbolId) → k < length (commons_of l name) → (t : Bool) → (common_size b.row == common_size (row_of l (get_or (commons_of l name) k d))) ≡ t
         → list_all (λ t. nat_le (entry_at l t).n_value (entry_at l (get_or (commons_of l name) k d)).n_value) (commons_of l name)
         ≡ (common_size b.row == common_size (row_of l (get_or (commons_of l name) k d)))

@@ -1,11 +1,11 @@
 -- A better row in an entry. The name stays, and so the chains do; the entry leads to the better of both rows.
-use Rattle.std.proofs.Common.{◌≡◌, ℕ, ◌<◌, Bool, true, false, List, [], length, map, get_or, set, All, refl, ap, sym, ◌∙◌, arith, length-set}
+use Rattle.std.proofs.Common.{◌≡◌, ℕ, true, false, List, get_or, set, refl, sym, ◌∙◌, arith, length-set}
 use Rattle.std.proofs.lemmas.Bool.{false≢true}
 use Rattle.std.proofs.lemmas.List.Elements.{All-set}
 use Rattle.macho_symbols.specs.declared.table.Entry.{Entry}
 use Rattle.macho_symbols.specs.Kept.{FileRows}
-use Rattle.macho_symbols.specs.steps.Events.{row_at, row_count, beats}
-use Rattle.macho_symbols.specs.steps.Tables.{IsTable, IsThere, IsImproved, no_entry, row_of_entry, both_strong, entry_name, names_of, nexts_of}
+use Rattle.macho_symbols.specs.steps.Events.{row_at, beats}
+use Rattle.macho_symbols.specs.steps.Tables.{IsTable, IsThere, IsImproved, no_entry, row_of_entry, both_strong, entry_name, names_of}
 use Rattle.macho_symbols.proofs.Lists.{map_set_same}
 
 -- names and nexts stay where an entry leads to another row of its name

@@ -1,20 +1,18 @@
 -- What a table knows, after one event more. An event of no name changes nothing. An event of a new name gets an entry of
 -- its own, an event of a known name improves that name's entry or doesn't; for every other name nothing changes.
-use Rattle.std.proofs.Common.{◌≡◌, ℕ, ◌+◌, ◌<◌, ◌≤◌, ◌≢◌, ◌⊎◌, inl, inr, Bool, true, false, ◌&&◌, ◌==◌, Option, Some, None, List, [], ◌∷◌, ◌++◌, length, map, filter, get_or, set, All, refl, ap, subst, sym, ◌∙◌, arith, append-nil, length-append, suc}
+use Rattle.std.proofs.Common.{◌≡◌, ℕ, ◌+◌, ◌<◌, ◌≤◌, Bool, true, false, ◌==◌, Some, None, List, [], ◌∷◌, ◌++◌, length, filter, get_or, All, refl, ap, subst, sym, ◌∙◌, arith, append-nil, length-append, suc}
 use Rattle.macho_symbols.proofs.Chains.{name_of_entry}
 use Rattle.std.specs.Str.{bytes_eq}
-use Rattle.std.proofs.lemmas.List.{map-append, get_or_append_left, get_or-set_same, get_or-set_other, length-map}
+use Rattle.std.proofs.lemmas.List.{map-append, get_or_append_left, length-map}
 use Rattle.std.proofs.lemmas.List.Elements.{All-push, filter-append}
 use Rattle.std.proofs.Math.Seq.{get_or-append_seam}
-use Rattle.std.proofs.lemmas.Bool.{false≢true, cases_lt}
-use Rattle.std.proofs.lemmas.Bool.Decides.{nat_tests}
 use Rattle.macho_stub_lines.proofs.Bind.{bytes_same, bytes_differ, same_bytes}
 use Rattle.macho_symbols.specs.declared.table.Entry.{Entry}
-use Rattle.macho_symbols.specs.Kept.{FileRows, Row}
-use Rattle.macho_symbols.specs.steps.Events.{Event, row_at, event_at, beats, ties, strength, is_of, is_strong_of, with_event, better, best_of}
-use Rattle.macho_symbols.specs.steps.Tables.{Knows, IsAdded, IsImproved, IsNowhere, IsEntryOf, IsNameless, entry_name, names_of, no_entry, row_of_entry}
+use Rattle.macho_symbols.specs.Kept.{FileRows}
+use Rattle.macho_symbols.specs.steps.Events.{Event, row_at, event_at, strength, is_of, is_strong_of, better, best_of}
+use Rattle.macho_symbols.specs.steps.Tables.{Knows, IsAdded, IsNowhere, IsNameless, entry_name, names_of}
 use Rattle.macho_symbols.proofs.Lists.{filter_none, filter_one}
-use Rattle.macho_symbols.proofs.Best.{best_push, with_other, with_own, best_is, none_of, and_false}
+use Rattle.macho_symbols.proofs.Best.{best_push, with_other, with_own, none_of, and_false}
 
 -- an event that is not of a name leaves the name's best
 pub best_other : (name : List ℕ) (es : List Event) (e : Event) → is_of name e ≡ false → best_of name (es ++ e ∷ []) ≡ best_of name es
@@ -71,24 +69,33 @@ knows_added files es entries new file row known global nowhere added = record {
   where
     name_is : entry_name files added.entry ≡ (row_at files file row).name
     name_is = rw (added.file_is, added.row_is) refl
+
     names : names_of files new ≡ names_of files entries ++ (row_at files file row).name ∷ []
     names = rw (added.are, map-append (entry_name files) entries (added.entry ∷ []), name_is) refl
+
     longer : length (names_of files new) ≡ length (names_of files entries) + 1
     longer = rw names (length-append (names_of files entries) ((row_at files file row).name ∷ []))
+
     last_there : length (names_of files entries) < length (names_of files new)
     last_there = omega (arith, longer)
+
     last_name : get_or (names_of files new) (length (names_of files entries)) [] ≡ (row_at files file row).name
     last_name = rw names (get_or-append_seam (names_of files entries) (row_at files file row).name [] [])
+
     before : (k : ℕ) → k < length (names_of files entries) → get_or (names_of files new) k [] ≡ get_or (names_of files entries) k []
     before k h = rw names (get_or_append_left (names_of files entries) ((row_at files file row).name ∷ []) [] k h)
+
     none : best_of (row_at files file row).name es ≡ None
     none = known.rest (row_at files file row).name nowhere
+
     olds : All (λ e. best_of (entry_name files e) (es ++ event_at files file row ∷ []) ≡ Some (event_at files e.file e.row)) entries
     olds = λ k d h. best_other (entry_name files (get_or entries k d)) es (event_at files file row) (other_name (entry_name files (get_or entries k d)) (event_at files file row)
         (λ same. nowhere k (omega (arith, h, length-map entries (entry_name files))) (name_of_entry files entries k d h ∙ sym same))) ∙ known.each k d h
+
     newest : best_of (entry_name files added.entry) (es ++ event_at files file row ∷ []) ≡ Some (event_at files added.entry.file added.entry.row)
     newest =
         rw (name_is, added.file_is, added.row_is) (best_own (row_at files file row).name es (event_at files file row) (own_name (row_at files file row).name (event_at files file row) global refl) ∙ ap (λ o. better o (event_at files file row)) none)
+
     single : (name : List ℕ) (t : Bool) → bytes_eq (row_at files file row).name name ≡ t → length (filter (is_strong_of name) (es ++ event_at files file row ∷ [])) ≤ 1
     single name false other = rw (strong_other name es (event_at files file row) (rw other (and_false (row_at files file row).global))) (known.single name)
     single name true same =

@@ -1,23 +1,22 @@
 -- What a table knows, after an event of a name that it has: its entry leads to the better one. Two strong ones are told.
-use Rattle.std.proofs.Common.{◌≡◌, ℕ, ◌+◌, ◌<◌, ◌≤◌, ◌≢◌, ◌⊎◌, inl, inr, Bool, true, false, ◌&&◌, ◌==◌, Option, Some, None, List, [], ◌∷◌, ◌++◌, length, map, filter, get_or, set, All, refl, ap, subst, sym, ◌∙◌, arith, append-nil, length-append, length-set, suc}
+use Rattle.std.proofs.Common.{◌≡◌, ℕ, ◌<◌, ◌≤◌, ◌≢◌, inl, inr, Bool, true, false, ◌&&◌, ◌==◌, Some, None, List, [], ◌∷◌, ◌++◌, length, filter, get_or, set, All, refl, ap, subst, sym, ◌∙◌, arith, append-nil, length-set, suc}
 use Rattle.std.specs.Str.{bytes_eq}
 use Rattle.std.proofs.lemmas.List.{get_or-set_same, get_or-set_other, length-map, get_or_default}
 use Rattle.std.proofs.lemmas.List.Elements.{filter-append}
 use Rattle.std.proofs.lemmas.Bool.{false≢true, cases_lt}
-use Rattle.std.proofs.lemmas.Bool.Decides.{nat_tests}
 use Rattle.macho_stub_lines.proofs.Bind.{same_bytes}
 use Rattle.macho_symbols.specs.declared.table.Entry.{Entry}
 use Rattle.macho_symbols.specs.declared.fault.SymbolFault.{SymbolFault}
 use Rattle.macho_symbols.specs.declared.fault.SymbolFault.TheVariants.{DuplicateSymbol, UndefinedSymbol, ExportListMissing, OutOfMemory}
-use Rattle.macho_symbols.specs.Kept.{FileRows, Row}
-use Rattle.macho_symbols.specs.steps.Events.{Event, row_at, event_at, beats, ties, strength, is_of, is_level, is_strong_of, with_event, better, best_of}
-use Rattle.macho_symbols.specs.steps.Tables.{Knows, IsTable, IsImproved, IsNowhere, IsEntryOf, IsClash, AreTwo, AreBothStrong, entry_name, names_of, no_entry, row_of_entry, both_strong}
+use Rattle.macho_symbols.specs.Kept.{FileRows}
+use Rattle.macho_symbols.specs.steps.Events.{Event, row_at, event_at, beats, strength, is_of, is_level, is_strong_of, better, best_of}
+use Rattle.macho_symbols.specs.steps.Tables.{Knows, IsTable, IsImproved, IsNowhere, IsEntryOf, IsClash, AreBothStrong, entry_name, names_of, no_entry, row_of_entry}
 use Rattle.macho_symbols.proofs.Lists.{filter_none, filter_one}
 use Rattle.macho_symbols.proofs.Chains.{name_of_entry}
 use Rattle.macho_symbols.proofs.ChainsMore.{same_or_not}
 use Rattle.macho_symbols.proofs.Improving.{names_stay}
 use Rattle.macho_symbols.proofs.Order.{equal_by_test, strength_below, stronger_beats, ties_strength}
-use Rattle.macho_symbols.proofs.Best.{best_is, IsBest, better_yes, better_none, and_false}
+use Rattle.macho_symbols.proofs.Best.{best_is, better_yes, better_none, and_false}
 use Rattle.macho_symbols.proofs.Knowing.{best_other, best_own, strong_other, other_name, own_name, one_strong}
 
 -- filters by tests that agree
@@ -37,6 +36,7 @@ none_stronger name (x ∷ xs) b unbeaten weaker =
     both true true e = (refl, refl)
     both true false e = cc
     both false v e = cc
+
     of : (t : Bool) → is_strong_of name x ≡ t → filter (is_strong_of name) xs ≡ [] → filter (is_strong_of name) (x ∷ xs) ≡ []
     of false is rest = rw is rest
     of true is rest =
@@ -65,9 +65,9 @@ first_false true false e h = absurd (false≢true h)
 pub apart_any : (files : List FileRows) (heads : List ℕ) (entries : List Entry) (j k : ℕ) → IsTable files heads entries → j < length entries → k < length entries → j ≢ k
     → get_or (names_of files entries) j [] ≡ get_or (names_of files entries) k [] → ⊥
 apart_any files heads entries j k table hj hk other same = elim (cases_lt j k) [
-      inl less ↦ table.apart k j less hk (sym same)
-    | inr more ↦ table.apart j k (omega (arith, other)) hj same
-    ]
+  | inl less ↦ table.apart k j less hk (sym same)
+  | inr more ↦ table.apart j k (omega (arith, other)) hj same
+]
 
 -- What is known, with the entry of the event's name improved.
 pub knows_improved : (files : List FileRows) (heads : List ℕ) (es : List Event) (entries new : List Entry) (number file row : ℕ) → IsTable files heads entries
@@ -81,48 +81,58 @@ knows_improved files heads es entries new number file row table known global of_
   where
     named : entry_name files (get_or entries number no_entry) ≡ (row_at files file row).name
     named = sym (name_of_entry files entries number no_entry of_name.0) ∙ of_name.1
+
     best : best_of (row_at files file row).name es ≡ Some (event_at files (get_or entries number no_entry).file (get_or entries number no_entry).row)
     best = subst (λ n. best_of n es ≡ Some (event_at files (get_or entries number no_entry).file (get_or entries number no_entry).row)) named (known.each number no_entry of_name.0)
+
     after : best_of (row_at files file row).name (es ++ event_at files file row ∷ []) ≡ better (Some (event_at files (get_or entries number no_entry).file (get_or entries number no_entry).row)) (event_at files file row)
     after = best_own (row_at files file row).name es (event_at files file row) (own_name (row_at files file row).name (event_at files file row) global refl) ∙ ap (λ o. better o (event_at files file row)) best
+
     within : number < length entries
     within = of_name.0
+
     unlike : (k : ℕ) (d : Entry) → k < length entries → k ≢ number
         → best_of (entry_name files (get_or entries k d)) (es ++ event_at files file row ∷ []) ≡ Some (event_at files (get_or entries k d).file (get_or entries k d).row)
     unlike k d h other =
         best_other (entry_name files (get_or entries k d)) es (event_at files file row) (other_name (entry_name files (get_or entries k d)) (event_at files file row)
-            (λ same. apart_any files heads entries k number table h within other (name_of_entry files entries k d h ∙ sym same ∙ sym of_name.1)))
+        (λ same. apart_any files heads entries k number table h within other (name_of_entry files entries k d h ∙ sym same ∙ sym of_name.1)))
         ∙ known.each k d h
+
     named_better : entry_name files (record (get_or entries number no_entry) { file = file; row = row }) ≡ entry_name files (get_or entries number no_entry)
     named_better = sym named
+
     names_by : (t : Bool) → beats (row_at files file row) (row_of_entry files entries number) ≡ t → names_of files new ≡ names_of files entries
     names_by false fails = ap (names_of files) (improved.kept fails)
     names_by true passes = ap (names_of files) (improved.better passes) ∙ names_stay files entries number (record (get_or entries number no_entry) { file = file; row = row }) named_better
+
     names : names_of files new ≡ names_of files entries
     names = names_by (beats (row_at files file row) (row_of_entry files entries number)) refl
+
     each : (t : Bool) → beats (row_at files file row) (row_of_entry files entries number) ≡ t
         → All (λ x. best_of (entry_name files x) (es ++ event_at files file row ∷ []) ≡ Some (event_at files x.file x.row)) new
     each false fails k d h =
         rw (improved.kept fails) (elim (same_or_not k number) [
-              inl same ↦
-                rw (ap (λ j. get_or entries j d) same ∙ get_or_default entries number d no_entry within, named)
-                (after ∙ better_none (event_at files (get_or entries number no_entry).file (get_or entries number no_entry).row) (event_at files file row) fails)
-            | inr other ↦ unlike k d (omega (arith, h, ap length (improved.kept fails))) other
-            ])
+          | inl same ↦
+              rw (ap (λ j. get_or entries j d) same ∙ get_or_default entries number d no_entry within, named)
+              (after ∙ better_none (event_at files (get_or entries number no_entry).file (get_or entries number no_entry).row) (event_at files file row) fails)
+          | inr other ↦ unlike k d (omega (arith, h, ap length (improved.kept fails))) other
+        ])
     each true passes k d h =
         let long : length new ≡ length entries = ap length (improved.better passes) ∙ length-set entries number (record (get_or entries number no_entry) { file = file; row = row }) in
         rw (improved.better passes) (elim (same_or_not k number) [
-              inl same ↦
-                rw (ap (λ j. get_or (set entries number (record (get_or entries number no_entry) { file = file; row = row })) j d) same
-                    ∙ get_or-set_same entries number (record (get_or entries number no_entry) { file = file; row = row }) d within)
-                (after ∙ better_yes (event_at files (get_or entries number no_entry).file (get_or entries number no_entry).row) (event_at files file row) passes)
-            | inr other ↦
-                rw (get_or-set_other entries number k (record (get_or entries number no_entry) { file = file; row = row }) d other) (unlike k d (omega (arith, h, long)) other)
-            ])
+          | inl same ↦
+              rw (ap (λ j. get_or (set entries number (record (get_or entries number no_entry) { file = file; row = row })) j d) same
+              ∙ get_or-set_same entries number (record (get_or entries number no_entry) { file = file; row = row }) d within)
+              (after ∙ better_yes (event_at files (get_or entries number no_entry).file (get_or entries number no_entry).row) (event_at files file row) passes)
+          | inr other ↦
+              rw (get_or-set_other entries number k (record (get_or entries number no_entry) { file = file; row = row }) d other) (unlike k d (omega (arith, h, long)) other)
+        ])
+
     rest : (name : List ℕ) → IsNowhere name (names_of files entries) → best_of name (es ++ event_at files file row ∷ []) ≡ None
     rest name nowhere =
         best_other name es (event_at files file row) (other_name name (event_at files file row) (λ same. nowhere number (omega (arith, of_name.0, length-map entries (entry_name files))) (of_name.1 ∙ same)))
         ∙ known.rest name nowhere
+
     single : (name : List ℕ) (t : Bool) → bytes_eq (row_at files file row).name name ≡ t → length (filter (is_strong_of name) (es ++ event_at files file row ∷ [])) ≤ 1
     single name false other = rw (strong_other name es (event_at files file row) (rw other (and_false (row_at files file row).global))) (known.single name)
     single name true same = by (strength (row_at files file row) == 4) refl (same_bytes (row_at files file row).name name same)
@@ -137,7 +147,7 @@ knows_improved files heads es entries new number file row table known global of_
             let weaker : (strength (row_of_entry files entries number) == 4) ≡ false = first_false (strength (row_of_entry files entries number) == 4) (strength (row_at files file row) == 4) improved.single strong in
             let bested = best_is (row_at files file row).name es (event_at files (get_or entries number no_entry).file (get_or entries number no_entry).row) best in
             let empty : filter (is_strong_of (row_at files file row).name) es ≡ [] =
-                none_stronger (row_at files file row).name es (event_at files (get_or entries number no_entry).file (get_or entries number no_entry).row) bested.unbeaten weaker in
+            none_stronger (row_at files file row).name es (event_at files (get_or entries number no_entry).file (get_or entries number no_entry).row) bested.unbeaten weaker in
             let empty_here : filter (is_strong_of name) es ≡ [] = subst (λ n. filter (is_strong_of n) es ≡ []) is empty in
             rw (filter-append (is_strong_of name) es (event_at files file row ∷ []), empty_here) (one_strong name (event_at files file row))
 
@@ -161,18 +171,24 @@ clash_told files es entries number file row (DuplicateSymbol name first second) 
     parts true true e = (refl, refl)
     parts true false e = cc
     parts false v e = cc
+
     named : entry_name files (get_or entries number no_entry) ≡ (row_at files file row).name
     named = sym (name_of_entry files entries number no_entry of_name.0) ∙ of_name.1
+
     best : best_of (row_at files file row).name es ≡ Some (event_at files (get_or entries number no_entry).file (get_or entries number no_entry).row)
     best = subst (λ n. best_of n es ≡ Some (event_at files (get_or entries number no_entry).file (get_or entries number no_entry).row)) named (known.each number no_entry of_name.0)
+
     before : filter (is_strong_of (row_at files file row).name) es ≡ event_at files (get_or entries number no_entry).file (get_or entries number no_entry).row ∷ []
     before =
         let firsts = strong_first (row_at files file row).name es (event_at files (get_or entries number no_entry).file (get_or entries number no_entry).row) best (parts _ _ both.3).0 in
         only_one (filter (is_strong_of (row_at files file row).name) es) firsts.0 _ firsts.1 (known.single (row_at files file row).name)
+
     strong_now : (strength (row_at files file row) == 4) ≡ true
     strong_now = (parts (strength (row_of_entry files entries number) == 4) (strength (row_at files file row) == 4) both.3).1
+
     now : is_strong_of (row_at files file row).name (event_at files file row) ≡ true
     now = rw (strong_now, own_name (row_at files file row).name (event_at files file row) global refl) refl
+
     strong : filter (is_strong_of (row_at files file row).name) (es ++ event_at files file row ∷ [])
         ≡ event_at files (get_or entries number no_entry).file (get_or entries number no_entry).row ∷ event_at files file row ∷ []
     strong = rw (filter-append (is_strong_of (row_at files file row).name) es (event_at files file row ∷ []), before, filter_one (is_strong_of (row_at files file row).name) (event_at files file row) now) refl

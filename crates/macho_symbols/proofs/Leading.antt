@@ -1,6 +1,6 @@
 -- Where names and symbols lead, by what the table knows: the entry of a name leads to its best row, and what has no entry
 -- is of no event.
-use Rattle.std.proofs.Common.{◌≡◌, ℕ, ◌+◌, ◌<◌, ◌≤◌, ◌⊎◌, inl, inr, Bool, true, false, Option, Some, None, List, [], ◌∷◌, length, map, get_or, refl, ap, subst, sym, ◌∙◌, arith}
+use Rattle.std.proofs.Common.{◌≡◌, ℕ, ◌+◌, ◌<◌, inl, inr, true, false, Some, None, List, [], ◌∷◌, length, map, get_or, refl, ap, subst, sym, ◌∙◌, arith}
 use Rattle.std.specs.List.{position_or_len}
 use Rattle.std.proofs.lemmas.List.{get_or-map, length-map, get_or_default}
 use Rattle.std.proofs.lemmas.List.Sums.{position_or_len_is}
@@ -12,7 +12,7 @@ use Rattle.macho_symbols.specs.declared.notes.Sort.TheVariants.{Section, Absolut
 use Rattle.macho_symbols.specs.declared.table.Entry.{Entry}
 use Rattle.macho_symbols.specs.Kept.{FileRows}
 use Rattle.macho_symbols.specs.steps.Events.{Event, row_at, event_at, events, best_of}
-use Rattle.macho_symbols.specs.steps.Tables.{IsEntryOf, IsNowhere, IsKnown, names_of, entry_name, no_entry}
+use Rattle.macho_symbols.specs.steps.Tables.{IsEntryOf, IsNowhere, names_of, entry_name, no_entry}
 use Rattle.macho_symbols.specs.steps.Targets.{named_in, led_in, lead_in, own_in, chosen_in, id_of}
 use Rattle.macho_symbols.specs.steps.Solved.{IsSolved, common_id, common_told, noted_of}
 use Rattle.macho_symbols.proofs.Chains.{name_of_entry}
@@ -38,9 +38,9 @@ common_missing commons s d others =
 pub not_at_more : (commons : List Common) (s : SymbolId) (i : ℕ) (c : Common) → i < length commons → ((k : ℕ) (d : Common) → k < i → same_symbol s (common_id (get_or commons k d)) ≡ false)
     → same_symbol s (common_id (get_or commons i c)) ≡ false → (k : ℕ) (d : Common) → k < i + 1 → same_symbol s (common_id (get_or commons k d)) ≡ false
 not_at_more commons s i c within others other k d h = elim (below_more k i h) [
-      inl less ↦ others k d less
-    | inr last ↦ ap (λ j. same_symbol s (common_id (get_or commons j d))) last ∙ ap (λ x. same_symbol s (common_id x)) (get_or_default commons i d c within) ∙ other
-    ]
+  | inl less ↦ others k d less
+  | inr last ↦ ap (λ j. same_symbol s (common_id (get_or commons j d))) last ∙ ap (λ x. same_symbol s (common_id x)) (get_or_default commons i d c within) ∙ other
+]
 
 -- the ids of the commons that were chosen
 pub common_ids : (s : Solved) → IsSolved s → map common_id s.commons.items ≡ map id_of (chosen_in s.files.items)
@@ -55,7 +55,7 @@ pub entry_best : (s : Solved) (name : List ℕ) (j : ℕ) → IsSolved s → IsE
     → best_of name (events s.files.items) ≡ Some (event_at s.files.items (get_or s.table.entries.items j no_entry).file (get_or s.table.entries.items j no_entry).row)
 entry_best s name j is of_name =
     let named : entry_name s.files.items (get_or s.table.entries.items j no_entry) ≡ name =
-        sym (name_of_entry s.files.items s.table.entries.items j no_entry of_name.0) ∙ of_name.1 in
+    sym (name_of_entry s.files.items s.table.entries.items j no_entry of_name.0) ∙ of_name.1 in
     subst (λ n. best_of n (events s.files.items) ≡ Some (event_at s.files.items (get_or s.table.entries.items j no_entry).file (get_or s.table.entries.items j no_entry).row)) named
     (is.known.knows.each j no_entry of_name.0)
 
@@ -66,7 +66,7 @@ pub leads : (s : Solved) (name : List ℕ) (j : ℕ) (e : Entry) (sort : Sort) �
 unfolding named_in
 leads s name j e sort is of_name entry same =
     ap (led_in s.files.items (noted_of s.imports.items) name)
-        (entry_best s name j is of_name ∙ ap (λ x. Some (event_at s.files.items x.file x.row)) (sym entry))
+    (entry_best s name j is of_name ∙ ap (λ x. Some (event_at s.files.items x.file x.row)) (sym entry))
     ∙ ap (lead_in s.files.items (noted_of s.imports.items) name (event_at s.files.items e.file e.row)) (sym same)
 
 pub leads_nowhere : (s : Solved) (name : List ℕ) → IsSolved s → IsNowhere name (names_of s.files.items s.table.entries.items)

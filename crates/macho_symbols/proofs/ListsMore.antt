@@ -1,5 +1,5 @@
 -- Lists: filters and maps of lists that are joined, or made of a range of indexes.
-use Rattle.std.proofs.Common.{◌≡◌, ℕ, ◌+◌, ◌<◌, ◌≤◌, Bool, true, false, cond, ◌&&◌, Option, Some, None, List, [], ◌∷◌, ◌++◌, length, map, filter, get_or, All, refl, ap, sym, ◌∙◌, arith, suc, zero}
+use Rattle.std.proofs.Common.{◌≡◌, ℕ, ◌+◌, ◌<◌, ◌≤◌, Bool, true, false, cond, ◌&&◌, List, [], ◌∷◌, ◌++◌, length, map, filter, get_or, refl, ap, sym, ◌∙◌, arith, suc, zero}
 use Rattle.std.specs.List.{flat_map, enumerate_from, range_with_len}
 use Rattle.std.proofs.lemmas.List.Elements.{filter-append}
 use Rattle.std.proofs.lemmas.List.{map-append}
@@ -37,6 +37,7 @@ filter_made p q f g h a (suc n) agree = of (q (g a)) refl (filter_made p q f g h
   where
     here : (h (g a) ≡ f a) × (p (f a) ≡ q (g a))
     here = agree a (omega arith) (omega arith)
+
     of : (t : Bool) → q (g a) ≡ t → filter p (map f (range_with_len (a + 1) n)) ≡ map h (filter q (map g (range_with_len (a + 1) n)))
         → filter p (f a ∷ map f (range_with_len (a + 1) n)) ≡ map h (filter q (g a ∷ map g (range_with_len (a + 1) n)))
     of true passes rest = rw (here.1 ∙ passes, passes, rest, ← here.0) refl
@@ -68,10 +69,13 @@ filter-filter p q (x ∷ xs) = of (q x) refl (p x) refl (filter-filter p q xs)
   where
     taken : (t : Bool) → (p x && q x) ≡ t → filter (λ y. p y && q y) (x ∷ xs) ≡ cond t (x ∷ filter (λ y. p y && q y) xs) (filter (λ y. p y && q y) xs)
     taken t is = ap (λ u. cond u (x ∷ filter (λ y. p y && q y) xs) (filter (λ y. p y && q y) xs)) is
+
     first : (t : Bool) → q x ≡ t → filter p (filter q (x ∷ xs)) ≡ filter p (cond t (x ∷ filter q xs) (filter q xs))
     first t is = ap (λ u. filter p (cond u (x ∷ filter q xs) (filter q xs))) is
+
     second : (t : Bool) → p x ≡ t → filter p (x ∷ filter q xs) ≡ cond t (x ∷ filter p (filter q xs)) (filter p (filter q xs))
     second t is = ap (λ u. cond u (x ∷ filter p (filter q xs)) (filter p (filter q xs))) is
+
     of : (t : Bool) → q x ≡ t → (u : Bool) → p x ≡ u → filter p (filter q xs) ≡ filter (λ y. p y && q y) xs → filter p (filter q (x ∷ xs)) ≡ filter (λ y. p y && q y) (x ∷ xs)
     of true passes true both rest = first true passes ∙ second true both ∙ ap (λ ys. x ∷ ys) rest ∙ sym (taken true (ap (λ v. v && q x) both ∙ passes))
     of true passes false fails rest = first true passes ∙ second false fails ∙ rest ∙ sym (taken false (ap (λ v. v && q x) fails))

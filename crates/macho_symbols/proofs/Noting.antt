@@ -1,6 +1,6 @@
 -- Notes added one at a time. A note that is added stands for one row more, and the notes before it still stand for
 -- theirs: a note's name is inside the bytes, and bytes that are added stand behind them.
-use Rattle.std.proofs.Common.{◌≡◌, ℕ, ◌+◌, ◌-◌, ◌<◌, ◌≤◌, Bool, true, false, cond, List, [], ◌∷◌, ◌++◌, length, map, slice_range, take, drop, All, refl, ap, sym, ◌∙◌, arith, append-nil, append_assoc, Bor, length-append, get_or, Some, None, Option}
+use Rattle.std.proofs.Common.{◌≡◌, ℕ, ◌+◌, ◌<◌, ◌≤◌, true, false, List, [], ◌∷◌, ◌++◌, length, map, slice_range, take, refl, ◌∙◌, arith, append-nil, append_assoc, Bor, length-append, get_or}
 use Rattle.std.specs.List.{range_with_len, filter}
 use Rattle.std.proofs.lemmas.List.{map-append, take_more}
 use Rattle.macho_stub_lines.specs.Lists.{texts}
@@ -10,10 +10,9 @@ use Rattle.macho_symbols.proofs.Lists.{range_push, filter_one, filter_none, map_
 use Rattle.std.proofs.lemmas.List.FromFn.{map-range_with_len_more}
 use Rattle.std.proofs.lemmas.List.Elements.{All-push, All-nil}
 use Rattle.macho_symbols.specs.declared.notes.Note.{Note}
-use Rattle.macho_symbols.specs.declared.notes.Name.{Name}
-use Rattle.macho_symbols.specs.Kept.{Row, row_of_symbol, rows_of_object, rows_of_dylib, rows_of_stub, is_offered, offered_row}
-use Rattle.macho_model.specs.Objects.{num_symbols, symbol_name}
-use Rattle.macho_symbols.specs.steps.Notes.{row_in, IsWithin, CommonFits, IsHeld, AreNoted, IsString}
+use Rattle.macho_symbols.specs.Kept.{Row, row_of_symbol, rows_of_stub, is_offered, offered_row}
+use Rattle.macho_model.specs.Objects.{symbol_name}
+use Rattle.macho_symbols.specs.steps.Notes.{row_in, IsWithin, CommonFits, AreNoted, IsString}
 
 offered_fits : (n : Note) → n.sort ≡ Offered → CommonFits n.sort n.number n.value
 offered_fits n is = rw is tt
@@ -89,5 +88,10 @@ stub_noted text notes names weak_names noted = rw (map-append offered_row names 
 pub texts_more : (rows : List Row) (names : List (Bor (List ℕ))) (i : ℕ) (d : Bor (List ℕ)) (bytes : List ℕ) → i < length names → bytes ≡ (get_or names i d).now
     → rows ++ map offered_row (texts (take (i + 1) names)) ≡ (rows ++ map offered_row (texts (take i names))) ++ offered_row bytes ∷ []
 texts_more rows names i d bytes within is =
-    rw (take_more names i d within, map-append (λ (n : Bor (List ℕ)). n.now) (take i names) (get_or names i d ∷ []),
-        map-append offered_row (texts (take i names)) ((get_or names i d).now ∷ []), is, append_assoc rows (map offered_row (texts (take i names))) _) refl
+    rw (
+      take_more names i d within,
+      map-append (λ (n : Bor (List ℕ)). n.now) (take i names) (get_or names i d ∷ []),
+      map-append offered_row (texts (take i names)) ((get_or names i d).now ∷ []),
+      is,
+      append_assoc rows (map offered_row (texts (take i names))) _,
+    ) refl

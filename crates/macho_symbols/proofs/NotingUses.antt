@@ -1,30 +1,24 @@
 -- An import noted. Its name gets the number that comes next, and no other name's number changes: names that are noted stay
 -- where they are, and names that aren't have the length as their number, before and after.
-use Rattle.std.proofs.Common.{◌≡◌, ℕ, ◌+◌, ◌<◌, ◌≤◌, ◌≢◌, ◌⊎◌, inl, inr, Bool, true, false, cond, Option, Some, None, List, [], ◌∷◌, ◌++◌, length, map, get_or, set, All, refl, ap, subst, sym, ◌∙◌, arith, length-append, length-set, eqb, if◌then◌else◌}
-use Rattle.std.specs.List.{position_or_len}
+use Rattle.std.proofs.Common.{◌≡◌, ℕ, ◌+◌, ◌<◌, ◌≢◌, inl, inr, Bool, true, false, cond, Some, List, [], ◌∷◌, ◌++◌, length, get_or, set, refl, ap, sym, ◌∙◌, arith, length-append, length-set, eqb, if◌then◌else◌}
 use Rattle.std.specs.Str.{bytes_eq}
 use Rattle.std.proofs.lemmas.Bool.Decides.{nat_tests}
-use Rattle.std.proofs.lemmas.List.{get_or-set_same, get_or-set_other, map-append, length-map}
-use Rattle.std.proofs.lemmas.List.Elements.{All-push}
+use Rattle.std.proofs.lemmas.List.{get_or-set_same, get_or-set_other}
 use Rattle.std.proofs.lemmas.List.Folds.{position_or_len_push}
 use Rattle.macho_stub_lines.proofs.Bind.{bytes_same, bytes_differ}
-use Rattle.macho_model.specs.declared.targets.Target.{Target}
 use Rattle.macho_model.specs.declared.targets.Target.TheVariants as target
 use Rattle.macho_model.specs.Resolution.{Library, DSO_HANDLE}
 use Rattle.macho_model.specs.Needs.{import_number}
 use Rattle.macho_symbols.specs.declared.notes.Sort.{Sort}
 use Rattle.macho_symbols.specs.declared.notes.Sort.TheVariants.{Section, Absolute, Common as CommonSort, Offered, Nowhere}
-use Rattle.macho_symbols.specs.declared.solved.Import.{Import}
 use Rattle.macho_symbols.specs.declared.solved.Solved.{Solved}
 use Rattle.macho_symbols.specs.declared.solved.TheConstants.{UNNUMBERED}
-use Rattle.macho_symbols.specs.declared.table.Entry.{Entry}
 use Rattle.macho_symbols.specs.Kept.{FileRows}
-use Rattle.macho_symbols.specs.steps.Events.{Event, row_at, event_at, events, best_of}
-use Rattle.macho_symbols.specs.steps.Tables.{IsEntryOf, IsNowhere, names_of, entry_name, no_entry}
-use Rattle.macho_symbols.specs.steps.Targets.{named_in, led_in, lead_in, own_in, base_target, image_base, definition_by, defined_as}
-use Rattle.macho_symbols.specs.steps.Solved.{IsSolved, IsNumbered, IsImportIn, noted_of, library_in}
+use Rattle.macho_symbols.specs.steps.Events.{Event, events, best_of}
+use Rattle.macho_symbols.specs.steps.Tables.{IsEntryOf, IsNowhere, names_of, no_entry}
+use Rattle.macho_symbols.specs.steps.Targets.{named_in, lead_in, image_base, definition_by, defined_as}
+use Rattle.macho_symbols.specs.steps.Solved.{IsSolved, IsNumbered, noted_of}
 use Rattle.macho_symbols.proofs.Leading.{entry_best, leads_nowhere}
-use Rattle.macho_symbols.proofs.KnowingBetter.{apart_any}
 use Rattle.macho_symbols.proofs.ChainsMore.{same_or_not}
 
 -- the number of a name among the noted ones, with one more
@@ -68,14 +62,14 @@ pub numbers_more : (names : List (List ℕ)) (noted : List (List ℕ)) (numbers 
     → import_number noted name ≡ length noted → n ≡ length noted → length noted < UNNUMBERED
     → (j : ℕ) → j < length (set numbers number n) → IsNumbered (noted ++ name ∷ []) (get_or names j []) (get_or (set numbers number n) j 0)
 numbers_more names noted numbers name number n all long within is apart fresh next few j h = elim (same_or_not j number) [
-      inl same ↦
-        rw (ap (λ k. get_or names k []) same ∙ is, ap (λ k. get_or (set numbers number n) k 0) same ∙ get_or-set_same numbers number n 0 (omega (arith, within, long)))
-        (numbered_new noted name n fresh next few)
-    | inr other ↦
-        rw (get_or-set_other numbers number j n 0 other)
-        (numbered_other noted name (get_or names j []) (get_or numbers j 0) (all j (omega (arith, h, length-set numbers number n)))
-            (λ e. apart j (omega (arith, h, length-set numbers number n, long)) other (e ∙ sym is)))
-    ]
+  | inl same ↦
+      rw (ap (λ k. get_or names k []) same ∙ is, ap (λ k. get_or (set numbers number n) k 0) same ∙ get_or-set_same numbers number n 0 (omega (arith, within, long)))
+      (numbered_new noted name n fresh next few)
+  | inr other ↦
+      rw (get_or-set_other numbers number j n 0 other)
+      (numbered_other noted name (get_or names j []) (get_or numbers j 0) (all j (omega (arith, h, length-set numbers number n)))
+      (λ e. apart j (omega (arith, h, length-set numbers number n, long)) other (e ∙ sym is)))
+]
 
 -- a name that leads to an import is offered by a library
 offered_sort : (files : List FileRows) (noted : List (List ℕ)) (name : List ℕ) (e : Event) (sort : Sort) (n : ℕ) → lead_in files noted name e sort ≡ target.Import n

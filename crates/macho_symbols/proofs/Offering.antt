@@ -1,24 +1,21 @@
 -- The libraries that offer a name. A library offers it where some of its rows has it; so the first event of an offered name
 -- is of the first library that offers it, and there is none where no library does.
-use Rattle.std.proofs.Common.{◌≡◌, ℕ, ◌+◌, ◌<◌, ◌≤◌, ◌⊎◌, inl, inr, Bool, true, false, cond, ◌&&◌, ◌||◌, ◌==◌, not, if◌then◌else◌, List, [], ◌∷◌, ◌++◌, length, map, filter, get_or, refl, ap, subst, sym, ◌∙◌, arith, suc, zero}
-use Rattle.std.specs.List.{list_any, range_with_len, flat_map, enumerate_from}
+use Rattle.std.proofs.Common.{◌≡◌, ℕ, ◌+◌, ◌<◌, ◌≤◌, ◌⊎◌, inl, inr, Bool, true, false, cond, ◌&&◌, ◌||◌, ◌==◌, if◌then◌else◌, List, [], ◌∷◌, ◌++◌, length, map, filter, get_or, refl, ap, sym, ◌∙◌, arith, suc, zero}
+use Rattle.std.specs.List.{list_any, range_with_len, flat_map}
 use Rattle.std.specs.Str.{bytes_eq}
 use Rattle.std.proofs.lemmas.Bool.{false≢true}
 use Rattle.std.proofs.lemmas.List.{get_or-map, length-map, map-id}
 use Rattle.std.proofs.lemmas.List.Folds.{list_any-append}
-use Rattle.std.proofs.lemmas.List.FromFn.{length-map-range_with_len}
 use Rattle.macho_model.specs.Links.{Input, Object, Dylib, Stub, Link, no_input, object_of}
 use Rattle.macho_model.specs.Objects.{num_symbols, symbol_name, symbol_at}
-use Rattle.macho_model.specs.Resolution.{offers, libraries_with, is_offered_symbol}
-use Rattle.macho_symbols.specs.declared.notes.Sort.{Sort}
-use Rattle.macho_symbols.specs.declared.notes.Sort.TheVariants.{Section, Absolute, Common, Offered, Nowhere}
-use Rattle.macho_symbols.specs.Kept.{Row, FileRows, no_file, no_row, kept_of, row_of_symbol, rows_of_object, rows_of_dylib, rows_of_stub, offered_row, is_offered, sort_of, in_carried}
+use Rattle.macho_model.specs.Resolution.{offers, libraries_with}
+use Rattle.macho_symbols.specs.declared.notes.Sort.TheVariants.{Section, Absolute, Common, Nowhere}
+use Rattle.macho_symbols.specs.Kept.{FileRows, no_file, no_row, kept_of, row_of_symbol, rows_of_dylib, rows_of_stub, offered_row, is_offered, sort_of, in_carried}
 use Rattle.macho_symbols.specs.steps.Events.{Event, row_at, row_count, event_at, events_of_file, events_of, events, strength, strength_of, is_of}
 use Rattle.macho_records.specs.declared.symbols.SymtabEntry.{SymtabEntry}
 use Rattle.macho_records.specs.Symbols.{is_common_of, is_weak_of}
 use Rattle.macho_model.specs.Symbols.{is_absolute}
 use Rattle.macho_symbols.proofs.Chains.{cases_eq}
-use Rattle.macho_symbols.proofs.Best.{and_false}
 use Rattle.macho_symbols.proofs.Bridge.{file_at, row_kept, count_kept}
 use Rattle.macho_symbols.proofs.ListsMore.{enumerated, filter-flat_map, filter-map, filter_nothing}
 
@@ -137,9 +134,9 @@ unfolding events_of_file row_of_symbol
 no_offering l name i (Object b) within is no_offer =
     filter_nothing (is_offering name) (event_at (map kept_of l.inputs) i) 0 (row_count (map kept_of l.inputs) i)
     (λ k low high.
-        let row = row_kept l i k b within is (omega (arith, high, count_kept l i b within is)) in
-        let weaker : (strength (row_at (map kept_of l.inputs) i k) == 1) ≡ false = ap (λ r. strength r == 1) row ∙ object_sort (object_of l i) (symbol_at (object_of l i) k) in
-        ap (λ t. t && is_of name (event_at (map kept_of l.inputs) i k)) weaker)
+    let row = row_kept l i k b within is (omega (arith, high, count_kept l i b within is)) in
+    let weaker : (strength (row_at (map kept_of l.inputs) i k) == 1) ≡ false = ap (λ r. strength r == 1) row ∙ object_sort (object_of l i) (symbol_at (object_of l i) k) in
+    ap (λ t. t && is_of name (event_at (map kept_of l.inputs) i k)) weaker)
 no_offering l name i (Dylib b) within is no_offer =
     filter_nothing (is_offering name) (event_at (map kept_of l.inputs) i) 0 (row_count (map kept_of l.inputs) i)
     (λ k low high. library_not l name i k (Dylib b) within (library_rows l i (Dylib b) within is (λ c e. cc)) (omega (arith, high)) no_offer)
@@ -180,11 +177,14 @@ begins_at l name a (suc n) within = of (get_or l.inputs a no_input) refl (offers
   where
     here : a < length l.inputs
     here = omega (arith, within)
+
     test : ℕ → Bool
     test i = offers name (get_or l.inputs i no_input)
+
     without : test a ≡ false → offering_in l name a ≡ [] → Begins (map kept_of l.inputs) (filter test (range_with_len (a + 1) n)) (flat_map (offering_in l name) (range_with_len (a + 1) n))
         → Begins (map kept_of l.inputs) (filter test (range_with_len a (suc n))) (flat_map (offering_in l name) (range_with_len a (suc n)))
     without fails none rest = rw (fails, none) rest
+
     with_first : test a ≡ true → (j : ℕ) × (more : List Event) × (offering_in l name a ≡ event_at (map kept_of l.inputs) a j ∷ more)
         → Begins (map kept_of l.inputs) (filter test (range_with_len a (suc n))) (flat_map (offering_in l name) (range_with_len a (suc n)))
     with_first passes some = record {
@@ -194,8 +194,10 @@ begins_at l name a (suc n) within = of (get_or l.inputs a no_input) refl (offers
       where
         none_empty : event_at (map kept_of l.inputs) a some.0 ∷ (some.1 ++ flat_map (offering_in l name) (range_with_len (a + 1) n)) ≡ [] → ⊥
         none_empty e = cc
+
         is_file : (b : Event) (more : List Event) → event_at (map kept_of l.inputs) a some.0 ∷ (some.1 ++ flat_map (offering_in l name) (range_with_len (a + 1) n)) ≡ b ∷ more → a ≡ b.file
         is_file b more e = let same : event_at (map kept_of l.inputs) a some.0 ≡ b = cc in ap (λ x. x.file) same
+
     of : (x : Input) → get_or l.inputs a no_input ≡ x → (t : Bool) → test a ≡ t → Begins (map kept_of l.inputs) (filter test (range_with_len (a + 1) n)) (flat_map (offering_in l name) (range_with_len (a + 1) n))
         → Begins (map kept_of l.inputs) (filter test (range_with_len a (suc n))) (flat_map (offering_in l name) (range_with_len a (suc n)))
     of x is false fails rest = without fails (no_offering l name a x here is (ap (offers name) (sym is) ∙ fails)) rest

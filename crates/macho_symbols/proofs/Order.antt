@@ -96,6 +96,7 @@ ties_strength a b s is other = of (strength b == s) refl
   where
     size_a : common_size a ≡ 0
     size_a = no_size a (ap (λ n. n == 2) is ∙ other)
+
     of : (t : Bool) → (strength b == s) ≡ t → ties a b ≡ t
     of true same =
         let level : strength b ≡ s = equal_by_test (strength b) s same in

@@ -1,17 +1,16 @@
 -- Events taken in one after another: what is known grows by them, in their order, and a clash among the first ones is one
 -- among all.
-use Rattle.std.proofs.Common.{◌≡◌, ℕ, ◌+◌, ◌<◌, ◌≤◌, Bool, true, false, List, [], ◌∷◌, ◌++◌, length, map, filter, get_or, refl, ap, subst, sym, ◌∙◌, arith, append-nil, append_assoc, zero, suc, ◌-◌}
-use Rattle.std.specs.List.{flat_map, range_with_len}
+use Rattle.std.proofs.Common.{◌≡◌, ℕ, ◌+◌, ◌<◌, true, false, List, [], ◌∷◌, ◌++◌, filter, refl, ap, sym, ◌∙◌, arith, append-nil, append_assoc, zero, suc, ◌-◌}
+use Rattle.std.specs.List.{range_with_len}
 use Rattle.std.proofs.lemmas.List.FromFn.{map-range_with_len_more}
-use Rattle.std.proofs.lemmas.List.{map-append}
 use Rattle.std.proofs.lemmas.List.Elements.{filter-append}
 use Rattle.std.proofs.lemmas.List.Concat.{flat_map-append}
 use Rattle.macho_symbols.specs.declared.table.Entry.{Entry}
 use Rattle.macho_symbols.specs.declared.fault.SymbolFault.{SymbolFault}
 use Rattle.macho_symbols.specs.declared.fault.SymbolFault.TheVariants.{DuplicateSymbol, UndefinedSymbol, ExportListMissing, OutOfMemory}
-use Rattle.macho_symbols.specs.Kept.{FileRows, no_file}
+use Rattle.macho_symbols.specs.Kept.{FileRows}
 use Rattle.macho_symbols.specs.steps.Events.{Event, row_at, row_count, event_at, events_of_file, events_of, is_strong_of}
-use Rattle.macho_symbols.specs.steps.Tables.{Knows, IsTable, IsKnown, IsClash, AreTwo, TakesIn, Refuses, IsNowhere, IsAdded, IsImproved, IsEntryOf, AreBothStrong, IsNameless, names_of}
+use Rattle.macho_symbols.specs.steps.Tables.{IsTable, IsKnown, IsClash, TakesIn, Refuses, IsNowhere, IsAdded, IsImproved, IsEntryOf, AreBothStrong, names_of}
 use Rattle.macho_symbols.proofs.Lists.{range_push}
 use Rattle.macho_symbols.proofs.Knowing.{knows_nameless, knows_added}
 use Rattle.macho_symbols.proofs.KnowingBetter.{knows_improved, clash_told}
@@ -91,18 +90,20 @@ files_more files count =
 pub file_rows_split : (files : List FileRows) (file row more : ℕ) → (rest : List Event) × (events_of_file files file (row + more) ≡ events_of_file files file row ++ rest)
 file_rows_split files file row zero = ([], ap (events_of_file files file) (omega arith) ∙ sym (append-nil (events_of_file files file row)))
 file_rows_split files file row (suc more) =
-    let before = file_rows_split files file row more in
-    (before.0 ++ event_at files file (row + more) ∷ [],
-     ap (events_of_file files file) (omega arith) ∙ file_rows_more files file (row + more) ∙ ap (λ xs. xs ++ event_at files file (row + more) ∷ []) before.1
-     ∙ append_assoc (events_of_file files file row) before.0 (event_at files file (row + more) ∷ []))
+    let before = file_rows_split files file row more in (
+      before.0 ++ event_at files file (row + more) ∷ [],
+      ap (events_of_file files file) (omega arith) ∙ file_rows_more files file (row + more) ∙ ap (λ xs. xs ++ event_at files file (row + more) ∷ []) before.1
+          ∙ append_assoc (events_of_file files file row) before.0 (event_at files file (row + more) ∷ []),
+    )
 
 pub files_split : (files : List FileRows) (few more : ℕ) → (rest : List Event) × (events_of files (few + more) ≡ events_of files few ++ rest)
 files_split files few zero = ([], ap (events_of files) (omega arith) ∙ sym (append-nil (events_of files few)))
 files_split files few (suc more) =
     let before = files_split files few more in
-    let next = events_of_file files (few + more) (row_count files (few + more)) in
-    (before.0 ++ next,
-     ap (events_of files) (omega arith) ∙ files_more files (few + more) ∙ ap (λ xs. xs ++ next) before.1 ∙ append_assoc (events_of files few) before.0 next)
+    let next = events_of_file files (few + more) (row_count files (few + more)) in (
+      before.0 ++ next,
+      ap (events_of files) (omega arith) ∙ files_more files (few + more) ∙ ap (λ xs. xs ++ next) before.1 ∙ append_assoc (events_of files few) before.0 next,
+    )
 
 -- a clash among the first rows, or the first files, is one among all
 pub refuses_file : (files : List FileRows) (heads : List ℕ) (entries : List Entry) (heads' : List ℕ) (entries' : List Entry) (file row count : ℕ) (fault : SymbolFault) → row < count
@@ -111,7 +112,7 @@ pub refuses_file : (files : List FileRows) (heads : List ℕ) (entries : List En
 refuses_file files heads entries heads' entries' file row count fault less taken refused =
     let rest = file_rows_split files file (row + 1) (count - (row + 1)) in
     let all : events_of_file files file count ≡ (events_of_file files file row ++ event_at files file row ∷ []) ++ rest.0 =
-        ap (events_of_file files file) (omega arith) ∙ rest.1 ∙ ap (λ xs. xs ++ rest.0) (file_rows_more files file row) in
+    ap (events_of_file files file) (omega arith) ∙ rest.1 ∙ ap (λ xs. xs ++ rest.0) (file_rows_more files file row) in
     rw all (refuses_more files heads entries _ rest.0 fault (refuses_then files heads entries heads' entries' _ _ fault taken refused))
 
 pub clash_in_files : (files : List FileRows) (heads : List ℕ) (entries : List Entry) (file count : ℕ) (fault : SymbolFault) → file < count
@@ -120,7 +121,7 @@ pub clash_in_files : (files : List FileRows) (heads : List ℕ) (entries : List 
 clash_in_files files heads entries file count fault less known refused =
     let rest = files_split files (file + 1) (count - (file + 1)) in
     let all : events_of files count ≡ (events_of files file ++ events_of_file files file (row_count files file)) ++ rest.0 =
-        ap (events_of files) (omega arith) ∙ rest.1 ∙ ap (λ xs. xs ++ rest.0) (files_more files file) in
+    ap (events_of files) (omega arith) ∙ rest.1 ∙ ap (λ xs. xs ++ rest.0) (files_more files file) in
     rw all (clash_more _ rest.0 fault (refused.says (events_of files file) known))
 
 -- no rows, no files

@@ -1,34 +1,31 @@
 -- Where names and symbols lead by the model, and by the rows. The definition of a name is what its best event gives it. A
 -- best event of an object is a symbol of the link with its row, and a symbol leads by itself where its row does: into its
 -- section, to its value, or to its number among the commons that define their names.
-use Rattle.std.proofs.Common.{◌≡◌, ℕ, ◌-◌, ◌<◌, ◌≤◌, ◌⊎◌, inl, inr, Bool, true, false, ◌&&◌, ◌||◌, ◌==◌, not, if◌then◌else◌, Option, Some, None, List, [], ◌∷◌, length, map, filter, get_or, All, is_none, suc, refl, ap, subst, sym, ◌∙◌, arith}
+use Rattle.std.proofs.Common.{◌≡◌, ℕ, ◌-◌, ◌<◌, ◌≤◌, Bool, true, false, ◌&&◌, ◌||◌, ◌==◌, not, if◌then◌else◌, Option, Some, None, List, [], ◌∷◌, length, map, filter, get_or, All, is_none, suc, refl, ap, sym, ◌∙◌, arith}
 use Rattle.std.proofs.lemmas.List.{length-map}
 use Rattle.std.proofs.lemmas.List.Elements.{filter_passes}
 use Rattle.std.specs.List.{position_or_len}
 use Rattle.std.specs.Str.{bytes_eq}
 use Rattle.std.proofs.lemmas.Bool.{false≢true}
-use Rattle.macho_records.specs.declared.symbols.SymtabEntry.{SymtabEntry}
 use Rattle.macho_records.specs.Symbols.{is_common_of, is_weak_of, is_stab_of, is_external_of, is_defined_of, is_absolute_of}
-use Rattle.macho_model.specs.declared.targets.Target.{Target}
 use Rattle.macho_model.specs.declared.targets.Target.TheVariants as target
-use Rattle.macho_model.specs.Symbols.{is_absolute, is_in_section, is_global, is_local}
+use Rattle.macho_model.specs.Symbols.{is_absolute, is_global}
 use Rattle.macho_model.specs.Objects.{section_at}
 use Rattle.macho_model.specs.Links.{Link, Input, Object, Dylib, Stub, no_input, object_of, is_carried}
-use Rattle.macho_model.specs.Resolution.{SymbolId, Definition, Symbol, Library, ImageBase, DSO_HANDLE, symbols_of, entry_at, name_at, same_symbol, is_symbol, defines, definition_of, chosen_commons, stands_in_carried, strong_of}
+use Rattle.macho_model.specs.Resolution.{SymbolId, ImageBase, DSO_HANDLE, symbols_of, entry_at, name_at, same_symbol, is_symbol, defines, definition_of, chosen_commons, stands_in_carried, strong_of}
 use Rattle.macho_model.specs.Faults.{IsDuplicate}
 use Rattle.macho_symbols.specs.declared.fault.SymbolFault.{SymbolFault}
 use Rattle.macho_symbols.specs.declared.fault.SymbolFault.TheVariants.{DuplicateSymbol, UndefinedSymbol, ExportListMissing, OutOfMemory}
 use Rattle.macho_symbols.specs.steps.Tables.{IsClash}
-use Rattle.macho_model.specs.Needs.{import_number}
 use Rattle.macho_model.specs.Targets.{own_target, definition_target, target_with}
 use Rattle.macho_symbols.specs.declared.notes.Sort.{Sort}
 use Rattle.macho_symbols.specs.declared.notes.Sort.TheVariants.{Section, Absolute, Common, Offered, Nowhere}
-use Rattle.macho_symbols.specs.Kept.{Row, FileRows, kept_of, row_of_symbol, sort_of, in_carried, kept_name, offered_row, no_file, ResolvedRows, IsResolved, HasSymbol, symbol_id}
+use Rattle.macho_symbols.specs.Kept.{kept_of, row_of_symbol, sort_of, in_carried, kept_name, no_file, ResolvedRows, IsResolved, HasSymbol, symbol_id}
 use Rattle.macho_symbols.specs.Told.{common_of, IsDuplicateOf}
 use Rattle.macho_symbols.specs.steps.Solved.{common_told}
 use Rattle.macho_symbols.specs.steps.Events.{Event, event_at, row_count, events, strength, strength_of, best_of, is_level, is_strong_of}
 use Rattle.macho_symbols.specs.steps.Targets.{row_of, event_of, id_of, image_base, defined_as, definition_by, is_of_object, defines_in, chosen_in, own_in, base_target, lead_in, led_in, named_in, target_in}
-use Rattle.macho_symbols.proofs.Best.{best_is, IsBest, and_false}
+use Rattle.macho_symbols.proofs.Best.{best_is, IsBest}
 use Rattle.macho_symbols.proofs.Bridge.{passing, row_kept, count_kept, file_at}
 use Rattle.macho_symbols.proofs.Classes.{common_alone, strong_class}
 use Rattle.macho_symbols.proofs.Defined.{definition_is}
@@ -47,6 +44,7 @@ best_symbol l name b is object = of (filter (λ s. is_level name b (event_of l s
   where
     es : List Event
     es = events (map kept_of l.inputs)
+
     firsts : map (event_of l) (filter (λ s. is_level name b (event_of l s)) (filter (λ s. is_of_object (row_of l s).sort) (symbols_of l)))
         ≡ b ∷ filter (λ e. is_of_object e.row.sort) is.more
     firsts =
@@ -56,6 +54,7 @@ best_symbol l name b is object = of (filter (λ s. is_level name b (event_of l s
         ∙ filter-filter (is_level name b) object_rows (events (map kept_of l.inputs))
         ∙ filter_same_test _ _ (events (map kept_of l.inputs)) (λ x. swap (is_level name b x) (object_rows x))
         ∙ sym (filter-filter object_rows (is_level name b) (events (map kept_of l.inputs))) ∙ ap (filter object_rows) is.first ∙ rw object refl
+
     of : (zs : List SymbolId) → map (event_of l) zs ≡ b ∷ filter (λ e. is_of_object e.row.sort) is.more → b ≡ event_of l (id_of b)
     of [] e = cc
     of (z ∷ zs) e = let same : event_of l z ≡ b = cc in sym same ∙ ap (λ x. event_of l (id_of x)) same
@@ -106,7 +105,7 @@ chosen_is l =
     ∙ ap (filter (defines_in files)) (sym (passing l (λ r. strength r == 2) (λ n. refl)))
     ∙ filter-map (defines_in files) (event_of l) commons
     ∙ ap (map (event_of l)) (filter-filter (λ s. defines_in files (event_of l s)) (λ s. strength (row_of l s) == 2) (symbols_of l)
-        ∙ filter_same_test _ _ (symbols_of l) (λ s. ap (λ t. t && (strength (row_of l s) == 2)) (defines_is l s) ∙ ap (λ t. defines l s && t) (is_common_row l s) ∙ swap (defines l s) (is_common_of (entry_at l s))))
+    ∙ filter_same_test _ _ (symbols_of l) (λ s. ap (λ t. t && (strength (row_of l s) == 2)) (defines_is l s) ∙ ap (λ t. defines l s && t) (is_common_row l s) ∙ swap (defines l s) (is_common_of (entry_at l s))))
 
 ids_back : (l : Link) (xs : List SymbolId) → map id_of (map (event_of l) xs) ≡ xs
 ids_back l [] = refl
@@ -153,6 +152,7 @@ named_is l noted name = of (best_of name (events (map kept_of l.inputs))) refl �
     led b is Common same = sym (own_best l name b Common is same refl)
     led b is Offered same = refl
     led b is Nowhere same = sym (base_is l noted name)
+
     of : (o : Option Event) → best_of name (events (map kept_of l.inputs)) ≡ o → led_in (map kept_of l.inputs) noted name o ≡ definition_target l noted name (definition_by name o)
     of None e = sym (base_is l noted name)
     of (Some b) e = led b (best_is name (events (map kept_of l.inputs)) b e) b.row.sort refl
@@ -189,7 +189,7 @@ target_is l noted s = of (is_global (entry_at l s)) refl
         let common = no_common l s (is_common_of (entry_at l s)) refl local in
         let own = sym (own_is l s) ∙ sym (own_else l s common) in
         let test = local_test (is_stab_of (entry_at l s)) (is_external_of (entry_at l s)) (is_defined_of (entry_at l s)) (is_carried (section_at (object_of l s.file) ((entry_at l s).n_sect - 1)))
-            (is_absolute_of (entry_at l s)) (own_target l s) target.None local in
+        (is_absolute_of (entry_at l s)) (own_target l s) target.None local in
         rw local (own ∙ sym test)
 
 -- a chosen common, by its row and by the link
@@ -221,6 +221,7 @@ symbol_kept l noted r file symbol is there = of (get_or l.inputs file no_input) 
   where
     within : file < length l.inputs
     within = omega (arith, there.0, ap length is.keeps, length-map l.inputs kept_of)
+
     of : (x : Input) → get_or l.inputs file no_input ≡ x → event_at r.files file symbol ≡ event_of l (symbol_id file symbol)
     of (Object b) input =
         let count = count_kept l file b within input in
@@ -261,9 +262,17 @@ clash_is l (DuplicateSymbol name first second) clash = of (strong_of l name.item
     of (x ∷ []) is e = cc
     of (x ∷ (y ∷ ys)) is e =
         let left : event_of l x ≡ clash.a = cc in
-        let right : event_of l y ≡ clash.b = cc in
-        (0, 1, x, y, omega arith, (omega (arith, ap length is), ap (λ zs. get_or zs 0 x) is), (omega (arith, ap length is), ap (λ zs. get_or zs 1 y) is),
-         ap (λ z. z.file) left ∙ clash.left, ap (λ z. z.file) right ∙ clash.right)
+        let right : event_of l y ≡ clash.b = cc in (
+          0,
+          1,
+          x,
+          y,
+          omega arith,
+          (omega (arith, ap length is), ap (λ zs. get_or zs 0 x) is),
+          (omega (arith, ap length is), ap (λ zs. get_or zs 1 y) is),
+          ap (λ z. z.file) left ∙ clash.left,
+          ap (λ z. z.file) right ∙ clash.right,
+        )
 
 -- no name has two of them, where the events have none
 pub single_is : (l : Link) (name : List ℕ) → length (filter (is_strong_of name) (events (map kept_of l.inputs))) ≤ 1 → length (strong_of l name) ≤ 1

@@ -1,17 +1,16 @@
 -- What a use notes, by the rows and by the link. A name leads to an import exactly where a library defines it, and to
 -- nothing exactly where nothing does; its number is the next one exactly where it isn't noted.
-use Rattle.std.proofs.Common.{◌≡◌, ℕ, ◌+◌, ◌<◌, ◌≤◌, ◌⊎◌, inl, inr, All, get_or, Bool, true, false, cond, ◌&&◌, ◌||◌, ◌==◌, not, if◌then◌else◌, Option, Some, None, is_none, List, [], ◌∷◌, ◌++◌, length, map, refl, ap, subst, sym, ◌∙◌, arith, suc, OnOk, IfOk, IfErr, Result, Ok, Err}
+use Rattle.std.proofs.Common.{◌≡◌, ℕ, ◌+◌, ◌<◌, ◌≤◌, ◌⊎◌, inl, inr, All, get_or, Bool, true, false, ◌&&◌, ◌||◌, ◌==◌, not, if◌then◌else◌, Option, Some, None, is_none, List, [], ◌∷◌, ◌++◌, length, map, refl, ap, subst, sym, ◌∙◌, arith, suc, OnOk, IfOk, IfErr, Result, Ok, Err}
 use Rattle.std.specs.List.{position_or_len, list_any}
 use Rattle.std.specs.Str.{bytes_eq}
-use Rattle.std.proofs.lemmas.Bool.{false≢true, cases_lt}
+use Rattle.std.proofs.lemmas.Bool.{cases_lt}
 use Rattle.std.proofs.lemmas.List.{length-map, get_or-map, get_or_past}
 use Rattle.std.proofs.lemmas.Bool.Decides.{nat_tests}
-use Rattle.macho_model.specs.declared.targets.Target.{Target}
 use Rattle.macho_model.specs.declared.targets.Target.TheVariants as target
 use Rattle.macho_model.specs.Symbols.{is_global}
 use Rattle.macho_model.specs.Links.{Link, Input, Object, Dylib, Stub, no_input, object_of}
 use Rattle.macho_model.specs.Resolution.{SymbolId, ImageBase, DSO_HANDLE, entry_at, name_at, definition_of, library_name, install_name_in}
-use Rattle.macho_model.specs.Needs.{import_number, is_library, is_imported}
+use Rattle.macho_model.specs.Needs.{is_library, is_imported}
 use Rattle.macho_symbols.specs.declared.notes.Sort.{Sort}
 use Rattle.macho_symbols.specs.declared.notes.Sort.TheVariants.{Section, Absolute, Common, Offered, Nowhere}
 use Rattle.macho_symbols.specs.declared.fault.SymbolFault.{SymbolFault}
@@ -20,7 +19,7 @@ use Rattle.macho_symbols.specs.Kept.{FileRows, ResolvedRows, IsResolved, HasSymb
 use Rattle.macho_symbols.specs.Told.{noting, IsDefined, IsUndefined, ImportsAre}
 use Rattle.macho_symbols.specs.declared.solved.Import.{Import}
 use Rattle.macho_symbols.specs.steps.Events.{Event, event_at, events, best_of, library_text}
-use Rattle.macho_symbols.specs.steps.Targets.{event_of, image_base, base_target, defined_as, definition_by, lead_in, led_in, named_in, is_next, is_nothing, noting_in}
+use Rattle.macho_symbols.specs.steps.Targets.{event_of, defined_as, definition_by, lead_in, led_in, named_in, is_next, is_nothing, noting_in}
 use Rattle.macho_symbols.specs.steps.Solved.{IsFoundIn, IsUndefinedIn, IsImportIn, noted_of, library_in}
 use Rattle.macho_symbols.proofs.Defined.{definition_is}
 use Rattle.macho_symbols.proofs.Targeted.{symbol_kept}
@@ -56,6 +55,7 @@ nothing_by files noted name (Some e) = sorts e.row.sort
     of : (t : Bool) → is_nothing (if t then target.Base else target.None) ≡ is_none (if t then Some ImageBase else None)
     of true = refl
     of false = refl
+
     sorts : (sort : Sort) → is_nothing (lead_in files noted name e sort) ≡ is_none (defined_as name sort e)
     sorts Section = refl
     sorts Absolute = refl
@@ -75,6 +75,7 @@ next_by files noted name (Some e) = sorts e.row.sort
     of : (t : Bool) → is_next (length noted) (if t then target.Base else target.None) ≡ (is_library (if t then Some ImageBase else None) && not (list_any (bytes_eq name) noted))
     of true = refl
     of false = refl
+
     sorts : (sort : Sort) → is_next (length noted) (lead_in files noted name e sort) ≡ (is_library (defined_as name sort e) && not (list_any (bytes_eq name) noted))
     sorts Section = refl
     sorts Absolute = refl
@@ -106,8 +107,8 @@ pub noted_here : (l : Link) (noted : List (List ℕ)) (r q : ResolvedRows) (file
 noted_here l noted r q file symbol is there files notes = record {
   keeps = files ∙ is.keeps;
   notes =
-    notes ∙ ap (noting_in r.files r.noted) (symbol_kept l noted r file symbol is there) ∙ ap (λ fs. noting_in fs r.noted (event_of l (symbol_id file symbol))) is.keeps
-    ∙ ap (λ ns. noting_in (map kept_of l.inputs) ns (event_of l (symbol_id file symbol))) is.notes ∙ noting_is l noted (symbol_id file symbol);
+      notes ∙ ap (noting_in r.files r.noted) (symbol_kept l noted r file symbol is there) ∙ ap (λ fs. noting_in fs r.noted (event_of l (symbol_id file symbol))) is.keeps
+      ∙ ap (λ ns. noting_in (map kept_of l.inputs) ns (event_of l (symbol_id file symbol))) is.notes ∙ noting_is l noted (symbol_id file symbol);
 }
 
 -- what an answer says, said in other words
@@ -154,9 +155,12 @@ undefined_here l noted r file symbol is there (ExportListMissing name) told = to
 undefined_here l noted r file symbol is there (UndefinedSymbol name undefined) told =
     let s = symbol_id file symbol in
     let kept = symbol_kept l noted r file symbol is there in
-    let global : is_global (entry_at l s) ≡ true = sym (global_here l s) ∙ sym (ap (λ e. e.row.global) kept) ∙ told.0 in
-    (global, sym (nothing_here l noted r s is global) ∙ sym (ap (λ e. is_nothing (named_in r.files r.noted e.row.name)) kept) ∙ told.1,
-     told.2 ∙ ap (λ e. e.row.name) kept ∙ name_here l s global, told.3)
+    let global : is_global (entry_at l s) ≡ true = sym (global_here l s) ∙ sym (ap (λ e. e.row.global) kept) ∙ told.0 in (
+      global,
+      sym (nothing_here l noted r s is global) ∙ sym (ap (λ e. is_nothing (named_in r.files r.noted e.row.name)) kept) ∙ told.1,
+      told.2 ∙ ap (λ e. e.row.name) kept ∙ name_here l s global,
+      told.3,
+    )
 
 -- the imports by the link
 library_here : (l : Link) (file : ℕ) → library_in (map kept_of l.inputs) file ≡ library_name l file
@@ -166,6 +170,7 @@ library_here l file = of (cases_lt file (length l.inputs))
     by (Object b) = refl
     by (Dylib b) = refl
     by (Stub text says) = refl
+
     of : (file < length l.inputs) ⊎ (length l.inputs ≤ file) → library_in (map kept_of l.inputs) file ≡ library_name l file
     of (inl within) = ap (λ f. library_text f.library) (file_at l.inputs file within) ∙ by (get_or l.inputs file no_input)
     of (inr past) =
@@ -177,10 +182,11 @@ pub imports_here : (l : Link) (noted : List (List ℕ)) (r : ResolvedRows) (impo
 imports_here l noted r imports is names all = record {
   long = sym (length-map imports (λ i. i.name.items)) ∙ ap length (names ∙ is.notes);
   each = λ k d h.
-    let i = get_or imports k d in
-    let named : i.name.items ≡ get_or noted k [] = sym (get_or-map (λ i. i.name.items) imports k d [] h) ∙ ap (λ ns. get_or ns k []) (names ∙ is.notes) in
-    let bound = all k d h in
-    (named,
-     ap (definition_of l) (sym named) ∙ definition_is l i.name.items ∙ sym (ap (λ fs. definition_by i.name.items (best_of i.name.items (events fs))) is.keeps) ∙ bound.0,
-     bound.1 ∙ ap (λ fs. library_in fs i.file) is.keeps ∙ library_here l i.file);
+      let i = get_or imports k d in
+      let named : i.name.items ≡ get_or noted k [] = sym (get_or-map (λ i. i.name.items) imports k d [] h) ∙ ap (λ ns. get_or ns k []) (names ∙ is.notes) in
+      let bound = all k d h in (
+        named,
+        ap (definition_of l) (sym named) ∙ definition_is l i.name.items ∙ sym (ap (λ fs. definition_by i.name.items (best_of i.name.items (events fs))) is.keeps) ∙ bound.0,
+        bound.1 ∙ ap (λ fs. library_in fs i.file) is.keeps ∙ library_here l i.file,
+      );
 }

@@ -1,5 +1,5 @@
 -- What is told of chosen commons and of imports, by the link alone.
-use Rattle.std.specs.Prelude.{◌≡◌, ℕ, ◌&&◌, not, if◌then◌else◌, Bool, true, false, List, [], ◌∷◌, ◌++◌, map, is_none, Some, length, get_or, ◌<◌}
+use Rattle.std.specs.Prelude.{◌≡◌, ℕ, ◌&&◌, not, if◌then◌else◌, true, false, List, [], ◌∷◌, ◌++◌, map, is_none, Some, length, get_or, ◌<◌}
 use Rattle.std.specs.List.{list_any}
 use Rattle.std.specs.Str.{bytes_eq}
 use Rattle.macho_model.specs.Symbols.{is_global}

@@ -69,11 +69,7 @@ fn offered_note(file: &File<'_>, index: u32, last: Name) -> Option<Note>
     if symbol.is_local() || symbol.is_hidden() || !is_defined(symbol) {
         return None;
     }
-    Some(offered(name_at(
-        file.strings(),
-        symbol.n_strx as usize,
-        last,
-    )))
+    Some(offered(name_at(file.strings(), symbol.n_strx as usize, last)))
 }
 
 /// Whether a symbol is defined: in a section, or as a value of its own.
@@ -118,11 +114,7 @@ fn dylib_notes(alloc: Global, file: &File<'_>) -> Result<Vec<Note>, AllocError>
 }
 
 /// Adds names that a library offers to the bytes and the notes of others.
-fn offer_names(
-    text: &mut Vec<u8>,
-    notes: &mut Vec<Note>,
-    names: &[&str],
-) -> Result<(), AllocError>
+fn offer_names(text: &mut Vec<u8>, notes: &mut Vec<Note>, names: &[&str]) -> Result<(), AllocError>
     ensures { (rows : List Row) → AreNoted text.old.items notes.old.items rows
         → OnOk result (AreNoted text.new.items notes.new.items (rows ++ map offered_row (texts names.now))) }
 {

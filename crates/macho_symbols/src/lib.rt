@@ -1,7 +1,6 @@
 //! Symbols: which definition each global name of a link has, and what its symbols lead to.
 #![tactic(auto)]
 
-
 mod choosing;
 mod fault;
 mod files;

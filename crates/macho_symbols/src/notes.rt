@@ -79,7 +79,9 @@ fn is_carried(header: SectionHeader) -> bool
     ensures { result ≡ is_carried header }
 {
     let name = name_bytes(&header.sectname);
-    !header.should_exclude() && name != b"__mod_init_func".as_slice() && name != b"__compact_unwind".as_slice()
+    !header.should_exclude()
+        && name != b"__mod_init_func".as_slice()
+        && name != b"__compact_unwind".as_slice()
 }
 
 /// Whether a symbol of an object stands in a carried section.
@@ -232,13 +234,7 @@ impl Note {
         ensures { result ≡ strength_of self.sort self.weak }
     {
         match self.sort {
-            Sort::Section | Sort::Absolute => {
-                if self.weak {
-                    3
-                } else {
-                    4
-                }
-            }
+            Sort::Section | Sort::Absolute => { if self.weak { 3 } else { 4 } }
             Sort::Common => 2,
             Sort::Offered => 1,
             Sort::Nowhere => 0,

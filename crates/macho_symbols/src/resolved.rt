@@ -52,7 +52,12 @@ impl Resolved {
         requires { HasSymbol self.now file symbol }
         ensures { (l : Link) (noted : List (List ℕ)) → IsResolved l noted self.now → result ≡ defines l (symbol_id file symbol) }
     {
-        choosing::defines(&self.solved.files, &self.solved.table, file, symbol as usize)
+        choosing::defines(
+            &self.solved.files,
+            &self.solved.table,
+            file,
+            symbol as usize,
+        )
     }
 
     /// The commons that were chosen, in order of their numbers: by file, then symbol.

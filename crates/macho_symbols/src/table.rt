@@ -118,7 +118,12 @@ impl Table {
 
 impl Table {
     /// Adds a name, which a row brings.
-    pub(crate) fn add(&mut self, files: &[FileNames], file: u32, row: usize) -> Result<(), AllocError>
+    pub(crate) fn add(
+        &mut self,
+        files: &[FileNames],
+        file: u32,
+        row: usize,
+    ) -> Result<(), AllocError>
         requires file { file < length files.now }
         requires row { row < row_count files.now file }
         requires table { IsTable files.now self.old.heads.items self.old.entries.items }

@@ -1,6 +1,6 @@
 -- The rows of all files as one list, in input order, and the best of those with a name. A resolver takes them in this
 -- order, and keeps of each name the best so far: that is the definition that the model gives the name.
-use Rattle.std.specs.Prelude.{◌≡◌, ℕ, ◌+◌, ◌<◌, ◌≤◌, ◌==◌, nat_lt, ◌&&◌, ◌||◌, if◌then◌else◌, Bool, true, false, List, [], ◌∷◌, length, map, filter, Option, Some, None, get_or}
+use Rattle.std.specs.Prelude.{ℕ, ◌==◌, nat_lt, ◌&&◌, ◌||◌, if◌then◌else◌, Bool, List, [], length, map, Option, Some, None, get_or}
 use Rattle.std.specs.List.{flat_map, fold, range_with_len}
 use Rattle.std.specs.Str.{bytes_eq}
 use Rattle.macho_symbols.specs.declared.notes.Sort.{Sort}

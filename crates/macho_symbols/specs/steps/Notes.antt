@@ -7,7 +7,7 @@ use Rattle.macho_symbols.specs.declared.notes.Sort.{Sort}
 use Rattle.macho_symbols.specs.declared.notes.Sort.TheVariants.{Section, Absolute, Common, Offered, Nowhere}
 use Rattle.macho_symbols.specs.declared.notes.Note.{Note}
 use Rattle.macho_symbols.specs.declared.notes.Name.{Name}
-use Rattle.macho_symbols.specs.Kept.{Row, FileRows}
+use Rattle.macho_symbols.specs.Kept.{Row}
 
 -- the row that a note stands for, in the bytes with the names
 abbrev pub row_in : List ℕ → Note → Row

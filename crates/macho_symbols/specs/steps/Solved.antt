@@ -1,6 +1,6 @@
 -- What holds once all rows were taken in: the table knows all events, the commons are those that were chosen, and each
 -- entry has the number of its import, where that is noted.
-use Rattle.std.specs.Prelude.{◌≡◌, ℕ, ◌+◌, ◌-◌, ◌^◌, ◌<◌, ◌≤◌, ◌≢◌, List, [], length, map, get_or, All, Option, Some, None, true, false}
+use Rattle.std.specs.Prelude.{◌≡◌, ℕ, ◌+◌, ◌^◌, ◌<◌, ◌≢◌, List, [], length, map, get_or, All, Some, true, false}
 use Rattle.macho_bytes.specs.Numbers.{rounded_up}
 use Rattle.macho_model.specs.Resolution.{SymbolId, Library}
 use Rattle.macho_model.specs.Needs.{import_number}

@@ -3,7 +3,7 @@
 --
 --     heads    for each bucket, one more than the number of its newest entry, 0 for none
 --     next     one more than the number of the entry before in the bucket, 0 for none
-use Rattle.std.specs.Prelude.{◌≡◌, ℕ, ◌+◌, ◌*◌, ◌%◌, ◌^◌, ◌<◌, ◌≤◌, List, [], ◌∷◌, ◌++◌, length, map, filter, get_or, set, ◌==◌, ◌&&◌, true, false, Bool, bit_xor, Some, None, Option, All}
+use Rattle.std.specs.Prelude.{◌≡◌, ℕ, ◌+◌, ◌*◌, ◌%◌, ◌^◌, ◌<◌, ◌≤◌, List, [], ◌∷◌, ◌++◌, length, map, filter, get_or, set, ◌==◌, ◌&&◌, true, false, Bool, bit_xor, Some, None, All}
 use Rattle.std.specs.List.{fold}
 use Rattle.macho_symbols.specs.declared.table.Entry.{Entry}
 use Rattle.macho_symbols.specs.declared.fault.SymbolFault.{SymbolFault}

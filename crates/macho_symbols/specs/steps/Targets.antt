@@ -1,5 +1,5 @@
 -- What the rows of all files say of names and symbols: the definition of a name, and where it leads.
-use Rattle.std.specs.Prelude.{◌≡◌, ℕ, ◌==◌, ◌&&◌, if◌then◌else◌, Bool, true, false, List, [], ◌∷◌, ◌++◌, length, filter, map, Option, Some, None}
+use Rattle.std.specs.Prelude.{ℕ, ◌==◌, ◌&&◌, if◌then◌else◌, Bool, true, false, List, [], ◌∷◌, ◌++◌, length, filter, map, Option, Some, None}
 use Rattle.std.specs.List.{position_or_len}
 use Rattle.std.specs.Str.{bytes_eq}
 use Rattle.macho_model.specs.declared.targets.Target.{Target}
@@ -10,7 +10,7 @@ use Rattle.macho_model.specs.Resolution.{SymbolId, Definition, Symbol, Library, 
 use Rattle.macho_symbols.specs.declared.notes.Sort.{Sort}
 use Rattle.macho_symbols.specs.declared.notes.Sort.TheVariants.{Section, Absolute, Common, Offered, Nowhere}
 use Rattle.macho_symbols.specs.Kept.{Row, FileRows, row_of_symbol}
-use Rattle.macho_symbols.specs.steps.Events.{Event, row_at, events, best_of, strength}
+use Rattle.macho_symbols.specs.steps.Events.{Event, events, best_of, strength}
 
 -- the row of a symbol of a link, and its event
 abbrev pub row_of : Link → SymbolId → Row

@@ -1,4 +1,4 @@
-use Rattle.std.proofs.Common.{◌≡◌, ◌∙◌, ◌++◌, ap, sym, arith, length, map, filter}
+use Rattle.std.proofs.Common.{◌≡◌, ◌∙◌, ap, arith, length, map, filter}
 use Rattle.macho_symbols.specs.steps.Solved.{common_told}
 use Rattle.macho_symbols.specs.steps.Events.{events_of}
 use Rattle.macho_symbols.specs.steps.Targets.{is_chosen_in, chosen_in}

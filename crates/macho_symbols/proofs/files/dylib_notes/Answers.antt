@@ -1,4 +1,4 @@
-use Rattle.std.proofs.Common.{◌≡◌, ℕ, arith, sym, ◌∙◌}
+use Rattle.std.proofs.Common.{◌≡◌, arith, sym}
 use Rattle.macho_model.specs.Objects.{num_symbols}
 use Rattle.macho_symbols.specs.Kept.{rows_of_dylib}
 use Rattle.macho_symbols.proofs.Noting.{offered_more, not_offered_more}

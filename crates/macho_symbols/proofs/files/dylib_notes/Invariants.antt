@@ -1,4 +1,4 @@
-use Rattle.std.proofs.Common.{◌≡◌, map, filter}
+use Rattle.std.proofs.Common.{map, filter}
 use Rattle.std.specs.List.{range_with_len}
 use Rattle.macho_model.specs.Objects.{strings_of, symbol_name}
 use Rattle.macho_symbols.specs.Kept.{is_offered, offered_row}

@@ -1,5 +1,4 @@
-use Rattle.std.proofs.Common.{◌≡◌, ℕ, arith, map}
-use Rattle.std.specs.List.{range_with_len}
+use Rattle.std.proofs.Common.{◌≡◌, arith}
 use Rattle.macho_model.specs.Objects.{num_symbols}
 use Rattle.macho_symbols.specs.Kept.{rows_of_object}
 use Rattle.macho_symbols.proofs.Noting.{object_row_more}

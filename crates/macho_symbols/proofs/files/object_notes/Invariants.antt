@@ -1,4 +1,4 @@
-use Rattle.std.proofs.Common.{◌≡◌, map}
+use Rattle.std.proofs.Common.{map}
 use Rattle.std.specs.List.{range_with_len}
 use Rattle.macho_model.specs.Objects.{strings_of}
 use Rattle.macho_symbols.specs.Kept.{row_of_symbol}

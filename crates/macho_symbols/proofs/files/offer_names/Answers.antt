@@ -1,7 +1,5 @@
-use Rattle.std.proofs.Common.{◌≡◌, ℕ, append-nil, arith, ◌∙◌, length, map, take, List, ◌++◌, ◌∷◌, [], refl}
-use Rattle.std.proofs.lemmas.List.{take_more, map-append}
+use Rattle.std.proofs.Common.{◌≡◌, append-nil, arith, ◌∙◌, length, refl}
 use Rattle.std.proofs.Math.Seq.{take-length}
-use Rattle.macho_symbols.specs.Kept.{offered_row}
 use Rattle.macho_symbols.proofs.Noting.{name_more, texts_more}
 use Rattle.macho_symbols.proofs.files.offer_names.Goals as goal
 
@@ -12,7 +10,7 @@ pub loop-name-preserved : goal.loop-name-preserved
 loop-name-preserved c rows noted =
     let first : c.len-at.result ≡ length c.loop-name.text.items = c.len-at.ensures ∙ omega arith in
     let next = name_more _ _ _ _ c.offered.result _ _ (c.loop-name.invariant rows noted) first refl c.offered.ensures.name
-        c.offered.ensures.sort c.offered.ensures.row in
+    c.offered.ensures.sort c.offered.ensures.row in
     rw (c.in_ok-push.ensures.items, c.in_ok-extend_from_slice.ensures.items, texts_more rows _ _ _ _ c.loop-name-test.true c.as_bytes-bytes.ensures.value) next
 
 pub returns : goal.returns

@@ -1,4 +1,4 @@
-use Rattle.std.proofs.Common.{◌≡◌, List, map, take, ◌++◌}
+use Rattle.std.proofs.Common.{List, map, take, ◌++◌}
 use Rattle.macho_stub_lines.specs.Lists.{texts}
 use Rattle.macho_symbols.specs.Kept.{Row, offered_row}
 use Rattle.macho_symbols.specs.steps.Notes.{AreNoted}

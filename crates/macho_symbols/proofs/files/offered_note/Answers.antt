@@ -1,4 +1,4 @@
-use Rattle.std.proofs.Common.{◌≡◌, ◌∙◌, ap}
+use Rattle.std.proofs.Common.{◌∙◌, ap}
 use Rattle.macho_symbols.specs.Kept.{offered_row}
 use Rattle.macho_symbols.proofs.Entries.{some_if, offered_string}
 use Rattle.macho_symbols.proofs.files.offered_note.Goals as goal

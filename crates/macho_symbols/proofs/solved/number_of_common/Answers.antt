@@ -1,4 +1,4 @@
-use Rattle.std.proofs.Common.{◌≡◌, ℕ, ◌+◌, ◌∙◌, sym, arith, length, ap, subst}
+use Rattle.std.proofs.Common.{◌≡◌, ◌+◌, ◌∙◌, sym, arith, length, ap}
 use Rattle.macho_symbols.proofs.Leading.{common_found, common_missing, not_at_more}
 use Rattle.macho_symbols.proofs.solved.number_of_common.Goals as goal
 

@@ -1,5 +1,4 @@
-use Rattle.std.proofs.Common.{◌≡◌, [], refl, ◌∙◌}
-use Rattle.macho_symbols.specs.Kept.{rows_of_stub}
+use Rattle.std.proofs.Common.{[], refl, ◌∙◌}
 use Rattle.macho_symbols.specs.steps.Notes.{AreNoted}
 use Rattle.macho_symbols.proofs.Noting.{none_noted, stub_noted}
 use Rattle.macho_symbols.proofs.files.FileNames.of_stub.Goals as goal

@@ -1,4 +1,4 @@
-use Rattle.std.proofs.Common.{◌≡◌, ap, ◌∙◌, map}
+use Rattle.std.proofs.Common.{ap, ◌∙◌, map}
 use Rattle.macho_symbols.specs.Kept.{ResolvedRows}
 use Rattle.macho_symbols.specs.steps.Targets.{chosen_in}
 use Rattle.macho_symbols.specs.steps.Solved.{common_told}

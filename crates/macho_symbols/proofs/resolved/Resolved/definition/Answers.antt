@@ -1,4 +1,4 @@
-use Rattle.std.proofs.Common.{◌≡◌, ap, ◌∙◌}
+use Rattle.std.proofs.Common.{ap, ◌∙◌}
 use Rattle.macho_symbols.specs.Kept.{ResolvedRows}
 use Rattle.macho_symbols.specs.steps.Targets.{named_in}
 use Rattle.macho_symbols.proofs.Targeted.{named_here}

@@ -1,4 +1,4 @@
-use Rattle.std.proofs.Common.{◌≡◌, subst, sym, refl}
+use Rattle.std.proofs.Common.{subst, sym, refl}
 use Rattle.macho_symbols.specs.Kept.{IsResolved}
 use Rattle.macho_symbols.proofs.UsesHere.{imports_here}
 use Rattle.macho_symbols.proofs.resolved.Resolved.imports.Goals as goal

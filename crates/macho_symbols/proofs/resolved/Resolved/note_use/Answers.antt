@@ -1,5 +1,5 @@
-use Rattle.std.proofs.Common.{◌≡◌, ap, subst, ◌∙◌, sym}
-use Rattle.macho_symbols.specs.Kept.{ResolvedRows, IsResolved, HasSymbol, symbol_id}
+use Rattle.std.proofs.Common.{subst, sym}
+use Rattle.macho_symbols.specs.Kept.{ResolvedRows, IsResolved, HasSymbol}
 use Rattle.macho_symbols.proofs.Targeted.{target_here}
 use Rattle.macho_symbols.proofs.UsesHere.{on_ok, same_ok, if_err, noted_here, found_here, undefined_here}
 use Rattle.macho_symbols.proofs.resolved.Resolved.note_use.Goals as goal

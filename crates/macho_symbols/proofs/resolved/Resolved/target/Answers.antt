@@ -1,4 +1,4 @@
-use Rattle.std.proofs.Common.{◌≡◌, ap, ◌∙◌}
+use Rattle.std.proofs.Common.{ap, ◌∙◌}
 use Rattle.macho_symbols.specs.Kept.{ResolvedRows}
 use Rattle.macho_symbols.specs.steps.Events.{event_at}
 use Rattle.macho_symbols.specs.steps.Targets.{target_in}

@@ -1,6 +1,6 @@
-use Rattle.std.proofs.Common.{◌≡◌, ℕ, ◌<◌, ap, sym, ◌∙◌, subst, refl, arith, List, [], map, get_or, replicate, length, filter, ◌≤◌, Vec, vec_len}
+use Rattle.std.proofs.Common.{◌≡◌, ℕ, ◌<◌, ap, ◌∙◌, subst, refl, arith, List, [], get_or, replicate, length, filter, ◌≤◌, Vec, vec_len}
 use Rattle.std.proofs.lemmas.List.{get_or-replicate, length-replicate}
-use Rattle.macho_symbols.specs.Kept.{FileRows, kept_of}
+use Rattle.macho_symbols.specs.Kept.{FileRows}
 use Rattle.macho_symbols.specs.steps.Events.{events, is_strong_of}
 use Rattle.macho_symbols.specs.steps.Tables.{IsClash, IsKnown}
 use Rattle.macho_symbols.specs.declared.solved.TheConstants.{UNNUMBERED}
@@ -23,7 +23,7 @@ vec_len_is v = omega arith
 unnumbered : (numbers : List ℕ) (n : ℕ) (name : List ℕ) (j : ℕ) → numbers ≡ replicate n UNNUMBERED → j < length numbers → IsNumbered [] name (get_or numbers j 0)
 unnumbered numbers n name j is within =
     let here : get_or numbers j 0 ≡ UNNUMBERED =
-        ap (λ ns. get_or ns j 0) is ∙ get_or-replicate n j UNNUMBERED 0 (omega (arith, within, ap length is, length-replicate {A = ℕ} n UNNUMBERED)) in
+    ap (λ ns. get_or ns j 0) is ∙ get_or-replicate n j UNNUMBERED 0 (omega (arith, within, ap length is, length-replicate {A = ℕ} n UNNUMBERED)) in
     record { fresh = λ e. refl; old = λ other. absurd (other here); there = λ other. absurd (other here) }
 
 pub invariant_of-result : goal.invariant_of-result
@@ -34,7 +34,7 @@ invariant_of-result c = record {
   few_imports = omega (arith, ap length c.new-2.ensures.items);
   libraries = rw c.new-2.ensures.items (All-nil (IsImportIn c.self.inside.files.items));
   long =
-    ap length (c.in_ok-numbers.ensures.items_if_clones_equal (λ y e. e)) ∙ length-replicate {A = ℕ} c.len.result UNNUMBERED ∙ c.len.ensures ∙ vec_len_is c.take_files.new.self.entries;
+      ap length (c.in_ok-numbers.ensures.items_if_clones_equal (λ y e. e)) ∙ length-replicate {A = ℕ} c.len.result UNNUMBERED ∙ c.len.ensures ∙ vec_len_is c.take_files.new.self.entries;
   numbers = λ j h. rw c.new-2.ensures.items (unnumbered _ _ _ j (c.in_ok-numbers.ensures.items_if_clones_equal (λ y e. e)) h);
 }
 

@@ -1,5 +1,4 @@
-use Rattle.std.proofs.Common.{◌≡◌, ap, sym, ◌∙◌, refl}
-use Rattle.macho_model.specs.declared.targets.Target.{Target}
+use Rattle.std.proofs.Common.{ap, sym, ◌∙◌, refl}
 use Rattle.macho_model.specs.declared.targets.Target.TheVariants as target
 use Rattle.macho_symbols.specs.steps.Events.{event_at}
 use Rattle.macho_symbols.specs.steps.Solved.{noted_of}

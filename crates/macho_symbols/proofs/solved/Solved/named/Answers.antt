@@ -1,4 +1,4 @@
-use Rattle.std.proofs.Common.{◌≡◌, ap, sym, ◌∙◌}
+use Rattle.std.proofs.Common.{sym, ◌∙◌}
 use Rattle.macho_symbols.proofs.Leading.{leads_nowhere}
 use Rattle.macho_symbols.proofs.solved.Solved.named.Goals as goal
 

@@ -1,5 +1,4 @@
-use Rattle.std.proofs.Common.{◌≡◌, ◌∙◌, ◌<◌, ◌-◌, length, sym, ap, arith, false, eqb}
-use Rattle.std.specs.Str.{bytes_eq}
+use Rattle.std.proofs.Common.{◌∙◌, ◌<◌, ◌-◌, length, sym, ap, arith}
 use Rattle.macho_stub_lines.proofs.Bind.{same_bytes, other_bytes}
 use Rattle.macho_symbols.specs.steps.Tables.{entry_name}
 use Rattle.macho_symbols.proofs.Chains.{ahead_next, name_of_entry, next_smaller}

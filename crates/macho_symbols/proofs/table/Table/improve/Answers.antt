@@ -1,4 +1,4 @@
-use Rattle.std.proofs.Common.{◌≡◌, ap, sym, ◌∙◌, refl}
+use Rattle.std.proofs.Common.{ap, sym, ◌∙◌, refl}
 use Rattle.macho_symbols.proofs.Chains.{name_of_entry}
 use Rattle.macho_symbols.proofs.Improving.{stays_best, is_better, table_stays}
 use Rattle.macho_symbols.proofs.Taking.{takes_better, refuses_row}
@@ -19,8 +19,8 @@ pub returns-clause-done : goal.returns-clause-done
 returns-clause-done c =
     let entry = c.entry-entry.ensures in
     let table =
-        table_stays _ _ _ _ _ c.requires.table (ap (λ e. e.next) c.entry-entry.ensures) (sym c.requires.entry.1 ∙ name_of_entry _ _ _ _ c.requires.entry.0)
-        (c.requires.file, c.requires.row) in
+    table_stays _ _ _ _ _ c.requires.table (ap (λ e. e.next) c.entry-entry.ensures) (sym c.requires.entry.1 ∙ name_of_entry _ _ _ _ c.requires.entry.0)
+    (c.requires.file, c.requires.row) in
     takes_better _ _ _ _ _ _ _ _ c.requires.global c.requires.entry
     (is_better _ _ _ _ _ _ (rw (← entry) (sym c.if-not-beats.ensures)) (rw (← entry) (sym c.if-are_strong.ensures)) (rw (← entry) refl)) table
 

@@ -1,4 +1,4 @@
-use Rattle.std.proofs.Common.{◌≡◌, arith, replicate, refl}
+use Rattle.std.proofs.Common.{arith}
 use Rattle.macho_symbols.proofs.Beginning.{empty_knows}
 use Rattle.macho_symbols.proofs.table.Table.new.Goals as goal
 

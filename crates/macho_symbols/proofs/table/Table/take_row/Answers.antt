@@ -1,5 +1,4 @@
 use Rattle.std.proofs.Common.{◌≡◌, ap, sym, ◌∙◌, Bool, true, false, not, refl}
-use Rattle.macho_symbols.specs.steps.Tables.{IsNowhere, names_of}
 use Rattle.macho_symbols.proofs.Taking.{takes_nameless, takes_new}
 use Rattle.macho_symbols.proofs.table.Table.take_row.Goals as goal
 
