@@ -56,7 +56,7 @@ ordered_pieces [] h = λ i j d lt within. absurd (omega arith)
 ordered_pieces (c ∷ cs) h =
     AllPairs-cons EndsBefore c cs
     (λ k d lt. le_of (end_of_piece c) (get_or cs k d).start
-        (all_pass (λ x. nat_le (end_of_piece c) x.start) cs (and_left (are_behind c cs) (are_ordered cs) h) k d lt))
+    (all_pass (λ x. nat_le (end_of_piece c) x.start) cs (and_left (are_behind c cs) (are_ordered cs) h) k d lt))
     (ordered_pieces cs (and_right (are_behind c cs) (are_ordered cs) h))
 
 least_pieces : (cs : List Piece) → are_least cs ≡ true → EachNext BeginsLeast cs

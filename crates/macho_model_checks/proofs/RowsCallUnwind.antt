@@ -37,6 +37,7 @@ call_unwind = record {
   exact = inl (no_entries, refl);
   begins = record { within = omega arith; same = refl };
   found = λ offset e is. absurd (omega (arith, ap length no_entries, is.one.1));
-  only = λ offset x finds. absurd (let header : 28 ≤ length (unwind_bytes call_image placed_call) = finds.tables.header in omega (arith, ap length no_bytes, header));
+  only = λ offset x finds. absurd (
+      let header : 28 ≤ length (unwind_bytes call_image placed_call) = finds.tables.header in omega (arith, ap length no_bytes, header));
   empty = λ none. refl;
 }

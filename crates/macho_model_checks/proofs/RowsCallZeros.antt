@@ -89,7 +89,8 @@ outside_parts i within (inr head) (inr code) (inr stub) (inr slot) (inr table) (
     absurd (omega (arith, symbols, strings))
 outside_parts i within (inr head) (inr code) (inr stub) (inr slot) (inr table) (inr trie) (inr symbols) (inr strings) (inl sign) =
     in_gap call_image 33023 33024 i gaps.4 (omega (arith, strings)) (omega (arith, sign))
-outside_parts i within (inr head) (inr code) (inr stub) (inr slot) (inr table) (inr trie) (inr symbols) (inr strings) (inr sign) = absurd (omega (arith, within, sign))
+outside_parts i within (inr head) (inr code) (inr stub) (inr slot) (inr table) (inr trie) (inr symbols) (inr strings) (inr sign) =
+    absurd (omega (arith, within, sign))
 
 -- THE zeros
 pub call_zeros : IsZeroElsewhere calling call_image placed_call 0
