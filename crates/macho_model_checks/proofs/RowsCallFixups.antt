@@ -2,10 +2,10 @@
 --
 -- The run is computed from the link and its placement: one slot, bound to the one import with no addend. The table of that run and
 -- the word with no step are computed by the definitions, and compared with the bytes that were written out by hand.
-use Rattle.std.proofs.Common.{◌≡◌, ◌≢◌, ℕ, zero, suc, pos, ◌+◌, ◌%◌, ◌<◌, ◌≤◌, ◌==◌, Bool, true, false, not, List, [], ◌∷◌, ◌++◌, length, get_or, refl, ap, sym, ◌∙◌, subst, arith, rules}
+use Rattle.std.proofs.Common.{◌≡◌, ℕ, zero, suc, pos, ◌+◌, ◌%◌, ◌<◌, ◌≤◌, Bool, true, not, List, [], ◌∷◌, ◌++◌, length, get_or, refl, ap, ◌∙◌, subst, arith, rules}
 use Rattle.std.specs.Prelude.{codes, slice_range, Contains}
-use Rattle.std.specs.List.{All, AllPairs, list_all}
-use Rattle.std.proofs.lemmas.List.Elements.{All-nil, All-cons, All-contains_itself}
+use Rattle.std.specs.List.{list_all}
+use Rattle.std.proofs.lemmas.List.Elements.{All-nil, All-cons}
 use Rattle.std.proofs.lemmas.List.Kept.{AllPairs-cons}
 use Rattle.macho_bytes.specs.Texts.{Stands}
 use Rattle.macho_model.specs.declared.placed.Slot.{Slot}
@@ -14,10 +14,10 @@ use Rattle.macho_model.specs.declared.targets.Target.TheVariants as target
 use Rattle.macho_model.specs.Placement.{id_of}
 use Rattle.macho_model.specs.Fields.{Field}
 use Rattle.macho_model.specs.Values.{needs_fixup}
-use Rattle.macho_model.specs.Images.{Table, CHAIN_PAGE}
+use Rattle.macho_model.specs.Images.{CHAIN_PAGE}
 use Rattle.macho_model.specs.Chain.{WORD_SIZE, STRIDE}
 use Rattle.macho_model.proofs.EachBelow.{true_or_false, not_true}
-use Rattle.macho_fixups.specs.declared.words.FixupKind.TheVariants.{Rebase, Bind}
+use Rattle.macho_fixups.specs.declared.words.FixupKind.TheVariants.{Bind}
 use Rattle.macho_fixups.specs.declared.run.Fixup.{Fixup}
 use Rattle.macho_fixups.specs.declared.run.FixupSegment.{FixupSegment}
 use Rattle.macho_fixups.specs.declared.imports.ImportEntry.{ImportEntry}

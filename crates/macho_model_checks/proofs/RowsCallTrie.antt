@@ -3,9 +3,9 @@
 -- Of the link: a name with a definition in an object is `_main`, since the object has no other definition, and there are no export
 -- lists. Of the bytes: the first node has one edge, `_main`, to a node that exports the value 0x300 and has no edge. And the
 -- fourteen bytes are the trie of that one name: its radix tree has one edge, and the place of its child one byte.
-use Rattle.std.proofs.Common.{◌≡◌, ◌⊎◌, ℕ, zero, suc, ◌+◌, ◌<◌, ◌≤◌, ◌&&◌, Bool, true, false, if◌then◌else◌, List, [], ◌∷◌, ◌++◌, length, take, drop, get_or, map, refl, ap, sym, ◌∙◌, subst, arith, inl, inr, Option, Some, None}
-use Rattle.std.specs.Prelude.{codes, slice_index, slice_index_or, slice_range, nat_lt, nat_eq, unwrap_or, Contains}
-use Rattle.std.specs.List.{All, find, starts_with}
+use Rattle.std.proofs.Common.{◌≡◌, ℕ, zero, suc, ◌+◌, ◌<◌, ◌≤◌, Bool, true, false, if◌then◌else◌, List, [], ◌∷◌, ◌++◌, length, take, drop, map, refl, ap, sym, ◌∙◌, subst, arith, inl, inr, Option, Some, None}
+use Rattle.std.specs.Prelude.{codes, slice_index, slice_index_or, nat_eq, unwrap_or}
+use Rattle.std.specs.List.{find, starts_with}
 use Rattle.std.specs.Str.{bytes_eq}
 use Rattle.std.proofs.lemmas.Slice.Eq.{bytes_eq-Decides}
 use Rattle.std.proofs.lemmas.List.Elements.{All-nil, All-cons}
@@ -19,8 +19,8 @@ use Rattle.macho_model.specs.Exports.{Export, Value, ExportedAs, ValueOf, weak_f
 use Rattle.macho_model.specs.Exports as exports
 use Rattle.macho_trie.specs.Exports.{Exported, as_value}
 use Rattle.macho_trie.specs.Nodes.{Edge, Node, node_at, terminal_at, terminal_between, export_in, edges_at, edge_at, ended_name}
-use Rattle.macho_trie.specs.Trees.{Edges, no_edge, edge, LeadsTo, node_count, IsLabel, AreRadix}
-use Rattle.macho_trie.specs.Encoding.{says_of, tree_bytes, place_of, terminal_size, AreWide, AreLeast, IsExportsTrie}
+use Rattle.macho_trie.specs.Trees.{Edges, no_edge, edge, LeadsTo, node_count, AreRadix}
+use Rattle.macho_trie.specs.Encoding.{says_of, tree_bytes, place_of, terminal_size, AreLeast}
 use Rattle.macho_trie.specs.Lookup.{leads, Finds, trie_finds}
 use Rattle.macho_trie.specs.Lookup as lookup
 use Rattle.macho_promise.specs.TrieSays.{trie_export, table_bytes, IsFoundExport, IsTrieText, TrieSays}
