@@ -35,3 +35,4 @@ pub mod RowsCallUnwind
 pub mod RowsCallOrder
 pub mod RowsCallTrie
 pub mod RowsCallZeros
+pub mod RowsMade

@@ -2,8 +2,7 @@
 --
 -- The page starts of the file lead to the slot's word, which leads on to none. The link's one field is a branch, which needs no
 -- fixup, and its one slot stands at that address.
-use Rattle.std.proofs.Common.{◌≡◌, ℕ, ◌==◌, Bool, true, false, not, List, [], ◌∷◌, refl, sym, subst, arith}
-use Rattle.std.specs.Prelude.{Contains}
+use Rattle.std.proofs.Common.{◌≡◌, ℕ, ◌==◌, true, not, List, [], ◌∷◌, refl, sym, subst, arith}
 use Rattle.std.specs.List.{list_all}
 use Rattle.macho_bytes.specs.Numbers.{le_at, le_bytes, be_at, be_bytes, row_bytes}
 use Rattle.macho_bytes.specs.Layouts.{reading}
@@ -27,7 +26,7 @@ use Rattle.macho_model.specs.Chain as chain
 use Rattle.macho_model.specs.Fixups.{IsFixupPlace, ChainIsWhole}
 use Rattle.macho_model.specs.Fixups as fixups
 use Rattle.macho_model.proofs.EachBelow.{true_or_false, is_equal, not_true}
-use Rattle.macho_model_walks.proofs.ChainSets.{is_closed, is_among, among_passes, chain_within}
+use Rattle.macho_model_walks.proofs.ChainSets.{is_closed, among_passes, chain_within}
 use Rattle.macho_model_checks.proofs.Examples.{words8, words, halves, name16}
 use Rattle.macho_model_checks.proofs.ExampleLinks.{entry, text_object}
 use Rattle.macho_model_checks.proofs.ExampleCall.{calls_exit, calling, placed_call, head_of_call, fixups_of_call, tables_of_call, big_words, signature_of_call, call_image}

@@ -2,18 +2,17 @@
 --
 -- Neighbours and pairs are tested on the pieces that the link and the placement have: `__TEXT` with its head, the code and the stub,
 -- `__DATA_CONST` with the slot, and the five tables of `__LINKEDIT`. A test that passes shows what it tests.
-use Rattle.std.proofs.Common.{◌≡◌, ℕ, zero, suc, ◌+◌, ◌^◌, ◌<◌, ◌≤◌, ◌==◌, ◌&&◌, nat_le, Bool, true, false, List, [], ◌∷◌, length, get_or, map, filter, refl, ap, sym, ◌∙◌, subst, arith, rules}
+use Rattle.std.proofs.Common.{◌≡◌, ℕ, zero, suc, ◌+◌, ◌^◌, ◌≤◌, ◌==◌, ◌&&◌, nat_le, Bool, true, List, [], ◌∷◌, get_or, refl, ap, ◌∙◌, subst, arith, rules}
 use Rattle.std.proofs.lemmas.Bool.Decides.{nat_tests}
-use Rattle.std.specs.List.{All, AllPairs, list_all, range_with_len}
-use Rattle.std.proofs.lemmas.List.Elements.{All-nil, All-cons, All-weaker}
+use Rattle.std.specs.List.{All, AllPairs, list_all}
 use Rattle.std.proofs.lemmas.List.Kept.{AllPairs-cons}
 use Rattle.macho_bytes.specs.Numbers.{rounded_up}
 use Rattle.macho_model.specs.declared.placed.PlacedSegment.{PlacedSegment}
-use Rattle.macho_model.specs.Lists.{IsNumber, EachNext}
-use Rattle.macho_model.specs.Placement.{Placed, linkedit_ranges}
+use Rattle.macho_model.specs.Lists.{EachNext}
+use Rattle.macho_model.specs.Placement.{linkedit_ranges}
 use Rattle.macho_model.specs.OutputSections.{OutputSection, Piece, end_of_piece}
 use Rattle.macho_model.specs.Order.{sections_in, row_of, table_pieces, EndsBefore, BeginsLeast, StandInOrder, AreLeast, least_size, least_file_size, HaveRoom, LiesInFile, IsLow}
-use Rattle.macho_model.proofs.EachBelow.{true_or_false, and_left, and_right, is_equal, all_pass}
+use Rattle.macho_model.proofs.EachBelow.{and_left, and_right, is_equal, all_pass}
 use Rattle.macho_model_checks.proofs.ExampleCall.{calls_exit, calling, counts_of_call, placed_call, head_of_call, fixups_of_call, tables_of_call, big_words, signature_of_call, call_image}
 use Rattle.macho_bytes.specs.Numbers.{le_at, le_bytes, be_at, be_bytes, row_bytes}
 use Rattle.macho_bytes.specs.Layouts.{reading}
@@ -56,7 +55,7 @@ ordered_pieces [] h = λ i j d lt within. absurd (omega arith)
 ordered_pieces (c ∷ cs) h =
     AllPairs-cons EndsBefore c cs
     (λ k d lt. le_of (end_of_piece c) (get_or cs k d).start
-        (all_pass (λ x. nat_le (end_of_piece c) x.start) cs (and_left (are_behind c cs) (are_ordered cs) h) k d lt))
+    (all_pass (λ x. nat_le (end_of_piece c) x.start) cs (and_left (are_behind c cs) (are_ordered cs) h) k d lt))
     (ordered_pieces cs (and_right (are_behind c cs) (are_ordered cs) h))
 
 least_pieces : (cs : List Piece) → are_least cs ≡ true → EachNext BeginsLeast cs

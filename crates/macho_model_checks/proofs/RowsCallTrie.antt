@@ -3,9 +3,9 @@
 -- Of the link: a name with a definition in an object is `_main`, since the object has no other definition, and there are no export
 -- lists. Of the bytes: the first node has one edge, `_main`, to a node that exports the value 0x300 and has no edge. And the
 -- fourteen bytes are the trie of that one name: its radix tree has one edge, and the place of its child one byte.
-use Rattle.std.proofs.Common.{◌≡◌, ◌⊎◌, ℕ, zero, suc, ◌+◌, ◌<◌, ◌≤◌, ◌&&◌, Bool, true, false, if◌then◌else◌, List, [], ◌∷◌, ◌++◌, length, take, drop, get_or, map, refl, ap, sym, ◌∙◌, subst, arith, inl, inr, Option, Some, None}
-use Rattle.std.specs.Prelude.{codes, slice_index, slice_index_or, slice_range, nat_lt, nat_eq, unwrap_or, Contains}
-use Rattle.std.specs.List.{All, find, starts_with}
+use Rattle.std.proofs.Common.{◌≡◌, ℕ, zero, suc, ◌+◌, ◌<◌, ◌≤◌, Bool, true, false, if◌then◌else◌, List, [], ◌∷◌, ◌++◌, length, take, drop, map, refl, ap, sym, ◌∙◌, subst, arith, inl, inr, Option, Some, None}
+use Rattle.std.specs.Prelude.{codes, slice_index, slice_index_or, nat_eq, unwrap_or}
+use Rattle.std.specs.List.{find, starts_with}
 use Rattle.std.specs.Str.{bytes_eq}
 use Rattle.std.proofs.lemmas.Slice.Eq.{bytes_eq-Decides}
 use Rattle.std.proofs.lemmas.List.Elements.{All-nil, All-cons}
@@ -19,8 +19,8 @@ use Rattle.macho_model.specs.Exports.{Export, Value, ExportedAs, ValueOf, weak_f
 use Rattle.macho_model.specs.Exports as exports
 use Rattle.macho_trie.specs.Exports.{Exported, as_value}
 use Rattle.macho_trie.specs.Nodes.{Edge, Node, node_at, terminal_at, terminal_between, export_in, edges_at, edge_at, ended_name}
-use Rattle.macho_trie.specs.Trees.{Edges, no_edge, edge, LeadsTo, node_count, IsLabel, AreRadix}
-use Rattle.macho_trie.specs.Encoding.{says_of, tree_bytes, place_of, terminal_size, AreWide, AreLeast, IsExportsTrie}
+use Rattle.macho_trie.specs.Trees.{Edges, no_edge, edge, LeadsTo, node_count, AreRadix}
+use Rattle.macho_trie.specs.Encoding.{says_of, tree_bytes, place_of, terminal_size, AreLeast}
 use Rattle.macho_trie.specs.Lookup.{leads, Finds, trie_finds}
 use Rattle.macho_trie.specs.Lookup as lookup
 use Rattle.macho_promise.specs.TrieSays.{trie_export, table_bytes, IsFoundExport, IsTrieText, TrieSays}
@@ -71,7 +71,8 @@ is_in_object (Some (Library file)) = false
 is_in_object (Some ImageBase) = false
 
 from_strong : (t : Bool) (m s : SymbolId) (libraries : List ℕ) (d : Bool)
-    → first_or (map Symbol (if t then m ∷ [] else [])) (first_or (map Library libraries) (if d then Some ImageBase else None)) ≡ Some (Symbol s)
+    → first_or (map Symbol (if t then m ∷ [] else [])) (first_or (map Library libraries) (if d then Some ImageBase else None))
+    ≡ Some (Symbol s)
     → (t ≡ true) × (s ≡ m)
 from_strong true m s libraries d h = (refl, sym (ap (symbol_in m) h))
 from_strong false m s (n ∷ libraries) d h = absurd (let no : false ≡ true = ap is_in_object h in cc)
@@ -86,10 +87,13 @@ definition_here name = refl
 
 named_main : (name : List ℕ) (s : SymbolId) → definition_of calling name ≡ Some (Symbol s) → (name ≡ codes "_main") × (s ≡ main_symbol)
 named_main name s h =
-    let found = from_strong (bytes_eq (codes "_main") name) main_symbol s (libraries_with calling name) (bytes_eq name DSO_HANDLE) (sym (definition_here name) ∙ h) in
+    let found =
+    from_strong (bytes_eq (codes "_main") name) main_symbol s (libraries_with calling name) (bytes_eq name DSO_HANDLE)
+    (sym (definition_here name) ∙ h) in
     (sym ((bytes_eq-Decides (codes "_main") name).0 found.0), found.1)
 
-main_facts : (target_of_name calling (codes "_main") ≡ target.Section 0 0 0) × (weak_flag calling main_symbol ≡ 0) × (section_flag calling 0 0 ≡ 0)
+main_facts : (target_of_name calling (codes "_main") ≡ target.Section 0 0 0) × (weak_flag calling main_symbol ≡ 0)
+    × (section_flag calling 0 0 ≡ 0)
 unfolding commands_end commands_of commands_from header_of reading le_at row_bytes le_bytes words8 words halves name16 entry text_object calls_exit head_of_call fixups_of_call tables_of_call be_at be_bytes big_words signature_of_call call_image segment_of num_sections section_place section_at section_bytes symtab_of num_symbols symbol_place symbol_at strings_of symbol_name relocation_place relocation_at sections_of carried_of template_exponent placed_exponent symbols_of strong_of weak_of commons_of greatest_of libraries_with definition_of chosen_commons initializer_sections unwind_sections uses_of imports_of libraries_needed target_of target_of_relocation slots_of stubs_of fields_of plain_entries all_entries entries_of other_segments segment_names_of output_keys_of own_entries import_entries_of entries_have_addends fixup_count names_text
 main_facts = (refl, refl, refl)
 
@@ -167,7 +171,8 @@ at_last _ _ x nine (lookup.Finds.along at rest node e is taken finds) =
     let node_is = the_node at node last_node is (ap (node_at trie_of_call) nine ∙ nodes.1) in
     absurd (let no : false ≡ true = ap is_there (sym (ap (λ (n : Node). find (leads rest) n.edges) node_is) ∙ taken) in cc)
 
-only_main : (at : ℕ) (rest : List ℕ) (x : Exported) → at ≡ 0 → Finds trie_of_call x at rest → (rest ≡ codes "_main") × (x ≡ as_value 0 0x300)
+only_main : (at : ℕ) (rest : List ℕ) (x : Exported) → at ≡ 0 → Finds trie_of_call x at rest
+    → (rest ≡ codes "_main") × (x ≡ as_value 0 0x300)
 only_main _ _ x start (lookup.Finds.here at rest node is none export) =
     let node_is = the_node at node first_node is (ap (node_at trie_of_call) start ∙ nodes.0) in
     absurd (let no : false ≡ true = ap is_there (sym (ap (λ (n : Node). n.export) node_is) ∙ export) in cc)
@@ -215,7 +220,8 @@ names_one name s (inl (left, is, inr (inl (rest, cut, inr below)))) = absurd bel
 names_one name s (inl (left, is, inr (inr other))) = absurd other
 names_one name s (inr other) = absurd other
 
-one_named : (name : List ℕ) (s : ℕ) → (s < length main_says) × ((slice_index_or main_says s ([], as_value 0 0)).0 ≡ name) → LeadsTo main_tree name s
+one_named : (name : List ℕ) (s : ℕ)
+    → (s < length main_says) × ((slice_index_or main_says s ([], as_value 0 0)).0 ≡ name) → LeadsTo main_tree name s
 one_named name zero (within, is) = inl (name, refl, inr (inl ([], sym is, inl (refl, refl))))
 one_named name (suc k) (within, is) = absurd (omega (arith, within))
 
@@ -224,7 +230,8 @@ child_place : length (uleb_of (place_of (terminal_size (says_of main_says)) one_
 unfolding place_of uleb_of groups_of
 child_place = refl
 
-consistent : (k : ℕ) → 1 ≤ k → k < node_count main_tree → one_byte k ≡ length (uleb_of (place_of (terminal_size (says_of main_says)) one_byte main_tree k))
+consistent : (k : ℕ) → 1 ≤ k → k < node_count main_tree
+    → one_byte k ≡ length (uleb_of (place_of (terminal_size (says_of main_says)) one_byte main_tree k))
 consistent zero from below = absurd (omega (arith, from))
 consistent (suc zero) from below = sym child_place
 consistent (suc (suc k)) from below = absurd (omega (arith, below))
@@ -232,7 +239,8 @@ consistent (suc (suc k)) from below = absurd (omega (arith, below))
 least_widths : AreLeast (terminal_size (says_of main_says)) one_byte main_tree
 least_widths = record {
   consistent = consistent;
-  least = λ other wide k from below. omega (arith, wide k from below, (length-uleb_of (place_of (terminal_size (says_of main_says)) other main_tree k)).0);
+  least = λ other wide k from below.
+      omega (arith, wide k from below, (length-uleb_of (place_of (terminal_size (says_of main_says)) other main_tree k)).0);
 }
 
 text_there : trie_of_call ≡ tree_bytes (says_of main_says) (place_of (terminal_size (says_of main_says)) one_byte main_tree) 0 main_tree
@@ -279,6 +287,7 @@ call_trie = record {
   found = λ name e exported. rw trie_there.1 (found_in name e exported);
   only = λ name x finds. only_in name x (subst (λ (bytes : List ℕ). trie_finds bytes name x) trie_there.1 finds);
   symbols = main_says;
-  sound = All-cons (λ (s : List ℕ × Exported). IsFoundExport calling placed_call s.0 s.1) (codes "_main", as_value 0 0x300) [] sound_in (All-nil _);
+  sound = All-cons (λ (s : List ℕ × Exported). IsFoundExport calling placed_call s.0 s.1) (codes "_main", as_value 0 0x300) []
+      sound_in (All-nil _);
   exact = rw trie_there.1 exact_trie;
 }

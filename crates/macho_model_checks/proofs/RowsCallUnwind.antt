@@ -1,9 +1,9 @@
 -- The unwind information of an image whose link has no unwind entries: there is none, and look-up finds nothing.
-use Rattle.std.proofs.Common.{◌≡◌, ℕ, ◌≤◌, List, [], ◌∷◌, length, refl, ap, inl, arith}
+use Rattle.std.proofs.Common.{◌≡◌, ◌≤◌, [], length, refl, ap, inl, arith}
 use Rattle.macho_model.specs.Consumed.{entries_of_link}
 use Rattle.macho_model.specs.Addresses.{offset_in_file}
 use Rattle.macho_promise.specs.UnwindSays.{resolved_entries, unwind_bytes, UnwindSays}
-use Rattle.macho_model_checks.proofs.ExampleCall.{calls_exit, calling, counts_of_call, placed_call, head_of_call, fixups_of_call, tables_of_call, big_words, signature_of_call, call_image}
+use Rattle.macho_model_checks.proofs.ExampleCall.{calls_exit, calling, placed_call, head_of_call, fixups_of_call, tables_of_call, big_words, signature_of_call, call_image}
 use Rattle.macho_bytes.specs.Numbers.{le_at, le_bytes, be_at, be_bytes, row_bytes}
 use Rattle.macho_bytes.specs.Layouts.{reading}
 use Rattle.macho_model.specs.Commands.{header_of, commands_from, commands_of, commands_end}
@@ -37,6 +37,7 @@ call_unwind = record {
   exact = inl (no_entries, refl);
   begins = record { within = omega arith; same = refl };
   found = λ offset e is. absurd (omega (arith, ap length no_entries, is.one.1));
-  only = λ offset x finds. absurd (let header : 28 ≤ length (unwind_bytes call_image placed_call) = finds.tables.header in omega (arith, ap length no_bytes, header));
+  only = λ offset x finds. absurd (
+      let header : 28 ≤ length (unwind_bytes call_image placed_call) = finds.tables.header in omega (arith, ap length no_bytes, header));
   empty = λ none. refl;
 }

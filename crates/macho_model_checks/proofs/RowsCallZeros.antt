@@ -2,7 +2,7 @@
 --
 -- The parts are computed from the link, the placement and the file. Between them are five gaps, and each is computed to be zeros:
 -- behind the stub, behind the slot, behind the fixup table, behind the exports trie, and the byte in front of the signature.
-use Rattle.std.proofs.Common.{◌≡◌, ◌⊎◌, ℕ, ◌+◌, ◌-◌, ◌<◌, ◌≤◌, List, [], ◌∷◌, length, drop, get_or, replicate, refl, ap, sym, ◌∙◌, subst, arith, inl, inr}
+use Rattle.std.proofs.Common.{◌≡◌, ℕ, ◌+◌, ◌-◌, ◌<◌, ◌≤◌, List, [], ◌∷◌, length, drop, get_or, replicate, refl, ap, sym, ◌∙◌, subst, arith, inl, inr}
 use Rattle.std.specs.Prelude.{slice_index, slice_range}
 use Rattle.std.specs.List.{All}
 use Rattle.std.proofs.lemmas.List.{get_or-take, get_or-drop, get_or-replicate}
@@ -89,7 +89,8 @@ outside_parts i within (inr head) (inr code) (inr stub) (inr slot) (inr table) (
     absurd (omega (arith, symbols, strings))
 outside_parts i within (inr head) (inr code) (inr stub) (inr slot) (inr table) (inr trie) (inr symbols) (inr strings) (inl sign) =
     in_gap call_image 33023 33024 i gaps.4 (omega (arith, strings)) (omega (arith, sign))
-outside_parts i within (inr head) (inr code) (inr stub) (inr slot) (inr table) (inr trie) (inr symbols) (inr strings) (inr sign) = absurd (omega (arith, within, sign))
+outside_parts i within (inr head) (inr code) (inr stub) (inr slot) (inr table) (inr trie) (inr symbols) (inr strings) (inr sign) =
+    absurd (omega (arith, within, sign))
 
 -- THE zeros
 pub call_zeros : IsZeroElsewhere calling call_image placed_call 0

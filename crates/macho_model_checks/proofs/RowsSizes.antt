@@ -1,6 +1,6 @@
 -- The sizes, the segments and the output sections of small links, by computing: those of an executable of one object, of one
 -- that calls a library, of a dynamic library, with the numbers that their files have.
-use Rattle.std.proofs.Common.{◌≡◌, ℕ, ◌+◌, true, false, List, [], ◌∷◌, ◌++◌, refl, Some, None, map}
+use Rattle.std.proofs.Common.{◌≡◌, ℕ, ◌+◌, true, false, List, [], ◌∷◌, ◌++◌, refl, Some, map}
 use Rattle.std.specs.Prelude.{codes}
 use Rattle.macho_bytes.specs.Numbers.{le_at, le_bytes, row_bytes}
 use Rattle.macho_bytes.specs.Layouts.{reading}
@@ -13,7 +13,7 @@ use Rattle.macho_model.specs.Needs.{initializer_sections, unwind_sections, uses_
 use Rattle.macho_model.specs.Targets.{target_of, target_of_relocation, slots_of, stubs_of}
 use Rattle.macho_model.specs.Fields.{fields_of}
 use Rattle.macho_model.specs.Rows.{is_supported}
-use Rattle.macho_model.specs.Segments.{TEXT, DATA, DATA_CONST, LINKEDIT, PAGEZERO, other_segments, segment_rank, segment_names_of, segments_for, output_keys_of, output_count}
+use Rattle.macho_model.specs.Segments.{TEXT, DATA_CONST, LINKEDIT, PAGEZERO, other_segments, segment_rank, segment_names_of, segments_for, output_keys_of, output_count}
 use Rattle.macho_model.specs.OutputSections.{output_sections_of, key_of_output}
 use Rattle.macho_model.specs.Consumed.{entries_of_link}
 use Rattle.macho_model.specs.Fixups.{import_entries_of, own_entries, entries_have_addends}
@@ -21,7 +21,7 @@ use Rattle.macho_model.specs.Made.{initializers_of}
 use Rattle.macho_model.specs.SymbolTable.{table_symbols}
 use Rattle.macho_promise.specs.Sizes.{counts_with, commands_size}
 use Rattle.macho_model_checks.proofs.Examples.{words8, words, halves, name16, object_a, object_b}
-use Rattle.macho_model_checks.proofs.ExampleLinks.{entry, text_object, executable_of, section, symbol, linked_b, system}
+use Rattle.macho_model_checks.proofs.ExampleLinks.{entry, text_object, executable_of, symbol, linked_b, system}
 use Rattle.macho_model_checks.proofs.ExamplePlacement.{link_a}
 
 -- The object with `_main` alone, as an executable: the trie has room for 22 bytes. With its three segments and one section
