@@ -31,7 +31,9 @@ fn its_pointer_is_found(rt: HostRuntime) {
     match Loaded::accept(&image) {
         Ok(loaded) => assert_eq!(rt;
             loaded.fixup_at(0x1_0000_4000),
-            Some(LoadedFixup::Rebase { value: 0x1_0000_0240 })
+            Some(LoadedFixup::Rebase {
+                value: 0x1_0000_0240
+            })
         ),
         Err(_) => assert!(rt; false),
     }

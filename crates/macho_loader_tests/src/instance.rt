@@ -34,16 +34,29 @@ const TABLE: [u8; 110] =
     \0\x18\0\0\00\0\0\0\0\0\0\0\x18\0\0\0\0@\x06\0\0@\0\0\0\0\0\0\0\0\0\0\x01\0\0\0\x18\0\0\
     \0\0@\x06\0\0\x80\0\0\0\0\0\0\0\0\0\0\x01\0\0\0\x01\0\0\0_exit\0";
 
-/// The bytes of the file.
-const SIZE: usize = 49_948;
+/// The slot at 0x4000: import 0. The pointer at 0x8000: 0x398 from the base.
+const SLOT: [u8; 8] = [0, 0, 0, 0, 0, 0, 0, 0x80];
 
-fn image() -> [u8; SIZE] {
-    let mut image = [0; SIZE];
+const POINTER: [u8; 8] = [0x98, 3, 0, 0, 0, 0, 0, 0];
+
+/// Header, load commands and words, in a file of zeros.
+fn head() -> [u8; 49_948] {
+    let mut image = [0; 49_948];
     image[..920].copy_from_slice(&HEAD);
-    image[0x4007] = 0x80;
-    image[0x8000..0x8002].copy_from_slice(&[0x98, 3]);
+    image[0x4000..0x4008].copy_from_slice(&SLOT);
+    image[0x8000..0x8008].copy_from_slice(&POINTER);
+    image
+}
+
+fn image() -> [u8; 49_948] {
+    let mut image = head();
     image[0xc000..0xc06e].copy_from_slice(&TABLE);
     image
+}
+
+/// All but the last byte.
+fn without_last(image: &[u8]) -> &[u8] {
+    &image[..image.len().saturating_sub(1)]
 }
 
 fn fixup(image: &[u8], address: u64) -> Option<LoadedFixup<'_>> {
@@ -81,7 +94,9 @@ fn the_slot_leads_to_the_import_and_the_pointer_moves(rt: HostRuntime) {
     );
     assert_eq!(rt;
         fixup(&image, 0x1_0000_8000),
-        Some(LoadedFixup::Rebase { value: 0x1_0000_0398 })
+        Some(LoadedFixup::Rebase {
+            value: 0x1_0000_0398
+        })
     );
 }
 
@@ -106,7 +121,7 @@ fn nothing_else_is_on_the_chain(rt: HostRuntime) {
 fn a_file_without_its_last_byte_is_refused(rt: HostRuntime) {
     let image = image();
     assert_eq!(rt;
-        Loaded::accept(&image[..SIZE - 1]).err(),
+        Loaded::accept(without_last(&image)).err(),
         Some(LoadFault {
             rule: LoadRule::L4,
             place: 640,

@@ -57,7 +57,6 @@ const FIRST_PAGE: [u8; 32] = [
 /// What stands at 0x8000: a number, and a pointer to 0x4000 from the base with the highest byte 0x7f.
 const SECOND_PAGE: [u8; 16] = [0x66, 0x55, 0, 0, 0, 0, 0, 0, 0, 0x40, 0, 0, 0xf0, 7, 0, 0];
 
-
 fn chained() -> [u8; 0x8010] {
     let mut image = [0; 0x8010];
     image[..403].copy_from_slice(&CHAINED);
@@ -104,27 +103,39 @@ fn both_find_the_same_words(rt: HostRuntime) {
     }
 }
 
-/// How many commands of 8 bytes the long image has: with the two segments' they fill 8 MiB.
-const COMMANDS: usize = (0x80_0000 - 32 - 72) / 8;
+/// How many commands of 8 bytes the long image has: with its segment's they fill 8 MiB.
+const COMMANDS: u32 = (0x80_0000 - 32 - 72) / 8;
+
+/// Sets bytes at a place.
+fn set(image: &mut [u8], at: usize, bytes: &[u8]) {
+    for k in 0..bytes.len() {
+        if let Some(slot) = image.get_mut(at.wrapping_add(k)) {
+            *slot = bytes[k];
+        }
+    }
+}
+
+/// One segment of 8 MiB, and so many commands of an unknown number.
+fn compose(image: &mut [u8]) {
+    set(image, 0, &CHAINED[..32]);
+    set(image, 32, &CHAINED[104..176]);
+    set(image, 16, &(COMMANDS + 1).to_le_bytes());
+    set(image, 20, &(0x80_0000u32 - 32).to_le_bytes());
+    set(image, 64, &0x80_0000u64.to_le_bytes());
+    set(image, 80, &0x80_0000u64.to_le_bytes());
+    for number in 0..COMMANDS {
+        set(image, 104 + 8 * number as usize + 4, &[8]);
+    }
+}
 
 #[test]
 fn a_million_commands_are_passed_at_once(rt: HostRuntime) -> Result<(), Fail> {
     let mut image = vec![in rt.alloc(); 0u8; 0x80_0000]?;
-    image[..104].copy_from_slice(&CHAINED[..104]);
-    image[32..104].copy_from_slice(&CHAINED[104..176]);
-    // one segment of 8 MiB, and so many commands of an unknown number
-    image[16..20].copy_from_slice(&(COMMANDS as u32 + 1).to_le_bytes());
-    image[20..24].copy_from_slice(&(0x80_0000u32 - 32).to_le_bytes());
-    image[64..72].copy_from_slice(&0x80_0000u64.to_le_bytes());
-    image[80..88].copy_from_slice(&0x80_0000u64.to_le_bytes());
-    for number in 0..COMMANDS {
-        if let Some(size) = image.get_mut(104 + 8 * number + 4) {
-            *size = 8;
-        }
-    }
-    match Loaded::accept(&image) {
-        Ok(loaded) => assert_eq!(rt; loaded.num_segments(), 1),
-        Err(_) => assert!(rt; false),
-    }
+    compose(&mut image);
+    let count = match Loaded::accept(&image) {
+        Ok(loaded) => loaded.num_segments(),
+        Err(_) => 0,
+    };
+    assert_eq!(rt; count, 1);
     Ok(())
 }

@@ -84,7 +84,7 @@ fn then_for_its_pointer_format(rt: HostRuntime) {
 #[test]
 fn with_both_mended_it_is_accepted(rt: HostRuntime) {
     let mut image = paged();
-    image[0x8036] = 6;
+    image[0x803e] = 6;
     // the pointer's target, as an offset from the base
     image[0x400c] = 0;
     match Loaded::accept(&image) {
@@ -92,15 +92,25 @@ fn with_both_mended_it_is_accepted(rt: HostRuntime) {
             assert_eq!(rt; loaded.num_segments(), 4);
             assert_eq!(rt;
                 loaded.fixup_at(0x1_0000_4008),
-                Some(LoadedFixup::Rebase { value: 0x1_0000_4000 })
+                Some(LoadedFixup::Rebase {
+                    value: 0x1_0000_4000
+                })
             );
             assert_eq!(rt;
                 loaded.fixup_at(0x1_0000_4010),
-                Some(LoadedFixup::Bind { library: 1, name: b"_exit", addend: 0 })
+                Some(LoadedFixup::Bind {
+                    library: 1,
+                    name: b"_exit",
+                    addend: 0
+                })
             );
             assert_eq!(rt;
                 loaded.fixup_at(0x1_0000_4018),
-                Some(LoadedFixup::Bind { library: 1, name: b"_exit", addend: 300 })
+                Some(LoadedFixup::Bind {
+                    library: 1,
+                    name: b"_exit",
+                    addend: 300
+                })
             );
             assert_eq!(rt; loaded.fixup_at(0x1_0000_4000), None);
         }
