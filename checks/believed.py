@@ -2,9 +2,11 @@
 
 believed.py                 the definitions under the clauses of `run`, in reading order, with lines; then the rules below
 believed.py --crate NAME    the files of a crate's specs/, and which definitions of each a public clause rests on
+believed.py --lines         writes the lines of the files that docs/THEOREMS.md lists into it
 
-Refused are: a file of specs/steps/ under a public clause of any crate, a file of specs/ that imports one of specs/steps/,
-and a row of the README's table that names a function or clause that isn't there.
+Refused are: a file of specs/steps/ under the clauses of `run` or of a function that the README's table names, a file of specs/
+that imports one of specs/steps/, and a row of that table that names a function or clause that isn't there. (A crate may hand
+functions of its own steps to another crate's code, as macho_model_walks does: these are in no row.)
 """
 import os
 import re
@@ -374,7 +376,7 @@ def print_run(world):
     return [f"{short(module)} is a file of steps, under `run`" for module in files if is_step(module)]
 
 
-def wrong_steps(world, crates):
+def wrong_imports(world):
     wrong = []
     for module, file in world.files.items():
         if is_step(module) or module.endswith(".specs.steps"):
@@ -382,16 +384,16 @@ def wrong_steps(world, crates):
         for used in [m for m, _ in file.items.values()] + list(file.modules.values()):
             if is_step(world.module(used)):
                 wrong.append(f"{short(module)} imports {short(used)}")
-    for crate in crates:
-        for function in functions_of(crate):
-            if function.is_public:
-                steps = {one[0] for one in world.closure(roots_of(world, [function])) if is_step(one[0])}
-                wrong += [f"{crate} {function.name} rests on {short(module)}" for module in sorted(steps)]
     return sorted(set(wrong))
 
 
-def wrong_rows(crates):
-    """Rows of the README whose function or clause isn't there."""
+def wrong_steps(world, function):
+    steps = {one[0] for one in world.closure(roots_of(world, [function])) if is_step(one[0])}
+    return [f"{function.crate} {function.name} rests on {short(module)}" for module in sorted(steps)]
+
+
+def wrong_rows(world, crates):
+    """Rows of the README whose function or clause isn't there, or rests on steps."""
     wrong = []
     table = re.search(r"^\| sentence \|.*?(?=^\s*$)", read(os.path.join(TOP, "README.md")), re.M | re.S)
     if not table:
@@ -419,6 +421,7 @@ def wrong_rows(crates):
                 wrong.append(f"README.md: {crate} has no public '{function}'")
             for one in named:
                 clauses |= {label or kind for kind, label, _ in one.clauses}
+                wrong += wrong_steps(world, one)
         for clause in re.findall(r"`([^`]+)`", cells[2]):
             if "/" in clause:
                 if not os.path.exists(os.path.join(CRATES, clause + ".antt")):
@@ -428,14 +431,40 @@ def wrong_rows(crates):
     return wrong
 
 
+def write_lines():
+    """Writes the lines of the files that a row of docs/THEOREMS.md names: the first by crate and folder, or in macho_model."""
+    path = os.path.join(TOP, "docs", "THEOREMS.md")
+    missing, lines = [], read(path).split("\n")
+    for number, line in enumerate(lines):
+        row = re.match(r"\| ((?:`[\w/]+`(?:, )?)+) \| \d+ \|", line)
+        if not row:
+            continue
+        folder, total = "macho_model/specs", 0
+        for name in re.findall(r"`([\w/]+)`", row.group(1)):
+            folder, name = name.rsplit("/", 1) if "/" in name else (folder, name)
+            file = os.path.join(CRATES, folder, name + ".antt")
+            if os.path.exists(file):
+                total += read(file).count("\n")
+            else:
+                missing.append(f"docs/THEOREMS.md: there is no file '{folder}/{name}'")
+        lines[number] = f"| {row.group(1)} | {total} |" + line[row.end():]
+    with open(path, "w", encoding="utf-8") as file:
+        file.write("\n".join(lines))
+    return missing
+
+
 def main():
     world = World()
     crates = [name for name in sorted(os.listdir(CRATES)) if os.path.isdir(os.path.join(CRATES, name, "src"))]
     if sys.argv[1:2] == ["--crate"]:
         print_crate(world, crates, sys.argv[2])
         return 0
-    wrong = print_run(world) + wrong_steps(world, crates) + wrong_rows(crates)
-    for line in wrong:
+    if sys.argv[1:2] == ["--lines"]:
+        missing = write_lines()
+        print("\n".join(missing) or "docs/THEOREMS.md: the lines are written")
+        return 1 if missing else 0
+    wrong = print_run(world) + wrong_imports(world) + wrong_rows(world, crates)
+    for line in dict.fromkeys(wrong):
         print(f"believed: {line}", file=sys.stderr)
     return 1 if wrong else 0
 

@@ -27,7 +27,7 @@ const MAX_GENERATED: u32 = 10_000;
 impl MachOArgs {
     ghost use Rattle.macho_args.specs.Settings.{settings_of, framework};
     ghost use Rattle.macho_args.specs.steps.Effects.{HasCause};
-ghost use Rattle.macho_args.specs.Effects.{with_flag, with_value, with_once, with_platform};
+    ghost use Rattle.macho_args.specs.Effects.{with_flag, with_value, with_once, with_platform};
     ghost use Rattle.macho_args.specs.steps.KeptRoot.{keep_root};
 
     /// Sets a flag.

@@ -6,3 +6,4 @@ pub mod RangeLaws
 pub mod ReachLaws
 pub mod Examples
 pub mod KindLaws
+pub mod SupportedKinds

@@ -7,12 +7,12 @@ ghost use Rattle.macho_bytes.specs.Texts.{put};
 ghost use Rattle.macho_model.specs.Meaning.{address};
 ghost use Rattle.macho_arm64.specs.Fields.{width_of, field_at, is_field, fits_word, can_hold, fits_signed, Holds};
 
-use crate::bytes::{put_doubleword, put_word, word_at};
 use crate::kinds::FieldSize;
 use crate::words::{
     PAGE_SIZE, is_add, is_adrp, is_branch, is_ldr, is_load_store, scale_of, with_imm12, with_imm21,
     with_imm26,
 };
+use macho_numbers::{Number, put_little};
 
 /// The value does not fit the field.
 #[derive(Clone, Copy, Debug, PartialEq, Eq)]
@@ -61,12 +61,12 @@ pub fn write_field(
         (bytes.new ≡ put at (le_bytes (width_of size) (field_at size bytes.new at)) bytes.old) }
 {
     if size == FieldSize::Bytes(8) {
-        put_doubleword(bytes, at, value);
+        put_little(bytes, at, value);
         return Ok(());
     }
-    let word = word_at(bytes, at);
+    let word = u32::read_little(bytes, at);
     match word_with(size, word, value) {
-        Some(new) => put_word(bytes, at, new),
+        Some(new) => put_little(bytes, at, new),
         None => return Err(RangeFault { value }),
     }
     Ok(())

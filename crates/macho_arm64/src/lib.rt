@@ -8,7 +8,6 @@
 //! of `fields_denote`, `reaches_agree` and `kinds_agree`.
 #![tactic(auto)]
 
-mod bytes;
 mod fields;
 mod kinds;
 mod laws;

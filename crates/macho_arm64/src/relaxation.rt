@@ -8,9 +8,9 @@ ghost use Rattle.std.specs.Prelude.{◌≡◌, ◌+◌, ◌≤◌, length, true,
 ghost use Rattle.macho_bytes.specs.Numbers.{le_at};
 ghost use Rattle.macho_arm64.specs.Relaxations.{relaxation_of, relaxed_kind, can_relax, is_relaxable, IsMadeAdd, MakesAdd, Relaxes};
 
-use crate::bytes::{put_word, word_at};
 use crate::kinds::{FieldSize, MachOAArch64, RelocationKind, RelocationKindInfo};
 use crate::words::is_ldr;
+use macho_numbers::{Number, put_little};
 use macho_records::{
     ARM64_RELOC_GOT_LOAD_PAGE21, ARM64_RELOC_GOT_LOAD_PAGEOFF12, ARM64_RELOC_TLVP_LOAD_PAGEOFF12,
     RelocationInfo,
@@ -89,11 +89,11 @@ fn make_add(bytes: &mut [u8], at: usize) -> Result<(), NotALoad>
     ensures kept { OnErr result (bytes.new ≡ bytes.old) }
     ensures done { OnOk result (MakesAdd at bytes.old bytes.new) }
 {
-    let word = word_at(bytes, at);
+    let word = u32::read_little(bytes, at);
     if !is_relaxable(word) {
         return Err(NotALoad);
     }
-    put_word(bytes, at, add_of(word));
+    put_little(bytes, at, add_of(word));
     Ok(())
 }
 

@@ -10,8 +10,8 @@ ghost use Rattle.macho_bytes.specs.Numbers.{le_at, page};
 ghost use Rattle.macho_model.specs.Meaning.{GoesThrough};
 ghost use Rattle.macho_arm64.specs.Stubs.{STUB_SIZE, ADRP_REACH, start_address};
 
-use crate::bytes::put_word;
 use crate::words::{PAGE_SIZE, with_imm12, with_imm21};
+use macho_numbers::put_little;
 
 /// ADRP x16, LDR x16 from x16, and BR x16.
 const ADRP_X16: u32 = 0x9000_0010;
@@ -74,9 +74,9 @@ fn put_stub(plt_entry: &mut [u8], adrp: u32, ldr: u32)
     ensures ldr { le_at 4 plt_entry.new 4 ≡ ldr }
     ensures br { le_at 4 plt_entry.new 8 ≡ BR_X16 }
 {
-    put_word(plt_entry, 0, adrp);
-    put_word(plt_entry, 4, ldr);
-    put_word(plt_entry, 8, BR_X16);
+    put_little(plt_entry, 0, adrp);
+    put_little(plt_entry, 4, ldr);
+    put_little(plt_entry, 8, BR_X16);
 }
 
 /// The address of an image's first byte before it slides: an executable leaves the first 4 GiB free.

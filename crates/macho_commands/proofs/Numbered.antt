@@ -10,7 +10,7 @@ use Rattle.macho_records.specs.declared.constants.TheConstants.{LC_BUILD_VERSION
 use Rattle.macho_model.specs.Commands.{Command}
 use Rattle.macho_model.specs.Agreement.{section_headers_at}
 use Rattle.macho_model.specs.Head.{Segment, EntryPoint, Uuid, BuildVersion, Dylinker, Dylib, Rpath, LinkeditData, Symtab, behind, tools_at, command_in}
-use Rattle.macho_commands.specs.Commands.{IsLinkedit}
+use Rattle.macho_commands.specs.steps.Writing.{IsLinkedit}
 
 pub in_segment : (b : List ℕ) (c : Command) → c.number ≡ LC_SEGMENT_64 → command_in b c ≡ Segment (reading segment_command b c.at) (section_headers_at b c.at)
 unfolding command_in

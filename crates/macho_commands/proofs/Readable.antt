@@ -27,8 +27,9 @@ use Rattle.macho_records.specs.declared.constants.TheConstants.{LC_BUILD_VERSION
 use Rattle.macho_model.specs.Agreement.{section_headers_at}
 use Rattle.macho_model.specs.Head.{Segment, EntryPoint, Uuid, BuildVersion, Dylinker, Dylib, Rpath, LinkeditData, Symtab, behind, tools_at}
 use Rattle.macho_commands.specs.Texts.{text_said}
-use Rattle.macho_commands.specs.Commands.{IsLinkedit}
-use Rattle.macho_commands.specs.Reading.{EachReadsBack, IsReadable, placed_at}
+use Rattle.macho_commands.specs.steps.Writing.{IsLinkedit}
+use Rattle.macho_commands.specs.Reading.{IsReadable, placed_at}
+use Rattle.macho_commands.specs.steps.Writing.{EachReadsBack}
 use Rattle.macho_commands.proofs.Numbered.{in_segment, in_entry_point, in_uuid, in_build_version, in_dylinker, in_dylib, in_rpath, in_symtab, in_linkedit}
 
 -- records of one size, one behind the other, are read one by one

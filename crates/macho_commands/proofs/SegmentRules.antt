@@ -70,14 +70,15 @@ each_tested b p s test are each k d lt =
 -- neighbours stand one behind the other
 pub neighbours_follow : (l : Link) (b : List ℕ) (p : Placed) (s : PlacedSegment) → AreOf b p → EachFollows l p.segments
     → EachNeighbour (segment_commands b) (begins_behind b)
-neighbours_follow l b p s are follow k c d lt at_k at_next =
+neighbours_follow l b p s are follow k c d at_k at_next =
     let count = length-segments b p are in
     let one : PlacedSegment = get_or p.segments k s in
     let two : PlacedSegment = get_or p.segments (k + 1) s in
-    let first : segment_in b c ≡ record_for p one = record-at b p k c s are (omega arith) at_k in
-    let second : segment_in b d ≡ record_for p two = record-at b p (k + 1) d s are lt at_next in
-    let next = follow k one two (omega (arith, count)) (sym (get_or_default p.segments k s one (omega (arith, count))))
-    (sym (get_or_default p.segments (k + 1) s two (omega (arith, count)))) in
+    let first : segment_in b c ≡ record_for p one = record-at b p k c s are at_k.0 at_k.1 in
+    let second : segment_in b d ≡ record_for p two = record-at b p (k + 1) d s are at_next.0 at_next.1 in
+    let lt : k + 1 < length p.segments = omega (arith, count, at_next.0) in
+    let there : k < length p.segments = omega (arith, lt) in
+    let next = follow k one two (there, sym (get_or_default p.segments k s one there)) (lt, sym (get_or_default p.segments (k + 1) s two lt)) in
     le-leb _ _ (omega (
       arith,
       ap (λ (r : SegmentCommand). r.vmaddr + r.vmsize) first,
@@ -97,11 +98,13 @@ follows_rise : (l : Link) (segments : List PlacedSegment) → EachFollows l segm
 follows_rise l [] follow = tt
 follows_rise l (s ∷ []) follow = (All-nil (λ t. rank l s < rank l t), tt)
 follows_rise l (s ∷ t ∷ segments) follow =
-    let later : EachFollows l (t ∷ segments) = λ k x y lt at_k at_next.
+    let later : EachFollows l (t ∷ segments) = λ k x y at_k at_next.
     let more : suc k + 1 ≡ suc (k + 1) = omega arith in
-    follow (suc k) x y (omega arith) at_k (ap (λ (n : ℕ). get_or (s ∷ t ∷ segments) n y) more ∙ at_next) in
+    let here : suc k < length (s ∷ t ∷ segments) = omega (arith, at_k.0) in
+    let behind : suc k + 1 < length (s ∷ t ∷ segments) = omega (arith, at_next.0) in
+    follow (suc k) x y (here, at_k.1) (behind, ap (λ (n : ℕ). get_or (s ∷ t ∷ segments) n y) more ∙ at_next.1) in
     let rest = follows_rise l (t ∷ segments) later in
-    let next : rank l s < rank l t = (follow 0 s t (omega arith) refl refl).rank in
+    let next : rank l s < rank l t = (follow 0 s t (omega arith, refl) (omega arith, refl)).rank in
     (All-cons (λ u. rank l s < rank l u) t segments next (λ k d lt. omega (arith, next, rest.0 k d lt)), rest)
 
 -- a segment that has the name has its rank

@@ -12,7 +12,7 @@ use Rattle.macho_model.specs.Commands.{Command}
 use Rattle.macho_model.specs.Agreement.{section_headers_at}
 use Rattle.macho_model.specs.Head.{Segment, EntryPoint, Uuid, BuildVersion, Dylinker, Dylib, Rpath, LinkeditData, Symtab, Other, behind, tools_at, command_in, size_said}
 use Rattle.macho_commands.specs.Texts.{number_said}
-use Rattle.macho_commands.specs.Commands.{IsLinkedit}
+use Rattle.macho_commands.specs.steps.Writing.{IsLinkedit}
 use Rattle.macho_commands.proofs.Numbered.{in_segment, in_entry_point, in_uuid, in_build_version, in_dylinker, in_dylib, in_rpath, in_symtab, in_linkedit}
 
 -- no test of the number passes

@@ -18,7 +18,7 @@ use Rattle.macho_records.specs.Layouts.{section_header}
 use Rattle.macho_records.specs.declared.header.SectionHeader.{SectionHeader}
 use Rattle.macho_commands.specs.declared.command.Command.{Command}
 use Rattle.macho_commands.specs.Commands.{text_of, size_of_command}
-use Rattle.macho_commands.specs.Reading.{EachReadsBack}
+use Rattle.macho_commands.specs.steps.Writing.{EachReadsBack}
 
 -- texts of one length joined end to end
 pub length-flat_map_same : {X : Type 0} (f : X → List ℕ) (w : ℕ) (xs : List X) → ((i : ℕ) (d : X) → i < length xs → length (f (get_or xs i d)) ≡ w)

@@ -1,5 +1,5 @@
 -- What each load command of the linker says, and of a list of them: count, size and bytes are folds over one list.
-use Rattle.std.specs.Prelude.{ℕ, ◌+◌, ◌*◌, ◌<◌, ◌^◌, ◌≡◌, ◌⊎◌, List, [], ◌∷◌, length, sum_by}
+use Rattle.std.specs.Prelude.{ℕ, ◌+◌, ◌*◌, ◌<◌, ◌^◌, List, [], ◌∷◌, length, sum_by}
 use Rattle.std.specs.List.{flat_map}
 use Rattle.macho_records.specs.Segments.{bytes_of}
 use Rattle.macho_records.specs.declared.constants.TheConstants.{LC_BUILD_VERSION, LC_CODE_SIGNATURE, LC_DYLD_CHAINED_FIXUPS, LC_DYLD_EXPORTS_TRIE, LC_ID_DYLIB, LC_LOAD_DYLIB, LC_MAIN, LC_SEGMENT_64, LC_SYMTAB, LC_UUID}
@@ -53,10 +53,6 @@ symtab_said t = head.Symtab (record {
   stroff = t.strings_offset;
   strsize = t.strings_size;
 })
-
--- a number of a command that names a range of `__LINKEDIT`
-abbrev pub IsLinkedit : ℕ → Type 0
-IsLinkedit number = (number ≡ LC_DYLD_CHAINED_FIXUPS) ⊎ (number ≡ LC_DYLD_EXPORTS_TRIE) ⊎ (number ≡ LC_CODE_SIGNATURE)
 
 -- THE command that each of ours says.
 abbrev pub said_by : Command → HeadCommand

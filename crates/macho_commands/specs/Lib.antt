@@ -3,3 +3,4 @@ pub mod Commands
 pub mod Reading
 pub mod Heads
 pub mod Laws
+pub mod steps

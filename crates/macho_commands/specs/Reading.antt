@@ -1,17 +1,13 @@
 -- What a reader finds where a command, or a list of them, stands.
-use Rattle.std.specs.Prelude.{◌≡◌, ℕ, ◌+◌, ◌<◌, List, [], ◌∷◌, length, map, get_or}
+use Rattle.std.specs.Prelude.{◌≡◌, ℕ, ◌+◌, List, [], ◌∷◌, length, map}
 use Rattle.macho_bytes.specs.Texts.{Stands}
-use Rattle.macho_bytes.specs.Layouts.{Layout, ReadsBack, reading}
+use Rattle.macho_bytes.specs.Layouts.{reading}
 use Rattle.macho_records.specs.Layouts.{load_command}
 use Rattle.macho_model.specs.Commands as found
 use Rattle.macho_model.specs.Head.{HeadCommand, command_in, size_said}
 use Rattle.macho_commands.specs.declared.command.Command.{Command}
 use Rattle.macho_commands.specs.Texts.{text_said, number_said}
 use Rattle.macho_commands.specs.Commands.{said_by, size_of_command, commands_text}
-
--- each record of a list reads back
-pub record EachReadsBack {R : Type 0} (l : Layout R) (rs : List R) : Type 0 where
-  pub each : (k : ℕ) (d : R) → k < length rs → ReadsBack l (get_or rs k d)
 
 -- a command as it lies at a place
 abbrev pub placed_at : ℕ → HeadCommand → found.Command

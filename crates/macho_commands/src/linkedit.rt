@@ -3,7 +3,8 @@ ghost use Rattle.std.specs.Prelude.{◌≡◌, ◌+◌, ◌≤◌, length};
 ghost use Rattle.macho_bytes.specs.Texts.{put};
 ghost use Rattle.macho_model.specs.Head.{linkedit_for};
 ghost use Rattle.macho_commands.specs.Texts.{text_said};
-ghost use Rattle.macho_commands.specs.Commands.{symtab_said, IsLinkedit};
+ghost use Rattle.macho_commands.specs.Commands.{symtab_said};
+ghost use Rattle.macho_commands.specs.steps.Writing.{IsLinkedit};
 ghost use Rattle.macho_commands.specs.Reading.{IsReadable};
 
 use crate::command::{SymbolTable, Table};

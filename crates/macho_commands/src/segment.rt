@@ -6,7 +6,8 @@ ghost use Rattle.macho_bytes.specs.Layouts.{spelling};
 ghost use Rattle.macho_records.specs.Layouts.{section_header};
 ghost use Rattle.macho_commands.specs.Texts.{text_said};
 ghost use Rattle.macho_commands.specs.Commands.{segment_said};
-ghost use Rattle.macho_commands.specs.Reading.{IsReadable, EachReadsBack};
+ghost use Rattle.macho_commands.specs.Reading.{IsReadable};
+ghost use Rattle.macho_commands.specs.steps.Writing.{EachReadsBack};
 
 use macho_model::PlacedSegment;
 use macho_records::{LC_SEGMENT_64, SectionHeader, SegmentCommand};

@@ -5,7 +5,6 @@ pub mod Chains
 pub mod Readings
 pub mod Laws
 pub mod Calls
-
 -- definitions of crates below, which clauses of this one cite
 pub use Rattle.macho_bytes.specs.Numbers
 pub use Rattle.macho_bytes.specs.Texts

@@ -13,9 +13,9 @@ ghost use Rattle.macho_fixups.specs.Runs.{AreFixups, AreSegments, Holds};
 ghost use Rattle.macho_fixups.specs.Chains.{place_of, step_of, step_between, AreWritten, HaveWords, IsFirstRefused, HaveRoom, ChainIsRun};
 ghost use Rattle.macho_fixups.specs.steps.Chains.{IsSegmentOf, ArePassed};
 
-use crate::bytes::put_u64;
 use crate::run::{CHAIN_PAGE, Fixup, FixupSegment};
 use crate::words::{FixupKind, NotEncodable, bind_word, rebase_word};
+use macho_numbers::put_little;
 
 /// The bytes of a step from word to word.
 const STRIDE: u64 = 4;
@@ -43,7 +43,7 @@ pub fn write_chains(
         number = segment_from(segments, number, fixup.address);
         let place = place_in(segments, number, fixup.address);
         match word_for(fixup.kind, step_from(fixups, index)) {
-            Some(word) => put_u64(out, place, word),
+            Some(word) => put_little(out, place, word),
             None => return Err(NotEncodable { index }),
         }
     }

@@ -8,7 +8,7 @@ ghost use Rattle.macho_fixups.specs.Tables.{entry_text, entry_word};
 ghost use Rattle.macho_fixups.specs.Calls.{AreEntries};
 ghost use Rattle.macho_fixups.specs.steps.Calls.{EntryFits};
 
-use crate::bytes::put_u32;
+use macho_numbers::put_little;
 
 /// `DYLD_CHAINED_IMPORT_ADDEND`: an entry is a word and an addend.
 pub(crate) const IMPORT_ADDEND_FORMAT: u32 = 2;
@@ -54,9 +54,9 @@ fn write_entry(out: &mut [u8], at: usize, format: u32, entry: ImportEntry)
     ensures fits { EntryFits entry }
 {
     let addend = addend_word(&entry);
-    put_u32(out, at, entry_word(entry));
+    put_little(out, at, entry_word(entry));
     if format == IMPORT_ADDEND_FORMAT {
-        put_u32(out, at + 4, addend);
+        put_little(out, at + 4, addend);
     }
 }
 

@@ -1,7 +1,6 @@
 //! Chained fixups: the words that the loader writes anew, and the table that says where each page's chain begins.
 #![tactic(auto)]
 
-mod bytes;
 mod chains;
 mod imports;
 mod laws;

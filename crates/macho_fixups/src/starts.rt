@@ -7,8 +7,8 @@ ghost use Rattle.macho_fixups.specs.Runs.{AreSorted, AreSegments, pages_of, star
 ghost use Rattle.macho_fixups.specs.steps.Cuts.{IsCut, AreBelow, IsRunOf};
 ghost use Rattle.macho_fixups.specs.Tables.{page_starts_text, starts_size, starts_text};
 
-use crate::bytes::{put_u16, put_u32};
 use crate::run::{CHAIN_PAGE, Fixup, FixupSegment, SegmentRun, has_next, skip_below};
+use macho_numbers::put_little;
 use macho_records::ChainedStartsInSegment;
 
 /// A page without a chain (`DYLD_CHAINED_PTR_START_NONE`).
@@ -96,7 +96,7 @@ fn write_page_starts(
     let mut pages = 0;
     'pages: while has_next(fixups, next, segment) {
         let number = segment.address / CHAIN_PAGE + pages;
-        put_u16(out, place, start_from(fixups, next, number));
+        put_little(out, place, start_from(fixups, next, number));
         let page = number * CHAIN_PAGE;
         let left = segment.file_size - (page - segment.address);
         next = skip_below(fixups, next, page, left.min(CHAIN_PAGE));

@@ -17,10 +17,10 @@ ghost use Rattle.macho_fixups.specs.Tables.{image_starts_text, image_starts_size
 ghost use Rattle.macho_fixups.specs.Readings.{TableReadsBack};
 ghost use Rattle.macho_fixups.specs.Calls.{AreEntries, FitsTable, all_pages};
 
-use crate::bytes::{put_text, put_u32};
 use crate::imports::{ImportEntry, entry_size, write_imports};
 use crate::run::{Fixup, FixupSegment};
 use crate::starts::{starts_size, write_starts};
+use macho_numbers::{put_little, put_text};
 use macho_records::ChainedFixupsHeader;
 
 /// The place of the starts: behind the header.
@@ -108,7 +108,7 @@ fn write_image_starts(
     ensures long { length (image_starts_text base fixups.now segments.now) ≡ image_starts_size fixups.now segments.now }
     ensures behind { result ≡ at + image_starts_size fixups.now segments.now }
 {
-    put_u32(out, at, segments.len() as u32);
+    put_little(out, at, segments.len() as u32);
     write_segments(out, at, segments, base, fixups)
 }
 
@@ -131,7 +131,7 @@ fn write_segments(
     let mut next = 0;
     for segment in segments {
         let run = write_starts(out, place, segment, base, fixups, next);
-        put_u32(out, slot, offset_word(run.pages, place - at));
+        put_little(out, slot, offset_word(run.pages, place - at));
         slot += 4;
         place += starts_size(run.pages);
         next = run.end;

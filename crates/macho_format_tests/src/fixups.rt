@@ -132,7 +132,7 @@ const EXIT: [ImportEntry; 2] = [
 
 #[test]
 fn import_entries_with_addends(rt: HostRuntime) {
-    let mut out = [0xff; 200];
+    let mut out = [0xff; 224];
     write_chained_fixup_table(&mut out, &DATA, 0x1_0000_0000, &POINTERS, 2, &EXIT, &[]);
     // the header tells at byte 8 where the entries begin
     let at = out[8] as usize;

@@ -52,7 +52,16 @@ pub fn place_in_its_segment(segments: &[FixupSegment], segment: FixupSegment, ad
 }
 
 /// The chain of a file with one table is the run that was written.
-pub fn chain_of_a_file(file: &[u8], at: u64, size: u64, fixups: &[Fixup], segments: &[FixupSegment], format: u32, imports: &[ImportEntry], names: &[u8])
+pub fn chain_of_a_file(
+    file: &[u8],
+    at: u64,
+    size: u64,
+    fixups: &[Fixup],
+    segments: &[FixupSegment],
+    format: u32,
+    imports: &[ImportEntry],
+    names: &[u8],
+)
     requires one { tables_of file.now ≡ record { at = at; size = size } ∷ [] }
     requires agree { AreSegmentsOf file.now segments.now }
     requires read { IsRead file.now (record { at = at; size = size }) fixups.now segments.now format imports.now names.now }
@@ -64,7 +73,18 @@ pub fn chain_of_a_file(file: &[u8], at: u64, size: u64, fixups: &[Fixup], segmen
 }
 
 /// The name of an import is read.
-pub fn name_of_an_import(file: &[u8], at: u64, size: u64, fixups: &[Fixup], segments: &[FixupSegment], format: u32, imports: &[ImportEntry], names: &[u8], index: usize, name: &[u8])
+pub fn name_of_an_import(
+    file: &[u8],
+    at: u64,
+    size: u64,
+    fixups: &[Fixup],
+    segments: &[FixupSegment],
+    format: u32,
+    imports: &[ImportEntry],
+    names: &[u8],
+    index: usize,
+    name: &[u8],
+)
     requires read { IsRead file.now (record { at = at; size = size }) fixups.now segments.now format imports.now names.now }
     requires room { names_place fixups.now segments.now format imports.now + length names.now ≤ size }
     requires index { index < length imports.now }
@@ -75,7 +95,14 @@ pub fn name_of_an_import(file: &[u8], at: u64, size: u64, fixups: &[Fixup], segm
 }
 
 /// A byte that no word covers stays.
-pub fn byte_beside_words(segments: &[FixupSegment], fixups: &[Fixup], before: &[u8], now: &[u8], segment: FixupSegment, address: u64)
+pub fn byte_beside_words(
+    segments: &[FixupSegment],
+    fixups: &[Fixup],
+    before: &[u8],
+    now: &[u8],
+    segment: FixupSegment,
+    address: u64,
+)
     requires over { IsRunOver segments.now fixups.now before.now now.now }
     requires one { Contains segments.now segment }
     requires low { segment.address ≤ address }

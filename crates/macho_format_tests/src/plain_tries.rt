@@ -68,11 +68,13 @@ fn group_end(names: &[Named<'_>], begin: usize, depth: usize) -> usize
 
 /// How many first bytes two names share.
 fn shared_length(first: &[u8], second: &[u8]) -> usize {
-    let mut shared = 0;
-    while shared < first.len() && shared < second.len() && first[shared] == second[shared] {
-        shared += 1;
+    let shorter = first.len().min(second.len());
+    for place in 0..shorter {
+        if first[place] != second[place] {
+            return place;
+        }
     }
-    shared
+    shorter
 }
 
 /// What all of some names in order share at their beginning.

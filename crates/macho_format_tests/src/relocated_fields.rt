@@ -1,8 +1,8 @@
 ghost use Rattle.std.specs.Prelude.{◌≡◌, IsTrue};
 ghost use Rattle.macho_arm64.specs.Fields.{is_field, width_of};
 
-use byteorder::{ByteOrder, LittleEndian};
 use macho_arm64::*;
+use macho_numbers::Number;
 use macho_records::RelocationInfo;
 use std::process::Abort;
 use std::test::Fail;
@@ -56,7 +56,7 @@ fn written(rt: &impl Abort, size: FieldSize, word: u32, value: u64) -> Option<u3
     requires width { width_of size ≡ 4 }
 {
     let mut bytes = word.to_le_bytes();
-    assert!(rt; fits_instruction(size, LittleEndian::read_u32(&bytes)));
+    assert!(rt; fits_instruction(size, u32::read_little(&bytes, 0)));
     match write_field(size, &mut bytes, 0, value) {
         Ok(()) => Some(u32::from_le_bytes(bytes)),
         Err(fault) => {
@@ -141,7 +141,7 @@ fn branches_pages_and_distances(rt: HostRuntime) {
 #[test]
 fn bytes_beside_a_field_stay(rt: HostRuntime) {
     let mut branch = [0xff, 0x00, 0x00, 0x00, 0x94, 0xff];
-    assert!(rt; fits_instruction(FieldSize::JumpCall, LittleEndian::read_u32(&branch[1..])));
+    assert!(rt; fits_instruction(FieldSize::JumpCall, u32::read_little(&branch, 1)));
     assert!(rt; write_field(FieldSize::JumpCall, &mut branch, 1, 0x10).is_ok());
     assert_eq!(rt; branch, [0xff, 0x04, 0x00, 0x00, 0x94, 0xff]);
     let mut pointer = [0xff; 10];
@@ -163,7 +163,7 @@ fn loads_of_slots_become_adds(rt: HostRuntime) -> Result<(), Fail> {
     assert!(rt; page.apply(&mut load, 0).is_ok());
     assert_eq!(rt; load, [0x00, 0x00, 0x40, 0xf9]);
     assert!(rt; offset.apply(&mut load, 0).is_ok());
-    assert!(rt; fits_instruction(FieldSize::Low12, LittleEndian::read_u32(&load)));
+    assert!(rt; fits_instruction(FieldSize::Low12, u32::read_little(&load, 0)));
     assert!(rt; write_field(FieldSize::Low12, &mut load, 0, 0x123).is_ok());
     assert_eq!(rt; load, [0x00, 0x8c, 0x04, 0x91]);
     let mut into_zero_register = [0x1f, 0x00, 0x40, 0xf9];

@@ -230,10 +230,8 @@ no_offset l b cs p x one plain (limits.IsWritten32.personality t _ among at) = n
 
 no_range_passes : (r : Range64) → r ≡ record { start = 0; end = 0 } → RangePasses r → ⊥
 no_range_passes r is passes =
-    elim (subst RangePasses is passes) [
-      | inl start ↦ omega (arith, start)
-      | inr size ↦ omega (arith, size)
-    ]
+    let past = subst RangePasses is passes in
+    omega (arith, past)
 
 -- No image is too large.
 pub no_large : (l : Link) (b : List ℕ) (cs : List Carried) (n : ℕ) (ps : List PlacedSection) (headers : List SectionHeader) (placement : Option Placed)

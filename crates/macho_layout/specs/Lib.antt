@@ -1,1 +1,14 @@
 pub mod Placements
+pub mod Keys
+pub mod Plans
+pub mod Names
+pub mod Members
+pub mod Cells
+pub mod Rows
+pub mod Headers
+pub mod Tables
+pub mod Places
+pub mod Sums
+pub mod Laid
+pub mod Laws
+pub mod steps

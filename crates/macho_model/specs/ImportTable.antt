@@ -1,6 +1,6 @@
 -- The import table of an image, the libraries that it needs, and how many words of it the loader writes
 -- (`mach-o/fixup-chains.h`).
-use Rattle.std.specs.Prelude.{◌≡◌, ℕ, ◌+◌, ◌<◌, if◌then◌else◌, List, [], ◌∷◌, ◌++◌, length, filter, get_or, slice_range}
+use Rattle.std.specs.Prelude.{◌≡◌, ℕ, ◌+◌, ◌<◌, if◌then◌else◌, List, [], ◌∷◌, ◌++◌, length, filter, get_or, take, sum_by, slice_range}
 use Rattle.std.specs.List.{flat_map}
 use Rattle.macho_bytes.specs.Numbers.{le_at, bits}
 use Rattle.macho_model.specs.Links.{Link, carried_of}
@@ -30,10 +30,15 @@ entry_of_link l k = get_or (import_entries_of l) k no_entry
 abbrev pub name_of_entry : Link → ℕ → List ℕ
 name_of_entry l k = get_or (imports_of l) (entry_of_link l k).import []
 
--- an entry of the file says the number of the import's library, its name and the addend; it is not weak
+-- the place of an import's name: behind those before it
+abbrev pub name_place : Link → ℕ → ℕ
+name_place l import = sum_by (λ name. length name + 1) (take import (imports_of l))
+
+-- an entry of the file says the number of the import's library, its name by its place, and the addend; it is not weak
 pub record EntrySays (l : Link) (b : List ℕ) (t : Table) (k : ℕ) : Type 0 where
   pub library : (import_entry b t k).library ≡ library_number l (import_library l (name_of_entry l k))
   pub weak : bits 8 1 (le_at 4 b (import_place b t k)) ≡ 0
+  pub place : (import_entry b t k).name_offset ≡ name_place l (entry_of_link l k).import
   pub name : import_name b t (import_entry b t k) ≡ name_of_entry l k
   pub addend : (import_entry b t k).addend ≡ (entry_of_link l k).addend
 

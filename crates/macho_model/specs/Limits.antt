@@ -66,8 +66,9 @@ PassesLimit l counts what number (Some p) = ⊥
 abbrev pub LIMIT_32 : ℕ
 LIMIT_32 = 2 ^ 32
 
+-- a range of the file ends past what 32 bits tell, as its start, its size or the file itself does then
 abbrev pub RangePasses : Range64 → Type 0
-RangePasses r = (LIMIT_32 ≤ r.start) ⊎ (LIMIT_32 ≤ r.end - r.start)
+RangePasses r = LIMIT_32 ≤ r.end
 
 -- An address whose offset from the base is written in 32 bits: an initializer, the start or the end of a function, its
 -- language data, the slot of its personality.

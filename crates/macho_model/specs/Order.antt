@@ -4,7 +4,7 @@ use Rattle.std.specs.Prelude.{◌≡◌, ℕ, ◌+◌, ◌*◌, ◌-◌, ◌/◌
 use Rattle.std.specs.Str.{bytes_eq}
 use Rattle.std.specs.List.{range_with_len}
 use Rattle.macho_bytes.specs.Numbers.{rounded_up}
-use Rattle.macho_records.specs.Segments.{text_of}
+use Rattle.macho_records.specs.Segments.{bytes_of, text_of, name_field}
 use Rattle.macho_model.specs.declared.placed.Counts.{Counts}
 use Rattle.macho_model.specs.declared.placed.PlacedSegment.{PlacedSegment}
 use Rattle.macho_model.specs.declared.placed.Range64.{Range64}
@@ -46,8 +46,8 @@ first_offset (s ∷ segments) = s.file_offset
 abbrev pub linkedit_front : Placed → Piece
 linkedit_front p = record { start = first_offset (filter (is_segment_named LINKEDIT) p.segments); size = 0; exponent = 0 }
 
-abbrev pub tables_of : Placed → List Piece
-tables_of p =
+abbrev pub table_pieces : Placed → List Piece
+table_pieces p =
     linkedit_front p ∷ table_piece POINTER_EXPONENT p.linkedit.fixups ∷ table_piece 0 p.linkedit.trie ∷ table_piece POINTER_EXPONENT p.linkedit.symtab
     ∷ table_piece 0 p.linkedit.strtab ∷ table_piece SIGNATURE_EXPONENT p.linkedit.signature ∷ []
 
@@ -57,8 +57,9 @@ EndsBefore c d = end_of_piece c ≤ d.start
 
 -- THE order of a placement.
 pub record StandInOrder (l : Link) (counts : Counts) (p : Placed) : Type 0 where
-  -- the segments are those of the link
+  -- the segments are those of the link, their names filled with zeros
   pub segments : map (λ s. text_of s.name) p.segments ≡ segment_names_of l
+  pub names : map (λ s. bytes_of s.name) p.segments ≡ map name_field (segment_names_of l)
   -- sections are listed by file, then section, and commons by number
   pub sections : map id_of p.sections ≡ carried_of l
   pub commons : map (λ c. c.id) p.commons ≡ range_with_len 0 (length (chosen_commons l))
@@ -67,7 +68,7 @@ pub record StandInOrder (l : Link) (counts : Counts) (p : Placed) : Type 0 where
   -- and in an output section its pieces
   pub pieces : All (λ o. AllPairs EndsBefore (pieces_of l p o)) (output_sections_of l counts)
   -- the tables of `__LINKEDIT` stand in the order of their commands, the signature last
-  pub tables : AllPairs EndsBefore (tables_of p)
+  pub tables : AllPairs EndsBefore (table_pieces p)
 
 -- a piece begins at the least multiple of its alignment that is not below the end of the one before it
 abbrev pub BeginsLeast : Piece → Piece → Type 0
@@ -125,7 +126,7 @@ pub record HaveRoom (counts : Counts) (p : Placed) : Type 0 where
 pub record AreLeast (l : Link) (counts : Counts) (p : Placed) : Type 0 where
   pub rows : All (λ s. EachNext BeginsLeast (row_of l counts p s (sections_in l counts s))) p.segments
   pub pieces : All (λ o. EachNext BeginsLeast (pieces_of l p o)) (output_sections_of l counts)
-  pub tables : EachNext BeginsLeast (tables_of p)
+  pub tables : EachNext BeginsLeast (table_pieces p)
   -- a segment ends with the page of its last piece, its file bytes with that of its last data
   pub sizes : All (λ s. s.size ≡ least_size l counts p s) p.segments
   pub file_sizes : All (λ s. s.file_size ≡ least_file_size l counts p s) p.segments

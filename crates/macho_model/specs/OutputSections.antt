@@ -1,6 +1,6 @@
 -- The output sections of an image: which there are, in which order they stand, and the header of each
 -- (`struct section_64` of `mach-o/loader.h`).
-use Rattle.std.specs.Prelude.{ℕ, ◌+◌, ◌-◌, ◌^◌, ◌==◌, nat_lt, ◌&&◌, ◌||◌, not, if◌then◌else◌, Bool, true, false, List, [], ◌∷◌, ◌++◌, length, map, filter, min, codes, bit_and, bit_or, fold}
+use Rattle.std.specs.Prelude.{ℕ, ◌+◌, ◌-◌, ◌%◌, ◌^◌, ◌==◌, nat_lt, ◌&&◌, ◌||◌, not, if◌then◌else◌, Bool, true, false, List, [], ◌∷◌, ◌++◌, length, map, filter, min, codes, bit_and, bit_or, fold}
 use Rattle.std.specs.List.{flat_map, list_any}
 use Rattle.std.specs.Str.{bytes_eq}
 use Rattle.macho_records.specs.declared.header.SectionHeader.{SectionHeader}
@@ -162,7 +162,8 @@ output_header l p o = record {
   segname = name_field (key_of_output o).segment;
   addr = (extent_of l p o).start;
   size = (extent_of l p o).size;
-  offset = file_offset_of p (key_of_output o) (extent_of l p o).start;
+  -- of 32 bits, which are passed only in a placement that is kept because of that
+  offset = file_offset_of p (key_of_output o) (extent_of l p o).start % 2 ^ 32;
   align = (extent_of l p o).exponent;
   reloff = 0;
   nreloc = 0;

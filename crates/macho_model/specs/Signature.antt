@@ -1,6 +1,6 @@
 -- The UUID of an image, and its signature: a code directory with a SHA-256 digest (FIPS 180-4) of each 4 KiB page of the file
 -- in front of it (`cs_blobs.h` of xnu). Its numbers are big-endian.
-use Rattle.std.specs.Prelude.{◌≡◌, ℕ, ◌+◌, ◌*◌, ◌-◌, ◌/◌, ◌%◌, ◌^◌, ◌<◌, ◌==◌, if◌then◌else◌, Bool, List, [], ◌∷◌, ◌++◌, length, map, min, replicate, slice_index, slice_range}
+use Rattle.std.specs.Prelude.{◌≡◌, ℕ, ◌+◌, ◌*◌, ◌-◌, ◌/◌, ◌%◌, ◌==◌, if◌then◌else◌, Bool, List, [], ◌∷◌, ◌++◌, length, map, min, replicate, slice_index, slice_range}
 use Rattle.std.specs.List.{flat_map, range_with_len}
 use Rattle.sha2.specs.Sha256.{sha256}
 use Rattle.macho_bytes.specs.Numbers.{big, row_bytes, rounded_up}
@@ -122,8 +122,6 @@ pub record IsSigned (l : Link) (b : List ℕ) : Type 0 where
   pub size : ℕ
   pub one : signatures_of b ≡ record { at = limit; size = size } ∷ []
   pub ends : length b ≡ limit + size
-  -- the limit and the sizes are told in 32 bits
-  pub small : length b < 2 ^ 32
   pub text : SegmentCommand
   pub text_is : segments_named TEXT b ≡ text ∷ []
   pub says : slice_range b limit (length b) ≡ signature_text (signed_of l text limit) b

@@ -1,6 +1,6 @@
 -- The symbol table of an image: the rows that a link and its placement ask for, and those that a file says (`mach-o/nlist.h`).
-use Rattle.std.specs.Prelude.{◌≡◌, ℕ, ◌+◌, ◌-◌, ◌*◌, ◌^◌, ◌≤◌, ◌&&◌, ◌||◌, not, if◌then◌else◌, Bool, false, List, length, map, slice_index, bit_and, bit_or}
-use Rattle.std.specs.List.{position_or_len, range_with_len}
+use Rattle.std.specs.Prelude.{◌≡◌, ℕ, ◌+◌, ◌-◌, ◌*◌, ◌^◌, ◌&&◌, ◌||◌, not, if◌then◌else◌, Bool, false, List, [], ◌∷◌, ◌++◌, length, map, take, sum_by, bit_and, bit_or}
+use Rattle.std.specs.List.{flat_map, position_or_len, range_with_len}
 use Rattle.macho_bytes.specs.Numbers.{bits}
 use Rattle.macho_records.specs.declared.constants.TheConstants.{N_EXT, N_PEXT, N_SECT}
 use Rattle.macho_records.specs.Symbols.{is_common_of, is_hidden_of}
@@ -83,8 +83,19 @@ row_in b k = record {
 unfoldable pub symbol_rows_in : List ℕ → List SymbolRow
 symbol_rows_in b = map (row_in b) (range_with_len 0 (num_symbols b))
 
--- The file's symbol table has these rows, and its string table begins with a NUL.
+-- THE string table: a NUL, and then the name of each symbol of the table with its NUL.
+unfoldable pub strings_text : Link → List ℕ
+strings_text l = 0 ∷ flat_map (λ s. name_at l s ++ 0 ∷ []) (table_symbols l)
+
+-- so the name of symbol k stands behind the first NUL and the names before it
+unfoldable pub string_places : Link → List ℕ
+string_places l = map (λ k. 1 + sum_by (λ s. length (name_at l s) + 1) (take k (table_symbols l))) (range_with_len 0 (length (table_symbols l)))
+
+unfoldable pub string_places_in : List ℕ → List ℕ
+string_places_in b = map (λ k. (symbol_at b k).n_strx) (range_with_len 0 (num_symbols b))
+
+-- The file's symbol table has these rows, and its string table these names, each at its place.
 pub record SymbolsSay (l : Link) (counts : Counts) (b : List ℕ) (p : Placed) : Type 0 where
   pub rows : symbol_rows_in b ≡ symbol_rows l counts p
-  pub some : 1 ≤ length (strings_of b)
-  pub nul : slice_index (strings_of b) 0 ≡ 0
+  pub strings : strings_of b ≡ strings_text l
+  pub places : string_places_in b ≡ string_places l

@@ -30,3 +30,8 @@ pub mod RowsAgreement
 pub mod ExampleCall
 pub mod RowsCall
 pub mod RowsCallChain
+pub mod RowsCallFixups
+pub mod RowsCallUnwind
+pub mod RowsCallOrder
+pub mod RowsCallTrie
+pub mod RowsCallZeros

@@ -32,7 +32,7 @@ use Rattle.macho_model.specs.Signature.{uuid_written, UuidSays, Signed, DIRECTOR
 use Rattle.macho_model.specs.Faults.{last_part}
 use Rattle.macho_model.specs.Head.{HeadSays, commands_in, command_in, commands_for, header_for}
 use Rattle.macho_model.specs.SymbolTable.{table_symbols}
-use Rattle.macho_model.specs.SymbolRows.{SymbolRow, symbol_rows, symbol_rows_in, SymbolsSay}
+use Rattle.macho_model.specs.SymbolRows.{SymbolRow, symbol_rows, symbol_rows_in, strings_text, string_places, string_places_in, SymbolsSay}
 use Rattle.macho_model.specs.ImportTable.{fixup_count, names_text, name_of_entry, EntrySays, ImportTableSays, LibrariesSay}
 use Rattle.macho_model_checks.proofs.Examples.{words8, words, halves, name16, changed}
 use Rattle.macho_model_checks.proofs.ExampleLinks.{entry, text_object}
@@ -82,13 +82,13 @@ call_tables = record {
 
 -- THE symbol table: `_main`, in section 1
 pub call_symbols : SymbolsSay calling counts_of_call call_image placed_call
-unfolding commands_end commands_of commands_from header_of reading le_at row_bytes le_bytes words8 words halves name16 entry text_object calls_exit head_of_call fixups_of_call tables_of_call be_at be_bytes big_words signature_of_call call_image segment_of num_sections section_place section_at section_bytes symtab_of num_symbols symbol_place symbol_at strings_of symbol_name relocation_place relocation_at sections_of carried_of template_exponent placed_exponent symbols_of strong_of weak_of commons_of greatest_of libraries_with definition_of chosen_commons initializer_sections unwind_sections uses_of imports_of libraries_needed target_of target_of_relocation slots_of stubs_of fields_of plain_entries all_entries entries_of other_segments segment_names_of output_keys_of table_symbols symbol_rows symbol_rows_in output_sections_of output_sections_for pieces_of segments_for section_address common_address slot_address
-call_symbols = record { rows = refl; some = omega arith; nul = refl }
+unfolding commands_end commands_of commands_from header_of reading le_at row_bytes le_bytes words8 words halves name16 entry text_object calls_exit head_of_call fixups_of_call tables_of_call be_at be_bytes big_words signature_of_call call_image segment_of num_sections section_place section_at section_bytes symtab_of num_symbols symbol_place symbol_at strings_of symbol_name relocation_place relocation_at sections_of carried_of template_exponent placed_exponent symbols_of strong_of weak_of commons_of greatest_of libraries_with definition_of chosen_commons initializer_sections unwind_sections uses_of imports_of libraries_needed target_of target_of_relocation slots_of stubs_of fields_of plain_entries all_entries entries_of other_segments segment_names_of output_keys_of table_symbols symbol_rows symbol_rows_in strings_text string_places string_places_in output_sections_of output_sections_for pieces_of segments_for section_address common_address slot_address
+call_symbols = record { rows = refl; strings = refl; places = refl }
 
 -- THE import table: library 1, `_exit`, no addend; and the library
 first_entry : EntrySays calling call_image (record { at = 0x8000; size = 0xd0 }) 0
 unfolding commands_end commands_of commands_from header_of reading le_at row_bytes le_bytes words8 words halves name16 entry text_object calls_exit head_of_call fixups_of_call tables_of_call be_at be_bytes big_words signature_of_call call_image segment_of num_sections section_place section_at section_bytes symtab_of num_symbols symbol_place symbol_at strings_of symbol_name relocation_place relocation_at sections_of carried_of template_exponent placed_exponent symbols_of strong_of weak_of commons_of greatest_of libraries_with definition_of chosen_commons initializer_sections unwind_sections uses_of imports_of libraries_needed target_of target_of_relocation slots_of stubs_of fields_of plain_entries all_entries entries_of other_segments segment_names_of output_keys_of own_entries import_entries_of entries_have_addends fixup_count names_text segments_of mapped_segments base_of libraries_of tables_of tries_of signatures_of symbol_tables_of string_tables_of entries_of_file
-first_entry = record { library = refl; weak = refl; name = refl; addend = refl }
+first_entry = record { library = refl; weak = refl; place = refl; name = refl; addend = refl }
 
 entry_facts : (tables_of call_image ≡ record { at = 0x8000; size = 0xd0 } ∷ []) × (length (import_entries_of calling) ≡ 1)
 unfolding commands_end commands_of commands_from header_of reading le_at row_bytes le_bytes words8 words halves name16 entry text_object calls_exit head_of_call fixups_of_call tables_of_call be_at be_bytes big_words signature_of_call call_image segment_of num_sections section_place section_at section_bytes symtab_of num_symbols symbol_place symbol_at strings_of symbol_name relocation_place relocation_at sections_of carried_of template_exponent placed_exponent symbols_of strong_of weak_of commons_of greatest_of libraries_with definition_of chosen_commons initializer_sections unwind_sections uses_of imports_of libraries_needed target_of target_of_relocation slots_of stubs_of fields_of plain_entries all_entries entries_of other_segments segment_names_of output_keys_of own_entries import_entries_of entries_have_addends fixup_count names_text segments_of mapped_segments base_of libraries_of tables_of tries_of signatures_of symbol_tables_of string_tables_of entries_of_file

@@ -14,6 +14,6 @@ mod texts;
 mod uleb;
 
 pub use number::Number;
-pub use rows::{big_at, little_at, put_bigs, put_littles};
+pub use rows::{big_at, little_at, put_bigs, put_little, put_littles};
 pub use texts::{put_text, text_at};
 pub use uleb::{read_uleb, uleb_size, write_uleb};

@@ -1,5 +1,6 @@
 //! The numbers that records are made of.
-ghost use Rattle.std.specs.Prelude.{◌≡◌, ◌+◌, ◌^◌, ◌<◌, ◌≤◌, ℕ, length};
+ghost use Rattle.std.specs.Prelude.{◌≡◌, ◌+◌, ◌^◌, ◌<◌, ◌≤◌, ℕ, List, length, map};
+ghost use Rattle.std.proofs.lemmas.List.{map-id};
 ghost use Rattle.macho_bytes.specs.Numbers.{le_at, be_at, le_bytes, be_bytes};
 ghost use Rattle.macho_bytes.specs.Texts.{put};
 
@@ -11,6 +12,8 @@ pub trait Number: Copy {
     ghost WIDTH: { ℕ };
 
     ghost value: { Self → ℕ };
+
+    ghost values: { List Self → List ℕ };
 
     /// How many bytes it has.
     const WIDTH: usize;
@@ -36,12 +39,18 @@ pub trait Number: Copy {
         requires { at + Self.WIDTH ≤ length out.old }
         ensures written { out.new ≡ put at (be_bytes Self.WIDTH (value self)) out.old }
         ensures fits { value self < 256 ^ Self.WIDTH };
+
+    ghost each: { (ns : List Self) → map value ns ≡ values ns };
 }
 
 impl Number for u8 {
     ghost WIDTH = { 1 };
 
     ghost value = { λ n. n };
+
+    ghost values = { λ ns. ns };
+
+    ghost each = { λ ns. map-id ns };
 
     const WIDTH: usize = 1;
 
@@ -69,6 +78,10 @@ impl Number for u16 {
 
     ghost value = { λ n. n };
 
+    ghost values = { λ ns. ns };
+
+    ghost each = { λ ns. map-id ns };
+
     const WIDTH: usize = 2;
 
     #[tactic(auto, unfolding(macho_bytes::specs::Numbers::le_at))]
@@ -95,6 +108,10 @@ impl Number for u32 {
 
     ghost value = { λ n. n };
 
+    ghost values = { λ ns. ns };
+
+    ghost each = { λ ns. map-id ns };
+
     const WIDTH: usize = 4;
 
     #[tactic(auto, unfolding(macho_bytes::specs::Numbers::le_at))]
@@ -120,6 +137,10 @@ impl Number for u64 {
     ghost WIDTH = { 8 };
 
     ghost value = { λ n. n };
+
+    ghost values = { λ ns. ns };
+
+    ghost each = { λ ns. map-id ns };
 
     const WIDTH: usize = 8;
 

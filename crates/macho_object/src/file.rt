@@ -1,6 +1,6 @@
 //! A view of an object or of a dynamic library. It holds no list: each accessor decodes in place.
 ghost use Rattle.std.specs.Prelude.{◌≡◌, ◌^◌, IfOk, IfErr, OnOk, OnErr, option_copied};
-ghost use Rattle.macho_model.specs.Objects.{num_symbols, section_at, section_bytes};
+ghost use Rattle.macho_model.specs.Objects.{num_symbols, section_at, section_bytes, strings_of};
 ghost use Rattle.macho_model.specs.Grammar.{IsFile, Breaks};
 ghost use Rattle.macho_object.specs.Views.{FileBytes, RelocationBytes, section_count, of_section, symbol_of, symbol_name_of, of_symbol_section, section_index_of, symbol_offset_of, IsFirstNamed, install_name_in};
 
@@ -117,6 +117,13 @@ impl<'data> File<'data> {
             return None;
         }
         Some(self.outline.name(index))
+    }
+
+    /// The string table: the bytes in which the names of symbols stand.
+    pub fn strings(&self) -> &'data [u8]
+        ensures { result.now ≡ strings_of self.now.bytes }
+    {
+        self.outline.strings()
     }
 
     /// The first section of a name, None where there is none.

@@ -28,4 +28,3 @@ pub use fault::ObjectFault;
 pub use file::File;
 pub use macho_model::ObjectRule;
 pub use relocations::RelocationList;
-

@@ -2,4 +2,5 @@ pub mod Inputs
 pub mod TrieSays
 pub mod Sizes
 pub mod UnwindSays
+pub mod FixupsSay
 pub mod Promise

@@ -1,8 +1,8 @@
 -- THE promise of an image, whole: what is true of the bytes and the placement that a link is answered with.
-use Rattle.std.specs.Prelude.{◌≡◌, ℕ, List}
+use Rattle.std.specs.Prelude.{◌≡◌, ℕ, ◌^◌, List, length, min}
 use Rattle.macho_model.specs.declared.placed.Counts.{Counts}
 use Rattle.macho_model.specs.Links.{Link}
-use Rattle.macho_model.specs.Placement.{Placed}
+use Rattle.macho_model.specs.Placement.{Placed, IsPlaced}
 use Rattle.macho_model.specs.OutputSections.{output_sections_for}
 use Rattle.macho_model.specs.Order.{StandInOrder, AreLeast, IsLow}
 use Rattle.macho_model.specs.Stands.{IsLoadable}
@@ -14,14 +14,15 @@ use Rattle.macho_model.specs.SymbolRows.{SymbolsSay}
 use Rattle.macho_model.specs.ImportTable.{ImportTableSays, LibrariesSay}
 use Rattle.macho_model.specs.Zeros.{IsZeroElsewhere}
 use Rattle.macho_model.specs.Made.{InitOffsetsSay, TemplateHeaders}
+use Rattle.macho_model.specs.Told.{ToldImport, ToldExport, IsTold, ExportsAreTold}
+use Rattle.macho_model.specs.Faults.{NoneStands}
 use Rattle.macho_promise.specs.Sizes.{AreCounts}
 use Rattle.macho_promise.specs.TrieSays.{TrieSays}
-use Rattle.macho_promise.specs.UnwindSays.{UnwindSays, unwind_bytes, unwind_content}
+use Rattle.macho_promise.specs.UnwindSays.{UnwindSays}
+use Rattle.macho_promise.specs.FixupsSay.{FixupsSay}
 
 -- Where things are, beside `IsPlaced`: of the link and the placement alone.
 pub record IsLaidOut (l : Link) (counts : Counts) (p : Placed) : Type 0 where
-  -- the sizes are those of the link
-  pub counted : AreCounts l counts
   -- parts stand in the stated order, each as low as it may
   pub order : StandInOrder l counts p
   pub least : AreLeast l counts p
@@ -47,26 +48,57 @@ pub record Tells (l : Link) (b : List ℕ) (p : Placed) : Type 0 where
   pub template : TemplateHeaders b p
   pub unwind : UnwindSays l b p
 
--- What the file says of itself, byte for byte.
-pub record IsWritten (l : Link) (counts : Counts) (uuid : List ℕ) (b : List ℕ) (p : Placed) : Type 0 where
+-- What the file says of itself, byte for byte. Its unwind information has so many bytes.
+pub record IsWritten (l : Link) (counts : Counts) (uuid : List ℕ) (b : List ℕ) (p : Placed) (unwind : ℕ) : Type 0 where
   -- header and load commands, with every field
   pub head : HeadSays l counts uuid b p
   pub uuid_is : UuidSays uuid b
+  -- the fixup table, and the words of its chains
+  pub fixups : FixupsSay l b p
   pub symbols : SymbolsSay l counts b p
   -- the digests are those of the final bytes
   pub signed : IsSigned l b
   -- a byte that nothing stands in is 0
-  pub zeros : IsZeroElsewhere l b p (unwind_content (unwind_bytes b p))
+  pub zeros : IsZeroElsewhere l b p unwind
 
 -- THE promise of an image.
 pub record IsLinked (l : Link) (counts : Counts) (uuid : List ℕ) (b : List ℕ) (p : Placed) : Type 0 where
   -- each part has its place, the loader accepts the bytes, and at every slide the image stands in memory
   pub loadable : IsLoadable l counts b p
-  -- sizes, order, least places and section headers
+  -- the sizes are those of the link
+  pub counted : AreCounts l counts
+  -- order, least places and section headers
   pub laid_out : IsLaidOut l counts p
   -- the load commands say what the placement does
   pub agrees : Agrees l counts b p
   -- fixups, imports, exports, initializers, unwind information
   pub tells : Tells l b p
-  -- header, commands, symbols, signature, zeros
-  pub written : IsWritten l counts uuid b p
+  -- header, commands, fixup table, symbols, signature, zeros
+  pub written : IsWritten l counts uuid b p (length tells.unwind.content)
+
+-- THE answer of a link: an image with its placement, and what is told beside its bytes.
+pub record IsAnswer (l : Link) (counts : Counts) (uuid : List ℕ) (b : List ℕ) (p : Placed) (libraries : List (List ℕ)) (imports : List ToldImport)
+    (fixups : ℕ) (exports : List ToldExport) : Type 0 where
+  -- the image is as promised
+  pub linked : IsLinked l counts uuid b p
+  -- libraries, imports and the number of fixups are those of the link
+  pub told : IsTold l libraries imports fixups
+  -- and so are the exported names
+  pub exports_told : ExportsAreTold l exports
+  -- nothing stands that a link is refused for
+  pub unrefused : NoneStands l counts p
+
+-- The sizes that a placement kept by a refusal has: those of the link, but 2 ^ 32 for unwind information where its bound is more.
+pub record AreKeptCounts (l : Link) (counts : Counts) : Type 0 where
+  pub whole : Counts
+  pub are : AreCounts l whole
+  pub capped : counts ≡ record whole { unwind = min whole.unwind (2 ^ 32) }
+
+-- A placement that is kept by a refusal is placed as that of an answer is.
+pub record IsKept (l : Link) (p : Placed) : Type 0 where
+  pub counts : Counts
+  pub counted : AreKeptCounts l counts
+  -- each part has its place
+  pub placed : IsPlaced l counts p
+  -- order, least places and section headers
+  pub laid_out : IsLaidOut l counts p

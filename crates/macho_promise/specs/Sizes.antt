@@ -1,6 +1,6 @@
 -- The sizes of a link that are known before addresses are: of load commands, of the parts that the linker makes, of the
 -- tables of `__LINKEDIT`. Each is what the link asks for, so that the room that is kept is never passed.
-use Rattle.std.specs.Prelude.{◌≡◌, ℕ, ◌+◌, ◌*◌, ◌-◌, ◌^◌, ◌==◌, ◌&&◌, not, if◌then◌else◌, List, [], ◌∷◌, length, map, filter, sum_by, Option, Some, None, slice_get, option_map}
+use Rattle.std.specs.Prelude.{◌≡◌, ℕ, ◌+◌, ◌*◌, ◌-◌, ◌^◌, ◌==◌, ◌&&◌, not, if◌then◌else◌, List, [], length, map, filter, sum_by, Option, Some, None, slice_get, option_map}
 use Rattle.macho_bytes.specs.Layouts.{size_of}
 use Rattle.macho_records.specs.Layouts.{entry_point_command, uuid_command, build_version_command, build_tool_version, dylinker_command, dylib_command, rpath_command, linkedit_data_command, symtab_command}
 use Rattle.macho_records.specs.Sections.{is_zerofill}
@@ -26,7 +26,7 @@ use Rattle.macho_model.specs.Told.{ToldExport, ExportsAreTold}
 use Rattle.macho_unwind_pages.specs.declared.entries.UnwindInput.{UnwindInput}
 use Rattle.macho_unwind_pages.specs.Bounds.{unwind_bound_of}
 use Rattle.macho_trie.specs.Exports.{Exported, as_value, as_reexport, REEXPORT}
-use Rattle.macho_promise.specs.TrieSays.{IsTrieOf}
+use Rattle.macho_promise.specs.TrieSays.{IsTrieText}
 
 -- an executable's entry and dynamic linker, or a library's own name
 abbrev pub own_commands_size : Link → ℕ
@@ -101,7 +101,7 @@ pub record IsTrieSize (l : Link) (size : ℕ) : Type 0 where
   pub exports : List ToldExport
   pub told : ExportsAreTold l exports
   pub bytes : List ℕ
-  pub trie : IsTrieOf (map (λ e. (e.name, kept_for l e.name e.target)) exports) bytes
+  pub trie : IsTrieText (map (λ e. (e.name, kept_for l e.name e.target)) exports) bytes
   pub long : length bytes ≡ size
 
 -- THE sizes of a link.

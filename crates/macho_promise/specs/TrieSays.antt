@@ -1,5 +1,5 @@
 -- What the exports trie of an image says: look-up of a name finds exactly what is exported under it.
-use Rattle.std.specs.Prelude.{◌≡◌, ℕ, ◌+◌, ◌⊎◌, List, [], ◌∷◌, slice_range}
+use Rattle.std.specs.Prelude.{◌≡◌, ℕ, ◌+◌, ◌≤◌, ◌⊎◌, List, [], ◌∷◌, length, slice_range, All}
 use Rattle.macho_model.specs.Links.{Link}
 use Rattle.macho_model.specs.Placement.{Placed}
 use Rattle.macho_model.specs.Images.{Table, tries_of}
@@ -14,8 +14,8 @@ trie_export (Value flags value) = as_value flags value
 trie_export (Reexport ordinal) = as_reexport REEXPORT ordinal []
 
 -- bytes that are a whole trie and no more: none for no symbols, else the nodes of their tree
-abbrev pub IsTrieOf : List (List ℕ × Exported) → List ℕ → Type 0
-IsTrieOf symbols bytes = ((symbols ≡ []) × (bytes ≡ [])) ⊎ IsExportsTrie symbols bytes
+abbrev pub IsTrieText : List (List ℕ × Exported) → List ℕ → Type 0
+IsTrieText symbols bytes = ((symbols ≡ []) × (bytes ≡ [])) ⊎ ((1 ≤ length symbols) × IsExportsTrie symbols bytes)
 
 -- the bytes of a table
 abbrev pub table_bytes : List ℕ → Table → List ℕ
@@ -35,6 +35,7 @@ pub record TrieSays (l : Link) (b : List ℕ) (p : Placed) : Type 0 where
   pub found : (name : List ℕ) (e : Export) → ExportedAs l p name e → trie_finds (table_bytes b table) name (trie_export e)
   -- and nothing else, under any name
   pub only : (name : List ℕ) (x : Exported) → trie_finds (table_bytes b table) name x → IsFoundExport l p name x
-  -- the range that the command tells is the trie, to its last byte
+  -- the range that the command tells is the trie of exported names, to its last byte
   pub symbols : List (List ℕ × Exported)
-  pub exact : IsTrieOf symbols (table_bytes b table)
+  pub sound : All (λ s. IsFoundExport l p s.0 s.1) symbols
+  pub exact : IsTrieText symbols (table_bytes b table)

@@ -1,5 +1,5 @@
 -- What the unwind information of an image says: look-up of an offset finds the entry of its function.
-use Rattle.std.specs.Prelude.{◌≡◌, ℕ, ◌+◌, ◌*◌, ◌-◌, List, [], map, slice_get, slice_range, Option, Some, None, option_map}
+use Rattle.std.specs.Prelude.{◌≡◌, ℕ, ◌+◌, ◌-◌, ◌≤◌, ◌⊎◌, List, [], length, map, slice_get, slice_range, Option, Some, None, option_map}
 use Rattle.macho_model.specs.Links.{Link, header_at}
 use Rattle.macho_model.specs.Needs.{section_named, PERSONALITY_PLACE}
 use Rattle.macho_model.specs.Targets.{slot_number, target_of_relocation}
@@ -8,8 +8,9 @@ use Rattle.macho_model.specs.Placement.{Placed}
 use Rattle.macho_model.specs.Addresses.{section_address, slot_address, offset_in_file}
 use Rattle.macho_unwind_pages.specs.declared.entries.Personality.{Personality}
 use Rattle.macho_unwind_pages.specs.declared.entries.ResolvedUnwindInfo.{ResolvedUnwindInfo}
-use Rattle.macho_unwind.specs.Sections.{WORD, entry_at, page_at, last_entry}
-use Rattle.macho_unwind.specs.Entries.{FindsEntries, FindsOnlyEntries}
+use Rattle.macho_unwind.specs.declared.lookup.Found.{Found}
+use Rattle.macho_unwind.specs.Lookup.{UnwindFinds}
+use Rattle.macho_unwind.specs.Entries.{found_for, IsEntryOf, IsFoundFor, BeginsWith, IsSectionOf}
 
 -- the relocation of an address of an entry, where it has one
 abbrev pub relocation_of : Link → EntryId → ℕ → Option ℕ
@@ -44,19 +45,21 @@ resolved_entries l p = map (resolved l p) (entries_of_link l)
 unfoldable pub unwind_bytes : List ℕ → Placed → List ℕ
 unwind_bytes b p = slice_range b (offset_in_file p p.unwind.start) (offset_in_file p p.unwind.start + (p.unwind.end - p.unwind.start))
 
--- their content ends with the encodings of the last page
-abbrev pub last_page : List ℕ → ℕ
-last_page bytes = last_entry bytes - 1
-
-unfoldable pub unwind_content : List ℕ → ℕ
-unwind_content bytes =
-    (entry_at bytes (last_page bytes)).page_offset + (page_at bytes (last_page bytes)).local_opcodes_offset
-    + WORD * (page_at bytes (last_page bytes)).local_opcodes_len
+-- bytes that are the unwind information of entries and no more: none for no entries, else the section of their plan
+abbrev pub IsUnwindText : ℕ → List ResolvedUnwindInfo → List ℕ → Type 0
+IsUnwindText text entries bytes = ((entries ≡ []) × (bytes ≡ [])) ⊎ ((1 ≤ length entries) × IsSectionOf text entries bytes)
 
 -- THE unwind information of the file: every offset finds the entry with the greatest start not above it, and nothing before
 -- the first start or from the end of the last function on.
 pub record UnwindSays (l : Link) (b : List ℕ) (p : Placed) : Type 0 where
-  pub found : FindsEntries p.base (resolved_entries l p) (unwind_bytes b p)
-  pub only : FindsOnlyEntries p.base (resolved_entries l p) (unwind_bytes b p)
+  -- what the range begins with; the room behind it is for zeros
+  pub content : List ℕ
+  pub exact : IsUnwindText p.base (resolved_entries l p) content
+  pub begins : BeginsWith (unwind_bytes b p) content
+  -- the entry of an offset is found
+  pub found : (offset : ℕ) (e : ResolvedUnwindInfo) → IsEntryOf p.base (resolved_entries l p) offset e
+      → UnwindFinds (unwind_bytes b p) offset (found_for p.base e)
+  -- and nothing else
+  pub only : (offset : ℕ) (x : Found) → UnwindFinds (unwind_bytes b p) offset x → IsFoundFor p.base (resolved_entries l p) offset x
   -- without entries there is no range
   pub empty : resolved_entries l p ≡ [] → p.unwind.end ≡ p.unwind.start

@@ -115,6 +115,7 @@ pub use segments::SegmentName;
 pub use signature::CodeDirectory;
 pub use symbol_names::RawSymbolName;
 pub use symbols::CommonSymbol;
+pub use symbols::rounded_up;
 pub use symbols::SymtabCommand;
 pub use symbols::SymtabEntry;
 pub use symbols::Visibility;

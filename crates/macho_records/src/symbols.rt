@@ -268,8 +268,8 @@ impl SymtabEntry {
     }
 }
 
-/// A number rounded up to a multiple of a power of two.
-fn rounded_up(number: u64, exponent: u8) -> u64
+/// A number rounded up to a multiple of a power of two, given as its exponent.
+pub fn rounded_up(number: u64, exponent: u8) -> u64
     requires small { exponent < 16 }
     requires fits { rounded_up (2 ^ exponent) number < 2 ^ 64 }
     ensures { result ≡ rounded_up (2 ^ exponent) number }

@@ -15,5 +15,4 @@ mod uuid;
 
 pub use digests::{page_count, sign_again};
 pub use signature::{Signer, digests_offset, identifier_size, sign, sign_file, signature_size};
-pub use uuid::stamped_uuid;
-pub use uuid::write_uuid;
+pub use uuid::{stamped_uuid, write_uuid};

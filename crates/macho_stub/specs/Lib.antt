@@ -5,7 +5,6 @@ pub mod Rules
 pub mod Order
 pub mod Answer
 pub mod steps
-
 -- definitions of the crate below, which clauses of this one cite
 pub use Rattle.macho_stub_lines.specs.Bytes
 pub use Rattle.macho_stub_lines.specs.Slices

@@ -1,6 +1,7 @@
 //! Tests of the crates that read text: command lines and text stubs.
 #![tactic(auto)]
 
+pub mod laws;
 #[cfg(test)]
 mod stubs;
 #[cfg(test)]

@@ -9,7 +9,6 @@ pub mod Sorting
 pub mod Encoding
 pub mod Tries
 pub mod Laws
-
 -- definitions of the crate below, which clauses of this one cite
 pub use Rattle.macho_bytes.specs.Uleb
 pub mod steps

@@ -27,7 +27,6 @@
 //! ```
 #![tactic(auto)]
 
-mod bytes;
 mod laws;
 mod lookup;
 mod records;

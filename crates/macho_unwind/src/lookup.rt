@@ -8,8 +8,8 @@ ghost use Rattle.macho_unwind.specs.Sections.{header_of, HasTables, HasPage, IsW
 ghost use Rattle.macho_unwind.specs.Lookup.{UnwindFinds, IsPageOf, IsFunctionOf, NamesPersonality, HasLsda};
 ghost use Rattle.macho_unwind.specs.steps.Parts.{IsBest, IsPage, IsWordOf};
 
-use crate::bytes::u32_at;
 use crate::records::{CompactUnwindInfoHeader, CompressedPage, LsdaEntry, PageEntry};
+use macho_numbers::little_at;
 
 /// `UNWIND_SECOND_LEVEL_COMPRESSED`: the kind of a page whose functions are words of an index and an offset.
 pub(crate) const COMPRESSED: u32 = 3;
@@ -227,7 +227,7 @@ fn read_word(bytes: &[u8], page: Page, j: u32) -> u32
     ensures { result ≡ word_at bytes.now page.number j }
 {
     let place = page.entry.page_offset as usize + page.head.functions_offset as usize;
-    u32_at(bytes, place, 4 * j as usize)
+    little_at(bytes, place, 4 * j as usize)
 }
 
 /// The encoding of a number: one that all pages share, or one of the page.
@@ -244,7 +244,7 @@ fn read_encoding(
     ensures { result ≡ encoding_at bytes.now page.number index }
 {
     if index < header.global_opcodes_len {
-        return Some(u32_at(
+        return Some(little_at(
             bytes,
             header.global_opcodes_offset as usize,
             4 * index as usize,
@@ -253,7 +253,7 @@ fn read_encoding(
     let local = index - header.global_opcodes_len;
     if local < page.head.local_opcodes_len as u32 {
         let place = page.entry.page_offset as usize + page.head.local_opcodes_offset as usize;
-        return Some(u32_at(bytes, place, 4 * local as usize));
+        return Some(little_at(bytes, place, 4 * local as usize));
     }
     None
 }
@@ -275,7 +275,7 @@ fn read_personality(
     if number > header.personalities_len {
         return None;
     }
-    Some(Some(u32_at(
+    Some(Some(little_at(
         bytes,
         header.personalities_offset as usize,
         4 * (number - 1) as usize,

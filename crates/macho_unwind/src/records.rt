@@ -4,7 +4,7 @@ ghost use Rattle.macho_bytes.specs.Texts.{put};
 ghost use Rattle.macho_bytes.specs.Layouts.{read_of, size_of, spelling, ReadsBack};
 ghost use Rattle.macho_unwind.specs.Layouts.{compact_unwind_info_header, page_entry, compressed_page, lsda_entry};
 
-use crate::bytes::{put_u16s, put_u32s, u16_at, u32_at};
+use macho_numbers::{little_at, put_littles};
 
 /// The name of the section that an image has.
 pub const UNWIND_INFO_SECTION_NAME: &str = "__unwind_info";
@@ -43,13 +43,13 @@ impl CompactUnwindInfoHeader {
             return None;
         }
         Some(CompactUnwindInfoHeader {
-            version: u32_at(bytes, at, 0),
-            global_opcodes_offset: u32_at(bytes, at, 4),
-            global_opcodes_len: u32_at(bytes, at, 8),
-            personalities_offset: u32_at(bytes, at, 12),
-            personalities_len: u32_at(bytes, at, 16),
-            pages_offset: u32_at(bytes, at, 20),
-            pages_len: u32_at(bytes, at, 24),
+            version: little_at(bytes, at, 0),
+            global_opcodes_offset: little_at(bytes, at, 4),
+            global_opcodes_len: little_at(bytes, at, 8),
+            personalities_offset: little_at(bytes, at, 12),
+            personalities_len: little_at(bytes, at, 16),
+            pages_offset: little_at(bytes, at, 20),
+            pages_len: little_at(bytes, at, 24),
         })
     }
 
@@ -61,7 +61,7 @@ impl CompactUnwindInfoHeader {
         ensures back { ReadsBack compact_unwind_info_header self.now }
     {
         let r = *self;
-        put_u32s(
+        put_littles(
             out,
             at,
             &[
@@ -101,9 +101,9 @@ impl PageEntry {
             return None;
         }
         Some(PageEntry {
-            first_address: u32_at(bytes, at, 0),
-            page_offset: u32_at(bytes, at, 4),
-            lsda_index_offset: u32_at(bytes, at, 8),
+            first_address: little_at(bytes, at, 0),
+            page_offset: little_at(bytes, at, 4),
+            lsda_index_offset: little_at(bytes, at, 8),
         })
     }
 
@@ -115,7 +115,7 @@ impl PageEntry {
         ensures back { ReadsBack page_entry self.now }
     {
         let r = *self;
-        put_u32s(
+        put_littles(
             out,
             at,
             &[r.first_address, r.page_offset, r.lsda_index_offset],
@@ -151,11 +151,11 @@ impl CompressedPage {
             return None;
         }
         Some(CompressedPage {
-            kind: u32_at(bytes, at, 0),
-            functions_offset: u16_at(bytes, at, 4),
-            functions_len: u16_at(bytes, at, 6),
-            local_opcodes_offset: u16_at(bytes, at, 8),
-            local_opcodes_len: u16_at(bytes, at, 10),
+            kind: little_at(bytes, at, 0),
+            functions_offset: little_at(bytes, at, 4),
+            functions_len: little_at(bytes, at, 6),
+            local_opcodes_offset: little_at(bytes, at, 8),
+            local_opcodes_len: little_at(bytes, at, 10),
         })
     }
 
@@ -167,8 +167,8 @@ impl CompressedPage {
         ensures back { ReadsBack compressed_page self.now }
     {
         let r = *self;
-        put_u32s(out, at, &[r.kind]);
-        put_u16s(
+        put_littles(out, at, &[r.kind]);
+        put_littles(
             out,
             at + 4,
             &[
@@ -203,8 +203,8 @@ impl LsdaEntry {
             return None;
         }
         Some(LsdaEntry {
-            function_offset: u32_at(bytes, at, 0),
-            lsda_offset: u32_at(bytes, at, 4),
+            function_offset: little_at(bytes, at, 0),
+            lsda_offset: little_at(bytes, at, 4),
         })
     }
 
@@ -216,6 +216,6 @@ impl LsdaEntry {
         ensures back { ReadsBack lsda_entry self.now }
     {
         let r = *self;
-        put_u32s(out, at, &[r.function_offset, r.lsda_offset]);
+        put_littles(out, at, &[r.function_offset, r.lsda_offset]);
     }
 }

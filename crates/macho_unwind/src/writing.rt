@@ -8,9 +8,9 @@ ghost use Rattle.macho_unwind.specs.Layouts.{page_entry};
 ghost use Rattle.macho_unwind.specs.steps.Says.{PlanIsFound, WriteFault};
 ghost use Rattle.macho_bytes.specs.Layouts.{spelling};
 
-use crate::bytes::put_u32s;
 use crate::lookup::COMPRESSED;
 use crate::records::{CompactUnwindInfoHeader, CompressedPage, LsdaEntry, PageEntry};
+use macho_numbers::put_littles;
 use macho_unwind_pages::{Lsda, Page, Plan, UnwindFault};
 use std::alloc::Global;
 
@@ -44,8 +44,8 @@ fn write_page(out: &mut [u8], at: usize, page: &Page)
         local_opcodes_len: page.locals.len() as u16,
     };
     head.write(out, at);
-    put_u32s(out, at + 12, page.words.as_slice());
-    put_u32s(out, at + 12 + 4 * page.words.len(), page.locals.as_slice());
+    put_littles(out, at + 12, page.words.as_slice());
+    put_littles(out, at + 12 + 4 * page.words.len(), page.locals.as_slice());
 }
 
 /// Writes the pages from a place on; the other bytes stay.
@@ -141,9 +141,9 @@ fn write_plan(out: &mut [u8], plan: &Plan)
     ensures { out.new ≡ put 0 (section_text (plan_list plan.now)) out.old }
 {
     header_of(plan).write(out, 0);
-    put_u32s(out, CompactUnwindInfoHeader::SIZE, plan.globals.as_slice());
+    put_littles(out, CompactUnwindInfoHeader::SIZE, plan.globals.as_slice());
     let personalities = CompactUnwindInfoHeader::SIZE + 4 * plan.globals.len();
-    put_u32s(out, personalities, plan.personalities.as_slice());
+    put_littles(out, personalities, plan.personalities.as_slice());
     write_entries(out, plan);
     write_last_entry(out, plan);
     write_lsdas(out, lsdas_start(plan), plan.lsdas.as_slice());

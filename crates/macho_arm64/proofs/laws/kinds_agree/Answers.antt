@@ -1,4 +1,5 @@
-use Rattle.macho_arm64.proofs.KindLaws.{kinds_agree, known_in_link, fits_in_link}
+use Rattle.macho_arm64.proofs.KindLaws.{kinds_agree}
+use Rattle.macho_arm64.proofs.SupportedKinds.{known_in_link, fits_in_link}
 use Rattle.macho_arm64.proofs.laws.kinds_agree.Goals as goal
 
 pub returns-clause-kinds : goal.returns-clause-kinds

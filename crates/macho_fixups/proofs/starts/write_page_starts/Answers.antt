@@ -14,8 +14,8 @@ pages-init c = record {
   passed = pages_first c.args.fixups.now c.args.segment.now c.args.begin c.requires.paged c.requires.begin;
 }
 
-pub put_u16-requires : goal.put_u16-requires
-put_u16-requires c =
+pub put_little-requires : goal.put_little-requires
+put_little-requires c =
     let p = next_page c.args.fixups.now c.args.segment.now c.pages.next c.pages.pages c.requires.paged c.pages.invariant.passed
     (c.has_next.ensures.some c.pages-test.true) in
     omega (arith, p.more, c.pages.invariant.so_far.here, c.requires.room, c.pages.auto.out)
@@ -44,8 +44,8 @@ pages-preserved c =
     (c.has_next.ensures.some c.pages-test.true) in
     record {
       so_far = pages_go_on c.args.fixups.now (c.args.segment.now.address / CHAIN_PAGE) (pages_of c.args.segment.now c.args.fixups.now) c.args.at
-          c.pages.place _ c.pages.pages c.start_from.result c.args.out.now c.pages.out c.put_u16.new.out (omega (arith, p.more)) c.requires.room
-          c.pages.invariant.so_far c.start_from.ensures refl c.put_u16.ensures.written;
+          c.pages.place _ c.pages.pages c.start_from.result c.args.out.now c.pages.out c.put_little.new.out (omega (arith, p.more)) c.requires.room
+          c.pages.invariant.so_far c.start_from.ensures refl c.put_little.ensures.written;
       passed = pages_more c.args.fixups.now c.args.segment.now c.pages.next c.pages.pages c.skip_below-next.result _ _ c.min.result c.requires.sorted p
           refl refl c.min.ensures c.skip_below-next.ensures;
     }

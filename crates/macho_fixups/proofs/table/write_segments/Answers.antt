@@ -14,9 +14,9 @@ offset_word-requires c =
     c.loop-segment.segment-index c.args.out.now c.loop-segment.out c.loop-segment-test.true c.requires.fits.count c.requires.fits.pages c.requires.room
     c.loop-segment.invariant).near
 
-pub put_u32-requires : goal.put_u32-requires
+pub put_little-requires : goal.put_little-requires
 unfolding image_starts_size
-put_u32-requires c =
+put_little-requires c =
     let room = has_room c.args.base c.args.at c.args.fixups.now c.args.segments.now no_segment c.loop-segment.slot c.loop-segment.place c.loop-segment.next
     c.loop-segment.segment-index c.args.out.now c.loop-segment.out c.loop-segment-test.true c.requires.fits.count c.requires.fits.pages c.requires.room
     c.loop-segment.invariant in
@@ -35,9 +35,9 @@ unfolding image_starts_size
 loop-segment-preserved c =
     segment_done c.args.base c.args.at c.args.fixups.now c.args.segments.now _ c.loop-segment.slot c.loop-segment.place c.loop-segment.next
     c.loop-segment.segment-index c.write_starts-run.result.end c.offset_word.result c.write_starts-run.result.pages c.starts_size-place.result c.args.out.now
-    c.loop-segment.out c.write_starts-run.new.out c.put_u32.new.out c.loop-segment-test.true c.requires.fits.order c.requires.room
+    c.loop-segment.out c.write_starts-run.new.out c.put_little.new.out c.loop-segment-test.true c.requires.fits.order c.requires.room
     c.loop-segment.auto.out c.loop-segment.invariant c.write_starts-run.ensures.run.end_at c.write_starts-run.ensures.run.counted c.offset_word.ensures
-    c.write_starts-run.ensures.long c.write_starts-run.ensures.written c.put_u32.ensures.written c.starts_size-place.ensures
+    c.write_starts-run.ensures.long c.write_starts-run.ensures.written c.put_little.ensures.written c.starts_size-place.ensures
 
 pub returns-clause-written : goal.returns-clause-written
 unfolding image_starts_size

@@ -1,5 +1,6 @@
-use Rattle.std.proofs.Common.{arith}
-use Rattle.macho_bytes.specs.Numbers.{big}
+use Rattle.std.proofs.Common.{◌≡◌, ℕ, List, subst, arith}
+use Rattle.macho_bytes.specs.Numbers.{big, row_bytes, AllBelow}
+use Rattle.macho_bytes.specs.Texts.{put}
 use Rattle.macho_bytes.proofs.Numbers.{big_is_sound}
 use Rattle.macho_numbers.proofs.ValueRows.{values_begin, values_go_on, values_end, values_fit}
 use Rattle.macho_numbers.proofs.rows.put_bigs.Goals as goal
@@ -15,9 +16,11 @@ loop-number-preserved g c =
 
 pub returns-clause-written : goal.returns-clause-written
 returns-clause-written g c =
-    values_end g.N.Number.value big g.N.Number.WIDTH c.args.at c.loop-number.number-index c.args.numbers.now c.args.out.now c.loop-number.out
-    c.loop-number-test.false c.loop-number.invariant.1
+    subst (λ (ns : List ℕ). c.loop-number.out ≡ put c.args.at (row_bytes big g.N.Number.WIDTH ns) c.args.out.now) (g.met.N.Number.each c.args.numbers.now)
+    (values_end g.N.Number.value big g.N.Number.WIDTH c.args.at c.loop-number.number-index c.args.numbers.now c.args.out.now c.loop-number.out
+    c.loop-number-test.false c.loop-number.invariant.1)
 
 pub returns-clause-fits : goal.returns-clause-fits
 returns-clause-fits g c =
-    values_fit g.N.Number.value g.N.Number.WIDTH c.loop-number.number-index c.args.numbers.now c.loop-number-test.false c.loop-number.invariant.2
+    subst (AllBelow g.N.Number.WIDTH) (g.met.N.Number.each c.args.numbers.now)
+    (values_fit g.N.Number.value g.N.Number.WIDTH c.loop-number.number-index c.args.numbers.now c.loop-number-test.false c.loop-number.invariant.2)

@@ -45,21 +45,21 @@ returns c =
           ∙ ap (λ (h : CompactUnwindInfoHeader). put 0 (spelling compact_unwind_info_header h) out) c.header_of.ensures;
       long = length-header_text plan;
     } in
-    let globals = put_next out c.write.new.out c.put_u32s.new.out _ (row_bytes little 4 plan.globals) 28 (personalities_place plan) header
-    (c.put_u32s.ensures.written ∙ ap (λ (ns : List ℕ). put 28 (row_bytes little 4 ns) c.write.new.out) c.as_slice.ensures.value)
+    let globals = put_next out c.write.new.out c.put_littles.new.out _ (row_bytes little 4 plan.globals) 28 (personalities_place plan) header
+    (c.put_littles.ensures.written ∙ ap (λ (ns : List ℕ). put 28 (row_bytes little 4 ns) c.write.new.out) c.as_slice.ensures.value)
     (omega (arith, length-row_little 4 plan.globals)) (omega (arith, room)) in
     let place : 28 + 4 * c.len.result ≡ personalities_place plan = omega (arith, c.len.ensures) in
-    let personalities = put_next out c.put_u32s.new.out c.put_u32s-2.new.out _ (row_bytes little 4 plan.personalities)
+    let personalities = put_next out c.put_littles.new.out c.put_littles-2.new.out _ (row_bytes little 4 plan.personalities)
     (personalities_place plan) (entries_place plan) globals
-    (c.put_u32s-2.ensures.written
-    ∙ ap (λ (ns : List ℕ). put (28 + 4 * c.len.result) (row_bytes little 4 ns) c.put_u32s.new.out) c.as_slice-2.ensures.value
-    ∙ ap (λ (at : ℕ). put at (row_bytes little 4 plan.personalities) c.put_u32s.new.out) place)
+    (c.put_littles-2.ensures.written
+    ∙ ap (λ (ns : List ℕ). put (28 + 4 * c.len.result) (row_bytes little 4 ns) c.put_littles.new.out) c.as_slice-2.ensures.value
+    ∙ ap (λ (at : ℕ). put at (row_bytes little 4 plan.personalities) c.put_littles.new.out) place)
     (omega (arith, length-row_little 4 plan.personalities)) (omega (arith, room)) in
-    let entries = put_next out c.put_u32s-2.new.out c.write_entries.new.out _
+    let entries = put_next out c.put_littles-2.new.out c.write_entries.new.out _
     (flat_map (entry_text plan) (range_with_len 0 (length plan.pages))) (entries_place plan)
     (entries_place plan + 12 * length items) personalities
     (c.write_entries.ensures
-    ∙ ap (λ (n : ℕ). put (entries_place plan) (flat_map (entry_text plan) (range_with_len 0 n)) c.put_u32s-2.new.out) (sym pages))
+    ∙ ap (λ (n : ℕ). put (entries_place plan) (flat_map (entry_text plan) (range_with_len 0 n)) c.put_littles-2.new.out) (sym pages))
     (omega (arith, length-entries plan (length plan.pages), pages)) (omega (arith, room, pages)) in
     let last = put_next out c.write_entries.new.out c.write_last_entry.new.out _ (spelling page_entry (last_entry_for plan))
     (entries_place plan + 12 * length items) (lsdas_place plan) entries c.write_last_entry.ensures

@@ -1,0 +1,4 @@
+pub mod Blocks
+pub mod Costs
+pub mod Stacks
+pub mod Ranks

@@ -1,0 +1,13 @@
+pub mod Distinct
+pub mod Tables
+pub mod Tests
+pub mod RowSteps
+pub mod Costs
+pub mod Numbered
+pub mod Rooms
+pub mod TableRooms
+pub mod Whole
+pub mod Named
+pub mod SumLaw
+pub mod CostLaw
+pub mod Ends

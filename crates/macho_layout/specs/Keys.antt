@@ -1,0 +1,37 @@
+-- The names that sections are merged by, as the tables hold them.
+use Rattle.std.specs.Prelude.{ℕ, List, map, Bool, ◌&&◌, ◌==◌}
+use Rattle.std.specs.Str.{bytes_eq}
+use Rattle.macho_records.specs.declared.segments.SegmentName.{SegmentName}
+use Rattle.macho_records.specs.Sections.{section_type}
+use Rattle.macho_records.specs.Segments.{bytes_of, name_field}
+use Rattle.macho_model.specs.Needs.{distinct}
+use Rattle.macho_layout.specs.declared.spec.SectionSpec.{SectionSpec}
+use Rattle.macho_layout.specs.declared.spec.OutputName.{OutputName}
+use Rattle.macho_layout.specs.declared.spec.Planned.{Planned}
+
+-- a name with zeros behind its first NUL
+abbrev pub padded : List ℕ → SegmentName
+padded name = record { 0 = name_field name }
+
+abbrev pub segment_key_of : SectionSpec → SegmentName
+segment_key_of s = padded (bytes_of s.segment)
+
+abbrev pub output_key_of : SectionSpec → OutputName
+output_key_of s = record { segment = segment_key_of s; name = padded s.name; kind = section_type s.flags }
+
+abbrev pub same_segment : SegmentName → SegmentName → Bool
+same_segment a b = bytes_eq a.0 b.0
+
+abbrev pub same_output : OutputName → OutputName → Bool
+same_output a b = same_segment a.segment b.segment && (same_segment a.name b.name && (a.kind == b.kind))
+
+-- the segments and the names that sections are merged by, as first seen
+unfoldable pub segments_seen : List SectionSpec → List SegmentName
+segments_seen sections = distinct same_segment (map segment_key_of sections)
+
+unfoldable pub outputs_seen : List SectionSpec → List OutputName
+outputs_seen sections = distinct same_output (map output_key_of sections)
+
+-- the sections of a plan, without the numbers of their output sections
+abbrev pub specs_of : List Planned → List SectionSpec
+specs_of sections = map (λ s. s.spec) sections

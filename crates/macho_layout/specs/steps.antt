@@ -1,0 +1,2 @@
+-- The steps of filling a plan: what its tables of names hold.
+pub mod Holding

@@ -1,0 +1,154 @@
+-- The fixup table and the chain's word in the image of a link with an import are those that are promised, byte for byte.
+--
+-- The run is computed from the link and its placement: one slot, bound to the one import with no addend. The table of that run and
+-- the word with no step are computed by the definitions, and compared with the bytes that were written out by hand.
+use Rattle.std.proofs.Common.{◌≡◌, ◌≢◌, ℕ, zero, suc, pos, ◌+◌, ◌%◌, ◌<◌, ◌≤◌, ◌==◌, Bool, true, false, not, List, [], ◌∷◌, ◌++◌, length, get_or, refl, ap, sym, ◌∙◌, subst, arith, rules}
+use Rattle.std.specs.Prelude.{codes, slice_range, Contains}
+use Rattle.std.specs.List.{All, AllPairs, list_all}
+use Rattle.std.proofs.lemmas.List.Elements.{All-nil, All-cons, All-contains_itself}
+use Rattle.std.proofs.lemmas.List.Kept.{AllPairs-cons}
+use Rattle.macho_bytes.specs.Texts.{Stands}
+use Rattle.macho_model.specs.declared.placed.Slot.{Slot}
+use Rattle.macho_model.specs.declared.placed.PlacedSection.{PlacedSection}
+use Rattle.macho_model.specs.declared.targets.Target.TheVariants as target
+use Rattle.macho_model.specs.Placement.{id_of}
+use Rattle.macho_model.specs.Fields.{Field}
+use Rattle.macho_model.specs.Values.{needs_fixup}
+use Rattle.macho_model.specs.Images.{Table, CHAIN_PAGE}
+use Rattle.macho_model.specs.Chain.{WORD_SIZE, STRIDE}
+use Rattle.macho_model.proofs.EachBelow.{true_or_false, not_true}
+use Rattle.macho_fixups.specs.declared.words.FixupKind.TheVariants.{Rebase, Bind}
+use Rattle.macho_fixups.specs.declared.run.Fixup.{Fixup}
+use Rattle.macho_fixups.specs.declared.run.FixupSegment.{FixupSegment}
+use Rattle.macho_fixups.specs.declared.imports.ImportEntry.{ImportEntry}
+use Rattle.macho_fixups.specs.Words.{FitsOrdinal, word_of}
+use Rattle.macho_fixups.specs.Runs.{AreFixups, Holds, pages_of, start_of}
+use Rattle.macho_fixups.specs.Chains.{word_part, place_of, step_of}
+use Rattle.macho_fixups.specs.Tables.{table_text, entry_text, image_starts_text, image_starts_size, offsets_text, segment_text, segment_size, starts_text, page_starts_text}
+use Rattle.macho_promise.specs.FixupsSay.{IsFixupOf, kind_for, fixup_segments, import_format, FixupsSay}
+use Rattle.macho_promise.specs.FixupsSay as promised
+use Rattle.macho_model_checks.proofs.ExampleCall.{calls_exit, calling, placed_call, head_of_call, fixups_of_call, tables_of_call, big_words, signature_of_call, call_image}
+use Rattle.macho_model_checks.proofs.ValidTests.{one_passes}
+use Rattle.macho_bytes.specs.Numbers.{le_at, le_bytes, be_at, be_bytes, row_bytes}
+use Rattle.macho_bytes.specs.Layouts.{reading, spelling}
+use Rattle.macho_model.specs.Commands.{header_of, commands_from, commands_of, commands_end}
+use Rattle.macho_model.specs.Objects.{segment_of, num_sections, section_place, section_at, section_bytes, symtab_of, num_symbols, symbol_place, symbol_at, strings_of, symbol_name, relocation_place, relocation_at}
+use Rattle.macho_model.specs.ExportLists.{plain_entries, all_entries, entries_of}
+use Rattle.macho_model.specs.Links.{sections_of, carried_of, template_exponent, placed_exponent}
+use Rattle.macho_model.specs.Resolution.{symbols_of, strong_of, weak_of, commons_of, greatest_of, libraries_with, definition_of, chosen_commons}
+use Rattle.macho_model.specs.Needs.{initializer_sections, unwind_sections, uses_of, imports_of, libraries_needed}
+use Rattle.macho_model.specs.Targets.{target_of, target_of_relocation, slots_of, stubs_of}
+use Rattle.macho_model.specs.Fields.{fields_of}
+use Rattle.macho_model.specs.Segments.{other_segments, segment_names_of, output_keys_of}
+use Rattle.macho_model.specs.Images.{segments_of, mapped_segments, base_of, libraries_of, tables_of, tries_of, signatures_of, symbol_tables_of, string_tables_of, entries_of_file}
+use Rattle.macho_model.specs.Fixups.{own_entries, import_entries_of, entries_have_addends}
+use Rattle.macho_model.specs.ImportTable.{fixup_count, names_text}
+use Rattle.macho_model_checks.proofs.Examples.{words8, words, halves, name16}
+use Rattle.macho_model_checks.proofs.ExampleLinks.{entry, text_object}
+
+-- the slot of import 0, with no addend
+abbrev pub fixup_of_slot : Fixup
+fixup_of_slot = record { address = 0x100004000; kind = Bind 0 0 }
+
+abbrev pub fixups_in_call : List Fixup
+fixups_in_call = fixup_of_slot ∷ []
+
+abbrev pub constants_part : FixupSegment
+constants_part = record { address = 0x100004000; size = 0x4000; file_offset = 0x4000; file_size = 0x4000 }
+
+holds_slot : (s : FixupSegment) × Contains (fixup_segments placed_call) s × Holds s 0x100004000
+holds_slot = (constants_part, (2, omega arith, refl), search rules)
+
+run_of_call : AreFixups (fixup_segments placed_call) fixups_in_call
+run_of_call = record {
+  sorted = AllPairs-cons (λ (f : Fixup). λ (g : Fixup). f.address + WORD_SIZE ≤ g.address) fixup_of_slot [] (All-nil _) (λ i j d lt within. absurd (omega arith));
+  steps = All-cons (λ (f : Fixup). f.address % STRIDE ≡ 0) fixup_of_slot [] refl (All-nil _);
+  in_page = All-cons (λ (f : Fixup). f.address % CHAIN_PAGE + WORD_SIZE ≤ CHAIN_PAGE) fixup_of_slot [] (omega arith) (All-nil _);
+  in_segment = All-cons (λ (f : Fixup). (s : FixupSegment) × Contains (fixup_segments placed_call) s × Holds s f.address) fixup_of_slot [] holds_slot (All-nil _);
+  ordinals = All-cons (λ (f : Fixup). FitsOrdinal f.kind) fixup_of_slot [] (omega arith) (All-nil _);
+}
+
+is_of_slot : IsFixupOf calling placed_call fixup_of_slot
+is_of_slot = promised.IsFixupOf.slot (record { target = target.Import 0; address = 0x100004000 }) (0, omega arith, refl)
+
+-- no field of the link needs a fixup, so there is no other
+no_pointer : list_all (λ (q : PlacedSection). list_all (λ (f : Field). not (needs_fixup calling (id_of q) f)) (fields_of calling (id_of q))) placed_call.sections ≡ true
+unfolding commands_end commands_of commands_from header_of reading le_at row_bytes le_bytes words8 words halves name16 entry text_object calls_exit head_of_call fixups_of_call tables_of_call be_at be_bytes big_words signature_of_call call_image segment_of num_sections section_place section_at section_bytes symtab_of num_symbols symbol_place symbol_at strings_of symbol_name relocation_place relocation_at sections_of carried_of template_exponent placed_exponent symbols_of strong_of weak_of commons_of greatest_of libraries_with definition_of chosen_commons initializer_sections unwind_sections uses_of imports_of libraries_needed target_of target_of_relocation slots_of stubs_of fields_of plain_entries all_entries entries_of other_segments segment_names_of output_keys_of own_entries import_entries_of entries_have_addends fixup_count names_text segments_of mapped_segments base_of libraries_of tables_of tries_of signatures_of symbol_tables_of string_tables_of entries_of_file
+no_pointer = refl
+
+each_there : (f : Fixup) → IsFixupOf calling placed_call f → Contains fixups_in_call f
+each_there _ (promised.IsFixupOf.slot s (zero, within, is)) =
+    subst (λ (t : Slot). Contains fixups_in_call (record { address = t.address; kind = kind_for calling placed_call t.target 0 })) is (0, omega arith, refl)
+each_there _ (promised.IsFixupOf.slot s (suc k, within, is)) = absurd (omega (arith, within))
+each_there _ (promised.IsFixupOf.pointer q f one has needs) =
+    let plain = one_passes (λ (x : PlacedSection). list_all (λ (g : Field). not (needs_fixup calling (id_of x) g)) (fields_of calling (id_of x))) placed_call.sections q no_pointer one in
+    let no = one_passes (λ (g : Field). not (needs_fixup calling (id_of q) g)) (fields_of calling (id_of q)) f plain has in
+    absurd (true_or_false (not (needs_fixup calling (id_of q) f)) no (not_true (needs_fixup calling (id_of q) f) needs))
+
+-- the table: version, three places, one import of format 1; four segments, the third with one page that starts at 0; the entry; the name
+abbrev pub entry_of_exit : ImportEntry
+entry_of_exit = record { library = 1; name_offset = 0; addend = pos 0 }
+
+image_size : length call_image ≡ 33436
+unfolding commands_end commands_of commands_from header_of reading le_at row_bytes le_bytes words8 words halves name16 entry text_object calls_exit head_of_call fixups_of_call tables_of_call be_at be_bytes big_words signature_of_call call_image segments_of mapped_segments base_of libraries_of tables_of tries_of signatures_of symbol_tables_of string_tables_of entries_of_file
+image_size = refl
+
+table_size : length (table_text 0x100000000 fixups_in_call (fixup_segments placed_call) 1 (entry_of_exit ∷ []) (codes "_exit" ++ 0 ∷ [])) ≡ 82
+unfolding table_text image_starts_text image_starts_size offsets_text segment_text segment_size starts_text page_starts_text pages_of start_of entry_text spelling row_bytes le_bytes
+table_size = refl
+
+what_is_asked : (import_format calling ≡ 1) × (names_text calling ≡ codes "_exit" ++ 0 ∷ [])
+unfolding commands_end commands_of commands_from header_of reading le_at row_bytes le_bytes words8 words halves name16 entry text_object calls_exit head_of_call fixups_of_call tables_of_call be_at be_bytes big_words signature_of_call call_image segment_of num_sections section_place section_at section_bytes symtab_of num_symbols symbol_place symbol_at strings_of symbol_name relocation_place relocation_at sections_of carried_of template_exponent placed_exponent symbols_of strong_of weak_of commons_of greatest_of libraries_with definition_of chosen_commons initializer_sections unwind_sections uses_of imports_of libraries_needed target_of target_of_relocation slots_of stubs_of fields_of plain_entries all_entries entries_of other_segments segment_names_of output_keys_of own_entries import_entries_of entries_have_addends fixup_count names_text segments_of mapped_segments base_of libraries_of tables_of tries_of signatures_of symbol_tables_of string_tables_of entries_of_file
+what_is_asked = (refl, refl)
+
+table_there : slice_range call_image 0x8000 0x8052
+    ≡ table_text 0x100000000 fixups_in_call (fixup_segments placed_call) 1 (entry_of_exit ∷ []) (codes "_exit" ++ 0 ∷ [])
+unfolding commands_end commands_of commands_from header_of reading le_at row_bytes le_bytes words8 words halves name16 entry text_object calls_exit head_of_call fixups_of_call tables_of_call be_at be_bytes big_words signature_of_call call_image segment_of num_sections section_place section_at section_bytes symtab_of num_symbols symbol_place symbol_at strings_of symbol_name relocation_place relocation_at sections_of carried_of template_exponent placed_exponent symbols_of strong_of weak_of commons_of greatest_of libraries_with definition_of chosen_commons initializer_sections unwind_sections uses_of imports_of libraries_needed target_of target_of_relocation slots_of stubs_of fields_of plain_entries all_entries entries_of other_segments segment_names_of output_keys_of own_entries import_entries_of entries_have_addends fixup_count names_text segments_of mapped_segments base_of libraries_of tables_of tries_of signatures_of symbol_tables_of string_tables_of entries_of_file table_text image_starts_text image_starts_size offsets_text segment_text segment_size starts_text page_starts_text pages_of start_of entry_text spelling
+table_there = refl
+
+table_stands : Stands call_image (record {
+  at = 0x8000;
+  text = table_text 0x100000000 fixups_in_call (fixup_segments placed_call) (import_format calling) (entry_of_exit ∷ []) (names_text calling);
+})
+table_stands = rw (what_is_asked.0, what_is_asked.1) (record {
+  within = omega (arith, table_size, image_size);
+  same = ap (λ n. slice_range call_image 0x8000 (0x8000 + n)) table_size ∙ table_there;
+})
+
+-- the slot's word: bound, to ordinal 0, with no addend and no step
+word_there : slice_range call_image 0x4000 0x4008 ≡ (word_part (fixup_segments placed_call) fixups_in_call 0 fixup_of_slot).text
+unfolding commands_end commands_of commands_from header_of reading le_at row_bytes le_bytes words8 words halves name16 entry text_object calls_exit head_of_call fixups_of_call tables_of_call be_at be_bytes big_words signature_of_call call_image segments_of mapped_segments base_of libraries_of tables_of tries_of signatures_of symbol_tables_of string_tables_of entries_of_file place_of step_of word_of
+word_there = refl
+
+word_facts : ((word_part (fixup_segments placed_call) fixups_in_call 0 fixup_of_slot).at ≡ 0x4000)
+    × (length (word_part (fixup_segments placed_call) fixups_in_call 0 fixup_of_slot).text ≡ 8)
+unfolding place_of step_of word_of le_bytes
+word_facts = (refl, refl)
+
+first_word : Stands call_image (word_part (fixup_segments placed_call) fixups_in_call 0 fixup_of_slot)
+first_word = record {
+  within = omega (arith, word_facts.0, word_facts.1, image_size);
+  same = rw (word_facts.0, word_facts.1) word_there;
+}
+
+each_word : (k : ℕ) (d : Fixup) → k < length fixups_in_call → Stands call_image (word_part (fixup_segments placed_call) fixups_in_call k (get_or fixups_in_call k d))
+each_word zero d within = first_word
+each_word (suc k) d within = absurd (omega (arith, within))
+
+one_table : tables_of call_image ≡ record { at = 0x8000; size = 0xd0 } ∷ []
+unfolding commands_end commands_of commands_from header_of reading le_at row_bytes le_bytes words8 words halves name16 entry text_object calls_exit head_of_call fixups_of_call tables_of_call be_at be_bytes big_words signature_of_call call_image segments_of mapped_segments base_of libraries_of tables_of tries_of signatures_of symbol_tables_of string_tables_of entries_of_file
+one_table = refl
+
+-- THE fixup table and the words of its chains
+pub call_fixups : FixupsSay calling call_image placed_call
+call_fixups = record {
+  fixups = fixups_in_call;
+  run = run_of_call;
+  each = All-cons (IsFixupOf calling placed_call) fixup_of_slot [] is_of_slot (All-nil _);
+  all = each_there;
+  table = record { at = 0x8000; size = 0xd0 };
+  one = one_table;
+  entries = entry_of_exit ∷ [];
+  text = table_stands;
+  words = record { each = each_word };
+}

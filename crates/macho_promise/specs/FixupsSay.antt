@@ -1,0 +1,67 @@
+-- The fixups of an image: which words the loader writes and what each is asked to become, and the fixup table and those words,
+-- byte for byte (`mach-o/fixup-chains.h`).
+use Rattle.std.specs.Prelude.{◌≡◌, ℕ, ◌+◌, ◌-◌, ◌%◌, ◌^◌, true, if◌then◌else◌, List, [], ◌∷◌, map, All, Contains}
+use Rattle.std.specs.List.{position_or_len}
+use Rattle.macho_bytes.specs.Texts.{Stands}
+use Rattle.macho_model.specs.declared.placed.PlacedSection.{PlacedSection}
+use Rattle.macho_model.specs.declared.placed.PlacedSegment.{PlacedSegment}
+use Rattle.macho_model.specs.declared.placed.Slot.{Slot}
+use Rattle.macho_model.specs.declared.targets.Target.{Target}
+use Rattle.macho_model.specs.declared.targets.Target.TheVariants as target
+use Rattle.macho_model.specs.Links.{Link}
+use Rattle.macho_model.specs.Fields.{Field, fields_of}
+use Rattle.macho_model.specs.Values.{needs_fixup}
+use Rattle.macho_model.specs.Placement.{Placed, id_of}
+use Rattle.macho_model.specs.Addresses.{address_of}
+use Rattle.macho_model.specs.Images.{Table, tables_of, IMPORT_FORMAT, IMPORT_ADDEND_FORMAT}
+use Rattle.macho_model.specs.Fixups.{same_entry, has_room, import_entries_of, entries_have_addends}
+use Rattle.macho_model.specs.ImportTable.{names_text}
+use Rattle.macho_fixups.specs.declared.words.FixupKind.{FixupKind}
+use Rattle.macho_fixups.specs.declared.words.FixupKind.TheVariants.{Rebase, Bind}
+use Rattle.macho_fixups.specs.declared.run.Fixup.{Fixup}
+use Rattle.macho_fixups.specs.declared.run.FixupSegment.{FixupSegment}
+use Rattle.macho_fixups.specs.declared.imports.ImportEntry.{ImportEntry}
+use Rattle.macho_fixups.specs.Runs.{AreFixups}
+use Rattle.macho_fixups.specs.Chains.{AllStand}
+use Rattle.macho_fixups.specs.Tables.{table_text}
+
+-- the number of the entry of an import that has an addend of its own
+abbrev pub own_number : Link → ℕ → ℕ → ℕ
+own_number l id addend = position_or_len (same_entry (record { import = id; addend = addend })) (import_entries_of l)
+
+-- What a word is asked to become: an import by its own number, with the addend in the word where there is room for it, else by the
+-- entry that has the addend; any other target by its distance from the base.
+abbrev pub kind_for : Link → Placed → Target → ℕ → FixupKind
+kind_for l p (target.Import id) addend = if has_room addend then Bind id addend else Bind (own_number l id addend) 0
+kind_for l p t addend = Rebase ((address_of p t + addend) % 2 ^ 64 - p.base)
+
+-- a fixup is that of a slot, or of a pointer that needs one
+pub data IsFixupOf (l : Link) (p : Placed) : Fixup → Type 0 where
+  slot : (s : Slot) → Contains p.slots s → IsFixupOf l p (record { address = s.address; kind = kind_for l p s.target 0 })
+  pointer : (q : PlacedSection) (f : Field) → Contains p.sections q → Contains (fields_of l (id_of q)) f → needs_fixup l (id_of q) f ≡ true
+      → IsFixupOf l p (record { address = q.address + f.offset; kind = kind_for l p f.target f.addend })
+
+-- the segments of a placement, as fixups see them
+abbrev pub fixup_segment : PlacedSegment → FixupSegment
+fixup_segment s = record { address = s.address; size = s.size; file_offset = s.file_offset; file_size = s.file_size }
+
+abbrev pub fixup_segments : Placed → List FixupSegment
+fixup_segments p = map fixup_segment p.segments
+
+abbrev pub import_format : Link → ℕ
+import_format l = if entries_have_addends l then IMPORT_ADDEND_FORMAT else IMPORT_FORMAT
+
+-- THE fixup table of the file and the words of its chains.
+pub record FixupsSay (l : Link) (b : List ℕ) (p : Placed) : Type 0 where
+  -- the fixups of the link, by address; all of them and no other
+  pub fixups : List Fixup
+  pub run : AreFixups (fixup_segments p) fixups
+  pub each : All (IsFixupOf l p) fixups
+  pub all : (f : Fixup) → IsFixupOf l p f → Contains fixups f
+  -- the file's one table, byte for byte: header, page starts, entries (`ImportTableSays` tells what they say), names
+  pub table : Table
+  pub one : tables_of b ≡ table ∷ []
+  pub entries : List ImportEntry
+  pub text : Stands b (record { at = table.at; text = table_text p.base fixups (fixup_segments p) (import_format l) entries (names_text l) })
+  -- and each word at its place, with the steps to the next one
+  pub words : AllStand (fixup_segments p) fixups b

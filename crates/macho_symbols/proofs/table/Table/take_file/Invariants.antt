@@ -1,0 +1,10 @@
+use Rattle.macho_symbols.specs.steps.Events.{events_of_file}
+use Rattle.macho_symbols.specs.steps.Tables.{IsTable, TakesIn}
+use Rattle.macho_symbols.proofs.table.Table.take_file.Given as goal
+
+abbrev pub invariant-loop-row : goal.invariant-loop-row
+invariant-loop-row l =
+    record {
+      table : IsTable l.files l.self.heads.items l.self.entries.items;
+      taken : TakesIn l.files l.initial.self.heads.items l.initial.self.entries.items l.self.heads.items l.self.entries.items (events_of_file l.files l.file l.row);
+    }

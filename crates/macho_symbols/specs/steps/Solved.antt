@@ -1,0 +1,74 @@
+-- What holds once all rows were taken in: the table knows all events, the commons are those that were chosen, and each
+-- entry has the number of its import, where that is noted.
+use Rattle.std.specs.Prelude.{◌≡◌, ℕ, ◌+◌, ◌^◌, ◌<◌, ◌≢◌, List, [], length, map, get_or, All, Some, true, false}
+use Rattle.macho_bytes.specs.Numbers.{rounded_up}
+use Rattle.macho_model.specs.Resolution.{SymbolId, Library}
+use Rattle.macho_model.specs.Needs.{import_number}
+use Rattle.macho_symbols.specs.declared.solved.Common.{Common}
+use Rattle.macho_symbols.specs.declared.solved.Import.{Import}
+use Rattle.macho_symbols.specs.declared.solved.Solved.{Solved}
+use Rattle.macho_symbols.specs.declared.solved.TheConstants.{UNNUMBERED}
+use Rattle.macho_symbols.specs.Kept.{FileRows, no_file}
+use Rattle.macho_symbols.specs.steps.Events.{Event, events, best_of, library_text}
+use Rattle.macho_symbols.specs.steps.Tables.{IsKnown, names_of}
+use Rattle.macho_symbols.specs.steps.Targets.{chosen_in, definition_by, named_in, is_nothing}
+use Rattle.macho_symbols.specs.declared.fault.SymbolFault.{SymbolFault}
+use Rattle.macho_symbols.specs.declared.fault.SymbolFault.TheVariants.{DuplicateSymbol, UndefinedSymbol, ExportListMissing, OutOfMemory}
+
+abbrev pub common_id : Common → SymbolId
+common_id c = record { file = c.file; symbol = c.symbol }
+
+-- a chosen common, as it is told
+abbrev pub common_told : Event → Common
+common_told e = record { file = e.file; symbol = e.at; size = rounded_up (2 ^ e.row.number) e.row.value; align = e.row.number }
+
+-- the names of the imports that are noted
+abbrev pub noted_of : List Import → List (List ℕ)
+noted_of imports = map (λ i. i.name.items) imports
+
+-- a name has its import's number where that is noted, and else none
+pub record IsNumbered (noted : List (List ℕ)) (name : List ℕ) (number : ℕ) : Type 0 where
+  pub fresh : number ≡ UNNUMBERED → import_number noted name ≡ length noted
+  pub old : number ≢ UNNUMBERED → number ≡ import_number noted name
+  pub there : number ≢ UNNUMBERED → number < length noted
+
+-- what is told of an import: its library's file and install name
+abbrev pub library_in : List FileRows → ℕ → List ℕ
+library_in files file = library_text (get_or files file no_file).library
+
+-- an import is bound to the library that defines its name
+abbrev pub IsImportIn : List FileRows → Import → Type 0
+IsImportIn files i =
+    (definition_by i.name.items (best_of i.name.items (events files)) ≡ Some (Library i.file)) × (i.library.items ≡ library_in files i.file)
+
+-- all that is known
+pub record IsSolved (s : Solved) : Type 0 where
+  pub known : IsKnown s.files.items s.table.heads.items s.table.entries.items (events s.files.items)
+  pub commons : s.commons.items ≡ map common_told (chosen_in s.files.items)
+  pub few_commons : length s.commons.items < 2 ^ 32
+  pub few_imports : length s.imports.items < UNNUMBERED + 1
+  pub libraries : All (IsImportIn s.files.items) s.imports.items
+  pub long : length s.numbers.items ≡ length s.table.entries.items
+  pub numbers : (j : ℕ) → j < length s.numbers.items
+      → IsNumbered (noted_of s.imports.items) (get_or (names_of s.files.items s.table.entries.items) j []) (get_or s.numbers.items j 0)
+
+-- no import was noted
+pub record IsUnchanged (old new : Solved) : Type 0 where
+  pub files : new.files.items ≡ old.files.items
+  pub heads : new.table.heads.items ≡ old.table.heads.items
+  pub entries : new.table.entries.items ≡ old.table.entries.items
+  pub commons : new.commons.items ≡ old.commons.items
+  pub imports : new.imports.items ≡ old.imports.items
+  pub numbers : new.numbers.items ≡ old.numbers.items
+
+-- a use is found: its name has a target, if it has a name
+abbrev pub IsFoundIn : List FileRows → List (List ℕ) → Event → Type 0
+IsFoundIn files noted e = e.row.global ≡ true → is_nothing (named_in files noted e.row.name) ≡ false
+
+-- a use is refused: its name has no target
+abbrev pub IsUndefinedIn : List FileRows → List (List ℕ) → Event → SymbolFault → Type 0
+IsUndefinedIn files noted e (UndefinedSymbol name file) =
+    (e.row.global ≡ true) × (is_nothing (named_in files noted e.row.name) ≡ true) × (name.items ≡ e.row.name) × (file ≡ e.file)
+IsUndefinedIn files noted e (DuplicateSymbol name first second) = ⊥
+IsUndefinedIn files noted e (ExportListMissing name) = ⊥
+IsUndefinedIn files noted e OutOfMemory = Unit {0}

@@ -1,0 +1,117 @@
+//! Which symbols define their names, and the commons among them.
+ghost use Rattle.std.specs.Prelude.{◌≡◌, ◌^◌, ◌<◌, ◌++◌, ◌&&◌, ◌==◌, map, filter, length, true, IfOk, IfErr, OnOk};
+ghost use Rattle.macho_bytes.specs.Numbers.{rounded_up};
+ghost use Rattle.macho_symbols.specs.steps.Events.{row_count, event_at, events, events_of_file, strength};
+ghost use Rattle.macho_symbols.specs.steps.Tables.{IsKnown};
+ghost use Rattle.macho_symbols.specs.steps.Targets.{defines_in, is_chosen_in, is_of_object, chosen_in};
+ghost use Rattle.macho_symbols.specs.steps.Solved.{common_told};
+
+use crate::fault::SymbolFault;
+use crate::files::FileNames;
+use crate::notes::Sort;
+use crate::solved::Common;
+use crate::table::{Table, name_in, note_in, rows_in};
+use macho_records::rounded_up;
+use std::alloc::Global;
+
+/// Whether a row of such a sort defines a name in an object.
+fn is_of_object(sort: Sort) -> bool
+    ensures { result ≡ is_of_object sort }
+{
+    match sort {
+        Sort::Section | Sort::Absolute | Sort::Common => true,
+        Sort::Offered | Sort::Nowhere => false,
+    }
+}
+
+/// Whether a row is the definition of its name.
+pub(crate) fn defines(files: &[FileNames], table: &Table, file: u32, row: usize) -> bool
+    requires file { file < length files.now }
+    requires row { row < row_count files.now file }
+    requires known { IsKnown files.now table.now.heads.items table.now.entries.items (events files.now) }
+    ensures { result ≡ defines_in files.now (event_at files.now file row) }
+{
+    if !note_in(files, file, row).global {
+        return false;
+    }
+    let Some(number) = table.find(files, name_in(files, file, row)) else {
+        return false;
+    };
+    let best = table.entry(number);
+    is_of_object(note_in(files, best.file, best.row).sort) && best.file == file && best.row == row
+}
+
+/// Whether a row is a common that defines its name.
+fn is_chosen(files: &[FileNames], table: &Table, file: u32, row: usize) -> bool
+    requires file { file < length files.now }
+    requires row { row < row_count files.now file }
+    requires known { IsKnown files.now table.now.heads.items table.now.entries.items (events files.now) }
+    ensures { result ≡ is_chosen_in files.now (event_at files.now file row) }
+{
+    note_in(files, file, row).strength() == 2 && defines(files, table, file, row)
+}
+
+/// A chosen common, as it is told.
+fn common_at(files: &[FileNames], file: u32, row: usize) -> Result<Common, SymbolFault>
+    requires file { file < length files.now }
+    requires row { row < row_count files.now file }
+    requires common { is_chosen_in files.now (event_at files.now file row) ≡ true }
+    ensures told { IfOk result (λ c. c ≡ common_told (event_at files.now file row)) }
+    ensures why { IfErr result (λ fault. fault ≡ SymbolFault.OutOfMemory) }
+{
+    let note = note_in(files, file, row);
+    // Objects have fewer symbols than that.
+    if row >= u32::MAX as usize {
+        return Err(SymbolFault::OutOfMemory);
+    }
+    Ok(Common {
+        file,
+        symbol: row as u32,
+        size: rounded_up(note.value, note.number),
+        align: note.number,
+    })
+}
+
+/// Adds the chosen commons of a file.
+fn add_commons(
+    files: &[FileNames],
+    table: &Table,
+    file: u32,
+    commons: &mut Vec<Common>,
+) -> Result<(), SymbolFault>
+    requires file { file < length files.now }
+    requires known { IsKnown files.now table.now.heads.items table.now.entries.items (events files.now) }
+    ensures added { OnOk result (commons.new.items ≡ commons.old.items ++ map common_told (filter (is_chosen_in files.now) (events_of_file files.now file (row_count files.now file)))) }
+    ensures why { IfErr result (λ fault. fault ≡ SymbolFault.OutOfMemory) }
+{
+    for row in 0..rows_in(files, file) {
+        if !is_chosen(files, table, file, row) {
+            continue;
+        }
+        commons.push(common_at(files, file, row)?)?;
+    }
+    Ok(())
+}
+
+/// The commons that define their names, in order.
+pub(crate) fn chosen_commons(
+    alloc: Global,
+    files: &[FileNames],
+    table: &Table,
+) -> Result<Vec<Common>, SymbolFault>
+    requires few { length files.now < 2 ^ 32 }
+    requires known { IsKnown files.now table.now.heads.items table.now.entries.items (events files.now) }
+    ensures commons { IfOk result (λ commons. commons.items ≡ map common_told (chosen_in files.now)) }
+    ensures few { IfOk result (λ commons. length commons.items < 2 ^ 32) }
+    ensures why { IfErr result (λ fault. fault ≡ SymbolFault.OutOfMemory) }
+{
+    let mut commons = Vec::new(alloc);
+    for file in 0..files.len() {
+        add_commons(files, table, file as u32, &mut commons)?;
+    }
+    // Objects have fewer symbols than that together.
+    if commons.len() >= u32::MAX as usize {
+        return Err(SymbolFault::OutOfMemory);
+    }
+    Ok(commons)
+}

@@ -1,0 +1,99 @@
+//! Resolved symbols, as callers see them: what each name and each symbol leads to, and what was noted.
+ghost use Rattle.std.specs.Prelude.{◌≡◌, ℕ, List, IfOk, IfErr, OnOk, OnErr};
+ghost use Rattle.macho_model.specs.Links.{Link};
+ghost use Rattle.macho_model.specs.Resolution.{definition_of, defines};
+ghost use Rattle.macho_model.specs.Targets.{target_with, definition_target};
+ghost use Rattle.macho_symbols.specs.Kept.{IsResolved, HasSymbol, symbol_id};
+ghost use Rattle.macho_symbols.specs.Told.{CommonsAre, ImportsAre, IsDefined, IsUndefined, noting};
+
+use crate::choosing;
+use crate::fault::SymbolFault;
+use crate::solved::{Common, Import, Solved};
+use macho_model::Target;
+use std::marker::Model;
+
+/// The symbols of a link, resolved. Files are numbered as they were added.
+#[derive(Drop)]
+pub struct Resolved {
+    pub(crate) solved: Solved,
+}
+
+impl Model for Resolved {
+    ghost use Rattle.macho_symbols.specs.Kept.{ResolvedRows};
+
+    ghost Value = { ResolvedRows };
+
+    ghost use Rattle.macho_symbols.specs.steps.Solved.{noted_of, IsSolved};
+
+    ghost view = { λ r. record { files = r.solved.files.items; noted = noted_of r.solved.imports.items } };
+
+    ghost invariant = { λ r. IsSolved r.solved };
+}
+
+impl Resolved {
+    /// What a global name leads to: `Target::None` for a name without a definition.
+    pub fn definition(&self, name: &[u8]) -> Target
+        ensures { (l : Link) (noted : List (List ℕ)) → IsResolved l noted self.now → result ≡ definition_target l noted name.now (definition_of l name.now) }
+    {
+        self.solved.named(name)
+    }
+
+    /// What a symbol of an object leads to. A symbol of a library that isn't noted yet is told with the number that it
+    /// would get next.
+    pub fn target(&self, file: u32, symbol: u32) -> Target
+        requires { HasSymbol self.now file symbol }
+        ensures { (l : Link) (noted : List (List ℕ)) → IsResolved l noted self.now → result ≡ target_with l noted (symbol_id file symbol) }
+    {
+        self.solved.target(file, symbol as usize)
+    }
+
+    /// Whether a symbol of an object is global, and the definition of its name.
+    pub fn defines(&self, file: u32, symbol: u32) -> bool
+        requires { HasSymbol self.now file symbol }
+        ensures { (l : Link) (noted : List (List ℕ)) → IsResolved l noted self.now → result ≡ defines l (symbol_id file symbol) }
+    {
+        choosing::defines(
+            &self.solved.files,
+            &self.solved.table,
+            file,
+            symbol as usize,
+        )
+    }
+
+    /// The commons that were chosen, in order of their numbers: by file, then symbol.
+    pub fn commons(&self) -> &[Common]
+        ensures { (l : Link) (noted : List (List ℕ)) → IsResolved l noted self.now → CommonsAre l result.now }
+    {
+        &self.solved.commons
+    }
+}
+
+impl Resolved {
+    /// Notes a use of a symbol of an object, and tells what it leads to. A symbol of a library that is noted for the first
+    /// time gets the next number.
+    ///
+    /// # Errors
+    ///
+    /// The symbol is global and nothing defines its name, or there is not enough memory. Nothing was noted.
+    pub fn note_use(&mut self, file: u32, symbol: u32) -> Result<Target, SymbolFault>
+        requires { HasSymbol self.old file symbol }
+        ensures noted { (l : Link) (noted : List (List ℕ)) → IsResolved l noted self.old
+            → OnOk result (IsResolved l (noting l noted (symbol_id file symbol)) self.new) }
+        ensures target { (l : Link) (noted : List (List ℕ)) → IsResolved l noted self.old
+            → IfOk result (λ t. t ≡ target_with l noted (symbol_id file symbol)) }
+        ensures found { (l : Link) (noted : List (List ℕ)) → IsResolved l noted self.old → OnOk result (IsDefined l (symbol_id file symbol)) }
+        ensures why { (l : Link) (noted : List (List ℕ)) → IsResolved l noted self.old → IfErr result (IsUndefined l (symbol_id file symbol)) }
+        ensures kept { OnErr result (self.new ≡ self.old) }
+    {
+        self.solved.note_use(file, symbol as usize)
+    }
+}
+
+impl Resolved {
+    /// The imports noted so far, in order of their numbers.
+    pub fn imports(&self) -> &[Import]
+        ensures { (l : Link) (noted : List (List ℕ)) → IsResolved l noted self.now → ImportsAre l noted result.now }
+    {
+        &self.solved.imports
+    }
+}

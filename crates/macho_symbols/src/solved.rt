@@ -1,0 +1,265 @@
+//! What is known once all rows were taken in: where names and symbols lead, and which imports are noted.
+ghost use Rattle.std.specs.Prelude.{◌≡◌, ◌^◌, ◌<◌, ◌++◌, ◌∷◌, [], length, map, OnOk, OnErr, IfOk, IfErr};
+ghost use Rattle.macho_symbols.specs.steps.Events.{row_at, row_count, event_at};
+ghost use Rattle.macho_symbols.specs.steps.Tables.{IsEntryOf};
+ghost use Rattle.macho_symbols.specs.steps.Targets.{named_in, target_in, own_in, base_target, chosen_in, id_of, is_next, is_nothing, noting_in};
+ghost use Rattle.macho_symbols.specs.steps.Solved.{IsSolved, IsUnchanged, IsFoundIn, IsUndefinedIn, common_id, noted_of, library_in};
+ghost use Rattle.std.specs.List.{position_or_len};
+ghost use Rattle.macho_model.specs.Resolution.{same_symbol};
+ghost use Rattle.macho_model.specs.Needs.{import_number};
+
+use crate::fault::SymbolFault;
+use crate::files::FileNames;
+use crate::notes::Sort;
+use crate::table::{Table, name_in, note_in};
+use macho_model::Target;
+
+/// A symbol of a library that something of the link uses.
+#[derive(Drop)]
+pub struct Import {
+    /// The number of the library's file.
+    pub file: u32,
+    /// The install name of the library.
+    pub library: Vec<u8>,
+    /// The name of the symbol.
+    pub name: Vec<u8>,
+}
+
+/// A common that was chosen as the definition of its name.
+#[derive(Clone, Copy)]
+pub struct Common {
+    /// The number of the object.
+    pub file: u32,
+    /// The index of the symbol in it.
+    pub symbol: u32,
+    /// Its size in bytes, rounded up to its alignment.
+    pub size: u64,
+    /// Its alignment, as an exponent of 2.
+    pub align: u8,
+}
+
+/// The files, the table of names, the chosen commons and the imports noted so far.
+#[derive(Drop)]
+pub(crate) struct Solved {
+    pub(crate) files: Vec<FileNames>,
+    pub(crate) table: Table,
+    pub(crate) commons: Vec<Common>,
+    pub(crate) imports: Vec<Import>,
+    /// For each name of the table the number of its import, or `UNNUMBERED`.
+    pub(crate) numbers: Vec<u32>,
+}
+
+/// The number of a name whose import isn't noted.
+pub(crate) const UNNUMBERED: u32 = u32::MAX;
+
+/// Whether a common is that of a row.
+fn is_at(common: Common, file: u32, row: usize) -> bool
+    ensures { result ≡ same_symbol (record { file = file; symbol = row }) (common_id common) }
+{
+    file == common.file && row == common.symbol as usize
+}
+
+/// The install name of a library, by its number.
+fn library_in(files: &[FileNames], file: u32) -> &[u8]
+    requires { file < length files.now }
+    ensures { result.now ≡ library_in files.now file }
+{
+    files[file as usize].library()
+}
+
+/// The number of a chosen common.
+fn number_of_common(commons: &[Common], file: u32, row: usize) -> u32
+    requires { length commons.now < 2 ^ 32 }
+    ensures { result ≡ position_or_len (same_symbol (record { file = file; symbol = row })) (map common_id commons.now) }
+{
+    let mut number = 0u32;
+    for common in commons {
+        if is_at(*common, file, row) {
+            return number;
+        }
+        number += 1;
+    }
+    number
+}
+
+/// Where a row leads by itself.
+fn own_target(files: &[FileNames], commons: &[Common], file: u32, row: usize) -> Target
+    requires file { file < length files.now }
+    requires row { row < row_count files.now file }
+    requires few { length commons.now < 2 ^ 32 }
+    requires commons { map common_id commons.now ≡ map id_of (chosen_in files.now) }
+    ensures { result ≡ own_in files.now (event_at files.now file row) (row_at files.now file row).sort }
+{
+    let note = note_in(files, file, row);
+    match note.sort {
+        Sort::Section => Target::Section {
+            file,
+            section: u32::from(note.number),
+            offset: note.value,
+        },
+        Sort::Absolute => Target::Absolute { value: note.value },
+        Sort::Common => Target::Common {
+            id: number_of_common(commons, file, row),
+        },
+        Sort::Offered | Sort::Nowhere => Target::None,
+    }
+}
+
+/// What a name is that nothing but the image may define.
+fn base_target(name: &[u8]) -> Target
+    ensures { result ≡ base_target name.now }
+{
+    if name == b"___dso_handle".as_slice() {
+        Target::Base
+    } else {
+        Target::None
+    }
+}
+
+impl Solved {
+    /// The number of an entry's import, or the one that it would get.
+    fn number_of_import(&self, number: usize, name: &[u8]) -> u32
+        requires solved { IsSolved self.now }
+        requires entry { IsEntryOf self.now.files.items self.now.table.entries.items name.now number }
+        ensures { result ≡ import_number (noted_of self.now.imports.items) name.now }
+    {
+        let id = self.numbers[number];
+        if id == UNNUMBERED {
+            self.imports.len() as u32
+        } else {
+            id
+        }
+    }
+
+    /// Where the best row of a name leads.
+    fn lead(&self, number: usize, name: &[u8]) -> Target
+        requires solved { IsSolved self.now }
+        requires entry { IsEntryOf self.now.files.items self.now.table.entries.items name.now number }
+        ensures { result ≡ named_in self.now.files.items (noted_of self.now.imports.items) name.now }
+    {
+        let entry = self.table.entry(number);
+        match note_in(&self.files, entry.file, entry.row).sort {
+            Sort::Offered => Target::Import {
+                id: self.number_of_import(number, name),
+            },
+            Sort::Nowhere => base_target(name),
+            _ => own_target(&self.files, &self.commons, entry.file, entry.row),
+        }
+    }
+
+    /// Where a name leads.
+    pub(crate) fn named(&self, name: &[u8]) -> Target
+        requires { IsSolved self.now }
+        ensures { result ≡ named_in self.now.files.items (noted_of self.now.imports.items) name.now }
+    {
+        match self.table.find(&self.files, name) {
+            Some(number) => self.lead(number, name),
+            None => base_target(name),
+        }
+    }
+
+    /// Where a symbol leads.
+    pub(crate) fn target(&self, file: u32, row: usize) -> Target
+        requires file { file < length self.now.files.items }
+        requires row { row < row_count self.now.files.items file }
+        requires solved { IsSolved self.now }
+        ensures { result ≡ target_in self.now.files.items (noted_of self.now.imports.items) (event_at self.now.files.items file row) }
+    {
+        if note_in(&self.files, file, row).global {
+            self.named(name_in(&self.files, file, row))
+        } else {
+            own_target(&self.files, &self.commons, file, row)
+        }
+    }
+}
+
+impl Solved {
+    /// Notes a name that a library defines, and that isn't noted yet.
+    fn note(&mut self, file: u32, row: usize) -> Result<(), SymbolFault>
+        requires file { file < length self.old.files.items }
+        requires row { row < row_count self.old.files.items file }
+        requires solved { IsSolved self.old }
+        requires import { named_in self.old.files.items (noted_of self.old.imports.items) (row_at self.old.files.items file row).name
+            ≡ Target.Import (length (noted_of self.old.imports.items)) }
+        ensures solved { OnOk result (IsSolved self.new) }
+        ensures files { self.new.files.items ≡ self.old.files.items }
+        ensures noted { OnOk result (noted_of self.new.imports.items ≡ noted_of self.old.imports.items ++ (row_at self.old.files.items file row).name ∷ []) }
+        ensures kept { OnErr result (IsUnchanged self.old self.new) }
+        ensures why { IfErr result (λ fault. fault ≡ SymbolFault.OutOfMemory) }
+    {
+        let alloc = *self.imports.allocator();
+        let name = name_in(&self.files, file, row);
+        let Some(number) = self.table.find(&self.files, name) else {
+            unreachable!()
+        };
+        let library = self.table.entry(number).file;
+        // Objects have fewer symbols than that together.
+        if self.imports.len() >= UNNUMBERED as usize {
+            return Err(SymbolFault::OutOfMemory);
+        }
+        let id = self.imports.len() as u32;
+        let import = Import {
+            file: library,
+            library: Vec::from_slice(alloc, library_in(&self.files, library))?,
+            name: Vec::from_slice(alloc, name)?,
+        };
+        self.imports.push(import)?;
+        self.numbers[number] = id;
+        Ok(())
+    }
+}
+
+/// Whether a target is an import of a number.
+fn is_import(target: Target, number: usize) -> bool
+    ensures { result ≡ is_next number target }
+{
+    match target {
+        Target::Import { id } => id as usize == number,
+        _ => false,
+    }
+}
+
+/// Whether a target is nothing.
+fn is_nothing(target: Target) -> bool
+    ensures { result ≡ is_nothing target }
+{
+    match target {
+        Target::None => true,
+        _ => false,
+    }
+}
+
+impl Solved {
+    /// Notes a use of a symbol, and tells what it leads to.
+    pub(crate) fn note_use(&mut self, file: u32, row: usize) -> Result<Target, SymbolFault>
+        requires file { file < length self.old.files.items }
+        requires row { row < row_count self.old.files.items file }
+        requires solved { IsSolved self.old }
+        ensures solved { OnOk result (IsSolved self.new) }
+        ensures files { self.new.files.items ≡ self.old.files.items }
+        ensures noted { OnOk result (noted_of self.new.imports.items ≡ noting_in self.old.files.items (noted_of self.old.imports.items) (event_at self.old.files.items file row)) }
+        ensures target { IfOk result (λ t. t ≡ target_in self.old.files.items (noted_of self.old.imports.items) (event_at self.old.files.items file row)) }
+        ensures found { OnOk result (IsFoundIn self.old.files.items (noted_of self.old.imports.items) (event_at self.old.files.items file row)) }
+        ensures kept { OnErr result (IsUnchanged self.old self.new) }
+        ensures why { IfErr result (IsUndefinedIn self.old.files.items (noted_of self.old.imports.items) (event_at self.old.files.items file row)) }
+    {
+        let target = self.target(file, row);
+        if !note_in(&self.files, file, row).global {
+            return Ok(target);
+        }
+        if is_nothing(target) {
+            let alloc = *self.imports.allocator();
+            return Err(SymbolFault::UndefinedSymbol {
+                name: Vec::from_slice(alloc, name_in(&self.files, file, row))?,
+                file,
+            });
+        }
+        if !is_import(target, self.imports.len()) {
+            return Ok(target);
+        }
+        if let Err(fault) = self.note(file, row) {
+            return Err(fault);
+        }
+        Ok(target)
+    }
+}

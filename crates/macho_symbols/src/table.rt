@@ -1,0 +1,210 @@
+//! The table of names: for each name that some row mentions, the best row so far.
+//!
+//! It holds no name of its own: an entry leads to a row, whose file holds the name. Names are found by a hash, whose
+//! buckets chain entries from the newest to the oldest:
+//!
+//!     heads     0  2  0  1             of four buckets, two hold one entry each
+//!     entries   { next 0, file 0, row 3 }  { next 0, file 1, row 0 }
+ghost use Rattle.std.specs.Prelude.{◌≡◌, ℕ, ◌+◌, ◌<◌, ◌≤◌, length, IfSome, IfNone, IfErr, IfOk, OnOk, get_or, true, [], ◌∷◌};
+ghost use Rattle.macho_symbols.specs.Kept.{no_file};
+ghost use Rattle.macho_symbols.specs.steps.Events.{row_at, row_count, event_at, beats};
+ghost use Rattle.macho_symbols.specs.steps.Notes.{named_row, CommonFits};
+ghost use Rattle.macho_symbols.specs.steps.Tables.{IsEmptyTable, hash_of, bucket_of, IsTable, IsEntryOf, IsNowhere, IsAdded, TakesIn, Refuses, IsThere, no_entry, both_strong, names_of};
+
+use crate::fault::SymbolFault;
+use crate::files::FileNames;
+use crate::notes::Note;
+use std::alloc::{AllocError, Global};
+
+/// What is known of a name.
+#[derive(Clone, Copy)]
+pub(crate) struct Entry {
+    /// One more than the number of the entry before in its bucket, 0 for none.
+    pub(crate) next: usize,
+    /// The best row of the name.
+    pub(crate) row: usize,
+    /// The file of that row.
+    pub(crate) file: u32,
+}
+
+/// How many names share a bucket, where all are full.
+const NAMES_PER_BUCKET: usize = 2;
+
+/// The table of names.
+#[derive(Drop)]
+pub(crate) struct Table {
+    /// For each bucket, one more than the number of its newest entry, 0 for none.
+    pub(crate) heads: Vec<usize>,
+    pub(crate) entries: Vec<Entry>,
+}
+
+/// The hash FNV-1a of a name, of 64 bits.
+#[tactic(auto, unfolding(crate::specs::steps::Tables::hash_of))]
+fn hash(name: &[u8]) -> u64
+    ensures { result ≡ hash_of name.now }
+{
+    let mut hash = 14_695_981_039_346_656_037u64;
+    for byte in name {
+        hash = (hash ^ u64::from(*byte)).wrapping_mul(1_099_511_628_211);
+    }
+    hash
+}
+
+/// How many rows a file has.
+pub(crate) fn rows_in(files: &[FileNames], file: u32) -> usize
+    requires { file < length files.now }
+    ensures { result ≡ row_count files.now file }
+{
+    files[file as usize].len()
+}
+
+/// The name of a row of some files.
+pub(crate) fn name_in<'a>(files: &'a [FileNames], file: u32, row: usize) -> &'a [u8]
+    requires file { file < length files.now }
+    requires row { row < row_count files.now file }
+    ensures { result.now ≡ (row_at files.now file row).name }
+{
+    files[file as usize].name(row)
+}
+
+/// The note of a row of some files.
+pub(crate) fn note_in(files: &[FileNames], file: u32, row: usize) -> Note
+    requires file { file < length files.now }
+    requires row { row < row_count files.now file }
+    ensures row { named_row (row_at files.now file row).name result ≡ row_at files.now file row }
+    ensures small { CommonFits result.sort result.number result.value }
+{
+    files[file as usize].note(row)
+}
+
+impl Table {
+    /// A table without names, with room for some.
+    pub(crate) fn new(alloc: Global, names: usize) -> Result<Table, AllocError>
+        ensures { IfOk result (λ t. IsEmptyTable t.heads.items t.entries.items) }
+    {
+        let buckets = names / NAMES_PER_BUCKET + 1;
+        Ok(Table {
+            heads: vec![in alloc; 0usize; buckets]?,
+            entries: Vec::with_capacity(alloc, names)?,
+        })
+    }
+
+    /// The bucket of a name.
+    fn bucket(&self, name: &[u8]) -> usize
+        requires { 1 ≤ length self.now.heads.items }
+        ensures bucket { result ≡ bucket_of self.now.heads.items name.now }
+        ensures within { result < length self.now.heads.items }
+    {
+        (hash(name) % self.heads.len() as u64) as usize
+    }
+
+    /// The number of a name's entry.
+    pub(crate) fn find(&self, files: &[FileNames], name: &[u8]) -> Option<usize>
+        requires { IsTable files.now self.now.heads.items self.now.entries.items }
+        ensures found { IfSome result (λ j. IsEntryOf files.now self.now.entries.items name.now j) }
+        ensures none { IfNone result (IsNowhere name.now (names_of files.now self.now.entries.items)) }
+    {
+        let mut at = self.heads[self.bucket(name)];
+        while at != 0 {
+            let entry = self.entries[at - 1];
+            if name_in(files, entry.file, entry.row) == name {
+                return Some(at - 1);
+            }
+            at = entry.next;
+        }
+        None
+    }
+}
+
+impl Table {
+    /// Adds a name, which a row brings.
+    pub(crate) fn add(
+        &mut self,
+        files: &[FileNames],
+        file: u32,
+        row: usize,
+    ) -> Result<(), AllocError>
+        requires file { file < length files.now }
+        requires row { row < row_count files.now file }
+        requires table { IsTable files.now self.old.heads.items self.old.entries.items }
+        requires new { IsNowhere (row_at files.now file row).name (names_of files.now self.old.entries.items) }
+        ensures table { OnOk result (IsTable files.now self.new.heads.items self.new.entries.items) }
+        ensures added { OnOk result (IsAdded self.old.entries.items self.new.entries.items file row) }
+    {
+        let bucket = self.bucket(name_in(files, file, row));
+        let next = self.heads[bucket];
+        self.entries.push(Entry { next, row, file })?;
+        self.heads[bucket] = self.entries.len();
+        Ok(())
+    }
+}
+
+/// Whether the row of a file is a better definition than an entry's: a stronger one, or a greater common.
+fn beats(files: &[FileNames], file: u32, row: usize, old: Entry) -> bool
+    requires file { file < length files.now }
+    requires row { row < row_count files.now file }
+    requires old { IsThere files.now old }
+    ensures { result ≡ beats (row_at files.now file row) (row_at files.now old.file old.row) }
+{
+    let new = note_in(files, file, row);
+    let old = note_in(files, old.file, old.row);
+    let (stronger, strong) = (new.strength(), old.strength());
+    stronger > strong || stronger == strong && new.common_size() > old.common_size()
+}
+
+/// Whether an entry's row and the row of a file are strong definitions.
+fn are_strong(files: &[FileNames], file: u32, row: usize, old: Entry) -> bool
+    requires file { file < length files.now }
+    requires row { row < row_count files.now file }
+    requires old { IsThere files.now old }
+    ensures { result ≡ both_strong (row_at files.now old.file old.row) (row_at files.now file row) }
+{
+    let new = note_in(files, file, row);
+    let old = note_in(files, old.file, old.row);
+    old.is_strong() && new.is_strong()
+}
+
+impl Table {
+    /// An entry.
+    #[tactic(auto, using(std::proofs::lemmas::List::get_or_default))]
+    pub(crate) fn entry(&self, number: usize) -> Entry
+        requires { number < length self.now.entries.items }
+        ensures { result ≡ get_or self.now.entries.items number no_entry }
+    {
+        self.entries[number]
+    }
+}
+
+impl Table {
+    /// Takes the row of a file for the best one of its name, where it is.
+    pub(crate) fn improve(
+        &mut self,
+        files: &[FileNames],
+        number: usize,
+        file: u32,
+        row: usize,
+    ) -> Result<(), SymbolFault>
+        requires file { file < length files.now }
+        requires row { row < row_count files.now file }
+        requires table { IsTable files.now self.old.heads.items self.old.entries.items }
+        requires global { (row_at files.now file row).global ≡ true }
+        requires entry { IsEntryOf files.now self.old.entries.items (row_at files.now file row).name number }
+        ensures table { OnOk result (IsTable files.now self.new.heads.items self.new.entries.items) }
+        ensures done { OnOk result (TakesIn files.now self.old.heads.items self.old.entries.items self.new.heads.items self.new.entries.items (event_at files.now file row ∷ [])) }
+        ensures why { IfErr result (Refuses files.now self.old.heads.items self.old.entries.items (event_at files.now file row ∷ [])) }
+    {
+        let entry = self.entry(number);
+        if are_strong(files, file, row, entry) {
+            return Err(SymbolFault::DuplicateSymbol {
+                name: Vec::from_slice(*self.heads.allocator(), name_in(files, file, row))?,
+                first: entry.file,
+                second: file,
+            });
+        }
+        if !beats(files, file, row, entry) {
+            return Ok(());
+        }
+        self.entries[number] = Entry { row, file, ..entry };
+        Ok(())
+    }
+}
