@@ -30,3 +30,4 @@ pub mod ClearNames
 pub mod ClearFields
 pub mod ClearLimits
 pub mod Clear
+pub mod Taking

@@ -32,7 +32,7 @@ use Rattle.macho_image.specs.Linkers.{link_of}
 use Rattle.macho_image.specs.Definitions.{is_object_definition}
 use Rattle.macho_image.specs.Branches.{is_later_type}
 use Rattle.macho_image.specs.Unbuilt.{AsksForPart}
-use Rattle.macho_image.specs.Refusals.{BUILT_SUM, IsUnbuilt}
+use Rattle.macho_image.specs.Refusals.{BUILT_SUM, IsLibrary, IsUnbuilt}
 use Rattle.macho_image.specs.Answered.{INSTRUCTION, IsAnswered}
 use Rattle.macho_image.proofs.Entries.{at_most}
 
@@ -190,6 +190,11 @@ asks_nothing part.Initializer (k, lt, consumed, test) = not_consumed_at k lt con
 asks_nothing part.Unwind (k, lt, consumed, test) = not_consumed_at k lt consumed
 asks_nothing part.Size asks = asks
 asks_nothing part.Input asks = asks
+asks_nothing part.Library asks = asks
+asks_nothing part.ExportList asks = asks
+asks_nothing part.RunPath asks = asks
+asks_nothing part.Versions asks = asks
+asks_nothing part.Padding asks = asks
 asks_nothing part.Dylib asks = asks
 
 -- so does no object of the link
@@ -202,7 +207,13 @@ is_built : (what : Unbuilt) → IsUnbuilt calling what → ⊥
 is_built part.Relocation asks = of_file part.Relocation asks
 is_built part.Name asks = of_file part.Name asks
 is_built part.Segment asks = of_file part.Segment asks
-is_built part.Input asks = of_file part.Input asks
+is_built part.Input asks = omega (arith, asks)
+is_built part.Library (input, among, library) =
+    All-contains (λ x. IsLibrary x → ⊥) calling.inputs input (All-cons (λ x. IsLibrary x → ⊥) (Object calls) [] (λ no. no) (All-nil (λ x. IsLibrary x → ⊥))) among library
+is_built part.ExportList asks = asks refl
+is_built part.RunPath asks = asks refl
+is_built part.Versions asks = asks refl
+is_built part.Padding asks = differ (sym asks)
 is_built part.Initializer asks = of_file part.Initializer asks
 is_built part.Unwind asks = of_file part.Unwind asks
 is_built part.Size (inl many) = omega (arith, many, ap length carried_is)

@@ -19,3 +19,6 @@ pub mod Branches
 pub mod Setting
 pub mod Unwritten
 pub mod Answered
+pub mod Thin
+pub mod Owned
+pub mod StubRefusals

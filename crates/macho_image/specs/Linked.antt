@@ -1,8 +1,8 @@
 -- What a link answers: its image, and what is told beside the bytes.
 use Rattle.std.specs.Prelude.{◌≡◌, ℕ, ◌+◌, ◌<◌, ◌≤◌, true, false, List, [], ◌∷◌, length, map, get_or, Option, Some, None}
-use Rattle.macho_model.specs.Links.{Link, Input, Object, Dylib, no_input}
+use Rattle.macho_model.specs.Links.{Link, Input, Object, Dylib, Stub, no_input}
 use Rattle.std.specs.Borrow.{Bor}
-use Rattle.macho_model.specs.Grammar.{IsObject}
+use Rattle.macho_image.specs.Linkers.{bytes_of}
 use Rattle.macho_model.specs.Images.{entries_of_file}
 use Rattle.macho_model.specs.Placement.{Placed}
 use Rattle.macho_model.specs.Needs.{imports_of, libraries_needed}
@@ -54,10 +54,11 @@ pub record IsClearAlone (b : List ℕ) (e : Entry) (image : LinkedImage) : Type 
   pub alone : (l : Link) → HasOneObject l b → target_of_name l l.entry ≡ target.Section 0 e.section e.offset → bad_name l ≡ false
       → NoneStands l (counts_of l) (placed_of image.placement)
 
--- a view shows an input: an object or a dynamic library by its bytes
+-- a view shows an input: an object or a dynamic library by its bytes, a stub by its text
 abbrev pub Shows : Input → InputView → Type 0
 Shows (Object b) (shown.Object file) = file ≡ record { bytes = b; is_dynamic = false }
 Shows (Dylib b) (shown.Dylib file) = file ≡ record { bytes = b; is_dynamic = true }
+Shows (Stub text says) (shown.Stub view) = view.now ≡ text
 Shows input view = ⊥
 
 -- the view of a file, which is there exactly where a file has the number
@@ -65,7 +66,7 @@ abbrev pub ShowsInput : Link → ℕ → Option InputView → Type 0
 ShowsInput l index None = length l.inputs ≤ index
 ShowsInput l index (Some view) = (index < length l.inputs) × Shows (get_or l.inputs index no_input) view
 
--- the bytes of the only input, an object; None where there is no input
-abbrev pub IsOnly : List Input → Option (Bor (List ℕ)) → Type 0
-IsOnly inputs None = inputs ≡ []
-IsOnly inputs (Some b) = (inputs ≡ Object b.now ∷ []) × IsObject b.now
+-- the bytes of a file as it was taken, which are there exactly where a file has the number
+abbrev pub ShowsBytes : Link → ℕ → Option (Bor (List ℕ)) → Type 0
+ShowsBytes l index None = length l.inputs ≤ index
+ShowsBytes l index (Some bytes) = (index < length l.inputs) × (bytes.now ≡ bytes_of (get_or l.inputs index no_input))

@@ -2,10 +2,12 @@
 
 ghost use Rattle.std.specs.Prelude.{◌≡◌};
 ghost use Rattle.macho_image.specs.declared.fault.LinkError.TheVariants.{OutOfMemory};
+ghost use Rattle.macho_image.specs.StubRefusals.{stub_refusal};
 
 use macho_layout::Placement;
 use macho_model::Site;
 use macho_object::ObjectFault;
+use macho_stub::{StubFault, StubRule};
 use std::alloc::{AllocError, AllocFailed};
 
 /// What is wrong with an input.
@@ -13,6 +15,13 @@ use std::alloc::{AllocError, AllocFailed};
 pub enum InputFault {
     /// A rule of objects or dynamic libraries, and the byte place of the record that breaks it.
     Object(ObjectFault),
+    /// A rule of text stubs, and the line that breaks it, from 1.
+    Stub {
+        /// The line.
+        line: u64,
+        /// The rule.
+        rule: StubRule,
+    },
 }
 
 /// A part of linking that isn't built yet, and that the inputs ask for.
@@ -28,6 +37,16 @@ pub enum Unbuilt {
     Size,
     /// A second input.
     Input,
+    /// A dynamic library or a text stub as input.
+    Library,
+    /// An export list.
+    ExportList,
+    /// A run path.
+    RunPath,
+    /// Versions of the platform.
+    Versions,
+    /// Room for longer install names.
+    Padding,
     /// A dynamic library as output.
     Dylib,
     /// Initializers.
@@ -74,6 +93,20 @@ pub enum LinkError {
     },
     /// Memory ran out.
     OutOfMemory,
+}
+
+impl LinkError {
+    /// The refusal of a stub's text.
+    pub(crate) fn of_stub(fault: StubFault) -> LinkError
+        ensures { result ≡ stub_refusal fault }
+    {
+        match fault {
+            StubFault::Rule { line, rule } => LinkError::BadInput {
+                fault: InputFault::Stub { line, rule },
+            },
+            StubFault::OutOfMemory => LinkError::OutOfMemory,
+        }
+    }
 }
 
 impl From<AllocError> for LinkError {

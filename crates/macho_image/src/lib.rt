@@ -11,6 +11,7 @@ mod layout;
 mod link;
 mod linker;
 mod names;
+mod owned;
 mod paths;
 mod place;
 mod referent;

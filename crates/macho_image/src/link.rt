@@ -82,13 +82,13 @@ impl Linker {
         ensures answered { IsAnswered self.now → IfErr result (λ e. e ≡ OutOfMemory) }
     {
         let _no_command_tells_it = uuid;
-        if !self.executable {
-            return Err(LinkError::Unbuilt {
-                what: Unbuilt::Dylib,
-            });
+        if let Some(what) = self.first_look() {
+            return Err(LinkError::Unbuilt { what });
         }
-        let Some(bytes) = self.only_object() else {
-            return Err(entry_not_defined(alloc, &self.entry));
+        let bytes = match self.only_object() {
+            Ok(Some(bytes)) => bytes,
+            Ok(None) => return Err(entry_not_defined(alloc, &self.entry)),
+            Err(what) => return Err(LinkError::Unbuilt { what }),
         };
         let file = File::of_valid(bytes, false);
         match find_entry(&file, &self.entry) {

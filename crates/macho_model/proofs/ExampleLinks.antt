@@ -22,7 +22,7 @@ text_object text relocations symbols strings =
 
 -- a library's stub text, read
 abbrev pub system : Input
-system = Stub (record { install_name = codes "/usr/lib/libSystem.B.dylib"; names = codes "_exit" ∷ codes "_write" ∷ codes "_f" ∷ []; weak_names = [] })
+system = Stub [] (record { install_name = codes "/usr/lib/libSystem.B.dylib"; names = codes "_exit" ∷ codes "_write" ∷ codes "_f" ∷ []; weak_names = [] })
 
 -- an executable of inputs
 abbrev pub executable_of : List Input → Link

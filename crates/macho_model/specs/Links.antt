@@ -13,11 +13,11 @@ pub record StubReading : Type 0 where
   pub names : List (List ℕ)
   pub weak_names : List (List ℕ)
 
--- An input, with the kind that its bytes have.
+-- An input, with the kind that its bytes have. What a stub's text says is told beside it.
 pub data Input : Type 0 where
   Object : (bytes : List ℕ) → Input
   Dylib : (bytes : List ℕ) → Input
-  Stub : (says : StubReading) → Input
+  Stub : (text : List ℕ) (says : StubReading) → Input
 
 -- What is linked. Files are numbered by their place among the inputs, from 0.
 pub record Link : Type 0 where
@@ -40,7 +40,7 @@ pub record Link : Type 0 where
 abbrev pub object_bytes : Input → List ℕ
 object_bytes (Object bytes) = bytes
 object_bytes (Dylib bytes) = []
-object_bytes (Stub says) = []
+object_bytes (Stub text says) = []
 
 abbrev pub no_input : Input
 no_input = Object []
@@ -80,7 +80,7 @@ is_template h = is_carried h && ((type_of h == S_THREAD_LOCAL_REGULAR) || (type_
 abbrev pub sections_of_file : ℕ → Input → List SectionId
 sections_of_file file (Object bytes) = map (λ k. record { file = file; section = k }) (range_with_len 0 (num_sections bytes))
 sections_of_file file (Dylib bytes) = []
-sections_of_file file (Stub says) = []
+sections_of_file file (Stub text says) = []
 
 -- all sections of all objects, by file, then section
 unfoldable pub sections_of : Link → List SectionId

@@ -129,7 +129,7 @@ import_library l name = library_name l (library_file (definition_of l name))
 abbrev pub library_of_input : Input → Option (List ℕ)
 library_of_input (Object bytes) = None
 library_of_input (Dylib bytes) = Some (install_name_of bytes)
-library_of_input (Stub says) = Some says.install_name
+library_of_input (Stub text says) = Some says.install_name
 
 -- some import is bound to the library
 abbrev pub is_needed : Link → List ℕ → Bool

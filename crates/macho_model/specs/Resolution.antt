@@ -27,7 +27,7 @@ name_at l s = symbol_name (object_of l s.file) s.symbol
 abbrev pub symbols_of_file : ℕ → Input → List SymbolId
 symbols_of_file file (Object bytes) = map (λ k. record { file = file; symbol = k }) (range_with_len 0 (num_symbols bytes))
 symbols_of_file file (Dylib bytes) = []
-symbols_of_file file (Stub says) = []
+symbols_of_file file (Stub text says) = []
 
 unfoldable pub symbols_of : Link → List SymbolId
 symbols_of l = flat_map (λ i. symbols_of_file i.0 i.1) (enumerate_from 0 l.inputs)
@@ -76,7 +76,7 @@ is_offered_symbol bytes name k =
 abbrev pub offers : List ℕ → Input → Bool
 offers name (Object bytes) = false
 offers name (Dylib bytes) = list_any (is_offered_symbol bytes name) (range_with_len 0 (num_symbols bytes))
-offers name (Stub says) = list_any (λ n. bytes_eq n name) says.names || list_any (λ n. bytes_eq n name) says.weak_names
+offers name (Stub text says) = list_any (λ n. bytes_eq n name) says.names || list_any (λ n. bytes_eq n name) says.weak_names
 
 -- the libraries that offer a name, by number, in order
 unfoldable pub libraries_with : Link → List ℕ → List ℕ
@@ -124,7 +124,7 @@ chosen_commons l = filter (λ s. is_common_of (entry_at l s) && defines l s) (sy
 abbrev pub install_name_in : Input → List ℕ
 install_name_in (Object bytes) = []
 install_name_in (Dylib bytes) = install_name_of bytes
-install_name_in (Stub says) = says.install_name
+install_name_in (Stub text says) = says.install_name
 
 abbrev pub library_name : Link → ℕ → List ℕ
 library_name l file = install_name_in (get_or l.inputs file no_input)

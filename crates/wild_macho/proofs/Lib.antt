@@ -1,8 +1,4 @@
-pub mod Lookups
-pub mod Streams
-pub mod Spellings
-pub mod Jobs
-pub mod Determined
-pub mod Sure
-pub mod JobRows
-pub mod AnsweredRow
+pub mod Gathers
+pub mod Prints
+pub mod Making
+pub mod Joining

@@ -3,21 +3,30 @@ use Rattle.std.specs.Prelude.{ℕ, ◌&&◌, ◌||◌, nat_eq, if◌then◌else�
 use Rattle.std.specs.List.{starts_with}
 use Rattle.wild_macho.specs.declared.fault.InputKind.{InputKind}
 use Rattle.wild_macho.specs.declared.fault.InputKind.TheVariants.{Archive, Universal, Other}
+use Rattle.wild_macho.specs.declared.heads.Head.{Head}
+use Rattle.wild_macho.specs.declared.heads.Head.TheVariants.{Object, Dylib, Stub, Unknown}
 
 -- `mach-o/loader.h`: the magic number of a 64-bit file, its lowest byte first
 abbrev pub MAGIC : List ℕ
 MAGIC = 0xcf ∷ 0xfa ∷ 0xed ∷ 0xfe ∷ []
 
--- `mach-o/loader.h`: MH_OBJECT, the type of an object, and where a header has its file type
+-- `mach-o/loader.h`: the types of an object and of a dynamic library (MH_OBJECT, MH_DYLIB), and where a header has its type
 abbrev pub OBJECT_TYPE : List ℕ
 OBJECT_TYPE = 1 ∷ 0 ∷ 0 ∷ 0 ∷ []
+
+abbrev pub DYLIB_TYPE : List ℕ
+DYLIB_TYPE = 6 ∷ 0 ∷ 0 ∷ 0 ∷ []
 
 abbrev pub TYPE_PLACE : ℕ
 TYPE_PLACE = 12
 
--- the bytes begin as an object
-abbrev pub has_object_head : List ℕ → Bool
-has_object_head bytes = starts_with nat_eq bytes MAGIC && starts_with nat_eq (drop TYPE_PLACE bytes) OBJECT_TYPE
+-- the first line of a text stub begins so
+abbrev pub STUB : List ℕ
+STUB = codes "--- !tapi-tbd"
+
+-- the bytes begin as a file of this type
+abbrev pub has_type : List ℕ → List ℕ → Bool
+has_type type bytes = starts_with nat_eq bytes MAGIC && starts_with nat_eq (drop TYPE_PLACE bytes) type
 
 -- `ar.h`: an archive begins with a line of text; `mach-o/fat.h`: a universal file with one of two numbers, the highest
 -- byte first
@@ -36,3 +45,11 @@ kind_of bytes =
     if starts_with nat_eq bytes ARCHIVE then Archive
     else if starts_with nat_eq bytes UNIVERSAL || starts_with nat_eq bytes UNIVERSAL_64 then Universal
     else Other
+
+-- THE head of bytes: what they begin as
+unfoldable pub head_of : List ℕ → Head
+head_of bytes =
+    if has_type OBJECT_TYPE bytes then Object
+    else if has_type DYLIB_TYPE bytes then Dylib
+    else if starts_with nat_eq bytes STUB then Stub
+    else Unknown (kind_of bytes)

@@ -1,10 +1,12 @@
 //! Why a run answers no image, or does not write it.
 
 ghost use Rattle.std.specs.Prelude.{◌≡◌};
-ghost use Rattle.wild_macho.specs.Reading.{words_fault, link_fault, input_fault};
+ghost use Rattle.wild_macho.specs.declared.fault.Fault.TheVariants.{OutOfMemory};
+ghost use Rattle.wild_macho.specs.Refused.{words_fault, link_fault, input_fault};
 
 use macho_args::ArgsFault;
 use macho_image::LinkError;
+use std::alloc::AllocError;
 
 /// What a file is that is no input.
 #[derive(Clone, Copy, Debug, PartialEq, Eq)]
@@ -91,5 +93,13 @@ impl Fault {
             LinkError::OutOfMemory => Fault::OutOfMemory,
             error => Fault::Input { word, error },
         }
+    }
+}
+
+impl From<AllocError> for Fault {
+    ghost from_gives = { λ _ fault. fault ≡ OutOfMemory };
+
+    fn from(_error: AllocError) -> Fault {
+        Fault::OutOfMemory
     }
 }

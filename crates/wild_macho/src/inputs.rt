@@ -1,24 +1,30 @@
-//! The inputs of a run: each is read, found to begin as an object, and taken by the linker.
+//! The inputs of a run: each is sought, read, and taken by the linker as its head says.
 
-ghost use Rattle.std.specs.Prelude.{◌≡◌, ℕ, true, [], List, Option, IfOk, IfErr, OnOk, Contains};
-ghost use Rattle.macho_args.specs.Settings.{Settings, settings_of, file};
+ghost use Rattle.std.specs.Prelude.{◌≡◌, ℕ, ◌+◌, ◌-◌, ◌^◌, ◌<◌, [], List, Option, map, length, IfOk, IfErr, OnOk, Some};
+ghost use Rattle.macho_args.specs.Settings.{settings_of, input_of, word_of};
 ghost use Rattle.macho_args.specs.Store.{Store};
-ghost use Rattle.macho_model.specs.Grammar.{IsObject};
-ghost use Rattle.macho_model.specs.Links.{Object};
-ghost use Rattle.macho_image.specs.Linkers.{link_of, with_input};
-ghost use Rattle.wild_macho.specs.Devices.{OnlyReads};
-ghost use Rattle.wild_macho.specs.Faults.{CountsOn};
-ghost use Rattle.wild_macho.specs.Heads.{has_object_head};
-ghost use Rattle.wild_macho.specs.Job.{HeldAt, Links};
-ghost use Rattle.wild_macho.specs.Reading.{IsOneFile};
-ghost use Rattle.wild_macho.specs.Runs.{Failures, JobFails, IsEarly};
+ghost use Rattle.macho_image.specs.Linkers.{link_of, TakesStub};
+ghost use Rattle.wild_macho.specs.declared.heads.Head.TheVariants.{Stub};
+ghost use Rattle.macho_devices.specs.Devices.{OnlyReads};
+ghost use Rattle.macho_devices.specs.Faults.{CountsOn};
+ghost use Rattle.wild_macho.specs.Search.{candidates_of};
+ghost use Rattle.wild_macho.specs.Found.{IsSearched, FailedSince};
+ghost use Rattle.wild_macho.specs.Names.{names_of};
+ghost use Rattle.wild_macho.specs.Causes.{JobFails, BytesRefused, reading};
+ghost use Rattle.wild_macho.specs.Gathering.{TakesFile, TakesBytesOf, BytesFail, InputFails, HaveInputs};
 
 use crate::fault::Fault;
-use crate::file_system::{FileFault, Files};
-use crate::heads::{has_object_head, kind_of};
+use crate::heads::{Head, head_of};
+use crate::names::FileNames;
+use crate::search::{FoundFile, candidates_of, first_held};
 use macho_args::{InputSpec, MachOArgs};
-use macho_image::Linker;
+use macho_devices::{FileFault, Files};
+use macho_image::{InputFault, LinkError, Linker};
+use macho_stub::StubRule;
 use std::alloc::Global;
+
+/// Files have numbers below this.
+pub(crate) const MAX_FILES: u32 = 0xffff_ffff - 1;
 
 /// Reads the inputs of the arguments, and adds them to the linker in the order of their words.
 pub(crate) fn add_inputs<F: Files>(
@@ -26,77 +32,98 @@ pub(crate) fn add_inputs<F: Files>(
     args: &MachOArgs,
     files: &mut F,
     linker: &mut Linker,
+    names: &mut FileNames,
 ) -> Result<(), Fault>
-    requires one { IsOneFile (settings_of args.now).inputs }
     requires empty { linker.old ≡ link_of (settings_of args.now) }
-    ensures added { OnOk result (Links (F.holds files.old) (settings_of args.now) linker.new) }
-    ensures why { IfErr result (λ fault. (old new : Failures)
-        → old.reads ≡ F.faults files.old → new.reads ≡ F.faults files.new → JobFails (settings_of args.now) (F.holds files.old) old new fault) }
-    ensures early { IfErr result IsEarly }
+    requires unnamed { names_of names.old ≡ [] }
+    ensures added { OnOk result (HaveInputs (F.holds files.old) (settings_of args.now) (settings_of args.now).inputs (names_of names.new) linker.new) }
+    ensures why { IfErr result (JobFails (F.holds files.old) (settings_of args.now) (names_of names.new)
+        (reading (F.faults files.old)) (reading (F.faults files.new))) }
     ensures counted { CountsOn (F.faults files.old) (F.faults files.new) }
     ensures kept { OnlyReads F.directories F.canonical_paths F.holds F.write_faults files.old files.new }
 {
-    match args.inputs.first() {
-        Some(InputSpec::File { word, path }) => {
-            let bytes = read_input(alloc, files, *word, path.as_str())?;
-            add_input(linker, *word, bytes)
-        }
-        _ => Ok(()),
+    for spec in &args.inputs {
+        add_input(alloc, args, spec, files, linker, names)?;
     }
+    Ok(())
 }
 
-// The bytes of an input, which begin as an object.
-fn read_input<F: Files>(
+// Reads an input, and adds it to the linker.
+fn add_input<F: Files>(
     alloc: Global,
+    args: &MachOArgs,
+    spec: &InputSpec,
     files: &mut F,
-    word: u32,
-    path: &str,
-) -> Result<Vec<u8>, Fault>
-    ensures held { IfOk result (λ bytes. HeldAt (F.holds files.old) path.now bytes.items) }
-    ensures head { IfOk result (λ bytes. has_object_head bytes.items ≡ true) }
-    ensures why { IfErr result (λ fault. (s : Settings) (old new : Failures) → Contains s.inputs (file word path.now)
-        → old.reads ≡ F.faults files.old → new.reads ≡ F.faults files.new
-        → JobFails s (F.holds files.old) old new fault) }
-    ensures early { IfErr result IsEarly }
+    linker: &mut Linker,
+    names: &mut FileNames,
+) -> Result<(), Fault>
+    ensures added { OnOk result (TakesFile (F.holds files.old) (settings_of args.now) (input_of spec.now)
+        (names_of names.old) (names_of names.new) linker.old linker.new) }
+    ensures why { IfErr result (InputFails (F.holds files.old) (settings_of args.now) (names_of names.new) (input_of spec.now)
+        (F.faults files.old) (F.faults files.new)) }
     ensures counted { CountsOn (F.faults files.old) (F.faults files.new) }
     ensures kept { OnlyReads F.directories F.canonical_paths F.holds F.write_faults files.old files.new }
 {
-    match files.read(alloc, path) {
-        Ok(Some(bytes)) => known_input(word, bytes),
-        Ok(None) => Err(Fault::MissingFile { word }),
-        Err(FileFault::Failed) => Err(Fault::Read { word }),
+    let FoundFile { path, bytes } = find_input(alloc, args, spec, files)?;
+    names.push(path)?;
+    take_input(linker, spec.word(), bytes)
+}
+
+// The file of an input.
+fn find_input<F: Files>(
+    alloc: Global,
+    args: &MachOArgs,
+    spec: &InputSpec,
+    files: &mut F,
+) -> Result<FoundFile, Fault>
+    ensures found { IfOk result (λ found. IsSearched (F.holds files.old) (candidates_of (settings_of args.now) (input_of spec.now)) (Some found)) }
+    ensures why { IfErr result (λ fault. (paths : List (List ℕ)) → InputFails (F.holds files.old) (settings_of args.now) paths (input_of spec.now)
+        (F.faults files.old) (F.faults files.new) fault) }
+    ensures counted { CountsOn (F.faults files.old) (F.faults files.new) }
+    ensures kept { OnlyReads F.directories F.canonical_paths F.holds F.write_faults files.old files.new }
+{
+    let paths = candidates_of(alloc, args, spec)?;
+    match first_held(alloc, files, &paths) {
+        Ok(Some(found)) => Ok(found),
+        Ok(None) => Err(Fault::MissingFile { word: spec.word() }),
+        Err(FileFault::Failed) => Err(Fault::Read { word: spec.word() }),
         Err(FileFault::OutOfMemory) => Err(Fault::OutOfMemory),
     }
 }
 
-// The same bytes, where they begin as an object.
-fn known_input(word: u32, bytes: Vec<u8>) -> Result<Vec<u8>, Fault>
-    ensures same { IfOk result (λ known. known.items ≡ bytes.items) }
-    ensures head { OnOk result (has_object_head bytes.items ≡ true) }
-    ensures why { IfErr result (λ fault. (s : Settings) (told : Option Store) (old new : Failures) (path : List ℕ)
-        → Contains s.inputs (file word path) → HeldAt told path bytes.items → JobFails s told old new fault) }
-    ensures early { IfErr result IsEarly }
+// Adds the bytes of an input, by their head. Memory ends before the numbers of files do.
+fn take_input(linker: &mut Linker, word: u32, bytes: Vec<u8>) -> Result<(), Fault>
+    ensures added { OnOk result (TakesBytesOf bytes.items linker.old linker.new) }
+    ensures why { IfErr result (BytesFail word bytes.items) }
 {
-    if has_object_head(&bytes) {
-        Ok(bytes)
-    } else {
-        let kind = kind_of(&bytes);
-        Err(Fault::UnknownKind { word, kind })
+    if linker.num_inputs() >= MAX_FILES {
+        return Err(Fault::OutOfMemory);
+    }
+    let added = match head_of(&bytes) {
+        Head::Object => linker.add_object(bytes),
+        Head::Dylib => linker.add_dylib(bytes),
+        Head::Stub => add_text(linker, bytes),
+        Head::Unknown(kind) => return Err(Fault::UnknownKind { word, kind }),
+    };
+    match added {
+        Ok(_) => Ok(()),
+        Err(error) => Err(Fault::of_input(word, error)),
     }
 }
 
-// Adds an input that begins as an object.
-fn add_input(linker: &mut Linker, word: u32, bytes: Vec<u8>) -> Result<(), Fault>
-    requires first { linker.old.inputs ≡ [] }
-    requires head { has_object_head bytes.items ≡ true }
-    ensures added { OnOk result (linker.new ≡ with_input linker.old (Object bytes.items)) }
-    ensures found { OnOk result (IsObject bytes.items) }
-    ensures why { IfErr result (λ fault. (s : Settings) (told : Option Store) (old new : Failures) (path : List ℕ)
-        → Contains s.inputs (file word path) → HeldAt told path bytes.items → JobFails s told old new fault) }
-    ensures early { IfErr result IsEarly }
+// Adds the bytes of a stub: they are text, or break the first rule of stubs in line 1.
+fn add_text(linker: &mut Linker, bytes: Vec<u8>) -> Result<u32, LinkError>
+    requires few { length linker.old.inputs < 2 ^ 32 - 1 }
+    ensures added { OnOk result (TakesStub linker.old linker.new bytes.items) }
+    ensures why { IfErr result (BytesRefused Stub bytes.items) }
 {
-    match linker.add_object(bytes) {
-        Ok(_) => Ok(()),
-        Err(error) => Err(Fault::of_input(word, error)),
+    match String::from_utf8(bytes) {
+        Ok(text) => linker.add_stub(text),
+        Err(_) => Err(LinkError::BadInput {
+            fault: InputFault::Stub {
+                line: 1,
+                rule: StubRule::S1,
+            },
+        }),
     }
 }

@@ -1,77 +1,134 @@
-//! The line that a fault is printed as.
+//! The line of a fault.
 //!
-//! It is printed in pieces, so that printing takes no memory. The line of a word that is unknown is
-//! `wild_macho: bad word 0: Unknown`.
+//! It is printed in pieces, without memory: that of a word that is unknown is `wild_macho: bad word 0: Unknown`.
+
+ghost use Rattle.std.specs.Prelude.{◌≡◌, ◌++◌, ◌==◌, [], ◌∷◌, map, codes, decimal, find};
+ghost use Rattle.std.specs.Option.{option_copied};
+ghost use Rattle.std.specs.String.{string_bytes};
+ghost use Rattle.macho_args.specs.Settings.{input_of, word_of};
+ghost use Rattle.macho_devices.specs.Faults.{CountsOn};
+ghost use Rattle.wild_macho.specs.Lines.{line_of, fault_text, fault_word, fault_kind, error_text, object_rule, stub_rule, part_name, name_of_input, word_name};
+ghost use Rattle.wild_macho.specs.Lines.{relocation_text, site_text};
+ghost use Rattle.wild_macho.specs.Names.{names_of};
+ghost use Rattle.wild_macho.specs.Printing.{IsPrinted, IsTold};
 
 use crate::fault::Fault;
-use crate::output::{Sink, SinkFault};
-use macho_args::ArgsFault;
-use macho_image::{InputFault, LinkError};
+use crate::names::FileNames;
+use crate::pieces::{Piece, print_pieces};
+use macho_args::{ArgsFault, InputSpec};
+use macho_devices::{Sink, SinkFault};
+use macho_image::{InputFault, LinkError, Unbuilt};
 use macho_model::Site;
 use macho_object::ObjectRule;
+use macho_stub::StubRule;
 
-/// How many digits the longest number has.
-const MAX_DIGITS: usize = 20;
-
-/// Prints the fault's line. Where the sink fails, nothing more is printed.
-pub(crate) fn print_fault<E: Sink>(err: &mut E, words: &[String], fault: &Fault) {
-    let _ = print_line(err, words, fault);
-}
-
-fn print_line<E: Sink>(err: &mut E, words: &[String], fault: &Fault) -> Result<(), SinkFault> {
-    err.write(b"wild_macho: ")?;
-    print_text(err, words, fault)?;
-    err.write(b"\n")
-}
-
-fn print_text<E: Sink>(err: &mut E, words: &[String], fault: &Fault) -> Result<(), SinkFault> {
-    match fault {
-        Fault::MissingFile { word } => print_named(err, b"cannot find ", words, *word, b""),
-        Fault::Read { word } => print_named(err, b"cannot read ", words, *word, b""),
-        Fault::UnknownKind { word, .. } => {
-            let text = b": not an arm64 object, dynamic library or stub";
-            print_named(err, b"", words, *word, text)
-        }
-        Fault::Input { word, error } => print_input(err, words, *word, error),
-        Fault::Link { error } => print_link(err, words, error),
-        Fault::Words { fault } => print_bad_word(err, *fault),
-        Fault::Write => err.write(b"cannot write the output"),
-        Fault::Print => err.write(b"cannot print"),
-        Fault::OutOfMemory => err.write(b"out of memory"),
-    }
-}
-
-// A text, the word of an index, and a text.
-fn print_named<E: Sink>(
+/// Prints the fault's line, with the inputs and lists that were asked for, and the paths of the files. Where the sink fails, nothing
+/// more is printed.
+pub(crate) fn print_fault<E: Sink>(
     err: &mut E,
-    front: &[u8],
-    words: &[String],
-    word: u32,
-    back: &[u8],
-) -> Result<(), SinkFault> {
-    err.write(front)?;
-    if let Some(name) = words.get(word as usize) {
-        err.write(name.as_bytes())?;
-    }
-    err.write(back)
+    inputs: &[InputSpec],
+    lists: &[(u32, String)],
+    names: &FileNames,
+    fault: &Fault,
+)
+    ensures counted { CountsOn (E.faults err.old) (E.faults err.new) }
+{
+    let _ = print_line(err, inputs, lists, names, fault);
 }
 
-// A number in decimal digits, from the last to the first.
-fn print_number<E: Sink>(err: &mut E, number: u64) -> Result<(), SinkFault> {
-    let mut digits = [b'0'; MAX_DIGITS];
-    let mut rest = number;
-    for place in (0..MAX_DIGITS).rev() {
-        digits[place] = b'0' + (rest % 10) as u8;
-        rest /= 10;
-        if rest == 0 {
-            return err.write(&digits[place..]);
+fn print_line<E: Sink>(
+    err: &mut E,
+    inputs: &[InputSpec],
+    lists: &[(u32, String)],
+    names: &FileNames,
+    fault: &Fault,
+) -> Result<(), SinkFault>
+    ensures counted { CountsOn (E.faults err.old) (E.faults err.new) }
+{
+    match fault {
+        Fault::Words { fault } => print_bad_word(err, *fault),
+        Fault::MissingFile { word } => {
+            let name = word_name(inputs, lists, *word);
+            print_named(err, b"cannot find ", name, b"")
         }
+        Fault::Read { word } => {
+            let name = word_name(inputs, lists, *word);
+            print_named(err, b"cannot read ", name, b"")
+        }
+        Fault::UnknownKind { word, .. } => {
+            let name = word_name(inputs, lists, *word);
+            print_named(err, b"", name, b": not an arm64 object, dynamic library or stub")
+        }
+        Fault::Input { error, .. } => print_error(err, names, error),
+        Fault::Link { error } => print_error(err, names, error),
+        Fault::Write => print_text(err, b"cannot write the output"),
+        Fault::Print => print_text(err, b"cannot print"),
+        Fault::OutOfMemory => print_text(err, b"out of memory"),
     }
-    Ok(())
 }
 
-fn print_bad_word<E: Sink>(err: &mut E, fault: ArgsFault) -> Result<(), SinkFault> {
-    let (word, kind): (u32, &[u8]) = match fault {
+// The name of an input's word.
+fn name_of_input(spec: &InputSpec) -> &[u8]
+    ensures { result.now ≡ name_of_input (input_of spec.now) }
+{
+    match spec {
+        InputSpec::File { path, .. } => path.as_bytes(),
+        InputSpec::Lib { name, .. } => name.as_bytes(),
+        InputSpec::Framework { name, .. } => name.as_bytes(),
+    }
+}
+
+fn input_of_word(inputs: &[InputSpec], word: u32) -> Option<&InputSpec>
+    ensures { option_copied result ≡ find (λ spec. word_of (input_of spec) == word) inputs.now }
+{
+    inputs.iter().find(|spec| spec.word() == word)
+}
+
+fn list_of_word(lists: &[(u32, String)], word: u32) -> Option<&(u32, String)>
+    ensures { option_copied result ≡ find (λ list. list.0 == word) lists.now }
+{
+    lists.iter().find(|list| list.0 == word)
+}
+
+// What is told of a word.
+fn word_name<'a>(inputs: &'a [InputSpec], lists: &'a [(u32, String)], word: u32) -> &'a [u8]
+{
+    match input_of_word(inputs, word) {
+        Some(spec) => name_of_input(spec),
+        None => match list_of_word(lists, word) {
+            Some(list) => list.1.as_bytes(),
+            None => b"",
+        },
+    }
+}
+
+fn print_text<E: Sink>(err: &mut E, text: &'static [u8]) -> Result<(), SinkFault>
+    ensures { IsPrinted (E.taken err.old) (E.taken err.new) (E.faults err.old) (E.faults err.new) (line_of (text.now ∷ [])) result }
+{
+    print_pieces(err, &[Piece::Text(b"wild_macho: "), Piece::Text(text), Piece::Text(b"\n")])
+}
+
+// A text, a name, and a text.
+fn print_named<E: Sink>(err: &mut E, front: &'static [u8], name: &[u8], back: &'static [u8]) -> Result<(), SinkFault>
+    ensures { IsPrinted (E.taken err.old) (E.taken err.new) (E.faults err.old) (E.faults err.new)
+        (line_of (front.now ∷ name.now ∷ back.now ∷ [])) result }
+{
+    let pieces = [
+        Piece::Text(b"wild_macho: "),
+        Piece::Text(front),
+        Piece::Text(name),
+        Piece::Text(back),
+        Piece::Text(b"\n"),
+    ];
+    print_pieces(err, &pieces)
+}
+
+// The word of a word's fault, and the name of the fault.
+fn kind_of_word(fault: ArgsFault) -> (u32, &'static [u8])
+    ensures word { result.0 ≡ fault_word fault }
+    ensures kind { result.1.now ≡ fault_kind fault }
+{
+    match fault {
         ArgsFault::MissingValue { word } => (word, b"MissingValue"),
         ArgsFault::Unknown { word } => (word, b"Unknown"),
         ArgsFault::Unsupported { word } => (word, b"Unsupported"),
@@ -80,36 +137,135 @@ fn print_bad_word<E: Sink>(err: &mut E, fault: ArgsFault) -> Result<(), SinkFaul
         ArgsFault::BadArch { word } => (word, b"BadArch"),
         ArgsFault::BadUuid { word } => (word, b"BadUuid"),
         ArgsFault::BadNumber { word } => (word, b"BadNumber"),
-        ArgsFault::OutOfMemory => return err.write(b"out of memory"),
-    };
-    err.write(b"bad word ")?;
-    print_number(err, u64::from(word))?;
-    err.write(b": ")?;
-    err.write(kind)
-}
-
-// The rule that an input breaks, and where.
-fn print_input<E: Sink>(
-    err: &mut E,
-    words: &[String],
-    word: u32,
-    error: &LinkError,
-) -> Result<(), SinkFault> {
-    match error {
-        LinkError::BadInput {
-            fault: InputFault::Object(fault),
-        } => {
-            print_named(err, b"", words, word, b": rule ")?;
-            err.write(rule_name(fault.rule))?;
-            err.write(b" at ")?;
-            print_number(err, fault.place)
-        }
-        error => print_link(err, words, error),
+        ArgsFault::OutOfMemory => (0, b"OutOfMemory"),
     }
 }
 
-fn rule_name(rule: ObjectRule) -> &'static [u8] {
-    match rule {
+fn print_bad_word<E: Sink>(err: &mut E, fault: ArgsFault) -> Result<(), SinkFault>
+    ensures counted { CountsOn (E.faults err.old) (E.faults err.new) }
+{
+    let (word, kind) = kind_of_word(fault);
+    print_numbered(err, b"bad word ", u64::from(word), b": ", kind)
+}
+
+// A text, a number, a text and a text.
+fn print_numbered<E: Sink>(
+    err: &mut E,
+    front: &'static [u8],
+    number: u64,
+    middle: &'static [u8],
+    back: &'static [u8],
+) -> Result<(), SinkFault>
+    ensures { IsPrinted (E.taken err.old) (E.taken err.new) (E.faults err.old) (E.faults err.new)
+        (line_of (front.now ∷ decimal number ∷ middle.now ∷ back.now ∷ [])) result }
+{
+    let pieces = [
+        Piece::Text(b"wild_macho: "),
+        Piece::Text(front),
+        Piece::Number(number),
+        Piece::Text(middle),
+        Piece::Text(back),
+        Piece::Text(b"\n"),
+    ];
+    print_pieces(err, &pieces)
+}
+
+fn print_error<E: Sink>(err: &mut E, names: &FileNames, error: &LinkError) -> Result<(), SinkFault>
+    ensures counted { CountsOn (E.faults err.old) (E.faults err.new) }
+{
+    match error {
+        LinkError::EntryNotDefined { name } => {
+            print_named(err, b"entry symbol ", name.as_slice(), b" is not defined")
+        }
+        LinkError::UnsupportedRelocation { file, section, relocation } => {
+            print_relocation(err, names.path(*file), *section, *relocation, b"unsupported")
+        }
+        LinkError::RelocationRange { at, .. } => print_site(err, names, *at, b"out of range"),
+        LinkError::BadName => print_text(err, b"bad name"),
+        LinkError::BadInput { fault: InputFault::Object(fault) } => {
+            print_rule(err, names.last(), object_rule(fault.rule), fault.place)
+        }
+        LinkError::BadInput { fault: InputFault::Stub { line, rule } } => {
+            print_rule(err, names.last(), stub_rule(*rule), *line)
+        }
+        LinkError::Unbuilt { what } => print_unbuilt(err, names.path(0), part_name(*what)),
+        LinkError::OutOfMemory => print_text(err, b"out of memory"),
+    }
+}
+
+// A place in the image, and what is wrong there.
+fn print_site<E: Sink>(err: &mut E, names: &FileNames, at: Site, text: &'static [u8]) -> Result<(), SinkFault>
+    ensures counted { CountsOn (E.faults err.old) (E.faults err.new) }
+{
+    match at {
+        Site::Field { file, section, relocation } => {
+            print_relocation(err, names.path(file), section, relocation, text)
+        }
+        Site::Slot { index } => print_numbered(err, b"slot ", u64::from(index), b": ", text),
+        Site::Stub { index } => print_numbered(err, b"stub ", u64::from(index), b": ", text),
+    }
+}
+
+// A relocation of a file, and what is wrong with it.
+fn print_relocation<E: Sink>(
+    err: &mut E,
+    file: &[u8],
+    section: u32,
+    relocation: u32,
+    text: &'static [u8],
+) -> Result<(), SinkFault>
+    ensures counted { CountsOn (E.faults err.old) (E.faults err.new) }
+{
+    let pieces = [
+        Piece::Text(b"wild_macho: "),
+        Piece::Text(file),
+        Piece::Text(b": section "),
+        Piece::Number(u64::from(section)),
+        Piece::Text(b", relocation "),
+        Piece::Number(u64::from(relocation)),
+        Piece::Text(b": "),
+        Piece::Text(text),
+        Piece::Text(b"\n"),
+    ];
+    print_pieces(err, &pieces)
+}
+
+// The rule that a file breaks, and where.
+fn print_rule<E: Sink>(err: &mut E, file: &[u8], rule: &'static [u8], place: u64) -> Result<(), SinkFault>
+    ensures { IsPrinted (E.taken err.old) (E.taken err.new) (E.faults err.old) (E.faults err.new)
+        (line_of (file.now ∷ codes ": rule " ∷ rule.now ∷ codes " at " ∷ decimal place ∷ [])) result }
+{
+    let pieces = [
+        Piece::Text(b"wild_macho: "),
+        Piece::Text(file),
+        Piece::Text(b": rule "),
+        Piece::Text(rule),
+        Piece::Text(b" at "),
+        Piece::Number(place),
+        Piece::Text(b"\n"),
+    ];
+    print_pieces(err, &pieces)
+}
+
+// The part that isn't built yet, and that a file asks for.
+fn print_unbuilt<E: Sink>(err: &mut E, file: &[u8], part: &'static [u8]) -> Result<(), SinkFault>
+    ensures { IsPrinted (E.taken err.old) (E.taken err.new) (E.faults err.old) (E.faults err.new)
+        (line_of (file.now ∷ codes ": not built yet: " ∷ part.now ∷ [])) result }
+{
+    let pieces = [
+        Piece::Text(b"wild_macho: "),
+        Piece::Text(file),
+        Piece::Text(b": not built yet: "),
+        Piece::Text(part),
+        Piece::Text(b"\n"),
+    ];
+    print_pieces(err, &pieces)
+}
+
+fn object_rule(of: ObjectRule) -> &'static [u8]
+    ensures { result.now ≡ object_rule of }
+{
+    match of {
         ObjectRule::O1 => b"O1",
         ObjectRule::O2 => b"O2",
         ObjectRule::O3 => b"O3",
@@ -127,83 +283,38 @@ fn rule_name(rule: ObjectRule) -> &'static [u8] {
     }
 }
 
-fn print_link<E: Sink>(err: &mut E, words: &[String], error: &LinkError) -> Result<(), SinkFault> {
-    match error {
-        LinkError::EntryNotDefined { name } => {
-            err.write(b"entry symbol ")?;
-            err.write(name.as_slice())?;
-            err.write(b" is not defined")
-        }
-        LinkError::UnsupportedRelocation {
-            section,
-            relocation,
-            ..
-        } => print_relocation(err, words, *section, *relocation, b"unsupported"),
-        LinkError::RelocationRange { at, .. } => print_site(err, words, *at, b"out of range"),
-        LinkError::BadName => err.write(b"bad name"),
-        LinkError::BadInput { .. } => print_file(err, words, b": bad input"),
-        LinkError::Unbuilt { .. } => print_file(err, words, b": not built yet"),
-        LinkError::OutOfMemory => err.write(b"out of memory"),
+fn stub_rule(of: StubRule) -> &'static [u8]
+    ensures { result.now ≡ stub_rule of }
+{
+    match of {
+        StubRule::S1 => b"S1",
+        StubRule::S2 => b"S2",
+        StubRule::S3 => b"S3",
+        StubRule::S4 => b"S4",
+        StubRule::S5 => b"S5",
+        StubRule::S6 => b"S6",
+        StubRule::S7 => b"S7",
+        StubRule::S8 => b"S8",
+        StubRule::S9 => b"S9",
     }
 }
 
-// A place in the image, and what is wrong there.
-fn print_site<E: Sink>(
-    err: &mut E,
-    words: &[String],
-    at: Site,
-    text: &[u8],
-) -> Result<(), SinkFault> {
-    let (kind, index): (&[u8], u32) = match at {
-        Site::Field {
-            section,
-            relocation,
-            ..
-        } => return print_relocation(err, words, section, relocation, text),
-        Site::Slot { index } => (b"slot ", index),
-        Site::Stub { index } => (b"stub ", index),
-    };
-    err.write(kind)?;
-    print_number(err, u64::from(index))?;
-    err.write(b": ")?;
-    err.write(text)
-}
-
-// A relocation of the input, and what is wrong with it.
-fn print_relocation<E: Sink>(
-    err: &mut E,
-    words: &[String],
-    section: u32,
-    relocation: u32,
-    text: &[u8],
-) -> Result<(), SinkFault> {
-    print_file(err, words, b": section ")?;
-    print_number(err, u64::from(section))?;
-    err.write(b", relocation ")?;
-    print_number(err, u64::from(relocation))?;
-    err.write(b": ")?;
-    err.write(text)
-}
-
-// The path of the input, and a text.
-fn print_file<E: Sink>(err: &mut E, words: &[String], text: &[u8]) -> Result<(), SinkFault> {
-    if let Some(path) = input_path(words) {
-        err.write(path.as_bytes())?;
+fn part_name(of: Unbuilt) -> &'static [u8]
+    ensures { result.now ≡ part_name of }
+{
+    match of {
+        Unbuilt::Relocation => b"relocations",
+        Unbuilt::Name => b"names of several definitions or of other files",
+        Unbuilt::Segment => b"other segments, zero-filled sections and commons",
+        Unbuilt::Size => b"over 255 sections or 64 MiB",
+        Unbuilt::Input => b"several inputs",
+        Unbuilt::Library => b"libraries",
+        Unbuilt::ExportList => b"export lists",
+        Unbuilt::RunPath => b"run paths",
+        Unbuilt::Versions => b"platform versions",
+        Unbuilt::Padding => b"room for longer names",
+        Unbuilt::Dylib => b"dynamic libraries as output",
+        Unbuilt::Initializer => b"initializers",
+        Unbuilt::Unwind => b"unwind entries",
     }
-    err.write(text)
-}
-
-// The first word that is no `-o` and stands behind none.
-fn input_path(words: &[String]) -> Option<&str> {
-    let mut is_value = false;
-    for word in words {
-        if is_value {
-            is_value = false;
-        } else if word.as_str() == "-o" {
-            is_value = true;
-        } else {
-            return Some(word.as_str());
-        }
-    }
-    None
 }

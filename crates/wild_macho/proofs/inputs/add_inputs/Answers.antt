@@ -1,34 +1,29 @@
--- The only input is read, and added.
-use Rattle.std.proofs.lemmas.Result.{IfErr-weaker, err_from_is_err_and}
-use Rattle.macho_args.specs.Settings.{settings_of}
-use Rattle.wild_macho.proofs.Jobs.{only-path, among, links-one, on_ok-both}
+-- Input by input.
+use Rattle.std.proofs.Common.{rules}
+use Rattle.std.proofs.lemmas.Result.{err_from_is_err_and}
+use Rattle.macho_args.specs.Settings.{settings_of, input_of}
+use Rattle.macho_args.specs.declared.fields.InputSpec.{InputSpec}
+use Rattle.macho_devices.specs.Devices.{OnlyReads}
+use Rattle.wild_macho.specs.Names.{names_of}
+use Rattle.wild_macho.proofs.Gathers.{no-inputs, inputs-more, input-fails, seen-item}
 use Rattle.wild_macho.proofs.inputs.add_inputs.Goals as goal
 
-pub returns-in_err-bytes-in-Some-File-clause-why : goal.returns-in_err-bytes-in-Some-File-clause-why
-returns-in_err-bytes-in-Some-File-clause-why g c =
-    let only = only-path c.args.args.now.inputs.items c.deref.result.now c.in-Some-File.field-0.now c.in-Some-File.word
-    c.in-Some-File.path c.as_str.result.now c.requires.one c.deref.ensures.value c.in-Some-File.ensures.value
-    c.in-Some-File.field-0-is c.as_str.ensures.value in
+pub loop-spec-init : goal.loop-spec-init
+loop-spec-init g c =
+    (no-inputs (g.F.Paths.holds c.args.files.now) (settings_of c.args.args.now) (names_of c.args.names.now) c.args.linker.now c.requires.empty c.requires.unnamed,
+    search rules, search rules)
+
+pub returns-in_err-add_input-clause-why : goal.returns-in_err-add_input-clause-why
+returns-in_err-add_input-clause-why g c =
     let p = err_from_is_err_and c.from_residual.result c.from_residual.ensures.1 in
-    rw (p.1, p.2) (λ old new olds news.
-    c.in_err-bytes-in-Some-File.ensures.why (settings_of c.args.args.now) old new (among _ _ only) olds news)
+    let among = rw c.deref-spec-items.ensures.value at (seen-item input_of c.deref-spec-items.result.now c.loop-spec.spec-index c.spec-item.result c.loop-spec-test.true c.spec-item.is) in
+    rw (p.1, p.2) (input-fails (g.F.Paths.holds c.args.files.now) (g.F.Paths.holds c.loop-spec.files) (settings_of c.args.args.now)
+    (names_of c.add_input.new.names) (input_of c.spec-item.result) _ _ _ _ c.loop-spec.invariant.2.same_files among c.loop-spec.invariant.1
+    c.add_input.ensures.counted c.in_err-add_input.ensures.why)
 
-pub returns-in_ok-bytes-in-Some-File-clause-added : goal.returns-in_ok-bytes-in-Some-File-clause-added
-returns-in_ok-bytes-in-Some-File-clause-added g c =
-    let only = only-path c.args.args.now.inputs.items c.deref.result.now c.in-Some-File.field-0.now c.in-Some-File.word
-    c.in-Some-File.path c.as_str.result.now c.requires.one c.deref.ensures.value c.in-Some-File.ensures.value
-    c.in-Some-File.field-0-is c.as_str.ensures.value in
-    on_ok-both c.add_input.result (λ added object.
-    links-one (g.F.Paths.holds c.args.files.now) (settings_of c.args.args.now) c.args.linker.now c.add_input.new.linker
-    c.in-Some-File.word c.as_str.result.now c.in_ok-bytes-in-Some-File.bytes.items only c.requires.empty added
-    c.in_ok-bytes-in-Some-File.ensures.held c.in_ok-bytes-in-Some-File.ensures.head object)
-    c.add_input.ensures.added c.add_input.ensures.found
-
-pub returns-in_ok-bytes-in-Some-File-clause-why : goal.returns-in_ok-bytes-in-Some-File-clause-why
-returns-in_ok-bytes-in-Some-File-clause-why g c =
-    let only = only-path c.args.args.now.inputs.items c.deref.result.now c.in-Some-File.field-0.now c.in-Some-File.word
-    c.in-Some-File.path c.as_str.result.now c.requires.one c.deref.ensures.value c.in-Some-File.ensures.value
-    c.in-Some-File.field-0-is c.as_str.ensures.value in
-    IfErr-weaker c.add_input.result _ _ (λ fault why old new olds news.
-    why (settings_of c.args.args.now) (g.F.Paths.holds c.args.files.now) old new c.as_str.result.now (among _ _ only)
-    c.in_ok-bytes-in-Some-File.ensures.held) c.add_input.ensures.why
+pub loop-spec-preserved : goal.loop-spec-preserved
+loop-spec-preserved g c =
+    (inputs-more (g.F.Paths.holds c.args.files.now) (g.F.Paths.holds c.loop-spec.files) (settings_of c.args.args.now) c.args.args.now.inputs.items
+    c.loop-spec.spec-index c.spec-item.result (names_of c.loop-spec.names) (names_of c.add_input.new.names) c.loop-spec.linker c.add_input.new.linker
+    c.loop-spec.invariant.2.same_files (rw c.deref-spec-items.ensures.value at c.loop-spec-test.true) (rw c.deref-spec-items.ensures.value at c.spec-item.is)
+    c.loop-spec.invariant.0 c.in_ok-add_input.ensures.added, search rules, search rules)
