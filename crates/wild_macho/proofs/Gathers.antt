@@ -4,26 +4,25 @@
 -- stands behind those before it: the files are one more, the link has its input last, and the paths end with its own. What
 -- refused it is the cause of a fault of the whole: the input is among those that were asked for, and a count that rose in this
 -- call rose since the first, since no count falls.
-use Rattle.std.proofs.Common.{◌≡◌, ℕ, suc, ◌+◌, ◌<◌, ◌≤◌, ◌⊎◌, inl, inr, arith, refl, ap, sym, subst, ◌∙◌, List, [], ◌∷◌, ◌++◌, map, take, drop, length, get_or, All, Option, Some, None, String, Contains, Result, Ok, Err, OnOk, IfOk, IfErr}
+use Rattle.std.proofs.Common.{◌≡◌, ℕ, suc, ◌+◌, ◌<◌, ◌≤◌, inl, inr, arith, ap, sym, subst, ◌∙◌, List, [], ◌∷◌, ◌++◌, map, take, drop, length, get_or, All, Option, Some, None, String, Contains, Result, Ok, Err, OnOk}
 use Rattle.std.proofs.Math.Seq.{drop-cons}
 use Rattle.std.proofs.lemmas.Bool.{cases_lt}
 use Rattle.std.proofs.lemmas.List.{take-append-drop, take_all, map-append, map_more, get_or-map, length-map}
 use Rattle.std.proofs.lemmas.Slice.Zip.{all_zipped_more}
 use Rattle.std.specs.List.{AllZip}
 use Rattle.std.specs.String.{string_bytes}
-use Rattle.macho_args.specs.Settings.{Settings, Input, input_of, word_of}
+use Rattle.macho_args.specs.Settings.{Settings, Input, input_of}
 use Rattle.macho_args.specs.Store.{Store}
 use Rattle.macho_args.specs.declared.fields.InputSpec.{InputSpec}
 use Rattle.macho_model.specs.Links.{Link}
 use Rattle.macho_model.specs.Links as model
 use Rattle.macho_image.specs.Linkers.{link_of, with_input, with_export_list}
-use Rattle.macho_image.specs.declared.fault.LinkError.{LinkError}
 use Rattle.macho_devices.specs.Devices.{ReadsFile}
-use Rattle.macho_devices.specs.Faults.{CountsOn, CountRose, last_count}
+use Rattle.macho_devices.specs.Faults.{CountsOn, CountRose}
 use Rattle.wild_macho.specs.declared.fault.Fault.{Fault}
 use Rattle.wild_macho.specs.declared.fault.Fault.TheVariants as fault
 use Rattle.wild_macho.specs.Search.{candidates_of, HeldAt, IsMissing, IsFirstHeld}
-use Rattle.wild_macho.specs.Job.{SourceFile, IsInput, IsTaken, IsListed, AreFiles, Links, linking}
+use Rattle.wild_macho.specs.Job.{SourceFile, IsTaken, IsListed}
 use Rattle.wild_macho.specs.Causes.{JobFails, reading}
 use Rattle.wild_macho.specs.Gathering.{TakesFile, TakesBytesOf, InputFails, ListFails, Gathered, HaveInputs, HaveLists}
 
@@ -125,7 +124,7 @@ pub rose-since : (old mid new : ℕ) → CountsOn old mid → CountsOn mid new �
 rose-since old mid new before after (inl rose) = inl (omega (arith, before.never_falls, rose))
 rose-since old mid new before after (inr stood) =
     elim (cases_lt old new) [
-      inl below ↦ inl below
+      | inl below ↦ inl below
       | inr above ↦ inr (omega (arith, before.never_falls, after.never_falls, stood, above))
     ]
 

@@ -2,7 +2,7 @@
 --
 -- What is gathered is what the settings link; its refusal is theirs. A fault that comes before the image is written is no failed
 -- write and no failed print, since neither count has risen there.
-use Rattle.std.proofs.Common.{◌≡◌, ℕ, ◌<◌, ◌⊎◌, inl, inr, arith, refl, ap, sym, subst, ◌∙◌, List, [], Option, Some, None}
+use Rattle.std.proofs.Common.{◌≡◌, ℕ, ◌<◌, ◌⊎◌, inl, inr, arith, refl, sym, subst, List, Option, Some, None}
 use Rattle.macho_args.specs.Settings.{Settings}
 use Rattle.macho_args.specs.Store.{Store}
 use Rattle.macho_model.specs.Links.{Link}
@@ -10,11 +10,11 @@ use Rattle.macho_image.specs.declared.fault.LinkError.{LinkError}
 use Rattle.macho_image.specs.declared.fault.LinkError.TheVariants as error
 use Rattle.macho_image.specs.Refusals.{RefusalStands}
 use Rattle.macho_image.specs.Linked.{IsImageOf}
-use Rattle.macho_devices.specs.Faults.{CountsOn, CountRose, last_count}
+use Rattle.macho_devices.specs.Faults.{CountsOn, last_count}
 use Rattle.wild_macho.proofs.Gathers.{rose-since}
 use Rattle.wild_macho.specs.declared.fault.Fault.{Fault}
 use Rattle.wild_macho.specs.declared.fault.Fault.TheVariants as fault
-use Rattle.wild_macho.specs.Causes.{Failures, failures, reading, JobFails}
+use Rattle.wild_macho.specs.Causes.{failures, reading, JobFails}
 use Rattle.wild_macho.specs.Gathering.{HaveLists}
 use Rattle.wild_macho.specs.Job.{Links}
 use Rattle.std.specs.Prelude.{MatchOption, IfSome}

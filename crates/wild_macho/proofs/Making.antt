@@ -2,7 +2,7 @@
 --
 -- One object more stands behind those before it, and its path behind theirs. When all are made, the link has them in order and
 -- nothing else, under their paths: what is asked of the files where objects are made.
-use Rattle.std.proofs.Common.{◌≡◌, ℕ, ◌+◌, ◌<◌, ◌≤◌, inl, inr, arith, refl, ap, sym, subst, ◌∙◌, List, [], ◌∷◌, ◌++◌, map, append_assoc, Option, Some, Result, Ok, Err, IfErr}
+use Rattle.std.proofs.Common.{◌≡◌, ℕ, ◌+◌, ◌<◌, ◌≤◌, inl, inr, arith, refl, ap, sym, subst, ◌∙◌, List, [], ◌∷◌, ◌++◌, map, append_assoc, Option, Some}
 use Rattle.std.specs.List.{range_with_len}
 use Rattle.std.proofs.lemmas.List.FromFn.{map-range_with_len_more}
 use Rattle.std.proofs.lemmas.Simd.{map-map}
@@ -39,7 +39,7 @@ made-more start l m n i so_far takes =
 pub objects-more : (n i : ℕ) → ((k : ℕ) → k < i → IsObject (generated_object k n)) → IsObject (generated_object i n) → (k : ℕ) → k < i + 1 → IsObject (generated_object k n)
 objects-more n i before this k below =
     elim (cases_lt k i) [
-      inl less ↦ before k less
+      | inl less ↦ before k less
       | inr more ↦ subst (λ (j : ℕ). IsObject (generated_object j n)) (let same : i ≡ k = omega (arith, below, more) in same) this
     ]
 

@@ -1,9 +1,9 @@
 -- When each fault of a run may come, and the status that it ends with.
-use Rattle.std.specs.Prelude.{◌≡◌, ℕ, ◌+◌, ◌<◌, ◌⊎◌, true, List, [], ◌∷◌, ◌++◌, length, Contains, Option, None, Some, All, IsUtf8}
+use Rattle.std.specs.Prelude.{◌≡◌, ℕ, ◌<◌, ◌⊎◌, true, List, [], ◌∷◌, ◌++◌, Contains, Option, None, Some, All, IsUtf8}
 use Rattle.macho_args.specs.Settings as args
 use Rattle.macho_args.specs.Settings.{Settings, word_of}
 use Rattle.macho_args.specs.Store.{Store}
-use Rattle.macho_args.specs.SearchPaths.{IsParsed, IsRefused}
+use Rattle.macho_args.specs.SearchPaths.{IsRefused}
 use Rattle.macho_model.specs.Links.{Link}
 use Rattle.macho_model.specs.Faults.{bad_name}
 use Rattle.macho_image.specs.declared.fault.LinkError.{LinkError}
@@ -20,7 +20,7 @@ use Rattle.wild_macho.specs.declared.heads.Head.TheVariants as head
 use Rattle.wild_macho.specs.Heads.{head_of}
 use Rattle.wild_macho.specs.Search.{candidates_of, IsMissing, IsFirstHeld}
 use Rattle.wild_macho.specs.Generator.{generated_object, generated_path}
-use Rattle.wild_macho.specs.Job.{Outside, Links}
+use Rattle.wild_macho.specs.Job.{Links}
 
 -- the status that a run ends with
 abbrev pub status_of : Option Fault → ℕ

@@ -1,5 +1,5 @@
 -- What is known while the files of a link are gathered.
-use Rattle.std.specs.Prelude.{◌≡◌, ℕ, ◌<◌, List, [], ◌∷◌, ◌++◌, map, Option, All}
+use Rattle.std.specs.Prelude.{◌≡◌, ℕ, List, [], ◌∷◌, ◌++◌, map, Option, All}
 use Rattle.std.specs.List.{AllZip}
 use Rattle.macho_args.specs.Settings as args
 use Rattle.macho_args.specs.Settings.{Settings, word_of}
@@ -8,7 +8,7 @@ use Rattle.macho_model.specs.Links.{Link, Input}
 use Rattle.macho_image.specs.Linkers.{with_input}
 use Rattle.macho_devices.specs.Faults.{CountRose}
 use Rattle.wild_macho.specs.declared.fault.Fault.{Fault}
-use Rattle.wild_macho.specs.declared.fault.Fault.TheVariants.{MissingFile, UnknownKind, Input as InputFault, Link as LinkFault, Words, Read, Write, Print, OutOfMemory}
+use Rattle.wild_macho.specs.declared.fault.Fault.TheVariants.{MissingFile, UnknownKind, Input as InputFault, Read, OutOfMemory}
 use Rattle.wild_macho.specs.declared.heads.Head.TheVariants as head
 use Rattle.wild_macho.specs.Heads.{head_of}
 use Rattle.wild_macho.specs.Search.{candidates_of, IsMissing}

@@ -1,5 +1,5 @@
 -- The job of the words of a command line and of what stands outside: what is linked, and where its image goes.
-use Rattle.std.specs.Prelude.{◌≡◌, ℕ, ◌<◌, List, [], ◌++◌, map, take, Option, None, Some, unwrap_or, Contains}
+use Rattle.std.specs.Prelude.{◌≡◌, ℕ, ◌<◌, List, map, take, Option, None, Some, unwrap_or}
 use Rattle.std.specs.List.{AllZip, flat_map, range_with_len}
 use Rattle.sha2.specs.Sha256.{sha256}
 use Rattle.macho_args.specs.Settings as args
@@ -7,7 +7,7 @@ use Rattle.macho_args.specs.Settings.{Settings}
 use Rattle.macho_args.specs.SearchPaths.{IsParsed}
 use Rattle.macho_args.specs.Store.{Store, Directories, CanonicalPaths}
 use Rattle.macho_model.specs.Links.{Link, Input, Object, Dylib, Stub}
-use Rattle.macho_model.specs.Grammar.{IsObject, IsDylib}
+use Rattle.macho_model.specs.Grammar.{IsObject}
 use Rattle.macho_image.specs.Linkers.{link_of, bytes_of, IsSound}
 use Rattle.wild_macho.specs.declared.heads.Head.{Head}
 use Rattle.wild_macho.specs.declared.heads.Head.TheVariants as head

@@ -1,5 +1,5 @@
 -- What a run prints: the line of a fault, the lines of `-map`, and those of `-generate`.
-use Rattle.std.specs.Prelude.{◌≡◌, ℕ, ◌+◌, ◌<◌, ◌⊎◌, ◌==◌, true, false, if◌then◌else◌, List, [], ◌∷◌, ◌++◌, codes, map, length, get_or, decimal, Option, None, Some, find, IsPermutation, AllPairs}
+use Rattle.std.specs.Prelude.{◌≡◌, ℕ, ◌<◌, ◌⊎◌, ◌==◌, List, [], ◌∷◌, ◌++◌, codes, length, get_or, decimal, Option, None, Some, find, IsPermutation, AllPairs}
 use Rattle.std.specs.List.{flat_map}
 use Rattle.hex.specs.Hex.{encode_lower}
 use Rattle.sha2.specs.Sha256.{sha256}
@@ -25,7 +25,6 @@ use Rattle.macho_model.specs.Links.{Link, header_at}
 use Rattle.macho_model.specs.Placement.{id_of}
 use Rattle.macho_image.specs.declared.fault.LinkError.{LinkError}
 use Rattle.macho_image.specs.declared.fault.LinkError.TheVariants as error
-use Rattle.macho_image.specs.declared.fault.InputFault.{InputFault}
 use Rattle.macho_image.specs.declared.fault.InputFault.TheVariants as input
 use Rattle.macho_image.specs.declared.fault.Unbuilt.{Unbuilt}
 use Rattle.macho_image.specs.declared.fault.Unbuilt.TheVariants as part

@@ -1,5 +1,5 @@
 -- What a sink says of a text that is printed in pieces.
-use Rattle.std.specs.Prelude.{◌≡◌, ℕ, List, ◌++◌, codes, decimal, Option, Result, OnOk, OnErr}
+use Rattle.std.specs.Prelude.{ℕ, List, ◌++◌, codes, decimal, Option, Result, OnOk, OnErr}
 use Rattle.hex.specs.Hex.{encode_lower}
 use Rattle.byteorder.specs.Endian.{big_bytes}
 use Rattle.macho_devices.specs.Devices.{TakesBytes, TakesPrefix}

@@ -1,5 +1,5 @@
 -- THE promise of a run: what it answers, and what it leaves.
-use Rattle.std.specs.Prelude.{◌≡◌, ℕ, ◌<◌, ◌⊎◌, true, false, List, [], Option, None, Some, MatchOption, IfSome}
+use Rattle.std.specs.Prelude.{◌≡◌, ℕ, ◌<◌, false, List, Option, None, Some, MatchOption, IfSome}
 use Rattle.macho_args.specs.Settings.{Settings}
 use Rattle.macho_args.specs.Store.{Store, Directories, CanonicalPaths}
 use Rattle.macho_args.specs.SearchPaths.{IsParsed}
@@ -9,12 +9,12 @@ use Rattle.macho_image.specs.declared.fault.LinkError.TheVariants as error
 use Rattle.macho_image.specs.declared.link.LinkedImage.{LinkedImage}
 use Rattle.macho_image.specs.Linked.{IsImageOf}
 use Rattle.macho_image.specs.Refusals.{RefusalStands}
-use Rattle.macho_devices.specs.Devices.{WritesFile, TornWrite, TakesBytes, TakesPrefix}
-use Rattle.macho_devices.specs.Faults.{CountsOn, last_count}
+use Rattle.macho_devices.specs.Devices.{WritesFile, TornWrite}
+use Rattle.macho_devices.specs.Faults.{last_count}
 use Rattle.wild_macho.specs.declared.fault.Fault.{Fault}
 use Rattle.wild_macho.specs.declared.fault.Fault.TheVariants.{Write, Print, OutOfMemory}
 use Rattle.wild_macho.specs.declared.passes.Ran.{Ran}
-use Rattle.wild_macho.specs.Job.{Outside, Job, IsJob, JobOf}
+use Rattle.wild_macho.specs.Job.{Outside, Job, IsJob}
 use Rattle.wild_macho.specs.Causes.{Failures, failures, status_of, JobFails, WordsFail}
 
 -- What the devices of a run tell: the files outside, and how often each device failed.

@@ -38,7 +38,12 @@ pub(crate) fn add_lists<F: Files>(
 }
 
 // The text of a list.
-fn read_list<F: Files>(alloc: Global, files: &mut F, word: u32, path: &str) -> Result<Vec<u8>, Fault>
+fn read_list<F: Files>(
+    alloc: Global,
+    files: &mut F,
+    word: u32,
+    path: &str,
+) -> Result<Vec<u8>, Fault>
     ensures held { IfOk result (λ text. HeldAt (F.holds files.old) path.now text.items) }
     ensures why { IfErr result (ListFails (F.holds files.old) word path.now (F.faults files.old) (F.faults files.new)) }
     ensures counted { CountsOn (F.faults files.old) (F.faults files.new) }

@@ -158,7 +158,12 @@ fn push_head(bytes: &mut Vec<u8>) -> Result<(), AllocError>
 
 // The parts of an object whose function calls the next one, up to its first string.
 #[tactic(auto, unfolding(crate::specs::Generator::calling_parts))]
-fn push_calling_parts(bytes: &mut Vec<u8>, name: u32, pointer: u32, next: u32) -> Result<(), AllocError>
+fn push_calling_parts(
+    bytes: &mut Vec<u8>,
+    name: u32,
+    pointer: u32,
+    next: u32,
+) -> Result<(), AllocError>
     ensures { OnOk result (bytes.new.items ≡ calling_parts bytes.old.items name pointer next) }
 {
     let second = sum_of(2, name)?;
@@ -166,8 +171,23 @@ fn push_calling_parts(bytes: &mut Vec<u8>, name: u32, pointer: u32, next: u32) -
     let strings = sum_of(sum_of(sum_of(4, name)?, pointer)?, next)?;
     push_calling_sections(bytes)?;
     push_words(bytes, &[2, 24, 320, 3, 368, strings])?;
-    push_words(bytes, &[0x1400_0000, 0xd65f_03c0, 0, 0, 0, 0x2d00_0002, 0, 0x0e00_0000])?;
-    push_words(bytes, &[1, 0x10f, 0, 0, second, 0x20f, 8, 0, third, 1, 0, 0])?;
+    push_words(
+        bytes,
+        &[
+            0x1400_0000,
+            0xd65f_03c0,
+            0,
+            0,
+            0,
+            0x2d00_0002,
+            0,
+            0x0e00_0000,
+        ],
+    )?;
+    push_words(
+        bytes,
+        &[1, 0x10f, 0, 0, second, 0x20f, 8, 0, third, 1, 0, 0],
+    )?;
     bytes.push(0)?;
     Ok(())
 }

@@ -43,8 +43,7 @@ impl FileNames {
     }
 
     /// The path of the last file, empty where there is none.
-    pub(crate) fn last(&self) -> &[u8]
-    {
+    pub(crate) fn last(&self) -> &[u8] {
         match self.paths.last() {
             Some(path) => path.as_bytes(),
             None => b"",

@@ -131,7 +131,12 @@ pub(crate) struct Made {
 }
 
 // Makes the linker, adds the inputs and the lists, and links.
-fn make_image<F: Files>(alloc: Global, args: &MachOArgs, files: &mut F, names: &mut FileNames) -> Result<Made, Fault>
+fn make_image<F: Files>(
+    alloc: Global,
+    args: &MachOArgs,
+    files: &mut F,
+    names: &mut FileNames,
+) -> Result<Made, Fault>
     requires unnamed { names_of names.old ≡ [] }
     ensures made { IfOk result (IsMade (F.holds files.old) (settings_of args.now) (names_of names.new)) }
     ensures why { IfErr result (JobFails (F.holds files.old) (settings_of args.now) (names_of names.new)
@@ -159,7 +164,13 @@ fn make_linker(alloc: Global, args: &MachOArgs) -> Result<Linker, Fault>
 }
 
 // Adds the inputs, or the objects that are made.
-fn add_files<F: Files>(alloc: Global, args: &MachOArgs, files: &mut F, linker: &mut Linker, names: &mut FileNames) -> Result<(), Fault>
+fn add_files<F: Files>(
+    alloc: Global,
+    args: &MachOArgs,
+    files: &mut F,
+    linker: &mut Linker,
+    names: &mut FileNames,
+) -> Result<(), Fault>
     requires empty { linker.old ≡ link_of (settings_of args.now) }
     requires unnamed { names_of names.old ≡ [] }
     ensures added { OnOk result (HaveLists (F.holds files.old) (settings_of args.now) [] (names_of names.new) linker.new) }

@@ -57,7 +57,12 @@ fn print_line<E: Sink>(
         }
         Fault::UnknownKind { word, .. } => {
             let name = word_name(inputs, lists, *word);
-            print_named(err, b"", name, b": not an arm64 object, dynamic library or stub")
+            print_named(
+                err,
+                b"",
+                name,
+                b": not an arm64 object, dynamic library or stub",
+            )
         }
         Fault::Input { error, .. } => print_error(err, names, error),
         Fault::Link { error } => print_error(err, names, error),
@@ -91,8 +96,7 @@ fn list_of_word(lists: &[(u32, String)], word: u32) -> Option<&(u32, String)>
 }
 
 // What is told of a word.
-fn word_name<'a>(inputs: &'a [InputSpec], lists: &'a [(u32, String)], word: u32) -> &'a [u8]
-{
+fn word_name<'a>(inputs: &'a [InputSpec], lists: &'a [(u32, String)], word: u32) -> &'a [u8] {
     match input_of_word(inputs, word) {
         Some(spec) => name_of_input(spec),
         None => match list_of_word(lists, word) {
@@ -105,11 +109,23 @@ fn word_name<'a>(inputs: &'a [InputSpec], lists: &'a [(u32, String)], word: u32)
 fn print_text<E: Sink>(err: &mut E, text: &'static [u8]) -> Result<(), SinkFault>
     ensures { IsPrinted (E.taken err.old) (E.taken err.new) (E.faults err.old) (E.faults err.new) (line_of (text.now ∷ [])) result }
 {
-    print_pieces(err, &[Piece::Text(b"wild_macho: "), Piece::Text(text), Piece::Text(b"\n")])
+    print_pieces(
+        err,
+        &[
+            Piece::Text(b"wild_macho: "),
+            Piece::Text(text),
+            Piece::Text(b"\n"),
+        ],
+    )
 }
 
 // A text, a name, and a text.
-fn print_named<E: Sink>(err: &mut E, front: &'static [u8], name: &[u8], back: &'static [u8]) -> Result<(), SinkFault>
+fn print_named<E: Sink>(
+    err: &mut E,
+    front: &'static [u8],
+    name: &[u8],
+    back: &'static [u8],
+) -> Result<(), SinkFault>
     ensures { IsPrinted (E.taken err.old) (E.taken err.new) (E.faults err.old) (E.faults err.new)
         (line_of (front.now ∷ name.now ∷ back.now ∷ [])) result }
 {
@@ -177,30 +193,47 @@ fn print_error<E: Sink>(err: &mut E, names: &FileNames, error: &LinkError) -> Re
         LinkError::EntryNotDefined { name } => {
             print_named(err, b"entry symbol ", name.as_slice(), b" is not defined")
         }
-        LinkError::UnsupportedRelocation { file, section, relocation } => {
-            print_relocation(err, names.path(*file), *section, *relocation, b"unsupported")
+        LinkError::UnsupportedRelocation {
+            file,
+            section,
+            relocation,
+        } => {
+            print_relocation(
+                err,
+                names.path(*file),
+                *section,
+                *relocation,
+                b"unsupported",
+            )
         }
         LinkError::RelocationRange { at, .. } => print_site(err, names, *at, b"out of range"),
         LinkError::BadName => print_text(err, b"bad name"),
-        LinkError::BadInput { fault: InputFault::Object(fault) } => {
-            print_rule(err, names.last(), object_rule(fault.rule), fault.place)
-        }
-        LinkError::BadInput { fault: InputFault::Stub { line, rule } } => {
-            print_rule(err, names.last(), stub_rule(*rule), *line)
-        }
+        LinkError::BadInput {
+            fault: InputFault::Object(fault),
+        } => { print_rule(err, names.last(), object_rule(fault.rule), fault.place) }
+        LinkError::BadInput {
+            fault: InputFault::Stub { line, rule },
+        } => { print_rule(err, names.last(), stub_rule(*rule), *line) }
         LinkError::Unbuilt { what } => print_unbuilt(err, names.path(0), part_name(*what)),
         LinkError::OutOfMemory => print_text(err, b"out of memory"),
     }
 }
 
 // A place in the image, and what is wrong there.
-fn print_site<E: Sink>(err: &mut E, names: &FileNames, at: Site, text: &'static [u8]) -> Result<(), SinkFault>
+fn print_site<E: Sink>(
+    err: &mut E,
+    names: &FileNames,
+    at: Site,
+    text: &'static [u8],
+) -> Result<(), SinkFault>
     ensures counted { CountsOn (E.faults err.old) (E.faults err.new) }
 {
     match at {
-        Site::Field { file, section, relocation } => {
-            print_relocation(err, names.path(file), section, relocation, text)
-        }
+        Site::Field {
+            file,
+            section,
+            relocation,
+        } => { print_relocation(err, names.path(file), section, relocation, text) }
         Site::Slot { index } => print_numbered(err, b"slot ", u64::from(index), b": ", text),
         Site::Stub { index } => print_numbered(err, b"stub ", u64::from(index), b": ", text),
     }
@@ -231,7 +264,12 @@ fn print_relocation<E: Sink>(
 }
 
 // The rule that a file breaks, and where.
-fn print_rule<E: Sink>(err: &mut E, file: &[u8], rule: &'static [u8], place: u64) -> Result<(), SinkFault>
+fn print_rule<E: Sink>(
+    err: &mut E,
+    file: &[u8],
+    rule: &'static [u8],
+    place: u64,
+) -> Result<(), SinkFault>
     ensures { IsPrinted (E.taken err.old) (E.taken err.new) (E.faults err.old) (E.faults err.new)
         (line_of (file.now ∷ codes ": rule " ∷ rule.now ∷ codes " at " ∷ decimal place ∷ [])) result }
 {

@@ -1,7 +1,7 @@
 //! Whole runs over files in memory: objects written out, the image of one of them, and each refusal with its line.
 
 use macho_args::MachOArgs;
-use macho_image::{LinkError, Linker, Unbuilt};
+use macho_image::{LinkError, Linker};
 use std::alloc::Global;
 use std::test::Fail;
 use std::{env, fs, process};
@@ -111,8 +111,11 @@ const NOT_SUPPORTED: [(usize, u8); 5] = [
     (252, 3),
 ];
 
-/// Places in it, and bytes for what isn't built yet: a page's type; a symbol that nothing defines.
-const NOT_BUILT: [(usize, u8); 2] = [(231, 0x3d), (252, 1)];
+/// Places in it, and bytes for what isn't built yet, with its line: a page's type; a symbol that is a common.
+const NOT_BUILT: [(usize, u8, &str); 2] = [
+    (231, 0x3d, "relocations"),
+    (252, 1, "other segments, zero-filled sections and commons"),
+];
 
 /// Two relocations behind the object of two functions: branches to symbol 1 at 0 and at 4.
 const TWO_BRANCHES: [u8; 16] = [0, 0, 0, 0, 1, 0, 0, 0x2d, 4, 0, 0, 0, 1, 0, 0, 0x2d];
@@ -155,19 +158,32 @@ const OTHERS: [(&str, &[u8], InputKind); 5] = [
     ("fat64", b"\xca\xfe\xba\xbf\0\0\0\x01", InputKind::Universal),
     ("short", b"abc", InputKind::Other),
     (
-        "dylib",
-        b"\xcf\xfa\xed\xfe\x0c\0\0\x01\0\0\0\0\x06\0\0\0",
+        "program",
+        b"\xcf\xfa\xed\xfe\x0c\0\0\x01\0\0\0\0\x02\0\0\0",
         InputKind::Other,
     ),
 ];
 
 /// Words that are refused, with the status and the line that is printed.
-const REFUSED: [(&[&str], u8, &str); 12] = [
+const REFUSED: [(&[&str], u8, &str); 17] = [
     (&["-x"], 2, "bad word 0: Unknown"),
     (&["-o"], 2, "bad word 0: MissingValue"),
     (&["in.o", "-o"], 2, "bad word 1: MissingValue"),
-    (&["-o", "-o", "in.o", "in.o"], 2, "bad word 3: Unknown"),
-    (&["in.o", "-dylib"], 2, "bad word 1: Unknown"),
+    (&["-generate", "0"], 2, "bad word 1: BadNumber"),
+    (&["-generate", "1", "in.o"], 2, "bad word 2: Unsupported"),
+    (
+        &["-o", "-o", "in.o", "in.o"],
+        1,
+        "in.o: not built yet: several inputs",
+    ),
+    (
+        &["in.o", "-dylib"],
+        1,
+        "in.o: not built yet: dynamic libraries as output",
+    ),
+    (&["-L", "/a", "-lfoo"], 1, "cannot find foo"),
+    (&["-framework", "X"], 1, "cannot find X"),
+    (&["in.o", "-o", "/"], 1, "bad name"),
     (&[], 1, "entry symbol _main is not defined"),
     (&["start.o"], 1, "entry symbol _main is not defined"),
     (&["gone.o"], 1, "cannot find gone.o"),
@@ -346,15 +362,12 @@ fn of_several_refusals_the_first_is_told(rt: HostRuntime) -> Result<(), Fail> {
 
 #[test]
 fn what_is_not_built_yet_is_told(rt: HostRuntime) -> Result<(), Fail> {
-    for (place, byte) in NOT_BUILT {
+    for (place, byte, part) in NOT_BUILT {
         let mut err = MemorySink::new(rt.alloc(), 200)?;
         let answer = ran_with(rt.alloc(), place, byte, &mut err)?;
         assert_eq!(rt; answer.status, 1, "{place}");
-        assert_eq!(rt;
-            err.bytes(),
-            b"wild_macho: calls.o: not built yet\n".as_slice(),
-            "{place} {byte}"
-        );
+        let printed = format!(in rt.alloc(); "wild_macho: calls.o: not built yet: {part}\n")?;
+        assert_eq!(rt; err.bytes(), printed.as_bytes(), "{place} {byte}");
     }
     Ok(())
 }
@@ -439,15 +452,8 @@ fn a_linker_links_again_after_a_refusal(rt: HostRuntime) -> Result<(), Fail> {
     assert!(rt; linker.add_object(object).is_ok());
     let first = linker.link_image(rt.alloc(), [0; 16]).ok();
     let first = first.ok_or("no image")?;
-    let second = Vec::from_slice(rt.alloc(), &OBJECT)?;
-    assert!(rt;
-        matches!(
-            linker.add_object(second),
-            Err(LinkError::Unbuilt {
-                what: Unbuilt::Input
-            })
-        )
-    );
+    let cut = Vec::from_slice(rt.alloc(), &OBJECT[..239])?;
+    assert!(rt; matches!(linker.add_object(cut), Err(LinkError::BadInput { .. })));
     assert_eq!(rt; linker.num_inputs(), 1);
     let again = linker.link_image(rt.alloc(), [0; 16]).ok();
     let again = again.ok_or("no second image")?;

@@ -1,7 +1,7 @@
 use Rattle.std.proofs.Common.{◌≡◌, ℕ, ◌<◌, ◌++◌, map}
 use Rattle.std.specs.List.{range_with_len}
 use Rattle.macho_model.specs.Grammar.{IsObject}
-use Rattle.macho_model.specs.Links.{Link, Object}
+use Rattle.macho_model.specs.Links.{Object}
 use Rattle.wild_macho.specs.Generator.{generated_object, generated_path}
 use Rattle.wild_macho.specs.Names.{names_of}
 use Rattle.wild_macho.proofs.made.add_made.Given as goal

@@ -1,5 +1,4 @@
 -- The objects that are made.
-use Rattle.std.proofs.Common.{sym}
 use Rattle.macho_args.specs.Settings.{settings_of}
 use Rattle.wild_macho.proofs.passes.add_files.Goals as goal
 

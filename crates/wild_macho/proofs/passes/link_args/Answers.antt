@@ -1,5 +1,4 @@
 -- A refusal before the write, or the write.
-use Rattle.std.proofs.Common.{refl, sym}
 use Rattle.macho_args.specs.Settings.{settings_of}
 use Rattle.wild_macho.specs.Names.{names_of}
 use Rattle.wild_macho.proofs.Joining.{runs-refused, runs-written}

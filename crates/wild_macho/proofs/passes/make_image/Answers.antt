@@ -1,9 +1,7 @@
 -- Each pass refuses for a cause of the job; what is gathered is what the settings link.
-use Rattle.std.proofs.Common.{subst, sym, Option}
+use Rattle.std.proofs.Common.{sym}
 use Rattle.std.proofs.lemmas.Result.{err_from_is_err_and}
 use Rattle.macho_args.specs.Settings.{settings_of}
-use Rattle.macho_args.specs.Store.{Store}
-use Rattle.wild_macho.specs.Gathering.{HaveLists}
 use Rattle.wild_macho.specs.Names.{names_of}
 use Rattle.wild_macho.proofs.Joining.{links-of, later-fails, lists-since}
 use Rattle.wild_macho.proofs.passes.make_image.Goals as goal

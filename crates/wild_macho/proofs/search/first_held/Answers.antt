@@ -1,5 +1,5 @@
 -- The paths before hold no file.
-use Rattle.std.proofs.Common.{Some, ap, sym, ◌∙◌}
+use Rattle.std.proofs.Common.{ap, sym, ◌∙◌}
 use Rattle.macho_devices.specs.Devices.{content_of}
 use Rattle.wild_macho.proofs.Gathers.{first-held, none-held}
 use Rattle.wild_macho.proofs.search.first_held.Goals as goal
