@@ -32,12 +32,14 @@ adds_one cells start old now next place q is least a = record {
   };
 }
 
-pub adds_more : (cells others : List Cell) (start : ℕ) (old now next : List PlacedCell) (place end : ℕ) → AddsCells cells start old now place
+pub adds_more : (cells others : List Cell) (start : ℕ) (old now next : List PlacedCell) (place end : ℕ)
+    → AddsCells cells start old now place
     → AddsCells others place now next end → AddsCells (cells ++ others) start old next end
 adds_more cells others start old now next place end a b = record {
   added = a.added ++ b.added;
   are = b.are ∙ ap (λ (qs : List PlacedCell). qs ++ b.added) a.are ∙ append_assoc old a.added b.added;
-  same = map-append (λ (x : PlacedCell). x.cell) a.added b.added ∙ ap (λ (cs : List Cell). cs ++ map (λ (x : PlacedCell). x.cell) b.added) a.same
+  same = map-append (λ (x : PlacedCell). x.cell) a.added b.added ∙ ap
+      (λ (cs : List Cell). cs ++ map (λ (x : PlacedCell). x.cell) b.added) a.same
       ∙ ap (λ (cs : List Cell). cells ++ cs) b.same;
   stack = record {
     least = subst (λ (bs : List Block). StandLeast start bs end) (sym (map-append cell_block a.added b.added))
@@ -46,7 +48,8 @@ adds_more cells others start old now next place end a b = record {
 }
 
 -- how far a row goes
-pub adds-within : (cells : List Cell) (start : ℕ) (old now : List PlacedCell) (place : ℕ) → AddsCells cells start old now place → place ≤ start + sum_by cell_cost cells
+pub adds-within : (cells : List Cell) (start : ℕ) (old now : List PlacedCell) (place : ℕ) → AddsCells cells start old now place
+    → place ≤ start + sum_by cell_cost cells
 adds-within cells start old now place a =
     let cost = fold-map (λ (s : ℕ) (x : Cell). s + cell_cost x) (λ (x : PlacedCell). x.cell) 0 a.added in
     let same = ap (sum_by cell_cost) a.same in
@@ -74,4 +77,5 @@ room_in_rank cells rank start old now place i d low own a fits =
 pub filter_passed : {X : Type 0} (p : X → Bool) (xs : List X) (i : ℕ) (d : X) → i < length xs → p (get_or xs i d) ≡ false
     → filter p (take (i + 1) xs) ≡ filter p (take i xs)
 filter_passed p xs i d low fails =
-    filter_more p xs i d low ∙ ap (λ (b : Bool). filter p (take i xs) ++ cond b (get_or xs i d ∷ []) []) fails ∙ append-nil (filter p (take i xs))
+    filter_more p xs i d low ∙ ap (λ (b : Bool). filter p (take i xs) ++ cond b (get_or xs i d ∷ []) []) fails ∙ append-nil
+    (filter p (take i xs))

@@ -25,7 +25,8 @@ filter_push_no {X} p xs x fails =
     filter-append p xs (x ∷ []) ∙ ap (λ (b : Bool). filter p xs ++ cond b (x ∷ []) []) fails ∙ append-nil (filter p xs)
 
 -- what holds of each element that a filter keeps, of the elements that pass
-pub unfiltered : {X : Type 0} (P : X → Type 0) (p : X → Bool) (xs : List X) → AllByRecursion P (filter p xs) → AllByRecursion (λ x. p x ≡ true → P x) xs
+pub unfiltered : {X : Type 0} (P : X → Type 0) (p : X → Bool) (xs : List X) → AllByRecursion P (filter p xs) → AllByRecursion
+    (λ x. p x ≡ true → P x) xs
 unfiltered P p [] h = tt
 unfiltered P p (x ∷ xs) h = by (unfiltered P p xs) (p x) refl h
   where

@@ -18,15 +18,18 @@ use Rattle.macho_cells.specs.Ranks.{has_rank, of_ranks}
 
 -- numbers from a on, one more
 pub range_more : (a n : ℕ) → range_with_len a (n + 1) ≡ range_with_len a n ++ (a + n) ∷ []
-range_more a n = sym (map-id (range_with_len a (n + 1))) ∙ map-range_with_len_more (λ (k : ℕ). k) a n (a + n) refl ∙ ap (λ (ks : List ℕ). ks ++ (a + n) ∷ []) (map-id (range_with_len a n))
+range_more a n = sym (map-id (range_with_len a (n + 1))) ∙ map-range_with_len_more (λ (k : ℕ). k) a n (a + n) refl ∙ ap
+    (λ (ks : List ℕ). ks ++ (a + n) ∷ []) (map-id (range_with_len a n))
 
 -- the cells of one rank more stand behind the others
-pub of_ranks-more : (first count : ℕ) (cells : List Cell) → of_ranks first (count + 1) cells ≡ of_ranks first count cells ++ filter (has_rank (first + count)) cells
+pub of_ranks-more : (first count : ℕ) (cells : List Cell) → of_ranks first (count + 1) cells ≡ of_ranks first count cells ++ filter
+    (has_rank (first + count)) cells
 unfolding of_ranks
 of_ranks-more first count cells =
     ap (flat_map (λ (rank : ℕ). filter (has_rank rank) cells)) (range_more first count)
     ∙ flat_map-append (λ (rank : ℕ). filter (has_rank rank) cells) (range_with_len first count) ((first + count) ∷ [])
-    ∙ ap (λ (cs : List Cell). flat_map (λ (rank : ℕ). filter (has_rank rank) cells) (range_with_len first count) ++ cs) (append-nil (filter (has_rank (first + count)) cells))
+    ∙ ap (λ (cs : List Cell). flat_map (λ (rank : ℕ). filter (has_rank rank) cells) (range_with_len first count) ++ cs)
+    (append-nil (filter (has_rank (first + count)) cells))
 
 -- no rank has no cell
 pub of_ranks-none : (first : ℕ) (cells : List Cell) → of_ranks first 0 cells ≡ []
@@ -34,10 +37,12 @@ unfolding of_ranks
 of_ranks-none first cells = refl
 
 -- ranks behind ranks
-pub of_ranks-append : (first a b : ℕ) (cells : List Cell) → of_ranks first (a + b) cells ≡ of_ranks first a cells ++ of_ranks (first + a) b cells
+pub of_ranks-append : (first a b : ℕ) (cells : List Cell) → of_ranks first (a + b) cells ≡ of_ranks first a cells ++ of_ranks
+    (first + a) b cells
 of_ranks-append first a zero cells =
     let same : a + 0 ≡ a = omega arith in
-    ap (λ (n : ℕ). of_ranks first n cells) same ∙ sym (ap (λ (cs : List Cell). of_ranks first a cells ++ cs) (of_ranks-none (first + a) cells) ∙ append-nil (of_ranks first a cells))
+    ap (λ (n : ℕ). of_ranks first n cells) same ∙ sym (ap (λ (cs : List Cell). of_ranks first a cells ++ cs)
+    (of_ranks-none (first + a) cells) ∙ append-nil (of_ranks first a cells))
 of_ranks-append first a (suc b) cells =
     let f : ℕ → List Cell = λ (n : ℕ). of_ranks first n cells in
     let g : ℕ → List Cell = λ (n : ℕ). of_ranks (first + a) n cells in
@@ -50,7 +55,7 @@ of_ranks-append first a (suc b) cells =
     ∙ ap (λ (n : ℕ). of_ranks first a cells ++ (of_ranks (first + a) b cells ++ filter (has_rank n) cells)) place
     ∙ ap (λ (cs : List Cell). of_ranks first a cells ++ cs) (sym (of_ranks-more (first + a) b cells) ∙ ap g short)
 
-abbrev is_below : ℕ → Cell → Bool
+abbrev pub is_below : ℕ → Cell → Bool
 is_below n c = ltb c.rank n
 
 -- of a rank and the ranks below it a cell has one at most
@@ -63,7 +68,8 @@ first-cost f true x xs = sum_by-cons f x xs
 first-cost f false x xs = omega arith
 
 -- the cells of a rank and those below it cost what the cells up to it do
-one_rank : (f : Cell → ℕ) (n : ℕ) (cells : List Cell) → sum_by f (filter (is_below n) cells) + sum_by f (filter (has_rank n) cells) ≡ sum_by f (filter (is_below (n + 1)) cells)
+one_rank : (f : Cell → ℕ) (n : ℕ) (cells : List Cell) → sum_by f (filter (is_below n) cells) + sum_by f (filter (has_rank n) cells)
+    ≡ sum_by f (filter (is_below (n + 1)) cells)
 one_rank f n [] = refl
 one_rank f n (c ∷ cells) =
     let below = first-cost f (is_below n c) c (filter (is_below n) cells) in
@@ -76,10 +82,11 @@ one_rank f n (c ∷ cells) =
 -- no rank is below 0
 none_below : (cells : List Cell) → filter (is_below 0) cells ≡ []
 none_below [] = refl
-none_below (c ∷ cells) = ap (λ (b : Bool). cond b (c ∷ filter (is_below 0) cells) (filter (is_below 0) cells)) (le-ltb c.rank 0 (omega arith)) ∙ none_below cells
+none_below (c ∷ cells) = ap (λ (b : Bool). cond b (c ∷ filter (is_below 0) cells) (filter (is_below 0) cells))
+    (le-ltb c.rank 0 (omega arith)) ∙ none_below cells
 
 -- all ranks below a number cost what the cells below it do
-ranks-below : (f : Cell → ℕ) (n : ℕ) (cells : List Cell) → sum_by f (of_ranks 0 n cells) ≡ sum_by f (filter (is_below n) cells)
+pub ranks-below : (f : Cell → ℕ) (n : ℕ) (cells : List Cell) → sum_by f (of_ranks 0 n cells) ≡ sum_by f (filter (is_below n) cells)
 ranks-below f zero cells = ap (sum_by f) (of_ranks-none 0 cells) ∙ sym (ap (sum_by f) (none_below cells))
 ranks-below f (suc n) cells =
     let next : suc n ≡ n + 1 = omega arith in
@@ -99,7 +106,8 @@ pub ranks-cost : (f : Cell → ℕ) (n : ℕ) (cells : List Cell) → sum_by f (
 ranks-cost f n cells = omega (arith, ranks-below f n cells, filter-cost f (is_below n) cells)
 
 -- fewer ranks cost no more
-pub fewer-cost : (f : Cell → ℕ) (first a n : ℕ) (cells : List Cell) → a ≤ n → sum_by f (of_ranks first a cells) ≤ sum_by f (of_ranks first n cells)
+pub fewer-cost : (f : Cell → ℕ) (first a n : ℕ) (cells : List Cell) → a ≤ n → sum_by f (of_ranks first a cells) ≤ sum_by f
+    (of_ranks first n cells)
 fewer-cost f first a n cells few =
     let whole : n ≡ a + (n - a) = omega arith in
     let split : sum_by f (of_ranks first n cells) ≡ sum_by f (of_ranks first a cells) + sum_by f (of_ranks (first + a) (n - a) cells)

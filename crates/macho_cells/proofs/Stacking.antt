@@ -86,10 +86,12 @@ by_cell G extents placed m c there old new = elim (cases_eq c m.cell) [
 
 -- the new member stands behind those of its cell
 behind : (flags : List ℕ) (members : List Member) (extents : List Extent) (placed : List PlacedMember) (m : Member) → m.cell < length flags
-    → AreStacked flags members extents placed → (k : ℕ) (d : PlacedMember) → k < length placed → StandBehind (get_or placed k d) (put_member extents m)
+    → AreStacked flags members extents placed → (k : ℕ) (d : PlacedMember) → k < length placed → StandBehind (get_or placed k d)
+    (put_member extents m)
 behind flags members extents placed m here s k d low same =
     let size : ℕ = (extent_at extents m.cell).size in
-    let each = All-from_recursion (λ x. (x.member.cell == m.cell) ≡ true → x.offset + x.member.size ≤ (extent_at extents m.cell).size) placed
+    let each = All-from_recursion (λ x. (x.member.cell == m.cell) ≡ true → x.offset + x.member.size ≤ (extent_at extents m.cell).size)
+    placed
     (unfiltered (λ (x : PlacedMember). x.offset + x.member.size ≤ (extent_at extents m.cell).size) (is_in_cell m.cell) placed
     (row-ends block_of 0 (members_in m.cell placed) (extent_at extents m.cell).size (s.stacks m.cell here).least)) in
     let below = each k d low (eq-eqb (get_or placed k d).member.cell m.cell same) in
@@ -107,18 +109,23 @@ stacked_more flags members extents next placed m here is s =
       many = length-set extents m.cell (joined (extent_at extents m.cell) m) ∙ s.many;
       same = map_push (λ (q : PlacedMember). q.member) placed (put_member extents m) ∙ ap (λ (ms : List Member). ms ++ m ∷ []) s.same;
       stacks = λ c there. by_cell (λ e qs. IsStack 0 (map block_of qs) e.size) extents placed m c inside (s.stacks c there) (λ own. record {
-        least = subst (λ (bs : List Block). StandLeast 0 bs (joined (extent_at extents m.cell) m).size) (sym (map_push block_of (members_in c placed) (put_member extents m)))
+        least = subst (λ (bs : List Block). StandLeast 0 bs (joined (extent_at extents m.cell) m).size)
+            (sym (map_push block_of (members_in c placed) (put_member extents m)))
             (row-push 0 (map block_of (members_in c placed)) (extent_at extents m.cell).size (block_of (put_member extents m))
-            (subst (λ (k : ℕ). StandLeast 0 (map block_of (members_in c placed)) (extent_at extents k).size) own (s.stacks c there).least) refl);
+            (subst (λ (k : ℕ). StandLeast 0 (map block_of (members_in c placed)) (extent_at extents k).size) own (s.stacks c there).least)
+            refl);
       });
       order = all_pairs_push StandBehind placed (put_member extents m) s.order (behind flags members extents placed m here s);
-      exponents = λ c there. by_cell (λ e qs. e.exponent ≡ fold max 0 (map (λ (q : PlacedMember). q.member.exponent) qs)) extents placed m c inside (s.exponents c there)
+      exponents = λ c there. by_cell (λ e qs. e.exponent ≡ fold max 0 (map (λ (q : PlacedMember). q.member.exponent) qs)) extents placed m c
+          inside (s.exponents c there)
           (λ own. ap (λ (n : ℕ). max n m.exponent) (ap (λ (k : ℕ). (extent_at extents k).exponent) (sym own) ∙ s.exponents c there)
           ∙ sym (ap (fold max 0) (map_push (λ (q : PlacedMember). q.member.exponent) (members_in c placed) (put_member extents m))
           ∙ fold_push max 0 (map (λ (q : PlacedMember). q.member.exponent) (members_in c placed)) m.exponent));
-      flags_of = λ c there. by_cell (λ e qs. e.flags ≡ fold bit_or (get_or flags c 0) (map (λ (q : PlacedMember). q.member.flags) qs)) extents placed m c inside (s.flags_of c there)
+      flags_of = λ c there. by_cell (λ e qs. e.flags ≡ fold bit_or (get_or flags c 0) (map (λ (q : PlacedMember). q.member.flags) qs))
+          extents placed m c inside (s.flags_of c there)
           (λ own. ap (λ (n : ℕ). bit_or n m.flags) (ap (λ (k : ℕ). (extent_at extents k).flags) (sym own) ∙ s.flags_of c there)
-          ∙ sym (ap (fold bit_or (get_or flags c 0)) (map_push (λ (q : PlacedMember). q.member.flags) (members_in c placed) (put_member extents m))
+          ∙ sym (ap (fold bit_or (get_or flags c 0)) (map_push (λ (q : PlacedMember). q.member.flags) (members_in c placed)
+          (put_member extents m))
           ∙ fold_push bit_or (get_or flags c 0) (map (λ (q : PlacedMember). q.member.flags) (members_in c placed)) m.flags));
       within = omega (
         arith,

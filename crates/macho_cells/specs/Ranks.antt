@@ -1,5 +1,5 @@
 -- Cells in the order of their ranks.
-use Rattle.std.specs.Prelude.{◌≡◌, ℕ, ◌==◌, Bool, List, ◌++◌, length, map, filter, get_or, AllPairs, Contains}
+use Rattle.std.specs.Prelude.{◌≡◌, ℕ, ◌==◌, Bool, List, ◌++◌, length, map, filter, get_or, All, AllPairs, Contains}
 use Rattle.std.specs.List.{flat_map, range_with_len}
 use Rattle.macho_cells.specs.declared.place.Cell.{Cell}
 use Rattle.macho_cells.specs.declared.place.PlacedCell.{PlacedCell}
@@ -26,7 +26,8 @@ pub record AddsCells (cells : List Cell) (start : ℕ) (old new : List PlacedCel
   pub same : map (λ q. q.cell) added ≡ cells
   pub stack : IsStack start (map cell_block added) end
 
--- a list of starts has that of each placed cell at the cell's number; this asks that no two cells have one number
+-- a list of starts has that of each placed cell at the cell's number, where no two cells have one number, and 0 at other numbers
 pub record HasStarts (count : ℕ) (placed : List PlacedCell) (starts : List ℕ) : Type 0 where
   pub many : length starts ≡ count
   pub each : AllPairs (λ a b. a.cell.number ≡ b.cell.number → ⊥) placed → (q : PlacedCell) → Contains placed q → get_or starts q.cell.number 0 ≡ q.start
+  pub rest : (n : ℕ) → All (λ q. q.cell.number ≡ n → ⊥) placed → get_or starts n 0 ≡ 0

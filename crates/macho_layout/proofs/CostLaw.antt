@@ -40,7 +40,7 @@ use Rattle.macho_layout.proofs.Whole.{map_map, map_numbered}
 use Rattle.macho_layout.proofs.SumLaw.{output_key, outputs_once, outputs_are, commons_many, and_group, segments_same}
 
 -- the test of keys decides whether they are equal
-key-decides : (a b : OutputKey) → Decides (same_key a b) (a ≡ b)
+pub key-decides : (a b : OutputKey) → Decides (same_key a b) (a ≡ b)
 key-decides a b = (
   λ t.
       let all = and_parts (bytes_eq a.segment b.segment && bytes_eq a.name b.name) (a.type == b.type) t in
@@ -49,19 +49,22 @@ key-decides a b = (
       ∙ ap (λ (n : List ℕ). record { segment = b.segment; name = n; type = a.type }) ((bytes_eq-Decides a.name b.name).0 both.1)
       ∙ ap (λ (k : ℕ). record { segment = b.segment; name = b.name; type = k }) (eqb-true a.type b.type all.1),
   λ e. and_from (bytes_eq a.segment b.segment && bytes_eq a.name b.name) (a.type == b.type)
-      (and_from (bytes_eq a.segment b.segment) (bytes_eq a.name b.name) ((bytes_eq-Decides a.segment b.segment).1 (ap (λ (k : OutputKey). k.segment) e))
+      (and_from (bytes_eq a.segment b.segment) (bytes_eq a.name b.name)
+      ((bytes_eq-Decides a.segment b.segment).1 (ap (λ (k : OutputKey). k.segment) e))
       ((bytes_eq-Decides a.name b.name).1 (ap (λ (k : OutputKey). k.name) e)))
       (eq-eqb a.type b.type (ap (λ (k : OutputKey). k.type) e)),
 )
 
 -- a section has the commons' name in the plan's table exactly where it has it in the link
-common_agrees : (l : Link) (s : SectionId) → same_output COMMON_NAME (output_key l s) ≡ same_key common_key (key_of (header_at l s))
+pub common_agrees : (l : Link) (s : SectionId) → same_output COMMON_NAME (output_key l s) ≡ same_key common_key (key_of (header_at l s))
 common_agrees l s =
     let h = header_at l s in
     ap (λ (t : Bool). t && (same_segment (padded COMMON) (output_key l s).name && (1 == (output_key l s).kind)))
     (fields_agree DATA (name_field (header_at l s).segname) ∙ ap (bytes_eq DATA) (name_in_field (header_at l s).segname))
-    ∙ ap (λ (t : Bool). bytes_eq DATA (name_of (header_at l s).segname) && (t && (1 == (output_key l s).kind))) (fields_agree COMMON (header_at l s).sectname)
-    ∙ and_group (bytes_eq DATA (name_of (header_at l s).segname)) (bytes_eq COMMON (name_of (header_at l s).sectname)) (1 == type_of (header_at l s))
+    ∙ ap (λ (t : Bool). bytes_eq DATA (name_of (header_at l s).segname) && (t && (1 == (output_key l s).kind)))
+    (fields_agree COMMON (header_at l s).sectname)
+    ∙ and_group (bytes_eq DATA (name_of (header_at l s).segname)) (bytes_eq COMMON (name_of (header_at l s).sectname))
+    (1 == type_of (header_at l s))
 
 -- as many merged output sections
 put_many : {X : Type 0} (b : Bool) (xs : List X) (x : X) → length (cond b xs (xs ++ x ∷ [])) ≡ length xs + one_if (not b)
@@ -74,12 +77,16 @@ merged_same l p plan =
     let keys : List OutputKey = map (λ s. key_of (header_at l s)) (carried_of l) in
     let once : distinct same_key (map (λ s. key_of (header_at l s)) (carried_of l)) ≡ map (λ s. key_of (header_at l s)) (outputs_once l)
     = distinct_map same_key (λ s. key_of (header_at l s)) (carried_of l) in
-    let mine : length (section_outputs p) ≡ length (outputs_once l) = ap length (outputs_are l p plan) ∙ length-map (outputs_once l) (output_key l) in
-    let there : list_any (same_output COMMON_NAME) (section_outputs p) ≡ list_any (same_key common_key) (distinct same_key (map (λ s. key_of (header_at l s)) (carried_of l)))
+    let mine : length (section_outputs p) ≡ length (outputs_once l) = ap length (outputs_are l p plan) ∙ length-map (outputs_once l)
+    (output_key l) in
+    let there : list_any (same_output COMMON_NAME) (section_outputs p) ≡ list_any (same_key common_key)
+    (distinct same_key (map (λ s. key_of (header_at l s)) (carried_of l)))
     = ap (list_any (same_output COMMON_NAME)) (outputs_are l p plan) ∙ any_map (same_output COMMON_NAME) (output_key l) (outputs_once l)
-    ∙ any_agree (λ s. same_output COMMON_NAME (output_key l s)) (λ s. same_key common_key (key_of (header_at l s))) (common_agrees l) (outputs_once l)
+    ∙ any_agree (λ s. same_output COMMON_NAME (output_key l s)) (λ s. same_key common_key (key_of (header_at l s))) (common_agrees l)
+    (outputs_once l)
     ∙ sym (ap (list_any (same_key common_key)) once ∙ any_map (same_key common_key) (λ s. key_of (header_at l s)) (outputs_once l)) in
-    let new : one_if (has_new_commons p) ≡ one_if (not (length (chosen_commons l) == 0) && not (list_any (same_key common_key) (distinct same_key (map (λ s. key_of (header_at l s)) (carried_of l)))))
+    let new : one_if (has_new_commons p) ≡ one_if (not (length (chosen_commons l) == 0) && not
+    (list_any (same_key common_key) (distinct same_key (map (λ s. key_of (header_at l s)) (carried_of l)))))
     = ap (λ (n : ℕ). one_if (not (n == 0) && not (list_any (same_output COMMON_NAME) (section_outputs p)))) (commons_many l p plan)
     ∙ ap (λ (b : Bool). one_if (not (length (chosen_commons l) == 0) && not b)) there in
     let long : length (distinct same_key (map (λ s. key_of (header_at l s)) (carried_of l))) ≡ length (outputs_once l)
@@ -87,13 +94,16 @@ merged_same l p plan =
     omega (arith, mine, new, long, by (not (length (chosen_commons l) == 0)))
   where
     by : (b : Bool) → length (distinct same_key (map (λ s. key_of (header_at l s)) (carried_of l) ++ list_if b (common_key ∷ [])))
-        ≡ length (distinct same_key (map (λ s. key_of (header_at l s)) (carried_of l))) + one_if (b && not (list_any (same_key common_key) (distinct same_key (map (λ s. key_of (header_at l s)) (carried_of l)))))
+        ≡ length (distinct same_key (map (λ s. key_of (header_at l s)) (carried_of l))) + one_if
+        (b && not (list_any (same_key common_key) (distinct same_key (map (λ s. key_of (header_at l s)) (carried_of l)))))
     by true =
         ap length (distinct_push same_key key-decides (map (λ s. key_of (header_at l s)) (carried_of l)) common_key)
-        ∙ put_many (list_any (same_key common_key) (distinct same_key (map (λ s. key_of (header_at l s)) (carried_of l)))) (distinct same_key (map (λ s. key_of (header_at l s)) (carried_of l))) common_key
-    by false = ap (λ (ks : List OutputKey). length (distinct same_key ks)) (append-nil (map (λ s. key_of (header_at l s)) (carried_of l))) ∙ omega arith
+        ∙ put_many (list_any (same_key common_key) (distinct same_key (map (λ s. key_of (header_at l s)) (carried_of l))))
+        (distinct same_key (map (λ s. key_of (header_at l s)) (carried_of l))) common_key
+    by false = ap (λ (ks : List OutputKey). length (distinct same_key ks)) (append-nil (map (λ s. key_of (header_at l s)) (carried_of l)))
+        ∙ omega arith
 
-stubs_many : (l : Link) (p : Planning) → IsPlanOf l p → length p.stubs ≡ length (stubs_of l)
+pub stubs_many : (l : Link) (p : Planning) → IsPlanOf l p → length p.stubs ≡ length (stubs_of l)
 stubs_many l p plan = sym (length-map p.stubs (λ (s : StubSpec). target.Import s.import)) ∙ ap length plan.stubs
 
 -- as many output sections
@@ -112,7 +122,8 @@ filter_both : {X : Type 0} (p q : X → Bool) (xs : List X) → filter p (filter
 filter_both p q [] = refl
 filter_both {X} p q (x ∷ xs) = by (filter_both p q xs) (q x)
   where
-    by : filter p (filter q xs) ≡ filter (λ y. q y && p y) xs → (b : Bool) → filter p (cond b (x ∷ filter q xs) (filter q xs)) ≡ cond (b && p x) (x ∷ filter (λ y. q y && p y) xs) (filter (λ y. q y && p y) xs)
+    by : filter p (filter q xs) ≡ filter (λ y. q y && p y) xs → (b : Bool) → filter p (cond b (x ∷ filter q xs) (filter q xs)) ≡ cond
+        (b && p x) (x ∷ filter (λ y. q y && p y) xs) (filter (λ y. q y && p y) xs)
     by h true = ap (λ (zs : List X). cond (p x) (x ∷ zs) zs) h
     by h false = h
 
@@ -120,7 +131,7 @@ max_group : (a b c : ℕ) → max (max a b) c ≡ max a (max b c)
 max_group a b c = omega arith
 
 -- the greatest, from the left and from the right
-fold_greatest : (a : ℕ) (ns : List ℕ) → fold max a ns ≡ max a (greatest ns)
+pub fold_greatest : (a : ℕ) (ns : List ℕ) → fold max a ns ≡ max a (greatest ns)
 fold_greatest a [] = omega arith
 fold_greatest a (n ∷ ns) = fold_greatest (max a n) ns ∙ max_group a n (greatest ns)
 
@@ -129,39 +140,51 @@ template_same : (l : Link) (p : Planning) → IsPlanOf l p → template_align p 
 unfolding template_align template_exponent carried_of
 template_same l p plan =
     let test : SectionSpec → Bool = λ s. is_template_type (type_of_spec s) in
-    let kept : filter (λ (s : SectionSpec). is_template_type (type_of_spec s)) p.sections ≡ map (spec_of l) (filter (λ s. is_template (header_at l s)) (sections_of l))
+    let kept : filter (λ (s : SectionSpec). is_template_type (type_of_spec s)) p.sections ≡ map (spec_of l)
+    (filter (λ s. is_template (header_at l s)) (sections_of l))
     = ap (filter (λ (s : SectionSpec). is_template_type (type_of_spec s))) plan.sections
-    ∙ filter_map_is (λ (s : SectionSpec). is_template_type (type_of_spec s)) (spec_of l) (filter (λ s. is_carried (header_at l s)) (sections_of l))
-    ∙ ap (map (spec_of l)) (filter_both (λ s. is_template_type (type_of (header_at l s))) (λ s. is_carried (header_at l s)) (sections_of l)) in
+    ∙ filter_map_is (λ (s : SectionSpec). is_template_type (type_of_spec s)) (spec_of l)
+    (filter (λ s. is_carried (header_at l s)) (sections_of l))
+    ∙ ap (map (spec_of l)) (filter_both (λ s. is_template_type (type_of (header_at l s))) (λ s. is_carried (header_at l s))
+    (sections_of l)) in
     ap (λ (ss : List SectionSpec). fold max 0 (map (λ (s : SectionSpec). s.align) ss)) kept
     ∙ ap (fold max 0) (map_map (λ (s : SectionSpec). s.align) (spec_of l) (filter (λ s. is_template (header_at l s)) (sections_of l)))
     ∙ fold_greatest 0 (map (λ s. (header_at l s).align) (filter (λ s. is_template (header_at l s)) (sections_of l)))
     ∙ zero-max (greatest (map (λ s. (header_at l s).align) (filter (λ s. is_template (header_at l s)) (sections_of l))))
 
 -- a carried section is placed at the same alignment
-align_same : (l : Link) (p : Planning) (s : SectionId) → IsPlanOf l p → is_carried (header_at l s) ≡ true → placed_align (template_align p) (spec_of l s) ≡ placed_exponent l s
+pub align_same : (l : Link) (p : Planning) (s : SectionId) → IsPlanOf l p → is_carried (header_at l s) ≡ true → placed_align
+    (template_align p) (spec_of l s) ≡ placed_exponent l s
 unfolding placed_exponent
 align_same l p s plan carried =
     let h = header_at l s in
-    let t : is_template (header_at l s) ≡ is_template_type (type_of (header_at l s)) = ap (λ (b : Bool). b && is_template_type (type_of (header_at l s))) carried in
-    ap (λ (n : ℕ). if is_template_type (type_of (header_at l s)) then n else if type_of (header_at l s) == 0x13 then max (header_at l s).align 3 else (header_at l s).align) (template_same l p plan)
-    ∙ ap (λ (n : ℕ). if is_template_type (type_of (header_at l s)) then template_exponent l else if type_of (header_at l s) == 0x13 then n else (header_at l s).align) (max_comm (header_at l s).align 3)
-    ∙ ap (λ (b : Bool). if b then template_exponent l else if type_of (header_at l s) == 0x13 then max 3 (header_at l s).align else (header_at l s).align) (sym t)
+    let t : is_template (header_at l s) ≡ is_template_type (type_of (header_at l s)) = ap
+    (λ (b : Bool). b && is_template_type (type_of (header_at l s))) carried in
+    ap (λ (n : ℕ). if is_template_type (type_of (header_at l s)) then n else if type_of (header_at l s) == 0x13 then max
+    (header_at l s).align 3 else (header_at l s).align) (template_same l p plan)
+    ∙ ap (λ (n : ℕ). if is_template_type (type_of (header_at l s)) then template_exponent l else if type_of
+    (header_at l s) == 0x13 then n else (header_at l s).align) (max_comm (header_at l s).align 3)
+    ∙ ap (λ (b : Bool). if b then template_exponent l else if type_of (header_at l s) == 0x13 then max 3 (header_at l s).align else
+    (header_at l s).align) (sym t)
 
 -- sums of what is the same for each element
 sums_agree : {X : Type 0} (f g : X → ℕ) (xs : List X) → AllByRecursion (λ x. f x ≡ g x) xs → sum_by f xs ≡ sum_by g xs
 sums_agree f g [] h = refl
 sums_agree f g (x ∷ xs) h = omega (arith, sum_by-cons f x xs, sum_by-cons g x xs, h.0, sums_agree f g xs h.1)
 
-all_carried : (l : Link) (f g : SectionId → ℕ) → ((s : SectionId) → is_carried (header_at l s) ≡ true → f s ≡ g s) → AllByRecursion (λ s. f s ≡ g s) (carried_of l)
+pub all_carried : (l : Link) (f g : SectionId → ℕ) → ((s : SectionId) → is_carried (header_at l s) ≡ true → f s ≡ g s) → AllByRecursion
+    (λ s. f s ≡ g s) (carried_of l)
 unfolding carried_of
-all_carried l f g e = recursion_from_All (λ s. f s ≡ g s) (filter (λ s. is_carried (header_at l s)) (sections_of l)) (λ k d low. e _ (filter_passes (λ s. is_carried (header_at l s)) (sections_of l) k d low))
+all_carried l f g e = recursion_from_All (λ s. f s ≡ g s) (filter (λ s. is_carried (header_at l s)) (sections_of l))
+    (λ k d low. e _ (filter_passes (λ s. is_carried (header_at l s)) (sections_of l) k d low))
 
 -- sections and commons cost the same
-members_same : (l : Link) (p : Planning) → IsPlanOf l p → members_cost p ≡ sum_by (link_cost l) (carried_of l) + sum_by (common_cost l) (chosen_commons l)
+members_same : (l : Link) (p : Planning) → IsPlanOf l p → members_cost p ≡ sum_by (link_cost l) (carried_of l) + sum_by (common_cost l)
+    (chosen_commons l)
 unfolding members_cost
 members_same l p plan =
-    let sections : sum_by (λ (s : SectionSpec). section_cost s.size (placed_align (template_align p) s)) p.sections ≡ sum_by (link_cost l) (carried_of l)
+    let sections : sum_by (λ (s : SectionSpec). section_cost s.size (placed_align (template_align p) s)) p.sections ≡ sum_by (link_cost l)
+    (carried_of l)
     = ap (sum_by (λ (s : SectionSpec). section_cost s.size (placed_align (template_align p) s))) plan.sections
     ∙ fold-map (λ (n : ℕ) (s : SectionSpec). n + section_cost s.size (placed_align (template_align p) s)) (spec_of l) 0 (carried_of l)
     ∙ sums_agree (λ s. section_cost (header_at l s).size (placed_align (template_align p) (spec_of l s))) (link_cost l) (carried_of l)
@@ -170,7 +193,8 @@ members_same l p plan =
     let commons : sum_by (λ (c : CommonSpec). section_cost c.size c.align) p.commons ≡ sum_by (common_cost l) (chosen_commons l)
     = ap (sum_by (λ (c : CommonSpec). section_cost c.size c.align)) plan.commons
     ∙ sym (sum-map (λ (c : CommonSpec). section_cost c.size c.align) (map (common_spec_of l) (enumerate_from 0 (chosen_commons l))))
-    ∙ ap sum (map_numbered (λ (c : CommonSpec). section_cost c.size c.align) (common_spec_of l) (common_cost l) (λ n x. refl) 0 (chosen_commons l))
+    ∙ ap sum (map_numbered (λ (c : CommonSpec). section_cost c.size c.align) (common_spec_of l) (common_cost l) (λ n x. refl) 0
+    (chosen_commons l))
     ∙ sum-map (common_cost l) (chosen_commons l) in
     omega (arith, sections, commons)
 

@@ -72,8 +72,10 @@ pub members-cost-is : (p : Planning) → sum_by cost_of (members_of p) ≡ membe
 unfolding members_of members_cost
 members-cost-is p =
     sum_by-append cost_of (map (section_member p) p.sections) (map (common_member p) p.commons)
-    ∙ ap (λ (n : ℕ). n + sum_by cost_of (map (common_member p) p.commons)) (fold-map (λ (n : ℕ) (m : Member). n + cost_of m) (section_member p) 0 p.sections)
-    ∙ ap (λ (n : ℕ). sum_by (λ (s : SectionSpec). cost_of (section_member p s)) p.sections + n) (fold-map (λ (n : ℕ) (m : Member). n + cost_of m) (common_member p) 0 p.commons)
+    ∙ ap (λ (n : ℕ). n + sum_by cost_of (map (common_member p) p.commons))
+    (fold-map (λ (n : ℕ) (m : Member). n + cost_of m) (section_member p) 0 p.sections)
+    ∙ ap (λ (n : ℕ). sum_by (λ (s : SectionSpec). cost_of (section_member p s)) p.sections + n)
+    (fold-map (λ (n : ℕ) (m : Member). n + cost_of m) (common_member p) 0 p.commons)
 
 -- the alignments that sections are placed at
 pub aligns_small : (p : Planning) (sections : List Planned) (t : ℕ) → p.sections ≡ specs_of sections → t ≡ template_align p
@@ -81,15 +83,20 @@ pub aligns_small : (p : Planning) (sections : List Planned) (t : ℕ) → p.sect
 aligns_small p sections t e at h k d low =
     let small = template-small p (subst (λ (ss : List SectionSpec). All (λ s. s.align ≤ 14) ss) (sym e) h) in
     let one : (get_or sections k d).spec.align ≤ 14
-    = subst (λ (s : SectionSpec). s.align ≤ 14) (get_or-map (λ (s : Planned). s.spec) sections k d d.spec low) (h k d.spec (omega (arith, length-map sections (λ (s : Planned). s.spec)))) in
+    = subst (λ (s : SectionSpec). s.align ≤ 14) (get_or-map (λ (s : Planned). s.spec) sections k d d.spec low)
+    (h k d.spec (omega (arith, length-map sections (λ (s : Planned). s.spec)))) in
     placed-small t (get_or sections k d).spec (omega arith) one
 
 -- what the parts cost, by what the tables hold
 pub members_split : (p : Planning) (sections : List Planned) (t : ℕ) → p.sections ≡ specs_of sections → t ≡ template_align p
-    → members_cost p ≡ sum_by (λ s. section_cost s.spec.size (placed_align t s.spec)) sections + sum_by (λ c. section_cost c.size c.align) p.commons
+    → members_cost p ≡ sum_by (λ s. section_cost s.spec.size (placed_align t s.spec)) sections + sum_by
+    (λ c. section_cost c.size c.align) p.commons
 unfolding members_cost
 members_split p sections t e at =
-    ap (λ (ss : List SectionSpec). sum_by (λ (s : SectionSpec). section_cost s.size (placed_align (template_align p) s)) ss + sum_by (λ (c : CommonSpec). section_cost c.size c.align) p.commons) e
+    ap (λ (ss : List SectionSpec). sum_by (λ (s : SectionSpec). section_cost s.size (placed_align (template_align p) s)) ss + sum_by
+    (λ (c : CommonSpec). section_cost c.size c.align) p.commons) e
     ∙ ap (λ (n : ℕ). n + sum_by (λ (c : CommonSpec). section_cost c.size c.align) p.commons)
-    (fold-map (λ (n : ℕ) (s : SectionSpec). n + section_cost s.size (placed_align (template_align p) s)) (λ (s : Planned). s.spec) 0 sections)
-    ∙ ap (λ (n : ℕ). sum_by (λ (s : Planned). section_cost s.spec.size (placed_align n s.spec)) sections + sum_by (λ (c : CommonSpec). section_cost c.size c.align) p.commons) (sym at)
+    (fold-map (λ (n : ℕ) (s : SectionSpec). n + section_cost s.size (placed_align (template_align p) s))
+    (λ (s : Planned). s.spec) 0 sections)
+    ∙ ap (λ (n : ℕ). sum_by (λ (s : Planned). section_cost s.spec.size (placed_align n s.spec)) sections + sum_by
+    (λ (c : CommonSpec). section_cost c.size c.align) p.commons) (sym at)

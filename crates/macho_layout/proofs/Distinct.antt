@@ -13,11 +13,13 @@ use Rattle.macho_model.specs.Needs.{distinct}
 use Rattle.macho_cells.proofs.Lists.{filter_push_yes, filter_push_no}
 
 -- what is taken out of a list doesn't pass a test: the list passes it as before
-pub any-filter : {X : Type 0} (p q : X → Bool) (xs : List X) → ((x : X) → p x ≡ false → q x ≡ false) → list_any q (filter p xs) ≡ list_any q xs
+pub any-filter : {X : Type 0} (p q : X → Bool) (xs : List X) → ((x : X) → p x ≡ false → q x ≡ false) → list_any q (filter p xs)
+    ≡ list_any q xs
 any-filter p q [] h = refl
 any-filter {X} p q (x ∷ xs) h = by (any-filter p q xs h) (p x) refl
   where
-    by : list_any q (filter p xs) ≡ list_any q xs → (b : Bool) → p x ≡ b → list_any q (cond b (x ∷ filter p xs) (filter p xs)) ≡ (q x || list_any q xs)
+    by : list_any q (filter p xs) ≡ list_any q xs → (b : Bool) → p x ≡ b → list_any q (cond b (x ∷ filter p xs) (filter p xs)) ≡
+        (q x || list_any q xs)
     by rest true is = ap (λ (b : Bool). q x || b) rest
     by rest false is = rest ∙ sym (ap (λ (b : Bool). b || list_any q xs) (h x is))
 
@@ -34,10 +36,12 @@ put_in {X} same d D y x = by (same x y) refl
     known true e = refl
     known false e = filter_push_no (λ z. not (same y z)) D x (not_from_true (same y x) ((d y x).1 (sym e)))
 
-    new : (a : Bool) → (x ≡ y → ⊥) → y ∷ others same y (cond a D (D ++ x ∷ [])) ≡ cond a (y ∷ others same y D) (y ∷ others same y D ++ x ∷ [])
+    new : (a : Bool) → (x ≡ y → ⊥) → y ∷ others same y (cond a D (D ++ x ∷ [])) ≡ cond a (y ∷ others same y D)
+        (y ∷ others same y D ++ x ∷ [])
     new true e = refl
     new false e =
-        ap (λ (zs : List X). y ∷ zs) (filter_push_yes (λ z. not (same y z)) D x (not_from_false (same y x) (false_from_ne_true (same y x) (λ t. e (sym ((d y x).0 t))))))
+        ap (λ (zs : List X). y ∷ zs) (filter_push_yes (λ z. not (same y z)) D x
+        (not_from_false (same y x) (false_from_ne_true (same y x) (λ t. e (sym ((d y x).0 t))))))
 
     by : (b : Bool) → same x y ≡ b → y ∷ others same y (insert_key same D x) ≡ insert_key same (y ∷ others same y D) x
     by true is =
@@ -55,7 +59,8 @@ put_in {X} same d D y x = by (same x y) refl
 pub distinct_push : {X : Type 0} (same : X → X → Bool) → ((a b : X) → Decides (same a b) (a ≡ b)) → (xs : List X) (x : X)
     → distinct same (xs ++ x ∷ []) ≡ insert_key same (distinct same xs) x
 distinct_push same d [] x = refl
-distinct_push {X} same d (y ∷ ys) x = ap (λ (zs : List X). y ∷ others same y zs) (distinct_push same d ys x) ∙ put_in same d (distinct same ys) y x
+distinct_push {X} same d (y ∷ ys) x = ap (λ (zs : List X). y ∷ others same y zs) (distinct_push same d ys x) ∙ put_in same d
+    (distinct same ys) y x
 
 -- the place of an element in a list that it was put into
 pub place_put : {X : Type 0} (p : X → Bool) (b : Bool) (xs : List X) (x : X) → position_or_len p xs < length xs
@@ -63,14 +68,16 @@ pub place_put : {X : Type 0} (p : X → Bool) (b : Bool) (xs : List X) (x : X) �
 place_put p true xs x inside = refl
 place_put p false xs x inside =
     position_or_len_push p xs x
-    ∙ ap (λ (b : Bool). cond b (length xs + cond (p x) 0 1) (position_or_len p xs)) (ne_eqb (position_or_len p xs) (length xs) (λ e. omega arith))
+    ∙ ap (λ (b : Bool). cond b (length xs + cond (p x) 0 1) (position_or_len p xs))
+    (ne_eqb (position_or_len p xs) (length xs) (λ e. omega arith))
 
 pub place_new : {X : Type 0} (p : X → Bool) (b : Bool) (xs : List X) (x : X) → p x ≡ true
     → position_or_len p (cond b xs (xs ++ x ∷ [])) ≡ position_or_len p xs
 place_new p true xs x passes = refl
 place_new p false xs x passes = position_or_len_push p xs x ∙ by (eqb (position_or_len p xs) (length xs)) refl
   where
-    by : (b : Bool) → eqb (position_or_len p xs) (length xs) ≡ b → cond b (length xs + cond (p x) 0 1) (position_or_len p xs) ≡ position_or_len p xs
+    by : (b : Bool) → eqb (position_or_len p xs) (length xs) ≡ b → cond b (length xs + cond (p x) 0 1) (position_or_len p xs)
+        ≡ position_or_len p xs
     by true is = ap (λ (b : Bool). length xs + cond b 0 1) passes ∙ omega (arith, eqb-true (position_or_len p xs) (length xs) is)
     by false is = refl
 

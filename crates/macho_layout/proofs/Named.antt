@@ -41,10 +41,12 @@ name_in_field bytes =
     let z : List ℕ = replicate (16 - length (name_of bytes)) 0 in
     let cut : prefix_len (λ (b : ℕ). not (b == 0)) (name_field bytes) ≡ length (name_of bytes)
     = prefix_len-append (λ (b : ℕ). not (b == 0)) n z
-    ∙ ap (λ (t : Bool). cond t (length (name_of bytes) + prefix_len (λ (b : ℕ). not (b == 0)) (replicate (16 - length (name_of bytes)) 0)) (prefix_len (λ (b : ℕ). not (b == 0)) (name_of bytes)))
+    ∙ ap (λ (t : Bool). cond t (length (name_of bytes) + prefix_len (λ (b : ℕ). not (b == 0)) (replicate (16 - length (name_of bytes)) 0))
+    (prefix_len (λ (b : ℕ). not (b == 0)) (name_of bytes)))
     (eq-eqb (prefix_len (λ (b : ℕ). not (b == 0)) (name_of bytes)) (length (name_of bytes)) (cut_whole bytes))
     ∙ omega (arith, no_name (16 - length (name_of bytes))) in
-    ap (λ (k : ℕ). take k (name_field bytes)) cut ∙ take_at (name_of bytes) (replicate (16 - length (name_of bytes)) 0) (length (name_of bytes)) refl
+    ap (λ (k : ℕ). take k (name_field bytes)) cut ∙ take_at (name_of bytes) (replicate (16 - length (name_of bytes)) 0)
+    (length (name_of bytes)) refl
 
 -- fields are equal exactly where their names are
 pub fields_agree : (a b : List ℕ) → bytes_eq (name_field a) (name_field b) ≡ bytes_eq (name_of a) (name_of b)
@@ -61,12 +63,14 @@ pub filter_map_is : {X Y : Type 0} (p : Y → Bool) (g : X → Y) (xs : List X) 
 filter_map_is p g [] = refl
 filter_map_is {X} {Y} p g (x ∷ xs) = by (filter_map_is p g xs) (p (g x))
   where
-    by : filter p (map g xs) ≡ map g (filter (λ y. p (g y)) xs) → (b : Bool) → cond b (g x ∷ filter p (map g xs)) (filter p (map g xs)) ≡ map g (cond b (x ∷ filter (λ y. p (g y)) xs) (filter (λ y. p (g y)) xs))
+    by : filter p (map g xs) ≡ map g (filter (λ y. p (g y)) xs) → (b : Bool) → cond b (g x ∷ filter p (map g xs)) (filter p (map g xs))
+        ≡ map g (cond b (x ∷ filter (λ y. p (g y)) xs) (filter (λ y. p (g y)) xs))
     by h true = ap (λ (zs : List Y). g x ∷ zs) h
     by h false = h
 
 -- repeats of a map
-pub distinct_map : {X Y : Type 0} (same : Y → Y → Bool) (g : X → Y) (xs : List X) → distinct same (map g xs) ≡ map g (distinct (λ a b. same (g a) (g b)) xs)
+pub distinct_map : {X Y : Type 0} (same : Y → Y → Bool) (g : X → Y) (xs : List X) → distinct same (map g xs) ≡ map g
+    (distinct (λ a b. same (g a) (g b)) xs)
 distinct_map same g [] = refl
 distinct_map {X} {Y} same g (x ∷ xs) =
     ap (λ (zs : List Y). g x ∷ filter (λ y. not (same (g x) y)) zs) (distinct_map same g xs)
@@ -85,9 +89,12 @@ pub any_distinct : {X : Type 0} (same : X → X → Bool) (p : X → Bool) → (
 any_distinct same p e [] = refl
 any_distinct {X} same p e (x ∷ xs) = by (any_distinct same p e xs) (p x) refl
   where
-    by : list_any p (distinct same xs) ≡ list_any p xs → (b : Bool) → p x ≡ b → (p x || list_any p (filter (λ y. not (same x y)) (distinct same xs))) ≡ (p x || list_any p xs)
-    by h true is = ap (λ (b : Bool). b || list_any p (filter (λ y. not (same x y)) (distinct same xs))) is ∙ sym (ap (λ (b : Bool). b || list_any p xs) is)
-    by h false is = ap (λ (b : Bool). p x || b) (any-filter (λ y. not (same x y)) p (distinct same xs) (λ y out. sym (e x y (not-false (same x y) out)) ∙ is) ∙ h)
+    by : list_any p (distinct same xs) ≡ list_any p xs → (b : Bool) → p x ≡ b →
+        (p x || list_any p (filter (λ y. not (same x y)) (distinct same xs))) ≡ (p x || list_any p xs)
+    by h true is = ap (λ (b : Bool). b || list_any p (filter (λ y. not (same x y)) (distinct same xs))) is ∙ sym
+        (ap (λ (b : Bool). b || list_any p xs) is)
+    by h false is = ap (λ (b : Bool). p x || b) (any-filter (λ y. not (same x y)) p (distinct same xs)
+        (λ y out. sym (e x y (not-false (same x y) out)) ∙ is) ∙ h)
 
 -- a test under a map
 pub any_map : {X Y : Type 0} (p : Y → Bool) (g : X → Y) (xs : List X) → list_any p (map g xs) ≡ list_any (λ x. p (g x)) xs

@@ -36,7 +36,7 @@ use Rattle.macho_layout.specs.Cells.{merged_cell, cell_if, text_cell, made_cells
 use Rattle.macho_layout.proofs.Costs.{most-max, template-small, placed-small}
 
 -- the first place that passes is inside where some place passes
-place_inside : {X : Type 0} (p : X → Bool) (xs : List X) → list_any p xs ≡ true → position_or_len p xs < length xs
+pub place_inside : {X : Type 0} (p : X → Bool) (xs : List X) → list_any p xs ≡ true → position_or_len p xs < length xs
 place_inside p xs some =
     let a = Any-from_list_any p xs some in
     elim (cases_lt (position_or_len p xs) (length xs)) [
@@ -45,7 +45,7 @@ place_inside p xs some =
     ]
 
 -- the commons have a number, where there are some
-commons_there : (p : Planning) → 0 < length p.commons → common_output p < merged_count p
+pub commons_there : (p : Planning) → 0 < length p.commons → common_output p < merged_count p
 commons_there p some =
     let q : OutputName → Bool = same_output COMMON_NAME in
     let empty : (length p.commons == 0) ≡ false = ne_eqb (length p.commons) 0 (λ e. omega arith) in
@@ -54,12 +54,14 @@ commons_there p some =
       | inl there ↦ omega (arith, place_inside (same_output COMMON_NAME) (section_outputs p) there)
       | inr new ↦
           let one : one_if (has_new_commons p) ≡ 1
-          = ap (λ (b : Bool). one_if (not b && not (list_any (same_output COMMON_NAME) (section_outputs p)))) empty ∙ ap (λ (b : Bool). one_if (not b)) new in
+          = ap (λ (b : Bool). one_if (not b && not (list_any (same_output COMMON_NAME) (section_outputs p)))) empty ∙ ap
+          (λ (b : Bool). one_if (not b)) new in
           omega (arith, one, most)
     ]
 
 -- all members are in output sections
-pub members_there : (p : Planning) (sections : List Planned) (keys : List OutputName) (segments : List SegmentName) → p.sections ≡ specs_of sections
+pub members_there : (p : Planning) (sections : List Planned) (keys : List OutputName) (segments : List SegmentName) → p.sections
+    ≡ specs_of sections
     → HoldNames sections keys segments → All (λ m. m.cell < merged_count p) (members_of p)
 unfolding members_of
 members_there p sections keys segments e h =
@@ -72,15 +74,18 @@ members_there p sections keys segments e h =
     omega (arith, h.outputs k d low, h.within k d low, place, long)) in
     All-append (λ m. m.cell < merged_count p) (map (section_member p) p.sections) (map (common_member p) p.commons)
     (All-map (λ m. m.cell < merged_count p) (section_member p) p.sections
-    (subst (λ (ss : List SectionSpec). All (λ s. position_or_len (same_output (output_key_of s)) (section_outputs p) < merged_count p) ss) (sym e) one))
+    (subst (λ (ss : List SectionSpec). All (λ s. position_or_len (same_output (output_key_of s)) (section_outputs p) < merged_count p) ss)
+    (sym e) one))
     (All-map (λ m. m.cell < merged_count p) (common_member p) p.commons (λ k d low. commons_there p (omega arith)))
 
 -- no alignment passes a page's
-pub members_small : (p : Planning) → All (λ s. s.align ≤ 14) p.sections → All (λ c. c.align ≤ 14) p.commons → All (λ m. m.exponent ≤ 14) (members_of p)
+pub members_small : (p : Planning) → All (λ s. s.align ≤ 14) p.sections → All (λ c. c.align ≤ 14) p.commons → All (λ m. m.exponent ≤ 14)
+    (members_of p)
 unfolding members_of
 members_small p ss cs =
     All-append (λ m. m.exponent ≤ 14) (map (section_member p) p.sections) (map (common_member p) p.commons)
-    (All-map (λ m. m.exponent ≤ 14) (section_member p) p.sections (λ k d low. placed-small (template_align p) (get_or p.sections k d) (template-small p ss) (ss k d low)))
+    (All-map (λ m. m.exponent ≤ 14) (section_member p) p.sections (λ k d low. placed-small (template_align p) (get_or p.sections k d)
+    (template-small p ss) (ss k d low)))
     (All-map (λ m. m.exponent ≤ 14) (common_member p) p.commons cs)
 
 pub flags_many : (p : Planning) → length (first_flags p) ≡ merged_count p
@@ -88,17 +93,19 @@ unfolding first_flags
 flags_many p = length-map-range_with_len _ 0 (merged_count p)
 
 -- a fact about mapped elements
-unmapped : {X Y : Type 0} (P : Y → Type 0) (f : X → Y) (xs : List X) (ys : List Y) → map f xs ≡ ys → All P ys → All (λ x. P (f x)) xs
+pub unmapped : {X Y : Type 0} (P : Y → Type 0) (f : X → Y) (xs : List X) (ys : List Y) → map f xs ≡ ys → All P ys → All (λ x. P (f x)) xs
 unmapped P f xs ys e h k d low =
     subst P (ap (λ zs. get_or zs k (f d)) (sym e) ∙ get_or-map f xs k d (f d) low) (h k (f d) (omega (arith, ap length e, length-map xs f)))
 
 -- no output section's alignment passes a page's
-pub extents_small : (flags : List ℕ) (members : List Member) (extents : List Extent) (placed : List PlacedMember) (c : ℕ) → AreStacked flags members extents placed
+pub extents_small : (flags : List ℕ) (members : List Member) (extents : List Extent) (placed : List PlacedMember) (c : ℕ)
+    → AreStacked flags members extents placed
     → All (λ m. m.exponent ≤ 14) members → c < length flags → (extent_at extents c).exponent ≤ 14
 extents_small flags members extents placed c s small there =
     let each = unmapped (λ (m : Member). m.exponent ≤ 14) (λ (q : PlacedMember). q.member) placed members s.same small in
     let most = most-max (λ (q : PlacedMember). q.member.exponent) 14 0 (members_in c placed) (omega arith)
-    (recursion_from_All (λ (q : PlacedMember). q.member.exponent ≤ 14) (members_in c placed) (All-filter (is_in_cell c) (λ (q : PlacedMember). q.member.exponent ≤ 14) placed each)) in
+    (recursion_from_All (λ (q : PlacedMember). q.member.exponent ≤ 14) (members_in c placed)
+    (All-filter (is_in_cell c) (λ (q : PlacedMember). q.member.exponent ≤ 14) placed each)) in
     omega (arith, s.exponents c there, most)
 
 -- a cell that isn't empty
@@ -110,19 +117,28 @@ if_small P c h = by (nat_lt 0 c.size)
     by false = λ k d low. absurd (omega arith)
 
 -- what all cells keep
-cells_keep : (P : Cell → Type 0) (p : Planning) (counts : Counts) (names : List SegmentName) (extents : List Extent)
-    → ((n : ℕ) → n < length extents → P (merged_cell p names n (extent_at extents n))) → P (text_cell (length extents + 0) 1 (4 * counts.initializers))
+pub cells_keep : (P : Cell → Type 0) (p : Planning) (counts : Counts) (names : List SegmentName) (extents : List Extent)
+    → ((n : ℕ) → n < length extents → P (merged_cell p names n (extent_at extents n))) → P
+    (text_cell (length extents + 0) 1 (4 * counts.initializers))
     → P (text_cell (length extents + 1) 2 counts.unwind) → P (text_cell (length extents + 2) 3 (12 * length p.stubs))
-    → P (record { number = length extents + 3; rank = 12; exponent = 3; size = 8 * length p.slots }) → All P (cells_of p counts names extents)
+    → P (record { number = length extents + 3; rank = 12; exponent = 3; size = 8 * length p.slots }) → All P
+    (cells_of p counts names extents)
 unfolding cells_of
 cells_keep P p counts names extents merged a b c d =
     let made = All-append P _ _ (All-append P _ _ (All-append P _ _ (if_small P _ a) (if_small P _ b)) (if_small P _ c)) (if_small P _ d) in
-    All-append P (map (λ number. merged_cell p names number (extent_at extents number)) (range_with_len 0 (length extents))) (made_cells p counts (length extents))
+    All-append P (map (λ number. merged_cell p names number (extent_at extents number)) (range_with_len 0 (length extents)))
+    (made_cells p counts (length extents))
     (λ k e low.
-    let inside : k < length extents = omega (arith, length-map-range_with_len (λ number. merged_cell p names number (extent_at extents number)) 0 (length extents)) in
-    subst P (sym (get_or-map-range_with_len (λ number. merged_cell p names number (extent_at extents number)) 0 (length extents) k k e inside (omega arith))) (merged k inside)) made
+    let inside : k < length extents = omega (
+      arith,
+      length-map-range_with_len
+          (λ number. merged_cell p names number (extent_at extents number)) 0 (length extents),
+    ) in
+    subst P (sym (get_or-map-range_with_len (λ number. merged_cell p names number (extent_at extents number)) 0
+    (length extents) k k e inside (omega arith))) (merged k inside)) made
 
-pub cells_small : (p : Planning) (counts : Counts) (names : List SegmentName) (extents : List Extent) → ((c : ℕ) → c < length extents → (extent_at extents c).exponent ≤ 14)
+pub cells_small : (p : Planning) (counts : Counts) (names : List SegmentName) (extents : List Extent) →
+    ((c : ℕ) → c < length extents → (extent_at extents c).exponent ≤ 14)
     → All (λ c. c.exponent ≤ 14) (cells_of p counts names extents)
 cells_small p counts names extents h =
     cells_keep (λ c. c.exponent ≤ 14) p counts names extents h (omega arith) (omega arith) (omega arith) (omega arith)
@@ -130,7 +146,8 @@ cells_small p counts names extents h =
 pub cells_numbered : (p : Planning) (counts : Counts) (names : List SegmentName) (extents : List Extent)
     → All (λ c. c.number < length extents + 4) (cells_of p counts names extents)
 cells_numbered p counts names extents =
-    cells_keep (λ c. c.number < length extents + 4) p counts names extents (λ n low. omega arith) (omega arith) (omega arith) (omega arith) (omega arith)
+    cells_keep (λ c. c.number < length extents + 4) p counts names extents (λ n low. omega arith) (omega arith) (omega arith) (omega arith)
+    (omega arith)
 
 -- what a cell costs where it isn't empty
 if_cost : (c : Cell) → sum_by cell_cost (cell_if c) ≤ cell_cost c
@@ -148,15 +165,18 @@ sum_numbered f xs d =
 
 -- what all cells cost
 pub cells-cost : (p : Planning) (counts : Counts) (names : List SegmentName) (extents : List Extent)
-    → sum_by cell_cost (cells_of p counts names extents) ≤ sum_by extent_cost extents + 4 * counts.initializers + counts.unwind + 12 * length p.stubs + 8 * length p.slots + 16
+    → sum_by cell_cost (cells_of p counts names extents) ≤ sum_by extent_cost extents + 4 * counts.initializers + counts.unwind + 12 *
+    length p.stubs + 8 * length p.slots + 16
 unfolding cells_of
 cells-cost p counts names extents =
     let a : Cell = text_cell (length extents + 0) 1 (4 * counts.initializers) in
     let b : Cell = text_cell (length extents + 1) 2 counts.unwind in
     let c : Cell = text_cell (length extents + 2) 3 (12 * length p.stubs) in
     let d : Cell = record { number = length extents + 3; rank = 12; exponent = 3; size = 8 * length p.slots } in
-    let front = sum_by-append cell_cost (map (λ number. merged_cell p names number (extent_at extents number)) (range_with_len 0 (length extents))) (made_cells p counts (length extents)) in
-    let merged = fold-map (λ (n : ℕ) (x : Cell). n + cell_cost x) (λ (number : ℕ). merged_cell p names number (extent_at extents number)) 0 (range_with_len 0 (length extents)) in
+    let front = sum_by-append cell_cost (map (λ number. merged_cell p names number (extent_at extents number))
+    (range_with_len 0 (length extents))) (made_cells p counts (length extents)) in
+    let merged = fold-map (λ (n : ℕ) (x : Cell). n + cell_cost x) (λ (number : ℕ). merged_cell p names number (extent_at extents number)) 0
+    (range_with_len 0 (length extents)) in
     let sums = sum_numbered extent_cost extents (empty_extent 0) in
     omega (
       arith,
@@ -177,12 +197,15 @@ pub ranks_keep : (P : Cell → Type 0) (first n : ℕ) (cells : List Cell) → A
 ranks_keep P first zero cells h = All-same P (of_ranks first 0 cells) [] (of_ranks-none first cells) (λ k d low. absurd (omega arith))
 ranks_keep P first (suc n) cells h =
     let next : suc n ≡ n + 1 = omega arith in
-    All-same P (of_ranks first (suc n) cells) (of_ranks first n cells ++ filter (has_rank (first + n)) cells) (ap (λ (k : ℕ). of_ranks first k cells) next ∙ of_ranks-more first n cells)
-    (All-append P (of_ranks first n cells) (filter (has_rank (first + n)) cells) (ranks_keep P first n cells h) (All-filter (has_rank (first + n)) P cells h))
+    All-same P (of_ranks first (suc n) cells) (of_ranks first n cells ++ filter (has_rank (first + n)) cells)
+    (ap (λ (k : ℕ). of_ranks first k cells) next ∙ of_ranks-more first n cells)
+    (All-append P (of_ranks first n cells) (filter (has_rank (first + n)) cells) (ranks_keep P first n cells h)
+    (All-filter (has_rank (first + n)) P cells h))
 
 -- the numbers of placed cells
 pub placed_numbered : (p : Planning) (counts : Counts) (names : List SegmentName) (extents : List Extent) (placed : List PlacedCell) (n : ℕ)
     → map (λ q. q.cell) placed ≡ of_ranks 0 n (cells_of p counts names extents) → All (λ q. q.cell.number < length extents + 4) placed
 placed_numbered p counts names extents placed n e =
-    unmapped (λ (c : Cell). c.number < length extents + 4) (λ (q : PlacedCell). q.cell) placed (of_ranks 0 n (cells_of p counts names extents)) e
+    unmapped (λ (c : Cell). c.number < length extents + 4) (λ (q : PlacedCell). q.cell) placed
+    (of_ranks 0 n (cells_of p counts names extents)) e
     (ranks_keep (λ c. c.number < length extents + 4) 0 n (cells_of p counts names extents) (cells_numbered p counts names extents))

@@ -40,7 +40,8 @@ output_key l s = output_key_of (spec_of l s)
 pub twice : (x : List ℕ) → name_of (name_field (name_field x)) ≡ name_of x
 twice x = name_in_field (name_field x) ∙ name_in_field x
 
-segments_agree : (l : Link) (a b : SectionId) → same_segment (segment_key l a) (segment_key l b) ≡ bytes_eq (segment_name l a) (segment_name l b)
+pub segments_agree : (l : Link) (a b : SectionId) → same_segment (segment_key l a) (segment_key l b) ≡ bytes_eq (segment_name l a)
+    (segment_name l b)
 segments_agree l a b =
     fields_agree (name_field (header_at l a).segname) (name_field (header_at l b).segname)
     ∙ ap (λ (n : List ℕ). bytes_eq n (name_of (name_field (header_at l b).segname))) (name_in_field (header_at l a).segname)
@@ -50,26 +51,31 @@ pub and_group : (a b c : Bool) → (a && (b && c)) ≡ (a && b && c)
 and_group true b c = refl
 and_group false b c = refl
 
-pub outputs_agree : (l : Link) (a b : SectionId) → same_output (output_key l a) (output_key l b) ≡ same_key (key_of (header_at l a)) (key_of (header_at l b))
+pub outputs_agree : (l : Link) (a b : SectionId) → same_output (output_key l a) (output_key l b) ≡ same_key (key_of (header_at l a))
+    (key_of (header_at l b))
 outputs_agree l a b =
-    ap (λ (t : Bool). t && (same_segment (output_key l a).name (output_key l b).name && ((output_key l a).kind == (output_key l b).kind))) (segments_agree l a b)
-    ∙ ap (λ (t : Bool). bytes_eq (segment_name l a) (segment_name l b) && (t && ((output_key l a).kind == (output_key l b).kind))) (fields_agree (header_at l a).sectname (header_at l b).sectname)
-    ∙ and_group (bytes_eq (segment_name l a) (segment_name l b)) (bytes_eq (name_of (header_at l a).sectname) (name_of (header_at l b).sectname)) (type_of (header_at l a) == type_of (header_at l b))
+    ap (λ (t : Bool). t && (same_segment (output_key l a).name (output_key l b).name && ((output_key l a).kind == (output_key l b).kind)))
+    (segments_agree l a b)
+    ∙ ap (λ (t : Bool). bytes_eq (segment_name l a) (segment_name l b) && (t && ((output_key l a).kind == (output_key l b).kind)))
+    (fields_agree (header_at l a).sectname (header_at l b).sectname)
+    ∙ and_group (bytes_eq (segment_name l a) (segment_name l b)) (bytes_eq (name_of (header_at l a).sectname)
+    (name_of (header_at l b).sectname)) (type_of (header_at l a) == type_of (header_at l b))
 
 -- carried sections, one of each segment, and one of each output section
-abbrev segments_once : Link → List SectionId
+abbrev pub segments_once : Link → List SectionId
 segments_once l = distinct (λ a b. bytes_eq (segment_name l a) (segment_name l b)) (carried_of l)
 
 abbrev pub outputs_once : Link → List SectionId
 outputs_once l = distinct (λ a b. same_key (key_of (header_at l a)) (key_of (header_at l b))) (carried_of l)
 
-segments_are : (l : Link) (p : Planning) → IsPlanOf l p → section_segments p ≡ map (segment_key l) (segments_once l)
+pub segments_are : (l : Link) (p : Planning) → IsPlanOf l p → section_segments p ≡ map (segment_key l) (segments_once l)
 unfolding segments_seen
 segments_are l p plan =
     ap (λ (ss : List SectionSpec). distinct same_segment (map segment_key_of ss)) plan.sections
     ∙ ap (distinct same_segment) (map_map segment_key_of (spec_of l) (carried_of l))
     ∙ distinct_map same_segment (segment_key l) (carried_of l)
-    ∙ ap (map (segment_key l)) (distinct_agree (λ a b. same_segment (segment_key l a) (segment_key l b)) (λ a b. bytes_eq (segment_name l a) (segment_name l b)) (segments_agree l) (carried_of l))
+    ∙ ap (map (segment_key l)) (distinct_agree (λ a b. same_segment (segment_key l a) (segment_key l b))
+    (λ a b. bytes_eq (segment_name l a) (segment_name l b)) (segments_agree l) (carried_of l))
 
 pub outputs_are : (l : Link) (p : Planning) → IsPlanOf l p → section_outputs p ≡ map (output_key l) (outputs_once l)
 unfolding outputs_seen
@@ -77,7 +83,8 @@ outputs_are l p plan =
     ap (λ (ss : List SectionSpec). distinct same_output (map output_key_of ss)) plan.sections
     ∙ ap (distinct same_output) (map_map output_key_of (spec_of l) (carried_of l))
     ∙ distinct_map same_output (output_key l) (carried_of l)
-    ∙ ap (map (output_key l)) (distinct_agree (λ a b. same_output (output_key l a) (output_key l b)) (λ a b. same_key (key_of (header_at l a)) (key_of (header_at l b))) (outputs_agree l) (carried_of l))
+    ∙ ap (map (output_key l)) (distinct_agree (λ a b. same_output (output_key l a) (output_key l b))
+    (λ a b. same_key (key_of (header_at l a)) (key_of (header_at l b))) (outputs_agree l) (carried_of l))
 
 -- other segments
 others_many : (l : Link) (p : Planning) → IsPlanOf l p → length (filter is_other (section_segments p)) ≡ length (other_segments l)
@@ -96,13 +103,16 @@ others_many l p plan =
 
 pub bytes_turn : (a b : List ℕ) → bytes_eq a b ≡ bytes_eq b a
 bytes_turn a b =
-    same_from_decides (bytes_eq a b) (bytes_eq b a) (λ t. sym ((bytes_eq-Decides a b).0 t), λ e. (bytes_eq-Decides a b).1 (sym e)) (bytes_eq-Decides b a)
+    same_from_decides (bytes_eq a b) (bytes_eq b a) (λ t. sym ((bytes_eq-Decides a b).0 t), λ e. (bytes_eq-Decides a b).1 (sym e))
+    (bytes_eq-Decides b a)
 
 -- whether a segment of a name has sections
-segment_there : (l : Link) (p : Planning) (name : List ℕ) → IsPlanOf l p → name_of name ≡ name → has_segment p (padded name) ≡ has_section_in l name
+pub segment_there : (l : Link) (p : Planning) (name : List ℕ) → IsPlanOf l p → name_of name ≡ name → has_segment p (padded name)
+    ≡ has_section_in l name
 segment_there l p name plan whole =
     let agree : (s : SectionId) → same_segment (padded name) (segment_key l s) ≡ bytes_eq (segment_name l s) name
-    = λ s. fields_agree name (name_field (header_at l s).segname) ∙ ap (λ (n : List ℕ). bytes_eq n (name_of (name_field (header_at l s).segname))) whole
+    = λ s. fields_agree name (name_field (header_at l s).segname) ∙ ap
+    (λ (n : List ℕ). bytes_eq n (name_of (name_field (header_at l s).segname))) whole
     ∙ ap (bytes_eq name) (name_in_field (header_at l s).segname) ∙ bytes_turn name (segment_name l s) in
     ap (list_any (same_segment (padded name))) (segments_are l p plan)
     ∙ any_map (same_segment (padded name)) (segment_key l) (segments_once l)
@@ -110,7 +120,7 @@ segment_there l p name plan whole =
     ∙ any_distinct (λ a b. bytes_eq (segment_name l a) (segment_name l b)) (λ s. bytes_eq (segment_name l s) name)
     (λ a b t. ap (λ (n : List ℕ). bytes_eq n name) ((bytes_eq-Decides (segment_name l a) (segment_name l b)).0 t)) (carried_of l)
 
-or_turn : (a b : Bool) → (a || b) ≡ (b || a)
+pub or_turn : (a b : Bool) → (a || b) ≡ (b || a)
 or_turn true true = refl
 or_turn true false = refl
 or_turn false true = refl
@@ -118,7 +128,8 @@ or_turn false false = refl
 
 pub commons_many : (l : Link) (p : Planning) → IsPlanOf l p → length p.commons ≡ length (chosen_commons l)
 commons_many l p plan =
-    ap length plan.commons ∙ length-map (enumerate_from 0 (chosen_commons l)) (common_spec_of l) ∙ length-enumerate_from 0 (chosen_commons l)
+    ap length plan.commons ∙ length-map (enumerate_from 0 (chosen_commons l)) (common_spec_of l) ∙ length-enumerate_from 0
+    (chosen_commons l)
 
 -- as many segments
 pub segments_same : (l : Link) (p : Planning) → IsPlanOf l p → segment_count p ≡ length (segment_names_of l)
@@ -126,10 +137,12 @@ unfolding segment_names_of
 segments_same l p plan =
     let const : has_data_const p ≡ (has_section_in l DATA_CONST || not (length (slots_of l) == 0))
     = ap (λ (n : ℕ). not (n == 0) || has_segment p (padded DATA_CONST)) (ap length plan.slots)
-    ∙ ap (λ (b : Bool). not (length (slots_of l) == 0) || b) (segment_there l p DATA_CONST plan refl) ∙ or_turn (not (length (slots_of l) == 0)) (has_section_in l DATA_CONST) in
+    ∙ ap (λ (b : Bool). not (length (slots_of l) == 0) || b) (segment_there l p DATA_CONST plan refl) ∙ or_turn
+    (not (length (slots_of l) == 0)) (has_section_in l DATA_CONST) in
     let written : has_data p ≡ (has_section_in l DATA || not (length (chosen_commons l) == 0))
     = ap (λ (n : ℕ). not (n == 0) || has_segment p (padded DATA)) (commons_many l p plan)
-    ∙ ap (λ (b : Bool). not (length (chosen_commons l) == 0) || b) (segment_there l p DATA plan refl) ∙ or_turn (not (length (chosen_commons l) == 0)) (has_section_in l DATA) in
+    ∙ ap (λ (b : Bool). not (length (chosen_commons l) == 0) || b) (segment_there l p DATA plan refl) ∙ or_turn
+    (not (length (chosen_commons l) == 0)) (has_section_in l DATA) in
     let a : List (List ℕ) = list_if l.executable (PAGEZERO ∷ []) in
     let b : List (List ℕ) = TEXT ∷ [] in
     let c : List (List ℕ) = list_if (has_section_in l DATA_CONST || not (length (slots_of l) == 0)) (DATA_CONST ∷ []) in

@@ -22,14 +22,14 @@ use Rattle.macho_layout.specs.Plans.{Planning}
 use Rattle.macho_layout.specs.Keys.{padded}
 use Rattle.macho_layout.specs.Names.{mapped_names}
 use Rattle.macho_layout.specs.Cells.{cells_of}
-use Rattle.macho_layout.specs.Rows.{RowCells, row_segment, row_at, front_at, RowsFrom, segments_from, AreRows}
+use Rattle.macho_rows.specs.Rows.{RowCells, row_segment, row_at, front_at, RowsFrom, segments_from, AreRows}
 use Rattle.macho_layout.specs.Places.{is_pointer_segment, segment_pages, row_pages}
 use Rattle.macho_layout.specs.Sums.{members_cost, written_sum, head_size, base_of, FitsLimits}
 use Rattle.macho_model.specs.Order.{fixup_room}
 use Rattle.std.proofs.lemmas.Nat.{div-mul-add}
 use Rattle.macho_cells.proofs.Multiples.{rounded-near, rounded-above}
-use Rattle.macho_layout.specs.Tables.{tables_cost, tables_at, symbols_start, signature_start}
-use Rattle.macho_layout.proofs.RowSteps.{parts-cost, paged-near, row-cost}
+use Rattle.macho_rows.specs.Tables.{tables_cost, tables_at, symbols_start, signature_start}
+use Rattle.macho_rows.proofs.RowSteps.{parts-cost, paged-near, row-cost}
 use Rattle.macho_layout.proofs.Rooms.{cells-cost}
 
 -- a segment has no more pages than its file part
@@ -41,24 +41,29 @@ pages-most s = by (is_pointer_segment s)
     by false = omega arith
 
 -- the pages of rows behind the first one
-pages_from : (names : List SegmentName) (cells : List Cell) (head n a o : ℕ) (rs : List RowCells) (a' o' : ℕ) → 1 ≤ n → RowsFrom names cells head n a o rs a' o'
-    → 0x4000 * row_pages (segments_from names head n a o rs) ≤ sum_by cell_cost (of_ranks (9 * n) (9 * length rs) cells) + 0x4000 * length rs
+pages_from : (names : List SegmentName) (cells : List Cell) (head n a o : ℕ) (rs : List RowCells) (a' o' : ℕ) → 1 ≤ n
+    → RowsFrom names cells head n a o rs a' o'
+    → 0x4000 * row_pages (segments_from names head n a o rs) ≤ sum_by cell_cost
+    (of_ranks (9 * n) (9 * length rs) cells) + 0x4000 * length rs
 pages_from names cells head n a o [] a' o' some h = omega arith
 pages_from names cells head n a o (r ∷ rs) a' o' some h =
     let s : PlacedSegment = row_segment (row_at names head n a o) r in
     let a2 : ℕ = a + rounded_up SEGMENT_PAGE (r.end - a) in
     let o2 : ℕ = o + rounded_up SEGMENT_PAGE (r.filled_end - a) in
-    let rest = pages_from names cells head (n + 1) (a + rounded_up SEGMENT_PAGE (r.end - a)) (o + rounded_up SEGMENT_PAGE (r.filled_end - a)) rs a' o' (omega arith) h.1 in
+    let rest = pages_from names cells head (n + 1) (a + rounded_up SEGMENT_PAGE (r.end - a))
+    (o + rounded_up SEGMENT_PAGE (r.filled_end - a)) rs a' o' (omega arith) h.1 in
     let cost = row-cost cells (row_at names head n a o) r h.0 in
     let front : front_at head n ≡ 0 = ap (λ (t : Bool). if t then head else 0) (ne_eqb n 0 (λ e. omega arith)) in
     let long : 9 * length (r ∷ rs) ≡ 9 + 9 * length rs = omega arith in
     let place : 9 * n + 9 ≡ 9 * (n + 1) = omega arith in
-    let parts : sum_by cell_cost (of_ranks (9 * n) (9 * length (r ∷ rs)) cells) ≡ sum_by cell_cost (of_ranks (9 * n) 9 cells) + sum_by cell_cost (of_ranks (9 * (n + 1)) (9 * length rs) cells)
+    let parts : sum_by cell_cost (of_ranks (9 * n) (9 * length (r ∷ rs)) cells) ≡ sum_by cell_cost
+    (of_ranks (9 * n) 9 cells) + sum_by cell_cost (of_ranks (9 * (n + 1)) (9 * length rs) cells)
     = ap (λ (k : ℕ). sum_by cell_cost (of_ranks (9 * n) k cells)) long ∙ parts-cost (9 * n) 9 (9 * length rs) cells
     ∙ ap (λ (k : ℕ). sum_by cell_cost (of_ranks (9 * n) 9 cells) + sum_by cell_cost (of_ranks k (9 * length rs) cells)) place in
     omega (
       arith,
-      sum_by-cons segment_pages (row_segment (row_at names head n a o) r) (segments_from names head (n + 1) (a + rounded_up SEGMENT_PAGE (r.end - a)) (o + rounded_up SEGMENT_PAGE (r.filled_end - a)) rs),
+      sum_by-cons segment_pages (row_segment (row_at names head n a o) r)
+          (segments_from names head (n + 1) (a + rounded_up SEGMENT_PAGE (r.end - a)) (o + rounded_up SEGMENT_PAGE (r.filled_end - a)) rs),
       rest,
       cost.0,
       cost.1,
@@ -79,29 +84,44 @@ unfolding mapped_names
 names_some p = omega arith
 
 -- the pages of all rows
-rows_pages : (p : Planning) (cells : List Cell) (base head : ℕ) (rs : List RowCells) (a' o' : ℕ) → RowsFrom (mapped_names p) cells head 0 base 0 rs a' o'
-    → 0x4000 * row_pages (segments_from (mapped_names p) head 0 base 0 rs) ≤ sum_by cell_cost (of_ranks 0 (9 * length rs) cells) + 0x4000 * length rs
+rows_pages : (p : Planning) (cells : List Cell) (base head : ℕ) (rs : List RowCells) (a' o' : ℕ) → RowsFrom
+    (mapped_names p) cells head 0 base 0 rs a' o'
+    → 0x4000 * row_pages (segments_from (mapped_names p) head 0 base 0 rs) ≤ sum_by cell_cost
+    (of_ranks 0 (9 * length rs) cells) + 0x4000 * length rs
 rows_pages p cells base head [] a' o' h = omega arith
 rows_pages p cells base head (r ∷ rs) a' o' h =
     let names : List SegmentName = mapped_names p in
-    let rest = pages_from (mapped_names p) cells head 1 (base + rounded_up SEGMENT_PAGE (r.end - base)) (0 + rounded_up SEGMENT_PAGE (r.filled_end - base)) rs a' o' (omega arith) h.1 in
+    let rest = pages_from (mapped_names p) cells head 1 (base + rounded_up SEGMENT_PAGE (r.end - base))
+    (0 + rounded_up SEGMENT_PAGE (r.filled_end - base)) rs a' o' (omega arith) h.1 in
     let none : segment_pages (row_segment (row_at (mapped_names p) head 0 base 0) r) ≡ 0
-    = ap (λ (n : SegmentName). segment_pages (record { name = n; address = base; size = rounded_up SEGMENT_PAGE (r.end - base); file_offset = 0; file_size = rounded_up SEGMENT_PAGE (r.filled_end - base) })) (first_is_text p (padded [])) in
+    = ap (λ (n : SegmentName). segment_pages (record {
+      name = n;
+      address = base;
+      size = rounded_up SEGMENT_PAGE
+          (r.end - base);
+      file_offset = 0;
+      file_size = rounded_up SEGMENT_PAGE (r.filled_end - base);
+    })) (first_is_text p (padded [])) in
     let long : 9 * length (r ∷ rs) ≡ 9 + 9 * length rs = omega arith in
-    let parts : sum_by cell_cost (of_ranks 0 (9 * length (r ∷ rs)) cells) ≡ sum_by cell_cost (of_ranks 0 9 cells) + sum_by cell_cost (of_ranks 9 (9 * length rs) cells)
+    let parts : sum_by cell_cost (of_ranks 0 (9 * length (r ∷ rs)) cells) ≡ sum_by cell_cost (of_ranks 0 9 cells) + sum_by cell_cost
+    (of_ranks 9 (9 * length rs) cells)
     = ap (λ (k : ℕ). sum_by cell_cost (of_ranks 0 k cells)) long ∙ parts-cost 0 9 (9 * length rs) cells in
     omega (
       arith,
-      sum_by-cons segment_pages (row_segment (row_at (mapped_names p) head 0 base 0) r) (segments_from (mapped_names p) head 1 (base + rounded_up SEGMENT_PAGE (r.end - base)) (0 + rounded_up SEGMENT_PAGE (r.filled_end - base)) rs),
+      sum_by-cons segment_pages (row_segment (row_at (mapped_names p) head 0 base 0) r)
+          (segments_from (mapped_names p) head 1 (base + rounded_up SEGMENT_PAGE (r.end - base))
+          (0 + rounded_up SEGMENT_PAGE (r.filled_end - base)) rs),
       rest,
       none,
       parts,
     )
 
 -- the tables fit
-pub tables_room : (p : Planning) (counts : Counts) (extents : List Extent) (segments : List PlacedSegment) (placed : List PlacedCell) (address offset : ℕ)
+pub tables_room : (p : Planning) (counts : Counts) (extents : List Extent) (segments : List PlacedSegment) (placed : List PlacedCell)
+    (address offset : ℕ)
     → FitsLimits p counts → sum_by extent_cost extents ≤ members_cost p
-    → AreRows (mapped_names p) (cells_of p counts (mapped_names p) extents) (base_of p) (head_size p counts) (length (mapped_names p)) segments placed address offset
+    → AreRows (mapped_names p) (cells_of p counts (mapped_names p) extents) (base_of p) (head_size p counts)
+    (length (mapped_names p)) segments placed address offset
     → tables_cost counts offset (row_pages segments) + base_of p + 0x4000 < 2 ^ 64
 tables_room p counts extents segments placed address offset fits less h =
     let cells : List Cell = cells_of p counts (mapped_names p) extents in
@@ -125,7 +145,8 @@ tables_room p counts extents segments placed address offset fits less h =
 
 -- the rows fit
 pub rows_room : (p : Planning) (counts : Counts) (extents : List Extent) → FitsLimits p counts → sum_by extent_cost extents ≤ members_cost p
-    → base_of p + head_size p counts + sum_by cell_cost (cells_of p counts (mapped_names p) extents) + 2 ^ 14 * length (mapped_names p) + 2 ^ 15 ≤ 2 ^ 64
+    → base_of p + head_size p counts + sum_by cell_cost (cells_of p counts (mapped_names p) extents) + 2 ^ 14 * length
+    (mapped_names p) + 2 ^ 15 ≤ 2 ^ 64
 rows_room p counts extents fits less =
     let all = cells-cost p counts (mapped_names p) extents in
     let low : base_of p ≤ 2 ^ 32 = by p.executable in
@@ -143,14 +164,21 @@ rows_room p counts extents fits less =
 -- as many segments as rows
 segments_many : (names : List SegmentName) (head n a o : ℕ) (rs : List RowCells) → length (segments_from names head n a o rs) ≡ length rs
 segments_many names head n a o [] = refl
-segments_many names head n a o (r ∷ rs) = omega (arith, segments_many names head (n + 1) (a + rounded_up SEGMENT_PAGE (r.end - a)) (o + rounded_up SEGMENT_PAGE (r.filled_end - a)) rs)
+segments_many names head n a o (r ∷ rs) = omega (
+  arith,
+  segments_many names head (n + 1) (a + rounded_up SEGMENT_PAGE (r.end - a))
+      (o + rounded_up SEGMENT_PAGE (r.filled_end - a)) rs,
+)
 
-pub rows_many : (names : List SegmentName) (cells : List Cell) (base head count : ℕ) (segments : List PlacedSegment) (placed : List PlacedCell) (address offset : ℕ)
+pub rows_many : (names : List SegmentName) (cells : List Cell) (base head count : ℕ) (segments : List PlacedSegment)
+    (placed : List PlacedCell) (address offset : ℕ)
     → AreRows names cells base head count segments placed address offset → length segments ≡ count
-rows_many names cells base head count segments placed address offset h = ap length h.segments_are ∙ segments_many names head 0 base 0 h.rows ∙ h.many
+rows_many names cells base head count segments placed address offset h = ap length h.segments_are ∙ segments_many names head 0 base 0 h.rows
+    ∙ h.many
 
 -- the signature ends where the tables' cost says, or before
-pub tables_end_low : (counts : Counts) (offset pages : ℕ) → (offset ≤ (tables_at counts offset pages).signature.end) × ((tables_at counts offset pages).signature.end ≤ tables_cost counts offset pages)
+pub tables_end_low : (counts : Counts) (offset pages : ℕ) → (offset ≤ (tables_at counts offset pages).signature.end) ×
+    ((tables_at counts offset pages).signature.end ≤ tables_cost counts offset pages)
 tables_end_low counts offset pages =
     let entries = rounded-near 8 (188 + counts.import_size * counts.imports + counts.name_bytes) (omega arith) in
     let room = rounded-near 8 (2 * pages) (omega arith) in
@@ -167,9 +195,11 @@ tables_end_low counts offset pages =
     shr-whole n = ap (λ (k : ℕ). k / 4096) (omega arith) ∙ div-mul-add ((n + 4095) / 4096) 4096 0 (omega arith)
 
 -- the tables end within the sum, a page before it
-pub tables_within : (p : Planning) (counts : Counts) (extents : List Extent) (segments : List PlacedSegment) (placed : List PlacedCell) (address offset : ℕ)
+pub tables_within : (p : Planning) (counts : Counts) (extents : List Extent) (segments : List PlacedSegment) (placed : List PlacedCell)
+    (address offset : ℕ)
     → FitsLimits p counts → sum_by extent_cost extents ≤ members_cost p
-    → AreRows (mapped_names p) (cells_of p counts (mapped_names p) extents) (base_of p) (head_size p counts) (length (mapped_names p)) segments placed address offset
+    → AreRows (mapped_names p) (cells_of p counts (mapped_names p) extents) (base_of p) (head_size p counts)
+    (length (mapped_names p)) segments placed address offset
     → address - offset + tables_cost counts offset (row_pages segments) + 0x4000 ≤ base_of p + written_sum p counts
 tables_within p counts extents segments placed address offset fits less h =
     let pages = rows_pages p (cells_of p counts (mapped_names p) extents) (base_of p) (head_size p counts) h.rows address offset h.stand in

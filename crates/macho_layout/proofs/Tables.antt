@@ -23,7 +23,11 @@ use Rattle.macho_layout.proofs.Distinct.{distinct_push, place_put, place_new, lo
 
 -- the tests of names decide whether they are equal
 pub segment-decides : (a b : SegmentName) → Decides (same_segment a b) (a ≡ b)
-segment-decides a b = (λ t. ap (λ (n : List ℕ). record { 0 = n }) ((bytes_eq-Decides a.0 b.0).0 t), λ e. (bytes_eq-Decides a.0 b.0).1 (ap (λ (n : SegmentName). n.0) e))
+segment-decides a b = (
+  λ t. ap (λ (n : List ℕ). record { 0 = n }) ((bytes_eq-Decides a.0 b.0).0 t),
+  λ e. (bytes_eq-Decides a.0 b.0).1
+      (ap (λ (n : SegmentName). n.0) e),
+)
 
 same_parts : (a b : OutputName) → a.segment ≡ b.segment → a.name ≡ b.name → a.kind ≡ b.kind → a ≡ b
 same_parts a b segment name kind =
@@ -47,21 +51,26 @@ output-decides a b = (
 )
 
 -- the names of one section more
-outputs_more : (sections : List SectionSpec) (x : SectionSpec) → outputs_seen (sections ++ x ∷ []) ≡ insert_key same_output (outputs_seen sections) (output_key_of x)
+outputs_more : (sections : List SectionSpec) (x : SectionSpec) → outputs_seen (sections ++ x ∷ []) ≡ insert_key same_output
+    (outputs_seen sections) (output_key_of x)
 unfolding outputs_seen
 outputs_more sections x =
-    ap (distinct same_output) (map_push output_key_of sections x) ∙ distinct_push same_output output-decides (map output_key_of sections) (output_key_of x)
+    ap (distinct same_output) (map_push output_key_of sections x) ∙ distinct_push same_output output-decides (map output_key_of sections)
+    (output_key_of x)
 
-segments_more : (sections : List SectionSpec) (x : SectionSpec) → segments_seen (sections ++ x ∷ []) ≡ insert_key same_segment (segments_seen sections) (segment_key_of x)
+segments_more : (sections : List SectionSpec) (x : SectionSpec) → segments_seen (sections ++ x ∷ []) ≡ insert_key same_segment
+    (segments_seen sections) (segment_key_of x)
 unfolding segments_seen
 segments_more sections x =
-    ap (distinct same_segment) (map_push segment_key_of sections x) ∙ distinct_push same_segment segment-decides (map segment_key_of sections) (segment_key_of x)
+    ap (distinct same_segment) (map_push segment_key_of sections x) ∙ distinct_push same_segment segment-decides
+    (map segment_key_of sections) (segment_key_of x)
 
 -- one section more
 pub names_more : (sections : List Planned) (keys : List OutputName) (segments : List SegmentName) (x : Planned)
     → x.output ≡ position_or_len (same_output (output_key_of x.spec)) keys
     → x.output < length (insert_key same_output keys (output_key_of x.spec)) → HoldNames sections keys segments
-    → HoldNames (sections ++ x ∷ []) (insert_key same_output keys (output_key_of x.spec)) (insert_key same_segment segments (segment_key_of x.spec))
+    → HoldNames (sections ++ x ∷ []) (insert_key same_output keys (output_key_of x.spec))
+    (insert_key same_segment segments (segment_key_of x.spec))
 names_more sections keys segments x at inside h =
     let k : OutputName = output_key_of x.spec in
     let b : Bool = list_any (same_output (output_key_of x.spec)) keys in
@@ -70,8 +79,10 @@ names_more sections keys segments x at inside h =
           ∙ sym (ap outputs_seen (map_push (λ (s : Planned). s.spec) sections x) ∙ outputs_more (specs_of sections) x.spec);
       segments_are = ap (λ (ks : List SegmentName). insert_key same_segment ks (segment_key_of x.spec)) h.segments_are
           ∙ sym (ap segments_seen (map_push (λ (s : Planned). s.spec) sections x) ∙ segments_more (specs_of sections) x.spec);
-      outputs = All-push (λ (s : Planned). s.output ≡ position_or_len (same_output (output_key_of s.spec)) (insert_key same_output keys (output_key_of x.spec))) sections x
-          (λ i d low. h.outputs i d low ∙ sym (place_put (same_output (output_key_of (get_or sections i d).spec)) b keys k (omega (arith, h.outputs i d low, h.within i d low))))
+      outputs = All-push (λ (s : Planned). s.output ≡ position_or_len (same_output (output_key_of s.spec))
+          (insert_key same_output keys (output_key_of x.spec))) sections x
+          (λ i d low. h.outputs i d low ∙ sym (place_put (same_output (output_key_of (get_or sections i d).spec)) b keys k
+          (omega (arith, h.outputs i d low, h.within i d low))))
           (at ∙ sym (place_new (same_output k) b keys k ((output-decides k k).1 refl)));
       within = All-push (λ (s : Planned). s.output < length (insert_key same_output keys (output_key_of x.spec))) sections x
           (λ i d low. omega (arith, h.within i d low, longer_put b keys k)) inside;
@@ -88,13 +99,17 @@ sound_more sections commons x small place h =
     })
 
 -- one section more, as the calls on the tables tell it
-pub names_after : (sections now next : List Planned) (keys room wide : List OutputName) (segments space broad : List SegmentName) (x : Planned) (k : OutputName) (g : SegmentName)
+pub names_after : (sections now next : List Planned) (keys room wide : List OutputName) (segments space broad : List SegmentName)
+    (x : Planned) (k : OutputName) (g : SegmentName)
     → now ≡ sections → room ≡ keys → space ≡ segments → k ≡ output_key_of x.spec → g ≡ segment_key_of x.spec
     → next ≡ now ++ x ∷ [] → wide ≡ insert_key same_output room k → broad ≡ insert_key same_segment space g
-    → x.output ≡ position_or_len (same_output k) room → x.output < length wide → HoldNames sections keys segments → HoldNames next wide broad
+    → x.output ≡ position_or_len (same_output k) room → x.output < length wide → HoldNames sections keys segments
+    → HoldNames next wide broad
 names_after sections now next keys room wide segments space broad x k g a b c d e f i j at inside h =
-    let more = names_more sections keys segments x (at ∙ ap (λ (n : OutputName). position_or_len (same_output n) room) d ∙ ap (position_or_len (same_output (output_key_of x.spec))) b)
-    (subst (λ (ks : List OutputName). x.output < length ks) (i ∙ ap (insert_key same_output room) d ∙ ap (λ (ks : List OutputName). insert_key same_output ks (output_key_of x.spec)) b) inside) h in
+    let more = names_more sections keys segments x (at ∙ ap (λ (n : OutputName). position_or_len (same_output n) room) d ∙ ap
+    (position_or_len (same_output (output_key_of x.spec))) b)
+    (subst (λ (ks : List OutputName). x.output < length ks) (i ∙ ap (insert_key same_output room) d ∙ ap
+    (λ (ks : List OutputName). insert_key same_output ks (output_key_of x.spec)) b) inside) h in
     rw (f, a, i, b, d, j, c, e) more
 
 -- no section
@@ -102,5 +117,10 @@ pub names_none : HoldNames [] [] [] × AreSound [] []
 unfolding outputs_seen segments_seen
 names_none = (
   record { keys_are = refl; segments_are = refl; outputs = λ i d low. absurd (omega arith); within = λ i d low. absurd (omega arith) },
-  record { sections_small = λ i d low. absurd (omega arith); commons_small = λ i d low. absurd (omega arith); places = λ i d low. absurd (omega arith) },
+  record {
+    sections_small = λ i d low. absurd (omega arith);
+    commons_small = λ i d low. absurd (omega arith);
+    places = λ i d low. absurd
+        (omega arith);
+  },
 )

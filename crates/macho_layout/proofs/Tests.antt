@@ -34,7 +34,8 @@ place_some p xs i e = by (ltb (position_or_len p xs) (length xs)) e
 pub place_none : {X : Type 0} (p : X → Bool) (xs : List X) → None ≡ position p xs → length xs ≡ position_or_len p xs
 place_none p xs e = by (ltb (position_or_len p xs) (length xs)) refl e
   where
-    by : (b : Bool) → ltb (position_or_len p xs) (length xs) ≡ b → None ≡ cond b (Some (position_or_len p xs)) None → length xs ≡ position_or_len p xs
+    by : (b : Bool) → ltb (position_or_len p xs) (length xs) ≡ b → None ≡ cond b (Some (position_or_len p xs)) None → length xs
+        ≡ position_or_len p xs
     by true is h = cc
     by false is h = omega (arith, ltb-false (position_or_len p xs) (length xs) is, prefix_len-le-length (λ x. not (p x)) xs)
 
@@ -48,7 +49,8 @@ length-list_if true x = refl
 length-list_if false x = refl
 
 -- how many segments are mapped from the file
-pub count_of_names : (p : Planning) → length (mapped_names p) ≡ 1 + one_if (has_data_const p) + one_if (has_data p) + length (filter is_other (section_segments p))
+pub count_of_names : (p : Planning) → length (mapped_names p) ≡ 1 + one_if (has_data_const p) + one_if (has_data p) + length
+    (filter is_other (section_segments p))
 unfolding mapped_names
 count_of_names p =
     let a : List SegmentName = padded TEXT ∷ [] in

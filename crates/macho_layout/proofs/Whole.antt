@@ -45,7 +45,8 @@ numbers_of n [] = refl
 numbers_of n (x ∷ xs) = ap (λ (ns : List ℕ). n ∷ ns) (numbers_of (n + 1) xs)
 
 -- what holds of elements holds of what is made of them
-all_numbered : {X Y : Type 0} (P : X → Type 0) (Q : Y → Type 0) (f : ℕ × X → Y) → ((n : ℕ) (x : X) → P x → Q (f (n, x))) → (n : ℕ) (xs : List X)
+all_numbered : {X Y : Type 0} (P : X → Type 0) (Q : Y → Type 0) (f : ℕ × X → Y) → ((n : ℕ) (x : X) → P x → Q (f (n, x))) → (n : ℕ)
+    (xs : List X)
     → AllByRecursion P xs → AllByRecursion Q (map f (enumerate_from n xs))
 all_numbered P Q f e n [] h = tt
 all_numbered P Q f e n (x ∷ xs) h = (e n x h.0, all_numbered P Q f e (n + 1) xs h.1)
@@ -59,7 +60,8 @@ base_is_links l p counts q plan h = h.from_them.base ∙ ap (λ b. if b then 0x1
 pub sections_are_listed : SectionsAreListed
 sections_are_listed l p counts q plan h =
     ap (map id_of) h.from_them.sections
-    ∙ map_numbered id_of (λ (e : ℕ × Planned). placed_section _ (mapped_names p) e.1.spec (address_at h.members h.starts e.0)) (λ (s : Planned). spec_id s.spec) (λ n x. refl) 0 h.planned
+    ∙ map_numbered id_of (λ (e : ℕ × Planned). placed_section _ (mapped_names p) e.1.spec (address_at h.members h.starts e.0))
+    (λ (s : Planned). spec_id s.spec) (λ n x. refl) 0 h.planned
     ∙ sym (map_map spec_id (λ (s : Planned). s.spec) h.planned) ∙ ap (map spec_id) (h.planned_are ∙ plan.sections)
     ∙ map_map spec_id (spec_of l) (carried_of l) ∙ map-id (carried_of l)
 
@@ -70,24 +72,31 @@ commons_are_listed l p counts q plan h =
     ∙ ap (map (λ (c : CommonSpec). c.id)) plan.commons
     ∙ map_map (λ (c : CommonSpec). c.id) (common_spec_of l) (enumerate_from 0 (chosen_commons l)) ∙ numbers_of 0 (chosen_commons l)
 
-slots_are_listed : (l : Link) (p : Planning) (counts : Counts) (q : Placed) → IsPlanOf l p → IsLaidOut p counts q → map (λ (s : Slot). s.target) q.slots ≡ slots_of l
+slots_are_listed : (l : Link) (p : Planning) (counts : Counts) (q : Placed) → IsPlanOf l p → IsLaidOut p counts q → map
+    (λ (s : Slot). s.target) q.slots ≡ slots_of l
 slots_are_listed l p counts q plan h =
-    ap (map (λ (s : Slot). s.target)) h.from_them.slots ∙ map_numbered (λ (s : Slot). s.target) _ (λ (t : Target). t) (λ n x. refl) 0 p.slots
+    ap (map (λ (s : Slot). s.target)) h.from_them.slots ∙ map_numbered (λ (s : Slot). s.target) _ (λ (t : Target). t)
+    (λ n x. refl) 0 p.slots
     ∙ map-id p.slots ∙ plan.slots
 
-stubs_are_listed : (l : Link) (p : Planning) (counts : Counts) (q : Placed) → IsPlanOf l p → IsLaidOut p counts q → map (λ (s : Stub). target.Import s.import) q.stubs ≡ stubs_of l
+stubs_are_listed : (l : Link) (p : Planning) (counts : Counts) (q : Placed) → IsPlanOf l p → IsLaidOut p counts q → map
+    (λ (s : Stub). target.Import s.import) q.stubs ≡ stubs_of l
 stubs_are_listed l p counts q plan h =
     ap (map (λ (s : Stub). target.Import s.import)) h.from_them.stubs
     ∙ map_numbered (λ (s : Stub). target.Import s.import) _ (λ (s : StubSpec). target.Import s.import) (λ n x. refl) 0 p.stubs ∙ plan.stubs
 
 pub lists_are_whole : ListsAreWhole
 lists_are_whole l p counts q plan h = record {
-  sections = subst (λ (ss : List SectionId). IsPermutation ss (carried_of l)) (sym (sections_are_listed l p counts q plan h)) (IsPermutation-refl (carried_of l));
-  commons = subst (λ (ns : List ℕ). IsPermutation ns (range_with_len 0 (length (chosen_commons l)))) (sym (commons_are_listed l p counts q plan h)) (IsPermutation-refl (range_with_len 0 (length (chosen_commons l))));
+  sections = subst (λ (ss : List SectionId). IsPermutation ss (carried_of l)) (sym (sections_are_listed l p counts q plan h))
+      (IsPermutation-refl (carried_of l));
+  commons = subst (λ (ns : List ℕ). IsPermutation ns (range_with_len 0 (length (chosen_commons l))))
+      (sym (commons_are_listed l p counts q plan h)) (IsPermutation-refl (range_with_len 0 (length (chosen_commons l))));
   slots = slots_are_listed l p counts q plan h;
   stubs = stubs_are_listed l p counts q plan h;
   stub_slots = subst (λ (ss : List Stub). All (λ s. s.slot ≡ slot_number l (target.Import s.import)) ss) (sym h.from_them.stubs)
       (All-from_recursion (λ (s : Stub). s.slot ≡ slot_number l (target.Import s.import)) _
-      (all_numbered (λ (s : StubSpec). s.slot ≡ slot_number l (target.Import s.import)) (λ (s : Stub). s.slot ≡ slot_number l (target.Import s.import)) _
-      (λ n x e. e) 0 p.stubs (recursion_from_All (λ (s : StubSpec). s.slot ≡ slot_number l (target.Import s.import)) p.stubs plan.stub_slots)));
+      (all_numbered (λ (s : StubSpec). s.slot ≡ slot_number l (target.Import s.import))
+      (λ (s : Stub). s.slot ≡ slot_number l (target.Import s.import)) _
+      (λ n x e. e) 0 p.stubs (recursion_from_All (λ (s : StubSpec). s.slot ≡ slot_number l (target.Import s.import)) p.stubs
+      plan.stub_slots)));
 }

@@ -3,15 +3,12 @@ use Rattle.std.specs.Prelude.{ℕ, List, map, Bool, ◌&&◌, ◌==◌}
 use Rattle.std.specs.Str.{bytes_eq}
 use Rattle.macho_records.specs.declared.segments.SegmentName.{SegmentName}
 use Rattle.macho_records.specs.Sections.{section_type}
-use Rattle.macho_records.specs.Segments.{bytes_of, name_field}
+use Rattle.macho_records.specs.Segments.{bytes_of}
+pub use Rattle.macho_rows.specs.Rows.{padded}
 use Rattle.macho_model.specs.Needs.{distinct}
 use Rattle.macho_layout.specs.declared.spec.SectionSpec.{SectionSpec}
 use Rattle.macho_layout.specs.declared.spec.OutputName.{OutputName}
 use Rattle.macho_layout.specs.declared.spec.Planned.{Planned}
-
--- a name with zeros behind its first NUL
-abbrev pub padded : List ℕ → SegmentName
-padded name = record { 0 = name_field name }
 
 abbrev pub segment_key_of : SectionSpec → SegmentName
 segment_key_of s = padded (bytes_of s.segment)

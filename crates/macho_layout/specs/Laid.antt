@@ -1,12 +1,12 @@
 -- What a plan's placement is, step by step.
-use Rattle.std.specs.Prelude.{◌≡◌, ℕ, ◌+◌, ◌-◌, ◌*◌, ◌≤◌, ◌<◌, ◌^◌, List, [], ◌∷◌, ◌++◌, map, length, Some, None, Bool, true, false, nat_lt, ◌&&◌}
+use Rattle.std.specs.Prelude.{◌≡◌, ℕ, ◌+◌, ◌-◌, ◌*◌, ◌≤◌, ◌<◌, ◌^◌, List, [], ◌∷◌, ◌++◌, map, length, Some, None, Bool, true, false, nat_lt, ◌&&◌, All}
 use Rattle.std.specs.List.{list_all}
 use Rattle.macho_layout.specs.Placements.{placed_of}
 use Rattle.macho_model.specs.declared.placed.Counts.{Counts}
 use Rattle.macho_model.specs.declared.targets.Limit.TheVariants as limit
 use Rattle.macho_layout.specs.declared.fault.LayoutFault.{LayoutFault}
 use Rattle.macho_layout.specs.declared.fault.LayoutFault.TheVariants.{TooMany, TooLarge, OutOfMemory}
-use Rattle.macho_layout.specs.Plans.{Planning}
+use Rattle.macho_layout.specs.Plans.{Planning, MayStand}
 use Rattle.macho_bytes.specs.Numbers.{rounded_up}
 use Rattle.macho_model.specs.declared.placed.Linkedit.{Linkedit}
 use Rattle.macho_model.specs.declared.placed.PlacedSegment.{PlacedSegment}
@@ -23,11 +23,11 @@ use Rattle.macho_layout.specs.Keys.{specs_of}
 use Rattle.macho_layout.specs.Names.{segment_count, mapped_names}
 use Rattle.macho_layout.specs.Members.{members_of, first_flags}
 use Rattle.macho_layout.specs.Cells.{cells_of}
-use Rattle.macho_layout.specs.Rows.{AreRows}
+use Rattle.macho_rows.specs.Rows.{AreRows}
 use Rattle.macho_layout.specs.Headers.{header_of}
-use Rattle.macho_layout.specs.Tables.{tables_at}
+use Rattle.macho_rows.specs.Tables.{tables_at}
 use Rattle.macho_layout.specs.Places.{number_at, range_at, template_range, row_pages, placed_sections, placed_commons, placed_slots, placed_stubs}
-use Rattle.macho_layout.specs.Sums.{output_count, written_sum, head_size, base_of}
+use Rattle.macho_layout.specs.Sums.{output_count, written_sum, head_size, base_of, FitsLimits}
 
 -- why a plan has no placement, before any address is known
 abbrev pub FaultIs : Planning → Counts → LayoutFault → Type 0
@@ -86,6 +86,8 @@ pub record IsLaidOut (p : Planning) (counts : Counts) (q : Placed) : Type 0 wher
   pub rows : AreRows (mapped_names p) (cells_of p counts (mapped_names p) extents) (base_of p) (head_size p counts) (length (mapped_names p)) segments cells address offset
   pub have : HasStarts (length extents + 4) cells starts
   pub from_them : IsFrom p counts planned extents members segments cells starts address offset q
+  -- each section's segment is one that it may stand in
+  pub places : All MayStand p.sections
 
 -- file offsets and sizes are told in 32 bits; the tables end with the signature
 abbrev pub is_small_segment : PlacedSegment → Bool
@@ -103,6 +105,7 @@ pub record IsSmall (q : Placed) : Type 0 where
 -- what is laid out, and doesn't fit 32 bits
 pub record IsTooLarge (p : Planning) (counts : Counts) (q : Placed) : Type 0 where
   pub laid : IsLaidOut p counts q
+  pub fits : FitsLimits p counts
   pub large : is_small q ≡ false
 
 -- why a plan has no placement

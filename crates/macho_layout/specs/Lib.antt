@@ -4,9 +4,7 @@ pub mod Plans
 pub mod Names
 pub mod Members
 pub mod Cells
-pub mod Rows
 pub mod Headers
-pub mod Tables
 pub mod Places
 pub mod Sums
 pub mod Laid

@@ -16,12 +16,8 @@ use macho_records::{
     S_ATTR_PURE_INSTRUCTIONS, S_ATTR_SOME_INSTRUCTIONS, S_GB_ZEROFILL, S_THREAD_LOCAL_REGULAR,
     S_THREAD_LOCAL_ZEROFILL, S_ZEROFILL, SegmentName,
 };
+use macho_rows::CLASSES;
 use std::alloc::{AllocError, Global};
-
-/// Ranks of one segment: six classes with bytes in the file, then three without.
-pub(crate) const CLASSES: u32 = 9;
-/// The classes with bytes in the file.
-pub(crate) const FILLED_CLASSES: u32 = 6;
 
 const CODE: u32 = 0;
 

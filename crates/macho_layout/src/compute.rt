@@ -9,22 +9,20 @@ ghost use Rattle.macho_cells.specs.Stacks.{AreStacked};
 ghost use Rattle.macho_layout.specs.Names.{mapped_names, merged_count};
 ghost use Rattle.macho_layout.specs.Members.{members_of, first_flags};
 ghost use Rattle.macho_layout.specs.Cells.{cells_of};
-ghost use Rattle.macho_layout.specs.Rows.{AreRows};
+ghost use Rattle.macho_rows.specs.Rows.{AreRows};
 
 use crate::cells::{MADE_INIT_OFFSETS, MADE_SLOTS, MADE_STUBS, MADE_UNWIND_INFO};
 use crate::fault::LayoutFault;
-use crate::linkedit::tables;
 use crate::placement::Placement;
 use crate::places::{
     placed_commons, placed_sections, placed_slots, placed_stubs, pointer_pages, range_at, start_of,
     template_range,
 };
 use crate::plan::Plan;
-use crate::rows::{Rows, place_rows};
-use crate::sums::SEGMENT_PAGE;
 use macho_cells::{Stacked, stack, starts};
 use macho_model::{Counts, Limit, Linkedit, PlacedSegment};
 use macho_records::SegmentName;
+use macho_rows::{Rows, SEGMENT_PAGE, place_rows, tables};
 use std::alloc::{AllocError, Global};
 
 /// The most segments that a file may have, `__PAGEZERO` and `__LINKEDIT` among them.

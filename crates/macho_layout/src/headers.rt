@@ -2,7 +2,7 @@
 ghost use Rattle.std.specs.Prelude.{◌≡◌, ◌≤◌, length, IfOk, map};
 ghost use Rattle.macho_layout.specs.Headers.{made_title, title_of, header_of, file_offset_of};
 
-use crate::cells::{CLASSES, MADE_INIT_OFFSETS, MADE_STUBS, MADE_UNWIND_INFO, is_zerofill};
+use crate::cells::{MADE_INIT_OFFSETS, MADE_STUBS, MADE_UNWIND_INFO, is_zerofill};
 use crate::plan::Plan;
 use crate::spec::OutputName;
 use macho_cells::{Extent, PlacedCell};
@@ -11,6 +11,7 @@ use macho_records::{
     S_ATTR_EXT_RELOC, S_ATTR_LOC_RELOC, S_ATTR_PURE_INSTRUCTIONS, S_ATTR_SOME_INSTRUCTIONS,
     S_INIT_FUNC_OFFSETS, S_NON_LAZY_SYMBOL_POINTERS, S_SYMBOL_STUBS, SectionHeader, SegmentName,
 };
+use macho_rows::CLASSES;
 use std::alloc::{AllocError, Global};
 
 /// All flags but those that tell of relocations in an object.

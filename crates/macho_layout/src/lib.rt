@@ -12,13 +12,11 @@ mod compute;
 mod fault;
 mod headers;
 mod laws;
-mod linkedit;
 mod members;
 mod names;
 mod placement;
 mod places;
 mod plan;
-mod rows;
 mod spec;
 mod sums;
 
@@ -32,4 +30,4 @@ pub use macho_model::{
 };
 pub use placement::Placement;
 pub use plan::Plan;
-pub use spec::SectionSpec;
+pub use spec::{CommonSpec, OutputName, Planned, SectionSpec, StubSpec};

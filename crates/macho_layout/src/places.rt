@@ -2,12 +2,12 @@
 ghost use Rattle.std.specs.Prelude.{◌≡◌, ◌+◌, ◌*◌, ◌%◌, ◌^◌, ◌<◌, length, IfOk};
 ghost use Rattle.macho_layout.specs.Places.{number_at, address_at, range_at, cover, template_range, segment_pages, row_pages, placed_section, placed_sections, placed_commons, placed_slots, placed_stubs};
 
-use crate::cells::{CLASSES, is_template_class, segment_number};
+use crate::cells::{is_template_class, segment_number};
 use crate::spec::{CommonSpec, Planned, SectionSpec, StubSpec};
-use crate::sums::SEGMENT_PAGE;
 use macho_cells::{PlacedCell, PlacedMember};
 use macho_model::{PlacedCommon, PlacedSection, PlacedSegment, Range64, Slot, Stub, Target};
 use macho_records::SegmentName;
+use macho_rows::{CLASSES, SEGMENT_PAGE};
 use std::alloc::{AllocError, Global};
 
 /// An address behind another one. In an image that keeps to its written sum none wraps.

@@ -9,9 +9,8 @@ use crate::members::placed_align;
 use crate::plan::Plan;
 use crate::spec::{CommonSpec, Planned};
 use macho_model::Counts;
+use macho_rows::SEGMENT_PAGE;
 
-/// A page of a segment.
-pub(crate) const SEGMENT_PAGE: u64 = 0x4000;
 /// A page that has a digest of its own.
 const SIGNED_PAGE: u128 = 4096;
 

@@ -48,8 +48,10 @@ weak_test true false false true w n name = refl
 weak_test true false false false w n name = refl
 weak_test false c a m w n name = and_false (strength_of (sort_by c a m) w == 3)
 
-common_test : (global carried absolute common weak : Bool) (n name : List ℕ) → (common ≡ true → (global ≡ true) × (carried ≡ false) × (absolute ≡ false))
-    → ((strength_of (sort_by carried absolute common) weak == 2) && (global && bytes_eq (if global then n else []) name)) ≡ (common && bytes_eq n name)
+common_test : (global carried absolute common weak : Bool) (n name : List ℕ)
+    → (common ≡ true → (global ≡ true) × (carried ≡ false) × (absolute ≡ false))
+    → ((strength_of (sort_by carried absolute common) weak == 2) && (global && bytes_eq (if global then n else []) name)) ≡
+    (common && bytes_eq n name)
 common_test true true a true w n name alone = absurd (false≢true (sym (alone refl).1))
 common_test true true a false true n name alone = refl
 common_test true true a false false n name alone = refl
@@ -76,33 +78,43 @@ alone false external type empty other p = by (type == 0) refl external empty p
     by false other external empty p = cc
 
 -- a common is global, and neither of a section nor absolute
-pub common_alone : (b : List ℕ) (e : SymtabEntry) → is_common_of e ≡ true → (is_global e ≡ true) × (in_carried b e ≡ false) × (is_absolute e ≡ false)
-common_alone b e common = alone (is_stab_of e) (is_external_of e) (symbol_type_of e) (e.n_value == 0) (is_carried (section_at b (e.n_sect - 1))) common
+pub common_alone : (b : List ℕ) (e : SymtabEntry) → is_common_of e ≡ true → (is_global e ≡ true) × (in_carried b e ≡ false)
+    × (is_absolute e ≡ false)
+common_alone b e common = alone (is_stab_of e) (is_external_of e) (symbol_type_of e) (e.n_value == 0)
+    (is_carried (section_at b (e.n_sect - 1))) common
 
 offered_class : (c : ℕ) (name : List ℕ) → (1 == c) ≡ false → PassesNone (is_class c name)
 offered_class c name other n = rw other refl
 
 -- the symbols of a class with a name are the events of that class
-class_of : (l : Link) (c : ℕ) (name : List ℕ) (test : SymbolId → Bool) → (1 == c) ≡ false → ((s : SymbolId) → is_class c name (row_of l s) ≡ test s)
+class_of : (l : Link) (c : ℕ) (name : List ℕ) (test : SymbolId → Bool) → (1 == c) ≡ false
+    → ((s : SymbolId) → is_class c name (row_of l s) ≡ test s)
     → map (event_of l) (filter test (symbols_of l)) ≡ filter (λ e. (strength e.row == c) && is_of name e) (events (map kept_of l.inputs))
 class_of l c name test other agree =
-    ap (map (event_of l)) (sym (filter_same_test (λ s. is_class c name (row_of l s)) test (symbols_of l) agree)) ∙ passing l (is_class c name) (offered_class c name other)
+    ap (map (event_of l)) (sym (filter_same_test (λ s. is_class c name (row_of l s)) test (symbols_of l) agree))
+    ∙ passing l (is_class c name) (offered_class c name other)
 
-pub strong_class : (l : Link) (name : List ℕ) → map (event_of l) (strong_of l name) ≡ filter (λ e. (strength e.row == 4) && is_of name e) (events (map kept_of l.inputs))
+pub strong_class : (l : Link) (name : List ℕ) → map (event_of l) (strong_of l name) ≡ filter (λ e. (strength e.row == 4) && is_of name e)
+    (events (map kept_of l.inputs))
 unfolding strong_of row_of_symbol
 strong_class l name =
     class_of l 4 name (λ s. is_strong l s && has_name l name s) refl
-    (λ s. strong_test (is_global (entry_at l s)) (in_carried (object_of l s.file) (entry_at l s)) (is_absolute (entry_at l s)) (is_common_of (entry_at l s)) (is_weak_of (entry_at l s)) (name_at l s) name)
+    (λ s. strong_test (is_global (entry_at l s)) (in_carried (object_of l s.file) (entry_at l s)) (is_absolute (entry_at l s))
+    (is_common_of (entry_at l s)) (is_weak_of (entry_at l s)) (name_at l s) name)
 
-pub weak_class : (l : Link) (name : List ℕ) → map (event_of l) (weak_of l name) ≡ filter (λ e. (strength e.row == 3) && is_of name e) (events (map kept_of l.inputs))
+pub weak_class : (l : Link) (name : List ℕ) → map (event_of l) (weak_of l name) ≡ filter (λ e. (strength e.row == 3) && is_of name e)
+    (events (map kept_of l.inputs))
 unfolding weak_of row_of_symbol
 weak_class l name =
     class_of l 3 name (λ s. is_weak l s && has_name l name s) refl
-    (λ s. weak_test (is_global (entry_at l s)) (in_carried (object_of l s.file) (entry_at l s)) (is_absolute (entry_at l s)) (is_common_of (entry_at l s)) (is_weak_of (entry_at l s)) (name_at l s) name)
+    (λ s. weak_test (is_global (entry_at l s)) (in_carried (object_of l s.file) (entry_at l s)) (is_absolute (entry_at l s))
+    (is_common_of (entry_at l s)) (is_weak_of (entry_at l s)) (name_at l s) name)
 
-pub common_class : (l : Link) (name : List ℕ) → map (event_of l) (commons_of l name) ≡ filter (λ e. (strength e.row == 2) && is_of name e) (events (map kept_of l.inputs))
+pub common_class : (l : Link) (name : List ℕ) → map (event_of l) (commons_of l name) ≡ filter (λ e. (strength e.row == 2) && is_of name e)
+    (events (map kept_of l.inputs))
 unfolding commons_of row_of_symbol
 common_class l name =
     class_of l 2 name (λ s. is_common_of (entry_at l s) && has_name l name s) refl
-    (λ s. common_test (is_global (entry_at l s)) (in_carried (object_of l s.file) (entry_at l s)) (is_absolute (entry_at l s)) (is_common_of (entry_at l s)) (is_weak_of (entry_at l s)) (name_at l s) name
+    (λ s. common_test (is_global (entry_at l s)) (in_carried (object_of l s.file) (entry_at l s)) (is_absolute (entry_at l s))
+    (is_common_of (entry_at l s)) (is_weak_of (entry_at l s)) (name_at l s) name
     (common_alone (object_of l s.file) (entry_at l s)))

@@ -26,7 +26,8 @@ both true false e = cc
 both false v e = cc
 
 -- no event is of a class above the best's
-pub none_above : (name : List ℕ) (es : List Event) (b : Event) (c : ℕ) → All (λ x. is_of name x ≡ true → beats x.row b.row ≡ false) es → strength b.row < c
+pub none_above : (name : List ℕ) (es : List Event) (b : Event) (c : ℕ) → All (λ x. is_of name x ≡ true → beats x.row b.row ≡ false) es
+    → strength b.row < c
     → filter (of_class c name) es ≡ []
 none_above name [] b c unbeaten above = refl
 none_above name (x ∷ xs) b c unbeaten above =
@@ -43,14 +44,18 @@ none_above name (x ∷ xs) b c unbeaten above =
 pub none_at_all : (name : List ℕ) (es : List Event) (c : ℕ) → All (λ x. is_of name x ≡ false) es → filter (of_class c name) es ≡ []
 none_at_all name [] c none = refl
 none_at_all name (x ∷ xs) c none =
-    let fails : of_class c name x ≡ false = ap (λ t. (strength x.row == c) && t) (none 0 x (omega arith)) ∙ and_false (strength x.row == c) in
+    let fails : of_class c name x ≡ false = ap (λ t. (strength x.row == c) && t) (none 0 x (omega arith))
+    ∙ and_false (strength x.row == c) in
     rw fails (none_at_all name xs c (λ k d h. none (suc k) d (omega (arith, h))))
 
 -- the best is the first of its class, if that is not the commons'
 pub first_of_class : (name : List ℕ) (es : List Event) (b : Event) (c : ℕ) → IsBest name es b → strength b.row ≡ c → (c == 2) ≡ false
     → (more : List Event) × (filter (of_class c name) es ≡ b ∷ more)
-first_of_class name es b c is s other =
-    (is.more, filter_same_test (of_class c name) (is_level name b) es (λ x. ap (λ t. t && is_of name x) (sym (ties_strength b.row x.row c s other))) ∙ is.first)
+first_of_class name es b c is s other = (
+  is.more,
+  filter_same_test (of_class c name) (is_level name b) es
+      (λ x. ap (λ t. t && is_of name x) (sym (ties_strength b.row x.row c s other))) ∙ is.first,
+)
 
 -- a list of symbols by the list of their events
 no_symbols : (l : Link) (xs : List SymbolId) → map (event_of l) xs ≡ [] → xs ≡ []
@@ -78,20 +83,29 @@ unfolding definition_of
 definition_is l name = of (best_of name (events (map kept_of l.inputs))) refl
   where
     strong : (b : Event) → IsBest name (events (map kept_of l.inputs)) b → strength b.row ≡ 4
-        → first_or (map Symbol (strong_of l name)) (first_or (map Symbol (weak_of l name)) (first_or (map Symbol (greatest_of l name)) (first_or (map Library (libraries_with l name)) (image_base name))))
+        → first_or (map Symbol (strong_of l name))
+        (first_or (map Symbol (weak_of l name))
+        (first_or (map Symbol (greatest_of l name)) (first_or (map Library (libraries_with l name)) (image_base name))))
         ≡ Some (Symbol (id_of b))
     strong b is s =
-        let first = first_of_class name (events (map kept_of l.inputs)) b 4 is s refl in first_symbol l (strong_of l name) b first.0 _ (strong_class l name ∙ first.1)
+        let first = first_of_class name (events (map kept_of l.inputs)) b 4 is s refl in first_symbol l (strong_of l name) b first.0 _
+        (strong_class l name ∙ first.1)
 
     weak : (b : Event) → IsBest name (events (map kept_of l.inputs)) b → strength b.row ≡ 3
-        → first_or (map Symbol (strong_of l name)) (first_or (map Symbol (weak_of l name)) (first_or (map Symbol (greatest_of l name)) (first_or (map Library (libraries_with l name)) (image_base name))))
+        → first_or (map Symbol (strong_of l name))
+        (first_or (map Symbol (weak_of l name))
+        (first_or (map Symbol (greatest_of l name)) (first_or (map Library (libraries_with l name)) (image_base name))))
         ≡ Some (Symbol (id_of b))
     weak b is s =
         let first = first_of_class name (events (map kept_of l.inputs)) b 3 is s refl in
-        rw (strong_empty l name (none_above name _ b 4 is.unbeaten (omega (arith, s)))) (first_symbol l (weak_of l name) b first.0 _ (weak_class l name ∙ first.1))
+        rw (strong_empty l name (none_above name _ b 4 is.unbeaten (omega (arith, s))))
+        (first_symbol l (weak_of l name) b first.0 _ (weak_class l name ∙ first.1))
 
-    by_sort : (b : Event) → IsBest name (events (map kept_of l.inputs)) b → (sort : Sort) (weak : Bool) → b.row.sort ≡ sort → b.row.weak ≡ weak
-        → first_or (map Symbol (strong_of l name)) (first_or (map Symbol (weak_of l name)) (first_or (map Symbol (greatest_of l name)) (first_or (map Library (libraries_with l name)) (image_base name))))
+    by_sort : (b : Event) → IsBest name (events (map kept_of l.inputs)) b → (sort : Sort) (weak : Bool) → b.row.sort ≡ sort
+        → b.row.weak ≡ weak
+        → first_or (map Symbol (strong_of l name))
+        (first_or (map Symbol (weak_of l name))
+        (first_or (map Symbol (greatest_of l name)) (first_or (map Library (libraries_with l name)) (image_base name))))
         ≡ defined_as name sort b
     by_sort b is Section true e w = weak b is (ap (λ s. strength_of s b.row.weak) e ∙ ap (strength_of Section) w)
     by_sort b is Section false e w = strong b is (ap (λ s. strength_of s b.row.weak) e ∙ ap (strength_of Section) w)
@@ -100,7 +114,11 @@ definition_is l name = of (best_of name (events (map kept_of l.inputs))) refl
     by_sort b is Common t e w =
         let s : strength b.row ≡ 2 = ap (λ s. strength_of s b.row.weak) e in
         let great = greatest_first l name b is s in
-        rw (strong_empty l name (none_above name _ b 4 is.unbeaten (omega (arith, s))), weak_empty l name (none_above name _ b 3 is.unbeaten (omega (arith, s))))
+        rw (
+          strong_empty l name (none_above name _ b 4 is.unbeaten (omega (arith, s))),
+          weak_empty l name
+              (none_above name _ b 3 is.unbeaten (omega (arith, s))),
+        )
         (first_symbol l (greatest_of l name) b great.0 _ great.1)
     by_sort b is Offered t e w =
         let s : strength b.row ≡ 1 = ap (λ s. strength_of s b.row.weak) e in
@@ -122,7 +140,9 @@ definition_is l name = of (best_of name (events (map kept_of l.inputs))) refl
         ) refl
 
     of : (o : Option Event) → best_of name (events (map kept_of l.inputs)) ≡ o
-        → first_or (map Symbol (strong_of l name)) (first_or (map Symbol (weak_of l name)) (first_or (map Symbol (greatest_of l name)) (first_or (map Library (libraries_with l name)) (image_base name))))
+        → first_or (map Symbol (strong_of l name))
+        (first_or (map Symbol (weak_of l name))
+        (first_or (map Symbol (greatest_of l name)) (first_or (map Library (libraries_with l name)) (image_base name))))
         ≡ definition_by name o
     of None e =
         let none = none_of name (events (map kept_of l.inputs)) e in

@@ -19,7 +19,8 @@ use Rattle.macho_model.specs.Symbols.{is_global}
 use Rattle.macho_model.specs.Grammar.{IsFile}
 
 -- a common of an object is small
-pub commons_are_small : (dyn : Bool) (b : List ℕ) (k : ℕ) → IsFile dyn b → dyn ≡ false → k < num_symbols b → is_common_of (symbol_at b k) ≡ true → common_size_of (symbol_at b k) < 2 ^ 64
+pub commons_are_small : (dyn : Bool) (b : List ℕ) (k : ℕ) → IsFile dyn b → dyn ≡ false → k < num_symbols b
+    → is_common_of (symbol_at b k) ≡ true → common_size_of (symbol_at b k) < 2 ^ 64
 commons_are_small true b k whole object among common = cc
 commons_are_small false b k whole object among common = grind (arith, nat_tests, whole.o14 k among)
 
@@ -27,7 +28,8 @@ ends : (b : List ℕ) (k : ℕ) → name_ends b k ≡ true → is_global (symbol
 ends b k named global = grind (arith, nat_tests, length-drop {A = ℕ})
 
 -- the name of a global symbol begins inside the string table
-pub names_begin_inside : (dyn : Bool) (b : List ℕ) (k : ℕ) → IsFile dyn b → k < num_symbols b → is_global (symbol_at b k) ≡ true → (symbol_at b k).n_strx ≤ length (strings_of b)
+pub names_begin_inside : (dyn : Bool) (b : List ℕ) (k : ℕ) → IsFile dyn b → k < num_symbols b → is_global (symbol_at b k) ≡ true
+    → (symbol_at b k).n_strx ≤ length (strings_of b)
 names_begin_inside true b k whole among global = ends b k (whole.o9.0 k among) global
 names_begin_inside false b k whole among global = ends b k (whole.o9 k among) global
 
@@ -49,9 +51,11 @@ stands_in_carried f k section header object among found told =
     let which = some_if _ _ _ found in
     let what = some_if _ _ _ told in
     let inside = both _ _ (both _ _ which.0).1 in
-    ap is_carried (what.1 ∙ ap (section_at f.bytes) which.1) ∙ sym (ap (λ x. x && is_carried (section_at f.bytes (section_index_of f k))) inside.1)
+    ap is_carried (what.1 ∙ ap (section_at f.bytes) which.1)
+    ∙ sym (ap (λ x. x && is_carried (section_at f.bytes (section_index_of f k))) inside.1)
 
-chosen : (strings : List ℕ) (global : Bool) (at : ℕ) → string_at strings (if global then at else 0) ≡ (if global then string_at strings at else [])
+chosen : (strings : List ℕ) (global : Bool) (at : ℕ)
+    → string_at strings (if global then at else 0) ≡ (if global then string_at strings at else [])
 chosen strings true at = refl
 chosen strings false at = refl
 
@@ -64,8 +68,10 @@ kept_string b k e n is found at =
     ∙ chosen (strings_of b) (is_global (symbol_at b k)) (symbol_at b k).n_strx
 
 -- A row is that of a symbol where each of its parts is.
-pub row_is : (b : List ℕ) (k : ℕ) (e : SymtabEntry) (name : List ℕ) (sort : Sort) (number value : ℕ) (global weak hidden : Bool) → e ≡ symbol_at b k
-    → name ≡ kept_name b k → sort ≡ sort_of b e → number ≡ number_of b e sort → value ≡ value_of b e sort → global ≡ is_global e → weak ≡ is_weak_of e
+pub row_is : (b : List ℕ) (k : ℕ) (e : SymtabEntry) (name : List ℕ) (sort : Sort) (number value : ℕ) (global weak hidden : Bool)
+    → e ≡ symbol_at b k
+    → name ≡ kept_name b k → sort ≡ sort_of b e → number ≡ number_of b e sort → value ≡ value_of b e sort → global ≡ is_global e
+    → weak ≡ is_weak_of e
     → hidden ≡ is_hidden_of e
     → record { name = name; sort = sort; number = number; value = value; global = global; weak = weak; hidden = hidden } ≡ row_of_symbol b k
 unfolding row_of_symbol

@@ -18,11 +18,13 @@ use Rattle.macho_symbols.proofs.Classes.{common_class, common_alone}
 use Rattle.macho_symbols.proofs.KnowingBetter.{filter_same_test}
 use Rattle.macho_symbols.proofs.ListsMore.{filter-map, filter-filter, filter_same_on}
 
-filter_from : {X : Type 0} (p : X → Bool) (xs : List X) (y d : X) (ys : List X) → filter p xs ≡ y ∷ ys → (k : ℕ) × (k < length xs) × (get_or xs k d ≡ y)
+filter_from : {X : Type 0} (p : X → Bool) (xs : List X) (y d : X) (ys : List X) → filter p xs ≡ y ∷ ys
+    → (k : ℕ) × (k < length xs) × (get_or xs k d ≡ y)
 filter_from p [] y d ys e = cc
 filter_from p (x ∷ xs) y d ys e = of (p x) refl (λ h. filter_from p xs y d ys h)
   where
-    of : (t : Bool) → p x ≡ t → (filter p xs ≡ y ∷ ys → (k : ℕ) × (k < length xs) × (get_or xs k d ≡ y)) → (k : ℕ) × (k < length (x ∷ xs)) × (get_or (x ∷ xs) k d ≡ y)
+    of : (t : Bool) → p x ≡ t → (filter p xs ≡ y ∷ ys → (k : ℕ) × (k < length xs) × (get_or xs k d ≡ y))
+        → (k : ℕ) × (k < length (x ∷ xs)) × (get_or (x ∷ xs) k d ≡ y)
     of true is rest = let same : x ≡ y = cc (rw is at e) in (0, omega arith, same)
     of false is rest = let r = rest (rw is at e) in (suc r.0, omega (arith, r.1), r.2)
 
@@ -82,8 +84,10 @@ unequal : (m n : ℕ) → (m == n) ≡ false → m ≢ n
 unequal m n h = grind (arith, nat_tests)
 
 -- a symbol among the commons of a name: its row, as the best event sees it
-common_row : (l : Link) (name : List ℕ) (b : Event) → IsBest name (events (map kept_of l.inputs)) b → strength b.row ≡ 2 → (k : ℕ) (d : SymbolId) → k < length (commons_of l name)
-    → (common_size (row_of l (get_or (commons_of l name) k d)) ≤ common_size b.row) × (common_size (row_of l (get_or (commons_of l name) k d)) ≡ (entry_at l (get_or (commons_of l name) k d)).n_value)
+common_row : (l : Link) (name : List ℕ) (b : Event) → IsBest name (events (map kept_of l.inputs)) b → strength b.row ≡ 2
+    → (k : ℕ) (d : SymbolId) → k < length (commons_of l name)
+    → (common_size (row_of l (get_or (commons_of l name) k d)) ≤ common_size b.row)
+    × (common_size (row_of l (get_or (commons_of l name) k d)) ≡ (entry_at l (get_or (commons_of l name) k d)).n_value)
 unfolding commons_of
 common_row l name b is s k d within =
     let es = events (map kept_of l.inputs) in
@@ -91,12 +95,15 @@ common_row l name b is s k d within =
     let common : is_common_of (entry_at l symbol) ≡ true =
     first_part _ _ (filter_passes (λ (t : SymbolId). is_common_of (entry_at l t) && has_name l name t) (symbols_of l) k d within) in
     let test : Event → Bool = λ e. (strength e.row == 2) && is_of name e in
-    let long : length (filter test es) ≡ length (commons_of l name) = ap length (sym (common_class l name)) ∙ length-map (commons_of l name) (event_of l) in
+    let long : length (filter test es) ≡ length (commons_of l name) = ap length (sym (common_class l name))
+    ∙ length-map (commons_of l name) (event_of l) in
     let here : get_or (filter test es) k (event_of l d) ≡ event_of l symbol =
-    ap (λ xs. get_or xs k (event_of l d)) (sym (common_class l name)) ∙ get_or-map (event_of l) (commons_of l name) k d (event_of l d) within in
+    ap (λ xs. get_or xs k (event_of l d)) (sym (common_class l name))
+    ∙ get_or-map (event_of l) (commons_of l name) k d (event_of l d) within in
     let passes = both _ _ (filter_passes test es k (event_of l d) (omega (arith, within, long))) in
     let strong : strength (row_of l symbol) ≡ 2 = ap (λ e. strength e.row) (sym here) ∙ equal_by_test _ 2 passes.0 in
-    let beaten = All-filter test (λ x. is_of name x ≡ true → beats x.row b.row ≡ false) es is.unbeaten k (event_of l d) (omega (arith, within, long)) passes.1 in
+    let beaten = All-filter test (λ x. is_of name x ≡ true → beats x.row b.row ≡ false) es is.unbeaten k (event_of l d)
+    (omega (arith, within, long)) passes.1 in
     let fails : beats (row_of l symbol) b.row ≡ false = ap (λ e. beats e.row b.row) (sym here) ∙ beaten in
     (not_greater (row_of l symbol) b.row strong s fails, size_is l symbol common)
 
@@ -116,28 +123,40 @@ levels l name b is s =
 pub greatest_first : (l : Link) (name : List ℕ) (b : Event) → IsBest name (events (map kept_of l.inputs)) b → strength b.row ≡ 2
     → (more : List Event) × (map (event_of l) (greatest_of l name) ≡ b ∷ more)
 unfolding greatest_of
-greatest_first l name b is s =
-    (is.more, ap (map (event_of l)) (filter_same_on _ _ (commons_of l name) (λ k d h. agree k d h (common_size b.row == common_size (row_of l (get_or (commons_of l name) k d))) refl)) ∙ levels l name b is s)
+greatest_first l name b is s = (
+  is.more,
+  ap (map (event_of l))
+      (filter_same_on _ _ (commons_of l name)
+      (λ k d h. agree k d h (common_size b.row == common_size (row_of l (get_or (commons_of l name) k d))) refl)) ∙ levels l name b is s,
+)
   where
-    first_there : (k : ℕ) × (k < length (commons_of l name)) × (common_size (row_of l (get_or (commons_of l name) k (id_of b))) ≡ common_size b.row)
+    first_there : (k : ℕ) × (k < length (commons_of l name))
+        × (common_size (row_of l (get_or (commons_of l name) k (id_of b))) ≡ common_size b.row)
     first_there = of (filter (λ s. common_size b.row == common_size (row_of l s)) (commons_of l name)) refl
       where
         of : (xs : List SymbolId) → filter (λ s. common_size b.row == common_size (row_of l s)) (commons_of l name) ≡ xs
-            → (k : ℕ) × (k < length (commons_of l name)) × (common_size (row_of l (get_or (commons_of l name) k (id_of b))) ≡ common_size b.row)
+            → (k : ℕ) × (k < length (commons_of l name))
+            × (common_size (row_of l (get_or (commons_of l name) k (id_of b))) ≡ common_size b.row)
         of [] e = let none = sym (ap (map (event_of l)) e) ∙ levels l name b is s in absurd (omega (arith, ap length none))
         of (x ∷ xs) e =
             let from = filter_from (λ s. common_size b.row == common_size (row_of l s)) (commons_of l name) x (id_of b) xs e in
-            let passes = filter_passes (λ (s : SymbolId). common_size b.row == common_size (row_of l s)) (commons_of l name) 0 x (omega (arith, ap length e)) in
-            let here : (common_size b.row == common_size (row_of l x)) ≡ true = ap (λ ys. common_size b.row == common_size (row_of l (get_or ys 0 x))) (sym e) ∙ passes in
+            let passes = filter_passes (λ (s : SymbolId). common_size b.row == common_size (row_of l s)) (commons_of l name) 0 x
+            (omega (arith, ap length e)) in
+            let here : (common_size b.row == common_size (row_of l x)) ≡ true = ap
+            (λ ys. common_size b.row == common_size (row_of l (get_or ys 0 x))) (sym e) ∙ passes in
             (from.0, from.1, ap (λ y. common_size (row_of l y)) from.2 ∙ sym (equal_by_test _ _ here))
 
-    agree : (k : ℕ) (d : SymbolId) → k < length (commons_of l name) → (t : Bool) → (common_size b.row == common_size (row_of l (get_or (commons_of l name) k d))) ≡ t
+    agree : (k : ℕ) (d : SymbolId) → k < length (commons_of l name) → (t : Bool)
+        → (common_size b.row == common_size (row_of l (get_or (commons_of l name) k d))) ≡ t
         → list_all (λ t. nat_le (entry_at l t).n_value (entry_at l (get_or (commons_of l name) k d)).n_value) (commons_of l name)
         ≡ (common_size b.row == common_size (row_of l (get_or (commons_of l name) k d)))
     agree k d h true same =
         let own = common_row l name b is s k d h in
-        all_pass _ (commons_of l name) (λ j e g. let other = common_row l name b is s j e g in below _ _ (omega (arith, own.1, other.1, other.0, equal_by_test _ _ same))) ∙ sym same
+        all_pass _ (commons_of l name)
+        (λ j e g. let other = common_row l name b is s j e g in below _ _
+        (omega (arith, own.1, other.1, other.0, equal_by_test _ _ same))) ∙ sym same
     agree k d h false apart =
         let own = common_row l name b is s k d h in
         let most = common_row l name b is s first_there.0 (id_of b) first_there.1 in
-        one_fails _ (commons_of l name) first_there.0 (id_of b) first_there.1 (above _ _ (omega (arith, own.0, own.1, most.1, first_there.2, unequal _ _ apart))) ∙ sym apart
+        one_fails _ (commons_of l name) first_there.0 (id_of b) first_there.1
+        (above _ _ (omega (arith, own.0, own.1, most.1, first_there.2, unequal _ _ apart))) ∙ sym apart

@@ -9,13 +9,15 @@ use Rattle.macho_symbols.specs.steps.Tables.{IsTable, IsThere, IsImproved, no_en
 use Rattle.macho_symbols.proofs.Lists.{map_set_same}
 
 -- names and nexts stay where an entry leads to another row of its name
-pub names_stay : (files : List FileRows) (entries : List Entry) (number : ℕ) (e : Entry) → entry_name files e ≡ entry_name files (get_or entries number no_entry)
+pub names_stay : (files : List FileRows) (entries : List Entry) (number : ℕ) (e : Entry)
+    → entry_name files e ≡ entry_name files (get_or entries number no_entry)
     → names_of files (set entries number e) ≡ names_of files entries
 names_stay files entries number e same = map_set_same (entry_name files) entries number e no_entry same
 
 -- the table stays one
 pub table_stays : (files : List FileRows) (heads : List ℕ) (entries : List Entry) (number : ℕ) (e : Entry) → IsTable files heads entries
-    → e.next ≡ (get_or entries number no_entry).next → entry_name files e ≡ entry_name files (get_or entries number no_entry) → IsThere files e
+    → e.next ≡ (get_or entries number no_entry).next → entry_name files e ≡ entry_name files (get_or entries number no_entry)
+    → IsThere files e
     → IsTable files heads (set entries number e)
 table_stays files heads entries number e table next same there = record {
   chained = rw (map_set_same (λ x. x.next) entries number e no_entry next, names_stay files entries number e same) table.chained;
@@ -24,11 +26,24 @@ table_stays files heads entries number e table next same there = record {
 }
 
 -- the two ways
-pub stays_best : (files : List FileRows) (entries : List Entry) (number file row : ℕ) → beats (row_at files file row) (row_of_entry files entries number) ≡ false
+pub stays_best : (files : List FileRows) (entries : List Entry) (number file row : ℕ)
+    → beats (row_at files file row) (row_of_entry files entries number) ≡ false
     → both_strong (row_of_entry files entries number) (row_at files file row) ≡ false → IsImproved files entries entries number file row
-stays_best files entries number file row fails single = record { kept = λ _. refl; better = λ passes. absurd (false≢true (sym fails ∙ passes)); single = single }
+stays_best files entries number file row fails single = record {
+  kept = λ _. refl;
+  better = λ passes. absurd
+      (false≢true (sym fails ∙ passes));
+  single = single;
+}
 
-pub is_better : (files : List FileRows) (entries new : List Entry) (number file row : ℕ) → beats (row_at files file row) (row_of_entry files entries number) ≡ true
+pub is_better : (files : List FileRows) (entries new : List Entry) (number file row : ℕ)
+    → beats (row_at files file row) (row_of_entry files entries number) ≡ true
     → both_strong (row_of_entry files entries number) (row_at files file row) ≡ false
-    → new ≡ set entries number (record (get_or entries number no_entry) { file = file; row = row }) → IsImproved files entries new number file row
-is_better files entries new number file row passes single is = record { kept = λ fails. absurd (false≢true (sym fails ∙ passes)); better = λ _. is; single = single }
+    → new ≡ set entries number (record (get_or entries number no_entry) { file = file; row = row })
+    → IsImproved files entries new number file row
+is_better files entries new number file row passes single is = record {
+  kept = λ fails. absurd
+      (false≢true (sym fails ∙ passes));
+  better = λ _. is;
+  single = single;
+}

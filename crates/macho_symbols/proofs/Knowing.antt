@@ -18,13 +18,16 @@ use Rattle.macho_symbols.proofs.Best.{best_push, with_other, with_own, none_of, 
 pub best_other : (name : List ℕ) (es : List Event) (e : Event) → is_of name e ≡ false → best_of name (es ++ e ∷ []) ≡ best_of name es
 best_other name es e other = best_push name es e ∙ with_other name (best_of name es) e other
 
-pub best_own : (name : List ℕ) (es : List Event) (e : Event) → is_of name e ≡ true → best_of name (es ++ e ∷ []) ≡ better (best_of name es) e
+pub best_own : (name : List ℕ) (es : List Event) (e : Event) → is_of name e ≡ true
+    → best_of name (es ++ e ∷ []) ≡ better (best_of name es) e
 best_own name es e own = best_push name es e ∙ with_own name (best_of name es) e own
 
-pub strong_other : (name : List ℕ) (es : List Event) (e : Event) → is_of name e ≡ false → filter (is_strong_of name) (es ++ e ∷ []) ≡ filter (is_strong_of name) es
+pub strong_other : (name : List ℕ) (es : List Event) (e : Event) → is_of name e ≡ false
+    → filter (is_strong_of name) (es ++ e ∷ []) ≡ filter (is_strong_of name) es
 strong_other name es e other =
     let fails : is_strong_of name e ≡ false = rw other (and_false (strength e.row == 4)) in
-    filter-append (is_strong_of name) es (e ∷ []) ∙ rw (filter_none (is_strong_of name) e fails, append-nil (filter (is_strong_of name) es)) refl
+    filter-append (is_strong_of name) es (e ∷ [])
+    ∙ rw (filter_none (is_strong_of name) e fails, append-nil (filter (is_strong_of name) es)) refl
 
 nameless : (name : List ℕ) (e : Event) → IsNameless e → is_of name e ≡ false
 nameless name e is = rw is refl
@@ -36,7 +39,8 @@ pub own_name : (name : List ℕ) (e : Event) → e.row.global ≡ true → e.row
 own_name name e global is = rw (global, bytes_same e.row.name name is) refl
 
 -- an event of no name
-pub knows_nameless : (files : List FileRows) (es : List Event) (entries : List Entry) (e : Event) → Knows files es entries → IsNameless e → Knows files (es ++ e ∷ []) entries
+pub knows_nameless : (files : List FileRows) (es : List Event) (entries : List Entry) (e : Event) → Knows files es entries → IsNameless e
+    → Knows files (es ++ e ∷ []) entries
 knows_nameless files es entries e known is = record {
   each = λ k d h. best_other _ es e (nameless _ e is) ∙ known.each k d h;
   rest = λ name nowhere. best_other name es e (nameless name e is) ∙ known.rest name nowhere;
@@ -62,8 +66,12 @@ pub knows_added : (files : List FileRows) (es : List Event) (entries new : List 
     → (row_at files file row).global ≡ true → IsNowhere (row_at files file row).name (names_of files entries) → IsAdded entries new file row
     → Knows files (es ++ event_at files file row ∷ []) new
 knows_added files es entries new file row known global nowhere added = record {
-  each = rw added.are (All-push (λ e. best_of (entry_name files e) (es ++ event_at files file row ∷ []) ≡ Some (event_at files e.file e.row)) entries added.entry olds newest);
-  rest = λ name none. best_other name es (event_at files file row) (other_name name (event_at files file row) (λ same. none (length (names_of files entries)) last_there (last_name ∙ same))) ∙ known.rest name (λ k h is. none k (omega (arith, h, longer)) (before k h ∙ is));
+  each = rw added.are
+      (All-push (λ e. best_of (entry_name files e) (es ++ event_at files file row ∷ []) ≡ Some
+      (event_at files e.file e.row)) entries added.entry olds newest);
+  rest = λ name none. best_other name es (event_at files file row)
+      (other_name name (event_at files file row) (λ same. none (length (names_of files entries)) last_there (last_name ∙ same)))
+      ∙ known.rest name (λ k h is. none k (omega (arith, h, longer)) (before k h ∙ is));
   single = λ name. single name (bytes_eq (row_at files file row).name name) refl;
 }
   where
@@ -89,15 +97,23 @@ knows_added files es entries new file row known global nowhere added = record {
     none = known.rest (row_at files file row).name nowhere
 
     olds : All (λ e. best_of (entry_name files e) (es ++ event_at files file row ∷ []) ≡ Some (event_at files e.file e.row)) entries
-    olds = λ k d h. best_other (entry_name files (get_or entries k d)) es (event_at files file row) (other_name (entry_name files (get_or entries k d)) (event_at files file row)
-        (λ same. nowhere k (omega (arith, h, length-map entries (entry_name files))) (name_of_entry files entries k d h ∙ sym same))) ∙ known.each k d h
+    olds = λ k d h. best_other (entry_name files (get_or entries k d)) es (event_at files file row)
+        (other_name (entry_name files (get_or entries k d)) (event_at files file row)
+        (λ same. nowhere k (omega (arith, h, length-map entries (entry_name files))) (name_of_entry files entries k d h ∙ sym same)))
+        ∙ known.each k d h
 
-    newest : best_of (entry_name files added.entry) (es ++ event_at files file row ∷ []) ≡ Some (event_at files added.entry.file added.entry.row)
+    newest : best_of (entry_name files added.entry) (es ++ event_at files file row ∷ []) ≡ Some
+        (event_at files added.entry.file added.entry.row)
     newest =
-        rw (name_is, added.file_is, added.row_is) (best_own (row_at files file row).name es (event_at files file row) (own_name (row_at files file row).name (event_at files file row) global refl) ∙ ap (λ o. better o (event_at files file row)) none)
+        rw (name_is, added.file_is, added.row_is)
+        (best_own (row_at files file row).name es (event_at files file row)
+        (own_name (row_at files file row).name (event_at files file row) global refl)
+        ∙ ap (λ o. better o (event_at files file row)) none)
 
-    single : (name : List ℕ) (t : Bool) → bytes_eq (row_at files file row).name name ≡ t → length (filter (is_strong_of name) (es ++ event_at files file row ∷ [])) ≤ 1
-    single name false other = rw (strong_other name es (event_at files file row) (rw other (and_false (row_at files file row).global))) (known.single name)
+    single : (name : List ℕ) (t : Bool) → bytes_eq (row_at files file row).name name ≡ t
+        → length (filter (is_strong_of name) (es ++ event_at files file row ∷ [])) ≤ 1
+    single name false other = rw (strong_other name es (event_at files file row) (rw other (and_false (row_at files file row).global)))
+        (known.single name)
     single name true same =
         let is : (row_at files file row).name ≡ name = same_bytes (row_at files file row).name name same in
         let empty : filter (is_strong_of name) es ≡ [] = no_strong name es (none_of name es (subst (λ n. best_of n es ≡ None) is none)) in

@@ -20,14 +20,16 @@ use Rattle.macho_symbols.proofs.ChainsMore.{below_more}
 
 -- the first common of a place
 pub common_found : (commons : List Common) (s : SymbolId) (i : ℕ) (c : Common) → i < length commons
-    → ((k : ℕ) (d : Common) → k < i → same_symbol s (common_id (get_or commons k d)) ≡ false) → same_symbol s (common_id (get_or commons i c)) ≡ true
+    → ((k : ℕ) (d : Common) → k < i → same_symbol s (common_id (get_or commons k d)) ≡ false)
+    → same_symbol s (common_id (get_or commons i c)) ≡ true
     → position_or_len (same_symbol s) (map common_id commons) ≡ i
 common_found commons s i c within others same =
     position_or_len_is (same_symbol s) (map common_id commons) i (common_id c) (omega (arith, within, length-map commons common_id))
     (λ k h. ap (same_symbol s) (get_or-map common_id commons k c (common_id c) (omega (arith, h, within))) ∙ others k c h)
     (λ h. ap (same_symbol s) (get_or-map common_id commons i c (common_id c) within) ∙ same)
 
-pub common_missing : (commons : List Common) (s : SymbolId) (d : SymbolId) → ((k : ℕ) (c : Common) → k < length commons → same_symbol s (common_id (get_or commons k c)) ≡ false)
+pub common_missing : (commons : List Common) (s : SymbolId) (d : SymbolId)
+    → ((k : ℕ) (c : Common) → k < length commons → same_symbol s (common_id (get_or commons k c)) ≡ false)
     → position_or_len (same_symbol s) (map common_id commons) ≡ length commons
 common_missing commons s d others =
     let none : Common = record { file = 0; symbol = 0; size = 0; align = 0 } in
@@ -35,11 +37,14 @@ common_missing commons s d others =
     (λ k h. ap (same_symbol s) (get_or-map common_id commons k none d h) ∙ others k none h)
     (λ h. absurd (omega (arith, h, length-map commons common_id)))
 
-pub not_at_more : (commons : List Common) (s : SymbolId) (i : ℕ) (c : Common) → i < length commons → ((k : ℕ) (d : Common) → k < i → same_symbol s (common_id (get_or commons k d)) ≡ false)
-    → same_symbol s (common_id (get_or commons i c)) ≡ false → (k : ℕ) (d : Common) → k < i + 1 → same_symbol s (common_id (get_or commons k d)) ≡ false
+pub not_at_more : (commons : List Common) (s : SymbolId) (i : ℕ) (c : Common) → i < length commons
+    → ((k : ℕ) (d : Common) → k < i → same_symbol s (common_id (get_or commons k d)) ≡ false)
+    → same_symbol s (common_id (get_or commons i c)) ≡ false → (k : ℕ) (d : Common) → k < i + 1
+    → same_symbol s (common_id (get_or commons k d)) ≡ false
 not_at_more commons s i c within others other k d h = elim (below_more k i h) [
   | inl less ↦ others k d less
-  | inr last ↦ ap (λ j. same_symbol s (common_id (get_or commons j d))) last ∙ ap (λ x. same_symbol s (common_id x)) (get_or_default commons i d c within) ∙ other
+  | inr last ↦ ap (λ j. same_symbol s (common_id (get_or commons j d))) last
+      ∙ ap (λ x. same_symbol s (common_id x)) (get_or_default commons i d c within) ∙ other
 ]
 
 -- the ids of the commons that were chosen
@@ -52,17 +57,21 @@ common_ids s is = ap (map common_id) is.commons ∙ told (chosen_in s.files.item
 
 -- the best event of a name is the row of its entry
 pub entry_best : (s : Solved) (name : List ℕ) (j : ℕ) → IsSolved s → IsEntryOf s.files.items s.table.entries.items name j
-    → best_of name (events s.files.items) ≡ Some (event_at s.files.items (get_or s.table.entries.items j no_entry).file (get_or s.table.entries.items j no_entry).row)
+    → best_of name (events s.files.items) ≡ Some
+    (event_at s.files.items (get_or s.table.entries.items j no_entry).file (get_or s.table.entries.items j no_entry).row)
 entry_best s name j is of_name =
     let named : entry_name s.files.items (get_or s.table.entries.items j no_entry) ≡ name =
     sym (name_of_entry s.files.items s.table.entries.items j no_entry of_name.0) ∙ of_name.1 in
-    subst (λ n. best_of n (events s.files.items) ≡ Some (event_at s.files.items (get_or s.table.entries.items j no_entry).file (get_or s.table.entries.items j no_entry).row)) named
+    subst (λ n. best_of n (events s.files.items) ≡ Some
+    (event_at s.files.items (get_or s.table.entries.items j no_entry).file (get_or s.table.entries.items j no_entry).row)) named
     (is.known.knows.each j no_entry of_name.0)
 
 -- so the name leads where that row does
-pub leads : (s : Solved) (name : List ℕ) (j : ℕ) (e : Entry) (sort : Sort) → IsSolved s → IsEntryOf s.files.items s.table.entries.items name j → e ≡ get_or s.table.entries.items j no_entry
+pub leads : (s : Solved) (name : List ℕ) (j : ℕ) (e : Entry) (sort : Sort) → IsSolved s
+    → IsEntryOf s.files.items s.table.entries.items name j → e ≡ get_or s.table.entries.items j no_entry
     → sort ≡ (row_at s.files.items e.file e.row).sort
-    → named_in s.files.items (noted_of s.imports.items) name ≡ lead_in s.files.items (noted_of s.imports.items) name (event_at s.files.items e.file e.row) sort
+    → named_in s.files.items (noted_of s.imports.items) name ≡ lead_in s.files.items (noted_of s.imports.items) name
+    (event_at s.files.items e.file e.row) sort
 unfolding named_in
 leads s name j e sort is of_name entry same =
     ap (led_in s.files.items (noted_of s.imports.items) name)
@@ -75,7 +84,8 @@ unfolding named_in
 leads_nowhere s name is nowhere = ap (led_in s.files.items (noted_of s.imports.items) name) (is.known.knows.rest name nowhere)
 
 -- what is neither offered nor nowhere leads by itself
-pub leads_itself : (files : List FileRows) (noted : List (List ℕ)) (name : List ℕ) (e : Event) (sort : Sort) → (sort ≡ Offered → ⊥) → (sort ≡ Nowhere → ⊥)
+pub leads_itself : (files : List FileRows) (noted : List (List ℕ)) (name : List ℕ) (e : Event) (sort : Sort) → (sort ≡ Offered → ⊥)
+    → (sort ≡ Nowhere → ⊥)
     → lead_in files noted name e sort ≡ own_in files e sort
 leads_itself files noted name e Section offered nowhere = refl
 leads_itself files noted name e Absolute offered nowhere = refl

@@ -1,3 +1,8 @@
+mod Ascending
+mod AskedFor
+mod ExportedLink
+mod InOrder
+mod OpenNames
 pub mod Beginning
 pub mod Best
 pub mod Bridge

@@ -22,9 +22,11 @@ use Rattle.macho_symbols.proofs.Leading.{entry_best, leads_nowhere}
 use Rattle.macho_symbols.proofs.ChainsMore.{same_or_not}
 
 -- the number of a name among the noted ones, with one more
-number_more : (noted : List (List ℕ)) (name other : List ℕ) (n : ℕ) → import_number noted other ≡ n → n < length noted → import_number (noted ++ name ∷ []) other ≡ n
+number_more : (noted : List (List ℕ)) (name other : List ℕ) (n : ℕ) → import_number noted other ≡ n → n < length noted
+    → import_number (noted ++ name ∷ []) other ≡ n
 number_more noted name other n is there =
-    position_or_len_push (bytes_eq other) noted name ∙ ap (λ k. cond (eqb k (length noted)) (length noted + cond (bytes_eq other name) 0 1) k) is ∙ by (eqb n (length noted)) refl
+    position_or_len_push (bytes_eq other) noted name
+    ∙ ap (λ k. cond (eqb k (length noted)) (length noted + cond (bytes_eq other name) 0 1) k) is ∙ by (eqb n (length noted)) refl
   where
     by : (t : Bool) → eqb n (length noted) ≡ t → cond t (length noted + cond (bytes_eq other name) 0 1) n ≡ n
     by true e = let same : n ≡ length noted = grind (arith, nat_tests) in absurd (omega (arith, same, there))
@@ -33,21 +35,24 @@ number_more noted name other n is there =
 number_new : (noted : List (List ℕ)) (name other : List ℕ) (t : Bool) → import_number noted other ≡ length noted → bytes_eq other name ≡ t
     → import_number (noted ++ name ∷ []) other ≡ length noted + cond t 0 1
 number_new noted name other t is same =
-    position_or_len_push (bytes_eq other) noted name ∙ ap (λ k. cond (eqb k (length noted)) (length noted + cond (bytes_eq other name) 0 1) k) is
+    position_or_len_push (bytes_eq other) noted name
+    ∙ ap (λ k. cond (eqb k (length noted)) (length noted + cond (bytes_eq other name) 0 1) k) is
     ∙ ap (λ u. cond u (length noted + cond (bytes_eq other name) 0 1) (length noted)) itself ∙ ap (λ u. length noted + cond u 0 1) same
   where
     itself : eqb (length noted) (length noted) ≡ true
     itself = grind (arith, nat_tests)
 
 -- numbers of other names stay, and the new one has its own
-numbered_other : (noted : List (List ℕ)) (name other : List ℕ) (n : ℕ) → IsNumbered noted other n → (other ≡ name → ⊥) → IsNumbered (noted ++ name ∷ []) other n
+numbered_other : (noted : List (List ℕ)) (name other : List ℕ) (n : ℕ) → IsNumbered noted other n → (other ≡ name → ⊥)
+    → IsNumbered (noted ++ name ∷ []) other n
 numbered_other noted name other n is apart = record {
   fresh = λ e. number_new noted name other false (is.fresh e) (bytes_differ other name apart) ∙ sym (length-append noted (name ∷ []));
   old = λ e. sym (number_more noted name other n (sym (is.old e)) (is.there e));
   there = λ e. omega (arith, is.there e, length-append noted (name ∷ []));
 }
 
-numbered_new : (noted : List (List ℕ)) (name : List ℕ) (n : ℕ) → import_number noted name ≡ length noted → n ≡ length noted → length noted < UNNUMBERED
+numbered_new : (noted : List (List ℕ)) (name : List ℕ) (n : ℕ) → import_number noted name ≡ length noted → n ≡ length noted
+    → length noted < UNNUMBERED
     → IsNumbered (noted ++ name ∷ []) name n
 numbered_new noted name n fresh is few = record {
   fresh = λ e. absurd (omega (arith, e, is, few));
@@ -58,12 +63,17 @@ numbered_new noted name n fresh is few = record {
 -- all numbers, with one set
 pub numbers_more : (names : List (List ℕ)) (noted : List (List ℕ)) (numbers : List ℕ) (name : List ℕ) (number n : ℕ)
     → ((j : ℕ) → j < length numbers → IsNumbered noted (get_or names j []) (get_or numbers j 0)) → length numbers ≡ length names
-    → number < length names → get_or names number [] ≡ name → ((j : ℕ) → j < length names → j ≢ number → get_or names j [] ≡ get_or names number [] → ⊥)
+    → number < length names → get_or names number [] ≡ name
+    → ((j : ℕ) → j < length names → j ≢ number → get_or names j [] ≡ get_or names number [] → ⊥)
     → import_number noted name ≡ length noted → n ≡ length noted → length noted < UNNUMBERED
     → (j : ℕ) → j < length (set numbers number n) → IsNumbered (noted ++ name ∷ []) (get_or names j []) (get_or (set numbers number n) j 0)
 numbers_more names noted numbers name number n all long within is apart fresh next few j h = elim (same_or_not j number) [
   | inl same ↦
-      rw (ap (λ k. get_or names k []) same ∙ is, ap (λ k. get_or (set numbers number n) k 0) same ∙ get_or-set_same numbers number n 0 (omega (arith, within, long)))
+      rw (
+        ap (λ k. get_or names k []) same ∙ is,
+        ap (λ k. get_or (set numbers number n) k 0) same
+            ∙ get_or-set_same numbers number n 0 (omega (arith, within, long)),
+      )
       (numbered_new noted name n fresh next few)
   | inr other ↦
       rw (get_or-set_other numbers number j n 0 other)
@@ -72,7 +82,8 @@ numbers_more names noted numbers name number n all long within is apart fresh ne
 ]
 
 -- a name that leads to an import is offered by a library
-offered_sort : (files : List FileRows) (noted : List (List ℕ)) (name : List ℕ) (e : Event) (sort : Sort) (n : ℕ) → lead_in files noted name e sort ≡ target.Import n
+offered_sort : (files : List FileRows) (noted : List (List ℕ)) (name : List ℕ) (e : Event) (sort : Sort) (n : ℕ)
+    → lead_in files noted name e sort ≡ target.Import n
     → (defined_as name sort e ≡ Some (Library e.file)) × (import_number noted name ≡ n)
 offered_sort files noted name e Section n is = cc
 offered_sort files noted name e Absolute n is = cc
@@ -80,13 +91,15 @@ offered_sort files noted name e CommonSort n is = cc
 offered_sort files noted name e Offered n is = (refl, cc)
 offered_sort files noted name e Nowhere n is = of (bytes_eq name DSO_HANDLE) is
   where
-    of : (t : Bool) → (if t then target.Base else target.None) ≡ target.Import n → (image_base name ≡ Some (Library e.file)) × (import_number noted name ≡ n)
+    of : (t : Bool) → (if t then target.Base else target.None) ≡ target.Import n → (image_base name ≡ Some (Library e.file))
+        × (import_number noted name ≡ n)
     of true is = cc
     of false is = cc
 
 pub import_offered : (s : Solved) (name : List ℕ) (j n : ℕ) → IsSolved s → IsEntryOf s.files.items s.table.entries.items name j
     → named_in s.files.items (noted_of s.imports.items) name ≡ target.Import n
-    → (definition_by name (best_of name (events s.files.items)) ≡ Some (Library (get_or s.table.entries.items j no_entry).file)) × (import_number (noted_of s.imports.items) name ≡ n)
+    → (definition_by name (best_of name (events s.files.items)) ≡ Some (Library (get_or s.table.entries.items j no_entry).file))
+    × (import_number (noted_of s.imports.items) name ≡ n)
 unfolding named_in
 import_offered s name j n is of_name import =
     let best = entry_best s name j is of_name in

@@ -39,8 +39,10 @@ swap false true = refl
 swap false false = refl
 
 -- a best event of an object is a symbol of the link
-pub best_symbol : (l : Link) (name : List ℕ) (b : Event) → IsBest name (events (map kept_of l.inputs)) b → is_of_object b.row.sort ≡ true → b ≡ event_of l (id_of b)
-best_symbol l name b is object = of (filter (λ s. is_level name b (event_of l s)) (filter (λ s. is_of_object (row_of l s).sort) (symbols_of l))) firsts
+pub best_symbol : (l : Link) (name : List ℕ) (b : Event) → IsBest name (events (map kept_of l.inputs)) b → is_of_object b.row.sort ≡ true
+    → b ≡ event_of l (id_of b)
+best_symbol l name b is object = of
+    (filter (λ s. is_level name b (event_of l s)) (filter (λ s. is_of_object (row_of l s).sort) (symbols_of l))) firsts
   where
     es : List Event
     es = events (map kept_of l.inputs)
@@ -53,7 +55,8 @@ best_symbol l name b is object = of (filter (λ s. is_level name b (event_of l s
         ∙ ap (filter (is_level name b)) (passing l (λ r. is_of_object r.sort) (λ n. refl))
         ∙ filter-filter (is_level name b) object_rows (events (map kept_of l.inputs))
         ∙ filter_same_test _ _ (events (map kept_of l.inputs)) (λ x. swap (is_level name b x) (object_rows x))
-        ∙ sym (filter-filter object_rows (is_level name b) (events (map kept_of l.inputs))) ∙ ap (filter object_rows) is.first ∙ rw object refl
+        ∙ sym (filter-filter object_rows (is_level name b) (events (map kept_of l.inputs))) ∙ ap (filter object_rows) is.first
+        ∙ rw object refl
 
     of : (zs : List SymbolId) → map (event_of l) zs ≡ b ∷ filter (λ e. is_of_object e.row.sort) is.more → b ≡ event_of l (id_of b)
     of [] e = cc
@@ -65,7 +68,9 @@ unfolding row_of_symbol
 defines_is l s = of (is_global (entry_at l s)) refl
   where
     of : (t : Bool) → is_global (entry_at l s) ≡ t
-        → (is_global (entry_at l s) && is_symbol s (definition_by (kept_name (object_of l s.file) s.symbol) (best_of (kept_name (object_of l s.file) s.symbol) (events (map kept_of l.inputs)))))
+        → (is_global (entry_at l s) && is_symbol s
+        (definition_by (kept_name (object_of l s.file) s.symbol)
+        (best_of (kept_name (object_of l s.file) s.symbol) (events (map kept_of l.inputs)))))
         ≡ (is_global (entry_at l s) && is_symbol s (definition_of l (name_at l s)))
     of true global =
         let named : kept_name (object_of l s.file) s.symbol ≡ name_at l s = rw global refl in
@@ -90,7 +95,8 @@ common_strength false false false w alone = refl
 is_common_row : (l : Link) (s : SymbolId) → (strength (row_of l s) == 2) ≡ is_common_of (entry_at l s)
 unfolding row_of_symbol
 is_common_row l s =
-    common_strength (in_carried (object_of l s.file) (entry_at l s)) (is_absolute (entry_at l s)) (is_common_of (entry_at l s)) (is_weak_of (entry_at l s))
+    common_strength (in_carried (object_of l s.file) (entry_at l s)) (is_absolute (entry_at l s)) (is_common_of (entry_at l s))
+    (is_weak_of (entry_at l s))
     (λ common. let parts = common_alone (object_of l s.file) (entry_at l s) common in (parts.1, parts.2))
 
 -- the chosen commons
@@ -105,7 +111,8 @@ chosen_is l =
     ∙ ap (filter (defines_in files)) (sym (passing l (λ r. strength r == 2) (λ n. refl)))
     ∙ filter-map (defines_in files) (event_of l) commons
     ∙ ap (map (event_of l)) (filter-filter (λ s. defines_in files (event_of l s)) (λ s. strength (row_of l s) == 2) (symbols_of l)
-    ∙ filter_same_test _ _ (symbols_of l) (λ s. ap (λ t. t && (strength (row_of l s) == 2)) (defines_is l s) ∙ ap (λ t. defines l s && t) (is_common_row l s) ∙ swap (defines l s) (is_common_of (entry_at l s))))
+    ∙ filter_same_test _ _ (symbols_of l) (λ s. ap (λ t. t && (strength (row_of l s) == 2)) (defines_is l s)
+    ∙ ap (λ t. defines l s && t) (is_common_row l s) ∙ swap (defines l s) (is_common_of (entry_at l s))))
 
 ids_back : (l : Link) (xs : List SymbolId) → map id_of (map (event_of l) xs) ≡ xs
 ids_back l [] = refl
@@ -119,7 +126,8 @@ pub own_is : (l : Link) (s : SymbolId) → own_target l s ≡ own_in (map kept_o
 unfolding row_of_symbol
 own_is l s = of (in_carried (object_of l s.file) (entry_at l s)) refl (is_absolute (entry_at l s)) refl (is_common_of (entry_at l s)) refl
   where
-    of : (c : Bool) → in_carried (object_of l s.file) (entry_at l s) ≡ c → (a : Bool) → is_absolute (entry_at l s) ≡ a → (m : Bool) → is_common_of (entry_at l s) ≡ m
+    of : (c : Bool) → in_carried (object_of l s.file) (entry_at l s) ≡ c → (a : Bool) → is_absolute (entry_at l s) ≡ a → (m : Bool)
+        → is_common_of (entry_at l s) ≡ m
         → own_target l s ≡ own_in (map kept_of l.inputs) (event_of l s) (sort_of (object_of l s.file) (entry_at l s))
     of true carried a absolute m common = rw carried refl
     of false carried true absolute m common = rw (carried, absolute) refl
@@ -128,7 +136,8 @@ own_is l s = of (in_carried (object_of l s.file) (entry_at l s)) refl (is_absolu
     of false carried false absolute false common = rw (carried, absolute, common) refl
 
 -- where a name leads
-own_best : (l : Link) (name : List ℕ) (b : Event) (sort : Sort) → IsBest name (events (map kept_of l.inputs)) b → b.row.sort ≡ sort → is_of_object sort ≡ true
+own_best : (l : Link) (name : List ℕ) (b : Event) (sort : Sort) → IsBest name (events (map kept_of l.inputs)) b → b.row.sort ≡ sort
+    → is_of_object sort ≡ true
     → own_target l (id_of b) ≡ own_in (map kept_of l.inputs) b sort
 own_best l name b sort is same object =
     let symbol = best_symbol l name b is (ap is_of_object same ∙ object) in
@@ -141,9 +150,11 @@ base_is l noted name = of (bytes_eq name DSO_HANDLE)
     of true = refl
     of false = refl
 
-pub named_is : (l : Link) (noted : List (List ℕ)) (name : List ℕ) → named_in (map kept_of l.inputs) noted name ≡ definition_target l noted name (definition_of l name)
+pub named_is : (l : Link) (noted : List (List ℕ)) (name : List ℕ)
+    → named_in (map kept_of l.inputs) noted name ≡ definition_target l noted name (definition_of l name)
 unfolding named_in
-named_is l noted name = of (best_of name (events (map kept_of l.inputs))) refl ∙ ap (definition_target l noted name) (sym (definition_is l name))
+named_is l noted name = of (best_of name (events (map kept_of l.inputs))) refl
+    ∙ ap (definition_target l noted name) (sym (definition_is l name))
   where
     led : (b : Event) → IsBest name (events (map kept_of l.inputs)) b → (sort : Sort) → b.row.sort ≡ sort
         → lead_in (map kept_of l.inputs) noted name b sort ≡ definition_target l noted name (defined_as name sort b)
@@ -153,7 +164,8 @@ named_is l noted name = of (best_of name (events (map kept_of l.inputs))) refl �
     led b is Offered same = refl
     led b is Nowhere same = sym (base_is l noted name)
 
-    of : (o : Option Event) → best_of name (events (map kept_of l.inputs)) ≡ o → led_in (map kept_of l.inputs) noted name o ≡ definition_target l noted name (definition_by name o)
+    of : (o : Option Event) → best_of name (events (map kept_of l.inputs)) ≡ o
+        → led_in (map kept_of l.inputs) noted name o ≡ definition_target l noted name (definition_by name o)
     of None e = sym (base_is l noted name)
     of (Some b) e = led b (best_is name (events (map kept_of l.inputs)) b e) b.row.sort refl
 
@@ -175,11 +187,13 @@ own_else l s common = of (stands_in_carried l s) refl (is_absolute (entry_at l s
     of false carried true absolute = rw (carried, absolute) refl
     of false carried false absolute = rw (carried, absolute, common) refl
 
-no_common : (l : Link) (s : SymbolId) (t : Bool) → is_common_of (entry_at l s) ≡ t → is_global (entry_at l s) ≡ false → is_common_of (entry_at l s) ≡ false
+no_common : (l : Link) (s : SymbolId) (t : Bool) → is_common_of (entry_at l s) ≡ t → is_global (entry_at l s) ≡ false
+    → is_common_of (entry_at l s) ≡ false
 no_common l s true common local = absurd (false≢true (sym local ∙ (common_alone (object_of l s.file) (entry_at l s) common).0))
 no_common l s false common local = common
 
-pub target_is : (l : Link) (noted : List (List ℕ)) (s : SymbolId) → target_in (map kept_of l.inputs) noted (event_of l s) ≡ target_with l noted s
+pub target_is : (l : Link) (noted : List (List ℕ)) (s : SymbolId)
+    → target_in (map kept_of l.inputs) noted (event_of l s) ≡ target_with l noted s
 unfolding row_of_symbol
 target_is l noted s = of (is_global (entry_at l s)) refl
   where
@@ -188,7 +202,8 @@ target_is l noted s = of (is_global (entry_at l s)) refl
     of false local =
         let common = no_common l s (is_common_of (entry_at l s)) refl local in
         let own = sym (own_is l s) ∙ sym (own_else l s common) in
-        let test = local_test (is_stab_of (entry_at l s)) (is_external_of (entry_at l s)) (is_defined_of (entry_at l s)) (is_carried (section_at (object_of l s.file) ((entry_at l s).n_sect - 1)))
+        let test = local_test (is_stab_of (entry_at l s)) (is_external_of (entry_at l s)) (is_defined_of (entry_at l s))
+        (is_carried (section_at (object_of l s.file) ((entry_at l s).n_sect - 1)))
         (is_absolute_of (entry_at l s)) (own_target l s) target.None local in
         rw local (own ∙ sym test)
 
@@ -204,7 +219,8 @@ first_part : (u v : Bool) → (u && v) ≡ true → u ≡ true
 first_part true v e = refl
 first_part false v e = cc
 
-each_common : (l : Link) (xs : List SymbolId) → All (λ s. is_common_of (entry_at l s) ≡ true) xs → map common_told (map (event_of l) xs) ≡ map (common_of l) xs
+each_common : (l : Link) (xs : List SymbolId) → All (λ s. is_common_of (entry_at l s) ≡ true) xs
+    → map common_told (map (event_of l) xs) ≡ map (common_of l) xs
 each_common l [] all = refl
 each_common l (x ∷ xs) all = rw (common_row l x (all 0 x (omega arith)), each_common l xs (λ k d h. all (suc k) d (omega (arith, h)))) refl
 
@@ -212,7 +228,8 @@ pub commons_are : (l : Link) → map common_told (chosen_in (map kept_of l.input
 unfolding chosen_commons
 commons_are l =
     ap (map common_told) (chosen_is l)
-    ∙ each_common l (chosen_commons l) (λ k d h. first_part _ _ (filter_passes (λ (s : SymbolId). is_common_of (entry_at l s) && defines l s) (symbols_of l) k d h))
+    ∙ each_common l (chosen_commons l)
+    (λ k d h. first_part _ _ (filter_passes (λ (s : SymbolId). is_common_of (entry_at l s) && defines l s) (symbols_of l) k d h))
 
 -- a symbol of an object is kept with its row
 pub symbol_kept : (l : Link) (noted : List (List ℕ)) (r : ResolvedRows) (file symbol : ℕ) → IsResolved l noted r → HasSymbol r file symbol
@@ -226,28 +243,40 @@ symbol_kept l noted r file symbol is there = of (get_or l.inputs file no_input) 
     of (Object b) input =
         let count = count_kept l file b within input in
         ap (λ fs. event_at fs file symbol) is.keeps
-        ∙ ap (λ row. record { file = file; at = symbol; row = row }) (row_kept l file symbol b within input (omega (arith, there.2, ap (λ fs. row_count fs file) is.keeps, count)))
-    of (Dylib b) input = absurd (false≢true (sym (ap (λ f. is_none f.library) (ap (λ fs. get_or fs file no_file) is.keeps ∙ file_at l.inputs file within ∙ ap kept_of input)) ∙ there.1))
-    of (Stub text says) input = absurd (false≢true (sym (ap (λ f. is_none f.library) (ap (λ fs. get_or fs file no_file) is.keeps ∙ file_at l.inputs file within ∙ ap kept_of input)) ∙ there.1))
+        ∙ ap (λ row. record { file = file; at = symbol; row = row })
+        (row_kept l file symbol b within input (omega (arith, there.2, ap (λ fs. row_count fs file) is.keeps, count)))
+    of (Dylib b) input = absurd
+        (false≢true
+        (sym (ap (λ f. is_none f.library) (ap (λ fs. get_or fs file no_file) is.keeps ∙ file_at l.inputs file within ∙ ap kept_of input))
+        ∙ there.1))
+    of (Stub text says) input = absurd
+        (false≢true
+        (sym (ap (λ f. is_none f.library) (ap (λ fs. get_or fs file no_file) is.keeps ∙ file_at l.inputs file within ∙ ap kept_of input))
+        ∙ there.1))
 
 -- the same of what is kept
 pub named_here : (l : Link) (noted : List (List ℕ)) (r : ResolvedRows) (name : List ℕ) → IsResolved l noted r
     → named_in r.files r.noted name ≡ definition_target l noted name (definition_of l name)
-named_here l noted r name is = ap (λ fs. named_in fs r.noted name) is.keeps ∙ ap (λ ns. named_in (map kept_of l.inputs) ns name) is.notes ∙ named_is l noted name
+named_here l noted r name is = ap (λ fs. named_in fs r.noted name) is.keeps ∙ ap (λ ns. named_in (map kept_of l.inputs) ns name) is.notes
+    ∙ named_is l noted name
 
 pub target_here : (l : Link) (noted : List (List ℕ)) (r : ResolvedRows) (file symbol : ℕ) → IsResolved l noted r → HasSymbol r file symbol
     → target_in r.files r.noted (event_at r.files file symbol) ≡ target_with l noted (symbol_id file symbol)
 target_here l noted r file symbol is there =
-    ap (target_in r.files r.noted) (symbol_kept l noted r file symbol is there) ∙ ap (λ fs. target_in fs r.noted (event_of l (symbol_id file symbol))) is.keeps
-    ∙ ap (λ ns. target_in (map kept_of l.inputs) ns (event_of l (symbol_id file symbol))) is.notes ∙ target_is l noted (symbol_id file symbol)
+    ap (target_in r.files r.noted) (symbol_kept l noted r file symbol is there)
+    ∙ ap (λ fs. target_in fs r.noted (event_of l (symbol_id file symbol))) is.keeps
+    ∙ ap (λ ns. target_in (map kept_of l.inputs) ns (event_of l (symbol_id file symbol))) is.notes
+    ∙ target_is l noted (symbol_id file symbol)
 
 pub defines_here : (l : Link) (noted : List (List ℕ)) (r : ResolvedRows) (file symbol : ℕ) → IsResolved l noted r → HasSymbol r file symbol
     → defines_in r.files (event_at r.files file symbol) ≡ defines l (symbol_id file symbol)
 defines_here l noted r file symbol is there =
-    ap (defines_in r.files) (symbol_kept l noted r file symbol is there) ∙ ap (λ fs. defines_in fs (event_of l (symbol_id file symbol))) is.keeps
+    ap (defines_in r.files) (symbol_kept l noted r file symbol is there)
+    ∙ ap (λ fs. defines_in fs (event_of l (symbol_id file symbol))) is.keeps
     ∙ defines_by_rows l (symbol_id file symbol)
 
-pub commons_here : (l : Link) (noted : List (List ℕ)) (r : ResolvedRows) → IsResolved l noted r → map common_told (chosen_in r.files) ≡ map (common_of l) (chosen_commons l)
+pub commons_here : (l : Link) (noted : List (List ℕ)) (r : ResolvedRows) → IsResolved l noted r
+    → map common_told (chosen_in r.files) ≡ map (common_of l) (chosen_commons l)
 commons_here l noted r is = ap (λ fs. map common_told (chosen_in fs)) is.keeps ∙ commons_are l
 
 -- two strong definitions among the events are two of the link
@@ -257,7 +286,8 @@ clash_is l (UndefinedSymbol name file) clash = clash
 clash_is l (ExportListMissing name) clash = clash
 clash_is l (DuplicateSymbol name first second) clash = of (strong_of l name.items) refl (strong_class l name.items ∙ clash.strong)
   where
-    of : (xs : List SymbolId) → strong_of l name.items ≡ xs → map (event_of l) xs ≡ clash.a ∷ clash.b ∷ clash.more → IsDuplicate l name.items first second
+    of : (xs : List SymbolId) → strong_of l name.items ≡ xs → map (event_of l) xs ≡ clash.a ∷ clash.b ∷ clash.more
+        → IsDuplicate l name.items first second
     of [] is e = cc
     of (x ∷ []) is e = cc
     of (x ∷ (y ∷ ys)) is e =
@@ -275,5 +305,6 @@ clash_is l (DuplicateSymbol name first second) clash = of (strong_of l name.item
         )
 
 -- no name has two of them, where the events have none
-pub single_is : (l : Link) (name : List ℕ) → length (filter (is_strong_of name) (events (map kept_of l.inputs))) ≤ 1 → length (strong_of l name) ≤ 1
+pub single_is : (l : Link) (name : List ℕ) → length (filter (is_strong_of name) (events (map kept_of l.inputs))) ≤ 1
+    → length (strong_of l name) ≤ 1
 single_is l name single = omega (arith, single, ap length (strong_class l name), length-map (strong_of l name) (event_of l))

@@ -36,15 +36,17 @@ never : (m : ℕ) → (0 == suc m) ≡ false
 never m = grind (arith, nat_tests)
 
 -- a name's number is the next one where the name isn't noted
-next_number : (test : List ℕ → Bool) (noted : List (List ℕ)) → (position_or_len test noted == length noted) ≡ not (list_any test noted)
+pub next_number : (test : List ℕ → Bool) (noted : List (List ℕ)) → (position_or_len test noted == length noted) ≡ not (list_any test noted)
 next_number test [] = refl
 next_number test (n ∷ ns) = of (test n) refl (next_number test ns)
   where
-    of : (t : Bool) → test n ≡ t → (position_or_len test ns == length ns) ≡ not (list_any test ns) → (position_or_len test (n ∷ ns) == length (n ∷ ns)) ≡ not (test n || list_any test ns)
+    of : (t : Bool) → test n ≡ t → (position_or_len test ns == length ns) ≡ not (list_any test ns)
+        → (position_or_len test (n ∷ ns) == length (n ∷ ns)) ≡ not (test n || list_any test ns)
     of true is rest = rw is (never (length ns))
     of false is rest = rw is (shifted (position_or_len test ns) (length ns) ∙ rest)
 
-nothing_by : (files : List FileRows) (noted : List (List ℕ)) (name : List ℕ) (o : Option Event) → is_nothing (led_in files noted name o) ≡ is_none (definition_by name o)
+pub nothing_by : (files : List FileRows) (noted : List (List ℕ)) (name : List ℕ) (o : Option Event)
+    → is_nothing (led_in files noted name o) ≡ is_none (definition_by name o)
 nothing_by files noted name None = of (bytes_eq name DSO_HANDLE)
   where
     of : (t : Bool) → is_nothing (if t then target.Base else target.None) ≡ is_none (if t then Some ImageBase else None)
@@ -67,16 +69,22 @@ next_by : (files : List FileRows) (noted : List (List ℕ)) (name : List ℕ) (o
     → is_next (length noted) (led_in files noted name o) ≡ (is_library (definition_by name o) && not (list_any (bytes_eq name) noted))
 next_by files noted name None = of (bytes_eq name DSO_HANDLE)
   where
-    of : (t : Bool) → is_next (length noted) (if t then target.Base else target.None) ≡ (is_library (if t then Some ImageBase else None) && not (list_any (bytes_eq name) noted))
+    of : (t : Bool)
+        → is_next (length noted) (if t then target.Base else target.None) ≡
+        (is_library (if t then Some ImageBase else None) && not (list_any (bytes_eq name) noted))
     of true = refl
     of false = refl
 next_by files noted name (Some e) = sorts e.row.sort
   where
-    of : (t : Bool) → is_next (length noted) (if t then target.Base else target.None) ≡ (is_library (if t then Some ImageBase else None) && not (list_any (bytes_eq name) noted))
+    of : (t : Bool)
+        → is_next (length noted) (if t then target.Base else target.None) ≡
+        (is_library (if t then Some ImageBase else None) && not (list_any (bytes_eq name) noted))
     of true = refl
     of false = refl
 
-    sorts : (sort : Sort) → is_next (length noted) (lead_in files noted name e sort) ≡ (is_library (defined_as name sort e) && not (list_any (bytes_eq name) noted))
+    sorts : (sort : Sort)
+        → is_next (length noted) (lead_in files noted name e sort) ≡
+        (is_library (defined_as name sort e) && not (list_any (bytes_eq name) noted))
     sorts Section = refl
     sorts Absolute = refl
     sorts Common = refl
@@ -84,15 +92,18 @@ next_by files noted name (Some e) = sorts e.row.sort
     sorts Nowhere = of (bytes_eq name DSO_HANDLE)
 
 -- the same by the link
-nothing_is : (l : Link) (noted : List (List ℕ)) (name : List ℕ) → is_nothing (named_in (map kept_of l.inputs) noted name) ≡ is_none (definition_of l name)
+pub nothing_is : (l : Link) (noted : List (List ℕ)) (name : List ℕ)
+    → is_nothing (named_in (map kept_of l.inputs) noted name) ≡ is_none (definition_of l name)
 unfolding named_in
-nothing_is l noted name = nothing_by (map kept_of l.inputs) noted name (best_of name (events (map kept_of l.inputs))) ∙ ap is_none (sym (definition_is l name))
+nothing_is l noted name = nothing_by (map kept_of l.inputs) noted name (best_of name (events (map kept_of l.inputs)))
+    ∙ ap is_none (sym (definition_is l name))
 
-next_is : (l : Link) (noted : List (List ℕ)) (name : List ℕ)
+pub next_is : (l : Link) (noted : List (List ℕ)) (name : List ℕ)
     → is_next (length noted) (named_in (map kept_of l.inputs) noted name) ≡ (is_imported l name && not (list_any (bytes_eq name) noted))
 unfolding named_in
 next_is l noted name =
-    next_by (map kept_of l.inputs) noted name (best_of name (events (map kept_of l.inputs))) ∙ ap (λ d. is_library d && not (list_any (bytes_eq name) noted)) (sym (definition_is l name))
+    next_by (map kept_of l.inputs) noted name (best_of name (events (map kept_of l.inputs)))
+    ∙ ap (λ d. is_library d && not (list_any (bytes_eq name) noted)) (sym (definition_is l name))
 
 noting_is : (l : Link) (noted : List (List ℕ)) (s : SymbolId) → noting_in (map kept_of l.inputs) noted (event_of l s) ≡ noting l noted s
 unfolding row_of_symbol
@@ -102,13 +113,16 @@ noting_is l noted s = of (is_global (entry_at l s)) refl
     of true global = rw global (ap (λ t. if t then noted ++ name_at l s ∷ [] else noted) (next_is l noted (name_at l s)))
     of false local = rw local refl
 
-pub noted_here : (l : Link) (noted : List (List ℕ)) (r q : ResolvedRows) (file symbol : ℕ) → IsResolved l noted r → HasSymbol r file symbol → q.files ≡ r.files
+pub noted_here : (l : Link) (noted : List (List ℕ)) (r q : ResolvedRows) (file symbol : ℕ) → IsResolved l noted r
+    → HasSymbol r file symbol → q.files ≡ r.files
     → q.noted ≡ noting_in r.files r.noted (event_at r.files file symbol) → IsResolved l (noting l noted (symbol_id file symbol)) q
 noted_here l noted r q file symbol is there files notes = record {
   keeps = files ∙ is.keeps;
   notes =
-      notes ∙ ap (noting_in r.files r.noted) (symbol_kept l noted r file symbol is there) ∙ ap (λ fs. noting_in fs r.noted (event_of l (symbol_id file symbol))) is.keeps
-      ∙ ap (λ ns. noting_in (map kept_of l.inputs) ns (event_of l (symbol_id file symbol))) is.notes ∙ noting_is l noted (symbol_id file symbol);
+      notes ∙ ap (noting_in r.files r.noted) (symbol_kept l noted r file symbol is there)
+      ∙ ap (λ fs. noting_in fs r.noted (event_of l (symbol_id file symbol))) is.keeps
+      ∙ ap (λ ns. noting_in (map kept_of l.inputs) ns (event_of l (symbol_id file symbol))) is.notes
+      ∙ noting_is l noted (symbol_id file symbol);
 }
 
 -- what an answer says, said in other words
@@ -123,6 +137,10 @@ same_ok (Err y) a b e p = tt
 pub if_err : {X E : Type 0} (P Q : E → Type 0) (r : Result X E) → ((e : E) → P e → Q e) → IfErr r P → IfErr r Q
 if_err P Q (Ok x) f p = tt
 if_err P Q (Err e) f p = f e p
+
+pub both_ok : {X E : Type 0} (r : Result X E) (P Q R : X → Type 0) → ((x : X) → P x → Q x → R x) → IfOk r P → IfOk r Q → IfOk r R
+both_ok (Ok x) P Q R f p q = f x p q
+both_ok (Err e) P Q R f p q = tt
 
 nothing_here : (l : Link) (noted : List (List ℕ)) (r : ResolvedRows) (s : SymbolId) → IsResolved l noted r → is_global (entry_at l s) ≡ true
     → is_nothing (named_in r.files r.noted (event_of l s).row.name) ≡ is_none (definition_of l (name_at l s))
@@ -147,8 +165,10 @@ found_here l noted r file symbol is there found global =
     let found_row = subst (IsFoundIn r.files r.noted) (symbol_kept l noted r file symbol is there) found in
     sym (nothing_here l noted r s is global) ∙ found_row (global_here l s ∙ global)
 
-pub undefined_here : (l : Link) (noted : List (List ℕ)) (r : ResolvedRows) (file symbol : ℕ) → IsResolved l noted r → HasSymbol r file symbol
-    → (fault : SymbolFault) → IsUndefinedIn r.files r.noted (event_at r.files file symbol) fault → IsUndefined l (symbol_id file symbol) fault
+pub undefined_here : (l : Link) (noted : List (List ℕ)) (r : ResolvedRows) (file symbol : ℕ) → IsResolved l noted r
+    → HasSymbol r file symbol
+    → (fault : SymbolFault) → IsUndefinedIn r.files r.noted (event_at r.files file symbol) fault
+    → IsUndefined l (symbol_id file symbol) fault
 undefined_here l noted r file symbol is there OutOfMemory told = tt
 undefined_here l noted r file symbol is there (DuplicateSymbol name first second) told = told
 undefined_here l noted r file symbol is there (ExportListMissing name) told = told
@@ -174,19 +194,23 @@ library_here l file = of (cases_lt file (length l.inputs))
     of : (file < length l.inputs) ⊎ (length l.inputs ≤ file) → library_in (map kept_of l.inputs) file ≡ library_name l file
     of (inl within) = ap (λ f. library_text f.library) (file_at l.inputs file within) ∙ by (get_or l.inputs file no_input)
     of (inr past) =
-        ap (λ f. library_text f.library) (get_or_past (map kept_of l.inputs) file no_file (omega (arith, past, length-map l.inputs kept_of)))
+        ap (λ f. library_text f.library)
+        (get_or_past (map kept_of l.inputs) file no_file (omega (arith, past, length-map l.inputs kept_of)))
         ∙ ap install_name_in (sym (get_or_past l.inputs file no_input past))
 
-pub imports_here : (l : Link) (noted : List (List ℕ)) (r : ResolvedRows) (imports : List Import) → IsResolved l noted r → noted_of imports ≡ r.noted → All (IsImportIn r.files) imports
+pub imports_here : (l : Link) (noted : List (List ℕ)) (r : ResolvedRows) (imports : List Import) → IsResolved l noted r
+    → noted_of imports ≡ r.noted → All (IsImportIn r.files) imports
     → ImportsAre l noted imports
 imports_here l noted r imports is names all = record {
   long = sym (length-map imports (λ i. i.name.items)) ∙ ap length (names ∙ is.notes);
   each = λ k d h.
       let i = get_or imports k d in
-      let named : i.name.items ≡ get_or noted k [] = sym (get_or-map (λ i. i.name.items) imports k d [] h) ∙ ap (λ ns. get_or ns k []) (names ∙ is.notes) in
+      let named : i.name.items ≡ get_or noted k [] = sym (get_or-map (λ i. i.name.items) imports k d [] h)
+      ∙ ap (λ ns. get_or ns k []) (names ∙ is.notes) in
       let bound = all k d h in (
         named,
-        ap (definition_of l) (sym named) ∙ definition_is l i.name.items ∙ sym (ap (λ fs. definition_by i.name.items (best_of i.name.items (events fs))) is.keeps) ∙ bound.0,
+        ap (definition_of l) (sym named) ∙ definition_is l i.name.items
+            ∙ sym (ap (λ fs. definition_by i.name.items (best_of i.name.items (events fs))) is.keeps) ∙ bound.0,
         bound.1 ∙ ap (λ fs. library_in fs i.file) is.keeps ∙ library_here l i.file,
       );
 }

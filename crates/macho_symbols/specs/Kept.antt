@@ -98,7 +98,8 @@ kept_stub says = record { library = Some says.install_name; rows = rows_of_stub 
 
 -- what a stub text that was read says
 abbrev pub reading_of : DefinedStubLibrary → StubReading
-reading_of stub = record { install_name = stub.install_name.now; names = texts stub.symbols.items; weak_names = texts stub.weak_symbols.items }
+reading_of stub = record
+    { install_name = stub.install_name.now; names = texts stub.symbols.items; weak_names = texts stub.weak_symbols.items }
 
 abbrev pub kept_of : Input → FileRows
 kept_of (Object b) = kept_object b

@@ -1,6 +1,6 @@
 -- What is told of chosen commons and of imports, by the link alone.
-use Rattle.std.specs.Prelude.{◌≡◌, ℕ, ◌&&◌, not, if◌then◌else◌, true, false, List, [], ◌∷◌, ◌++◌, map, is_none, Some, length, get_or, ◌<◌}
-use Rattle.std.specs.List.{list_any}
+use Rattle.std.specs.Prelude.{◌≡◌, ℕ, ◌&&◌, not, if◌then◌else◌, true, false, List, [], ◌∷◌, ◌++◌, map, is_none, Some, length, get_or, ◌<◌, All, Contains}
+use Rattle.std.specs.List.{list_any, fold}
 use Rattle.std.specs.Str.{bytes_eq}
 use Rattle.macho_model.specs.Symbols.{is_global}
 use Rattle.macho_model.specs.Needs.{is_imported}
@@ -31,7 +31,8 @@ IsDuplicateOf l OutOfMemory = Unit {0}
 -- the imports that are noted once a symbol is used: a name that a library defines is added, where it isn't noted
 abbrev pub noting : Link → List (List ℕ) → SymbolId → List (List ℕ)
 noting l noted s =
-    if is_global (entry_at l s) && (is_imported l (name_at l s) && not (list_any (bytes_eq (name_at l s)) noted)) then noted ++ name_at l s ∷ [] else noted
+    if is_global (entry_at l s) && (is_imported l (name_at l s) && not (list_any (bytes_eq (name_at l s)) noted)) then noted
+    ++ name_at l s ∷ [] else noted
 
 -- a global symbol's name has a definition
 abbrev pub IsDefined : Link → SymbolId → Type 0
@@ -54,3 +55,21 @@ IsImportOf l name i =
 pub record ImportsAre (l : Link) (noted : List (List ℕ)) (imports : List Import) : Type 0 where
   pub long : length imports ≡ length noted
   pub each : (k : ℕ) (d : Import) → k < length imports → IsImportOf l (get_or noted k []) (get_or imports k d)
+
+-- the imports that are noted once a name is asked for, and once several are, in order
+abbrev pub noting_name : Link → List (List ℕ) → List ℕ → List (List ℕ)
+noting_name l noted name = if is_imported l name && not (list_any (bytes_eq name) noted) then noted ++ name ∷ [] else noted
+
+unfoldable pub noting_names : Link → List (List ℕ) → List (List ℕ) → List (List ℕ)
+noting_names l noted names = fold (noting_name l) noted names
+
+-- each of some names has a definition
+abbrev pub AreDefined : Link → List (List ℕ) → Type 0
+AreDefined l names = All (λ name. is_none (definition_of l name) ≡ false) names
+
+-- one of some names has none, and that is told; nothing is said of want of memory
+abbrev pub IsMissing : Link → List (List ℕ) → SymbolFault → Type 0
+IsMissing l names (ExportListMissing name) = Contains names name.items × (is_none (definition_of l name.items) ≡ true)
+IsMissing l names (DuplicateSymbol name first second) = ⊥
+IsMissing l names (UndefinedSymbol name file) = ⊥
+IsMissing l names OutOfMemory = Unit {0}

@@ -1,5 +1,6 @@
 -- The steps of the resolver: how it holds what it keeps, and the order in which it takes its inputs.
 pub mod Events
+pub mod Exporting
 pub mod Notes
 pub mod Solved
 pub mod Tables

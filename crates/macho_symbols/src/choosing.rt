@@ -15,7 +15,7 @@ use macho_records::rounded_up;
 use std::alloc::Global;
 
 /// Whether a row of such a sort defines a name in an object.
-fn is_of_object(sort: Sort) -> bool
+pub(crate) fn is_of_object(sort: Sort) -> bool
     ensures { result ≡ is_of_object sort }
 {
     match sort {
@@ -38,7 +38,9 @@ pub(crate) fn defines(files: &[FileNames], table: &Table, file: u32, row: usize)
         return false;
     };
     let best = table.entry(number);
-    is_of_object(note_in(files, best.file, best.row).sort) && best.file == file && best.row == row
+    is_of_object(note_in(files, best.file, best.row as usize).sort)
+        && best.file == file
+        && best.row as usize == row
 }
 
 /// Whether a row is a common that defines its name.

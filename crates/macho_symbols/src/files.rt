@@ -2,7 +2,7 @@
 //!
 //! The string table of an object or of a dynamic library is copied once, and a note holds a place and a length in it:
 //! names that share bytes there share them here.
-ghost use Rattle.std.specs.Prelude.{◌≡◌, ℕ, List, ◌+◌, ◌<◌, ◌||◌, true, false, map, IfOk, OnOk, IfSome, is_some, is_none, ◌++◌, slice_range, length, get_or};
+ghost use Rattle.std.specs.Prelude.{◌≡◌, ℕ, List, ◌+◌, ◌^◌, ◌<◌, ◌||◌, true, false, map, IfOk, OnOk, IfSome, is_some, is_none, ◌++◌, slice_range, length, get_or};
 ghost use Rattle.macho_model.specs.Objects.{num_symbols, strings_of, symbol_name};
 ghost use Rattle.macho_model.specs.Symbols.{is_in_section, is_absolute};
 ghost use Rattle.macho_stub_lines.specs.Lists.{texts};
@@ -43,6 +43,7 @@ impl Model for FileNames {
 /// The notes of an object's symbols, in the bytes of its string table.
 fn object_notes(alloc: Global, file: &File<'_>) -> Result<Vec<Note>, AllocError>
     requires object { file.now.is_dynamic ≡ false }
+    requires few { length (strings_of file.now.bytes) < 2 ^ 32 }
     ensures { IfOk result (λ notes. AreNoted (strings_of file.now.bytes) notes.items (rows_of_object file.now.bytes)) }
 {
     let mut notes = Vec::with_capacity(alloc, file.num_symbols() as usize)?;
@@ -58,6 +59,7 @@ fn object_notes(alloc: Global, file: &File<'_>) -> Result<Vec<Note>, AllocError>
 /// The note of a symbol that a dynamic library offers, in the bytes of its string table; None of another symbol.
 fn offered_note(file: &File<'_>, index: u32, last: Name) -> Option<Note>
     requires dylib { file.now.is_dynamic ≡ true }
+    requires few { length (strings_of file.now.bytes) < 2 ^ 32 }
     requires among { index < num_symbols file.now.bytes }
     requires last { IsString (strings_of file.now.bytes) last }
     ensures offered { is_some result ≡ is_offered file.now.bytes index }
@@ -69,7 +71,7 @@ fn offered_note(file: &File<'_>, index: u32, last: Name) -> Option<Note>
     if symbol.is_local() || symbol.is_hidden() || !is_defined(symbol) {
         return None;
     }
-    Some(offered(name_at(file.strings(), symbol.n_strx as usize, last)))
+    Some(offered(name_at(file.strings(), symbol.n_strx, last)))
 }
 
 /// Whether a symbol is defined: in a section, or as a value of its own.
@@ -99,6 +101,7 @@ fn offered(name: Name) -> Note
 /// The notes of what a dynamic library offers, in the bytes of its string table.
 fn dylib_notes(alloc: Global, file: &File<'_>) -> Result<Vec<Note>, AllocError>
     requires dylib { file.now.is_dynamic ≡ true }
+    requires few { length (strings_of file.now.bytes) < 2 ^ 32 }
     ensures { IfOk result (λ notes. AreNoted (strings_of file.now.bytes) notes.items (rows_of_dylib file.now.bytes)) }
 {
     let mut notes = Vec::new(alloc);
@@ -120,11 +123,14 @@ fn offer_names(text: &mut Vec<u8>, notes: &mut Vec<Note>, names: &[&str]) -> Res
 {
     for name in names {
         let bytes = name.as_bytes();
-        let at = text.len();
+        let (at, length) = (text.len(), bytes.len());
+        if at > u32::MAX as usize || length > u32::MAX as usize {
+            return Err(AllocError);
+        }
         text.extend_from_slice(bytes)?;
         notes.push(offered(Name {
-            at,
-            length: bytes.len(),
+            at: at as u32,
+            length: length as u32,
         }))?;
     }
     Ok(())
@@ -136,10 +142,14 @@ impl FileNames {
         requires object { file.now.is_dynamic ≡ false }
         ensures { IfOk result (λ f. f ≡ kept_object file.now.bytes) }
     {
+        let strings = file.strings();
+        if strings.len() > u32::MAX as usize {
+            return Err(AllocError);
+        }
         Ok(FileNames {
             library: None,
             notes: object_notes(alloc, file)?,
-            text: Vec::from_slice(alloc, file.strings())?,
+            text: Vec::from_slice(alloc, strings)?,
         })
     }
 
@@ -151,10 +161,14 @@ impl FileNames {
         let Some(install_name) = file.install_name() else {
             unreachable!()
         };
+        let strings = file.strings();
+        if strings.len() > u32::MAX as usize {
+            return Err(AllocError);
+        }
         Ok(FileNames {
             library: Some(Vec::from_slice(alloc, install_name)?),
             notes: dylib_notes(alloc, file)?,
-            text: Vec::from_slice(alloc, file.strings())?,
+            text: Vec::from_slice(alloc, strings)?,
         })
     }
 
@@ -209,7 +223,8 @@ impl FileNames {
         ensures { result.now ≡ (get_or self.now.rows row no_row).name }
     {
         let name = self.notes[row].name;
-        &self.text[name.at..name.at + name.length]
+        let at = name.at as usize;
+        &self.text[at..at + name.length as usize]
     }
 
     /// The note of a row.

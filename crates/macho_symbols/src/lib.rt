@@ -1,7 +1,9 @@
 //! Symbols: which definition each global name of a link has, and what its symbols lead to.
 #![tactic(auto)]
 
+mod asked;
 mod choosing;
+mod exports;
 mod fault;
 mod files;
 mod notes;
@@ -11,7 +13,9 @@ mod resolver;
 mod solved;
 mod table;
 
+pub use exports::ExportName;
 pub use fault::SymbolFault;
+pub use macho_exports::ExportList;
 pub use macho_model::Target;
 pub use resolved::Resolved;
 pub use resolver::Resolver;

@@ -35,9 +35,9 @@ pub(crate) enum Sort {
 #[derive(Clone, Copy)]
 pub(crate) struct Name {
     /// Its first byte.
-    pub(crate) at: usize,
+    pub(crate) at: u32,
     /// How many bytes it has.
-    pub(crate) length: usize,
+    pub(crate) length: u32,
 }
 
 /// What is kept of a symbol, or of a name that a library offers.
@@ -56,7 +56,8 @@ pub(crate) struct Note {
 
 /// The name that begins at a place of a string table. Its end is looked for once where names that follow each other are
 /// one.
-pub(crate) fn name_at(strings: &[u8], at: usize, last: Name) -> Name
+pub(crate) fn name_at(strings: &[u8], at: u32, last: Name) -> Name
+    requires few { length strings.now < 2 ^ 32 }
     requires within { at ≤ length strings.now }
     requires last { IsString strings.now last }
     ensures at { result.at ≡ at }
@@ -70,7 +71,7 @@ pub(crate) fn name_at(strings: &[u8], at: usize, last: Name) -> Name
     }
     Name {
         at,
-        length: name_bytes(&strings[at..]).len(),
+        length: name_bytes(&strings[at as usize..]).len() as u32,
     }
 }
 
@@ -190,6 +191,7 @@ fn lead_of(file: &File<'_>, index: u32, symbol: SymtabEntry) -> Lead
 /// The name of a symbol, none of a local one.
 #[tactic(auto, using(crate::proofs::Entries::names_begin_inside))]
 fn name_of_symbol(file: &File<'_>, index: u32, symbol: SymtabEntry, last: Name) -> Name
+    requires few { length (strings_of file.now.bytes) < 2 ^ 32 }
     requires among { index < num_symbols file.now.bytes }
     requires entry { symbol ≡ symbol_at file.now.bytes index }
     requires last { IsString (strings_of file.now.bytes) last }
@@ -198,7 +200,7 @@ fn name_of_symbol(file: &File<'_>, index: u32, symbol: SymtabEntry, last: Name) 
 {
     let _whole = file.is_dynamic();
     if is_global(symbol) {
-        name_at(file.strings(), symbol.n_strx as usize, last)
+        name_at(file.strings(), symbol.n_strx, last)
     } else {
         Name { at: 0, length: 0 }
     }
@@ -207,6 +209,7 @@ fn name_of_symbol(file: &File<'_>, index: u32, symbol: SymtabEntry, last: Name) 
 /// What is kept of a symbol of an object.
 pub(crate) fn note_of(file: &File<'_>, index: u32, last: Name) -> Note
     requires object { file.now.is_dynamic ≡ false }
+    requires few { length (strings_of file.now.bytes) < 2 ^ 32 }
     requires among { index < num_symbols file.now.bytes }
     requires last { IsString (strings_of file.now.bytes) last }
     ensures named { IsString (strings_of file.now.bytes) result.name }

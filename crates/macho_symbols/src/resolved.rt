@@ -3,13 +3,19 @@ ghost use Rattle.std.specs.Prelude.{◌≡◌, ℕ, List, IfOk, IfErr, OnOk, OnE
 ghost use Rattle.macho_model.specs.Links.{Link};
 ghost use Rattle.macho_model.specs.Resolution.{definition_of, defines};
 ghost use Rattle.macho_model.specs.Targets.{target_with, definition_target};
+ghost use Rattle.macho_model.specs.ExportLists.{plain_entries};
+ghost use Rattle.std.specs.Option.{option_copied};
+ghost use Rattle.macho_symbols.specs.Exported.{AreLists, AreExports};
 ghost use Rattle.macho_symbols.specs.Kept.{IsResolved, HasSymbol, symbol_id};
-ghost use Rattle.macho_symbols.specs.Told.{CommonsAre, ImportsAre, IsDefined, IsUndefined, noting};
+ghost use Rattle.macho_symbols.specs.Told.{CommonsAre, ImportsAre, IsDefined, IsUndefined, noting, noting_names, AreDefined, IsMissing};
 
 use crate::choosing;
+use crate::exports::ExportName;
 use crate::fault::SymbolFault;
 use crate::solved::{Common, Import, Solved};
+use macho_exports::ExportList;
 use macho_model::Target;
+use std::alloc::Global;
 use std::marker::Model;
 
 /// The symbols of a link, resolved. Files are numbered as they were added.
@@ -90,10 +96,49 @@ impl Resolved {
 }
 
 impl Resolved {
+    /// Notes the entries without a star of an export list: each that a library defines, and that isn't noted yet, gets the
+    /// next number.
+    ///
+    /// # Errors
+    ///
+    /// Nothing defines such an entry, or there is not enough memory. Nothing was noted.
+    pub fn note_exports(&mut self, list: &ExportList) -> Result<(), SymbolFault>
+        ensures noted { (l : Link) (noted : List (List ℕ)) → IsResolved l noted self.old
+            → OnOk result (IsResolved l (noting_names l noted list.now.plain) self.new) }
+        ensures found { (l : Link) (noted : List (List ℕ)) → IsResolved l noted self.old → OnOk result (AreDefined l list.now.plain) }
+        ensures why { (l : Link) (noted : List (List ℕ)) → IsResolved l noted self.old → IfErr result (IsMissing l list.now.plain) }
+        ensures kept { OnErr result (self.new ≡ self.old) }
+    {
+        self.solved.note_names(list.required_symbols())
+    }
+}
+
+impl Resolved {
     /// The imports noted so far, in order of their numbers.
     pub fn imports(&self) -> &[Import]
         ensures { (l : Link) (noted : List (List ℕ)) → IsResolved l noted self.now → ImportsAre l noted result.now }
     {
         &self.solved.imports
+    }
+
+    /// The names that are exported, in rising order: those that objects define and show, and imports that were noted where
+    /// export lists contain them.
+    ///
+    /// # Errors
+    ///
+    /// Nothing defines an entry without a star of the lists, or there is not enough memory.
+    pub fn exports(
+        &self,
+        alloc: Global,
+        list: Option<&ExportList>,
+    ) -> Result<Vec<ExportName>, SymbolFault>
+        ensures exported { (l : Link) (noted : List (List ℕ)) → IsResolved l noted self.now → AreLists l (option_copied list.entry)
+            → IfOk result (λ es. AreExports l noted es.items) }
+        ensures found { (l : Link) (noted : List (List ℕ)) → IsResolved l noted self.now → AreLists l (option_copied list.entry)
+            → OnOk result (AreDefined l (plain_entries l.export_lists)) }
+        ensures why { (l : Link) (noted : List (List ℕ)) → IsResolved l noted self.now → AreLists l (option_copied list.entry)
+            → IfErr result (IsMissing l (plain_entries l.export_lists)) }
+    {
+        self.solved.exports(alloc, list)
     }
 }

@@ -3,7 +3,7 @@ ghost use Rattle.std.specs.Prelude.{◌≡◌, ◌^◌, ◌<◌, ◌++◌, ◌�
 ghost use Rattle.macho_symbols.specs.steps.Events.{row_at, row_count, event_at};
 ghost use Rattle.macho_symbols.specs.steps.Tables.{IsEntryOf};
 ghost use Rattle.macho_symbols.specs.steps.Targets.{named_in, target_in, own_in, base_target, chosen_in, id_of, is_next, is_nothing, noting_in};
-ghost use Rattle.macho_symbols.specs.steps.Solved.{IsSolved, IsUnchanged, IsFoundIn, IsUndefinedIn, common_id, noted_of, library_in};
+ghost use Rattle.macho_symbols.specs.steps.Solved.{IsSolved, IsUnchanged, HasGrown, IsFoundIn, IsUndefinedIn, common_id, noted_of, library_in, is_before, AreAscending, IsPlaceOf};
 ghost use Rattle.std.specs.List.{position_or_len};
 ghost use Rattle.macho_model.specs.Resolution.{same_symbol};
 ghost use Rattle.macho_model.specs.Needs.{import_number};
@@ -67,19 +67,43 @@ fn library_in(files: &[FileNames], file: u32) -> &[u8]
     files[file as usize].library()
 }
 
+/// Whether a common stands before a row, by file, then symbol.
+fn is_before(common: Common, file: u32, row: usize) -> bool
+    ensures { result ≡ is_before (common_id common) (record { file = file; symbol = row }) }
+{
+    common.file < file || common.file == file && (common.symbol as usize) < row
+}
+
+/// How many of some commons, which rise by file, then symbol, stand before a row.
+fn commons_before(commons: &[Common], file: u32, row: usize) -> usize
+    requires { AreAscending commons.now }
+    ensures { IsPlaceOf commons.now (record { file = file; symbol = row }) result }
+{
+    let mut low = 0;
+    let mut high = commons.len();
+    while low < high {
+        let middle = low + (high - low) / 2;
+        if is_before(commons[middle], file, row) {
+            low = middle + 1;
+        } else {
+            high = middle;
+        }
+    }
+    low
+}
+
 /// The number of a chosen common.
 fn number_of_common(commons: &[Common], file: u32, row: usize) -> u32
-    requires { length commons.now < 2 ^ 32 }
+    requires few { length commons.now < 2 ^ 32 }
+    requires ascending { AreAscending commons.now }
     ensures { result ≡ position_or_len (same_symbol (record { file = file; symbol = row })) (map common_id commons.now) }
 {
-    let mut number = 0u32;
-    for common in commons {
-        if is_at(*common, file, row) {
-            return number;
-        }
-        number += 1;
+    let place = commons_before(commons, file, row);
+    if place < commons.len() && is_at(commons[place], file, row) {
+        place as u32
+    } else {
+        commons.len() as u32
     }
-    number
 }
 
 /// Where a row leads by itself.
@@ -132,18 +156,18 @@ impl Solved {
     }
 
     /// Where the best row of a name leads.
-    fn lead(&self, number: usize, name: &[u8]) -> Target
+    pub(crate) fn lead(&self, number: usize, name: &[u8]) -> Target
         requires solved { IsSolved self.now }
         requires entry { IsEntryOf self.now.files.items self.now.table.entries.items name.now number }
         ensures { result ≡ named_in self.now.files.items (noted_of self.now.imports.items) name.now }
     {
         let entry = self.table.entry(number);
-        match note_in(&self.files, entry.file, entry.row).sort {
+        match note_in(&self.files, entry.file, entry.row as usize).sort {
             Sort::Offered => Target::Import {
                 id: self.number_of_import(number, name),
             },
             Sort::Nowhere => base_target(name),
-            _ => own_target(&self.files, &self.commons, entry.file, entry.row),
+            _ => own_target(&self.files, &self.commons, entry.file, entry.row as usize),
         }
     }
 
@@ -175,21 +199,17 @@ impl Solved {
 
 impl Solved {
     /// Notes a name that a library defines, and that isn't noted yet.
-    fn note(&mut self, file: u32, row: usize) -> Result<(), SymbolFault>
-        requires file { file < length self.old.files.items }
-        requires row { row < row_count self.old.files.items file }
+    pub(crate) fn note(&mut self, name: Vec<u8>) -> Result<(), SymbolFault>
         requires solved { IsSolved self.old }
-        requires import { named_in self.old.files.items (noted_of self.old.imports.items) (row_at self.old.files.items file row).name
-            ≡ Target.Import (length (noted_of self.old.imports.items)) }
+        requires import { named_in self.old.files.items (noted_of self.old.imports.items) name.items ≡ Target.Import (length (noted_of self.old.imports.items)) }
         ensures solved { OnOk result (IsSolved self.new) }
-        ensures files { self.new.files.items ≡ self.old.files.items }
-        ensures noted { OnOk result (noted_of self.new.imports.items ≡ noted_of self.old.imports.items ++ (row_at self.old.files.items file row).name ∷ []) }
+        ensures noted { OnOk result (noted_of self.new.imports.items ≡ noted_of self.old.imports.items ++ name.items ∷ []) }
+        ensures grown { OnOk result (HasGrown self.old self.new) }
         ensures kept { OnErr result (IsUnchanged self.old self.new) }
         ensures why { IfErr result (λ fault. fault ≡ SymbolFault.OutOfMemory) }
     {
         let alloc = *self.imports.allocator();
-        let name = name_in(&self.files, file, row);
-        let Some(number) = self.table.find(&self.files, name) else {
+        let Some(number) = self.table.find(&self.files, &name) else {
             unreachable!()
         };
         let library = self.table.entry(number).file;
@@ -201,7 +221,7 @@ impl Solved {
         let import = Import {
             file: library,
             library: Vec::from_slice(alloc, library_in(&self.files, library))?,
-            name: Vec::from_slice(alloc, name)?,
+            name,
         };
         self.imports.push(import)?;
         self.numbers[number] = id;
@@ -210,7 +230,7 @@ impl Solved {
 }
 
 /// Whether a target is an import of a number.
-fn is_import(target: Target, number: usize) -> bool
+pub(crate) fn is_import(target: Target, number: usize) -> bool
     ensures { result ≡ is_next number target }
 {
     match target {
@@ -220,7 +240,7 @@ fn is_import(target: Target, number: usize) -> bool
 }
 
 /// Whether a target is nothing.
-fn is_nothing(target: Target) -> bool
+pub(crate) fn is_nothing(target: Target) -> bool
     ensures { result ≡ is_nothing target }
 {
     match target {
@@ -257,7 +277,9 @@ impl Solved {
         if !is_import(target, self.imports.len()) {
             return Ok(target);
         }
-        if let Err(fault) = self.note(file, row) {
+        let alloc = *self.imports.allocator();
+        let name = Vec::from_slice(alloc, name_in(&self.files, file, row))?;
+        if let Err(fault) = self.note(name) {
             return Err(fault);
         }
         Ok(target)

@@ -20,9 +20,9 @@ use std::alloc::{AllocError, Global};
 #[derive(Clone, Copy)]
 pub(crate) struct Entry {
     /// One more than the number of the entry before in its bucket, 0 for none.
-    pub(crate) next: usize,
+    pub(crate) next: u32,
     /// The best row of the name.
-    pub(crate) row: usize,
+    pub(crate) row: u32,
     /// The file of that row.
     pub(crate) file: u32,
 }
@@ -34,7 +34,7 @@ const NAMES_PER_BUCKET: usize = 2;
 #[derive(Drop)]
 pub(crate) struct Table {
     /// For each bucket, one more than the number of its newest entry, 0 for none.
-    pub(crate) heads: Vec<usize>,
+    pub(crate) heads: Vec<u32>,
     pub(crate) entries: Vec<Entry>,
 }
 
@@ -84,7 +84,7 @@ impl Table {
     {
         let buckets = names / NAMES_PER_BUCKET + 1;
         Ok(Table {
-            heads: vec![in alloc; 0usize; buckets]?,
+            heads: vec![in alloc; 0u32; buckets]?,
             entries: Vec::with_capacity(alloc, names)?,
         })
     }
@@ -106,9 +106,10 @@ impl Table {
     {
         let mut at = self.heads[self.bucket(name)];
         while at != 0 {
-            let entry = self.entries[at - 1];
-            if name_in(files, entry.file, entry.row) == name {
-                return Some(at - 1);
+            let number = at as usize - 1;
+            let entry = self.entries[number];
+            if name_in(files, entry.file, entry.row as usize) == name {
+                return Some(number);
             }
             at = entry.next;
         }
@@ -133,8 +134,14 @@ impl Table {
     {
         let bucket = self.bucket(name_in(files, file, row));
         let next = self.heads[bucket];
+        let number = self.entries.len();
+        // Objects have fewer symbols than that together.
+        if number >= u32::MAX as usize || row > u32::MAX as usize {
+            return Err(AllocError);
+        }
+        let row = row as u32;
         self.entries.push(Entry { next, row, file })?;
-        self.heads[bucket] = self.entries.len();
+        self.heads[bucket] = number as u32 + 1;
         Ok(())
     }
 }
@@ -147,7 +154,7 @@ fn beats(files: &[FileNames], file: u32, row: usize, old: Entry) -> bool
     ensures { result ≡ beats (row_at files.now file row) (row_at files.now old.file old.row) }
 {
     let new = note_in(files, file, row);
-    let old = note_in(files, old.file, old.row);
+    let old = note_in(files, old.file, old.row as usize);
     let (stronger, strong) = (new.strength(), old.strength());
     stronger > strong || stronger == strong && new.common_size() > old.common_size()
 }
@@ -160,11 +167,18 @@ fn are_strong(files: &[FileNames], file: u32, row: usize, old: Entry) -> bool
     ensures { result ≡ both_strong (row_at files.now old.file old.row) (row_at files.now file row) }
 {
     let new = note_in(files, file, row);
-    let old = note_in(files, old.file, old.row);
+    let old = note_in(files, old.file, old.row as usize);
     old.is_strong() && new.is_strong()
 }
 
 impl Table {
+    /// How many entries there are.
+    pub(crate) fn len(&self) -> usize
+        ensures { result ≡ length self.now.entries.items }
+    {
+        self.entries.len()
+    }
+
     /// An entry.
     #[tactic(auto, using(std::proofs::lemmas::List::get_or_default))]
     pub(crate) fn entry(&self, number: usize) -> Entry
@@ -204,6 +218,11 @@ impl Table {
         if !beats(files, file, row, entry) {
             return Ok(());
         }
+        // Objects have fewer symbols than that.
+        if row > u32::MAX as usize {
+            return Err(SymbolFault::OutOfMemory);
+        }
+        let row = row as u32;
         self.entries[number] = Entry { row, file, ..entry };
         Ok(())
     }

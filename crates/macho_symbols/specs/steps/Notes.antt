@@ -59,4 +59,5 @@ pub record AreNoted (text : List ℕ) (notes : List Note) (rows : List Row) : Ty
 
 -- the row of a note, with its name
 abbrev pub named_row : List ℕ → Note → Row
-named_row name n = record { name = name; sort = n.sort; number = n.number; value = n.value; global = n.global; weak = n.weak; hidden = n.hidden }
+named_row name n = record
+    { name = name; sort = n.sort; number = n.number; value = n.value; global = n.global; weak = n.weak; hidden = n.hidden }

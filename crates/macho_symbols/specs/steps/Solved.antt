@@ -1,6 +1,6 @@
 -- What holds once all rows were taken in: the table knows all events, the commons are those that were chosen, and each
 -- entry has the number of its import, where that is noted.
-use Rattle.std.specs.Prelude.{◌≡◌, ℕ, ◌+◌, ◌^◌, ◌<◌, ◌≢◌, List, [], length, map, get_or, All, Some, true, false}
+use Rattle.std.specs.Prelude.{◌≡◌, ℕ, ◌+◌, ◌^◌, ◌<◌, ◌≤◌, ◌≢◌, ◌==◌, nat_lt, ◌&&◌, ◌||◌, Bool, AllPairs, List, [], length, map, get_or, All, Contains, ◌++◌, Some, true, false}
 use Rattle.macho_bytes.specs.Numbers.{rounded_up}
 use Rattle.macho_model.specs.Resolution.{SymbolId, Library}
 use Rattle.macho_model.specs.Needs.{import_number}
@@ -11,12 +11,25 @@ use Rattle.macho_symbols.specs.declared.solved.TheConstants.{UNNUMBERED}
 use Rattle.macho_symbols.specs.Kept.{FileRows, no_file}
 use Rattle.macho_symbols.specs.steps.Events.{Event, events, best_of, library_text}
 use Rattle.macho_symbols.specs.steps.Tables.{IsKnown, names_of}
-use Rattle.macho_symbols.specs.steps.Targets.{chosen_in, definition_by, named_in, is_nothing}
+use Rattle.macho_symbols.specs.steps.Targets.{chosen_in, definition_by, named_in, is_nothing, is_missing_in, noting_names_in}
 use Rattle.macho_symbols.specs.declared.fault.SymbolFault.{SymbolFault}
 use Rattle.macho_symbols.specs.declared.fault.SymbolFault.TheVariants.{DuplicateSymbol, UndefinedSymbol, ExportListMissing, OutOfMemory}
 
 abbrev pub common_id : Common → SymbolId
 common_id c = record { file = c.file; symbol = c.symbol }
+
+-- a symbol comes before another, by file, then number
+abbrev pub is_before : SymbolId → SymbolId → Bool
+is_before s t = nat_lt s.file t.file || ((s.file == t.file) && nat_lt s.symbol t.symbol)
+
+abbrev pub AreAscending : List Common → Type 0
+AreAscending commons = AllPairs (λ a b. is_before (common_id a) (common_id b) ≡ true) commons
+
+-- The first of some commons come before a symbol, and no other.
+pub record IsPlaceOf (commons : List Common) (s : SymbolId) (place : ℕ) : Type 0 where
+  pub within : place ≤ length commons
+  pub below : (k : ℕ) (d : Common) → k < place → is_before (common_id (get_or commons k d)) s ≡ true
+  pub above : (k : ℕ) (d : Common) → place ≤ k → k < length commons → is_before (common_id (get_or commons k d)) s ≡ false
 
 -- a chosen common, as it is told
 abbrev pub common_told : Event → Common
@@ -72,3 +85,26 @@ IsUndefinedIn files noted e (UndefinedSymbol name file) =
 IsUndefinedIn files noted e (DuplicateSymbol name first second) = ⊥
 IsUndefinedIn files noted e (ExportListMissing name) = ⊥
 IsUndefinedIn files noted e OutOfMemory = Unit {0}
+
+-- some imports were noted, and nothing else changed but numbers
+pub record HasGrown (old new : Solved) : Type 0 where
+  pub files : new.files.items ≡ old.files.items
+  pub heads : new.table.heads.items ≡ old.table.heads.items
+  pub entries : new.table.entries.items ≡ old.table.entries.items
+  pub commons : new.commons.items ≡ old.commons.items
+  pub more : List Import
+  pub imports : new.imports.items ≡ old.imports.items ++ more
+
+-- one of some names has no definition, and that is told
+abbrev pub IsMissingIn : List FileRows → List (List ℕ) → SymbolFault → Type 0
+IsMissingIn files names (ExportListMissing name) = Contains names name.items × (is_missing_in files name.items ≡ true)
+IsMissingIn files names (DuplicateSymbol name first second) = ⊥
+IsMissingIn files names (UndefinedSymbol name file) = ⊥
+IsMissingIn files names OutOfMemory = Unit {0}
+
+-- Some names were asked for: the imports among them are noted, and none is missing.
+pub record HaveNoted (old new : Solved) (names : List (List ℕ)) : Type 0 where
+  pub solved : IsSolved new
+  pub grown : HasGrown old new
+  pub noted : noted_of new.imports.items ≡ noting_names_in old.files.items (noted_of old.imports.items) names
+  pub found : All (λ name. is_missing_in old.files.items name ≡ false) names

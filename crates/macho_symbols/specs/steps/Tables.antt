@@ -33,8 +33,10 @@ pub record AreChained (heads nexts : List ℕ) (names : List (List ℕ)) : Type 
   pub begins : (b m : ℕ) → b < length heads → get_or heads b 0 ≡ m + 1 → bucket_of heads (get_or names m []) ≡ b
   pub reached : (k : ℕ) → k < length names → k < get_or heads (bucket_of heads (get_or names k [])) 0
   pub older : (j : ℕ) → j < length names → get_or nexts j 0 ≤ j
-  pub stays : (j m : ℕ) → j < length names → get_or nexts j 0 ≡ m + 1 → bucket_of heads (get_or names m []) ≡ bucket_of heads (get_or names j [])
-  pub onward : (j k : ℕ) → k < j → j < length names → bucket_of heads (get_or names k []) ≡ bucket_of heads (get_or names j []) → k < get_or nexts j 0
+  pub stays : (j m : ℕ) → j < length names → get_or nexts j 0 ≡ m + 1
+      → bucket_of heads (get_or names m []) ≡ bucket_of heads (get_or names j [])
+  pub onward : (j k : ℕ) → k < j → j < length names → bucket_of heads (get_or names k []) ≡ bucket_of heads (get_or names j [])
+      → k < get_or nexts j 0
 
 abbrev pub entry_name : List FileRows → Entry → List ℕ
 entry_name files e = (row_at files e.file e.row).name
@@ -132,7 +134,8 @@ pub record IsKnown (files : List FileRows) (heads : List ℕ) (entries : List En
   pub knows : Knows files es entries
 
 -- The table takes more events in: whatever events it knew before, it now knows these behind them.
-pub record TakesIn (files : List FileRows) (heads : List ℕ) (entries : List Entry) (new_heads : List ℕ) (new_entries : List Entry) (more : List Event) : Type 0 where
+pub record TakesIn (files : List FileRows) (heads : List ℕ) (entries : List Entry) (new_heads : List ℕ) (new_entries : List Entry)
+    (more : List Event) : Type 0 where
   pub says : (es : List Event) → IsKnown files heads entries es → IsKnown files new_heads new_entries (es ++ more)
 
 -- A refusal to take more events in is a clash among those and what the table knew.

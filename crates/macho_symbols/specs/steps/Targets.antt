@@ -1,6 +1,6 @@
 -- What the rows of all files say of names and symbols: the definition of a name, and where it leads.
-use Rattle.std.specs.Prelude.{ℕ, ◌==◌, ◌&&◌, if◌then◌else◌, Bool, true, false, List, [], ◌∷◌, ◌++◌, length, filter, map, Option, Some, None}
-use Rattle.std.specs.List.{position_or_len}
+use Rattle.std.specs.Prelude.{ℕ, ◌==◌, ◌&&◌, if◌then◌else◌, Bool, true, false, List, [], ◌∷◌, ◌++◌, length, filter, map, Option, Some, None, is_none}
+use Rattle.std.specs.List.{position_or_len, fold}
 use Rattle.std.specs.Str.{bytes_eq}
 use Rattle.macho_model.specs.declared.targets.Target.{Target}
 use Rattle.macho_model.specs.declared.targets.Target.TheVariants as target
@@ -108,3 +108,14 @@ is_nothing (target.Absolute value) = false
 abbrev pub noting_in : List FileRows → List (List ℕ) → Event → List (List ℕ)
 noting_in files noted e =
     if e.row.global && is_next (length noted) (named_in files noted e.row.name) then noted ++ e.row.name ∷ [] else noted
+
+-- a name has no definition
+abbrev pub is_missing_in : List FileRows → List ℕ → Bool
+is_missing_in files name = is_none (definition_by name (best_of name (events files)))
+
+-- the imports that are noted after a name is asked for, and after several are
+abbrev pub noting_name_in : List FileRows → List (List ℕ) → List ℕ → List (List ℕ)
+noting_name_in files noted name = if is_next (length noted) (named_in files noted name) then noted ++ name ∷ [] else noted
+
+unfoldable pub noting_names_in : List FileRows → List (List ℕ) → List (List ℕ) → List (List ℕ)
+noting_names_in files noted names = fold (noting_name_in files) noted names

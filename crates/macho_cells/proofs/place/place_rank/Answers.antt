@@ -19,16 +19,19 @@ pub aligned-start-requires-clause-room : goal.aligned-start-requires-clause-room
 aligned-start-requires-clause-room c =
     omega (
       arith,
-      room_in_rank c.args.cells.now c.args.rank c.args.start c.args.placed.now.items c.loop-cell.placed.items c.loop-cell.place c.loop-cell.cell-index blank
+      room_in_rank c.args.cells.now c.args.rank c.args.start c.args.placed.now.items c.loop-cell.placed.items c.loop-cell.place
+          c.loop-cell.cell-index blank
           c.loop-cell-test.true c.if-cell-rank.true c.loop-cell.invariant c.requires.room,
     )
 
 pub overflow_add-place : goal.overflow_add-place
 overflow_add-place c =
-    let room = room_in_rank c.args.cells.now c.args.rank c.args.start c.args.placed.now.items c.loop-cell.placed.items c.loop-cell.place c.loop-cell.cell-index blank
+    let room = room_in_rank c.args.cells.now c.args.rank c.args.start c.args.placed.now.items c.loop-cell.placed.items c.loop-cell.place
+    c.loop-cell.cell-index blank
     c.loop-cell-test.true c.if-cell-rank.true c.loop-cell.invariant c.requires.room in
     let e = (get_or c.args.cells.now c.loop-cell.cell-index blank).exponent in
-    let near = rounded-near (2 ^ (get_or c.args.cells.now c.loop-cell.cell-index blank).exponent) c.loop-cell.place (pow_pos (get_or c.args.cells.now c.loop-cell.cell-index blank).exponent) in
+    let near = rounded-near (2 ^ (get_or c.args.cells.now c.loop-cell.cell-index blank).exponent) c.loop-cell.place
+    (pow_pos (get_or c.args.cells.now c.loop-cell.cell-index blank).exponent) in
     omega (arith, room, near, c.aligned-start.ensures)
 
 pub loop-cell-init : goal.loop-cell-init
@@ -42,8 +45,10 @@ loop-cell-preserved c =
     elim c.if-cell-rank.branch [
       | then-cell-rank+in_ok-push w ↦
           let more = filter_next (has_rank c.args.rank) cells i blank low (eq-eqb _ _ w.if-cell-rank.true) in
-          let next = adds_one (filter (has_rank c.args.rank) (take i cells)) c.args.start c.args.placed.now.items c.loop-cell.placed.items w.push.new.self.items c.loop-cell.place
-          (record { cell = get_or cells i blank; start = w.aligned-start.result }) w.in_ok-push.ensures.items w.aligned-start.ensures c.loop-cell.invariant in
+          let next = adds_one (filter (has_rank c.args.rank) (take i cells)) c.args.start c.args.placed.now.items c.loop-cell.placed.items
+          w.push.new.self.items c.loop-cell.place
+          (record { cell = get_or cells i blank; start = w.aligned-start.result }) w.in_ok-push.ensures.items w.aligned-start.ensures
+          c.loop-cell.invariant in
           rw (more, w.placed-is, w.place-is) next
       | else-cell-rank w ↦
           let same = filter_passed (has_rank c.args.rank) cells i blank low (ne_eqb _ _ w.if-cell-rank.false) in

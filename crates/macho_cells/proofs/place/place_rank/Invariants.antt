@@ -4,4 +4,5 @@ use Rattle.macho_cells.specs.Ranks.{AddsCells, has_rank}
 use Rattle.macho_cells.proofs.place.place_rank.Given as goal
 
 abbrev pub invariant-loop-cell : goal.invariant-loop-cell
-invariant-loop-cell l = AddsCells (filter (has_rank l.rank) (take l.cell-index l.cells)) l.start l.initial.placed.items l.placed.items l.place
+invariant-loop-cell l = AddsCells (filter (has_rank l.rank) (take l.cell-index l.cells)) l.start l.initial.placed.items l.placed.items
+    l.place

@@ -17,7 +17,8 @@ place_rank-requires-clause-room c =
     let cells = c.args.cells.now in
     let first = c.args.first in
     let k = c.loop-rank.rank in
-    let within = adds-within (of_ranks first k cells) c.args.start c.args.placed.now.items c.loop-rank.placed.items c.loop-rank.place c.loop-rank.invariant in
+    let within = adds-within (of_ranks first k cells) c.args.start c.args.placed.now.items c.loop-rank.placed.items c.loop-rank.place
+    c.loop-rank.invariant in
     let next = ap (sum_by cell_cost) (of_ranks-more first k cells) in
     let sums = sum_by-append cell_cost (of_ranks first k cells) (filter (has_rank (first + k)) cells) in
     let all = fewer-cost cell_cost first (k + 1) c.args.count cells (omega arith) in
@@ -28,6 +29,7 @@ loop-rank-preserved c =
     let cells = c.args.cells.now in
     let first = c.args.first in
     let k = c.loop-rank.rank in
-    let next = adds_more (of_ranks first k cells) (filter (has_rank (first + k)) cells) c.args.start c.args.placed.now.items c.loop-rank.placed.items
+    let next = adds_more (of_ranks first k cells) (filter (has_rank (first + k)) cells) c.args.start c.args.placed.now.items
+    c.loop-rank.placed.items
     c.place_rank.new.placed.items c.loop-rank.place c.in_ok-place.place c.loop-rank.invariant c.in_ok-place.ensures in
     rw (of_ranks-more first k cells) next

@@ -7,4 +7,5 @@ use Rattle.macho_cells.proofs.place.starts.Goals as goal
 
 pub loop-one-preserved : goal.loop-one-preserved
 loop-one-preserved c =
-    starts_more c.args.count c.args.placed.now c.loop-one.starts.items c.loop-one.one-index _ c.loop-one-test.true c.requires c.loop-one.invariant
+    starts_more c.args.count c.args.placed.now c.loop-one.starts.items c.loop-one.one-index _ c.loop-one-test.true c.requires
+    c.loop-one.invariant

@@ -10,7 +10,9 @@ use Rattle.macho_layout.proofs.cells.segment_number.Goals as goal
 pub returns-then-eq-clause-value : goal.returns-then-eq-clause-value
 returns-then-eq-clause-value c =
     sym (position_or_len_is (λ (other : SegmentName). same_segment other c.args.name) c.args.names.now c.loop-number.number (padded [])
-    (omega arith) (λ k low. c.loop-number.invariant k (padded []) low) (λ low. ap (λ (n : SegmentName). same_segment n c.args.name) (get_or_default c.args.names.now c.loop-number.number (padded []) (record { 0 = [] }) c.loop-number-test.true) ∙ sym c.eq.ensures ∙ c.if-eq.true))
+    (omega arith) (λ k low. c.loop-number.invariant k (padded []) low)
+    (λ low. ap (λ (n : SegmentName). same_segment n c.args.name) (get_or_default c.args.names.now c.loop-number.number (padded [])
+    (record { 0 = [] }) c.loop-number-test.true) ∙ sym c.eq.ensures ∙ c.if-eq.true))
 
 pub loop-number-preserved : goal.loop-number-preserved
 loop-number-preserved c = λ k d low. elim (cases_lt k c.loop-number.number) [
@@ -18,7 +20,8 @@ loop-number-preserved c = λ k d low. elim (cases_lt k c.loop-number.number) [
   | inr last ↦
       let at : k ≡ c.loop-number.number = omega arith in
       ap (λ (i : ℕ). same_segment (get_or c.args.names.now i d) c.args.name) at
-      ∙ ap (λ (n : SegmentName). same_segment n c.args.name) (get_or_default c.args.names.now c.loop-number.number d _ c.loop-number-test.true) ∙ sym c.eq.ensures ∙ c.if-eq.false
+      ∙ ap (λ (n : SegmentName). same_segment n c.args.name) (get_or_default c.args.names.now c.loop-number.number d _
+      c.loop-number-test.true) ∙ sym c.eq.ensures ∙ c.if-eq.false
 ]
 
 pub returns-clause-value : goal.returns-clause-value

@@ -4,4 +4,8 @@ use Rattle.macho_layout.specs.Places.{row_pages}
 use Rattle.macho_layout.proofs.places.pointer_pages.Given as goal
 
 abbrev pub invariant-loop-segment : goal.invariant-loop-segment
-invariant-loop-segment l = record { value : l.pages ≡ row_pages (take l.segment-index l.segments); small : l.pages ≤ 2 ^ 50 * l.segment-index }
+invariant-loop-segment l = record {
+  value : l.pages ≡ row_pages (take l.segment-index
+      l.segments);
+  small : l.pages ≤ 2 ^ 50 * l.segment-index;
+}

@@ -17,14 +17,25 @@ pub returns-in_err-sum : goal.returns-in_err-sum
 returns-in_err-sum c =
     c.from_residual.ensures
     ∙ fitting-none _ (c.args.before + sum_by cost c.args.commons.now) c.in_err-sum.ensures
-    (omega (arith, c.loop-common.invariant.value, sum_by_more_le cost c.args.commons.now c.loop-common.common-index blank c.loop-common-test.true))
+    (omega (
+      arith,
+      c.loop-common.invariant.value,
+      sum_by_more_le cost c.args.commons.now c.loop-common.common-index blank
+          c.loop-common-test.true,
+    ))
 
 pub loop-common-preserved : goal.loop-common-preserved
 loop-common-preserved c = record {
-  value = fitting-some _ _ c.in_ok-sum.ensures ∙ omega (arith, c.loop-common.invariant.value, sum_by_more cost c.args.commons.now c.loop-common.common-index blank c.loop-common-test.true);
+  value = fitting-some _ _ c.in_ok-sum.ensures ∙ omega (
+    arith,
+    c.loop-common.invariant.value,
+    sum_by_more cost c.args.commons.now
+        c.loop-common.common-index blank c.loop-common-test.true,
+  );
   fits = omega (arith, fitting-below _ _ c.in_ok-sum.ensures, fitting-some _ _ c.in_ok-sum.ensures);
 }
 
 pub returns : goal.returns
 returns c =
-    fitting-is _ _ (c.loop-common.invariant.value ∙ ap (λ (cs : List CommonSpec). c.args.before + sum_by cost cs) (take_all c.loop-common.common-index c.args.commons.now (omega arith))) c.loop-common.invariant.fits
+    fitting-is _ _ (c.loop-common.invariant.value ∙ ap (λ (cs : List CommonSpec). c.args.before + sum_by cost cs)
+    (take_all c.loop-common.common-index c.args.commons.now (omega arith))) c.loop-common.invariant.fits

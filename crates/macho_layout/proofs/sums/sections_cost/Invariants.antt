@@ -5,4 +5,8 @@ use Rattle.macho_layout.specs.Sums.{section_cost}
 use Rattle.macho_layout.proofs.sums.sections_cost.Given as goal
 
 abbrev pub invariant-loop-section : goal.invariant-loop-section
-invariant-loop-section l = record { value : l.sum ≡ sum_by (λ s. section_cost s.spec.size (placed_align l.template s.spec)) (take l.section-index l.sections); fits : l.sum < 2 ^ 64 }
+invariant-loop-section l = record {
+  value : l.sum ≡ sum_by (λ s. section_cost s.spec.size (placed_align l.template s.spec))
+      (take l.section-index l.sections);
+  fits : l.sum < 2 ^ 64;
+}

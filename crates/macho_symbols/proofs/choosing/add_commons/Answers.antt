@@ -15,8 +15,10 @@ loop-row-init c = rw (file_rows_none _ _) (sym (append-nil c.args.commons.now.it
 
 pub loop-row-preserved-then-not-is_chosen : goal.loop-row-preserved-then-not-is_chosen
 loop-row-preserved-then-not-is_chosen c =
-    c.loop-row.invariant ∙ ap (λ es. c.args.commons.now.items ++ map common_told es) (not_chosen_more _ _ _ (sym c.if-not-is_chosen.ensures))
+    c.loop-row.invariant
+    ∙ ap (λ es. c.args.commons.now.items ++ map common_told es) (not_chosen_more _ _ _ (sym c.if-not-is_chosen.ensures))
 
 pub loop-row-preserved : goal.loop-row-preserved
 loop-row-preserved c =
-    rw (c.in_ok-push.ensures.items, c.loop-row.invariant) (chosen_more c.args.files.now _ _ c.args.commons.now.items _ (sym c.if-not-is_chosen.ensures) c.in_ok-common_at.ensures.told)
+    rw (c.in_ok-push.ensures.items, c.loop-row.invariant)
+    (chosen_more c.args.files.now _ _ c.args.commons.now.items _ (sym c.if-not-is_chosen.ensures) c.in_ok-common_at.ensures.told)

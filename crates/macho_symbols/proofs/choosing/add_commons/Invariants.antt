@@ -5,4 +5,5 @@ use Rattle.macho_symbols.specs.steps.Solved.{common_told}
 use Rattle.macho_symbols.proofs.choosing.add_commons.Given as goal
 
 abbrev pub invariant-loop-row : goal.invariant-loop-row
-invariant-loop-row l = l.commons.items ≡ l.initial.commons.items ++ map common_told (filter (is_chosen_in l.files) (events_of_file l.files l.file l.row))
+invariant-loop-row l = l.commons.items ≡ l.initial.commons.items ++ map common_told
+    (filter (is_chosen_in l.files) (events_of_file l.files l.file l.row))

@@ -14,7 +14,8 @@ pub loop-index-preserved : goal.loop-index-preserved
 loop-index-preserved c = record {
   last = c.in-Some.ensures.held.0;
   noted = rw c.in_ok-push.ensures.items
-      (offered_more _ _ _ _ _ c.loop-index.invariant.noted (sym c.in-Some.ensures.offered) c.in-Some.ensures.held.0 c.in-Some.ensures.held.1 c.in-Some.ensures.row);
+      (offered_more _ _ _ _ _ c.loop-index.invariant.noted
+      (sym c.in-Some.ensures.offered) c.in-Some.ensures.held.0 c.in-Some.ensures.held.1 c.in-Some.ensures.row);
 }
 
 pub returns : goal.returns

@@ -9,5 +9,6 @@ abbrev pub invariant-loop-index : goal.invariant-loop-index
 invariant-loop-index l =
     record {
       last : IsString (strings_of l.file.bytes) l.last;
-      noted : AreNoted (strings_of l.file.bytes) l.notes.items (map (λ k. offered_row (symbol_name l.file.bytes k)) (filter (is_offered l.file.bytes) (range_with_len 0 l.index)));
+      noted : AreNoted (strings_of l.file.bytes) l.notes.items
+          (map (λ k. offered_row (symbol_name l.file.bytes k)) (filter (is_offered l.file.bytes) (range_with_len 0 l.index)));
     }

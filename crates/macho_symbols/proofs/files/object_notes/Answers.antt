@@ -8,7 +8,8 @@ pub loop-index-preserved : goal.loop-index-preserved
 loop-index-preserved c = record {
   last = c.note_of-note.ensures.named;
   noted = rw c.in_ok-push.ensures.items
-      (object_row_more _ _ _ _ _ c.loop-index.invariant.noted c.note_of-note.ensures.named c.note_of-note.ensures.small c.note_of-note.ensures.row);
+      (object_row_more _ _ _ _ _ c.loop-index.invariant.noted c.note_of-note.ensures.named c.note_of-note.ensures.small
+      c.note_of-note.ensures.row);
 }
 
 pub returns : goal.returns

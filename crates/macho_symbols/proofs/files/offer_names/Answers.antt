@@ -11,7 +11,12 @@ loop-name-preserved c rows noted =
     let first : c.len-at.result ≡ length c.loop-name.text.items = c.len-at.ensures ∙ omega arith in
     let next = name_more _ _ _ _ c.offered.result _ _ (c.loop-name.invariant rows noted) first refl c.offered.ensures.name
     c.offered.ensures.sort c.offered.ensures.row in
-    rw (c.in_ok-push.ensures.items, c.in_ok-extend_from_slice.ensures.items, texts_more rows _ _ _ _ c.loop-name-test.true c.as_bytes-bytes.ensures.value) next
+    rw (
+      c.in_ok-push.ensures.items,
+      c.in_ok-extend_from_slice.ensures.items,
+      texts_more rows _ _ _ _ c.loop-name-test.true
+          c.as_bytes-bytes.ensures.value,
+    ) next
 
 pub returns : goal.returns
 returns c rows noted =

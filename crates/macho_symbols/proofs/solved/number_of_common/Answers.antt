@@ -1,19 +1,22 @@
-use Rattle.std.proofs.Common.{◌≡◌, ◌+◌, ◌∙◌, sym, arith, length, ap}
-use Rattle.macho_symbols.proofs.Leading.{common_found, common_missing, not_at_more}
+use Rattle.std.proofs.Common.{sym, ◌∙◌, arith}
+use Rattle.macho_symbols.specs.declared.solved.Common.{Common}
+use Rattle.macho_symbols.proofs.Ascending.{at_place, no_place}
 use Rattle.macho_symbols.proofs.solved.number_of_common.Goals as goal
+use Rattle.macho_symbols.proofs.solved.number_of_common.Goals.{else-place-commons-via-then-place-commons+else-is_at, else-place-commons-via-else-place-commons}
 
 pub returns-then-is_at : goal.returns-then-is_at
 returns-then-is_at c =
-    c.loop-common.invariant.counted ∙ sym (common_found _ _ _ _ c.loop-common-test.true c.loop-common.invariant.others (sym c.if-is_at.ensures))
+    sym (at_place c.args.commons.now _ c.commons_before-place.result _ c.commons_before-place.ensures c.if-place-commons.true
+    (sym c.is_at.ensures ∙ c.if-is_at.true))
 
-pub loop-common-preserved : goal.loop-common-preserved
-loop-common-preserved c = record {
-  counted = ap (λ n. n + 1) c.loop-common.invariant.counted;
-  others = not_at_more _ _ _ _ c.loop-common-test.true c.loop-common.invariant.others (sym c.if-is_at.ensures);
-}
-
-pub returns : goal.returns
-returns c =
-    let all : c.loop-common.common-index ≡ length c.args.commons.now = omega arith in
-    c.loop-common.invariant.counted ∙ all
-    ∙ sym (common_missing _ _ (record { file = 0; symbol = 0 }) (λ k d h. c.loop-common.invariant.others k d (omega (arith, h, all))))
+pub returns-else-place-commons : goal.returns-else-place-commons
+returns-else-place-commons c =
+    let none : Common = record { file = 0; symbol = 0; size = 0; align = 0 } in
+    sym (elim c.else-place-commons.branch [
+      | else-place-commons-via-then-place-commons+else-is_at w ↦
+          no_place c.args.commons.now _ c.commons_before-place.result _ c.requires.ascending c.commons_before-place.ensures
+          (λ h. sym w.is_at.ensures ∙ w.if-is_at.false)
+      | else-place-commons-via-else-place-commons w ↦
+          no_place c.args.commons.now _ c.commons_before-place.result none c.requires.ascending c.commons_before-place.ensures
+          (λ h. absurd (omega (arith, h, w.if-place-commons.false)))
+    ])

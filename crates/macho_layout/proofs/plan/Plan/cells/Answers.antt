@@ -16,9 +16,12 @@ loop-number-preserved c =
     let k = c.loop-number.number in
     c.in_ok-push.ensures.items
     ∙ ap (λ (q : Cell). c.loop-number.cells.items ++ q ∷ []) (c.merged_cell.ensures
-    ∙ ap (λ (e : Extent). merged_cell c.args.self.now c.args.names.now c.loop-number.number e) (get_or_default c.args.extents.now c.loop-number.number _ (empty_extent 0) c.loop-number-test.true))
-    ∙ ap (λ (qs : List Cell). qs ++ merged_cell c.args.self.now c.args.names.now c.loop-number.number (extent_at c.args.extents.now c.loop-number.number) ∷ []) c.loop-number.invariant
-    ∙ sym (map-range_with_len_more (λ (number : ℕ). merged_cell c.args.self.now c.args.names.now number (extent_at c.args.extents.now number)) 0 k k (omega arith))
+    ∙ ap (λ (e : Extent). merged_cell c.args.self.now c.args.names.now c.loop-number.number e)
+    (get_or_default c.args.extents.now c.loop-number.number _ (empty_extent 0) c.loop-number-test.true))
+    ∙ ap (λ (qs : List Cell). qs ++ merged_cell c.args.self.now c.args.names.now c.loop-number.number
+    (extent_at c.args.extents.now c.loop-number.number) ∷ []) c.loop-number.invariant
+    ∙ sym (map-range_with_len_more (λ (number : ℕ). merged_cell c.args.self.now c.args.names.now number
+    (extent_at c.args.extents.now number)) 0 k k (omega arith))
 
 pub returns : goal.returns
 unfolding cells_of
@@ -26,4 +29,5 @@ returns c =
     let all : c.loop-number.number ≡ length c.args.extents.now = omega arith in
     c.in_ok-made_cells.ensures
     ∙ ap (λ (qs : List Cell). qs ++ made_cells c.args.self.now c.args.counts.now (length c.args.extents.now)) (c.loop-number.invariant
-    ∙ ap (λ (n : ℕ). map (λ (number : ℕ). merged_cell c.args.self.now c.args.names.now number (extent_at c.args.extents.now number)) (range_with_len 0 n)) all)
+    ∙ ap (λ (n : ℕ). map (λ (number : ℕ). merged_cell c.args.self.now c.args.names.now number (extent_at c.args.extents.now number))
+    (range_with_len 0 n)) all)

@@ -6,4 +6,5 @@ use Rattle.macho_layout.specs.Cells.{merged_cell}
 use Rattle.macho_layout.proofs.plan.Plan.cells.Given as goal
 
 abbrev pub invariant-loop-number : goal.invariant-loop-number
-invariant-loop-number l = l.cells.items ≡ map (λ number. merged_cell l.self l.names number (extent_at l.extents number)) (range_with_len 0 l.number)
+invariant-loop-number l = l.cells.items ≡ map (λ number. merged_cell l.self l.names number (extent_at l.extents number))
+    (range_with_len 0 l.number)

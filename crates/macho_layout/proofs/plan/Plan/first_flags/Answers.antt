@@ -14,7 +14,8 @@ loop-number-preserved c =
     c.in_ok-push.ensures.items
     ∙ ap (λ (k : ℕ). c.loop-number.flags.items ++ k ∷ []) (ap (λ (n : OutputName). n.kind) c.output_at.ensures)
     ∙ ap (λ (ks : List ℕ). ks ++ (output_at c.args.self.now c.loop-number.number).kind ∷ []) c.loop-number.invariant
-    ∙ sym (map-range_with_len_more (λ (number : ℕ). (output_at c.args.self.now number).kind) 0 c.loop-number.number c.loop-number.number (omega arith))
+    ∙ sym (map-range_with_len_more (λ (number : ℕ). (output_at c.args.self.now number).kind) 0 c.loop-number.number c.loop-number.number
+    (omega arith))
 
 pub returns : goal.returns
 unfolding first_flags

@@ -12,7 +12,8 @@ use Rattle.macho_layout.proofs.plan.Plan.mapped_names.Goals as goal
 pub returns : goal.returns
 unfolding mapped_names
 returns c =
-    let first : c.push.new.self.items ≡ padded TEXT ∷ [] = c.in_ok-push.ensures.items ∙ ap (λ (ns : List SegmentName). ns ++ padded TEXT ∷ []) c.new-names.ensures.items in
+    let first : c.push.new.self.items ≡ padded TEXT ∷ [] = c.in_ok-push.ensures.items ∙ ap
+    (λ (ns : List SegmentName). ns ++ padded TEXT ∷ []) c.new-names.ensures.items in
     let second : c.push_if.new.names.items ≡ c.push.new.self.items ++ list_if (has_data_const c.args.self.now) (padded DATA_CONST ∷ [])
     = c.in_ok-push_if.ensures ∙ ap (λ (b : Bool). c.push.new.self.items ++ list_if b (padded DATA_CONST ∷ [])) c.has_data_const.ensures in
     let third : c.push_if-2.new.names.items ≡ c.push_if.new.names.items ++ list_if (has_data c.args.self.now) (padded DATA ∷ [])
@@ -22,5 +23,7 @@ returns c =
     c.in_ok-push_others.ensures
     ∙ ap (λ (ns : List SegmentName). c.push_if-2.new.names.items ++ filter is_other ns) table
     ∙ ap (λ (ns : List SegmentName). ns ++ filter is_other (section_segments c.args.self.now)) third
-    ∙ ap (λ (ns : List SegmentName). ns ++ list_if (has_data c.args.self.now) (padded DATA ∷ []) ++ filter is_other (section_segments c.args.self.now)) second
-    ∙ ap (λ (ns : List SegmentName). ns ++ list_if (has_data_const c.args.self.now) (padded DATA_CONST ∷ []) ++ list_if (has_data c.args.self.now) (padded DATA ∷ []) ++ filter is_other (section_segments c.args.self.now)) first
+    ∙ ap (λ (ns : List SegmentName). ns ++ list_if (has_data c.args.self.now) (padded DATA ∷ []) ++ filter is_other
+    (section_segments c.args.self.now)) second
+    ∙ ap (λ (ns : List SegmentName). ns ++ list_if (has_data_const c.args.self.now) (padded DATA_CONST ∷ []) ++ list_if
+    (has_data c.args.self.now) (padded DATA ∷ []) ++ filter is_other (section_segments c.args.self.now)) first

@@ -9,4 +9,5 @@ abbrev pub invariant-loop-section : goal.invariant-loop-section
 invariant-loop-section l = l.members.items ≡ map (section_member l.self) (specs_of (take l.section-index l.section-items))
 
 abbrev pub invariant-loop-common : goal.invariant-loop-common
-invariant-loop-common l = l.members.items ≡ map (section_member l.self) l.self.sections ++ map (common_member l.self) (take l.common-index l.common-items)
+invariant-loop-common l = l.members.items ≡ map (section_member l.self) l.self.sections ++ map (common_member l.self)
+    (take l.common-index l.common-items)

@@ -15,54 +15,73 @@ use Rattle.macho_layout.specs.declared.spec.CommonSpec.{CommonSpec}
 use Rattle.macho_layout.specs.declared.spec.Planned.{Planned}
 use Rattle.macho_layout.specs.Keys.{padded}
 use Rattle.macho_layout.specs.Keys.{specs_of}
-use Rattle.macho_layout.specs.Plans.{Planning}
+use Rattle.macho_layout.specs.Plans.{Planning, MayStand}
 use Rattle.macho_layout.specs.Laid.{made_start, zero_page, tables_segment}
 use Rattle.macho_layout.proofs.Tests.{one_is}
 use Rattle.macho_layout.specs.Places.{row_pages, number_at, range_at, template_range, placed_commons, placed_slots, placed_stubs}
-use Rattle.macho_layout.specs.Tables.{tables_cost, tables_at}
+use Rattle.macho_rows.specs.Tables.{tables_cost, tables_at}
 use Rattle.macho_layout.proofs.Costs.{members-cost-is}
 use Rattle.macho_layout.proofs.Rooms.{placed_numbered}
-use Rattle.macho_layout.proofs.RowSteps.{paged, paged-near}
+use Rattle.macho_rows.proofs.RowSteps.{paged, paged-near}
 use Rattle.macho_layout.proofs.TableRooms.{tables_room, tables_end_low, rows_many}
 use Rattle.macho_layout.proofs.plan.Plan.placement.Goals as goal
 
 pub starts-requires : goal.starts-requires
 starts-requires c =
-    let many : c.len-merged.result ≡ length c.args.stacked.now.extents.items = omega (arith, c.len-merged.ensures, c.args.stacked.now.extents.ok.0) in
+    let many : c.len-merged.result ≡ length c.args.stacked.now.extents.items = omega
+    (arith, c.len-merged.ensures, c.args.stacked.now.extents.ok.0) in
     subst (λ (n : ℕ). All (λ (q : PlacedCell). q.cell.number < n + 4) c.deref.result.now) (sym many)
-    (subst (λ (qs : List PlacedCell). All (λ (q : PlacedCell). q.cell.number < length c.args.stacked.now.extents.items + 4) qs) (sym c.deref.ensures.value)
-    (placed_numbered c.args.self.now c.args.counts.now (mapped_names c.args.self.now) c.args.stacked.now.extents.items c.args.rows.placed.items _ c.requires.rows.same))
+    (subst (λ (qs : List PlacedCell). All (λ (q : PlacedCell). q.cell.number < length c.args.stacked.now.extents.items + 4) qs)
+    (sym c.deref.ensures.value)
+    (placed_numbered c.args.self.now c.args.counts.now (mapped_names c.args.self.now) c.args.stacked.now.extents.items
+    c.args.rows.placed.items _ c.requires.rows.same))
 
 pub pointer_pages-requires : goal.pointer_pages-requires
 pointer_pages-requires c =
-    let many = rows_many _ _ _ _ _ c.args.rows.segments.items c.args.rows.placed.items c.args.rows.address c.args.rows.offset c.requires.rows in
+    let many = rows_many _ _ _ _ _ c.args.rows.segments.items c.args.rows.placed.items c.args.rows.address c.args.rows.offset
+    c.requires.rows in
     let same = ap (λ (ss : List PlacedSegment). length ss) c.deref-2.ensures.value in
     omega (arith, many, same, c.requires.fits.segments)
 
 pub tables-linkedit-requires : goal.tables-linkedit-requires
 tables-linkedit-requires c =
-    let room = tables_room c.args.self.now c.args.counts.now c.args.stacked.now.extents.items c.args.rows.segments.items c.args.rows.placed.items c.args.rows.address c.args.rows.offset
+    let room = tables_room c.args.self.now c.args.counts.now c.args.stacked.now.extents.items c.args.rows.segments.items
+    c.args.rows.placed.items c.args.rows.address c.args.rows.offset
     c.requires.fits (omega (arith, c.requires.stacked.within, members-cost-is c.args.self.now)) c.requires.rows in
-    let pages : c.pointer_pages.result ≡ row_pages c.args.rows.segments.items = c.pointer_pages.ensures ∙ ap row_pages c.deref-2.ensures.value in
+    let pages : c.pointer_pages.result ≡ row_pages c.args.rows.segments.items = c.pointer_pages.ensures
+    ∙ ap row_pages c.deref-2.ensures.value in
     subst (λ (n : ℕ). tables_cost c.args.counts.now c.args.rows.offset n < 2 ^ 64) (sym pages) (omega (arith, room))
 
 pub next_multiple_of-requires-clause-fits : goal.next_multiple_of-requires-clause-fits
 next_multiple_of-requires-clause-fits c =
-    let room = tables_room c.args.self.now c.args.counts.now c.args.stacked.now.extents.items c.args.rows.segments.items c.args.rows.placed.items c.args.rows.address c.args.rows.offset
+    let room = tables_room c.args.self.now c.args.counts.now c.args.stacked.now.extents.items c.args.rows.segments.items
+    c.args.rows.placed.items c.args.rows.address c.args.rows.offset
     c.requires.fits (omega (arith, c.requires.stacked.within, members-cost-is c.args.self.now)) c.requires.rows in
-    let pages : c.pointer_pages.result ≡ row_pages c.args.rows.segments.items = c.pointer_pages.ensures ∙ ap row_pages c.deref-2.ensures.value in
+    let pages : c.pointer_pages.result ≡ row_pages c.args.rows.segments.items = c.pointer_pages.ensures
+    ∙ ap row_pages c.deref-2.ensures.value in
     let end : c.tables-linkedit.result.signature.end ≡ (tables_at c.args.counts.now c.args.rows.offset c.pointer_pages.result).signature.end
     = ap (λ (t : Linkedit). t.signature.end) c.tables-linkedit.ensures in
     let low = tables_end_low c.args.counts.now c.args.rows.offset c.pointer_pages.result in
     let cost = ap (λ (n : ℕ). tables_cost c.args.counts.now c.args.rows.offset n) pages in
-    omega (arith, room, end, low.1, cost, paged (c.tables-linkedit.result.signature.end - c.args.rows.offset), paged-near (c.tables-linkedit.result.signature.end - c.args.rows.offset))
+    omega (
+      arith,
+      room,
+      end,
+      low.1,
+      cost,
+      paged (c.tables-linkedit.result.signature.end - c.args.rows.offset),
+      paged-near
+          (c.tables-linkedit.result.signature.end - c.args.rows.offset),
+    )
 
 pub returns : goal.returns
 returns c =
     let p = c.args.self.now in
-    let merged : c.len-merged.result ≡ length c.args.stacked.now.extents.items = omega (arith, c.len-merged.ensures, c.args.stacked.now.extents.ok.0) in
+    let merged : c.len-merged.result ≡ length c.args.stacked.now.extents.items = omega
+    (arith, c.len-merged.ensures, c.args.stacked.now.extents.ok.0) in
     let executable : c.self.inside.executable ≡ (c.args.self.now).executable = ap (λ (p : Planning). p.executable) c.self.view_is in
-    let before : c.from-before.result ≡ one_if (c.args.self.now).executable = c.from-before.ensures ∙ one_is c.self.inside.executable ∙ ap (λ (b : Bool). one_if b) executable in
+    let before : c.from-before.result ≡ one_if (c.args.self.now).executable = c.from-before.ensures ∙ one_is c.self.inside.executable ∙ ap
+    (λ (b : Bool). one_if b) executable in
     let inside : c.len.result ≡ length (specs_of c.self.inside.sections.items)
     = omega (arith, c.len.ensures, c.self.inside.sections.ok.0, length-map c.self.inside.sections.items (λ (s : Planned). s.spec)) in
     let many : c.len.result ≡ length (c.args.self.now).sections = inside ∙ ap (λ (p : Planning). length p.sections) c.self.view_is in
@@ -78,7 +97,8 @@ returns c =
     let fourth : c.start_of-slots.result ≡ made_start c.args.stacked.now.extents.items c.in_ok-starts.starts.items 3
     = c.start_of-slots.ensures ∙ ap (λ (xs : List ℕ). number_at xs (c.len-merged.result + 3)) c.deref-6.ensures.value
     ∙ ap (λ (n : ℕ). number_at c.in_ok-starts.starts.items (n + 3)) merged in
-    let pages : c.pointer_pages.result ≡ row_pages c.args.rows.segments.items = c.pointer_pages.ensures ∙ ap row_pages c.deref-2.ensures.value in
+    let pages : c.pointer_pages.result ≡ row_pages c.args.rows.segments.items = c.pointer_pages.ensures
+    ∙ ap row_pages c.deref-2.ensures.value in
     let tables : c.tables-linkedit.result ≡ tables_at c.args.counts.now c.args.rows.offset (row_pages c.args.rows.segments.items)
     = c.tables-linkedit.ensures ∙ ap (λ (n : ℕ). tables_at c.args.counts.now c.args.rows.offset n) pages in
     let size : c.next_multiple_of.result ≡ rounded_up SEGMENT_PAGE (c.tables-linkedit.result.signature.end - c.args.rows.offset)
@@ -96,26 +116,63 @@ returns c =
       stacked = c.requires.stacked;
       rows = c.requires.rows;
       have = subst (λ (n : ℕ). HasStarts n c.args.rows.placed.items c.in_ok-starts.starts.items) (ap (λ (n : ℕ). n + 4) merged)
-          (subst (λ (qs : List PlacedCell). HasStarts (c.len-merged.result + 4) qs c.in_ok-starts.starts.items) c.deref.ensures.value c.in_ok-starts.ensures);
+          (subst (λ (qs : List PlacedCell). HasStarts (c.len-merged.result + 4) qs c.in_ok-starts.starts.items) c.deref.ensures.value
+          c.in_ok-starts.ensures);
       from_them = record {
         base = c.base.ensures;
         segments = c.in_ok-all_segments.ensures
-            ∙ ap (λ (b : Bool). list_if b (zero_page ∷ []) ++ c.deref-19.result.now ++ record { name = padded LINKEDIT; address = c.args.rows.address; size = c.next_multiple_of.result; file_offset = c.args.rows.offset; file_size = c.tables-linkedit.result.signature.end - c.args.rows.offset } ∷ []) executable
-            ∙ ap (λ (ss : List PlacedSegment). list_if (c.args.self.now).executable (zero_page ∷ []) ++ ss ++ record { name = padded LINKEDIT; address = c.args.rows.address; size = c.next_multiple_of.result; file_offset = c.args.rows.offset; file_size = c.tables-linkedit.result.signature.end - c.args.rows.offset } ∷ []) c.deref-19.ensures.value
-            ∙ ap (λ (n : ℕ). list_if (c.args.self.now).executable (zero_page ∷ []) ++ c.args.rows.segments.items ++ record { name = padded LINKEDIT; address = c.args.rows.address; size = n; file_offset = c.args.rows.offset; file_size = c.tables-linkedit.result.signature.end - c.args.rows.offset } ∷ []) size
-            ∙ ap (λ (t : Linkedit). list_if (c.args.self.now).executable (zero_page ∷ []) ++ c.args.rows.segments.items ++ tables_segment c.args.rows.address c.args.rows.offset t ∷ []) tables;
-        sections = rw (c.in_ok-placed_sections.ensures, c.deref-7.ensures.value, c.deref-8.ensures.value, c.deref-9.ensures.value, c.requires.names, before) refl;
+            ∙ ap (λ (b : Bool). list_if b (zero_page ∷ []) ++ c.deref-19.result.now
+            ++ record {
+              name = padded LINKEDIT;
+              address = c.args.rows.address;
+              size = c.next_multiple_of.result;
+              file_offset =
+                  c.args.rows.offset;
+              file_size = c.tables-linkedit.result.signature.end - c.args.rows.offset;
+            } ∷ []) executable
+            ∙ ap (λ (ss : List PlacedSegment). list_if (c.args.self.now).executable (zero_page ∷ []) ++ ss
+            ++ record {
+              name = padded LINKEDIT;
+              address = c.args.rows.address;
+              size = c.next_multiple_of.result;
+              file_offset =
+                  c.args.rows.offset;
+              file_size = c.tables-linkedit.result.signature.end - c.args.rows.offset;
+            } ∷ []) c.deref-19.ensures.value
+            ∙ ap (λ (n : ℕ). list_if (c.args.self.now).executable (zero_page ∷ []) ++ c.args.rows.segments.items
+            ++ record {
+              name = padded LINKEDIT;
+              address = c.args.rows.address;
+              size = n;
+              file_offset = c.args.rows.offset;
+              file_size =
+                  c.tables-linkedit.result.signature.end - c.args.rows.offset;
+            } ∷ []) size
+            ∙ ap (λ (t : Linkedit). list_if (c.args.self.now).executable (zero_page ∷ []) ++ c.args.rows.segments.items
+            ++ tables_segment c.args.rows.address c.args.rows.offset t ∷ []) tables;
+        sections = rw (
+          c.in_ok-placed_sections.ensures,
+          c.deref-7.ensures.value,
+          c.deref-8.ensures.value,
+          c.deref-9.ensures.value,
+          c.requires.names,
+          before,
+        ) refl;
         commons = rw (c.in_ok-placed_commons.ensures, c.deref-10.ensures.value, c.deref-11.ensures.value, c.deref-12.ensures.value) (
             ap (λ (n : ℕ). placed_commons n c.args.stacked.now.placed.items c.in_ok-starts.starts.items c.self.inside.commons.items) many
-            ∙ ap (λ (cs : List CommonSpec). placed_commons (length (c.args.self.now).sections) c.args.stacked.now.placed.items c.in_ok-starts.starts.items cs) (ap (λ (p : Planning). p.commons) c.self.view_is));
+            ∙ ap (λ (cs : List CommonSpec). placed_commons (length (c.args.self.now).sections) c.args.stacked.now.placed.items
+            c.in_ok-starts.starts.items cs) (ap (λ (p : Planning). p.commons) c.self.view_is));
         slots = rw (c.in_ok-placed_slots.ensures, c.deref-13.ensures.value) (ap (λ (n : ℕ). placed_slots n c.self.inside.slots.items) fourth
-            ∙ ap (λ (p : Planning). placed_slots (made_start c.args.stacked.now.extents.items c.in_ok-starts.starts.items 3) p.slots) c.self.view_is);
+            ∙ ap (λ (p : Planning). placed_slots (made_start c.args.stacked.now.extents.items c.in_ok-starts.starts.items 3) p.slots)
+            c.self.view_is);
         stubs = rw (c.in_ok-placed_stubs.ensures, c.deref-14.ensures.value) (ap (λ (n : ℕ). placed_stubs n c.self.inside.stubs.items) third
-            ∙ ap (λ (p : Planning). placed_stubs (made_start c.args.stacked.now.extents.items c.in_ok-starts.starts.items 2) p.stubs) c.self.view_is);
+            ∙ ap (λ (p : Planning). placed_stubs (made_start c.args.stacked.now.extents.items c.in_ok-starts.starts.items 2) p.stubs)
+            c.self.view_is);
         output_sections = rw (c.in_ok-headers.ensures, c.deref-15.ensures.value, c.deref-16.ensures.value, c.deref-17.ensures.value) refl;
         init_offsets = c.range_at.ensures ∙ ap (λ (n : ℕ). range_at n (4 * c.args.counts.now.initializers)) first;
         unwind = c.range_at-2.ensures ∙ ap (λ (n : ℕ). range_at n c.args.counts.now.unwind) second;
         template = c.template_range.ensures ∙ ap template_range c.deref-18.ensures.value;
         linkedit = tables;
       };
+      places = subst (λ (p : Planning). All MayStand p.sections) c.self.view_is c.self.invariant.1.places;
     }

@@ -16,7 +16,9 @@ pub returns : goal.returns
 unfolding template_align
 returns c = record {
   value = c.loop-section.invariant
-      ∙ ap (λ (ss : List Planned). fold max 0 (map (λ (s : SectionSpec). s.align) (filter (λ (s : SectionSpec). is_template_type (type_of_spec s)) (specs_of ss))))
+      ∙ ap (λ (ss : List Planned). fold max 0 (map (λ (s : SectionSpec). s.align)
+      (filter (λ (s : SectionSpec). is_template_type (type_of_spec s)) (specs_of ss))))
       (take_all c.loop-section.section-index c.deref-section-items.result.now (omega arith) ∙ c.deref-section-items.ensures.value)
-      ∙ ap (λ (p : Planning). fold max 0 (map (λ (s : SectionSpec). s.align) (filter (λ (s : SectionSpec). is_template_type (type_of_spec s)) p.sections))) c.self.view_is;
+      ∙ ap (λ (p : Planning). fold max 0 (map (λ (s : SectionSpec). s.align)
+      (filter (λ (s : SectionSpec). is_template_type (type_of_spec s)) p.sections))) c.self.view_is;
 }

@@ -7,4 +7,5 @@ use Rattle.macho_layout.proofs.plan.Plan.template_align.Given as goal
 
 abbrev pub invariant-loop-section : goal.invariant-loop-section
 invariant-loop-section l =
-    l.align ≡ fold max 0 (map (λ s. s.align) (filter (λ s. is_template_type (type_of_spec s)) (specs_of (take l.section-index l.section-items))))
+    l.align ≡ fold max 0 (map (λ s. s.align) (filter (λ s. is_template_type (type_of_spec s))
+    (specs_of (take l.section-index l.section-items))))

@@ -6,4 +6,5 @@ use Rattle.macho_symbols.proofs.resolved.Resolved.definition.Goals as goal
 
 pub returns : goal.returns
 returns c l noted is =
-    c.named.ensures ∙ ap (λ (r : ResolvedRows). named_in r.files r.noted c.args.name.now) c.self.view_is ∙ named_here l noted c.args.self.now c.args.name.now is
+    c.named.ensures ∙ ap (λ (r : ResolvedRows). named_in r.files r.noted c.args.name.now) c.self.view_is
+    ∙ named_here l noted c.args.self.now c.args.name.now is

@@ -14,16 +14,20 @@ take_files-requires-clause-known c = c.in_ok-table.ensures.knows _
 
 pub returns-in-Err-clause-why : goal.returns-in-Err-clause-why
 returns-in-Err-clause-why c l keeps =
-    clash_is l _ (subst (λ (fs : List FileRows). IsClash (events fs) c.in-Err.fault) (c.deref-2.ensures.value ∙ c.self.view_is ∙ keeps.are) c.in-Err.ensures.why)
+    clash_is l _
+    (subst (λ (fs : List FileRows). IsClash (events fs) c.in-Err.fault) (c.deref-2.ensures.value ∙ c.self.view_is
+    ∙ keeps.are) c.in-Err.ensures.why)
 
 vec_len_is : {X A : Type 0} (v : Vec X A) → vec_len v ≡ length v.items
 vec_len_is v = omega arith
 
 -- no import is noted, and no name has the number of one
-unnumbered : (numbers : List ℕ) (n : ℕ) (name : List ℕ) (j : ℕ) → numbers ≡ replicate n UNNUMBERED → j < length numbers → IsNumbered [] name (get_or numbers j 0)
+unnumbered : (numbers : List ℕ) (n : ℕ) (name : List ℕ) (j : ℕ) → numbers ≡ replicate n UNNUMBERED → j < length numbers
+    → IsNumbered [] name (get_or numbers j 0)
 unnumbered numbers n name j is within =
     let here : get_or numbers j 0 ≡ UNNUMBERED =
-    ap (λ ns. get_or ns j 0) is ∙ get_or-replicate n j UNNUMBERED 0 (omega (arith, within, ap length is, length-replicate {A = ℕ} n UNNUMBERED)) in
+    ap (λ ns. get_or ns j 0) is
+    ∙ get_or-replicate n j UNNUMBERED 0 (omega (arith, within, ap length is, length-replicate {A = ℕ} n UNNUMBERED)) in
     record { fresh = λ e. refl; old = λ other. absurd (other here); there = λ other. absurd (other here) }
 
 pub invariant_of-result : goal.invariant_of-result
@@ -34,11 +38,15 @@ invariant_of-result c = record {
   few_imports = omega (arith, ap length c.new-2.ensures.items);
   libraries = rw c.new-2.ensures.items (All-nil (IsImportIn c.self.inside.files.items));
   long =
-      ap length (c.in_ok-numbers.ensures.items_if_clones_equal (λ y e. e)) ∙ length-replicate {A = ℕ} c.len.result UNNUMBERED ∙ c.len.ensures ∙ vec_len_is c.take_files.new.self.entries;
+      ap length (c.in_ok-numbers.ensures.items_if_clones_equal (λ y e. e)) ∙ length-replicate {A = ℕ} c.len.result UNNUMBERED
+      ∙ c.len.ensures ∙ vec_len_is c.take_files.new.self.entries;
   numbers = λ j h. rw c.new-2.ensures.items (unnumbered _ _ _ j (c.in_ok-numbers.ensures.items_if_clones_equal (λ y e. e)) h);
 }
 
 pub returns-clause-single : goal.returns-clause-single
 returns-clause-single c l keeps name =
-    let known : IsKnown c.deref-2.result.now c.take_files.new.self.heads.items c.take_files.new.self.entries.items (events c.deref-2.result.now) = c.in_default.ensures.done in
-    single_is l name (subst (λ (fs : List FileRows). length (filter (is_strong_of name) (events fs)) ≤ 1) (c.deref-2.ensures.value ∙ c.self.view_is ∙ keeps.are) (known.knows.single name))
+    let known : IsKnown c.deref-2.result.now c.take_files.new.self.heads.items c.take_files.new.self.entries.items
+    (events c.deref-2.result.now) = c.in_default.ensures.done in
+    single_is l name
+    (subst (λ (fs : List FileRows). length (filter (is_strong_of name) (events fs)) ≤ 1) (c.deref-2.ensures.value ∙ c.self.view_is
+    ∙ keeps.are) (known.knows.single name))

@@ -6,14 +6,14 @@ use Rattle.macho_symbols.specs.declared.solved.Import.{Import}
 use Rattle.macho_symbols.specs.steps.Targets.{definition_by}
 use Rattle.macho_model.specs.Resolution.{Library}
 use Rattle.macho_symbols.specs.steps.Tables.{names_of, entry_name}
-use Rattle.macho_symbols.specs.steps.Events.{row_at, events, best_of}
+use Rattle.macho_symbols.specs.steps.Events.{events, best_of}
 use Rattle.macho_symbols.proofs.KnowingBetter.{apart_any}
 use Rattle.macho_symbols.proofs.NotingUses.{import_known, import_offered, numbers_more}
 use Rattle.macho_symbols.proofs.solved.Solved.note.Goals as goal
 
 pub unreachable-requires : goal.unreachable-requires
 unreachable-requires c =
-    let nowhere = rw (c.deref-2.ensures.value, c.name_in-name.ensures, c.deref.ensures.value) at c.in_default.ensures.none in
+    let nowhere = rw (c.deref-2.ensures.value, c.deref.ensures.value) at c.in_default.ensures.none in
     import_known c.args.self.now _ _ c.requires.solved nowhere c.requires.import
 
 on_err : {X E : Type 0} (r : Result X E) (P : Type 0) → P → OnErr r P
@@ -23,7 +23,8 @@ on_err (Err e) P p = p
 pub returns-in_err-push-clause-kept : goal.returns-in_err-push-clause-kept
 returns-in_err-push-clause-kept c =
     let s = c.args.self.now in
-    let same : IsUnchanged s (record { files = s.files; table = s.table; commons = s.commons; imports = c.push.new.self; numbers = s.numbers }) =
+    let same : IsUnchanged s
+    (record { files = s.files; table = s.table; commons = s.commons; imports = c.push.new.self; numbers = s.numbers }) =
     record { files = refl; heads = refl; entries = refl; commons = refl; imports = c.in_err-push.ensures.items; numbers = refl } in
     on_err _ _ same
 
@@ -33,28 +34,37 @@ vec_len_is v = omega arith
 pub returns-clause-solved : goal.returns-clause-solved
 returns-clause-solved c =
     let s = c.args.self.now in
-    let name = (row_at s.files.items c.args.file c.args.row).name in
-    let of_name = rw (c.deref-2.ensures.value, c.name_in-name.ensures, c.deref.ensures.value) at c.in-Some.ensures.found in
+    let name = c.args.name.items in
+    let of_name = rw (c.deref-2.ensures.value, c.deref.ensures.value) at c.in-Some.ensures.found in
     let offered = import_offered s name _ _ c.requires.solved of_name c.requires.import in
     let long = length-map s.table.entries.items (entry_name s.files.items) in
     let told : c.len.result ≡ length s.imports.items = c.len.ensures ∙ vec_len_is s.imports in
     let next : c.len-id.result ≡ length s.imports.items = c.len-id.ensures ∙ vec_len_is s.imports in
     let noted_long = length-map s.imports.items (λ i. i.name.items) in
-    let name_is : c.in_ok-from_slice-2.field-0.items ≡ name = c.in_ok-from_slice-2.ensures.items ∙ c.name_in-name.ensures ∙ ap (λ fs. (row_at fs c.args.file c.args.row).name) c.deref.ensures.value in
-    let grown : length c.push.new.self.items ≡ length s.imports.items + 1 = ap length c.in_ok-push.ensures.items ∙ length-append s.imports.items _ in
-    let binds : definition_by c.in_ok-from_slice-2.field-0.items (best_of c.in_ok-from_slice-2.field-0.items (events s.files.items)) ≡ Some (Library c.entry-library.result.file) =
-    ap (λ n. definition_by n (best_of n (events s.files.items))) name_is ∙ offered.0 ∙ ap (λ e. Some (Library e.file)) (sym c.entry-library.ensures) in
-    let owner : c.in_ok-from_slice.field-0.items ≡ library_in s.files.items c.entry-library.result.file = c.in_ok-from_slice.ensures.items ∙ c.library_in.ensures ∙ ap (λ fs. library_in fs c.entry-library.result.file) c.deref-3.ensures.value in
+    let grown : length c.push.new.self.items ≡ length s.imports.items + 1 = ap length c.in_ok-push.ensures.items
+    ∙ length-append s.imports.items _ in
+    let binds : definition_by name (best_of name (events s.files.items)) ≡ Some (Library c.entry-library.result.file) =
+    offered.0 ∙ ap (λ e. Some (Library e.file)) (sym c.entry-library.ensures) in
+    let owner : c.in_ok-from_slice.field-0.items ≡ library_in s.files.items c.entry-library.result.file =
+    c.in_ok-from_slice.ensures.items ∙ c.library_in.ensures
+    ∙ ap (λ fs. library_in fs c.entry-library.result.file) c.deref-3.ensures.value in
     record {
       known = c.requires.solved.known;
       commons = c.requires.solved.commons;
       few_commons = c.requires.solved.few_commons;
       few_imports = omega (arith, grown, told, c.if-len.false);
-      libraries = rw c.in_ok-push.ensures.items (All-push (IsImportIn s.files.items) s.imports.items _ c.requires.solved.libraries (binds, owner));
+      libraries = rw c.in_ok-push.ensures.items
+          (All-push (IsImportIn s.files.items) s.imports.items _ c.requires.solved.libraries (binds, owner));
       long = length-set s.numbers.items c.in-Some.number c.len-id.result ∙ c.requires.solved.long;
-      numbers = rw (c.in_ok-push.ensures.items, map-append (λ (i : Import). i.name.items) s.imports.items (_ ∷ []), name_is)
-          (numbers_more (names_of s.files.items s.table.entries.items) (noted_of s.imports.items) s.numbers.items name c.in-Some.number c.len-id.result
+      numbers = rw (c.in_ok-push.ensures.items, map-append (λ (i : Import). i.name.items) s.imports.items (_ ∷ []))
+          (numbers_more (names_of s.files.items s.table.entries.items)
+          (noted_of s.imports.items) s.numbers.items name c.in-Some.number c.len-id.result
           c.requires.solved.numbers (c.requires.solved.long ∙ sym long) (omega (arith, of_name.0, long)) of_name.1
-          (λ j h other same. apart_any s.files.items s.table.heads.items s.table.entries.items j c.in-Some.number c.requires.solved.known.table (omega (arith, h, long)) of_name.0 other same)
+          (λ j h other same. apart_any s.files.items s.table.heads.items s.table.entries.items j c.in-Some.number
+          c.requires.solved.known.table (omega (arith, h, long)) of_name.0 other same)
           offered.1 (next ∙ sym noted_long) (omega (arith, told, noted_long, c.if-len.false)));
     }
+
+pub returns-clause-grown : goal.returns-clause-grown
+returns-clause-grown c = record
+    { files = refl; heads = refl; entries = refl; commons = refl; more = _ ∷ []; imports = c.in_ok-push.ensures.items }

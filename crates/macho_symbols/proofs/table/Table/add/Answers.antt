@@ -1,4 +1,4 @@
-use Rattle.std.proofs.Common.{◌≡◌, ◌+◌, ◌∙◌, ap, length, arith}
+use Rattle.std.proofs.Common.{◌≡◌, ◌∙◌, ap, length, arith}
 use Rattle.macho_symbols.specs.steps.Tables.{bucket_of}
 use Rattle.std.proofs.lemmas.List.{get_or_default}
 use Rattle.macho_symbols.proofs.ChainsMore.{table_more}
@@ -6,7 +6,9 @@ use Rattle.macho_symbols.proofs.table.Table.add.Goals as goal
 
 pub returns-clause-table : goal.returns-clause-table
 returns-clause-table c =
-    let long : c.len.result ≡ length c.args.self.now.entries.items + 1 = c.len.ensures ∙ c.in_ok-push.ensures.len ∙ omega arith in
+    let long : c.len-number.result ≡ length c.args.self.now.entries.items = c.len-number.ensures ∙ omega arith in
     rw (long, c.in_ok-push.ensures.items)
-    (table_more c.args.files.now _ _ _ (record { next = _; row = _; file = _ }) c.requires.table (c.bucket-bucket.ensures.bucket ∙ ap (bucket_of c.args.self.now.heads.items) c.name_in.ensures)
-    c.bucket-bucket.ensures.within (c.index-next.ensures ∙ get_or_default _ _ _ _ c.bucket-bucket.ensures.within) (c.requires.file, c.requires.row) c.requires.new)
+    (table_more c.args.files.now _ _ _ (record { next = _; row = _; file = _ }) c.requires.table
+    (c.bucket-bucket.ensures.bucket ∙ ap (bucket_of c.args.self.now.heads.items) c.name_in.ensures)
+    c.bucket-bucket.ensures.within (c.index-next.ensures ∙ get_or_default _ _ _ _ c.bucket-bucket.ensures.within)
+    (c.requires.file, c.requires.row) c.requires.new)

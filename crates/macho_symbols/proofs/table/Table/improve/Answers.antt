@@ -12,17 +12,20 @@ returns-then-not-beats-clause-done c =
 
 pub returns-clause-table : goal.returns-clause-table
 returns-clause-table c =
-    table_stays _ _ _ _ _ c.requires.table (ap (λ e. e.next) c.entry-entry.ensures) (sym c.requires.entry.1 ∙ name_of_entry _ _ _ _ c.requires.entry.0)
+    table_stays _ _ _ _ _ c.requires.table (ap (λ e. e.next) c.entry-entry.ensures)
+    (sym c.requires.entry.1 ∙ name_of_entry _ _ _ _ c.requires.entry.0)
     (c.requires.file, c.requires.row)
 
 pub returns-clause-done : goal.returns-clause-done
 returns-clause-done c =
     let entry = c.entry-entry.ensures in
     let table =
-    table_stays _ _ _ _ _ c.requires.table (ap (λ e. e.next) c.entry-entry.ensures) (sym c.requires.entry.1 ∙ name_of_entry _ _ _ _ c.requires.entry.0)
+    table_stays _ _ _ _ _ c.requires.table (ap (λ e. e.next) c.entry-entry.ensures)
+    (sym c.requires.entry.1 ∙ name_of_entry _ _ _ _ c.requires.entry.0)
     (c.requires.file, c.requires.row) in
     takes_better _ _ _ _ _ _ _ _ c.requires.global c.requires.entry
-    (is_better _ _ _ _ _ _ (rw (← entry) (sym c.if-not-beats.ensures)) (rw (← entry) (sym c.if-are_strong.ensures)) (rw (← entry) refl)) table
+    (is_better _ _ _ _ _ _ (rw (← entry) (sym c.if-not-beats.ensures)) (rw (← entry) (sym c.if-are_strong.ensures))
+    (rw (← entry) refl)) table
 
 pub returns-then-are_strong-clause-why : goal.returns-then-are_strong-clause-why
 returns-then-are_strong-clause-why c =

@@ -12,4 +12,5 @@ loop-row-preserved c = record {
 }
 
 pub returns-in-Err-clause-why : goal.returns-in-Err-clause-why
-returns-in-Err-clause-why c = refuses_file _ _ _ _ _ _ _ _ _ (omega (arith, c.loop-row-test.true, c.rows_in-row-end.ensures)) c.loop-row.invariant.taken c.in-Err.ensures.why
+returns-in-Err-clause-why c = refuses_file _ _ _ _ _ _ _ _ _
+    (omega (arith, c.loop-row-test.true, c.rows_in-row-end.ensures)) c.loop-row.invariant.taken c.in-Err.ensures.why

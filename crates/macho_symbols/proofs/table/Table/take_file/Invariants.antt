@@ -6,5 +6,6 @@ abbrev pub invariant-loop-row : goal.invariant-loop-row
 invariant-loop-row l =
     record {
       table : IsTable l.files l.self.heads.items l.self.entries.items;
-      taken : TakesIn l.files l.initial.self.heads.items l.initial.self.entries.items l.self.heads.items l.self.entries.items (events_of_file l.files l.file l.row);
+      taken : TakesIn l.files l.initial.self.heads.items l.initial.self.entries.items l.self.heads.items l.self.entries.items
+          (events_of_file l.files l.file l.row);
     }

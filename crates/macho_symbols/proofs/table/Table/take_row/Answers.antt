@@ -11,9 +11,11 @@ not_false true e = refl
 not_false false e = cc
 
 pub returns-then-not-note_in-clause-done : goal.returns-then-not-note_in-clause-done
-returns-then-not-note_in-clause-done c = takes_nameless _ _ _ _ _ (sym (ap (λ r. r.global) c.note_in.ensures.row) ∙ not_true _ c.if-not-note_in.true)
+returns-then-not-note_in-clause-done c = takes_nameless _ _ _ _ _ (sym (ap (λ r. r.global) c.note_in.ensures.row)
+    ∙ not_true _ c.if-not-note_in.true)
 
 pub returns-in_default-clause-done : goal.returns-in_default-clause-done
 returns-in_default-clause-done c =
     let nowhere = rw c.name_in.ensures at c.in_default.ensures.none in
-    takes_new _ _ _ _ _ _ _ (sym (ap (λ r. r.global) c.note_in.ensures.row) ∙ not_false _ c.if-not-note_in.false) nowhere c.in_ok-add.ensures.added c.in_ok-add.ensures.table
+    takes_new _ _ _ _ _ _ _ (sym (ap (λ r. r.global) c.note_in.ensures.row)
+    ∙ not_false _ c.if-not-note_in.false) nowhere c.in_ok-add.ensures.added c.in_ok-add.ensures.table

@@ -1,0 +1,3 @@
+pub mod Laws
+-- definitions of the crate below, which clauses of this one cite
+pub use Rattle.macho_commands.specs.Laws as Heads

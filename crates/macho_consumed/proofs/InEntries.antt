@@ -1,0 +1,319 @@
+-- An entry of compact unwind information, by its cells.
+--
+-- The table tells the relocations of each of an entry's four places: none or one. What the code found of the one, the tests of
+-- the rules say of the list of one: so each rule holds, or is the one that is told. No relocation stands at 8, so one that stands
+-- at a multiple of 8 stands at one of the three addresses.
+use Rattle.std.proofs.Common.{◌≡◌, ◌≢◌, ℕ, ◌+◌, ◌*◌, ◌/◌, ◌%◌, ◌<◌, ◌≤◌, inl, inr, eqb, eq-eqb, Bool, true, false, nat_lt, ◌==◌, if◌then◌else◌, ◌&&◌, ◌||◌, List, [], ◌∷◌, ◌++◌, length, map, filter, get_or, Option, Some, None, option_map, option_to_list, is_some, nat_le, refl, sym, ap, ◌∙◌, subst, arith, below_more, append_assoc}
+use Rattle.std.proofs.lemmas.Bool.Decides.{nat_tests}
+use Rattle.std.specs.List.{range_with_len, list_all, Contains}
+use Rattle.std.proofs.lemmas.List.{append-nil}
+use Rattle.std.proofs.lemmas.List.FromFn.{map-range_with_len_more}
+use Rattle.macho_bytes.specs.Numbers.{bits}
+use Rattle.macho_records.specs.declared.relocations.RelocationInfo.{RelocationInfo}
+use Rattle.macho_records.specs.declared.unwind.UnwindInfoEntry.{UnwindInfoEntry}
+use Rattle.macho_model.specs.declared.rules.UnwindRule.{UnwindRule}
+use Rattle.macho_model.specs.Grammar.{IsObject}
+use Rattle.macho_model.specs.Objects.{num_sections, section_at, relocation_at}
+use Rattle.macho_model.specs.Consumed.{is_plain_pointer, each_relocation_in, unwind_relocation_fits, single_relocations, start_fits, function_inside, entry_is_clear, absent_is_zero, START_PLACE, LSDA_PLACE}
+use Rattle.macho_model.specs.Needs.{PERSONALITY_PLACE}
+use Rattle.macho_promise.specs.UnwindSays.{relocation_of}
+use Rattle.macho_consumed.specs.declared.rows.SectionPlace.{SectionPlace}
+use Rattle.macho_consumed.specs.declared.rows.PersonalityUse.{PersonalityUse}
+use Rattle.macho_consumed.specs.declared.rows.UnwindEntry.{UnwindEntry}
+use Rattle.macho_consumed.specs.Rows.{start_place, place_named, personality_use, entry_row}
+use Rattle.macho_consumed.specs.steps.Alone.{alone, own}
+use Rattle.macho_consumed.specs.steps.Places.{found, IsTable}
+use Rattle.macho_consumed.specs.steps.Entries.{NamesSection, StartFound, StartBreaks, DataFound, DataBreaks, PersonalityFound, PersonalityBreaks, EntryBreaks, is_clear, at_place, read_entry, data_fits, EntryFits, EntriesFit, HasCells, IsCell, row_in, rows_in}
+use Rattle.macho_consumed.proofs.Members.{here, in_filter, to_filter, in_range}
+use Rattle.macho_consumed.proofs.Tests.{both, all_pass, one_fails}
+use Rattle.macho_consumed.proofs.InSlots.{in_cell}
+
+-- a plain pointer that isn't extern names a section that is there
+plain_names : (r : RelocationInfo) (n m : ℕ) → (if r.r_extern then nat_lt r.r_symbolnum n else ((r.r_type == 10) ||
+    (nat_le 1 r.r_symbolnum && nat_le r.r_symbolnum m))) ≡ true
+    → is_plain_pointer r ≡ true → r.r_extern ≡ false → (1 ≤ r.r_symbolnum) × (r.r_symbolnum ≤ m)
+plain_names r n m exists plain by_number = (
+  grind (arith, nat_tests, exists, plain, by_number),
+  grind
+      (arith, nat_tests, exists, plain, by_number),
+)
+
+pub names_section : (b : List ℕ) (k r : ℕ) → IsObject b → k < num_sections b → r < (section_at b k).nreloc
+    → is_plain_pointer (relocation_at b k r) ≡ true → NamesSection b (relocation_at b k r)
+names_section b k r object among lt plain = plain_names (relocation_at b k r) _ (num_sections b) (object.o5.1 k r among lt) plain
+
+-- the cells of an entry
+cell_fits : (b : List ℕ) (k place : ℕ) (cells : List (Option ℕ)) (cell : Option ℕ) → IsTable b k (section_at b k).nreloc cells
+    → place < length cells
+    → get_or cells place None ≡ cell → IsCell b k cell
+cell_fits b k place cells None table lt is = tt
+cell_fits b k place cells (Some r) table lt is =
+    let below = in_cell b k (section_at b k).nreloc (8 * place) r (get_or cells place None) (table.cell place lt) is in
+    (below, table.fit r below)
+
+found_at : (b : List ℕ) (k e place at : ℕ) (cells : List (Option ℕ)) → IsTable b k (section_at b k).nreloc cells → at < length cells
+    → 8 * at ≡ 32 * e + place → at_place b k e place ≡ option_to_list (get_or cells at None)
+unfolding found
+found_at b k e place at cells table lt same =
+    subst (λ (a : ℕ). found b k (section_at b k).nreloc a ≡ option_to_list (get_or cells at None)) same (table.cell at lt)
+
+pub has_cells : (b : List ℕ) (k e : ℕ) (cells : List (Option ℕ)) → IsTable b k (section_at b k).nreloc cells → 4 * e + 4 ≤ length cells
+    → HasCells b k e (get_or cells (4 * e) None) (get_or cells (4 * e + 1) None) (get_or cells (4 * e + 2) None) (get_or cells
+    (4 * e + 3) None)
+has_cells b k e cells table lt = record {
+  start_at = found_at b k e 0 (4 * e) cells table (omega arith) (omega arith);
+  between_at = found_at b k e 8 (4 * e + 1) cells table (omega arith) (omega arith);
+  personality_at = found_at b k e 16 (4 * e + 2) cells table (omega arith) (omega arith);
+  lsda_at = found_at b k e 24 (4 * e + 3) cells table (omega arith) (omega arith);
+  fit = (
+    cell_fits b k (4 * e) cells _ table (omega arith) refl,
+    cell_fits b k (4 * e + 2) cells _ table (omega arith) refl,
+    cell_fits b k (4 * e + 3) cells _ table (omega arith) refl,
+  );
+  all = λ r below. (table.fit r below, table.placed r below);
+}
+
+-- a relocation at 8 of an entry
+pub between_of : (b : List ℕ) (k e r : ℕ) → Contains (at_place b k e 8) r → each_relocation_in (alone b) (own k) e ≡ false
+between_of b k e r at =
+    let hit = in_filter (λ q. eqb (relocation_at b k q).r_address (32 * e + 8)) (range_with_len 0 (section_at b k).nreloc) r at in
+    let address : (relocation_at b k r).r_address ≡ 32 * e + 8 = grind (arith, nat_tests, hit.0) in
+    let mine : eqb ((relocation_at b k r).r_address / 32) e ≡ true = eq-eqb _ _ (omega (arith, address)) in
+    let place : (relocation_at b k r).r_address % 32 ≡ 8 = omega (arith, address) in
+    one_fails (unwind_relocation_fits (alone b) (own k)) (filter (λ q. eqb ((relocation_at b k q).r_address / 32) e) (range_with_len 0
+    (section_at b k).nreloc)) r
+    (to_filter (λ q. eqb ((relocation_at b k q).r_address / 32) e) (range_with_len 0 (section_at b k).nreloc) r hit.1 mine)
+    (grind (arith, nat_tests, place))
+
+pub between_breaks : (b : List ℕ) (k e r : ℕ) → at_place b k e 8 ≡ r ∷ [] → each_relocation_in (alone b) (own k) e ≡ false
+between_breaks b k e r is = between_of b k e r (subst (λ (xs : List ℕ). Contains xs r) (sym is) (here r []))
+
+pub one_of : (a : ℕ) (t : Bool) → eqb (a % 32) 0 ≡ t → (u : Bool) → eqb (a % 32) 16 ≡ u → (v : Bool) → eqb (a % 32) 24 ≡ v → a % 8 ≡ 0
+    → a % 32 ≢ 8
+    → ((a % 32 == 0) || (a % 32 == 16) || (a % 32 == 24)) ≡ true
+one_of a true p u q v r eight apart = rw p refl
+one_of a false p true q v r eight apart = rw (p, q) refl
+one_of a false p false q true r eight apart = rw (p, q, r) refl
+one_of a false p false q false r eight apart =
+    let x : a % 32 ≢ 0 = grind (arith, nat_tests, p) in
+    let y : a % 32 ≢ 16 = grind (arith, nat_tests, q) in
+    let z : a % 32 ≢ 24 = grind (arith, nat_tests, r) in
+    absurd (omega (arith, x, y, z, eight, apart))
+
+-- none there: each relocation of the entry is at one of the addresses
+pub all_placed : (b : List ℕ) (k e : ℕ) (c0 c2 c3 : Option ℕ) → HasCells b k e c0 None c2 c3 → each_relocation_in (alone b) (own k) e ≡ true
+all_placed b k e c0 c2 c3 cells =
+    all_pass (unwind_relocation_fits (alone b) (own k)) (filter (λ q. eqb ((relocation_at b k q).r_address / 32) e) (range_with_len 0
+    (section_at b k).nreloc))
+    (λ r c.
+    let hit = in_filter (λ q. eqb ((relocation_at b k q).r_address / 32) e) (range_with_len 0 (section_at b k).nreloc) r c in
+    let below = in_range (section_at b k).nreloc r hit.1 in
+    let entry : (relocation_at b k r).r_address / 32 ≡ e = grind (arith, nat_tests, hit.0) in
+    let fit = cells.all r below in
+    let eight : (relocation_at b k r).r_address % 8 ≡ 0 = grind (arith, nat_tests, fit.1) in
+    let apart : (relocation_at b k r).r_address ≢ 32 * e + 8 =
+    λ same. none_there (at_place b k e 8) r cells.between_at
+    (to_filter (λ q. eqb (relocation_at b k q).r_address (32 * e + 8)) (range_with_len 0 (section_at b k).nreloc) r hit.1
+    (eq-eqb _ _ same)) in
+    at_one (relocation_at b k r) e fit.0 entry eight apart)
+  where
+    none_there : (xs : List ℕ) (r : ℕ) → xs ≡ [] → Contains xs r → ⊥
+    none_there [] r e (i, lt, is) = omega arith
+    none_there (x ∷ xs) r e c = cc
+
+    at_one : (r : RelocationInfo) (e : ℕ) → is_plain_pointer r ≡ true → r.r_address / 32 ≡ e → r.r_address % 8 ≡ 0
+        → r.r_address ≢ 32 * e + 8
+        → (is_plain_pointer r && ((r.r_address % 32 == 0) || (r.r_address % 32 == 16) || (r.r_address % 32 == 24))) ≡ true
+    at_one r e plain entry eight apart =
+        both _ _ plain (one_of r.r_address (eqb (r.r_address % 32) 0) refl (eqb (r.r_address % 32) 16) refl (eqb
+        (r.r_address % 32) 24) refl eight (omega (arith, entry, apart)))
+
+few : (c : Option ℕ) → nat_le (length (option_to_list c)) 1 ≡ true
+few None = refl
+few (Some r) = refl
+
+pub all_single : (b : List ℕ) (k e : ℕ) (c0 c1 c2 c3 : Option ℕ) → HasCells b k e c0 c1 c2 c3
+    → single_relocations (alone b) (own k) e ≡ true
+all_single b k e c0 c1 c2 c3 cells =
+    rw (cells.start_at, cells.personality_at, cells.lsda_at) (both _ _ (both _ _ (few c0) (few c2)) (few c3))
+
+-- the start of a function
+pub record StartKept (b : List ℕ) (k e : ℕ) (place : SectionPlace) : Type 0 where
+  pub fits : start_fits (alone b) (own k) e ≡ true
+  pub inside : function_inside (alone b) (own k) e ≡ true
+  pub is : start_place (alone b) (record { of_section = own k; entry = e }) (relocation_of (alone b)
+      (record { of_section = own k; entry = e }) START_PLACE) ≡ place
+  pub there : absent_is_zero (at_place b k e START_PLACE) (read_entry b k e).start ≡ true
+
+pub start_kept : (b : List ℕ) (k e : ℕ) (c : Option ℕ) (place : SectionPlace) → at_place b k e START_PLACE ≡ option_to_list c
+    → StartFound b (read_entry b k e) (option_map (relocation_at b k) c) place → StartKept b k e place
+start_kept b k e None place is found = absurd found
+start_kept b k e (Some r) place is found = record {
+  fits = rw is (rw (found.by_number, found.holds) refl);
+  inside = rw is (rw found.by_number (rw found.inside refl));
+  is = rw is (sym found.is);
+  there = rw is refl;
+}
+
+-- the personality function
+pub record PersonalityKept (b : List ℕ) (k e : ℕ) (told : Option PersonalityUse) : Type 0 where
+  pub fits : list_all (λ r. (relocation_at b k r).r_extern) (at_place b k e PERSONALITY_PLACE) ≡ true
+  pub is : option_map (personality_use (alone b) (record { of_section = own k; entry = e })) (relocation_of (alone b)
+      (record { of_section = own k; entry = e }) PERSONALITY_PLACE) ≡ told
+  pub there : absent_is_zero (at_place b k e PERSONALITY_PLACE) (read_entry b k e).personality ≡ (is_some told ||
+      ((read_entry b k e).personality == 0))
+
+pub personality_kept : (b : List ℕ) (k e : ℕ) (c : Option ℕ) (told : Option PersonalityUse)
+    → at_place b k e PERSONALITY_PLACE ≡ option_to_list c
+    → PersonalityFound b k c told → PersonalityKept b k e told
+personality_kept b k e None told is found = record { fits = rw is refl; is = rw is (sym found); there = rw (is, found) refl }
+personality_kept b k e (Some r) told is found = record {
+  fits = rw is (rw found.0 refl);
+  is = rw is (sym found.1);
+  there = rw (is, found.1) refl;
+}
+
+-- the language data
+pub record DataKept (b : List ℕ) (k e : ℕ) (told : Option SectionPlace) : Type 0 where
+  pub fits : list_all (λ r. data_fits b (read_entry b k e).lsda (relocation_at b k r)) (at_place b k e LSDA_PLACE) ≡ true
+  pub is : option_map (place_named (alone b) (own k) (read_entry b k e).lsda) (relocation_of (alone b)
+      (record { of_section = own k; entry = e }) LSDA_PLACE) ≡ told
+  pub there : absent_is_zero (at_place b k e LSDA_PLACE) (read_entry b k e).lsda ≡ (is_some told || ((read_entry b k e).lsda == 0))
+
+pub data_kept : (b : List ℕ) (k e : ℕ) (c : Option ℕ) (told : Option SectionPlace) → at_place b k e LSDA_PLACE ≡ option_to_list c
+    → DataFound b (read_entry b k e).lsda (option_map (relocation_at b k) c) told → DataKept b k e told
+data_kept b k e None told is found = record { fits = rw is refl; is = rw is (sym found); there = rw (is, found) refl }
+data_kept b k e (Some r) told is found = record {
+  fits = rw is (rw found.0 refl);
+  is = rw is (sym found.1);
+  there = rw (is, found.1) refl;
+}
+
+-- the words without relocations
+pub clear_is : (b : List ℕ) (k e : ℕ) (place : SectionPlace) (p : Option PersonalityUse) (d : Option SectionPlace)
+    → StartKept b k e place → PersonalityKept b k e p
+    → DataKept b k e d → entry_is_clear (alone b) (own k) e ≡ is_clear (read_entry b k e) (is_some p) (is_some d)
+clear_is b k e place p d start personality lsda = rw (start.there, personality.there, lsda.there) (regroup (bits 28 2
+    (read_entry b k e).encoding == 0) _ _)
+  where
+    regroup : (t u v : Bool) → (((t && true) && u) && v) ≡ ((t && u) && v)
+    regroup true u v = refl
+    regroup false u v = refl
+
+-- the whole entry
+pub entry_fits : (b : List ℕ) (k e : ℕ) (c0 c2 c3 : Option ℕ) (place : SectionPlace) (p : Option PersonalityUse) (d : Option SectionPlace)
+    → HasCells b k e c0 None c2 c3 → StartKept b k e place → PersonalityKept b k e p → DataKept b k e d
+    → is_clear (read_entry b k e) (is_some p) (is_some d) ≡ true → EntryFits b k e
+entry_fits b k e c0 c2 c3 place p d cells start personality lsda clear = record {
+  placed = all_placed b k e c0 c2 c3 cells;
+  single = all_single b k e c0 None c2 c3 cells;
+  start = start.fits;
+  inside = start.inside;
+  links = both _ _ personality.fits lsda.fits;
+  clear = clear_is b k e place p d start personality lsda ∙ clear;
+}
+
+pub row_is : (b : List ℕ) (file k e : ℕ) (place : SectionPlace) (p : Option PersonalityUse) (d : Option SectionPlace)
+    (words : UnwindInfoEntry) → StartKept b k e place
+    → PersonalityKept b k e p → DataKept b k e d → words ≡ read_entry b k e
+    → record { file = file; section = k; entry = e; start = place; length = words.length; encoding = words.encoding; personality = p; lsda = d } ≡ row_in b file k e
+unfolding entry_row
+row_is b file k e place p d words start personality lsda is = rw (start.is, personality.is, lsda.is, is) refl
+
+-- where an entry breaks a rule
+pub start_breaks : (b : List ℕ) (k e : ℕ) (c : Option ℕ) (rule : UnwindRule) → at_place b k e START_PLACE ≡ option_to_list c
+    → StartBreaks b (read_entry b k e) (option_map (relocation_at b k) c) rule → EntryBreaks b k e rule
+start_breaks b k e None rule is breaks = subst (EntryBreaks b k e) (sym breaks) (rw is refl)
+start_breaks b k e (Some r) rule is (inl breaks) = subst (EntryBreaks b k e) (sym breaks.0) (rw is (rw breaks.1 refl))
+start_breaks b k e (Some r) rule is (inr breaks) = subst (EntryBreaks b k e) (sym breaks.0) (rw is (rw breaks.1 (rw breaks.2 refl)))
+
+pub and_left_false : (t u : Bool) → t ≡ false → (t && u) ≡ false
+and_left_false t u e = rw e refl
+
+pub and_false : (t u : Bool) → u ≡ false → (t && u) ≡ false
+and_false true u e = e
+and_false false u e = refl
+
+pub personality_breaks : (b : List ℕ) (k e : ℕ) (c : Option ℕ) (rule : UnwindRule) → at_place b k e PERSONALITY_PLACE ≡ option_to_list c
+    → PersonalityBreaks b k c rule → EntryBreaks b k e rule
+personality_breaks b k e None rule is breaks = absurd breaks
+personality_breaks b k e (Some r) rule is breaks = subst (EntryBreaks b k e) (sym breaks.0) (rw is (rw breaks.1 refl))
+
+pub data_breaks : (b : List ℕ) (k e : ℕ) (c : Option ℕ) (rule : UnwindRule) → at_place b k e LSDA_PLACE ≡ option_to_list c
+    → DataBreaks b (read_entry b k e).lsda (option_map (relocation_at b k) c) rule → EntryBreaks b k e rule
+data_breaks b k e None rule is breaks = absurd breaks
+data_breaks b k e (Some r) rule is breaks = subst (EntryBreaks b k e) (sym breaks.0) (and_false (list_all (λ q.
+    (relocation_at b k q).r_extern) (at_place b k e PERSONALITY_PLACE))
+    (list_all (λ q. data_fits b (read_entry b k e).lsda (relocation_at b k q)) (at_place b k e LSDA_PLACE)) (rw is (rw breaks.1 refl)))
+
+-- the cell at 8
+pub some_between : (b : List ℕ) (k e : ℕ) (c : Option ℕ) → at_place b k e 8 ≡ option_to_list c → true ≡ is_some c
+    → each_relocation_in (alone b) (own k) e ≡ false
+some_between b k e None is some = cc
+some_between b k e (Some r) is some = between_breaks b k e r is
+
+none_between : (b : List ℕ) (k e : ℕ) (c0 c1 c2 c3 : Option ℕ) → HasCells b k e c0 c1 c2 c3 → false ≡ is_some c1
+    → HasCells b k e c0 None c2 c3
+none_between b k e c0 None c2 c3 cells none = cells
+none_between b k e c0 (Some r) c2 c3 cells none = cc
+
+-- What was found of an entry: its words, its three relocations, and where they lead.
+pub record IsGathered (b : List ℕ) (k e : ℕ) (words : UnwindInfoEntry) (place : SectionPlace) (p : Option PersonalityUse)
+    (d : Option SectionPlace) : Type 0 where
+  pub read : words ≡ read_entry b k e
+  pub cells : (c0 : Option ℕ) × (c2 : Option ℕ) × (c3 : Option ℕ) × HasCells b k e c0 None c2 c3
+  pub start : StartKept b k e place
+  pub personality : PersonalityKept b k e p
+  pub lsda : DataKept b k e d
+
+pub gathered : (b : List ℕ) (k e : ℕ) (c0 c1 c2 c3 : Option ℕ) (words : UnwindInfoEntry) (r0 r3 : Option RelocationInfo)
+    (place : SectionPlace) (p : Option PersonalityUse)
+    (d : Option SectionPlace) → HasCells b k e c0 c1 c2 c3 → false ≡ is_some c1 → words ≡ read_entry b k e
+    → r0 ≡ option_map (relocation_at b k) c0
+    → r3 ≡ option_map (relocation_at b k) c3 → StartFound b words r0 place → PersonalityFound b k c2 p → DataFound b words.lsda r3 d
+    → IsGathered b k e words place p d
+gathered b k e c0 c1 c2 c3 words r0 r3 place p d cells none read is0 is3 start personality lsda = record {
+  read = read;
+  cells = (c0, c2, c3, none_between b k e c0 c1 c2 c3 cells none);
+  start = start_kept b k e c0 place cells.start_at
+      (subst (λ (w : UnwindInfoEntry). StartFound b w (option_map (relocation_at b k) c0) place) read (subst (λ
+      (r : Option RelocationInfo). StartFound b words r place) is0 start));
+  personality = personality_kept b k e c2 p cells.personality_at personality;
+  lsda = data_kept b k e c3 d cells.lsda_at
+      (subst (λ (w : UnwindInfoEntry). DataFound b w.lsda (option_map (relocation_at b k) c3) d) read (subst (λ
+      (r : Option RelocationInfo). DataFound b words.lsda r d) is3 lsda));
+}
+
+pub gathered_fits : (b : List ℕ) (k e : ℕ) (words : UnwindInfoEntry) (place : SectionPlace) (p : Option PersonalityUse)
+    (d : Option SectionPlace)
+    → IsGathered b k e words place p d → true ≡ is_clear words (is_some p) (is_some d) → EntryFits b k e
+gathered_fits b k e words place p d g clear =
+    entry_fits b k e g.cells.0 g.cells.1 g.cells.2 place p d g.cells.3 g.start g.personality g.lsda
+    (sym (clear ∙ ap (λ (w : UnwindInfoEntry). is_clear w (is_some p) (is_some d)) g.read))
+
+pub gathered_row : (b : List ℕ) (file number k e : ℕ) (words : UnwindInfoEntry) (place : SectionPlace) (p : Option PersonalityUse)
+    (d : Option SectionPlace)
+    → IsGathered b k e words place p d → number ≡ k
+    → record { file = file; section = number; entry = e; start = place; length = words.length; encoding = words.encoding; personality = p; lsda = d } ≡ row_in b file k e
+gathered_row b file number k e words place p d g same =
+    subst (λ (n : ℕ). record { file = file; section = n; entry = e; start = place; length = words.length; encoding = words.encoding; personality = p; lsda = d } ≡ row_in b file k e)
+    (sym same) (row_is b file k e place p d words g.start g.personality g.lsda g.read)
+
+-- entries so far
+pub entries_none : (b : List ℕ) (k : ℕ) → EntriesFit b k 0
+entries_none b k = record { entries = λ e lt. absurd (omega arith) }
+
+pub entries_more : (b : List ℕ) (k n : ℕ) → EntriesFit b k n → EntryFits b k n → EntriesFit b k (n + 1)
+entries_more b k n fit one = record { entries = below_more _ n fit.entries one }
+
+pub entry_rows_none : (b : List ℕ) (file k : ℕ) (rows : List UnwindEntry) → rows ≡ rows ++ rows_in b file k 0
+unfolding rows_in
+entry_rows_none b file k rows = sym (append-nil rows)
+
+pub entry_rows_more : (b : List ℕ) (file k n : ℕ) (rows : List UnwindEntry) (row : UnwindEntry) → row ≡ row_in b file k n
+    → (rows ++ rows_in b file k n) ++ row ∷ [] ≡ rows ++ rows_in b file k (n + 1)
+unfolding rows_in
+entry_rows_more b file k n rows row is =
+    append_assoc rows (map (row_in b file k) (range_with_len 0 n)) (row ∷ [])
+    ∙ ap (λ (xs : List UnwindEntry). rows ++ (map (row_in b file k) (range_with_len 0 n) ++ xs)) (ap (λ (x : UnwindEntry). x ∷ []) is)
+    ∙ ap (λ (xs : List UnwindEntry). rows ++ xs) (sym (map-range_with_len_more (row_in b file k) 0 n n (omega arith)))

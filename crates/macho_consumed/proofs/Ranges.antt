@@ -1,0 +1,55 @@
+-- Ranges of numbers, and what a filter keeps of them.
+--
+-- A range of one number more is the range with that number behind it. So a filter of it is the filter of the range, and the
+-- number where it passes; and the filter of a shorter range begins that of a longer one.
+use Rattle.std.proofs.Common.{◌≡◌, ℕ, ◌+◌, ◌-◌, ◌≤◌, zero, suc, Bool, true, false, cond, List, [], ◌∷◌, ◌++◌, length, filter, map, refl, sym, ap, ◌∙◌, subst, arith, add-zero, length-append}
+use Rattle.std.specs.List.{range_with_len, flat_map}
+use Rattle.std.proofs.lemmas.List.FromFn.{map-range_with_len_more}
+use Rattle.std.proofs.lemmas.List.Elements.{filter-append}
+use Rattle.std.proofs.lemmas.Grind.{flat_map-append}
+use Rattle.std.proofs.lemmas.List.{append-nil}
+
+map_itself : (xs : List ℕ) → map (λ x. x) xs ≡ xs
+map_itself [] = refl
+map_itself (x ∷ xs) = ap (λ ys. x ∷ ys) (map_itself xs)
+
+-- one number more
+pub range_more : (n : ℕ) → range_with_len 0 (n + 1) ≡ range_with_len 0 n ++ n ∷ []
+range_more n =
+    sym (map_itself (range_with_len 0 (n + 1))) ∙ map-range_with_len_more (λ x. x) 0 n n (omega arith)
+    ∙ ap (λ xs. xs ++ n ∷ []) (map_itself (range_with_len 0 n))
+
+-- what a filter keeps of one number
+abbrev pub kept_one : (ℕ → Bool) → ℕ → List ℕ
+kept_one p n = cond (p n) (n ∷ []) []
+
+filter_one : (p : ℕ → Bool) (n : ℕ) (t : Bool) → p n ≡ t → filter p (n ∷ []) ≡ kept_one p n
+filter_one p n true e = rw e refl
+filter_one p n false e = rw e refl
+
+pub filter_range_more : (p : ℕ → Bool) (n : ℕ) → filter p (range_with_len 0 (n + 1)) ≡ filter p (range_with_len 0 n) ++ kept_one p n
+filter_range_more p n =
+    ap (filter p) (range_more n) ∙ filter-append p (range_with_len 0 n) (n ∷ [])
+    ∙ ap (λ xs. filter p (range_with_len 0 n) ++ xs) (filter_one p n (p n) refl)
+
+-- a longer range keeps as many
+grown : (p : ℕ → Bool) (n m : ℕ) → length (filter p (range_with_len 0 n)) ≤ length (filter p (range_with_len 0 (n + m)))
+grown p n zero = rw (add-zero n) (omega arith)
+grown p n (suc m) =
+    let ih = grown p n m in
+    let more = ap length (filter_range_more p (n + m)) ∙ length-append (filter p (range_with_len 0 (n + m))) (kept_one p (n + m)) in
+    let same : n + suc m ≡ n + m + 1 = omega arith in
+    rw same (omega (arith, ih, more))
+
+pub filter_range_grows : (p : ℕ → Bool) (n m : ℕ) → n ≤ m → length (filter p (range_with_len 0 n)) ≤ length (filter p (range_with_len 0 m))
+filter_range_grows p n m le =
+    let whole : n + (m - n) ≡ m = omega arith in
+    let Q : ℕ → Type 0 = λ k. length (filter p (range_with_len 0 n)) ≤ length (filter p (range_with_len 0 k)) in
+    subst Q whole (grown p n (m - n))
+
+-- texts of a range, one more
+pub flat_map_range_more : {X : Type 0} (f : ℕ → List X) (n : ℕ)
+    → flat_map f (range_with_len 0 (n + 1)) ≡ flat_map f (range_with_len 0 n) ++ f n
+flat_map_range_more {X = X} f n =
+    ap (flat_map f) (range_more n) ∙ flat_map-append f (range_with_len 0 n) (n ∷ [])
+    ∙ ap (λ (xs : List X). flat_map f (range_with_len 0 n) ++ xs) (append-nil (f n))

@@ -1,0 +1,5 @@
+use Rattle.macho_consumed.specs.steps.Places.{IsTable}
+use Rattle.macho_consumed.proofs.places.by_place.Given as goal
+
+abbrev pub invariant-loop-index : goal.invariant-loop-index
+invariant-loop-index l = IsTable l.relocations.bytes l.relocations.section l.index l.cells.items

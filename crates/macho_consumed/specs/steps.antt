@@ -1,0 +1,10 @@
+-- The steps of the code: tables by place, and what each pass keeps so far. No clause of a public function cites them.
+pub mod Alone
+pub mod Places
+pub mod Slots
+pub mod Sections
+pub mod Entries
+pub mod Listed
+pub mod Gathered
+pub mod Checked
+pub mod Inputs

@@ -1,0 +1,165 @@
+-- The entries of a section of compact unwind information, by the bytes of its object: all that the rules ask of one entry but
+-- where the symbol of its personality leads.
+use Rattle.std.specs.Prelude.{◌≡◌, ℕ, ◌+◌, ◌-◌, ◌/◌, ◌%◌, ◌^◌, ◌<◌, ◌≤◌, ◌⊎◌, ◌==◌, ◌&&◌, ◌||◌, not, nat_le, nat_lt, Bool, true, false, List, map, Option, Some, None, option_to_list}
+use Rattle.std.specs.List.{range_with_len, list_all}
+use Rattle.macho_bytes.specs.Numbers.{bits}
+use Rattle.macho_records.specs.Sections.{is_zerofill}
+use Rattle.macho_records.specs.declared.header.SectionHeader.{SectionHeader}
+use Rattle.macho_records.specs.declared.relocations.RelocationInfo.{RelocationInfo}
+use Rattle.macho_records.specs.declared.unwind.UnwindInfoEntry.{UnwindInfoEntry}
+use Rattle.macho_model.specs.declared.rules.UnwindRule.{UnwindRule}
+use Rattle.macho_model.specs.declared.rules.UnwindRule.TheVariants.{U1, U2, U3, U4, U5, U6, U7, U8}
+use Rattle.macho_model.specs.Links.{is_carried}
+use Rattle.macho_model.specs.Objects.{section_at, num_sections, relocation_at}
+use Rattle.macho_model.specs.Consumed.{is_plain_pointer, unwind_entry, whole_entries, relocations_in_entry, each_relocation_in, single_relocations, start_fits, function_inside, entry_is_clear, holds_functions, START_PLACE, LSDA_PLACE}
+use Rattle.macho_model.specs.Needs.{PERSONALITY_PLACE}
+use Rattle.macho_consumed.specs.declared.rows.SectionPlace.{SectionPlace}
+use Rattle.macho_consumed.specs.declared.rows.PersonalityUse.{PersonalityUse}
+use Rattle.macho_consumed.specs.declared.rows.UnwindEntry.{UnwindEntry}
+use Rattle.macho_consumed.specs.declared.fault.ConsumedFault.{ConsumedFault}
+use Rattle.macho_consumed.specs.declared.fault.ConsumedFault.TheVariants.{BadInitializer, BadUnwind, OutOfMemory}
+use Rattle.macho_consumed.specs.steps.Alone.{alone, own}
+use Rattle.macho_consumed.specs.steps.Slots.{ExternsExist}
+use Rattle.macho_consumed.specs.Rows.{entry_row}
+
+-- the section that a relocation names
+abbrev pub named : RelocationInfo → ℕ
+named r = r.r_symbolnum - 1
+
+-- a relocation that isn't extern names a section of the object
+abbrev pub NamesSection : List ℕ → RelocationInfo → Type 0
+NamesSection b r = (r.r_extern ≡ false) → (1 ≤ r.r_symbolnum) × (r.r_symbolnum ≤ num_sections b)
+
+abbrev pub MayName : List ℕ → Option RelocationInfo → Type 0
+MayName b None = Unit {0}
+MayName b (Some r) = NamesSection b r
+
+-- where an address of the input lies in a section, with so many bytes from it on
+abbrev pub lies_from : SectionHeader → ℕ → ℕ → Bool
+lies_from h address size = nat_le h.addr address && nat_lt address (h.addr + h.size) && nat_le (address + size) (h.addr + h.size)
+
+-- A function starts where its relocation says.
+pub record StartIs (b : List ℕ) (entry : UnwindInfoEntry) (r : RelocationInfo) (place : SectionPlace) : Type 0 where
+  pub by_number : r.r_extern ≡ false
+  pub holds : holds_functions (alone b) (own (named r)) ≡ true
+  pub inside : lies_from (section_at b (named r)) entry.start entry.length ≡ true
+  pub is : place ≡ record { section = named r; offset = entry.start - (section_at b (named r)).addr }
+
+abbrev pub StartFound : List ℕ → UnwindInfoEntry → Option RelocationInfo → SectionPlace → Type 0
+StartFound b entry None place = ⊥
+StartFound b entry (Some r) place = StartIs b entry r place
+
+-- or breaks a rule
+abbrev pub StartBreaks : List ℕ → UnwindInfoEntry → Option RelocationInfo → UnwindRule → Type 0
+StartBreaks b entry None rule = rule ≡ U4
+StartBreaks b entry (Some r) rule =
+    ((rule ≡ U4) × ((not r.r_extern && holds_functions (alone b) (own (named r))) ≡ false))
+    ⊎ ((rule ≡ U5) × (r.r_extern ≡ false) × (lies_from (section_at b (named r)) entry.start entry.length ≡ false))
+
+-- language data by number, in a carried section
+abbrev pub data_fits : List ℕ → ℕ → RelocationInfo → Bool
+data_fits b lsda r = not r.r_extern && is_carried (section_at b (named r)) && lies_from (section_at b (named r)) lsda 0
+
+abbrev pub DataFound : List ℕ → ℕ → Option RelocationInfo → Option SectionPlace → Type 0
+DataFound b lsda None found = found ≡ None
+DataFound b lsda (Some r) found =
+    (data_fits b lsda r ≡ true) × (found ≡ Some (record { section = named r; offset = lsda - (section_at b (named r)).addr }))
+
+abbrev pub DataBreaks : List ℕ → ℕ → Option RelocationInfo → UnwindRule → Type 0
+DataBreaks b lsda None rule = ⊥
+DataBreaks b lsda (Some r) rule = (rule ≡ U7) × (data_fits b lsda r ≡ false)
+
+-- an entry's word without a relocation is 0
+abbrev pub is_clear : UnwindInfoEntry → Bool → Bool → Bool
+is_clear entry personality lsda =
+    (bits 28 2 entry.encoding == 0) && (personality || (entry.personality == 0)) && (lsda || (entry.lsda == 0))
+
+-- the relocations of an address of an entry
+abbrev pub at_place : List ℕ → ℕ → ℕ → ℕ → List ℕ
+at_place b k e place = relocations_in_entry (alone b) (own k) e place
+
+-- an entry as it is read
+abbrev pub read_entry : List ℕ → ℕ → ℕ → UnwindInfoEntry
+read_entry b k e = unwind_entry (alone b) (own k) e
+
+-- A personality is named by a symbol.
+abbrev pub PersonalityFound : List ℕ → ℕ → Option ℕ → Option PersonalityUse → Type 0
+PersonalityFound b k None told = told ≡ None
+PersonalityFound b k (Some r) told =
+    ((relocation_at b k r).r_extern ≡ true) × (told ≡ Some (record { number = r; relocation = relocation_at b k r }))
+
+abbrev pub PersonalityBreaks : List ℕ → ℕ → Option ℕ → UnwindRule → Type 0
+PersonalityBreaks b k None rule = ⊥
+PersonalityBreaks b k (Some r) rule = (rule ≡ U7) × ((relocation_at b k r).r_extern ≡ false)
+
+-- what the rule of personalities and language data asks of the bytes
+abbrev pub links_fit : List ℕ → ℕ → ℕ → Bool
+links_fit b k e =
+    list_all (λ r. (relocation_at b k r).r_extern) (at_place b k e PERSONALITY_PLACE)
+    && list_all (λ r. data_fits b (read_entry b k e).lsda (relocation_at b k r)) (at_place b k e LSDA_PLACE)
+
+-- An entry keeps the rules.
+pub record EntryFits (b : List ℕ) (k e : ℕ) : Type 0 where
+  pub placed : each_relocation_in (alone b) (own k) e ≡ true
+  pub single : single_relocations (alone b) (own k) e ≡ true
+  pub start : start_fits (alone b) (own k) e ≡ true
+  pub inside : function_inside (alone b) (own k) e ≡ true
+  pub links : links_fit b k e ≡ true
+  pub clear : entry_is_clear (alone b) (own k) e ≡ true
+
+-- or breaks one
+abbrev pub EntryBreaks : List ℕ → ℕ → ℕ → UnwindRule → Type 0
+EntryBreaks b k e U1 = ⊥
+EntryBreaks b k e U2 = each_relocation_in (alone b) (own k) e ≡ false
+EntryBreaks b k e U3 = single_relocations (alone b) (own k) e ≡ false
+EntryBreaks b k e U4 = start_fits (alone b) (own k) e ≡ false
+EntryBreaks b k e U5 = function_inside (alone b) (own k) e ≡ false
+EntryBreaks b k e U6 = ⊥
+EntryBreaks b k e U7 = links_fit b k e ≡ false
+EntryBreaks b k e U8 = entry_is_clear (alone b) (own k) e ≡ false
+
+-- the row of an entry of a file
+abbrev pub row_in : List ℕ → ℕ → ℕ → ℕ → UnwindEntry
+row_in b file k e = record (entry_row (alone b) (record { of_section = own k; entry = e })) { file = file }
+
+-- A cell of the table of places of a section: it tells a plain pointer.
+abbrev pub IsCell : List ℕ → ℕ → Option ℕ → Type 0
+IsCell b k None = Unit {0}
+IsCell b k (Some r) = (r < (section_at b k).nreloc) × (is_plain_pointer (relocation_at b k r) ≡ true)
+
+-- The four cells of an entry.
+pub record HasCells (b : List ℕ) (k e : ℕ) (start between personality lsda : Option ℕ) : Type 0 where
+  pub start_at : at_place b k e START_PLACE ≡ option_to_list start
+  pub between_at : at_place b k e 8 ≡ option_to_list between
+  pub personality_at : at_place b k e PERSONALITY_PLACE ≡ option_to_list personality
+  pub lsda_at : at_place b k e LSDA_PLACE ≡ option_to_list lsda
+  pub fit : IsCell b k start × IsCell b k personality × IsCell b k lsda
+  pub all : (r : ℕ) → r < (section_at b k).nreloc → (is_plain_pointer (relocation_at b k r) ≡ true) × (((relocation_at b k r).r_address % 8 == 0) ≡ true)
+
+-- What is told of a whole section.
+pub record EntriesFit (b : List ℕ) (k n : ℕ) : Type 0 where
+  pub entries : (e : ℕ) → e < n → EntryFits b k e
+
+pub record SectionKeeps (b : List ℕ) (k : ℕ) : Type 0 where
+  pub whole : whole_entries (alone b) (own k) ≡ true
+  pub entries : EntriesFit b k ((section_at b k).size / 32)
+  pub symbols : ExternsExist b k
+
+-- a section breaks a rule at an entry: a cut section at the entry that is cut
+abbrev pub SectionBreaksRule : List ℕ → ℕ → ℕ → UnwindRule → Type 0
+SectionBreaksRule b k e U1 = (e ≡ (section_at b k).size / 32) × (whole_entries (alone b) (own k) ≡ false)
+SectionBreaksRule b k e rule = (e < (section_at b k).size / 32) × EntryBreaks b k e rule
+
+abbrev pub IsBadUnwind : List ℕ → ℕ → ℕ → ConsumedFault → Type 0
+IsBadUnwind b file k (BadInitializer f s offset) = ⊥
+IsBadUnwind b file k (BadUnwind f s e rule) = (f ≡ file) × (s ≡ k) × SectionBreaksRule b k e rule
+IsBadUnwind b file k OutOfMemory = Unit {0}
+
+unfoldable pub rows_in : List ℕ → ℕ → ℕ → ℕ → List UnwindEntry
+rows_in b file k n = map (row_in b file k) (range_with_len 0 n)
+
+-- A section can be read entry by entry: it is made of whole entries, and has bytes where it has entries.
+pub record IsReadable (b : List ℕ) (k : ℕ) : Type 0 where
+  pub whole : (section_at b k).size % 32 ≡ 0
+  pub bytes : ((section_at b k).size ≡ 0) ⊎ (is_zerofill (section_at b k) ≡ false)
+  pub small : (section_at b k).size < 2 ^ 32

@@ -1,0 +1,64 @@
+//! Initializers and unwind entries of all objects.
+ghost use Rattle.std.specs.Prelude.{◌≡◌, ℕ, ◌^◌, ◌<◌, false, length, get_or, None, Some, All, IfOk, IfErr, OnOk};
+ghost use Rattle.std.specs.List.{flat_map};
+ghost use Rattle.macho_object.specs.Views.{FileBytes};
+ghost use Rattle.macho_consumed.specs.declared.listing.Kind.TheVariants as Kind;
+ghost use Rattle.macho_consumed.specs.steps.Gathered.{all_of, initializers_at, FitsAt, IsBadAt, entries_at, KeepsAt, IsBadRuleAt};
+
+use crate::entries::add_entries;
+use crate::fault::ConsumedFault;
+use crate::listing::{Kind, object, sections};
+use crate::rows::{Initializer, UnwindEntry};
+use crate::slots::add_initializers;
+use macho_object::File;
+use std::alloc::Global;
+
+/// The initializers of all sections, by file, section and slot.
+pub(crate) fn gather_initializers(
+    alloc: Global,
+    files: &[Option<File<'_>>],
+) -> Result<Vec<Initializer>, ConsumedFault>
+    requires few { length files.now < 2 ^ 32 }
+    requires objects { (k : ℕ) (f : FileBytes) → k < length files.now → get_or files.now k None ≡ Some f → f.is_dynamic ≡ false }
+    ensures rows { IfOk result (λ v. v.items ≡ flat_map (initializers_at files.now) (all_of Kind.Initializers files.now)) }
+    ensures found { OnOk result (All (FitsAt files.now) (all_of Kind.Initializers files.now)) }
+    ensures why { IfErr result (IsBadAt files.now) }
+{
+    let mut rows = Vec::new(alloc);
+    let refs = sections(alloc, files, Kind::Initializers)?;
+    for at in &refs {
+        let Some(file) = object(files, at.file) else {
+            unreachable!()
+        };
+        match add_initializers(alloc, file, at.file, at.section, &mut rows) {
+            Ok(()) => {}
+            Err(fault) => return Err(fault),
+        }
+    }
+    Ok(rows)
+}
+
+/// The entries of all sections, by file, section and number.
+pub(crate) fn gather_entries(
+    alloc: Global,
+    files: &[Option<File<'_>>],
+) -> Result<Vec<UnwindEntry>, ConsumedFault>
+    requires few { length files.now < 2 ^ 32 }
+    requires objects { (k : ℕ) (f : FileBytes) → k < length files.now → get_or files.now k None ≡ Some f → f.is_dynamic ≡ false }
+    ensures rows { IfOk result (λ v. v.items ≡ flat_map (entries_at files.now) (all_of Kind.Entries files.now)) }
+    ensures found { OnOk result (All (KeepsAt files.now) (all_of Kind.Entries files.now)) }
+    ensures why { IfErr result (IsBadRuleAt files.now) }
+{
+    let mut rows = Vec::new(alloc);
+    let refs = sections(alloc, files, Kind::Entries)?;
+    for at in &refs {
+        let Some(file) = object(files, at.file) else {
+            unreachable!()
+        };
+        match add_entries(alloc, file, at.file, at.section, &mut rows) {
+            Ok(()) => {}
+            Err(fault) => return Err(fault),
+        }
+    }
+    Ok(rows)
+}

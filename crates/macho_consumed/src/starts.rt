@@ -1,0 +1,51 @@
+//! The starts of functions: no two entries have one.
+ghost use Rattle.std.specs.Prelude.{◌≡◌, ◌≢◌, map, IfErr, OnOk};
+ghost use Rattle.std.specs.List.{AllPairs};
+ghost use Rattle.macho_consumed.specs.steps.Checked.{start_key, IsAgainOrMemory};
+
+use crate::fault::ConsumedFault;
+use crate::rows::UnwindEntry;
+use indexmap::IndexSet;
+use macho_model::UnwindRule;
+use std::alloc::Global;
+
+/// Where a function starts.
+#[derive(Clone, Copy, PartialEq, Eq, Hash)]
+pub struct StartKey {
+    /// The number of the file.
+    pub file: u32,
+    /// The number of the section in it.
+    pub section: u32,
+    /// Bytes from the section's start.
+    pub offset: u64,
+}
+
+/// Where an entry's function starts.
+fn start_key(entry: UnwindEntry) -> StartKey
+    ensures { result ≡ start_key entry }
+{
+    StartKey {
+        file: entry.file,
+        section: entry.start.section,
+        offset: entry.start.offset,
+    }
+}
+
+/// Whether each entry has a start of its own. Starts are found by a hash.
+pub(crate) fn check_starts(alloc: Global, entries: &[UnwindEntry]) -> Result<(), ConsumedFault>
+    ensures found { OnOk result (AllPairs (λ d e. start_key d ≢ start_key e) entries.now) }
+    ensures why { IfErr result (IsAgainOrMemory entries.now) }
+{
+    let mut starts = IndexSet::new(alloc);
+    for entry in entries {
+        if !starts.insert(start_key(*entry))? {
+            return Err(ConsumedFault::BadUnwind {
+                file: entry.file,
+                section: entry.section,
+                entry: entry.entry,
+                rule: UnwindRule::U6,
+            });
+        }
+    }
+    Ok(())
+}

@@ -1,0 +1,63 @@
+-- What a row of reads, or of writes, has done to a stream whose bytes are known.
+--
+-- Reads: the bytes read so far and those that are left make up those at the start. A read that gives none, into a
+-- buffer with room, says that none are left; then all are read. Writes: the bytes written so far and the rest make
+-- up all, and the stream has grown by those written. A write takes the front of the rest; where no rest is left,
+-- the stream has grown by all.
+use Rattle.std.proofs.Common.{◌≡◌, ℕ, List, [], ◌++◌, take, drop, Option, Some, None, refl, ap, sym, subst, ◌∙◌, append_assoc}
+use Rattle.std.specs.Prelude.{IfSome}
+use Rattle.std.specs.Io.KnownBytes.{Consumes, Appends, IsAtEnd}
+use Rattle.std.proofs.lemmas.List.{append-nil, take-append-drop}
+
+pub consumes_more : (a b c : Option (List ℕ)) (xs ys : List ℕ) → Consumes a b xs → Consumes b c ys → Consumes a c (xs ++ ys)
+consumes_more None b c xs ys p q = tt
+consumes_more (Some all) None c xs ys p q = absurd p
+consumes_more (Some all) (Some rest) None xs ys p q = absurd q
+consumes_more (Some all) (Some rest) (Some left) xs ys p q = p ∙ ap (λ r. xs ++ r) q ∙ sym (append_assoc xs ys left)
+
+pub consumed_all : (a b c : Option (List ℕ)) (xs : List ℕ)
+    → Consumes a b xs → Consumes b c [] → IsAtEnd c → IfSome a (λ all. xs ≡ all)
+consumed_all None b c xs p q end = tt
+consumed_all (Some all) None c xs p q end = absurd p
+consumed_all (Some all) (Some rest) None xs p q end = absurd q
+consumed_all (Some all) (Some rest) (Some left) xs p q end = sym (p ∙ ap (λ r. xs ++ r) (q ∙ end) ∙ append-nil xs)
+
+pub appends_more : (a b c : Option (List ℕ)) (xs ys : List ℕ) → Appends a b xs → Appends b c ys → Appends a c (xs ++ ys)
+appends_more None b c xs ys p q = tt
+appends_more (Some x) None c xs ys p q = absurd p
+appends_more (Some x) (Some y) None xs ys p q = absurd q
+appends_more (Some x) (Some y) (Some z) xs ys p q = q ∙ ap (λ w. w ++ ys) p ∙ append_assoc x xs ys
+
+appends_none : (a : Option (List ℕ)) → Appends a a []
+appends_none None = tt
+appends_none (Some x) = sym (append-nil x)
+
+consumes_none : (a : Option (List ℕ)) → Consumes a a []
+consumes_none None = tt
+consumes_none (Some x) = refl
+
+-- so far the front of the bytes is written, and the rest is left
+pub record Written (old now : Option (List ℕ)) (bytes rest : List ℕ) : Type 0 where
+  pub front : List ℕ
+  pub split : bytes ≡ front ++ rest
+  pub appended : Appends old now front
+
+pub written_none : (old : Option (List ℕ)) (bytes : List ℕ) → Written old old bytes bytes
+written_none old bytes = record { front = []; split = refl; appended = appends_none old }
+
+pub written_more : (old now next : Option (List ℕ)) (bytes rest : List ℕ) (n : ℕ)
+    → Written old now bytes rest → Appends now next (take n rest) → Written old next bytes (drop n rest)
+written_more old now next bytes rest n so_far more =
+    record {
+      front = so_far.front ++ take n rest;
+      split =
+          so_far.split
+          ∙ ap (λ r. so_far.front ++ r) (sym (take-append-drop n rest))
+          ∙ sym (append_assoc so_far.front (take n rest) (drop n rest));
+      appended = appends_more old now next so_far.front (take n rest) so_far.appended more;
+    }
+
+pub written_all : (old now : Option (List ℕ)) (bytes rest : List ℕ) → rest ≡ [] → Written old now bytes rest → Appends old now bytes
+written_all old now bytes rest none so_far =
+    let all : bytes ≡ so_far.front = so_far.split ∙ ap (λ r. so_far.front ++ r) none ∙ append-nil so_far.front in
+    subst (λ (xs : List ℕ). Appends old now xs) (sym all) so_far.appended

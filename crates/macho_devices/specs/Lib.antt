@@ -1,0 +1,4 @@
+pub mod Faults
+pub mod Devices
+pub mod Memory
+pub mod MemoryOutput

@@ -1,0 +1,196 @@
+//! Export lists, as callers see them.
+ghost use Rattle.std.specs.Prelude.{◌≡◌, ℕ, List, [], ◌∷◌, ◌++◌, IfOk, IfErr, OnOk, OnErr, map};
+ghost use Rattle.std.specs.List.{list_any};
+ghost use Rattle.std.specs.Str.{bytes_eq};
+ghost use Rattle.macho_model.specs.ExportLists.{listed, entries_of, plain_entries, matches};
+ghost use Rattle.macho_exports.specs.Entries.{IsListOf, is_within};
+ghost use Rattle.macho_exports.specs.steps.Lines.{entry_in};
+ghost use Rattle.macho_exports.specs.steps.Lists.{Adds, IsLonger, no_entries, texts_of, ArePlaces};
+
+use crate::entries::{entry_of, is_pattern};
+use crate::patterns::{behind, matches};
+use memchr::memchr;
+use std::alloc::{AllocError, Global};
+use std::collections::HashMap;
+use std::marker::Model;
+
+/// The names that an image is to export, and the patterns of such names.
+#[derive(Drop)]
+pub struct ExportList {
+    pub(crate) alloc: Global,
+    /// The entries without a star, in order.
+    pub(crate) plain: Vec<Vec<u8>>,
+    /// The entries with a star, in order.
+    pub(crate) patterns: Vec<Vec<u8>>,
+    /// Where each plain entry stands first. Names that were taken back may have places of others, or none.
+    pub(crate) places: HashMap<Vec<u8>, usize>,
+}
+
+impl Model for ExportList {
+    ghost use Rattle.macho_exports.specs.Entries.{ListEntries};
+
+    ghost Value = { ListEntries };
+
+    ghost use Rattle.macho_exports.specs.steps.Lists.{texts_of, ArePlaces};
+
+    ghost view = { λ l. record { plain = texts_of l.plain.items; patterns = texts_of l.patterns.items } };
+
+    ghost invariant = { λ l. ArePlaces (texts_of l.plain.items) l.places };
+}
+
+/// Whether a name is among entries whose places are known.
+fn is_among(entries: &[Vec<u8>], places: &HashMap<Vec<u8>, usize>, name: &[u8]) -> bool
+    requires { ArePlaces (texts_of entries.now) places.now }
+    ensures { result ≡ list_any (bytes_eq name.now) (texts_of entries.now) }
+{
+    match places.get(name) {
+        Some(place) => *place < entries.len() && entries[*place].as_slice() == name,
+        None => false,
+    }
+}
+
+/// Whether a name matches one of some patterns.
+fn has_match(patterns: &[Vec<u8>], name: &[u8]) -> bool
+    ensures { result ≡ list_any (λ e. matches e name.now) (texts_of patterns.now) }
+{
+    for pattern in patterns {
+        if matches(pattern, name) {
+            return true;
+        }
+    }
+    false
+}
+
+/// Notes the place that a name gets behind entries, unless it stands among them.
+fn note_place(
+    alloc: Global,
+    entries: &[Vec<u8>],
+    places: &mut HashMap<Vec<u8>, usize>,
+    name: &[u8],
+) -> Result<(), AllocError>
+    requires { ArePlaces (texts_of entries.now) places.old }
+    ensures noted { OnOk result (ArePlaces (texts_of entries.now ++ name.now ∷ []) places.new) }
+    ensures kept { ArePlaces (texts_of entries.now) places.new }
+{
+    if is_among(entries, places, name) {
+        return Ok(());
+    }
+    let key = Vec::from_slice(alloc, name)?;
+    places.insert(key, entries.len())?;
+    Ok(())
+}
+
+impl ExportList {
+    /// A list of no text.
+    fn new(alloc: Global) -> ExportList
+        ensures { result ≡ no_entries }
+    {
+        ExportList {
+            alloc,
+            plain: Vec::new(alloc),
+            patterns: Vec::new(alloc),
+            places: HashMap::new(alloc),
+        }
+    }
+}
+
+impl ExportList {
+    /// Adds a plain entry.
+    fn add_plain(&mut self, entry: &[u8]) -> Result<(), AllocError>
+        ensures added { OnOk result (self.new ≡ record self.old { plain = self.old.plain ++ entry.now ∷ [] }) }
+        ensures kept { OnErr result (self.new ≡ self.old) }
+    {
+        let name = Vec::from_slice(self.alloc, entry)?;
+        note_place(self.alloc, &self.plain, &mut self.places, entry)?;
+        self.plain.push(name)?;
+        Ok(())
+    }
+
+    /// Adds a pattern.
+    fn add_pattern(&mut self, entry: &[u8]) -> Result<(), AllocError>
+        ensures added { OnOk result (self.new ≡ record self.old { patterns = self.old.patterns ++ entry.now ∷ [] }) }
+        ensures kept { OnErr result (self.new ≡ self.old) }
+    {
+        self.patterns.push(Vec::from_slice(self.alloc, entry)?)?;
+        Ok(())
+    }
+
+    /// Adds the entry of a line, if it has one.
+    fn add_line(&mut self, line: &[u8]) -> Result<(), AllocError>
+        ensures added { OnOk result (Adds self.old self.new (entry_in line.now)) }
+        ensures kept { OnErr result (self.new ≡ self.old) }
+    {
+        let entry = entry_of(line);
+        if entry.is_empty() {
+            return Ok(());
+        }
+        if is_pattern(entry) {
+            self.add_pattern(entry)
+        } else {
+            self.add_plain(entry)
+        }
+    }
+
+    /// Adds the entries of a text, or of its first lines.
+    fn add_lines(&mut self, text: &[u8]) -> Result<(), AllocError>
+        ensures added { OnOk result (Adds self.old self.new (entries_of text.now)) }
+        ensures longer { OnErr result (IsLonger self.old self.new) }
+    {
+        let mut left = text;
+        while let Some(end) = memchr(b'\n', left) {
+            self.add_line(&left[..end])?;
+            left = behind(left, end, 1);
+        }
+        self.add_line(left)
+    }
+}
+
+impl ExportList {
+    /// Reads the entries of a text.
+    ///
+    /// # Errors
+    ///
+    /// There is not enough memory.
+    pub fn parse(alloc: Global, text: &[u8]) -> Result<ExportList, AllocError>
+        ensures { IfOk result (λ list. IsListOf (text.now ∷ []) list) }
+    {
+        let mut list = ExportList::new(alloc);
+        list.add(text)?;
+        Ok(list)
+    }
+
+    /// Adds the entries of a further text behind the others.
+    ///
+    /// # Errors
+    ///
+    /// There is not enough memory. Nothing was added.
+    pub fn add(&mut self, text: &[u8]) -> Result<(), AllocError>
+        ensures added { (texts : List (List ℕ)) → IsListOf texts self.old → OnOk result (IsListOf (texts ++ text.now ∷ []) self.new) }
+        ensures kept { OnErr result (self.new ≡ self.old) }
+    {
+        let (plain, patterns) = (self.plain.len(), self.patterns.len());
+        if let Err(error) = self.add_lines(text) {
+            self.plain.truncate(plain);
+            self.patterns.truncate(patterns);
+            return Err(error);
+        }
+        Ok(())
+    }
+}
+
+impl ExportList {
+    /// Whether the list contains a name: it is an entry, or matches one with stars. It takes no memory.
+    pub fn contains(&self, name: &[u8]) -> bool
+        ensures within { result ≡ is_within self.now name.now }
+        ensures listed { (texts : List (List ℕ)) → IsListOf texts self.now → result ≡ listed texts name.now }
+    {
+        is_among(&self.plain, &self.places, name) || has_match(&self.patterns, name)
+    }
+
+    /// The entries without a star, in order: names that have to be defined.
+    pub fn required_symbols(&self) -> &[Vec<u8>]
+        ensures { map (λ v. v.items) result.now ≡ self.now.plain }
+    {
+        &self.plain
+    }
+}

@@ -1,0 +1,17 @@
+pub mod Puts
+pub mod Placing
+pub mod Saying
+pub mod Reaching
+pub mod Supporting
+pub mod Numbered
+pub mod Reading
+pub mod Asked
+pub mod One
+pub mod Steps
+pub mod Ends
+pub mod Nexts
+pub mod Through
+pub mod Leading
+pub mod Once
+pub mod Found
+pub mod Kept

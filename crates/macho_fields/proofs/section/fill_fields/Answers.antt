@@ -1,0 +1,23 @@
+use Rattle.std.proofs.Common.{subst, ℕ}
+use Rattle.macho_fields.specs.steps.Sections.{IsFilledTo}
+use Rattle.macho_fields.proofs.Nexts.{copied, count_is}
+use Rattle.macho_fields.proofs.section.fill_fields.Goals as goal
+
+pub loop-index-init : goal.loop-index-init
+loop-index-init g c =
+    λ l p fill. copied l p (g.P.Places.look c.args.places.now) c.args.source.now c.args.out.now c.args.run.now.items c.requires.source
+    fill c.requires.copied
+
+pub returns-in-Err-clause-why : goal.returns-in-Err-clause-why
+returns-in-Err-clause-why g c = λ l p fill. c.in-Err.ensures.why l p c.args.run.now.items fill (c.loop-index.invariant l p fill)
+
+pub loop-index-preserved : goal.loop-index-preserved
+loop-index-preserved g c = λ l p fill. c.in_default.ensures.done l p c.args.run.now.items fill (c.loop-index.invariant l p fill)
+
+pub returns-clause-done : goal.returns-clause-done
+returns-clause-done g c =
+    λ l p fill. subst (λ (k : ℕ). IsFilledTo l p c.args.source.now.place k c.args.run.now.items c.loop-index.out c.loop-index.run.items)
+    (count_is c.args.source.now c.num_relocations-index-end.result c.loop-index.index c.requires.source
+    c.num_relocations-index-end.ensures c.loop-index-test.false
+    c.loop-index.auto.index-end)
+    (c.loop-index.invariant l p fill)

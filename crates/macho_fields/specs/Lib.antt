@@ -1,0 +1,6 @@
+pub mod Looks
+pub mod Filling
+pub mod Faults
+pub mod Through
+pub mod Laws
+pub mod steps

@@ -1,0 +1,29 @@
+//! One section filled: its bytes, its fields, and the fixups that it asks for.
+//!
+//! The bytes of a carried section are copied from its object to their place in the output. Then each relocated field is
+//! written for its target and addend: a BL at 0x100004000 to a function at 0x100004010, `00 00 00 94` in the object, becomes
+//! `04 00 00 94`. A pointer that moves with the image is left to the loader, and a fixup is noted for it. Stubs are written,
+//! and slots ask for their fixups, in the same way.
+//!
+//! What symbols lead to and where things are is looked up (`Places`); relocations are decoded in place, and no list of
+//! them is kept.
+#![tactic(auto)]
+
+mod asking;
+mod fault;
+mod field;
+mod kinds;
+mod laws;
+mod places;
+mod section;
+mod slots;
+mod stubs;
+mod values;
+mod write;
+
+pub use fault::FillFault;
+pub use laws::placed_things_are_found;
+pub use places::Places;
+pub use section::fill_section;
+pub use slots::slot_fixups;
+pub use stubs::fill_stubs;

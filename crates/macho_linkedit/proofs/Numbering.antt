@@ -1,0 +1,195 @@
+-- The numbers of imports are numbers of entries of the import table.
+--
+-- A target that is an import is that of a global name which a library defines, and so is the name of a use. The name is
+-- among the imports, so its number is below theirs. A pointer whose addend has no room has an entry of its own, so the number
+-- of that entry is below that of all.
+use Rattle.std.proofs.Common.{◌≡◌, ℕ, ◌==◌, ◌<◌, ◌≤◌, Bool, true, false, not, ◌&&◌, ◌||◌, if◌then◌else◌, List, map, length, refl, sym, ap, ◌∙◌, arith, Option, Some, None, Decides}
+use Rattle.std.specs.Prelude.{Contains, filter}
+use Rattle.std.specs.List.{flat_map, filter_map, position_or_len, range_with_len}
+use Rattle.std.specs.Str.{bytes_eq}
+use Rattle.std.proofs.lemmas.List.{length-append, length-map}
+use Rattle.std.proofs.lemmas.List.Elements.{Contains-append_left, Contains-append_right}
+use Rattle.std.proofs.lemmas.List.FromFn.{length-range_with_len}
+use Rattle.std.proofs.lemmas.Slice.Eq.{bytes_eq-Decides}
+use Rattle.macho_records.specs.Symbols.{is_common_of}
+use Rattle.macho_model.specs.declared.targets.Target.{Target}
+use Rattle.macho_model.specs.declared.targets.Target.TheVariants as target
+use Rattle.macho_model.specs.Symbols.{is_absolute, is_global, is_local}
+use Rattle.macho_model.specs.Links.{Link, SectionId, header_at, is_carried, carried_of}
+use Rattle.macho_model.specs.Resolution.{SymbolId, Definition, Symbol, Library, ImageBase, entry_at, name_at, same_symbol, chosen_commons, stands_in_carried, definition_of}
+use Rattle.macho_model.specs.Needs.{Use, ByRelocation, ByInitializer, ByPersonality, ByName, relocation_in, section_named, relocations_of, carried_uses, is_imported, is_library, uses_of, symbol_of_relocation, global_name, name_used, imports_of, import_number}
+use Rattle.macho_model.specs.Targets.{place_of_symbol, own_target, target_of_symbol, definition_target, target_of, target_of_relocation, target_of_section, slot_of_use, slots_of, goes_by_slot, is_import, same_target}
+use Rattle.macho_model.specs.Fixups.{EntryOfImport, same_entry, has_room, own_entry, own_entries, import_entries_of}
+use Rattle.macho_model.specs.Fields.{Field, field_of, is_prefix_type, fields_of}
+use Rattle.macho_model.specs.Values.{is_pointer}
+use Rattle.macho_model.proofs.EachBelow.{and_left, and_right, and_both, is_equal, equal_is}
+use Rattle.macho_linkedit.proofs.Members.{in_map, from_map, in_filter, from_filter, in_flat_map, in_filter_map, from_filter_map, in_distinct, from_distinct, place_in}
+
+-- A name that a library defines, and its number.
+pub record IsNamed (l : Link) (used : Option (List ℕ)) (id : ℕ) : Type 0 where
+  pub name : List ℕ
+  pub is : used ≡ Some name
+  pub imported : is_imported l name ≡ true
+  pub number : id ≡ import_number (imports_of l) name
+
+-- a symbol that defines itself is no import
+pub not_own : (l : Link) (s : SymbolId) (id : ℕ) → own_target l s ≡ target.Import id → ⊥
+not_own l s id is = by (stands_in_carried l s) (is_absolute (entry_at l s)) (is_common_of (entry_at l s)) is
+  where
+    by : (a b c : Bool)
+        → (if a then place_of_symbol l s
+        else if b then target.Absolute (entry_at l s).n_value
+        else if c then target.Common (position_or_len (same_symbol s) (chosen_commons l)) else target.None)
+        ≡ target.Import id → ⊥
+    by true b c is = cc
+    by false true c is = cc
+    by false false true is = cc
+    by false false false is = cc
+
+symbol_named : (l : Link) (s : SymbolId) (id : ℕ) → target_of l s ≡ target.Import id → IsNamed l (global_name l (Some s)) id
+unfolding target_of
+symbol_named l s id is = by (is_global (entry_at l s)) is
+  where
+    defined : (d : Option Definition) → definition_of l (name_at l s) ≡ d → definition_target l (imports_of l)
+        (name_at l s) d ≡ target.Import id
+        → IsNamed l (Some (name_at l s)) id
+    defined None known is = cc
+    defined (Some (Symbol t)) known is = absurd (not_own l t id is)
+    defined (Some (Library file)) known is =
+        let same : import_number (imports_of l) (name_at l s) ≡ id = cc in
+        record { name = name_at l s; is = refl; imported = ap is_library known; number = sym same }
+    defined (Some ImageBase) known is = cc
+
+    by : (b : Bool)
+        → (if b then definition_target l (imports_of l) (name_at l s) (definition_of l (name_at l s))
+        else if is_local (entry_at l s) && (stands_in_carried l s || is_absolute (entry_at l s)) then own_target l s else target.None)
+        ≡ target.Import id
+        → IsNamed l (if b then Some (name_at l s) else None) id
+    by true is = defined (definition_of l (name_at l s)) refl is
+    by false is = local (is_local (entry_at l s) && (stands_in_carried l s || is_absolute (entry_at l s))) is
+      where
+        local : (b : Bool) → (if b then own_target l s else target.None) ≡ target.Import id → IsNamed l None id
+        local true is = absurd (not_own l s id is)
+        local false is = cc
+
+-- what a relocation names where it leads to an import
+pub relocation_named : (l : Link) (s : SectionId) (r id : ℕ) → target_of_relocation l s r ≡ target.Import id
+    → IsNamed l (global_name l (symbol_of_relocation l s r)) id
+unfolding target_of_relocation
+relocation_named l s r id is = outside (relocation_in l s r).r_extern is
+  where
+    inside : (o : Option SymbolId) → target_of_symbol l o ≡ target.Import id → IsNamed l (global_name l o) id
+    inside None is = cc
+    inside (Some x) is = symbol_named l x id is
+
+    sections : (b : Bool) → (if b then target.Section (section_named l s r).file (section_named l s r).section 0 else target.None)
+        ≡ target.Import id → ⊥
+    sections true is = cc
+    sections false is = cc
+
+    outside : (b : Bool)
+        → (if b then target_of_symbol l (symbol_of_relocation l s r) else target_of_section l (section_named l s r)) ≡ target.Import id
+        → IsNamed l (global_name l (symbol_of_relocation l s r)) id
+    outside true is = inside (symbol_of_relocation l s r) is
+    outside false is = absurd (sections (is_carried (header_at l (section_named l s r))) is)
+
+-- the number of a name that a use names is below the number of imports
+named_below : (l : Link) (u : Use) (id : ℕ) → Contains (uses_of l) u → IsNamed l (name_used l u) id → id < length (imports_of l)
+unfolding imports_of
+named_below l u id there named =
+    let among : Contains (filter_map (name_used l) (uses_of l)) named.name = in_filter_map (name_used l)
+    (uses_of l) u named.name there named.is in
+    let imported : Contains (filter (is_imported l) (filter_map (name_used l) (uses_of l))) named.name
+    = in_filter (is_imported l) (filter_map (name_used l) (uses_of l)) named.name among named.imported in
+    let once : Contains (imports_of l) named.name
+    = in_distinct bytes_eq bytes_eq-Decides (filter (is_imported l) (filter_map (name_used l) (uses_of l))) named.name imported in
+    let below : position_or_len (bytes_eq named.name) (imports_of l) < length (imports_of l)
+    = place_in (bytes_eq named.name) (imports_of l) named.name once ((bytes_eq-Decides named.name named.name).1 refl) in
+    let number : id ≡ position_or_len (bytes_eq named.name) (imports_of l) = named.number in
+    omega arith
+
+-- a relocation of a carried section is a use
+carried_use : (l : Link) (s : SectionId) (r : ℕ) → Contains (carried_of l) s → Contains (relocations_of l s) r → Contains (uses_of l)
+    (ByRelocation s r)
+unfolding uses_of
+carried_use l s r in_l in_s =
+    Contains-append_left _ _ (ByRelocation s r) (Contains-append_left _ _ (ByRelocation s r) (Contains-append_left _ _ (ByRelocation s r)
+    (in_flat_map (carried_uses l) (carried_of l) s (ByRelocation s r) in_l (in_map (ByRelocation s) (relocations_of l s) r in_s))))
+
+-- THE number of an import that a field leads to
+pub field_below : (l : Link) (s : SectionId) (f : Field) (id : ℕ) → Contains (carried_of l) s → Contains (fields_of l s) f
+    → f.target ≡ target.Import id
+    → id < length (imports_of l)
+unfolding fields_of
+field_below l s f id in_l in_s is =
+    let z = from_map (field_of l s) (filter (λ r. not (is_prefix_type (relocation_in l s r).r_type)) (relocations_of l s)) f in_s in
+    let r = from_filter (λ r. not (is_prefix_type (relocation_in l s r).r_type)) (relocations_of l s) z.0 z.1 in
+    let leads : target_of_relocation l s z.0 ≡ target.Import id = ap (λ (g : Field). g.target) z.2 ∙ is in
+    named_below l (ByRelocation s z.0) id (carried_use l s z.0 in_l r.0) (relocation_named l s z.0 id leads)
+
+-- and that a slot leads to
+pub slot_below : (l : Link) (id : ℕ) → Contains (slots_of l) (target.Import id) → id < length (imports_of l)
+unfolding slots_of
+slot_below l id c =
+    let z = from_filter_map (slot_of_use l) (uses_of l) (target.Import id)
+    (from_distinct same_target (filter_map (slot_of_use l) (uses_of l)) (target.Import id) c) in
+    named_below l z.0 id z.1 (by z.0 z.2)
+  where
+    some : (b : Bool) (t : Target) → (if b then Some t else None) ≡ Some (target.Import id) → t ≡ target.Import id
+    some true t is = cc
+    some false t is = cc
+
+    by : (u : Use) → slot_of_use l u ≡ Some (target.Import id) → IsNamed l (name_used l u) id
+    by (ByRelocation s r) is =
+        relocation_named l s r id
+        (some (((relocation_in l s r).r_type == 7) || (goes_by_slot (relocation_in l s r).r_type && is_import (target_of_relocation l s r)))
+        (target_of_relocation l s r) is)
+    by (ByInitializer s r) is = cc
+    by (ByPersonality s r) is = relocation_named l s r id (let same : target_of_relocation l s r ≡ target.Import id = cc in same)
+    by (ByName name) is = cc
+
+-- entries are equal by both numbers
+entry-Decides : (a b : EntryOfImport) → Decides (same_entry a b) (a ≡ b)
+entry-Decides a b = (
+  λ h.
+      let imports : a.import ≡ b.import = is_equal a.import b.import (and_left (a.import == b.import) (a.addend == b.addend) h) in
+      let addends : a.addend ≡ b.addend = is_equal a.addend b.addend (and_right (a.import == b.import) (a.addend == b.addend) h) in
+      ap (λ (n : ℕ). let e : EntryOfImport = record { import = n; addend = a.addend } in e) imports
+      ∙ ap (λ (n : ℕ). let e : EntryOfImport = record { import = b.import; addend = n } in e) addends,
+  λ e.
+      and_both (a.import == b.import) (a.addend == b.addend) (equal_is a.import b.import (ap (λ (x : EntryOfImport). x.import) e))
+      (equal_is a.addend b.addend (ap (λ (x : EntryOfImport). x.addend) e)),
+)
+
+-- an entry of a pointer's own is among them
+pub own_below : (l : Link) (s : SectionId) (f : Field) (id : ℕ) → Contains (carried_of l) s → Contains (fields_of l s) f
+    → is_pointer f ≡ true
+    → f.target ≡ target.Import id → has_room f.addend ≡ false
+    → position_or_len (same_entry (record { import = id; addend = f.addend })) (import_entries_of l) < length (import_entries_of l)
+unfolding own_entries import_entries_of
+own_below l s f id in_l in_s points leads room =
+    place_in (same_entry e) (import_entries_of l) e
+    (Contains-append_right (map (λ id. record { import = id; addend = 0 }) (range_with_len 0 (length (imports_of l)))) (own_entries l) e
+    (in_distinct same_entry entry-Decides
+    (flat_map (λ s. filter_map (λ f. own_entry (is_pointer f) f.target f.addend) (fields_of l s)) (carried_of l)) e
+    (in_flat_map (λ s. filter_map (λ f. own_entry (is_pointer f) f.target f.addend) (fields_of l s)) (carried_of l) s e in_l
+    (in_filter_map (λ f. own_entry (is_pointer f) f.target f.addend) (fields_of l s) f e in_s own))))
+    ((entry-Decides e e).1 refl)
+  where
+    e : EntryOfImport
+    e = record { import = id; addend = f.addend }
+
+    own : own_entry (is_pointer f) f.target f.addend ≡ Some e
+    own = rw (points, leads, room) refl
+
+-- there are as many entries as imports at least
+pub imports_first : (l : Link) → length (imports_of l) ≤ length (import_entries_of l)
+unfolding import_entries_of
+imports_first l =
+    omega (
+      arith,
+      length-append (map (λ id. let e : EntryOfImport = record { import = id; addend = 0 } in e)
+          (range_with_len 0 (length (imports_of l)))) (own_entries l),
+      length-map (range_with_len 0 (length (imports_of l))) (λ id. let e : EntryOfImport = record { import = id; addend = 0 } in e),
+      length-range_with_len 0 (length (imports_of l)),
+    )

@@ -1,0 +1,7 @@
+-- The code's own steps: what private functions say, and what loops keep. No clause of a public function cites them.
+pub mod Libraries
+pub mod Entries
+pub mod Values
+pub mod Rows
+pub mod Listing
+pub mod Counting

@@ -1,0 +1,40 @@
+//! The numbers of libraries, by which imports and reexported names tell theirs.
+ghost use Rattle.std.specs.Prelude.{◌≡◌, ◌+◌, ◌<◌, ◌≤◌, ◌^◌, length, IfOk};
+ghost use Rattle.std.specs.Str.{bytes_eq};
+ghost use Rattle.std.specs.HashMap.{get};
+ghost use Rattle.std.specs.List.{position_or_len};
+ghost use Rattle.macho_linkedit.specs.Imports.{texts};
+ghost use Rattle.macho_linkedit.specs.steps.Libraries.{same_text, FindsPlaces};
+
+use indexmap::IndexMap;
+use std::alloc::{AllocError, Global};
+
+/// The first place of each library, by its install name.
+pub(crate) fn places<'a>(
+    alloc: Global,
+    libraries: &[&'a [u8]],
+) -> Result<IndexMap<&'a [u8], u32>, AllocError>
+    requires { length libraries.now < 2 ^ 32 }
+    ensures { IfOk result (λ m. FindsPlaces (texts libraries.now) (get same_text m)) }
+{
+    let mut places: IndexMap<&[u8], u32> = IndexMap::new(alloc);
+    for (place, library) in libraries.iter().enumerate() {
+        if !places.contains_key(library) {
+            places.insert(library, place as u32)?;
+        }
+    }
+    Ok(places)
+}
+
+/// The number of a library from 1; one that isn't among them gets the number behind theirs.
+pub(crate) fn number(libraries: &[&[u8]], places: &IndexMap<&[u8], u32>, library: &[u8]) -> u32
+    requires few { length libraries.now + 1 < 2 ^ 32 }
+    requires known { FindsPlaces (texts libraries.now) (get same_text places.now) }
+    ensures is { result ≡ position_or_len (bytes_eq library.now) (texts libraries.now) + 1 }
+    ensures within { result ≤ length libraries.now + 1 }
+{
+    match places.get(library) {
+        Some(place) => *place + 1,
+        None => libraries.len() as u32 + 1,
+    }
+}

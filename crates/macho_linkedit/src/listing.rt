@@ -1,0 +1,239 @@
+//! Which symbols of the objects stand in the symbol table of an image: those with a name that are defined, a global one where
+//! it is the definition of its name, a local one where it is no assembler's label.
+ghost use Rattle.std.specs.Prelude.{◌≡◌, ℕ, ◌+◌, ◌*◌, ◌<◌, ◌≤◌, ◌^◌, List, ◌++◌, length, map, filter, false, IfOk, IfSome, OnOk};
+ghost use Rattle.std.specs.List.{range_with_len};
+ghost use Rattle.macho_records.specs.Symbols.{is_common_of, is_stab_of};
+ghost use Rattle.macho_model.specs.declared.placed.Counts.{Counts};
+ghost use Rattle.macho_model.specs.Placement.{Placed};
+ghost use Rattle.macho_model.specs.SymbolRows.{row_of};
+ghost use Rattle.macho_linkedit.specs.Symbols.{row_seen};
+ghost use Rattle.macho_model.specs.Symbols.{is_global, is_absolute};
+ghost use Rattle.macho_model.specs.Objects.{num_symbols, symbol_at, symbol_name};
+ghost use Rattle.macho_model.specs.Links.{Link, object_of, is_carried};
+ghost use Rattle.macho_model.specs.SymbolTable.{is_in_table};
+ghost use Rattle.macho_symbols.specs.Kept.{IsResolved, HasSymbol, symbol_id, in_carried};
+ghost use Rattle.macho_linkedit.specs.Listing.{AreObjects, CanBeListed, AreListed, IsRowOf};
+ghost use Rattle.macho_linkedit.specs.steps.Listing.{is_defined_symbol, name_length, symbols_in, Lists, placed_type_of, placed_description_of};
+
+use crate::symbols::TableRow;
+use macho_object::File;
+use macho_records::{N_EXT, N_PEXT, N_SECT, N_STAB, SectionHeader, SymtabEntry, name_bytes};
+use macho_symbols::Resolved;
+use std::alloc::{AllocError, Global};
+
+/// An object of a link.
+#[derive(Drop)]
+pub struct LinkedObject<'a> {
+    /// Its number among the inputs.
+    pub number: u32,
+    /// The view of its bytes.
+    pub file: File<'a>,
+}
+
+/// A symbol of the table: a symbol of an object.
+#[derive(Clone, Copy)]
+pub struct TableSymbol {
+    /// The number of the object.
+    pub file: u32,
+    /// The index of the symbol in it.
+    pub symbol: u32,
+}
+
+/// The symbols of the table, by object, then index.
+#[derive(Drop)]
+pub struct TableSymbols {
+    /// The symbols.
+    pub symbols: Vec<TableSymbol>,
+    /// The bytes of the string table.
+    pub strings: u64,
+}
+
+/// Whether a section goes into the image as it is.
+fn is_carried(header: SectionHeader) -> bool
+    ensures { result ≡ is_carried header }
+{
+    let name = name_bytes(&header.sectname);
+    !header.should_exclude()
+        && name != b"__mod_init_func".as_slice()
+        && name != b"__compact_unwind".as_slice()
+}
+
+/// Whether a symbol stands in a carried section.
+#[tactic(auto, using(macho_symbols::proofs::Entries::stands_in_carried))]
+fn stands_in_carried(file: &File<'_>, index: u32) -> bool
+    requires object { file.now.is_dynamic ≡ false }
+    requires among { index < num_symbols file.now.bytes }
+    ensures { result ≡ in_carried file.now.bytes (symbol_at file.now.bytes index) }
+{
+    let _object = file.is_dynamic();
+    let Some(section) = file.symbol_section(index) else {
+        return false;
+    };
+    match file.section(section) {
+        Some(header) => is_carried(header),
+        None => unreachable!(),
+    }
+}
+
+/// Whether a symbol is a common: its size is not looked at.
+fn is_common(symbol: SymtabEntry) -> bool
+    ensures { result ≡ is_common_of symbol }
+{
+    symbol.is_undefined() && !symbol.is_local() && symbol.n_value != 0
+}
+
+/// Whether a symbol has a value of its own.
+fn is_absolute(symbol: SymtabEntry) -> bool
+    ensures { result ≡ is_absolute symbol }
+{
+    symbol.n_type & N_STAB == 0 && symbol.is_absolute()
+}
+
+/// Whether other files see a symbol.
+fn is_global(symbol: SymtabEntry) -> bool
+    ensures { result ≡ is_global symbol }
+{
+    symbol.n_type & N_STAB == 0 && !symbol.is_local()
+}
+
+/// Whether a symbol has a name and is defined.
+fn is_defined_symbol(file: &File<'_>, index: u32, symbol: SymtabEntry) -> bool
+    requires object { file.now.is_dynamic ≡ false }
+    requires among { index < num_symbols file.now.bytes }
+    requires entry { symbol ≡ symbol_at file.now.bytes index }
+    ensures { result ≡ is_defined_symbol file.now.bytes index }
+{
+    symbol.n_strx != 0
+        && (stands_in_carried(file, index) || is_absolute(symbol) || is_common(symbol))
+}
+
+/// The bytes of a symbol's name, where the symbol stands in the table.
+fn listed_name(object: &LinkedObject<'_>, index: u32, resolved: &Resolved) -> Option<usize>
+    requires object { object.now.file.is_dynamic ≡ false }
+    requires among { index < num_symbols object.now.file.bytes }
+    requires known { HasSymbol resolved.now object.now.number index }
+    ensures is { (l : Link) (noted : List (List ℕ)) → IsResolved l noted resolved.now → object_of l object.now.number ≡ object.now.file.bytes
+        → result ≡ name_length l (symbol_id object.now.number index) }
+    ensures small { IfSome result (λ n. n + 1 < 2 ^ 32) }
+{
+    let _object = object.file.is_dynamic();
+    let Some(symbol) = object.file.symbol(index) else {
+        unreachable!()
+    };
+    if !is_defined_symbol(&object.file, index, symbol) {
+        return None;
+    }
+    let Some(name) = object.file.symbol_name(index) else {
+        unreachable!()
+    };
+    let listed = if is_global(symbol) {
+        resolved.defines(object.number, index)
+    } else {
+        !symbol.is_default_strippable(name)
+    };
+    if listed { Some(name.len()) } else { None }
+}
+
+/// Lists the symbols of an object behind the others.
+fn list_object(
+    object: &LinkedObject<'_>,
+    resolved: &Resolved,
+    table: &mut TableSymbols,
+) -> Result<(), AllocError>
+    requires object { object.now.file.is_dynamic ≡ false }
+    requires known { (k : ℕ) → k < num_symbols object.now.file.bytes → HasSymbol resolved.now object.now.number k }
+    requires room { table.old.strings + 2 ^ 32 * num_symbols object.now.file.bytes < 2 ^ 64 }
+    ensures done { (l : Link) (noted : List (List ℕ)) → IsResolved l noted resolved.now → object_of l object.now.number ≡ object.now.file.bytes
+        → OnOk result (Lists l (symbols_in object.now.number object.now.file.bytes (num_symbols object.now.file.bytes)) table.old table.new) }
+    ensures room { OnOk result (table.new.strings ≤ table.old.strings + 2 ^ 32 * num_symbols object.now.file.bytes) }
+{
+    for symbol in 0..object.file.num_symbols() {
+        if let Some(length) = listed_name(object, symbol, resolved) {
+            table.symbols.push(TableSymbol {
+                file: object.number,
+                symbol,
+            })?;
+            table.strings += length as u64 + 1;
+        }
+    }
+    Ok(())
+}
+
+/// Lists the symbols of the table of a link, by object, then index.
+///
+/// # Errors
+///
+/// There is not enough memory.
+pub fn table_symbols(
+    alloc: Global,
+    objects: &[LinkedObject<'_>],
+    resolved: &Resolved,
+) -> Result<TableSymbols, AllocError>
+    requires { CanBeListed resolved.now objects.now }
+    ensures { (l : Link) (noted : List (List ℕ)) → IsResolved l noted resolved.now → AreObjects l objects.now → IfOk result (AreListed l) }
+{
+    let mut table = TableSymbols {
+        symbols: Vec::new(alloc),
+        strings: 1,
+    };
+    for object in objects {
+        list_object(object, resolved, &mut table)?;
+    }
+    Ok(table)
+}
+
+/// The row of a symbol of an object: its name and type as the object has them, at its place in the image.
+///
+/// A global symbol that isn't listed for export is hidden, and a common has become a symbol of a section.
+pub fn table_row<'a>(
+    object: &LinkedObject<'a>,
+    index: u32,
+    is_listed: bool,
+    section: u8,
+    address: u64,
+) -> TableRow<'a>
+    requires object { object.now.file.is_dynamic ≡ false }
+    requires among { index < num_symbols object.now.file.bytes }
+    requires plain { is_stab_of (symbol_at object.now.file.bytes index) ≡ false }
+    ensures { (l : Link) (counts : Counts) (p : Placed) → IsRowOf l counts p object.now index is_listed section address
+        → row_seen result ≡ row_of l counts p (symbol_id object.now.number index) }
+{
+    let (Some(entry), Some(name)) = (object.file.symbol(index), object.file.symbol_name(index))
+    else {
+        unreachable!()
+    };
+    TableRow {
+        name,
+        kind: placed_type(entry, is_listed),
+        section,
+        description: placed_description(entry),
+        value: address,
+    }
+}
+
+/// The type of a symbol's row: of a section where it was a common, and hidden where only this image sees it.
+fn placed_type(entry: SymtabEntry, is_listed: bool) -> u8
+    ensures { result ≡ placed_type_of entry is_listed }
+{
+    let kind = if is_common(entry) {
+        entry.n_type | N_SECT
+    } else {
+        entry.n_type
+    };
+    if is_global(entry) && (entry.is_hidden() || !is_listed) {
+        (kind & (255 - N_EXT)) | N_PEXT
+    } else {
+        kind
+    }
+}
+
+/// The description of a symbol's row: a common has lost its alignment.
+fn placed_description(entry: SymtabEntry) -> u16
+    ensures { result ≡ placed_description_of entry }
+{
+    if is_common(entry) {
+        entry.n_desc - ((entry.n_desc >> 8) & 15) * 256
+    } else {
+        entry.n_desc
+    }
+}

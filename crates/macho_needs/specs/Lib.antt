@@ -1,0 +1,4 @@
+pub mod Tables
+pub mod Noted
+pub mod Laws
+pub mod steps

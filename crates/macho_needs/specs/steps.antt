@@ -1,0 +1,2 @@
+-- The steps of noting a use.
+pub mod Leads

@@ -1,0 +1,67 @@
+//! By what slots and entries are found: their targets, and pairs of import and addend.
+ghost use Rattle.std.specs.Prelude.{◌≡◌};
+ghost use Rattle.macho_needs.specs.Tables.{target_of};
+
+use macho_model::Target;
+
+/// The target of a slot.
+#[derive(Clone, Copy, PartialEq, Eq, Hash)]
+pub enum SlotKey {
+    /// A place in a carried section: file, section, offset.
+    Section(u32, u32, u64),
+    /// A chosen common.
+    Common(u32),
+    /// An import.
+    Import(u32),
+    /// The first byte of the image.
+    Base,
+    /// A value.
+    Absolute(u64),
+    /// Nothing.
+    Nothing,
+}
+
+/// An entry of the import table that a pointer needs of its own.
+#[derive(Clone, Copy, PartialEq, Eq, Hash)]
+pub struct OwnEntry {
+    /// The number of the import.
+    pub import: u32,
+    /// The addend, modulo 2^64.
+    pub addend: u64,
+}
+
+/// The key of a target.
+pub(crate) fn key(target: Target) -> SlotKey
+    ensures { target_of result ≡ target }
+{
+    match target {
+        Target::Section {
+            file,
+            section,
+            offset,
+        } => SlotKey::Section(file, section, offset),
+        Target::Common { id } => SlotKey::Common(id),
+        Target::Import { id } => SlotKey::Import(id),
+        Target::Base => SlotKey::Base,
+        Target::Absolute { value } => SlotKey::Absolute(value),
+        Target::None => SlotKey::Nothing,
+    }
+}
+
+/// The target of a key.
+pub(crate) fn target(key: SlotKey) -> Target
+    ensures { result ≡ target_of key }
+{
+    match key {
+        SlotKey::Section(file, section, offset) => Target::Section {
+            file,
+            section,
+            offset,
+        },
+        SlotKey::Common(id) => Target::Common { id },
+        SlotKey::Import(id) => Target::Import { id },
+        SlotKey::Base => Target::Base,
+        SlotKey::Absolute(value) => Target::Absolute { value },
+        SlotKey::Nothing => Target::None,
+    }
+}

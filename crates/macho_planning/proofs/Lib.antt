@@ -1,0 +1,3 @@
+pub mod Standing
+pub mod Listing
+pub mod OfLink

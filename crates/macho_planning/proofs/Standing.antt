@@ -1,0 +1,72 @@
+-- A carried section may stand where its header says.
+--
+-- It is in no segment of the linker's own, since such a section isn't carried, and in `__DATA` where it is thread-local, by the
+-- rules of objects. The
+-- name in a plan is that of the header, filled with zeros.
+use Rattle.std.proofs.Common.{◌≡◌, ℕ, ◌||◌, ◌<◌, not, Bool, true, false, List, refl, ap, ◌∙◌, leb-true, ltb-true}
+use Rattle.std.specs.Prelude.{codes, nat_lt, Some, None, if◌then◌else◌}
+use Rattle.std.specs.Str.{bytes_eq}
+use Rattle.macho_model.proofs.EachBelow.{and_left}
+use Rattle.macho_bytes.specs.Texts.{name_of}
+use Rattle.macho_records.specs.Segments.{is_name, name_field}
+use Rattle.macho_records.specs.Sections.{should_exclude_of, is_debug_of, is_indirect_type, type_of, segment_name_of}
+use Rattle.macho_records.specs.declared.header.SectionHeader.{SectionHeader}
+use Rattle.macho_model.specs.Objects.{section_at, num_sections}
+use Rattle.macho_model.specs.ObjectRules.{is_thread_local}
+use Rattle.macho_model.specs.Grammar.{IsObject}
+use Rattle.macho_model.specs.Segments.{PAGEZERO, LINKEDIT, DATA}
+use Rattle.macho_model.specs.Links.{is_carried}
+use Rattle.macho_object.specs.Views.{FileBytes, of_section}
+use Rattle.macho_layout.specs.Plans.{MayStand}
+use Rattle.macho_layout.proofs.Named.{name_in_field}
+use Rattle.macho_planning.specs.Sections.{spec_for, KeepsRules}
+
+-- an excluded section's segment is none of these
+not_excluded : (h : SectionHeader) → is_carried h ≡ true
+    → (bytes_eq (segment_name_of h) PAGEZERO ≡ false) × (bytes_eq (segment_name_of h) LINKEDIT ≡ false)
+not_excluded h carried =
+    let kept : not (should_exclude_of h) ≡ true = and_left _ _ (and_left _ _ carried) in
+    parts (is_debug_of h) (bytes_eq (segment_name_of h) PAGEZERO) (bytes_eq (segment_name_of h) LINKEDIT)
+    (is_name (codes "__LLVM") (segment_name_of h)) (is_indirect_type (type_of h)) kept
+  where
+    parts : (a b c d e : Bool) → not (a || ((b || c) || d) || e) ≡ true → (b ≡ false) × (c ≡ false)
+    parts true b c d e h = cc
+    parts false true c d e h = cc
+    parts false false true d e h = cc
+    parts false false false d e h = (refl, refl)
+
+pub may_stand : (file section : ℕ) (h : SectionHeader) → KeepsRules h → is_carried h ≡ true → MayStand (spec_for file section h)
+may_stand file section h rules carried =
+    let name : name_of (name_field h.segname) ≡ segment_name_of h = name_in_field h.segname in
+    let none = not_excluded h carried in
+    record {
+      not_zero_page = ap (λ (n : List ℕ). bytes_eq n PAGEZERO) name ∙ none.0;
+      not_tables = ap (λ (n : List ℕ). bytes_eq n LINKEDIT) name ∙ none.1;
+      thread_local = λ e. ap (λ (n : List ℕ). bytes_eq n DATA) name ∙ rules.thread_local e;
+    }
+
+-- each header of an object keeps the rules
+pub keeps_rules : (b : List ℕ) (k : ℕ) → IsObject b → k < num_sections b → KeepsRules (section_at b k)
+keeps_rules b k is low = record {
+  aligned = leb-true (section_at b k).align 14 (is.o7 k low);
+  thread_local = λ e. or_else (is_thread_local (type_of (section_at b k))) _ (is.o11 k low) e;
+}
+  where
+    or_else : (a c : Bool) → (not a || c) ≡ true → a ≡ true → c ≡ true
+    or_else true c e a_is = e
+    or_else false c e a_is = cc
+
+-- the header that is viewed is that of the section
+pub header_viewed : (f : FileBytes) (k : ℕ) (h : SectionHeader) → f.is_dynamic ≡ false → Some h ≡ of_section f k (section_at f.bytes k)
+    → (h ≡ section_at f.bytes k) × (k < num_sections f.bytes)
+header_viewed f k h object e = by (nat_lt k (num_sections f.bytes)) refl (rw object at e)
+  where
+    by : (x : Bool) → nat_lt k (num_sections f.bytes) ≡ x
+        → Some h ≡ (if nat_lt k (num_sections f.bytes) then Some (section_at f.bytes k) else None)
+        → (h ≡ section_at f.bytes k) × (k < num_sections f.bytes)
+    by true low g =
+        let same : Some h ≡ Some (section_at f.bytes k) = rw low at g in
+        (cc, ltb-true k (num_sections f.bytes) low)
+    by false low g =
+        let none : Some h ≡ None = rw low at g in
+        cc

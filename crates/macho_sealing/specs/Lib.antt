@@ -1,0 +1,4 @@
+pub mod Splits
+pub mod Heads
+pub mod Signing
+pub mod steps

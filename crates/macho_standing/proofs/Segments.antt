@@ -1,0 +1,200 @@
+-- The segments of a file, as the placement tells of them.
+--
+-- Lists of places that agree have the same numbers at each place: so each placed segment has its command, with its addresses
+-- and its file part, and is mapped unless it is the one that keeps addresses free. Ranks of names rise from segment to segment,
+-- so a name has one segment; hence the file's `__TEXT` is the placement's, and both begin at one base.
+use Rattle.std.proofs.Common.{◌≡◌, ℕ, zero, suc, ◌+◌, ◌<◌, Bool, true, false, not, List, [], ◌∷◌, length, get_or, map, filter, cond, refl, sym, ap, subst, ◌∙◌, arith, inl, inr}
+use Rattle.std.specs.Prelude.{Contains}
+use Rattle.std.specs.Str.{bytes_eq}
+use Rattle.std.proofs.lemmas.Bool.{cases_lt}
+use Rattle.std.proofs.lemmas.List.{get_or_default, get_or-map, length-map}
+use Rattle.std.proofs.lemmas.Slice.Eq.{bytes_eq-Decides}
+use Rattle.macho_bytes.specs.Texts.{name_of}
+use Rattle.macho_records.specs.Segments.{text_of}
+use Rattle.macho_records.specs.declared.header.SegmentCommand.{SegmentCommand}
+use Rattle.macho_model.specs.declared.placed.Counts.{Counts}
+use Rattle.macho_model.specs.declared.placed.PlacedSegment.{PlacedSegment}
+use Rattle.macho_model.specs.Lists.{IsNumber}
+use Rattle.macho_model.specs.Links.{Link}
+use Rattle.macho_model.specs.Segments.{PAGEZERO, TEXT, segment_rank}
+use Rattle.macho_model.specs.Placement.{Placed, is_segment_named, EachFollows, IsPlaced}
+use Rattle.macho_model.specs.Images.{segments_of, mapped_segments, is_named, first_address, base_of}
+use Rattle.macho_model.specs.Agreement.{SegmentPlace, place_by_command, place_told, SegmentsAgree}
+use Rattle.macho_fixups.specs.declared.run.FixupSegment.{FixupSegment}
+use Rattle.macho_fixups.specs.Readings.{AreSegmentsOf}
+use Rattle.macho_promise.specs.FixupsSay.{fixup_segment, fixup_segments}
+use Rattle.macho_standing.proofs.Members.{in_map, of_map, in_filter, of_filter, at_front, in_none}
+
+-- a placed segment has a command of the file
+pub record HasCommand (b : List ℕ) (s : PlacedSegment) : Type 0 where
+  pub command : SegmentCommand
+  pub one : Contains (segments_of b) command
+  pub same : place_by_command command ≡ place_told s
+
+pub has_command : (b : List ℕ) (p : Placed) (s : PlacedSegment) → SegmentsAgree b p → Contains p.segments s → HasCommand b s
+has_command b p s agree one =
+    let there = subst (λ (xs : List SegmentPlace). Contains xs (place_told s)) (sym agree) (in_map place_told p.segments s one) in
+    let r = of_map place_by_command (segments_of b) (place_told s) there in
+    record { command = r.0; one = r.1; same = r.2 }
+
+-- and one that is mapped, with its numbers
+pub record IsMapped (b : List ℕ) (s : PlacedSegment) : Type 0 where
+  pub command : SegmentCommand
+  pub one : Contains (mapped_segments b) command
+  pub address : command.vmaddr ≡ s.address
+  pub size : command.vmsize ≡ s.size
+  pub file_offset : command.fileoff ≡ s.file_offset
+  pub file_size : command.filesize ≡ s.file_size
+
+pub is_mapped : (b : List ℕ) (p : Placed) (s : PlacedSegment) → SegmentsAgree b p → Contains p.segments s
+    → is_segment_named PAGEZERO s ≡ false → IsMapped b s
+unfolding mapped_segments
+is_mapped b p s agree one named =
+    let h = has_command b p s agree one in
+    let name : name_of h.command.segname ≡ text_of s.name = ap (λ (x : SegmentPlace). x.name) h.same in
+    let unnamed : is_named PAGEZERO h.command ≡ false = ap (λ (n : List ℕ). bytes_eq n PAGEZERO) name ∙ named in
+    record {
+      command = h.command;
+      one = in_filter (λ (c : SegmentCommand). not (is_named PAGEZERO c)) (segments_of b) h.command h.one (ap not unnamed);
+      address = ap (λ (x : SegmentPlace). x.address) h.same;
+      size = ap (λ (x : SegmentPlace). x.size) h.same;
+      file_offset = ap (λ (x : SegmentPlace). x.file_offset) h.same;
+      file_size = ap (λ (x : SegmentPlace). x.file_size) h.same;
+    }
+
+-- no segment
+pub no_placed : PlacedSegment
+no_placed = record { name = record { 0 = [] }; address = 0; size = 0; file_offset = 0; file_size = 0 }
+
+-- the file's segments are those that fixups see
+pub segments_agree : (b : List ℕ) (p : Placed) → SegmentsAgree b p → AreSegmentsOf b (fixup_segments p)
+segments_agree b p agree =
+    record {
+      count = many;
+      each = λ k c d lt.
+          let here : k < length p.segments = omega (arith, lt, length-map p.segments fixup_segment) in
+          let there : k < length (segments_of b) = omega (arith, lt, many) in
+          let said = get_or-map place_by_command (segments_of b) k c (place_by_command c) there in
+          let told = get_or-map place_told p.segments k no_placed (place_by_command c) here in
+          let seen = get_or-map fixup_segment p.segments k no_placed d here in
+          let same : place_by_command (get_or (segments_of b) k c) ≡ place_told (get_or p.segments k no_placed) =
+          sym said ∙ ap (λ (xs : List SegmentPlace). get_or xs k (place_by_command c)) agree ∙ told in
+          record {
+            address = ap (λ (x : SegmentPlace). x.address) same ∙ ap (λ (x : FixupSegment). x.address) (sym seen);
+            file_offset = ap (λ (x : SegmentPlace). x.file_offset) same ∙ ap (λ (x : FixupSegment). x.file_offset) (sym seen);
+            file_size = ap (λ (x : SegmentPlace). x.file_size) same ∙ ap (λ (x : FixupSegment). x.file_size) (sym seen);
+          };
+    }
+  where
+    many : length (segments_of b) ≡ length (fixup_segments p)
+    many =
+        sym (length-map (segments_of b) place_by_command) ∙ ap (λ (xs : List SegmentPlace). length xs) agree
+        ∙ length-map p.segments place_told
+        ∙ sym (length-map p.segments fixup_segment)
+
+-- ranks rise
+
+ranks_rise : (l : Link) (segments : List PlacedSegment) → EachFollows l segments → (i j : ℕ) (e : PlacedSegment) → i < j
+    → j < length segments
+    → segment_rank l (text_of (get_or segments i e).name) < segment_rank l (text_of (get_or segments j e).name)
+ranks_rise l segments h i zero e before within = absurd (omega (arith, before))
+ranks_rise l segments h i (suc m) e before within =
+    let at_m : IsNumber segments m (get_or segments m e) =
+    (omega (arith, within), get_or_default segments m (get_or segments m e) e (omega (arith, within))) in
+    let at_next : IsNumber segments (m + 1) (get_or segments (m + 1) e) =
+    (omega (arith, within), get_or_default segments (m + 1) (get_or segments (m + 1) e) e (omega (arith, within))) in
+    let step = (h m (get_or segments m e) (get_or segments (m + 1) e) at_m at_next).rank in
+    let same : m + 1 ≡ suc m = omega arith in
+    let next : segment_rank l (text_of (get_or segments m e).name) < segment_rank l (text_of (get_or segments (suc m) e).name) =
+    subst (λ k. segment_rank l (text_of (get_or segments m e).name) < segment_rank l (text_of (get_or segments k e).name)) same step in
+    elim (cases_lt i m) [
+      | inl lt ↦ let so_far = ranks_rise l segments h i m e lt (omega (arith, within)) in omega (arith, so_far, next)
+      | inr le ↦
+          let here : i ≡ m = omega (arith, before, le) in
+          subst (λ k. segment_rank l (text_of (get_or segments k e).name) < segment_rank l (text_of (get_or segments (suc m) e).name))
+          (sym here) next
+    ]
+
+-- so two segments of one name are one
+pub one_of_name : (l : Link) (segments : List PlacedSegment) (name : List ℕ) (s t : PlacedSegment) → EachFollows l segments
+    → Contains segments s
+    → Contains segments t → is_segment_named name s ≡ true → is_segment_named name t ≡ true → s ≡ t
+one_of_name l segments name s t h (i, lt_i, at_i) (j, lt_j, at_j) named_s named_t =
+    elim (cases_lt i j) [
+      | inl before ↦
+          let up = ranks_rise l segments h i j s before lt_j in
+          let first : segment_rank l (text_of (get_or segments i s).name) ≡ segment_rank l name = ap rank at_i ∙ of_name s named_s in
+          let second : segment_rank l (text_of (get_or segments j s).name) ≡ segment_rank l name =
+          ap rank (get_or_default segments j s t lt_j ∙ at_j) ∙ of_name t named_t in
+          absurd (omega (arith, up, first, second))
+      | inr le ↦ elim (cases_lt j i) [
+        | inl behind ↦
+            let up = ranks_rise l segments h j i s behind lt_i in
+            let first : segment_rank l (text_of (get_or segments i s).name) ≡ segment_rank l name = ap rank at_i ∙ of_name s named_s in
+            let second : segment_rank l (text_of (get_or segments j s).name) ≡ segment_rank l name =
+            ap rank (get_or_default segments j s t lt_j ∙ at_j) ∙ of_name t named_t in
+            absurd (omega (arith, up, first, second))
+        | inr ge ↦
+            let same : i ≡ j = omega (arith, le, ge) in
+            sym at_i ∙ get_or_default segments i s t lt_i ∙ ap (λ k. get_or segments k t) same ∙ at_j
+      ]
+    ]
+  where
+    rank : PlacedSegment → ℕ
+    rank x = segment_rank l (text_of x.name)
+
+    of_name : (x : PlacedSegment) → is_segment_named name x ≡ true → segment_rank l (text_of x.name) ≡ segment_rank l name
+    of_name x named = ap (segment_rank l) ((bytes_eq-Decides (text_of x.name) name).0 named)
+
+-- the address of the first of some segments, as `base_of` has it
+unfoldable first_placed : List PlacedSegment → ℕ
+first_placed [] = 0
+first_placed (s ∷ segments) = s.address
+
+first_named : (name : List ℕ) (cs : List SegmentCommand) (ss : List PlacedSegment) → map place_by_command cs ≡ map place_told ss
+    → first_address (filter (is_named name) cs) ≡ first_placed (filter (is_segment_named name) ss)
+unfolding first_placed
+first_named name [] [] agree = refl
+first_named name [] (s ∷ ss) agree = absurd (cc)
+first_named name (c ∷ cs) [] agree = absurd (cc)
+first_named name (c ∷ cs) (s ∷ ss) agree =
+    by (first_named name cs ss (ap rest agree)) (is_segment_named name s) refl
+  where
+    rest : List SegmentPlace → List SegmentPlace
+    rest [] = []
+    rest (x ∷ xs) = xs
+
+    front : List SegmentPlace → SegmentPlace
+    front [] = place_told s
+    front (x ∷ xs) = x
+
+    same : place_by_command c ≡ place_told s
+    same = ap front agree
+
+    test_same : is_named name c ≡ is_segment_named name s
+    test_same = ap (λ (x : SegmentPlace). bytes_eq x.name name) same
+
+    by : first_address (filter (is_named name) cs) ≡ first_placed (filter (is_segment_named name) ss) → (t : Bool)
+        → is_segment_named name s ≡ t
+        → first_address (cond (is_named name c) (c ∷ filter (is_named name) cs) (filter (is_named name) cs))
+        ≡ first_placed (cond (is_segment_named name s) (s ∷ filter (is_segment_named name) ss) (filter (is_segment_named name) ss))
+    by again true is = rw (test_same, is) (ap (λ (x : SegmentPlace). x.address) same)
+    by again false is = rw (test_same, is) again
+
+first_is : (s : PlacedSegment) (ss : List PlacedSegment) → ((t : PlacedSegment) → Contains ss t → t ≡ s) → Contains ss s
+    → first_placed ss ≡ s.address
+unfolding first_placed
+first_is s [] only one = absurd (in_none s one)
+first_is s (t ∷ ss) only one = ap (λ (x : PlacedSegment). x.address) (only t (at_front t ss))
+
+-- both begin at one base
+pub one_base : (l : Link) (counts : Counts) (b : List ℕ) (p : Placed) → IsPlaced l counts p → SegmentsAgree b p → base_of b ≡ p.base
+unfolding base_of
+one_base l counts b p placed agree =
+    let begins = placed.in_order.begins in
+    let there = in_filter (is_segment_named TEXT) p.segments begins.0 begins.1 begins.2 in
+    let only : (t : PlacedSegment) → Contains (filter (is_segment_named TEXT) p.segments) t → t ≡ begins.0 = λ t h.
+    let r = of_filter (is_segment_named TEXT) p.segments t h in
+    one_of_name l p.segments TEXT t begins.0 placed.in_order.follow r.0 begins.1 r.1 begins.2 in
+    first_named TEXT (segments_of b) p.segments agree ∙ first_is begins.0 (filter (is_segment_named TEXT) p.segments) only there ∙ begins.3
+    ∙ sym placed.base

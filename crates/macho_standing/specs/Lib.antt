@@ -1,0 +1,4 @@
+pub mod Composed
+pub mod Leads
+pub mod Laws
+pub mod Template

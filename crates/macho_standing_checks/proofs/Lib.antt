@@ -1,0 +1,5 @@
+pub mod FactsCall
+pub mod PlacedCall
+pub mod HeadCall
+pub mod FixupsCall
+pub mod ComposedCall

@@ -1,0 +1,11 @@
+pub mod Hulls
+pub mod Places
+pub mod Supporting
+pub mod Listed
+pub mod Pointed
+pub mod Within
+pub mod Judging
+pub mod Looking
+pub mod Walking
+pub mod Overlapping
+pub mod Viewing

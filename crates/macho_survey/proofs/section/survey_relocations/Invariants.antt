@@ -1,0 +1,17 @@
+use Rattle.std.proofs.Common.{◌≡◌, ℕ, List, ◌++◌, take, Contains}
+use Rattle.macho_model.specs.Links.{Input, Link, SectionId, object_of, carried_of}
+use Rattle.macho_model.specs.Needs.{Use, carried_uses}
+use Rattle.macho_symbols.specs.Kept.{Keeps}
+use Rattle.macho_parts.specs.Noted.{BeginsWith}
+use Rattle.macho_survey.specs.steps.Found.{IsSurveyed}
+use Rattle.macho_survey.specs.steps.Sections.{id_of}
+use Rattle.macho_survey.proofs.section.survey_relocations.Given as goal
+
+abbrev pub invariant-loop-index : goal.invariant-loop-index
+invariant-loop-index v =
+    record {
+      surveyed : (l : Link) (ss : List SectionId) (us : List Use) → object_of l v.at.file ≡ v.object.bytes → Contains (carried_of l) (id_of v.at)
+          → BeginsWith l (us ++ carried_uses l (id_of v.at)) → IsSurveyed l ss us v.initial.needs v.initial.findings
+          → IsSurveyed l ss (us ++ take v.index (carried_uses l (id_of v.at))) v.needs v.findings;
+      kept : (inputs : List Input) → Keeps inputs v.initial.needs.resolved.files → Keeps inputs v.needs.resolved.files;
+    }

@@ -1,0 +1,172 @@
+//! What stands against a link, the first of each kind.
+ghost use Rattle.std.specs.Prelude.{◌≡◌, None, IfSome, IfNone};
+ghost use Rattle.macho_model.specs.declared.placed.Counts.{Counts};
+ghost use Rattle.macho_model.specs.Links.{Link};
+ghost use Rattle.macho_faults.specs.Standing.{Stands};
+ghost use Rattle.macho_survey.specs.steps.Found.{first_if, first_of, AreStanding, IsClean};
+
+use macho_faults::LinkError;
+
+/// A relocation: its file, its section and its number in the table.
+#[derive(Clone, Copy)]
+pub(crate) struct Place {
+    pub(crate) file: u32,
+    pub(crate) section: u32,
+    pub(crate) relocation: u32,
+}
+
+/// Two relocations of a section.
+#[derive(Clone, Copy)]
+pub(crate) struct Pair {
+    pub(crate) file: u32,
+    pub(crate) section: u32,
+    pub(crate) first: u32,
+    pub(crate) second: u32,
+}
+
+/// A pointer with its addend.
+#[derive(Clone, Copy)]
+pub(crate) struct Addend {
+    pub(crate) place: Place,
+    pub(crate) addend: u64,
+}
+
+/// The first of each kind that was found.
+#[derive(Clone, Copy)]
+pub(crate) struct Findings {
+    /// A relocation that isn't supported.
+    pub(crate) unsupported: Option<Place>,
+    /// Two that overlap.
+    pub(crate) overlap: Option<Pair>,
+    /// A pointer to an import whose addend doesn't fit.
+    pub(crate) addend: Option<Addend>,
+    /// A pointer that the loader writes in a segment that may hold none.
+    pub(crate) place: Option<Place>,
+}
+
+/// The first one, or another if that is one.
+fn first_if(is: bool, first: Option<Place>, place: Place) -> Option<Place>
+    ensures { result ≡ first_if is first place }
+{
+    if !is {
+        return first;
+    }
+    match first {
+        Some(first) => Some(first),
+        None => Some(place),
+    }
+}
+
+impl Findings {
+    /// Nothing.
+    pub(crate) fn new() -> Findings
+        ensures { result ≡ record { unsupported = None; overlap = None; addend = None; place = None } }
+    {
+        Findings {
+            unsupported: None,
+            overlap: None,
+            addend: None,
+            place: None,
+        }
+    }
+
+    /// With a relocation, if it isn't supported.
+    pub(crate) fn with_unsupported(self, place: Place, is: bool) -> Findings
+        ensures { result ≡ record self { unsupported = first_if is self.unsupported place } }
+    {
+        Findings {
+            unsupported: first_if(is, self.unsupported, place),
+            ..self
+        }
+    }
+
+    /// With two that overlap, if there are such.
+    pub(crate) fn with_overlap(self, pair: Option<Pair>) -> Findings
+        ensures { result ≡ record self { overlap = first_of self.overlap pair } }
+    {
+        Findings {
+            overlap: self.overlap.or(pair),
+            ..self
+        }
+    }
+
+    /// With a pointer whose addend doesn't fit, if there is one.
+    pub(crate) fn with_addend(self, addend: Option<Addend>) -> Findings
+        ensures { result ≡ record self { addend = first_of self.addend addend } }
+    {
+        Findings {
+            addend: self.addend.or(addend),
+            ..self
+        }
+    }
+
+    /// With a pointer, if it is in a segment that may hold none.
+    pub(crate) fn with_place(self, place: Place, is: bool) -> Findings
+        ensures { result ≡ record self { place = first_if is self.place place } }
+    {
+        Findings {
+            place: first_if(is, self.place, place),
+            ..self
+        }
+    }
+
+    /// The least of them as a refusal.
+    pub(crate) fn least(self) -> Option<LinkError>
+        ensures told { (l : Link) (counts : Counts) → AreStanding l self → IfSome result (Stands l counts) }
+        ensures none { IfNone result (IsClean self) }
+    {
+        if let Some(
+            Place {
+                file,
+                section,
+                relocation,
+            },
+        ) = self.unsupported
+        {
+            return Some(LinkError::UnsupportedRelocation {
+                file,
+                section,
+                relocation,
+            });
+        }
+        if let Some(
+            Pair {
+                file,
+                section,
+                first,
+                second,
+            },
+        ) = self.overlap
+        {
+            return Some(LinkError::OverlappingFields {
+                file,
+                section,
+                first,
+                second,
+            });
+        }
+        if let Some(Addend { place, addend }) = self.addend {
+            return Some(LinkError::BindAddend {
+                file: place.file,
+                section: place.section,
+                relocation: place.relocation,
+                addend,
+            });
+        }
+        match self.place {
+            Some(
+                Place {
+                    file,
+                    section,
+                    relocation,
+                },
+            ) => Some(LinkError::FixupPlace {
+                file,
+                section,
+                relocation,
+                placement: None,
+            }),
+            None => None,
+        }
+    }
+}

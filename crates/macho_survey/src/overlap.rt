@@ -1,0 +1,165 @@
+//! Which relocations of a section share a byte. Where their places rise or fall, as compilers list them, each stands outside
+//! what those before it lie in; else a table tells for each byte which relocation has it.
+ghost use Rattle.std.specs.Prelude.{◌≡◌, ℕ, ◌+◌, ◌^◌, ◌<◌, ◌&&◌, ◌||◌, ◌==◌, nat_le, nat_eq, true, false, if◌then◌else◌, IfOk, IfSome};
+ghost use Rattle.std.specs.Bool.{OnTrue};
+ghost use Rattle.indexmap.specs.IndexMap.{get};
+ghost use Rattle.macho_records.specs.Relocations.{BitsFit};
+ghost use Rattle.macho_model.specs.Objects.{section_at, relocation_at};
+ghost use Rattle.macho_survey.specs.steps.Windows.{ends, window_in};
+ghost use Rattle.macho_survey.specs.steps.Overlaps.{field_end, excludes, hull_with, AreApart, IsFoundIn, PutsOrTaken};
+
+use crate::pairs::Seen;
+use indexmap::IndexMap;
+use macho_object::RelocationList;
+use macho_records::RelocationInfo;
+use std::alloc::{AllocError, Global};
+
+/// The places between which some fields lie.
+#[derive(Clone, Copy)]
+pub(crate) struct Hull {
+    /// The first of them.
+    pub(crate) low: u64,
+    /// Behind the last.
+    pub(crate) high: u64,
+}
+
+/// The end of a relocation's field.
+fn field_end(rel: RelocationInfo) -> u64
+    requires { rel.r_length < 4 }
+    ensures end { result ≡ field_end rel }
+    ensures small { result < 2 ^ 33 }
+{
+    u64::from(rel.r_address) + (1 << rel.r_length)
+}
+
+impl Hull {
+    /// That of no fields.
+    const EMPTY: Hull = Hull {
+        low: u64::MAX,
+        high: 0,
+    };
+
+    /// Whether a field stands before or behind.
+    fn excludes(self, rel: RelocationInfo) -> bool
+        requires { rel.r_length < 4 }
+        ensures { result ≡ excludes self rel }
+    {
+        self.high <= u64::from(rel.r_address) || field_end(rel) <= self.low
+    }
+
+    /// That with one field more.
+    fn with(self, rel: RelocationInfo) -> Hull
+        requires { rel.r_length < 4 }
+        ensures { result ≡ hull_with self rel }
+    {
+        Hull {
+            low: self.low.min(u64::from(rel.r_address)),
+            high: self.high.max(field_end(rel)),
+        }
+    }
+
+    /// This one, or another.
+    fn or(self, other: Hull, takes: bool) -> Hull
+        ensures { result ≡ (if takes then other else self) }
+    {
+        if takes { other } else { self }
+    }
+}
+
+/// Whether each field of a section stands outside what those before it lie in, but for the partner of a pair.
+fn are_in_order(list: &RelocationList<'_>) -> bool
+    ensures { OnTrue result (AreApart list.now.bytes list.now.section (section_at list.now.bytes list.now.section).nreloc) }
+{
+    let mut older = Hull::EMPTY;
+    let mut hull = Hull::EMPTY;
+    for index in 0..list.num_relocations() {
+        let seen = Seen::of(list, index);
+        if !hull.or(older, seen.ends_pair()).excludes(seen.this) {
+            return false;
+        }
+        older = hull;
+        hull = hull.with(seen.this);
+    }
+    true
+}
+
+/// Whether an earlier relocation is the one before, as the first of a pair is.
+fn is_partner(earlier: u32, index: u32, paired: bool) -> bool
+    ensures { result ≡ (paired && (earlier + 1 == index)) }
+{
+    match index.checked_sub(1) {
+        Some(last) => paired && earlier == last,
+        None => false,
+    }
+}
+
+/// Puts a byte of a field into the table; the relocation that has it already is told, unless the two are a pair.
+fn put_byte(
+    table: &mut IndexMap<u64, u32>,
+    place: u64,
+    index: u32,
+    paired: bool,
+) -> Result<Option<u32>, AllocError>
+    ensures { IfOk result (PutsOrTaken (λ p. get nat_eq table.old p) (λ p. get nat_eq table.new p) place (place + 1) index paired) }
+{
+    match table.get(&place).copied() {
+        Some(earlier) => {
+            if is_partner(earlier, index, paired) {
+                Ok(None)
+            } else {
+                Ok(Some(earlier))
+            }
+        }
+        None => {
+            table.insert(place, index)?;
+            Ok(None)
+        }
+    }
+}
+
+/// Puts the bytes of a field into the table; an earlier relocation that has one of them is told, unless the two are a pair.
+fn put_field(
+    table: &mut IndexMap<u64, u32>,
+    seen: Seen,
+    index: u32,
+) -> Result<Option<u32>, AllocError>
+    requires { seen.this.r_length < 4 }
+    ensures { IfOk result (PutsOrTaken (λ p. get nat_eq table.old p) (λ p. get nat_eq table.new p) seen.this.r_address (field_end seen.this) index (ends seen)) }
+{
+    let paired = seen.ends_pair();
+    for place in u64::from(seen.this.r_address)..field_end(seen.this) {
+        if let Some(earlier) = put_byte(table, place, index, paired)? {
+            return Ok(Some(earlier));
+        }
+    }
+    Ok(None)
+}
+
+/// The first relocation of a section that shares a byte with an earlier one, and that one, but for pairs; by a table.
+fn overlap_by_table(
+    alloc: Global,
+    list: &RelocationList<'_>,
+) -> Result<Option<(u32, u32)>, AllocError>
+    ensures { IfOk result (IsFoundIn list.now.bytes list.now.section) }
+{
+    let mut table = IndexMap::new(alloc);
+    for index in 0..list.num_relocations() {
+        if let Some(earlier) = put_field(&mut table, Seen::of(list, index), index)? {
+            return Ok(Some((earlier, index)));
+        }
+    }
+    Ok(None)
+}
+
+/// The first relocation of a section that shares a byte with an earlier one, and that one, but for pairs.
+pub(crate) fn first_overlap(
+    alloc: Global,
+    list: &RelocationList<'_>,
+) -> Result<Option<(u32, u32)>, AllocError>
+    ensures { IfOk result (IsFoundIn list.now.bytes list.now.section) }
+{
+    if are_in_order(list) {
+        return Ok(None);
+    }
+    overlap_by_table(alloc, list)
+}

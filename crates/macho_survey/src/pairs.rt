@@ -1,0 +1,141 @@
+//! A relocation beside its neighbours in the table: which two are one field.
+//!
+//!     SUBTRACTOR _start   place 8, 8 bytes     the difference _end - _start
+//!     UNSIGNED   _end     place 8, 8 bytes
+//!     ADDEND     0x10     place 32             a branch to _f + 16
+//!     BRANCH26   _f       place 32
+ghost use Rattle.std.specs.Prelude.{◌≡◌, ◌+◌, ◌-◌, ◌<◌, nat_le, nat_lt, if◌then◌else◌, Some, None};
+ghost use Rattle.macho_records.specs.Relocations.{BitsFit};
+ghost use Rattle.macho_model.specs.Objects.{section_at, relocation_at};
+ghost use Rattle.macho_model.specs.Fields.{takes_addend, is_difference, is_with_addend, is_pair};
+ghost use Rattle.macho_survey.specs.steps.Windows.{window_in, subtracted, with_addend, begins, ends};
+
+use macho_object::RelocationList;
+use macho_records::{
+    ARM64_RELOC_ADDEND, ARM64_RELOC_BRANCH26, ARM64_RELOC_PAGE21, ARM64_RELOC_PAGEOFF12,
+    ARM64_RELOC_SUBTRACTOR, ARM64_RELOC_UNSIGNED, RelocationInfo,
+};
+
+/// A relocation, and those before and behind it in the table.
+#[derive(Clone, Copy)]
+pub(crate) struct Seen {
+    /// The one before it.
+    pub(crate) before: Option<RelocationInfo>,
+    /// The relocation.
+    pub(crate) this: RelocationInfo,
+    /// The one behind it.
+    pub(crate) next: Option<RelocationInfo>,
+}
+
+/// Whether an addend may stand before a relocation of a type.
+fn takes_addend(kind: u8) -> bool
+    ensures { result ≡ takes_addend kind }
+{
+    kind == ARM64_RELOC_BRANCH26 || kind == ARM64_RELOC_PAGE21 || kind == ARM64_RELOC_PAGEOFF12
+}
+
+/// Whether two relocations are a subtrahend and its pointer.
+fn is_difference(first: RelocationInfo, second: RelocationInfo) -> bool
+    ensures { result ≡ is_difference first second }
+{
+    first.r_type == ARM64_RELOC_SUBTRACTOR
+        && second.r_type == ARM64_RELOC_UNSIGNED
+        && first.r_address == second.r_address
+        && first.r_length == second.r_length
+}
+
+/// Whether two relocations are an addend and what takes it.
+fn is_with_addend(first: RelocationInfo, second: RelocationInfo) -> bool
+    ensures { result ≡ is_with_addend first second }
+{
+    first.r_type == ARM64_RELOC_ADDEND
+        && takes_addend(second.r_type)
+        && first.r_address == second.r_address
+}
+
+/// Whether two relocations are one field.
+pub(crate) fn is_pair(first: RelocationInfo, second: RelocationInfo) -> bool
+    ensures { result ≡ is_pair first second }
+{
+    is_difference(first, second) || is_with_addend(first, second)
+}
+
+/// The relocation before one in a table.
+fn before(list: &RelocationList<'_>, index: u32) -> Option<RelocationInfo>
+    requires { index < (section_at list.now.bytes list.now.section).nreloc }
+    ensures { result ≡ (if nat_le 1 index then Some (relocation_at list.now.bytes list.now.section (index - 1)) else None) }
+{
+    if index == 0 {
+        None
+    } else {
+        list.get(index - 1)
+    }
+}
+
+/// The relocation behind one in a table.
+fn behind(list: &RelocationList<'_>, index: u32) -> Option<RelocationInfo>
+    requires { index < (section_at list.now.bytes list.now.section).nreloc }
+    ensures { result ≡ (if nat_lt (index + 1) (section_at list.now.bytes list.now.section).nreloc
+        then Some (relocation_at list.now.bytes list.now.section (index + 1)) else None) }
+{
+    let _count = list.num_relocations();
+    list.get(index + 1)
+}
+
+impl Seen {
+    /// Whether a subtrahend stands before it.
+    pub(crate) fn has_subtrahend(&self) -> bool
+        ensures { result ≡ subtracted self.now }
+    {
+        match self.before {
+            Some(before) => is_difference(before, self.this),
+            None => false,
+        }
+    }
+
+    /// Whether an addend stands before it.
+    pub(crate) fn has_addend(&self) -> bool
+        ensures { result ≡ with_addend self.now }
+    {
+        match self.before {
+            Some(before) => is_with_addend(before, self.this),
+            None => false,
+        }
+    }
+
+    /// Whether it is the first one of a pair.
+    pub(crate) fn begins_pair(&self) -> bool
+        ensures { result ≡ begins self.now }
+    {
+        match self.next {
+            Some(next) => is_pair(self.this, next),
+            None => false,
+        }
+    }
+
+    /// Whether it is the second one of a pair.
+    pub(crate) fn ends_pair(&self) -> bool
+        ensures { result ≡ ends self.now }
+    {
+        match self.before {
+            Some(before) => is_pair(before, self.this),
+            None => false,
+        }
+    }
+
+    /// A relocation of a table, with its neighbours.
+    pub(crate) fn of(list: &RelocationList<'_>, index: u32) -> Seen
+        requires { index < (section_at list.now.bytes list.now.section).nreloc }
+        ensures seen { result ≡ window_in list.now.bytes list.now.section index }
+        ensures bits { BitsFit result.this }
+    {
+        let Some(this) = list.get(index) else {
+            unreachable!()
+        };
+        Seen {
+            before: before(list, index),
+            this,
+            next: behind(list, index),
+        }
+    }
+}

@@ -1,0 +1,64 @@
+//! Names that export lists ask for: each is to be defined, and each that a library defines is an import.
+ghost use Rattle.std.specs.Prelude.{◌≡◌, OnOk, OnErr, IfErr, All, [], ◌∷◌};
+ghost use Rattle.macho_exports.specs.steps.Lists.{texts_of};
+ghost use Rattle.macho_symbols.specs.steps.Solved.{IsSolved, IsUnchanged, HasGrown, HaveNoted, IsMissingIn, noted_of};
+
+use crate::fault::SymbolFault;
+use crate::solved::{Solved, is_import, is_nothing};
+
+impl Solved {
+    /// Notes a name, where a library defines it and it isn't noted yet.
+    fn note_name(&mut self, name: &[u8]) -> Result<(), SymbolFault>
+        requires { IsSolved self.old }
+        ensures noted { OnOk result (HaveNoted self.old self.new (name.now ∷ [])) }
+        ensures kept { OnErr result (IsUnchanged self.old self.new) }
+        ensures why { IfErr result (IsMissingIn self.old.files.items (name.now ∷ [])) }
+    {
+        let alloc = *self.imports.allocator();
+        let target = self.named(name);
+        if is_nothing(target) {
+            return Err(SymbolFault::ExportListMissing {
+                name: Vec::from_slice(alloc, name)?,
+            });
+        }
+        if !is_import(target, self.imports.len()) {
+            return Ok(());
+        }
+        if let Err(fault) = self.note(Vec::from_slice(alloc, name)?) {
+            return Err(fault);
+        }
+        Ok(())
+    }
+
+    /// Notes names, up to the first that can't be noted.
+    fn note_each(&mut self, names: &[Vec<u8>]) -> Result<(), SymbolFault>
+        requires { IsSolved self.old }
+        ensures noted { OnOk result (HaveNoted self.old self.new (texts_of names.now)) }
+        ensures grown { OnErr result (HasGrown self.old self.new) }
+        ensures why { IfErr result (IsMissingIn self.old.files.items (texts_of names.now)) }
+    {
+        for name in names {
+            if let Err(fault) = self.note_name(name) {
+                return Err(fault);
+            }
+        }
+        Ok(())
+    }
+
+    /// Notes names, all or none.
+    pub(crate) fn note_names(&mut self, names: &[Vec<u8>]) -> Result<(), SymbolFault>
+        requires { IsSolved self.old }
+        ensures noted { OnOk result (HaveNoted self.old self.new (texts_of names.now)) }
+        ensures kept { OnErr result (IsUnchanged self.old self.new) }
+        ensures why { IfErr result (IsMissingIn self.old.files.items (texts_of names.now)) }
+    {
+        let count = self.imports.len();
+        let numbers = Vec::from_slice(*self.numbers.allocator(), &self.numbers)?;
+        if let Err(fault) = self.note_each(names) {
+            self.imports.truncate(count);
+            self.numbers = numbers;
+            return Err(fault);
+        }
+        Ok(())
+    }
+}

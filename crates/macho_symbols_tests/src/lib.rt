@@ -1,0 +1,8 @@
+//! Tests of symbols and of export lists: small objects written out, and what their symbols lead to.
+#![tactic(auto)]
+
+#[cfg(test)]
+mod lists;
+pub mod objects;
+#[cfg(test)]
+mod resolution;
