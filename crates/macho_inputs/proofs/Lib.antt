@@ -1,0 +1,4 @@
+pub mod Known
+pub mod Growing
+pub mod Naming
+pub mod Duplicates
