@@ -1,0 +1,25 @@
+use Rattle.std.proofs.Common.{ap, subst, refl, Option}
+use Rattle.std.specs.Option.{option_copied}
+use Rattle.macho_exports.specs.Entries.{ListEntries}
+use Rattle.macho_symbols.specs.Exported.{AreLists}
+use Rattle.macho_symbols.specs.Told.{noting_names}
+use Rattle.macho_parts.specs.Noted.{imports_in}
+use Rattle.macho_reading.specs.steps.Steps.{uses_before_names}
+use Rattle.macho_reading.proofs.Named.{list_noted, none_noted, files_stay}
+use Rattle.macho_reading.proofs.names.note_list.Goals as goal
+
+pub returns-in_default-clause-noted : goal.returns-in_default-clause-noted
+returns-in_default-clause-noted c l noted lists =
+    none_noted l c.args.needs.now
+    (subst (λ (o : Option ListEntries). AreLists l o) (ap option_copied c.in_default.is) lists) noted
+
+pub returns-in-Ok-clause-noted : goal.returns-in-Ok-clause-noted
+returns-in-Ok-clause-noted c l noted lists =
+    let of = subst (λ (o : Option ListEntries). AreLists l o) (ap option_copied c.in-Some.is) lists in
+    list_noted l c.in-Some.list.now.plain c.args.needs.now (record { resolved = c.note_exports.new.self; tables = c.args.needs.now.tables })
+    of.1.plain refl noted (c.in-Ok.ensures.noted l (imports_in l (uses_before_names l)) noted.imports)
+
+pub returns-in-Ok-clause-kept : goal.returns-in-Ok-clause-kept
+returns-in-Ok-clause-kept c inputs keeps =
+    files_stay c.note_exports.result inputs c.args.needs.now.resolved c.note_exports.new.self (λ l noted. noting_names l noted c.in-Some.list.now.plain)
+    keeps c.note_exports.ensures.noted c.note_exports.ensures.kept

@@ -1,0 +1,165 @@
+//! The reading of a link.
+ghost use Rattle.std.specs.Prelude.{◌≡◌, ◌^◌, ◌<◌, ◌⊎◌, true, List, length, Option, Some, None, Ok, Err, IfOk, IfErr, OnOk};
+ghost use Rattle.std.specs.Option.{option_copied};
+ghost use Rattle.macho_model.specs.declared.placed.Counts.{Counts};
+ghost use Rattle.macho_model.specs.Links.{Input, Link};
+ghost use Rattle.macho_model.specs.Needs.{uses_of};
+ghost use Rattle.macho_model.specs.Faults.{entry_is_defined};
+ghost use Rattle.macho_object.specs.Views.{FileBytes};
+ghost use Rattle.macho_symbols.specs.Kept.{Keeps};
+ghost use Rattle.macho_symbols.specs.Exported.{AreLists};
+ghost use Rattle.macho_faults.specs.Standing.{Stands};
+ghost use Rattle.macho_survey.specs.Surveys.{AreOfInputs};
+ghost use Rattle.macho_parts.specs.Sound.{IsSound};
+ghost use Rattle.macho_needs.specs.Noted.{IsNoted};
+ghost use Rattle.macho_reading.specs.Read.{IsLinkOf, IsReadOf, AreKnown};
+ghost use Rattle.macho_reading.specs.steps.Rows.{AreUsable, AreOfSome};
+ghost use Rattle.macho_reading.specs.steps.Steps.{IsSurveyed, IsHalfRead, IsNotedWith};
+
+use crate::link::ReadLink;
+use crate::names::{find_entry, note_list};
+use crate::noting::{begun, use_rows};
+use crate::refusal::refusal;
+use crate::rows::{Rows, read_rows};
+use macho_faults::LinkError;
+use macho_needs::Needs;
+use macho_object::File;
+use macho_survey::survey;
+use macho_symbols::{ExportList, Resolved};
+use std::alloc::Global;
+
+/// Notes what stands behind carried relocations: initializers, personality functions and names of export lists. The entry is
+/// looked for before those names.
+fn note_rest(
+    alloc: Global,
+    needs: &mut Needs,
+    rows: &Rows,
+    entry: Option<&[u8]>,
+    list: Option<&ExportList>,
+) -> Result<(), LinkError>
+    requires held { AreOfSome needs.old.resolved.files }
+    requires usable { AreUsable needs.old.resolved rows.now }
+    ensures noted { (l : Link) → IsHalfRead l needs.old rows.now (option_copied entry.entry) (option_copied list.entry)
+        → OnOk result (IsNoted l (uses_of l) needs.new) }
+    ensures found { (l : Link) → IsHalfRead l needs.old rows.now (option_copied entry.entry) (option_copied list.entry)
+        → OnOk result (entry_is_defined l ≡ true) }
+    ensures why { (l : Link) (counts : Counts) → IsHalfRead l needs.old rows.now (option_copied entry.entry) (option_copied list.entry)
+        → IfErr result (Stands l counts) }
+    ensures kept { (inputs : List Input) → Keeps inputs needs.old.resolved.files → Keeps inputs needs.new.resolved.files }
+{
+    match use_rows(needs, rows) {
+        Ok(()) => {}
+        Err(error) => return Err(error),
+    }
+    match find_entry(alloc, &needs.resolved, entry) {
+        Ok(()) => {}
+        Err(error) => return Err(error),
+    }
+    note_list(needs, list)
+}
+
+/// Reads and notes what stands behind carried relocations.
+fn read_behind(
+    alloc: Global,
+    needs: &mut Needs,
+    views: &[Option<File<'_>>],
+    entry: Option<&[u8]>,
+    list: Option<&ExportList>,
+) -> Result<Rows, LinkError>
+    requires few { length views.now < 2 ^ 32 }
+    requires same { AreOfInputs views.now needs.old.resolved.files }
+    ensures done { (l : Link) → IsSurveyed l views.now needs.old (option_copied entry.entry) (option_copied list.entry)
+        → IfOk result (IsNotedWith l needs.new) }
+    ensures usable { IfOk result (AreUsable needs.new.resolved) }
+    ensures why { (l : Link) (counts : Counts) → IsSurveyed l views.now needs.old (option_copied entry.entry) (option_copied list.entry)
+        → IfErr result (Stands l counts) }
+    ensures kept { (inputs : List Input) → Keeps inputs needs.old.resolved.files → Keeps inputs needs.new.resolved.files }
+{
+    let rows = match read_rows(alloc, views, &needs.resolved) {
+        Ok(rows) => rows,
+        Err(fault) => return Err(refusal(alloc, needs, entry, list, fault)),
+    };
+    match note_rest(alloc, needs, &rows, entry, list) {
+        Ok(()) => Ok(rows),
+        Err(error) => Err(error),
+    }
+}
+
+/// The rows, where nothing stands against the link. A refusal that they were read with goes before one that is told of carried
+/// relocations.
+fn unless_told(read: Result<Rows, LinkError>, told: Option<LinkError>) -> Result<Rows, LinkError>
+    ensures ok { IfOk result (λ rows. (read ≡ Ok rows) × (told ≡ None)) }
+    ensures why { IfErr result (λ error. (read ≡ Err error) ⊎ (told ≡ Some error)) }
+{
+    match read {
+        Ok(rows) => match told {
+            Some(error) => Err(error),
+            None => Ok(rows),
+        },
+        Err(error) => Err(error),
+    }
+}
+
+/// All that was read, with the exports.
+fn with_exports(
+    alloc: Global,
+    needs: Needs,
+    rows: Rows,
+    list: Option<&ExportList>,
+) -> Result<ReadLink, LinkError>
+    ensures done { (l : Link) → IsNotedWith l needs rows → IsSound l → AreLists l (option_copied list.entry) → IfOk result (IsReadOf l) }
+    ensures known { (views : List (Option FileBytes)) → AreOfInputs views needs.resolved.files → AreUsable needs.resolved rows
+        → IfOk result (AreKnown views) }
+    ensures why { (l : Link) (counts : Counts) → IsNotedWith l needs rows → AreLists l (option_copied list.entry)
+        → IfErr result (Stands l counts) }
+{
+    match needs.resolved.exports(alloc, list) {
+        Ok(exports) => Ok(ReadLink {
+            needs,
+            initializers: rows.initializers,
+            entries: rows.entries,
+            exports,
+        }),
+        Err(fault) => Err(LinkError::from(fault)),
+    }
+}
+
+/// Reads all that the objects of a link ask for. `views` are views of its objects by the numbers of their files, None for another
+/// input; `entry` is the name at which an executable begins, None for a dynamic library; `list` holds the export lists, if there
+/// are any.
+///
+/// # Errors
+///
+/// A name that is used, entered at or listed has no definition, a section of initializers or of unwind entries breaks its rules,
+/// a relocation is not supported, two overlap, an addend doesn't fit, a pointer stands where none may, or there is not enough memory.
+/// Of several refusals that is told which stands first in `LinkError`, except that the names of broken sections are passed over.
+pub fn read_link(
+    alloc: Global,
+    resolved: Resolved,
+    views: &[Option<File<'_>>],
+    entry: Option<&[u8]>,
+    list: Option<&ExportList>,
+) -> Result<ReadLink, LinkError>
+    requires few { length views.now < 2 ^ 32 }
+    requires same { AreOfInputs views.now resolved.files }
+
+    // What is read is what the objects ask for, and nothing of it stands against the link.
+    ensures done { (l : Link) → IsLinkOf l views.now resolved (option_copied entry.entry) (option_copied list.entry)
+        → IfOk result (IsReadOf l) }
+
+    // The symbols that it names are there.
+    ensures known { IfOk result (AreKnown views.now) }
+    ensures why { (l : Link) (counts : Counts) → IsLinkOf l views.now resolved (option_copied entry.entry) (option_copied list.entry)
+        → IfErr result (Stands l counts) }
+{
+    let mut needs = begun(alloc, resolved);
+    let told = match survey(alloc, &mut needs, views) {
+        Ok(told) => told,
+        Err(error) => return Err(error),
+    };
+    let read = read_behind(alloc, &mut needs, views, entry, list);
+    match unless_told(read, told) {
+        Ok(rows) => with_exports(alloc, needs, rows, list),
+        Err(error) => Err(error),
+    }
+}
