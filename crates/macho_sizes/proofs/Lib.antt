@@ -1,0 +1,4 @@
+pub mod Rising
+pub mod Trees
+pub mod Texts
+pub mod One
