@@ -1,0 +1,9 @@
+pub mod Adding
+pub mod Larger
+pub mod Placements
+pub mod Spans
+pub mod PersonalityRows
+pub mod Totals
+pub mod PlanOf
+pub mod Refusals
+pub mod Answered

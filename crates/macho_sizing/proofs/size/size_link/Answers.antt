@@ -1,0 +1,20 @@
+-- The link of the arguments has the plan, the imports and the room that were found; where no room is told, its content is too large.
+use Rattle.std.proofs.Common.{ℕ, subst}
+use Rattle.std.specs.Prelude.{Option}
+use Rattle.macho_model.specs.Needs.{imports_of}
+use Rattle.macho_sizing.specs.steps.Rooms.{TellsRoom}
+use Rattle.macho_sizing.proofs.Answered.{content_large}
+use Rattle.macho_sizing.proofs.size.size_link.Goals as goal
+
+pub returns-in-Some-clause-why : goal.returns-in-Some-clause-why
+returns-in-Some-clause-why c l counts of_link lists are =
+    let plan = c.in_ok-plan.ensures l of_link.arguments.executable of_link.inputs.views of_link.read.needs of_link.read.resolved in
+    let imports = c.imports-imports.ensures l (imports_of l) of_link.read.resolved in
+    let room = subst (λ (o : Option ℕ). TellsRoom l o) c.in-Some.is (c.in_ok-unwind.ensures l of_link) in
+    c.size_within.ensures.why l counts of_link plan imports room are
+
+pub returns-clause-why : goal.returns-clause-why
+returns-clause-why c l counts of_link lists are =
+    let plan = c.in_ok-plan.ensures l of_link.arguments.executable of_link.inputs.views of_link.read.needs of_link.read.resolved in
+    let room = subst (λ (o : Option ℕ). TellsRoom l o) c.in-None.is (c.in_ok-unwind.ensures l of_link) in
+    c.too_large.ensures l counts of_link plan are (content_large l counts are room)

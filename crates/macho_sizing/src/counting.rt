@@ -1,0 +1,102 @@
+//! The counts of a link, from what was counted, listed and reserved of it.
+ghost use Rattle.std.specs.Prelude.{◌≡◌, ◌<◌, ◌^◌, true, length, map, All, IfOk, OnOk};
+ghost use Rattle.macho_model.specs.Links.{Link};
+ghost use Rattle.macho_model.specs.Needs.{imports_of};
+ghost use Rattle.macho_promise.specs.Sizes.{counts_with, unwind_size};
+ghost use Rattle.macho_symbols.specs.Told.{ImportsAre};
+ghost use Rattle.macho_linkedit.specs.Counting.{IsPath};
+ghost use Rattle.macho_linkedit.specs.Imports.{texts};
+ghost use Rattle.macho_linkedit.specs.Listing.{AreListed};
+ghost use Rattle.macho_sizing.specs.Asked.{AreOf};
+ghost use Rattle.macho_sizing.specs.steps.Passing.{AreCounted, AreWithin};
+
+use crate::asked::SizesOf;
+use crate::numbers::Numbers;
+use macho_linkedit::{SizesAsked, TableSymbol, TableSymbols, count};
+use macho_model::Counts;
+use macho_symbols::Import;
+use std::alloc::{AllocError, Global};
+
+/// A path of so many bytes is told by no load command.
+const PATH_LIMIT: usize = 1 << 32;
+/// So many paths are told by no load commands.
+const PATHS_LIMIT: usize = 1 << 28;
+/// A name of so many bytes has no room.
+const NAME_LIMIT: usize = 1 << 63;
+
+/// Texts, each as a slice.
+fn slices<'a>(alloc: Global, names: &'a [Vec<u8>]) -> Result<Vec<&'a [u8]>, AllocError>
+    ensures { IfOk result (λ v. texts v.items ≡ map (λ t. t.items) names.now) }
+{
+    let mut slices: Vec<&[u8]> = Vec::with_capacity(alloc, names.len())?;
+    for name in names {
+        slices.push(name.as_slice())?;
+    }
+    Ok(slices)
+}
+
+/// Looks whether load commands can tell of some paths. Commands of 4 GiB would take more memory than there is.
+fn check_paths(paths: &[&[u8]]) -> Result<(), AllocError>
+    ensures short { OnOk result (All IsPath paths.now) }
+    ensures few { OnOk result (length paths.now < 2 ^ 28) }
+{
+    if paths.len() >= PATHS_LIMIT {
+        return Err(AllocError);
+    }
+    for path in paths {
+        if path.len() >= PATH_LIMIT {
+            return Err(AllocError);
+        }
+    }
+    Ok(())
+}
+
+/// Looks whether the names of a link itself have room. Names of 4 GiB would take more memory than there is.
+fn check_names(install_name: &[u8], name: &[u8]) -> Result<(), AllocError>
+    ensures path { OnOk result (length install_name.now < 2 ^ 32) }
+    ensures name { OnOk result (length name.now < 2 ^ 63) }
+{
+    if install_name.len() >= PATH_LIMIT || name.len() >= NAME_LIMIT {
+        return Err(AllocError);
+    }
+    Ok(())
+}
+
+/// The counts of a link.
+pub(crate) fn count_sizes(
+    alloc: Global,
+    asked: &SizesOf<'_>,
+    imports: &[Import],
+    numbers: &Numbers,
+    unwind: u64,
+    trie: u64,
+    symbols: &TableSymbols,
+) -> Result<Counts, AllocError>
+    requires counted { AreCounted asked.now imports.now numbers.now }
+    requires within { AreWithin numbers.now }
+    ensures { (l : Link) → AreOf l asked.now → ImportsAre l (imports_of l) imports.now → unwind ≡ unwind_size l → AreListed l symbols.now
+        → IfOk result (λ c. c ≡ counts_with l trie) }
+{
+    let libraries = slices(alloc, asked.libraries)?;
+    let rpaths = slices(alloc, asked.rpaths)?;
+    check_paths(&libraries)?;
+    check_paths(&rpaths)?;
+    check_names(asked.install_name, asked.name)?;
+    let listed: &[TableSymbol] = &symbols.symbols;
+    Ok(count(&SizesAsked {
+        executable: asked.executable,
+        install_name: asked.install_name,
+        has_versions: asked.has_versions,
+        libraries: &libraries,
+        rpaths: &rpaths,
+        headerpad: asked.headerpad,
+        imports,
+        own_entries: asked.needs.tables.num_own() as u64,
+        name: asked.name,
+        initializers: asked.initializers.len() as u64,
+        unwind,
+        trie,
+        symbols: listed.len() as u64,
+        strings: symbols.strings,
+    }))
+}

@@ -1,0 +1,22 @@
+//! Sizes and placement of a link: what is planned, how large each part is, whether the format takes so much, and where each
+//! part stands.
+//!
+//!     sections, commons, slots, stubs   -> plan
+//!     numbers of things                 -> limits
+//!     bytes of tables                   -> counts
+//!     plan, counts                      -> placement
+#![tactic(auto)]
+
+mod asked;
+mod counting;
+mod numbers;
+mod personalities;
+mod placing;
+mod plan;
+mod refusing;
+mod size;
+mod span;
+mod unwind;
+
+pub use asked::{SizedLink, SizesOf};
+pub use size::size_link;

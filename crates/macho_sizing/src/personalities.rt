@@ -1,0 +1,66 @@
+//! The personality functions of a link, each counted once.
+ghost use Rattle.std.specs.Prelude.{◌≡◌, List, length, map, All, IfOk, OnOk};
+ghost use Rattle.std.specs.List.{filter_map};
+ghost use Rattle.macho_model.specs.Links.{Link};
+ghost use Rattle.macho_model.specs.Needs.{imports_of, distinct};
+ghost use Rattle.macho_model.specs.Targets.{same_target};
+ghost use Rattle.macho_symbols.specs.Kept.{IsResolved};
+ghost use Rattle.macho_needs.specs.Tables.{target_of, with_some};
+ghost use Rattle.macho_sizing.specs.Asked.{IsKnownIn};
+ghost use Rattle.macho_sizing.specs.steps.Personalities.{personality_of};
+
+use indexmap::IndexSet;
+use macho_consumed::UnwindEntry;
+use macho_model::Target;
+use macho_needs::{Needs, SlotKey};
+use std::alloc::{AllocError, Global};
+
+/// What a target is told apart by.
+fn key(target: Target) -> SlotKey
+    ensures { target_of result ≡ target }
+{
+    match target {
+        Target::Section {
+            file,
+            section,
+            offset,
+        } => SlotKey::Section(file, section, offset),
+        Target::Common { id } => SlotKey::Common(id),
+        Target::Import { id } => SlotKey::Import(id),
+        Target::Base => SlotKey::Base,
+        Target::Absolute { value } => SlotKey::Absolute(value),
+        Target::None => SlotKey::Nothing,
+    }
+}
+
+/// Notes the personality function of an entry, if it has one.
+fn note(needs: &Needs, entry: UnwindEntry, seen: &mut IndexSet<SlotKey>) -> Result<(), AllocError>
+    requires { IsKnownIn needs.now entry }
+    ensures { (l : Link) → IsResolved l (imports_of l) needs.now.resolved
+        → OnOk result (map target_of seen.new.keys ≡ with_some same_target (map target_of seen.old.keys) (personality_of l entry)) }
+{
+    if let Some(used) = entry.personality {
+        let target = needs
+            .resolved
+            .target(entry.file, used.relocation.r_symbolnum);
+        seen.insert(key(target))?;
+    }
+    Ok(())
+}
+
+/// How many personality functions entries name.
+pub(crate) fn count_personalities(
+    alloc: Global,
+    needs: &Needs,
+    entries: &[UnwindEntry],
+) -> Result<usize, AllocError>
+    requires { All (IsKnownIn needs.now) entries.now }
+    ensures { (l : Link) → IsResolved l (imports_of l) needs.now.resolved
+        → IfOk result (λ n. n ≡ length (distinct same_target (filter_map (personality_of l) entries.now))) }
+{
+    let mut seen = IndexSet::new(alloc);
+    for entry in entries {
+        note(needs, *entry, &mut seen)?;
+    }
+    Ok(seen.len())
+}
