@@ -1,0 +1,16 @@
+-- The address of a slot: that of its number.
+use Rattle.std.proofs.Common.{ap, map, ◌∙◌}
+use Rattle.macho_model.specs.Targets.{same_target}
+use Rattle.macho_needs.specs.Tables.{number_of}
+use Rattle.macho_places.specs.Places.{Known}
+use Rattle.macho_places.specs.steps.Looked.{look_of, numbered}
+use Rattle.macho_places.proofs.lookups.LinkPlacesPlaces.slot.Goals as goal
+
+pub returns : goal.returns
+unfolding look_of
+returns c =
+    c.slot_at.ensures
+    ∙ ap (λ xs. numbered (map (λ s. s.address) xs) c.slot_number.result) c.deref.ensures.value
+    ∙ ap (numbered (map (λ s. s.address) c.self.inside.placement.now.slots.items)) c.slot_number.ensures
+    ∙ ap (λ (k : Known). numbered (map (λ s. s.address) k.placed.slots)
+    (number_of same_target k.tables.slots c.args.target)) c.self.view_is
