@@ -1,0 +1,25 @@
+-- Slots, sections and stubs, one after the other.
+use Rattle.macho_layout.specs.Placements.{placed_of}
+use Rattle.macho_filling.proofs.Viewing.{on_ok_one, on_ok_always}
+use Rattle.macho_filling.proofs.Firsts.{asked_joined}
+use Rattle.macho_filling.proofs.NoneBad.{none_is_bad}
+use Rattle.macho_filling.proofs.contents.fill_contents.Goals as goal
+
+pub returns-clause-asked : goal.returns-clause-asked
+returns-clause-asked g c l all =
+    let p = placed_of c.args.placement.now in
+    on_ok_always c.set_stubs.result
+    (asked_joined l p c.deref.result.now c.args.run.now.items c.slot_fixups.new.run.items c.fill_sections.new.run.items
+    c.deref.ensures.value
+    (c.in_default.ensures.done l p all.sections.tells c.deref.ensures.value) (c.in_default-fill_sections.ensures.asked l all.sections))
+
+pub returns-clause-only : goal.returns-clause-only
+returns-clause-only g c l all =
+    let p = placed_of c.args.placement.now in
+    on_ok_one c.set_stubs.result
+    (none_is_bad l p all.sections.listed (c.in_default.ensures.only l p all.sections.tells all.slots c.deref.ensures.value)
+    (c.in_default-fill_sections.ensures.only l all.sections))
+    (c.set_stubs.ensures.only l all.sections.tells.addresses all.stubs)
+
+pub returns-clause-why : goal.returns-clause-why
+returns-clause-why g c l all = c.set_stubs.ensures.why l all.sections.tells.addresses all.stubs

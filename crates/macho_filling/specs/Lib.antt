@@ -1,0 +1,4 @@
+pub mod Fitting
+pub mod Filled
+pub mod Laws
+pub mod steps
