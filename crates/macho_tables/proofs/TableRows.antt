@@ -1,0 +1,226 @@
+-- The rows of the symbol table.
+--
+-- A symbol of the table is defined: it stands in a carried section, has a value of its own, or is a common. A global one is the definition
+-- of its name. So what it leads to is what it leads to by itself; its section and its address are told.
+use Rattle.std.proofs.Common.{◌≡◌, ℕ, ◌<◌, ◌≤◌, ◌==◌, ◌&&◌, ◌||◌, not, Bool, true, false, List, [], ◌∷◌, length, refl, sym, ap, subst, ◌∙◌, arith, Contains, eqb-true}
+use Rattle.std.specs.Prelude.{if◌then◌else◌, nat_lt, Option, Some, None}
+use Rattle.std.proofs.lemmas.Bool.{and_parts, lt-ltb, true≢false}
+use Rattle.macho_records.specs.declared.symbols.SymtabEntry.{SymtabEntry}
+use Rattle.macho_records.specs.declared.constants.TheConstants.{N_ABS, N_SECT, N_UNDF}
+use Rattle.macho_records.specs.Symbols.{is_common_of, is_stab_of, is_external_of, is_undefined_of, is_absolute_of, is_defined_of, symbol_type_of, is_default_strippable_of}
+use Rattle.macho_model.specs.declared.placed.Counts.{Counts}
+use Rattle.macho_model.specs.declared.targets.Target.{Target}
+use Rattle.macho_model.specs.declared.targets.Target.TheVariants as target
+use Rattle.macho_model.specs.Symbols.{is_absolute, is_global, is_local, is_in_section}
+use Rattle.macho_model.specs.Objects.{num_symbols, num_sections, section_at}
+use Rattle.macho_model.specs.Links.{Link, SectionId, object_of, header_at, sections_of, carried_of, is_carried}
+use Rattle.macho_model.specs.Needs.{imports_of}
+use Rattle.macho_model.specs.Resolution.{SymbolId, Definition, Symbol, Library, ImageBase, entry_at, name_at, symbols_of, stands_in_carried, section_of_symbol, is_symbol, defines, is_chosen, chosen_commons, definition_of}
+use Rattle.macho_model.specs.Targets.{own_target, target_of, target_with, definition_target}
+use Rattle.macho_model.specs.Segments.{key_of, common_key}
+use Rattle.macho_model.specs.SymbolTable.{is_named_definition, is_in_table, table_symbols}
+use Rattle.macho_model.specs.SymbolRows.{section_number, section_of_row}
+use Rattle.macho_model.specs.Placement.{Placed}
+use Rattle.macho_placing.specs.Laws.{IsWhollyPlaced}
+use Rattle.macho_lists.proofs.Members.{contains_filter, filter_contains, nil_contains}
+use Rattle.macho_object.specs.Views.{FileBytes, section_index_of}
+use Rattle.macho_symbols.specs.Kept.{symbol_id}
+use Rattle.macho_targets.specs.Laws.{ObjectsAreRead}
+use Rattle.macho_targets.proofs.OfLink.{symbol_of, section_of, carried_symbol}
+use Rattle.macho_tables.specs.steps.Sections.{symbol_header, header_with, number_with, number_told, section_told}
+use Rattle.macho_tables.proofs.Numbers.{section_agrees, commons_agree}
+
+-- What is known of a symbol of the table.
+pub record IsInTable (l : Link) (s : SymbolId) : Type 0 where
+  pub there : Contains (symbols_of l) s
+  pub defined : (stands_in_carried l s || is_absolute (entry_at l s) || is_common_of (entry_at l s)) ≡ true
+  pub own : is_global (entry_at l s) ≡ true → defines l s ≡ true
+
+pub in_table : (l : Link) (s : SymbolId) → Contains (table_symbols l) s → IsInTable l s
+unfolding table_symbols
+in_table l s listed =
+    let f = filter_contains (is_in_table l) (symbols_of l) s listed in
+    let both = and_parts (is_named_definition l s)
+    (if is_global (entry_at l s) then defines l s else not (is_default_strippable_of (entry_at l s) (name_at l s))) f.1 in
+    record {
+      there = f.0;
+      defined = (and_parts (not ((entry_at l s).n_strx == 0)) _ both.0).1;
+      own = λ global. by (is_global (entry_at l s)) (defines l s) (not (is_default_strippable_of (entry_at l s) (name_at l s))) global both.1;
+    }
+  where
+    by : (g d other : Bool) → g ≡ true → (if g then d else other) ≡ true → d ≡ true
+    by true d other e h = h
+    by false d other e h = absurd (true≢false (sym e))
+
+-- a common is seen by others, and is no debugging entry
+common_parts : (e : SymtabEntry) → is_common_of e ≡ true → (is_stab_of e ≡ false) × (is_global e ≡ true)
+common_parts e is =
+    let one = and_parts (is_undefined_of e && is_external_of e) (not (e.n_value == 0)) is in
+    let two = and_parts (is_undefined_of e) (is_external_of e) one.0 in
+    let three = and_parts (not (is_stab_of e)) (symbol_type_of e == N_UNDF) two.0 in
+    (not_true (is_stab_of e) three.0, both (not (is_stab_of e)) (is_external_of e) three.0 two.1)
+  where
+    not_true : (b : Bool) → not b ≡ true → b ≡ false
+    not_true true e = absurd (true≢false (sym e))
+    not_true false e = refl
+
+    both : (a b : Bool) → a ≡ true → b ≡ true → (a && b) ≡ true
+    both a b e f = rw (e, f) refl
+
+-- no symbol of the table is a debugging entry
+pub no_stab : (l : Link) (s : SymbolId) → IsInTable l s → is_stab_of (entry_at l s) ≡ false
+no_stab l s in_it =
+    by (is_stab_of (entry_at l s)) (is_defined_of (entry_at l s)) (is_carried (header_at l (section_of_symbol l s)))
+    (is_absolute_of (entry_at l s)) (is_common_of (entry_at l s)) (λ common. (common_parts (entry_at l s) common).0) in_it.defined
+  where
+    by : (stab d c a k : Bool) → (k ≡ true → stab ≡ false) → (((not stab && d) && c) || (not stab && a) || k) ≡ true → stab ≡ false
+    by false d c a k common h = refl
+    by true d c a k common h = common h
+
+-- what it leads to is what it leads to by itself
+pub own_is : (l : Link) (s : SymbolId) → IsInTable l s → target_of l s ≡ own_target l s
+unfolding target_of
+own_is l s in_it = by (is_global (entry_at l s)) refl
+  where
+    first : (b : Bool) (x y : Target) → b ≡ true → (if b then x else y) ≡ x
+    first b x y e = rw e refl
+
+    second : (b : Bool) (x y : Target) → b ≡ false → (if b then x else y) ≡ y
+    second b x y e = rw e refl
+
+    defined_target : (d : Option Definition) → is_symbol s d ≡ true → definition_target l (imports_of l) (name_at l s) d ≡ own_target l s
+    defined_target None is = absurd (true≢false (sym is))
+    defined_target (Some (Symbol t)) is =
+        let both = and_parts (s.file == t.file) (s.symbol == t.symbol) is in
+        ap (λ (n : ℕ). own_target l (symbol_id n t.symbol)) (sym (eqb-true s.file t.file both.0))
+        ∙ ap (λ (n : ℕ). own_target l (symbol_id s.file n)) (sym (eqb-true s.symbol t.symbol both.1))
+    defined_target (Some (Library file)) is = absurd (true≢false (sym is))
+    defined_target (Some ImageBase) is = absurd (true≢false (sym is))
+
+    local : (stab ext car abs joint : Bool) → stab ≡ false → (not stab && ext) ≡ false → (joint ≡ true → (not stab && ext) ≡ true)
+        → (car || abs || joint) ≡ true
+        → ((not stab && not ext) && (car || abs)) ≡ true
+    local true ext car abs joint e g k h = absurd (true≢false e)
+    local false true car abs joint e g k h = absurd (true≢false g)
+    local false false true abs joint e g k h = refl
+    local false false false true joint e g k h = refl
+    local false false false false true e g k h = k refl
+    local false false false false false e g k h = h
+
+    by : (g : Bool) → is_global (entry_at l s) ≡ g → target_with l (imports_of l) s ≡ own_target l s
+    by true e =
+        first (is_global (entry_at l s)) _ _ e
+        ∙ defined_target (definition_of l (name_at l s))
+        (and_parts (is_global (entry_at l s)) (is_symbol s (definition_of l (name_at l s))) (in_it.own e)).1
+    by false e =
+        second (is_global (entry_at l s)) _ _ e
+        ∙ first (is_local (entry_at l s) && (stands_in_carried l s || is_absolute (entry_at l s))) (own_target l s) target.None
+        (local (is_stab_of (entry_at l s)) (is_external_of (entry_at l s)) (stands_in_carried l s) (is_absolute (entry_at l s))
+        (is_common_of (entry_at l s)) (no_stab l s in_it) e (λ common. (common_parts (entry_at l s) common).1) in_it.defined)
+
+-- a common of the table is chosen
+common_chosen : (l : Link) (s : SymbolId) → IsInTable l s → is_common_of (entry_at l s) ≡ true → 1 ≤ length (chosen_commons l)
+unfolding chosen_commons
+common_chosen l s in_it common =
+    some (filter_of) (contains_filter (is_chosen l) (symbols_of l) s in_it.there
+    (both (is_common_of (entry_at l s)) (defines l s) common (in_it.own (common_parts (entry_at l s) common).1)))
+  where
+    filter_of : List SymbolId
+    filter_of = chosen_commons l
+
+    both : (a b : Bool) → a ≡ true → b ≡ true → (a && b) ≡ true
+    both a b e f = rw (e, f) refl
+
+    some : (xs : List SymbolId) → Contains xs s → 1 ≤ length xs
+    some [] has = absurd (nil_contains s has)
+    some (x ∷ xs) has = omega arith
+
+-- a value of its own is in no section
+absolute_apart : (e : SymtabEntry) → is_absolute e ≡ true → is_in_section e ≡ false
+absolute_apart e is =
+    let both = and_parts (not (is_stab_of e)) (symbol_type_of e == N_ABS) is in
+    let type : symbol_type_of e ≡ N_ABS = eqb-true (symbol_type_of e) N_ABS both.1 in
+    by (not (is_stab_of e)) (symbol_type_of e == N_SECT) (ap (λ (n : ℕ). n == N_SECT) type)
+  where
+    by : (a b : Bool) → b ≡ false → (a && b) ≡ false
+    by true b e = e
+    by false b e = refl
+
+-- a carried section is one of the link's
+in_sections : (l : Link) (s : SectionId) → Contains (carried_of l) s → Contains (sections_of l) s
+unfolding carried_of
+in_sections l s has = (filter_contains (λ (t : SectionId). is_carried (header_at l t)) (sections_of l) s has).0
+
+-- THE section of a row
+pub section_is : (l : Link) (counts : Counts) (p : Placed) (file index : ℕ) (b : List ℕ) → ObjectsAreRead l → IsWhollyPlaced l counts p
+    → object_of l file ≡ b → IsInTable l (symbol_id file index)
+    → section_told p (record { bytes = b; is_dynamic = false }) index ≡ section_of_row l counts (symbol_id file index)
+section_is l counts p file index b read placed is in_it =
+    subst (λ (x : List ℕ). section_told p (record { bytes = x; is_dynamic = false }) index ≡ section_of_row l counts s) is
+    (by (is_common_of (entry_at l s)) (is_absolute (entry_at l s)) refl refl)
+  where
+    s : SymbolId
+    s = symbol_id file index
+
+    f : FileBytes
+    f = record { bytes = object_of l file; is_dynamic = false }
+
+    first : {X : Type 0} (t : Bool) (x y : X) → t ≡ true → (if t then x else y) ≡ x
+    first t x y e = rw e refl
+
+    second : {X : Type 0} (t : Bool) (x y : X) → t ≡ false → (if t then x else y) ≡ y
+    second t x y e = rw e refl
+
+    none_there : is_in_section (entry_at l s) ≡ false → symbol_header f index ≡ None
+    none_there out = ap (header_with f) (second_of (nat_lt index (num_symbols f.bytes)) (is_in_section (entry_at l s)) out)
+      where
+        second_of : (a c : Bool) → c ≡ false → (if (true && (a && c)) then Some (section_index_of f index) else None) ≡ None
+        second_of true c e = rw e refl
+        second_of false c e = refl
+
+    one_there : stands_in_carried l s ≡ true → symbol_header f index ≡ Some (header_at l (section_of_symbol l s))
+    one_there stands =
+        let both = and_parts (is_in_section (entry_at l s)) (is_carried (header_at l (section_of_symbol l s))) stands in
+        let of = symbol_of l s in_it.there in
+        let carried = carried_symbol l s read in_it.there stands in
+        let low : index < num_symbols f.bytes = subst (λ (x : List ℕ). index < num_symbols x) (sym of.object) of.symbol in
+        let sec = section_of l (section_of_symbol l s) (in_sections l (section_of_symbol l s) carried) in
+        let there : section_index_of f index < num_sections f.bytes = subst (λ (x : List ℕ). section_index_of f index < num_sections x)
+        (sym sec.object) sec.section in
+        ap (header_with f)
+        (first_of (nat_lt index (num_symbols f.bytes)) (is_in_section (entry_at l s)) (lt-ltb index (num_symbols f.bytes) low) both.0)
+        ∙ first (nat_lt (section_index_of f index) (num_sections f.bytes)) (Some (section_at f.bytes (section_index_of f index))) None
+        (lt-ltb (section_index_of f index) (num_sections f.bytes) there)
+      where
+        first_of : (a c : Bool) → a ≡ true → c ≡ true → (if (true && (a && c)) then Some (section_index_of f index) else None)
+            ≡ Some (section_index_of f index)
+        first_of a c e g = rw (e, g) refl
+
+    stands_there : is_common_of (entry_at l s) ≡ false → is_absolute (entry_at l s) ≡ false → stands_in_carried l s ≡ true
+    stands_there no_common no_value =
+        only (stands_in_carried l s) (is_absolute (entry_at l s)) (is_common_of (entry_at l s)) no_value no_common in_it.defined
+      where
+        only : (a c d : Bool) → c ≡ false → d ≡ false → (a || c || d) ≡ true → a ≡ true
+        only true c d e g h = refl
+        only false true d e g h = absurd (true≢false e)
+        only false false true e g h = absurd (true≢false g)
+        only false false false e g h = h
+
+    by : (c a : Bool) → is_common_of (entry_at l s) ≡ c → is_absolute (entry_at l s) ≡ a
+        → section_told p f index ≡ section_of_row l counts s
+    by true a e g =
+        first (is_common_of (entry_at l s)) (number_told p common_key) (number_with p (symbol_header f index)) e
+        ∙ commons_agree l counts p placed (common_chosen l s in_it e)
+        ∙ sym (first (is_common_of (entry_at l s)) (section_number l counts common_key) _ e)
+    by false true e g =
+        second (is_common_of (entry_at l s)) (number_told p common_key) (number_with p (symbol_header f index)) e
+        ∙ ap (number_with p) (none_there (absolute_apart (entry_at l s) g))
+        ∙ sym (second (is_common_of (entry_at l s)) (section_number l counts common_key) _ e
+        ∙ first (is_absolute (entry_at l s)) 0 (section_number l counts (key_of (header_at l (section_of_symbol l s)))) g)
+    by false false e g =
+        let stands = stands_there e g in
+        second (is_common_of (entry_at l s)) (number_told p common_key) (number_with p (symbol_header f index)) e
+        ∙ ap (number_with p) (one_there stands)
+        ∙ section_agrees l counts p (section_of_symbol l s) placed (carried_symbol l s read in_it.there stands)
+        ∙ sym (second (is_common_of (entry_at l s)) (section_number l counts common_key) _ e
+        ∙ second (is_absolute (entry_at l s)) 0 (section_number l counts (key_of (header_at l (section_of_symbol l s)))) g)

@@ -1,0 +1,20 @@
+-- A look-up finds the first place of the library, which is below their number; where it finds nothing, that is their number.
+use Rattle.std.proofs.Common.{arith}
+use Rattle.std.specs.Prelude.{map}
+use Rattle.std.specs.HashMap.{get}
+use Rattle.std.proofs.lemmas.List.{length-map}
+use Rattle.macho_linkedit.specs.steps.Libraries.{same_text}
+use Rattle.macho_linkedit.proofs.Places.{place_some, place_none}
+use Rattle.macho_tables.proofs.libraries.number.Goals as goal
+
+pub overflow_add-result : goal.overflow_add-result
+overflow_add-result c =
+    let found = place_some (map (λ n. n.items) c.args.libraries.now)
+    (get same_text c.args.places.now) c.args.library c.in-Some.place.now c.requires.known c.in-Some.ensures.value in
+    omega (arith, found.1, c.requires.few, length-map c.args.libraries.now (λ n. n.items))
+
+pub returns-in-None : goal.returns-in-None
+returns-in-None c =
+    let none = place_none (map (λ n. n.items) c.args.libraries.now)
+    (get same_text c.args.places.now) c.args.library c.requires.known c.in-None.ensures.value in
+    omega (arith, none, length-map c.args.libraries.now (λ n. n.items))

@@ -1,0 +1,29 @@
+-- The row is made of the symbol's entry, its name, its section and its address, all of which are the link's.
+use Rattle.std.proofs.Common.{◌<◌, List, ℕ, sym, ap, subst, ◌∙◌}
+use Rattle.macho_model.specs.Objects.{num_symbols}
+use Rattle.macho_model.specs.Exports.{is_listed}
+use Rattle.macho_layout.specs.Placements.{placed_of}
+use Rattle.macho_symbols.specs.Kept.{symbol_id}
+use Rattle.macho_tables.specs.steps.Says.{address_in}
+use Rattle.macho_tables.proofs.TableRows.{in_table}
+use Rattle.macho_tables.proofs.RowParts.{name_seen, section_seen, address_seen}
+use Rattle.macho_tables.proofs.rows.row_of.Goals as goal
+
+pub returns : goal.returns
+returns g c l counts is =
+    let p = placed_of c.args.placement.now in
+    let look = g.P.Places.look c.args.places.now in
+    let o = c.args.object.now in
+    let can = c.requires.symbol in
+    let in_it = in_table l (symbol_id o.number c.args.index) is.listed in
+    c.table_row.ensures l counts p (record {
+      bytes_are = is.bytes_are;
+      listed_is =
+          c.is_listed.ensures l is.lists_are
+          ∙ ap (is_listed l) (name_seen o.file c.args.index c.in-Some.name.now can.among can.plain c.in-Some.ensures);
+      section_is = c.section_of_symbol-section.ensures ∙ section_seen l counts p look o c.args.index is.link is.bytes_are can.kind in_it;
+      address_is =
+          c.address_of-address.ensures ∙ ap (address_in look) c.target.ensures
+          ∙ address_seen l counts p look o.number c.args.index is.link
+          (subst (λ (b : List ℕ). c.args.index < num_symbols b) (sym is.bytes_are) can.among) in_it;
+    })

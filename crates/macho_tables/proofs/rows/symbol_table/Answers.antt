@@ -1,0 +1,79 @@
+-- The object of each symbol is there, and can have the symbol's row; that row is the next one of the table.
+use Rattle.std.proofs.Common.{◌<◌, ℕ, get_or, sym}
+use Rattle.std.specs.Option.{option_copied}
+use Rattle.macho_model.specs.Objects.{num_symbols}
+use Rattle.macho_layout.specs.Placements.{placed_of}
+use Rattle.macho_lists.proofs.Members.{all_contains}
+use Rattle.macho_linkedit.specs.declared.listing.LinkedObject.{LinkedObject}
+use Rattle.macho_linkedit.specs.declared.listing.TableSymbol.{TableSymbol}
+use Rattle.macho_linkedit.specs.Listing.{id_of_symbol}
+use Rattle.macho_linkedit.specs.Symbols.{row_seen}
+use Rattle.macho_tables.proofs.TableRows.{in_table}
+use Rattle.macho_tables.proofs.Objects.{objects_rise, object_there, row_rests, strings_short}
+use Rattle.macho_tables.proofs.ListedRows.{item_listed, rows_to, table_more, table_whole}
+use Rattle.macho_tables.proofs.rows.symbol_table.Goals as goal
+
+abbrev none : TableSymbol
+none = record { file = 0; symbol = 0 }
+
+pub place_of-requires-clause-rise : goal.place_of-requires-clause-rise
+place_of-requires-clause-rise g c = objects_rise c.requires.link.0 c.args.objects.now c.requires.link.2.objects_are
+
+pub place_of-requires-clause-there : goal.place_of-requires-clause-there
+place_of-requires-clause-there g c =
+    let some = c.requires.link in
+    let s = get_or c.as_slice-symbol-items.result.now c.loop-symbol.symbol-index none in
+    let listed = item_listed some.0 c.args.listed.now c.as_slice-symbol-items.result.now c.loop-symbol.symbol-index none some.2.listed_are
+    c.as_slice-symbol-items.ensures.value c.loop-symbol-test.true in
+    object_there some.0 c.args.objects.now (id_of_symbol s) some.2.objects_are (in_table some.0 (id_of_symbol s) listed).there
+
+pub row_of-requires-clause-symbol : goal.row_of-requires-clause-symbol
+row_of-requires-clause-symbol g c =
+    let some = c.requires.link in
+    let s = get_or c.as_slice-symbol-items.result.now c.loop-symbol.symbol-index none in
+    let listed = item_listed some.0 c.args.listed.now c.as_slice-symbol-items.result.now c.loop-symbol.symbol-index none some.2.listed_are
+    c.as_slice-symbol-items.ensures.value c.loop-symbol-test.true in
+    (row_rests some.0 some.1 (placed_of c.args.placement.now) (g.P.Places.look c.args.places.now) c.args.objects.now c.args.listed.now
+    (option_copied c.args.lists) c.place_of.result c.index-objects-place_of.result (id_of_symbol s) some.2 listed c.place_of.ensures
+    c.index-objects-place_of.is).0
+
+pub row_of-requires-clause-known : goal.row_of-requires-clause-known
+row_of-requires-clause-known g c =
+    let some = c.requires.link in
+    let s = get_or c.as_slice-symbol-items.result.now c.loop-symbol.symbol-index none in
+    let listed = item_listed some.0 c.args.listed.now c.as_slice-symbol-items.result.now c.loop-symbol.symbol-index none some.2.listed_are
+    c.as_slice-symbol-items.ensures.value c.loop-symbol-test.true in
+    let can = (row_rests some.0 some.1 (placed_of c.args.placement.now) (g.P.Places.look c.args.places.now) c.args.objects.now
+    c.args.listed.now
+    (option_copied c.args.lists) c.place_of.result c.index-objects-place_of.result (id_of_symbol s) some.2 listed c.place_of.ensures
+    c.index-objects-place_of.is).0 in
+    all_contains (λ (o : LinkedObject). (k : ℕ) → k < num_symbols o.file.bytes → g.P.Places.has_symbol c.args.places.now o.number k)
+    c.args.objects.now c.index-objects-place_of.result c.requires.symbols
+    (c.place_of.result, c.place_of.ensures.within, sym c.index-objects-place_of.is) s.symbol can.among
+
+pub push-requires : goal.push-requires
+push-requires g c =
+    let some = c.requires.link in
+    strings_short some.0 some.1 (placed_of c.args.placement.now) c.args.listed.now c.loop-symbol.symbol-index c.loop-symbol.table
+    some.2.listed_are c.requires.short (c.loop-symbol.invariant some.0 some.1 some.2)
+
+pub loop-symbol-preserved : goal.loop-symbol-preserved
+loop-symbol-preserved g c l counts to =
+    let p = placed_of c.args.placement.now in
+    let look = g.P.Places.look c.args.places.now in
+    let now = c.as_slice-symbol-items.result.now in
+    let n = c.loop-symbol.symbol-index in
+    let s = get_or now n none in
+    let listed = item_listed l c.args.listed.now now n none to.listed_are c.as_slice-symbol-items.ensures.value c.loop-symbol-test.true in
+    let rests = row_rests l counts p look c.args.objects.now c.args.listed.now (option_copied c.args.lists) c.place_of.result
+    c.index-objects-place_of.result (id_of_symbol s) to listed c.place_of.ensures c.index-objects-place_of.is in
+    table_more l counts p c.args.listed.now now n none c.args.objects.now c.place_of.result c.index-objects-place_of.result
+    (row_seen c.row_of.result) c.push.new.self c.as_slice-symbol-items.ensures.value c.loop-symbol-test.true c.place_of.ensures
+    c.index-objects-place_of.is
+    (c.row_of.ensures l counts rests.1)
+    (c.in_ok-push.ensures (rows_to l counts p c.args.listed.now n) (c.loop-symbol.invariant l counts to))
+
+pub returns : goal.returns
+returns g c l counts to =
+    table_whole l counts (placed_of c.args.placement.now) c.args.listed.now c.as_slice-symbol-items.result.now c.loop-symbol.symbol-index
+    c.loop-symbol.table to.listed_are c.as_slice-symbol-items.ensures.value c.loop-symbol-test.false (c.loop-symbol.invariant l counts to)

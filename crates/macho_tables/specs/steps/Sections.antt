@@ -1,0 +1,63 @@
+-- The number of an output section, as the headers of a placement tell it: that of the first header of a segment, name and type that is no
+-- section of the linker's own.
+use Rattle.std.specs.Prelude.{ℕ, ◌+◌, ◌==◌, nat_lt, ◌&&◌, ◌||◌, not, if◌then◌else◌, Bool, false, List, [], ◌∷◌, length, Option, Some, None}
+use Rattle.std.specs.List.{position_or_len}
+use Rattle.std.specs.Str.{bytes_eq}
+use Rattle.macho_bytes.specs.Texts.{name_of}
+use Rattle.macho_records.specs.declared.header.SectionHeader.{SectionHeader}
+use Rattle.macho_records.specs.Symbols.{is_common_of}
+use Rattle.macho_model.specs.declared.placed.Range64.{Range64}
+use Rattle.macho_model.specs.declared.placed.Slot.{Slot}
+use Rattle.macho_model.specs.Objects.{symbol_at, section_at}
+use Rattle.macho_model.specs.Segments.{TEXT, DATA_CONST, OutputKey, same_key, key_of, common_key}
+use Rattle.macho_model.specs.Placement.{Placed}
+use Rattle.macho_object.specs.Views.{FileBytes, of_section, of_symbol_section, section_index_of}
+use Rattle.macho_tables.specs.declared.sections.MergedBy.{MergedBy}
+
+-- what sections are merged by, without where the names lie
+abbrev pub key_seen : MergedBy → OutputKey
+key_seen m = record { segment = m.segment.now; name = m.name.now; type = m.kind }
+
+-- an output section of a segment begins at an address, and has bytes
+abbrev pub begins_at : SectionHeader → List ℕ → ℕ → Bool
+begins_at h segment address = bytes_eq (name_of h.segname) segment && (h.addr == address) && not (h.size == 0)
+
+-- a range of the linker's own is an output section of `__TEXT`
+abbrev pub fills : SectionHeader → Range64 → Bool
+fills h r = nat_lt r.start r.end && begins_at h TEXT r.start
+
+-- the slots are one of `__DATA_CONST`
+abbrev pub holds_slots : SectionHeader → List Slot → Bool
+holds_slots h [] = false
+holds_slots h (s ∷ slots) = begins_at h DATA_CONST s.address
+
+-- the linker makes an output section: stubs, which tell their size; offsets of initializers, unwind information, slots
+abbrev pub is_made : Placed → SectionHeader → Bool
+is_made p h = not (h.reserved2 == 0) || fills h p.init_offsets || fills h p.unwind || holds_slots h p.slots
+
+-- sections of a key are merged into an output section
+abbrev pub is_of : Placed → OutputKey → SectionHeader → Bool
+is_of p key h = same_key key (key_of h) && not (is_made p h)
+
+-- its number from 1, 0 where there is none
+abbrev pub number_or_none : ℕ → ℕ → ℕ
+number_or_none n length = if nat_lt n length then n + 1 else 0
+
+unfoldable pub number_told : Placed → OutputKey → ℕ
+number_told p key = number_or_none (position_or_len (is_of p key) p.output_sections) (length p.output_sections)
+
+-- the section that a symbol of an object is defined in, as its view shows it
+abbrev pub header_with : FileBytes → Option ℕ → Option SectionHeader
+header_with f None = None
+header_with f (Some section) = of_section f section (section_at f.bytes section)
+
+abbrev pub symbol_header : FileBytes → ℕ → Option SectionHeader
+symbol_header f index = header_with f (of_symbol_section f index (section_index_of f index))
+
+abbrev pub number_with : Placed → Option SectionHeader → ℕ
+number_with p None = 0
+number_with p (Some h) = number_told p (key_of h)
+
+-- the number of the output section that a symbol stands in
+abbrev pub section_told : Placed → FileBytes → ℕ → ℕ
+section_told p f index = if is_common_of (symbol_at f.bytes index) then number_told p common_key else number_with p (symbol_header f index)

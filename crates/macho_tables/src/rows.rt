@@ -1,0 +1,106 @@
+//! The symbol table: a row for each symbol that was listed.
+ghost use Rattle.std.specs.Prelude.{◌≡◌, ℕ, ◌<◌, ◌≤◌, ◌^◌, List, length, All, IfOk};
+ghost use Rattle.std.specs.Option.{option_copied};
+ghost use Rattle.macho_model.specs.declared.placed.Counts.{Counts};
+ghost use Rattle.macho_model.specs.Links.{Link};
+ghost use Rattle.macho_model.specs.Limits.{GREATEST_SECTIONS};
+ghost use Rattle.macho_model.specs.Objects.{num_symbols};
+ghost use Rattle.macho_model.specs.Exports.{is_listed};
+ghost use Rattle.macho_model.specs.SymbolRows.{row_of, symbol_rows};
+ghost use Rattle.macho_layout.specs.Placements.{placed_of};
+ghost use Rattle.macho_symbols.specs.Exported.{AreLists};
+ghost use Rattle.macho_symbols.specs.Kept.{symbol_id};
+ghost use Rattle.macho_linkedit.specs.Symbols.{row_seen, HasRows};
+ghost use Rattle.macho_tables.specs.steps.Rows.{NumbersRise, HasNumber, IsObjectAt, CanHaveRow, IsListed};
+ghost use Rattle.macho_tables.specs.Rows.{AreToList};
+
+use crate::places::address_of;
+use crate::sections::section_of_symbol;
+use macho_exports::ExportList;
+use macho_fields::Places;
+use macho_layout::Placement;
+use macho_linkedit::{LinkedObject, SymbolTable, TableRow, TableSymbols, table_row};
+use std::alloc::{AllocError, Global};
+
+/// The place of the object of a number: the first whose number isn't below.
+fn place_of(objects: &[LinkedObject<'_>], number: u32) -> usize
+    requires rise { NumbersRise objects.now }
+    requires there { HasNumber objects.now number }
+    ensures { IsObjectAt objects.now number result }
+{
+    let mut low = 0;
+    let mut high = objects.len();
+    while low < high {
+        let middle = low + (high - low) / 2;
+        if objects[middle].number < number {
+            low = middle + 1;
+        } else {
+            high = middle;
+        }
+    }
+    low
+}
+
+/// Whether export lists contain a name, where there are any.
+fn is_listed(lists: Option<&ExportList>, name: &[u8]) -> bool
+    ensures { (l : Link) → AreLists l (option_copied lists.entry) → result ≡ is_listed l name.now }
+{
+    match lists {
+        Some(list) => list.contains(name),
+        None => true,
+    }
+}
+
+/// The row of a symbol of the table.
+fn row_of<'a, P: Places>(
+    places: &P,
+    placement: &Placement,
+    object: &LinkedObject<'a>,
+    index: u32,
+    lists: Option<&ExportList>,
+) -> TableRow<'a>
+    requires few { length placement.now.output_sections.items ≤ GREATEST_SECTIONS }
+    requires symbol { CanHaveRow object.now index }
+    requires known { P.has_symbol places.now object.now.number index }
+    ensures { (l : Link) (counts : Counts) → IsListed l counts (placed_of placement.now) (P.look places.now) object.now index (option_copied lists.entry)
+        → row_seen result ≡ row_of l counts (placed_of placement.now) (symbol_id object.now.number index) }
+{
+    let Some(name) = object.file.symbol_name(index) else {
+        unreachable!()
+    };
+    let section = section_of_symbol(placement, object, index);
+    let address = address_of(places, places.target(object.number, index));
+    table_row(object, index, is_listed(lists, name), section, address)
+}
+
+/// The symbol table of a placed link, with a row for each listed symbol. `lists` are the export lists, where there are any.
+///
+/// # Errors
+///
+/// There is not enough memory.
+pub fn symbol_table<P: Places>(
+    alloc: Global,
+    places: &P,
+    placement: &Placement,
+    objects: &[LinkedObject<'_>],
+    listed: &TableSymbols,
+    lists: Option<&ExportList>,
+) -> Result<SymbolTable, AllocError>
+    requires few { length placement.now.output_sections.items ≤ GREATEST_SECTIONS }
+    requires short { listed.now.strings < 2 ^ 32 }
+    requires symbols { All (λ o. (k : ℕ) → k < num_symbols o.file.bytes → P.has_symbol places.now o.number k) objects.now }
+    requires link { (l : Link) × (counts : Counts) × AreToList l counts (placed_of placement.now) (P.look places.now) objects.now listed.now (option_copied lists) }
+    ensures { (l : Link) (counts : Counts) → AreToList l counts (placed_of placement.now) (P.look places.now) objects.now listed.now (option_copied lists.entry)
+        → IfOk result (HasRows (symbol_rows l counts (placed_of placement.now))) }
+{
+    let mut table = SymbolTable::with_capacity(
+        alloc,
+        listed.symbols.len(),
+        listed.strings as usize,
+    )?;
+    for symbol in listed.symbols.as_slice() {
+        let object = &objects[place_of(objects, symbol.file)];
+        table.push(row_of(places, placement, object, symbol.symbol, lists))?;
+    }
+    Ok(table)
+}
