@@ -1,0 +1,17 @@
+pub mod Found
+pub mod Segments
+pub mod Pointers
+pub mod Tables
+pub mod TableRooms
+pub mod Heads
+pub mod Sizes
+pub mod Rows
+pub mod Files
+pub mod Places
+pub mod Slots
+pub mod Inside
+pub mod Plain
+pub mod Entries
+pub mod Stubs
+pub mod Around
+pub mod Template
