@@ -1,0 +1,4 @@
+pub mod Inputs
+pub mod Clear
+pub mod Told
+pub mod Kept
