@@ -1,0 +1,10 @@
+pub mod Whole
+pub mod Pieces
+pub mod Exactly
+pub mod Slices
+pub mod Contents
+pub mod Behind
+pub mod Standing
+pub mod Zeros
+pub mod Lengths
+pub mod Linked
