@@ -1,0 +1,158 @@
+-- The answer of a link, by those of its passes.
+--
+-- A refusal that stands for the sizes of the link is the link's. What was read, sized and placed is what an image is written from; and what is
+-- written then is as promised, with nothing that stands against it.
+use Rattle.std.proofs.Common.{◌≡◌, ℕ, ◌+◌, ◌<◌, ◌≤◌, ◌⊎◌, inl, inr, ◌^◌, false, List, map, length, refl, sym, ap, subst, ◌∙◌, arith, All}
+use Rattle.std.specs.Prelude.{Option, Some, None, Result, Ok, Err, IfOk, OnOk, IfErr, IsErrAnd}
+use Rattle.std.proofs.lemmas.Bool.{cases_lt}
+use Rattle.std.proofs.lemmas.List.{length-map}
+use Rattle.macho_layout.specs.declared.placement.Placement.{Placement}
+use Rattle.macho_layout.specs.Placements.{placed_of}
+use Rattle.macho_model.specs.declared.placed.Counts.{Counts}
+use Rattle.macho_model.specs.declared.targets.Limit.TheVariants as limit
+use Rattle.macho_model.specs.Links.{Link}
+use Rattle.macho_model.specs.Limits.{GREATEST_LIBRARIES}
+use Rattle.macho_model.specs.Needs.{libraries_needed, imports_of}
+use Rattle.macho_model.specs.Placement.{Placed}
+use Rattle.macho_model.specs.Faults.{LinkFault, FixupPlace, ImageTooLarge, RebaseTarget, RelocationRange, FaultStands, kept_placement, bad_name}
+use Rattle.macho_model.specs.Told.{imports_told}
+use Rattle.macho_placing.specs.Laws.{NonePasses}
+use Rattle.macho_promise.specs.Sizes.{AreCounts}
+use Rattle.macho_faults.specs.declared.fault.LinkError.{LinkError}
+use Rattle.macho_faults.specs.declared.fault.LinkError.TheVariants as error
+use Rattle.macho_faults.specs.Standing.{Stands, IsStanding}
+use Rattle.macho_linkedit.specs.declared.exports.NamedExport.{NamedExport}
+use Rattle.macho_sizing.specs.Sized.{IsSizedOf}
+use Rattle.macho_fields.specs.declared.fault.FillFault.TheVariants as fill
+use Rattle.macho_made.specs.declared.fault.MadeFault.TheVariants as made
+use Rattle.macho_targets.specs.Laws.{ObjectsAreRead}
+use Rattle.macho_valid.specs.Laws.{ObjectsAreBytes}
+use Rattle.macho_answers.specs.Inputs.{HasBytes}
+use Rattle.macho_answers.proofs.Inputs.{inputs_are_read, inputs_are_bytes}
+use Rattle.macho_answers.proofs.Told.{standing_is_told}
+use Rattle.macho_answers.proofs.Kept.{late_is_standing}
+use Rattle.macho_answers.proofs.Clear.{clear_is_unrefused}
+use Rattle.macho_tables.specs.Exports.{exports_told}
+use Rattle.macho_tables.proofs.Exported.{exports_are_told}
+use Rattle.macho_symbols.specs.declared.exports.ExportName.{ExportName}
+use Rattle.macho_linked.specs.declared.image.ImportName.{ImportName}
+use Rattle.macho_linked.specs.Linked.{import_of, export_of, IsImageOf, IsRefused}
+use Rattle.macho_linked.specs.declared.image.LinkedImage.{LinkedImage}
+use Rattle.macho_reading.specs.declared.link.ReadLink.{ReadLink}
+use Rattle.macho_reading.specs.Read.{IsReadOf, AreKnown}
+use Rattle.macho_sizing.specs.declared.asked.SizedLink.{SizedLink}
+use Rattle.macho_linking.specs.declared.fault.Unwritten.{Unwritten}
+use Rattle.macho_linking.specs.declared.fault.Unwritten.TheVariants.{Unfilled, Unmade, OutOfMemory}
+use Rattle.macho_linking.specs.declared.planned.Planned.{Planned}
+use Rattle.macho_linking.specs.declared.write.Written.{Written}
+use Rattle.macho_linking.specs.steps.Planned.{IsPlanned, AreInputs}
+use Rattle.macho_linking.specs.steps.Unwritten.{UnwrittenStands, refusal_of}
+use Rattle.macho_linking.specs.steps.Imaged.{StandsAlways, HasSizes, IsToAnswer}
+use Rattle.macho_linking.specs.declared.asked.LinkAsked.{LinkAsked}
+use Rattle.macho_linking.specs.steps.Linking.{link_asked, IsGiven}
+use Rattle.macho_linking.proofs.Given.{inputs_given}
+
+-- What holds of every link that is asked for: its objects are objects, made of bytes, and its names can be written.
+pub record IsFine (l : Link) : Type 0 where
+  pub objects : ObjectsAreRead l
+  pub bytes : ObjectsAreBytes l
+  pub name : bad_name l ≡ false
+
+pub fine_link : (a : LinkAsked) → IsGiven a → All HasBytes (link_asked a).inputs → IsFine (link_asked a)
+fine_link a given bytes = record {
+  objects = inputs_are_read (link_asked a) (inputs_given a given);
+  bytes = inputs_are_bytes (link_asked a) bytes;
+  name = given.names;
+}
+
+-- a refusal that stands is the link's
+pub refused : {X : Type 0} (l : Link) (r : Result X LinkError) → IsFine l → IfErr r (StandsAlways l) → IfErr r (IsRefused l)
+refused l (Ok x) fine stands = tt
+refused l (Err e) fine stands = standing_is_told l e fine.objects fine.bytes fine.name stands
+
+pub refused_with : {X : Type 0} (l : Link) (r : Result X LinkError) (e : LinkError) → IsFine l → IsErrAnd r (λ x. x ≡ e) → StandsAlways l e
+    → IfErr r (IsRefused l)
+refused_with l (Ok x) e fine told stands = absurd told
+refused_with l (Err x) e fine told stands = standing_is_told l x fine.objects fine.bytes fine.name (subst (StandsAlways l) (sym told) stands)
+
+-- no limit is passed by what was placed
+sized_within : (l : Link) (kept : List NamedExport) (s : SizedLink) → IsSizedOf l kept s → NonePasses l s.counts (placed_of s.placement)
+sized_within l kept s h = record {
+  segments = h.limits.numbers limit.Segments;
+  sections = h.limits.numbers limit.Sections;
+  sum = h.limits.sum;
+  files = h.limits.files;
+  ranges = h.limits.ranges;
+}
+
+-- a fault of the placement is a refusal that stands
+late : (l : Link) (kept : List NamedExport) (s : SizedLink) (f : LinkFault) → IsSizedOf l kept s → kept_placement f ≡ Some (placed_of s.placement)
+    → FaultStands l s.counts f → (counts : Counts) → AreCounts l counts → IsStanding l counts f
+late l kept s f h keeps stands = late_is_standing l s.counts (placed_of s.placement) f h.placed (sized_within l kept s h) h.counted keeps stands
+
+-- why a placed image isn't written is a refusal that stands
+pub unwritten_stands : (l : Link) (read : ReadLink) (s : SizedLink) (e : Unwritten) → HasSizes l read s → UnwrittenStands l (placed_of s.placement) e
+    → StandsAlways l (refusal_of e s.placement)
+unwritten_stands l read s (Unfilled (fill.Range at)) h stands = late l h.kept s (RelocationRange at (placed_of s.placement)) h.sizes refl stands
+unwritten_stands l read s (Unfilled (fill.Rebase at)) h stands = late l h.kept s (RebaseTarget at (placed_of s.placement)) h.sizes refl stands
+unwritten_stands l read s (Unfilled (fill.Place file section relocation)) h stands =
+    late l h.kept s (FixupPlace file section relocation (Some (placed_of s.placement))) h.sizes refl stands
+unwritten_stands l read s (Unfilled fill.Unsupported) h stands = λ counts are. tt
+unwritten_stands l read s (Unfilled fill.OutOfMemory) h stands = λ counts are. tt
+unwritten_stands l read s (Unmade made.TooLarge) h stands = late l h.kept s (ImageTooLarge (Some (placed_of s.placement))) h.sizes refl stands
+unwritten_stands l read s (Unmade made.OutOfMemory) h stands = λ counts are. tt
+unwritten_stands l read s OutOfMemory h stands = λ counts are. tt
+
+-- want of memory is free
+pub refused_memory : {X : Type 0} (l : Link) (r : Result X LinkError) → IsFine l → IfErr r (λ e. e ≡ error.OutOfMemory) → IfErr r (IsRefused l)
+refused_memory l (Ok x) fine is = tt
+refused_memory l (Err e) fine is =
+    standing_is_told l e fine.objects fine.bytes fine.name (subst (StandsAlways l) (sym is) (λ counts are. tt))
+
+pub refused_as : (l : Link) (e x : LinkError) → IsFine l → e ≡ x → StandsAlways l x → IsRefused l e
+refused_as l e x fine is stands = standing_is_told l e fine.objects fine.bytes fine.name (subst (StandsAlways l) (sym is) stands)
+
+-- what was sized is planned
+pub planned : (l : Link) (b : Planned) → AreInputs l b → IsReadOf l b.read.now → AreKnown b.views.now b.read.now → HasSizes l b.read.now b.sized.now
+    → IsPlanned l b
+planned l b inputs read known sizes =
+    record { inputs = inputs; read = read; known = known; kept = sizes.kept; exports = sizes.exports; sized = sizes.sizes }
+
+-- the libraries of a sized link are few
+pub libraries_few : (l : Link) (read : ReadLink) (sized : SizedLink) → HasSizes l read sized → length (libraries_needed l) ≤ GREATEST_LIBRARIES
+libraries_few l read sized h = by (cases_lt GREATEST_LIBRARIES (length (libraries_needed l)))
+  where
+    by : (GREATEST_LIBRARIES < length (libraries_needed l)) ⊎ (length (libraries_needed l) ≤ GREATEST_LIBRARIES)
+        → length (libraries_needed l) ≤ GREATEST_LIBRARIES
+    by (inl more) = absurd (h.sizes.limits.numbers limit.Libraries (length (libraries_needed l)) (refl, more))
+    by (inr few) = few
+
+-- THE image of a link
+pub answered : (l : Link) (uuid : List ℕ) (written : Written) (sized : SizedLink) (read : ReadLink) (libraries : List (List ℕ))
+    (imports : List ImportName) → IsToAnswer l uuid written sized read libraries → map import_of imports ≡ imports_told l
+    → (image : LinkedImage) → image.bytes.items ≡ written.bytes.items → image.placement ≡ sized.placement
+    → map (λ library. library.items) image.libraries.items ≡ libraries → image.imports.items ≡ imports → image.exports.items ≡ read.exports.items
+    → image.fixups ≡ written.fixups → IsImageOf l uuid image
+answered l uuid written sized read libraries imports h told image bytes placement names listed exports fixups = record {
+  counts = sized.counts;
+  answer = rw (bytes, placement, names, listed, exports, fixups) (record {
+    linked = h.image.linked;
+    told = record { libraries_are = h.libraries_are; imports_are = told; fixups_are = h.image.many };
+    exports_told = exports_are_told l read.exports.items h.read_is.exports;
+    unrefused = clear_is_unrefused l sized.counts (placed_of sized.placement) (record {
+      single = h.single;
+      fit = h.read_is.fit;
+      limits = record {
+        numbers = h.sizes.sizes.limits.numbers;
+        pages = h.sizes.sizes.limits.pages;
+        sum = h.sizes.sizes.limits.sum;
+        files = h.sizes.sizes.limits.files;
+        ranges = h.sizes.sizes.limits.ranges;
+        written = h.image.near;
+      };
+      values = record { range = h.image.good.range; rebase = h.image.good.rebase; place = h.image.good.place };
+      name = h.name;
+    });
+  });
+  sections = rw placement h.sizes.sizes.placed.order.sections;
+}

@@ -1,0 +1,89 @@
+-- What is given to a link, as the passes ask for it; and answers of a link by those of its passes.
+use Rattle.std.proofs.Common.{◌≡◌, ℕ, ◌+◌, ◌<◌, ◌≤◌, ◌^◌, ◌==◌, not, true, List, [], ◌∷◌, map, length, refl, sym, ap, subst, ◌∙◌, arith, All}
+use Rattle.std.specs.Prelude.{Option, Some, None, Result, Ok, Err, IfOk, OnOk, IfErr}
+use Rattle.std.proofs.lemmas.Bool.{ne_eqb}
+use Rattle.std.proofs.lemmas.List.{length-map}
+use Rattle.std.proofs.lemmas.List.Elements.{All-map}
+use Rattle.macho_layout.specs.declared.placement.Placement.{Placement}
+use Rattle.macho_layout.specs.Placements.{placed_of}
+use Rattle.macho_model.specs.declared.placed.Counts.{Counts}
+use Rattle.macho_model.specs.declared.targets.Limit.TheVariants as limit
+use Rattle.macho_model.specs.Links.{Input, Object, Dylib, Stub, Link}
+use Rattle.macho_model.specs.Limits.{GREATEST_LIBRARIES}
+use Rattle.macho_model.specs.Needs.{libraries_needed}
+use Rattle.macho_object.specs.Views.{FileBytes}
+use Rattle.macho_exports.specs.Entries.{ListEntries}
+use Rattle.macho_symbols.specs.Kept.{ResolvedRows, IsResolved}
+use Rattle.macho_symbols.specs.Exported.{AreLists}
+use Rattle.macho_parts.specs.Views as parts
+use Rattle.macho_survey.specs.Surveys as survey
+use Rattle.macho_promise.specs.Inputs.{IsInput}
+use Rattle.macho_promise.specs.Sizes.{AreCounts}
+use Rattle.macho_faults.specs.declared.fault.LinkError.{LinkError}
+use Rattle.macho_faults.specs.declared.fault.LinkError.TheVariants as error
+use Rattle.macho_faults.specs.Standing.{Stands}
+use Rattle.macho_reading.specs.Read.{IsLinkOf, entry_of}
+use Rattle.macho_inputs.specs.steps.Owned.{input_of}
+use Rattle.macho_linking.specs.declared.asked.LinkAsked.{LinkAsked}
+use Rattle.macho_linking.specs.steps.Linking.{link_asked, IsGiven}
+use Rattle.macho_linking.specs.steps.Lists.{AreListsOf}
+use Rattle.macho_linking.specs.steps.Imaged.{StandsAlways}
+
+-- an input is viewed alike by both names of it
+view_same : (x : Input) → parts.object_view x ≡ survey.object_view x
+view_same (Object bytes) = refl
+view_same (Dylib bytes) = refl
+view_same (Stub text says) = refl
+
+views_same : (xs : List Input) → map parts.object_view xs ≡ map survey.object_view xs
+views_same [] = refl
+views_same (x ∷ xs) = rw (view_same x, views_same xs) refl
+
+pub same_inputs : (l : Link) (views : List (Option FileBytes)) (r : ResolvedRows) → views ≡ parts.views_of l → IsResolved l [] r
+    → survey.AreOfInputs views r.files
+same_inputs l views r is resolved =
+    record { inputs = l.inputs; keeps = record { are = resolved.keeps }; are = is ∙ views_same l.inputs }
+
+pub link_handed : (l : Link) (views : List (Option FileBytes)) (r : ResolvedRows) (entry : Option (List ℕ)) (list : Option ListEntries)
+    → views ≡ parts.views_of l → IsResolved l [] r → entry ≡ entry_of l → AreLists l list → IsLinkOf l views r entry list
+link_handed l views r entry list is resolved named lists =
+    record { views_are = is ∙ views_same l.inputs; resolved = resolved; entry_is = named; lists = lists }
+
+-- the lists of a link, read as one
+pub lists_are : (l : Link) (list : Option ListEntries) → AreListsOf l.export_lists list → AreLists l list
+lists_are l None none = rw none refl
+lists_are l (Some e) some = (by l.export_lists some.0, some.1)
+  where
+    by : (texts : List (List ℕ)) → (texts ≡ [] → ⊥) → not (length texts == 0) ≡ true
+    by [] none = absurd (none refl)
+    by (t ∷ texts) none = ap not (ne_eqb (length (t ∷ texts)) 0 (λ e. absurd (omega (arith, e))))
+
+-- what holds anyway holds where a call answers
+pub on_ok : {X E : Type 0} (r : Result X E) (P : Type 0) → P → OnOk r P
+on_ok (Ok x) P p = p
+on_ok (Err e) P p = tt
+
+-- a refusal that stands for all sizes
+pub stands_always : {X : Type 0} (l : Link) (r : Result X LinkError) → ((counts : Counts) → IfErr r (Stands l counts)) → IfErr r (StandsAlways l)
+stands_always l (Ok x) each = tt
+stands_always l (Err e) each = λ counts are. each counts
+
+pub stands_counted : {X : Type 0} (l : Link) (r : Result X LinkError) → ((counts : Counts) → AreCounts l counts → IfErr r (Stands l counts))
+    → IfErr r (StandsAlways l)
+stands_counted l (Ok x) each = tt
+stands_counted l (Err e) each = each
+
+-- a link with so many libraries has too many
+pub too_many : (l : Link) (number : ℕ) → number ≡ length (libraries_needed l) → GREATEST_LIBRARIES < number
+    → StandsAlways l (error.TooMany limit.Libraries number None)
+too_many l number is more = λ counts are. record { stands = (is, more); kept = tt }
+
+-- inputs that are what their kinds say
+pub inputs_given : (a : LinkAsked) → IsGiven a → All IsInput (link_asked a).inputs
+inputs_given a given = All-map IsInput input_of a.inputs.now given.inputs
+
+-- views are as few as inputs
+pub views_few : (a : LinkAsked) (views : List (Option FileBytes)) → IsGiven a → views ≡ parts.views_of (link_asked a) → length views < 2 ^ 32
+views_few a views given is =
+    let long : length views ≡ length (map parts.object_view (map input_of a.inputs.now)) = ap length is in
+    omega (arith, long, length-map (map input_of a.inputs.now) parts.object_view, length-map a.inputs.now input_of, given.few)

@@ -1,0 +1,17 @@
+mod LastPart
+mod OwnEntries
+mod Ready
+mod Answering
+mod Parts
+mod Given
+mod Handed
+mod Closing
+mod FirstText
+mod Headed
+mod Signed
+mod OneList
+mod FixupsPut
+mod TriePut
+mod SymbolsPut
+mod Filling
+mod Making

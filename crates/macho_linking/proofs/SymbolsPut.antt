@@ -1,0 +1,124 @@
+-- The symbol table of a planned link fills its two ranges, which stand one behind the other: so one text is put over both.
+use Rattle.std.proofs.Common.{◌≡◌, ℕ, ◌+◌, ◌-◌, ◌*◌, ◌^◌, ◌<◌, ◌≤◌, List, ◌++◌, length, take, drop, refl, sym, ap, ◌∙◌, arith, All}
+use borrow.Rule.Slice.PartMut.{put_mid}
+use Rattle.std.specs.List.{flat_map}
+use Rattle.std.proofs.lemmas.List.{append-nil, drop_all, length-append, length-drop, length-take}
+use Rattle.macho_bytes.specs.Layouts.{spelling, size_of, ReadsBack}
+use Rattle.macho_bytes.specs.Texts.{put}
+use Rattle.macho_bytes.proofs.Puts.{put-put}
+use Rattle.macho_bytes.proofs.Writes.{put_mid-whole}
+use Rattle.macho_records.specs.Layouts.{symtab_entry}
+use Rattle.macho_model.specs.Limits.{GREATEST_SECTIONS}
+use Rattle.macho_model.specs.Links.{Link}
+use Rattle.macho_model.specs.Needs.{imports_of}
+use Rattle.macho_model.specs.Objects.{num_symbols}
+use Rattle.macho_model.specs.SymbolRows.{symbol_rows}
+use Rattle.std.specs.Option.{option_copied}
+use Rattle.macho_fields.specs.Looks.{Look}
+use Rattle.macho_linkedit.specs.declared.symbols.SymbolTable.{SymbolTable}
+use Rattle.macho_linkedit.specs.Symbols.{HasRows, table_text, table_size}
+use Rattle.macho_linkedit.proofs.CanList.{symbol_is_kept}
+use Rattle.macho_lists.proofs.Members.{contains_all}
+use Rattle.macho_tables.specs.Rows.{AreToList}
+use Rattle.macho_tables.proofs.Short.{sections_are_few, strings_are_short}
+use Rattle.macho_found.specs.Sizes.{FillsTables}
+use Rattle.macho_found.proofs.Heads.{tables_follow}
+use Rattle.macho_found.proofs.Sizes.{symbols_fill}
+use Rattle.macho_commands.proofs.Texts.{length-flat_map_same}
+use Rattle.macho_linking.specs.declared.planned.Planned.{Planned}
+use Rattle.macho_linking.specs.steps.Planned.{IsPlanned, IsLooked, KnowsAll, placement_of, counts_of}
+use Rattle.macho_linking.specs.steps.Written.{SymbolsArePut}
+use Rattle.macho_linking.proofs.Ready.{planned_within, planned_to_table}
+
+pub outputs_few : (l : Link) (b : Planned) → IsPlanned l b → length (placement_of b).output_sections ≤ GREATEST_SECTIONS
+outputs_few l b h =
+    sections_are_few l h.sized.planned.plan (counts_of b) (placement_of b) h.sized.planned.of_link h.sized.planned.fits h.sized.planned.laid
+
+pub strings_short : (l : Link) (b : Planned) → IsPlanned l b → b.sized.now.symbols.strings < 2 ^ 32
+strings_short l b h =
+    strings_are_short l (counts_of b) (placement_of b) b.sized.now.symbols h.sized.placed (planned_within l b h) h.sized.counted
+    h.sized.listed
+
+-- the symbols of the objects are known
+pub objects_known : (l : Link) (b : Planned) (has_symbol : ℕ → ℕ → Type 0) → IsPlanned l b → KnowsAll b has_symbol
+    → All (λ o. (k : ℕ) → k < num_symbols o.file.bytes → has_symbol o.number k) b.objects.now
+objects_known l b has_symbol h knows =
+    contains_all (λ o. (k : ℕ) → k < num_symbols o.file.bytes → has_symbol o.number k) b.objects.now
+    (λ o there k lt. knows o.number k
+    (symbol_is_kept l (imports_of l) b.read.now.needs.resolved b.objects.now o h.read.resolved h.inputs.objects.0 there k lt))
+
+pub to_list : (l : Link) (b : Planned) (look : Look) → IsLooked l b look
+    → AreToList l (counts_of b) (placement_of b) look b.objects.now b.sized.now.symbols (option_copied b.list)
+to_list l b look h = record {
+  link = planned_to_table l b look h;
+  objects_are = h.planned.inputs.objects.0;
+  kinds = h.planned.inputs.objects.1;
+  listed_are = h.planned.sized.listed;
+  lists_are = h.planned.inputs.lists;
+}
+
+fills : (l : Link) (b : Planned) (t : SymbolTable) → IsPlanned l b → HasRows (symbol_rows l (counts_of b) (placement_of b)) t
+    → FillsTables (counts_of b) (placement_of b) t
+fills l b t h rows = symbols_fill l (counts_of b) (placement_of b) t h.sized.placed h.sized.counted rows
+
+-- both ranges, one behind the other
+abbrev pub both : Planned → ℕ
+both b = (placement_of b).linkedit.strtab.end - (placement_of b).linkedit.symtab.start
+
+-- they lie in the file, and the table has as many bytes
+pub record FillsBoth (b : Planned) (t : SymbolTable) : Type 0 where
+  pub rises : (placement_of b).linkedit.symtab.start ≤ (placement_of b).linkedit.strtab.end
+  pub inside : (placement_of b).linkedit.strtab.end ≤ (placement_of b).linkedit.signature.end
+  pub whole : table_size t ≡ (placement_of b).linkedit.strtab.end - (placement_of b).linkedit.symtab.start
+
+pub fills_both : (l : Link) (b : Planned) (t : SymbolTable) → IsPlanned l b → HasRows (symbol_rows l (counts_of b) (placement_of b)) t
+    → FillsBoth b t
+fills_both l b t h rows =
+    let full = fills l b t h rows in
+    let follow = tables_follow l (counts_of b) (placement_of b) h.sized.placed in
+    record {
+      rises = omega (arith, full.behind, full.strings);
+      inside = omega (arith, follow.strings.1, follow.signature);
+      whole = omega (arith, full.behind, full.strings);
+    }
+
+-- a text over all of a part
+put_whole : (text bytes : List ℕ) → length text ≡ length bytes → put 0 text bytes ≡ text
+unfolding put
+put_whole text bytes same =
+    ap (λ (rest : List ℕ). text ++ rest) (drop_all (0 + length text) bytes (omega (arith, same))) ∙ append-nil text
+
+pub part_long : (at n : ℕ) (out : List ℕ) → at + n ≤ length out → length (take n (drop at out)) ≡ n
+part_long at n out fits = omega (arith, length-take n (drop at out), length-drop at out)
+
+-- THE table, written over both
+pub symbols_put : (l : Link) (b : Planned) (t : SymbolTable) (old part new : List ℕ) → IsPlanned l b
+    → HasRows (symbol_rows l (counts_of b) (placement_of b)) t → All (ReadsBack symtab_entry) t.entries.items
+    → length old ≡ (placement_of b).linkedit.signature.end
+    → part ≡ put 0 (table_text t) (take (both b) (drop (placement_of b).linkedit.symtab.start old))
+    → new ≡ put_mid (placement_of b).linkedit.symtab.start (both b) old part → SymbolsArePut l (counts_of b) (placement_of b) old new
+unfolding table_text
+symbols_put l b t old part new h rows back long written is =
+    let full = fills l b t h rows in
+    let entries : List ℕ = flat_map (spelling symtab_entry) t.entries.items in
+    let strings : List ℕ = t.strings.items in
+    let at : ℕ = (placement_of b).linkedit.symtab.start in
+    let filled = fills_both l b t h rows in
+    let many : length entries ≡ size_of symtab_entry * length t.entries.items = length-flat_map_same
+    (spelling symtab_entry) (size_of symtab_entry) t.entries.items (λ i d lt. (back i d lt).long) in
+    let size : length (entries ++ strings) ≡ both b = omega (arith, length-append entries strings, many, filled.whole) in
+    let room : at + both b ≤ length old = omega (arith, filled.rises, filled.inside, long) in
+    let all : part ≡ entries ++ strings = written ∙ put_whole (entries ++ strings) (take (both b) (drop at old))
+    (size ∙ sym (part_long at (both b) old room)) in
+    let one : new ≡ put at (entries ++ strings) old = is
+    ∙ put_mid-whole at (both b) old (entries ++ strings) part (sym size) (omega (arith, size, room)) all in
+    let behind : (placement_of b).linkedit.strtab.start ≡ at + length entries = full.behind ∙ ap (λ (n : ℕ). at + n) (sym many) in
+    record {
+      symbols = entries;
+      strings = strings;
+      is = one ∙ sym (put-put at (placement_of b).linkedit.strtab.start entries strings old behind
+          (omega (arith, behind, room, size, length-append entries strings)));
+      fits = omega (arith, many, full.symbols);
+      fit = omega (arith, full.strings);
+      says = record { table = t; rows = rows; entries_are = refl; strings_are = refl; back = back };
+    }

@@ -1,0 +1,8 @@
+use Rattle.std.proofs.Common.{All, map, take}
+use Rattle.macho_inputs.specs.steps.Owned.{input_of}
+use Rattle.macho_answers.specs.Inputs.{HasBytes}
+use Rattle.macho_linking.proofs.bytes.hold_bytes.Given as goal
+
+-- the inputs so far
+abbrev pub invariant-loop-input : goal.invariant-loop-input
+invariant-loop-input l = All HasBytes (map input_of (take l.input-index l.inputs))

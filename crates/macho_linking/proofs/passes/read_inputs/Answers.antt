@@ -1,0 +1,35 @@
+-- The inputs are those of the link that is asked for, so their symbols are its, and what is read of them is its reading.
+use Rattle.std.proofs.Common.{refl}
+use Rattle.macho_linking.specs.steps.Linking.{link_asked}
+use Rattle.macho_linking.specs.steps.Imaged.{StandsAlways, IsSingle}
+use Rattle.macho_linking.proofs.Answering.{err_with}
+use Rattle.macho_linking.proofs.Given.{same_inputs, link_handed, on_ok, stands_always}
+use Rattle.macho_linking.proofs.passes.read_inputs.Goals as goal
+
+pub returns-in_err-resolved-clause-why : goal.returns-in_err-resolved-clause-why
+returns-in_err-resolved-clause-why c =
+    let l = link_asked c.args.asked.now in
+    err_with c.from_residual.result c.in_err-resolved.field-0.0 (StandsAlways l) c.from_residual.ensures.1
+    (λ counts are. c.in_err-resolved.ensures.why l counts refl)
+
+pub read_link-requires-clause-same : goal.read_link-requires-clause-same
+read_link-requires-clause-same c =
+    let l = link_asked c.args.asked.now in
+    same_inputs l c.args.views.now c.in_ok-resolved.resolved c.requires.views (c.in_ok-resolved.ensures.done l refl)
+
+pub returns-clause-done : goal.returns-clause-done
+returns-clause-done c =
+    let l = link_asked c.args.asked.now in
+    c.read_link.ensures.done l (link_handed l c.args.views.now c.in_ok-resolved.resolved _ _ c.requires.views (c.in_ok-resolved.ensures.done l refl)
+    c.entry_name.ensures c.requires.lists)
+
+pub returns-clause-single : goal.returns-clause-single
+returns-clause-single c =
+    let l = link_asked c.args.asked.now in
+    on_ok c.read_link.result (IsSingle l) (c.in_ok-resolved.ensures.single l refl)
+
+pub returns-clause-why : goal.returns-clause-why
+returns-clause-why c =
+    let l = link_asked c.args.asked.now in
+    stands_always l c.read_link.result (λ counts. c.read_link.ensures.why l counts (link_handed l c.args.views.now c.in_ok-resolved.resolved _ _
+    c.requires.views (c.in_ok-resolved.ensures.done l refl) c.entry_name.ensures c.requires.lists))

@@ -1,0 +1,10 @@
+-- The steps of the link: a link that is planned, what each pass writes, and why an image isn't written. No clause of a public
+-- function cites them.
+pub mod Linking
+pub mod Paths
+pub mod Lists
+pub mod Planned
+pub mod Unwritten
+pub mod Written
+pub mod Sealing
+pub mod Imaged

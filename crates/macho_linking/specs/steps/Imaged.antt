@@ -1,0 +1,73 @@
+-- The image of a planned link, and a link while it is read, sized and answered.
+use Rattle.std.specs.Prelude.{◌≡◌, ℕ, ◌+◌, ◌<◌, ◌^◌, false, List, length, map, Option, All}
+use Rattle.macho_layout.specs.Placements.{placed_of}
+use Rattle.macho_model.specs.declared.placed.Counts.{Counts}
+use Rattle.macho_model.specs.Links.{Link}
+use Rattle.macho_model.specs.Placement.{Placed}
+use Rattle.macho_model.specs.Limits.{IsWritten32, LIMIT_32}
+use Rattle.macho_model.specs.Needs.{libraries_needed, imports_of}
+use Rattle.macho_model.specs.Faults.{IsDuplicate, bad_name}
+use Rattle.macho_model.specs.ImportTable.{fixup_count}
+use Rattle.macho_object.specs.Views.{FileBytes}
+use Rattle.macho_promise.specs.Sizes.{AreCounts}
+use Rattle.macho_promise.specs.Promise.{IsLinked}
+use Rattle.macho_parts.specs.Views.{views_of, ViewsObject}
+use Rattle.macho_faults.specs.declared.fault.LinkError.{LinkError}
+use Rattle.macho_faults.specs.Standing.{Stands}
+use Rattle.macho_exports.specs.Entries.{ListEntries}
+use Rattle.macho_symbols.specs.Exported.{AreLists}
+use Rattle.macho_filling.specs.Filled.{NoneIsBad}
+use Rattle.macho_targets.specs.Laws.{ObjectsAreRead}
+use Rattle.macho_found.specs.Names.{StubsArePlain}
+use Rattle.macho_linkedit.specs.declared.exports.NamedExport.{NamedExport}
+use Rattle.macho_linkedit.specs.declared.listing.LinkedObject.{LinkedObject}
+use Rattle.macho_linkedit.specs.Listing.{AreObjects}
+use Rattle.macho_linkedit.specs.Tries.{AreKept}
+use Rattle.macho_tables.specs.Exports.{exports_told}
+use Rattle.macho_reading.specs.declared.link.ReadLink.{ReadLink}
+use Rattle.macho_reading.specs.Read.{IsReadOf, AreKnown}
+use Rattle.macho_sizing.specs.declared.asked.SizedLink.{SizedLink}
+use Rattle.macho_sizing.specs.Sized.{IsSizedOf}
+use Rattle.macho_linking.specs.declared.planned.Planned.{Planned}
+use Rattle.macho_linking.specs.declared.write.Written.{Written}
+use Rattle.macho_linking.specs.steps.Planned.{placement_of, counts_of}
+
+-- Bytes are the image of a planned link, and nothing that placing shows stands against it.
+pub record IsImaged (l : Link) (counts : Counts) (p : Placed) (uuid bytes : List ℕ) (fixups : ℕ) : Type 0 where
+  pub linked : IsLinked l counts uuid bytes p
+  pub many : fixups ≡ fixup_count l
+  pub good : NoneIsBad l p
+  pub near : (x : ℕ) → IsWritten32 l p x → x < p.base + LIMIT_32
+
+-- no name has two strong definitions
+abbrev pub IsSingle : Link → Type 0
+IsSingle l = (name : List ℕ) (first second : ℕ) → IsDuplicate l name first second → ⊥
+
+-- a refusal stands by the sizes of the link
+abbrev pub StandsAlways : Link → LinkError → Type 0
+StandsAlways l e = (counts : Counts) → AreCounts l counts → Stands l counts e
+
+-- What was read is that of a link.
+pub record IsToSize (l : Link) (views : List (Option FileBytes)) (objects : List LinkedObject) (lists : Option ListEntries) (read : ReadLink)
+    (libraries : List (List ℕ)) : Type 0 where
+  pub views_are : (views ≡ views_of l) × All ViewsObject views × (length views < 2 ^ 32)
+  pub objects_are : AreObjects l objects × All (λ o. o.file.is_dynamic ≡ false) objects
+  pub lists_are : AreLists l lists
+  pub read_is : IsReadOf l read × AreKnown views read
+  pub libraries_are : libraries ≡ libraries_needed l
+  pub rules : ObjectsAreRead l × StubsArePlain l
+
+-- Sizes and placement are those of a link.
+pub record HasSizes (l : Link) (read : ReadLink) (sized : SizedLink) : Type 0 where
+  pub kept : List NamedExport
+  pub exports : AreKept l (exports_told read.exports.items) kept
+  pub sizes : IsSizedOf l kept sized
+
+-- THE link is to be answered by an image.
+pub record IsToAnswer (l : Link) (uuid : List ℕ) (written : Written) (sized : SizedLink) (read : ReadLink) (libraries : List (List ℕ)) : Type 0 where
+  pub image : IsImaged l sized.counts (placed_of sized.placement) uuid written.bytes.items written.fixups
+  pub sizes : HasSizes l read sized
+  pub read_is : IsReadOf l read
+  pub libraries_are : libraries ≡ libraries_needed l
+  pub single : IsSingle l
+  pub name : bad_name l ≡ false
