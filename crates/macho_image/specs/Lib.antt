@@ -1,11 +1,4 @@
-pub mod First
-pub mod Counts
-pub mod Unbuilt
 pub mod Linkers
 pub mod Refusals
-pub mod Linked
-pub mod Definitions
-pub mod Referents
-pub mod Branches
-pub mod Answered
+pub mod Shown
 pub mod steps

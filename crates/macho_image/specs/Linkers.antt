@@ -1,8 +1,9 @@
 -- What a linker holds: the arguments that matter to it, and its inputs in order.
-use Rattle.std.specs.Prelude.{◌≡◌, ℕ, Bool, List, not, [], ◌∷◌, ◌++◌, false, None}
+use Rattle.std.specs.Prelude.{◌≡◌, ℕ, List, not, [], ◌∷◌, ◌++◌}
 use Rattle.std.specs.Option.{option_map}
 use Rattle.macho_args.specs.Settings.{Settings, Platform, install_name_of}
-use Rattle.macho_model.specs.Links.{Link, Input}
+use Rattle.macho_model.specs.Links.{Link, Input, Object, Dylib, Stub, StubReading}
+use Rattle.macho_promise.specs.Inputs.{IsStubInput}
 
 -- the versions that are written: the least one of the system, and that of the SDK
 abbrev pub versions_of : Platform → ℕ × ℕ
@@ -23,42 +24,22 @@ link_of s = record {
   export_lists = [];
 }
 
--- the arguments ask for nothing that a linker doesn't do yet: no run path, version, room for longer names, identifier, map
--- or made objects
-pub record IsPlainly (s : Settings) : Type 0 where
-  pub rpaths : s.rpaths ≡ []
-  pub versions : s.platform_version ≡ None
-  pub headerpad : s.headerpad_max_install_names ≡ false
-  pub uuid : s.uuid ≡ None
-  pub map_lines : s.map_lines ≡ false
-  pub generate : s.generate ≡ None
-
--- the link that a linker holds, by its fields
-abbrev pub held_link : Bool → Bool → List ℕ → List ℕ → List ℕ → List Input → Link
-held_link executable dead_strip_dylibs output entry install_name inputs = record {
-  executable = executable;
-  output = output;
-  entry = entry;
-  install_name = install_name;
-  rpaths = [];
-  versions = None;
-  dead_strip_dylibs = dead_strip_dylibs;
-  headerpad = false;
-  inputs = inputs;
-  export_lists = [];
-}
-
 -- a link with an input more
 abbrev pub with_input : Link → Input → Link
-with_input l input = record {
-  executable = l.executable;
-  output = l.output;
-  entry = l.entry;
-  install_name = l.install_name;
-  rpaths = l.rpaths;
-  versions = l.versions;
-  dead_strip_dylibs = l.dead_strip_dylibs;
-  headerpad = l.headerpad;
-  inputs = l.inputs ++ input ∷ [];
-  export_lists = l.export_lists;
-}
+with_input l input = record l { inputs = l.inputs ++ input ∷ [] }
+
+-- a link with an export list more
+abbrev pub with_export_list : Link → List ℕ → Link
+with_export_list l text = record l { export_lists = l.export_lists ++ text ∷ [] }
+
+-- the bytes of an input
+abbrev pub bytes_of : Input → List ℕ
+bytes_of (Object bytes) = bytes
+bytes_of (Dylib bytes) = bytes
+bytes_of (Stub text says) = text
+
+-- The stub of a text was taken: it is the last input, with what it says.
+pub record TakesStub (old new : Link) (text : List ℕ) : Type 0 where
+  pub says : StubReading
+  pub stub : IsStubInput text says
+  pub added : new ≡ with_input old (Stub text says)

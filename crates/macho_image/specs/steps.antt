@@ -1,19 +1,4 @@
 -- The code's own steps: what private functions say, and what loops keep. No clause of a public function cites them.
-pub mod Branches
-pub mod Composed
-pub mod Definitions
-pub mod First
-pub mod Headers
-pub mod Kinds
-pub mod LaidOut
-pub mod Linked
-pub mod Names
-pub mod Parts
+pub mod Held
 pub mod Paths
-pub mod Places
-pub mod Referents
-pub mod Refusals
-pub mod Setting
-pub mod Shape
-pub mod Unbuilt
-pub mod Unwritten
+pub mod StubRefusals

@@ -1,25 +1,10 @@
-//! The linker: from objects to the bytes of an image.
+//! The linker: what is linked is gathered, and becomes the bytes of an image.
 #![tactic(auto)]
 
-mod branch;
-mod carried;
-mod compose;
-mod entry;
-mod fault;
-mod headers;
-mod layout;
 mod link;
 mod linker;
-mod names;
 mod paths;
-mod place;
-mod referent;
-mod scan;
-mod setting;
-mod size;
-mod write;
 
-pub use fault::{InputFault, LinkError, Unbuilt};
-pub use link::{ExportName, ImportName, LinkedImage};
 pub use linker::{InputView, Linker};
-pub use macho_layout::Placement;
+pub use macho_faults::{InputFault, LinkError};
+pub use macho_linked::{ExportName, ImportName, LinkedImage, Placement};

@@ -1,44 +1,60 @@
 //! The linker: what is linked, gathered before the link.
-ghost use Rattle.std.specs.Prelude.{◌≡◌, false, ◌<◌, length, IfOk, IfErr, OnOk, OnErr};
-ghost use Rattle.macho_args.specs.Settings.{settings_of};
-ghost use Rattle.macho_model.specs.Links.{Object};
-ghost use Rattle.macho_model.specs.Grammar.{IsObject};
-ghost use Rattle.macho_model.specs.Faults.{bad_name};
-ghost use Rattle.macho_image.specs.Linkers.{link_of, IsPlainly, with_input};
-ghost use Rattle.macho_image.specs.Linked.{ShowsInput};
-ghost use Rattle.macho_image.specs.steps.Linked.{IsOnly};
-ghost use Rattle.macho_image.specs.Refusals.{ArgsRefused, ObjectRefused};
+ghost use Rattle.std.specs.Prelude.{◌≡◌, ◌-◌, ◌^◌, false, not, ◌<◌, ◌≤◌, length, map, Some, IfOk, IfErr, IfSome, OnOk, OnErr};
+ghost use Rattle.std.specs.Option.{option_map};
+ghost use Rattle.std.specs.List.{list_any};
+ghost use Rattle.std.specs.String.{string_bytes};
+ghost use Rattle.macho_args.specs.Settings.{settings_of, platform_of};
+ghost use Rattle.macho_model.specs.Links.{Object, Dylib};
+ghost use Rattle.macho_model.specs.Grammar.{IsObject, IsDylib};
+ghost use Rattle.macho_model.specs.Faults.{bad_name, has_zero};
+ghost use Rattle.macho_image.specs.Linkers.{link_of, versions_of, with_input, with_export_list, TakesStub};
+ghost use Rattle.macho_promise.specs.Inputs.{IsInput, IsStubInput};
+ghost use Rattle.macho_inputs.specs.steps.Owned.{input_of, says_of};
+ghost use Rattle.macho_faults.specs.declared.fault.LinkError.TheVariants.{OutOfMemory};
+ghost use Rattle.macho_image.specs.Shown.{Shows, ShowsInput, ShowsBytes};
+ghost use Rattle.macho_image.specs.steps.StubRefusals.{stub_refusal};
+ghost use Rattle.macho_image.specs.Refusals.{ArgsRefused, ObjectRefused, DylibRefused, StubRefused};
 
-use crate::fault::{InputFault, LinkError, Unbuilt};
 use crate::paths::{has_no_file_name, has_nul};
-use macho_args::MachOArgs;
+use macho_args::{MachOArgs, PlatformVersion};
+use macho_faults::{InputFault, LinkError};
+use macho_inputs::OwnedInput;
 use macho_object::File;
-use std::alloc::Global;
+use macho_stub::{StubFault, parse_defined_library};
+use std::alloc::{AllocError, Global};
 use std::marker::Model;
 
-/// The arguments of a link, and its inputs, which it owns.
+/// The arguments of a link, its inputs, which it owns, and its export lists.
 #[derive(Drop)]
 pub struct Linker {
     pub(crate) executable: bool,
     pub(crate) dead_strip_dylibs: bool,
+    pub(crate) headerpad: bool,
     pub(crate) output: Vec<u8>,
     pub(crate) entry: Vec<u8>,
     pub(crate) install_name: Vec<u8>,
-    pub(crate) inputs: Vec<Vec<u8>>,
+    pub(crate) rpaths: Vec<Vec<u8>>,
+    pub(crate) versions: Option<(u32, u32)>,
+    pub(crate) inputs: Vec<OwnedInput>,
+    pub(crate) export_lists: Vec<Vec<u8>>,
 }
 
 impl Model for Linker {
-    ghost use Rattle.std.specs.Prelude.{◌≡◌, length, false, map, ◌≤◌, All, []};
-    ghost use Rattle.macho_model.specs.Links.{Link, Object};
-    ghost use Rattle.macho_model.specs.Grammar.{IsObject};
+    ghost use Rattle.std.specs.Prelude.{◌≡◌, length, false, map, [], ◌<◌, ◌^◌, All};
+    ghost use Rattle.macho_model.specs.Links.{Link};
     ghost use Rattle.macho_model.specs.Faults.{bad_name};
-    ghost use Rattle.macho_image.specs.Linkers.{held_link};
+    ghost use Rattle.macho_promise.specs.Inputs.{IsInput};
+    ghost use Rattle.macho_inputs.specs.steps.Owned.{input_of};
+    ghost use Rattle.macho_image.specs.steps.Held.{held_link};
 
     ghost Value = { Link };
 
-    ghost view = { λ l. held_link l.executable l.dead_strip_dylibs l.output.items l.entry.items l.install_name.items (map (λ bytes. Object bytes.items) l.inputs.items) };
+    ghost view = { λ l. held_link l.executable l.dead_strip_dylibs l.headerpad l.output.items l.entry.items l.install_name.items
+        (map (λ r. r.items) l.rpaths.items) l.versions (map input_of l.inputs.items) (map (λ t. t.items) l.export_lists.items) };
 
-    ghost invariant = { λ l. All (λ bytes. IsObject bytes.items) l.inputs.items × (length l.inputs.items ≤ 1) × (bad_name (held_link l.executable l.dead_strip_dylibs l.output.items l.entry.items l.install_name.items []) ≡ false) };
+    ghost invariant = { λ l. All (λ input. IsInput (input_of input)) l.inputs.items × (length l.inputs.items < 2 ^ 32)
+        × (bad_name (held_link l.executable l.dead_strip_dylibs l.headerpad l.output.items l.entry.items l.install_name.items
+        (map (λ r. r.items) l.rpaths.items) l.versions [] []) ≡ false) };
 }
 
 /// An input as the linker owns it.
@@ -52,30 +68,106 @@ pub enum InputView<'a> {
     Stub(&'a str),
 }
 
+fn some_has_nul(paths: &[String]) -> bool
+    ensures { result ≡ list_any (λ path. has_zero (string_bytes path)) paths.now }
+{
+    paths.iter().any(|path| has_nul(path.as_bytes()))
+}
+
+/// Whether a NUL stands in one of the paths.
+fn any_has_nul(paths: &[String]) -> bool
+    ensures { result ≡ list_any has_zero (map string_bytes paths.now) }
+{
+    some_has_nul(paths)
+}
+
+/// The bytes of the paths.
+fn bytes_of(alloc: Global, paths: &[String]) -> Result<Vec<Vec<u8>>, AllocError>
+    ensures { IfOk result (λ copies. map (λ c. c.items) copies.items ≡ map string_bytes paths.now) }
+{
+    let mut copies = Vec::new(alloc);
+    for path in paths {
+        copies.push(path.as_bytes().to_vec(alloc)?)?;
+    }
+    Ok(copies)
+}
+
+/// The least version of the system, and that of the SDK.
+fn versions_in(platform: &Option<PlatformVersion>) -> Option<(u32, u32)>
+    ensures { result ≡ option_map versions_of (option_map platform_of platform.now) }
+{
+    match platform {
+        Some(version) => Some((version.minimum_version.get(), version.sdk_version.get())),
+        None => None,
+    }
+}
+
+/// The refusal of a stub's text.
+fn refusal_of_stub(fault: StubFault) -> LinkError
+    ensures { result ≡ stub_refusal fault }
+{
+    match fault {
+        StubFault::Rule { line, rule } => LinkError::BadInput {
+            fault: InputFault::Stub { line, rule },
+        },
+        StubFault::OutOfMemory => LinkError::OutOfMemory,
+    }
+}
+
+/// Looks whether the text is a stub.
+fn check_stub(alloc: Global, text: &str) -> Result<(), LinkError>
+    ensures found { OnOk result (IsStubInput text.now (says_of text.now)) }
+    ensures why { IfErr result (StubRefused text.now) }
+{
+    if let Err(fault) = parse_defined_library(alloc, text) {
+        return Err(refusal_of_stub(fault));
+    }
+    Ok(())
+}
+
+/// A view of an input that is what its kind says.
+fn view_of(input: &OwnedInput) -> InputView<'_>
+    requires { IsInput (input_of input.now) }
+    ensures { Shows (input_of input.now) result }
+{
+    match input {
+        OwnedInput::Object(bytes) => InputView::Object(File::of_valid(bytes, false)),
+        OwnedInput::Dylib(bytes) => InputView::Dylib(File::of_valid(bytes, true)),
+        OwnedInput::Stub(text) => InputView::Stub(text.as_str()),
+    }
+}
+
 impl Linker {
-    /// A linker without inputs.
+    /// A linker without inputs and export lists.
     ///
     /// # Errors
     ///
     /// `BadName` where the output path has no file name, or a NUL stands in it, in the install name or in a run path.
     pub fn new(alloc: Global, args: &MachOArgs) -> Result<Linker, LinkError>
-        requires plainly { IsPlainly (settings_of args.now) }
         ensures made { IfOk result (λ linker. linker ≡ link_of (settings_of args.now)) }
         ensures fine { OnOk result (bad_name (link_of (settings_of args.now)) ≡ false) }
         ensures why { IfErr result (ArgsRefused (link_of (settings_of args.now))) }
     {
         let output = args.output.as_bytes();
         let install_name = args.dylib_install_name();
-        if has_no_file_name(output) || has_nul(output) || has_nul(install_name) {
+        if has_no_file_name(output)
+            || has_nul(output)
+            || has_nul(install_name)
+            || any_has_nul(&args.rpaths)
+        {
             return Err(LinkError::BadName);
         }
         Ok(Linker {
             executable: !args.dylib,
             dead_strip_dylibs: args.dead_strip_dylibs,
+            headerpad: args.headerpad_max_install_names,
             output: output.to_vec(alloc)?,
             entry: args.entry.as_bytes().to_vec(alloc)?,
             install_name: install_name.to_vec(alloc)?,
+            rpaths: bytes_of(alloc, &args.rpaths)?,
+            versions: versions_in(&args.platform_version),
             inputs: Vec::new(alloc),
+            export_lists: Vec::new(alloc),
         })
     }
 
@@ -83,26 +175,78 @@ impl Linker {
     ///
     /// # Errors
     ///
-    /// `BadInput` where the bytes break a rule of objects, `Unbuilt` where the linker has an object already, `OutOfMemory`. A
-    /// refused object is dropped.
+    /// `BadInput` where the bytes break a rule of objects, `OutOfMemory`. A refused object is dropped.
     pub fn add_object(&mut self, bytes: Vec<u8>) -> Result<u32, LinkError>
+        requires few { length self.old.inputs < 2 ^ 32 - 1 }
         ensures added { IfOk result (λ file. (file ≡ length self.old.inputs) × (self.new ≡ with_input self.old (Object bytes.items))) }
         ensures found { OnOk result (IsObject bytes.items) }
         ensures kept { OnErr result (self.new ≡ self.old) }
-        ensures why { IfErr result (ObjectRefused self.old bytes.items) }
+        ensures why { IfErr result (ObjectRefused bytes.items) }
     {
         if let Err(fault) = File::parse_bytes(&bytes, false) {
             return Err(LinkError::BadInput {
                 fault: InputFault::Object(fault),
             });
         }
-        if !self.inputs.is_empty() {
-            return Err(LinkError::Unbuilt {
-                what: Unbuilt::Input,
+        let file = self.num_inputs();
+        self.inputs.push(OwnedInput::Object(bytes))?;
+        Ok(file)
+    }
+
+    /// Takes a dynamic library, and gives its number.
+    ///
+    /// # Errors
+    ///
+    /// `BadInput` where the bytes break a rule of dynamic libraries, `OutOfMemory`. A refused library is dropped.
+    pub fn add_dylib(&mut self, bytes: Vec<u8>) -> Result<u32, LinkError>
+        requires few { length self.old.inputs < 2 ^ 32 - 1 }
+        ensures added { IfOk result (λ file. (file ≡ length self.old.inputs) × (self.new ≡ with_input self.old (Dylib bytes.items))) }
+        ensures found { OnOk result (IsDylib bytes.items) }
+        ensures kept { OnErr result (self.new ≡ self.old) }
+        ensures why { IfErr result (DylibRefused bytes.items) }
+    {
+        if let Err(fault) = File::parse_bytes(&bytes, true) {
+            return Err(LinkError::BadInput {
+                fault: InputFault::Object(fault),
             });
         }
-        self.inputs.push(bytes)?;
-        Ok(0)
+        let file = self.num_inputs();
+        self.inputs.push(OwnedInput::Dylib(bytes))?;
+        Ok(file)
+    }
+
+    /// Takes a text stub, and gives its number.
+    ///
+    /// # Errors
+    ///
+    /// `BadInput` where the text is outside the grammar of stubs or breaks a rule of them, `OutOfMemory`. A refused text is
+    /// dropped.
+    pub fn add_stub(&mut self, text: String) -> Result<u32, LinkError>
+        requires few { length self.old.inputs < 2 ^ 32 - 1 }
+        ensures number { IfOk result (λ file. file ≡ length self.old.inputs) }
+        ensures added { OnOk result (TakesStub self.old self.new (string_bytes text)) }
+        ensures kept { OnErr result (self.new ≡ self.old) }
+        ensures why { IfErr result (StubRefused (string_bytes text)) }
+    {
+        check_stub(*self.inputs.allocator(), text.as_str())?;
+        let file = self.num_inputs();
+        self.inputs.push(OwnedInput::Stub(text))?;
+        Ok(file)
+    }
+
+    /// Takes the text of an export list, behind those before it.
+    ///
+    /// # Errors
+    ///
+    /// `OutOfMemory`.
+    pub fn add_export_list(&mut self, text: &[u8]) -> Result<(), LinkError>
+        ensures added { OnOk result (self.new ≡ with_export_list self.old text.now) }
+        ensures kept { OnErr result (self.new ≡ self.old) }
+        ensures why { IfErr result (λ e. e ≡ OutOfMemory) }
+    {
+        let copy = text.to_vec(*self.export_lists.allocator())?;
+        self.export_lists.push(copy)?;
+        Ok(())
     }
 
     /// How many files were added.
@@ -116,20 +260,35 @@ impl Linker {
     pub fn input(&self, index: u32) -> Option<InputView<'_>>
         ensures { ShowsInput self.now index result }
     {
-        if index as usize >= self.inputs.len() {
-            return None;
-        }
-        let bytes = &self.inputs[index as usize];
-        Some(InputView::Object(File::of_valid(bytes, false)))
-    }
-
-    /// The bytes of the only object, None where there is none.
-    pub(crate) fn only_object(&self) -> Option<&[u8]>
-        ensures { IsOnly self.now.inputs result }
-    {
-        match self.inputs.first() {
-            Some(bytes) => Some(bytes.as_slice()),
+        match self.inputs.get(index as usize) {
+            Some(input) => Some(view_of(input)),
             None => None,
         }
+    }
+
+    /// The bytes of a file as it was taken, None where no file has the number.
+    pub fn input_bytes(&self, index: u32) -> Option<&[u8]>
+        ensures { ShowsBytes self.now index result }
+    {
+        match self.inputs.get(index as usize) {
+            Some(OwnedInput::Object(bytes)) => Some(bytes.as_slice()),
+            Some(OwnedInput::Dylib(bytes)) => Some(bytes.as_slice()),
+            Some(OwnedInput::Stub(text)) => Some(text.as_bytes()),
+            None => None,
+        }
+    }
+
+    /// The texts of the export lists, in the order in which they were added.
+    pub fn export_lists(&self) -> &[Vec<u8>]
+        ensures { map (λ text. text.items) result.now ≡ self.now.export_lists }
+    {
+        &self.export_lists
+    }
+
+    /// Whether an executable is linked, and no dynamic library.
+    pub fn is_executable(&self) -> bool
+        ensures { result ≡ self.now.executable }
+    {
+        self.executable
     }
 }

@@ -1,7 +1,2 @@
-pub mod Lookups
-pub mod Streams
-pub mod Spellings
-pub mod Jobs
-pub mod Determined
-pub mod Sure
-pub mod JobRows
+pub mod Joining
+pub mod Complete

@@ -1,9 +1,2 @@
-pub mod Faults
-pub mod Devices
-pub mod Memory
-pub mod MemoryOutput
-pub mod Heads
-pub mod CommandLine
-pub mod Job
 pub mod Runs
 pub mod steps

@@ -1,92 +1,44 @@
--- What a run answers, when each of its faults may come, and what it leaves.
-use Rattle.std.specs.Prelude.{◌≡◌, ℕ, ◌<◌, ◌⊎◌, true, false, List, Contains, Option, None, Some}
-use Rattle.macho_args.specs.Settings.{Settings, file}
+-- THE promise of a run: what it answers, what it prints, and what it leaves.
+use Rattle.std.specs.Prelude.{◌≡◌, ℕ, false, List, [], Option, None, Some, MatchOption, IfSome}
+use Rattle.macho_args.specs.Settings.{Settings}
 use Rattle.macho_args.specs.Store.{Store, Directories, CanonicalPaths}
-use Rattle.macho_model.specs.Links.{Link}
+use Rattle.macho_args.specs.SearchPaths.{IsParsed}
 use Rattle.macho_model.specs.Faults.{bad_name}
-use Rattle.macho_model.specs.Grammar.{IsObject}
-use Rattle.macho_image.specs.declared.fault.LinkError.{LinkError}
-use Rattle.macho_image.specs.declared.fault.LinkError.TheVariants as error
-use Rattle.macho_image.specs.declared.link.LinkedImage.{LinkedImage}
-use Rattle.macho_image.specs.Linkers.{link_of}
-use Rattle.macho_image.specs.Linked.{IsImageOf}
-use Rattle.macho_image.specs.Refusals.{InputBreaks, RefusalStands}
-use Rattle.macho_image.specs.Answered.{IsAnswered}
-use Rattle.wild_macho.specs.declared.fault.Fault.{Fault}
-use Rattle.wild_macho.specs.declared.fault.Fault.TheVariants.{MissingFile, UnknownKind, Input, Link as LinkFault, Words, Read, Write, Print, OutOfMemory}
-use Rattle.wild_macho.specs.Faults.{CountRose, last_count}
-use Rattle.wild_macho.specs.Devices.{WritesFile, TornWrite}
-use Rattle.wild_macho.specs.Heads.{has_object_head, kind_of}
-use Rattle.wild_macho.specs.CommandLine.{WordsSay, WordsBreak}
-use Rattle.wild_macho.specs.Job.{HeldAt, IsMissing, Links, JobOf}
+use Rattle.macho_model.specs.Links.{Link}
+use Rattle.macho_model.specs.Valid.{IsValid}
+use Rattle.macho_model.specs.declared.placed.Counts.{Counts}
+use Rattle.macho_promise.specs.Sizes.{AreCounts}
+use Rattle.macho_linked.specs.declared.image.LinkedImage.{LinkedImage}
+use Rattle.macho_linked.specs.Linked.{IsImageOf}
+use Rattle.macho_devices.specs.Devices.{WritesFile, TornWrite, TakesBytes, TakesPrefix}
+use Rattle.macho_job.specs.declared.fault.Fault.{Fault}
+use Rattle.macho_job.specs.declared.fault.Fault.TheVariants.{Write, Print, OutOfMemory}
+use Rattle.macho_job.specs.Job.{Outside, Job, IsJob}
+use Rattle.macho_job.specs.Causes.{Failures, failures, status_of, IsClear, JobFails, WordsFail}
+use Rattle.macho_report.specs.Lines.{fault_line, run_lines}
+use Rattle.macho_report.specs.Printing.{IsLineTold}
+use Rattle.wild_macho.specs.declared.passes.Ran.{Ran}
 
--- the status that a run ends with
-abbrev pub status_of : Option Fault → ℕ
-status_of None = 0
-status_of (Some (MissingFile word)) = 1
-status_of (Some (UnknownKind word kind)) = 1
-status_of (Some (Input word error)) = 1
-status_of (Some (LinkFault error)) = 1
-status_of (Some (Words fault)) = 2
-status_of (Some (Read word)) = 3
-status_of (Some Write) = 4
-status_of (Some Print) = 4
-status_of (Some OutOfMemory) = 5
+-- what is told of the files outside
+abbrev pub outside : Option Directories → Option CanonicalPaths → Option Store → Outside
+outside directories canonical_paths store = record { directories = directories; canonical_paths = canonical_paths; store = store }
 
--- How often the devices of a run have failed: reads and writes of its files, and pieces that it printed.
-pub record Failures : Type 0 where
-  pub reads : ℕ
-  pub writes : ℕ
-  pub prints : ℕ
+-- What the devices of a run tell: the files outside, how often each device failed, and what was printed.
+pub record Devices : Type 0 where
+  pub outside : Outside
+  pub failures : Failures
+  pub printed : Option (List ℕ)
 
-abbrev pub failures : ℕ → ℕ → ℕ → Failures
-failures reads writes prints = record { reads = reads; writes = writes; prints = prints }
+abbrev pub devices : Outside → (reads writes prints : ℕ) → Option (List ℕ) → Devices
+devices files reads writes prints printed = record { outside = files; failures = failures reads writes prints; printed = printed }
 
--- no directory and no canonical path changes
-pub record KeepsPaths {D : Type 0} (directories : D → Option Directories) (canonical_paths : D → Option CanonicalPaths)
-    (old new : D) : Type 0 where
-  pub same_directories : directories new ≡ directories old
-  pub same_canonical_paths : canonical_paths new ≡ canonical_paths old
+-- What the device tells that takes the line of a fault: what it took, and how often it failed.
+pub record Teller : Type 0 where
+  pub taken : Option (List ℕ)
+  pub faults : ℕ
 
--- An object is refused: it breaks the rule that is told, at the place that is told.
-abbrev pub InputRefused : List ℕ → LinkError → Type 0
-InputRefused bytes (error.BadInput fault) = InputBreaks bytes fault × (IsObject bytes → ⊥)
-InputRefused bytes refusal = ⊥
-
--- A link is refused: its paths can't be written, which is found before an input is read; or what is told of it stands.
-abbrev pub LinkRefused : Option Store → Settings → LinkError → Type 0
-LinkRefused told s error.BadName = bad_name (link_of s) ≡ true
-LinkRefused told s (error.BadInput fault) = ⊥
-LinkRefused told s error.OutOfMemory = ⊥
-LinkRefused told s refusal = (l : Link) × Links told s l × RefusalStands l refusal
-
--- THE causes of the faults of a job, a row for each. Want of memory is free.
-abbrev pub JobFails : Settings → Option Store → Failures → Failures → Fault → Type 0
-JobFails s told old new (MissingFile word) = (path : List ℕ) × Contains s.inputs (file word path) × IsMissing told path
-JobFails s told old new (UnknownKind word kind) =
-    (path : List ℕ) × (bytes : List ℕ) × Contains s.inputs (file word path) × HeldAt told path bytes
-    × (has_object_head bytes ≡ false) × (kind ≡ kind_of bytes)
-JobFails s told old new (Input word refusal) =
-    (path : List ℕ) × (bytes : List ℕ) × Contains s.inputs (file word path) × HeldAt told path bytes
-    × (has_object_head bytes ≡ true) × InputRefused bytes refusal
-JobFails s told old new (LinkFault refusal) = LinkRefused told s refusal
-JobFails s told old new (Words fault) = ⊥
-JobFails s told old new (Read word) =
-    (path : List ℕ) × Contains s.inputs (file word path) × CountRose old.reads new.reads
-JobFails s told old new Write = CountRose old.writes new.writes
-JobFails s told old new Print = CountRose old.prints new.prints
-JobFails s told old new OutOfMemory = Unit {0}
-
--- a fault of the words: the first that breaks its row
-abbrev pub WordsFail : List (List ℕ) → Fault → Type 0
-WordsFail words (Words fault) = WordsBreak words fault
-WordsFail words OutOfMemory = Unit {0}
-WordsFail words fault = ⊥
-
--- THE cause of a run's fault: the words break a row, or they say a job that fails.
-abbrev pub RunFails : List (List ℕ) → Option Store → Failures → Failures → Fault → Type 0
-RunFails words told old new fault =
-    WordsFail words fault ⊎ ((s : Settings) × WordsSay words s × JobFails s told old new fault)
+abbrev pub teller : Option (List ℕ) → ℕ → Teller
+teller taken faults = record { taken = taken; faults = faults }
 
 -- What the output path holds where there is an image, by the fault that came: the image's bytes, or after a write that
 -- failed the first of them, or what it held. Every other path holds what it held. No other fault comes beside an image.
@@ -97,43 +49,92 @@ LeavesImage (Some Print) old new output bytes = WritesFile old new output bytes
 LeavesImage (Some OutOfMemory) old new output bytes = WritesFile old new output bytes
 LeavesImage (Some fault) old new output bytes = ⊥
 
--- Without an image there is a fault, that of no write and no print, and the store is as it was.
-abbrev pub LeavesNothing : Option Fault → Option Store → Option Store → Type 0
+-- What is printed where there is an image: the whole text, or where a print failed the first of it; nothing after a failed write.
+abbrev pub LeavesLines : Option Fault → Option (List ℕ) → Option (List ℕ) → List ℕ → Type 0
+LeavesLines None old new text = TakesBytes old new text
+LeavesLines (Some Write) old new text = new ≡ old
+LeavesLines (Some Print) old new text = TakesPrefix old new text
+LeavesLines (Some OutOfMemory) old new text = TakesPrefix old new text
+LeavesLines (Some fault) old new text = ⊥
+
+-- the files are as they were, and nothing is printed
+pub record LeavesAll (old new : Devices) : Type 0 where
+  pub files : new.outside.store ≡ old.outside.store
+  pub lines : new.printed ≡ old.printed
+
+-- Without an image there is a fault, that of no write and no print, and nothing is left behind.
+abbrev pub LeavesNothing : Option Fault → Devices → Devices → Type 0
 LeavesNothing None old new = ⊥
 LeavesNothing (Some Write) old new = ⊥
 LeavesNothing (Some Print) old new = ⊥
-LeavesNothing (Some fault) old new = new ≡ old
+LeavesNothing (Some fault) old new = LeavesAll old new
 
--- THE image of a run: that of the job of the words and of the store before the run, which has a link and an output
--- path; and what stands under the paths after the run.
-pub record HasImage (words : List (List ℕ)) (old new : Option Store) (fault : Option Fault) (image : LinkedImage)
-    : Type 0 where
-  pub link : Link
-  pub output : List ℕ
-  pub job : JobOf words old link output
-  pub is_image : IsImageOf link image
-  pub left : LeavesImage fault old new output image.bytes.items
+-- THE image of a run by settings: that of their job; what stands under the paths after it, and what was printed.
+pub record HasImage (s : Settings) (old new : Devices) (fault : Option Fault) (image : LinkedImage) : Type 0 where
+  pub job : Job
+  pub is : IsJob old.outside.store s job
+  pub is_image : IsImageOf job.link job.uuid image
+  pub left : LeavesImage fault old.outside.store new.outside.store job.output image.bytes.items
+  pub lines : LeavesLines fault old.printed new.printed (run_lines s job.link job.paths image)
 
--- No device failed, and none stands at the last value of its count.
-pub record NoneFailed (old new : Failures) : Type 0 where
-  pub none : new ≡ old
-  pub reads : old.reads < last_count
-  pub writes : old.writes < last_count
-  pub prints : old.prints < last_count
+-- A fault of settings has its cause, by the files that were read, and its line is told.
+pub record HasCauseIn (s : Settings) (old new : Devices) (before after : Teller) (fault : Fault) : Type 0 where
+  pub paths : List (List ℕ)
+  pub why : JobFails old.outside.store s paths old.failures new.failures fault
+  pub line : IsLineTold before.taken after.taken before.faults after.faults (fault_line s.inputs s.export_list_paths paths fault)
 
--- A job against which nothing stands: its paths can be written, and of the link's refusals only want of memory may
--- come.
-pub record IsSure (words : List (List ℕ)) (files : Store) : Type 0 where
-  pub link : Link
-  pub output : List ℕ
-  pub job : JobOf words (Some files) link output
-  pub named : bad_name link ≡ false
-  pub nothing_stands : (refusal : LinkError) → RefusalStands link refusal → refusal ≡ error.OutOfMemory
+-- A run by settings.
+pub record RunsBy (s : Settings) (old new : Devices) (before after : Teller) (ran : Ran) : Type 0 where
+  -- the status is that of the fault, 0 exactly where there is none
+  pub status : ran.status ≡ status_of ran.fault
+  -- an image is that of the job; without one nothing is left behind
+  pub image : MatchOption ran.image (LeavesNothing ran.fault old new) (HasImage s old new ran.fault)
+  -- a fault has its cause, and is told
+  pub fault : IfSome ran.fault (HasCauseIn s old new before after)
 
--- A job that is answered wherever there is memory: its paths can be written, and its link is one that is answered.
-pub record IsAnsweredJob (words : List (List ℕ)) (files : Store) : Type 0 where
-  pub link : Link
-  pub output : List ℕ
-  pub job : JobOf words (Some files) link output
-  pub named : bad_name link ≡ false
-  pub answered : IsAnswered link
+-- A run whose words are refused: the fault is that of the first which breaks its row, or want of memory; it is told, and nothing changes.
+pub record RefusesWords (words : List (List ℕ)) (old new : Devices) (before after : Teller) (ran : Ran) : Type 0 where
+  pub fault : Fault
+  pub is : ran.fault ≡ Some fault
+  pub status : ran.status ≡ status_of (Some fault)
+  pub image : ran.image ≡ None
+  pub why : WordsFail words fault
+  pub same : new ≡ old
+  pub line : IsLineTold before.taken after.taken before.faults after.faults (fault_line [] [] [] fault)
+
+-- the words say these settings, by what is told of the files outside
+abbrev pub Says : List (List ℕ) → Outside → Settings → Type 0
+Says words files s = IsParsed files.directories files.canonical_paths words s
+
+-- THE promise of a run: its words are refused, or they say settings by which it runs.
+pub data IsRun (words : List (List ℕ)) (old new : Devices) (before after : Teller) (ran : Ran) : Type 0 where
+  refused : RefusesWords words old new before after ran → IsRun words old new before after ran
+  runs : (s : Settings) → Says words old.outside s → RunsBy s old new before after ran → IsRun words old new before after ran
+
+-- no directory and no canonical path changes
+pub record KeepsPaths {D : Type 0} (directories : D → Option Directories) (canonical_paths : D → Option CanonicalPaths) (old new : D) : Type 0 where
+  pub same_directories : directories new ≡ directories old
+  pub same_canonical_paths : canonical_paths new ≡ canonical_paths old
+
+-- the words ask for no lines
+abbrev pub AskForNoLines : List (List ℕ) → Outside → Type 0
+AskForNoLines words files = (s : Settings) → Says words files s → (s.map_lines ≡ false) × (s.generate ≡ None)
+
+-- Words that say a job against which nothing stands. Where all is told outside, words say one thing; where directories or canonical
+-- paths aren't told, it is whatever they may say.
+pub record IsSure (words : List (List ℕ)) (files : Outside) : Type 0 where
+  pub said : Settings
+  pub says : Says words files said
+  pub each : (s : Settings) → Says words files s → (job : Job) × IsJob files.store s job × IsClear job.link
+
+-- A link that is owed an image wherever there is memory: it is valid, by its sizes.
+pub record IsOwed (l : Link) : Type 0 where
+  pub counts : Counts
+  pub counted : AreCounts l counts
+  pub valid : IsValid l counts
+
+-- Words that say a job that is answered wherever there is memory: its paths can be written, and its link is owed an image.
+pub record IsAnsweredJob (words : List (List ℕ)) (files : Outside) : Type 0 where
+  pub said : Settings
+  pub says : Says words files said
+  pub each : (s : Settings) → Says words files s → (job : Job) × IsJob files.store s job × (bad_name job.link ≡ false) × IsOwed job.link

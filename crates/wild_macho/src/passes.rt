@@ -1,40 +1,38 @@
 //! One run of the linker, from the words of a command line to the written image.
 //!
-//! Its passes are: the words are read, the linker is made, the inputs are read and added, the link makes an image, the
-//! image is written, and a fault is printed.
+//! Its passes are: the words are read, the linker is made, the inputs and the export lists are read and added, the link
+//! makes an image, the image is written, lines are printed; a fault is told.
 
-ghost use Rattle.std.specs.Prelude.{◌≡◌, ℕ, ◌<◌, ◌-◌, ◌^◌, ◌⊎◌, false, List, length, Option, Some, None, IfOk, IfErr, IfSome, MatchOption};
-ghost use Rattle.macho_args.specs.Settings.{Settings, settings_of};
-ghost use Rattle.macho_args.specs.Store.{Store};
+ghost use Rattle.std.specs.Prelude.{◌≡◌, ℕ, ◌<◌, ◌-◌, ◌^◌, ◌⊎◌, List, [], length, map, false, Some, None, Option, IfOk, IfErr, IfSome, MatchOption};
+ghost use Rattle.std.specs.String.{string_bytes};
+ghost use Rattle.macho_args.specs.Settings.{settings_of};
+ghost use Rattle.macho_args.specs.SearchPaths.{IsParsed};
+ghost use Rattle.macho_args.specs.Store.{Store, KeepsOutside};
 ghost use Rattle.macho_args.specs.Words.{texts_of};
-ghost use Rattle.macho_image.specs.Linkers.{link_of, IsPlainly};
-ghost use Rattle.macho_image.specs.Linked.{IsImageOf};
-ghost use Rattle.wild_macho.specs.Devices.{OnlyReads, OnlyWrites};
-ghost use Rattle.wild_macho.specs.Faults.{CountsOn};
-ghost use Rattle.wild_macho.specs.Job.{Links, JobOf};
-ghost use Rattle.wild_macho.specs.steps.Reading.{IsOneFile};
-ghost use Rattle.wild_macho.specs.Runs.{Failures, JobFails, RunFails, HasImage, LeavesImage, LeavesNothing, status_of};
-ghost use Rattle.wild_macho.specs.steps.Runs.{IsEarly, IsMade, IsWritten};
-ghost use Rattle.wild_macho.specs.Runs.{failures, KeepsPaths, IsSure, IsAnsweredJob, NoneFailed};
+ghost use Rattle.macho_model.specs.Links.{carried_of};
+ghost use Rattle.macho_model.specs.Placement.{id_of};
+ghost use Rattle.macho_image.specs.Linkers.{link_of};
+ghost use Rattle.macho_linked.specs.Linked.{IsImageOf};
+ghost use Rattle.macho_job.specs.Job.{uuid_of};
+ghost use Rattle.macho_devices.specs.Devices.{OnlyReads, OnlyWrites};
+ghost use Rattle.macho_devices.specs.Faults.{CountsOn};
+ghost use Rattle.macho_job.specs.Causes.{Failures, NoneFailed, failures, status_of, reading, JobFails, WordsFail};
+ghost use Rattle.macho_job.specs.Names.{names_of};
+ghost use Rattle.wild_macho.specs.Runs.{outside, devices, teller, IsRun, RunsBy, KeepsPaths, AskForNoLines, IsSure, IsAnsweredJob};
+ghost use Rattle.wild_macho.specs.steps.Made.{IsMade, IsLinkFault, ends, EndFails, Prints, Finishes, Answers};
 
-use crate::fault::Fault;
-use crate::file_system::{FileFault, Files};
-use crate::inputs::add_inputs;
-use crate::output::Sink;
-use crate::report::print_fault;
-use crate::words::read_words;
 use macho_args::MachOArgs;
+use macho_devices::{FileFault, Files, Sink};
 use macho_image::{LinkedImage, Linker};
+use macho_job::{Fault, FileNames, gather, uuid_of};
+use macho_report::{print_fault, print_lines};
 use std::alloc::Global;
-
-/// The UUID that is handed to the link: none is written yet.
-const NO_UUID: [u8; 16] = [0; 16];
 
 /// What a run answers.
 #[derive(Drop)]
 pub struct Ran {
-    /// The status that the program ends with: 0 where the image was written; 1 where an input or the link is refused; 2
-    /// where a word is; 3 where a read failed; 4 where a write did; 5 where memory ran out.
+    /// The status that the program ends with: 0 where the image was written and all was printed; 1 where an input or the
+    /// link is refused; 2 where a word is; 3 where a read failed; 4 where a write or a print did; 5 where memory ran out.
     pub status: u8,
     /// The image, where one was made and its write was begun.
     pub image: Option<LinkedImage>,
@@ -44,8 +42,8 @@ pub struct Ran {
 
 /// Links what the words say, with the files that `files` holds, and writes the image to the output path.
 ///
-/// The words are `-o` with a path, and the path of one object; the last `-o` stands. A plain link prints nothing to
-/// `out`. A fault is printed to `err` as one line; where that fails, the answer stays the same.
+/// A plain link prints nothing to `out`; `-map` and `-generate` print lines. A fault is printed to `err` as one line; where
+/// that fails, the answer stays the same.
 pub fn run<F: Files, O: Sink, E: Sink>(
     alloc: Global,
     words: &[String],
@@ -55,109 +53,146 @@ pub fn run<F: Files, O: Sink, E: Sink>(
 ) -> Ran
     requires { length words.now < 2 ^ 32 - 1 }
 
-    // The status is that of the fault, and 0 exactly where there is none.
-    ensures status { result.status ≡ status_of result.fault }
+    // The words are refused, or the run is that of the settings that they say.
+    ensures promise { IsRun (texts_of words.now)
+        (devices (outside (F.directories files.old) (F.canonical_paths files.old) (F.holds files.old)) (F.faults files.old) (F.write_faults files.old) (O.faults out.old) (O.taken out.old))
+        (devices (outside (F.directories files.new) (F.canonical_paths files.new) (F.holds files.new)) (F.faults files.new) (F.write_faults files.new) (O.faults out.new) (O.taken out.new))
+        (teller (E.taken err.old) (E.faults err.old)) (teller (E.taken err.new) (E.faults err.new)) result }
 
-    // An image is that of the job of the words and of the store, and it is written; without one the store is unchanged.
-    ensures image { MatchOption result.image (LeavesNothing result.fault (F.holds files.old) (F.holds files.new))
-        (HasImage (texts_of words.now) (F.holds files.old) (F.holds files.new) result.fault) }
-
-    // A fault has its cause in the words, in the job, or in a device that failed.
-    ensures why { IfSome result.fault (RunFails (texts_of words.now) (F.holds files.old)
-        (failures (F.faults files.old) (F.write_faults files.old) (O.faults out.old))
-        (failures (F.faults files.new) (F.write_faults files.new) (O.faults out.new))) }
-
-    // Directories and canonical paths stay, no count falls; nothing is printed to `out`, and without a fault to `err`.
+    // Directories and canonical paths stay, no count falls. Nothing is printed without an image, where no lines are asked for, and
+    // to `err` without a fault.
     ensures paths { KeepsPaths F.directories F.canonical_paths files.old files.new }
     ensures reads { CountsOn (F.faults files.old) (F.faults files.new) }
     ensures writes { CountsOn (F.write_faults files.old) (F.write_faults files.new) }
-    ensures silent { out.new ≡ out.old }
+    ensures prints { CountsOn (O.faults out.old) (O.faults out.new) }
+    ensures lines { CountsOn (E.faults err.old) (E.faults err.new) }
+    ensures unprinted { result.image ≡ None → out.new ≡ out.old }
+    ensures silent { AskForNoLines (texts_of words.now) (outside (F.directories files.old) (F.canonical_paths files.old) (F.holds files.old)) → out.new ≡ out.old }
     ensures quiet { result.fault ≡ None → err.new ≡ err.old }
 
     // Where a job has nothing against it and no device fails, it is done; or memory ran out.
-    ensures complete { (m : Store) → F.holds files.old ≡ Some m → IsSure (texts_of words.now) m
+    ensures complete { (m : Store) → F.holds files.old ≡ Some m
+        → IsSure (texts_of words.now) (outside (F.directories files.old) (F.canonical_paths files.old) (Some m))
         → NoneFailed (failures (F.faults files.old) (F.write_faults files.old) (O.faults out.old))
         (failures (F.faults files.new) (F.write_faults files.new) (O.faults out.new))
         → (result.status ≡ 0) ⊎ (result.status ≡ 5) }
 
-    // So is a job of one object that keeps the rules, with its entry and branches that are supported and at multiples of four.
-    ensures answered { (m : Store) → F.holds files.old ≡ Some m → IsAnsweredJob (texts_of words.now) m
+    // So is a job whose link is valid.
+    ensures answered { (m : Store) → F.holds files.old ≡ Some m
+        → IsAnsweredJob (texts_of words.now) (outside (F.directories files.old) (F.canonical_paths files.old) (Some m))
         → NoneFailed (failures (F.faults files.old) (F.write_faults files.old) (O.faults out.old))
         (failures (F.faults files.new) (F.write_faults files.new) (O.faults out.new))
         → (result.status ≡ 0) ⊎ (result.status ≡ 5) }
 {
-    let ran = run_words(alloc, words, files);
+    match read_words(alloc, words, files) {
+        Ok(args) => run_args(alloc, &args, files, out, err),
+        Err(fault) => {
+            print_fault(err, &[], &[], &FileNames::new(alloc), &fault);
+            refused(fault)
+        }
+    }
+}
+
+// Reads the words.
+fn read_words<F: Files>(alloc: Global, words: &[String], files: &mut F) -> Result<MachOArgs, Fault>
+    requires { length words.now < 2 ^ 32 - 1 }
+    ensures said { IfOk result (λ args. IsParsed (F.directories files.old) (F.canonical_paths files.old) (texts_of words.now) (settings_of args)) }
+    ensures why { IfErr result (WordsFail (texts_of words.now)) }
+    ensures kept { KeepsOutside F.directories F.canonical_paths F.holds F.faults F.write_faults files.old files.new }
+{
+    let mut args = MachOArgs::new(alloc)?;
+    match args.parse(words, files) {
+        Ok(()) => Ok(args),
+        Err(fault) => Err(Fault::of_words(fault)),
+    }
+}
+
+// The run of arguments: what is refused is told.
+fn run_args<F: Files, O: Sink, E: Sink>(
+    alloc: Global,
+    args: &MachOArgs,
+    files: &mut F,
+    out: &mut O,
+    err: &mut E,
+) -> Ran
+    ensures done { RunsBy (settings_of args.now)
+        (devices (outside (F.directories files.old) (F.canonical_paths files.old) (F.holds files.old)) (F.faults files.old) (F.write_faults files.old) (O.faults out.old) (O.taken out.old))
+        (devices (outside (F.directories files.new) (F.canonical_paths files.new) (F.holds files.new)) (F.faults files.new) (F.write_faults files.new) (O.faults out.new) (O.taken out.new))
+        (teller (E.taken err.old) (E.faults err.old)) (teller (E.taken err.new) (E.faults err.new)) result }
+    ensures paths { KeepsPaths F.directories F.canonical_paths files.old files.new }
+    ensures reads { CountsOn (F.faults files.old) (F.faults files.new) }
+    ensures writes { CountsOn (F.write_faults files.old) (F.write_faults files.new) }
+    ensures prints { CountsOn (O.faults out.old) (O.faults out.new) }
+    ensures lines { CountsOn (E.faults err.old) (E.faults err.new) }
+    ensures unprinted { result.image ≡ None → out.new ≡ out.old }
+    ensures silent { (settings_of args.now).map_lines ≡ false → (settings_of args.now).generate ≡ None → out.new ≡ out.old }
+    ensures quiet { result.fault ≡ None → err.new ≡ err.old }
+{
+    let mut names = FileNames::new(alloc);
+    let ran = link_args(alloc, args, files, out, &mut names);
     if let Some(fault) = &ran.fault {
-        print_fault(err, words, fault);
+        print_fault(err, &args.inputs, &args.export_list_paths, &names, fault);
     }
     ran
 }
 
-// The run, but for what it prints.
-fn run_words<F: Files>(alloc: Global, words: &[String], files: &mut F) -> Ran
-    requires { length words.now < 2 ^ 32 - 1 }
-    ensures status { result.status ≡ status_of result.fault }
-    ensures image { MatchOption result.image (LeavesNothing result.fault (F.holds files.old) (F.holds files.new))
-        (HasImage (texts_of words.now) (F.holds files.old) (F.holds files.new) result.fault) }
-    ensures why { IfSome result.fault (λ fault. (old new : Failures)
-        → old.reads ≡ F.faults files.old → new.reads ≡ F.faults files.new
-        → old.writes ≡ F.write_faults files.old → new.writes ≡ F.write_faults files.new
-        → RunFails (texts_of words.now) (F.holds files.old) old new fault) }
+// Links, writes and prints.
+fn link_args<F: Files, O: Sink>(
+    alloc: Global,
+    args: &MachOArgs,
+    files: &mut F,
+    out: &mut O,
+    names: &mut FileNames,
+) -> Ran
+    requires unnamed { names_of names.old ≡ [] }
+    ensures done { Answers (settings_of args.now) (names_of names.new)
+        (devices (outside (F.directories files.old) (F.canonical_paths files.old) (F.holds files.old)) (F.faults files.old) (F.write_faults files.old) (O.faults out.old) (O.taken out.old))
+        (devices (outside (F.directories files.new) (F.canonical_paths files.new) (F.holds files.new)) (F.faults files.new) (F.write_faults files.new) (O.faults out.new) (O.taken out.new)) result }
     ensures paths { KeepsPaths F.directories F.canonical_paths files.old files.new }
     ensures reads { CountsOn (F.faults files.old) (F.faults files.new) }
     ensures writes { CountsOn (F.write_faults files.old) (F.write_faults files.new) }
+    ensures prints { CountsOn (O.faults out.old) (O.faults out.new) }
+    ensures unprinted { result.image ≡ None → out.new ≡ out.old }
+    ensures silent { (settings_of args.now).map_lines ≡ false → (settings_of args.now).generate ≡ None → out.new ≡ out.old }
 {
-    match read_words(alloc, words) {
-        Ok(args) => run_args(alloc, &args, files),
-        Err(fault) => refused(Fault::of_words(fault)),
-    }
-}
-
-// The run of arguments.
-fn run_args<F: Files>(alloc: Global, args: &MachOArgs, files: &mut F) -> Ran
-    requires plainly { IsPlainly (settings_of args.now) }
-    requires one { IsOneFile (settings_of args.now).inputs }
-    ensures status { result.status ≡ status_of result.fault }
-    ensures image { MatchOption result.image (LeavesNothing result.fault (F.holds files.old) (F.holds files.new))
-        (IsWritten (settings_of args.now) (F.holds files.old) (F.holds files.new) result.fault) }
-    ensures why { IfSome result.fault (λ fault. (old new : Failures)
-        → old.reads ≡ F.faults files.old → new.reads ≡ F.faults files.new
-        → old.writes ≡ F.write_faults files.old → new.writes ≡ F.write_faults files.new
-        → JobFails (settings_of args.now) (F.holds files.old) old new fault) }
-    ensures paths { KeepsPaths F.directories F.canonical_paths files.old files.new }
-    ensures reads { CountsOn (F.faults files.old) (F.faults files.new) }
-    ensures writes { CountsOn (F.write_faults files.old) (F.write_faults files.new) }
-{
-    match link_args(alloc, args, files) {
-        Ok(image) => write_image(files, args.output.as_str(), image),
+    match make_image(alloc, args, files, names) {
+        Ok(made) => write_image(args, files, out, names, made),
         Err(fault) => refused(fault),
     }
 }
 
-// Makes the linker, adds the inputs, and links.
-fn link_args<F: Files>(alloc: Global, args: &MachOArgs, files: &mut F) -> Result<LinkedImage, Fault>
-    requires plainly { IsPlainly (settings_of args.now) }
-    requires one { IsOneFile (settings_of args.now).inputs }
-    ensures made { IfOk result (IsMade (F.holds files.old) (settings_of args.now)) }
-    ensures why { IfErr result (λ fault. (old new : Failures)
-        → old.reads ≡ F.faults files.old → new.reads ≡ F.faults files.new
-        → JobFails (settings_of args.now) (F.holds files.old) old new fault) }
-    ensures early { IfErr result IsEarly }
+/// A linker with all its inputs, and its image.
+#[derive(Drop)]
+pub(crate) struct Made {
+    pub(crate) linker: Linker,
+    pub(crate) image: LinkedImage,
+}
+
+// Makes the linker, adds the inputs and the lists, and links.
+fn make_image<F: Files>(
+    alloc: Global,
+    args: &MachOArgs,
+    files: &mut F,
+    names: &mut FileNames,
+) -> Result<Made, Fault>
+    requires unnamed { names_of names.old ≡ [] }
+    ensures made { IfOk result (IsMade (F.holds files.old) (settings_of args.now) (names_of names.new)) }
+    ensures why { IfErr result (JobFails (F.holds files.old) (settings_of args.now) (names_of names.new)
+        (reading (F.faults files.old)) (reading (F.faults files.new))) }
     ensures counted { CountsOn (F.faults files.old) (F.faults files.new) }
     ensures kept { OnlyReads F.directories F.canonical_paths F.holds F.write_faults files.old files.new }
 {
     let mut linker = make_linker(alloc, args)?;
-    add_inputs(alloc, args, files, &mut linker)?;
-    link(alloc, &linker)
+    gather(alloc, args, files, &mut linker, names)?;
+    let image = link(alloc, args, &linker)?;
+    Ok(Made { linker, image })
 }
 
 // Makes the linker.
 fn make_linker(alloc: Global, args: &MachOArgs) -> Result<Linker, Fault>
-    requires plainly { IsPlainly (settings_of args.now) }
     ensures made { IfOk result (λ linker. linker ≡ link_of (settings_of args.now)) }
-    ensures why { IfErr result (λ fault. (told : Option Store) (old new : Failures)
-        → JobFails (settings_of args.now) told old new fault) }
-    ensures early { IfErr result IsEarly }
+    ensures why { IfErr result (λ fault. (told : Option Store) (paths : List (List ℕ)) (old new : Failures)
+        → JobFails told (settings_of args.now) paths old new fault) }
 {
     match Linker::new(alloc, args) {
         Ok(linker) => Ok(linker),
@@ -166,41 +201,64 @@ fn make_linker(alloc: Global, args: &MachOArgs) -> Result<Linker, Fault>
 }
 
 // Links.
-fn link(alloc: Global, linker: &Linker) -> Result<LinkedImage, Fault>
-    ensures done { IfOk result (IsImageOf linker.now) }
-    ensures why { IfErr result (λ fault. (s : Settings) (told : Option Store) (old new : Failures)
-        → Links told s linker.now → JobFails s told old new fault) }
-    ensures early { IfErr result IsEarly }
+fn link(alloc: Global, args: &MachOArgs, linker: &Linker) -> Result<LinkedImage, Fault>
+    ensures done { IfOk result (IsImageOf linker.now (uuid_of (settings_of args.now) linker.now.inputs)) }
+    ensures why { IfErr result (IsLinkFault linker.now) }
 {
-    match linker.link_image(alloc, NO_UUID) {
+    let uuid = uuid_of(args, linker);
+    match linker.link_image(alloc, uuid) {
         Ok(image) => Ok(image),
         Err(error) => Err(Fault::of_link(error)),
     }
 }
 
-// Writes the image to the output path.
-fn write_image<F: Files>(files: &mut F, output: &str, image: LinkedImage) -> Ran
-    ensures status { result.status ≡ status_of result.fault }
-    ensures image { MatchOption result.image (LeavesNothing result.fault (F.holds files.old) (F.holds files.new))
-        (λ written. (written ≡ image)
-        × LeavesImage result.fault (F.holds files.old) (F.holds files.new) output.now image.bytes.items) }
-    ensures why { IfSome result.fault (λ fault. (s : Settings) (told : Option Store) (old new : Failures)
-        → old.writes ≡ F.write_faults files.old → new.writes ≡ F.write_faults files.new → JobFails s told old new fault) }
+// Writes the image to the output path, and prints its lines.
+fn write_image<F: Files, O: Sink>(
+    args: &MachOArgs,
+    files: &mut F,
+    out: &mut O,
+    names: &FileNames,
+    made: Made,
+) -> Ran
+    requires { map id_of made.image.placement.sections.items ≡ carried_of made.linker }
+    ensures done { Finishes (settings_of args.now) (names_of names.now) made
+        (ends (F.holds files.old) (F.holds files.new) (O.taken out.old) (O.taken out.new)) result }
+    ensures why { IfSome result.fault (EndFails (F.write_faults files.old) (F.write_faults files.new) (O.faults out.old) (O.faults out.new)) }
     ensures counted { CountsOn (F.write_faults files.old) (F.write_faults files.new) }
+    ensures prints { CountsOn (O.faults out.old) (O.faults out.new) }
     ensures kept { OnlyWrites F.directories F.canonical_paths F.faults files.old files.new }
+    ensures unprinted { result.image ≡ None → out.new ≡ out.old }
+    ensures silent { (settings_of args.now).map_lines ≡ false → (settings_of args.now).generate ≡ None → out.new ≡ out.old }
 {
-    match files.write(output, image.bytes.as_slice()) {
-        Ok(()) => Ran {
-            status: 0,
-            image: Some(image),
-            fault: None,
-        },
+    match files.write(args.output.as_str(), made.image.bytes.as_slice()) {
+        Ok(()) => print_image(args, out, names, made),
         Err(FileFault::Failed) => Ran {
             status: 4,
-            image: Some(image),
+            image: Some(made.image),
             fault: Some(Fault::Write),
         },
         Err(FileFault::OutOfMemory) => refused(Fault::OutOfMemory),
+    }
+}
+
+// Prints the lines of an image that is written.
+fn print_image<O: Sink>(args: &MachOArgs, out: &mut O, names: &FileNames, made: Made) -> Ran
+    requires { map id_of made.image.placement.sections.items ≡ carried_of made.linker }
+    ensures done { Prints (settings_of args.now) (names_of names.now) made (O.taken out.old) (O.taken out.new) (O.faults out.old) (O.faults out.new) result }
+    ensures prints { CountsOn (O.faults out.old) (O.faults out.new) }
+    ensures silent { (settings_of args.now).map_lines ≡ false → (settings_of args.now).generate ≡ None → out.new ≡ out.old }
+{
+    match print_lines(out, args, &made.linker, names, &made.image) {
+        Ok(()) => Ran {
+            status: 0,
+            image: Some(made.image),
+            fault: None,
+        },
+        Err(_) => Ran {
+            status: 4,
+            image: Some(made.image),
+            fault: Some(Fault::Print),
+        },
     }
 }
 

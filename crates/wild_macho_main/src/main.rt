@@ -1,14 +1,15 @@
 //! The linker as a program: its words are those behind its name, its files those of the system.
 //!
-//! It ends with the status of the run: 0 where the image was written, 1 where an input or the link is refused, 2 where a
-//! word is, 3 where a read failed, 4 where a write did, 5 where memory ran out. It ends with 6 where a word is not UTF-8
-//! or there are too many.
+//! It ends with the status of the run: 0 where the image was written and all was printed, 1 where an input or the link is
+//! refused, 2 where a word is, 3 where a read failed, 4 where a write or a print did, 5 where memory ran out. It ends with 6
+//! where a word is not UTF-8, which a line on standard error tells by its number, or where there are too many words.
 #![tactic(auto)]
 
 ghost use Rattle.std.specs.Prelude.{◌<◌, ◌-◌, ◌^◌, IfOk, vec_len};
 
-use std::env;
-use std::io::ErrorKind;
+mod words;
+
+use crate::words::{BadWords, words_of};
 use std::process::ExitCode;
 use wild_macho::{RealFiles, RealSink, run};
 
@@ -18,36 +19,24 @@ const OUT_OF_MEMORY: u8 = 5;
 /// The status where a word is not UTF-8, or there are too many.
 const BAD_WORDS: u8 = 6;
 
-/// There are fewer words than this.
-const TOO_MANY_WORDS: usize = 0xffff_ffff;
-
-// The words behind the program's name, or the status where they can't be had.
-fn words_of(rt: &HostRuntime) -> Result<Vec<String>, u8>
-    ensures { IfOk result (λ words. vec_len words < 2 ^ 32 - 1) }
-{
-    let mut args = match env::args(rt) {
-        Ok(args) => args,
-        Err(error) if error.kind() == ErrorKind::OutOfMemory => return Err(OUT_OF_MEMORY),
-        Err(_error) => return Err(BAD_WORDS),
-    };
-    let _name = args.next();
-    let words: Vec<String> = match args.collect(rt.alloc()) {
-        Ok(words) => words,
-        Err(_error) => return Err(OUT_OF_MEMORY),
-    };
-    if words.len() < TOO_MANY_WORDS {
-        Ok(words)
-    } else {
-        Err(BAD_WORDS)
+// The status of words that can't be had; the one that isn't UTF-8 is told.
+fn status_of(rt: &HostRuntime, bad: BadWords) -> u8 {
+    match bad {
+        BadWords::OutOfMemory => OUT_OF_MEMORY,
+        BadWords::TooMany => BAD_WORDS,
+        BadWords::NotUtf8 { word } => {
+            let _ = eprintln!(rt; "wild_macho: word {word} is not UTF-8");
+            BAD_WORDS
+        }
     }
 }
 
 fn main(rt: HostRuntime) -> ExitCode {
     let words = match words_of(&rt) {
         Ok(words) => words,
-        Err(status) => return ExitCode::from(status),
+        Err(bad) => return ExitCode::from(status_of(&rt, bad)),
     };
-    let mut files = RealFiles::new(&rt);
+    let mut files = RealFiles::new(&rt, rt.alloc());
     let mut out = RealSink::new(rt.stdout());
     let mut err = RealSink::new(rt.stderr());
     let ran = run(rt.alloc(), &words, &mut files, &mut out, &mut err);

@@ -145,7 +145,7 @@ fn real_files_are_written_and_read(rt: HostRuntime) -> Result<(), Fail> {
     let path = format!(in rt.alloc(); "{}/wild_macho_devices_{id}", folder.as_str())?;
     let below = format!(in rt.alloc(); "{path}/below")?;
     let missing = format!(in rt.alloc(); "{path}.missing")?;
-    let mut files = RealFiles::new(&rt);
+    let mut files = RealFiles::new(&rt, rt.alloc());
     files.write(path.as_str(), b"image")?;
     assert_eq!(rt;
         shown(&mut files, rt.alloc(), path.as_str())?.as_str(),
@@ -166,6 +166,12 @@ fn real_files_are_written_and_read(rt: HostRuntime) -> Result<(), Fail> {
     );
     assert_eq!(rt; shown(&mut files, rt.alloc(), "/")?.as_str(), "!");
     assert_eq!(rt; files.write("/", b"image"), Err(FileFault::Failed));
+    assert_eq!(rt;
+        files.write(below.as_str(), b"image"),
+        Err(FileFault::Failed)
+    );
+    assert_eq!(rt; files.write("/dev/full", b"image"), Err(FileFault::Failed));
+    files.write("/dev/null", b"image")?;
     assert!(rt; files.is_dir("/"));
     assert!(rt; !files.is_dir(path.as_str()));
     let canonical = files.canonical(rt.alloc(), "/.")?.ok_or("none")?;

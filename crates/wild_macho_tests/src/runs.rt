@@ -1,7 +1,5 @@
 //! Whole runs over files in memory: objects written out, the image of one of them, and each refusal with its line.
 
-use macho_args::MachOArgs;
-use macho_image::{LinkError, Linker, Unbuilt};
 use std::alloc::Global;
 use std::test::Fail;
 use std::{env, fs, process};
@@ -10,7 +8,7 @@ use wild_macho::{
 };
 
 /// A function `_main` of two instructions, without relocations.
-const OBJECT: [u8; 240] = [
+pub(crate) const OBJECT: [u8; 240] = [
     // 0: header: arm64 object, 2 commands of 176 bytes
     0xcf, 0xfa, 0xed, 0xfe, 0x0c, 0, 0, 1, 0, 0, 0, 0, 1, 0, 0, 0, //
     2, 0, 0, 0, 176, 0, 0, 0, 0, 0, 0, 0, 0, 0, 0, 0, //
@@ -36,37 +34,22 @@ const OBJECT: [u8; 240] = [
     0, 0x5f, 0x6d, 0x61, 0x69, 0x6e, 0, 0, //
 ];
 
-/// The image of that object, up to the end of its code. Zeros follow up to 16,384 bytes.
-const IMAGE: [u8; 320] = [
-    // 0: header: arm64 executable, 4 commands of 280 bytes, flags 0x200085
+/// The header of its image: arm64 executable, 10 commands of 448 bytes, flags 0x200085.
+const HEADER: [u8; 32] = [
     0xcf, 0xfa, 0xed, 0xfe, 0x0c, 0, 0, 1, 0, 0, 0, 0, 2, 0, 0, 0, //
-    4, 0, 0, 0, 0x18, 1, 0, 0, 0x85, 0, 0x20, 0, 0, 0, 0, 0, //
-    // 32: LC_SEGMENT_64 of 72 bytes: `__PAGEZERO`, 4 GiB of nothing
-    0x19, 0, 0, 0, 72, 0, 0, 0, 0x5f, 0x5f, 0x50, 0x41, 0x47, 0x45, 0x5a, 0x45, //
-    0x52, 0x4f, 0, 0, 0, 0, 0, 0, 0, 0, 0, 0, 0, 0, 0, 0, //
-    0, 0, 0, 0, 1, 0, 0, 0, 0, 0, 0, 0, 0, 0, 0, 0, //
-    0, 0, 0, 0, 0, 0, 0, 0, 0, 0, 0, 0, 0, 0, 0, 0, //
-    0, 0, 0, 0, 0, 0, 0, 0, //
-    // 104: LC_SEGMENT_64 of 152 bytes: `__TEXT` at 0x100000000, the whole file, protection 5, one section
-    0x19, 0, 0, 0, 152, 0, 0, 0, 0x5f, 0x5f, 0x54, 0x45, 0x58, 0x54, 0, 0, //
-    0, 0, 0, 0, 0, 0, 0, 0, 0, 0, 0, 0, 1, 0, 0, 0, //
-    0, 0x40, 0, 0, 0, 0, 0, 0, 0, 0, 0, 0, 0, 0, 0, 0, //
-    0, 0x40, 0, 0, 0, 0, 0, 0, 5, 0, 0, 0, 5, 0, 0, 0, //
-    1, 0, 0, 0, 0, 0, 0, 0, //
-    // 176: `__text` of `__TEXT`: 8 bytes at 0x100000138, file offset 0x138, exponent 2, flags 0x80000400
-    0x5f, 0x5f, 0x74, 0x65, 0x78, 0x74, 0, 0, 0, 0, 0, 0, 0, 0, 0, 0, //
-    0x5f, 0x5f, 0x54, 0x45, 0x58, 0x54, 0, 0, 0, 0, 0, 0, 0, 0, 0, 0, //
-    0x38, 1, 0, 0, 1, 0, 0, 0, 8, 0, 0, 0, 0, 0, 0, 0, //
-    0x38, 1, 0, 0, 2, 0, 0, 0, 0, 0, 0, 0, 0, 0, 0, 0, //
-    0, 4, 0, 0x80, 0, 0, 0, 0, 0, 0, 0, 0, 0, 0, 0, 0, //
-    // 256: LC_MAIN: entry offset 0x138
-    0x28, 0, 0, 0x80, 24, 0, 0, 0, 0x38, 1, 0, 0, 0, 0, 0, 0, 0, 0, 0, 0, 0, 0, 0, 0, //
-    // 280: LC_LOAD_DYLINKER: `/usr/lib/dyld` at 12
-    0x0e, 0, 0, 0, 32, 0, 0, 0, 12, 0, 0, 0, 0x2f, 0x75, 0x73, 0x72, //
-    0x2f, 0x6c, 0x69, 0x62, 0x2f, 0x64, 0x79, 0x6c, 0x64, 0, 0, 0, 0, 0, 0, 0, //
-    // 312: the code
-    0, 0, 0x80, 0x52, 0xc0, 3, 0x5f, 0xd6, //
+    10, 0, 0, 0, 0xc0, 1, 0, 0, 0x85, 0, 0x20, 0, 0, 0, 0, 0, //
 ];
+
+/// Where its code stands: behind the header and the commands.
+const CODE: usize = 0x1e0;
+
+/// Where the strings of its symbol table stand, and what they are.
+const STRINGS: usize = 0x40e8;
+
+const NAMES: [u8; 7] = [0, 0x5f, 0x6d, 0x61, 0x69, 0x6e, 0];
+
+/// How long it is.
+const LENGTH: usize = 16_908;
 
 /// Two functions, `_main` and `_f`, the first of which branches to the second.
 const CALLS: [u8; 276] = [
@@ -102,17 +85,15 @@ const CALLS: [u8; 276] = [
 const CALLED: [u8; 12] = [2, 0, 0, 0x94, 0xc0, 3, 0x5f, 0xd6, 0xc0, 3, 0x5f, 0xd6];
 
 /// Places in it, and bytes by which its branch can't be taken: the instruction is an ADRP; the relocation isn't relative,
-/// has 8 bytes, has type 11; the symbol is absolute.
-const NOT_SUPPORTED: [(usize, u8); 5] = [
+/// has 8 bytes, has type 11, has a page's type; the symbol is absolute.
+const NOT_SUPPORTED: [(usize, u8); 6] = [
     (211, 0x90),
     (231, 0x2c),
     (231, 0x2f),
     (231, 0xbd),
+    (231, 0x3d),
     (252, 3),
 ];
-
-/// Places in it, and bytes for what isn't built yet: a page's type; a symbol that nothing defines.
-const NOT_BUILT: [(usize, u8); 2] = [(231, 0x3d), (252, 1)];
 
 /// Two relocations behind the object of two functions: branches to symbol 1 at 0 and at 4.
 const TWO_BRANCHES: [u8; 16] = [0, 0, 0, 0, 1, 0, 0, 0x2d, 4, 0, 0, 0, 1, 0, 0, 0x2d];
@@ -155,19 +136,27 @@ const OTHERS: [(&str, &[u8], InputKind); 5] = [
     ("fat64", b"\xca\xfe\xba\xbf\0\0\0\x01", InputKind::Universal),
     ("short", b"abc", InputKind::Other),
     (
-        "dylib",
-        b"\xcf\xfa\xed\xfe\x0c\0\0\x01\0\0\0\0\x06\0\0\0",
+        "program",
+        b"\xcf\xfa\xed\xfe\x0c\0\0\x01\0\0\0\0\x02\0\0\0",
         InputKind::Other,
     ),
 ];
 
 /// Words that are refused, with the status and the line that is printed.
-const REFUSED: [(&[&str], u8, &str); 12] = [
+const REFUSED: [(&[&str], u8, &str); 16] = [
     (&["-x"], 2, "bad word 0: Unknown"),
     (&["-o"], 2, "bad word 0: MissingValue"),
     (&["in.o", "-o"], 2, "bad word 1: MissingValue"),
-    (&["-o", "-o", "in.o", "in.o"], 2, "bad word 3: Unknown"),
-    (&["in.o", "-dylib"], 2, "bad word 1: Unknown"),
+    (&["-generate", "0"], 2, "bad word 1: BadNumber"),
+    (&["-generate", "1", "in.o"], 2, "bad word 2: Unsupported"),
+    (
+        &["-o", "-o", "in.o", "in.o"],
+        1,
+        "duplicate symbol _main in in.o and in.o",
+    ),
+    (&["-L", "/a", "-lfoo"], 1, "cannot find foo"),
+    (&["-framework", "X"], 1, "cannot find X"),
+    (&["in.o", "-o", "/"], 1, "bad name"),
     (&[], 1, "entry symbol _main is not defined"),
     (&["start.o"], 1, "entry symbol _main is not defined"),
     (&["gone.o"], 1, "cannot find gone.o"),
@@ -188,6 +177,17 @@ fn ran<F: Files, E: wild_macho::Sink>(
     files: &mut F,
     err: &mut E,
 ) -> Result<Ran, Fail> {
+    ran_to(alloc, texts, files, &mut SteadySink::new(), err)
+}
+
+// The same, with what is printed besides.
+pub(crate) fn ran_to<F: Files, O: wild_macho::Sink, E: wild_macho::Sink>(
+    alloc: Global,
+    texts: &[&str],
+    files: &mut F,
+    out: &mut O,
+    err: &mut E,
+) -> Result<Ran, Fail> {
     let mut words = Vec::new(alloc);
     for text in texts {
         words.push(String::from_str(alloc, text)?)?;
@@ -195,7 +195,7 @@ fn ran<F: Files, E: wild_macho::Sink>(
     if words.len() > 9 {
         return Err(Fail::from("too many words"));
     }
-    Ok(run(alloc, &words, files, &mut SteadySink::new(), err))
+    Ok(run(alloc, &words, files, out, err))
 }
 
 // The files of the rows.
@@ -224,7 +224,7 @@ fn behind(bytes: &[u8], count: usize) -> &[u8] {
 }
 
 // Whether the file under the path is these bytes.
-fn holds<F: Files>(
+pub(crate) fn holds<F: Files>(
     files: &mut F,
     alloc: Global,
     path: &str,
@@ -247,9 +247,10 @@ fn an_object_becomes_an_executable(rt: HostRuntime) -> Result<(), Fail> {
     assert_eq!(rt; answer.status, 0);
     assert!(rt; answer.fault.is_none());
     let image = answer.image.ok_or("no image")?;
-    assert_eq!(rt; image.bytes.len(), 16384);
-    assert!(rt; front(&image.bytes, 320) == IMAGE.as_slice());
-    assert!(rt; behind(&image.bytes, 320).iter().all(|byte| *byte == 0));
+    assert_eq!(rt; image.bytes.len(), LENGTH);
+    assert!(rt; front(&image.bytes, 32) == HEADER.as_slice());
+    assert!(rt; front(behind(&image.bytes, CODE), 8) == front(behind(&OBJECT, 208), 8));
+    assert!(rt; front(behind(&image.bytes, STRINGS), 7) == NAMES.as_slice());
     let whole = Some(image.bytes.as_slice());
     assert!(rt; holds(&mut files, rt.alloc(), "out", whole)?);
     assert!(rt; holds(&mut files, rt.alloc(), "first", None)?);
@@ -299,7 +300,7 @@ fn a_branch_goes_to_its_symbol(rt: HostRuntime) -> Result<(), Fail> {
         let answer = ran_with(rt.alloc(), place, byte, &mut SteadySink::new())?;
         assert_eq!(rt; answer.status, 0, "{place}");
         let image = answer.image.ok_or("no image")?;
-        assert!(rt; front(behind(&image.bytes, 312), 12) == want.as_slice());
+        assert!(rt; front(behind(&image.bytes, CODE), 12) == want.as_slice());
     }
     Ok(())
 }
@@ -340,21 +341,6 @@ fn of_several_refusals_the_first_is_told(rt: HostRuntime) -> Result<(), Fail> {
         let printed = format!(in rt.alloc(); "wild_macho: {line}\n")?;
         assert_eq!(rt; err.bytes(), printed.as_bytes(), "{line}");
         assert!(rt; holds(&mut files, rt.alloc(), "a.out", None)?);
-    }
-    Ok(())
-}
-
-#[test]
-fn what_is_not_built_yet_is_told(rt: HostRuntime) -> Result<(), Fail> {
-    for (place, byte) in NOT_BUILT {
-        let mut err = MemorySink::new(rt.alloc(), 200)?;
-        let answer = ran_with(rt.alloc(), place, byte, &mut err)?;
-        assert_eq!(rt; answer.status, 1, "{place}");
-        assert_eq!(rt;
-            err.bytes(),
-            b"wild_macho: calls.o: not built yet\n".as_slice(),
-            "{place} {byte}"
-        );
     }
     Ok(())
 }
@@ -408,7 +394,7 @@ fn a_failed_write_leaves_the_first_bytes(rt: HostRuntime) -> Result<(), Fail> {
             b"wild_macho: cannot write the output\n".as_slice()
         );
         let image = answer.image.ok_or("no image")?;
-        assert_eq!(rt; image.bytes.len(), 16384);
+        assert_eq!(rt; image.bytes.len(), LENGTH);
         let first = Some(front(&image.bytes, left as usize));
         assert!(rt; holds(&mut files, rt.alloc(), "a.out", first)?);
     }
@@ -420,7 +406,7 @@ fn an_output_path_that_is_a_folder_is_a_failed_write(rt: HostRuntime) -> Result<
     let folder = env::temp_dir(&rt)?;
     let id = process::id(rt.process());
     let path = format!(in rt.alloc(); "{}/wild_macho_runs_{id}.o", folder.as_str())?;
-    let mut files = RealFiles::new(&rt);
+    let mut files = RealFiles::new(&rt, rt.alloc());
     files.write(path.as_str(), &OBJECT)?;
     let words = ["-o", folder.as_str(), path.as_str()];
     let answer = ran(rt.alloc(), &words, &mut files, &mut SteadySink::new())?;
@@ -428,29 +414,5 @@ fn an_output_path_that_is_a_folder_is_a_failed_write(rt: HostRuntime) -> Result<
     assert_eq!(rt; answer.status, 4);
     assert!(rt; matches!(answer.fault, Some(Fault::Write)));
     assert!(rt; answer.image.is_some());
-    Ok(())
-}
-
-#[test]
-fn a_linker_links_again_after_a_refusal(rt: HostRuntime) -> Result<(), Fail> {
-    let args = MachOArgs::new(rt.alloc())?;
-    let mut linker = Linker::new(rt.alloc(), &args).ok().ok_or("no linker")?;
-    let object = Vec::from_slice(rt.alloc(), &CALLS)?;
-    assert!(rt; linker.add_object(object).is_ok());
-    let first = linker.link_image(rt.alloc(), [0; 16]).ok();
-    let first = first.ok_or("no image")?;
-    let second = Vec::from_slice(rt.alloc(), &OBJECT)?;
-    assert!(rt;
-        matches!(
-            linker.add_object(second),
-            Err(LinkError::Unbuilt {
-                what: Unbuilt::Input
-            })
-        )
-    );
-    assert_eq!(rt; linker.num_inputs(), 1);
-    let again = linker.link_image(rt.alloc(), [0; 16]).ok();
-    let again = again.ok_or("no second image")?;
-    assert!(rt; first.bytes == again.bytes);
     Ok(())
 }

@@ -1,8 +1,14 @@
--- The linker's refusal is the job's.
-use Rattle.std.proofs.lemmas.Result.{err_from_is_err_and}
+-- The image is written and printed by the settings.
+use Rattle.macho_args.specs.Settings.{settings_of}
+use Rattle.macho_job.specs.Names.{names_of}
+use Rattle.wild_macho.specs.Runs.{outside}
+use Rattle.wild_macho.proofs.Joining.{answers-written}
 use Rattle.wild_macho.proofs.passes.link_args.Goals as goal
 
-pub returns-in_err-linker-clause-why : goal.returns-in_err-linker-clause-why
-returns-in_err-linker-clause-why g c =
-    let p = err_from_is_err_and c.from_residual.result c.from_residual.ensures.1 in
-    rw (p.1, p.2) (λ old new olds news. c.in_err-linker.ensures.why (g.F.Paths.holds c.args.files.now) old new)
+pub returns-in-Ok-clause-done : goal.returns-in-Ok-clause-done
+returns-in-Ok-clause-done g c =
+    answers-written (settings_of c.args.args.now) (names_of c.make_image.new.names)
+    (outside (g.F.Paths.directories c.args.files.now) (g.F.Paths.canonical_paths c.args.files.now) (g.F.Paths.holds c.args.files.now))
+    (outside (g.F.Paths.directories c.write_image.new.files) (g.F.Paths.canonical_paths c.write_image.new.files) (g.F.Paths.holds c.write_image.new.files))
+    _ _ _ _ _ _ _ _ _ (g.F.Paths.holds c.make_image.new.files) c.in-Ok.made c.write_image.result c.make_image.ensures.kept.same_files
+    c.make_image.ensures.kept.same_write_faults c.in-Ok.ensures.made c.write_image.ensures.done c.write_image.ensures.why

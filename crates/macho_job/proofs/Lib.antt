@@ -1,0 +1,5 @@
+pub mod Gathers
+pub mod Making
+pub mod Determined
+pub mod Sure
+pub mod Refusing

@@ -1,0 +1,247 @@
+-- A job with nothing against it does not fail.
+--
+-- The store holds one text under a path, so what is linked is determined. Each cause of a fault then meets what is known of the
+-- job: an input that was asked for is found, its bytes begin as an input and are one; a made object keeps the rules; a list is
+-- held; no refusal of the link stands; and no count rose. Only want of memory is left.
+use Rattle.std.proofs.Common.{◌≡◌, ℕ, zero, suc, ◌<◌, arith, refl, ap, sym, subst, ◌∙◌, inl, inr, ◌⊎◌, true, false, Bool}
+use Rattle.std.proofs.Common.{List, [], ◌∷◌, ◌++◌, Option, Some, None, Contains, All}
+use Rattle.std.proofs.lemmas.List.Elements.{All-contains}
+use Rattle.std.specs.List.{AllZip}
+use Rattle.macho_args.specs.Settings as args
+use Rattle.macho_args.specs.Settings.{Settings}
+use Rattle.macho_args.specs.Store.{Store}
+use Rattle.macho_model.specs.Links.{Link, StubReading, Input, Object, Dylib, Stub}
+use Rattle.macho_model.specs.Faults.{bad_name}
+use Rattle.macho_model.specs.Grammar.{IsObject, IsDylib}
+use Rattle.macho_promise.specs.Inputs.{IsStubInput}
+use Rattle.macho_faults.specs.declared.fault.LinkError.{LinkError}
+use Rattle.macho_faults.specs.declared.fault.LinkError.TheVariants as error
+use Rattle.macho_faults.specs.declared.fault.InputFault.TheVariants as broken
+use Rattle.macho_image.specs.Linkers.{link_of}
+use Rattle.macho_image.specs.Refusals.{ObjectRefused, DylibRefused, StubRefused, RefusalStands}
+use Rattle.macho_devices.specs.Faults.{last_count}
+use Rattle.macho_job.specs.declared.fault.Fault.{Fault}
+use Rattle.macho_job.specs.declared.fault.Fault.TheVariants as fault
+use Rattle.macho_job.specs.declared.fault.InputKind.{InputKind}
+use Rattle.macho_job.specs.declared.heads.Head.{Head}
+use Rattle.macho_job.specs.declared.heads.Head.TheVariants as head
+use Rattle.macho_job.specs.Heads.{head_of}
+use Rattle.macho_job.specs.Search.{candidates_of, IsMissing, IsFirstHeld}
+use Rattle.macho_job.specs.Generator.{generated_object}
+use Rattle.macho_job.specs.Job.{SourceFile, IsReadAs, IsTaken, IsListed, AreFiles, Links, head_of_kind}
+use Rattle.macho_job.specs.Causes.{Failures, NoneFailed, IsAsked, IsNoText, BytesRefused, InputRefused, MadeRefused, IsUnknown, IsClear, LinkRefused, JobFails}
+use Rattle.macho_job.proofs.Determined.{one-held, not-missing, linked-once}
+
+-- an element of a list has its partner
+partner : {X Y : Type 0} (R : X → Y → Type 0) (xs : List X) (ys : List Y) (x : X) → AllZip R xs ys → Contains xs x → (y : Y) × R x y
+partner R [] ys x all (k, within, is) = absurd (omega (arith, within))
+partner R (first ∷ xs) [] x all (k, within, is) = absurd all
+partner {X} {Y} R (first ∷ xs) (y ∷ ys) x all (zero, within, is) = let P : X → Type 0 = λ z. R z y in (y, subst P is all.0)
+partner R (first ∷ xs) (y ∷ ys) x all (suc k, within, is) = partner R xs ys x all.1 (k, omega (arith, within), is)
+
+never-rose : (old new last : ℕ) → new ≡ old → old < last → (old < new) ⊎ (old ≡ last) → ⊥
+never-rose old new last same below (inl rose) = omega arith
+never-rose old new last same below (inr stood) = omega arith
+
+-- an input that was asked for is taken
+asked-file : (files : Store) (s : Settings) (word : ℕ) (asked : args.Input) (count : Option ℕ) (fs : List SourceFile) → s.generate ≡ count
+    → AreFiles (Some files) s count fs → IsAsked s word asked → (f : SourceFile) × IsTaken (Some files) s asked f
+asked-file files s word asked None fs is are asks = partner (IsTaken (Some files) s) s.inputs fs asked are asks.among
+asked-file files s word asked (Some n) fs is are asks = absurd (let h : Some n ≡ None = sym is ∙ asks.alone in let no : ⊥ = cc in no)
+
+-- a path that is held stands among the candidates
+held-among : (files : Store) (paths : List (List ℕ)) (path bytes : List ℕ) → IsFirstHeld (Some files) paths path bytes → All (IsMissing (Some files)) paths → ⊥
+held-among files paths path bytes first missing =
+    not-missing files path bytes (All-contains (IsMissing (Some files)) paths path missing
+    (subst (λ (ps : List (List ℕ)). Contains ps path) (sym first.split) (stands first.before path first.behind))) first.held
+  where
+    stands : (before : List (List ℕ)) (path : List ℕ) (behind : List (List ℕ)) → Contains (before ++ path ∷ behind) path
+    stands [] path behind = (0, omega arith, refl)
+    stands (x ∷ before) path behind = let c = stands before path behind in (suc c.0, omega (arith, c.1), c.2)
+
+-- an object that keeps the rules is refused for want of memory alone
+object-refused : (bytes : List ℕ) (refusal : LinkError) → IsObject bytes → ObjectRefused bytes refusal → refusal ≡ error.OutOfMemory
+object-refused bytes (error.BadInput (broken.Object f)) object why = absurd (why.1 object)
+object-refused bytes (error.BadInput (broken.Stub line rule)) object why = absurd why
+object-refused bytes error.OutOfMemory object why = refl
+object-refused bytes (error.DuplicateSymbol name m n) object why = absurd why
+object-refused bytes (error.UndefinedSymbol name n) object why = absurd why
+object-refused bytes (error.EntryNotDefined name) object why = absurd why
+object-refused bytes (error.ExportListMissing name) object why = absurd why
+object-refused bytes (error.BadInitializer n k o) object why = absurd why
+object-refused bytes (error.BadUnwind n k i rule) object why = absurd why
+object-refused bytes (error.UnsupportedRelocation n k r) object why = absurd why
+object-refused bytes (error.OverlappingFields n k q r) object why = absurd why
+object-refused bytes (error.BindAddend n k r a) object why = absurd why
+object-refused bytes (error.FixupPlace n k r p) object why = absurd why
+object-refused bytes (error.TooMany what n p) object why = absurd why
+object-refused bytes (error.ImageTooLarge p) object why = absurd why
+object-refused bytes (error.RebaseTarget at p) object why = absurd why
+object-refused bytes (error.RelocationRange at p) object why = absurd why
+object-refused bytes error.BadName object why = absurd why
+
+dylib-refused : (bytes : List ℕ) (refusal : LinkError) → IsDylib bytes → DylibRefused bytes refusal → refusal ≡ error.OutOfMemory
+dylib-refused bytes (error.BadInput (broken.Object f)) dylib why = absurd (why.1 dylib)
+dylib-refused bytes (error.BadInput (broken.Stub line rule)) dylib why = absurd why
+dylib-refused bytes error.OutOfMemory dylib why = refl
+dylib-refused bytes (error.DuplicateSymbol name m n) dylib why = absurd why
+dylib-refused bytes (error.UndefinedSymbol name n) dylib why = absurd why
+dylib-refused bytes (error.EntryNotDefined name) dylib why = absurd why
+dylib-refused bytes (error.ExportListMissing name) dylib why = absurd why
+dylib-refused bytes (error.BadInitializer n k o) dylib why = absurd why
+dylib-refused bytes (error.BadUnwind n k i rule) dylib why = absurd why
+dylib-refused bytes (error.UnsupportedRelocation n k r) dylib why = absurd why
+dylib-refused bytes (error.OverlappingFields n k q r) dylib why = absurd why
+dylib-refused bytes (error.BindAddend n k r a) dylib why = absurd why
+dylib-refused bytes (error.FixupPlace n k r p) dylib why = absurd why
+dylib-refused bytes (error.TooMany what n p) dylib why = absurd why
+dylib-refused bytes (error.ImageTooLarge p) dylib why = absurd why
+dylib-refused bytes (error.RebaseTarget at p) dylib why = absurd why
+dylib-refused bytes (error.RelocationRange at p) dylib why = absurd why
+dylib-refused bytes error.BadName dylib why = absurd why
+
+stub-refused : (bytes : List ℕ) (says : StubReading) (refusal : LinkError) → IsStubInput bytes says → StubRefused bytes refusal ⊎ IsNoText bytes refusal
+    → refusal ≡ error.OutOfMemory
+stub-refused bytes says (error.BadInput (broken.Object f)) stub (inl why) = absurd why
+stub-refused bytes says (error.BadInput (broken.Stub line rule)) stub (inl why) = absurd (why.1 says stub)
+stub-refused bytes says error.OutOfMemory stub (inl why) = refl
+stub-refused bytes says (error.DuplicateSymbol name m n) stub (inl why) = absurd why
+stub-refused bytes says (error.UndefinedSymbol name n) stub (inl why) = absurd why
+stub-refused bytes says (error.EntryNotDefined name) stub (inl why) = absurd why
+stub-refused bytes says (error.ExportListMissing name) stub (inl why) = absurd why
+stub-refused bytes says (error.BadInitializer n k o) stub (inl why) = absurd why
+stub-refused bytes says (error.BadUnwind n k i rule) stub (inl why) = absurd why
+stub-refused bytes says (error.UnsupportedRelocation n k r) stub (inl why) = absurd why
+stub-refused bytes says (error.OverlappingFields n k q r) stub (inl why) = absurd why
+stub-refused bytes says (error.BindAddend n k r a) stub (inl why) = absurd why
+stub-refused bytes says (error.FixupPlace n k r p) stub (inl why) = absurd why
+stub-refused bytes says (error.TooMany what n p) stub (inl why) = absurd why
+stub-refused bytes says (error.ImageTooLarge p) stub (inl why) = absurd why
+stub-refused bytes says (error.RebaseTarget at p) stub (inl why) = absurd why
+stub-refused bytes says (error.RelocationRange at p) stub (inl why) = absurd why
+stub-refused bytes says error.BadName stub (inl why) = absurd why
+stub-refused bytes says (error.BadInput (broken.Object f)) stub (inr why) = absurd why
+stub-refused bytes says (error.BadInput (broken.Stub line rule)) stub (inr why) = absurd (why.0 stub.utf8)
+stub-refused bytes says error.OutOfMemory stub (inr why) = absurd why
+stub-refused bytes says (error.DuplicateSymbol name m n) stub (inr why) = absurd why
+stub-refused bytes says (error.UndefinedSymbol name n) stub (inr why) = absurd why
+stub-refused bytes says (error.EntryNotDefined name) stub (inr why) = absurd why
+stub-refused bytes says (error.ExportListMissing name) stub (inr why) = absurd why
+stub-refused bytes says (error.BadInitializer n k o) stub (inr why) = absurd why
+stub-refused bytes says (error.BadUnwind n k i rule) stub (inr why) = absurd why
+stub-refused bytes says (error.UnsupportedRelocation n k r) stub (inr why) = absurd why
+stub-refused bytes says (error.OverlappingFields n k q r) stub (inr why) = absurd why
+stub-refused bytes says (error.BindAddend n k r a) stub (inr why) = absurd why
+stub-refused bytes says (error.FixupPlace n k r p) stub (inr why) = absurd why
+stub-refused bytes says (error.TooMany what n p) stub (inr why) = absurd why
+stub-refused bytes says (error.ImageTooLarge p) stub (inr why) = absurd why
+stub-refused bytes says (error.RebaseTarget at p) stub (inr why) = absurd why
+stub-refused bytes says (error.RelocationRange at p) stub (inr why) = absurd why
+stub-refused bytes says error.BadName stub (inr why) = absurd why
+
+-- bytes that are read as an input are refused for want of memory alone
+read-refused : (bytes : List ℕ) (input : Input) (refusal : LinkError) → IsReadAs bytes input → BytesRefused (head_of_kind input) bytes refusal
+    → refusal ≡ error.OutOfMemory
+read-refused bytes (Object b) refusal read why = object-refused bytes refusal (subst IsObject read.same read.sound) why
+read-refused bytes (Dylib b) refusal read why = dylib-refused bytes refusal (subst IsDylib read.same read.sound) why
+read-refused bytes (Stub t says) refusal read why =
+    stub-refused bytes says refusal (subst (λ (b : List ℕ). IsStubInput b says) read.same read.sound) why
+
+-- they begin as an input
+no-unknown : (input : Input) (kind : InputKind) → head_of_kind input ≡ head.Unknown kind → ⊥
+no-unknown (Object b) kind is = cc
+no-unknown (Dylib b) kind is = cc
+no-unknown (Stub t x) kind is = cc
+
+-- an input that is taken begins as one
+begins-unknown : (files : Store) (s : Settings) (asked : args.Input) (f : SourceFile) (kind : InputKind) → IsTaken (Some files) s asked f
+    → IsUnknown (Some files) s asked (head.Unknown kind) → ⊥
+begins-unknown files s asked f kind taken unknown =
+    let same = one-held files (candidates_of s asked) f.path unknown.path taken.bytes unknown.bytes taken.found unknown.found in
+    no-unknown f.input kind (sym taken.is.head ∙ (ap head_of same.bytes ∙ unknown.is))
+
+-- an input that is taken isn't refused
+taken-refused : (files : Store) (s : Settings) (paths : List (List ℕ)) (asked : args.Input) (f : SourceFile) (refusal : LinkError) → IsTaken (Some files) s asked f
+    → InputRefused (Some files) s paths asked refusal → ⊥
+taken-refused files s paths asked f refusal taken refused =
+    let same = one-held files (candidates_of s asked) f.path refused.path taken.bytes refused.bytes taken.found refused.found in
+    let read : IsReadAs refused.bytes f.input = subst (λ (b : List ℕ). IsReadAs b f.input) same.bytes taken.is in
+    refused.no_memory (read-refused refused.bytes f.input refusal read
+    (subst (λ (h : Head). BytesRefused h refused.bytes refusal) read.head refused.refused))
+
+-- a made object isn't refused
+made-refused : (files : Store) (s : Settings) (paths : List (List ℕ)) (i : ℕ) (refusal : LinkError) (fs : List SourceFile)
+    → AreFiles (Some files) s s.generate fs → MadeRefused s paths i refusal → ⊥
+made-refused files s paths i refusal fs are refused =
+    let objects = subst (λ (o : Option ℕ). AreFiles (Some files) s o fs) refused.asked are in
+    refused.no_memory (object-refused (generated_object i refused.count) refusal (objects.1 i refused.below) refused.refused)
+
+is-memory : LinkError → Bool
+is-memory error.OutOfMemory = true
+is-memory refusal = false
+
+-- a refusal other than want of memory
+other-refusal : (refusal : LinkError) → is-memory refusal ≡ false → refusal ≡ error.OutOfMemory → ⊥
+unfolding is-memory
+other-refusal refusal other same = let h : true ≡ false = sym (ap is-memory same) ∙ other in cc
+
+-- What is known of a job that has nothing against it, by its settings.
+record Known (files : Store) (s : Settings) (paths : List (List ℕ)) : Type 0 where
+  named : bad_name (link_of s) ≡ false
+  never : (e : LinkError) → is-memory e ≡ false → (m : Link) × Links (Some files) s paths m × RefusalStands m e → ⊥
+
+known : (files : Store) (s : Settings) (paths qs : List (List ℕ)) (l : Link) → Links (Some files) s qs l → IsClear l → Known files s paths
+known files s paths qs l links clear = record {
+  named = sym (ap bad_name links.linked) ∙ clear.named;
+  never = λ e other has.
+      other-refusal e other (clear.nothing_stands e
+      (subst (λ (n : Link). RefusalStands n e) (linked-once files s paths qs has.0 l has.1 links) has.2));
+}
+
+link-refused : (files : Store) (s : Settings) (paths : List (List ℕ)) (refusal : LinkError) → Known files s paths → LinkRefused (Some files) s paths refusal → ⊥
+unfolding is-memory
+link-refused files s paths error.BadName safe why = let no : true ≡ false = sym why ∙ safe.named in cc
+link-refused files s paths (error.BadInput f) safe why = why
+link-refused files s paths error.OutOfMemory safe why = why
+link-refused files s paths (error.DuplicateSymbol name m n) safe why = safe.never (error.DuplicateSymbol name m n) refl why
+link-refused files s paths (error.UndefinedSymbol name n) safe why = safe.never (error.UndefinedSymbol name n) refl why
+link-refused files s paths (error.EntryNotDefined name) safe why = safe.never (error.EntryNotDefined name) refl why
+link-refused files s paths (error.ExportListMissing name) safe why = safe.never (error.ExportListMissing name) refl why
+link-refused files s paths (error.BadInitializer n k o) safe why = safe.never (error.BadInitializer n k o) refl why
+link-refused files s paths (error.BadUnwind n k i u) safe why = safe.never (error.BadUnwind n k i u) refl why
+link-refused files s paths (error.UnsupportedRelocation n k r) safe why = safe.never (error.UnsupportedRelocation n k r) refl why
+link-refused files s paths (error.OverlappingFields n k q r) safe why = safe.never (error.OverlappingFields n k q r) refl why
+link-refused files s paths (error.BindAddend n k r a) safe why = safe.never (error.BindAddend n k r a) refl why
+link-refused files s paths (error.FixupPlace n k r p) safe why = safe.never (error.FixupPlace n k r p) refl why
+link-refused files s paths (error.TooMany what n p) safe why = safe.never (error.TooMany what n p) refl why
+link-refused files s paths (error.ImageTooLarge p) safe why = safe.never (error.ImageTooLarge p) refl why
+link-refused files s paths (error.RebaseTarget at p) safe why = safe.never (error.RebaseTarget at p) refl why
+link-refused files s paths (error.RelocationRange at p) safe why = safe.never (error.RelocationRange at p) refl why
+
+-- THE fault of a job that has nothing against it, where no device failed: want of memory
+pub sure-fault : (files : Store) (s : Settings) (paths qs : List (List ℕ)) (l : Link) (old new : Failures) (f : Fault) → Links (Some files) s qs l → IsClear l
+    → NoneFailed old new → JobFails (Some files) s paths old new f → f ≡ fault.OutOfMemory
+sure-fault files s paths qs l old new (fault.MissingFile word) links clear calm (inl (asked, asks, missing)) =
+    let f = asked-file files s word asked s.generate links.files refl links.are asks in
+    absurd (held-among files (candidates_of s asked) f.0.path f.1.bytes f.1.found missing)
+sure-fault files s paths qs l old new (fault.MissingFile word) links clear calm (inr (list, among, missing)) =
+    let text = partner (IsListed (Some files)) s.export_list_paths links.lists (word, list) links.listed among in
+    absurd (not-missing files list text.0 missing text.1)
+sure-fault files s paths qs l old new (fault.UnknownKind word kind) links clear calm (asked, asks, unknown) =
+    let f = asked-file files s word asked s.generate links.files refl links.are asks in
+    absurd (begins-unknown files s asked f.0 kind f.1 unknown)
+sure-fault files s paths qs l old new (fault.Input word refusal) links clear calm (inl (asked, asks, refused)) =
+    let f = asked-file files s word asked s.generate links.files refl links.are asks in
+    absurd (taken-refused files s paths asked f.0 refusal f.1 refused)
+sure-fault files s paths qs l old new (fault.Input word refusal) links clear calm (inr made) =
+    absurd (made-refused files s paths word refusal links.files links.are made)
+sure-fault files s paths qs l old new (fault.Link refusal) links clear calm why =
+    absurd (link-refused files s paths refusal (known files s paths qs l links clear) why)
+sure-fault files s paths qs l old new (fault.Words refusal) links clear calm why = absurd why
+sure-fault files s paths qs l old new (fault.Read word) links clear calm (asks, rose) =
+    absurd (never-rose old.reads new.reads last_count (ap (λ (n : Failures). n.reads) calm.none) calm.reads rose)
+sure-fault files s paths qs l old new fault.Write links clear calm rose =
+    absurd (never-rose old.writes new.writes last_count (ap (λ (n : Failures). n.writes) calm.none) calm.writes rose)
+sure-fault files s paths qs l old new fault.Print links clear calm rose =
+    absurd (never-rose old.prints new.prints last_count (ap (λ (n : Failures). n.prints) calm.none) calm.prints rose)
+sure-fault files s paths qs l old new fault.OutOfMemory links clear calm why = refl

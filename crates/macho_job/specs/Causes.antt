@@ -1,0 +1,140 @@
+-- When each fault of a run may come, and the status that it ends with.
+use Rattle.std.specs.Prelude.{◌≡◌, ℕ, ◌<◌, ◌⊎◌, true, false, List, [], ◌∷◌, ◌++◌, Contains, Option, None, Some, All, IsUtf8}
+use Rattle.macho_args.specs.Settings as args
+use Rattle.macho_args.specs.Settings.{Settings, word_of}
+use Rattle.macho_args.specs.Store.{Store}
+use Rattle.macho_args.specs.SearchPaths.{IsRefused}
+use Rattle.macho_model.specs.Links.{Link}
+use Rattle.macho_model.specs.Faults.{bad_name}
+use Rattle.macho_faults.specs.declared.fault.LinkError.{LinkError}
+use Rattle.macho_faults.specs.declared.fault.LinkError.TheVariants as error
+use Rattle.macho_faults.specs.declared.fault.InputFault.TheVariants as input
+use Rattle.macho_stub_lines.specs.declared.fault.StubRule.TheVariants.{S1}
+use Rattle.macho_image.specs.Linkers.{link_of}
+use Rattle.macho_image.specs.Refusals.{ObjectRefused, DylibRefused, StubRefused, RefusalStands}
+use Rattle.macho_devices.specs.Faults.{CountRose, last_count}
+use Rattle.macho_job.specs.declared.fault.Fault.{Fault}
+use Rattle.macho_job.specs.declared.fault.Fault.TheVariants.{MissingFile, UnknownKind, Input, Link as LinkFault, Words, Read, Write, Print, OutOfMemory}
+use Rattle.macho_job.specs.declared.heads.Head.{Head}
+use Rattle.macho_job.specs.declared.heads.Head.TheVariants as head
+use Rattle.macho_job.specs.Heads.{head_of}
+use Rattle.macho_job.specs.Search.{candidates_of, IsMissing, IsFirstHeld}
+use Rattle.macho_job.specs.Generator.{generated_object, generated_path}
+use Rattle.macho_job.specs.Job.{Links}
+
+-- the status that a run ends with
+abbrev pub status_of : Option Fault → ℕ
+status_of None = 0
+status_of (Some (MissingFile word)) = 1
+status_of (Some (UnknownKind word kind)) = 1
+status_of (Some (Input word error)) = 1
+status_of (Some (LinkFault error)) = 1
+status_of (Some (Words fault)) = 2
+status_of (Some (Read word)) = 3
+status_of (Some Write) = 4
+status_of (Some Print) = 4
+status_of (Some OutOfMemory) = 5
+
+-- How often the devices of a run have failed: reads and writes of its files, and pieces that it printed.
+pub record Failures : Type 0 where
+  pub reads : ℕ
+  pub writes : ℕ
+  pub prints : ℕ
+
+abbrev pub failures : ℕ → ℕ → ℕ → Failures
+failures reads writes prints = record { reads = reads; writes = writes; prints = prints }
+
+-- No device failed, and none stands at the last value of its count.
+pub record NoneFailed (old new : Failures) : Type 0 where
+  pub none : new ≡ old
+  pub reads : old.reads < last_count
+  pub writes : old.writes < last_count
+  pub prints : old.prints < last_count
+
+-- failures where reads alone are counted
+abbrev pub reading : ℕ → Failures
+reading reads = failures reads 0 0
+
+-- bytes that are no text break the first rule of stubs, at line 1
+abbrev pub IsNoText : List ℕ → LinkError → Type 0
+IsNoText bytes (error.BadInput (input.Stub line rule)) = (IsUtf8 bytes → ⊥) × (line ≡ 1) × (rule ≡ S1)
+IsNoText bytes refusal = ⊥
+
+-- Bytes are refused, by their head: they break the rule that is told, at the place that is told; and are no such input. Bytes that
+-- begin as a stub and aren't UTF-8 break the first rule of stubs at line 1.
+abbrev pub BytesRefused : Head → List ℕ → LinkError → Type 0
+BytesRefused head.Object bytes refusal = ObjectRefused bytes refusal
+BytesRefused head.Dylib bytes refusal = DylibRefused bytes refusal
+BytesRefused head.Stub bytes refusal = StubRefused bytes refusal ⊎ IsNoText bytes refusal
+BytesRefused (head.Unknown kind) bytes refusal = ⊥
+
+-- the last of the files that were read has this path
+pub record EndsWith (paths : List (List ℕ)) (path : List ℕ) : Type 0 where
+  pub before : List (List ℕ)
+  pub split : paths ≡ before ++ path ∷ []
+
+-- An input's bytes are refused: those of the first of its paths that holds a file, the last that was read. Want of memory is no
+-- such refusal.
+pub record InputRefused (told : Option Store) (s : Settings) (paths : List (List ℕ)) (asked : args.Input) (refusal : LinkError) : Type 0 where
+  pub path : List ℕ
+  pub bytes : List ℕ
+  pub found : IsFirstHeld told (candidates_of s asked) path bytes
+  pub last : EndsWith paths path
+  pub refused : BytesRefused (head_of bytes) bytes refusal
+  pub no_memory : refusal ≡ error.OutOfMemory → ⊥
+
+-- a made object is refused; told by its number
+pub record MadeRefused (s : Settings) (paths : List (List ℕ)) (i : ℕ) (refusal : LinkError) : Type 0 where
+  pub count : ℕ
+  pub asked : s.generate ≡ Some count
+  pub below : i < count
+  pub last : EndsWith paths (generated_path i)
+  pub refused : ObjectRefused (generated_object i count) refusal
+  pub no_memory : refusal ≡ error.OutOfMemory → ⊥
+
+-- A link is refused: its paths can't be written, which is found before an input is read; or what is told of it stands.
+abbrev pub LinkRefused : Option Store → Settings → List (List ℕ) → LinkError → Type 0
+LinkRefused told s paths error.BadName = bad_name (link_of s) ≡ true
+LinkRefused told s paths (error.BadInput fault) = ⊥
+LinkRefused told s paths error.OutOfMemory = ⊥
+LinkRefused told s paths refusal = (l : Link) × Links told s paths l × RefusalStands l refusal
+
+-- An input that was asked for, by the index of its word; none is where objects are made.
+pub record IsAsked (s : Settings) (word : ℕ) (asked : args.Input) : Type 0 where
+  pub among : Contains s.inputs asked
+  pub stands_in : word ≡ word_of asked
+  pub alone : s.generate ≡ None
+
+-- the bytes of a path, where none of the paths before it holds a file, begin as no input
+pub record IsUnknown (told : Option Store) (s : Settings) (asked : args.Input) (head : Head) : Type 0 where
+  pub path : List ℕ
+  pub bytes : List ℕ
+  pub found : IsFirstHeld told (candidates_of s asked) path bytes
+  pub is : head_of bytes ≡ head
+
+-- THE causes of the faults of settings, a row for each; `paths` are those of the files that were read. Want of memory is free.
+abbrev pub JobFails : Option Store → Settings → List (List ℕ) → Failures → Failures → Fault → Type 0
+JobFails told s paths old new (MissingFile word) =
+    ((asked : args.Input) × IsAsked s word asked × All (IsMissing told) (candidates_of s asked))
+    ⊎ ((list : List ℕ) × Contains s.export_list_paths (word, list) × IsMissing told list)
+JobFails told s paths old new (UnknownKind word kind) = (asked : args.Input) × IsAsked s word asked × IsUnknown told s asked (head.Unknown kind)
+JobFails told s paths old new (Input word refusal) =
+    ((asked : args.Input) × IsAsked s word asked × InputRefused told s paths asked refusal) ⊎ MadeRefused s paths word refusal
+JobFails told s paths old new (LinkFault refusal) = LinkRefused told s paths refusal
+JobFails told s paths old new (Words fault) = ⊥
+JobFails told s paths old new (Read word) =
+    (((asked : args.Input) × IsAsked s word asked) ⊎ ((list : List ℕ) × Contains s.export_list_paths (word, list))) × CountRose old.reads new.reads
+JobFails told s paths old new Write = CountRose old.writes new.writes
+JobFails told s paths old new Print = CountRose old.prints new.prints
+JobFails told s paths old new OutOfMemory = Unit {0}
+
+-- a fault of the words: that of the first which breaks its row
+abbrev pub WordsFail : List (List ℕ) → Fault → Type 0
+WordsFail words (Words fault) = IsRefused words fault
+WordsFail words OutOfMemory = Unit {0}
+WordsFail words fault = ⊥
+
+-- A link against which nothing stands: its paths can be written, and of its refusals only want of memory may come.
+pub record IsClear (l : Link) : Type 0 where
+  pub named : bad_name l ≡ false
+  pub nothing_stands : (refusal : LinkError) → RefusalStands l refusal → refusal ≡ error.OutOfMemory

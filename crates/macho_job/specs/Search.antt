@@ -1,0 +1,41 @@
+-- Where an input is sought: the paths that are tried, in their order, and the first that holds a file.
+use Rattle.std.specs.Prelude.{◌≡◌, ℕ, List, [], ◌∷◌, ◌++◌, codes, Option, None, Some, All}
+use Rattle.std.specs.List.{flat_map}
+use Rattle.std.specs.FinMap.{get}
+use Rattle.macho_args.specs.Effects.{joined}
+use Rattle.macho_args.specs.Settings.{Settings, Input, file, library, framework}
+use Rattle.macho_args.specs.Store.{Store}
+
+-- a library NAME in a folder: `libNAME.tbd`, then `libNAME.dylib`
+abbrev pub library_files : List ℕ → List ℕ → List (List ℕ)
+library_files name folder =
+    joined folder (codes "lib" ++ (name ++ codes ".tbd")) ∷ joined folder (codes "lib" ++ (name ++ codes ".dylib")) ∷ []
+
+-- a framework X in a folder: `X.framework/X.tbd`, then `X.framework/X`
+abbrev pub framework_files : List ℕ → List ℕ → List (List ℕ)
+framework_files name folder =
+    joined folder (name ++ (codes ".framework/" ++ (name ++ codes ".tbd"))) ∷ joined folder (name ++ (codes ".framework/" ++ name)) ∷ []
+
+-- The paths at which an input is sought: a file at its own; a library in each library path, a framework in each framework path.
+abbrev pub candidates_of : Settings → Input → List (List ℕ)
+candidates_of s (file word path) = path ∷ []
+candidates_of s (library word name) = flat_map (library_files name) s.lib_search_path
+candidates_of s (framework word name) = flat_map (framework_files name) s.framework_search_path
+
+-- The bytes stand under the path. Where the store isn't told, that is open.
+abbrev pub HeldAt : Option Store → List ℕ → List ℕ → Type 0
+HeldAt None path bytes = Unit {0}
+HeldAt (Some files) path bytes = get files path ≡ Some bytes
+
+-- No file stands under the path. Where the store isn't told, that is open.
+abbrev pub IsMissing : Option Store → List ℕ → Type 0
+IsMissing None path = Unit {0}
+IsMissing (Some files) path = get files path ≡ None
+
+-- Of some paths this one is the first that holds a file, and it holds these bytes.
+pub record IsFirstHeld (told : Option Store) (paths : List (List ℕ)) (path bytes : List ℕ) : Type 0 where
+  pub before : List (List ℕ)
+  pub behind : List (List ℕ)
+  pub split : paths ≡ before ++ path ∷ behind
+  pub missing : All (IsMissing told) before
+  pub held : HeldAt told path bytes

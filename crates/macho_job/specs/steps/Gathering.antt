@@ -1,0 +1,71 @@
+-- What is known while the files of a link are gathered.
+use Rattle.std.specs.Prelude.{◌≡◌, ℕ, List, [], ◌∷◌, ◌++◌, map, Option, All}
+use Rattle.std.specs.List.{AllZip}
+use Rattle.macho_args.specs.Settings as args
+use Rattle.macho_args.specs.Settings.{Settings, word_of}
+use Rattle.macho_args.specs.Store.{Store}
+use Rattle.macho_model.specs.Links.{Link, Input}
+use Rattle.macho_image.specs.Linkers.{with_input}
+use Rattle.macho_faults.specs.declared.fault.LinkError.TheVariants as error
+use Rattle.macho_devices.specs.Faults.{CountRose}
+use Rattle.macho_job.specs.declared.fault.Fault.{Fault}
+use Rattle.macho_job.specs.declared.fault.Fault.TheVariants.{MissingFile, UnknownKind, Input as InputFault, Read, OutOfMemory}
+use Rattle.macho_job.specs.declared.heads.Head.TheVariants as head
+use Rattle.macho_job.specs.Heads.{head_of}
+use Rattle.macho_job.specs.Search.{candidates_of, IsMissing}
+use Rattle.macho_job.specs.Job.{SourceFile, IsReadAs, IsTaken, IsListed, AreFiles, linking}
+use Rattle.macho_job.specs.Causes.{BytesRefused, InputRefused, IsUnknown}
+
+-- An input that was asked for is found and added.
+pub record TakesFile (told : Option Store) (s : Settings) (asked : args.Input) (old_paths paths : List (List ℕ)) (old new : Link) : Type 0 where
+  pub file : SourceFile
+  pub taken : IsTaken told s asked file
+  pub named : paths ≡ old_paths ++ file.path ∷ []
+  pub added : new ≡ with_input old file.input
+
+-- bytes are an input, which is added
+pub record TakesBytesOf (bytes : List ℕ) (old new : Link) : Type 0 where
+  pub input : Input
+  pub is : IsReadAs bytes input
+  pub added : new ≡ with_input old input
+
+-- why bytes aren't added
+abbrev pub BytesFail : ℕ → List ℕ → Fault → Type 0
+BytesFail word bytes (UnknownKind at kind) = (at ≡ word) × (head_of bytes ≡ head.Unknown kind)
+BytesFail word bytes (InputFault at refusal) = (at ≡ word) × BytesRefused (head_of bytes) bytes refusal × (refusal ≡ error.OutOfMemory → ⊥)
+BytesFail word bytes OutOfMemory = Unit {0}
+BytesFail word bytes fault = ⊥
+
+-- why an input that was asked for isn't added
+abbrev pub InputFails : Option Store → Settings → List (List ℕ) → args.Input → ℕ → ℕ → Fault → Type 0
+InputFails told s paths asked old new (MissingFile word) = (word ≡ word_of asked) × All (IsMissing told) (candidates_of s asked)
+InputFails told s paths asked old new (UnknownKind word kind) = (word ≡ word_of asked) × IsUnknown told s asked (head.Unknown kind)
+InputFails told s paths asked old new (InputFault word refusal) = (word ≡ word_of asked) × InputRefused told s paths asked refusal
+InputFails told s paths asked old new (Read word) = (word ≡ word_of asked) × CountRose old new
+InputFails told s paths asked old new OutOfMemory = Unit {0}
+InputFails told s paths asked old new fault = ⊥
+
+-- why a list isn't added
+abbrev pub ListFails : Option Store → ℕ → List ℕ → ℕ → ℕ → Fault → Type 0
+ListFails told word path old new (MissingFile at) = (at ≡ word) × IsMissing told path
+ListFails told word path old new (Read at) = (at ≡ word) × CountRose old new
+ListFails told word path old new OutOfMemory = Unit {0}
+ListFails told word path old new fault = ⊥
+
+-- The files so far: they are such, these lists are added, and the link is of both.
+pub record Gathered (told : Option Store) (s : Settings) (AreSuch : List SourceFile → Type 0) (lists : List (ℕ × List ℕ))
+    (paths : List (List ℕ)) (l : Link) : Type 0 where
+  pub files : List SourceFile
+  pub are : AreSuch files
+  pub texts : List (List ℕ)
+  pub listed : AllZip (IsListed told) lists texts
+  pub named : paths ≡ map (λ f. f.path) files
+  pub linked : l ≡ linking s files texts
+
+-- these inputs are taken, and no list
+abbrev pub HaveInputs : Option Store → Settings → List args.Input → List (List ℕ) → Link → Type 0
+HaveInputs told s asked paths l = Gathered told s (AllZip (IsTaken told s) asked) [] paths l
+
+-- all inputs are taken, or the objects made, and these lists
+abbrev pub HaveLists : Option Store → Settings → List (ℕ × List ℕ) → List (List ℕ) → Link → Type 0
+HaveLists told s lists paths l = Gathered told s (AreFiles told s s.generate) lists paths l

@@ -1,0 +1,105 @@
+//! Why a run answers no image, or does not write it.
+
+ghost use Rattle.std.specs.Prelude.{◌≡◌};
+ghost use Rattle.macho_job.specs.declared.fault.Fault.TheVariants.{OutOfMemory};
+ghost use Rattle.macho_job.specs.Refused.{words_fault, link_fault, input_fault};
+
+use macho_args::ArgsFault;
+use macho_image::LinkError;
+use std::alloc::AllocError;
+
+/// What a file is that is no input.
+#[derive(Clone, Copy, Debug, PartialEq, Eq)]
+pub enum InputKind {
+    /// An archive of objects: it begins with `!<arch>` and a line feed.
+    Archive,
+    /// A file of several architectures: it begins with `ca fe ba be` or `ca fe ba bf`.
+    Universal,
+    /// Anything else.
+    Other,
+}
+
+/// Why a run fails. `word` is the index of the word in which the path stands.
+#[derive(Drop)]
+pub enum Fault {
+    /// There is no file under the path.
+    MissingFile {
+        /// The path's word.
+        word: u32,
+    },
+    /// The file does not begin as an object.
+    UnknownKind {
+        /// The path's word.
+        word: u32,
+        /// What it begins as.
+        kind: InputKind,
+    },
+    /// The file breaks a rule of objects.
+    Input {
+        /// The path's word.
+        word: u32,
+        /// The rule, and where.
+        error: LinkError,
+    },
+    /// The link is refused.
+    Link {
+        /// Why.
+        error: LinkError,
+    },
+    /// A word breaks its row.
+    Words {
+        /// The first such word, and how.
+        fault: ArgsFault,
+    },
+    /// A read failed.
+    Read {
+        /// The path's word.
+        word: u32,
+    },
+    /// The write of the image failed.
+    Write,
+    /// A print to the output failed.
+    Print,
+    /// Memory ran out.
+    OutOfMemory,
+}
+
+impl Fault {
+    /// The fault of words.
+    pub fn of_words(fault: ArgsFault) -> Fault
+        ensures { result ≡ words_fault fault }
+    {
+        match fault {
+            ArgsFault::OutOfMemory => Fault::OutOfMemory,
+            fault => Fault::Words { fault },
+        }
+    }
+
+    /// The fault of a refused link.
+    pub fn of_link(error: LinkError) -> Fault
+        ensures { result ≡ link_fault error }
+    {
+        match error {
+            LinkError::OutOfMemory => Fault::OutOfMemory,
+            error => Fault::Link { error },
+        }
+    }
+
+    /// The fault of a refused input.
+    pub fn of_input(word: u32, error: LinkError) -> Fault
+        ensures { result ≡ input_fault word error }
+    {
+        match error {
+            LinkError::OutOfMemory => Fault::OutOfMemory,
+            error => Fault::Input { word, error },
+        }
+    }
+}
+
+impl From<AllocError> for Fault {
+    ghost from_gives = { λ _ fault. fault ≡ OutOfMemory };
+
+    fn from(_error: AllocError) -> Fault {
+        Fault::OutOfMemory
+    }
+}

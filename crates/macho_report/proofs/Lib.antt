@@ -1,0 +1,3 @@
+pub mod Prints
+pub mod Words
+pub mod Listed

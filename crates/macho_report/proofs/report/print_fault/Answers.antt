@@ -1,0 +1,6 @@
+-- A line that was printed was told.
+use Rattle.macho_report.proofs.Prints.{told-by}
+use Rattle.macho_report.proofs.report.print_fault.Goals as goal
+
+pub returns : goal.returns
+returns g c = told-by _ _ _ _ _ c.print_line.result c.print_line.ensures

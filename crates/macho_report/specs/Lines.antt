@@ -1,0 +1,240 @@
+-- What a run prints: the line of a fault, the lines of `-map`, and those of `-generate`.
+use Rattle.std.specs.Prelude.{ℕ, ◌==◌, if◌then◌else◌, List, [], ◌∷◌, ◌++◌, codes, length, decimal, Option, None, Some, find}
+use Rattle.std.specs.List.{flat_map}
+use Rattle.hex.specs.Hex.{encode_lower}
+use Rattle.sha2.specs.Sha256.{sha256}
+use Rattle.byteorder.specs.Endian.{big_bytes}
+use Rattle.macho_bytes.specs.Texts.{name_of}
+use Rattle.macho_args.specs.Settings.{Settings, Input, file, library, framework, word_of}
+use Rattle.macho_args.specs.declared.fault.ArgsFault.{ArgsFault}
+use Rattle.macho_args.specs.declared.fault.ArgsFault.TheVariants as words
+use Rattle.macho_stub_lines.specs.declared.fault.StubRule.{StubRule}
+use Rattle.macho_stub_lines.specs.declared.fault.StubRule.TheVariants as stub
+use Rattle.macho_model.specs.declared.rules.ObjectRule.{ObjectRule}
+use Rattle.macho_model.specs.declared.rules.ObjectRule.TheVariants as object
+use Rattle.macho_model.specs.declared.rules.UnwindRule.{UnwindRule}
+use Rattle.macho_model.specs.declared.rules.UnwindRule.TheVariants as unwind
+use Rattle.macho_model.specs.declared.targets.Limit.{Limit}
+use Rattle.macho_model.specs.declared.targets.Limit.TheVariants as limit
+use Rattle.macho_model.specs.declared.targets.Site.{Site}
+use Rattle.macho_model.specs.declared.targets.Site.TheVariants.{Field, Slot, Stub}
+use Rattle.macho_model.specs.declared.placed.PlacedSection.{PlacedSection}
+use Rattle.macho_model.specs.Faults.{LinkFault}
+use Rattle.macho_model.specs.Faults as refusal
+use Rattle.macho_model.specs.Links.{Link, header_at}
+use Rattle.macho_model.specs.Placement.{id_of}
+use Rattle.macho_faults.specs.declared.fault.LinkError.{LinkError}
+use Rattle.macho_faults.specs.declared.fault.LinkError.TheVariants as error
+use Rattle.macho_faults.specs.declared.fault.InputFault.{InputFault}
+use Rattle.macho_faults.specs.declared.fault.InputFault.TheVariants as input
+use Rattle.macho_faults.specs.Errors.{fault_of}
+use Rattle.macho_linked.specs.declared.image.LinkedImage.{LinkedImage}
+use Rattle.macho_job.specs.Names.{file_name, last_name}
+use Rattle.macho_job.specs.declared.fault.Fault.{Fault}
+use Rattle.macho_job.specs.declared.fault.Fault.TheVariants.{MissingFile, UnknownKind, Input as InputRefused, Link as LinkRefused, Words, Read, Write, Print, OutOfMemory}
+
+-- a line feed
+abbrev pub LINE_FEED : ℕ
+LINE_FEED = 10
+
+-- what is told of an input's word: the file, or the name of a library or framework
+abbrev pub name_of_input : Input → List ℕ
+name_of_input (file word path) = path
+name_of_input (library word name) = name
+name_of_input (framework word name) = name
+
+-- of a list's word: the list's path
+abbrev pub list_name : Option (ℕ × List ℕ) → List ℕ
+list_name None = []
+list_name (Some list) = list.1
+
+abbrev pub input_name : Option Input → List ℕ → List ℕ
+input_name None other = other
+input_name (Some input) other = name_of_input input
+
+-- what is told of a word: of the input that stands in it, else of the list
+abbrev pub word_name : List Input → List (ℕ × List ℕ) → ℕ → List ℕ
+word_name inputs lists word =
+    input_name (find (λ input. word_of input == word) inputs) (list_name (find (λ list. list.0 == word) lists))
+
+-- the word of a word's fault, and the name of the fault
+abbrev pub fault_word : ArgsFault → ℕ
+fault_word (words.MissingValue word) = word
+fault_word (words.Unknown word) = word
+fault_word (words.Unsupported word) = word
+fault_word (words.BadVersion word) = word
+fault_word (words.BadPlatform word) = word
+fault_word (words.BadArch word) = word
+fault_word (words.BadUuid word) = word
+fault_word (words.BadNumber word) = word
+fault_word words.OutOfMemory = 0
+
+abbrev pub fault_kind : ArgsFault → List ℕ
+fault_kind (words.MissingValue word) = codes "MissingValue"
+fault_kind (words.Unknown word) = codes "Unknown"
+fault_kind (words.Unsupported word) = codes "Unsupported"
+fault_kind (words.BadVersion word) = codes "BadVersion"
+fault_kind (words.BadPlatform word) = codes "BadPlatform"
+fault_kind (words.BadArch word) = codes "BadArch"
+fault_kind (words.BadUuid word) = codes "BadUuid"
+fault_kind (words.BadNumber word) = codes "BadNumber"
+fault_kind words.OutOfMemory = codes "OutOfMemory"
+
+-- the names of the rules
+abbrev pub object_rule : ObjectRule → List ℕ
+object_rule object.O1 = codes "O1"
+object_rule object.O2 = codes "O2"
+object_rule object.O3 = codes "O3"
+object_rule object.O4 = codes "O4"
+object_rule object.O5 = codes "O5"
+object_rule object.O6 = codes "O6"
+object_rule object.O7 = codes "O7"
+object_rule object.O8 = codes "O8"
+object_rule object.O9 = codes "O9"
+object_rule object.O10 = codes "O10"
+object_rule object.O11 = codes "O11"
+object_rule object.O12 = codes "O12"
+object_rule object.O13 = codes "O13"
+object_rule object.O14 = codes "O14"
+
+abbrev pub stub_rule : StubRule → List ℕ
+stub_rule stub.S1 = codes "S1"
+stub_rule stub.S2 = codes "S2"
+stub_rule stub.S3 = codes "S3"
+stub_rule stub.S4 = codes "S4"
+stub_rule stub.S5 = codes "S5"
+stub_rule stub.S6 = codes "S6"
+stub_rule stub.S7 = codes "S7"
+stub_rule stub.S8 = codes "S8"
+stub_rule stub.S9 = codes "S9"
+
+abbrev pub unwind_rule : UnwindRule → List ℕ
+unwind_rule unwind.U1 = codes "U1"
+unwind_rule unwind.U2 = codes "U2"
+unwind_rule unwind.U3 = codes "U3"
+unwind_rule unwind.U4 = codes "U4"
+unwind_rule unwind.U5 = codes "U5"
+unwind_rule unwind.U6 = codes "U6"
+unwind_rule unwind.U7 = codes "U7"
+unwind_rule unwind.U8 = codes "U8"
+
+-- what is too many
+abbrev pub limit_name : Limit → List ℕ
+limit_name limit.Segments = codes "segments"
+limit_name limit.Libraries = codes "libraries"
+limit_name limit.Sections = codes "sections"
+limit_name limit.Personalities = codes "personalities"
+limit_name limit.Imports = codes "imports"
+limit_name limit.NameBytes = codes "name bytes"
+limit_name limit.Symbols = codes "symbols"
+limit_name limit.Pages = codes "pages"
+
+-- Texts are told by their pieces, one behind the other.
+-- `FILE: section S, relocation N: ` and what is wrong there
+abbrev pub place_text : List ℕ → ℕ → ℕ → List ℕ → List (List ℕ)
+place_text name section relocation text =
+    name ∷ codes ": section " ∷ decimal section ∷ codes ", relocation " ∷ decimal relocation ∷ codes ": " ∷ text ∷ []
+
+-- the same of a file by its number
+abbrev pub relocation_text : List (List ℕ) → ℕ → ℕ → ℕ → List ℕ → List (List ℕ)
+relocation_text paths number section relocation text = place_text (file_name paths number) section relocation text
+
+-- a place of the image and what is wrong there
+abbrev pub site_text : List (List ℕ) → Site → List ℕ → List (List ℕ)
+site_text paths (Field number section relocation) text = relocation_text paths number section relocation text
+site_text paths (Slot index) text = codes "slot " ∷ decimal index ∷ codes ": " ∷ text ∷ []
+site_text paths (Stub index) text = codes "stub " ∷ decimal index ∷ codes ": " ∷ text ∷ []
+
+-- THE texts of the refusals of a link, a row for each
+abbrev pub link_text : List (List ℕ) → LinkFault → List (List ℕ)
+link_text paths (refusal.DuplicateSymbol name first second) =
+    codes "duplicate symbol " ∷ name ∷ codes " in " ∷ file_name paths first ∷ codes " and " ∷ file_name paths second ∷ []
+link_text paths (refusal.UndefinedSymbol name number) = codes "undefined symbol " ∷ name ∷ codes " in " ∷ file_name paths number ∷ []
+link_text paths (refusal.EntryNotDefined name) = codes "entry symbol " ∷ name ∷ codes " is not defined" ∷ []
+link_text paths (refusal.ExportListMissing name) = codes "exported symbol not defined: " ∷ name ∷ []
+link_text paths (refusal.BadInitializer number section offset) =
+    file_name paths number ∷ codes ": bad initializer at " ∷ decimal offset ∷ codes " in section " ∷ decimal section ∷ []
+link_text paths (refusal.BadUnwind number section entry rule) =
+    file_name paths number ∷ codes ": unwind entry " ∷ decimal entry ∷ codes " breaks rule " ∷ unwind_rule rule ∷ []
+link_text paths (refusal.UnsupportedRelocation number section relocation) = relocation_text paths number section relocation (codes "unsupported")
+link_text paths (refusal.OverlappingFields number section first second) =
+    file_name paths number ∷ codes ": section " ∷ decimal section ∷ codes ", relocations " ∷ decimal first ∷ codes " and " ∷ decimal second ∷ codes " overlap" ∷ []
+link_text paths (refusal.BindAddend number section relocation addend) = relocation_text paths number section relocation (codes "bad addend")
+link_text paths (refusal.FixupPlace number section relocation placement) = relocation_text paths number section relocation (codes "bad place")
+link_text paths (refusal.TooMany what number placement) = codes "too many " ∷ limit_name what ∷ codes ": " ∷ decimal number ∷ []
+link_text paths (refusal.ImageTooLarge placement) = codes "image too large" ∷ []
+link_text paths (refusal.RebaseTarget at placement) = site_text paths at (codes "bad target")
+link_text paths (refusal.RelocationRange at placement) = site_text paths at (codes "out of range")
+link_text paths refusal.BadName = codes "bad name" ∷ []
+
+-- the rule that an input breaks, told by the path of the last file that was read
+abbrev pub broken_text : List (List ℕ) → InputFault → List (List ℕ)
+broken_text paths (input.Object fault) = last_name paths ∷ codes ": rule " ∷ object_rule fault.rule ∷ codes " at " ∷ decimal fault.place ∷ []
+broken_text paths (input.Stub line rule) = last_name paths ∷ codes ": rule " ∷ stub_rule rule ∷ codes " at " ∷ decimal line ∷ []
+
+-- what is told of a link; want of memory tells nothing of it
+abbrev pub told_text : List (List ℕ) → Option LinkFault → List (List ℕ)
+told_text paths None = codes "out of memory" ∷ []
+told_text paths (Some fault) = link_text paths fault
+
+-- the refusal of a linker: of an input, or of the link
+abbrev pub error_text : List (List ℕ) → LinkError → List (List ℕ)
+error_text paths (error.BadInput fault) = broken_text paths fault
+error_text paths refused = told_text paths (fault_of refused)
+
+-- a word that breaks its row: its index, and how
+abbrev pub word_text : ArgsFault → List (List ℕ)
+word_text fault = codes "bad word " ∷ decimal (fault_word fault) ∷ codes ": " ∷ fault_kind fault ∷ []
+
+-- THE texts of the faults, a row for each, with the inputs and lists that were asked for and the paths of the files
+abbrev pub fault_text : List Input → List (ℕ × List ℕ) → List (List ℕ) → Fault → List (List ℕ)
+fault_text inputs lists paths (Words fault) = word_text fault
+fault_text inputs lists paths (MissingFile word) = codes "cannot find " ∷ word_name inputs lists word ∷ []
+fault_text inputs lists paths (Read word) = codes "cannot read " ∷ word_name inputs lists word ∷ []
+fault_text inputs lists paths (UnknownKind word kind) = word_name inputs lists word ∷ codes ": not an arm64 object, dynamic library or stub" ∷ []
+fault_text inputs lists paths (InputRefused word refused) = error_text paths refused
+fault_text inputs lists paths (LinkRefused refused) = error_text paths refused
+fault_text inputs lists paths Write = codes "cannot write the output" ∷ []
+fault_text inputs lists paths Print = codes "cannot print" ∷ []
+fault_text inputs lists paths OutOfMemory = codes "out of memory" ∷ []
+
+-- THE line of a text: the program's name before it, and a line feed behind it
+abbrev pub line_of : List (List ℕ) → List ℕ
+line_of text = flat_map (λ piece. piece) (codes "wild_macho: " ∷ (text ++ (LINE_FEED ∷ []) ∷ []))
+
+-- THE line of a fault, with the inputs and lists that were asked for and the paths of the files
+abbrev pub fault_line : List Input → List (ℕ × List ℕ) → List (List ℕ) → Fault → List ℕ
+fault_line inputs lists paths fault = line_of (fault_text inputs lists paths fault)
+
+-- a number as `0x` and its 16 digits
+abbrev pub hex_text : ℕ → List ℕ
+hex_text n = codes "0x" ++ encode_lower (big_bytes 8 n)
+
+-- a row of the map: address, size, segment and name, and a path
+abbrev pub map_row : (address size : ℕ) → (segment name path : List ℕ) → List ℕ
+map_row address size segment name path =
+    hex_text address ++ (codes " " ++ (hex_text size ++ (codes " " ++ (segment ++ (codes "," ++ (name ++ (codes " " ++ (path ++ LINE_FEED ∷ []))))))))
+
+-- the line of a placed section: its place, the size, segment and name of its header, and the path of its file
+abbrev pub map_line : Link → List (List ℕ) → PlacedSection → List ℕ
+map_line l paths q =
+    let h = header_at l (id_of q) in map_row q.address h.size (name_of h.segname) (name_of h.sectname) (file_name paths q.file)
+
+-- THE lines of `-map`: one for each placed section
+abbrev pub map_lines : Link → List (List ℕ) → List PlacedSection → List ℕ
+map_lines l paths sections = flat_map (map_line l paths) sections
+
+-- THE lines of `-generate`: how many objects, how many words the loader fixes up, how many bytes, and their digest (FIPS 180-4)
+abbrev pub generate_lines : ℕ → ℕ → List ℕ → List ℕ
+generate_lines count fixups bytes =
+    codes "objects " ++ (decimal count ++ (LINE_FEED ∷ (codes "fixups " ++ (decimal fixups ++ (LINE_FEED ∷ (codes "length " ++ (decimal (length bytes)
+    ++ (LINE_FEED ∷ (codes "sha256 " ++ (encode_lower (sha256 bytes) ++ LINE_FEED ∷ []))))))))))
+
+-- the lines of `-generate`, where it was given
+abbrev pub totals : Option ℕ → LinkedImage → List ℕ
+totals None image = []
+totals (Some count) image = generate_lines count image.fixups image.bytes.items
+
+-- THE text of a run: the lines of `-map`, where it was given, and then those of `-generate`
+abbrev pub run_lines : Settings → Link → List (List ℕ) → LinkedImage → List ℕ
+run_lines s l paths image = (if s.map_lines then map_lines l paths image.placement.sections.items else []) ++ totals s.generate image

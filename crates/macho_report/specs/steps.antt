@@ -1,0 +1,2 @@
+-- The code's own steps: what private functions say. No clause of a public function cites them.
+pub mod Sections

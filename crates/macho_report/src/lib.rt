@@ -1,0 +1,13 @@
+//! What a run prints: the line of a fault, the lines of `-map`, and those of `-generate`.
+//!
+//! Texts are printed in pieces, in one go over what they tell, and take no memory.
+#![tactic(auto)]
+
+mod lines;
+mod map;
+mod pieces;
+mod report;
+mod totals;
+
+pub use crate::lines::print_lines;
+pub use crate::report::print_fault;

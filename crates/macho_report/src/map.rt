@@ -1,0 +1,98 @@
+//! The lines of `-map`.
+//!
+//! A line tells a placed section: its address, its size, segment and name, and the path of its file, as in
+//! `0x0000000100000160 0x0000000000000010 __TEXT,__text main.o`.
+
+ghost use Rattle.std.specs.Prelude.{◌≡◌, map};
+ghost use Rattle.macho_model.specs.Links.{header_at, carried_of};
+ghost use Rattle.macho_model.specs.Placement.{id_of};
+ghost use Rattle.macho_job.specs.Names.{names_of};
+ghost use Rattle.macho_report.specs.Lines.{map_row, map_line, map_lines};
+ghost use Rattle.macho_report.specs.Printing.{IsPrinted};
+ghost use Rattle.macho_report.specs.steps.Sections.{HasSection};
+
+use crate::pieces::{Piece, print_pieces};
+use macho_devices::{Sink, SinkFault};
+use macho_image::{InputView, Linker};
+use macho_job::FileNames;
+use macho_layout::PlacedSection;
+use macho_records::{SectionHeader, name_bytes};
+
+/// Prints a line for each placed section. Where the sink fails, nothing more is printed.
+pub(crate) fn print_map<O: Sink>(
+    out: &mut O,
+    linker: &Linker,
+    names: &FileNames,
+    sections: &[PlacedSection],
+) -> Result<(), SinkFault>
+    requires { map id_of sections.now ≡ carried_of linker.now }
+    ensures { IsPrinted (O.taken out.old) (O.taken out.new) (O.faults out.old) (O.faults out.new)
+        (map_lines linker.now (names_of names.now) sections.now) result }
+{
+    for index in 0..sections.len() {
+        let section = &sections[index];
+        print_section(out, linker, names, section)?;
+    }
+    Ok(())
+}
+
+// The line of a placed section.
+fn print_section<O: Sink>(
+    out: &mut O,
+    linker: &Linker,
+    names: &FileNames,
+    section: &PlacedSection,
+) -> Result<(), SinkFault>
+    requires { HasSection linker.now (id_of section.now) }
+    ensures { IsPrinted (O.taken out.old) (O.taken out.new) (O.faults out.old) (O.faults out.new)
+        (map_line linker.now (names_of names.now) section.now) result }
+{
+    let header = header_of(linker, section);
+    let segment = name_bytes(&header.segname);
+    let name = name_bytes(&header.sectname);
+    let path = names.path(section.file);
+    print_row(out, section.address, header.size, segment, name, path)
+}
+
+// A row of the map.
+fn print_row<'a, O: Sink>(
+    out: &mut O,
+    address: u64,
+    size: u64,
+    segment: &'a [u8],
+    name: &'a [u8],
+    path: &'a [u8],
+) -> Result<(), SinkFault>
+    ensures { IsPrinted (O.taken out.old) (O.taken out.new) (O.faults out.old) (O.faults out.new)
+        (map_row address size segment.now name.now path.now) result }
+{
+    let pieces = [
+        Piece::Address(address),
+        Piece::Text(b" "),
+        Piece::Address(size),
+        Piece::Text(b" "),
+        Piece::Text(segment),
+        Piece::Text(b","),
+        Piece::Text(name),
+        Piece::Text(b" "),
+        Piece::Text(path),
+        Piece::Text(b"\n"),
+    ];
+    print_pieces(out, &pieces)
+}
+
+// The header of a placed section in its object.
+fn header_of(linker: &Linker, section: &PlacedSection) -> SectionHeader
+    requires { HasSection linker.now (id_of section.now) }
+    ensures { result ≡ header_at linker.now (id_of section.now) }
+{
+    match linker.input(section.file) {
+        Some(InputView::Object(file)) => {
+            match file.section(section.section) {
+                Some(header) => header,
+                None => unreachable!(),
+            }
+        }
+        _ => unreachable!(),
+    }
+}

@@ -1,0 +1,73 @@
+//! Texts that are printed piece by piece, without memory.
+
+ghost use Rattle.std.specs.Prelude.{◌≡◌, ◌++◌, codes};
+ghost use Rattle.hex.specs.Hex.{encode_lower};
+ghost use Rattle.byteorder.specs.Endian.{big_bytes};
+ghost use Rattle.std.specs.List.{flat_map};
+ghost use Rattle.macho_report.specs.Printing.{IsPrinted, piece_text};
+
+use byteorder::{BigEndian, ByteOrder};
+use itoa::Buffer;
+use macho_devices::{Sink, SinkFault};
+
+/// A piece of a text.
+#[derive(Clone, Copy)]
+pub(crate) enum Piece<'a> {
+    /// A text as it is.
+    Text(&'a [u8]),
+    /// A number in decimal digits.
+    Number(u64),
+    /// A number as `0x` and 16 hexadecimal digits.
+    Address(u64),
+    /// Bytes as hexadecimal digits.
+    Digest(&'a [u8; 32]),
+}
+
+/// Prints the pieces, one behind the other. Where the sink fails, nothing more is printed.
+pub(crate) fn print_pieces<S: Sink>(sink: &mut S, pieces: &[Piece<'_>]) -> Result<(), SinkFault>
+    ensures { IsPrinted (S.taken sink.old) (S.taken sink.new) (S.faults sink.old) (S.faults sink.new) (flat_map piece_text pieces.now) result }
+{
+    for index in 0..pieces.len() {
+        let piece = &pieces[index];
+        print_piece(sink, piece)?;
+    }
+    Ok(())
+}
+
+fn print_piece<S: Sink>(sink: &mut S, piece: &Piece<'_>) -> Result<(), SinkFault>
+    ensures { IsPrinted (S.taken sink.old) (S.taken sink.new) (S.faults sink.old) (S.faults sink.new) (piece_text piece.now) result }
+{
+    match *piece {
+        Piece::Text(text) => sink.write(text),
+        Piece::Number(number) => {
+            let mut buffer = Buffer::new();
+            sink.write(buffer.format(number).as_bytes())
+        }
+        Piece::Address(address) => sink.write(&hex_digits(address)),
+        Piece::Digest(digest) => sink.write(&digest_digits(digest)),
+    }
+}
+
+// `0x` and the 16 digits of a number.
+fn hex_digits(number: u64) -> [u8; 18]
+    ensures { result ≡ codes "0x" ++ encode_lower (big_bytes 8 number) }
+{
+    let mut text = *b"0x0000000000000000";
+    let mut bytes = [0u8; 8];
+    BigEndian::write_u64(&mut bytes, number);
+    match hex::encode_to_slice(bytes, &mut text[2..]) {
+        Ok(()) => text,
+        Err(_) => unreachable!(),
+    }
+}
+
+// The 64 digits of a digest.
+fn digest_digits(digest: &[u8; 32]) -> [u8; 64]
+    ensures { result ≡ encode_lower digest.now }
+{
+    let mut text = [0u8; 64];
+    match hex::encode_to_slice(digest, &mut text) {
+        Ok(()) => text,
+        Err(_) => unreachable!(),
+    }
+}

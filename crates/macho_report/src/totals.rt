@@ -1,0 +1,58 @@
+//! The lines of `-generate`: how many objects were made, how many words the loader fixes up, how many bytes the image has, and
+//! their digest.
+
+ghost use Rattle.std.specs.Prelude.{◌≡◌, None, IsOk};
+ghost use Rattle.sha2.specs.Sha256.{sha256};
+ghost use Rattle.macho_report.specs.Lines.{totals, generate_lines};
+ghost use Rattle.macho_report.specs.Printing.{IsPrinted};
+
+use crate::pieces::{Piece, print_pieces};
+use macho_devices::{Sink, SinkFault};
+use macho_image::LinkedImage;
+use sha2::{Digest, Sha256};
+
+/// Prints the lines of made objects, so many, where some were asked for. Where the sink fails, nothing more is printed.
+pub(crate) fn print_totals<O: Sink>(
+    out: &mut O,
+    count: Option<u32>,
+    image: &LinkedImage,
+) -> Result<(), SinkFault>
+    ensures printed { IsPrinted (O.taken out.old) (O.taken out.new) (O.faults out.old) (O.faults out.new) (totals count image.now) result }
+    ensures silent { count ≡ None → IsOk result × (out.new ≡ out.old) }
+{
+    match count {
+        Some(count) => print_numbers(out, count, image.fixups, image.bytes.as_slice()),
+        None => Ok(()),
+    }
+}
+
+fn print_numbers<O: Sink>(
+    out: &mut O,
+    count: u32,
+    fixups: u64,
+    bytes: &[u8],
+) -> Result<(), SinkFault>
+    ensures { IsPrinted (O.taken out.old) (O.taken out.new) (O.faults out.old) (O.faults out.new) (generate_lines count fixups bytes.now) result }
+{
+    let digest = digest_of(bytes);
+    let pieces = [
+        Piece::Text(b"objects "),
+        Piece::Number(u64::from(count)),
+        Piece::Text(b"\nfixups "),
+        Piece::Number(fixups),
+        Piece::Text(b"\nlength "),
+        Piece::Number(bytes.len() as u64),
+        Piece::Text(b"\nsha256 "),
+        Piece::Digest(&digest),
+        Piece::Text(b"\n"),
+    ];
+    print_pieces(out, &pieces)
+}
+
+fn digest_of(bytes: &[u8]) -> [u8; 32]
+    ensures { result ≡ sha256 bytes.now }
+{
+    let mut hasher = Sha256::new();
+    hasher.update(bytes);
+    hasher.finalize()
+}

@@ -1,0 +1,245 @@
+-- The passes of a run, joined.
+--
+-- What the link refuses is refused of the job. A fault that comes before the image is written is no failed write and no failed print,
+-- since neither count has risen there. An image that is written and printed is that of the job, under the paths that its files were
+-- read from. The words are read first, and change nothing; so the run of their settings is that of the words.
+use Rattle.std.proofs.Common.{◌≡◌, ℕ, ◌<◌, ◌⊎◌, inl, inr, arith, refl, sym, ◌∙◌, subst, List, map, Option, Some, None, String}
+use Rattle.std.specs.Prelude.{MatchOption, IfSome}
+use Rattle.std.specs.String.{string_bytes}
+use Rattle.macho_args.specs.Settings.{Settings, input_of}
+use Rattle.macho_args.specs.declared.fields.InputSpec.{InputSpec}
+use Rattle.macho_args.specs.Store.{Store, Directories, CanonicalPaths}
+use Rattle.macho_model.specs.Links.{Link}
+use Rattle.macho_faults.specs.declared.fault.LinkError.{LinkError}
+use Rattle.macho_faults.specs.declared.fault.LinkError.TheVariants as error
+use Rattle.macho_linked.specs.declared.image.LinkedImage.{LinkedImage}
+use Rattle.macho_image.specs.Refusals.{RefusalStands}
+use Rattle.macho_linked.specs.Linked.{IsImageOf}
+use Rattle.macho_devices.specs.Devices.{WritesFile}
+use Rattle.macho_devices.specs.Faults.{last_count}
+use Rattle.macho_job.specs.declared.fault.Fault.{Fault}
+use Rattle.macho_job.specs.declared.fault.Fault.TheVariants as fault
+use Rattle.macho_job.specs.Causes.{failures, reading, status_of, JobFails}
+use Rattle.macho_job.specs.Job.{Outside, uuid_of}
+use Rattle.macho_job.specs.Refused.{link_fault}
+use Rattle.macho_report.specs.Lines.{run_lines, fault_line}
+use Rattle.macho_report.specs.Printing.{IsLineTold}
+use Rattle.wild_macho.specs.declared.passes.Ran.{Ran}
+use Rattle.wild_macho.specs.declared.passes.Made.{Made}
+use Rattle.wild_macho.specs.steps.Made.{IsMade, IsLinkFault, Ends, EndsWith, EndsBare, EndFails, PrintFails, Prints, Finishes, Answers}
+use Rattle.wild_macho.specs.Runs.{Devices, devices, outside, Teller, LeavesImage, LeavesLines, LeavesAll, LeavesNothing, HasImage, HasCauseIn, RunsBy}
+
+-- a refusal of the link is one of the job
+pub link-fails : (l : Link) (e : LinkError) → RefusalStands l e → IsLinkFault l (link_fault e)
+link-fails l (error.DuplicateSymbol name m n) stands = record { fails = λ told s paths old new links. (l, links, stands) }
+link-fails l (error.UndefinedSymbol name n) stands = record { fails = λ told s paths old new links. (l, links, stands) }
+link-fails l (error.EntryNotDefined name) stands = record { fails = λ told s paths old new links. (l, links, stands) }
+link-fails l (error.ExportListMissing name) stands = record { fails = λ told s paths old new links. (l, links, stands) }
+link-fails l (error.BadInitializer n k o) stands = record { fails = λ told s paths old new links. (l, links, stands) }
+link-fails l (error.BadUnwind n k i u) stands = record { fails = λ told s paths old new links. (l, links, stands) }
+link-fails l (error.UnsupportedRelocation n k r) stands = record { fails = λ told s paths old new links. (l, links, stands) }
+link-fails l (error.OverlappingFields n k q r) stands = record { fails = λ told s paths old new links. (l, links, stands) }
+link-fails l (error.BindAddend n k r a) stands = record { fails = λ told s paths old new links. (l, links, stands) }
+link-fails l (error.FixupPlace n k r p) stands = record { fails = λ told s paths old new links. (l, links, stands) }
+link-fails l (error.TooMany what n p) stands = record { fails = λ told s paths old new links. (l, links, stands) }
+link-fails l (error.ImageTooLarge p) stands = record { fails = λ told s paths old new links. (l, links, stands) }
+link-fails l (error.RebaseTarget at p) stands = record { fails = λ told s paths old new links. (l, links, stands) }
+link-fails l (error.RelocationRange at p) stands = record { fails = λ told s paths old new links. (l, links, stands) }
+link-fails l error.BadName stands = absurd stands
+link-fails l (error.BadInput f) stands = absurd stands
+link-fails l error.OutOfMemory stands = record { fails = λ told s paths old new links. tt }
+
+none-rose : (0 < 0) ⊎ (0 ≡ last_count) → ⊥
+none-rose (inl rose) = absurd (omega (arith, rose))
+none-rose (inr stood) = absurd (omega (arith, stood))
+
+-- a fault before the write is that of the whole
+early-fails : (told : Option Store) (s : Settings) (paths : List (List ℕ)) (a b writes after prints later : ℕ) (f : Fault)
+    → JobFails told s paths (reading a) (reading b) f → JobFails told s paths (failures a writes prints) (failures b after later) f
+early-fails told s paths a b writes after prints later (fault.MissingFile word) why = why
+early-fails told s paths a b writes after prints later (fault.UnknownKind word kind) why = why
+early-fails told s paths a b writes after prints later (fault.Input word refusal) why = why
+early-fails told s paths a b writes after prints later (fault.Link refusal) why = why
+early-fails told s paths a b writes after prints later (fault.Words refusal) why = why
+early-fails told s paths a b writes after prints later (fault.Read word) why = why
+early-fails told s paths a b writes after prints later fault.Write why = absurd (none-rose why)
+early-fails told s paths a b writes after prints later fault.Print why = absurd (none-rose why)
+early-fails told s paths a b writes after prints later fault.OutOfMemory why = tt
+
+-- and leaves nothing behind
+early-leaves : (told : Option Store) (s : Settings) (paths : List (List ℕ)) (a b : ℕ) (f : Fault) (old new : Devices) → LeavesAll old new
+    → JobFails told s paths (reading a) (reading b) f → LeavesNothing (Some f) old new
+early-leaves told s paths a b (fault.MissingFile word) old new same why = same
+early-leaves told s paths a b (fault.UnknownKind word kind) old new same why = same
+early-leaves told s paths a b (fault.Input word refusal) old new same why = same
+early-leaves told s paths a b (fault.Link refusal) old new same why = same
+early-leaves told s paths a b (fault.Words refusal) old new same why = same
+early-leaves told s paths a b (fault.Read word) old new same why = same
+early-leaves told s paths a b fault.Write old new same why = none-rose why
+early-leaves told s paths a b fault.Print old new same why = none-rose why
+early-leaves told s paths a b fault.OutOfMemory old new same why = same
+
+-- a run that is refused before the image is written
+pub answers-refused : (s : Settings) (paths : List (List ℕ)) (files later : Outside) (a b writes after prints : ℕ) (printed : Option (List ℕ)) (f : Fault) (ran : Ran)
+    → ran.status ≡ status_of ran.fault → ran.image ≡ None → ran.fault ≡ Some f → later.store ≡ files.store → after ≡ writes
+    → JobFails files.store s paths (reading a) (reading b) f → Answers s paths (devices files a writes prints printed) (devices later b after prints printed) ran
+answers-refused s paths files later a b writes after prints printed f ran status none is same counted why =
+    let old : Devices = devices files a writes prints printed in
+    let new : Devices = devices later b after prints printed in
+    record {
+      status = status;
+      image =
+          let P : Option LinkedImage → Type 0 = λ i. MatchOption i (LeavesNothing ran.fault old new) (HasImage s old new ran.fault) in
+          subst P (sym none) (subst (λ (g : Option Fault). LeavesNothing g old new) (sym is)
+          (early-leaves files.store s paths a b f old new (record { files = same; lines = refl }) why));
+      why =
+          let Q : Option Fault → Type 0 = λ g. IfSome g (JobFails files.store s paths old.failures new.failures) in
+          subst Q (sym is) (early-fails files.store s paths a b writes after prints prints f why);
+    }
+
+-- what memory that ran out leaves
+bare-leaves : (old new : Devices) (f : Option Fault) → f ≡ Some fault.OutOfMemory → LeavesAll old new → LeavesNothing f old new
+bare-leaves old new f is same = subst (λ (g : Option Fault). LeavesNothing g old new) (sym is) same
+
+-- the end of an image, by settings
+end-image : (s : Settings) (paths : List (List ℕ)) (old new : Devices) (made : Made) (f : Option Fault) (image : Option LinkedImage)
+    → IsMade old.outside.store s paths made
+    → MatchOption image (LeavesNothing f old new)
+    (λ i. (i ≡ made.image) × LeavesImage f old.outside.store new.outside.store s.output i.bytes.items × LeavesLines f old.printed new.printed (run_lines s made.linker paths i))
+    → MatchOption image (LeavesNothing f old new) (HasImage s old new f)
+end-image s paths old new made f None is end = end
+end-image s paths old new made f (Some i) is end = record {
+  job = record { link = made.linker; paths = paths; uuid = uuid_of s made.linker.inputs; output = s.output };
+  is = record { links = is.links; uuid = refl; output = refl };
+  is_image = subst (IsImageOf made.linker (uuid_of s made.linker.inputs)) (sym end.0) is.is_image;
+  left = end.1;
+  lines = end.2;
+}
+
+-- the same as the passes tell it
+ended : (s : Settings) (paths : List (List ℕ)) (old new : Devices) (made : Made) (e : Ends) (f : Option Fault) (image : Option LinkedImage)
+    → e.old_store ≡ old.outside.store → e.new_store ≡ new.outside.store → e.old_printed ≡ old.printed → e.new_printed ≡ new.printed
+    → MatchOption image (EndsBare e f) (EndsWith s paths made e f)
+    → MatchOption image (LeavesNothing f old new)
+    (λ i. (i ≡ made.image) × LeavesImage f old.outside.store new.outside.store s.output i.bytes.items × LeavesLines f old.printed new.printed (run_lines s made.linker paths i))
+ended s paths old new made e f None is1 is2 is3 is4 end =
+    bare-leaves old new f end.memory (record { files = sym is2 ∙ (end.same_store ∙ is1); lines = sym is4 ∙ (end.same_printed ∙ is3) })
+ended s paths old new made e f (Some i) is1 is2 is3 is4 end = (
+  end.same,
+  subst (λ (o : Option Store). LeavesImage f o new.outside.store s.output i.bytes.items) is1
+      (subst (λ (n : Option Store). LeavesImage f e.old_store n s.output i.bytes.items) is2 end.left),
+  subst (λ (o : Option (List ℕ)). LeavesLines f o new.printed (run_lines s made.linker paths i)) is3
+      (subst (λ (n : Option (List ℕ)). LeavesLines f e.old_printed n (run_lines s made.linker paths i)) is4 end.lines),
+)
+
+-- the cause of a fault at the end
+end-cause : (told : Option Store) (s : Settings) (paths : List (List ℕ)) (a b writes later prints after : ℕ) (f : Option Fault)
+    → IfSome f (EndFails writes later prints after) → IfSome f (JobFails told s paths (failures a writes prints) (failures b later after))
+end-cause told s paths a b writes later prints after None why = tt
+end-cause told s paths a b writes later prints after (Some fault.Write) why = why
+end-cause told s paths a b writes later prints after (Some fault.Print) why = why
+end-cause told s paths a b writes later prints after (Some fault.OutOfMemory) why = tt
+end-cause told s paths a b writes later prints after (Some (fault.MissingFile word)) why = absurd why
+end-cause told s paths a b writes later prints after (Some (fault.UnknownKind word kind)) why = absurd why
+end-cause told s paths a b writes later prints after (Some (fault.Input word refusal)) why = absurd why
+end-cause told s paths a b writes later prints after (Some (fault.Link refusal)) why = absurd why
+end-cause told s paths a b writes later prints after (Some (fault.Words refusal)) why = absurd why
+end-cause told s paths a b writes later prints after (Some (fault.Read word)) why = absurd why
+
+-- a run that comes to the write
+pub answers-written : (s : Settings) (paths : List (List ℕ)) (files later : Outside) (a b writes before finish prints after : ℕ) (printed told : Option (List ℕ)) (mid : Option Store)
+    (made : Made) (ran : Ran) → mid ≡ files.store → before ≡ writes → IsMade files.store s paths made
+    → Finishes s paths made (record { old_store = mid; new_store = later.store; old_printed = printed; new_printed = told }) ran
+    → IfSome ran.fault (EndFails before finish prints after)
+    → Answers s paths (devices files a writes prints printed) (devices later b finish after told) ran
+answers-written s paths files later a b writes before finish prints after printed told mid made ran same counted is ends why =
+    let old : Devices = devices files a writes prints printed in
+    let new : Devices = devices later b finish after told in
+    record {
+      status = ends.status;
+      image = end-image s paths old new made ran.fault ran.image is (ended s paths old new made _ ran.fault ran.image same refl refl refl ends.image);
+      why = end-cause files.store s paths a b writes finish prints after ran.fault
+          (subst (λ (n : ℕ). IfSome ran.fault (EndFails n finish prints after)) counted why);
+    }
+
+-- the lines of a written image
+pub lines-finish : (s : Settings) (paths : List (List ℕ)) (made : Made) (e : Ends) (prints after : ℕ) (ran : Ran)
+    → WritesFile e.old_store e.new_store s.output made.image.bytes.items → Prints s paths made e.old_printed e.new_printed prints after ran
+    → Finishes s paths made e ran
+lines-finish s paths made e prints after ran wrote p = record {
+  status = p.status;
+  image =
+      subst (λ (i : Option LinkedImage). MatchOption i (EndsBare e ran.fault) (EndsWith s paths made e ran.fault)) (sym p.image) (record {
+        same = refl;
+        left = written ran.fault p.why;
+        lines = p.lines;
+      });
+}
+  where
+    written : (f : Option Fault) → PrintFails prints after f → LeavesImage f e.old_store e.new_store s.output made.image.bytes.items
+    written None why = wrote
+    written (Some fault.Print) why = wrote
+    written (Some fault.Write) why = absurd why
+    written (Some fault.OutOfMemory) why = absurd why
+    written (Some (fault.MissingFile word)) why = absurd why
+    written (Some (fault.UnknownKind word kind)) why = absurd why
+    written (Some (fault.Input word refusal)) why = absurd why
+    written (Some (fault.Link refusal)) why = absurd why
+    written (Some (fault.Words refusal)) why = absurd why
+    written (Some (fault.Read word)) why = absurd why
+
+-- and the cause of their fault
+pub lines-cause : (writes later prints after : ℕ) (f : Option Fault) → PrintFails prints after f → IfSome f (EndFails writes later prints after)
+lines-cause writes later prints after None why = tt
+lines-cause writes later prints after (Some fault.Print) why = why
+lines-cause writes later prints after (Some fault.Write) why = absurd why
+lines-cause writes later prints after (Some fault.OutOfMemory) why = absurd why
+lines-cause writes later prints after (Some (fault.MissingFile word)) why = absurd why
+lines-cause writes later prints after (Some (fault.UnknownKind word kind)) why = absurd why
+lines-cause writes later prints after (Some (fault.Input word refusal)) why = absurd why
+lines-cause writes later prints after (Some (fault.Link refusal)) why = absurd why
+lines-cause writes later prints after (Some (fault.Words refusal)) why = absurd why
+lines-cause writes later prints after (Some (fault.Read word)) why = absurd why
+
+-- a run that was answered, and whose fault was told
+pub told-run : (s : Settings) (paths : List (List ℕ)) (old new : Devices) (before after : Teller) (ran : Ran) (f : Fault) → ran.fault ≡ Some f → Answers s paths old new ran
+    → IsLineTold before.taken after.taken before.faults after.faults (fault_line s.inputs s.export_list_paths paths f) → RunsBy s old new before after ran
+told-run s paths old new before after ran f is answers line = record {
+  status = answers.status;
+  image = answers.image;
+  fault =
+      let Q : Option Fault → Type 0 = λ g. IfSome g (HasCauseIn s old new before after) in
+      let W : Option Fault → Type 0 = λ g. IfSome g (JobFails old.outside.store s paths old.failures new.failures) in
+      subst Q (sym is) (record { paths = paths; why = subst W is answers.why; line = line });
+}
+
+-- a run without a fault
+pub quiet-run : (s : Settings) (paths : List (List ℕ)) (old new : Devices) (before after : Teller) (ran : Ran) → ran.fault ≡ None → Answers s paths old new ran
+    → RunsBy s old new before after ran
+quiet-run s paths old new before after ran is answers = record {
+  status = answers.status;
+  image = answers.image;
+  fault = let Q : Option Fault → Type 0 = λ g. IfSome g (HasCauseIn s old new before after) in subst Q (sym is) tt;
+}
+
+-- devices that tell the same
+pub same-devices : (d e : Option Directories) (c k : Option CanonicalPaths) (h m : Option Store) (r q w v p : ℕ) (t : Option (List ℕ)) → e ≡ d → k ≡ c → m ≡ h → q ≡ r → v ≡ w
+    → devices (outside e k m) q v p t ≡ devices (outside d c h) r w p t
+same-devices d e c k h m r q w v p t is1 is2 is3 is4 is5 = rw (is1, is2, is3, is4, is5) refl
+
+-- a run from devices that tell the same
+pub runs-from : (s : Settings) (d e : Option Directories) (c k : Option CanonicalPaths) (h m : Option Store) (r q w v p : ℕ) (t : Option (List ℕ)) (new : Devices)
+    (before after : Teller) (ran : Ran) → e ≡ d → k ≡ c → m ≡ h → q ≡ r → v ≡ w → RunsBy s (devices (outside e k m) q v p t) new before after ran
+    → RunsBy s (devices (outside d c h) r w p t) new before after ran
+runs-from s d e c k h m r q w v p t new before after ran is1 is2 is3 is4 is5 runs =
+    subst (λ (old : Devices). RunsBy s old new before after ran) (same-devices d e c k h m r q w v p t is1 is2 is3 is4 is5) runs
+
+-- the same line, told with the same inputs, lists and paths
+pub same-line : {A : Type 0} (a b : Option (List ℕ)) (old new : ℕ) (xs ys : List InputSpec) (us vs : List (ℕ × String A)) (ps qs : List (List ℕ)) (f : Fault)
+    → xs ≡ ys → us ≡ vs → ps ≡ qs
+    → IsLineTold a b old new (fault_line (map input_of xs) (map (λ list. (list.0, string_bytes list.1)) us) ps f)
+    → IsLineTold a b old new (fault_line (map input_of ys) (map (λ list. (list.0, string_bytes list.1)) vs) qs f)
+same-line {A} a b old new xs ys us vs ps qs f is1 is2 is3 line =
+    subst (λ (zs : List (List ℕ)). IsLineTold a b old new (fault_line (map input_of ys) (map (λ list. (list.0, string_bytes list.1)) vs) zs f)) is3
+    (subst (λ (ws : List (ℕ × String A)). IsLineTold a b old new (fault_line (map input_of ys) (map (λ list. (list.0, string_bytes list.1)) ws) ps f)) is2
+    (subst (λ (zs : List InputSpec). IsLineTold a b old new (fault_line (map input_of zs) (map (λ list. (list.0, string_bytes list.1)) us) ps f)) is1 line))

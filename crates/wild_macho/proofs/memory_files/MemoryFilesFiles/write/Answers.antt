@@ -1,9 +1,0 @@
-use Rattle.std.proofs.Common.{Some, ap}
-use Rattle.wild_macho.specs.Devices.{prefix}
-use Rattle.wild_macho.specs.Memory.{Held}
-use Rattle.wild_macho.proofs.memory_files.MemoryFilesFiles.write.Goals as goal
-
--- the path holds as many of the first bytes as the failing write leaves
-pub returns-in-Ok-clause-left : goal.returns-in-Ok-clause-left
-returns-in-Ok-clause-left c =
-    prefix c.in-Some.left (rw c.front.ensures at (ap (λ (held : Held). Some held.files) c.in-Ok.ensures.done))

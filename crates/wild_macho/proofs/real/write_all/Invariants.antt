@@ -1,5 +1,0 @@
-use Rattle.wild_macho.proofs.Streams.{Written}
-use Rattle.wild_macho.proofs.real.write_all.Given as goal
-
-abbrev pub invariant-loop : goal.invariant-loop
-invariant-loop g l = Written (g.W.Write.contents l.initial.stream) (g.W.Write.contents l.stream) l.bytes l.rest
