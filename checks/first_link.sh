@@ -38,11 +38,13 @@ wanted() {
 }
 
 wanted read 'FileType: Executable (0x2)'
-wanted read 'NumOfLoadCommands: 4'
-wanted read 'SizeOfLoadCommands: 280'
+wanted read 'NumOfLoadCommands: 10'
+wanted read 'SizeOfLoadCommands: 448'
 wanted read 'Flags [ (0x200085)'
-wanted read 'Address: 0x100000138'
-wanted dump 'entryoff 312'
+wanted read 'Address: 0x1000001E0'
+wanted dump 'entryoff 480'
 wanted dump 'name /usr/lib/dyld (offset 12)'
+wanted dump 'cmd LC_DYLD_CHAINED_FIXUPS'
+wanted dump 'cmd LC_CODE_SIGNATURE'
 wanted dump 'ret'
 echo "first_link: linked and read"
