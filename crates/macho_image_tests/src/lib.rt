@@ -1,0 +1,5 @@
+//! Tests of a linker.
+#![tactic(auto)]
+
+#[cfg(test)]
+mod again;
