@@ -6,18 +6,7 @@ folder=$(mktemp -d) || exit 1
 trap 'rm -rf "$folder"' EXIT
 cd "$top" || exit 1
 
-fail() {
-    echo "examples: $1" >&2
-    exit 1
-}
-
-# An installed tool by its name, with or without a version behind it.
-tool() {
-    for name in "$1" "$1"-{14..23}; do
-        command -v "$name" && return
-    done
-    return 1
-}
+source "$top/checks/installed.bash" || exit 1
 
 # Links an image of a name by words.
 linked() {

@@ -6,18 +6,7 @@ folder=$(mktemp -d) || exit 1
 trap 'rm -rf "$folder"' EXIT
 image=$folder/hello
 
-fail() {
-    echo "first_link: $1" >&2
-    exit 1
-}
-
-# An installed tool by its name, with or without a version behind it.
-tool() {
-    for name in "$1" "$1"-{14..23}; do
-        command -v "$name" && return
-    done
-    return 1
-}
+source "$top/checks/installed.bash" || exit 1
 
 "$top/link" -o "$image" "$top/examples/hello/hello.o" || fail "the link ended with status $?"
 [ -x "$image" ] || fail "no executable was written"

@@ -5,10 +5,7 @@ top=$(cd "$(dirname "$0")/.." && pwd) || exit 1
 folder=$(mktemp -d) || exit 1
 trap 'rm -rf "$folder"' EXIT
 
-fail() {
-    echo "objects_of_clang: $1" >&2
-    exit 1
-}
+source "$top/checks/installed.bash" || exit 1
 
 command -v clang >/dev/null || {
     echo "objects_of_clang: SKIPPED, since clang isn't installed"

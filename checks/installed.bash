@@ -1,0 +1,14 @@
+# What checks share: read by `source`. A check stands in a file of its own name, which its faults begin with.
+
+fail() {
+    echo "$(basename "$0" .sh): $1" >&2
+    exit 1
+}
+
+# An installed tool by its name, with or without a version behind it.
+tool() {
+    for name in "$1" "$1"-{14..23}; do
+        command -v "$name" && return
+    done
+    return 1
+}
