@@ -22,9 +22,9 @@ def options():
 
 
 def rules():
-    """The names of the rules on inputs: variants of these enums."""
+    """The names of the rules on inputs and on unwind entries: variants of these enums."""
     text = read("crates", "macho_model", "src", "rules.rt") + read("crates", "macho_stub_lines", "src", "fault.rt")
-    bodies = re.findall(r"pub enum (?:ObjectRule|StubRule) \{(.*?)\n\}", text, re.S)
+    bodies = re.findall(r"pub enum (?:ObjectRule|StubRule|UnwindRule) \{(.*?)\n\}", text, re.S)
     return [name for body in bodies for name in re.findall(r"^    (\w+),", body, re.M)]
 
 
@@ -44,7 +44,7 @@ def lacking(page, found, wanted):
 
 def wrong_usage():
     usage = read("docs", "USAGE.md")
-    told = set(re.findall(r"`(-\w+)", usage)) | set(re.findall(r"^\| ((?:[OS]\d+(?:, )?)+) \|", usage, re.M))
+    told = set(re.findall(r"`(-\w+)", usage)) | set(re.findall(r"^\| ((?:[OSU]\d+(?:, )?)+) \|", usage, re.M))
     told |= {name for names in list(told) for name in names.split(", ")} | set(re.findall(r"`bad word \d: (\w+)`", usage))
     wanted = options() + rules() + faults()
     return lacking("USAGE.md", told, wanted) if len(wanted) > 60 else ["the options, rules or faults can't be read"]
