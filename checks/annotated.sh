@@ -11,6 +11,6 @@ command -v python3 >/dev/null || {
     echo "annotated: SKIPPED, since python3 isn't installed"
     exit 0
 }
-inputs=("$top/examples/leaves/leaves.o" "$top/examples/libSystem.tbd")
+inputs=("$top/examples/leaves/leaves.o" "$top/examples/leaves/libSystem.tbd")
 "$top/link" -o "$folder/out" "${inputs[@]}" || fail "the link ended with status $?"
 python3 "$top/checks/annotated.py" "$top/docs/FORMATS.md" "$folder/out" "${inputs[@]}"

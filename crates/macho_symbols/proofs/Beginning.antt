@@ -3,7 +3,7 @@ use Rattle.std.proofs.Common.{◌≡◌, ℕ, ◌<◌, ◌≤◌, [], length, ge
 use Rattle.std.proofs.lemmas.List.{get_or-replicate, length-replicate}
 use Rattle.std.proofs.lemmas.List.Elements.{All-nil}
 use Rattle.macho_symbols.specs.steps.Events.{event_at, best_of}
-use Rattle.macho_symbols.specs.steps.Tables.{IsEmptyTable, IsThere, entry_name}
+use Rattle.macho_symbols.specs.steps.Tables.{IsEmptyTable, IsThere, IsTagged, entry_name}
 
 pub empty_knows : (n : ℕ) → 1 ≤ n → IsEmptyTable (replicate n 0) []
 unfolding best_of
@@ -21,6 +21,7 @@ empty_knows n some = record {
         onward = λ j k less h same. absurd (omega (arith, h));
       };
       there = All-nil (IsThere files);
+      tagged = All-nil (IsTagged files);
       apart = λ j k less h same. absurd (omega (arith, h));
     };
     knows = record {

@@ -6,7 +6,7 @@ use Rattle.std.proofs.Math.Seq.{get_or-append_seam}
 use Rattle.std.proofs.lemmas.Bool.{cases_lt}
 use Rattle.macho_symbols.specs.declared.table.Entry.{Entry}
 use Rattle.macho_symbols.specs.Kept.{FileRows}
-use Rattle.macho_symbols.specs.steps.Tables.{IsTable, IsThere, IsNowhere, AreChained, hash_of, bucket_of, entry_name, names_of, nexts_of}
+use Rattle.macho_symbols.specs.steps.Tables.{IsTable, IsThere, IsTagged, IsNowhere, AreChained, hash_of, bucket_of, entry_name, names_of, nexts_of}
 
 -- a number below that of a longer list is one of the shorter, or the last
 pub below_more : (k n : ℕ) → k < n + 1 → (k < n) ⊎ (k ≡ n)
@@ -135,14 +135,15 @@ chained_more heads nexts names b name ch is inside = record {
 
 -- A table with one entry more: a new name's.
 pub table_more : (files : List FileRows) (heads : List ℕ) (entries : List Entry) (b : ℕ) (e : Entry) → IsTable files heads entries
-    → b ≡ bucket_of heads (entry_name files e) → b < length heads → e.next ≡ get_or heads b 0 → IsThere files e
+    → b ≡ bucket_of heads (entry_name files e) → b < length heads → e.next ≡ get_or heads b 0 → IsThere files e → IsTagged files e
     → IsNowhere (entry_name files e) (names_of files entries) → IsTable files (set heads b (length entries + 1)) (entries ++ e ∷ [])
-table_more files heads entries b e table is inside next there new =
+table_more files heads entries b e table is inside next there tagged new =
     let long = length-map entries (entry_name files) in
     let chained = chained_more heads (nexts_of entries) (names_of files entries) b (entry_name files e) table.chained is inside in
     record {
       chained = rw (map-append (λ x. x.next) entries (e ∷ []), map-append (entry_name files) entries (e ∷ []), next, ← long) chained;
       there = All-push (IsThere files) entries e table.there there;
+      tagged = All-push (IsTagged files) entries e table.tagged tagged;
       apart = λ j k less h same. apart j k less same
           (names_cases (names_of files entries) (entry_name files e) j
           (omega (arith, h, long, length-append (names_of files entries) (entry_name files e ∷ []), length-append entries (e ∷ []))));

@@ -20,6 +20,7 @@ pub mod Leading
 pub mod Lists
 pub mod Offering
 pub mod Order
+pub mod Strings
 pub mod Taking
 pub mod Targeted
 pub mod UsesHere

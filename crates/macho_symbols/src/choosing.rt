@@ -10,7 +10,7 @@ use crate::fault::SymbolFault;
 use crate::files::FileNames;
 use crate::notes::Sort;
 use crate::solved::Common;
-use crate::table::{Table, name_in, note_in, rows_in};
+use crate::table::{Table, hash, name_in, note_in, rows_in};
 use macho_records::rounded_up;
 use std::alloc::Global;
 
@@ -34,7 +34,8 @@ pub(crate) fn defines(files: &[FileNames], table: &Table, file: u32, row: usize)
     if !note_in(files, file, row).global {
         return false;
     }
-    let Some(number) = table.find(files, name_in(files, file, row)) else {
+    let hash = hash(name_in(files, file, row));
+    let Some(number) = table.find_row(files, file, row, hash) else {
         return false;
     };
     let best = table.entry(number);

@@ -8,8 +8,9 @@ ghost use Rattle.macho_model.specs.Symbols.{is_in_section, is_absolute};
 ghost use Rattle.macho_stub_lines.specs.Lists.{texts};
 ghost use Rattle.macho_symbols.specs.Kept.{Row, kept_object, kept_dylib, kept_stub, reading_of, rows_of_object, rows_of_dylib, offered_row, is_offered, no_row};
 ghost use Rattle.macho_symbols.specs.steps.Events.{library_text};
-ghost use Rattle.macho_symbols.specs.steps.Notes.{AreNoted, IsString, CommonFits, row_in, named_row};
+ghost use Rattle.macho_symbols.specs.steps.Notes.{AreNoted, AreEnds, IsString, CommonFits, row_in, named_row};
 
+use crate::ends::block_ends;
 use crate::notes::{Name, Note, Sort, is_absolute, is_in_section, name_at, note_of};
 use macho_object::File;
 use macho_records::SymtabEntry;
@@ -46,22 +47,20 @@ fn object_notes(alloc: Global, file: &File<'_>) -> Result<Vec<Note>, AllocError>
     requires few { length (strings_of file.now.bytes) < 2 ^ 32 }
     ensures { IfOk result (λ notes. AreNoted (strings_of file.now.bytes) notes.items (rows_of_object file.now.bytes)) }
 {
+    let ends = block_ends(alloc, file.strings())?;
     let mut notes = Vec::with_capacity(alloc, file.num_symbols() as usize)?;
-    let mut last = Name { at: 0, length: 0 };
     for index in 0..file.num_symbols() {
-        let note = note_of(file, index, last);
-        last = note.name;
-        notes.push(note)?;
+        notes.push(note_of(file, &ends, index))?;
     }
     Ok(notes)
 }
 
 /// The note of a symbol that a dynamic library offers, in the bytes of its string table; None of another symbol.
-fn offered_note(file: &File<'_>, index: u32, last: Name) -> Option<Note>
+fn offered_note(file: &File<'_>, ends: &[u32], index: u32) -> Option<Note>
     requires dylib { file.now.is_dynamic ≡ true }
     requires few { length (strings_of file.now.bytes) < 2 ^ 32 }
     requires among { index < num_symbols file.now.bytes }
-    requires last { IsString (strings_of file.now.bytes) last }
+    requires ends { AreEnds (strings_of file.now.bytes) ends.now }
     ensures offered { is_some result ≡ is_offered file.now.bytes index }
     ensures row { IfSome result (λ n. row_in (strings_of file.now.bytes) n ≡ offered_row (symbol_name file.now.bytes index)) }
     ensures held { IfSome result (λ n. IsString (strings_of file.now.bytes) n.name × (n.sort ≡ Sort.Offered)) }
@@ -71,7 +70,7 @@ fn offered_note(file: &File<'_>, index: u32, last: Name) -> Option<Note>
     if symbol.is_local() || symbol.is_hidden() || !is_defined(symbol) {
         return None;
     }
-    Some(offered(name_at(file.strings(), symbol.n_strx, last)))
+    Some(offered(name_at(file.strings(), ends, symbol.n_strx)))
 }
 
 /// Whether a symbol is defined: in a section, or as a value of its own.
@@ -104,13 +103,12 @@ fn dylib_notes(alloc: Global, file: &File<'_>) -> Result<Vec<Note>, AllocError>
     requires few { length (strings_of file.now.bytes) < 2 ^ 32 }
     ensures { IfOk result (λ notes. AreNoted (strings_of file.now.bytes) notes.items (rows_of_dylib file.now.bytes)) }
 {
+    let ends = block_ends(alloc, file.strings())?;
     let mut notes = Vec::new(alloc);
-    let mut last = Name { at: 0, length: 0 };
     for index in 0..file.num_symbols() {
-        let Some(note) = offered_note(file, index, last) else {
+        let Some(note) = offered_note(file, &ends, index) else {
             continue;
         };
-        last = note.name;
         notes.push(note)?;
     }
     Ok(notes)
@@ -225,6 +223,16 @@ impl FileNames {
         let name = self.notes[row].name;
         let at = name.at as usize;
         &self.text[at..at + name.length as usize]
+    }
+
+    /// Whether two rows have one name, standing in one place.
+    pub(crate) fn is_same_place(&self, row: usize, other: usize) -> bool
+        requires row { row < length self.now.rows }
+        requires other { other < length self.now.rows }
+        ensures { result ≡ true → (get_or self.now.rows row no_row).name ≡ (get_or self.now.rows other no_row).name }
+    {
+        let (name, other) = (self.notes[row].name, self.notes[other].name);
+        name.at == other.at && name.length == other.length
     }
 
     /// The note of a row.

@@ -3,6 +3,7 @@
 
 mod asked;
 mod choosing;
+mod ends;
 mod exports;
 mod fault;
 mod files;

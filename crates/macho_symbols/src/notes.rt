@@ -11,8 +11,9 @@ ghost use Rattle.macho_model.specs.Links.{is_carried};
 ghost use Rattle.macho_model.specs.Objects.{num_symbols, strings_of, symbol_at};
 ghost use Rattle.macho_symbols.specs.Kept.{in_carried, sort_of, number_of, value_of, row_of_symbol};
 ghost use Rattle.macho_symbols.specs.steps.Events.{strength_of, size_of_common};
-ghost use Rattle.macho_symbols.specs.steps.Notes.{row_in, IsString, CommonFits};
+ghost use Rattle.macho_symbols.specs.steps.Notes.{row_in, AreEnds, IsString, CommonFits};
 
+use crate::ends::string_end;
 use macho_object::File;
 use macho_records::{CommonSymbol, N_SECT, N_STAB, N_TYPE, SectionHeader, SymtabEntry, name_bytes};
 
@@ -54,24 +55,21 @@ pub(crate) struct Note {
     pub(crate) hidden: bool,
 }
 
-/// The name that begins at a place of a string table. Its end is looked for once where names that follow each other are
-/// one.
-pub(crate) fn name_at(strings: &[u8], at: u32, last: Name) -> Name
+/// The name that begins at a place of a string table.
+pub(crate) fn name_at(strings: &[u8], ends: &[u32], at: u32) -> Name
     requires few { length strings.now < 2 ^ 32 }
     requires within { at ≤ length strings.now }
-    requires last { IsString strings.now last }
+    requires ends { AreEnds strings.now ends.now }
     ensures at { result.at ≡ at }
     ensures is { IsString strings.now result }
 {
-    if at == last.at {
-        return last;
-    }
     if at == 0 {
         return Name { at, length: 0 };
     }
+    let start = at as usize;
     Name {
         at,
-        length: name_bytes(&strings[at as usize..]).len() as u32,
+        length: (string_end(strings, ends, start) - start) as u32,
     }
 }
 
@@ -190,28 +188,28 @@ fn lead_of(file: &File<'_>, index: u32, symbol: SymtabEntry) -> Lead
 
 /// The name of a symbol, none of a local one.
 #[tactic(auto, using(crate::proofs::Entries::names_begin_inside))]
-fn name_of_symbol(file: &File<'_>, index: u32, symbol: SymtabEntry, last: Name) -> Name
+fn name_of_symbol(file: &File<'_>, ends: &[u32], index: u32, symbol: SymtabEntry) -> Name
     requires few { length (strings_of file.now.bytes) < 2 ^ 32 }
     requires among { index < num_symbols file.now.bytes }
     requires entry { symbol ≡ symbol_at file.now.bytes index }
-    requires last { IsString (strings_of file.now.bytes) last }
+    requires ends { AreEnds (strings_of file.now.bytes) ends.now }
     ensures is { IsString (strings_of file.now.bytes) result }
     ensures at { result.at ≡ (if is_global symbol then symbol.n_strx else 0) }
 {
     let _whole = file.is_dynamic();
     if is_global(symbol) {
-        name_at(file.strings(), symbol.n_strx, last)
+        name_at(file.strings(), ends, symbol.n_strx)
     } else {
         Name { at: 0, length: 0 }
     }
 }
 
 /// What is kept of a symbol of an object.
-pub(crate) fn note_of(file: &File<'_>, index: u32, last: Name) -> Note
+pub(crate) fn note_of(file: &File<'_>, ends: &[u32], index: u32) -> Note
     requires object { file.now.is_dynamic ≡ false }
     requires few { length (strings_of file.now.bytes) < 2 ^ 32 }
     requires among { index < num_symbols file.now.bytes }
-    requires last { IsString (strings_of file.now.bytes) last }
+    requires ends { AreEnds (strings_of file.now.bytes) ends.now }
     ensures named { IsString (strings_of file.now.bytes) result.name }
     ensures row { row_in (strings_of file.now.bytes) result ≡ row_of_symbol file.now.bytes index }
     ensures small { CommonFits result.sort result.number result.value }
@@ -221,7 +219,7 @@ pub(crate) fn note_of(file: &File<'_>, index: u32, last: Name) -> Note
     };
     let lead = lead_of(file, index, symbol);
     Note {
-        name: name_of_symbol(file, index, symbol, last),
+        name: name_of_symbol(file, ends, index, symbol),
         value: lead.value,
         sort: lead.sort,
         number: lead.number,

@@ -11,7 +11,7 @@ ghost use Rattle.macho_model.specs.Needs.{import_number};
 use crate::fault::SymbolFault;
 use crate::files::FileNames;
 use crate::notes::Sort;
-use crate::table::{Table, name_in, note_in};
+use crate::table::{Table, hash, name_in, note_in};
 use macho_model::Target;
 
 /// A symbol of a library that something of the link uses.
@@ -182,6 +182,20 @@ impl Solved {
         }
     }
 
+    /// Where the name of a row leads.
+    fn named_row(&self, file: u32, row: usize) -> Target
+        requires file { file < length self.now.files.items }
+        requires row { row < row_count self.now.files.items file }
+        requires solved { IsSolved self.now }
+        ensures { result ≡ named_in self.now.files.items (noted_of self.now.imports.items) (row_at self.now.files.items file row).name }
+    {
+        let name = name_in(&self.files, file, row);
+        match self.table.find_row(&self.files, file, row, hash(name)) {
+            Some(number) => self.lead(number, name),
+            None => base_target(name),
+        }
+    }
+
     /// Where a symbol leads.
     pub(crate) fn target(&self, file: u32, row: usize) -> Target
         requires file { file < length self.now.files.items }
@@ -190,7 +204,7 @@ impl Solved {
         ensures { result ≡ target_in self.now.files.items (noted_of self.now.imports.items) (event_at self.now.files.items file row) }
     {
         if note_in(&self.files, file, row).global {
-            self.named(name_in(&self.files, file, row))
+            self.named_row(file, row)
         } else {
             own_target(&self.files, &self.commons, file, row)
         }

@@ -1,15 +1,17 @@
 //! The table of names: for each name that some row mentions, the best row so far.
 //!
 //! It holds no name of its own: an entry leads to a row, whose file holds the name. Names are found by a hash, whose
-//! buckets chain entries from the newest to the oldest:
+//! buckets chain entries from the newest to the oldest. An entry keeps the high half of its name's hash, so that names
+//! which only share a bucket are told apart without a look at them:
 //!
 //!     heads     0  2  0  1             of four buckets, two hold one entry each
-//!     entries   { next 0, file 0, row 3 }  { next 0, file 1, row 0 }
-ghost use Rattle.std.specs.Prelude.{◌≡◌, ℕ, ◌+◌, ◌<◌, ◌≤◌, length, IfSome, IfNone, IfErr, IfOk, OnOk, get_or, true, [], ◌∷◌};
+//!     entries   { next 0, file 0, row 3, tag .. }  { next 0, file 1, row 0, tag .. }
+ghost use Rattle.std.specs.Prelude.{◌≡◌, ℕ, ◌+◌, ◌/◌, ◌%◌, ◌^◌, ◌<◌, ◌≤◌, length, IfSome, IfNone, IsSomeAnd, IfErr, IfOk, OnOk, get_or, true, false, [], ◌∷◌};
+ghost use Rattle.std.specs.List.{fold};
 ghost use Rattle.macho_symbols.specs.Kept.{no_file};
 ghost use Rattle.macho_symbols.specs.steps.Events.{row_at, row_count, event_at, beats};
 ghost use Rattle.macho_symbols.specs.steps.Notes.{named_row, CommonFits};
-ghost use Rattle.macho_symbols.specs.steps.Tables.{IsEmptyTable, hash_of, bucket_of, IsTable, IsEntryOf, IsNowhere, IsAdded, TakesIn, Refuses, IsThere, no_entry, both_strong, names_of};
+ghost use Rattle.macho_symbols.specs.steps.Tables.{IsEmptyTable, hash_step, hash_of, IsPlaceOfName, IsTagged, entry_name, IsTable, IsEntryOf, IsNowhere, IsAdded, TakesIn, Refuses, IsThere, no_entry, both_strong, names_of};
 
 use crate::fault::SymbolFault;
 use crate::files::FileNames;
@@ -25,10 +27,12 @@ pub(crate) struct Entry {
     pub(crate) row: u32,
     /// The file of that row.
     pub(crate) file: u32,
+    /// The high half of the name's hash.
+    pub(crate) tag: u32,
 }
 
-/// How many names share a bucket, where all are full.
-const NAMES_PER_BUCKET: usize = 2;
+/// How many bytes of a long name's front and of its end are hashed.
+const HASHED: usize = 512;
 
 /// The table of names.
 #[derive(Drop)]
@@ -38,16 +42,36 @@ pub(crate) struct Table {
     pub(crate) entries: Vec<Entry>,
 }
 
-/// The hash FNV-1a of a name, of 64 bits.
-#[tactic(auto, unfolding(crate::specs::steps::Tables::hash_of))]
-fn hash(name: &[u8]) -> u64
-    ensures { result ≡ hash_of name.now }
+/// The hash FNV-1a of some bytes behind others, of 64 bits.
+fn hash_behind(start: u64, bytes: &[u8]) -> u64
+    ensures { result ≡ fold hash_step start bytes.now }
 {
-    let mut hash = 14_695_981_039_346_656_037u64;
-    for byte in name {
+    let mut hash = start;
+    for byte in bytes {
         hash = (hash ^ u64::from(*byte)).wrapping_mul(1_099_511_628_211);
     }
     hash
+}
+
+/// The hash of a name. Of a long one its length, its front and its end are hashed, so that many symbols that share it, or
+/// tails of it, are looked for in a short time.
+#[tactic(auto, unfolding(crate::specs::steps::Tables::hash_of))]
+pub(crate) fn hash(name: &[u8]) -> u64
+    ensures { result ≡ hash_of name.now }
+{
+    let start = 14_695_981_039_346_656_037u64;
+    if name.len() <= 2 * HASHED {
+        return hash_behind(start, name);
+    }
+    let front = hash_behind(start.wrapping_add(name.len() as u64), &name[..HASHED]);
+    hash_behind(front, &name[name.len() - HASHED..])
+}
+
+/// The part of a hash that entries keep.
+fn tag(hash: u64) -> u32
+    ensures { result ≡ hash / 2 ^ 32 }
+{
+    (hash >> 32) as u32
 }
 
 /// How many rows a file has.
@@ -77,25 +101,87 @@ pub(crate) fn note_in(files: &[FileNames], file: u32, row: usize) -> Note
     files[file as usize].note(row)
 }
 
+/// A row of a file.
+#[derive(Clone, Copy)]
+struct Place {
+    file: u32,
+    row: usize,
+}
+
+/// Whether a row is of the file of an entry's row, and its name stands where that one's does.
+fn is_at(files: &[FileNames], entry: Entry, place: Option<Place>) -> bool
+    requires entry { IsThere files.now entry }
+    requires place { IfSome place (λ p. (p.file < length files.now) × (p.row < row_count files.now p.file)) }
+    ensures { result ≡ true → IsSomeAnd place (λ p. (row_at files.now p.file p.row).name ≡ entry_name files.now entry) }
+{
+    match place {
+        Some(place) => {
+            place.file == entry.file
+                && files[place.file as usize].is_same_place(place.row, entry.row as usize)
+        }
+        None => false,
+    }
+}
+
+/// Whether an entry is of a name: by its tag, and then by where it stands, or by its bytes.
+fn is_named(files: &[FileNames], entry: Entry, name: &[u8], hash: u64, place: Option<Place>) -> bool
+    requires entry { IsThere files.now entry }
+    requires tagged { IsTagged files.now entry }
+    requires hash { hash ≡ hash_of name.now }
+    requires place { IfSome place (IsPlaceOfName files.now name.now) }
+    ensures yes { result ≡ true → entry_name files.now entry ≡ name.now }
+    ensures no { result ≡ false → entry_name files.now entry ≡ name.now → ⊥ }
+{
+    if entry.tag != tag(hash) {
+        return false;
+    }
+    is_at(files, entry, place) || name_in(files, entry.file, entry.row as usize) == name
+}
+
 impl Table {
     /// A table without names, with room for some.
     pub(crate) fn new(alloc: Global, names: usize) -> Result<Table, AllocError>
         ensures { IfOk result (λ t. IsEmptyTable t.heads.items t.entries.items) }
     {
-        let buckets = names / NAMES_PER_BUCKET + 1;
         Ok(Table {
-            heads: vec![in alloc; 0u32; buckets]?,
+            heads: vec![in alloc; 0u32; names.saturating_add(1)]?,
             entries: Vec::with_capacity(alloc, names)?,
         })
     }
 
-    /// The bucket of a name.
-    fn bucket(&self, name: &[u8]) -> usize
+    /// The bucket of a name's hash.
+    fn bucket(&self, hash: u64) -> usize
         requires { 1 ≤ length self.now.heads.items }
-        ensures bucket { result ≡ bucket_of self.now.heads.items name.now }
+        ensures bucket { result ≡ hash % length self.now.heads.items }
         ensures within { result < length self.now.heads.items }
     {
-        (hash(name) % self.heads.len() as u64) as usize
+        (hash % self.heads.len() as u64) as usize
+    }
+
+    /// The number of the entry of a name, of which the hash is given, and the row that brings it, if one does.
+    fn find_from(
+        &self,
+        files: &[FileNames],
+        name: &[u8],
+        hash: u64,
+        place: Option<Place>,
+    ) -> Option<usize>
+        requires table { IsTable files.now self.now.heads.items self.now.entries.items }
+        requires hash { hash ≡ hash_of name.now }
+        requires place { IfSome place (IsPlaceOfName files.now name.now) }
+        ensures found { IfSome result (λ j. IsEntryOf files.now self.now.entries.items name.now j) }
+        ensures none { IfNone result (IsNowhere name.now (names_of files.now self.now.entries.items)) }
+    {
+        let mut at = self.heads[self.bucket(hash)];
+        while at != 0 {
+            let number = at as usize - 1;
+            let entry = self.entries[number];
+            if is_named(files, entry, name, hash, place) {
+                return Some(number);
+            }
+            at = entry.next;
+        }
+        None
     }
 
     /// The number of a name's entry.
@@ -104,16 +190,26 @@ impl Table {
         ensures found { IfSome result (λ j. IsEntryOf files.now self.now.entries.items name.now j) }
         ensures none { IfNone result (IsNowhere name.now (names_of files.now self.now.entries.items)) }
     {
-        let mut at = self.heads[self.bucket(name)];
-        while at != 0 {
-            let number = at as usize - 1;
-            let entry = self.entries[number];
-            if name_in(files, entry.file, entry.row as usize) == name {
-                return Some(number);
-            }
-            at = entry.next;
-        }
-        None
+        self.find_from(files, name, hash(name), None)
+    }
+
+    /// The number of the entry of a row's name, of which the hash is given.
+    pub(crate) fn find_row(
+        &self,
+        files: &[FileNames],
+        file: u32,
+        row: usize,
+        hash: u64,
+    ) -> Option<usize>
+        requires file { file < length files.now }
+        requires row { row < row_count files.now file }
+        requires table { IsTable files.now self.now.heads.items self.now.entries.items }
+        requires hash { hash ≡ hash_of (row_at files.now file row).name }
+        ensures found { IfSome result (λ j. IsEntryOf files.now self.now.entries.items (row_at files.now file row).name j) }
+        ensures none { IfNone result (IsNowhere (row_at files.now file row).name (names_of files.now self.now.entries.items)) }
+    {
+        let name = name_in(files, file, row);
+        self.find_from(files, name, hash, Some(Place { file, row }))
     }
 }
 
@@ -124,7 +220,9 @@ impl Table {
         files: &[FileNames],
         file: u32,
         row: usize,
+        hash: u64,
     ) -> Result<(), AllocError>
+        requires hash { hash ≡ hash_of (row_at files.now file row).name }
         requires file { file < length files.now }
         requires row { row < row_count files.now file }
         requires table { IsTable files.now self.old.heads.items self.old.entries.items }
@@ -132,7 +230,7 @@ impl Table {
         ensures table { OnOk result (IsTable files.now self.new.heads.items self.new.entries.items) }
         ensures added { OnOk result (IsAdded self.old.entries.items self.new.entries.items file row) }
     {
-        let bucket = self.bucket(name_in(files, file, row));
+        let bucket = self.bucket(hash);
         let next = self.heads[bucket];
         let number = self.entries.len();
         // Objects have fewer symbols than that together.
@@ -140,7 +238,12 @@ impl Table {
             return Err(AllocError);
         }
         let row = row as u32;
-        self.entries.push(Entry { next, row, file })?;
+        self.entries.push(Entry {
+            next,
+            row,
+            file,
+            tag: tag(hash),
+        })?;
         self.heads[bucket] = number as u32 + 1;
         Ok(())
     }

@@ -1,5 +1,5 @@
 -- Notes: how a row is held, with its name as a place and a length in the bytes of its file.
-use Rattle.std.specs.Prelude.{◌≡◌, ℕ, ◌+◌, ◌^◌, ◌<◌, ◌≤◌, ◌==◌, if◌then◌else◌, Option, Some, None, List, [], length, map, drop, slice_range, All}
+use Rattle.std.specs.Prelude.{◌≡◌, ℕ, ◌+◌, ◌^◌, ◌<◌, ◌≤◌, ◌==◌, ◌/◌, ◌*◌, get_or, if◌then◌else◌, Option, Some, None, List, [], length, map, drop, slice_range, All}
 use Rattle.std.specs.declared.vec.Vec.{Vec}
 use Rattle.macho_bytes.specs.Texts.{name_of}
 use Rattle.macho_bytes.specs.Numbers.{rounded_up}
@@ -36,6 +36,15 @@ CommonFits Nowhere number value = Unit {0}
 -- the name that begins at a place of a string table; place 0 stands for none
 abbrev pub string_at : List ℕ → ℕ → List ℕ
 string_at strings at = if at == 0 then [] else name_of (drop at strings)
+
+-- where the string ends that begins at a place: at the next NUL, or where the table does
+unfoldable pub end_at : List ℕ → ℕ → ℕ
+end_at strings at = at + length (name_of (drop at strings))
+
+-- Ends of the strings that begin at every 256th place.
+pub record AreEnds (strings ends : List ℕ) : Type 0 where
+  pub long : length ends ≡ length strings / 256 + 1
+  pub each : (k : ℕ) → k < length ends → get_or ends k 0 ≡ end_at strings (k * 256)
 
 -- A name was found in a string table: it stands there whole.
 pub record IsString (strings : List ℕ) (n : Name) : Type 0 where

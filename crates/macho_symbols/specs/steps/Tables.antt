@@ -3,23 +3,26 @@
 --
 --     heads    for each bucket, one more than the number of its newest entry, 0 for none
 --     next     one more than the number of the entry before in the bucket, 0 for none
-use Rattle.std.specs.Prelude.{◌≡◌, ℕ, ◌+◌, ◌*◌, ◌%◌, ◌^◌, ◌<◌, ◌≤◌, List, [], ◌∷◌, ◌++◌, length, map, filter, get_or, set, ◌==◌, ◌&&◌, true, false, Bool, bit_xor, Some, None, All}
+use Rattle.std.specs.Prelude.{◌≡◌, ℕ, ◌+◌, ◌*◌, ◌-◌, ◌/◌, ◌%◌, ◌^◌, ◌<◌, ◌≤◌, nat_le, if◌then◌else◌, take, drop, List, [], ◌∷◌, ◌++◌, length, map, filter, get_or, set, ◌==◌, ◌&&◌, true, false, Bool, bit_xor, Some, None, All}
 use Rattle.std.specs.List.{fold}
 use Rattle.macho_symbols.specs.declared.table.Entry.{Entry}
+use Rattle.macho_symbols.specs.declared.table.Place.{Place}
 use Rattle.macho_symbols.specs.declared.fault.SymbolFault.{SymbolFault}
 use Rattle.macho_symbols.specs.declared.fault.SymbolFault.TheVariants.{DuplicateSymbol, UndefinedSymbol, ExportListMissing, OutOfMemory}
 use Rattle.macho_symbols.specs.Kept.{FileRows, Row}
 use Rattle.macho_symbols.specs.steps.Events.{Event, row_at, row_count, event_at, best_of, is_strong_of, beats, strength}
 
 abbrev pub no_entry : Entry
-no_entry = record { next = 0; row = 0; file = 0 }
+no_entry = record { next = 0; row = 0; file = 0; tag = 0 }
 
--- the number that a name is looked for by: the hash FNV-1a of 64 bits
+-- the number that a name is looked for by: the hash FNV-1a of 64 bits; of a long name, of its length, its first bytes and
+-- its last ones
 abbrev pub hash_step : ℕ → ℕ → ℕ
 hash_step hash byte = bit_xor hash byte * 1099511628211 % 2 ^ 64
 
 unfoldable pub hash_of : List ℕ → ℕ
-hash_of name = fold hash_step 14695981039346656037 name
+hash_of name = if nat_le (length name) 1024 then fold hash_step 14695981039346656037 name
+    else fold hash_step (fold hash_step ((14695981039346656037 + length name) % 2 ^ 64) (take 512 name)) (drop (length name - 512) name)
 
 abbrev pub bucket_of : List ℕ → List ℕ → ℕ
 bucket_of heads name = hash_of name % length heads
@@ -51,10 +54,15 @@ nexts_of entries = map (λ e. e.next) entries
 abbrev pub IsThere : List FileRows → Entry → Type 0
 IsThere files e = (e.file < length files) × (e.row < row_count files e.file)
 
+-- an entry keeps the high half of its name's hash
+abbrev pub IsTagged : List FileRows → Entry → Type 0
+IsTagged files e = e.tag ≡ hash_of (entry_name files e) / 2 ^ 32
+
 -- The table is whole.
 pub record IsTable (files : List FileRows) (heads : List ℕ) (entries : List Entry) : Type 0 where
   pub chained : AreChained heads (nexts_of entries) (names_of files entries)
   pub there : All (IsThere files) entries
+  pub tagged : All (IsTagged files) entries
   pub apart : (j k : ℕ) → k < j → j < length entries → get_or (names_of files entries) j [] ≡ get_or (names_of files entries) k [] → ⊥
 
 -- a name has no entry
@@ -86,6 +94,10 @@ IsClash es OutOfMemory = Unit {0}
 -- a number is that of a name's entry
 abbrev pub IsEntryOf : List FileRows → List Entry → List ℕ → ℕ → Type 0
 IsEntryOf files entries name j = (j < length entries) × (get_or (names_of files entries) j [] ≡ name)
+
+-- a row has a name
+abbrev pub IsPlaceOfName : List FileRows → List ℕ → Place → Type 0
+IsPlaceOfName files name p = (p.file < length files) × (p.row < row_count files p.file) × ((row_at files p.file p.row).name ≡ name)
 
 -- Where a look-up of a name has come: all its entries are older than the one before this place, which is of its bucket.
 pub record IsAhead (files : List FileRows) (heads : List ℕ) (entries : List Entry) (name : List ℕ) (at : ℕ) : Type 0 where

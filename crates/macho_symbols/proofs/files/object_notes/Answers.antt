@@ -5,14 +5,10 @@ use Rattle.macho_symbols.proofs.Noting.{object_row_more}
 use Rattle.macho_symbols.proofs.files.object_notes.Goals as goal
 
 pub loop-index-preserved : goal.loop-index-preserved
-loop-index-preserved c = record {
-  last = c.note_of-note.ensures.named;
-  noted = rw c.in_ok-push.ensures.items
-      (object_row_more _ _ _ _ _ c.loop-index.invariant.noted c.note_of-note.ensures.named c.note_of-note.ensures.small
-      c.note_of-note.ensures.row);
-}
+loop-index-preserved c = rw c.in_ok-push.ensures.items
+    (object_row_more _ _ _ _ _ c.loop-index.invariant c.note_of.ensures.named c.note_of.ensures.small c.note_of.ensures.row)
 
 pub returns : goal.returns
 unfolding rows_of_object
 returns c =
-    let e : c.loop-index.index ≡ num_symbols c.args.file.now.bytes = omega arith in rw e at c.loop-index.invariant.noted
+    let e : c.loop-index.index ≡ num_symbols c.args.file.now.bytes = omega arith in rw e at c.loop-index.invariant

@@ -2,12 +2,9 @@ use Rattle.std.proofs.Common.{map}
 use Rattle.std.specs.List.{range_with_len}
 use Rattle.macho_model.specs.Objects.{strings_of}
 use Rattle.macho_symbols.specs.Kept.{row_of_symbol}
-use Rattle.macho_symbols.specs.steps.Notes.{AreNoted, IsString}
+use Rattle.macho_symbols.specs.steps.Notes.{AreNoted}
 use Rattle.macho_symbols.proofs.files.object_notes.Given as goal
 
 abbrev pub invariant-loop-index : goal.invariant-loop-index
 invariant-loop-index l =
-    record {
-      last : IsString (strings_of l.file.bytes) l.last;
-      noted : AreNoted (strings_of l.file.bytes) l.notes.items (map (row_of_symbol l.file.bytes) (range_with_len 0 l.index));
-    }
+    AreNoted (strings_of l.file.bytes) l.notes.items (map (row_of_symbol l.file.bytes) (range_with_len 0 l.index))

@@ -14,7 +14,7 @@ pub returns-clause-table : goal.returns-clause-table
 returns-clause-table c =
     table_stays _ _ _ _ _ c.requires.table (ap (λ e. e.next) c.entry-entry.ensures)
     (sym c.requires.entry.1 ∙ name_of_entry _ _ _ _ c.requires.entry.0)
-    (c.requires.file, c.requires.row)
+    (c.requires.file, c.requires.row) c.requires.entry.0 (ap (λ e. e.tag) c.entry-entry.ensures)
 
 pub returns-clause-done : goal.returns-clause-done
 returns-clause-done c =
@@ -22,7 +22,7 @@ returns-clause-done c =
     let table =
     table_stays _ _ _ _ _ c.requires.table (ap (λ e. e.next) c.entry-entry.ensures)
     (sym c.requires.entry.1 ∙ name_of_entry _ _ _ _ c.requires.entry.0)
-    (c.requires.file, c.requires.row) in
+    (c.requires.file, c.requires.row) c.requires.entry.0 (ap (λ e. e.tag) c.entry-entry.ensures) in
     takes_better _ _ _ _ _ _ _ _ c.requires.global c.requires.entry
     (is_better _ _ _ _ _ _ (rw (← entry) (sym c.if-not-beats.ensures)) (rw (← entry) (sym c.if-are_strong.ensures))
     (rw (← entry) refl)) table

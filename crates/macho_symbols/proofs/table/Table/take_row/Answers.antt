@@ -16,6 +16,6 @@ returns-then-not-note_in-clause-done c = takes_nameless _ _ _ _ _ (sym (ap (λ r
 
 pub returns-in_default-clause-done : goal.returns-in_default-clause-done
 returns-in_default-clause-done c =
-    let nowhere = rw c.name_in.ensures at c.in_default.ensures.none in
+    let nowhere = c.in_default.ensures.none in
     takes_new _ _ _ _ _ _ _ (sym (ap (λ r. r.global) c.note_in.ensures.row)
     ∙ not_false _ c.if-not-note_in.false) nowhere c.in_ok-add.ensures.added c.in_ok-add.ensures.table

@@ -1,5 +1,5 @@
 use Rattle.macho_symbols.specs.steps.Tables.{IsAhead}
-use Rattle.macho_symbols.proofs.table.Table.find.Given as goal
+use Rattle.macho_symbols.proofs.table.Table.find_from.Given as goal
 
 abbrev pub invariant-loop-at : goal.invariant-loop-at
 invariant-loop-at l = IsAhead l.files l.self.heads.items l.self.entries.items l.name l.at
