@@ -2,7 +2,7 @@
 
 believed.py                 the definitions under the clauses of `run`, in reading order, with lines; then the rules below
 believed.py --crate NAME    the files of a crate's specs/, and which definitions of each a public clause rests on
-believed.py --lines         writes the lines of the files that docs/THEOREMS.md lists into it
+believed.py --lines         writes the reading list into docs/THEOREMS.md, and the lines of the files that its tables name
 
 Refused are: a file of specs/steps/ under the clauses of `run` or of a function that the README's table names, a file of specs/
 that imports one of specs/steps/, and a row of that table that names a function or clause that isn't there. (A crate may hand
@@ -15,6 +15,7 @@ import sys
 TOP = os.path.dirname(os.path.dirname(os.path.abspath(__file__)))
 CRATES = os.path.join(TOP, "crates")
 NAME = r"[^\s(){}\[\],;.]+"
+BEGIN, END = "<!-- reading list -->\n", "<!-- end of the reading list -->\n"
 
 
 def read(path):
@@ -344,34 +345,45 @@ def print_crate(world, crates, crate):
             print("    not:  ", " ".join(rest))
 
 
-def print_run(world):
+def run_of(world):
+    """The function `run`, if there is one."""
     functions = [f for f in functions_of("wild_macho") if f.name == "run" and f.is_public and f.owner is None]
-    if len(functions) != 1:
-        return ["there is no public function `run` in wild_macho"]
-    order = world.closure(roots_of(world, functions))
+    return functions if len(functions) == 1 else []
+
+
+def reading_list(world, functions):
+    """The files with definitions under functions, each with those definitions, behind the files that these rest on."""
     by_file = {}
-    for one in order:
+    for one in world.closure(roots_of(world, functions)):
         by_file.setdefault(one[0], []).append(one)
-    # a file stands behind those that its definitions under `run` rest on
-    files, seen = [], set()
+    files = {}
 
     def visit(module):
-        if module in seen:
+        if module in files or module in seen:
             return
         seen.add(module)
         for one in by_file[module]:
             for use in world.uses_of(one):
                 visit(use[0])
-        files.append(module)
+        files[module] = by_file[module]
 
+    seen = set()
     for module in by_file:
         visit(module)
+    return files
+
+
+def print_run(world):
+    functions = run_of(world)
+    if not functions:
+        return ["there is no public function `run` in wild_macho"]
+    files = reading_list(world, functions)
     total = whole = count = 0
     print("lines  definitions under the clauses of `run`, in reading order")
-    for module in files:
-        lines = sum(lines_of(world, one) for one in by_file[module])
-        total, whole, count = total + lines, whole + world.files[module].lines, count + len(by_file[module])
-        print(f"{lines:5}  {short(module)}: {', '.join(one[1] for one in by_file[module])}")
+    for module, found in files.items():
+        lines = sum(lines_of(world, one) for one in found)
+        total, whole, count = total + lines, whole + world.files[module].lines, count + len(found)
+        print(f"{lines:5}  {short(module)}: {', '.join(one[1] for one in found)}")
     print(f"{total:5}  lines in {count} definitions of {len(files)} files, which have {whole} lines in all")
     return [f"{short(module)} is a file of steps, under `run`" for module in files if is_step(module)]
 
@@ -431,23 +443,51 @@ def wrong_rows(world, crates):
     return wrong
 
 
-def write_lines():
-    """Writes the lines of the files that a row of docs/THEOREMS.md names: the first by crate and folder, or in macho_model."""
+def subject(text):
+    """What a file says that it is: its first comment, up to the first full stop or colon."""
+    words = []
+    for line in text.split("\n"):
+        if not line.startswith("--"):
+            break
+        words.append(line[2:].strip())
+    return re.split(r"[.:](?:\s|$)", " ".join(words))[0]
+
+
+def rows_of_run(world):
+    """The reading list as rows of a table, and their sum."""
+    rows, total = [], 0
+    for module, found in reading_list(world, run_of(world)).items():
+        lines = sum(lines_of(world, one) for one in found)
+        total += lines
+        crate, _, file = short(module).partition("/specs/")
+        rows.append(f"| `{crate}` `{file}` | {lines} | {subject(world.files[module].text)} |")
+    return ["| crate and file | lines | it says |", "|---|--:|---|"] + rows + [f"| **all {len(rows)} files** | **{total:,}** | |"]
+
+
+def lines_of_row(names, missing):
+    """The lines of the files that a row names: the first by crate and folder, or in macho_model."""
+    folder, total = "macho_model/specs", 0
+    for name in names:
+        folder, name = name.rsplit("/", 1) if "/" in name else (folder, name)
+        file = os.path.join(CRATES, folder, name + ".antt")
+        if os.path.exists(file):
+            total += read(file).count("\n")
+        else:
+            missing.append(f"docs/THEOREMS.md: there is no file '{folder}/{name}'")
+    return total
+
+
+def write_lines(world):
+    """Writes the reading list of `run` into docs/THEOREMS.md, and the lines of the files that its other tables name."""
     path = os.path.join(TOP, "docs", "THEOREMS.md")
-    missing, lines = [], read(path).split("\n")
+    front, rest = read(path).split(BEGIN)
+    back = rest.split(END)[1]
+    missing, lines = [], (front + BEGIN + "\n".join(rows_of_run(world)) + "\n" + END + back).split("\n")
     for number, line in enumerate(lines):
         row = re.match(r"\| ((?:`[\w/]+`(?:, )?)+) \| \d+ \|", line)
-        if not row:
-            continue
-        folder, total = "macho_model/specs", 0
-        for name in re.findall(r"`([\w/]+)`", row.group(1)):
-            folder, name = name.rsplit("/", 1) if "/" in name else (folder, name)
-            file = os.path.join(CRATES, folder, name + ".antt")
-            if os.path.exists(file):
-                total += read(file).count("\n")
-            else:
-                missing.append(f"docs/THEOREMS.md: there is no file '{folder}/{name}'")
-        lines[number] = f"| {row.group(1)} | {total} |" + line[row.end():]
+        if row:
+            total = lines_of_row(re.findall(r"`([\w/]+)`", row.group(1)), missing)
+            lines[number] = f"| {row.group(1)} | {total} |" + line[row.end():]
     with open(path, "w", encoding="utf-8") as file:
         file.write("\n".join(lines))
     return missing
@@ -460,7 +500,7 @@ def main():
         print_crate(world, crates, sys.argv[2])
         return 0
     if sys.argv[1:2] == ["--lines"]:
-        missing = write_lines()
+        missing = write_lines(world)
         print("\n".join(missing) or "docs/THEOREMS.md: the lines are written")
         return 1 if missing else 0
     wrong = print_run(world) + wrong_imports(world) + wrong_rows(world, crates)

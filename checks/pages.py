@@ -1,0 +1,72 @@
+"""Compares pages of docs/ with the sources that they list.
+
+docs/USAGE.md has each option and each rule on inputs; docs/ARCHITECTURE.md has each crate once, and no other; each page that README.md
+names is there, and each file of docs/ is named there.
+"""
+import os
+import re
+import sys
+
+TOP = os.path.dirname(os.path.dirname(os.path.abspath(__file__)))
+
+
+def read(*path):
+    with open(os.path.join(TOP, *path), encoding="utf-8") as file:
+        return file.read()
+
+
+def options():
+    """The names of the option table."""
+    table = read("crates", "macho_args", "src", "options.rt").split("const OPTIONS")[1].split("\n];")[0]
+    return re.findall(r'"(-\w+)"', table)
+
+
+def rules():
+    """The names of the rules on inputs and on unwind entries: variants of these enums."""
+    text = read("crates", "macho_model", "src", "rules.rt") + read("crates", "macho_stub_lines", "src", "fault.rt")
+    bodies = re.findall(r"pub enum (?:ObjectRule|StubRule|UnwindRule) \{(.*?)\n\}", text, re.S)
+    return [name for body in bodies for name in re.findall(r"^    (\w+),", body, re.M)]
+
+
+def faults():
+    """The kinds of refused words: variants of an enum, but for want of memory."""
+    body = read("crates", "macho_args", "src", "fault.rt").split("pub enum ArgsFault {")[1].split("\n}")[0]
+    return [name for name in re.findall(r"^    (\w+)(?: \{.*)?,", body, re.M) if name != "OutOfMemory"]
+
+
+def crates():
+    return [line.split(":")[0].split()[0] for line in read("crates.txt").split("\n") if ":" in line.split("#")[0]]
+
+
+def lacking(page, found, wanted):
+    return [f"docs/{page} lacks '{name}'" for name in wanted if name not in found]
+
+
+def wrong_usage():
+    usage = read("docs", "USAGE.md")
+    told = set(re.findall(r"`(-\w+)", usage)) | set(re.findall(r"^\| ((?:[OSU]\d+(?:, )?)+) \|", usage, re.M))
+    told |= {name for names in list(told) for name in names.split(", ")} | set(re.findall(r"`bad word \d: (\w+)`", usage))
+    wanted = options() + rules() + faults()
+    return lacking("USAGE.md", told, wanted) if len(wanted) > 60 else ["the options, rules or faults can't be read"]
+
+
+def wrong_crates():
+    told = re.findall(r"^\| `(\w+)` \|", read("docs", "ARCHITECTURE.md"), re.M)
+    wrong = lacking("ARCHITECTURE.md", told, crates())
+    odd = [name for name in told if name not in crates() or told.count(name) > 1]
+    return wrong + [f"docs/ARCHITECTURE.md: '{name}' is no crate, or stands twice" for name in odd]
+
+
+def wrong_pages():
+    told = set(re.findall(r"^\| `docs/(\w+\.md)` \|", read("README.md"), re.M))
+    there = {name for name in os.listdir(os.path.join(TOP, "docs")) if name.endswith(".md")}
+    return [f"README.md and docs/ differ in {name}" for name in sorted(told ^ there)]
+
+
+if __name__ == "__main__":
+    wrong = wrong_usage() + wrong_crates() + wrong_pages()
+    for line in wrong:
+        print(f"pages: {line}", file=sys.stderr)
+    if not wrong:
+        print(f"pages: {len(options())} options, {len(rules())} rules and {len(crates())} crates are in the pages")
+    sys.exit(1 if wrong else 0)
