@@ -153,21 +153,32 @@ fn highest_end(sections: &[Section<'_>]) -> u64 {
     end
 }
 
-// The segment with the headers of its sections.
+// How many bytes of the sections stand in the file.
+fn size_in_file(sections: &[Section<'_>]) -> u64 {
+    let mut size = 0u64;
+    for section in sections {
+        let (_, taken) = sizes(section);
+        size = size.saturating_add(taken);
+    }
+    size
+}
+
+// The segment with the headers of its sections, whose contents begin at the one place and their relocations at the other.
 fn put_segment(
     out: &mut Vec<u8>,
     sections: &[Section<'_>],
     content: u64,
-    in_file: u64,
+    behind: u64,
 ) -> Result<(), AllocError> {
     let count = sections.len() as u64;
     let size = SEGMENT_SIZE.saturating_add(SECTION_SIZE.saturating_mul(count));
     put_words(out, &[SEGMENT, size])?;
     put_name(out, b"")?;
+    let in_file = size_in_file(sections);
     put_longs(out, &[0, highest_end(sections), content, in_file])?;
     put_words(out, &[7, 7, count, 0])?;
     let mut place = content;
-    let mut relocations = content.saturating_add(in_file);
+    let mut relocations = behind;
     for section in sections {
         put_section(out, section, place, relocations)?;
         let (_, taken) = sizes(section);
@@ -192,12 +203,11 @@ pub fn object_bytes(alloc: Global, object: &Object<'_>) -> Result<Vec<u8>, Alloc
     let data = contents(alloc, object.sections)?;
     let moved = relocations(alloc, object.sections)?;
     let symbols = symbols_of(alloc, object.symbols)?;
-    let table = content
-        .saturating_add(length(&data))
-        .saturating_add(length(&moved));
+    let behind = content.saturating_add(length(&data));
+    let table = behind.saturating_add(length(&moved));
     let mut out = Vec::new(alloc);
     put_header(&mut out, OBJECT, 2, commands)?;
-    put_segment(&mut out, object.sections, content, length(&data))?;
+    put_segment(&mut out, object.sections, content, behind)?;
     put_symtab(&mut out, table, &symbols)?;
     out.extend_from_slice(&data)?;
     out.extend_from_slice(&moved)?;
