@@ -1,6 +1,6 @@
 //! Devices that fail: each read in turn, the write, each piece that is printed, and each piece of a fault's line.
 
-use crate::told::{OLD, files_of, holds, ran, told};
+use crate::told::{OLD, files_of, holds, ran, told_of};
 use std::test::Fail;
 use wild_macho::{Fault, MemorySink, SteadySink};
 
@@ -47,7 +47,7 @@ const LINE_PIECES: u64 = 5;
 #[test]
 fn where_no_device_fails_the_image_and_the_map_are_whole(rt: HostRuntime) -> Result<(), Fail> {
     let mut files = files_of(rt.alloc())?;
-    let told = told(rt.alloc(), &WORDS, &mut files)?;
+    let told = told_of(rt.alloc(), &WORDS, &mut files)?;
     assert_eq!(rt; told.ran.status, 0);
     assert!(rt; told.ran.fault.is_none());
     assert_eq!(rt; told.out.bytes(), MAP);
@@ -62,7 +62,7 @@ fn each_read_that_fails_is_told_by_its_word(rt: HostRuntime) -> Result<(), Fail>
     for (number, path, at) in READS {
         let mut files = files_of(rt.alloc())?;
         files.fail_read(number)?;
-        let told = told(rt.alloc(), &WORDS, &mut files)?;
+        let told = told_of(rt.alloc(), &WORDS, &mut files)?;
         assert_eq!(rt; told.ran.status, 3, "{path}");
         assert!(rt;
             matches!(told.ran.fault, Some(Fault::Read { word }) if word == at),
@@ -81,13 +81,13 @@ fn each_read_that_fails_is_told_by_its_word(rt: HostRuntime) -> Result<(), Fail>
 fn a_write_that_fails_leaves_the_first_bytes_and_prints_no_map(
     rt: HostRuntime,
 ) -> Result<(), Fail> {
-    let whole = told(rt.alloc(), &WORDS, &mut files_of(rt.alloc())?)?;
+    let whole = told_of(rt.alloc(), &WORDS, &mut files_of(rt.alloc())?)?;
     let image = whole.ran.image.ok_or("no image")?;
     let length = image.bytes.len();
     for left in [0, length / 2, length.saturating_sub(1), length] {
         let mut files = files_of(rt.alloc())?;
         files.fail_write(0, left as u64)?;
-        let told = told(rt.alloc(), &WORDS, &mut files)?;
+        let told = told_of(rt.alloc(), &WORDS, &mut files)?;
         assert_eq!(rt; told.ran.status, 4, "{left}");
         assert!(rt; matches!(told.ran.fault, Some(Fault::Write)));
         assert_eq!(rt;

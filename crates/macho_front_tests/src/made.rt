@@ -1,6 +1,6 @@
 //! What is made of the words and the inputs: the identifier of an image, exported names of two lists, and many made objects.
 
-use crate::told::{files_of, told};
+use crate::told::{files_of, told_of};
 use macho_samples::{MAIN_OBJECT, SYSTEM, object_bytes};
 use sha2::{Digest, Sha256};
 use std::test::Fail;
@@ -40,7 +40,7 @@ fn the_identifier_is_from_all_inputs_in_their_order(rt: HostRuntime) -> Result<(
         for bytes in joined {
             hasher.update(bytes);
         }
-        let told = told(rt.alloc(), words, &mut files)?;
+        let told = told_of(rt.alloc(), words, &mut files)?;
         let image = told.ran.image.ok_or("no image")?;
         let want = marked(hasher.finalize());
         assert!(rt; image.bytes.get(UUID..UUID + 16) == Some(want.as_slice()));
@@ -65,7 +65,7 @@ fn two_lists_show_the_names_of_both(rt: HostRuntime) -> Result<(), Fail> {
         "-exported_symbols_list",
         "more",
     ];
-    let told = told(rt.alloc(), &words, &mut files)?;
+    let told = told_of(rt.alloc(), &words, &mut files)?;
     assert_eq!(rt; told.ran.status, 0);
     let image = told.ran.image.ok_or("no image")?;
     let names: [&[u8]; 3] = [b"_exit", b"_main", b"_two"];
@@ -82,7 +82,7 @@ const MANY: &[u8] = b"objects 10000\nfixups 10000\nlength ";
 #[test]
 fn ten_thousand_made_objects_are_linked(rt: HostRuntime) -> Result<(), Fail> {
     let mut files = MemoryFiles::new(rt.alloc());
-    let told = told(rt.alloc(), &["-generate", "10000"], &mut files)?;
+    let told = told_of(rt.alloc(), &["-generate", "10000"], &mut files)?;
     assert_eq!(rt; told.ran.status, 0);
     assert!(rt; told.out.bytes().starts_with(MANY));
     Ok(())

@@ -1,6 +1,6 @@
 //! Runs over the system's files: inputs that can't be read and outputs that can't be written lose nothing.
 
-use crate::told::{OLD, holds, told};
+use crate::told::{OLD, holds, told_of};
 use macho_samples::{MAIN_OBJECT, object_bytes};
 use std::alloc::{AllocError, Global};
 use std::test::Fail;
@@ -45,7 +45,7 @@ fn what_cannot_be_read_or_written_loses_nothing(rt: HostRuntime) -> Result<(), F
     for (from, to, status, line) in LOST {
         let from = in_folder(rt.alloc(), &folder, from)?;
         let to = in_folder(rt.alloc(), &folder, to)?;
-        let told = told(rt.alloc(), &["-o", to.as_str(), from.as_str()], &mut files)?;
+        let told = told_of(rt.alloc(), &["-o", to.as_str(), from.as_str()], &mut files)?;
         assert_eq!(rt; told.ran.status, status, "{line}");
         let line = in_folder(rt.alloc(), &folder, line)?;
         let line = format!(in rt.alloc(); "wild_macho: {line}\n")?;
@@ -64,7 +64,7 @@ fn an_output_may_stand_in_the_place_of_its_own_input(rt: HostRuntime) -> Result<
     let path = format!(in rt.alloc(); "{}/wild_macho_both_{id}", above.as_str())?;
     let mut files = RealFiles::new(&rt, rt.alloc());
     files.write(&path, &object_bytes(rt.alloc(), &MAIN_OBJECT)?)?;
-    let told = told(
+    let told = told_of(
         rt.alloc(),
         &["-o", path.as_str(), path.as_str()],
         &mut files,

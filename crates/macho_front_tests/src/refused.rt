@@ -1,6 +1,6 @@
 //! What is refused, with its status and its line: wrong words, and inputs and lists that are not there or are no inputs.
 
-use crate::told::{OLD, files_of, holds, told};
+use crate::told::{OLD, files_of, holds, told_of};
 use macho_samples::{MAIN_OBJECT, object_bytes};
 use std::alloc::Global;
 use std::test::Fail;
@@ -127,7 +127,7 @@ fn more_files(alloc: Global) -> Result<MemoryFiles, Fail> {
 fn wrong_words_are_told_by_their_index(rt: HostRuntime) -> Result<(), Fail> {
     for (words, line) in WORDS {
         let mut files = more_files(rt.alloc())?;
-        let told = told(rt.alloc(), words, &mut files)?;
+        let told = told_of(rt.alloc(), words, &mut files)?;
         assert_eq!(rt; told.ran.status, 2, "{line}");
         let line = format!(in rt.alloc(); "wild_macho: bad word {line}\n")?;
         assert_eq!(rt; told.err.bytes(), line.as_bytes());
@@ -144,7 +144,7 @@ fn a_refused_link_changes_nothing(rt: HostRuntime) -> Result<(), Fail> {
         let mut files = more_files(rt.alloc())?;
         let mut all = Vec::from_slice(rt.alloc(), &["-map", "-o", "out"])?;
         all.extend_from_slice(words)?;
-        let told = told(rt.alloc(), &all, &mut files)?;
+        let told = told_of(rt.alloc(), &all, &mut files)?;
         assert_eq!(rt; told.ran.status, 1, "{line}");
         let line = format!(in rt.alloc(); "wild_macho: {line}\n")?;
         assert_eq!(rt; told.err.bytes(), line.as_bytes());

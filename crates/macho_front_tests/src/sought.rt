@@ -1,6 +1,6 @@
 //! Which file an option takes: the image tells the install name of the library that was read.
 
-use crate::told::told;
+use crate::told::told_of;
 use macho_samples::{Library, MAIN_OBJECT, dylib_bytes, object_bytes, stub_bytes};
 use std::alloc::Global;
 use std::test::Fail;
@@ -91,7 +91,7 @@ fn the_first_path_that_holds_a_file_is_taken(rt: HostRuntime) -> Result<(), Fail
         }
         let mut all = Vec::from_slice(rt.alloc(), words)?;
         all.push("main.o")?;
-        let told = told(rt.alloc(), &all, &mut files)?;
+        let told = told_of(rt.alloc(), &all, &mut files)?;
         assert_eq!(rt; told.ran.status, 0, "{taken}");
         let image = told.ran.image.ok_or("no image")?;
         assert_eq!(rt; image.libraries.len(), 1, "{taken}");

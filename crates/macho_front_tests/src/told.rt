@@ -41,7 +41,11 @@ pub(crate) fn ran<F: Files, O: Sink, E: Sink>(
 }
 
 // The same, where no print fails.
-pub(crate) fn told<F: Files>(alloc: Global, texts: &[&str], files: &mut F) -> Result<Told, Fail> {
+pub(crate) fn told_of<F: Files>(
+    alloc: Global,
+    texts: &[&str],
+    files: &mut F,
+) -> Result<Told, Fail> {
     let mut out = MemorySink::new(alloc, ROOM)?;
     let mut err = MemorySink::new(alloc, ROOM)?;
     let ran = ran(alloc, texts, files, &mut out, &mut err)?;
