@@ -309,7 +309,7 @@ fn loads_of_what_is_in_the_image_go_straight(rt: HostRuntime) -> Result<(), Fail
 }
 
 /// An import: the slot of each, and what the word becomes.
-const IMPORTS: [Row; 8] = [
+const IMPORTS: [Row; 14] = [
     (
         "bl #134217724",
         0x9400_0000,
@@ -327,12 +327,60 @@ const IMPORTS: [Row; 8] = [
         None,
     ),
     (
+        "bl #-134217728",
+        0x9400_0000,
+        BRANCH26,
+        0x1_1000_1000,
+        0x1_0800_1000,
+        Some(0x9600_0000),
+    ),
+    (
+        "bl, too far back",
+        0x9400_0000,
+        BRANCH26,
+        0x1_1000_1000,
+        0x1_0800_0ffc,
+        None,
+    ),
+    (
         "ldr x0, [x0, #16]",
         0xf940_0000,
         GOT_LOAD_PAGEOFF12,
         0x1_0000_1000,
         0x1_0000_8010,
         Some(0xf940_0800),
+    ),
+    (
+        "ldr x0, [x0, #4088]",
+        0xf940_0000,
+        TLVP_LOAD_PAGEOFF12,
+        0x1_0000_1000,
+        0x1_0000_8ff8,
+        Some(0xf947_fc00),
+    ),
+    (
+        "ldr, at 4",
+        0xf940_0000,
+        GOT_LOAD_PAGEOFF12,
+        0x1_0000_1000,
+        0x1_0000_8004,
+        None,
+    ),
+    (
+        "adrp x5, #4294963200",
+        0x9000_0005,
+        TLVP_LOAD_PAGE21,
+        0x1_0000_1ffc,
+        0x2_0000_0ff8,
+        Some(0xf07f_ffe5),
+    ),
+    (
+        "adrp, too far from the last word of a page",
+        0x9000_0005,
+        GOT_LOAD_PAGE21,
+        0x1_0000_1ffc,
+        0x2_0000_1000,
+        None,
     ),
     (
         "ldr x7, [x9, #8]",
@@ -388,21 +436,205 @@ fn imports_go_by_their_stubs_and_slots(rt: HostRuntime) -> Result<(), Fail> {
     Ok(())
 }
 
-/// Each other target that moves, at 0x100004010, and one before the place.
+/// A common.
+const COMMON: Target = Target::Common { id: 0 };
+
+/// A field at an address, of a common at an address or of the base, 0x100000000: what its word becomes.
+type Moving = (&'static str, u32, u32, u64, Target, u64, Option<u32>);
+
+/// Each type, at the edges of its range: of a common ahead, of the base behind.
+const MOVING: [Moving; 17] = [
+    (
+        "bl #134217724",
+        0x9400_0000,
+        BRANCH26,
+        0x1_0000_1000,
+        COMMON,
+        0x1_0800_0ffc,
+        Some(0x95ff_ffff),
+    ),
+    (
+        "bl, too far",
+        0x9400_0000,
+        BRANCH26,
+        0x1_0000_1000,
+        COMMON,
+        0x1_0800_1000,
+        None,
+    ),
+    (
+        "bl #-134217728",
+        0x9400_0000,
+        BRANCH26,
+        0x1_0800_0000,
+        Target::Base,
+        0,
+        Some(0x9600_0000),
+    ),
+    (
+        "bl, too far back",
+        0x9400_0000,
+        BRANCH26,
+        0x1_0800_0004,
+        Target::Base,
+        0,
+        None,
+    ),
+    (
+        "adrp x0, #4294963200",
+        0x9000_0000,
+        PAGE21,
+        0x1_0000_1ffc,
+        COMMON,
+        0x2_0000_0fff,
+        Some(0xf07f_ffe0),
+    ),
+    (
+        "adrp, too far",
+        0x9000_0000,
+        PAGE21,
+        0x1_0000_1ffc,
+        COMMON,
+        0x2_0000_1000,
+        None,
+    ),
+    (
+        "adrp x0, #0",
+        0x9000_0000,
+        PAGE21,
+        0x1_0000_0004,
+        Target::Base,
+        0,
+        Some(0x9000_0000),
+    ),
+    (
+        "adrp x0, #-4294967296",
+        0x9000_0000,
+        PAGE21,
+        0x2_0000_0ffc,
+        Target::Base,
+        0,
+        Some(0x9080_0000),
+    ),
+    (
+        "adrp, too far back",
+        0x9000_0000,
+        PAGE21,
+        0x2_0000_1000,
+        Target::Base,
+        0,
+        None,
+    ),
+    (
+        "ldr x0, [x0, #4088]",
+        0xf940_0000,
+        PAGEOFF12,
+        0x1_0000_1000,
+        COMMON,
+        0x1_0000_4ff8,
+        Some(0xf947_fc00),
+    ),
+    (
+        "ldr, at 4",
+        0xf940_0000,
+        PAGEOFF12,
+        0x1_0000_1000,
+        COMMON,
+        0x1_0000_4004,
+        None,
+    ),
+    (
+        "add x1, x2, #0",
+        0x9100_0041,
+        PAGEOFF12,
+        0x1_0000_1000,
+        Target::Base,
+        0,
+        Some(0x9100_0041),
+    ),
+    (
+        "adrp x5, #4294963200",
+        0x9000_0005,
+        GOT_LOAD_PAGE21,
+        0x1_0000_1ffc,
+        COMMON,
+        0x2_0000_0fff,
+        Some(0xf07f_ffe5),
+    ),
+    (
+        "adrp, too far",
+        0x9000_0005,
+        GOT_LOAD_PAGE21,
+        0x1_0000_1ffc,
+        COMMON,
+        0x2_0000_1000,
+        None,
+    ),
+    (
+        "adrp x5, #-4294967296",
+        0x9000_0005,
+        TLVP_LOAD_PAGE21,
+        0x2_0000_0ffc,
+        Target::Base,
+        0,
+        Some(0x9080_0005),
+    ),
+    (
+        "add x7, x9, #4095",
+        0xf940_0127,
+        GOT_LOAD_PAGEOFF12,
+        0x1_0000_1000,
+        COMMON,
+        0x1_0000_4fff,
+        Some(0x913f_fd27),
+    ),
+    (
+        "add x7, x9, #0",
+        0xf940_0127,
+        TLVP_LOAD_PAGEOFF12,
+        0x1_0000_1000,
+        Target::Base,
+        0,
+        Some(0x9100_0127),
+    ),
+];
+
 #[test]
-fn branches_and_pages_lead_to_commons_and_to_the_base(rt: HostRuntime) -> Result<(), Fail> {
-    let mut places = leading_to(0);
-    places.first = Target::Common { id: 0 };
-    places.common = 0x1_0000_4010;
-    let branch = word_at_4(0x9400_0000, BRANCH26, 0x1_0000_4000 - 4);
-    assert_eq!(rt;
-        word_of(&rt, rt.alloc(), &branch, &places),
-        Some(0x9400_0004)
-    );
-    // adrp x0, in the first page of an executable, to `___dso_handle`
-    places.first = Target::Base;
-    let page = word_at_4(0x9000_0000, PAGE21, 0x1_0000_0000);
-    assert_eq!(rt; word_of(&rt, rt.alloc(), &page, &places), Some(0x9000_0000));
+fn commons_and_the_base_are_reached_as_sections_are(rt: HostRuntime) -> Result<(), Fail> {
+    for (name, word, relocation, place, target, common, expected) in MOVING {
+        let given = word_at_4(word, relocation, place - 4);
+        let mut places = leading_to(0);
+        places.first = target;
+        places.common = common;
+        assert!(rt;
+            word_of(&rt, rt.alloc(), &given, &places) == expected,
+            "{name}"
+        );
+    }
+    Ok(())
+}
+
+/// Distances to a slot, whatever the target is: the place, the slot, and the number of four bytes.
+const DISTANCES: [(u64, u64, Option<u32>); 4] = [
+    (0x1_0000_1001, 0x1_8000_1000, Some(0x7fff_ffff)),
+    (0x1_0000_1000, 0x1_8000_1000, None),
+    (0x1_8000_1000, 0x1_0000_1000, Some(0x8000_0000)),
+    (0x1_8000_1001, 0x1_0000_1000, None),
+];
+
+#[test]
+fn slots_of_any_target_are_within_31_bits(rt: HostRuntime) -> Result<(), Fail> {
+    for target in [apart(0).first, COMMON, Target::Base, IMPORT] {
+        for (place, slot, expected) in DISTANCES {
+            let given = word_at_4(0, POINTER_TO_GOT, place - 4);
+            let mut places = imported(0, slot);
+            places.first = target;
+            assert!(rt;
+                word_of(&rt, rt.alloc(), &given, &places) == expected,
+                "{place:x}"
+            );
+        }
+    }
     Ok(())
 }
 
@@ -509,6 +741,42 @@ fn differences_of_four_bytes_are_signed(rt: HostRuntime) -> Result<(), Fail> {
     Ok(())
 }
 
+/// Differences between a common, the base at 0x100000000 and a section at 0x100004000: what is taken, what is taken off, the common's
+/// address, and the number of four bytes.
+const BETWEEN: [(Target, Target, u64, Option<u32>); 6] = [
+    (COMMON, Target::Base, 0x1_7fff_ffff, Some(0x7fff_ffff)),
+    (COMMON, Target::Base, 0x1_8000_0000, None),
+    (Target::Base, COMMON, 0x1_8000_0000, Some(0x8000_0000)),
+    (Target::Base, COMMON, 0x1_8000_0001, None),
+    (COMMON, IN_SECTION, 0x1_8000_3fff, Some(0x7fff_ffff)),
+    (IN_SECTION, COMMON, 0x1_8000_4001, None),
+];
+
+/// The start of the section.
+const IN_SECTION: Target = Target::Section {
+    file: 0,
+    section: 0,
+    offset: 0,
+};
+
+#[test]
+fn differences_are_between_any_two_that_move(rt: HostRuntime) -> Result<(), Fail> {
+    for (plus, minus, common, expected) in BETWEEN {
+        let mut given = word_at_4(0, MINUS_4, 0x1_0000_1000);
+        given.relocations[1] = (4, POINTER_4);
+        given.count = 2;
+        let mut places = apart(0);
+        places.first = plus;
+        places.second = minus;
+        places.common = common;
+        assert!(rt;
+            word_of(&rt, rt.alloc(), &given, &places) == expected,
+            "{common:x}"
+        );
+    }
+    Ok(())
+}
+
 /// A section with a pointer of eight bytes at its offset 8.
 fn pointer_at_8(content: u64, relocations: [(u32, u32); 2], count: u8) -> Given {
     let mut text = [0xee; 16];
@@ -548,6 +816,8 @@ fn differences_of_eight_bytes_and_absolute_values_are_written(rt: HostRuntime) -
     places.first = Target::Absolute { value: 0x123 };
     let pointer = pointer_at_8(5, [(8, POINTER), (0, 0)], 1);
     assert_eq!(rt; number_of(&rt, rt.alloc(), &pointer, &places)?, 0x128);
+    places.first = Target::Absolute { value: u64::MAX };
+    assert_eq!(rt; number_of(&rt, rt.alloc(), &pointer, &places)?, 4);
     Ok(())
 }
 

@@ -61,9 +61,16 @@ fn at(offset: u64) -> Target {
     }
 }
 
+/// The start of a section.
+const START: Target = Target::Section {
+    file: 0,
+    section: 0,
+    offset: 0,
+};
+
 /// The target, the content, the relocation, the address of sections, and what is asked: the distance from the base, with the
 /// pointer's top byte.
-const REBASES: [(Target, u64, u32, u64, u64); 6] = [
+const REBASES: [(Target, u64, u32, u64, u64); 8] = [
     (Target::Base, 0, POINTER, 0, 0),
     (
         Target::Common { id: 2 },
@@ -80,6 +87,14 @@ const REBASES: [(Target, u64, u32, u64, u64); 6] = [
         0xa5 << 56 | 0x4000,
     ),
     (Target::Base, 0xf_ffff_ffff, POINTER, 0, 0xf_ffff_ffff),
+    (START, 0xf_ffff_bfff, POINTER, BASE + 0x4000, 0xf_ffff_ffff),
+    (
+        Target::Common { id: 2 },
+        0xf_ffff_bfff,
+        POINTER,
+        BASE + 0x4000,
+        0xf_ffff_ffff,
+    ),
     // by its number: a content of 0x18 to a section at 0x10 in the input is 8 behind its start
     (Target::None, 0x18, TO_SECTION, BASE + 0x4000, 0x4008),
     (Target::None, 8, TO_SECTION, BASE + 0x4000, 0x3ff8),
@@ -116,10 +131,12 @@ fn values_without_a_word_are_refused(rt: HostRuntime) -> Result<(), Fail> {
         section: 0,
         relocation: 0,
     };
-    for content in [u64::MAX, 1 << 36, 1 << 55] {
-        let given = pointer(content, POINTER, BASE + 0x8000);
-        let fault = asked(&rt, rt.alloc(), &given, &leads(Target::Base, 0));
-        assert_eq!(rt; fault, Err(FillFault::Rebase { at }));
+    for target in [Target::Base, Target::Common { id: 2 }, START] {
+        for content in [u64::MAX, 1 << 36, 1 << 55] {
+            let given = pointer(content, POINTER, BASE + 0x8000);
+            let fault = asked(&rt, rt.alloc(), &given, &leads(target, BASE));
+            assert_eq!(rt; fault, Err(FillFault::Rebase { at }));
+        }
     }
     Ok(())
 }

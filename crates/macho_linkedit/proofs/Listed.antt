@@ -3,7 +3,7 @@
 -- A symbol of an object is looked at in the object's own bytes, which are those of the link's file of its number. Listing the
 -- symbols up to one more adds that one where it stands in the table, with the bytes of its name and a NUL. The objects are
 -- those of the link in order, so their symbols one behind the other are the link's.
-use Rattle.std.proofs.Common.{◌≡◌, ℕ, ◌+◌, ◌-◌, ◌^◌, ◌<◌, ◌≤◌, ◌==◌, ◌&&◌, not, if◌then◌else◌, Bool, true, false, cond, List, [], ◌∷◌, ◌++◌, map, take, drop, length, get_or, refl, sym, ap, subst, ◌∙◌, arith, Option, Some, None}
+use Rattle.std.proofs.Common.{◌≡◌, ℕ, ◌+◌, ◌-◌, ◌^◌, ◌<◌, ◌≤◌, ◌==◌, ◌&&◌, ◌||◌, not, if◌then◌else◌, Bool, true, false, cond, List, [], ◌∷◌, ◌++◌, map, take, drop, length, get_or, refl, sym, ap, subst, ◌∙◌, arith, Option, Some, None}
 use Rattle.std.specs.Prelude.{Contains, filter, sum_by}
 use Rattle.std.specs.List.{flat_map, filter_map, cons_option, enumerate_from, position_or_len}
 use Rattle.std.proofs.lemmas.Bool.Decides.{nat_tests}
@@ -14,15 +14,18 @@ use Rattle.std.proofs.lemmas.List.Folds.{flat_map-map}
 use Rattle.std.proofs.lemmas.List.FromFn.{map-range_with_len_more, get_or-enumerate_from, length-enumerate_from}
 use Rattle.std.proofs.lemmas.List.Sums.{sum_by-append, sum_by-cons}
 use Rattle.macho_bytes.specs.Texts.{name_of}
-use Rattle.macho_records.specs.Symbols.{is_default_strippable_of}
-use Rattle.macho_model.specs.Symbols.{is_global}
+use Rattle.macho_records.specs.Symbols.{is_default_strippable_of, is_common_of}
+use Rattle.macho_records.specs.declared.symbols.SymtabEntry.{SymtabEntry}
+use Rattle.macho_model.specs.Symbols.{is_global, is_absolute}
 use Rattle.macho_model.specs.Objects.{num_symbols, symtab_of, symbol_at, symbol_name, strings_of}
 use Rattle.macho_model.specs.Grammar.{IsFile}
 use Rattle.macho_model.specs.Links.{Input, Object, Dylib, Stub, Link, no_input, object_bytes, object_of}
 use Rattle.macho_model.specs.Resolution.{SymbolId, name_at, defines, symbols_of_file, symbols_of}
 use Rattle.macho_model.specs.SymbolTable.{is_in_table, table_symbols}
 use Rattle.macho_promise.specs.Sizes.{text_size}
-use Rattle.macho_symbols.specs.Kept.{symbol_id}
+use Rattle.macho_symbols.specs.Kept.{symbol_id, in_carried}
+use Rattle.macho_linkedit.specs.declared.names.Names.{Names}
+use Rattle.macho_linkedit.specs.steps.Names.{AreNames}
 use Rattle.macho_linkedit.specs.declared.listing.LinkedObject.{LinkedObject}
 use Rattle.macho_linkedit.specs.declared.listing.TableSymbol.{TableSymbol}
 use Rattle.macho_linkedit.specs.declared.listing.TableSymbols.{TableSymbols}
@@ -89,6 +92,26 @@ name_small dyn b k whole = by ((symbol_at b k).n_strx == 0) refl
           length-take ((symtab_of b).stroff + (symtab_of b).strsize - (symtab_of b).stroff) (drop (symtab_of b).stroff b),
           length-drop (symtab_of b).stroff b,
         )
+
+-- the name that is found at the place of a symbol that is defined
+named_is : (b : List ℕ) (k : ℕ) → is_defined_symbol b k ≡ true → name_of (drop (symbol_at b k).n_strx (strings_of b)) ≡ symbol_name b k
+unfolding symbol_name
+named_is b k defined = by ((symbol_at b k).n_strx == 0) defined
+  where
+    by : (t : Bool) → (not t && (in_carried b (symbol_at b k) || is_absolute (symbol_at b k) || is_common_of (symbol_at b k))) ≡ true
+        → name_of (drop (symbol_at b k).n_strx (strings_of b)) ≡ (if t then [] else name_of (drop (symbol_at b k).n_strx (strings_of b)))
+    by true h = cc
+    by false h = refl
+
+pub found_name : (n : Names) (b : List ℕ) (k : ℕ) (e : SymtabEntry) (name : List ℕ) → AreNames (strings_of b) n → e ≡ symbol_at b k
+    → is_defined_symbol b k ≡ true → name ≡ name_of (drop e.n_strx n.strings.now) → name ≡ symbol_name b k
+found_name n b k e name are entry defined is =
+    is ∙ ap (λ (xs : List ℕ). name_of (drop e.n_strx xs)) are.strings_are
+    ∙ ap (λ (x : SymtabEntry). name_of (drop x.n_strx (strings_of b))) entry ∙ named_is b k defined
+
+-- what holds of a string table holds of the names' own one
+pub own_names : (strings : List ℕ) (n : Names) → AreNames strings n → AreNames n.strings.now n
+own_names strings n are = subst (λ (xs : List ℕ). AreNames xs n) (sym are.strings_are) are
 
 -- one symbol more
 filter_more : {X : Type 0} (p : X → Bool) (xs : List X) (x : X) (b : Bool) → p x ≡ b → filter p (xs ++ x ∷ []) ≡ filter p xs ++ cond b

@@ -8,6 +8,7 @@ mod imports;
 mod laws;
 mod libraries;
 mod listing;
+mod names;
 mod run;
 mod symbols;
 

@@ -8,13 +8,15 @@ ghost use Rattle.macho_model.specs.Placement.{Placed};
 ghost use Rattle.macho_model.specs.SymbolRows.{row_of};
 ghost use Rattle.macho_linkedit.specs.Symbols.{row_seen};
 ghost use Rattle.macho_model.specs.Symbols.{is_global, is_absolute};
-ghost use Rattle.macho_model.specs.Objects.{num_symbols, symbol_at, symbol_name};
+ghost use Rattle.macho_model.specs.Objects.{num_symbols, strings_of, symbol_at, symbol_name};
 ghost use Rattle.macho_model.specs.Links.{Link, object_of, is_carried};
 ghost use Rattle.macho_model.specs.SymbolTable.{is_in_table};
 ghost use Rattle.macho_symbols.specs.Kept.{IsResolved, HasSymbol, symbol_id, in_carried};
 ghost use Rattle.macho_linkedit.specs.Listing.{AreObjects, CanBeListed, AreListed, IsRowOf};
+ghost use Rattle.macho_linkedit.specs.steps.Names.{AreNames};
 ghost use Rattle.macho_linkedit.specs.steps.Listing.{is_defined_symbol, name_length, symbols_in, Lists, placed_type_of, placed_description_of};
 
+use crate::names::Names;
 use crate::symbols::TableRow;
 use macho_object::File;
 use macho_records::{N_EXT, N_PEXT, N_SECT, N_STAB, SectionHeader, SymtabEntry, name_bytes};
@@ -108,8 +110,14 @@ fn is_defined_symbol(file: &File<'_>, index: u32, symbol: SymtabEntry) -> bool
 }
 
 /// The bytes of a symbol's name, where the symbol stands in the table.
-fn listed_name(object: &LinkedObject<'_>, index: u32, resolved: &Resolved) -> Option<usize>
+fn listed_name(
+    object: &LinkedObject<'_>,
+    names: &Names<'_>,
+    index: u32,
+    resolved: &Resolved,
+) -> Option<usize>
     requires object { object.now.file.is_dynamic ≡ false }
+    requires names { AreNames (strings_of object.now.file.bytes) names.now }
     requires among { index < num_symbols object.now.file.bytes }
     requires known { HasSymbol resolved.now object.now.number index }
     ensures is { (l : Link) (noted : List (List ℕ)) → IsResolved l noted resolved.now → object_of l object.now.number ≡ object.now.file.bytes
@@ -123,9 +131,7 @@ fn listed_name(object: &LinkedObject<'_>, index: u32, resolved: &Resolved) -> Op
     if !is_defined_symbol(&object.file, index, symbol) {
         return None;
     }
-    let Some(name) = object.file.symbol_name(index) else {
-        unreachable!()
-    };
+    let name = names.name(symbol.n_strx);
     let listed = if is_global(symbol) {
         resolved.defines(object.number, index)
     } else {
@@ -136,6 +142,7 @@ fn listed_name(object: &LinkedObject<'_>, index: u32, resolved: &Resolved) -> Op
 
 /// Lists the symbols of an object behind the others.
 fn list_object(
+    alloc: Global,
     object: &LinkedObject<'_>,
     resolved: &Resolved,
     table: &mut TableSymbols,
@@ -147,8 +154,9 @@ fn list_object(
         → OnOk result (Lists l (symbols_in object.now.number object.now.file.bytes (num_symbols object.now.file.bytes)) table.old table.new) }
     ensures room { OnOk result (table.new.strings ≤ table.old.strings + 2 ^ 32 * num_symbols object.now.file.bytes) }
 {
+    let names = Names::new(alloc, object.file.strings())?;
     for symbol in 0..object.file.num_symbols() {
-        if let Some(length) = listed_name(object, symbol, resolved) {
+        if let Some(length) = listed_name(object, &names, symbol, resolved) {
             table.symbols.push(TableSymbol {
                 file: object.number,
                 symbol,
@@ -177,7 +185,7 @@ pub fn table_symbols(
         strings: 1,
     };
     for object in objects {
-        list_object(object, resolved, &mut table)?;
+        list_object(alloc, object, resolved, &mut table)?;
     }
     Ok(table)
 }

@@ -1,7 +1,8 @@
 -- One symbol more is skipped, or added with the bytes of its name.
-use Rattle.std.proofs.Common.{◌≡◌, ℕ, ◌+◌, sym, ap, subst, ◌∙◌, arith}
+use Rattle.std.proofs.Common.{◌≡◌, ℕ, ◌+◌, List, sym, ap, subst, ◌∙◌, arith}
 use Rattle.macho_model.specs.Objects.{num_symbols}
 use Rattle.macho_linkedit.specs.declared.listing.TableSymbols.{TableSymbols}
+use Rattle.macho_linkedit.specs.steps.Names.{AreNames}
 use Rattle.macho_linkedit.specs.steps.Listing.{symbols_in, Lists}
 use Rattle.macho_linkedit.proofs.Listed.{lists_skip, lists_add}
 use Rattle.macho_linkedit.proofs.listing.list_object.Goals as goal
@@ -10,6 +11,10 @@ use Rattle.macho_linkedit.proofs.listing.list_object.Goals.{in-Some+in_ok-push, 
 pub listed_name-requires-clause-known : goal.listed_name-requires-clause-known
 listed_name-requires-clause-known c =
     c.requires.known c.loop-symbol.symbol (omega (arith, c.loop-symbol-test.true, c.num_symbols-symbol-end.ensures))
+
+pub listed_name-requires-clause-names : goal.listed_name-requires-clause-names
+listed_name-requires-clause-names c =
+    subst (λ (xs : List ℕ). AreNames xs c.in_ok-names.names) c.strings.ensures c.in_ok-names.ensures
 
 pub loop-symbol-preserved : goal.loop-symbol-preserved
 loop-symbol-preserved c =
