@@ -16,10 +16,19 @@ HEAD = ["crate", "source", "specs", "steps", "proofs", "edits"]
 
 
 def crates():
-    """The crates of crates.txt, in its order."""
+    """The crates of crates.txt in its order, each with those that it stands on."""
     with open(os.path.join(TOP, "crates.txt"), encoding="utf-8") as file:
         lines = [line.split("#")[0] for line in file]
-    return [line.split(":")[0].split()[0] for line in lines if ":" in line]
+    return {line.split(":")[0].split()[0]: line.split(":")[1].split() for line in lines if ":" in line}
+
+
+def under(name, known):
+    """A crate and all that it stands on."""
+    found = {name}
+    for below in known[name]:
+        if below in known and below not in found:
+            found |= under(below, known)
+    return found
 
 
 def files(folder, ending):
@@ -61,11 +70,13 @@ def told(cells):
 
 
 def table():
-    rows = [(name, row(name)) for name in crates()]
-    libraries = [counts for name, counts in rows if not name.endswith(("_tests", "_checks"))]
+    known = crates()
+    rows = [(name, row(name)) for name in known]
+    program = under("wild_macho_main", known)
+    own = [counts for name, counts in rows if name in program]
     text = [told(HEAD), "|---|--:|--:|--:|--:|--:|"]
     text += [told([f"`{name}`"] + counts) for name, counts in rows]
-    text.append(told(["**the program's crates**"] + [sum(column) for column in zip(*libraries)]))
+    text.append(told([f"**the program's {len(own)} crates**"] + [sum(column) for column in zip(*own)]))
     text.append(told([f"**all {len(rows)} crates**"] + [sum(column) for column in zip(*(counts for _, counts in rows))]))
     return "\n".join(text) + "\n"
 
