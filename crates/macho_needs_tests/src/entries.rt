@@ -2,7 +2,7 @@
 use crate::linked::{Answer, LINKED, answer};
 use macho_samples::{
     CONST, Content, DATA, EXIT, GLOBAL, LOCAL, MAIN, MAIN_CODE, Object, Relocation, Section,
-    Symbol, TEXT, kinds,
+    Symbol, TEXT, UNDEFINED, kinds,
 };
 use std::alloc::Global;
 use std::test::Fail;
@@ -538,5 +538,39 @@ fn entries_of_two_files_have_starts_of_their_own(rt: HostRuntime) -> Result<(), 
         symbols: &[],
     };
     assert!(rt; answer(rt.alloc(), &[first, second], b"")? == LINKED);
+    Ok(())
+}
+
+/// Language data of another object, by its name.
+#[test]
+fn language_data_of_another_object_is_refused(rt: HostRuntime) -> Result<(), Fail> {
+    let bytes = bytes_of(rt.alloc(), &PLAIN)?;
+    let entries = Section {
+        segment: b"__LD",
+        name: b"__compact_unwind",
+        flags: 0x0200_0000,
+        content: Content::Bytes(bytes.get(..32).ok_or("cut")?),
+        relocations: &[START, Relocation(24, 1, kinds::POINTER)],
+        ..DATA
+    };
+    let user = Object {
+        sections: &[SECTIONS[0], entries],
+        symbols: &[
+            MAIN,
+            Symbol {
+                name: b"_language_data",
+                ..UNDEFINED
+            },
+        ],
+    };
+    let owner = Object {
+        sections: &[CONST],
+        symbols: &[Symbol {
+            name: b"_language_data",
+            value: 8,
+            ..MAIN
+        }],
+    };
+    assert!(rt; answer(rt.alloc(), &[user, owner], b"")? == [7, 0, 1, 0, 7]);
     Ok(())
 }

@@ -2,7 +2,8 @@
 use crate::linked::link;
 use macho_model::Target;
 use macho_samples::{
-    Content, DATA, EXIT, MAIN, Object, Relocation, Section, Symbol, TEXT, UNDEFINED, kinds,
+    Content, DATA, EXIT, MAIN, MAIN_CODE, Object, Relocation, Section, Symbol, TEXT, UNDEFINED,
+    kinds,
 };
 use std::test::Fail;
 
@@ -100,6 +101,60 @@ fn slots_and_stubs_are_numbered_by_their_first_need(rt: HostRuntime) -> Result<(
     for place in 0..8usize {
         let told = image.bytes.get(table.saturating_add(16 + place)).copied();
         assert!(rt; told == IMPORTS.get(place).copied(), "{place}");
+    }
+    Ok(())
+}
+
+/// A function; the template, 16 bytes, and a place 8 behind its start.
+const THREADED: [Symbol<'static>; 2] = [
+    MAIN,
+    Symbol {
+        name: b"_variable",
+        section: 3,
+        value: 0x28,
+        ..MAIN
+    },
+];
+
+/// Descriptors of thread-local variables: a pointer to the variable's initial value, and one to the function.
+const DESCRIPTORS: Object<'static> = Object {
+    sections: &[
+        Section {
+            content: Content::Bytes(&MAIN_CODE),
+            ..TEXT
+        },
+        Section {
+            name: b"__thread_vars",
+            flags: 0x13,
+            content: Content::Zeros(16),
+            relocations: &[
+                Relocation(0, 1, kinds::POINTER),
+                Relocation(8, 0, kinds::POINTER),
+            ],
+            ..DATA
+        },
+        Section {
+            name: b"__thread_data",
+            flags: 0x11,
+            address: 0x20,
+            content: Content::Zeros(16),
+            ..DATA
+        },
+    ],
+    symbols: &THREADED,
+};
+
+/// Where the first section of data stands: behind the one page of the text.
+const FIRST_DATA: usize = 0x4000;
+
+/// The first word is the distance from the template's start, 8, which the loader leaves; the second is the loader's.
+#[test]
+fn a_distance_in_the_template_is_no_word_of_the_loader(rt: HostRuntime) -> Result<(), Fail> {
+    let image = link(rt.alloc(), &[DESCRIPTORS], b"")?.map_err(|_| "refused")?;
+    assert!(rt; image.fixups == 1);
+    for place in 0..8usize {
+        let told = image.bytes.get(FIRST_DATA + place).copied();
+        assert!(rt; told == Some(if place == 0 { 8 } else { 0 }), "{place}");
     }
     Ok(())
 }
