@@ -3,3 +3,5 @@
 
 #[cfg(test)]
 mod again;
+#[cfg(test)]
+mod instance;
