@@ -42,3 +42,28 @@ linked thrown examples/thrown/thrown.o examples/libc++.tbd examples/libSystem.tb
 linked greetings examples/rust/greetings.o examples/libSystem.tbd
 linked libshapes.dylib -dylib -install_name @rpath/libshapes.dylib -exported_symbols_list examples/shapes/shapes.exports \
     examples/shapes/shapes.o
+
+# What the sources say: which names come from which library, which are shown to others, which functions have a personality function.
+wanted greeting fixups 'lib_ordinal = 1 (libSystem)'
+wanted greeting fixups '(_printf)'
+wanted greeting exports ' _greet'
+wanted greeting exports ' _main'
+wanted greeting code 'bl'
+wanted greeting unwind 'Number of personality functions in array: 0x0'
+wanted thrown fixups 'lib_ordinal = 1 (libc++)'
+wanted thrown fixups '(___gxx_personality_v0)'
+wanted thrown fixups '(___cxa_throw)'
+wanted thrown unwind 'Number of personality functions in array: 0x1'
+wanted greetings fixups '(_fputs)'
+wanted greetings fixups '(___stdoutp)'
+wanted greetings names 'D _FIRST'
+wanted greetings exports ' _main'
+wanted libshapes.dylib headers 'name @rpath/libshapes.dylib'
+wanted libshapes.dylib exports ' _shape_cube'
+wanted libshapes.dylib exports ' _shape_square'
+wanted libshapes.dylib names 't _count_calls'
+wanted libshapes.dylib parts 'FileType: DynamicLibrary (0x6)'
+if grep -q count_calls "$folder/libshapes.dylib.exports"; then
+    fail "libshapes.dylib: a function that the export list leaves out is exported"
+fi
+echo "readers: four images are linked and read"
