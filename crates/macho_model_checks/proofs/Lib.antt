@@ -28,11 +28,14 @@ pub mod RowsSizes
 pub mod RowsNames
 pub mod RowsAgreement
 pub mod ExampleCall
+pub mod WordsBySegment
 pub mod RowsCall
 pub mod RowsCallChain
 pub mod RowsCallFixups
 pub mod RowsCallUnwind
 pub mod RowsCallOrder
 pub mod RowsCallTrie
+pub mod RowsCallCounts
 pub mod RowsCallZeros
+pub mod RowsCallChanges
 pub mod RowsMade

@@ -29,7 +29,7 @@ use Rattle.macho_model.specs.OutputSections.{output_sections_of, output_sections
 use Rattle.macho_model.specs.SymbolTable.{table_symbols}
 use Rattle.macho_model.specs.SymbolRows.{symbol_rows, symbol_rows_in}
 use Rattle.macho_model_checks.proofs.Examples.{words8, words, halves, name16}
-use Rattle.macho_model_checks.proofs.ExampleLinks.{entry, text_object}
+use Rattle.macho_model_checks.proofs.ExampleLinks.{entry}
 
 -- pieces that pass the tests stand one behind the other, each as low as it may
 abbrev pub are_behind : Piece → List Piece → Bool
@@ -89,7 +89,7 @@ file_size_in_call s = least_file_size calling counts_of_call placed_call s
 order_computed : (list_all (λ (s : PlacedSegment). are_ordered (row_in_call s)) placed_call.segments ≡ true)
     × (list_all (λ (o : OutputSection). are_ordered (pieces_in_call o)) outputs_of_call ≡ true)
     × (are_ordered (table_pieces placed_call) ≡ true)
-unfolding commands_end commands_of commands_from header_of reading le_at row_bytes le_bytes words8 words halves name16 entry text_object calls_exit head_of_call fixups_of_call tables_of_call be_at be_bytes big_words signature_of_call call_image segment_of num_sections section_place section_at section_bytes symtab_of num_symbols symbol_place symbol_at strings_of symbol_name relocation_place relocation_at sections_of carried_of template_exponent placed_exponent symbols_of strong_of weak_of commons_of greatest_of libraries_with definition_of chosen_commons initializer_sections unwind_sections uses_of imports_of libraries_needed target_of target_of_relocation slots_of stubs_of fields_of plain_entries all_entries entries_of other_segments segment_names_of output_keys_of table_symbols symbol_rows symbol_rows_in output_sections_of output_sections_for pieces_of segments_for row_of
+unfolding commands_end commands_of commands_from header_of reading le_at row_bytes le_bytes words8 words halves name16 entry calls_exit head_of_call fixups_of_call tables_of_call be_at be_bytes big_words signature_of_call call_image segment_of num_sections section_place section_at section_bytes symtab_of num_symbols symbol_place symbol_at strings_of symbol_name relocation_place relocation_at sections_of carried_of template_exponent placed_exponent symbols_of strong_of weak_of commons_of greatest_of libraries_with definition_of chosen_commons initializer_sections unwind_sections uses_of imports_of libraries_needed target_of target_of_relocation slots_of stubs_of fields_of plain_entries all_entries entries_of other_segments segment_names_of output_keys_of table_symbols symbol_rows symbol_rows_in output_sections_of output_sections_for pieces_of segments_for row_of
 order_computed = (refl, refl, refl)
 
 least_computed : (list_all (λ (s : PlacedSegment). are_least (row_in_call s)) placed_call.segments ≡ true)
@@ -97,7 +97,7 @@ least_computed : (list_all (λ (s : PlacedSegment). are_least (row_in_call s)) p
     × (are_least (table_pieces placed_call) ≡ true)
     × (list_all (λ (s : PlacedSegment). s.size == size_in_call s) placed_call.segments ≡ true)
     × (list_all (λ (s : PlacedSegment). s.file_size == file_size_in_call s) placed_call.segments ≡ true)
-unfolding commands_end commands_of commands_from header_of reading le_at row_bytes le_bytes words8 words halves name16 entry text_object calls_exit head_of_call fixups_of_call tables_of_call be_at be_bytes big_words signature_of_call call_image segment_of num_sections section_place section_at section_bytes symtab_of num_symbols symbol_place symbol_at strings_of symbol_name relocation_place relocation_at sections_of carried_of template_exponent placed_exponent symbols_of strong_of weak_of commons_of greatest_of libraries_with definition_of chosen_commons initializer_sections unwind_sections uses_of imports_of libraries_needed target_of target_of_relocation slots_of stubs_of fields_of plain_entries all_entries entries_of other_segments segment_names_of output_keys_of table_symbols symbol_rows symbol_rows_in output_sections_of output_sections_for pieces_of segments_for row_of
+unfolding commands_end commands_of commands_from header_of reading le_at row_bytes le_bytes words8 words halves name16 entry calls_exit head_of_call fixups_of_call tables_of_call be_at be_bytes big_words signature_of_call call_image segment_of num_sections section_place section_at section_bytes symtab_of num_symbols symbol_place symbol_at strings_of symbol_name relocation_place relocation_at sections_of carried_of template_exponent placed_exponent symbols_of strong_of weak_of commons_of greatest_of libraries_with definition_of chosen_commons initializer_sections unwind_sections uses_of imports_of libraries_needed target_of target_of_relocation slots_of stubs_of fields_of plain_entries all_entries entries_of other_segments segment_names_of output_keys_of table_symbols symbol_rows symbol_rows_in output_sections_of output_sections_for pieces_of segments_for row_of
 least_computed = (refl, refl, refl, refl, refl)
 
 call_rooms : HaveRoom counts_of_call placed_call
@@ -105,7 +105,7 @@ call_rooms = record { initializers = refl; unwind = refl; fixups = refl; trie = 
 
 -- THE order
 pub call_stands_in_order : StandInOrder calling counts_of_call placed_call
-unfolding commands_end commands_of commands_from header_of reading le_at row_bytes le_bytes words8 words halves name16 entry text_object calls_exit head_of_call fixups_of_call tables_of_call be_at be_bytes big_words signature_of_call call_image segment_of num_sections section_place section_at section_bytes symtab_of num_symbols symbol_place symbol_at strings_of symbol_name relocation_place relocation_at sections_of carried_of template_exponent placed_exponent symbols_of strong_of weak_of commons_of greatest_of libraries_with definition_of chosen_commons initializer_sections unwind_sections uses_of imports_of libraries_needed target_of target_of_relocation slots_of stubs_of fields_of plain_entries all_entries entries_of other_segments segment_names_of output_keys_of table_symbols symbol_rows symbol_rows_in output_sections_of output_sections_for pieces_of segments_for row_of
+unfolding commands_end commands_of commands_from header_of reading le_at row_bytes le_bytes words8 words halves name16 entry calls_exit head_of_call fixups_of_call tables_of_call be_at be_bytes big_words signature_of_call call_image segment_of num_sections section_place section_at section_bytes symtab_of num_symbols symbol_place symbol_at strings_of symbol_name relocation_place relocation_at sections_of carried_of template_exponent placed_exponent symbols_of strong_of weak_of commons_of greatest_of libraries_with definition_of chosen_commons initializer_sections unwind_sections uses_of imports_of libraries_needed target_of target_of_relocation slots_of stubs_of fields_of plain_entries all_entries entries_of other_segments segment_names_of output_keys_of table_symbols symbol_rows symbol_rows_in output_sections_of output_sections_for pieces_of segments_for row_of
 call_stands_in_order = record {
   segments = refl;
   names = refl;

@@ -1,7 +1,7 @@
 -- The exports trie in the image of a link with an import: look-up finds `_main`, and no other name.
 --
 -- Of the link: a name with a definition in an object is `_main`, since the object has no other definition, and there are no export
--- lists. Of the bytes: the first node has one edge, `_main`, to a node that exports the value 0x300 and has no edge. And the
+-- lists. Of the bytes: the first node has one edge, `_main`, to a node that exports the value 0x398 and has no edge. And the
 -- fourteen bytes are the trie of that one name: its radix tree has one edge, and the place of its child one byte.
 use Rattle.std.proofs.Common.{◌≡◌, ℕ, zero, suc, ◌+◌, ◌<◌, ◌≤◌, Bool, true, false, if◌then◌else◌, List, [], ◌∷◌, ◌++◌, length, take, drop, map, refl, ap, sym, ◌∙◌, subst, arith, inl, inr, Option, Some, None}
 use Rattle.std.specs.Prelude.{codes, slice_index, slice_index_or, nat_eq, unwrap_or}
@@ -15,7 +15,7 @@ use Rattle.std.proofs.lemmas.List.{take-append-drop}
 use Rattle.macho_model.specs.declared.placed.PlacedSection.{PlacedSection}
 use Rattle.macho_model.specs.declared.targets.Target.{Target}
 use Rattle.macho_model.specs.declared.targets.Target.TheVariants as target
-use Rattle.macho_model.specs.Exports.{Export, Value, ExportedAs, ValueOf, weak_flag, section_flag}
+use Rattle.macho_model.specs.Exports.{Export, Value, IsExported, ExportedAs, ValueOf, weak_flag, section_flag}
 use Rattle.macho_model.specs.Exports as exports
 use Rattle.macho_trie.specs.Exports.{Exported, as_value}
 use Rattle.macho_trie.specs.Nodes.{Edge, Node, node_at, terminal_at, terminal_between, export_in, edges_at, edge_at, ended_name}
@@ -41,16 +41,16 @@ use Rattle.macho_model.specs.Images.{Table, segments_of, mapped_segments, base_o
 use Rattle.macho_model.specs.Fixups.{own_entries, import_entries_of, entries_have_addends}
 use Rattle.macho_model.specs.ImportTable.{fixup_count, names_text}
 use Rattle.macho_model_checks.proofs.Examples.{words8, words, halves, name16}
-use Rattle.macho_model_checks.proofs.ExampleLinks.{entry, text_object}
+use Rattle.macho_model_checks.proofs.ExampleLinks.{entry}
 
 unfoldable pub trie_of_call : List ℕ
-trie_of_call = 0x00 ∷ 0x01 ∷ 0x5f ∷ 0x6d ∷ 0x61 ∷ 0x69 ∷ 0x6e ∷ 0x00 ∷ 0x09 ∷ 0x03 ∷ 0x00 ∷ 0x80 ∷ 0x06 ∷ 0x00 ∷ []
+trie_of_call = 0x00 ∷ 0x01 ∷ 0x5f ∷ 0x6d ∷ 0x61 ∷ 0x69 ∷ 0x6e ∷ 0x00 ∷ 0x09 ∷ 0x03 ∷ 0x00 ∷ 0x98 ∷ 0x07 ∷ 0x00 ∷ []
 
 abbrev pub trie_table : Table
-trie_table = record { at = 0x80d0; size = 14 }
+trie_table = record { at = 0xc0d0; size = 14 }
 
 trie_there : (tries_of call_image ≡ trie_table ∷ []) × (table_bytes call_image trie_table ≡ trie_of_call)
-unfolding commands_end commands_of commands_from header_of reading le_at row_bytes le_bytes words8 words halves name16 entry text_object calls_exit head_of_call fixups_of_call tables_of_call be_at be_bytes big_words signature_of_call call_image segments_of mapped_segments base_of libraries_of tables_of tries_of signatures_of symbol_tables_of string_tables_of entries_of_file trie_of_call
+unfolding commands_end commands_of commands_from header_of reading le_at row_bytes le_bytes words8 words halves name16 entry calls_exit head_of_call fixups_of_call tables_of_call be_at be_bytes big_words signature_of_call call_image segments_of mapped_segments base_of libraries_of tables_of tries_of signatures_of symbol_tables_of string_tables_of entries_of_file trie_of_call
 trie_there = (refl, refl)
 
 -- the symbol of `_main`, and what it is exported as
@@ -82,28 +82,30 @@ from_strong false m s [] false h = absurd (let no : false ≡ true = ap is_in_ob
 definition_here : (name : List ℕ) → definition_of calling name
     ≡ first_or (map Symbol (if bytes_eq (codes "_main") name then main_symbol ∷ [] else []))
     (first_or (map Library (libraries_with calling name)) (if bytes_eq name DSO_HANDLE then Some ImageBase else None))
-unfolding commands_end commands_of commands_from header_of reading le_at row_bytes le_bytes words8 words halves name16 entry text_object calls_exit head_of_call fixups_of_call tables_of_call be_at be_bytes big_words signature_of_call call_image segment_of num_sections section_place section_at section_bytes symtab_of num_symbols symbol_place symbol_at strings_of symbol_name relocation_place relocation_at sections_of carried_of template_exponent placed_exponent symbols_of strong_of weak_of commons_of greatest_of definition_of chosen_commons initializer_sections unwind_sections uses_of imports_of libraries_needed target_of target_of_relocation slots_of stubs_of fields_of plain_entries all_entries entries_of other_segments segment_names_of output_keys_of own_entries import_entries_of entries_have_addends fixup_count names_text
+unfolding commands_end commands_of commands_from header_of reading le_at row_bytes le_bytes words8 words halves name16 entry calls_exit head_of_call fixups_of_call tables_of_call be_at be_bytes big_words signature_of_call call_image segment_of num_sections section_place section_at section_bytes symtab_of num_symbols symbol_place symbol_at strings_of symbol_name relocation_place relocation_at sections_of carried_of template_exponent placed_exponent symbols_of strong_of weak_of commons_of greatest_of definition_of chosen_commons initializer_sections unwind_sections uses_of imports_of libraries_needed target_of target_of_relocation slots_of stubs_of fields_of plain_entries all_entries entries_of other_segments segment_names_of output_keys_of own_entries import_entries_of entries_have_addends fixup_count names_text
 definition_here name = refl
 
-named_main : (name : List ℕ) (s : SymbolId) → definition_of calling name ≡ Some (Symbol s) → (name ≡ codes "_main") × (s ≡ main_symbol)
+pub named_main : (name : List ℕ) (s : SymbolId) → definition_of calling name ≡ Some (Symbol s) → (name ≡ codes "_main") × (s ≡ main_symbol)
 named_main name s h =
     let found =
     from_strong (bytes_eq (codes "_main") name) main_symbol s (libraries_with calling name) (bytes_eq name DSO_HANDLE)
     (sym (definition_here name) ∙ h) in
     (sym ((bytes_eq-Decides (codes "_main") name).0 found.0), found.1)
 
-main_facts : (target_of_name calling (codes "_main") ≡ target.Section 0 0 0) × (weak_flag calling main_symbol ≡ 0)
+pub main_facts : (target_of_name calling (codes "_main") ≡ target.Section 0 0 0) × (weak_flag calling main_symbol ≡ 0)
     × (section_flag calling 0 0 ≡ 0)
-unfolding commands_end commands_of commands_from header_of reading le_at row_bytes le_bytes words8 words halves name16 entry text_object calls_exit head_of_call fixups_of_call tables_of_call be_at be_bytes big_words signature_of_call call_image segment_of num_sections section_place section_at section_bytes symtab_of num_symbols symbol_place symbol_at strings_of symbol_name relocation_place relocation_at sections_of carried_of template_exponent placed_exponent symbols_of strong_of weak_of commons_of greatest_of libraries_with definition_of chosen_commons initializer_sections unwind_sections uses_of imports_of libraries_needed target_of target_of_relocation slots_of stubs_of fields_of plain_entries all_entries entries_of other_segments segment_names_of output_keys_of own_entries import_entries_of entries_have_addends fixup_count names_text
+unfolding commands_end commands_of commands_from header_of reading le_at row_bytes le_bytes words8 words halves name16 entry calls_exit head_of_call fixups_of_call tables_of_call be_at be_bytes big_words signature_of_call call_image segment_of num_sections section_place section_at section_bytes symtab_of num_symbols symbol_place symbol_at strings_of symbol_name relocation_place relocation_at sections_of carried_of template_exponent placed_exponent symbols_of strong_of weak_of commons_of greatest_of libraries_with definition_of chosen_commons initializer_sections unwind_sections uses_of imports_of libraries_needed target_of target_of_relocation slots_of stubs_of fields_of plain_entries all_entries entries_of other_segments segment_names_of output_keys_of own_entries import_entries_of entries_have_addends fixup_count names_text
 main_facts = (refl, refl, refl)
 
-value_is : (e : Export) → ValueOf calling placed_call 0 (target.Section 0 0 0) e → e ≡ Value 0 0x300
+value_is : (e : Export) → ValueOf calling placed_call 0 (target.Section 0 0 0) e → e ≡ Value 0 0x398
 value_is e (address, value, (q, (zero, within, is), file, section, at), sum, same) =
-    let place : 0x100000300 ≡ address = ap (λ (x : PlacedSection). x.address) is ∙ at in
+    let place : 0x100000398 ≡ address = ap (λ (x : PlacedSection). x.address) is ∙ at in
     same ∙ ap (λ f. Value (f + 0) value) main_facts.2 ∙ ap (Value 0) (omega (arith, place, sum))
-value_is e (address, value, (q, (suc k, within, is), file, section, at), sum, same) = absurd (omega (arith, within))
+value_is e (address, value, (q, (suc zero, within, is), file, section, at), sum, same) =
+    absurd (let no : 1 ≡ 0 = ap (λ (x : PlacedSection). x.section) is ∙ section in omega (arith, no))
+value_is e (address, value, (q, (suc (suc k), within, is), file, section, at), sum, same) = absurd (omega (arith, within))
 
-exported_is : (name : List ℕ) (e : Export) → ExportedAs calling placed_call name e → (name ≡ codes "_main") × (e ≡ Value 0 0x300)
+pub exported_is : (name : List ℕ) (e : Export) → ExportedAs calling placed_call name e → (name ≡ codes "_main") × (e ≡ Value 0 0x398)
 exported_is name _ (exports.ExportedAs.from_object s e exported value) =
     let who = named_main name s exported.0 in
     let here : ValueOf calling placed_call (weak_flag calling main_symbol) (target_of_name calling (codes "_main")) e =
@@ -115,10 +117,14 @@ exported_is name _ (exports.ExportedAs.from_object s e exported value) =
     (who.0, value_is e there)
 exported_is name _ (exports.ExportedAs.from_library one lists listed) = absurd (let no : false ≡ true = lists in cc)
 
-main_exported : ExportedAs calling placed_call (codes "_main") (Value 0 0x300)
-unfolding commands_end commands_of commands_from header_of reading le_at row_bytes le_bytes words8 words halves name16 entry text_object calls_exit head_of_call fixups_of_call tables_of_call be_at be_bytes big_words signature_of_call call_image segment_of num_sections section_place section_at section_bytes symtab_of num_symbols symbol_place symbol_at strings_of symbol_name relocation_place relocation_at sections_of carried_of template_exponent placed_exponent symbols_of strong_of weak_of commons_of greatest_of libraries_with definition_of chosen_commons initializer_sections unwind_sections uses_of imports_of libraries_needed target_of target_of_relocation slots_of stubs_of fields_of plain_entries all_entries entries_of other_segments segment_names_of output_keys_of own_entries import_entries_of entries_have_addends fixup_count names_text
-main_exported = exports.ExportedAs.from_object main_symbol (Value 0 0x300) (refl, refl, refl)
-    (0x100000300, 0x300, (section_a 0x100000300, (0, omega arith, refl), refl, refl, refl), refl, refl)
+pub main_is_exported : IsExported calling (codes "_main") main_symbol
+unfolding commands_end commands_of commands_from header_of reading le_at row_bytes le_bytes words8 words halves name16 entry calls_exit head_of_call fixups_of_call tables_of_call be_at be_bytes big_words signature_of_call call_image segment_of num_sections section_place section_at section_bytes symtab_of num_symbols symbol_place symbol_at strings_of symbol_name relocation_place relocation_at sections_of carried_of template_exponent placed_exponent symbols_of strong_of weak_of commons_of greatest_of libraries_with definition_of chosen_commons initializer_sections unwind_sections uses_of imports_of libraries_needed target_of target_of_relocation slots_of stubs_of fields_of plain_entries all_entries entries_of other_segments segment_names_of output_keys_of own_entries import_entries_of entries_have_addends fixup_count names_text
+main_is_exported = (refl, refl, refl)
+
+main_exported : ExportedAs calling placed_call (codes "_main") (Value 0 0x398)
+unfolding commands_end commands_of commands_from header_of reading le_at row_bytes le_bytes words8 words halves name16 entry calls_exit head_of_call fixups_of_call tables_of_call be_at be_bytes big_words signature_of_call call_image segment_of num_sections section_place section_at section_bytes symtab_of num_symbols symbol_place symbol_at strings_of symbol_name relocation_place relocation_at sections_of carried_of template_exponent placed_exponent symbols_of strong_of weak_of commons_of greatest_of libraries_with definition_of chosen_commons initializer_sections unwind_sections uses_of imports_of libraries_needed target_of target_of_relocation slots_of stubs_of fields_of plain_entries all_entries entries_of other_segments segment_names_of output_keys_of own_entries import_entries_of entries_have_addends fixup_count names_text
+main_exported = exports.ExportedAs.from_object main_symbol (Value 0 0x398) main_is_exported
+    (0x100000398, 0x398, (section_a 0x100000398, (0, omega arith, refl), refl, refl, refl), refl, refl)
 
 -- the two nodes
 abbrev pub edge_main : Edge
@@ -128,13 +134,13 @@ abbrev pub first_node : Node
 first_node = record { export = None; edges = edge_main ∷ [] }
 
 abbrev pub last_node : Node
-last_node = record { export = Some (as_value 0 0x300); edges = [] }
+last_node = record { export = Some (as_value 0 0x398); edges = [] }
 
 nodes : (node_at trie_of_call 0 ≡ Some first_node) × (node_at trie_of_call 9 ≡ Some last_node)
 unfolding trie_of_call node_at terminal_at terminal_between export_in edges_at edge_at ended_name uleb_at
 nodes = (refl, refl)
 
-finds_main : trie_finds trie_of_call (codes "_main") (as_value 0 0x300)
+finds_main : trie_finds trie_of_call (codes "_main") (as_value 0 0x398)
 finds_main = lookup.Finds.along 0 (codes "_main") first_node edge_main nodes.0 refl (lookup.Finds.here 9 [] last_node nodes.1 refl refl)
 
 abbrev pub node_in : Option Node → Node
@@ -163,7 +169,7 @@ one_found test e h = by (test edge_main) refl
     by true is = (is, sym (ap edge_in (sym (ap (λ b. if b then Some edge_main else None) is) ∙ h)))
     by false is = absurd (let no : false ≡ true = ap is_there (sym (ap (λ b. if b then Some edge_main else None) is) ∙ h) in cc)
 
-at_last : (at : ℕ) (rest : List ℕ) (x : Exported) → at ≡ 9 → Finds trie_of_call x at rest → (rest ≡ []) × (x ≡ as_value 0 0x300)
+at_last : (at : ℕ) (rest : List ℕ) (x : Exported) → at ≡ 9 → Finds trie_of_call x at rest → (rest ≡ []) × (x ≡ as_value 0 0x398)
 at_last _ _ x nine (lookup.Finds.here at rest node is none export) =
     let node_is = the_node at node last_node is (ap (node_at trie_of_call) nine ∙ nodes.1) in
     (none, ap export_of (sym export ∙ ap (λ (n : Node). n.export) node_is))
@@ -172,7 +178,7 @@ at_last _ _ x nine (lookup.Finds.along at rest node e is taken finds) =
     absurd (let no : false ≡ true = ap is_there (sym (ap (λ (n : Node). find (leads rest) n.edges) node_is) ∙ taken) in cc)
 
 only_main : (at : ℕ) (rest : List ℕ) (x : Exported) → at ≡ 0 → Finds trie_of_call x at rest
-    → (rest ≡ codes "_main") × (x ≡ as_value 0 0x300)
+    → (rest ≡ codes "_main") × (x ≡ as_value 0 0x398)
 only_main _ _ x start (lookup.Finds.here at rest node is none export) =
     let node_is = the_node at node first_node is (ap (node_at trie_of_call) start ∙ nodes.0) in
     absurd (let no : false ≡ true = ap is_there (sym (ap (λ (n : Node). n.export) node_is) ∙ export) in cc)
@@ -192,8 +198,11 @@ main_edges = edge (codes "_main") (Some 0) no_edge no_edge
 abbrev pub main_tree : Edges
 main_tree = edge [] None main_edges no_edge
 
+abbrev pub main_with : Exported → List (List ℕ × Exported)
+main_with x = (codes "_main", x) ∷ []
+
 abbrev pub main_says : List (List ℕ × Exported)
-main_says = (codes "_main", as_value 0 0x300) ∷ []
+main_says = main_with (as_value 0 0x398)
 
 abbrev pub one_byte : ℕ → ℕ
 one_byte k = 1
@@ -206,41 +215,41 @@ plain_main (suc (suc (suc zero))) within = (omega arith, omega arith)
 plain_main (suc (suc (suc (suc zero)))) within = (omega arith, omega arith)
 plain_main (suc (suc (suc (suc (suc k))))) within = absurd (omega (arith, within))
 
-main_radix : AreRadix main_edges
+pub main_radix : AreRadix main_edges
 main_radix = (record { some = omega arith; plain = plain_main }, inl refl, tt, tt, tt)
 
-names_one : (name : List ℕ) (s : ℕ) → LeadsTo main_tree name s
-    → (s < length main_says) × ((slice_index_or main_says s ([], as_value 0 0)).0 ≡ name)
-names_one name s (inl (left, is, inl (none, some))) = absurd (let no : false ≡ true = ap is_there some in cc)
-names_one name s (inl (left, is, inr (inl (rest, cut, inl (none, some))))) =
+pub names_one : (x : Exported) (name : List ℕ) (s : ℕ) → LeadsTo main_tree name s
+    → (s < length (main_with x)) × ((slice_index_or (main_with x) s ([], as_value 0 0)).0 ≡ name)
+names_one x name s (inl (left, is, inl (none, some))) = absurd (let no : false ≡ true = ap is_there some in cc)
+names_one x name s (inl (left, is, inr (inl (rest, cut, inl (none, some))))) =
     let zeroth : 0 ≡ s = ap (λ (o : Option ℕ). unwrap_or o 0) some in
-    subst (λ n. (n < length main_says) × ((slice_index_or main_says n ([], as_value 0 0)).0 ≡ name)) zeroth
+    subst (λ n. (n < length (main_with x)) × ((slice_index_or (main_with x) n ([], as_value 0 0)).0 ≡ name)) zeroth
     (omega arith, sym (is ∙ cut ∙ ap (λ (ys : List ℕ). codes "_main" ++ ys) none))
-names_one name s (inl (left, is, inr (inl (rest, cut, inr below)))) = absurd below
-names_one name s (inl (left, is, inr (inr other))) = absurd other
-names_one name s (inr other) = absurd other
+names_one x name s (inl (left, is, inr (inl (rest, cut, inr below)))) = absurd below
+names_one x name s (inl (left, is, inr (inr other))) = absurd other
+names_one x name s (inr other) = absurd other
 
-one_named : (name : List ℕ) (s : ℕ)
-    → (s < length main_says) × ((slice_index_or main_says s ([], as_value 0 0)).0 ≡ name) → LeadsTo main_tree name s
-one_named name zero (within, is) = inl (name, refl, inr (inl ([], sym is, inl (refl, refl))))
-one_named name (suc k) (within, is) = absurd (omega (arith, within))
+pub one_named : (x : Exported) (name : List ℕ) (s : ℕ)
+    → (s < length (main_with x)) × ((slice_index_or (main_with x) s ([], as_value 0 0)).0 ≡ name) → LeadsTo main_tree name s
+one_named x name zero (within, is) = inl (name, refl, inr (inl ([], sym is, inl (refl, refl))))
+one_named x name (suc k) (within, is) = absurd (omega (arith, within))
 
 -- the child stands at 9, which one byte spells; no spelling is shorter
-child_place : length (uleb_of (place_of (terminal_size (says_of main_says)) one_byte main_tree 1)) ≡ 1
+child_place : (x : Exported) → length (uleb_of (place_of (terminal_size (says_of (main_with x))) one_byte main_tree 1)) ≡ 1
 unfolding place_of uleb_of groups_of
-child_place = refl
+child_place x = refl
 
-consistent : (k : ℕ) → 1 ≤ k → k < node_count main_tree
-    → one_byte k ≡ length (uleb_of (place_of (terminal_size (says_of main_says)) one_byte main_tree k))
-consistent zero from below = absurd (omega (arith, from))
-consistent (suc zero) from below = sym child_place
-consistent (suc (suc k)) from below = absurd (omega (arith, below))
+consistent : (x : Exported) (k : ℕ) → 1 ≤ k → k < node_count main_tree
+    → one_byte k ≡ length (uleb_of (place_of (terminal_size (says_of (main_with x))) one_byte main_tree k))
+consistent x zero from below = absurd (omega (arith, from))
+consistent x (suc zero) from below = sym (child_place x)
+consistent x (suc (suc k)) from below = absurd (omega (arith, below))
 
-least_widths : AreLeast (terminal_size (says_of main_says)) one_byte main_tree
-least_widths = record {
-  consistent = consistent;
+pub least_widths : (x : Exported) → AreLeast (terminal_size (says_of (main_with x))) one_byte main_tree
+least_widths x = record {
+  consistent = consistent x;
   least = λ other wide k from below.
-      omega (arith, wide k from below, (length-uleb_of (place_of (terminal_size (says_of main_says)) other main_tree k)).0);
+      omega (arith, wide k from below, (length-uleb_of (place_of (terminal_size (says_of (main_with x))) other main_tree k)).0);
 }
 
 text_there : trie_of_call ≡ tree_bytes (says_of main_says) (place_of (terminal_size (says_of main_says)) one_byte main_tree) 0 main_tree
@@ -254,9 +263,9 @@ exact_trie = inr (
     symbol = None;
     below = main_edges;
     radix = main_radix;
-    names = λ name s. (names_one name s, one_named name s);
+    names = λ name s. (names_one (as_value 0 0x398) name s, one_named (as_value 0 0x398) name s);
     width = one_byte;
-    least = least_widths;
+    least = least_widths (as_value 0 0x398);
     text = text_there;
   },
 )
@@ -272,13 +281,13 @@ only_in : (name : List ℕ) (x : Exported) → trie_finds trie_of_call name x �
 only_in name x finds =
     let is = only_main 0 name x refl finds in
     record {
-      export = Value 0 0x300;
-      exported = subst (λ (n : List ℕ). ExportedAs calling placed_call n (Value 0 0x300)) (sym is.0) main_exported;
+      export = Value 0 0x398;
+      exported = subst (λ (n : List ℕ). ExportedAs calling placed_call n (Value 0 0x398)) (sym is.0) main_exported;
       is = is.1;
     }
 
-sound_in : IsFoundExport calling placed_call (codes "_main") (as_value 0 0x300)
-sound_in = record { export = Value 0 0x300; exported = main_exported; is = refl }
+sound_in : IsFoundExport calling placed_call (codes "_main") (as_value 0 0x398)
+sound_in = record { export = Value 0 0x398; exported = main_exported; is = refl }
 
 pub call_trie : TrieSays calling call_image placed_call
 call_trie = record {
@@ -287,7 +296,7 @@ call_trie = record {
   found = λ name e exported. rw trie_there.1 (found_in name e exported);
   only = λ name x finds. only_in name x (subst (λ (bytes : List ℕ). trie_finds bytes name x) trie_there.1 finds);
   symbols = main_says;
-  sound = All-cons (λ (s : List ℕ × Exported). IsFoundExport calling placed_call s.0 s.1) (codes "_main", as_value 0 0x300) []
+  sound = All-cons (λ (s : List ℕ × Exported). IsFoundExport calling placed_call s.0 s.1) (codes "_main", as_value 0 0x398) []
       sound_in (All-nil _);
   exact = rw trie_there.1 exact_trie;
 }

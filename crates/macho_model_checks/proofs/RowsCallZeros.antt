@@ -1,7 +1,8 @@
--- Every byte of the image of a link with an import that nothing stands in is 0.
+-- Every byte of the image of a link with an import and a pointer that nothing stands in is 0.
 --
--- The parts are computed from the link, the placement and the file. Between them are five gaps, and each is computed to be zeros:
--- behind the stub, behind the slot, behind the fixup table, behind the exports trie, and the byte in front of the signature.
+-- The parts are computed from the link, the placement and the file. Between them are six gaps, and each is computed to be zeros:
+-- behind the stub, behind the slot, behind the pointer, behind the fixup table, behind the exports trie, and the byte in front of the
+-- signature.
 use Rattle.std.proofs.Common.{◌≡◌, ℕ, ◌+◌, ◌-◌, ◌<◌, ◌≤◌, List, [], ◌∷◌, length, drop, get_or, replicate, refl, ap, sym, ◌∙◌, subst, arith, inl, inr}
 use Rattle.std.specs.Prelude.{slice_index, slice_range}
 use Rattle.std.specs.List.{All}
@@ -25,32 +26,33 @@ use Rattle.macho_model.specs.Images.{segments_of, mapped_segments, base_of, libr
 use Rattle.macho_model.specs.Fixups.{own_entries, import_entries_of, entries_have_addends}
 use Rattle.macho_model.specs.ImportTable.{fixup_count, names_text}
 use Rattle.macho_model_checks.proofs.Examples.{words8, words, halves, name16}
-use Rattle.macho_model_checks.proofs.ExampleLinks.{entry, text_object}
+use Rattle.macho_model_checks.proofs.ExampleLinks.{entry}
 
 abbrev pub span : ℕ → ℕ → Span
 span start size = record { start = start; size = size }
 
--- head, code, slot, stub, no initializers, no unwind information, fixup table, exports trie, symbols, strings, signature
+-- head, code, data, slot, stub, no initializers, no unwind information, fixup table, exports trie, symbols, strings, signature
 abbrev pub contents_of_call : List Span
 contents_of_call =
-    span 0 768 ∷ span 768 8 ∷ span 16384 8 ∷ span 776 12 ∷ span 776 0 ∷ span 776 0
-    ∷ span 32768 82 ∷ span 32976 14 ∷ span 33000 16 ∷ span 33016 7 ∷ span 33024 412 ∷ []
+    span 0 920 ∷ span 920 8 ∷ span 32768 8 ∷ span 16384 8 ∷ span 928 12 ∷ span 928 0 ∷ span 928 0
+    ∷ span 49152 110 ∷ span 49360 14 ∷ span 49384 16 ∷ span 49400 7 ∷ span 49408 540 ∷ []
 
 contents_are : contents_of calling call_image placed_call 0 ≡ contents_of_call
-unfolding commands_end commands_of commands_from header_of reading le_at row_bytes le_bytes words8 words halves name16 entry text_object calls_exit head_of_call fixups_of_call tables_of_call be_at be_bytes big_words signature_of_call call_image segment_of num_sections section_place section_at section_bytes symtab_of num_symbols symbol_place symbol_at strings_of symbol_name relocation_place relocation_at sections_of carried_of template_exponent placed_exponent symbols_of strong_of weak_of commons_of greatest_of libraries_with definition_of chosen_commons initializer_sections unwind_sections uses_of imports_of libraries_needed target_of target_of_relocation slots_of stubs_of fields_of plain_entries all_entries entries_of other_segments segment_names_of output_keys_of own_entries import_entries_of entries_have_addends fixup_count names_text segments_of mapped_segments base_of libraries_of tables_of tries_of signatures_of symbol_tables_of string_tables_of entries_of_file offset_in_file contents_of
+unfolding commands_end commands_of commands_from header_of reading le_at row_bytes le_bytes words8 words halves name16 entry calls_exit head_of_call fixups_of_call tables_of_call be_at be_bytes big_words signature_of_call call_image segment_of num_sections section_place section_at section_bytes symtab_of num_symbols symbol_place symbol_at strings_of symbol_name relocation_place relocation_at sections_of carried_of template_exponent placed_exponent symbols_of strong_of weak_of commons_of greatest_of libraries_with definition_of chosen_commons initializer_sections unwind_sections uses_of imports_of libraries_needed target_of target_of_relocation slots_of stubs_of fields_of plain_entries all_entries entries_of other_segments segment_names_of output_keys_of own_entries import_entries_of entries_have_addends fixup_count names_text segments_of mapped_segments base_of libraries_of tables_of tries_of signatures_of symbol_tables_of string_tables_of entries_of_file offset_in_file contents_of
 contents_are = refl
 
-image_size : length call_image ≡ 33436
-unfolding commands_end commands_of commands_from header_of reading le_at row_bytes le_bytes words8 words halves name16 entry text_object calls_exit head_of_call fixups_of_call tables_of_call be_at be_bytes big_words signature_of_call call_image segments_of mapped_segments base_of libraries_of tables_of tries_of signatures_of symbol_tables_of string_tables_of entries_of_file
+image_size : length call_image ≡ 49948
+unfolding commands_end commands_of commands_from header_of reading le_at row_bytes le_bytes words8 words halves name16 entry calls_exit head_of_call fixups_of_call tables_of_call be_at be_bytes big_words signature_of_call call_image segments_of mapped_segments base_of libraries_of tables_of tries_of signatures_of symbol_tables_of string_tables_of entries_of_file
 image_size = refl
 
-gaps : (slice_range call_image 788 16384 ≡ replicate 15596 0)
+gaps : (slice_range call_image 940 16384 ≡ replicate 15444 0)
     × (slice_range call_image 16392 32768 ≡ replicate 16376 0)
-    × (slice_range call_image 32850 32976 ≡ replicate 126 0)
-    × (slice_range call_image 32990 33000 ≡ replicate 10 0)
-    × (slice_range call_image 33023 33024 ≡ replicate 1 0)
-unfolding commands_end commands_of commands_from header_of reading le_at row_bytes le_bytes words8 words halves name16 entry text_object calls_exit head_of_call fixups_of_call tables_of_call be_at be_bytes big_words signature_of_call call_image segments_of mapped_segments base_of libraries_of tables_of tries_of signatures_of symbol_tables_of string_tables_of entries_of_file
-gaps = (refl, refl, refl, refl, refl)
+    × (slice_range call_image 32776 49152 ≡ replicate 16376 0)
+    × (slice_range call_image 49262 49360 ≡ replicate 98 0)
+    × (slice_range call_image 49374 49384 ≡ replicate 10 0)
+    × (slice_range call_image 49407 49408 ≡ replicate 1 0)
+unfolding commands_end commands_of commands_from header_of reading le_at row_bytes le_bytes words8 words halves name16 entry calls_exit head_of_call fixups_of_call tables_of_call be_at be_bytes big_words signature_of_call call_image segments_of mapped_segments base_of libraries_of tables_of tries_of signatures_of symbol_tables_of string_tables_of entries_of_file
+gaps = (refl, refl, refl, refl, refl, refl)
 
 in_gap : (b : List ℕ) (from to i : ℕ) → slice_range b from to ≡ replicate (to - from) 0 → from ≤ i → i < to → slice_index b i ≡ 0
 in_gap b from to i zeros low high =
@@ -60,36 +62,41 @@ in_gap b from to i zeros low high =
     ∙ ap (λ (xs : List ℕ). get_or xs (i - from) 0) zeros ∙ get_or-replicate (to - from) (i - from) 0 0 less
 
 -- a byte outside all parts stands in a gap
-outside_parts : (i : ℕ) → i < 33436
-    → IsOutsideSpan i (span 0 768)
-    → IsOutsideSpan i (span 768 8)
-    → IsOutsideSpan i (span 776 12)
+outside_parts : (i : ℕ) → i < 49948
+    → IsOutsideSpan i (span 0 920)
+    → IsOutsideSpan i (span 920 8)
+    → IsOutsideSpan i (span 928 12)
     → IsOutsideSpan i (span 16384 8)
-    → IsOutsideSpan i (span 32768 82)
-    → IsOutsideSpan i (span 32976 14)
-    → IsOutsideSpan i (span 33000 16)
-    → IsOutsideSpan i (span 33016 7)
-    → IsOutsideSpan i (span 33024 412)
+    → IsOutsideSpan i (span 32768 8)
+    → IsOutsideSpan i (span 49152 110)
+    → IsOutsideSpan i (span 49360 14)
+    → IsOutsideSpan i (span 49384 16)
+    → IsOutsideSpan i (span 49400 7)
+    → IsOutsideSpan i (span 49408 540)
     → slice_index call_image i ≡ 0
-outside_parts i within (inl head) code stub slot table trie symbols strings sign =
+outside_parts i within (inl head) code stub slot pointer table trie symbols strings sign =
     absurd (omega (arith, head))
-outside_parts i within (inr head) (inl code) stub slot table trie symbols strings sign =
+outside_parts i within (inr head) (inl code) stub slot pointer table trie symbols strings sign =
     absurd (omega (arith, head, code))
-outside_parts i within (inr head) (inr code) (inl stub) slot table trie symbols strings sign =
+outside_parts i within (inr head) (inr code) (inl stub) slot pointer table trie symbols strings sign =
     absurd (omega (arith, code, stub))
-outside_parts i within (inr head) (inr code) (inr stub) (inl slot) table trie symbols strings sign =
-    in_gap call_image 788 16384 i gaps.0 (omega (arith, stub)) (omega (arith, slot))
-outside_parts i within (inr head) (inr code) (inr stub) (inr slot) (inl table) trie symbols strings sign =
-    in_gap call_image 16392 32768 i gaps.1 (omega (arith, slot)) (omega (arith, table))
-outside_parts i within (inr head) (inr code) (inr stub) (inr slot) (inr table) (inl trie) symbols strings sign =
-    in_gap call_image 32850 32976 i gaps.2 (omega (arith, table)) (omega (arith, trie))
-outside_parts i within (inr head) (inr code) (inr stub) (inr slot) (inr table) (inr trie) (inl symbols) strings sign =
-    in_gap call_image 32990 33000 i gaps.3 (omega (arith, trie)) (omega (arith, symbols))
-outside_parts i within (inr head) (inr code) (inr stub) (inr slot) (inr table) (inr trie) (inr symbols) (inl strings) sign =
+outside_parts i within (inr head) (inr code) (inr stub) (inl slot) pointer table trie symbols strings sign =
+    in_gap call_image 940 16384 i gaps.0 (omega (arith, stub)) (omega (arith, slot))
+outside_parts i within (inr head) (inr code) (inr stub) (inr slot) (inl pointer) table trie symbols strings sign =
+    in_gap call_image 16392 32768 i gaps.1 (omega (arith, slot)) (omega (arith, pointer))
+outside_parts i within (inr head) (inr code) (inr stub) (inr slot) (inr pointer) (inl table) trie symbols strings sign =
+    in_gap call_image 32776 49152 i gaps.2 (omega (arith, pointer)) (omega (arith, table))
+outside_parts i within (inr head) (inr code) (inr stub) (inr slot) (inr pointer) (inr table) (inl trie) symbols strings sign =
+    in_gap call_image 49262 49360 i gaps.3 (omega (arith, table)) (omega (arith, trie))
+outside_parts i within (inr head) (inr code) (inr stub) (inr slot) (inr pointer) (inr table) (inr trie) (inl symbols) strings sign =
+    in_gap call_image 49374 49384 i gaps.4 (omega (arith, trie)) (omega (arith, symbols))
+outside_parts i within (inr head) (inr code) (inr stub) (inr slot) (inr pointer) (inr table) (inr trie) (inr symbols) (inl strings) sign =
     absurd (omega (arith, symbols, strings))
-outside_parts i within (inr head) (inr code) (inr stub) (inr slot) (inr table) (inr trie) (inr symbols) (inr strings) (inl sign) =
-    in_gap call_image 33023 33024 i gaps.4 (omega (arith, strings)) (omega (arith, sign))
-outside_parts i within (inr head) (inr code) (inr stub) (inr slot) (inr table) (inr trie) (inr symbols) (inr strings) (inr sign) =
+outside_parts i within (inr head) (inr code) (inr stub) (inr slot) (inr pointer) (inr table) (inr trie) (inr symbols) (inr strings)
+    (inl sign) =
+    in_gap call_image 49407 49408 i gaps.5 (omega (arith, strings)) (omega (arith, sign))
+outside_parts i within (inr head) (inr code) (inr stub) (inr slot) (inr pointer) (inr table) (inr trie) (inr symbols) (inr strings)
+    (inr sign) =
     absurd (omega (arith, within, sign))
 
 -- THE zeros
@@ -99,10 +106,11 @@ call_zeros i within out =
     outside_parts i (omega (arith, within, image_size))
     (h 0 (span 0 0) (omega arith))
     (h 1 (span 0 0) (omega arith))
+    (h 4 (span 0 0) (omega arith))
     (h 3 (span 0 0) (omega arith))
     (h 2 (span 0 0) (omega arith))
-    (h 6 (span 0 0) (omega arith))
     (h 7 (span 0 0) (omega arith))
     (h 8 (span 0 0) (omega arith))
     (h 9 (span 0 0) (omega arith))
     (h 10 (span 0 0) (omega arith))
+    (h 11 (span 0 0) (omega arith))

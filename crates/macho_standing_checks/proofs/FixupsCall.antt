@@ -1,7 +1,7 @@
 -- The fixups of the call's image, as the premises of the laws want them.
 --
--- Each is computed from the bytes that were written out by hand. The run of fixups is one slot, so its one word is that of the import;
--- the table is that of the run, and reads back.
+-- What the table and the words say is computed in `RowsCallFixups`. Here the words lead to no further one, so the chain is the run; the
+-- table reads back; and of the two words the one that moves has a target that it has room for.
 use Rattle.std.proofs.Common.{◌≡◌, ℕ, zero, suc, ◌+◌, ◌%◌, ◌^◌, ◌<◌, ◌≤◌, ◌⊎◌, true, false, List, [], ◌∷◌, length, get_or, map, refl, sym, ap, subst, ◌∙◌, arith, inl, inr, All, slice_range}
 use Rattle.std.specs.Prelude.{Contains, pos, codes, ◌++◌}
 use Rattle.std.specs.List.{AllByRecursion}
@@ -20,14 +20,15 @@ use Rattle.macho_model.specs.declared.targets.Site.TheVariants as site
 use Rattle.macho_model.specs.declared.targets.Target.TheVariants as target
 use Rattle.macho_model.specs.Targets.{is_import}
 use Rattle.macho_model.specs.Placement.{id_of}
-use Rattle.macho_model.specs.Values.{section_id, needs_fixup, BadRebase}
+use Rattle.macho_model.specs.Values.{section_id, needs_fixup, no_choice, IsNotEncodable, BadRebase}
+use Rattle.macho_model.specs.Stands.{IsAt}
 use Rattle.macho_model.specs.Chain.{WORD_SIZE, STRIDE}
 use Rattle.macho_model.specs.Fixups.{own_entries, import_entries_of, entries_have_addends}
 use Rattle.macho_model.specs.ImportTable.{names_text}
 use Rattle.macho_fixups.specs.declared.run.Fixup.{Fixup}
 use Rattle.macho_fixups.specs.declared.run.FixupSegment.{FixupSegment}
 use Rattle.macho_fixups.specs.declared.imports.ImportEntry.{ImportEntry}
-use Rattle.macho_fixups.specs.declared.words.FixupKind.TheVariants.{Bind}
+use Rattle.macho_fixups.specs.declared.words.FixupKind.TheVariants.{Rebase, Bind}
 use Rattle.macho_fixups.specs.Words.{FitsOrdinal, IsWordOf, word_of}
 use Rattle.macho_fixups.specs.Runs.{AreFixups, Holds, pages_of, start_of}
 use Rattle.macho_fixups.specs.Chains.{ChainIsRun, step_of, place_of, word_part}
@@ -54,80 +55,67 @@ use Rattle.macho_model.specs.Consumed.{personality_targets, entries_of_link}
 use Rattle.macho_model.specs.Segments.{other_segments, segment_rank, segment_names_of, output_keys_of, output_count}
 use Rattle.macho_model.specs.WrittenSum.{content_sum, command_sum, unsigned_sum, written_sum_of}
 use Rattle.macho_model_checks.proofs.Examples.{words8, words, halves, name16}
-use Rattle.macho_model_checks.proofs.ExampleLinks.{entry, text_object, section}
+use Rattle.macho_model_checks.proofs.ExampleLinks.{entry, section}
 use Rattle.macho_model_checks.proofs.ExampleCall.{calls_exit, calling, placed_call}
 use Rattle.macho_model.specs.Images.{segments_of, base_of, tables_of, entries_of_file}
 use Rattle.macho_model.specs.Addresses.{offset_in_file}
 use Rattle.macho_model_checks.proofs.ExampleCall.{head_of_call, fixups_of_call, tables_of_call, big_words, signature_of_call, call_image}
 use Rattle.macho_model_checks.proofs.ExamplePlacement.{section_a}
-use Rattle.macho_model_checks.proofs.RowsCallFixups.{fixup_of_slot, fixups_in_call, entry_of_exit}
+use Rattle.macho_model_checks.proofs.RowsCallFixups.{fixups_in_call, run_of_call, entry_of_exit, name_of_exit, table_size, what_is_asked, call_fixups}
+use Rattle.macho_model_checks.proofs.RowsCallChain.{pointer_field, data_fields}
 use Rattle.macho_standing.specs.Composed.{FixupsAreWritten}
-use Rattle.macho_standing.proofs.Members.{in_map, front_or_rest, in_none}
+use Rattle.macho_standing.proofs.Members.{front_or_rest, in_none}
 use Rattle.macho_standing.proofs.TableLength.{table_long}
 use Rattle.macho_standing_checks.proofs.FactsCall.{carried_call, field_call, fields_call, slots_call}
 use Rattle.macho_standing_checks.proofs.HeadCall.{image_size, segments_call}
 
--- the run of one slot
-holds_slot : (s : FixupSegment) × Contains (fixup_segments placed_call) s × Holds s 0x100004000
-holds_slot = (
-  record { address = 0x100004000; size = 0x4000; file_offset = 0x4000; file_size = 0x4000 },
-  (2, omega arith, refl),
-  (omega arith, omega arith),
-)
-
-run_of_call : AreFixups (fixup_segments placed_call) fixups_in_call
-run_of_call = record {
-  sorted = λ i j d before within. absurd (omega (arith, before, within));
-  steps = All-from_recursion (λ (f : Fixup). f.address % STRIDE ≡ 0) fixups_in_call (refl, tt);
-  in_page = All-from_recursion (λ (f : Fixup). f.address % 0x4000 + WORD_SIZE ≤ 0x4000) fixups_in_call (omega arith, tt);
-  in_segment = All-from_recursion (λ (f : Fixup). (s : FixupSegment) × Contains (fixup_segments placed_call) s × Holds s f.address)
-      fixups_in_call (holds_slot, tt);
-  ordinals = All-from_recursion (λ (f : Fixup). FitsOrdinal f.kind) fixups_in_call (omega arith, tt);
-}
-
--- the words of it, and the table
-step_call : step_of fixups_in_call 0 ≡ 0
+-- the words of the run
+steps_call : (step_of fixups_in_call 0 ≡ 0) × (step_of fixups_in_call 1 ≡ 0)
 unfolding step_of
-step_call = refl
+steps_call = (refl, refl)
 
-one_word : IsWordOf (Bind 0 0) 0 (word_of (Bind 0 0) 0)
+slot_word : IsWordOf (Bind 0 0) 0 (word_of (Bind 0 0) 0)
 unfolding word_of
-one_word = record { fits = omega arith; says = (refl, refl, refl, refl); leads = refl }
+slot_word = record { fits = omega arith; says = (refl, refl, refl, refl); leads = refl }
+
+pointer_word : IsWordOf (Rebase 0x398) 0 (word_of (Rebase 0x398) 0)
+unfolding word_of
+pointer_word = record { fits = omega arith; says = (refl, refl, refl); leads = refl }
 
 each_word_is : (k : ℕ) (d : Fixup) → k < length fixups_in_call
     → IsWordOf (get_or fixups_in_call k d).kind (step_of fixups_in_call k)
     (word_of (get_or fixups_in_call k d).kind (step_of fixups_in_call k))
-each_word_is zero d lt = rw step_call one_word
-each_word_is (suc k) d lt = absurd (omega (arith, lt))
+each_word_is zero d lt = rw steps_call.0 slot_word
+each_word_is (suc zero) d lt = rw steps_call.1 pointer_word
+each_word_is (suc (suc k)) d lt = absurd (omega (arith, lt))
 
 chain_call : ChainIsRun (fixup_segments placed_call) fixups_in_call
 chain_call = chain_is_run (fixup_segments placed_call) fixups_in_call run_of_call segments_call each_word_is
 
-pages_call : map (λ (s : FixupSegment). pages_of s fixups_in_call) (fixup_segments placed_call) ≡ 0 ∷ 0 ∷ 1 ∷ 0 ∷ []
+-- the table: two segments with a page
+abbrev pages_in : FixupSegment → ℕ
+pages_in s = pages_of s fixups_in_call
+
+pages_call : map pages_in (fixup_segments placed_call) ≡ 0 ∷ 0 ∷ 1 ∷ 1 ∷ 0 ∷ []
 unfolding pages_of
 pages_call = refl
 
-few_pages : AllByRecursion (λ (s : FixupSegment). pages_of s fixups_in_call ≤ 65535) (fixup_segments placed_call)
+few_pages : AllByRecursion (λ (s : FixupSegment). pages_in s ≤ 65535) (fixup_segments placed_call)
 unfolding pages_of
-few_pages = (omega arith, (omega arith, (omega arith, (omega arith, tt))))
+few_pages = (omega arith, (omega arith, (omega arith, (omega arith, (omega arith, tt)))))
 
-pages_above : AllByRecursion (λ (s : FixupSegment). (pages_of s fixups_in_call ≡ 0) ⊎ (0x100000000 ≤ s.address))
-    (fixup_segments placed_call)
+pages_above : AllByRecursion (λ (s : FixupSegment). (pages_in s ≡ 0) ⊎ (0x100000000 ≤ s.address)) (fixup_segments placed_call)
 unfolding pages_of
-pages_above = (inl refl, (inl refl, (inr (omega arith), (inl refl, tt))))
+pages_above = (inl refl, (inl refl, (inr (omega arith), (inr (omega arith), (inl refl, tt)))))
 
 fits_call : FitsTable 0x100000000 fixups_in_call (fixup_segments placed_call)
 fits_call = record {
   run = run_of_call;
   order = segments_call;
   count = omega arith;
-  pages = All-from_recursion (λ (s : FixupSegment). pages_of s fixups_in_call ≤ 65535) (fixup_segments placed_call) few_pages;
-  above = All-from_recursion (λ (s : FixupSegment). (pages_of s fixups_in_call ≡ 0) ⊎ (0x100000000 ≤ s.address))
-      (fixup_segments placed_call) pages_above;
+  pages = All-from_recursion (λ (s : FixupSegment). pages_in s ≤ 65535) (fixup_segments placed_call) few_pages;
+  above = All-from_recursion (λ (s : FixupSegment). (pages_in s ≡ 0) ⊎ (0x100000000 ≤ s.address)) (fixup_segments placed_call) pages_above;
 }
-
-abbrev name_call : List ℕ
-name_call = codes "_exit" ++ 0 ∷ []
 
 entries_fit : AreEntries 1 (entry_of_exit ∷ [])
 entries_fit = record {
@@ -140,29 +128,24 @@ entries_fit = record {
 each_fits : All EntryFits (entry_of_exit ∷ [])
 each_fits = All-from_recursion EntryFits (entry_of_exit ∷ []) (record { library_fits = omega arith; addend_fits = omega arith }, tt)
 
-header_call : table_header fixups_in_call (fixup_segments placed_call) 1 (entry_of_exit ∷ [])
-    ≡ record {
-      fixups_version = 0;
-      starts_offset = 28;
-      imports_offset = 72;
-      symbols_offset = 76;
-      imports_count = 1;
-      imports_format = 1;
-      symbols_format = 0;
-    }
+abbrev header_of_table : ChainedFixupsHeader
+header_of_table = record {
+  fixups_version = 0;
+  starts_offset = 28;
+  imports_offset = 100;
+  symbols_offset = 104;
+  imports_count = 1;
+  imports_format = 1;
+  symbols_format = 0;
+}
+
+header_call : table_header fixups_in_call (fixup_segments placed_call) 1 (entry_of_exit ∷ []) ≡ header_of_table
 unfolding image_starts_size segment_size pages_of
 header_call = refl
 
 header_back : ReadsBack chained_fixups_header (table_header fixups_in_call (fixup_segments placed_call) 1 (entry_of_exit ∷ []))
-header_back = rw header_call (reads_back chained_fixups_header (record {
-  fixups_version = 0;
-  starts_offset = 28;
-  imports_offset = 72;
-  symbols_offset = 76;
-  imports_count = 1;
-  imports_format = 1;
-  symbols_format = 0;
-}) little_is_sound (((omega arith, (omega arith, (omega arith, (omega arith, (omega arith, (omega arith, (omega arith, tt))))))), refl), tt)
+header_back = rw header_call (reads_back chained_fixups_header header_of_table little_is_sound
+    (((omega arith, (omega arith, (omega arith, (omega arith, (omega arith, (omega arith, (omega arith, tt))))))), refl), tt)
     refl)
 
 starts_size : length (image_starts_text 0x100000000 fixups_in_call (fixup_segments placed_call))
@@ -170,129 +153,75 @@ starts_size : length (image_starts_text 0x100000000 fixups_in_call (fixup_segmen
 unfolding image_starts_text image_starts_size offsets_text segment_text segment_size starts_text page_starts_text pages_of start_of spelling row_bytes le_bytes
 starts_size = refl
 
-table_back : TableReadsBack 0x100000000 fixups_in_call (fixup_segments placed_call) 1 (entry_of_exit ∷ []) name_call
+table_back : TableReadsBack 0x100000000 fixups_in_call (fixup_segments placed_call) 1 (entry_of_exit ∷ []) name_of_exit
 table_back = table_reads_back 0x100000000 fixups_in_call (fixup_segments placed_call) 1
-    (entry_of_exit ∷ []) name_call fits_call entries_fit each_fits header_back
-    starts_size (omega (arith, table_long 0x100000000 fixups_in_call (fixup_segments placed_call) 1 (entry_of_exit ∷ []) name_call))
-
-asked_call : (import_format calling ≡ 1) × (names_text calling ≡ name_call)
-unfolding header_of commands_from commands_of commands_end segment_of num_sections section_place section_at section_bytes symtab_of num_symbols symbol_place symbol_at strings_of symbol_name relocation_place relocation_at sections_of carried_of template_exponent placed_exponent symbols_of strong_of weak_of commons_of greatest_of libraries_with definition_of chosen_commons initializer_sections unwind_sections uses_of imports_of libraries_needed target_of target_of_relocation slots_of stubs_of fields_of is_supported plain_entries all_entries entries_of other_segments segment_rank segment_names_of output_keys_of output_count content_sum command_sum unsigned_sum written_sum_of personality_targets entries_of_link le_at le_bytes row_bytes reading words8 words halves name16 entry text_object calls_exit own_entries import_entries_of entries_have_addends names_text
-asked_call = (refl, refl)
+    (entry_of_exit ∷ []) name_of_exit fits_call entries_fit each_fits header_back
+    starts_size (omega (arith, table_long 0x100000000 fixups_in_call (fixup_segments placed_call) 1 (entry_of_exit ∷ []) name_of_exit))
 
 table_back_call : TableReadsBack 0x100000000 fixups_in_call (fixup_segments placed_call) (import_format calling) (entry_of_exit ∷ [])
     (names_text calling)
-table_back_call = rw (asked_call.0, asked_call.1) table_back
+table_back_call = rw (what_is_asked.0, what_is_asked.1) table_back
 
 room_of_table : length (table_text 0x100000000 fixups_in_call (fixup_segments placed_call) (import_format calling) (entry_of_exit ∷ [])
     (names_text calling)) ≤ 0xd0
-room_of_table = rw (asked_call.0, asked_call.1)
-    (omega (
-      arith,
-      table_long 0x100000000 fixups_in_call (fixup_segments placed_call) 1 (entry_of_exit ∷ []) name_call,
-      ap (λ (h : ChainedFixupsHeader). h.symbols_offset) header_call,
-    ))
+room_of_table = rw (what_is_asked.0, what_is_asked.1) (omega (arith, table_size))
 
--- the one field is a branch, so no pointer needs a word
-plain_call : needs_fixup calling (section 0 0) field_call ≡ false
+-- Of the fields the pointer alone needs a word,
+branch_is_plain : needs_fixup calling (section 0 0) field_call ≡ false
 unfolding field_call
-plain_call = refl
+branch_is_plain = refl
 
-one_field : (f : Field) → Contains (fields_of calling (section 0 0)) f → field_call ≡ f
-one_field f one = elim (front_or_rest field_call [] f (subst (λ (fs : List Field). Contains fs f) fields_call one)) [
-  | inl here ↦ here
-  | inr rest ↦ absurd (in_none f rest)
-]
+carried_is : (s : SectionId) → Contains (carried_of calling) s → (section 0 0 ≡ s) ⊎ (section 0 1 ≡ s)
+carried_is s one = among (subst (λ (ss : List SectionId). Contains ss s) carried_call one)
+  where
+    among : Contains (section 0 0 ∷ section 0 1 ∷ []) s → (section 0 0 ≡ s) ⊎ (section 0 1 ≡ s)
+    among (zero, within, is) = inl is
+    among (suc zero, within, is) = inr is
+    among (suc (suc k), within, is) = absurd (omega (arith, within))
 
-one_section : (q : PlacedSection) → Contains placed_call.sections q → section_a 0x100000300 ≡ q
-one_section q one = elim (front_or_rest (section_a 0x100000300) [] q one) [ inl here ↦ here | inr rest ↦ absurd (in_none q rest) ]
+one_of : (g f : Field) → Contains (g ∷ []) f → g ≡ f
+one_of g f (zero, within, is) = is
+one_of g f (suc k, within, is) = absurd (omega (arith, within))
 
-carried_one : (s : SectionId) → Contains (carried_of calling) s → section 0 0 ≡ s
-carried_one s one = elim (front_or_rest (section 0 0) [] s (subst (λ (ss : List SectionId). Contains ss s) carried_call one)) [
-  | inl here ↦ here
-  | inr rest ↦ absurd (in_none s rest)
-]
+needing : (s : SectionId) (f : Field) → Contains (carried_of calling) s → Contains (fields_of calling s) f → needs_fixup calling s f ≡ true
+    → pointer_field ≡ f
+needing s f carried field needs = by (carried_is s carried)
+  where
+    by : (section 0 0 ≡ s) ⊎ (section 0 1 ≡ s) → pointer_field ≡ f
+    by (inl code) =
+        let here : Contains (fields_of calling (section 0 0)) f =
+        subst (λ (x : SectionId). Contains (fields_of calling x) f) (sym code) field in
+        let same = one_of field_call f (subst (λ (fs : List Field). Contains fs f) fields_call here) in
+        let need : needs_fixup calling (section 0 0) field_call ≡ true =
+        subst (λ (g : Field). needs_fixup calling (section 0 0) g ≡ true) (sym same)
+        (subst (λ (x : SectionId). needs_fixup calling x f ≡ true) (sym code) needs) in
+        absurd (true≢false (sym need ∙ branch_is_plain))
+    by (inr data_section) =
+        let here : Contains (fields_of calling (section 0 1)) f =
+        subst (λ (x : SectionId). Contains (fields_of calling x) f) (sym data_section) field in
+        one_of pointer_field f (subst (λ (fs : List Field). Contains fs f) data_fields.0 here)
 
-never_needs : (s : SectionId) (f : Field) → Contains (carried_of calling) s → Contains (fields_of calling s) f
-    → needs_fixup calling s f ≡ true → ⊥
-never_needs s f carried field needs =
-    let at = carried_one s carried in
-    let here : Contains (fields_of calling (section 0 0)) f = subst (λ (x : SectionId). Contains (fields_of calling x) f) (sym at) field in
-    let same = one_field f here in
-    let need : needs_fixup calling (section 0 0) field_call ≡ true =
-    subst (λ (g : Field). needs_fixup calling (section 0 0) g ≡ true) (sym same)
-    (subst (λ (x : SectionId). needs_fixup calling x f ≡ true) (sym at) needs) in
-    true≢false (sym need ∙ plain_call)
+-- it leads to the code, which is 0x398 behind the base;
+code_is_at : (x : ℕ) → IsAt calling placed_call 0 no_choice (target.Section 0 0 0) x → x ≡ 0x100000398
+code_is_at x (address, (q, (zero, within, is), file, number, at), sum) =
+    let place : 0x100000398 ≡ address = ap (λ (r : PlacedSection). r.address) is ∙ at in omega (arith, place, sum)
+code_is_at x (address, (q, (suc zero, within, is), file, number, at), sum) =
+    absurd (let no : 1 ≡ 0 = ap (λ (r : PlacedSection). r.section) is ∙ number in omega (arith, no))
+code_is_at x (address, (q, (suc (suc k), within, is), file, number, at), sum) = absurd (omega (arith, within))
 
--- the fixups of the link
-of_slot : IsFixupOf calling placed_call fixup_of_slot
-of_slot = promised.IsFixupOf.slot (record { target = target.Import 0; address = 0x100004000 }) (0, omega arith, refl)
+-- so a word has room for it; and the slot leads to an import
+has_room_for : IsNotEncodable placed_call ((0x100000398 + 0) % 2 ^ 64) → ⊥
+has_room_for (inl below) = omega (arith, below)
+has_room_for (inr high) = omega (arith, high)
 
-each_asked : (f : Fixup) → IsFixupOf calling placed_call f → Contains fixups_in_call f
-each_asked _ (promised.IsFixupOf.slot s (zero, within, is)) =
-    subst (λ (t : Slot). Contains fixups_in_call (record { address = t.address; kind = kind_for calling placed_call t.target 0 })) is
-    (0, omega arith, refl)
-each_asked _ (promised.IsFixupOf.slot s (suc k, within, is)) = absurd (omega (arith, within))
-each_asked _ (promised.IsFixupOf.pointer q f one field needs) =
-    absurd (never_needs (id_of q) f (subst (λ (ss : List SectionId). Contains ss (id_of q)) (sym carried_call)
-    (in_map id_of placed_call.sections q one)) field needs)
-
-one_table : tables_of call_image ≡ record { at = 0x8000; size = 0xd0 } ∷ []
-unfolding header_of commands_from commands_of commands_end segment_of num_sections section_place section_at section_bytes symtab_of num_symbols symbol_place symbol_at strings_of symbol_name relocation_place relocation_at sections_of carried_of template_exponent placed_exponent symbols_of strong_of weak_of commons_of greatest_of libraries_with definition_of chosen_commons initializer_sections unwind_sections uses_of imports_of libraries_needed target_of target_of_relocation slots_of stubs_of fields_of is_supported plain_entries all_entries entries_of other_segments segment_rank segment_names_of output_keys_of output_count content_sum command_sum unsigned_sum written_sum_of personality_targets entries_of_link le_at le_bytes row_bytes reading words8 words halves name16 entry text_object calls_exit head_of_call fixups_of_call tables_of_call be_at be_bytes big_words signature_of_call call_image segments_of base_of tables_of entries_of_file offset_in_file
-one_table = refl
-
-table_size : length (table_text 0x100000000 fixups_in_call (fixup_segments placed_call) 1 (entry_of_exit ∷ []) name_call) ≡ 82
-unfolding table_text image_starts_text image_starts_size offsets_text segment_text segment_size starts_text page_starts_text pages_of start_of entry_text spelling row_bytes le_bytes
-table_size = refl
-
-table_there : slice_range call_image 0x8000 0x8052 ≡ table_text 0x100000000 fixups_in_call (fixup_segments placed_call) 1
-    (entry_of_exit ∷ []) name_call
-unfolding header_of commands_from commands_of commands_end segment_of num_sections section_place section_at section_bytes symtab_of num_symbols symbol_place symbol_at strings_of symbol_name relocation_place relocation_at sections_of carried_of template_exponent placed_exponent symbols_of strong_of weak_of commons_of greatest_of libraries_with definition_of chosen_commons initializer_sections unwind_sections uses_of imports_of libraries_needed target_of target_of_relocation slots_of stubs_of fields_of is_supported plain_entries all_entries entries_of other_segments segment_rank segment_names_of output_keys_of output_count content_sum command_sum unsigned_sum written_sum_of personality_targets entries_of_link le_at le_bytes row_bytes reading words8 words halves name16 entry text_object calls_exit head_of_call fixups_of_call tables_of_call be_at be_bytes big_words signature_of_call call_image segments_of base_of tables_of entries_of_file offset_in_file table_text image_starts_text image_starts_size offsets_text segment_text segment_size starts_text page_starts_text pages_of start_of entry_text spelling
-table_there = refl
-
-table_stands : Stands call_image (record {
-  at = 0x8000;
-  text = table_text 0x100000000 fixups_in_call (fixup_segments placed_call) (import_format calling) (entry_of_exit ∷ [])
-      (names_text calling);
-})
-table_stands = rw (asked_call.0, asked_call.1) (record {
-  within = omega (arith, table_size, image_size);
-  same = ap (λ n. slice_range call_image 0x8000 (0x8000 + n)) table_size ∙ table_there;
-})
-
-word_there : slice_range call_image 0x4000 0x4008 ≡ (word_part (fixup_segments placed_call) fixups_in_call 0 fixup_of_slot).text
-unfolding header_of commands_from commands_of commands_end segment_of num_sections section_place section_at section_bytes symtab_of num_symbols symbol_place symbol_at strings_of symbol_name relocation_place relocation_at sections_of carried_of template_exponent placed_exponent symbols_of strong_of weak_of commons_of greatest_of libraries_with definition_of chosen_commons initializer_sections unwind_sections uses_of imports_of libraries_needed target_of target_of_relocation slots_of stubs_of fields_of is_supported plain_entries all_entries entries_of other_segments segment_rank segment_names_of output_keys_of output_count content_sum command_sum unsigned_sum written_sum_of personality_targets entries_of_link le_at le_bytes row_bytes reading words8 words halves name16 entry text_object calls_exit head_of_call fixups_of_call tables_of_call be_at be_bytes big_words signature_of_call call_image segments_of base_of tables_of entries_of_file offset_in_file place_of step_of word_of
-word_there = refl
-
-word_facts : ((word_part (fixup_segments placed_call) fixups_in_call 0 fixup_of_slot).at ≡ 0x4000)
-    × (length (word_part (fixup_segments placed_call) fixups_in_call 0 fixup_of_slot).text ≡ 8)
-unfolding place_of step_of word_of le_bytes
-word_facts = (refl, refl)
-
-first_word : Stands call_image (word_part (fixup_segments placed_call) fixups_in_call 0 fixup_of_slot)
-first_word = record { within = omega (arith, word_facts.0, word_facts.1, image_size); same = rw (word_facts.0, word_facts.1) word_there }
-
-each_word : (k : ℕ) (d : Fixup) → k < length fixups_in_call → Stands call_image
-    (word_part (fixup_segments placed_call) fixups_in_call k (get_or fixups_in_call k d))
-each_word zero d within = first_word
-each_word (suc k) d within = absurd (omega (arith, within))
-
-unfoldable say_call : FixupsSay calling call_image placed_call
-say_call = record {
-  fixups = fixups_in_call;
-  run = run_of_call;
-  each = All-cons (IsFixupOf calling placed_call) fixup_of_slot [] of_slot (All-nil (IsFixupOf calling placed_call));
-  all = each_asked;
-  table = record { at = 0x8000; size = 0xd0 };
-  one = one_table;
-  entries = entry_of_exit ∷ [];
-  text = table_stands;
-  words = record { each = each_word };
-}
-
--- no value that moves is asked for
 none_bad : (at : Site) → BadRebase calling placed_call at → ⊥
-none_bad (site.Field file number relocation) (f, x, (carried, field, is), needs, moves, at, bad) = never_needs
-    (section_id file number) f carried field needs
+none_bad (site.Field file number relocation) (f, x, (carried, field, is), needs, moves, at, bad) =
+    let same = needing (section_id file number) f carried field needs in
+    let leads : IsAt calling placed_call 0 no_choice (target.Section 0 0 0) x =
+    subst (λ (g : Field). IsAt calling placed_call 0 no_choice g.target x) (sym same) at in
+    let none : IsNotEncodable placed_call ((x + 0) % 2 ^ 64) =
+    subst (λ (g : Field). IsNotEncodable placed_call ((x + g.addend) % 2 ^ 64)) (sym same) bad in
+    has_room_for (subst (λ (y : ℕ). IsNotEncodable placed_call ((y + 0) % 2 ^ 64)) (code_is_at x leads) none)
 none_bad (site.Slot index) (t, x, number, moves, at, bad) =
     let there : Contains (target.Import 0 ∷ []) t = subst (λ (ts : List _). Contains ts t) slots_call (index, number.0, number.1) in
     elim (front_or_rest (target.Import 0) [] t there) [
@@ -302,13 +231,12 @@ none_bad (site.Slot index) (t, x, number, moves, at, bad) =
 none_bad (site.Stub index) bad = bad
 
 pub fixups_call : FixupsAreWritten calling call_image placed_call
-unfolding say_call
+unfolding call_fixups
 fixups_call = record {
-  say = say_call;
+  say = call_fixups;
   chain = chain_call;
   table = table_back_call;
   room = room_of_table;
-  inside = omega
-      (arith, image_size);
+  inside = omega (arith, image_size);
   encoded = none_bad;
 }

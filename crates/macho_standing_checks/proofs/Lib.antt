@@ -3,3 +3,4 @@ pub mod PlacedCall
 pub mod HeadCall
 pub mod FixupsCall
 pub mod ComposedCall
+pub mod ChangesCall

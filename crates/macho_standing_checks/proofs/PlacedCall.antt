@@ -1,6 +1,6 @@
 -- The placement of the call's link is placed.
 --
--- The section, the slot and the stub are the link's. Each part lies in its segment, and all of them are apart, by a test of each pair.
+-- The sections, the slot and the stub are the link's. Each part lies in its segment, and all of them are apart, by a test of each pair.
 use Rattle.std.proofs.Common.{◌≡◌, zero, suc, ◌+◌, ◌%◌, ◌^◌, ◌≤◌, ◌==◌, ◌&&◌, ◌||◌, nat_le, Bool, true, List, [], ◌∷◌, refl, sym, arith, inl, inr}
 use Rattle.std.specs.Prelude.{AllPairs}
 use Rattle.std.specs.List.{list_all, AllByRecursion}
@@ -31,10 +31,10 @@ use Rattle.macho_model.specs.Consumed.{personality_targets, entries_of_link}
 use Rattle.macho_model.specs.Segments.{TEXT, other_segments, segment_rank, segment_names_of, output_keys_of, output_count}
 use Rattle.macho_model.specs.WrittenSum.{content_sum, command_sum, unsigned_sum, written_sum_of}
 use Rattle.macho_model_checks.proofs.Examples.{words8, words, halves, name16}
-use Rattle.macho_model_checks.proofs.ExampleLinks.{entry, text_object, section}
-use Rattle.macho_model_checks.proofs.ExampleCall.{calls_exit, calling, counts_of_call, placed_call, constants_segment, linkedit_segment}
-use Rattle.macho_model_checks.proofs.ExamplePlacement.{pagezero_to, text_from, section_a}
-use Rattle.macho_standing_checks.proofs.FactsCall.{carried_call, exponent_call, commons_call, slots_call, stubs_call, sum_call}
+use Rattle.macho_model_checks.proofs.ExampleLinks.{entry, section}
+use Rattle.macho_model_checks.proofs.ExampleCall.{calls_exit, calling, counts_of_call, code_placed, data_placed, slot_placed, stub_placed, placed_call, constants_segment, data_segment, linkedit_segment}
+use Rattle.macho_model_checks.proofs.ExamplePlacement.{pagezero_to, text_from}
+use Rattle.macho_standing_checks.proofs.FactsCall.{carried_call, exponents_call, commons_call, slots_call, stubs_call, sum_call}
 
 -- two parts are apart, as a test
 abbrev apart_test : Span → Span → Bool
@@ -66,12 +66,12 @@ pairs_by_test R test sound (x ∷ xs) h =
     (pairs_by_test R test sound xs both.1)
 
 pairs_pass : pairs_test apart_test (spans_of calling counts_of_call placed_call) ≡ true
-unfolding spans_with header_of commands_from commands_of commands_end segment_of num_sections section_place section_at section_bytes symtab_of num_symbols symbol_place symbol_at strings_of symbol_name relocation_place relocation_at sections_of carried_of template_exponent placed_exponent symbols_of strong_of weak_of commons_of greatest_of libraries_with definition_of chosen_commons initializer_sections unwind_sections uses_of imports_of libraries_needed target_of target_of_relocation slots_of stubs_of fields_of is_supported plain_entries all_entries entries_of other_segments segment_rank segment_names_of output_keys_of output_count content_sum command_sum unsigned_sum written_sum_of personality_targets entries_of_link le_at le_bytes row_bytes reading words8 words halves name16 entry text_object calls_exit
+unfolding spans_with header_of commands_from commands_of commands_end segment_of num_sections section_place section_at section_bytes symtab_of num_symbols symbol_place symbol_at strings_of symbol_name relocation_place relocation_at sections_of carried_of template_exponent placed_exponent symbols_of strong_of weak_of commons_of greatest_of libraries_with definition_of chosen_commons initializer_sections unwind_sections uses_of imports_of libraries_needed target_of target_of_relocation slots_of stubs_of fields_of is_supported plain_entries all_entries entries_of other_segments segment_rank segment_names_of output_keys_of output_count content_sum command_sum unsigned_sum written_sum_of personality_targets entries_of_link le_at le_bytes row_bytes reading words8 words halves name16 entry calls_exit
 pairs_pass = refl
 
 whole_call : IsWholeList calling placed_call
 whole_call = record {
-  sections = rw carried_call (IsPermutation-refl (section 0 0 ∷ []));
+  sections = rw carried_call (IsPermutation-refl (section 0 0 ∷ section 0 1 ∷ []));
   commons = rw commons_call (IsPermutation-refl []);
   slots = sym slots_call;
   stubs = sym stubs_call;
@@ -82,35 +82,38 @@ whole_call = record {
 aligned_call : IsAligned calling placed_call
 aligned_call = record {
   sections = All-from_recursion (λ (q : PlacedSection). q.address % 2 ^ placed_exponent calling (id_of q) ≡ 0) placed_call.sections
-      (rw exponent_call refl, tt);
+      (rw exponents_call.0 refl, (rw exponents_call.1 refl, tt));
   commons = λ k d lt. absurd (omega (arith, lt));
   slots = All-from_recursion (λ (s : Slot). s.address % 8 ≡ 0) placed_call.slots (refl, tt);
   stubs = All-from_recursion (λ (s : Stub). s.address % 4 ≡ 0) placed_call.stubs (refl, tt);
 }
 
-section_lies : SectionLies calling placed_call (section_a 0x100000300)
-unfolding header_of commands_from commands_of commands_end segment_of num_sections section_place section_at section_bytes symtab_of num_symbols symbol_place symbol_at strings_of symbol_name relocation_place relocation_at sections_of carried_of template_exponent placed_exponent symbols_of strong_of weak_of commons_of greatest_of libraries_with definition_of chosen_commons initializer_sections unwind_sections uses_of imports_of libraries_needed target_of target_of_relocation slots_of stubs_of fields_of is_supported plain_entries all_entries entries_of other_segments segment_rank segment_names_of output_keys_of output_count content_sum command_sum unsigned_sum written_sum_of personality_targets entries_of_link le_at le_bytes row_bytes reading words8 words halves name16 entry text_object calls_exit
-section_lies = (text_from 0x100000000 0x4000, (omega arith, refl), refl, record { from = omega arith; to = omega arith })
+sections_lie : SectionLies calling placed_call code_placed × SectionLies calling placed_call data_placed
+unfolding header_of commands_from commands_of commands_end segment_of num_sections section_place section_at section_bytes symtab_of num_symbols symbol_place symbol_at strings_of symbol_name relocation_place relocation_at sections_of carried_of template_exponent placed_exponent symbols_of strong_of weak_of commons_of greatest_of libraries_with definition_of chosen_commons initializer_sections unwind_sections uses_of imports_of libraries_needed target_of target_of_relocation slots_of stubs_of fields_of is_supported plain_entries all_entries entries_of other_segments segment_rank segment_names_of output_keys_of output_count content_sum command_sum unsigned_sum written_sum_of personality_targets entries_of_link le_at le_bytes row_bytes reading words8 words halves name16 entry calls_exit
+sections_lie = (
+  (text_from 0x100000000 0x4000, (omega arith, refl), refl, record { from = omega arith; to = omega arith }),
+  (data_segment, (omega arith, refl), refl, record { from = omega arith; to = omega arith }),
+)
 
-slot_lies : LiesInNamed placed_call DATA_CONST true (slot_span (record { target = target.Import 0; address = 0x100004000 }))
+slot_lies : LiesInNamed placed_call DATA_CONST true (slot_span slot_placed)
 unfolding name16
 slot_lies = (constants_segment, (2, omega arith, refl), refl, record { from = omega arith; to = omega arith })
 
-stub_lies : LiesInNamed placed_call TEXT true (stub_span (record { import = 0; address = 0x100000308; slot = 0 }))
+stub_lies : LiesInNamed placed_call TEXT true (stub_span stub_placed)
 unfolding name16
 stub_lies = (text_from 0x100000000 0x4000, (1, omega arith, refl), refl, record { from = omega arith; to = omega arith })
 
 tables_lie : AllByRecursion (TableLies placed_call) (linkedit_ranges placed_call)
 unfolding name16
 tables_lie = (
-  inr (linkedit_segment, (3, omega arith, refl), refl, omega arith, omega arith, omega arith),
+  inr (linkedit_segment, (4, omega arith, refl), refl, omega arith, omega arith, omega arith),
   (
-    inr (linkedit_segment, (3, omega arith, refl), refl, omega arith, omega arith, omega arith),
+    inr (linkedit_segment, (4, omega arith, refl), refl, omega arith, omega arith, omega arith),
     (
-      inr (linkedit_segment, (3, omega arith, refl), refl, omega arith, omega arith, omega arith),
+      inr (linkedit_segment, (4, omega arith, refl), refl, omega arith, omega arith, omega arith),
       (
-        inr (linkedit_segment, (3, omega arith, refl), refl, omega arith, omega arith, omega arith),
-        (inr (linkedit_segment, (3, omega arith, refl), refl, omega arith, omega arith, omega arith), tt),
+        inr (linkedit_segment, (4, omega arith, refl), refl, omega arith, omega arith, omega arith),
+        (inr (linkedit_segment, (4, omega arith, refl), refl, omega arith, omega arith, omega arith), tt),
       ),
     ),
   ),
@@ -118,7 +121,7 @@ tables_lie = (
 
 inside_call : IsInSegment calling placed_call
 inside_call = record {
-  sections = All-from_recursion (SectionLies calling placed_call) placed_call.sections (section_lies, tt);
+  sections = All-from_recursion (SectionLies calling placed_call) placed_call.sections (sections_lie.0, (sections_lie.1, tt));
   commons = λ k d lt. absurd (omega (arith, lt));
   slots = All-from_recursion (λ (s : Slot). LiesInNamed placed_call DATA_CONST true (slot_span s)) placed_call.slots (slot_lies, tt);
   stubs = All-from_recursion (λ (s : Stub). LiesInNamed placed_call TEXT true (stub_span s)) placed_call.stubs (stub_lies, tt);
@@ -128,22 +131,27 @@ inside_call = record {
 }
 
 follows_0 : Follows calling (pagezero_to 0x100000000) (text_from 0x100000000 0x4000)
-unfolding header_of commands_from commands_of commands_end segment_of num_sections section_place section_at section_bytes symtab_of num_symbols symbol_place symbol_at strings_of symbol_name relocation_place relocation_at sections_of carried_of template_exponent placed_exponent symbols_of strong_of weak_of commons_of greatest_of libraries_with definition_of chosen_commons initializer_sections unwind_sections uses_of imports_of libraries_needed target_of target_of_relocation slots_of stubs_of fields_of is_supported plain_entries all_entries entries_of other_segments segment_rank segment_names_of output_keys_of output_count content_sum command_sum unsigned_sum written_sum_of personality_targets entries_of_link le_at le_bytes row_bytes reading words8 words halves name16 entry text_object calls_exit
+unfolding header_of commands_from commands_of commands_end segment_of num_sections section_place section_at section_bytes symtab_of num_symbols symbol_place symbol_at strings_of symbol_name relocation_place relocation_at sections_of carried_of template_exponent placed_exponent symbols_of strong_of weak_of commons_of greatest_of libraries_with definition_of chosen_commons initializer_sections unwind_sections uses_of imports_of libraries_needed target_of target_of_relocation slots_of stubs_of fields_of is_supported plain_entries all_entries entries_of other_segments segment_rank segment_names_of output_keys_of output_count content_sum command_sum unsigned_sum written_sum_of personality_targets entries_of_link le_at le_bytes row_bytes reading words8 words halves name16 entry calls_exit
 follows_0 = record { rank = omega arith; address = refl; file_offset = refl }
 
 follows_1 : Follows calling (text_from 0x100000000 0x4000) constants_segment
-unfolding header_of commands_from commands_of commands_end segment_of num_sections section_place section_at section_bytes symtab_of num_symbols symbol_place symbol_at strings_of symbol_name relocation_place relocation_at sections_of carried_of template_exponent placed_exponent symbols_of strong_of weak_of commons_of greatest_of libraries_with definition_of chosen_commons initializer_sections unwind_sections uses_of imports_of libraries_needed target_of target_of_relocation slots_of stubs_of fields_of is_supported plain_entries all_entries entries_of other_segments segment_rank segment_names_of output_keys_of output_count content_sum command_sum unsigned_sum written_sum_of personality_targets entries_of_link le_at le_bytes row_bytes reading words8 words halves name16 entry text_object calls_exit
+unfolding header_of commands_from commands_of commands_end segment_of num_sections section_place section_at section_bytes symtab_of num_symbols symbol_place symbol_at strings_of symbol_name relocation_place relocation_at sections_of carried_of template_exponent placed_exponent symbols_of strong_of weak_of commons_of greatest_of libraries_with definition_of chosen_commons initializer_sections unwind_sections uses_of imports_of libraries_needed target_of target_of_relocation slots_of stubs_of fields_of is_supported plain_entries all_entries entries_of other_segments segment_rank segment_names_of output_keys_of output_count content_sum command_sum unsigned_sum written_sum_of personality_targets entries_of_link le_at le_bytes row_bytes reading words8 words halves name16 entry calls_exit
 follows_1 = record { rank = omega arith; address = refl; file_offset = refl }
 
-follows_2 : Follows calling constants_segment linkedit_segment
-unfolding header_of commands_from commands_of commands_end segment_of num_sections section_place section_at section_bytes symtab_of num_symbols symbol_place symbol_at strings_of symbol_name relocation_place relocation_at sections_of carried_of template_exponent placed_exponent symbols_of strong_of weak_of commons_of greatest_of libraries_with definition_of chosen_commons initializer_sections unwind_sections uses_of imports_of libraries_needed target_of target_of_relocation slots_of stubs_of fields_of is_supported plain_entries all_entries entries_of other_segments segment_rank segment_names_of output_keys_of output_count content_sum command_sum unsigned_sum written_sum_of personality_targets entries_of_link le_at le_bytes row_bytes reading words8 words halves name16 entry text_object calls_exit
+follows_2 : Follows calling constants_segment data_segment
+unfolding header_of commands_from commands_of commands_end segment_of num_sections section_place section_at section_bytes symtab_of num_symbols symbol_place symbol_at strings_of symbol_name relocation_place relocation_at sections_of carried_of template_exponent placed_exponent symbols_of strong_of weak_of commons_of greatest_of libraries_with definition_of chosen_commons initializer_sections unwind_sections uses_of imports_of libraries_needed target_of target_of_relocation slots_of stubs_of fields_of is_supported plain_entries all_entries entries_of other_segments segment_rank segment_names_of output_keys_of output_count content_sum command_sum unsigned_sum written_sum_of personality_targets entries_of_link le_at le_bytes row_bytes reading words8 words halves name16 entry calls_exit
 follows_2 = record { rank = omega arith; address = refl; file_offset = refl }
+
+follows_3 : Follows calling data_segment linkedit_segment
+unfolding header_of commands_from commands_of commands_end segment_of num_sections section_place section_at section_bytes symtab_of num_symbols symbol_place symbol_at strings_of symbol_name relocation_place relocation_at sections_of carried_of template_exponent placed_exponent symbols_of strong_of weak_of commons_of greatest_of libraries_with definition_of chosen_commons initializer_sections unwind_sections uses_of imports_of libraries_needed target_of target_of_relocation slots_of stubs_of fields_of is_supported plain_entries all_entries entries_of other_segments segment_rank segment_names_of output_keys_of output_count content_sum command_sum unsigned_sum written_sum_of personality_targets entries_of_link le_at le_bytes row_bytes reading words8 words halves name16 entry calls_exit
+follows_3 = record { rank = omega arith; address = refl; file_offset = refl }
 
 each_follows : EachFollows calling placed_call.segments
 each_follows zero s t (before, at_s) (within, at_t) = rw (← at_s, ← at_t) follows_0
 each_follows (suc zero) s t (before, at_s) (within, at_t) = rw (← at_s, ← at_t) follows_1
 each_follows (suc (suc zero)) s t (before, at_s) (within, at_t) = rw (← at_s, ← at_t) follows_2
-each_follows (suc (suc (suc k))) s t before (within, at_t) = absurd (omega (arith, within))
+each_follows (suc (suc (suc zero))) s t (before, at_s) (within, at_t) = rw (← at_s, ← at_t) follows_3
+each_follows (suc (suc (suc (suc k)))) s t before (within, at_t) = absurd (omega (arith, within))
 
 begins_call : TextBegins calling placed_call.segments
 unfolding name16
@@ -157,7 +165,10 @@ order_call = record {
       record { address = refl; size = refl; file_offset = refl; file_size = omega arith },
       (
         record { address = refl; size = refl; file_offset = refl; file_size = omega arith },
-        (record { address = refl; size = refl; file_offset = refl; file_size = omega arith }, tt),
+        (
+          record { address = refl; size = refl; file_offset = refl; file_size = omega arith },
+          (record { address = refl; size = refl; file_offset = refl; file_size = omega arith }, tt),
+        ),
       ),
     ),
   );
@@ -166,7 +177,7 @@ order_call = record {
 }
 
 template_call : TemplateHolds calling counts_of_call placed_call placed_call.template
-unfolding header_of commands_from commands_of commands_end segment_of num_sections section_place section_at section_bytes symtab_of num_symbols symbol_place symbol_at strings_of symbol_name relocation_place relocation_at sections_of carried_of template_exponent placed_exponent symbols_of strong_of weak_of commons_of greatest_of libraries_with definition_of chosen_commons initializer_sections unwind_sections uses_of imports_of libraries_needed target_of target_of_relocation slots_of stubs_of fields_of is_supported plain_entries all_entries entries_of other_segments segment_rank segment_names_of output_keys_of output_count content_sum command_sum unsigned_sum written_sum_of personality_targets entries_of_link le_at le_bytes row_bytes reading words8 words halves name16 entry text_object calls_exit
+unfolding header_of commands_from commands_of commands_end segment_of num_sections section_place section_at section_bytes symtab_of num_symbols symbol_place symbol_at strings_of symbol_name relocation_place relocation_at sections_of carried_of template_exponent placed_exponent symbols_of strong_of weak_of commons_of greatest_of libraries_with definition_of chosen_commons initializer_sections unwind_sections uses_of imports_of libraries_needed target_of target_of_relocation slots_of stubs_of fields_of is_supported plain_entries all_entries entries_of other_segments segment_rank segment_names_of output_keys_of output_count content_sum command_sum unsigned_sum written_sum_of personality_targets entries_of_link le_at le_bytes row_bytes reading words8 words halves name16 entry calls_exit
 template_call = refl
 
 -- THE placement
@@ -179,6 +190,6 @@ placed_is_placed = record {
   apart = pairs_by_test AreApart apart_test apart_by_test (spans_of calling counts_of_call placed_call) pairs_pass;
   in_order = order_call;
   template = template_call;
-  within_sum = rw sum_call (All-from_recursion (λ (s : PlacedSegment). s.address + s.size ≤ 0x100000000 + 100305) placed_call.segments
-      (omega arith, (omega arith, (omega arith, (omega arith, tt)))));
+  within_sum = rw sum_call (All-from_recursion (λ (s : PlacedSegment). s.address + s.size ≤ 0x100000000 + 133505) placed_call.segments
+      (omega arith, (omega arith, (omega arith, (omega arith, (omega arith, tt))))));
 }
