@@ -1,5 +1,5 @@
 #!/usr/bin/env bash
-# Compares images that the linker writes, byte by byte, with those that `whole_images.py` puts together from the formats.
+# Compares images that the linker writes, byte by byte, with those of a plain linker in Python: known ones, and 200 random ones.
 top=$(cd "$(dirname "$0")/.." && pwd) || exit 1
 folder=$(mktemp -d) || exit 1
 trap 'rm -rf "$folder"' EXIT
@@ -10,5 +10,6 @@ command -v python3 >/dev/null || {
     echo "whole_images: SKIPPED, since python3 isn't installed"
     exit 0
 }
-python3 "$top/checks/whole_images.py" "$top/link" "$folder" || fail "an image isn't that of the formats"
+export PYTHONDONTWRITEBYTECODE=1
+python3 "$top/checks/whole_images.py" "$top/link" "$folder" 200 || fail "an image isn't that of the plain linker"
 echo "whole_images: the same"
