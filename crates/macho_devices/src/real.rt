@@ -16,8 +16,11 @@ use std::{fs, rt};
 /// A file of this many bytes is not read.
 const FILE_LIMIT: u64 = 0x1_0000_0000;
 
-/// How many bytes one call of the system is asked for.
+/// How many bytes one call of the system is asked for at most.
 const PIECE: usize = 0x10_0000;
+
+/// How many bytes more than a file is expected to have one call is asked for.
+const BEYOND: usize = 0x1000;
 
 /// How many names are tried for the file beside an output.
 const NAMES: u32 = 1000;
@@ -90,7 +93,12 @@ fn read_all<F: Read>(alloc: Global, file: &mut F, expected: usize) -> Result<Vec
     ensures whole { IfOk result (λ bytes. IfSome (F.remaining file.old) (λ rest. bytes.items ≡ rest)) }
     ensures below { IfOk result (λ bytes. vec_len bytes < FILE_LIMIT) }
 {
-    let mut piece = piece_of(alloc, PIECE)?;
+    let size = if expected < PIECE - BEYOND {
+        expected + BEYOND
+    } else {
+        PIECE
+    };
+    let mut piece = piece_of(alloc, size)?;
     read_pieces(file, alloc, expected, &mut piece)
 }
 
