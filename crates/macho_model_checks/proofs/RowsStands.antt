@@ -3,10 +3,10 @@
 -- Its one section stands in the file at 0x138, in the file part of `__TEXT`, which has no chain word; so memory holds
 -- the section's bytes at its placed address plus the slide. There are no fields, commons, slots or stubs. Memory has one
 -- byte at an address of the one mapped segment, so another byte there is not held.
-use Rattle.std.proofs.Common.{◌≡◌, ℕ, zero, suc, ◌++◌, ◌+◌, ◌-◌, ◌<◌, ◌≤◌, nat_lt, if◌then◌else◌, List, [], ◌∷◌, slice_index, refl, subst, arith, inl, inr, All}
+use Rattle.std.proofs.Common.{◌≡◌, ℕ, zero, suc, ◌++◌, ◌+◌, ◌-◌, ◌<◌, ◌≤◌, nat_le, nat_lt, ◌||◌, if◌then◌else◌, Bool, true, List, length, [], ◌∷◌, slice_index, refl, subst, arith, inl, inr, All}
 use Rattle.std.specs.Prelude.{Contains, codes}
-use Rattle.std.proofs.lemmas.Bool.{lt-ltb}
-use Rattle.std.proofs.lemmas.List.Elements.{All-nil, All-cons, All-contains, All-head}
+use Rattle.std.proofs.lemmas.Bool.{lt-ltb, leb-true, or_cases}
+use Rattle.std.proofs.lemmas.List.Elements.{All-nil, All-cons, All-contains, All-head, All-weaker}
 use Rattle.macho_bytes.specs.Numbers.{le_at, le_bytes, row_bytes}
 use Rattle.macho_bytes.specs.Layouts.{reading}
 use Rattle.macho_bytes.specs.Texts.{Stands}
@@ -15,14 +15,23 @@ use Rattle.macho_model.specs.declared.targets.Target.TheVariants as target
 use Rattle.macho_records.specs.Symbols.{common_size_of}
 use Rattle.macho_model.specs.Commands.{header_of, commands_from, commands_of, commands_end}
 use Rattle.macho_model.specs.Objects.{segment_of, num_sections, section_place, section_at, section_bytes, symtab_of, num_symbols, symbol_place, symbol_at, strings_of, symbol_name, relocation_place, relocation_at}
-use Rattle.macho_model.specs.Links.{Link, Object, object_of, header_at, sections_of, carried_of}
-use Rattle.macho_model.specs.Targets.{target_of, target_of_relocation}
+use Rattle.macho_model.specs.Links.{Link, Object, object_of, header_at, sections_of, carried_of, template_exponent, placed_exponent}
+use Rattle.macho_model.specs.Targets.{target_of, target_of_relocation, slots_of, stubs_of}
 use Rattle.macho_model.specs.Resolution.{entry_at, symbols_of, strong_of, weak_of, commons_of, greatest_of, libraries_with, definition_of, chosen_commons}
 use Rattle.macho_model.specs.Fields.{fields_of}
-use Rattle.macho_model.specs.Images.{segments_of, mapped_segments, tables_of}
+use Rattle.macho_model.specs.Images.{segments_of, mapped_segments, tables_of, base_of, libraries_of, tries_of, signatures_of, symbol_tables_of, string_tables_of, entries_of_file}
 use Rattle.macho_model.specs.Memory.{Choice, Holds, HoldsText}
-use Rattle.macho_model.specs.Placement.{Placed, id_of, common_of}
+use Rattle.macho_model.specs.Placement.{Placed, Span, id_of, common_of}
+use Rattle.macho_model.specs.Zeros.{contents_of, IsOutsideSpan, IsZeroElsewhere}
+use Rattle.macho_model.proofs.EachBelow.{all_pass}
+use Rattle.std.specs.List.{list_all}
 use Rattle.macho_model.specs.Stands.{IsOutsideField, Denotes, SectionStands, CommonStands, SlotStands, StubStands, LeadsThrough, ImageStands, IsLoadable}
+use Rattle.macho_model.specs.Needs.{initializer_sections, unwind_sections, uses_of, imports_of, libraries_needed}
+use Rattle.macho_model.specs.ExportLists.{plain_entries, all_entries, entries_of}
+use Rattle.macho_model.specs.Segments.{other_segments, segment_names_of, output_keys_of}
+use Rattle.macho_model.specs.Fixups.{own_entries, import_entries_of, entries_have_addends}
+use Rattle.macho_model.specs.ImportTable.{fixup_count, names_text}
+use Rattle.macho_model.specs.Addresses.{offset_in_file}
 use Rattle.macho_model_checks.proofs.Examples.{words8, words, halves, name16, changed}
 use Rattle.macho_model_checks.proofs.ExampleLinks.{executable_of, entry, text_object, section}
 use Rattle.macho_model_checks.proofs.ExampleImages.{smallest}
@@ -255,6 +264,44 @@ commons_alone =
     others s choice Sections apart = section_c_stands 0 s choice
     others s choice Commons apart = absurd (apart refl)
     others s choice Through apart = nothing_through 0 s choice
+
+-- A byte that is not 0 where the common is placed: the zeros that are asked of the file aren't there, and the common does not stand.
+unfoldable pub with_one : List ℕ
+with_one = changed smallest 0x200 (1 ∷ [])
+
+one_there : (tables_of with_one ≡ []) × (mapped_segments with_one ≡ text_segment ∷ []) × (length with_one ≡ 0x4000)
+    × (slice_index with_one 0x200 ≡ 1)
+unfolding tables_of with_one text_segment mapped_segments segments_of commands_of commands_from header_of reading le_at row_bytes le_bytes words8 words name16 smallest changed
+one_there = (refl, refl, refl, refl)
+
+-- the byte stands in none of the image's parts
+abbrev is_outside : Span → Bool
+is_outside part = nat_le 513 part.start || nat_le (part.start + part.size) 512
+
+outside_parts : list_all is_outside (contents_of link_c with_one (placed_c 0x100000200) 0) ≡ true
+unfolding contents_of tables_of with_one commands_end text_segment mapped_segments segments_of commands_of commands_from header_of reading le_at row_bytes le_bytes words8 words name16 smallest changed segment_of num_sections section_place section_at section_bytes symtab_of num_symbols symbol_place symbol_at strings_of symbol_name sections_of carried_of symbols_of strong_of weak_of commons_of greatest_of libraries_with definition_of chosen_commons target_of target_of_relocation fields_of relocation_place relocation_at halves entry text_object object_c template_exponent placed_exponent initializer_sections unwind_sections uses_of imports_of libraries_needed slots_of stubs_of plain_entries all_entries entries_of other_segments segment_names_of output_keys_of own_entries import_entries_of entries_have_addends fixup_count names_text base_of libraries_of tries_of signatures_of symbol_tables_of string_tables_of entries_of_file offset_in_file
+outside_parts = refl
+
+outside_part : (part : Span) → is_outside part ≡ true → IsOutsideSpan 512 part
+outside_part part h = elim (or_cases (nat_le 513 part.start) (nat_le (part.start + part.size) 512) h) [
+  | inl before ↦ inl (leb-true 513 part.start before)
+  | inr behind ↦ inr (leb-true (part.start + part.size) 512 behind)
+]
+
+pub zeros_are_asked : IsZeroElsewhere link_c with_one (placed_c 0x100000200) 0 → ⊥
+zeros_are_asked zeros =
+    let parts = contents_of link_c with_one (placed_c 0x100000200) 0 in
+    let outside = All-weaker (λ part. is_outside part ≡ true) (IsOutsideSpan 512) outside_part parts (all_pass is_outside parts outside_parts) in
+    let zero = zeros 512 (omega (arith, one_there.2)) outside in
+    omega (arith, zero, one_there.3)
+
+pub common_needs_zeros : (s : ℕ) (choice : Choice) → All (CommonStands link_c with_one s choice) (placed_c 0x100000200).commons → ⊥
+unfolding text_segment
+common_needs_zeros s choice commons =
+    let here = All-head (CommonStands link_c with_one s choice) (record { id = 0; address = 0x100000200 }) [] commons in
+    let held = here 0 (omega (arith, facts_c.0)) in
+    let is = one_byte with_one text_segment s choice 0x200 0 one_there.0 one_there.1 (omega arith) held in
+    omega (arith, is, one_there.3)
 
 -- A slot whose target is nowhere: `through` fails.
 abbrev pub with_slot : Placed
