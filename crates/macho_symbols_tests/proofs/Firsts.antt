@@ -1,12 +1,12 @@
 -- A link whose first input is an object has that object's symbols in its first file. One more input leaves it the first.
-use Rattle.std.proofs.Common.{◌≡◌, ℕ, ◌+◌, ◌<◌, ◌≤◌, List, [], ◌∷◌, ◌++◌, length, map, get_or, is_none, Result, Ok, Err, refl, ap, subst, sym, ◌∙◌, arith}
+use Rattle.std.proofs.Common.{◌≡◌, ℕ, ◌+◌, ◌<◌, ◌≤◌, List, [], ◌∷◌, ◌++◌, length, get_or, is_none, Result, Ok, Err, ap, subst, sym, ◌∙◌, arith}
 use Rattle.std.specs.Prelude.{OnOk, OnErr, IfOk}
 use Rattle.std.proofs.lemmas.List.{length-map, length-append}
 use Rattle.std.proofs.lemmas.List.FromFn.{length-map-range_with_len}
 use Rattle.macho_model.specs.Links.{Link, Input, Object}
 use Rattle.macho_model.specs.Objects.{num_symbols}
 use Rattle.macho_model.specs.Resolution.{SymbolId}
-use Rattle.macho_symbols.specs.Kept.{FileRows, Keeps, IsResolved, ResolvedRows, HasSymbol, kept_of, rows_of_object, row_of_symbol, no_file, symbol_id}
+use Rattle.macho_symbols.specs.Kept.{FileRows, Keeps, IsResolved, ResolvedRows, HasSymbol, kept_of, rows_of_object, row_of_symbol, no_file}
 use Rattle.macho_symbols.specs.Told.{noting}
 use Rattle.macho_symbols_tests.specs.Linked.{link_of, Begins, IsFirst}
 

@@ -1,5 +1,5 @@
 -- A link whose first input is an object.
-use Rattle.std.specs.Prelude.{◌≡◌, ℕ, List, ◌∷◌, true, false, [], None, length, ◌≤◌}
+use Rattle.std.specs.Prelude.{ℕ, List, ◌∷◌, true, false, [], None, length, ◌≤◌}
 use Rattle.macho_model.specs.Links.{Link, Input, Object}
 use Rattle.macho_symbols.specs.Kept.{FileRows, Keeps, IsResolved, ResolvedRows}
 

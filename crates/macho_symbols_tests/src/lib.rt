@@ -2,7 +2,11 @@
 #![tactic(auto)]
 
 #[cfg(test)]
+mod judge;
+#[cfg(test)]
 mod lists;
 pub mod objects;
 #[cfg(test)]
 mod resolution;
+#[cfg(test)]
+mod sharing;

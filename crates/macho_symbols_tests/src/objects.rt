@@ -38,36 +38,91 @@ const HEAD: [u8; 240] = [
     0, 0, 0x80, 0x52, 0xc0, 3, 0x5f, 0xd6, //
 ];
 
+/// Where the command with the places of symbols and strings stands in an object's head.
+const OBJECT_SYMTAB: usize = 184;
+
+/// The header of a dynamic library with two commands of 56 bytes: its own name, `/libc`, and those places.
+const DYLIB_HEAD: [u8; 88] = [
+    // 0: the header
+    0xcf, 0xfa, 0xed, 0xfe, 0x0c, 0, 0, 1, 0, 0, 0, 0, 6, 0, 0, 0, //
+    2, 0, 0, 0, 56, 0, 0, 0, 0, 0, 0, 0, 0, 0, 0, 0, //
+    // 32: LC_ID_DYLIB, with its path
+    0x0d, 0, 0, 0, 32, 0, 0, 0, 24, 0, 0, 0, 0, 0, 0, 0, //
+    0, 0, 0, 0, 0, 0, 0, 0, 0x2f, 0x6c, 0x69, 0x62, 0x63, 0, 0, 0, //
+    // 64: LC_SYMTAB
+    2, 0, 0, 0, 24, 0, 0, 0, 88, 0, 0, 0, 0, 0, 0, 0, 0, 0, 0, 0, 0, 0, 0, 0, //
+];
+
+/// Where it stands in a library's head.
+const DYLIB_SYMTAB: usize = 64;
+
+/// A number of four bytes, the low one first.
+fn four(number: usize) -> [u8; 4] {
+    ((number % 4_294_967_296) as u32).to_le_bytes()
+}
+
 /// Writes a number of four bytes at a place.
 fn put(bytes: &mut Vec<u8>, at: usize, number: usize) {
-    let number = (number % 4_294_967_296) as u32;
-    for (k, byte) in number.to_le_bytes().iter().enumerate() {
+    for (k, byte) in four(number).iter().enumerate() {
         if let Some(old) = bytes.get_mut(at.wrapping_add(k)) {
             *old = *byte;
         }
     }
 }
 
-/// An object with some symbols.
-pub fn object(alloc: Global, symbols: &[Symbol]) -> Result<Vec<u8>, AllocError> {
-    let mut bytes = Vec::from_slice(alloc, &HEAD)?;
+/// Adds a symbol whose name stands at a place of the string table.
+pub fn push_entry(entries: &mut Vec<u8>, at: usize, symbol: Symbol) -> Result<(), AllocError> {
+    entries.extend_from_slice(&four(at))?;
+    entries.push(symbol.1)?;
+    entries.push(symbol.2)?;
+    entries.extend_from_slice(&symbol.3.to_le_bytes())?;
+    entries.extend_from_slice(&symbol.4.to_le_bytes())?;
+    Ok(())
+}
+
+/// A file with a head, symbols behind it, and the string table behind these.
+fn file(
+    alloc: Global,
+    head: (&[u8], usize),
+    entries: &[u8],
+    names: &[u8],
+) -> Result<Vec<u8>, AllocError> {
+    let (head, symtab) = head;
+    let mut bytes = Vec::from_slice(alloc, head)?;
+    let strings = head.len().saturating_add(entries.len());
+    put(&mut bytes, symtab.wrapping_add(12), entries.len() / 16);
+    put(&mut bytes, symtab.wrapping_add(16), strings);
+    put(&mut bytes, symtab.wrapping_add(20), names.len());
+    bytes.extend_from_slice(entries)?;
+    bytes.extend_from_slice(names)?;
+    Ok(bytes)
+}
+
+/// An object with symbols and a string table.
+pub fn object_of(alloc: Global, entries: &[u8], names: &[u8]) -> Result<Vec<u8>, AllocError> {
+    file(alloc, (&HEAD, OBJECT_SYMTAB), entries, names)
+}
+
+/// An object, or a dynamic library, with some symbols.
+pub fn file_with(alloc: Global, dynamic: bool, symbols: &[Symbol]) -> Result<Vec<u8>, AllocError> {
+    let mut entries = Vec::new(alloc);
     let mut names = vec![in alloc; 0u8; 1]?;
     for symbol in symbols {
-        let at = (names.len() % 4_294_967_296) as u32;
-        bytes.extend_from_slice(&at.to_le_bytes())?;
-        bytes.push(symbol.1)?;
-        bytes.push(symbol.2)?;
-        bytes.extend_from_slice(&symbol.3.to_le_bytes())?;
-        bytes.extend_from_slice(&symbol.4.to_le_bytes())?;
+        push_entry(&mut entries, names.len(), *symbol)?;
         names.extend_from_slice(symbol.0)?;
         names.push(0)?;
     }
-    let end = bytes.len();
-    put(&mut bytes, 196, symbols.len());
-    put(&mut bytes, 200, end);
-    put(&mut bytes, 204, names.len());
-    bytes.extend_from_slice(&names)?;
-    Ok(bytes)
+    let head: (&[u8], usize) = if dynamic {
+        (&DYLIB_HEAD, DYLIB_SYMTAB)
+    } else {
+        (&HEAD, OBJECT_SYMTAB)
+    };
+    file(alloc, head, &entries, &names)
+}
+
+/// An object with some symbols.
+pub fn object(alloc: Global, symbols: &[Symbol]) -> Result<Vec<u8>, AllocError> {
+    file_with(alloc, false, symbols)
 }
 
 /// A text stub's library with some names.
@@ -134,4 +189,38 @@ pub fn note(
         return None;
     }
     Some(resolved.note_use(0, symbol))
+}
+
+/// What is told of a symbol, and then of a use of it.
+#[derive(Drop)]
+pub struct Told {
+    /// Where it leads.
+    pub leads: Target,
+    /// Whether it defines its name.
+    pub defines: bool,
+    /// What noting the use tells.
+    pub noted: Result<Target, SymbolFault>,
+}
+
+/// What is told of each symbol of the first object, and then of a use of it, one symbol after another.
+pub fn note_each(
+    alloc: Global,
+    resolved: &mut Resolved,
+    first: &File<'_>,
+) -> Result<Vec<Told>, AllocError>
+    requires { IsFirst first.now.bytes resolved.old }
+{
+    let mut told = Vec::new(alloc);
+    for symbol in 0..first.num_symbols() {
+        let before = target(resolved, first, symbol);
+        let (Some((leads, defines)), Some(noted)) = (before, note(resolved, first, symbol)) else {
+            continue;
+        };
+        told.push(Told {
+            leads,
+            defines,
+            noted,
+        })?;
+    }
+    Ok(told)
 }

@@ -1,5 +1,5 @@
 //! Which definition a name has, which imports are noted, and what is exported.
-use crate::objects::{Symbol, library, note, object, resolve, target};
+use crate::objects::{Symbol, file_with, library, note, object, resolve, target};
 use macho_object::File;
 use macho_symbols::{ExportList, SymbolFault, Target};
 use std::alloc::Global;
@@ -38,18 +38,31 @@ const fn at(file: u32, offset: u64) -> Target {
     }
 }
 
-/// What two objects of one symbol, and two libraries with a name, make of a name.
+/// The objects that stand in some bytes.
+fn objects_in<'a>(alloc: Global, all: &'a [Vec<u8>]) -> Result<Vec<File<'a>>, Fail> {
+    let mut objects = Vec::new(alloc);
+    for bytes in all {
+        objects.push(File::parse_bytes(bytes, false)?)?;
+    }
+    Ok(objects)
+}
+
+/// What objects of one symbol, and two libraries with a name, make of a name.
 fn definition(
     alloc: Global,
-    symbols: [Symbol; 2],
+    symbols: &[Symbol],
     offered: &'static str,
     name: &[u8],
 ) -> Result<Target, Fail> {
-    let [first, second] = symbols;
-    let first = object(alloc, &[first])?;
-    let second = object(alloc, &[second])?;
-    let first = File::parse_bytes(&first, false)?;
-    let others = [File::parse_bytes(&second, false)?];
+    let mut objects = Vec::new(alloc);
+    for symbol in symbols {
+        objects.push(object(alloc, &[*symbol])?)?;
+    }
+    let Some((first, others)) = objects.split_first() else {
+        return Err("no object".into());
+    };
+    let first = File::parse_bytes(first, false)?;
+    let others = objects_in(alloc, others)?;
     let libraries = [
         library(alloc, "/a", &[offered])?,
         library(alloc, "/b", &[offered])?,
@@ -58,27 +71,88 @@ fn definition(
     Ok(resolved.definition(name))
 }
 
+/// What a row finds: a file and a place in it, the absolute value, the first common, or the first import.
+#[derive(Clone, Copy)]
+enum Found {
+    At(u32, u64),
+    Absolute,
+    Common,
+    Import,
+}
+
+/// The target that a row finds.
+fn target_of(found: Found) -> Target {
+    match found {
+        Found::At(file, offset) => at(file, offset),
+        Found::Absolute => Target::Absolute { value: 77 },
+        Found::Common => Target::Common { id: 0 },
+        Found::Import => Target::Import { id: 0 },
+    }
+}
+
+/// The symbols `_f` of objects, one in each, and what the name is where two libraries offer it too.
+const DEFINITIONS: [(&[Symbol], Found); 17] = [
+    (&[STRONG, WEAK], Found::At(0, 4)),
+    (&[WEAK, STRONG], Found::At(1, 4)),
+    (&[COMMON, STRONG], Found::At(1, 4)),
+    (&[WEAK, COMMON], Found::At(0, 0)),
+    (&[COMMON, WEAK], Found::At(1, 0)),
+    (&[WEAK, WEAK], Found::At(0, 0)),
+    (&[COMMON, WEAK, STRONG], Found::At(2, 4)),
+    (&[USE, COMMON, WEAK, WEAK], Found::At(2, 0)),
+    (&[USE, HIDDEN], Found::At(1, 2)),
+    (&[USE, ABSOLUTE], Found::Absolute),
+    (&[USE, COMMON], Found::Common),
+    (&[LOCAL, STRONG], Found::At(1, 4)),
+    (&[USE, USE], Found::Import),
+    (&[LOCAL, USE], Found::Import),
+    (&[STAB, USE], Found::Import),
+    (&[INDIRECT, USE], Found::Import),
+    (&[LOCAL, LOCAL], Found::Import),
+];
+
 #[test]
 fn a_name_has_the_first_of_the_best_definitions(rt: HostRuntime) -> Result<(), Fail> {
-    let rows: [([Symbol; 2], Target); 14] = [
-        ([STRONG, WEAK], at(0, 4)),
-        ([WEAK, STRONG], at(1, 4)),
-        ([COMMON, STRONG], at(1, 4)),
-        ([WEAK, COMMON], at(0, 0)),
-        ([COMMON, WEAK], at(1, 0)),
-        ([WEAK, WEAK], at(0, 0)),
-        ([USE, HIDDEN], at(1, 2)),
-        ([USE, ABSOLUTE], Target::Absolute { value: 77 }),
-        ([USE, COMMON], Target::Common { id: 0 }),
-        ([USE, USE], Target::Import { id: 0 }),
-        ([LOCAL, USE], Target::Import { id: 0 }),
-        ([STAB, USE], Target::Import { id: 0 }),
-        ([INDIRECT, USE], Target::Import { id: 0 }),
-        ([LOCAL, LOCAL], Target::Import { id: 0 }),
-    ];
-    for (number, (symbols, found)) in rows.into_iter().enumerate() {
+    for (number, (symbols, found)) in DEFINITIONS.into_iter().enumerate() {
         let told = definition(rt.alloc(), symbols, "_f", b"_f")?;
-        assert_eq!(rt; told, found, "row {number}");
+        assert_eq!(rt; told, target_of(found), "row {number}");
+    }
+    Ok(())
+}
+
+/// A symbol `_f` of a dynamic library, and whether the library offers the name.
+const OFFERS: [(Symbol, bool); 9] = [
+    (STRONG, true),
+    (WEAK, true),
+    (ABSOLUTE, true),
+    (HIDDEN, false),
+    (COMMON, false),
+    (USE, false),
+    (LOCAL, false),
+    (STAB, false),
+    (INDIRECT, false),
+];
+
+#[test]
+fn a_library_offers_the_names_that_it_defines_and_shows(rt: HostRuntime) -> Result<(), Fail> {
+    let alloc = rt.alloc();
+    let bytes = object(alloc, &[USE])?;
+    let first = File::parse_bytes(&bytes, false)?;
+    for (number, (symbol, offered)) in OFFERS.into_iter().enumerate() {
+        let dylib = file_with(alloc, true, &[symbol])?;
+        let mut resolved = resolve(
+            alloc,
+            &first,
+            &[File::parse_bytes(&dylib, true)?],
+            &[library(alloc, "/b", &["_f"])?],
+        )?;
+        let _ = note(&mut resolved, &first, 0).ok_or("a symbol")??;
+        let Some(import) = resolved.imports().first() else {
+            return Err("no import".into());
+        };
+        let told = (import.library.as_slice(), import.file);
+        let wanted: (&[u8], u32) = if offered { (b"/libc", 1) } else { (b"/b", 2) };
+        assert_eq!(rt; told, wanted, "row {number}");
     }
     Ok(())
 }
@@ -87,19 +161,19 @@ fn a_name_has_the_first_of_the_best_definitions(rt: HostRuntime) -> Result<(), F
 fn the_handle_is_the_image_where_nothing_else_defines_it(rt: HostRuntime) -> Result<(), Fail> {
     let alloc = rt.alloc();
     assert_eq!(rt;
-        definition(alloc, [USE, USE], "_g", HANDLE_NAME)?,
+        definition(alloc, &[USE, USE], "_g", HANDLE_NAME)?,
         Target::Base
     );
     assert_eq!(rt;
-        definition(alloc, [USE, HANDLE], "_g", HANDLE_NAME)?,
+        definition(alloc, &[USE, HANDLE], "_g", HANDLE_NAME)?,
         at(1, 4)
     );
     assert_eq!(rt;
-        definition(alloc, [USE, USE], "___dso_handle", HANDLE_NAME)?,
+        definition(alloc, &[USE, USE], "___dso_handle", HANDLE_NAME)?,
         Target::Import { id: 0 }
     );
     assert_eq!(rt;
-        definition(alloc, [LOCAL, STAB], "_g", b"_f")?,
+        definition(alloc, &[LOCAL, STAB], "_g", b"_f")?,
         Target::None
     );
     Ok(())
@@ -130,34 +204,49 @@ fn two_strong_definitions_are_told_by_their_files(rt: HostRuntime) -> Result<(),
     Ok(())
 }
 
+/// Commons `_c` of three objects, and the size and alignment of the second, which is chosen. In the first row 9 bytes are 16
+/// by their alignment.
+const COMMONS: [([Symbol; 3], u64, u8); 2] = [
+    (
+        [
+            Symbol(b"_c", 0x01, 0, 0x400, 9),
+            Symbol(b"_c", 0x01, 0, 0, 12),
+            Symbol(b"_c", 0x01, 0, 0x300, 12),
+        ],
+        12,
+        0,
+    ),
+    (
+        [
+            Symbol(b"_c", 0x01, 0, 0, 4),
+            Symbol(b"_c", 0x01, 0, 0x200, 8),
+            Symbol(b"_c", 0x01, 0, 0x300, 8),
+        ],
+        8,
+        2,
+    ),
+];
+
 #[test]
 fn the_greatest_common_is_chosen_by_its_size_alone(rt: HostRuntime) -> Result<(), Fail> {
     let alloc = rt.alloc();
-    // 9 bytes are 16 by their alignment; 12 and 12 are not
-    let objects = [
-        object(alloc, &[Symbol(b"_c", 0x01, 0, 0x400, 9)])?,
-        object(alloc, &[Symbol(b"_c", 0x01, 0, 0, 12)])?,
-        object(alloc, &[Symbol(b"_c", 0x01, 0, 0x300, 12)])?,
-    ];
-    let first = File::parse_bytes(&objects[0], false)?;
-    let others = [
-        File::parse_bytes(&objects[1], false)?,
-        File::parse_bytes(&objects[2], false)?,
-    ];
-    let resolved = resolve(alloc, &first, &others, &[])?;
-    let commons = resolved.commons();
-    assert_eq!(rt; commons.len(), 1);
-    let Some(chosen) = commons.first() else {
-        return Err("no common".into());
-    };
-    assert_eq!(rt;
-        (chosen.file, chosen.symbol, chosen.size, chosen.align),
-        (1, 0, 12, 0)
-    );
-    assert_eq!(rt;
-        target(&resolved, &first, 0),
-        Some((Target::Common { id: 0 }, false))
-    );
+    for ([first, second, third], size, align) in COMMONS {
+        let first = object(alloc, &[first])?;
+        let objects = [object(alloc, &[second])?, object(alloc, &[third])?];
+        let first = File::parse_bytes(&first, false)?;
+        let others = objects_in(alloc, &objects)?;
+        let resolved = resolve(alloc, &first, &others, &[])?;
+        assert_eq!(rt; resolved.commons().len(), 1);
+        let Some(chosen) = resolved.commons().first() else {
+            return Err("no common".into());
+        };
+        let told = (chosen.file, chosen.symbol, chosen.size, chosen.align);
+        assert_eq!(rt; told, (1, 0, size, align));
+        assert_eq!(rt;
+            target(&resolved, &first, 0),
+            Some((Target::Common { id: 0 }, false))
+        );
+    }
     Ok(())
 }
 

@@ -1,4 +1,4 @@
-use Rattle.std.proofs.Common.{arith, ◌<◌, sym, ◌∙◌}
+use Rattle.std.proofs.Common.{arith}
 use Rattle.macho_symbols_tests.proofs.Firsts.{has_symbol, still_first}
 use Rattle.macho_symbols_tests.proofs.objects.note.Goals as goal
 

@@ -1,4 +1,4 @@
-use Rattle.std.proofs.Common.{◌+◌, [], subst, ap, sym, arith}
+use Rattle.std.proofs.Common.{◌+◌, [], subst, sym, arith}
 use Rattle.macho_symbols_tests.specs.Linked.{Begins}
 use Rattle.macho_symbols_tests.proofs.Firsts.{begins, begins_more, at_most, first_ok}
 use Rattle.macho_symbols_tests.proofs.objects.resolve.Goals as goal
