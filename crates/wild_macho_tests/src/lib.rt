@@ -4,6 +4,4 @@
 #[cfg(test)]
 mod asks;
 #[cfg(test)]
-mod devices;
-#[cfg(test)]
 mod runs;
