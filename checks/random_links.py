@@ -96,7 +96,9 @@ class Maker:
             at = next(index for index, one in enumerate(sections) if one.name == b"__text")
             symbols.append(Symbol(b"_main", 0x0F, at + 1, 0, sections[at].address))
         for index, section in enumerate(sections):
-            for turn in range(self.random.randint(0, 3)):
+            # the size of a consumed section changes with what is asked for
+            is_fixed = section.name not in (b"__mod_init_func", b"__compact_unwind")
+            for turn in range(self.random.randint(0, 3) if is_fixed else 0):
                 symbols.append(self.symbol(number, index, turn, section))
         if self.chance(0.4):
             symbols.append(Symbol(b"_absolute%d" % number, self.pick([3, 2, 0x13]), 0, 0, self.pick([0, 42, 0x1234567890])))

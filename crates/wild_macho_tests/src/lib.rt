@@ -1,9 +1,5 @@
-//! Tests that cross crates, a module for each subject.
+//! Tests of a run over devices of several kinds.
 #![tactic(auto)]
 
-#[cfg(test)]
-mod asks;
-#[cfg(test)]
-mod devices;
 #[cfg(test)]
 mod runs;

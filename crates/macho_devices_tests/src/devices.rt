@@ -1,14 +1,14 @@
 //! The devices, each on its happy path and at each of its failures.
 
 use macho_args::Paths;
+use macho_devices::{
+    FileFault, Files, MemoryFiles, MemorySink, RealFiles, RealSink, Sink, SinkFault, SteadyFiles,
+    SteadySink,
+};
 use std::alloc::Global;
 use std::io::Write;
 use std::test::Fail;
 use std::{env, fs, io, process};
-use wild_macho::{
-    FileFault, Files, MemoryFiles, MemorySink, RealFiles, RealSink, Sink, SinkFault, SteadyFiles,
-    SteadySink,
-};
 
 // What a read of the path gives, with `-` for no such file and `!` for a failed read.
 fn shown<F: Files>(files: &mut F, alloc: Global, path: &str) -> Result<String, Fail> {
