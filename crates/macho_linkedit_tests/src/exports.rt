@@ -3,7 +3,8 @@ ghost use Rattle.std.specs.Prelude.{◌≢◌, IsTrue};
 ghost use Rattle.macho_trie.specs.Exports.{HasNoNul};
 ghost use Rattle.macho_linkedit.specs.Tries.{HasFlags};
 
-use macho_linkedit::{ExportSays, NamedExport, reserve_trie};
+use macho_linkedit::{ExportSays, NamedExport, reserve_trie, value_says};
+use macho_model::Target;
 use std::alloc::{AllocError, Global};
 use std::test::Fail;
 
@@ -42,6 +43,67 @@ fn trie_of(
     let reserved = reserve_trie(alloc, &exports)?;
     let bytes = reserved.encode(alloc, &exports)?;
     Ok((reserved.size, bytes))
+}
+
+#[test]
+fn no_export_has_no_bytes(rt: HostRuntime) -> Result<(), Fail> {
+    let reserved = reserve_trie(rt.alloc(), &[])?;
+    assert!(rt; reserved.size == 0);
+    assert!(rt; reserved.encode(rt.alloc(), &[])?.is_empty());
+    Ok(())
+}
+
+/// A place in the first section of the first object.
+const PLACE: Target = Target::Section {
+    file: 0,
+    section: 0,
+    offset: 8,
+};
+
+/// What a name is exported as: where it leads, whether it is weak and thread-local, and then its flags and value, at an address
+/// of 0x4008 behind the base.
+const SAYINGS: [(Target, bool, bool, u64, u64); 6] = [
+    (PLACE, false, false, 0, 0x4008),
+    (PLACE, true, false, 4, 0x4008),
+    (PLACE, false, true, 1, 0x4008),
+    (PLACE, true, true, 5, 0x4008),
+    (Target::Absolute { value: 42 }, false, false, 2, 42),
+    (Target::Common { id: 0 }, false, false, 0, 0x4008),
+];
+
+#[test]
+fn flags_tell_what_is_exported(rt: HostRuntime) {
+    for (target, weak, thread_local, flags, value) in SAYINGS {
+        let says = value_says(target, weak, thread_local, 0x1_0000_4008, 0x1_0000_0000);
+        assert!(rt;
+            matches!(&says, ExportSays::Value { flags: f, value: v } if *f == flags && *v == value)
+        );
+    }
+}
+
+#[test]
+fn an_absolute_value_and_a_weak_function(rt: HostRuntime) -> Result<(), Fail> {
+    let absolute = NamedExport {
+        name: b"_a",
+        says: ExportSays::Value {
+            flags: 2,
+            value: 42,
+        },
+    };
+    let weak = NamedExport {
+        name: b"_w",
+        says: ExportSays::Value {
+            flags: 4,
+            value: 0x4008,
+        },
+    };
+    let (size, bytes) = trie_of(rt.alloc(), absolute, weak)?;
+    assert_eq!(rt;
+        bytes.as_slice(),
+        b"\0\x01_\0\x05\0\x02a\0\x0dw\0\x11\x02\x02\x2a\0\x04\x04\x88\x80\x01\0".as_slice()
+    );
+    assert!(rt; size == 39);
+    Ok(())
 }
 
 #[test]

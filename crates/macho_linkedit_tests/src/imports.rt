@@ -90,6 +90,18 @@ fn an_addend_below_zero_has_an_entry_of_its_own(rt: HostRuntime) -> Result<(), F
 }
 
 #[test]
+fn an_import_without_addends_is_a_word(rt: HostRuntime) -> Result<(), Fail> {
+    let alloc = rt.alloc();
+    let mut imports = Vec::new(alloc);
+    imports.push(import(alloc, &SYSTEM, b"_exit")?)?;
+    let table = table(alloc, &imports, None, &[&SYSTEM])?;
+    assert!(rt; table.format == 1);
+    assert_eq!(rt; table.entries.as_slice(), [entry(1, 0, 0)].as_slice());
+    assert_eq!(rt; table.names.as_slice(), b"_exit\0".as_slice());
+    Ok(())
+}
+
+#[test]
 fn imports_of_two_libraries(rt: HostRuntime) -> Result<(), Fail> {
     let alloc = rt.alloc();
     let mut imports = Vec::new(alloc);

@@ -7,6 +7,8 @@ mod exports;
 #[cfg(test)]
 mod imports;
 #[cfg(test)]
+mod listing;
+#[cfg(test)]
 mod run;
 #[cfg(test)]
 mod sizes;

@@ -1,4 +1,5 @@
-//! The sizes of a link.
+//! The sizes of a link. The bytes of commands are those of worked images less their segments' commands: 736 - 528, 448 - 296 and
+//! 352 - 224.
 use macho_linkedit::{SizesAsked, count};
 
 #[test]
@@ -25,4 +26,33 @@ fn an_executable_with_one_library(rt: HostRuntime) {
     assert!(rt; counts.import_size == 8);
     assert!(rt; counts.name_bytes == 0);
     assert!(rt; counts.identifier == 16);
+}
+
+#[test]
+fn a_library_has_its_own_name_and_room_for_a_longer_one(rt: HostRuntime) {
+    let alone = SizesAsked {
+        executable: true,
+        install_name: b"out",
+        has_versions: false,
+        libraries: &[],
+        rpaths: &[],
+        headerpad: false,
+        imports: &[],
+        own_entries: 0,
+        name: b"out",
+        initializers: 0,
+        unwind: 0,
+        trie: 22,
+        symbols: 1,
+        strings: 7,
+    };
+    assert!(rt; count(&alone).commands == 152);
+    assert!(rt; count(&alone).import_size == 4);
+    let library = SizesAsked {
+        executable: false,
+        headerpad: true,
+        ..alone
+    };
+    assert!(rt; count(&library).commands == 128);
+    assert!(rt; count(&library).padding == 1024);
 }

@@ -4,7 +4,7 @@ use std::alloc::{AllocError, Global};
 use std::test::Fail;
 
 /// Adds a symbol where the strings are short.
-fn push(table: &mut SymbolTable, row: TableRow<'_>) -> Result<(), AllocError> {
+pub(crate) fn push(table: &mut SymbolTable, row: TableRow<'_>) -> Result<(), AllocError> {
     if table.strings.len() >= 1 << 32 {
         return Err(AllocError);
     }
