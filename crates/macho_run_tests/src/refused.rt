@@ -579,20 +579,50 @@ const LIMITS: [Refused; 4] = [
 ];
 
 #[test]
-fn a_refused_link_has_its_line(rt: HostRuntime) -> Result<(), Fail> {
-    for rows in [
-        NAMES.as_slice(),
-        UNSUPPORTED.as_slice(),
-        NO_BRANCH.as_slice(),
-        FIRST_TOLD.as_slice(),
-        OVERLAPS.as_slice(),
-        POINTERS.as_slice(),
-        RANGES.as_slice(),
-        LIMITS.as_slice(),
-    ] {
-        for row in rows {
-            refuses(&rt, rt.alloc(), 1, row)?;
-        }
+fn a_name_without_its_one_definition_is_told(rt: HostRuntime) -> Result<(), Fail> {
+    for row in &NAMES {
+        refuses(&rt, rt.alloc(), 1, row)?;
+    }
+    Ok(())
+}
+
+#[test]
+fn a_relocation_without_a_row_is_told(rt: HostRuntime) -> Result<(), Fail> {
+    for row in &UNSUPPORTED {
+        refuses(&rt, rt.alloc(), 1, row)?;
+    }
+    for row in &NO_BRANCH {
+        refuses(&rt, rt.alloc(), 1, row)?;
+    }
+    Ok(())
+}
+
+#[test]
+fn of_several_refusals_the_first_is_told(rt: HostRuntime) -> Result<(), Fail> {
+    for row in &FIRST_TOLD {
+        refuses(&rt, rt.alloc(), 1, row)?;
+    }
+    Ok(())
+}
+
+#[test]
+fn a_field_that_cannot_stand_there_is_told(rt: HostRuntime) -> Result<(), Fail> {
+    for row in &OVERLAPS {
+        refuses(&rt, rt.alloc(), 1, row)?;
+    }
+    for row in &POINTERS {
+        refuses(&rt, rt.alloc(), 1, row)?;
+    }
+    Ok(())
+}
+
+#[test]
+fn a_value_or_a_number_that_is_too_great_is_told(rt: HostRuntime) -> Result<(), Fail> {
+    for row in &RANGES {
+        refuses(&rt, rt.alloc(), 1, row)?;
+    }
+    for row in &LIMITS {
+        refuses(&rt, rt.alloc(), 1, row)?;
     }
     Ok(())
 }
