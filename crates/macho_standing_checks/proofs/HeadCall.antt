@@ -88,9 +88,19 @@ segments_call = record {
   sizes = All-from_recursion (λ (s : FixupSegment). s.file_size ≤ s.size) (fixup_segments placed_call)
       (omega arith, (omega arith, (omega arith, (omega arith, (omega arith, tt)))));
   ends = All-from_recursion (λ (s : FixupSegment). (s.address + s.size ≤ 2 ^ 64) × (s.file_offset + s.file_size ≤ 2 ^ 64))
-      (fixup_segments placed_call)
-      ((omega arith, omega arith), ((omega arith, omega arith), ((omega arith, omega arith), (
-      (omega arith, omega arith), ((omega arith, omega arith), tt)))));
+      (fixup_segments placed_call) (
+        (omega arith, omega arith),
+        (
+          (omega arith, omega arith),
+          (
+            (omega arith, omega arith),
+            (
+              (omega arith, omega arith),
+              ((omega arith, omega arith), tt),
+            ),
+          ),
+        ),
+      );
 }
 
 text_room : AllByRecursion (λ (s : PlacedSegment). is_segment_named TEXT s ≡ true
@@ -106,9 +116,16 @@ text_room = (
 
 pub room_call : HasRoom call_image placed_call
 room_call = record {
-  file = All-from_recursion (λ (s : PlacedSegment). s.file_offset + s.file_size ≤ length call_image) placed_call.segments
-      (omega (arith, image_size), (omega (arith, image_size), (omega (arith, image_size),
-      (omega (arith, image_size), (omega (arith, image_size), tt)))));
+  file = All-from_recursion (λ (s : PlacedSegment). s.file_offset + s.file_size ≤ length call_image) placed_call.segments (
+    omega (arith, image_size),
+    (
+      omega (arith, image_size),
+      (
+        omega (arith, image_size),
+        (omega (arith, image_size), (omega (arith, image_size), tt)),
+      ),
+    ),
+  );
   memory = All-from_recursion (λ (s : PlacedSegment). s.address + s.size ≤ 2 ^ 64) placed_call.segments
       (omega arith, (omega arith, (omega arith, (omega arith, (omega arith, tt)))));
   text = All-from_recursion (λ (s : PlacedSegment). is_segment_named TEXT s ≡ true
