@@ -52,7 +52,8 @@ fn where_no_device_fails_the_image_and_the_map_are_whole(rt: HostRuntime) -> Res
     assert!(rt; told.ran.fault.is_none());
     assert_eq!(rt; told.out.bytes(), MAP);
     assert!(rt; told.err.bytes().is_empty());
-    let image = told.ran.image.ok_or("no image")?;
+    let answer = told.ran;
+    let image = answer.image.ok_or("no image")?;
     assert!(rt; holds(&mut files, rt.alloc(), "out", &image.bytes)?);
     Ok(())
 }
@@ -82,7 +83,8 @@ fn a_write_that_fails_leaves_the_first_bytes_and_prints_no_map(
     rt: HostRuntime,
 ) -> Result<(), Fail> {
     let whole = told_of(rt.alloc(), &WORDS, &mut files_of(rt.alloc())?)?;
-    let image = whole.ran.image.ok_or("no image")?;
+    let answer = whole.ran;
+    let image = answer.image.ok_or("no image")?;
     let length = image.bytes.len();
     for left in [0, length / 2, length.saturating_sub(1), length] {
         let mut files = files_of(rt.alloc())?;

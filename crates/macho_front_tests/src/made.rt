@@ -41,7 +41,8 @@ fn the_identifier_is_from_all_inputs_in_their_order(rt: HostRuntime) -> Result<(
             hasher.update(bytes);
         }
         let told = told_of(rt.alloc(), words, &mut files)?;
-        let image = told.ran.image.ok_or("no image")?;
+        let answer = told.ran;
+        let image = answer.image.ok_or("no image")?;
         let want = marked(hasher.finalize());
         assert!(rt; image.bytes.get(UUID..UUID + 16) == Some(want.as_slice()));
     }
@@ -67,7 +68,8 @@ fn two_lists_show_the_names_of_both(rt: HostRuntime) -> Result<(), Fail> {
     ];
     let told = told_of(rt.alloc(), &words, &mut files)?;
     assert_eq!(rt; told.ran.status, 0);
-    let image = told.ran.image.ok_or("no image")?;
+    let answer = told.ran;
+    let image = answer.image.ok_or("no image")?;
     let names: [&[u8]; 3] = [b"_exit", b"_main", b"_two"];
     assert_eq!(rt; image.exports.len(), names.len());
     for (export, name) in image.exports.iter().zip(names) {

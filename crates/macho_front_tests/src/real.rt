@@ -70,7 +70,8 @@ fn an_output_may_stand_in_the_place_of_its_own_input(rt: HostRuntime) -> Result<
         &mut files,
     )?;
     assert_eq!(rt; told.ran.status, 0);
-    let image = told.ran.image.ok_or("no image")?;
+    let answer = told.ran;
+    let image = answer.image.ok_or("no image")?;
     assert!(rt; holds(&mut files, rt.alloc(), &path, &image.bytes)?);
     fs::remove_file(&rt, path)?;
     Ok(())

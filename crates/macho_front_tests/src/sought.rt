@@ -93,7 +93,8 @@ fn the_first_path_that_holds_a_file_is_taken(rt: HostRuntime) -> Result<(), Fail
         all.push("main.o")?;
         let told = told_of(rt.alloc(), &all, &mut files)?;
         assert_eq!(rt; told.ran.status, 0, "{taken}");
-        let image = told.ran.image.ok_or("no image")?;
+        let answer = told.ran;
+        let image = answer.image.ok_or("no image")?;
         assert_eq!(rt; image.libraries.len(), 1, "{taken}");
         let library = image.libraries.first().ok_or("no library")?;
         assert_eq!(rt; library.as_slice(), taken.as_bytes());
