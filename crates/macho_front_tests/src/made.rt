@@ -18,27 +18,27 @@ fn marked(digest: [u8; 32]) -> [u8; 16] {
     uuid
 }
 
+/// Words, and which inputs are joined: the object, or the stub where that is told.
+const JOINED: [(&[&str], &[bool]); 3] = [
+    (&["main.o"], &[false]),
+    (&["main.o", "lib.tbd", "-dead_strip_dylibs"], &[false, true]),
+    (&["lib.tbd", "main.o", "-dead_strip_dylibs"], &[true, false]),
+];
+
 #[test]
 fn the_identifier_is_from_all_inputs_in_their_order(rt: HostRuntime) -> Result<(), Fail> {
     let object = object_bytes(rt.alloc(), &MAIN_OBJECT)?;
-    let inputs: [(&[&str], &[&[u8]]); 3] = [
-        (&["main.o"], &[&object]),
-        (
-            &["main.o", "lib.tbd", "-dead_strip_dylibs"],
-            &[&object, SYSTEM],
-        ),
-        (
-            &["lib.tbd", "main.o", "-dead_strip_dylibs"],
-            &[SYSTEM, &object],
-        ),
-    ];
-    for (words, joined) in inputs {
+    for (words, joined) in JOINED {
         let mut files = MemoryFiles::new(rt.alloc());
         files.add_file("main.o", object_bytes(rt.alloc(), &MAIN_OBJECT)?)?;
         files.add_file("lib.tbd", Vec::from_slice(rt.alloc(), SYSTEM)?)?;
         let mut hasher = Sha256::new();
-        for bytes in joined {
-            hasher.update(bytes);
+        for is_stub in joined {
+            if *is_stub {
+                hasher.update(SYSTEM);
+            } else {
+                hasher.update(&object);
+            }
         }
         let told = told_of(rt.alloc(), words, &mut files)?;
         let answer = told.ran;

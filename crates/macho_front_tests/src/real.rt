@@ -62,17 +62,15 @@ fn an_output_may_stand_in_the_place_of_its_own_input(rt: HostRuntime) -> Result<
     let above = env::temp_dir(&rt)?;
     let id = process::id(rt.process());
     let path = format!(in rt.alloc(); "{}/wild_macho_both_{id}", above.as_str())?;
+    let object = object_bytes(rt.alloc(), &MAIN_OBJECT)?;
     let mut files = RealFiles::new(&rt, rt.alloc());
-    files.write(&path, &object_bytes(rt.alloc(), &MAIN_OBJECT)?)?;
-    let told = told_of(
-        rt.alloc(),
-        &["-o", path.as_str(), path.as_str()],
-        &mut files,
-    )?;
+    files.write(&path, &object)?;
+    let words = ["-o", path.as_str(), path.as_str()];
+    let told = told_of(rt.alloc(), &words, &mut files)?;
     assert_eq!(rt; told.ran.status, 0);
     let answer = told.ran;
     let image = answer.image.ok_or("no image")?;
     assert!(rt; holds(&mut files, rt.alloc(), &path, &image.bytes)?);
-    fs::remove_file(&rt, path)?;
+    fs::remove_file(&rt, path.as_str())?;
     Ok(())
 }
