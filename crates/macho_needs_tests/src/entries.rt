@@ -427,7 +427,7 @@ fn check_rows(rt: &impl std::process::Abort, alloc: Global, rows: &[Row]) -> Res
     for row in rows {
         let entry = match row.rule {
             6 => 1,
-            1 => (row.size / 32) as u32,
+            1 => (row.size.min(64) / 32) as u32,
             _ => 0,
         };
         let expected = match row.rule {
@@ -491,8 +491,8 @@ fn answer_for_personalities(alloc: Global, count: usize) -> Result<Answer, Fail>
         name: b"__compact_unwind",
         address: 16,
         flags: 0x0200_0000,
-        content: Content::Bytes(STARTING.get(..32 * count).ok_or("cut")?),
-        relocations: EIGHT.get(..2 * count).ok_or("cut")?,
+        content: Content::Bytes(STARTING.get(..count.saturating_mul(32)).ok_or("cut")?),
+        relocations: EIGHT.get(..count.saturating_mul(2)).ok_or("cut")?,
         ..DATA
     };
     let third = Symbol {

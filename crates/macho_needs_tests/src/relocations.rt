@@ -250,7 +250,7 @@ fn answer_of(alloc: Global, form: &Form, target: u32) -> Result<Answer, Fail> {
 fn each_form_takes_its_targets_alone(rt: HostRuntime) -> Result<(), Fail> {
     for form in &FORMS {
         for (target, taken) in form.4.iter().enumerate() {
-            let told = answer_of(rt.alloc(), form, target as u32)?;
+            let told = answer_of(rt.alloc(), form, (target % 6) as u32)?;
             let [fault, file, section, _, _] = told;
             let expected = if *taken { [0, 0, 0] } else { [8, 0, 1] };
             let name = form.0;
