@@ -214,7 +214,8 @@ pub(crate) fn links(rt: &impl Abort, alloc: Global, row: &Linked) -> Result<Link
     let seen = run_over(alloc, row.files, row.words, &NONE)?;
     assert_eq!(rt; seen.lines.as_slice(), b"".as_slice(), "{}", row.shows);
     assert_eq!(rt; seen.ran.status, 0, "{}", row.shows);
-    let image = seen.ran.image.ok_or("no image")?;
+    let answer = seen.ran;
+    let image = answer.image.ok_or("no image")?;
     assert_eq!(rt; image.bytes.len(), row.length, "{}", row.shows);
     let told = told(alloc, &image)?;
     assert_eq!(rt; told.as_slice(), row.told.as_bytes(), "{}", row.shows);
