@@ -81,14 +81,20 @@ fn library_of(alloc: Global, path: &str) -> Result<Vec<u8>, Fail> {
     }
 }
 
+// The files of a row: an object, and a library under each of the paths.
+fn files_with(alloc: Global, paths: &[&str]) -> Result<MemoryFiles, Fail> {
+    let mut files = MemoryFiles::new(alloc);
+    files.add_file("main.o", object_bytes(alloc, &MAIN_OBJECT)?)?;
+    for path in paths {
+        files.add_file(path, library_of(alloc, path)?)?;
+    }
+    Ok(files)
+}
+
 #[test]
 fn the_first_path_that_holds_a_file_is_taken(rt: HostRuntime) -> Result<(), Fail> {
     for (words, paths, taken) in SOUGHT {
-        let mut files = MemoryFiles::new(rt.alloc());
-        files.add_file("main.o", object_bytes(rt.alloc(), &MAIN_OBJECT)?)?;
-        for path in paths {
-            files.add_file(path, library_of(rt.alloc(), path)?)?;
-        }
+        let mut files = files_with(rt.alloc(), paths)?;
         let mut all = Vec::from_slice(rt.alloc(), words)?;
         all.push("main.o")?;
         let told = told_of(rt.alloc(), &all, &mut files)?;
