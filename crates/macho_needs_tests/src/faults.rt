@@ -174,6 +174,12 @@ fn answer_apart<'a>(
     answer(alloc, &files, b"")
 }
 
+/// The answer for one such file.
+fn answer_behind<'a>(alloc: Global, sections: &'a [Section<'a>]) -> Result<Answer, Fail> {
+    let files = [MAIN_OBJECT, file_with(sections)];
+    answer(alloc, &files, b"")
+}
+
 /// The answer for two sections, each in a file of its own.
 fn in_two_files(
     alloc: Global,
@@ -192,8 +198,7 @@ fn in_one_file(
     two: Section<'static>,
 ) -> Result<Answer, Fail> {
     let sections = [HERE, one, two];
-    let file = file_with(&sections);
-    answer(alloc, &[MAIN_OBJECT, file], b"")
+    answer_behind(alloc, &sections)
 }
 
 /// Whether of two faults, in two files and in two sections of one file, the wanted one is told: the second, or the first.
