@@ -402,24 +402,36 @@ fn bytes_of(alloc: Global, row: &Row) -> Result<Vec<u8>, Fail> {
     Ok(bytes)
 }
 
-/// The answer for a row.
-fn answer_of(alloc: Global, row: &Row) -> Result<Answer, Fail> {
-    let bytes = bytes_of(alloc, row)?;
-    let [code, data, left, other, room] = SECTIONS;
-    let entries = Section {
+/// A section of entries behind all others.
+fn section_of<'a>(bytes: &'a [u8], relocations: &'a [Relocation]) -> Section<'a> {
+    Section {
         segment: b"__LD",
         name: b"__compact_unwind",
         address: 0x60,
         flags: 0x0200_0000,
-        content: Content::Bytes(bytes.get(..row.size).ok_or("cut")?),
-        relocations: row.relocations,
+        content: Content::Bytes(bytes),
+        relocations,
         ..DATA
-    };
+    }
+}
+
+/// The answer for a section behind the others.
+fn answer_with(alloc: Global, entries: Section<'_>) -> Result<Answer, Fail> {
+    let [code, data, left, other, room] = SECTIONS;
+    let sections = [code, data, left, other, room, entries];
     let object = Object {
-        sections: &[code, data, left, other, room, entries],
+        sections: &sections,
         symbols: &NAMES,
     };
     answer(alloc, &[object], b"")
+}
+
+/// The answer for a row.
+fn answer_of(alloc: Global, row: &Row) -> Result<Answer, Fail> {
+    let bytes = bytes_of(alloc, row)?;
+    let given = bytes.get(..row.size).ok_or("cut")?;
+    let entries = section_of(given, row.relocations);
+    answer_with(alloc, entries)
 }
 
 /// Whether each row has its answer; a rule of two entries is told of the second, one of cut entries behind the last whole one.
@@ -541,36 +553,49 @@ fn entries_of_two_files_have_starts_of_their_own(rt: HostRuntime) -> Result<(), 
     Ok(())
 }
 
-/// Language data of another object, by its name.
+/// An entry for the function whose language data is a name of another object.
+const USER: Object<'static> = Object {
+    sections: &[
+        Section {
+            content: Content::Bytes(&MAIN_CODE),
+            ..TEXT
+        },
+        Section {
+            segment: b"__LD",
+            name: b"__compact_unwind",
+            flags: 0x0200_0000,
+            content: Content::Bytes(&WHOLE),
+            relocations: &[START, Relocation(24, 1, kinds::POINTER)],
+            ..DATA
+        },
+    ],
+    symbols: &[
+        MAIN,
+        Symbol {
+            name: b"_language_data",
+            ..UNDEFINED
+        },
+    ],
+};
+
+/// The bytes of an entry for the function: its start, its length of 8, its encoding, no more.
+const WHOLE: [u8; 32] = [
+    0, 0, 0, 0, 0, 0, 0, 0, 8, 0, 0, 0, 0, 0, 0, 2, //
+    0, 0, 0, 0, 0, 0, 0, 0, 0, 0, 0, 0, 0, 0, 0, 0,
+];
+
+/// The object that the name stands in.
+const OWNER: Object<'static> = Object {
+    sections: &[CONST],
+    symbols: &[Symbol {
+        name: b"_language_data",
+        value: 8,
+        ..MAIN
+    }],
+};
+
 #[test]
 fn language_data_of_another_object_is_refused(rt: HostRuntime) -> Result<(), Fail> {
-    let bytes = bytes_of(rt.alloc(), &PLAIN)?;
-    let entries = Section {
-        segment: b"__LD",
-        name: b"__compact_unwind",
-        flags: 0x0200_0000,
-        content: Content::Bytes(bytes.get(..32).ok_or("cut")?),
-        relocations: &[START, Relocation(24, 1, kinds::POINTER)],
-        ..DATA
-    };
-    let user = Object {
-        sections: &[SECTIONS[0], entries],
-        symbols: &[
-            MAIN,
-            Symbol {
-                name: b"_language_data",
-                ..UNDEFINED
-            },
-        ],
-    };
-    let owner = Object {
-        sections: &[CONST],
-        symbols: &[Symbol {
-            name: b"_language_data",
-            value: 8,
-            ..MAIN
-        }],
-    };
-    assert!(rt; answer(rt.alloc(), &[user, owner], b"")? == [7, 0, 1, 0, 7]);
+    assert!(rt; answer(rt.alloc(), &[USER, OWNER], b"")? == [7, 0, 1, 0, 7]);
     Ok(())
 }

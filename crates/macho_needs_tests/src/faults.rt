@@ -164,30 +164,63 @@ fn file_with<'a>(sections: &'a [Section<'a>]) -> Object<'a> {
     }
 }
 
+/// The answer for two files behind that of `_main`.
+fn answer_apart<'a>(
+    alloc: Global,
+    former: &'a [Section<'a>],
+    latter: &'a [Section<'a>],
+) -> Result<Answer, Fail> {
+    let files = [MAIN_OBJECT, file_with(former), file_with(latter)];
+    answer(alloc, &files, b"")
+}
+
+/// The answer for one such file.
+fn answer_behind<'a>(alloc: Global, sections: &'a [Section<'a>]) -> Result<Answer, Fail> {
+    let files = [MAIN_OBJECT, file_with(sections)];
+    answer(alloc, &files, b"")
+}
+
+/// The answer for two sections, each in a file of its own.
+fn in_two_files(
+    alloc: Global,
+    one: Section<'static>,
+    two: Section<'static>,
+) -> Result<Answer, Fail> {
+    let all = [HERE, one, HERE, two];
+    let (former, latter) = all.split_at(2);
+    answer_apart(alloc, former, latter)
+}
+
+/// The answer for two sections of one file.
+fn in_one_file(
+    alloc: Global,
+    one: Section<'static>,
+    two: Section<'static>,
+) -> Result<Answer, Fail> {
+    let sections = [HERE, one, two];
+    answer_behind(alloc, &sections)
+}
+
 /// Whether of two faults, in two files and in two sections of one file, the wanted one is told: the second, or the first.
-fn check_pair(rt: &impl Abort, alloc: Global, pair: [&Fault; 2], second: bool) -> Result<(), Fail> {
-    let [(one, told_one), (two, told_two)] = pair;
-    let (former, latter) = ([HERE, *one], [HERE, *two]);
-    let apart = [MAIN_OBJECT, file_with(&former), file_with(&latter)];
-    let expected = if second {
-        placed(*told_two, 2, 1)
+fn check_pair(
+    rt: &impl Abort,
+    alloc: Global,
+    pair: (Fault, Fault),
+    second: bool,
+) -> Result<(), Fail> {
+    let ((one, told_one), (two, told_two)) = pair;
+    let (apart, together) = if second {
+        (placed(told_two, 2, 1), placed(told_two, 1, 2))
     } else {
-        placed(*told_one, 1, 1)
+        (placed(told_one, 1, 1), placed(told_one, 1, 1))
     };
     let [fault, other] = [told_one[0], told_two[0]];
     assert!(rt;
-        answer(alloc, &apart, b"")? == expected,
+        in_two_files(alloc, one, two)? == apart,
         "{fault} and {other}, two files"
     );
-    let together = [HERE, *one, *two];
-    let expected = if second {
-        placed(*told_two, 1, 2)
-    } else {
-        placed(*told_one, 1, 1)
-    };
-    let objects = [MAIN_OBJECT, file_with(&together)];
     assert!(rt;
-        answer(alloc, &objects, b"")? == expected,
+        in_one_file(alloc, one, two)? == together,
         "{fault} and {other}, one file"
     );
     Ok(())
@@ -197,7 +230,7 @@ fn check_pair(rt: &impl Abort, alloc: Global, pair: [&Fault; 2], second: bool) -
 fn of_two_faults_the_first_in_order_is_told(rt: HostRuntime) -> Result<(), Fail> {
     for (a, one) in FAULTS.iter().enumerate() {
         for (b, two) in FAULTS.iter().enumerate() {
-            check_pair(&rt, rt.alloc(), [one, two], b < a)?;
+            check_pair(&rt, rt.alloc(), (*one, *two), b < a)?;
         }
     }
     Ok(())
@@ -207,12 +240,12 @@ fn of_two_faults_the_first_in_order_is_told(rt: HostRuntime) -> Result<(), Fail>
 fn faults_by_an_address_are_told_behind_the_others(rt: HostRuntime) -> Result<(), Fail> {
     for one in &FAULTS {
         for two in &BY_ADDRESS {
-            check_pair(&rt, rt.alloc(), [one, two], false)?;
-            check_pair(&rt, rt.alloc(), [two, one], true)?;
+            check_pair(&rt, rt.alloc(), (*one, *two), false)?;
+            check_pair(&rt, rt.alloc(), (*two, *one), true)?;
         }
     }
     for fault in &BY_ADDRESS {
-        check_pair(&rt, rt.alloc(), [fault, fault], false)?;
+        check_pair(&rt, rt.alloc(), (*fault, *fault), false)?;
     }
     Ok(())
 }

@@ -1,9 +1,10 @@
 //! Sections of initializers: what they may hold, and the offsets that are made of them.
-use crate::linked::{LINKED, answer, link};
+use crate::linked::{Answer, LINKED, answer, link};
 use macho_samples::{
     Content, DATA, EXIT, GLOBAL, LOCAL, MAIN, MAIN_CODE, Object, Relocation, Section, Symbol, TEXT,
     UNDEFINED, kinds,
 };
+use std::alloc::Global;
 use std::test::Fail;
 
 /// A function, a place between its start and its end, what a library offers, a number, a common, the image's base.
@@ -57,15 +58,15 @@ const BOTH: [Relocation; 2] = [
 /// Eight zeros, then a 4.
 const WITH_FOUR: [u8; 16] = [0, 0, 0, 0, 0, 0, 0, 0, 4, 0, 0, 0, 0, 0, 0, 0];
 
-/// Sections of initializers, and the place that is told of a broken one: None where it is taken.
-const ROWS: [(&'static str, Section<'static>, Option<u32>); 21] = [
+/// Sections of initializers, and the answer for them: of a broken one the place is told.
+const ROWS: [(&'static str, Section<'static>, Answer); 12] = [
     (
         "whole",
         Section {
             relocations: &BOTH,
             ..SLOTS
         },
-        None,
+        LINKED,
     ),
     (
         "empty",
@@ -73,7 +74,7 @@ const ROWS: [(&'static str, Section<'static>, Option<u32>); 21] = [
             content: Content::Zeros(0),
             ..SLOTS
         },
-        None,
+        LINKED,
     ),
     (
         "backwards, to a place inside",
@@ -84,7 +85,7 @@ const ROWS: [(&'static str, Section<'static>, Option<u32>); 21] = [
             ],
             ..SLOTS
         },
-        None,
+        LINKED,
     ),
     (
         "in constant data",
@@ -93,7 +94,7 @@ const ROWS: [(&'static str, Section<'static>, Option<u32>); 21] = [
             relocations: &BOTH,
             ..SLOTS
         },
-        None,
+        LINKED,
     ),
     (
         "a type of its own",
@@ -102,7 +103,7 @@ const ROWS: [(&'static str, Section<'static>, Option<u32>); 21] = [
             relocations: &BOTH,
             ..SLOTS
         },
-        Some(0),
+        [6, 0, 1, 0, 0],
     ),
     (
         "12 bytes",
@@ -111,16 +112,16 @@ const ROWS: [(&'static str, Section<'static>, Option<u32>); 21] = [
             relocations: &[Relocation(0, 0, kinds::POINTER)],
             ..SLOTS
         },
-        Some(0),
+        [6, 0, 1, 0, 0],
     ),
-    ("no relocation", SLOTS, Some(0)),
+    ("no relocation", SLOTS, [6, 0, 1, 0, 0]),
     (
         "no second relocation",
         Section {
             relocations: &[Relocation(0, 0, kinds::POINTER)],
             ..SLOTS
         },
-        Some(8),
+        [6, 0, 1, 8, 0],
     ),
     (
         "two at one place",
@@ -132,18 +133,7 @@ const ROWS: [(&'static str, Section<'static>, Option<u32>); 21] = [
             ],
             ..SLOTS
         },
-        Some(8),
-    ),
-    (
-        "between two slots",
-        Section {
-            relocations: &[
-                Relocation(0, 0, kinds::POINTER),
-                Relocation(4, 0, kinds::POINTER),
-            ],
-            ..SLOTS
-        },
-        Some(4),
+        [6, 0, 1, 8, 0],
     ),
     (
         "an addend of 4",
@@ -152,95 +142,7 @@ const ROWS: [(&'static str, Section<'static>, Option<u32>); 21] = [
             relocations: &BOTH,
             ..SLOTS
         },
-        Some(8),
-    ),
-    (
-        "of four bytes",
-        Section {
-            relocations: &[
-                Relocation(0, 0, kinds::POINTER),
-                Relocation(8, 0, kinds::SHORT),
-            ],
-            ..SLOTS
-        },
-        Some(8),
-    ),
-    (
-        "by the number of a section",
-        Section {
-            relocations: &[
-                Relocation(0, 0, kinds::POINTER),
-                Relocation(8, 1, kinds::SECTION_POINTER),
-            ],
-            ..SLOTS
-        },
-        Some(8),
-    ),
-    (
-        "relative",
-        Section {
-            relocations: &[
-                Relocation(0, 0, kinds::POINTER),
-                Relocation(8, 0, kinds::POINTER | 1),
-            ],
-            ..SLOTS
-        },
-        Some(8),
-    ),
-    (
-        "of another type",
-        Section {
-            relocations: &[
-                Relocation(0, 0, kinds::POINTER),
-                Relocation(8, 0, kinds::TO_SLOT),
-            ],
-            ..SLOTS
-        },
-        Some(8),
-    ),
-    (
-        "an import",
-        Section {
-            relocations: &[
-                Relocation(0, 0, kinds::POINTER),
-                Relocation(8, 2, kinds::POINTER),
-            ],
-            ..SLOTS
-        },
-        Some(8),
-    ),
-    (
-        "a number",
-        Section {
-            relocations: &[
-                Relocation(0, 0, kinds::POINTER),
-                Relocation(8, 3, kinds::POINTER),
-            ],
-            ..SLOTS
-        },
-        Some(8),
-    ),
-    (
-        "a common",
-        Section {
-            relocations: &[
-                Relocation(0, 0, kinds::POINTER),
-                Relocation(8, 4, kinds::POINTER),
-            ],
-            ..SLOTS
-        },
-        Some(8),
-    ),
-    (
-        "the base",
-        Section {
-            relocations: &[
-                Relocation(0, 0, kinds::POINTER),
-                Relocation(8, 5, kinds::POINTER),
-            ],
-            ..SLOTS
-        },
-        Some(8),
+        [6, 0, 1, 8, 0],
     ),
     (
         "of another name",
@@ -250,7 +152,7 @@ const ROWS: [(&'static str, Section<'static>, Option<u32>); 21] = [
             relocations: &BOTH,
             ..SLOTS
         },
-        None,
+        LINKED,
     ),
     (
         "for debugging",
@@ -258,22 +160,60 @@ const ROWS: [(&'static str, Section<'static>, Option<u32>); 21] = [
             flags: 0x0200_0009,
             ..SLOTS
         },
-        None,
+        LINKED,
     ),
 ];
 
+/// The answer for a section behind that of the function.
+fn answer_for(alloc: Global, section: Section<'_>) -> Result<Answer, Fail> {
+    let sections = [CODE, section];
+    let object = Object {
+        sections: &sections,
+        symbols: &NAMES,
+    };
+    answer(alloc, &[object], b"")
+}
+
 #[test]
 fn each_slot_has_one_pointer_to_a_function(rt: HostRuntime) -> Result<(), Fail> {
-    for (name, section, place) in &ROWS {
-        let object = Object {
-            sections: &[CODE, *section],
-            symbols: &NAMES,
-        };
-        let expected = match place {
-            Some(place) => [6, 0, 1, *place, 0],
-            None => LINKED,
-        };
-        assert!(rt; answer(rt.alloc(), &[object], b"")? == expected, "{name}");
+    for (name, section, expected) in &ROWS {
+        let told = answer_for(rt.alloc(), *section)?;
+        assert!(rt; told == *expected, "{name}");
+    }
+    Ok(())
+}
+
+/// Relocations that make no slot, behind a pointer in the first.
+const SECOND: [(&'static str, Relocation); 9] = [
+    ("between two slots", Relocation(4, 0, kinds::POINTER)),
+    ("of four bytes", Relocation(8, 0, kinds::SHORT)),
+    (
+        "by the number of a section",
+        Relocation(8, 1, kinds::SECTION_POINTER),
+    ),
+    ("relative", Relocation(8, 0, kinds::POINTER | 1)),
+    ("of another type", Relocation(8, 0, kinds::TO_SLOT)),
+    ("an import", Relocation(8, 2, kinds::POINTER)),
+    ("a number", Relocation(8, 3, kinds::POINTER)),
+    ("a common", Relocation(8, 4, kinds::POINTER)),
+    ("the base", Relocation(8, 5, kinds::POINTER)),
+];
+
+/// The answer for two slots with such a relocation.
+fn answer_behind(alloc: Global, second: Relocation) -> Result<Answer, Fail> {
+    let relocations = [Relocation(0, 0, kinds::POINTER), second];
+    let slots = Section {
+        relocations: &relocations,
+        ..SLOTS
+    };
+    answer_for(alloc, slots)
+}
+
+#[test]
+fn what_is_no_pointer_to_a_function_makes_no_slot(rt: HostRuntime) -> Result<(), Fail> {
+    for (name, second) in &SECOND {
+        let told = answer_behind(rt.alloc(), *second)?;
+        assert!(rt; told == [6, 0, 1, second.0, 0], "{name}");
     }
     Ok(())
 }

@@ -60,30 +60,36 @@ const LDRB: u32 = 0x3940_0000;
 
 const LDR: u32 = 0xf940_0000;
 
-/// The answer for eight bytes with these relocations, in a section of a segment.
-fn answer_for(
-    alloc: Global,
-    segment: &[u8],
-    word: u32,
-    relocations: &[Relocation],
-) -> Result<Answer, Fail> {
-    let [a, b, c, d] = word.to_le_bytes();
+/// A section of data.
+fn field_of<'a>(bytes: &'a [u8], relocations: &'a [Relocation]) -> Section<'a> {
+    Section {
+        name: b"__field",
+        content: Content::Bytes(bytes),
+        relocations,
+        ..DATA
+    }
+}
+
+/// The answer for a section behind that of the function.
+fn answer_with(alloc: Global, field: Section<'_>) -> Result<Answer, Fail> {
     let text = Section {
         content: Content::Bytes(&MAIN_CODE),
         ..TEXT
     };
-    let field = Section {
-        segment,
-        name: b"__field",
-        content: Content::Bytes(&[a, b, c, d, 0, 0, 0, 0]),
-        relocations,
-        ..DATA
-    };
+    let sections = [text, field, LEFT_OUT];
     let object = Object {
-        sections: &[text, field, LEFT_OUT],
+        sections: &sections,
         symbols: &TARGETS,
     };
     answer(alloc, &[object], b"")
+}
+
+/// The answer for eight bytes of data with these relocations.
+fn answer_for(alloc: Global, word: u32, relocations: &[Relocation]) -> Result<Answer, Fail> {
+    let [a, b, c, d] = word.to_le_bytes();
+    let bytes = [a, b, c, d, 0, 0, 0, 0];
+    let field = field_of(&bytes, relocations);
+    answer_with(alloc, field)
 }
 
 /// A pattern with the row's target in its place.
@@ -240,9 +246,9 @@ fn answer_of(alloc: Global, form: &Form, target: u32) -> Result<Answer, Fail> {
     match front {
         Some(first) => {
             let both = [filled(first, target), last];
-            answer_for(alloc, b"__DATA", word, &both)
+            answer_for(alloc, word, &both)
         }
-        None => answer_for(alloc, b"__DATA", word, &[last]),
+        None => answer_for(alloc, word, &[last]),
     }
 }
 
@@ -285,7 +291,7 @@ const WORDS: [u32; 16] = [
 fn ten_forms_stand_by_themselves(rt: HostRuntime) -> Result<(), Fail> {
     for kind in 0..=255u8 {
         let word = *WORDS.get(kind as usize / 16).ok_or("no word")?;
-        let told = answer_for(rt.alloc(), b"__DATA", word, &[Relocation(0, 1, kind)])?;
+        let told = answer_for(rt.alloc(), word, &[Relocation(0, 1, kind)])?;
         let expected = if TAKEN.contains(&kind) {
             LINKED
         } else {
@@ -317,12 +323,12 @@ const UNFIT: [(u8, u32); 13] = [
 #[test]
 fn words_that_do_not_fit_are_refused(rt: HostRuntime) -> Result<(), Fail> {
     for (kind, word) in UNFIT {
-        let told = answer_for(rt.alloc(), b"__DATA", word, &[Relocation(0, 0, kind)])?;
+        let told = answer_for(rt.alloc(), word, &[Relocation(0, 0, kind)])?;
         assert!(rt; told == [8, 0, 1, 0, 0], "{word:x}");
     }
     // of an import's slot any register may be loaded
     let zero_register = [Relocation(0, 2, kinds::SLOT_OFFSET)];
-    assert!(rt; answer_for(rt.alloc(), b"__DATA", 0xf940_001f, &zero_register)? == LINKED);
+    assert!(rt; answer_for(rt.alloc(), 0xf940_001f, &zero_register)? == LINKED);
     Ok(())
 }
 
@@ -395,7 +401,7 @@ const NO_PAIRS: [(u32, &[Relocation], u32); 8] = [
 #[test]
 fn pairs_stand_side_by_side_at_one_address(rt: HostRuntime) -> Result<(), Fail> {
     for (row, (word, relocations, expected)) in NO_PAIRS.iter().enumerate() {
-        let told = answer_for(rt.alloc(), b"__DATA", *word, relocations)?;
+        let told = answer_for(rt.alloc(), *word, relocations)?;
         assert!(rt; told == [8, 0, 1, *expected, 0], "{row}");
     }
     Ok(())
