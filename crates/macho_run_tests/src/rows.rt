@@ -1,6 +1,7 @@
 //! A row of a table: files and words, and what a run over them answers. One function runs them all.
 
 use macho_linked::LinkedImage;
+use macho_loader::Loaded;
 use macho_samples::{Library, Object, dylib_bytes, object_bytes, stub_bytes};
 use std::alloc::{AllocError, Global};
 use std::process::Abort;
@@ -217,6 +218,7 @@ pub(crate) fn links(rt: &impl Abort, alloc: Global, row: &Linked) -> Result<Link
     let answer = seen.ran;
     let image = answer.image.ok_or("no image")?;
     assert_eq!(rt; image.bytes.len(), row.length, "{}", row.shows);
+    assert!(rt; Loaded::accept(&image.bytes).is_ok(), "{}", row.shows);
     let told = told(alloc, &image)?;
     assert_eq!(rt; told.as_slice(), row.told.as_bytes(), "{}", row.shows);
     for (place, want) in row.bytes {
