@@ -14,6 +14,7 @@ PAGE = 0x4000
 TEXT, CONST, DATA, LINKEDIT = b"__TEXT", b"__DATA_CONST", b"__DATA", b"__LINKEDIT"
 REGULAR, ZEROFILL, LARGE_ZEROFILL, INITIALIZERS = 0, 1, 0xC, 9
 THREAD_DATA, THREAD_ZEROFILL, THREAD_VARIABLES, INIT_OFFSETS = 0x11, 0x12, 0x13, 0x16
+ZEROFILLS = (ZEROFILL, LARGE_ZEROFILL, THREAD_ZEROFILL)
 INSTRUCTIONS, DEBUG = 0x80000400, 0x02000000
 
 
@@ -38,7 +39,7 @@ class Section:
         return self.flags & 0xFF
 
     def is_zerofill(self):
-        return self.kind() in (ZEROFILL, LARGE_ZEROFILL, THREAD_ZEROFILL)
+        return self.kind() in ZEROFILLS
 
     def is_carried(self):
         if self.flags & DEBUG and self.name != b"__compact_unwind":
@@ -216,7 +217,7 @@ class Part:
     number: int = 0
 
     def is_zerofill(self):
-        return self.kind in (ZEROFILL, LARGE_ZEROFILL, THREAD_ZEROFILL)
+        return self.kind in ZEROFILLS
 
 
 class Link:
