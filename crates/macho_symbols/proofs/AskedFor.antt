@@ -55,7 +55,7 @@ pub count_is : (s : Solved) (n : ℕ) → n ≡ vec_len s.imports → n ≡ leng
 count_is s n is = is ∙ vec_len_is s.imports ∙ sym (length-map s.imports.items (λ i. i.name.items))
 
 pub same_grown : (s : Solved) → HasGrown s s
-same_grown s = record { files = refl; heads = refl; entries = refl; commons = refl; more = []; imports = sym (append-nil s.imports.items) }
+same_grown s = record { files = refl; heads = refl; entries = refl; found = refl; commons = refl; more = []; imports = sym (append-nil s.imports.items) }
 
 pub none_noted_yet : (s : Solved) → IsSolved s → HaveNoted s s []
 unfolding noting_names_in
@@ -109,6 +109,7 @@ grown_more a b c first second = record {
   files = second.files ∙ first.files;
   heads = second.heads ∙ first.heads;
   entries = second.entries ∙ first.entries;
+  found = second.found ∙ first.found;
   commons = second.commons ∙ first.commons;
   more = first.more ++ second.more;
   imports = second.imports ∙ ap (λ is. is ++ second.more) first.imports ∙ append_assoc a.imports.items first.more second.more;
@@ -119,6 +120,7 @@ unchanged_grown a b same = record {
   files = same.files;
   heads = same.heads;
   entries = same.entries;
+  found = same.found;
   commons = same.commons;
   more = [];
   imports = same.imports ∙ sym (append-nil a.imports.items);
@@ -164,12 +166,13 @@ missing_among files fs vs i v name (ExportListMissing n) within here is same tol
 
 -- what was noted is taken off
 pub taken_back : (a b c : Solved) (n : ℕ) → HasGrown a b → n ≡ length a.imports.items → c.files.items ≡ b.files.items
-    → c.table.heads.items ≡ b.table.heads.items → c.table.entries.items ≡ b.table.entries.items → c.commons.items ≡ b.commons.items
+    → c.table.heads.items ≡ b.table.heads.items → c.table.entries.items ≡ b.table.entries.items → c.found.items ≡ b.found.items → c.commons.items ≡ b.commons.items
     → c.imports.items ≡ take n b.imports.items → c.numbers.items ≡ a.numbers.items → IsUnchanged a c
-taken_back a b c n grown long files heads entries commons imports numbers = record {
+taken_back a b c n grown long files heads entries found commons imports numbers = record {
   files = files ∙ grown.files;
   heads = heads ∙ grown.heads;
   entries = entries ∙ grown.entries;
+  found = found ∙ grown.found;
   commons = commons ∙ grown.commons;
   imports = imports ∙ ap (take n) grown.imports ∙ take_at a.imports.items grown.more n (sym long);
   numbers = numbers;

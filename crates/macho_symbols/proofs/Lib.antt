@@ -12,6 +12,7 @@ pub mod ChosenOnes
 pub mod Classes
 pub mod Defined
 pub mod Entries
+pub mod FoundRows
 pub mod Greatest
 pub mod Improving
 pub mod Knowing

@@ -1,8 +1,8 @@
 //! Which symbols define their names, and the commons among them.
 ghost use Rattle.std.specs.Prelude.{◌≡◌, ◌^◌, ◌<◌, ◌++◌, ◌&&◌, ◌==◌, map, filter, length, true, IfOk, IfErr, OnOk};
 ghost use Rattle.macho_bytes.specs.Numbers.{rounded_up};
-ghost use Rattle.macho_symbols.specs.steps.Events.{row_count, event_at, events, events_of_file, strength};
-ghost use Rattle.macho_symbols.specs.steps.Tables.{IsKnown};
+ghost use Rattle.macho_symbols.specs.steps.Events.{row_at, row_count, event_at, events, events_of_file, strength};
+ghost use Rattle.macho_symbols.specs.steps.Tables.{IsKnown, IsEntryOf};
 ghost use Rattle.macho_symbols.specs.steps.Targets.{defines_in, is_chosen_in, is_of_object, chosen_in};
 ghost use Rattle.macho_symbols.specs.steps.Solved.{common_told};
 
@@ -24,6 +24,27 @@ pub(crate) fn is_of_object(sort: Sort) -> bool
     }
 }
 
+/// Whether a row is the definition of its name, of which the entry's number is given.
+pub(crate) fn is_definition(
+    files: &[FileNames],
+    table: &Table,
+    number: usize,
+    file: u32,
+    row: usize,
+) -> bool
+    requires file { file < length files.now }
+    requires row { row < row_count files.now file }
+    requires entry { IsEntryOf files.now table.now.entries.items (row_at files.now file row).name number }
+    requires known { IsKnown files.now table.now.heads.items table.now.entries.items (events files.now) }
+    ensures { result ≡ defines_in files.now (event_at files.now file row) }
+{
+    let best = table.entry(number);
+    note_in(files, file, row).global
+        && is_of_object(note_in(files, best.file, best.row as usize).sort)
+        && best.file == file
+        && best.row as usize == row
+}
+
 /// Whether a row is the definition of its name.
 pub(crate) fn defines(files: &[FileNames], table: &Table, file: u32, row: usize) -> bool
     requires file { file < length files.now }
@@ -38,10 +59,7 @@ pub(crate) fn defines(files: &[FileNames], table: &Table, file: u32, row: usize)
     let Some(number) = table.find_row(files, file, row, hash) else {
         return false;
     };
-    let best = table.entry(number);
-    is_of_object(note_in(files, best.file, best.row as usize).sort)
-        && best.file == file
-        && best.row as usize == row
+    is_definition(files, table, number, file, row)
 }
 
 /// Whether a row is a common that defines its name.

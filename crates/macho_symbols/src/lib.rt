@@ -7,6 +7,7 @@ mod ends;
 mod exports;
 mod fault;
 mod files;
+mod found;
 mod notes;
 mod resolve;
 mod resolved;

@@ -9,7 +9,6 @@ ghost use Rattle.macho_symbols.specs.Exported.{AreLists, AreExports};
 ghost use Rattle.macho_symbols.specs.Kept.{IsResolved, HasSymbol, symbol_id};
 ghost use Rattle.macho_symbols.specs.Told.{CommonsAre, ImportsAre, IsDefined, IsUndefined, noting, noting_names, AreDefined, IsMissing};
 
-use crate::choosing;
 use crate::exports::ExportName;
 use crate::fault::SymbolFault;
 use crate::solved::{Common, Import, Solved};
@@ -58,12 +57,7 @@ impl Resolved {
         requires { HasSymbol self.now file symbol }
         ensures { (l : Link) (noted : List (List ℕ)) → IsResolved l noted self.now → result ≡ defines l (symbol_id file symbol) }
     {
-        choosing::defines(
-            &self.solved.files,
-            &self.solved.table,
-            file,
-            symbol as usize,
-        )
+        self.solved.defines(file, symbol as usize)
     }
 
     /// The commons that were chosen, in order of their numbers: by file, then symbol.

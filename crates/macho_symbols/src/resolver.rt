@@ -8,6 +8,7 @@ ghost use Rattle.macho_symbols.specs.Kept.{Keeps, IsResolved, reading_of};
 use crate::choosing::chosen_commons;
 use crate::fault::SymbolFault;
 use crate::files::FileNames;
+use crate::found::found_entries;
 use crate::resolved::Resolved;
 use crate::solved::{Solved, UNNUMBERED};
 use crate::table::Table;
@@ -124,11 +125,13 @@ impl Resolver {
             return Err(fault);
         }
         let commons = chosen_commons(alloc, &files, &table)?;
+        let found = found_entries(alloc, &files, &table)?;
         let numbers = vec![in alloc; UNNUMBERED; table.entries.len()]?;
         Ok(Resolved {
             solved: Solved {
                 files,
                 table,
+                found,
                 commons,
                 imports: Vec::new(alloc),
                 numbers,

@@ -1,17 +1,19 @@
 //! What is known once all rows were taken in: where names and symbols lead, and which imports are noted.
-ghost use Rattle.std.specs.Prelude.{◌≡◌, ◌^◌, ◌<◌, ◌++◌, ◌∷◌, [], length, map, OnOk, OnErr, IfOk, IfErr};
+ghost use Rattle.std.specs.Prelude.{◌≡◌, ◌^◌, ◌<◌, ◌++◌, ◌∷◌, [], length, map, IfSome, OnOk, OnErr, IfOk, IfErr};
 ghost use Rattle.macho_symbols.specs.steps.Events.{row_at, row_count, event_at};
 ghost use Rattle.macho_symbols.specs.steps.Tables.{IsEntryOf};
-ghost use Rattle.macho_symbols.specs.steps.Targets.{named_in, target_in, own_in, base_target, chosen_in, id_of, is_next, is_nothing, noting_in};
+ghost use Rattle.macho_symbols.specs.steps.Targets.{named_in, target_in, own_in, base_target, defines_in, chosen_in, id_of, is_next, is_nothing, noting_in};
 ghost use Rattle.macho_symbols.specs.steps.Solved.{IsSolved, IsUnchanged, HasGrown, IsFoundIn, IsUndefinedIn, common_id, noted_of, library_in, is_before, AreAscending, IsPlaceOf};
 ghost use Rattle.std.specs.List.{position_or_len};
 ghost use Rattle.macho_model.specs.Resolution.{same_symbol};
 ghost use Rattle.macho_model.specs.Needs.{import_number};
 
+use crate::choosing::{defines, is_definition};
 use crate::fault::SymbolFault;
 use crate::files::FileNames;
+use crate::found::NO_ENTRY;
 use crate::notes::Sort;
-use crate::table::{Table, hash, name_in, note_in};
+use crate::table::{Table, name_in, note_in};
 use macho_model::Target;
 
 /// A symbol of a library that something of the link uses.
@@ -38,11 +40,13 @@ pub struct Common {
     pub align: u8,
 }
 
-/// The files, the table of names, the chosen commons and the imports noted so far.
+/// The files, the table of names with the entries of symbols, the chosen commons and the imports noted so far.
 #[derive(Drop)]
 pub(crate) struct Solved {
     pub(crate) files: Vec<FileNames>,
     pub(crate) table: Table,
+    /// For each file the entries of its rows, as far as they were looked for.
+    pub(crate) found: Vec<Vec<u32>>,
     pub(crate) commons: Vec<Common>,
     pub(crate) imports: Vec<Import>,
     /// For each name of the table the number of its import, or `UNNUMBERED`.
@@ -182,6 +186,23 @@ impl Solved {
         }
     }
 
+    /// The entry of a row's name, where it was looked for.
+    pub(crate) fn found_entry(&self, file: u32, row: usize) -> Option<usize>
+        requires { IsSolved self.now }
+        ensures { IfSome result (IsEntryOf self.now.files.items self.now.table.entries.items (row_at self.now.files.items file row).name) }
+    {
+        let file = file as usize;
+        if self.found.len() <= file || self.found[file].len() <= row {
+            return None;
+        }
+        let number = self.found[file][row];
+        if number == NO_ENTRY {
+            None
+        } else {
+            Some(number as usize)
+        }
+    }
+
     /// Where the name of a row leads.
     fn named_row(&self, file: u32, row: usize) -> Target
         requires file { file < length self.now.files.items }
@@ -190,9 +211,22 @@ impl Solved {
         ensures { result ≡ named_in self.now.files.items (noted_of self.now.imports.items) (row_at self.now.files.items file row).name }
     {
         let name = name_in(&self.files, file, row);
-        match self.table.find_row(&self.files, file, row, hash(name)) {
+        match self.found_entry(file, row) {
             Some(number) => self.lead(number, name),
-            None => base_target(name),
+            None => self.named(name),
+        }
+    }
+
+    /// Whether a symbol is the definition of its name.
+    pub(crate) fn defines(&self, file: u32, row: usize) -> bool
+        requires file { file < length self.now.files.items }
+        requires row { row < row_count self.now.files.items file }
+        requires solved { IsSolved self.now }
+        ensures { result ≡ defines_in self.now.files.items (event_at self.now.files.items file row) }
+    {
+        match self.found_entry(file, row) {
+            Some(number) => is_definition(&self.files, &self.table, number, file, row),
+            None => defines(&self.files, &self.table, file, row),
         }
     }
 

@@ -11,6 +11,7 @@ use Rattle.macho_symbols.specs.declared.solved.TheConstants.{UNNUMBERED}
 use Rattle.macho_symbols.specs.Kept.{FileRows, no_file}
 use Rattle.macho_symbols.specs.steps.Events.{Event, events, best_of, library_text}
 use Rattle.macho_symbols.specs.steps.Tables.{IsKnown, names_of}
+use Rattle.macho_symbols.specs.steps.Found.{AreFound}
 use Rattle.macho_symbols.specs.steps.Targets.{chosen_in, definition_by, named_in, is_nothing, is_missing_in, noting_names_in}
 use Rattle.macho_symbols.specs.declared.fault.SymbolFault.{SymbolFault}
 use Rattle.macho_symbols.specs.declared.fault.SymbolFault.TheVariants.{DuplicateSymbol, UndefinedSymbol, ExportListMissing, OutOfMemory}
@@ -57,6 +58,7 @@ IsImportIn files i =
 -- all that is known
 pub record IsSolved (s : Solved) : Type 0 where
   pub known : IsKnown s.files.items s.table.heads.items s.table.entries.items (events s.files.items)
+  pub found : AreFound s.files.items s.table.entries.items s.found.items
   pub commons : s.commons.items ≡ map common_told (chosen_in s.files.items)
   pub few_commons : length s.commons.items < 2 ^ 32
   pub few_imports : length s.imports.items < UNNUMBERED + 1
@@ -70,6 +72,7 @@ pub record IsUnchanged (old new : Solved) : Type 0 where
   pub files : new.files.items ≡ old.files.items
   pub heads : new.table.heads.items ≡ old.table.heads.items
   pub entries : new.table.entries.items ≡ old.table.entries.items
+  pub found : new.found.items ≡ old.found.items
   pub commons : new.commons.items ≡ old.commons.items
   pub imports : new.imports.items ≡ old.imports.items
   pub numbers : new.numbers.items ≡ old.numbers.items
@@ -91,6 +94,7 @@ pub record HasGrown (old new : Solved) : Type 0 where
   pub files : new.files.items ≡ old.files.items
   pub heads : new.table.heads.items ≡ old.table.heads.items
   pub entries : new.table.entries.items ≡ old.table.entries.items
+  pub found : new.found.items ≡ old.found.items
   pub commons : new.commons.items ≡ old.commons.items
   pub more : List Import
   pub imports : new.imports.items ≡ old.imports.items ++ more

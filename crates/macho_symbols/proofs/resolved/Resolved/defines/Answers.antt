@@ -7,6 +7,6 @@ use Rattle.macho_symbols.proofs.resolved.Resolved.defines.Goals as goal
 
 pub returns : goal.returns
 returns c l noted is =
-    (rw c.deref.ensures.value at c.defines.ensures)
+    c.defines.ensures
     ∙ ap (λ (r : ResolvedRows). defines_in r.files (event_at r.files c.args.file c.args.symbol)) c.self.view_is
     ∙ defines_here l noted c.args.self.now c.args.file c.args.symbol is c.requires

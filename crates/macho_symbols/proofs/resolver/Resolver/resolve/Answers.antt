@@ -33,6 +33,7 @@ unnumbered numbers n name j is within =
 pub invariant_of-result : goal.invariant_of-result
 invariant_of-result c = record {
   known = rw (← c.deref-2.ensures.value) c.in_default.ensures.done;
+  found = rw (← c.deref-4.ensures.value) c.in_ok-found.ensures;
   commons = rw (← c.deref-3.ensures.value) c.in_ok-commons.ensures.commons;
   few_commons = c.in_ok-commons.ensures.few;
   few_imports = omega (arith, ap length c.new-2.ensures.items);

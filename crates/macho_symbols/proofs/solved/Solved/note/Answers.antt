@@ -24,8 +24,8 @@ pub returns-in_err-push-clause-kept : goal.returns-in_err-push-clause-kept
 returns-in_err-push-clause-kept c =
     let s = c.args.self.now in
     let same : IsUnchanged s
-    (record { files = s.files; table = s.table; commons = s.commons; imports = c.push.new.self; numbers = s.numbers }) =
-    record { files = refl; heads = refl; entries = refl; commons = refl; imports = c.in_err-push.ensures.items; numbers = refl } in
+    (record { files = s.files; table = s.table; found = s.found; commons = s.commons; imports = c.push.new.self; numbers = s.numbers }) =
+    record { files = refl; heads = refl; entries = refl; found = refl; commons = refl; imports = c.in_err-push.ensures.items; numbers = refl } in
     on_err _ _ same
 
 vec_len_is : {X A : Type 0} (v : Vec X A) → vec_len v ≡ length v.items
@@ -50,6 +50,7 @@ returns-clause-solved c =
     ∙ ap (λ fs. library_in fs c.entry-library.result.file) c.deref-3.ensures.value in
     record {
       known = c.requires.solved.known;
+      found = c.requires.solved.found;
       commons = c.requires.solved.commons;
       few_commons = c.requires.solved.few_commons;
       few_imports = omega (arith, grown, told, c.if-len.false);
@@ -67,4 +68,4 @@ returns-clause-solved c =
 
 pub returns-clause-grown : goal.returns-clause-grown
 returns-clause-grown c = record
-    { files = refl; heads = refl; entries = refl; commons = refl; more = _ ∷ []; imports = c.in_ok-push.ensures.items }
+    { files = refl; heads = refl; entries = refl; found = refl; commons = refl; more = _ ∷ []; imports = c.in_ok-push.ensures.items }
