@@ -115,34 +115,19 @@ impl Findings {
         ensures told { (l : Link) (counts : Counts) → AreStanding l self → IfSome result (Stands l counts) }
         ensures none { IfNone result (IsClean self) }
     {
-        if let Some(
-            Place {
-                file,
-                section,
-                relocation,
-            },
-        ) = self.unsupported
-        {
+        if let Some(at) = self.unsupported {
             return Some(LinkError::UnsupportedRelocation {
-                file,
-                section,
-                relocation,
+                file: at.file,
+                section: at.section,
+                relocation: at.relocation,
             });
         }
-        if let Some(
-            Pair {
-                file,
-                section,
-                first,
-                second,
-            },
-        ) = self.overlap
-        {
+        if let Some(pair) = self.overlap {
             return Some(LinkError::OverlappingFields {
-                file,
-                section,
-                first,
-                second,
+                file: pair.file,
+                section: pair.section,
+                first: pair.first,
+                second: pair.second,
             });
         }
         if let Some(Addend { place, addend }) = self.addend {
@@ -153,20 +138,12 @@ impl Findings {
                 addend,
             });
         }
-        match self.place {
-            Some(
-                Place {
-                    file,
-                    section,
-                    relocation,
-                },
-            ) => Some(LinkError::FixupPlace {
-                file,
-                section,
-                relocation,
-                placement: None,
-            }),
-            None => None,
-        }
+        let at = self.place?;
+        Some(LinkError::FixupPlace {
+            file: at.file,
+            section: at.section,
+            relocation: at.relocation,
+            placement: None,
+        })
     }
 }
