@@ -2,13 +2,14 @@
 --
 -- A path that holds a file is the first of its list that does, where all before it hold none. An input that is found and taken
 -- stands behind those before it: the files are one more, the link has its input last, and the paths end with its own. What
--- refused it is the cause of a fault of the whole: the input is among those that were asked for, and a count that rose in this
--- call rose since the first, since no count falls.
-use Rattle.std.proofs.Common.{◌≡◌, ℕ, suc, ◌+◌, ◌<◌, ◌≤◌, inl, inr, arith, ap, sym, subst, ◌∙◌, List, [], ◌∷◌, ◌++◌, map, take, drop, length, get_or, All, Option, Some, None, String, Contains, Result, Ok, Err, OnOk}
+-- refused it is the cause of a fault of the whole: the inputs before it are taken, and a count that rose in this call rose since
+-- the first, since no count falls. A list is asked for behind all inputs.
+use Rattle.std.proofs.Common.{◌≡◌, ℕ, suc, ◌+◌, ◌<◌, ◌≤◌, inl, inr, arith, ap, sym, subst, ◌∙◌, List, []}
+use Rattle.std.proofs.Common.{◌∷◌, ◌++◌, map, take, drop, length, get_or, All, Option, Some, None, String, Result, Ok, Err, OnOk}
 use Rattle.std.specs.Prelude.{IfErr}
 use Rattle.std.proofs.Math.Seq.{drop-cons}
 use Rattle.std.proofs.lemmas.Bool.{cases_lt}
-use Rattle.std.proofs.lemmas.List.{take-append-drop, take_all, map-append, map_more, get_or-map, length-map}
+use Rattle.std.proofs.lemmas.List.{take-append-drop, take_all, map-append, map_more}
 use Rattle.std.proofs.lemmas.Slice.Zip.{all_zipped_more}
 use Rattle.std.specs.List.{AllZip}
 use Rattle.std.specs.String.{string_bytes}
@@ -24,7 +25,7 @@ use Rattle.macho_job.specs.declared.fault.Fault.{Fault}
 use Rattle.macho_job.specs.declared.fault.Fault.TheVariants as fault
 use Rattle.macho_job.specs.Search.{candidates_of, HeldAt, IsMissing, IsFirstHeld}
 use Rattle.macho_job.specs.Job.{SourceFile, IsTaken, IsListed, Links}
-use Rattle.macho_job.specs.Causes.{IsAsked, JobFails, reading}
+use Rattle.macho_job.specs.Causes.{IsAsked, IsListAsked, JobFails, reading}
 use Rattle.macho_job.specs.steps.Gathering.{TakesFile, TakesBytesOf, InputFails, ListFails, Gathered, HaveInputs, HaveLists}
 
 -- what a read says of the bytes that it gave, and of a path without a file
@@ -33,19 +34,25 @@ pub read-held : (told : Option Store) (path bytes : List ℕ) (answer : Option (
 read-held None path bytes answer reads is = tt
 read-held (Some files) path bytes answer reads is = sym reads ∙ is
 
+-- a list, as it is seen, at one of its elements
+pub seen-split : {X Y : Type 0} (f : X → Y) (xs : List X) (i : ℕ) (x : X) → i < length xs → x ≡ get_or xs i x
+    → map f xs ≡ map f (take i xs) ++ f x ∷ map f (drop (suc i) xs)
+seen-split {X} {Y} f xs i x within at =
+    ap (map f) (sym (take-append-drop i xs))
+    ∙ (map-append f (take i xs) (drop i xs)
+    ∙ (ap (λ (rest : List X). map f (take i xs) ++ map f rest) (drop-cons xs i x within)
+    ∙ ap (λ (y : Y). map f (take i xs) ++ y ∷ map f (drop (suc i) xs)) (ap f (sym at))))
+
 -- a path is the first that holds a file
 pub first-held : {A : Type 0} (told now : Option Store) (paths : List (String A)) (i : ℕ) (path : String A) (text name bytes : List ℕ)
     (answer : Option (List ℕ)) → now ≡ told → i < length paths → path ≡ get_or paths i path → All (IsMissing told) (map string_bytes (take i paths))
     → ReadsFile now text answer → text ≡ string_bytes path → answer ≡ Some bytes → name ≡ text → IsFirstHeld told (map string_bytes paths) name bytes
 first-held told now paths i path text name bytes answer same within at missing reads is_text some is_name =
-    let here : string_bytes (get_or paths i path) ≡ name = ap string_bytes (sym at) ∙ (sym is_text ∙ sym is_name) in
     record {
       before = map string_bytes (take i paths);
       behind = map string_bytes (drop (suc i) paths);
-      split = ap (map string_bytes) (sym (take-append-drop i paths))
-          ∙ (map-append string_bytes (take i paths) (drop i paths)
-          ∙ (ap (λ rest. map string_bytes (take i paths) ++ map string_bytes rest) (drop-cons paths i path within)
-          ∙ ap (λ (t : List ℕ). map string_bytes (take i paths) ++ t ∷ map string_bytes (drop (suc i) paths)) here));
+      split = seen-split string_bytes paths i path within at
+          ∙ ap (λ (t : List ℕ). map string_bytes (take i paths) ++ t ∷ map string_bytes (drop (suc i) paths)) (sym is_text ∙ sym is_name);
       missing = missing;
       held = subst (λ (t : List ℕ). HeldAt told t bytes) (sym is_name)
           (subst (λ (o : Option Store). HeldAt o text bytes) same (read-held now text bytes answer reads some));
@@ -116,10 +123,6 @@ lists-more {A} told now s Such lists i list paths l m text same within at have h
       linked = added ∙ ap (λ (k : Link). with_export_list k text) have.linked;
     }
 
--- an element of a list, as it is seen
-pub seen-item : {X Y : Type 0} (f : X → Y) (xs : List X) (i : ℕ) (x : X) → i < length xs → x ≡ get_or xs i x → Contains (map f xs) (f x)
-seen-item f xs i x within at = (i, omega (arith, within, length-map xs f), get_or-map f xs i x (f x) within ∙ ap f (sym at))
-
 -- a count that rose rose since an earlier value
 pub rose-since : (old mid new : ℕ) → CountsOn old mid → CountsOn mid new → CountRose mid new → CountRose old new
 rose-since old mid new before after (inl rose) = inl (omega (arith, before.never_falls, rose))
@@ -129,14 +132,27 @@ rose-since old mid new before after (inr stood) =
       | inr above ↦ inr (omega (arith, before.never_falls, after.never_falls, stood, above))
     ]
 
--- what refused an input is the cause of a fault of the whole
-pub input-fails : (told now : Option Store) (s : Settings) (paths : List (List ℕ)) (asked : Input) (old mid new : ℕ) (f : Fault) → now ≡ told
-    → Contains s.inputs asked → s.generate ≡ None → CountsOn old mid → CountsOn mid new → InputFails now s paths asked mid new f → JobFails told s paths (reading old) (reading new) f
-input-fails told now s paths asked old mid new f same among alone before after fails =
+-- what refused an input is the cause of a fault of the whole: those before it are taken
+pub input-fails : (told now : Option Store) (s : Settings) (specs : List InputSpec) (i : ℕ) (spec : InputSpec) (seen paths : List (List ℕ))
+    (l : Link) (old mid new : ℕ) (f : Fault) → now ≡ told → s.inputs ≡ map input_of specs → i < length specs → spec ≡ get_or specs i spec
+    → HaveInputs told s (map input_of (take i specs)) seen l → s.generate ≡ None → CountsOn old mid → CountsOn mid new
+    → InputFails now s paths (input_of spec) mid new f → JobFails told s paths (reading old) (reading new) f
+input-fails told now s specs i spec seen paths l old mid new f same asks within at have alone before after fails =
     by f (subst (λ (o : Option Store). InputFails o s paths asked mid new f) same fails)
   where
-    this : (word : ℕ) → word ≡ word_of asked → IsAsked s word asked
-    this word is = record { among = among; stands_in = is; alone = alone }
+    asked : Input
+    asked = input_of spec
+
+    this : (word : ℕ) → word ≡ word_of asked → IsAsked told s word asked
+    this word is = record {
+      before = map input_of (take i specs);
+      behind = map input_of (drop (suc i) specs);
+      split = asks ∙ seen-split input_of specs i spec within at;
+      files = have.files;
+      taken = have.are;
+      stands_in = is;
+      alone = alone;
+    }
 
     by : (f : Fault) → InputFails told s paths asked mid new f → JobFails told s paths (reading old) (reading new) f
     by (fault.MissingFile word) (is, missing) = inl (asked, this word is, missing)
@@ -155,14 +171,35 @@ pub all-lists : {A : Type 0} (told : Option Store) (s : Settings) (lists : List 
 all-lists {A} told s lists i paths l end have =
     subst (λ (xs : List (ℕ × String A)). HaveLists told s (map (λ p. (p.0, string_bytes p.1)) xs) paths l) (take_all i lists end) have
 
--- what refused a list is the cause of a fault of the whole
-pub list-fails : (told now : Option Store) (s : Settings) (paths : List (List ℕ)) (word : ℕ) (path : List ℕ) (old mid new : ℕ) (f : Fault) → now ≡ told
-    → Contains s.export_list_paths (word, path) → CountsOn old mid → CountsOn mid new → ListFails now word path mid new f → JobFails told s paths (reading old) (reading new) f
-list-fails told now s paths word path old mid new f same among before after fails =
+-- what refused a list is the cause of a fault of the whole: the inputs are taken, and the lists before it held
+pub list-fails : {A : Type 0} (told now : Option Store) (s : Settings) (lists : List (ℕ × String A)) (i : ℕ) (list : ℕ × String A)
+    (seen paths : List (List ℕ)) (l : Link) (old mid new : ℕ) (f : Fault) → now ≡ told
+    → s.export_list_paths ≡ map (λ p. (p.0, string_bytes p.1)) lists → i < length lists → list ≡ get_or lists i list
+    → HaveLists told s (map (λ p. (p.0, string_bytes p.1)) (take i lists)) seen l → CountsOn old mid → CountsOn mid new
+    → ListFails now list.0 (string_bytes list.1) mid new f → JobFails told s paths (reading old) (reading new) f
+list-fails {A} told now s lists i list seen paths l old mid new f same asks within at have before after fails =
     by f (subst (λ (o : Option Store). ListFails o word path mid new f) same fails)
   where
-    this : (w : ℕ) → w ≡ word → Contains s.export_list_paths (w, path)
-    this w is = subst (λ (v : ℕ). Contains s.export_list_paths (v, path)) (sym is) among
+    plain : ℕ × String A → ℕ × List ℕ
+    plain p = (p.0, string_bytes p.1)
+
+    word : ℕ
+    word = list.0
+
+    path : List ℕ
+    path = string_bytes list.1
+
+    this : (w : ℕ) → w ≡ word → IsListAsked told s w path
+    this w is = record {
+      files = have.files;
+      are = have.are;
+      before = map plain (take i lists);
+      behind = map plain (drop (suc i) lists);
+      split = asks ∙ (seen-split plain lists i list within at
+          ∙ ap (λ (v : ℕ). map plain (take i lists) ++ (v, path) ∷ map plain (drop (suc i) lists)) (sym is));
+      texts = have.texts;
+      listed = have.listed;
+    }
 
     by : (f : Fault) → ListFails told word path mid new f → JobFails told s paths (reading old) (reading new) f
     by (fault.MissingFile w) (is, missing) = inr (path, this w is, missing)
@@ -208,8 +245,10 @@ lists-joined told now s paths l m r same have more =
     (more (lists-since told now s [] paths l same have))
 
 -- a list was refused
-pub lists-fail : {T : Type 0} (told now : Option Store) (s : Settings) (paths : List (List ℕ)) (old mid new : ℕ) (r : Result T Fault) → now ≡ told
-    → CountsOn old mid → CountsOn mid new → IfErr r (λ f. (ps : List (List ℕ)) → JobFails now s ps (reading mid) (reading new) f)
+pub lists-fail : {T : Type 0} (told now : Option Store) (s : Settings) (paths : List (List ℕ)) (l : Link) (old mid new : ℕ)
+    (r : Result T Fault) → now ≡ told → CountsOn old mid → CountsOn mid new → HaveLists told s [] paths l
+    → IfErr r (λ f. (ps : List (List ℕ)) → HaveLists now s [] ps l → JobFails now s ps (reading mid) (reading new) f)
     → IfErr r (JobFails told s paths (reading old) (reading new))
-lists-fail told now s paths old mid new (Ok x) same before after why = tt
-lists-fail told now s paths old mid new (Err f) same before after why = later-fails told now s paths old mid new f same before after (why paths)
+lists-fail told now s paths l old mid new (Ok x) same before after have why = tt
+lists-fail told now s paths l old mid new (Err f) same before after have why =
+    later-fails told now s paths old mid new f same before after (why paths (lists-since told now s [] paths l same have))

@@ -65,12 +65,14 @@ all-made told s n i paths start l asked empty low high linked objects named =
     }
 
 pub made-fails : (told : Option Store) (s : Settings) (n i : ℕ) (paths : List (List ℕ)) (old new : Failures) (f : Fault) → s.generate ≡ Some n → i < n
-    → paths ≡ map generated_path (range_with_len 0 (i + 1)) → MadeFails i n f → JobFails told s paths old new f
-made-fails told s n i paths old new (fault.Input at refusal) asked below named (is, refused, kept) =
+    → ((k : ℕ) → k < i → IsObject (generated_object k n)) → paths ≡ map generated_path (range_with_len 0 (i + 1)) → MadeFails i n f
+    → JobFails told s paths old new f
+made-fails told s n i paths old new (fault.Input at refusal) asked below objects named (is, refused, kept) =
     inr (record {
       count = n;
       asked = asked;
       below = omega (arith, below, is);
+      before = λ k less. objects k (omega (arith, less, is));
       last = record {
         before = map generated_path (range_with_len 0 i);
         split = named ∙ (map-range_with_len_more generated_path 0 i i (omega arith)
@@ -79,11 +81,11 @@ made-fails told s n i paths old new (fault.Input at refusal) asked below named (
       refused = subst (λ (j : ℕ). ObjectRefused (generated_object j n) refusal) (sym is) refused;
       no_memory = kept;
     })
-made-fails told s n i paths old new (fault.MissingFile word) asked below named none = absurd none
-made-fails told s n i paths old new (fault.UnknownKind word kind) asked below named none = absurd none
-made-fails told s n i paths old new (fault.Link refusal) asked below named none = absurd none
-made-fails told s n i paths old new (fault.Words refusal) asked below named none = absurd none
-made-fails told s n i paths old new (fault.Read word) asked below named none = absurd none
-made-fails told s n i paths old new fault.Write asked below named none = absurd none
-made-fails told s n i paths old new fault.Print asked below named none = absurd none
-made-fails told s n i paths old new fault.OutOfMemory asked below named none = tt
+made-fails told s n i paths old new (fault.MissingFile word) asked below objects named none = absurd none
+made-fails told s n i paths old new (fault.UnknownKind word kind) asked below objects named none = absurd none
+made-fails told s n i paths old new (fault.Link refusal) asked below objects named none = absurd none
+made-fails told s n i paths old new (fault.Words refusal) asked below objects named none = absurd none
+made-fails told s n i paths old new (fault.Read word) asked below objects named none = absurd none
+made-fails told s n i paths old new fault.Write asked below objects named none = absurd none
+made-fails told s n i paths old new fault.Print asked below objects named none = absurd none
+made-fails told s n i paths old new fault.OutOfMemory asked below objects named none = tt

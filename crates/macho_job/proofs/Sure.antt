@@ -3,7 +3,7 @@
 -- The store holds one text under a path, so what is linked is determined. Each cause of a fault then meets what is known of the
 -- job: an input that was asked for is found, its bytes begin as an input and are one; a made object keeps the rules; a list is
 -- held; no refusal of the link stands; and no count rose. Only want of memory is left.
-use Rattle.std.proofs.Common.{◌≡◌, ℕ, zero, suc, ◌<◌, arith, refl, ap, sym, subst, ◌∙◌, inl, inr, ◌⊎◌, true, false, Bool}
+use Rattle.std.proofs.Common.{◌≡◌, ℕ, suc, ◌<◌, arith, refl, ap, sym, subst, ◌∙◌, inl, inr, ◌⊎◌, true, false, Bool}
 use Rattle.std.proofs.Common.{List, [], ◌∷◌, ◌++◌, Option, Some, None, Contains, All}
 use Rattle.std.proofs.lemmas.List.Elements.{All-contains}
 use Rattle.std.specs.List.{AllZip}
@@ -33,11 +33,12 @@ use Rattle.macho_job.specs.Causes.{Failures, NoneFailed, IsAsked, IsNoText, Byte
 use Rattle.macho_job.proofs.Determined.{one-held, not-missing, linked-once}
 
 -- an element of a list has its partner
-partner : {X Y : Type 0} (R : X → Y → Type 0) (xs : List X) (ys : List Y) (x : X) → AllZip R xs ys → Contains xs x → (y : Y) × R x y
-partner R [] ys x all (k, within, is) = absurd (omega (arith, within))
-partner R (first ∷ xs) [] x all (k, within, is) = absurd all
-partner {X} {Y} R (first ∷ xs) (y ∷ ys) x all (zero, within, is) = let P : X → Type 0 = λ z. R z y in (y, subst P is all.0)
-partner R (first ∷ xs) (y ∷ ys) x all (suc k, within, is) = partner R xs ys x all.1 (k, omega (arith, within), is)
+partner : {X Y : Type 0} (R : X → Y → Type 0) (before behind : List X) (x : X) (ys : List Y) → AllZip R (before ++ x ∷ behind) ys
+    → (y : Y) × R x y
+partner R [] behind x [] all = absurd all
+partner R [] behind x (y ∷ ys) all = (y, all.0)
+partner R (first ∷ before) behind x [] all = absurd all
+partner R (first ∷ before) behind x (y ∷ ys) all = partner R before behind x ys all.1
 
 never-rose : (old new last : ℕ) → new ≡ old → old < last → (old < new) ⊎ (old ≡ last) → ⊥
 never-rose old new last same below (inl rose) = omega arith
@@ -45,8 +46,10 @@ never-rose old new last same below (inr stood) = omega arith
 
 -- an input that was asked for is taken
 asked-file : (files : Store) (s : Settings) (word : ℕ) (asked : args.Input) (count : Option ℕ) (fs : List SourceFile) → s.generate ≡ count
-    → AreFiles (Some files) s count fs → IsAsked s word asked → (f : SourceFile) × IsTaken (Some files) s asked f
-asked-file files s word asked None fs is are asks = partner (IsTaken (Some files) s) s.inputs fs asked are asks.among
+    → AreFiles (Some files) s count fs → IsAsked (Some files) s word asked → (f : SourceFile) × IsTaken (Some files) s asked f
+asked-file files s word asked None fs is are asks =
+    partner (IsTaken (Some files) s) asks.before asks.behind asked fs
+    (subst (λ (xs : List args.Input). AllZip (IsTaken (Some files) s) xs fs) asks.split are)
 asked-file files s word asked (Some n) fs is are asks = absurd (let h : Some n ≡ None = sym is ∙ asks.alone in let no : ⊥ = cc in no)
 
 -- a path that is held stands among the candidates
@@ -224,8 +227,9 @@ pub sure-fault : (files : Store) (s : Settings) (paths qs : List (List ℕ)) (l 
 sure-fault files s paths qs l old new (fault.MissingFile word) links clear calm (inl (asked, asks, missing)) =
     let f = asked-file files s word asked s.generate links.files refl links.are asks in
     absurd (held-among files (candidates_of s asked) f.0.path f.1.bytes f.1.found missing)
-sure-fault files s paths qs l old new (fault.MissingFile word) links clear calm (inr (list, among, missing)) =
-    let text = partner (IsListed (Some files)) s.export_list_paths links.lists (word, list) links.listed among in
+sure-fault files s paths qs l old new (fault.MissingFile word) links clear calm (inr (list, asks, missing)) =
+    let text = partner (IsListed (Some files)) asks.before asks.behind (word, list) links.lists
+    (subst (λ (xs : List (ℕ × List ℕ)). AllZip (IsListed (Some files)) xs links.lists) asks.split links.listed) in
     absurd (not-missing files list text.0 missing text.1)
 sure-fault files s paths qs l old new (fault.UnknownKind word kind) links clear calm (asked, asks, unknown) =
     let f = asked-file files s word asked s.generate links.files refl links.are asks in

@@ -1,11 +1,13 @@
 -- When each fault of a run may come, and the status that it ends with.
-use Rattle.std.specs.Prelude.{◌≡◌, ℕ, ◌<◌, ◌⊎◌, true, false, List, [], ◌∷◌, ◌++◌, Contains, Option, None, Some, All, IsUtf8}
+use Rattle.std.specs.Prelude.{◌≡◌, ℕ, ◌<◌, ◌⊎◌, true, false, List, [], ◌∷◌, ◌++◌, Option, None, Some, All, IsUtf8}
+use Rattle.std.specs.List.{AllZip}
 use Rattle.macho_args.specs.Settings as args
 use Rattle.macho_args.specs.Settings.{Settings, word_of}
 use Rattle.macho_args.specs.Store.{Store}
 use Rattle.macho_args.specs.SearchPaths.{IsRefused}
 use Rattle.macho_model.specs.Links.{Link}
 use Rattle.macho_model.specs.Faults.{bad_name}
+use Rattle.macho_model.specs.Grammar.{IsObject}
 use Rattle.macho_faults.specs.declared.fault.LinkError.{LinkError}
 use Rattle.macho_faults.specs.declared.fault.LinkError.TheVariants as error
 use Rattle.macho_faults.specs.declared.fault.InputFault.TheVariants as input
@@ -20,7 +22,7 @@ use Rattle.macho_job.specs.declared.heads.Head.TheVariants as head
 use Rattle.macho_job.specs.Heads.{head_of}
 use Rattle.macho_job.specs.Search.{candidates_of, IsMissing, IsFirstHeld}
 use Rattle.macho_job.specs.Generator.{generated_object, generated_path}
-use Rattle.macho_job.specs.Job.{Links}
+use Rattle.macho_job.specs.Job.{SourceFile, IsTaken, AreFiles, IsListed, Links}
 
 -- the status that a run ends with
 abbrev pub status_of : Option Fault → ℕ
@@ -83,11 +85,12 @@ pub record InputRefused (told : Option Store) (s : Settings) (paths : List (List
   pub refused : BytesRefused (head_of bytes) bytes refusal
   pub no_memory : refusal ≡ error.OutOfMemory → ⊥
 
--- a made object is refused; told by its number
+-- a made object is refused, told by its number; those before it are objects
 pub record MadeRefused (s : Settings) (paths : List (List ℕ)) (i : ℕ) (refusal : LinkError) : Type 0 where
   pub count : ℕ
   pub asked : s.generate ≡ Some count
   pub below : i < count
+  pub before : (k : ℕ) → k < i → IsObject (generated_object k count)
   pub last : EndsWith paths (generated_path i)
   pub refused : ObjectRefused (generated_object i count) refusal
   pub no_memory : refusal ≡ error.OutOfMemory → ⊥
@@ -99,11 +102,26 @@ LinkRefused told s paths (error.BadInput fault) = ⊥
 LinkRefused told s paths error.OutOfMemory = ⊥
 LinkRefused told s paths refusal = (l : Link) × Links told s paths l × RefusalStands l refusal
 
--- An input that was asked for, by the index of its word; none is where objects are made.
-pub record IsAsked (s : Settings) (word : ℕ) (asked : args.Input) : Type 0 where
-  pub among : Contains s.inputs asked
+-- An input that was asked for, by the index of its word; each one before it was taken. None is where objects are made.
+pub record IsAsked (told : Option Store) (s : Settings) (word : ℕ) (asked : args.Input) : Type 0 where
+  pub before : List args.Input
+  pub behind : List args.Input
+  pub split : s.inputs ≡ before ++ asked ∷ behind
+  pub files : List SourceFile
+  pub taken : AllZip (IsTaken told s) before files
   pub stands_in : word ≡ word_of asked
   pub alone : s.generate ≡ None
+
+-- An export list that was asked for, by the index of its word: all inputs were taken, or the objects made, and each list before
+-- it is held.
+pub record IsListAsked (told : Option Store) (s : Settings) (word : ℕ) (path : List ℕ) : Type 0 where
+  pub files : List SourceFile
+  pub are : AreFiles told s s.generate files
+  pub before : List (ℕ × List ℕ)
+  pub behind : List (ℕ × List ℕ)
+  pub split : s.export_list_paths ≡ before ++ (word, path) ∷ behind
+  pub texts : List (List ℕ)
+  pub listed : AllZip (IsListed told) before texts
 
 -- the bytes of a path, where none of the paths before it holds a file, begin as no input
 pub record IsUnknown (told : Option Store) (s : Settings) (asked : args.Input) (head : Head) : Type 0 where
@@ -115,15 +133,16 @@ pub record IsUnknown (told : Option Store) (s : Settings) (asked : args.Input) (
 -- THE causes of the faults of settings, a row for each; `paths` are those of the files that were read. Want of memory is free.
 abbrev pub JobFails : Option Store → Settings → List (List ℕ) → Failures → Failures → Fault → Type 0
 JobFails told s paths old new (MissingFile word) =
-    ((asked : args.Input) × IsAsked s word asked × All (IsMissing told) (candidates_of s asked))
-    ⊎ ((list : List ℕ) × Contains s.export_list_paths (word, list) × IsMissing told list)
-JobFails told s paths old new (UnknownKind word kind) = (asked : args.Input) × IsAsked s word asked × IsUnknown told s asked (head.Unknown kind)
+    ((asked : args.Input) × IsAsked told s word asked × All (IsMissing told) (candidates_of s asked))
+    ⊎ ((list : List ℕ) × IsListAsked told s word list × IsMissing told list)
+JobFails told s paths old new (UnknownKind word kind) =
+    (asked : args.Input) × IsAsked told s word asked × IsUnknown told s asked (head.Unknown kind)
 JobFails told s paths old new (Input word refusal) =
-    ((asked : args.Input) × IsAsked s word asked × InputRefused told s paths asked refusal) ⊎ MadeRefused s paths word refusal
+    ((asked : args.Input) × IsAsked told s word asked × InputRefused told s paths asked refusal) ⊎ MadeRefused s paths word refusal
 JobFails told s paths old new (LinkFault refusal) = LinkRefused told s paths refusal
 JobFails told s paths old new (Words fault) = ⊥
 JobFails told s paths old new (Read word) =
-    (((asked : args.Input) × IsAsked s word asked) ⊎ ((list : List ℕ) × Contains s.export_list_paths (word, list))) × CountRose old.reads new.reads
+    (((asked : args.Input) × IsAsked told s word asked) ⊎ ((list : List ℕ) × IsListAsked told s word list)) × CountRose old.reads new.reads
 JobFails told s paths old new Write = CountRose old.writes new.writes
 JobFails told s paths old new Print = CountRose old.prints new.prints
 JobFails told s paths old new OutOfMemory = Unit {0}

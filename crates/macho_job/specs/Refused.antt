@@ -1,20 +1,8 @@
--- The fault of a refusal, by where it comes; want of memory is want of memory everywhere.
-use Rattle.std.specs.Prelude.{ℕ}
-use Rattle.macho_args.specs.declared.fault.ArgsFault.{ArgsFault}
-use Rattle.macho_args.specs.declared.fault.ArgsFault.TheVariants as words
-use Rattle.macho_faults.specs.declared.fault.LinkError.{LinkError}
-use Rattle.macho_faults.specs.declared.fault.LinkError.TheVariants as error
+-- How a refusal is told by a fault.
+use Rattle.std.specs.Prelude.{◌≡◌, ◌⊎◌}
 use Rattle.macho_job.specs.declared.fault.Fault.{Fault}
-use Rattle.macho_job.specs.declared.fault.Fault.TheVariants.{Input as InputFault, Link as LinkFault, Words, OutOfMemory}
+use Rattle.macho_job.specs.declared.fault.Fault.TheVariants.{OutOfMemory}
 
-abbrev pub words_fault : ArgsFault → Fault
-words_fault words.OutOfMemory = OutOfMemory
-words_fault fault = Words fault
-
-abbrev pub link_fault : LinkError → Fault
-link_fault error.OutOfMemory = OutOfMemory
-link_fault refusal = LinkFault refusal
-
-abbrev pub input_fault : ℕ → LinkError → Fault
-input_fault word error.OutOfMemory = OutOfMemory
-input_fault word refusal = InputFault word refusal
+-- Want of memory is want of memory everywhere; any other refusal is kept, in this fault.
+abbrev pub Tells : {E : Type 0} → (refusal memory : E) → (keeping fault : Fault) → Type 0
+Tells refusal memory keeping fault = ((refusal ≡ memory) × (fault ≡ OutOfMemory)) ⊎ ((refusal ≡ memory → ⊥) × (fault ≡ keeping))

@@ -1,8 +1,10 @@
 //! Why a run answers no image, or does not write it.
 
 ghost use Rattle.std.specs.Prelude.{◌≡◌};
-ghost use Rattle.macho_job.specs.declared.fault.Fault.TheVariants.{OutOfMemory};
-ghost use Rattle.macho_job.specs.Refused.{words_fault, link_fault, input_fault};
+ghost use Rattle.macho_args.specs.declared.fault.ArgsFault.TheVariants as words;
+ghost use Rattle.macho_faults.specs.declared.fault.LinkError.TheVariants as refusal;
+ghost use Rattle.macho_job.specs.declared.fault.Fault.TheVariants.{Words, Link, Input, OutOfMemory};
+ghost use Rattle.macho_job.specs.Refused.{Tells};
 
 use macho_args::ArgsFault;
 use macho_image::LinkError;
@@ -67,7 +69,7 @@ pub enum Fault {
 impl Fault {
     /// The fault of words.
     pub fn of_words(fault: ArgsFault) -> Fault
-        ensures { result ≡ words_fault fault }
+        ensures { Tells fault words.OutOfMemory (Words fault) result }
     {
         match fault {
             ArgsFault::OutOfMemory => Fault::OutOfMemory,
@@ -77,7 +79,7 @@ impl Fault {
 
     /// The fault of a refused link.
     pub fn of_link(error: LinkError) -> Fault
-        ensures { result ≡ link_fault error }
+        ensures { Tells error refusal.OutOfMemory (Link error) result }
     {
         match error {
             LinkError::OutOfMemory => Fault::OutOfMemory,
@@ -87,7 +89,7 @@ impl Fault {
 
     /// The fault of a refused input.
     pub fn of_input(word: u32, error: LinkError) -> Fault
-        ensures { result ≡ input_fault word error }
+        ensures { Tells error refusal.OutOfMemory (Input word error) result }
     {
         match error {
             LinkError::OutOfMemory => Fault::OutOfMemory,

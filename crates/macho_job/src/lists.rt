@@ -25,8 +25,8 @@ pub(crate) fn add_lists<F: Files>(
 ) -> Result<(), Fault>
     ensures added { (paths : List (List ℕ)) → HaveLists (F.holds files.old) (settings_of args.now) [] paths linker.old
         → OnOk result (HaveLists (F.holds files.old) (settings_of args.now) (settings_of args.now).export_list_paths paths linker.new) }
-    ensures why { IfErr result (λ fault. (paths : List (List ℕ)) → JobFails (F.holds files.old) (settings_of args.now) paths
-        (reading (F.faults files.old)) (reading (F.faults files.new)) fault) }
+    ensures why { IfErr result (λ fault. (paths : List (List ℕ)) → HaveLists (F.holds files.old) (settings_of args.now) [] paths linker.old
+        → JobFails (F.holds files.old) (settings_of args.now) paths (reading (F.faults files.old)) (reading (F.faults files.new)) fault) }
     ensures counted { CountsOn (F.faults files.old) (F.faults files.new) }
     ensures kept { OnlyReads F.directories F.canonical_paths F.holds F.write_faults files.old files.new }
 {

@@ -1,9 +1,9 @@
 -- What a sink says of a text that is printed in pieces.
-use Rattle.std.specs.Prelude.{ℕ, List, ◌++◌, ◌⊎◌, codes, decimal, Option, Result, OnOk, OnErr}
+use Rattle.std.specs.Prelude.{ℕ, List, ◌⊎◌, decimal, Option, Result, OnOk, OnErr}
 use Rattle.hex.specs.Hex.{encode_lower}
-use Rattle.byteorder.specs.Endian.{big_bytes}
 use Rattle.macho_devices.specs.Devices.{TakesBytes, TakesPrefix}
 use Rattle.macho_devices.specs.Faults.{CountsOn, CountRose}
+use Rattle.macho_report.specs.Lines.{hex_text}
 use Rattle.macho_report.specs.declared.pieces.Piece.{Piece}
 use Rattle.macho_report.specs.declared.pieces.Piece.TheVariants.{Text, Number, Address, Digest}
 
@@ -11,7 +11,7 @@ use Rattle.macho_report.specs.declared.pieces.Piece.TheVariants.{Text, Number, A
 abbrev pub piece_text : Piece → List ℕ
 piece_text (Text text) = text.now
 piece_text (Number number) = decimal number
-piece_text (Address address) = codes "0x" ++ encode_lower (big_bytes 8 address)
+piece_text (Address address) = hex_text address
 piece_text (Digest digest) = encode_lower digest.now
 
 -- A text is printed: the sink took all of it, or it failed and took the first of it.

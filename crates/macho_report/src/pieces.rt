@@ -1,9 +1,9 @@
 //! Texts that are printed piece by piece, without memory.
 
-ghost use Rattle.std.specs.Prelude.{◌≡◌, ◌++◌, codes};
+ghost use Rattle.std.specs.Prelude.{◌≡◌};
 ghost use Rattle.hex.specs.Hex.{encode_lower};
-ghost use Rattle.byteorder.specs.Endian.{big_bytes};
 ghost use Rattle.std.specs.List.{flat_map};
+ghost use Rattle.macho_report.specs.Lines.{hex_text};
 ghost use Rattle.macho_report.specs.Printing.{IsPrinted, piece_text};
 
 use byteorder::{BigEndian, ByteOrder};
@@ -50,7 +50,7 @@ fn print_piece<S: Sink>(sink: &mut S, piece: &Piece<'_>) -> Result<(), SinkFault
 
 // `0x` and the 16 digits of a number.
 fn hex_digits(number: u64) -> [u8; 18]
-    ensures { result ≡ codes "0x" ++ encode_lower (big_bytes 8 number) }
+    ensures { result ≡ hex_text number }
 {
     let mut text = *b"0x0000000000000000";
     let mut bytes = [0u8; 8];

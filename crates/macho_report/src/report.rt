@@ -2,7 +2,7 @@
 //!
 //! It is printed in pieces, without memory: that of a word that is unknown is `wild_macho: bad word 0: Unknown`.
 
-ghost use Rattle.std.specs.Prelude.{◌≡◌, ◌++◌, ◌==◌, [], ◌∷◌, map, codes, decimal, find};
+ghost use Rattle.std.specs.Prelude.{◌≡◌, ◌++◌, ◌==◌, true, [], ◌∷◌, map, codes, decimal, find};
 ghost use Rattle.std.specs.Option.{option_copied};
 ghost use Rattle.std.specs.String.{string_bytes};
 ghost use Rattle.macho_args.specs.Settings.{input_of, word_of};
@@ -10,6 +10,7 @@ ghost use Rattle.macho_job.specs.Names.{names_of};
 ghost use Rattle.macho_report.specs.Lines.{line_of, fault_line, word_text, fault_word, fault_kind, error_text, broken_text, place_text, site_text};
 ghost use Rattle.macho_report.specs.Lines.{object_rule, stub_rule, unwind_rule, limit_name, name_of_input, word_name};
 ghost use Rattle.macho_report.specs.Printing.{IsPrinted, IsLineTold};
+ghost use Rattle.macho_report.specs.steps.Groups.{is_of_name, is_of_section, is_of_relocation};
 
 use crate::pieces::{Piece, print_pieces};
 use macho_args::{ArgsFault, InputSpec};
@@ -188,8 +189,39 @@ fn print_numbered<E: Sink>(
     print_pieces(err, &pieces)
 }
 
-// The refusal of a linker, a row for each.
+// The refusal of a linker, by what it is of.
 fn print_error<E: Sink>(err: &mut E, names: &FileNames, error: &LinkError) -> Result<(), SinkFault>
+    ensures { IsPrinted (E.taken err.old) (E.taken err.new) (E.faults err.old) (E.faults err.new)
+        (line_of (error_text (names_of names.now) error.now)) result }
+{
+    match error {
+        LinkError::DuplicateSymbol { .. }
+        | LinkError::UndefinedSymbol { .. }
+        | LinkError::EntryNotDefined { .. }
+        | LinkError::ExportListMissing { .. } => print_of_name(err, names, error),
+        LinkError::BadInitializer { .. }
+        | LinkError::BadUnwind { .. }
+        | LinkError::OverlappingFields { .. } => print_of_section(err, names, error),
+        LinkError::UnsupportedRelocation { .. }
+        | LinkError::BindAddend { .. }
+        | LinkError::FixupPlace { .. } => print_of_relocation(err, names, error),
+        LinkError::TooMany { what, number, .. } => print_many(err, limit_name(*what), *number),
+        LinkError::ImageTooLarge { .. } => print_text(err, b"image too large"),
+        LinkError::RebaseTarget { at, .. } => print_site(err, names, *at, b"bad target"),
+        LinkError::RelocationRange { at, .. } => print_site(err, names, *at, b"out of range"),
+        LinkError::BadName => print_text(err, b"bad name"),
+        LinkError::BadInput { fault } => print_broken(err, names, fault),
+        LinkError::OutOfMemory => print_text(err, b"out of memory"),
+    }
+}
+
+// A name that has two definitions, or none.
+fn print_of_name<E: Sink>(
+    err: &mut E,
+    names: &FileNames,
+    error: &LinkError,
+) -> Result<(), SinkFault>
+    requires { is_of_name error.now ≡ true }
     ensures { IsPrinted (E.taken err.old) (E.taken err.new) (E.faults err.old) (E.faults err.new)
         (line_of (error_text (names_of names.now) error.now)) result }
 {
@@ -208,6 +240,21 @@ fn print_error<E: Sink>(err: &mut E, names: &FileNames, error: &LinkError) -> Re
         LinkError::ExportListMissing { name } => {
             print_named(err, b"exported symbol not defined: ", name, b"")
         }
+        _ => unreachable!(),
+    }
+}
+
+// A part of a section that breaks its rule.
+fn print_of_section<E: Sink>(
+    err: &mut E,
+    names: &FileNames,
+    error: &LinkError,
+) -> Result<(), SinkFault>
+    requires { is_of_section error.now ≡ true }
+    ensures { IsPrinted (E.taken err.old) (E.taken err.new) (E.faults err.old) (E.faults err.new)
+        (line_of (error_text (names_of names.now) error.now)) result }
+{
+    match error {
         LinkError::BadInitializer {
             file,
             section,
@@ -219,6 +266,27 @@ fn print_error<E: Sink>(err: &mut E, names: &FileNames, error: &LinkError) -> Re
             rule,
             ..
         } => { print_unwind(err, names.path(*file), *entry, unwind_rule(*rule)) }
+        LinkError::OverlappingFields {
+            file,
+            section,
+            first,
+            second,
+        } => { print_overlap(err, names.path(*file), *section, *first, *second) }
+        _ => unreachable!(),
+    }
+}
+
+// A relocation that cannot be met, whatever the addresses are.
+fn print_of_relocation<E: Sink>(
+    err: &mut E,
+    names: &FileNames,
+    error: &LinkError,
+) -> Result<(), SinkFault>
+    requires { is_of_relocation error.now ≡ true }
+    ensures { IsPrinted (E.taken err.old) (E.taken err.new) (E.faults err.old) (E.faults err.new)
+        (line_of (error_text (names_of names.now) error.now)) result }
+{
+    match error {
         LinkError::UnsupportedRelocation {
             file,
             section,
@@ -232,12 +300,6 @@ fn print_error<E: Sink>(err: &mut E, names: &FileNames, error: &LinkError) -> Re
                 b"unsupported",
             )
         }
-        LinkError::OverlappingFields {
-            file,
-            section,
-            first,
-            second,
-        } => { print_overlap(err, names.path(*file), *section, *first, *second) }
         LinkError::BindAddend {
             file,
             section,
@@ -250,13 +312,7 @@ fn print_error<E: Sink>(err: &mut E, names: &FileNames, error: &LinkError) -> Re
             relocation,
             ..
         } => { print_relocation(err, names.path(*file), *section, *relocation, b"bad place") }
-        LinkError::TooMany { what, number, .. } => print_many(err, limit_name(*what), *number),
-        LinkError::ImageTooLarge { .. } => print_text(err, b"image too large"),
-        LinkError::RebaseTarget { at, .. } => print_site(err, names, *at, b"bad target"),
-        LinkError::RelocationRange { at, .. } => print_site(err, names, *at, b"out of range"),
-        LinkError::BadName => print_text(err, b"bad name"),
-        LinkError::BadInput { fault } => print_broken(err, names, fault),
-        LinkError::OutOfMemory => print_text(err, b"out of memory"),
+        _ => unreachable!(),
     }
 }
 

@@ -3,51 +3,69 @@
 -- What the link refuses is refused of the job. A fault that comes before the image is written is no failed write and no failed print,
 -- since neither count has risen there. An image that is written and printed is that of the job, under the paths that its files were
 -- read from. The words are read first, and change nothing; so the run of their settings is that of the words.
-use Rattle.std.proofs.Common.{◌≡◌, ℕ, ◌<◌, ◌⊎◌, inl, inr, arith, refl, sym, ◌∙◌, subst, List, map, Option, Some, None, String}
+use Rattle.std.proofs.Common.{◌≡◌, ℕ, ◌<◌, ◌⊎◌, inl, inr, arith, refl, sym, ◌∙◌, subst, true, List, map, Option, Some, None, String}
 use Rattle.std.specs.Prelude.{MatchOption, IfSome}
 use Rattle.std.specs.String.{string_bytes}
 use Rattle.macho_args.specs.Settings.{Settings, input_of}
 use Rattle.macho_args.specs.declared.fields.InputSpec.{InputSpec}
+use Rattle.macho_args.specs.declared.fault.ArgsFault.{ArgsFault}
+use Rattle.macho_args.specs.declared.fault.ArgsFault.TheVariants as arg
+use Rattle.macho_args.specs.SearchPaths.{IsRefused}
 use Rattle.macho_args.specs.Store.{Store, Directories, CanonicalPaths}
 use Rattle.macho_model.specs.Links.{Link}
+use Rattle.macho_model.specs.Faults.{bad_name}
 use Rattle.macho_faults.specs.declared.fault.LinkError.{LinkError}
 use Rattle.macho_faults.specs.declared.fault.LinkError.TheVariants as error
 use Rattle.macho_linked.specs.declared.image.LinkedImage.{LinkedImage}
+use Rattle.macho_image.specs.Linkers.{link_of}
 use Rattle.macho_image.specs.Refusals.{RefusalStands}
 use Rattle.macho_linked.specs.Linked.{IsImageOf}
 use Rattle.macho_devices.specs.Devices.{WritesFile}
 use Rattle.macho_devices.specs.Faults.{last_count}
 use Rattle.macho_job.specs.declared.fault.Fault.{Fault}
 use Rattle.macho_job.specs.declared.fault.Fault.TheVariants as fault
-use Rattle.macho_job.specs.Causes.{failures, reading, status_of, JobFails}
+use Rattle.macho_job.specs.Causes.{failures, reading, status_of, JobFails, WordsFail}
 use Rattle.macho_job.specs.Job.{Outside, uuid_of}
-use Rattle.macho_job.specs.Refused.{link_fault}
+use Rattle.macho_job.specs.Refused.{Tells}
 use Rattle.macho_report.specs.Lines.{run_lines, fault_line}
 use Rattle.macho_report.specs.Printing.{IsLineTold}
 use Rattle.wild_macho.specs.declared.passes.Ran.{Ran}
 use Rattle.wild_macho.specs.declared.passes.Made.{Made}
 use Rattle.wild_macho.specs.steps.Made.{IsMade, IsLinkFault, Ends, EndsWith, EndsBare, EndFails, PrintFails, Prints, Finishes, Answers}
-use Rattle.wild_macho.specs.Runs.{Devices, devices, outside, Teller, LeavesImage, LeavesLines, LeavesAll, LeavesNothing, HasImage, HasCauseIn, RunsBy}
+use Rattle.wild_macho.specs.Runs.{Devices, devices, outside, Teller, LeavesImage, LeavesLines, LeavesAll, LeavesNothing}
+use Rattle.wild_macho.specs.Runs.{HasImage, HasCauseIn, IsBadName, RunsBy}
 
--- a refusal of the link is one of the job
-pub link-fails : (l : Link) (e : LinkError) → RefusalStands l e → IsLinkFault l (link_fault e)
-link-fails l (error.DuplicateSymbol name m n) stands = record { fails = λ told s paths old new links. (l, links, stands) }
-link-fails l (error.UndefinedSymbol name n) stands = record { fails = λ told s paths old new links. (l, links, stands) }
-link-fails l (error.EntryNotDefined name) stands = record { fails = λ told s paths old new links. (l, links, stands) }
-link-fails l (error.ExportListMissing name) stands = record { fails = λ told s paths old new links. (l, links, stands) }
-link-fails l (error.BadInitializer n k o) stands = record { fails = λ told s paths old new links. (l, links, stands) }
-link-fails l (error.BadUnwind n k i u) stands = record { fails = λ told s paths old new links. (l, links, stands) }
-link-fails l (error.UnsupportedRelocation n k r) stands = record { fails = λ told s paths old new links. (l, links, stands) }
-link-fails l (error.OverlappingFields n k q r) stands = record { fails = λ told s paths old new links. (l, links, stands) }
-link-fails l (error.BindAddend n k r a) stands = record { fails = λ told s paths old new links. (l, links, stands) }
-link-fails l (error.FixupPlace n k r p) stands = record { fails = λ told s paths old new links. (l, links, stands) }
-link-fails l (error.TooMany what n p) stands = record { fails = λ told s paths old new links. (l, links, stands) }
-link-fails l (error.ImageTooLarge p) stands = record { fails = λ told s paths old new links. (l, links, stands) }
-link-fails l (error.RebaseTarget at p) stands = record { fails = λ told s paths old new links. (l, links, stands) }
-link-fails l (error.RelocationRange at p) stands = record { fails = λ told s paths old new links. (l, links, stands) }
-link-fails l error.BadName stands = absurd stands
-link-fails l (error.BadInput f) stands = absurd stands
-link-fails l error.OutOfMemory stands = record { fails = λ told s paths old new links. tt }
+-- a refusal of the link that is kept is one of the job
+link-kept : (l : Link) (e : LinkError) → RefusalStands l e → (e ≡ error.OutOfMemory → ⊥) → IsLinkFault l (fault.Link e)
+link-kept l (error.DuplicateSymbol name m n) stands other = record { fails = λ told s paths old new links. (l, links, stands) }
+link-kept l (error.UndefinedSymbol name n) stands other = record { fails = λ told s paths old new links. (l, links, stands) }
+link-kept l (error.EntryNotDefined name) stands other = record { fails = λ told s paths old new links. (l, links, stands) }
+link-kept l (error.ExportListMissing name) stands other = record { fails = λ told s paths old new links. (l, links, stands) }
+link-kept l (error.BadInitializer n k o) stands other = record { fails = λ told s paths old new links. (l, links, stands) }
+link-kept l (error.BadUnwind n k i u) stands other = record { fails = λ told s paths old new links. (l, links, stands) }
+link-kept l (error.UnsupportedRelocation n k r) stands other = record { fails = λ told s paths old new links. (l, links, stands) }
+link-kept l (error.OverlappingFields n k q r) stands other = record { fails = λ told s paths old new links. (l, links, stands) }
+link-kept l (error.BindAddend n k r a) stands other = record { fails = λ told s paths old new links. (l, links, stands) }
+link-kept l (error.FixupPlace n k r p) stands other = record { fails = λ told s paths old new links. (l, links, stands) }
+link-kept l (error.TooMany what n p) stands other = record { fails = λ told s paths old new links. (l, links, stands) }
+link-kept l (error.ImageTooLarge p) stands other = record { fails = λ told s paths old new links. (l, links, stands) }
+link-kept l (error.RebaseTarget at p) stands other = record { fails = λ told s paths old new links. (l, links, stands) }
+link-kept l (error.RelocationRange at p) stands other = record { fails = λ told s paths old new links. (l, links, stands) }
+link-kept l error.BadName stands other = absurd stands
+link-kept l (error.BadInput f) stands other = absurd stands
+link-kept l error.OutOfMemory stands other = absurd (other refl)
+
+-- so is any, as it is told
+pub link-fails : (l : Link) (e : LinkError) (f : Fault) → RefusalStands l e → Tells e error.OutOfMemory (fault.Link e) f → IsLinkFault l f
+link-fails l e f stands (inl told) = subst (IsLinkFault l) (sym told.1) (record { fails = λ told s paths old new links. tt })
+link-fails l e f stands (inr told) = subst (IsLinkFault l) (sym told.1) (link-kept l e stands told.0)
+
+-- a refusal of the words is the first that breaks its row
+pub words-fail : (words : List (List ℕ)) (e : ArgsFault) (f : Fault) → (e ≡ arg.OutOfMemory) ⊎ IsRefused words e
+    → Tells e arg.OutOfMemory (fault.Words e) f → WordsFail words f
+words-fail words e f why (inl told) = subst (WordsFail words) (sym told.1) tt
+words-fail words e f (inl memory) (inr told) = absurd (told.0 memory)
+words-fail words e f (inr refused) (inr told) = subst (WordsFail words) (sym told.1) refused
 
 none-rose : (0 < 0) ⊎ (0 ≡ last_count) → ⊥
 none-rose (inl rose) = absurd (omega (arith, rose))
@@ -203,23 +221,27 @@ lines-cause writes later prints after (Some (fault.Read word)) why = absurd why
 
 -- a run that was answered, and whose fault was told
 pub told-run : (s : Settings) (paths : List (List ℕ)) (old new : Devices) (before after : Teller) (ran : Ran) (f : Fault) → ran.fault ≡ Some f → Answers s paths old new ran
-    → IsLineTold before.taken after.taken before.faults after.faults (fault_line s.inputs s.export_list_paths paths f) → RunsBy s old new before after ran
-told-run s paths old new before after ran f is answers line = record {
+    → (bad_name (link_of s) ≡ true → IsBadName ran.fault)
+    → IsLineTold before.taken after.taken before.faults after.faults (fault_line s.inputs s.export_list_paths paths f)
+    → RunsBy s old new before after ran
+told-run s paths old new before after ran f is answers named line = record {
   status = answers.status;
   image = answers.image;
   fault =
       let Q : Option Fault → Type 0 = λ g. IfSome g (HasCauseIn s old new before after) in
       let W : Option Fault → Type 0 = λ g. IfSome g (JobFails old.outside.store s paths old.failures new.failures) in
       subst Q (sym is) (record { paths = paths; why = subst W is answers.why; line = line });
+  named = named;
 }
 
 -- a run without a fault
 pub quiet-run : (s : Settings) (paths : List (List ℕ)) (old new : Devices) (before after : Teller) (ran : Ran) → ran.fault ≡ None → Answers s paths old new ran
-    → RunsBy s old new before after ran
-quiet-run s paths old new before after ran is answers = record {
+    → (bad_name (link_of s) ≡ true → IsBadName ran.fault) → RunsBy s old new before after ran
+quiet-run s paths old new before after ran is answers named = record {
   status = answers.status;
   image = answers.image;
   fault = let Q : Option Fault → Type 0 = λ g. IfSome g (HasCauseIn s old new before after) in subst Q (sym is) tt;
+  named = named;
 }
 
 -- devices that tell the same

@@ -1,5 +1,5 @@
 -- THE promise of a run: what it answers, what it prints, and what it leaves.
-use Rattle.std.specs.Prelude.{◌≡◌, ℕ, false, List, [], Option, None, Some, MatchOption, IfSome}
+use Rattle.std.specs.Prelude.{◌≡◌, ℕ, ◌⊎◌, true, false, List, [], Option, None, Some, MatchOption, IfSome}
 use Rattle.macho_args.specs.Settings.{Settings}
 use Rattle.macho_args.specs.Store.{Store, Directories, CanonicalPaths}
 use Rattle.macho_args.specs.SearchPaths.{IsParsed}
@@ -8,11 +8,13 @@ use Rattle.macho_model.specs.Links.{Link}
 use Rattle.macho_model.specs.Valid.{IsValid}
 use Rattle.macho_model.specs.declared.placed.Counts.{Counts}
 use Rattle.macho_promise.specs.Sizes.{AreCounts}
+use Rattle.macho_faults.specs.declared.fault.LinkError.TheVariants.{BadName}
+use Rattle.macho_image.specs.Linkers.{link_of}
 use Rattle.macho_linked.specs.declared.image.LinkedImage.{LinkedImage}
 use Rattle.macho_linked.specs.Linked.{IsImageOf}
 use Rattle.macho_devices.specs.Devices.{WritesFile, TornWrite, TakesBytes, TakesPrefix}
 use Rattle.macho_job.specs.declared.fault.Fault.{Fault}
-use Rattle.macho_job.specs.declared.fault.Fault.TheVariants.{Write, Print, OutOfMemory}
+use Rattle.macho_job.specs.declared.fault.Fault.TheVariants.{Link as LinkFault, Write, Print, OutOfMemory}
 use Rattle.macho_job.specs.Job.{Outside, Job, IsJob}
 use Rattle.macho_job.specs.Causes.{Failures, failures, status_of, IsClear, JobFails, WordsFail}
 use Rattle.macho_report.specs.Lines.{fault_line, run_lines}
@@ -46,7 +48,6 @@ abbrev pub LeavesImage : Option Fault → Option Store → Option Store → List
 LeavesImage None old new output bytes = WritesFile old new output bytes
 LeavesImage (Some Write) old new output bytes = TornWrite old new output bytes
 LeavesImage (Some Print) old new output bytes = WritesFile old new output bytes
-LeavesImage (Some OutOfMemory) old new output bytes = WritesFile old new output bytes
 LeavesImage (Some fault) old new output bytes = ⊥
 
 -- What is printed where there is an image: the whole text, or where a print failed the first of it; nothing after a failed write.
@@ -54,7 +55,6 @@ abbrev pub LeavesLines : Option Fault → Option (List ℕ) → Option (List ℕ
 LeavesLines None old new text = TakesBytes old new text
 LeavesLines (Some Write) old new text = new ≡ old
 LeavesLines (Some Print) old new text = TakesPrefix old new text
-LeavesLines (Some OutOfMemory) old new text = TakesPrefix old new text
 LeavesLines (Some fault) old new text = ⊥
 
 -- the files are as they were, and nothing is printed
@@ -83,6 +83,10 @@ pub record HasCauseIn (s : Settings) (old new : Devices) (before after : Teller)
   pub why : JobFails old.outside.store s paths old.failures new.failures fault
   pub line : IsLineTold before.taken after.taken before.faults after.faults (fault_line s.inputs s.export_list_paths paths fault)
 
+-- the refusal of paths that can't be written, or want of memory
+abbrev pub IsBadName : Option Fault → Type 0
+IsBadName fault = (fault ≡ Some (LinkFault BadName)) ⊎ (fault ≡ Some OutOfMemory)
+
 -- A run by settings.
 pub record RunsBy (s : Settings) (old new : Devices) (before after : Teller) (ran : Ran) : Type 0 where
   -- the status is that of the fault, 0 exactly where there is none
@@ -91,6 +95,8 @@ pub record RunsBy (s : Settings) (old new : Devices) (before after : Teller) (ra
   pub image : MatchOption ran.image (LeavesNothing ran.fault old new) (HasImage s old new ran.fault)
   -- a fault has its cause, and is told
   pub fault : IfSome ran.fault (HasCauseIn s old new before after)
+  -- paths that can't be written are told before an input is read
+  pub named : bad_name (link_of s) ≡ true → IsBadName ran.fault
 
 -- A run whose words are refused: the fault is that of the first which breaks its row, or want of memory; it is told, and nothing changes.
 pub record RefusesWords (words : List (List ℕ)) (old new : Devices) (before after : Teller) (ran : Ran) : Type 0 where

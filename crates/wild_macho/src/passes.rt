@@ -3,13 +3,14 @@
 //! Its passes are: the words are read, the linker is made, the inputs and the export lists are read and added, the link
 //! makes an image, the image is written, lines are printed; a fault is told.
 
-ghost use Rattle.std.specs.Prelude.{◌≡◌, ℕ, ◌<◌, ◌-◌, ◌^◌, ◌⊎◌, List, [], length, map, false, Some, None, Option, IfOk, IfErr, IfSome, MatchOption};
+ghost use Rattle.std.specs.Prelude.{◌≡◌, ℕ, ◌<◌, ◌-◌, ◌^◌, ◌⊎◌, List, [], length, map, true, false, Some, None, Option, IfOk, IfErr, IfSome, OnOk, MatchOption};
 ghost use Rattle.std.specs.String.{string_bytes};
 ghost use Rattle.macho_args.specs.Settings.{settings_of};
 ghost use Rattle.macho_args.specs.SearchPaths.{IsParsed};
 ghost use Rattle.macho_args.specs.Store.{Store, KeepsOutside};
 ghost use Rattle.macho_args.specs.Words.{texts_of};
 ghost use Rattle.macho_model.specs.Links.{carried_of};
+ghost use Rattle.macho_model.specs.Faults.{bad_name};
 ghost use Rattle.macho_model.specs.Placement.{id_of};
 ghost use Rattle.macho_image.specs.Linkers.{link_of};
 ghost use Rattle.macho_linked.specs.Linked.{IsImageOf};
@@ -18,7 +19,7 @@ ghost use Rattle.macho_devices.specs.Devices.{OnlyReads, OnlyWrites};
 ghost use Rattle.macho_devices.specs.Faults.{CountsOn};
 ghost use Rattle.macho_job.specs.Causes.{Failures, NoneFailed, failures, status_of, reading, JobFails, WordsFail};
 ghost use Rattle.macho_job.specs.Names.{names_of};
-ghost use Rattle.wild_macho.specs.Runs.{outside, devices, teller, IsRun, RunsBy, KeepsPaths, AskForNoLines, IsSure, IsAnsweredJob};
+ghost use Rattle.wild_macho.specs.Runs.{outside, devices, teller, IsRun, RunsBy, IsBadName, KeepsPaths, AskForNoLines, IsSure, IsAnsweredJob};
 ghost use Rattle.wild_macho.specs.steps.Made.{IsMade, IsLinkFault, ends, EndFails, Prints, Finishes, Answers};
 
 use macho_args::MachOArgs;
@@ -148,6 +149,7 @@ fn link_args<F: Files, O: Sink>(
     ensures done { Answers (settings_of args.now) (names_of names.new)
         (devices (outside (F.directories files.old) (F.canonical_paths files.old) (F.holds files.old)) (F.faults files.old) (F.write_faults files.old) (O.faults out.old) (O.taken out.old))
         (devices (outside (F.directories files.new) (F.canonical_paths files.new) (F.holds files.new)) (F.faults files.new) (F.write_faults files.new) (O.faults out.new) (O.taken out.new)) result }
+    ensures named { bad_name (link_of (settings_of args.now)) ≡ true → IsBadName result.fault }
     ensures paths { KeepsPaths F.directories F.canonical_paths files.old files.new }
     ensures reads { CountsOn (F.faults files.old) (F.faults files.new) }
     ensures writes { CountsOn (F.write_faults files.old) (F.write_faults files.new) }
@@ -177,6 +179,8 @@ fn make_image<F: Files>(
 ) -> Result<Made, Fault>
     requires unnamed { names_of names.old ≡ [] }
     ensures made { IfOk result (IsMade (F.holds files.old) (settings_of args.now) (names_of names.new)) }
+    ensures fine { OnOk result (bad_name (link_of (settings_of args.now)) ≡ false) }
+    ensures named { IfErr result (λ fault. bad_name (link_of (settings_of args.now)) ≡ true → IsBadName (Some fault)) }
     ensures why { IfErr result (JobFails (F.holds files.old) (settings_of args.now) (names_of names.new)
         (reading (F.faults files.old)) (reading (F.faults files.new))) }
     ensures counted { CountsOn (F.faults files.old) (F.faults files.new) }
@@ -193,6 +197,8 @@ fn make_linker(alloc: Global, args: &MachOArgs) -> Result<Linker, Fault>
     ensures made { IfOk result (λ linker. linker ≡ link_of (settings_of args.now)) }
     ensures why { IfErr result (λ fault. (told : Option Store) (paths : List (List ℕ)) (old new : Failures)
         → JobFails told (settings_of args.now) paths old new fault) }
+    ensures fine { OnOk result (bad_name (link_of (settings_of args.now)) ≡ false) }
+    ensures named { IfErr result (λ fault. IsBadName (Some fault)) }
 {
     match Linker::new(alloc, args) {
         Ok(linker) => Ok(linker),

@@ -1,19 +1,20 @@
 -- List by list.
-use Rattle.std.proofs.Common.{rules, List, ℕ}
+use Rattle.std.proofs.Common.{rules, refl}
 use Rattle.std.proofs.lemmas.Result.{err_from_is_err_and}
-use Rattle.std.specs.String.{string_bytes}
 use Rattle.macho_args.specs.Settings.{settings_of}
 use Rattle.macho_job.specs.Job.{AreFiles}
-use Rattle.macho_job.proofs.Gathers.{lists-more, all-lists, list-fails, seen-item}
+use Rattle.macho_job.proofs.Gathers.{lists-more, all-lists, list-fails}
 use Rattle.macho_job.proofs.lists.add_lists.Goals as goal
 
 pub returns-in_err-text-clause-why : goal.returns-in_err-text-clause-why
 returns-in_err-text-clause-why g c =
     let p = err_from_is_err_and c.from_residual.result c.from_residual.ensures.1 in
-    let among = rw c.deref-list-items.ensures.value at (seen-item {Y = ℕ × List ℕ} (λ q. (q.0, string_bytes q.1)) c.deref-list-items.result.now c.loop-list.list-index c.list-item.result c.loop-list-test.true c.list-item.is) in
-    rw (p.1, p.2) (λ paths. list-fails (g.F.Paths.holds c.args.files.now) (g.F.Paths.holds c.loop-list.files) (settings_of c.args.args.now) paths
-    c.list-item.result.0 (string_bytes c.list-item.result.1) _ _ _ _ c.loop-list.invariant.2.same_files among c.loop-list.invariant.1
-    c.read_list.ensures.counted (rw c.as_str.ensures.value at c.in_err-text.ensures.why))
+    rw (p.1, p.2) (λ paths have. list-fails (g.F.Paths.holds c.args.files.now) (g.F.Paths.holds c.loop-list.files)
+    (settings_of c.args.args.now) c.args.args.now.export_list_paths.items c.loop-list.list-index c.list-item.result paths paths
+    c.loop-list.linker _ _ _ _ c.loop-list.invariant.2.same_files refl
+    (rw c.deref-list-items.ensures.value at c.loop-list-test.true) (rw c.deref-list-items.ensures.value at c.list-item.is)
+    (c.loop-list.invariant.0 paths have)
+    c.loop-list.invariant.1 c.read_list.ensures.counted (rw c.as_str.ensures.value at c.in_err-text.ensures.why))
 
 pub loop-list-preserved : goal.loop-list-preserved
 loop-list-preserved g c = (

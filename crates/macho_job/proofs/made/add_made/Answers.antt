@@ -7,8 +7,10 @@ use Rattle.macho_job.proofs.made.add_made.Goals as goal
 pub returns-in_err-add_object-clause-why : goal.returns-in_err-add_object-clause-why
 returns-in_err-add_object-clause-why c =
     let p = err_from_is_err_and c.from_residual-in_err-add_object.result c.from_residual-in_err-add_object.ensures.1 in
-    λ told s old new asked. rw (p.1, p.2) (made-fails told s c.args.count c.loop-index.index (names_of c.push.new.self) old new _ asked c.loop-index-test.true
-    (paths-more c.loop-index.index _ _ _ c.loop-index.invariant.2 c.in_ok-push.ensures.added c.in_ok-generated_path.ensures) c.in_err-add_object.ensures.why)
+    λ told s old new asked. rw (p.1, p.2) (made-fails told s c.args.count c.loop-index.index (names_of c.push.new.self) old new _ asked
+    c.loop-index-test.true c.loop-index.invariant.1
+    (paths-more c.loop-index.index _ _ _ c.loop-index.invariant.2 c.in_ok-push.ensures.added c.in_ok-generated_path.ensures)
+    c.in_err-add_object.ensures.why)
 
 pub loop-index-preserved : goal.loop-index-preserved
 loop-index-preserved c =

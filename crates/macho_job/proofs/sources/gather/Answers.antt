@@ -13,5 +13,5 @@ returns-clause-gathered g c =
 pub returns-clause-why : goal.returns-clause-why
 returns-clause-why g c =
     lists-fail (g.F.Paths.holds c.args.files.now) (g.F.Paths.holds c.add_files.new.files) (settings_of c.args.args.now)
-    (names_of c.add_files.new.names) _ _ _ c.add_lists.result c.add_files.ensures.kept.same_files c.add_files.ensures.counted
-    c.add_lists.ensures.counted c.add_lists.ensures.why
+    (names_of c.add_files.new.names) c.add_files.new.linker _ _ _ c.add_lists.result c.add_files.ensures.kept.same_files
+    c.add_files.ensures.counted c.add_lists.ensures.counted c.in_ok-add_files.ensures.added c.add_lists.ensures.why
