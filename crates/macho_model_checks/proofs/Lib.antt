@@ -34,8 +34,11 @@ pub mod RowsCallChain
 pub mod RowsCallFixups
 pub mod RowsCallUnwind
 pub mod RowsCallOrder
+pub mod RowsCallPlaces
 pub mod RowsCallTrie
 pub mod RowsCallCounts
 pub mod RowsCallZeros
 pub mod RowsCallChanges
 pub mod RowsMade
+pub mod RowsUnwind
+pub mod RowsSignature

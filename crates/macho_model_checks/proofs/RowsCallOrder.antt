@@ -50,7 +50,7 @@ are_least (c ∷ d ∷ cs) = is_next c d && are_least (d ∷ cs)
 le_of : (m n : ℕ) → nat_le m n ≡ true → m ≤ n
 le_of m n h = grind (arith, nat_tests)
 
-ordered_pieces : (cs : List Piece) → are_ordered cs ≡ true → AllPairs EndsBefore cs
+pub ordered_pieces : (cs : List Piece) → are_ordered cs ≡ true → AllPairs EndsBefore cs
 ordered_pieces [] h = λ i j d lt within. absurd (omega arith)
 ordered_pieces (c ∷ cs) h =
     AllPairs-cons EndsBefore c cs
@@ -58,7 +58,7 @@ ordered_pieces (c ∷ cs) h =
     (all_pass (λ x. nat_le (end_of_piece c) x.start) cs (and_left (are_behind c cs) (are_ordered cs) h) k d lt))
     (ordered_pieces cs (and_right (are_behind c cs) (are_ordered cs) h))
 
-least_pieces : (cs : List Piece) → are_least cs ≡ true → EachNext BeginsLeast cs
+pub least_pieces : (cs : List Piece) → are_least cs ≡ true → EachNext BeginsLeast cs
 least_pieces [] h k x y one next = absurd (omega (arith, one.0))
 least_pieces (c ∷ []) h k x y one next = absurd (omega (arith, next.0))
 least_pieces (c ∷ d ∷ cs) h zero x y one next =

@@ -78,7 +78,7 @@ branch_call plain =
       record { reaches = refl; kept = refl },
     )
 
-filled_text : IsFilled calling placed_call code_placed (words (0x94000002 ∷ 0xd65f03c0 ∷ []))
+pub filled_text : IsFilled calling placed_call code_placed (words (0x94000002 ∷ 0xd65f03c0 ∷ []))
 filled_text = record {
   long = long_text ∙ sym sizes_call.0;
   rest = λ i within outside.
@@ -110,7 +110,7 @@ pointer_outside i within (inr behind) = omega (arith, within, behind)
 pointer_call : (text : List ℕ) → FieldIsSet calling placed_call data_placed text pointer_field
 pointer_call text plain = absurd (true≢false (sym data_fields.1 ∙ plain))
 
-filled_data : IsFilled calling placed_call data_placed (bytes_in_file call_image placed_call 0x100008000 8)
+pub filled_data : IsFilled calling placed_call data_placed (bytes_in_file call_image placed_call 0x100008000 8)
 filled_data = record {
   long = data_bytes_call ∙ sym sizes_call.1;
   rest = λ i within outside.
@@ -137,7 +137,7 @@ stub_words_call : (le_at 4 (words (0x90000030 ∷ 0xf9400210 ∷ 0xd61f0200 ∷ 
 unfolding words row_bytes le_bytes le_at
 stub_words_call = (refl, refl, refl, refl)
 
-stub_call : StubIsWritten call_image placed_call stub_placed
+pub stub_call : StubIsWritten call_image placed_call stub_placed
 stub_call = rw stub_bytes_call (record {
   long = stub_words_call.3;
   slot = 0x100004000;

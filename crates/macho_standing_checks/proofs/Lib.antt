@@ -4,3 +4,4 @@ pub mod HeadCall
 pub mod FixupsCall
 pub mod ComposedCall
 pub mod ChangesCall
+pub mod ChangesContent
