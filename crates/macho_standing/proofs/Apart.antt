@@ -14,7 +14,8 @@ use Rattle.macho_model.specs.declared.placed.Slot.{Slot}
 use Rattle.macho_model.specs.declared.placed.Stub.{Stub}
 use Rattle.macho_model.specs.Links.{Link, header_at, carried_of}
 use Rattle.macho_model.specs.Fields.{Field, fields_of}
-use Rattle.macho_model.specs.Placement.{Placed, Span, AreApart, id_of, head_span, section_span, common_span, slot_span, stub_span, range_span, linkedit_span, linkedit_ranges, spans_with, spans_of, IsWholeList}
+use Rattle.macho_model.specs.Placement.{Placed, Span, AreApart, id_of, head_span, section_span, common_span, slot_span, stub_span}
+use Rattle.macho_model.specs.Placement.{range_span, linkedit_span, linkedit_ranges, spans_with, spans_of, IsWholeList}
 use Rattle.macho_model.specs.Values.{needs_fixup}
 use Rattle.macho_model.specs.Fixups.{IsFixupPlace, ChainIsWhole}
 use Rattle.macho_model.specs.Fixups as place

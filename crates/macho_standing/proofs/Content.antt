@@ -3,7 +3,8 @@
 -- A section's bytes in the file are filled, so where no word covers them memory holds them: the input's bytes outside its fields, and
 -- the words of the fields that the loader does not write, which say at every slide what they say at slide 0. Zeros have no bytes of
 -- their own; they are held where the file's byte there is 0, or behind the file's bytes. A stub's three words are held too.
-use Rattle.std.proofs.Common.{◌≡◌, ℕ, ◌+◌, ◌-◌, ◌%◌, ◌<◌, ◌≤◌, ◌==◌, ◌&&◌, not, Bool, true, false, List, [], length, get_or, slice_index, refl, sym, ap, subst, ◌∙◌, arith, inl, inr, All}
+use Rattle.std.proofs.Common.{◌≡◌, ℕ, ◌+◌, ◌-◌, ◌%◌, ◌<◌, ◌≤◌, ◌==◌, ◌&&◌, not, Bool, true, false, List, [], length, get_or, slice_index}
+use Rattle.std.proofs.Common.{refl, sym, ap, subst, ◌∙◌, arith, inl, inr, All}
 use Rattle.std.specs.Prelude.{Contains, is_some}
 use Rattle.std.proofs.lemmas.Bool.{cases_lt, cases_Bool, true≢false, ne_eqb}
 use Rattle.std.proofs.lemmas.List.Edits.{get_or-between}
@@ -25,7 +26,8 @@ use Rattle.macho_model.specs.Needs.{relocation_in}
 use Rattle.macho_model.specs.Fields.{Field, fields_of}
 use Rattle.macho_model.specs.Segments.{PAGEZERO, TEXT, DATA, SEGMENT_PAGE}
 use Rattle.macho_model.specs.WrittenSum.{STUB_SIZE}
-use Rattle.macho_model.specs.Placement.{Placed, Span, id_of, section_span, common_span, stub_span, slot_span, is_segment_named, LiesIn, LiesInNamed, SectionLies}
+use Rattle.macho_model.specs.Placement.{Placed, Span, id_of, section_span, common_span, stub_span, slot_span, is_segment_named, LiesIn}
+use Rattle.macho_model.specs.Placement.{LiesInNamed, SectionLies}
 use Rattle.macho_model.specs.Addresses.{offset_in_file}
 use Rattle.macho_model.specs.Memory.{Choice, BindsAll, Holds, HoldsNumber}
 use Rattle.macho_model.specs.HeldLaws.{IsFree}

@@ -2,7 +2,8 @@
 --
 -- An address in the file part of a placed segment has one place in the file: as far from the segment's as the address is from the
 -- segment's, since segments share no address. What no word covers there is held in memory, at every slide; and zeros behind.
-use Rattle.std.proofs.Common.{◌≡◌, ℕ, ◌+◌, ◌-◌, ◌<◌, ◌≤◌, ◌&&◌, ◌||◌, not, true, false, nat_le, nat_lt, List, length, slice_range, slice_index, sym, ap, subst, ◌∙◌, arith, inl, inr}
+use Rattle.std.proofs.Common.{◌≡◌, ℕ, ◌+◌, ◌-◌, ◌<◌, ◌≤◌, ◌&&◌, ◌||◌, not, true, false, nat_le, nat_lt, List, length, slice_range}
+use Rattle.std.proofs.Common.{slice_index, sym, ap, subst, ◌∙◌, arith, inl, inr}
 use Rattle.std.specs.Prelude.{Contains, AllPairs}
 use Rattle.std.proofs.lemmas.Bool.{and_parts, and_from, or_parts, le-leb, lt-ltb, leb-true, ltb-true, not-true}
 use Rattle.std.proofs.lemmas.List.Edits.{length-between, get_or-between}

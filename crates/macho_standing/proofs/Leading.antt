@@ -3,7 +3,8 @@
 -- Fields and sections of zeros keep the rules of objects. A pointer that the loader writes is supported, so it leads somewhere, and not
 -- to an absolute value. A slot is asked for by a use: of a supported relocation, which leads to what moves or is imported; or of a
 -- personality function, which by its rule does too.
-use Rattle.std.proofs.Common.{◌≡◌, ℕ, ◌+◌, ◌*◌, ◌/◌, ◌<◌, ◌≤◌, ◌==◌, ◌&&◌, ◌||◌, not, if◌then◌else◌, Bool, true, false, List, [], ◌∷◌, ◌++◌, get_or, map, filter, refl, sym, ap, subst, ◌∙◌, arith, inl, inr, Some, None, All}
+use Rattle.std.proofs.Common.{◌≡◌, ℕ, ◌+◌, ◌*◌, ◌/◌, ◌<◌, ◌≤◌, ◌==◌, ◌&&◌, ◌||◌, not, if◌then◌else◌, Bool, true, false, List, [], ◌∷◌, ◌++◌}
+use Rattle.std.proofs.Common.{get_or, map, filter, refl, sym, ap, subst, ◌∙◌, arith, inl, inr, Some, None, All}
 use Rattle.std.specs.Prelude.{Contains}
 use Rattle.std.specs.List.{flat_map, filter_map, list_all, range_with_len}
 use Rattle.std.proofs.lemmas.Bool.{cases_Bool, cases_eq, and_parts, or_cases, or_parts, or_right, eqb-true, ne_eqb, leb-true, true≢false}
@@ -15,8 +16,11 @@ use Rattle.macho_model.specs.declared.targets.Target.{Target}
 use Rattle.macho_model.specs.declared.targets.Target.TheVariants as target
 use Rattle.macho_model.specs.ExportLists.{plain_entries}
 use Rattle.macho_model.specs.Links.{Link, SectionId, header_at, is_carried, is_consumed, is_unwind_entries, sections_of, carried_of}
-use Rattle.macho_model.specs.Needs.{Use, ByRelocation, ByInitializer, ByPersonality, ByName, uses_of, distinct, is_imported, relocation_in, section_named, symbol_of_relocation, relocations_of, relocations_at, carried_uses, initializer_uses, personality_uses, initializer_sections, unwind_sections, UNWIND_ENTRY_SIZE, PERSONALITY_PLACE}
-use Rattle.macho_model.specs.Targets.{is_import, is_defined, same_target, goes_by_slot, slot_of_use, slots_of, target_of_symbol, target_of_section, target_of_relocation}
+use Rattle.macho_model.specs.Needs.{Use, ByRelocation, ByInitializer, ByPersonality, ByName, uses_of, distinct, is_imported, relocation_in}
+use Rattle.macho_model.specs.Needs.{section_named, symbol_of_relocation, relocations_of, relocations_at, carried_uses, initializer_uses}
+use Rattle.macho_model.specs.Needs.{personality_uses, initializer_sections, unwind_sections, UNWIND_ENTRY_SIZE, PERSONALITY_PLACE}
+use Rattle.macho_model.specs.Targets.{is_import, is_defined, same_target, goes_by_slot, slot_of_use, slots_of, target_of_symbol}
+use Rattle.macho_model.specs.Targets.{target_of_section, target_of_relocation}
 use Rattle.macho_model.specs.Fields.{Field, field_of, fields_of, is_prefix_type}
 use Rattle.macho_model.specs.Rows.{is_none, has_form, defined_or_import, is_supported}
 use Rattle.macho_model.specs.Consumed.{entry_count, relocations_in_entry}

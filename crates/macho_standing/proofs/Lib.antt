@@ -5,6 +5,7 @@ pub mod Distinct
 pub mod Libraries
 pub mod Bindings
 pub mod Places
+pub mod FieldsApart
 pub mod Fits
 pub mod Apart
 pub mod Held

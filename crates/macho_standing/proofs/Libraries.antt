@@ -2,7 +2,8 @@
 --
 -- An imported name is defined by a library: its definition is the first one that offers it, an input with an install name. That
 -- name is among those of the inputs, so also with repeats taken out; and it is needed, since the import is bound to it.
-use Rattle.std.proofs.Common.{◌≡◌, ℕ, ◌+◌, ◌-◌, ◌<◌, ◌≤◌, Bool, true, false, not, ◌||◌, if◌then◌else◌, List, [], ◌∷◌, length, get_or, map, filter, refl, sym, ap, subst, ◌∙◌, arith, inl, inr, Option, Some, None}
+use Rattle.std.proofs.Common.{◌≡◌, ℕ, ◌+◌, ◌-◌, ◌<◌, ◌≤◌, Bool, true, false, not, ◌||◌, if◌then◌else◌, List, [], ◌∷◌, length, get_or, map}
+use Rattle.std.proofs.Common.{filter, refl, sym, ap, subst, ◌∙◌, arith, inl, inr, Option, Some, None}
 use Rattle.std.specs.Prelude.{Contains}
 use Rattle.std.specs.List.{position_or_len, enumerate_from, filter_map, list_any}
 use Rattle.std.specs.Str.{bytes_eq}
@@ -11,8 +12,10 @@ use Rattle.std.proofs.lemmas.List.FromFn.{length-enumerate_from, get_or-enumerat
 use Rattle.std.proofs.lemmas.List.{get_or_default}
 use Rattle.std.proofs.lemmas.Slice.Eq.{bytes_eq-Decides}
 use Rattle.macho_model.specs.Links.{Link, Input, Object, Dylib, Stub, no_input}
-use Rattle.macho_model.specs.Resolution.{Definition, Symbol, Library, ImageBase, first_or, strong_of, weak_of, greatest_of, libraries_with, offers, definition_of, DSO_HANDLE, install_name_in, library_name}
-use Rattle.macho_model.specs.Needs.{distinct, imports_of, is_imported, is_library, library_file, import_library, library_of_input, is_needed, libraries_needed, uses_of, name_used}
+use Rattle.macho_model.specs.Resolution.{Definition, Symbol, Library, ImageBase, first_or, strong_of, weak_of, greatest_of, libraries_with}
+use Rattle.macho_model.specs.Resolution.{offers, definition_of, DSO_HANDLE, install_name_in, library_name}
+use Rattle.macho_model.specs.Needs.{distinct, imports_of, is_imported, is_library, library_file, import_library, library_of_input}
+use Rattle.macho_model.specs.Needs.{is_needed, libraries_needed, uses_of, name_used}
 use Rattle.macho_model.specs.Exports.{library_number}
 use Rattle.macho_standing.proofs.Members.{at_front, front_or_rest, in_none, in_filter, of_filter, of_map, in_filter_map}
 use Rattle.macho_standing.proofs.Distinct.{in_distinct, of_distinct, first_within, first_is}

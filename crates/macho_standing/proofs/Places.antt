@@ -3,7 +3,8 @@
 -- Each thing of the link is placed, so look-up by its number finds one that is: a target that moves is at the address that it is
 -- looked up at, which is at most 2 ^ 64, since the thing lies in a segment. A word that was asked to move says this address less the
 -- base; it is not below the base, as the word's value is one that has a word.
-use Rattle.std.proofs.Common.{◌≡◌, ℕ, ◌+◌, ◌-◌, ◌*◌, ◌%◌, ◌^◌, ◌<◌, ◌≤◌, ◌==◌, ◌&&◌, Bool, true, false, if◌then◌else◌, List, [], ◌∷◌, length, map, filter, refl, ap, subst, ◌∙◌, arith, inl, inr, All}
+use Rattle.std.proofs.Common.{◌≡◌, ℕ, ◌+◌, ◌-◌, ◌*◌, ◌%◌, ◌^◌, ◌<◌, ◌≤◌, ◌==◌, ◌&&◌, Bool, true, false, if◌then◌else◌, List, [], ◌∷◌}
+use Rattle.std.proofs.Common.{length, map, filter, refl, ap, subst, ◌∙◌, arith, inl, inr, All}
 use Rattle.std.specs.Prelude.{Contains}
 use Rattle.std.specs.List.{range_with_len}
 use Rattle.std.proofs.lemmas.Bool.{cases_lt, cases_Bool, and_parts, and_from, eqb-true, eq-eqb}
@@ -21,7 +22,8 @@ use Rattle.macho_model.specs.Links.{Link, SectionId, header_at, carried_of}
 use Rattle.macho_model.specs.Resolution.{chosen_commons}
 use Rattle.macho_model.specs.Targets.{is_defined, is_import}
 use Rattle.macho_model.specs.Segments.{base_of_link}
-use Rattle.macho_model.specs.Placement.{Placed, Span, id_of, section_span, common_span, LiesIn, SectionLies, LiesInNamed, IsPaged, IsWholeList, IsPlaced}
+use Rattle.macho_model.specs.Placement.{Placed, Span, id_of, section_span, common_span, LiesIn, SectionLies, LiesInNamed, IsPaged}
+use Rattle.macho_model.specs.Placement.{IsWholeList, IsPlaced}
 use Rattle.macho_model.specs.Segments.{DATA}
 use Rattle.macho_model.specs.Addresses.{first_number, section_address, common_address, address_of}
 use Rattle.macho_model.specs.Images.{base_of}

@@ -15,7 +15,8 @@ use Rattle.macho_model.specs.Images.{import_entry_size}
 use Rattle.macho_fixups.specs.declared.run.Fixup.{Fixup}
 use Rattle.macho_fixups.specs.declared.run.FixupSegment.{FixupSegment}
 use Rattle.macho_fixups.specs.declared.imports.ImportEntry.{ImportEntry}
-use Rattle.macho_fixups.specs.Tables.{segment_text, segment_size, offsets_text, image_starts_text, image_starts_size, entry_word, entry_text, table_header, names_place, table_text}
+use Rattle.macho_fixups.specs.Tables.{segment_text, segment_size, offsets_text, image_starts_text, image_starts_size, entry_word}
+use Rattle.macho_fixups.specs.Tables.{entry_text, table_header, names_place, table_text}
 use Rattle.macho_fixups.proofs.TableTexts.{header_long}
 use Rattle.macho_fixups.proofs.StartReading.{text_long}
 use Rattle.macho_fixups.proofs.SegmentWrites.{length-offsets}

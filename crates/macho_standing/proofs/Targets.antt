@@ -3,7 +3,8 @@
 -- A symbol that stands in a carried section stands inside it, by the rules of objects. A name's definition is a symbol of its name, a
 -- library or the image: a common that defines its name is chosen, and a name that is used and that a library defines is imported. So
 -- whatever is neither absolute nor nothing has a place.
-use Rattle.std.proofs.Common.{◌≡◌, ℕ, ◌+◌, ◌-◌, ◌<◌, ◌⊎◌, ◌==◌, ◌&&◌, ◌||◌, nat_le, not, if◌then◌else◌, Bool, true, false, List, [], ◌∷◌, map, filter, refl, sym, ap, subst, ◌∙◌, arith, inl, inr, Option, Some, None}
+use Rattle.std.proofs.Common.{◌≡◌, ℕ, ◌+◌, ◌-◌, ◌<◌, ◌⊎◌, ◌==◌, ◌&&◌, ◌||◌, nat_le, not, if◌then◌else◌, Bool, true, false, List, [], ◌∷◌}
+use Rattle.std.proofs.Common.{map, filter, refl, sym, ap, subst, ◌∙◌, arith, inl, inr, Option, Some, None}
 use Rattle.std.specs.Prelude.{Contains}
 use Rattle.std.specs.List.{position_or_len, filter_map}
 use Rattle.std.specs.Str.{bytes_eq}
@@ -15,9 +16,14 @@ use Rattle.macho_model.specs.declared.targets.Target.TheVariants as target
 use Rattle.macho_model.specs.Symbols.{is_absolute, is_in_section, is_global, is_local}
 use Rattle.macho_model.specs.Objects.{num_sections, num_symbols}
 use Rattle.macho_model.specs.Links.{Link, SectionId, object_of, header_at, is_carried, sections_of, carried_of}
-use Rattle.macho_model.specs.Resolution.{SymbolId, Definition, Symbol, Library, ImageBase, first_or, entry_at, name_at, same_symbol, symbols_of, section_of_symbol, stands_in_carried, has_name, is_strong, is_weak, strong_of, weak_of, commons_of, greatest_of, libraries_with, definition_of, DSO_HANDLE, is_symbol, defines, is_chosen, chosen_commons}
-use Rattle.macho_model.specs.Needs.{Use, uses_of, imports_of, is_imported, is_library, name_used, global_name, relocation_in, section_named, symbol_of_relocation}
-use Rattle.macho_model.specs.Targets.{place_of_symbol, own_target, definition_target, target_with, target_of, target_of_symbol, target_of_section, target_of_relocation}
+use Rattle.macho_model.specs.Resolution.{SymbolId, Definition, Symbol, Library, ImageBase, first_or, entry_at, name_at, same_symbol}
+use Rattle.macho_model.specs.Resolution.{symbols_of, section_of_symbol, stands_in_carried, has_name, is_strong, is_weak, strong_of, weak_of}
+use Rattle.macho_model.specs.Resolution.{commons_of, greatest_of, libraries_with, definition_of, DSO_HANDLE, is_symbol, defines, is_chosen}
+use Rattle.macho_model.specs.Resolution.{chosen_commons}
+use Rattle.macho_model.specs.Needs.{Use, uses_of, imports_of, is_imported, is_library, name_used, global_name, relocation_in, section_named}
+use Rattle.macho_model.specs.Needs.{symbol_of_relocation}
+use Rattle.macho_model.specs.Targets.{place_of_symbol, own_target, definition_target, target_with, target_of, target_of_symbol}
+use Rattle.macho_model.specs.Targets.{target_of_section, target_of_relocation}
 use Rattle.macho_model.specs.Rows.{is_none}
 use Rattle.macho_model.specs.Values.{section_id, is_absolute_target}
 use Rattle.macho_standing.specs.Leads.{ObjectsAreRead, HasPlace}

@@ -2,7 +2,8 @@
 --
 -- The type in the header of an output section is that of its key, so those of the template are merged ones, of a key of the template.
 -- Such a key is that of a carried section, which by the rules of objects is in `__DATA`.
-use Rattle.std.proofs.Common.{◌≡◌, ℕ, zero, suc, ◌<◌, ◌⊎◌, ◌==◌, ◌&&◌, Bool, true, false, List, [], ◌∷◌, map, filter, get_or, refl, sym, ap, ◌∙◌, arith, inl, inr, All}
+use Rattle.std.proofs.Common.{◌≡◌, ℕ, zero, suc, ◌<◌, ◌⊎◌, ◌==◌, ◌&&◌, Bool, true, false, List, [], ◌∷◌, map, filter, get_or, refl, sym, ap}
+use Rattle.std.proofs.Common.{◌∙◌, arith, inl, inr, All}
 use Rattle.std.specs.Prelude.{Contains}
 use Rattle.std.specs.Str.{bytes_eq}
 use Rattle.std.proofs.lemmas.Bool.{and_parts, or_left, eqb-true, eq-eqb, true≢false}
@@ -16,7 +17,8 @@ use Rattle.macho_model.specs.declared.placed.Counts.{Counts}
 use Rattle.macho_model.specs.Links.{Link, SectionId, header_at, carried_of}
 use Rattle.macho_model.specs.ObjectRules.{is_thread_local}
 use Rattle.macho_model.specs.Segments.{TEXT, DATA, OutputKey, same_key, key_of, common_key, output_keys_of, list_if}
-use Rattle.macho_model.specs.OutputSections.{OutputSection, Merged, InitOffsets, UnwindInfo, Stubs, Slots, merged_in, sections_of_text, sections_of_data, sections_of_other, output_sections_in, flags_of_output}
+use Rattle.macho_model.specs.OutputSections.{OutputSection, Merged, InitOffsets, UnwindInfo, Stubs, Slots, merged_in, sections_of_text}
+use Rattle.macho_model.specs.OutputSections.{sections_of_data, sections_of_other, output_sections_in, flags_of_output}
 use Rattle.macho_standing.specs.Leads.{ObjectsAreRead}
 use Rattle.macho_standing.proofs.Members.{front_or_rest, in_none, in_map, of_map, of_filter}
 use Rattle.macho_standing.proofs.Distinct.{in_distinct, of_distinct}

@@ -2,7 +2,8 @@
 --
 -- They are those of `__DATA`, as no other segment has any and `__DATA` is named at most once. In `__DATA` output sections stand in
 -- order.
-use Rattle.std.proofs.Common.{◌≡◌, ℕ, zero, suc, ◌==◌, ◌||◌, not, Bool, true, false, List, [], ◌∷◌, ◌++◌, map, filter, length, get_or, refl, sym, ap, subst, ◌∙◌, arith, All}
+use Rattle.std.proofs.Common.{◌≡◌, ℕ, zero, suc, ◌==◌, ◌||◌, not, Bool, true, false, List, [], ◌∷◌, ◌++◌, map, filter, length, get_or, refl}
+use Rattle.std.proofs.Common.{sym, ap, subst, ◌∙◌, arith, All}
 use Rattle.std.specs.Prelude.{Contains, AllPairs}
 use Rattle.std.specs.List.{flat_map}
 use Rattle.std.specs.Str.{bytes_eq}
@@ -19,7 +20,8 @@ use Rattle.macho_model.specs.Links.{Link, carried_of}
 use Rattle.macho_model.specs.Resolution.{chosen_commons}
 use Rattle.macho_model.specs.Needs.{distinct}
 use Rattle.macho_model.specs.Targets.{slots_of}
-use Rattle.macho_model.specs.Segments.{segment_name, PAGEZERO, TEXT, DATA_CONST, DATA, LINKEDIT, is_known_segment, other_segments, has_section_in, segment_names_of, list_if}
+use Rattle.macho_model.specs.Segments.{segment_name, PAGEZERO, TEXT, DATA_CONST, DATA, LINKEDIT, is_known_segment, other_segments}
+use Rattle.macho_model.specs.Segments.{has_section_in, segment_names_of, list_if}
 use Rattle.macho_model.specs.Placement.{Placed}
 use Rattle.macho_model.specs.OutputSections.{OutputSection, Piece, output_sections_in, output_sections_of, extent_of}
 use Rattle.macho_model.specs.Order.{StandInOrder, EndsBefore, row_of, sections_in}

@@ -3,7 +3,8 @@
 -- The headers of the template are those of its output sections. Each is around placed sections of the template, which the range
 -- holds; so it is in the range. The section that begins the range is in one of them, which begins with it, and the one that ends the
 -- range is in one that ends with it. So they fill the range.
-use Rattle.std.proofs.Common.{◌≡◌, ◌≤◌, ◌==◌, ◌&&◌, not, Bool, true, false, List, [], ◌∷◌, ◌++◌, map, filter, length, get_or, refl, sym, ap, subst, ◌∙◌, arith, inl, inr, All, Option, Some, None}
+use Rattle.std.proofs.Common.{◌≡◌, ◌≤◌, ◌==◌, ◌&&◌, not, Bool, true, false, List, [], ◌∷◌, ◌++◌, map, filter, length, get_or, refl, sym, ap}
+use Rattle.std.proofs.Common.{subst, ◌∙◌, arith, inl, inr, All, Option, Some, None}
 use Rattle.std.specs.Prelude.{Contains}
 use Rattle.std.specs.Str.{bytes_eq}
 use Rattle.std.proofs.lemmas.Bool.{cases_Bool, and_from, and_parts, or_cases, or_left, true≢false}
@@ -21,16 +22,21 @@ use Rattle.macho_model.specs.declared.placed.PlacedCommon.{PlacedCommon}
 use Rattle.macho_model.specs.declared.placed.PlacedSection.{PlacedSection}
 use Rattle.macho_model.specs.Links.{Link, SectionId, header_at, carried_of, sections_of, is_carried, is_template, placed_exponent}
 use Rattle.macho_model.specs.Resolution.{entry_at, chosen_commons}
-use Rattle.macho_model.specs.Segments.{DATA, OutputKey, same_key, key_of, common_key, output_keys_of, segment_name, has_section_in, segment_names_of, list_if}
-use Rattle.macho_model.specs.Placement.{Placed, id_of, common_of, section_span, common_span, template_sections, HoldsSpan, HoldsTemplate, TemplateHolds}
-use Rattle.macho_model.specs.OutputSections.{OutputSection, Merged, Piece, piece, end_of_piece, placed_members, pieces_of, output_header, output_sections_in, output_sections_of, output_sections_for, merged_in, sections_of_data, is_zeros}
+use Rattle.macho_model.specs.Segments.{DATA, OutputKey, same_key, key_of, common_key, output_keys_of, segment_name, has_section_in}
+use Rattle.macho_model.specs.Segments.{segment_names_of, list_if}
+use Rattle.macho_model.specs.Placement.{Placed, id_of, common_of, section_span, common_span, template_sections, HoldsSpan, HoldsTemplate}
+use Rattle.macho_model.specs.Placement.{TemplateHolds}
+use Rattle.macho_model.specs.OutputSections.{OutputSection, Merged, Piece, piece, end_of_piece, placed_members, pieces_of, output_header}
+use Rattle.macho_model.specs.OutputSections.{output_sections_in, output_sections_of, output_sections_for, merged_in, sections_of_data}
+use Rattle.macho_model.specs.OutputSections.{is_zeros}
 use Rattle.macho_model.specs.Order.{StandInOrder}
 use Rattle.macho_model.specs.Made.{template_headers, TemplateIsFilled}
 use Rattle.macho_standing.specs.Leads.{ObjectsAreRead}
 use Rattle.macho_standing.specs.Template.{TemplateIsTight, HeadersTellTemplate}
 use Rattle.macho_standing.proofs.Members.{in_none, in_map, of_map, in_filter, of_filter, in_flat_map, of_flat_map}
 use Rattle.macho_standing.proofs.TemplateRange.{IsWithin, IsAround, is_around, fills}
-use Rattle.macho_standing.proofs.TemplateKeys.{same_is, same_itself, is_template_output, template_key, IsTemplateKey, is_template_key, section_key, IsTemplateOf, each_template}
+use Rattle.macho_standing.proofs.TemplateKeys.{same_is, same_itself, is_template_output, template_key, IsTemplateKey, is_template_key}
+use Rattle.macho_standing.proofs.TemplateKeys.{section_key, IsTemplateOf, each_template}
 use Rattle.macho_standing.proofs.TemplateRow.{has_data, no_elements, data_named, templates_in_order}
 
 -- the pieces of a key of the template are its placed sections

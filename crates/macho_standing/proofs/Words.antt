@@ -2,7 +2,8 @@
 --
 -- Each is a fixup that was asked for, so a word of the chain that says its kind. A target that is no import is at its address, and the
 -- word says that address: it moves with the image. An import is bound, and every choice that binds all imports has an address for it.
-use Rattle.std.proofs.Common.{◌≡◌, ℕ, ◌+◌, ◌%◌, ◌^◌, ◌<◌, true, false, ◌&&◌, not, List, length, get_or, map, refl, sym, ap, ◌∙◌, arith, inl, inr, Some}
+use Rattle.std.proofs.Common.{◌≡◌, ℕ, ◌+◌, ◌%◌, ◌^◌, ◌<◌, true, false, ◌&&◌, not, List, length, get_or, map, refl, sym, ap, ◌∙◌, arith, inl}
+use Rattle.std.proofs.Common.{inr, Some}
 use Rattle.std.specs.Prelude.{Contains, is_some}
 use Rattle.std.specs.List.{flat_map, filter_map}
 use Rattle.std.proofs.lemmas.Bool.{cases_Bool, true≢false, and_parts}

@@ -3,7 +3,8 @@
 -- A byte of the file that is in no content is 0. An address in a section of zeros, or in a common, is in no other part: not in one of
 -- the same segment, since parts share no address; nor in one of another segment, since segments share no byte of the file. Contents
 -- lie in their parts: load commands in the head, unwind information in its range, tables in theirs.
-use Rattle.std.proofs.Common.{◌≡◌, ℕ, ◌+◌, ◌-◌, ◌<◌, ◌≤◌, ◌==◌, ◌&&◌, not, Bool, true, false, List, [], ◌∷◌, ◌++◌, length, get_or, map, filter, refl, sym, ap, subst, ◌∙◌, arith, inl, inr, All}
+use Rattle.std.proofs.Common.{◌≡◌, ℕ, ◌+◌, ◌-◌, ◌<◌, ◌≤◌, ◌==◌, ◌&&◌, not, Bool, true, false, List, [], ◌∷◌, ◌++◌, length, get_or, map}
+use Rattle.std.proofs.Common.{filter, refl, sym, ap, subst, ◌∙◌, arith, inl, inr, All}
 use Rattle.std.specs.Prelude.{Contains}
 use Rattle.std.proofs.lemmas.Bool.{cases_lt, true≢false, not-true, ne_eqb}
 use Rattle.std.proofs.lemmas.List.Elements.{All-contains, All-contains_itself, All-append, All-cons, All-map}
@@ -18,7 +19,9 @@ use Rattle.macho_model.specs.declared.placed.Range64.{Range64}
 use Rattle.macho_model.specs.Commands.{commands_end}
 use Rattle.macho_model.specs.Links.{Link, header_at}
 use Rattle.macho_model.specs.Segments.{TEXT, DATA_CONST, LINKEDIT}
-use Rattle.macho_model.specs.Placement.{Placed, Span, AreApart, id_of, head_size, head_span, section_span, common_span, slot_span, stub_span, range_span, linkedit_start, linkedit_span, linkedit_ranges, is_segment_named, LiesIn, LiesInNamed, SectionLies, TableLies, RangeLies, IsPlaced}
+use Rattle.macho_model.specs.Placement.{Placed, Span, AreApart, id_of, head_size, head_span, section_span, common_span, slot_span}
+use Rattle.macho_model.specs.Placement.{stub_span, range_span, linkedit_start, linkedit_span, linkedit_ranges, is_segment_named, LiesIn}
+use Rattle.macho_model.specs.Placement.{LiesInNamed, SectionLies, TableLies, RangeLies, IsPlaced}
 use Rattle.macho_model.specs.Addresses.{offset_in_file}
 use Rattle.macho_model.specs.Images.{Table, tables_of, tries_of, symbol_tables_of, string_tables_of, signatures_of, fixups_header}
 use Rattle.macho_model.specs.ImportTable.{names_text}

@@ -2,7 +2,8 @@
 --
 -- A target that moves or is imported has a place, and so has what a difference subtracts. An addend that stands in front of a field has
 -- 24 bits, and that of a difference of four bytes has 32, so both are below 2 ^ 64; a branch to an import has none.
-use Rattle.std.proofs.Common.{◌≡◌, ℕ, ◌+◌, ◌-◌, ◌*◌, ◌%◌, ◌^◌, ◌<◌, ◌==◌, ◌&&◌, ◌||◌, not, nat_lt, nat_le, if◌then◌else◌, Bool, true, false, List, [], length, drop, slice_range, slice_index, refl, sym, ap, subst, ◌∙◌, arith, inl, inr, Some, None, All}
+use Rattle.std.proofs.Common.{◌≡◌, ℕ, ◌+◌, ◌-◌, ◌*◌, ◌%◌, ◌^◌, ◌<◌, ◌==◌, ◌&&◌, ◌||◌, not, nat_lt, nat_le, if◌then◌else◌, Bool, true, false}
+use Rattle.std.proofs.Common.{List, [], length, drop, slice_range, slice_index, refl, sym, ap, subst, ◌∙◌, arith, inl, inr, Some, None, All}
 use Rattle.std.specs.Prelude.{Contains, is_some}
 use Rattle.std.proofs.lemmas.Bool.{cases_lt, cases_Bool, and_parts, or_cases, or_left, eqb-true, eq-eqb, not-true, true≢false}
 use Rattle.std.proofs.lemmas.List.{get_or_past, get_or_default}
@@ -10,14 +11,19 @@ use Rattle.std.proofs.lemmas.List.Elements.{All-take, All-drop}
 use Rattle.macho_bytes.specs.Numbers.{le_at, signed}
 use Rattle.macho_bytes.specs.Layouts.{reading}
 use Rattle.macho_records.specs.Sections.{is_zerofill}
-use Rattle.macho_records.specs.declared.constants.TheConstants.{ARM64_RELOC_ADDEND, ARM64_RELOC_BRANCH26, ARM64_RELOC_SUBTRACTOR, ARM64_RELOC_UNSIGNED, ARM64_RELOC_PAGE21, ARM64_RELOC_PAGEOFF12, ARM64_RELOC_GOT_LOAD_PAGE21, ARM64_RELOC_TLVP_LOAD_PAGE21, ARM64_RELOC_GOT_LOAD_PAGEOFF12, ARM64_RELOC_TLVP_LOAD_PAGEOFF12, ARM64_RELOC_POINTER_TO_GOT}
+use Rattle.macho_records.specs.declared.constants.TheConstants.{ARM64_RELOC_ADDEND, ARM64_RELOC_BRANCH26, ARM64_RELOC_SUBTRACTOR}
+use Rattle.macho_records.specs.declared.constants.TheConstants.{ARM64_RELOC_UNSIGNED, ARM64_RELOC_PAGE21, ARM64_RELOC_PAGEOFF12}
+use Rattle.macho_records.specs.declared.constants.TheConstants.{ARM64_RELOC_GOT_LOAD_PAGE21, ARM64_RELOC_TLVP_LOAD_PAGE21}
+use Rattle.macho_records.specs.declared.constants.TheConstants.{ARM64_RELOC_GOT_LOAD_PAGEOFF12, ARM64_RELOC_TLVP_LOAD_PAGEOFF12}
+use Rattle.macho_records.specs.declared.constants.TheConstants.{ARM64_RELOC_POINTER_TO_GOT}
 use Rattle.macho_model.specs.declared.targets.Target.{Target}
 use Rattle.macho_model.specs.declared.targets.Target.TheVariants as target
 use Rattle.macho_model.specs.Objects.{section_at, section_bytes, relocation_at}
 use Rattle.macho_model.specs.Links.{Link, SectionId, Object, no_input, object_bytes, object_of, header_at, carried_of}
 use Rattle.macho_model.specs.Needs.{ByRelocation, relocation_in, section_named}
 use Rattle.macho_model.specs.Targets.{is_defined, is_import, target_of_relocation}
-use Rattle.macho_model.specs.Fields.{Field, field_of, fields_of, has_subtrahend, has_addend, is_difference, width_of, content_of, pointer_addend}
+use Rattle.macho_model.specs.Fields.{Field, field_of, fields_of, has_subtrahend, has_addend, is_difference, width_of, content_of}
+use Rattle.macho_model.specs.Fields.{pointer_addend}
 use Rattle.macho_model.specs.Words.{is_branch}
 use Rattle.macho_model.specs.Rows.{is_supported, defined_or_import, difference_fits, begins_pair, pointer_fits, may_be_called, has_form}
 use Rattle.macho_model.specs.Stands.{Kind, Pointer, Difference, Branch, Page, Offset, SlotPage, SlotOffset, SlotDistance, NoKind, kind_of}

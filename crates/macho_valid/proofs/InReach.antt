@@ -2,7 +2,8 @@
 --
 -- A field's place, what it refers to and what it subtracts are near the base, and its addend is small, so they are close to each
 -- other. Where multiples are asked for, section, offset and target are such.
-use Rattle.std.proofs.Common.{◌≡◌, ℕ, ◌+◌, ◌%◌, ◌^◌, ◌<◌, ◌==◌, ◌&&◌, nat_le, Bool, true, false, refl, sym, ap, subst, ◌∙◌, arith, inl, inr, Option, Some, None}
+use Rattle.std.proofs.Common.{◌≡◌, ℕ, ◌+◌, ◌%◌, ◌^◌, ◌<◌, ◌==◌, ◌&&◌, nat_le, Bool, true, false, refl, sym, ap, subst, ◌∙◌, arith, inl, inr}
+use Rattle.std.proofs.Common.{Option, Some, None}
 use Rattle.std.specs.Prelude.{Contains, is_some}
 use Rattle.std.proofs.lemmas.Bool.{and_parts, or_cases, or_left, eqb-true, true≢false}
 use Rattle.std.proofs.lemmas.List.Elements.{All-contains}
@@ -19,8 +20,10 @@ use Rattle.macho_model.specs.Words.{scale_of}
 use Rattle.macho_model.specs.Rows.{defined_or_import}
 use Rattle.macho_model.specs.Placement.{Placed, id_of}
 use Rattle.macho_model.specs.SlideLaws.{targets_move, subtrahend_moves}
-use Rattle.macho_model.specs.Stands.{Kind, Pointer, Difference, Branch, Page, Offset, SlotPage, SlotOffset, SlotDistance, NoKind, kind_of, SectionAt, IsAt, CallIsAt, SubtrahendIsAt}
-use Rattle.macho_model.specs.Values.{section_id, no_choice, fits_signed, less, branch_reaches, page_reaches, offset_fits, DoesNotFit, BadRange}
+use Rattle.macho_model.specs.Stands.{Kind, Pointer, Difference, Branch, Page, Offset, SlotPage, SlotOffset, SlotDistance, NoKind, kind_of}
+use Rattle.macho_model.specs.Stands.{SectionAt, IsAt, CallIsAt, SubtrahendIsAt}
+use Rattle.macho_model.specs.Values.{section_id, no_choice, fits_signed, less, branch_reaches, page_reaches, offset_fits, DoesNotFit}
+use Rattle.macho_model.specs.Values.{BadRange}
 use Rattle.macho_model.specs.Valid.{is_small, is_multiple, stands_at_multiple, field_fits}
 use Rattle.macho_standing.proofs.Fits.{field_fits_in}
 use Rattle.macho_valid.specs.Laws.{ObjectsAreBytes}

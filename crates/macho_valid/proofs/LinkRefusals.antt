@@ -12,11 +12,14 @@ use Rattle.macho_model.specs.ExportLists.{plain_entries}
 use Rattle.macho_model.specs.Links.{Link, SectionId}
 use Rattle.macho_model.specs.Symbols.{is_global}
 use Rattle.macho_model.specs.Resolution.{SymbolId, entry_at, name_at, definition_of}
-use Rattle.macho_model.specs.Needs.{Use, ByRelocation, ByInitializer, ByPersonality, ByName, symbol_used, name_used, global_name, initializer_sections, unwind_sections, relocation_in, POINTER_SIZE}
+use Rattle.macho_model.specs.Needs.{Use, ByRelocation, ByInitializer, ByPersonality, ByName, symbol_used, name_used, global_name}
+use Rattle.macho_model.specs.Needs.{initializer_sections, unwind_sections, relocation_in, POINTER_SIZE}
 use Rattle.macho_model.specs.Consumed.{initializer_section_fits, initializer_slot_fits, whole_entries, keeps}
 use Rattle.macho_model.specs.Placement.{Placed}
 use Rattle.macho_model.specs.Values.{section_id, fits_signed}
-use Rattle.macho_model.specs.Faults.{DuplicateSymbol, UndefinedSymbol, EntryNotDefined, ExportListMissing, BadInitializer, BadUnwind, UnsupportedRelocation, OverlappingFields, BindAddend, FixupPlace, TooMany, ImageTooLarge, RebaseTarget, RelocationRange, BadName, names_symbol, IsBadEntry, IsBadInitializer}
+use Rattle.macho_model.specs.Faults.{DuplicateSymbol, UndefinedSymbol, EntryNotDefined, ExportListMissing, BadInitializer, BadUnwind}
+use Rattle.macho_model.specs.Faults.{UnsupportedRelocation, OverlappingFields, BindAddend, FixupPlace, TooMany, ImageTooLarge, RebaseTarget}
+use Rattle.macho_model.specs.Faults.{RelocationRange, BadName, names_symbol, IsBadEntry, IsBadInitializer}
 use Rattle.macho_model.specs.Valid.{ConsumedKeepRules}
 use Rattle.macho_standing.proofs.Sounding.{valid_is_sound}
 use Rattle.macho_valid.specs.Laws.{LinkIsNotRefused}

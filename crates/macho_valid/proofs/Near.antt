@@ -2,7 +2,8 @@
 --
 -- A target that moves is an address of a section up to its end, the start of a common, or the base. A call goes to a stub or to the target,
 -- a load to a slot or to the target.
-use Rattle.std.proofs.Common.{◌≡◌, ℕ, zero, suc, ◌+◌, ◌%◌, ◌^◌, ◌≤◌, ◌⊎◌, ◌==◌, nat_le, if◌then◌else◌, Bool, true, false, refl, sym, ap, ◌∙◌, arith, inl, inr}
+use Rattle.std.proofs.Common.{◌≡◌, ℕ, zero, suc, ◌+◌, ◌%◌, ◌^◌, ◌≤◌, ◌⊎◌, ◌==◌, nat_le, if◌then◌else◌, Bool, true, false, refl, sym, ap}
+use Rattle.std.proofs.Common.{◌∙◌, arith, inl, inr}
 use Rattle.std.specs.Prelude.{Contains}
 use Rattle.std.proofs.lemmas.Bool.{cases_Bool, and_parts, eqb-true, leb-true, true≢false}
 use Rattle.std.proofs.lemmas.List.Elements.{All-contains}

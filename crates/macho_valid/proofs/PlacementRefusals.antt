@@ -6,7 +6,9 @@ use Rattle.macho_model.specs.Placement.{Placed}
 use Rattle.macho_model.specs.Stands.{SectionAt}
 use Rattle.macho_model.specs.Values.{section_id, BadRebase, BadRange}
 use Rattle.macho_model.specs.Limits.{PassesLimit, ImagePasses}
-use Rattle.macho_model.specs.Faults.{LinkFault, DuplicateSymbol, UndefinedSymbol, EntryNotDefined, ExportListMissing, BadInitializer, BadUnwind, UnsupportedRelocation, OverlappingFields, BindAddend, FixupPlace, TooMany, ImageTooLarge, RebaseTarget, RelocationRange, BadName, FaultStands, kept_placement}
+use Rattle.macho_model.specs.Faults.{LinkFault, DuplicateSymbol, UndefinedSymbol, EntryNotDefined, ExportListMissing, BadInitializer}
+use Rattle.macho_model.specs.Faults.{BadUnwind, UnsupportedRelocation, OverlappingFields, BindAddend, FixupPlace, TooMany, ImageTooLarge}
+use Rattle.macho_model.specs.Faults.{RebaseTarget, RelocationRange, BadName, FaultStands, kept_placement}
 use Rattle.macho_valid.specs.Laws.{ObjectsAreBytes, PlacementIsNotRefused}
 use Rattle.macho_valid.proofs.Ranges.{IsValidPlaced}
 use Rattle.macho_valid.proofs.Fixed.{no_bad_place, no_bad_rebase}

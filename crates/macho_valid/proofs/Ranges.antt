@@ -3,7 +3,8 @@
 -- Ranks rise and `__TEXT` begins at the base, so every segment but the one that keeps addresses free stands there or later; and each
 -- ends at most the written sum behind the base, which is small. What lies in such a segment is near the base too. In the file the
 -- segments stand one behind the other from 0 on, and none has more bytes there than in memory.
-use Rattle.std.proofs.Common.{◌≡◌, ℕ, zero, suc, ◌+◌, ◌<◌, ◌≤◌, if◌then◌else◌, Bool, true, false, List, length, get_or, refl, sym, ap, subst, ◌∙◌, arith, inl, inr, All}
+use Rattle.std.proofs.Common.{◌≡◌, ℕ, zero, suc, ◌+◌, ◌<◌, ◌≤◌, if◌then◌else◌, Bool, true, false, List, length, get_or, refl, sym, ap}
+use Rattle.std.proofs.Common.{subst, ◌∙◌, arith, inl, inr, All}
 use Rattle.std.specs.Prelude.{Contains}
 use Rattle.std.specs.List.{position_or_len}
 use Rattle.std.specs.Str.{bytes_eq}
@@ -23,7 +24,8 @@ use Rattle.macho_model.specs.Links.{Link, header_at}
 use Rattle.macho_model.specs.Resolution.{entry_at}
 use Rattle.macho_model.specs.Segments.{PAGEZERO, TEXT, DATA_CONST, DATA, LINKEDIT, other_segments, segment_rank}
 use Rattle.macho_model.specs.WrittenSum.{written_sum_of}
-use Rattle.macho_model.specs.Placement.{Placed, id_of, common_of, section_span, common_span, slot_span, stub_span, is_segment_named, EachFollows, Follows, IsPaged, LiesInNamed, SectionLies, IsPlaced}
+use Rattle.macho_model.specs.Placement.{Placed, id_of, common_of, section_span, common_span, slot_span, stub_span, is_segment_named}
+use Rattle.macho_model.specs.Placement.{EachFollows, Follows, IsPaged, LiesInNamed, SectionLies, IsPlaced}
 use Rattle.macho_model.specs.Order.{least_file_size}
 use Rattle.macho_model.specs.Valid.{VALID_SUM, IsValid}
 use Rattle.macho_promise.specs.Promise.{IsLaidOut}

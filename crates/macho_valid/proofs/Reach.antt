@@ -3,7 +3,8 @@
 -- Two addresses at most 2 ^ 26 apart, with an addend below 2 ^ 23 in size, are less than 2 ^ 27 apart modulo 2 ^ 64, on one side or the
 -- other; so are their pages, but for a page. So they are in the reach of branches and pages and of 32 bits. A multiple of a power of two
 -- stays one when a multiple of it is added or cut off.
-use Rattle.std.proofs.Common.{◌≡◌, ℕ, zero, suc, ◌+◌, ◌-◌, ◌%◌, ◌^◌, ◌<◌, ◌≤◌, ◌⊎◌, ◌==◌, ◌&&◌, nat_lt, nat_le, if◌then◌else◌, Bool, true, false, sym, ap, ◌∙◌, arith, inl, inr}
+use Rattle.std.proofs.Common.{◌≡◌, ℕ, zero, suc, ◌+◌, ◌-◌, ◌%◌, ◌^◌, ◌<◌, ◌≤◌, ◌⊎◌, ◌==◌, ◌&&◌, nat_lt, nat_le, if◌then◌else◌, Bool, true}
+use Rattle.std.proofs.Common.{false, sym, ap, ◌∙◌, arith, inl, inr}
 use Rattle.std.proofs.lemmas.Bool.{cases_lt, or_cases, or_left, or_right, and_from, ltb-true, lt-ltb, le-leb, eq-eqb}
 use Rattle.std.proofs.Math.Pow.{mod-mod-pow, pow-lt}
 use Rattle.std.proofs.Math.Nat.{zero-mod}

@@ -3,7 +3,8 @@
 -- Segments are near the front of the file, so their pages are few and their tables end early; the one that keeps addresses free has no
 -- bytes there. An address that is written as an offset from the base is near it: an initializer is a target, a function and its language
 -- data lie in carried sections, and a personality is found by a slot.
-use Rattle.std.proofs.Common.{◌≡◌, ℕ, zero, suc, ◌+◌, ◌-◌, ◌*◌, ◌/◌, ◌%◌, ◌^◌, ◌<◌, ◌≤◌, ◌==◌, ◌&&◌, ◌||◌, not, nat_le, nat_lt, true, false, List, [], ◌∷◌, ◌++◌, length, get_or, map, filter, refl, sym, ap, subst, ◌∙◌, arith, inl, inr, Some}
+use Rattle.std.proofs.Common.{◌≡◌, ℕ, zero, suc, ◌+◌, ◌-◌, ◌*◌, ◌/◌, ◌%◌, ◌^◌, ◌<◌, ◌≤◌, ◌==◌, ◌&&◌, ◌||◌, not, nat_le, nat_lt, true, false}
+use Rattle.std.proofs.Common.{List, [], ◌∷◌, ◌++◌, length, get_or, map, filter, refl, sym, ap, subst, ◌∙◌, arith, inl, inr, Some}
 use Rattle.std.specs.Prelude.{Contains}
 use Rattle.std.specs.List.{flat_map, list_all, range_with_len}
 use Rattle.std.specs.Str.{bytes_eq}
@@ -24,12 +25,17 @@ use Rattle.macho_model.specs.declared.targets.Target.{Target}
 use Rattle.macho_model.specs.declared.targets.Target.TheVariants as target
 use Rattle.macho_model.specs.ExportLists.{plain_entries}
 use Rattle.macho_model.specs.Links.{Link, SectionId, header_at, carried_of, sections_of, is_carried, is_consumed, is_initializers}
-use Rattle.macho_model.specs.Needs.{ByInitializer, ByName, uses_of, relocation_in, section_named, relocations_of, relocations_at, initializer_sections, unwind_sections, carried_uses, initializer_uses, personality_uses, is_imported, PERSONALITY_PLACE}
+use Rattle.macho_model.specs.Needs.{ByInitializer, ByName, uses_of, relocation_in, section_named, relocations_of, relocations_at}
+use Rattle.macho_model.specs.Needs.{initializer_sections, unwind_sections, carried_uses, initializer_uses, personality_uses, is_imported}
+use Rattle.macho_model.specs.Needs.{PERSONALITY_PLACE}
 use Rattle.macho_model.specs.Resolution.{chosen_commons}
 use Rattle.macho_model.specs.Targets.{is_import, is_defined, target_of_relocation, slots_of}
-use Rattle.macho_model.specs.Segments.{PAGEZERO, TEXT, DATA_CONST, DATA, LINKEDIT, may_hold_pointers, list_if, has_section_in, other_segments, segment_rank, segment_names_of}
+use Rattle.macho_model.specs.Segments.{PAGEZERO, TEXT, DATA_CONST, DATA, LINKEDIT, may_hold_pointers, list_if, has_section_in}
+use Rattle.macho_model.specs.Segments.{other_segments, segment_rank, segment_names_of}
 use Rattle.macho_model.specs.Rows.{is_none}
-use Rattle.macho_model.specs.Consumed.{EntryId, entries_of_link, entry_count, is_plain_pointer, is_section_target, initializer_relocation_fits, initializer_section_fits, relocations_in_entry, unwind_entry, START_PLACE, LSDA_PLACE, holds_functions, lies_in, starts_in}
+use Rattle.macho_model.specs.Consumed.{EntryId, entries_of_link, entry_count, is_plain_pointer, is_section_target}
+use Rattle.macho_model.specs.Consumed.{initializer_relocation_fits, initializer_section_fits, relocations_in_entry, unwind_entry}
+use Rattle.macho_model.specs.Consumed.{START_PLACE, LSDA_PLACE, holds_functions, lies_in, starts_in}
 use Rattle.macho_model.specs.Placement.{Placed, id_of, is_segment_named, linkedit_ranges}
 use Rattle.macho_model.specs.Order.{least_file_size, LiesInFile}
 use Rattle.macho_model.specs.Stands.{SectionAt, IsAt}
