@@ -1,16 +1,16 @@
 //! Callers of the formats' laws: each says of its own values what the law says of all.
-ghost use Rattle.std.specs.Prelude.{◌≡◌, ℕ, ◌+◌, ◌-◌, ◌*◌, ◌%◌, ◌^◌, ◌<◌, ◌≤◌, ◌⊎◌, ◌↔◌, true, Some, [], ◌∷◌, List, length, get_or, slice_index, All, Contains, is_some};
+ghost use Rattle.std.specs.Prelude.{◌≡◌, ℕ, ◌+◌, ◌-◌, ◌*◌, ◌/◌, ◌%◌, ◌^◌, ◌<◌, ◌≤◌, ◌⊎◌, ◌↔◌, true, Some, [], ◌∷◌, List, length, get_or, slice_index, All, Contains, is_some};
 ghost use Rattle.std.specs.List.{range_with_len};
 ghost use Rattle.macho_bytes.specs.Numbers.{low, page};
 ghost use Rattle.macho_model.specs.Segments.{SEGMENT_PAGE};
-ghost use Rattle.macho_model.specs.Images.{tables_of};
+ghost use Rattle.macho_model.specs.Images.{CHAIN_PAGE, tables_of};
 ghost use Rattle.macho_model.specs.Chain.{WORD_SIZE, OnChainOf};
 ghost use Rattle.macho_model.specs.Meaning.{Same, BranchesTo};
 ghost use Rattle.macho_model.specs.Values.{less, branch_reaches};
 ghost use Rattle.macho_model.specs.Words.{is_branch};
 ghost use Rattle.macho_fixups.specs.Runs.{AreSegments, Holds, pages_of};
 ghost use Rattle.macho_fixups.specs.Chains.{place_of, AllStand, IsAddressOf, ChainIsRun};
-ghost use Rattle.macho_fixups.specs.Tables.{names_place};
+ghost use Rattle.macho_fixups.specs.Tables.{names_place, table_room};
 ghost use Rattle.macho_fixups.specs.Readings.{IsRead, AreSegmentsOf};
 ghost use Rattle.macho_fixups.specs.Laws.{IsNameAt, NameIsRead, IsRunOver};
 ghost use Rattle.macho_unwind_pages.specs.Entries.{AreEntries, SpansAtMost, inputs_of, ids_of};
@@ -27,12 +27,27 @@ ghost use Rattle.macho_arm64.specs.Fields.{Holds as HoldsValue, can_hold};
 use macho_arm64::{RelocationKindInfo, fields_denote, kinds_agree, reaches_agree};
 use macho_fixups::{
     Fixup, FixupSegment, ImportEntry, bytes_beside_words_stay, chains_are_told, names_are_read,
-    no_fixup_no_pages, places_are_in_segments,
+    no_fixup_no_pages, pages_are_bounded, places_are_in_segments, room_grows,
 };
 use macho_records::RelocationInfo;
 use macho_trie::{Symbols, Trie, sizes_are_one};
 use macho_unwind::{ResolvedUnwindInfo, UnwindInput, far_page_needs_room, ids_are_named};
-use macho_unwind_pages::plans_are_short;
+use macho_unwind_pages::{plans_are_one, plans_are_short};
+
+/// A segment that begins with a page has at most as many pages with chains as its file part has.
+pub fn pages_of_a_segment(segment: FixupSegment, fixups: &[Fixup])
+    requires { segment.address % CHAIN_PAGE ≡ 0 }
+    ensures { pages_of segment fixups.now ≤ (segment.file_size + (CHAIN_PAGE - 1)) / CHAIN_PAGE }
+{
+    pages_are_bounded();
+}
+
+/// A table with an entry, a name and a page more needs no less room.
+pub fn room_of_one_more(size: usize, entries: usize, names: usize, name: &[u8], pages: usize)
+    ensures { table_room entries size names pages ≤ table_room (entries + 1) size (names + length name.now) (pages + 1) }
+{
+    room_grows();
+}
 
 /// A segment of an image without fixups has no pages with chains.
 pub fn segment_without_fixups(segment: FixupSegment)
@@ -129,6 +144,14 @@ pub fn ids_by_number(entries: &[UnwindInput], count: usize)
     ensures { ids_of entries.now ≡ range_with_len 0 count }
 {
     ids_are_named();
+}
+
+/// Entries have one plan at most.
+pub fn plan_of_entries(text: u64, entries: &[ResolvedUnwindInfo])
+    requires { 0 < length entries.now }
+    ensures { (plan other : PlanList) → IsPlanOf text entries.now plan → IsPlanOf text entries.now other → plan ≡ other }
+{
+    plans_are_one();
 }
 
 /// Every plan of entries has no more bytes than their bound.

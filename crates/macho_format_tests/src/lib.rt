@@ -1,5 +1,5 @@
 //! Tests of the formats' crates, a module for each subject: records, objects, relocated fields, chained fixups, exports tries,
-//! and compact unwind.
+//! and compact unwind; and callers of their laws, and of the model's.
 #![tactic(auto)]
 
 #[cfg(test)]
@@ -7,6 +7,7 @@ mod fixup_images;
 #[cfg(test)]
 mod fixups;
 pub mod laws;
+pub mod model_laws;
 #[cfg(test)]
 mod objects;
 #[cfg(test)]
