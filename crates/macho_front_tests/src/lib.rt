@@ -1,15 +1,9 @@
-//! Tests of whole runs: of devices that fail, of words that are wrong, of files that are sought, and over the system's own files.
+//! Tests of whole runs over the system's own files, and of large links.
 #![tactic(auto)]
 
 #[cfg(test)]
-mod failing;
-#[cfg(test)]
-mod made;
+mod large;
 #[cfg(test)]
 mod real;
-#[cfg(test)]
-mod refused;
-#[cfg(test)]
-mod sought;
 #[cfg(test)]
 mod told;

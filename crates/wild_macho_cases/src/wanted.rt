@@ -1,0 +1,194 @@
+//! What a case wants of its run.
+
+use crate::reader::first_word;
+use crate::values::{Unread, add_bytes, byte, quoted, size, wrong};
+use std::alloc::{AllocError, Global};
+
+/// How much of a text is wanted.
+#[derive(Clone, Copy, PartialEq, Eq)]
+pub(crate) enum Extent {
+    /// All of it, and no more.
+    Whole,
+    /// All of it, and there may be more.
+    More,
+    /// Some of its first bytes, and not all.
+    Cut,
+}
+
+/// What a path holds behind the run.
+#[derive(Drop)]
+pub(crate) enum Held {
+    /// Nothing.
+    Nothing,
+    /// The first bytes of the image, so many or all.
+    Image(Option<usize>),
+    /// These bytes.
+    Bytes(Vec<u8>),
+}
+
+/// Bytes at a place of the image.
+#[derive(Drop)]
+pub(crate) struct Part {
+    pub(crate) place: usize,
+    pub(crate) bytes: Vec<u8>,
+}
+
+/// What is wanted. Where a text is empty or a value is `None`, nothing is wanted of it; but all that is printed is wanted.
+#[derive(Drop)]
+pub(crate) struct Wanted {
+    pub(crate) status: Option<u8>,
+    pub(crate) line: Vec<u8>,
+    pub(crate) line_extent: Extent,
+    pub(crate) printed: Vec<u8>,
+    pub(crate) printed_extent: Extent,
+    pub(crate) length: Option<usize>,
+    pub(crate) parts: Vec<Part>,
+    pub(crate) told: Vec<u8>,
+    pub(crate) digest: Option<String>,
+    pub(crate) held: Vec<(String, Held)>,
+    pub(crate) given: Vec<(String, Vec<u8>)>,
+    pub(crate) kept: Option<String>,
+}
+
+// The bytes that words say.
+fn bytes_of(alloc: Global, words: &str) -> Result<Vec<u8>, Unread> {
+    let mut bytes = Vec::new(alloc);
+    add_bytes(alloc, &mut bytes, words)?;
+    Ok(bytes)
+}
+
+// Adds a text and the end of its line.
+fn add_text_line(out: &mut Vec<u8>, text: &str) -> Result<(), AllocError> {
+    out.extend_from_slice(text.as_bytes())?;
+    out.push(b'\n')?;
+    Ok(())
+}
+
+// What a path holds, by a line's words.
+fn held_of(alloc: Global, text: &str) -> Result<Held, Unread> {
+    match first_word(text) {
+        ("nothing", "") => Ok(Held::Nothing),
+        ("image", "") => Ok(Held::Image(None)),
+        ("image", count) => Ok(Held::Image(Some(size(count)?))),
+        ("bytes", words) => Ok(Held::Bytes(bytes_of(alloc, words)?)),
+        _ => Err(wrong("a path holds nothing, an image or bytes")),
+    }
+}
+
+// Adds bytes of a file, behind those of it that are there.
+fn add_given(
+    alloc: Global,
+    given: &mut Vec<(String, Vec<u8>)>,
+    path: &str,
+    words: &str,
+) -> Result<(), Unread> {
+    if let Some(last) = given.last_mut() {
+        if last.0.as_str() == path {
+            return add_bytes(alloc, &mut last.1, words);
+        }
+    }
+    let bytes = bytes_of(alloc, words)?;
+    given.push((String::from_str(alloc, path)?, bytes))?;
+    Ok(())
+}
+
+impl Wanted {
+    /// Nothing is wanted yet.
+    pub(crate) fn new(alloc: Global) -> Wanted {
+        Wanted {
+            status: None,
+            line: Vec::new(alloc),
+            line_extent: Extent::Whole,
+            printed: Vec::new(alloc),
+            printed_extent: Extent::Whole,
+            length: None,
+            parts: Vec::new(alloc),
+            told: Vec::new(alloc),
+            digest: None,
+            held: Vec::new(alloc),
+            given: Vec::new(alloc),
+            kept: None,
+        }
+    }
+
+    /// Adds a line of a case.
+    pub(crate) fn add(&mut self, alloc: Global, key: &str, rest: &str) -> Result<(), Unread> {
+        match key {
+            "linked" | "ends" => self.add_end(key, rest),
+            "line_is" | "line_cut" | "prints" | "prints_part" | "prints_more" | "prints_cut" => {
+                self.add_text(key, rest)
+            }
+            "told" => Ok(add_text_line(&mut self.told, rest)?),
+            "at" | "given" | "holds" => self.add_place(alloc, key, rest),
+            "sha256" => {
+                self.digest = Some(String::from_str(alloc, rest)?);
+                Ok(())
+            }
+            "keeps" => {
+                self.kept = Some(String::from_str(alloc, rest)?);
+                Ok(())
+            }
+            _ => Err(wrong("a case has no such line")),
+        }
+    }
+
+    // Adds how the run ends.
+    fn add_end(&mut self, key: &str, rest: &str) -> Result<(), Unread> {
+        if key == "linked" {
+            self.status = Some(0);
+            if !rest.is_empty() {
+                self.length = Some(size(rest)?);
+            }
+            return Ok(());
+        }
+        let (status, line) = first_word(rest);
+        self.status = Some(byte(status)?);
+        self.line.extend_from_slice(b"wild_macho: ")?;
+        add_text_line(&mut self.line, line)?;
+        Ok(())
+    }
+
+    // Adds what is printed.
+    fn add_text(&mut self, key: &str, rest: &str) -> Result<(), Unread> {
+        match key {
+            "prints" => add_text_line(&mut self.printed, rest)?,
+            "prints_more" => self.printed_extent = Extent::More,
+            "prints_cut" => self.printed_extent = Extent::Cut,
+            "line_cut" => self.line_extent = Extent::Cut,
+            _ => return self.add_quoted(key, rest),
+        }
+        Ok(())
+    }
+
+    // Adds a text between quotes.
+    fn add_quoted(&mut self, key: &str, rest: &str) -> Result<(), Unread> {
+        let Some(text) = quoted(rest) else {
+            return Err(wrong("no text between quotes"));
+        };
+        if key == "line_is" {
+            self.line.clear();
+            self.line.extend_from_slice(text.as_bytes())?;
+        } else {
+            self.printed.extend_from_slice(text.as_bytes())?;
+        }
+        Ok(())
+    }
+
+    // Adds what stands at a place, in a file or under a path.
+    fn add_place(&mut self, alloc: Global, key: &str, rest: &str) -> Result<(), Unread> {
+        let (place, words) = first_word(rest);
+        match key {
+            "at" => {
+                let bytes = bytes_of(alloc, words)?;
+                let place = size(place)?;
+                self.parts.push(Part { place, bytes })?;
+            }
+            "holds" => {
+                let held = held_of(alloc, words)?;
+                self.held.push((String::from_str(alloc, place)?, held))?;
+            }
+            _ => add_given(alloc, &mut self.given, place, words)?,
+        }
+        Ok(())
+    }
+}
