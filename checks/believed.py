@@ -2,7 +2,7 @@
 
 believed.py                 the definitions under the clauses of `run`, in reading order, with lines; then the rules below
 believed.py --crate NAME    the files of a crate's specs/, and which definitions of each a public clause rests on
-believed.py --lines         writes the reading list into docs/THEOREMS.md, and the lines of the files that its tables name
+believed.py --lines         writes the reading list and its parts into docs/THEOREMS.md, and the lines of the files that its tables name
 
 Refused are: a file of specs/steps/ under the clauses of `run` or of a function that the README's table names, a file of specs/
 that imports one of specs/steps/, and a row of that table that names a function or clause that isn't there. (A crate may hand
@@ -16,6 +16,17 @@ TOP = os.path.dirname(os.path.dirname(os.path.abspath(__file__)))
 CRATES = os.path.join(TOP, "crates")
 NAME = r"[^\s(){}\[\],;.]+"
 BEGIN, END = "<!-- reading list -->\n", "<!-- end of the reading list -->\n"
+PARTS, PARTS_END = "<!-- parts -->\n", "<!-- end of the parts -->\n"
+
+# What is promised, from the headline outwards: each part's last definition, and what it says.
+PROMISED = [
+    ("macho_model.specs.Stands", "IsLoadable", "the headline: parts have their places, the loader accepts the file, and at every slide and for every choice of import addresses the image stands in memory"),
+    ("macho_promise.specs.Promise", "IsLinked", "the image whole: sizes and order, commands and tables, exports and unwind information by look-up, and every byte of what isn't a section's"),
+    ("macho_faults.specs.Standing", "Stands", "why a link is refused"),
+    ("macho_model.specs.Valid", "IsValid", "which links are owed an image"),
+    ("macho_job.specs.Job", "IsJob", "what words and files ask for: options, search, kinds of input, objects, libraries and text stubs, made objects"),
+    ("wild_macho.specs.Runs", "IsRun", "a run: what it leaves, prints and answers, and the cause of every other status"),
+]
 
 
 def read(path):
@@ -464,6 +475,23 @@ def rows_of_run(world):
     return ["| crate and file | lines | it says |", "|---|--:|---|"] + rows + [f"| **all {len(rows)} files** | **{total:,}** | |"]
 
 
+def rows_of_parts(world):
+    """For each part of the promise how many lines it needs beyond those before it, and all so far."""
+    rows, known, total = [], set(), 0
+    for module, name, says in PROMISED:
+        under = [one for one in world.closure([(f"Rattle.{module}", name)]) if one not in known]
+        lines = sum(lines_of(world, one) for one in under)
+        known, total = known | set(under), total + lines
+        rows.append(f"| `{name}` | {says} | {lines:,} | {total:,} |")
+    return ["| definition | it says | lines | with those above |", "|---|---|--:|--:|"] + rows
+
+
+def with_rows(text, begin, end, rows):
+    """A text with other rows between two marks."""
+    front, rest = text.split(begin)
+    return front + begin + "\n".join(rows) + "\n" + end + rest.split(end)[1]
+
+
 def lines_of_row(names, missing):
     """The lines of the files that a row names: the first by crate and folder, or in macho_model."""
     folder, total = "macho_model/specs", 0
@@ -480,9 +508,8 @@ def lines_of_row(names, missing):
 def write_lines(world):
     """Writes the reading list of `run` into docs/THEOREMS.md, and the lines of the files that its other tables name."""
     path = os.path.join(TOP, "docs", "THEOREMS.md")
-    front, rest = read(path).split(BEGIN)
-    back = rest.split(END)[1]
-    missing, lines = [], (front + BEGIN + "\n".join(rows_of_run(world)) + "\n" + END + back).split("\n")
+    text = with_rows(with_rows(read(path), BEGIN, END, rows_of_run(world)), PARTS, PARTS_END, rows_of_parts(world))
+    missing, lines = [], text.split("\n")
     for number, line in enumerate(lines):
         row = re.match(r"\| ((?:`[\w/]+`(?:, )?)+) \| \d+ \|", line)
         if row:

@@ -1,0 +1,181 @@
+"""Links objects that are made to cost much, each of at most 16 MB, and tells what each answers, its processor time and its memory.
+
+hostile.py [--program PATH] [CASE..]    PATH is ./link where none is given; all cases where none is named
+
+Of an object nothing says that its parts stand apart: sections may share their bytes and their relocations, and symbols their names.
+So a small object may ask for much work, or for an image of gigabytes. A case fails where the answer isn't the one wanted, or where it
+takes more than the seconds (user and system) or the memory that stand with it: both have ample room, so that a slow machine passes.
+"""
+import argparse
+import os
+import subprocess
+import sys
+import tempfile
+from struct import pack
+
+from plain_linker import section_header, segment_command
+
+TOP = os.path.dirname(os.path.dirname(os.path.abspath(__file__)))
+LARGEST = 16_000_000
+POINTER, BRANCH = 0x0E, 0x2D
+CODE = 0x80000400
+RETURN = b"\xc0\x03\x5f\xd6"
+MAIN = (b"_main", 0x0F, 1, 0, 0)
+
+
+def relocations(places, symbol, kind):
+    return b"".join(pack("<II", place, symbol | kind << 24) for place in places)
+
+
+def object_of(sections, data, moved, symbols, names=None, commands=b"", count=0):
+    """An object of sections (segment, name, address, size, offset in data, exponent, flags, offset in moved, relocations) over the
+    bytes `data` and the relocations `moved`; symbols (name or place in names, kind, section, description, value); `count` more commands."""
+    size = 72 + 80 * len(sections) + 24 + len(commands)
+    start = 32 + size
+    behind = start + len(data)
+    headers, end = b"", 0
+    for segment, name, address, length, at, exponent, flags, table, number in sections:
+        in_file = 0 if flags & 0xFF == 1 else start + at
+        where = (behind + table, number) if number else (0, 0)
+        headers += section_header(name, segment, address, length, in_file, exponent, flags, 0, where)
+        end = max(end, address + length)
+    rows, strings = b"", names or b"\0"
+    for symbol in symbols:
+        place = symbol[0]
+        if isinstance(place, bytes):
+            place, strings = len(strings), strings + place + b"\0"
+        rows += pack("<IBBHQ", place, *symbol[1:])
+    table = behind + len(moved)
+    out = pack("<IIIIIIII", 0xFEEDFACF, 0x0100000C, 0, 1, 2 + count, size, 0, 0)
+    out += segment_command(b"", 0, end, start, len(data), 7, len(sections)) + headers + commands
+    out += pack("<IIIIII", 2, 24, table, len(symbols), table + len(rows), len(strings))
+    return out + data + moved + rows + strings
+
+
+def text_alone():
+    return (b"__TEXT", b"__text", 0, 4, 0, 2, CODE, 0, 0)
+
+
+def one_name():
+    """100,000 local symbols that share one name of 10 MB."""
+    names = b"\0_main\0" + b"l" * 10_000_000 + b"\0"
+    symbols = [(1, *MAIN[1:])] + [(7, 0x0E, 1, 0, 0)] * 100_000
+    return object_of([text_alone()], RETURN, b"", symbols, names)
+
+
+def tails():
+    """100,000 local symbols that are named by tails of one name of 10 MB."""
+    names = b"\0_main\0" + b"l" * 10_000_000 + b"\0"
+    symbols = [(1, *MAIN[1:])] + [(7 + 100 * number, 0x0E, 1, 0, 0) for number in range(100_000)]
+    return object_of([text_alone()], RETURN, b"", symbols, names)
+
+
+def sought():
+    """100,000 global symbols that aren't defined and share one name of 10 MB, which nothing uses."""
+    names = b"\0_main\0" + b"g" * 10_000_000 + b"\0"
+    symbols = [(1, *MAIN[1:])] + [(7, 1, 0, 0, 0)] * 100_000
+    return object_of([text_alone()], RETURN, b"", symbols, names)
+
+
+def shared(sections, count, section=b"__data"):
+    """Sections of one name that share one table of `count` pointers to `_main`, and their bytes."""
+    moved = relocations(range(0, 8 * count, 8), 0, POINTER)
+    headers = [text_alone()]
+    for number in range(sections):
+        headers.append((b"__DATA", section, 8 + number * 8 * count, 8 * count, 8, 3, 0, 0, count))
+    return object_of(headers, RETURN + bytes(4 + 8 * count), moved, [MAIN])
+
+
+def overlapping():
+    """2,000 sections that share one table of 100,000 pointers, all at one place."""
+    moved = relocations([0] * 100_000, 0, POINTER)
+    headers = [text_alone()] + [(b"__DATA", b"__data", 8 + number * 8, 8, 8, 3, 0, 0, 100_000) for number in range(2_000)]
+    return object_of(headers, RETURN + bytes(12), moved, [MAIN])
+
+
+def branches(sections):
+    """Sections that share one table of 100,000 branches to `_main`, and their instructions: of 320 the last ones are in reach."""
+    moved = relocations(range(0, 400_000, 4), 0, BRANCH)
+    headers = [text_alone()]
+    headers += [(b"__TEXT", b"__text", 4 + number * 400_000, 400_000, 4, 2, CODE, 0, 100_000) for number in range(sections)]
+    return object_of(headers, RETURN + b"\0\0\0\x94" * 100_000, moved, [MAIN])
+
+
+def commands():
+    """Two million load commands that nobody knows."""
+    count = (LARGEST - 1_000) // 8
+    return object_of([text_alone()], RETURN, b"", [MAIN], None, pack("<II", 0x7F, 8) * count, count)
+
+
+def sections():
+    """255 sections of one name, each aligned to 16 KiB, with a pointer."""
+    headers = [text_alone()]
+    headers += [(b"__DATA", b"__data", 0x4000 * (number + 1), 8, 8, 14, 0, 0, 1) for number in range(255)]
+    return object_of(headers, RETURN + bytes(12), relocations([0], 0, POINTER), [MAIN])
+
+
+def pages(sections, section_pages=32):
+    """Sections that share 512 KiB, with one pointer in each page of 16 KiB."""
+    size = 0x4000 * section_pages
+    moved = relocations(range(0, size, 0x4000), 0, POINTER)
+    headers = [text_alone()]
+    for number in range(sections):
+        headers.append((b"__DATA", b"__data", 0x4000 + number * size, size, 8, 14, 0, 0, section_pages))
+    return object_of(headers, RETURN + bytes(4 + size), moved, [MAIN])
+
+
+# A case: what it is, what makes it, the end of the line that is wanted (None for an image), and its limits in seconds and MB.
+CASES = {
+    "one-name": ("100,000 local symbols that share one name of 10 MB", one_name, "image too large", 20, 400),
+    "tails": ("100,000 local symbols named by tails of one name of 10 MB", tails, "image too large", 20, 400),
+    "sought": ("100,000 undefined symbols that share one name of 10 MB", sought, None, 20, 400),
+    "overlap": ("2,000 sections that share one table of 100,000 relocations at one place", overlapping, "overlap", 60, 400),
+    "branches": ("2,000 sections that share one table of 100,000 branches", lambda: branches(2_000), "out of range", 240, 3_000),
+    "reach": ("320 sections that share one table of 100,000 branches", lambda: branches(320), None, 240, 3_000),
+    "pointers": ("200 sections that share one table of 100,000 pointers", lambda: shared(200, 100_000), None, 240, 3_000),
+    "commands": ("2,000,000 load commands that nobody knows", commands, None, 20, 400),
+    "sections": ("255 sections of one name", sections, None, 20, 400),
+    "pages": ("a chain of 65,504 pages, of an image of 1 GB", lambda: pages(2047), None, 240, 3_000),
+    "more-pages": ("a chain of 65,536 pages", lambda: pages(2048), "pages", 60, 400),
+}
+
+
+def run(words):
+    """Status, last line of standard error, seconds of the processor, MB."""
+    child = subprocess.Popen(words, stdout=subprocess.DEVNULL, stderr=subprocess.PIPE, text=True)
+    lines = child.stderr.read().strip().split("\n")
+    _, status, usage = os.wait4(child.pid, 0)
+    return os.waitstatus_to_exitcode(status), lines[-1], usage.ru_utime + usage.ru_stime, usage.ru_maxrss // 1_000
+
+
+def is_as_wanted(status, line, want):
+    return status == 0 if want is None else status == 1 and want in line
+
+
+if __name__ == "__main__":
+    parser = argparse.ArgumentParser(description=__doc__, formatter_class=argparse.RawDescriptionHelpFormatter)
+    parser.add_argument("--program", default=os.path.join(TOP, "link"))
+    parser.add_argument("--make", metavar="PATH", help="write the object of the one case named, and link nothing")
+    parser.add_argument("cases", nargs="*", default=list(CASES))
+    asked = parser.parse_args()
+    if asked.make:
+        with open(asked.make, "wb") as file:
+            file.write(CASES[asked.cases[0]][1]())
+        sys.exit()
+    bad = []
+    for name in asked.cases:
+        what, _, want, seconds, memory = CASES[name]
+        with tempfile.TemporaryDirectory() as folder:
+            given, out = os.path.join(folder, "in.o"), os.path.join(folder, "out")
+            # by a process of its own: a child's greatest memory is told with what its parent had
+            subprocess.run([sys.executable, __file__, "--make", given, name], check=True)
+            length = os.path.getsize(given)
+            assert length <= LARGEST, f"{name} has {length} bytes"
+            status, line, took, peak = run([os.path.abspath(asked.program), "-o", out, given])
+            size = os.path.getsize(out) if os.path.exists(out) else 0
+        answer = f"an image of {size / 1e6:.1f} MB" if status == 0 else line.replace(folder + "/", "")
+        print(f"| {what} | {length / 1e6:.1f} MB | {answer[:100]} | {took:.1f} s, {peak} MB |", flush=True)
+        if not is_as_wanted(status, line, want) or took > seconds or peak > memory:
+            bad.append(name)
+    if bad:
+        sys.exit(f"hostile: not as wanted: {', '.join(bad)}")
