@@ -113,12 +113,13 @@ const BYTES: [(usize, &[u8]); 2] = [
 
 const LENGTH: usize = 16_925_196;
 
-/// Offsets at the borders of the first entry and of the second, and whether a function is found there.
+/// Offsets at the borders of the first entry and of the second, and whether an entry is found there: that with the greatest start up
+/// to the offset, until the end of the last function. So behind the first function the first entry is still found.
 const LOOKED_UP: [(u32, bool); 6] = [
     (0x22f, false),
     (0x230, true),
     (0x237, true),
-    (0x238, false),
+    (0x238, true),
     (0x100_0238, true),
     (0x100_023c, false),
 ];
