@@ -296,7 +296,8 @@ def functions_of(crate):
                     is_public = is_pub and (name in exported or is_open)
                 at_clause = text.index("(", head.end())
                 at_clause = block(text, at_clause, "(", ")")
-                stop = re.compile(r"[^{;]*?(?=\s(?:requires|ensures)\b|\{|;)", re.S).match(text, at_clause)
+                # (the length of an array in the type of the answer stands behind a semicolon)
+                stop = re.compile(r"(?:[^{;\[]|\[[^\]]*\])*?(?=\s(?:requires|ensures)\b|\{|;)", re.S).match(text, at_clause)
                 at_clause = stop.end() if stop else at_clause
                 clauses = []
                 while True:

@@ -9,7 +9,7 @@ use Rattle.std.proofs.lemmas.List.{length-append}
 use Rattle.std.proofs.lemmas.List.Concat.{flat_map-cons}
 use Rattle.std.proofs.lemmas.List.Sums.{sum_by-append, sum_by-cons}
 use Rattle.macho_bytes.specs.Layouts.{size_of}
-use Rattle.macho_records.specs.Layouts.{dylib_command, rpath_command}
+use Rattle.macho_structs.specs.Layouts.{dylib_command, rpath_command}
 use Rattle.macho_records.specs.declared.header.MachHeader.{MachHeader}
 use Rattle.macho_records.specs.declared.constants.TheConstants.{LC_ID_DYLIB, LC_LOAD_DYLIB}
 use Rattle.macho_model.specs.declared.placed.Counts.{Counts}

@@ -5,7 +5,7 @@
 use Rattle.std.proofs.Common.{◌≡◌, ℕ, Bool, map, refl, Option, Some, None}
 use Rattle.std.specs.Prelude.{IfOk, OnErr}
 use Rattle.std.specs.Option.{ok_or}
-use Rattle.macho_records.specs.declared.relocations.RelocationInfo.{RelocationInfo}
+use Rattle.macho_structs.specs.declared.relocations.RelocationInfo.{RelocationInfo}
 use Rattle.macho_arm64.specs.declared.kinds.TheConstants.{KINDS}
 use Rattle.macho_arm64.specs.Kinds.{kinds, kind_among, kind_at, info_of}
 

@@ -9,7 +9,8 @@ use Rattle.std.specs.Prelude.{◌||◌, sum_by, if◌then◌else◌, Option, Som
 use Rattle.std.proofs.lemmas.Bool.{le-leb}
 use Rattle.std.proofs.lemmas.List.Elements.{All-map, All-cons, All-nil, All-append, All-from_recursion}
 use Rattle.macho_bytes.specs.Layouts.{size_of}
-use Rattle.macho_records.specs.Layouts.{segment_command, section_header, symtab_command, entry_point_command, dylinker_command, dylib_command, rpath_command, linkedit_data_command, uuid_command, build_version_command}
+use Rattle.macho_records.specs.Layouts.{segment_command, section_header, symtab_command}
+use Rattle.macho_structs.specs.Layouts.{entry_point_command, dylinker_command, dylib_command, rpath_command, linkedit_data_command, uuid_command, build_version_command}
 use Rattle.macho_records.specs.declared.constants.TheConstants.{LC_CODE_SIGNATURE, LC_DYLD_CHAINED_FIXUPS, LC_DYLD_EXPORTS_TRIE, LC_ID_DYLIB, LC_LOAD_DYLIB, MH_DYLIB, MH_EXECUTE}
 use Rattle.macho_records.specs.declared.header.MachHeader.{MachHeader}
 use Rattle.macho_model.specs.declared.placed.Counts.{Counts}

@@ -7,10 +7,10 @@ use Rattle.std.proofs.lemmas.List.{length-append, length-replicate}
 use Rattle.macho_bytes.specs.Texts.{put}
 use Rattle.macho_bytes.specs.Layouts.{spelling, ReadsBack}
 use Rattle.macho_bytes.proofs.Puts.{put-put}
-use Rattle.macho_records.specs.Layouts.{dylinker_command, dylib_command, rpath_command}
-use Rattle.macho_records.specs.declared.commands.DylinkerCommand.{DylinkerCommand}
-use Rattle.macho_records.specs.declared.commands.DylibCommand.{DylibCommand}
-use Rattle.macho_records.specs.declared.commands.RpathCommand.{RpathCommand}
+use Rattle.macho_structs.specs.Layouts.{dylinker_command, dylib_command, rpath_command}
+use Rattle.macho_structs.specs.declared.commands.DylinkerCommand.{DylinkerCommand}
+use Rattle.macho_structs.specs.declared.commands.DylibCommand.{DylibCommand}
+use Rattle.macho_structs.specs.declared.commands.RpathCommand.{RpathCommand}
 use Rattle.macho_records.specs.declared.constants.TheConstants.{LC_ID_DYLIB, LC_LOAD_DYLIB, LC_LOAD_DYLINKER, LC_RPATH}
 use Rattle.macho_model.specs.Head.{HeadCommand, DYLINKER, path_command_size, path_filled, dylinker_for, dylib_for, rpath_for}
 use Rattle.macho_commands.specs.Texts.{text_said}

@@ -11,18 +11,19 @@ use Rattle.macho_bytes.specs.Texts.{Stands}
 use Rattle.macho_bytes.specs.Layouts.{Layout, reading, spelling, size_of, ReadsBack}
 use Rattle.macho_bytes.proofs.Numbers.{stands-front, stands-back}
 use Rattle.macho_bytes.proofs.Tables.{EachLong, table-stands}
-use Rattle.macho_records.specs.Layouts.{segment_command, section_header, symtab_command, entry_point_command, dylinker_command, dylib_command, rpath_command, linkedit_data_command, uuid_command, build_version_command, build_tool_version}
+use Rattle.macho_records.specs.Layouts.{segment_command, section_header, symtab_command}
+use Rattle.macho_structs.specs.Layouts.{entry_point_command, dylinker_command, dylib_command, rpath_command, linkedit_data_command, uuid_command, build_version_command, build_tool_version}
 use Rattle.macho_records.specs.declared.header.SegmentCommand.{SegmentCommand}
 use Rattle.macho_records.specs.declared.header.SectionHeader.{SectionHeader}
 use Rattle.macho_records.specs.declared.symbols.SymtabCommand.{SymtabCommand}
-use Rattle.macho_records.specs.declared.commands.EntryPointCommand.{EntryPointCommand}
-use Rattle.macho_records.specs.declared.commands.DylinkerCommand.{DylinkerCommand}
-use Rattle.macho_records.specs.declared.commands.DylibCommand.{DylibCommand}
-use Rattle.macho_records.specs.declared.commands.RpathCommand.{RpathCommand}
-use Rattle.macho_records.specs.declared.commands.LinkeditDataCommand.{LinkeditDataCommand}
-use Rattle.macho_records.specs.declared.commands.UuidCommand.{UuidCommand}
-use Rattle.macho_records.specs.declared.commands.BuildVersionCommand.{BuildVersionCommand}
-use Rattle.macho_records.specs.declared.commands.BuildToolVersion.{BuildToolVersion}
+use Rattle.macho_structs.specs.declared.commands.EntryPointCommand.{EntryPointCommand}
+use Rattle.macho_structs.specs.declared.commands.DylinkerCommand.{DylinkerCommand}
+use Rattle.macho_structs.specs.declared.commands.DylibCommand.{DylibCommand}
+use Rattle.macho_structs.specs.declared.commands.RpathCommand.{RpathCommand}
+use Rattle.macho_structs.specs.declared.commands.LinkeditDataCommand.{LinkeditDataCommand}
+use Rattle.macho_structs.specs.declared.commands.UuidCommand.{UuidCommand}
+use Rattle.macho_structs.specs.declared.commands.BuildVersionCommand.{BuildVersionCommand}
+use Rattle.macho_structs.specs.declared.commands.BuildToolVersion.{BuildToolVersion}
 use Rattle.macho_records.specs.declared.constants.TheConstants.{LC_BUILD_VERSION, LC_ID_DYLIB, LC_LOAD_DYLIB, LC_LOAD_DYLINKER, LC_MAIN, LC_RPATH, LC_SEGMENT_64, LC_SYMTAB, LC_UUID}
 use Rattle.macho_model.specs.Agreement.{section_headers_at}
 use Rattle.macho_model.specs.Head.{Segment, EntryPoint, Uuid, BuildVersion, Dylinker, Dylib, Rpath, LinkeditData, Symtab, behind, tools_at}

@@ -11,9 +11,10 @@ use Rattle.macho_bytes.specs.Layouts.{reading}
 use Rattle.macho_bytes.proofs.Numbers.{stands-front, stands-back}
 use Rattle.macho_records.specs.declared.header.SectionHeader.{SectionHeader}
 use Rattle.macho_records.specs.declared.header.SegmentCommand.{SegmentCommand}
-use Rattle.macho_records.specs.declared.commands.EntryPointCommand.{EntryPointCommand}
+use Rattle.macho_structs.specs.declared.commands.EntryPointCommand.{EntryPointCommand}
 use Rattle.macho_records.specs.declared.constants.TheConstants.{LC_MAIN, LC_SEGMENT_64}
-use Rattle.macho_records.specs.Layouts.{segment_command, entry_point_command}
+use Rattle.macho_records.specs.Layouts.{segment_command}
+use Rattle.macho_structs.specs.Layouts.{entry_point_command}
 use Rattle.macho_model.specs.Commands as found
 use Rattle.macho_model.specs.Agreement.{section_headers_at}
 use Rattle.macho_model.specs.Head.{HeadCommand, Segment, EntryPoint, command_in}

@@ -9,7 +9,8 @@ use Rattle.std.proofs.lemmas.List.{append-nil}
 use Rattle.std.proofs.lemmas.List.Folds.{flat_map-map}
 use Rattle.macho_bytes.specs.Layouts.{reading, size_of}
 use Rattle.macho_bytes.specs.Texts.{name_of}
-use Rattle.macho_records.specs.Layouts.{segment_command, symtab_command, symtab_entry, entry_point_command, dylib_command, uuid_command}
+use Rattle.macho_records.specs.Layouts.{segment_command, symtab_command, symtab_entry}
+use Rattle.macho_structs.specs.Layouts.{entry_point_command, dylib_command, uuid_command}
 use Rattle.macho_records.specs.declared.header.SegmentCommand.{SegmentCommand}
 use Rattle.macho_records.specs.declared.header.SectionHeader.{SectionHeader}
 use Rattle.macho_records.specs.declared.symbols.SymtabCommand.{SymtabCommand}

@@ -9,8 +9,8 @@ use Rattle.std.specs.List.{range_with_len, list_all, Contains}
 use Rattle.std.proofs.lemmas.List.{append-nil}
 use Rattle.std.proofs.lemmas.List.FromFn.{map-range_with_len_more}
 use Rattle.macho_bytes.specs.Numbers.{bits}
-use Rattle.macho_records.specs.declared.relocations.RelocationInfo.{RelocationInfo}
-use Rattle.macho_records.specs.declared.unwind.UnwindInfoEntry.{UnwindInfoEntry}
+use Rattle.macho_structs.specs.declared.relocations.RelocationInfo.{RelocationInfo}
+use Rattle.macho_structs.specs.declared.unwind.UnwindInfoEntry.{UnwindInfoEntry}
 use Rattle.macho_model.specs.declared.rules.UnwindRule.{UnwindRule}
 use Rattle.macho_model.specs.Grammar.{IsObject}
 use Rattle.macho_model.specs.Objects.{num_sections, section_at, relocation_at}

@@ -9,9 +9,9 @@ use Rattle.std.proofs.lemmas.List.{append-nil}
 use Rattle.std.specs.List.{range_with_len, flat_map, Contains}
 use Rattle.macho_bytes.specs.Numbers.{le_at}
 use Rattle.macho_bytes.specs.Layouts.{read_of}
-use Rattle.macho_records.specs.Layouts.{unwind_info_entry}
+use Rattle.macho_structs.specs.Layouts.{unwind_info_entry}
 use Rattle.macho_records.specs.Sections.{is_zerofill}
-use Rattle.macho_records.specs.declared.relocations.RelocationInfo.{RelocationInfo}
+use Rattle.macho_structs.specs.declared.relocations.RelocationInfo.{RelocationInfo}
 use Rattle.macho_object.specs.Views.{RelocationBytes}
 use Rattle.macho_model.specs.Grammar.{IsObject}
 use Rattle.macho_model.specs.Objects.{num_sections, section_at, section_bytes, relocation_at}

@@ -7,7 +7,7 @@ use Rattle.std.specs.Prelude.{nat_lt, nat_le, slice_range}
 use Rattle.std.proofs.lemmas.Bool.{ltb-true, leb-true}
 use Rattle.macho_records.specs.Sections.{type_of, is_zerofill}
 use Rattle.macho_records.specs.declared.constants.TheConstants.{S_THREAD_LOCAL_VARIABLES}
-use Rattle.macho_records.specs.declared.relocations.RelocationInfo.{RelocationInfo}
+use Rattle.macho_structs.specs.declared.relocations.RelocationInfo.{RelocationInfo}
 use Rattle.macho_model.specs.declared.placed.PlacedSection.{PlacedSection}
 use Rattle.macho_model.specs.declared.targets.Target.{Target}
 use Rattle.macho_model.specs.declared.targets.Target.TheVariants as target

@@ -10,7 +10,7 @@ use Rattle.std.proofs.lemmas.Bool.Decides.{nat_tests}
 use Rattle.std.proofs.lemmas.List.{map-append}
 use Rattle.std.proofs.lemmas.List.Elements.{filter-append}
 use Rattle.macho_bytes.specs.Numbers.{le_at}
-use Rattle.macho_records.specs.declared.relocations.RelocationInfo.{RelocationInfo}
+use Rattle.macho_structs.specs.declared.relocations.RelocationInfo.{RelocationInfo}
 use Rattle.macho_model.specs.declared.placed.PlacedSection.{PlacedSection}
 use Rattle.macho_model.specs.Objects.{section_bytes}
 use Rattle.macho_model.specs.Links.{Link, SectionId, object_of, header_at, carried_of}

@@ -13,7 +13,7 @@ use Rattle.macho_bytes.specs.Numbers.{little, le_at, le_bytes, bits, signed}
 use Rattle.macho_bytes.specs.Texts.{Stands}
 use Rattle.macho_bytes.proofs.Numbers.{little_is_sound, number-stands, stands-front, stands-back}
 use Rattle.macho_bytes.proofs.Tables.{table-stands}
-use Rattle.macho_records.specs.declared.fixups.ChainedFixupsHeader.{ChainedFixupsHeader}
+use Rattle.macho_structs.specs.declared.fixups.ChainedFixupsHeader.{ChainedFixupsHeader}
 use Rattle.macho_model.specs.Images.{Table, fixups_header, import_entry_size, import_place, import_entry, entry_addend}
 use Rattle.macho_model.specs.Images as images
 use Rattle.macho_fixups.specs.declared.imports.ImportEntry.{ImportEntry}

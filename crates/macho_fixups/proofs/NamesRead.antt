@@ -10,7 +10,7 @@ use Rattle.std.proofs.lemmas.List.{ext_get_or, get_or-drop, get_or-take, get_or_
 use Rattle.std.proofs.lemmas.List.Edits.{get_or-between}
 use Rattle.macho_bytes.specs.Texts.{Stands, name_of}
 use Rattle.macho_bytes.proofs.Names.{name_of-ends}
-use Rattle.macho_records.specs.declared.fixups.ChainedFixupsHeader.{ChainedFixupsHeader}
+use Rattle.macho_structs.specs.declared.fixups.ChainedFixupsHeader.{ChainedFixupsHeader}
 use Rattle.macho_model.specs.Images.{Table, fixups_header, import_entry, table_names}
 use Rattle.macho_model.specs.Images as images
 use Rattle.macho_model.specs.ObjectRules.{has_nul}

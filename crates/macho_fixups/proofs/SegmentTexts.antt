@@ -9,7 +9,7 @@ use Rattle.macho_bytes.specs.Texts.{put}
 use Rattle.macho_bytes.specs.Layouts.{spelling}
 use Rattle.macho_bytes.proofs.Puts.{put_nothing}
 use Rattle.macho_fixups.proofs.PutOrder.{put_in_front}
-use Rattle.macho_records.specs.Layouts.{chained_starts_in_segment}
+use Rattle.macho_structs.specs.Layouts.{chained_starts_in_segment}
 use Rattle.macho_model.specs.Images.{CHAIN_PAGE}
 use Rattle.macho_fixups.specs.declared.run.Fixup.{Fixup}
 use Rattle.macho_fixups.specs.declared.run.FixupSegment.{FixupSegment}

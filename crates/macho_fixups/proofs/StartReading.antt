@@ -17,8 +17,8 @@ use Rattle.macho_bytes.specs.Layouts.{spelling, ReadsBack}
 use Rattle.macho_bytes.proofs.Numbers.{little_is_sound, number-stands, stands-front, stands-back}
 use Rattle.macho_bytes.proofs.Layouts.{length-spelling, reads_back}
 use Rattle.macho_bytes.proofs.Tables.{EachLong, length-table, table-stands}
-use Rattle.macho_records.specs.Layouts.{chained_starts_in_segment}
-use Rattle.macho_records.specs.declared.fixups.ChainedStartsInSegment.{ChainedStartsInSegment}
+use Rattle.macho_structs.specs.Layouts.{chained_starts_in_segment}
+use Rattle.macho_structs.specs.declared.fixups.ChainedStartsInSegment.{ChainedStartsInSegment}
 use Rattle.macho_model.specs.Images.{CHAIN_PAGE, Table, starts_place, starts_offset, segment_starts, segment_starts_place}
 use Rattle.macho_fixups.specs.declared.run.Fixup.{Fixup}
 use Rattle.macho_fixups.specs.declared.run.FixupSegment.{FixupSegment}

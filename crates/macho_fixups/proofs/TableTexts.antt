@@ -14,8 +14,8 @@ use Rattle.macho_bytes.specs.Texts.{put}
 use Rattle.macho_bytes.specs.Layouts.{spelling}
 use Rattle.macho_bytes.proofs.Numbers.{little_is_sound}
 use Rattle.macho_bytes.proofs.Layouts.{length-spelling}
-use Rattle.macho_records.specs.Layouts.{chained_fixups_header}
-use Rattle.macho_records.specs.declared.fixups.ChainedFixupsHeader.{ChainedFixupsHeader}
+use Rattle.macho_structs.specs.Layouts.{chained_fixups_header}
+use Rattle.macho_structs.specs.declared.fixups.ChainedFixupsHeader.{ChainedFixupsHeader}
 use Rattle.macho_bytes.proofs.Puts.{put-put}
 use Rattle.macho_model.specs.Images.{import_entry_size}
 use Rattle.macho_fixups.specs.declared.run.Fixup.{Fixup}

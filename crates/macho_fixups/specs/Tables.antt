@@ -5,9 +5,9 @@ use Rattle.std.specs.Int.{w32, cast_unsigned}
 use Rattle.std.specs.List.{flat_map, range_with_len}
 use Rattle.macho_bytes.specs.Numbers.{le_bytes, rounded_up}
 use Rattle.macho_bytes.specs.Layouts.{spelling}
-use Rattle.macho_records.specs.Layouts.{chained_fixups_header, chained_starts_in_segment}
-use Rattle.macho_records.specs.declared.fixups.ChainedFixupsHeader.{ChainedFixupsHeader}
-use Rattle.macho_records.specs.declared.fixups.ChainedStartsInSegment.{ChainedStartsInSegment}
+use Rattle.macho_structs.specs.Layouts.{chained_fixups_header, chained_starts_in_segment}
+use Rattle.macho_structs.specs.declared.fixups.ChainedFixupsHeader.{ChainedFixupsHeader}
+use Rattle.macho_structs.specs.declared.fixups.ChainedStartsInSegment.{ChainedStartsInSegment}
 use Rattle.macho_model.specs.Images.{CHAIN_PAGE, import_entry_size, IMPORT_ADDEND_FORMAT}
 use Rattle.macho_fixups.specs.declared.run.Fixup.{Fixup}
 use Rattle.macho_fixups.specs.declared.run.FixupSegment.{FixupSegment}

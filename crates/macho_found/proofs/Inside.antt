@@ -12,7 +12,7 @@ use Rattle.macho_model.specs.declared.targets.Target.TheVariants as target
 use Rattle.macho_model.specs.Symbols.{is_absolute, is_in_section, is_global, is_local}
 use Rattle.macho_model.specs.ObjectRules.{value_in_section, relocation_number_exists}
 use Rattle.macho_model.specs.Objects.{num_symbols, section_at, relocation_at}
-use Rattle.macho_records.specs.declared.relocations.RelocationInfo.{RelocationInfo}
+use Rattle.macho_structs.specs.declared.relocations.RelocationInfo.{RelocationInfo}
 use Rattle.macho_model.specs.Links.{Link, SectionId, object_of, header_at, sections_of, is_carried}
 use Rattle.macho_model.specs.Resolution.{SymbolId, Definition, Symbol, Library, ImageBase, symbols_of, entry_at, name_at, definition_of, stands_in_carried, section_of_symbol}
 use Rattle.macho_model.specs.Needs.{relocation_in, section_named, imports_of}

@@ -11,7 +11,7 @@ use Rattle.std.proofs.lemmas.List.Elements.{All-nil, All-cons}
 use Rattle.std.proofs.lemmas.Slice.Eq.{bytes_eq-Decides}
 use Rattle.macho_bytes.specs.Texts.{name_of}
 use Rattle.macho_bytes.specs.Layouts.{reading}
-use Rattle.macho_records.specs.Layouts.{dylib_command}
+use Rattle.macho_structs.specs.Layouts.{dylib_command}
 use Rattle.macho_records.specs.declared.constants.TheConstants.{LC_ID_DYLIB}
 use Rattle.macho_lists.proofs.Members.{all_contains, contains_all, contains_first, contains_later, filter_contains, map_contains, enumerate_contains}
 use Rattle.macho_model.specs.Lists.{IsNumber}

@@ -7,7 +7,7 @@ use Rattle.macho_bytes.specs.Texts.{put}
 use Rattle.macho_bytes.proofs.Puts.{length-put, get_or-put_below}
 use Rattle.macho_bytes.proofs.Layouts.{length-spelling}
 use Rattle.macho_bytes.proofs.Numbers.{big_is_sound}
-use Rattle.macho_records.specs.Layouts.{code_directory}
+use Rattle.macho_structs.specs.Layouts.{code_directory}
 use Rattle.macho_model.specs.declared.placed.PlacedSegment.{PlacedSegment}
 use Rattle.macho_model.specs.Links.{Link}
 use Rattle.macho_model.specs.Faults.{last_part}

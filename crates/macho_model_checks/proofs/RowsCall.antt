@@ -7,7 +7,7 @@ use Rattle.std.specs.Prelude.{codes, slice_range}
 use Rattle.macho_bytes.specs.Numbers.{le_at, le_bytes, be_at, be_bytes, row_bytes}
 use Rattle.macho_bytes.specs.Layouts.{reading}
 use Rattle.macho_records.specs.declared.header.MachHeader.{MachHeader}
-use Rattle.macho_records.specs.Layouts.{uuid_command, code_directory}
+use Rattle.macho_structs.specs.Layouts.{uuid_command, code_directory}
 use Rattle.macho_records.specs.declared.constants.TheConstants.{LC_UUID}
 use Rattle.macho_model.specs.declared.placed.Counts.{Counts}
 use Rattle.macho_model.specs.Placement.{Placed}

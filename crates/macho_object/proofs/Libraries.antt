@@ -3,7 +3,8 @@ use Rattle.std.proofs.Common.{◌≡◌, ℕ, List, [], ◌∷◌, refl, ap, tru
 use Rattle.std.proofs.lemmas.List.Elements.{All-cons, All-nil, All-same}
 use Rattle.macho_bytes.specs.Layouts.{reading}
 use Rattle.macho_bytes.specs.Texts.{name_of}
-use Rattle.macho_records.specs.Layouts.{load_command, dylib_command}
+use Rattle.macho_records.specs.Layouts.{load_command}
+use Rattle.macho_structs.specs.Layouts.{dylib_command}
 use Rattle.macho_model.specs.Commands.{numbered, command_fits}
 use Rattle.macho_model.specs.Objects.{install_name_of, first_path, num_symbols}
 use Rattle.macho_model.specs.ObjectRules.{path_ends, needed_in_dylib}

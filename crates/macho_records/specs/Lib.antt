@@ -1,5 +1,4 @@
 pub mod Layouts
-pub mod Relocations
 pub mod Flags
 pub mod Texts
 pub mod Segments

@@ -24,7 +24,7 @@ use Rattle.macho_signature.specs.declared.signature.Signer.{Signer}
 use Rattle.macho_signature.specs.Sizes.{signed_by}
 use Rattle.macho_bytes.proofs.Layouts.{length-spelling}
 use Rattle.macho_bytes.proofs.Numbers.{big_is_sound}
-use Rattle.macho_records.specs.Layouts.{code_directory}
+use Rattle.macho_structs.specs.Layouts.{code_directory}
 use Rattle.macho_model.specs.Signature.{directory_for}
 use Rattle.macho_signature.proofs.Texts.{length-signature, length-identifier}
 use Rattle.macho_commands.proofs.HeadRead.{head_read}

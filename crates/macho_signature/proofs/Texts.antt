@@ -10,7 +10,7 @@ use Rattle.macho_bytes.specs.Texts.{put}
 use Rattle.macho_bytes.specs.Layouts.{spelling}
 use Rattle.macho_bytes.proofs.Numbers.{length-row_big}
 use Rattle.macho_bytes.proofs.Puts.{put-put, length-put}
-use Rattle.macho_records.specs.Layouts.{code_directory}
+use Rattle.macho_structs.specs.Layouts.{code_directory}
 use Rattle.macho_model.specs.Signature.{Signed, SUPER_BLOB_MAGIC, DIRECTORY_PLACE, directory_size, directory_for, identifier_text, page_count, page_digests, signature_text}
 use Rattle.macho_signature.specs.Sizes.{identifier_size, digests_offset, signature_size}
 use Rattle.macho_signature.proofs.Pages.{length-page_digests}

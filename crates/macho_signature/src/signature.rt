@@ -3,7 +3,7 @@ ghost use Rattle.std.specs.Prelude.{◌≡◌, ◌+◌, ◌*◌, ◌-◌, ◌<�
 ghost use Rattle.macho_bytes.specs.Numbers.{rounded_up, big, row_bytes};
 ghost use Rattle.macho_bytes.specs.Texts.{put, Stands};
 ghost use Rattle.macho_bytes.specs.Layouts.{ReadsBack};
-ghost use Rattle.macho_records.specs.Layouts.{code_directory};
+ghost use Rattle.macho_structs.specs.Layouts.{code_directory};
 ghost use Rattle.macho_model.specs.Signature.{SUPER_BLOB_MAGIC, DIRECTORY_PLACE, identifier_text, directory_for, signature_text};
 ghost use Rattle.macho_signature.specs.Sizes.{identifier_size, digests_offset, signature_size, signed_by};
 

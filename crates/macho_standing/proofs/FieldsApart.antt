@@ -8,7 +8,7 @@ use Rattle.std.specs.Prelude.{Contains}
 use Rattle.std.proofs.lemmas.Bool.{cases_lt, and_parts, and_cases, or_cases, or_left, or_right, ltb-false, not-true, true≢false}
 use Rattle.std.proofs.lemmas.List.FromFn.{length-range_with_len, get_or-range_with_len}
 use Rattle.macho_records.specs.declared.constants.TheConstants.{ARM64_RELOC_ADDEND, ARM64_RELOC_SUBTRACTOR, ARM64_RELOC_UNSIGNED}
-use Rattle.macho_records.specs.declared.relocations.RelocationInfo.{RelocationInfo}
+use Rattle.macho_structs.specs.declared.relocations.RelocationInfo.{RelocationInfo}
 use Rattle.macho_model.specs.Links.{Link, SectionId, header_at, carried_of}
 use Rattle.macho_model.specs.Needs.{relocation_in, relocations_of}
 use Rattle.macho_model.specs.Fields.{Field, field_of, fields_of, is_prefix_type, is_difference, is_with_addend, takes_addend, width_of}

@@ -10,7 +10,7 @@ use Rattle.std.proofs.lemmas.List.Sums.{sum_by-cons}
 use Rattle.macho_bytes.specs.Numbers.{le_bytes}
 use Rattle.macho_bytes.specs.Layouts.{spelling}
 use Rattle.macho_bytes.proofs.Numbers.{little_is_sound}
-use Rattle.macho_records.specs.Layouts.{chained_fixups_header}
+use Rattle.macho_structs.specs.Layouts.{chained_fixups_header}
 use Rattle.macho_model.specs.Images.{import_entry_size}
 use Rattle.macho_fixups.specs.declared.run.Fixup.{Fixup}
 use Rattle.macho_fixups.specs.declared.run.FixupSegment.{FixupSegment}

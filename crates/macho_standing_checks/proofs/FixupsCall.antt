@@ -11,8 +11,8 @@ use Rattle.macho_bytes.specs.Texts.{Stands}
 use Rattle.macho_bytes.specs.Layouts.{ReadsBack, spelling}
 use Rattle.macho_bytes.proofs.Layouts.{reads_back}
 use Rattle.macho_bytes.proofs.Numbers.{little_is_sound}
-use Rattle.macho_records.specs.Layouts.{chained_fixups_header}
-use Rattle.macho_records.specs.declared.fixups.ChainedFixupsHeader.{ChainedFixupsHeader}
+use Rattle.macho_structs.specs.Layouts.{chained_fixups_header}
+use Rattle.macho_structs.specs.declared.fixups.ChainedFixupsHeader.{ChainedFixupsHeader}
 use Rattle.macho_model.specs.declared.placed.PlacedSection.{PlacedSection}
 use Rattle.macho_model.specs.declared.placed.Slot.{Slot}
 use Rattle.macho_model.specs.declared.targets.Site.{Site}

@@ -3,8 +3,8 @@
 use Rattle.std.proofs.Common.{◌≡◌, ℕ, ◌+◌, ◌^◌, ◌<◌, true, List, Option, Some, None, Contains, refl, sym, ap, ◌∙◌, subst, arith, if◌then◌else◌}
 use Rattle.macho_bytes.specs.Numbers.{le_at}
 use Rattle.macho_bytes.specs.Texts.{name_of}
-use Rattle.macho_records.specs.Relocations.{BitsFit}
-use Rattle.macho_records.specs.declared.relocations.RelocationInfo.{RelocationInfo}
+use Rattle.macho_structs.specs.Relocations.{BitsFit}
+use Rattle.macho_structs.specs.declared.relocations.RelocationInfo.{RelocationInfo}
 use Rattle.macho_model.specs.Objects.{num_sections, section_at, section_bytes, relocation_at}
 use Rattle.macho_model.specs.Grammar.{IsObject}
 use Rattle.macho_model.specs.Links.{Link, SectionId, object_of, header_at, carried_of}

@@ -3,7 +3,7 @@
 use Rattle.std.proofs.Common.{◌≡◌, ℕ, ◌+◌, ◌-◌, ◌*◌, ◌%◌, ◌^◌, ◌<◌, ◌≤◌, ◌⊎◌, inl, inr, Bool, true, false, ◌&&◌, ◌||◌, not, ◌==◌, List, Option, Some, None, is_some, refl, sym, ap, ◌∙◌, subst, arith, if◌then◌else◌}
 use Rattle.std.proofs.lemmas.Bool.{eqb-true, cases_lt}
 use Rattle.macho_bytes.specs.Numbers.{le_at, signed}
-use Rattle.macho_records.specs.declared.relocations.RelocationInfo.{RelocationInfo}
+use Rattle.macho_structs.specs.declared.relocations.RelocationInfo.{RelocationInfo}
 use Rattle.macho_records.specs.declared.constants.TheConstants.{ARM64_RELOC_ADDEND, ARM64_RELOC_BRANCH26, ARM64_RELOC_GOT_LOAD_PAGE21, ARM64_RELOC_GOT_LOAD_PAGEOFF12, ARM64_RELOC_PAGE21, ARM64_RELOC_PAGEOFF12, ARM64_RELOC_POINTER_TO_GOT, ARM64_RELOC_SUBTRACTOR, ARM64_RELOC_TLVP_LOAD_PAGE21, ARM64_RELOC_TLVP_LOAD_PAGEOFF12, ARM64_RELOC_UNSIGNED}
 use Rattle.macho_model.specs.declared.targets.Target.{Target}
 use Rattle.macho_model.specs.Objects.{section_bytes, relocation_at}

@@ -3,7 +3,7 @@
 ghost use Rattle.std.specs.Prelude.{◌≡◌, ℕ, ◌+◌, ◌^◌, ◌<◌, ◌&&◌, ◌||◌, ◌==◌, nat_le, nat_eq, true, false, if◌then◌else◌, IfOk, IfSome};
 ghost use Rattle.std.specs.Bool.{OnTrue};
 ghost use Rattle.indexmap.specs.IndexMap.{get};
-ghost use Rattle.macho_records.specs.Relocations.{BitsFit};
+ghost use Rattle.macho_structs.specs.Relocations.{BitsFit};
 ghost use Rattle.macho_model.specs.Objects.{section_at, relocation_at};
 ghost use Rattle.macho_survey.specs.steps.Windows.{ends, window_in};
 ghost use Rattle.macho_survey.specs.steps.Overlaps.{field_end, excludes, hull_with, AreApart, IsFoundIn, PutsOrTaken};

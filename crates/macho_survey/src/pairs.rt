@@ -5,7 +5,7 @@
 //!     ADDEND     0x10     place 32             a branch to _f + 16
 //!     BRANCH26   _f       place 32
 ghost use Rattle.std.specs.Prelude.{◌≡◌, ◌+◌, ◌-◌, ◌<◌, nat_le, nat_lt, if◌then◌else◌, Some, None};
-ghost use Rattle.macho_records.specs.Relocations.{BitsFit};
+ghost use Rattle.macho_structs.specs.Relocations.{BitsFit};
 ghost use Rattle.macho_model.specs.Objects.{section_at, relocation_at};
 ghost use Rattle.macho_model.specs.Fields.{takes_addend, is_difference, is_with_addend, is_pair};
 ghost use Rattle.macho_survey.specs.steps.Windows.{window_in, subtracted, with_addend, begins, ends};

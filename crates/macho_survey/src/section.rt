@@ -2,7 +2,7 @@
 ghost use Rattle.std.specs.Prelude.{◌≡◌, ℕ, ◌+◌, ◌-◌, ◌%◌, ◌^◌, ◌<◌, ◌≤◌, ◌++◌, ◌∷◌, [], ◌==◌, if◌then◌else◌, Some, None, true, false, List, length, Contains, OnOk, IfErr};
 ghost use Rattle.macho_bytes.specs.Numbers.{le_at};
 ghost use Rattle.macho_records.specs.declared.constants.TheConstants.{ARM64_RELOC_UNSIGNED};
-ghost use Rattle.macho_records.specs.Relocations.{BitsFit};
+ghost use Rattle.macho_structs.specs.Relocations.{BitsFit};
 ghost use Rattle.macho_model.specs.declared.placed.Counts.{Counts};
 ghost use Rattle.macho_model.specs.Objects.{num_sections, section_at, section_bytes, relocation_at};
 ghost use Rattle.macho_model.specs.Links.{Input, Link, SectionId, object_of, carried_of};

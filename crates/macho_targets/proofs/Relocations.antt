@@ -6,7 +6,7 @@ use Rattle.std.proofs.Common.{◌≡◌, ℕ, suc, ◌-◌, ◌<◌, ◌≤◌, 
 use Rattle.std.proofs.lemmas.Bool.{leb-true}
 use Rattle.macho_model.proofs.EachBelow.{and_left, and_right}
 use Rattle.macho_records.specs.declared.constants.TheConstants.{ARM64_RELOC_ADDEND}
-use Rattle.macho_records.specs.declared.relocations.RelocationInfo.{RelocationInfo}
+use Rattle.macho_structs.specs.declared.relocations.RelocationInfo.{RelocationInfo}
 use Rattle.macho_model.specs.ObjectRules.{relocation_number_exists}
 use Rattle.macho_model.specs.Objects.{num_sections, num_symbols, section_at, relocation_at}
 use Rattle.macho_model.specs.Links.{header_at, is_carried}

@@ -1,7 +1,7 @@
 -- The relocations of a section by place, as far as a loop has come.
 use Rattle.std.specs.Prelude.{◌≡◌, ℕ, ◌+◌, ◌*◌, ◌/◌, ◌%◌, ◌<◌, ◌≤◌, ◌==◌, true, false, List, length, filter, Option, None, get_or, option_to_list}
 use Rattle.std.specs.List.{range_with_len}
-use Rattle.macho_records.specs.declared.relocations.RelocationInfo.{RelocationInfo}
+use Rattle.macho_structs.specs.declared.relocations.RelocationInfo.{RelocationInfo}
 use Rattle.macho_model.specs.Objects.{section_at, relocation_at}
 use Rattle.macho_model.specs.Consumed.{is_plain_pointer}
 use Rattle.macho_consumed.specs.declared.places.PlaceFault.{PlaceFault}

@@ -1,7 +1,7 @@
 -- What a relocation notes and leads to, by what it says itself: by its symbol, or by the number of a section.
 use Rattle.std.specs.Prelude.{ℕ, ◌≡◌, ◌-◌, if◌then◌else◌, Bool, true, false, List}
 use Rattle.macho_records.specs.declared.header.SectionHeader.{SectionHeader}
-use Rattle.macho_records.specs.declared.relocations.RelocationInfo.{RelocationInfo}
+use Rattle.macho_structs.specs.declared.relocations.RelocationInfo.{RelocationInfo}
 use Rattle.macho_model.specs.declared.targets.Target.{Target}
 use Rattle.macho_model.specs.declared.targets.Target.TheVariants as target
 use Rattle.macho_model.specs.Objects.{section_at}

@@ -1,6 +1,6 @@
 -- Rows of consumed sections: which relocations they are of, and that what they use can be noted.
 use Rattle.std.specs.Prelude.{◌≡◌, ℕ, true, List, [], ◌∷◌, Option, Some, None, All, IfSome}
-use Rattle.macho_records.specs.declared.relocations.RelocationInfo.{RelocationInfo}
+use Rattle.macho_structs.specs.declared.relocations.RelocationInfo.{RelocationInfo}
 use Rattle.macho_object.specs.Views.{FileBytes}
 use Rattle.macho_model.specs.Grammar.{IsFile}
 use Rattle.macho_model.specs.Links.{Input, Link, SectionId}

@@ -1,6 +1,6 @@
 -- A relocation of a table beside its neighbours.
 use Rattle.std.specs.Prelude.{ℕ, ◌+◌, ◌-◌, nat_le, nat_lt, if◌then◌else◌, Bool, false, List, Option, Some, None}
-use Rattle.macho_records.specs.declared.relocations.RelocationInfo.{RelocationInfo}
+use Rattle.macho_structs.specs.declared.relocations.RelocationInfo.{RelocationInfo}
 use Rattle.macho_model.specs.Objects.{section_at, relocation_at}
 use Rattle.macho_model.specs.Fields.{is_difference, is_with_addend, is_pair}
 use Rattle.macho_survey.specs.declared.pairs.Seen.{Seen}

@@ -3,9 +3,9 @@ use Rattle.std.proofs.lemmas.List.{append-nil}
 use Rattle.macho_bytes.specs.Texts.{put}
 use Rattle.macho_bytes.specs.Layouts.{spelling}
 use Rattle.macho_bytes.proofs.Puts.{put-put}
-use Rattle.macho_records.specs.Layouts.{build_version_command, build_tool_version}
-use Rattle.macho_records.specs.declared.commands.BuildVersionCommand.{BuildVersionCommand}
-use Rattle.macho_records.specs.declared.commands.BuildToolVersion.{BuildToolVersion}
+use Rattle.macho_structs.specs.Layouts.{build_version_command, build_tool_version}
+use Rattle.macho_structs.specs.declared.commands.BuildVersionCommand.{BuildVersionCommand}
+use Rattle.macho_structs.specs.declared.commands.BuildToolVersion.{BuildToolVersion}
 use Rattle.macho_records.specs.declared.constants.TheConstants.{LC_BUILD_VERSION}
 use Rattle.macho_model.specs.Head.{PLATFORM_MACOS, THIS_TOOL, THIS_VERSION}
 use Rattle.macho_commands.specs.Texts.{text_said}

@@ -2,9 +2,9 @@ use Rattle.std.proofs.Common.{ℕ, ◌*◌, length, ◌≡◌, ◌+◌, arith, a
 use Rattle.std.specs.List.{flat_map}
 use Rattle.macho_bytes.specs.Texts.{put}
 use Rattle.macho_bytes.specs.Layouts.{spelling, ReadsBack}
-use Rattle.macho_records.specs.Layouts.{chained_fixups_header}
+use Rattle.macho_structs.specs.Layouts.{chained_fixups_header}
 use Rattle.macho_model.specs.Images.{import_entry_size}
-use Rattle.macho_records.specs.declared.fixups.ChainedFixupsHeader.{ChainedFixupsHeader}
+use Rattle.macho_structs.specs.declared.fixups.ChainedFixupsHeader.{ChainedFixupsHeader}
 use Rattle.macho_fixups.specs.Tables.{image_starts_text, image_starts_size, entry_text, table_header, table_text}
 use Rattle.macho_fixups.proofs.TableTexts.{joined, joined_long, header_long, names_near}
 use Rattle.macho_fixups.proofs.TableReading.{table_reads_back}

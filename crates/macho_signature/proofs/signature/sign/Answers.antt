@@ -1,8 +1,8 @@
 use Rattle.std.proofs.Common.{arith, refl, length, ap, subst, ◌∙◌}
 use Rattle.macho_bytes.specs.Texts.{put}
 use Rattle.macho_bytes.specs.Layouts.{spelling, ReadsBack}
-use Rattle.macho_records.specs.Layouts.{code_directory}
-use Rattle.macho_records.specs.declared.signature.CodeDirectory.{CodeDirectory}
+use Rattle.macho_structs.specs.Layouts.{code_directory}
+use Rattle.macho_structs.specs.declared.signature.CodeDirectory.{CodeDirectory}
 use Rattle.macho_model.specs.Signature.{directory_for}
 use Rattle.macho_signature.proofs.Texts.{signature_put, length-signature}
 use Rattle.macho_signature.specs.Pages.{digests_of}

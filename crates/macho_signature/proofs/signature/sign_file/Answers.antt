@@ -1,7 +1,7 @@
 use Rattle.std.proofs.Common.{arith, ap, subst, ◌≡◌, ◌++◌, ◌∙◌, List, ℕ, length}
 use Rattle.macho_bytes.specs.Texts.{put}
 use Rattle.macho_bytes.specs.Layouts.{spelling}
-use Rattle.macho_records.specs.Layouts.{code_directory}
+use Rattle.macho_structs.specs.Layouts.{code_directory}
 use Rattle.macho_model.specs.Signature.{directory_for, signature_text}
 use Rattle.macho_signature.specs.Sizes.{signed_by}
 use Rattle.macho_signature.proofs.Texts.{length-signature}

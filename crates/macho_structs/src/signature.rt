@@ -5,7 +5,7 @@
 ghost use Rattle.std.specs.Prelude.{◌≡◌, ◌+◌, ◌≤◌, length};
 ghost use Rattle.macho_bytes.specs.Texts.{put};
 ghost use Rattle.macho_bytes.specs.Layouts.{read_of, size_of, spelling, ReadsBack};
-ghost use Rattle.macho_records.specs.Layouts.{code_directory};
+ghost use Rattle.macho_structs.specs.Layouts.{code_directory};
 
 use macho_numbers::{big_at, put_bigs};
 

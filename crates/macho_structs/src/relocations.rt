@@ -12,7 +12,7 @@
 ghost use Rattle.std.specs.Prelude.{◌≡◌, ◌+◌, ◌≤◌, IfSome, length};
 ghost use Rattle.macho_bytes.specs.Texts.{put};
 ghost use Rattle.macho_bytes.specs.Layouts.{read_of, size_of, spelling, ReadsBack};
-ghost use Rattle.macho_records.specs.Relocations.{relocation_info, BitsFit, packed_word};
+ghost use Rattle.macho_structs.specs.Relocations.{relocation_info, BitsFit, packed_word};
 
 use macho_numbers::{little_at, put_littles};
 

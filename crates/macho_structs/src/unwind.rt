@@ -5,7 +5,7 @@
 ghost use Rattle.std.specs.Prelude.{◌≡◌, ◌+◌, ◌≤◌, length};
 ghost use Rattle.macho_bytes.specs.Texts.{put};
 ghost use Rattle.macho_bytes.specs.Layouts.{read_of, size_of, spelling, ReadsBack};
-ghost use Rattle.macho_records.specs.Layouts.{unwind_info_entry};
+ghost use Rattle.macho_structs.specs.Layouts.{unwind_info_entry};
 
 use macho_numbers::{little_at, put_littles};
 

@@ -8,7 +8,7 @@
 ghost use Rattle.std.specs.Prelude.{◌≡◌, ◌+◌, ◌≤◌, length};
 ghost use Rattle.macho_bytes.specs.Texts.{put};
 ghost use Rattle.macho_bytes.specs.Layouts.{read_of, size_of, spelling, ReadsBack};
-ghost use Rattle.macho_records.specs.Layouts.{chained_fixups_header, chained_starts_in_segment};
+ghost use Rattle.macho_structs.specs.Layouts.{chained_fixups_header, chained_starts_in_segment};
 
 use macho_numbers::{little_at, put_littles};
 

@@ -2,7 +2,7 @@
 use Rattle.std.specs.Prelude.{ℕ, ◌+◌, ◌*◌, ◌^◌, ◌<◌, ◌==◌, Bool, true, false, [], ◌∷◌}
 use Rattle.macho_bytes.specs.Numbers.{little, bits}
 use Rattle.macho_bytes.specs.Layouts.{Layout, numbers}
-use Rattle.macho_records.specs.declared.relocations.RelocationInfo.{RelocationInfo}
+use Rattle.macho_structs.specs.declared.relocations.RelocationInfo.{RelocationInfo}
 
 -- a flag as a bit
 abbrev pub bit_of : Bool → ℕ
