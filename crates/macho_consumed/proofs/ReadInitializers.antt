@@ -15,7 +15,8 @@ use Rattle.macho_model.specs.Needs.{relocations_at, relocation_in, initializer_s
 use Rattle.macho_model.specs.Targets.{target_of_relocation, target_with}
 use Rattle.macho_model.specs.Consumed.{is_plain_pointer, bytes_of_section, is_section_target, initializer_section_fits, initializer_slot_fits, initializer_relocation_fits}
 use Rattle.macho_model.specs.Faults.{IsBadInitializer}
-use Rattle.macho_symbols.specs.Kept.{ResolvedRows, IsResolved, HasSymbol, FileRows, rows_of_object, row_of_symbol, symbol_id}
+use Rattle.macho_names.specs.Kept.{FileRows, rows_of_object, row_of_symbol}
+use Rattle.macho_symbols.specs.Kept.{ResolvedRows, IsResolved, HasSymbol, symbol_id}
 use Rattle.macho_consumed.specs.declared.listing.Kind.TheVariants.{Initializers}
 use Rattle.macho_consumed.specs.declared.listing.SectionRef.{SectionRef}
 use Rattle.macho_consumed.specs.declared.rows.Initializer.{Initializer}

@@ -2,7 +2,7 @@
 use Rattle.std.specs.Prelude.{◌≡◌, ℕ, ◌^◌, ◌<◌, false, List, length, map, Option, Some, None, get_or}
 use Rattle.macho_object.specs.Views.{FileBytes}
 use Rattle.macho_model.specs.Links.{Input, Object, Dylib, Stub, Link}
-use Rattle.macho_symbols.specs.Kept.{FileRows, no_file, kept_object}
+use Rattle.macho_names.specs.Kept.{FileRows, no_file, kept_object}
 
 -- an object is viewed, another input is not
 abbrev pub view_of : Input → Option FileBytes

@@ -1,8 +1,8 @@
 -- The refusal of a name that is defined twice stands as it is told.
 use Rattle.macho_model.specs.declared.placed.Counts.{Counts}
 use Rattle.macho_model.specs.Links.{Link}
-use Rattle.macho_symbols.specs.declared.fault.SymbolFault.{SymbolFault}
-use Rattle.macho_symbols.specs.declared.fault.SymbolFault.TheVariants as symbol
+use Rattle.macho_names.specs.declared.fault.SymbolFault.{SymbolFault}
+use Rattle.macho_names.specs.declared.fault.SymbolFault.TheVariants as symbol
 use Rattle.macho_symbols.specs.Told.{IsDuplicateOf}
 use Rattle.macho_faults.specs.Errors.{error_of}
 use Rattle.macho_faults.specs.Standing.{Stands}

@@ -8,7 +8,7 @@ use Rattle.std.proofs.lemmas.List.{length-map, length-take, map-append, take_all
 use Rattle.std.proofs.lemmas.List.Elements.{filter_map-append}
 use Rattle.macho_layout.proofs.Numbered.{enumerate_push}
 use Rattle.macho_model.specs.Links.{Input}
-use Rattle.macho_symbols.specs.Kept.{FileRows, Keeps}
+use Rattle.macho_names.specs.Kept.{FileRows, Keeps}
 use Rattle.macho_linkedit.specs.Listing.{object_in}
 use Rattle.macho_inputs.specs.declared.owned.OwnedInput.{OwnedInput}
 use Rattle.macho_inputs.specs.declared.owned.OwnedInput.TheVariants as owned

@@ -4,7 +4,8 @@ ghost use Rattle.macho_model.specs.declared.placed.Counts.{Counts};
 ghost use Rattle.macho_model.specs.Links.{Link, Input};
 ghost use Rattle.macho_model.specs.Faults.{IsDuplicate};
 ghost use Rattle.macho_promise.specs.Inputs.{IsInput};
-ghost use Rattle.macho_symbols.specs.Kept.{Keeps, IsResolved};
+ghost use Rattle.macho_names.specs.Kept.{Keeps};
+ghost use Rattle.macho_symbols.specs.Kept.{IsResolved};
 ghost use Rattle.macho_faults.specs.Standing.{Stands};
 ghost use Rattle.macho_inputs.specs.steps.Owned.{input_of};
 

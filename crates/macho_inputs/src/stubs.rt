@@ -1,7 +1,7 @@
 //! A stub text that was read before, read again.
 ghost use Rattle.std.specs.Prelude.{◌≡◌, IfOk};
 ghost use Rattle.macho_promise.specs.Inputs.{IsStubInput};
-ghost use Rattle.macho_symbols.specs.Kept.{reading_of};
+ghost use Rattle.macho_names.specs.Kept.{reading_of};
 ghost use Rattle.macho_inputs.specs.steps.Owned.{says_of};
 
 use macho_stub::{DefinedStubLibrary, StubFault, parse_defined_library};

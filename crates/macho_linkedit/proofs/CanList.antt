@@ -8,7 +8,8 @@ use Rattle.std.proofs.lemmas.List.{get_or_default, get_or-map, length-map}
 use Rattle.std.proofs.lemmas.List.FromFn.{get_or-enumerate_from, length-enumerate_from, length-map-range_with_len}
 use Rattle.macho_model.specs.Objects.{num_symbols}
 use Rattle.macho_model.specs.Links.{Input, Object, Dylib, Stub, Link, no_input}
-use Rattle.macho_symbols.specs.Kept.{FileRows, ResolvedRows, IsResolved, HasSymbol, kept_of, kept_object, no_file, row_of_symbol, rows_of_object}
+use Rattle.macho_names.specs.Kept.{FileRows, kept_of, kept_object, no_file, row_of_symbol, rows_of_object}
+use Rattle.macho_symbols.specs.Kept.{ResolvedRows, IsResolved, HasSymbol}
 use Rattle.macho_linkedit.specs.declared.listing.LinkedObject.{LinkedObject}
 use Rattle.macho_linkedit.specs.Listing.{object_in, seen_object, AreObjects, CanBeListed}
 use Rattle.macho_linkedit.specs.Laws.{ResolvedCanBeListed}

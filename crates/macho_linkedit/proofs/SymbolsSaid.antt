@@ -26,7 +26,7 @@ use Rattle.macho_model.specs.Resolution.{SymbolId, name_at}
 use Rattle.macho_model.specs.Images.{Table, symbols_range, strings_range, symbol_tables_of, string_tables_of}
 use Rattle.macho_model.specs.SymbolTable.{table_symbols}
 use Rattle.macho_model.specs.SymbolRows.{SymbolRow, row_of, symbol_rows, row_in, symbol_rows_in, strings_text, string_places, string_places_in}
-use Rattle.macho_symbols.proofs.Lists.{map_same}
+use Rattle.macho_names.proofs.Lists.{map_same}
 use Rattle.macho_linkedit.specs.declared.symbols.SymbolTable.{SymbolTable}
 use Rattle.macho_linkedit.specs.Symbols.{entry_for, entries_from, strings_of_rows, table_text, HasRows, SymbolsStand}
 use Rattle.macho_linkedit.specs.Laws.{SymbolsAreSaid}

@@ -11,7 +11,8 @@ ghost use Rattle.macho_model.specs.Symbols.{is_global, is_absolute};
 ghost use Rattle.macho_model.specs.Objects.{num_symbols, strings_of, symbol_at, symbol_name};
 ghost use Rattle.macho_model.specs.Links.{Link, object_of, is_carried};
 ghost use Rattle.macho_model.specs.SymbolTable.{is_in_table};
-ghost use Rattle.macho_symbols.specs.Kept.{IsResolved, HasSymbol, symbol_id, in_carried};
+ghost use Rattle.macho_names.specs.Kept.{in_carried};
+ghost use Rattle.macho_symbols.specs.Kept.{IsResolved, HasSymbol, symbol_id};
 ghost use Rattle.macho_linkedit.specs.Listing.{AreObjects, CanBeListed, AreListed, IsRowOf};
 ghost use Rattle.macho_linkedit.specs.steps.Names.{AreNames};
 ghost use Rattle.macho_linkedit.specs.steps.Listing.{is_defined_symbol, name_length, symbols_in, Lists, placed_type_of, placed_description_of};
@@ -61,7 +62,7 @@ fn is_carried(header: SectionHeader) -> bool
 }
 
 /// Whether a symbol stands in a carried section.
-#[tactic(auto, using(macho_symbols::proofs::Entries::stands_in_carried))]
+#[tactic(auto, using(macho_names::proofs::Entries::stands_in_carried))]
 fn stands_in_carried(file: &File<'_>, index: u32) -> bool
     requires object { file.now.is_dynamic ≡ false }
     requires among { index < num_symbols file.now.bytes }

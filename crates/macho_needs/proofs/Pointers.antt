@@ -10,7 +10,8 @@ use Rattle.macho_model.specs.Needs.{Use, relocation_in, section_named, symbol_of
 use Rattle.macho_model.specs.Targets.{same_target, slot_of_use, stub_of_use, target_of_symbol, target_of_section, target_of_relocation, target_with}
 use Rattle.macho_model.specs.Fixups.{same_entry}
 use Rattle.macho_model.specs.Consumed.{is_plain_pointer}
-use Rattle.macho_symbols.specs.Kept.{ResolvedRows, Keeps, IsResolved, symbol_id}
+use Rattle.macho_names.specs.Kept.{Keeps}
+use Rattle.macho_symbols.specs.Kept.{ResolvedRows, IsResolved, symbol_id}
 use Rattle.macho_symbols.specs.Told.{IsDefined, noting}
 use Rattle.macho_parts.specs.Noted.{imports_in, stubs_in}
 use Rattle.macho_needs.specs.declared.needs.Needs.{Needs}

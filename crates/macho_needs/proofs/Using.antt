@@ -18,9 +18,10 @@ use Rattle.macho_model.specs.Fixups.{same_entry, own_entry}
 use Rattle.macho_model.specs.Values.{is_pointer}
 use Rattle.macho_model.specs.Faults as model
 use Rattle.macho_object.specs.Views.{FileBytes}
-use Rattle.macho_symbols.specs.declared.fault.SymbolFault.{SymbolFault}
-use Rattle.macho_symbols.specs.declared.fault.SymbolFault.TheVariants.{DuplicateSymbol, UndefinedSymbol, ExportListMissing, OutOfMemory}
-use Rattle.macho_symbols.specs.Kept.{ResolvedRows, Keeps, IsResolved, symbol_id}
+use Rattle.macho_names.specs.declared.fault.SymbolFault.{SymbolFault}
+use Rattle.macho_names.specs.declared.fault.SymbolFault.TheVariants.{DuplicateSymbol, UndefinedSymbol, ExportListMissing, OutOfMemory}
+use Rattle.macho_names.specs.Kept.{Keeps}
+use Rattle.macho_symbols.specs.Kept.{ResolvedRows, IsResolved, symbol_id}
 use Rattle.macho_symbols.specs.Told.{IsDefined, IsUndefined, noting}
 use Rattle.macho_faults.specs.declared.fault.LinkError.{LinkError}
 use Rattle.macho_faults.specs.Errors.{error_of}

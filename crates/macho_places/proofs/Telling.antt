@@ -32,7 +32,8 @@ use Rattle.macho_targets.proofs.OfLink.{IsSectionOf, section_of}
 use Rattle.macho_parts.specs.Views.{object_view, views_of}
 use Rattle.macho_placing.proofs.ByNumber.{commons_by_number, slots_by_number}
 use Rattle.macho_placing.proofs.Places.{place_agree}
-use Rattle.macho_symbols.specs.Kept.{FileRows, ResolvedRows, IsResolved, HasSymbol, kept_of, no_file, row_of_symbol, rows_of_object}
+use Rattle.macho_names.specs.Kept.{FileRows, kept_of, no_file, row_of_symbol, rows_of_object}
+use Rattle.macho_symbols.specs.Kept.{ResolvedRows, IsResolved, HasSymbol}
 use Rattle.macho_symbols.proofs.Targeted.{target_here}
 use Rattle.macho_needs.specs.declared.needs.Needs.{Needs}
 use Rattle.macho_fields.specs.Looks.{stub_address, Tells}

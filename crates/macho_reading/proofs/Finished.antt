@@ -7,7 +7,8 @@ use Rattle.macho_model.specs.Links.{Link}
 use Rattle.macho_model.specs.Needs.{uses_of, imports_of}
 use Rattle.macho_exports.specs.Entries.{ListEntries}
 use Rattle.macho_symbols.specs.Exported.{AreExports}
-use Rattle.macho_symbols.specs.Kept.{FileRows, ResolvedRows, IsResolved}
+use Rattle.macho_names.specs.Kept.{FileRows}
+use Rattle.macho_symbols.specs.Kept.{ResolvedRows, IsResolved}
 use Rattle.macho_symbols.specs.Told.{AreDefined}
 use Rattle.macho_parts.specs.Noted.{imports_in, uses_of_carried}
 use Rattle.macho_parts.specs.Sound.{IsSound}

@@ -10,7 +10,8 @@ use Rattle.std.proofs.lemmas.List.Elements.{Contains-append_left, Contains-appen
 use Rattle.std.proofs.lemmas.Grind.{flat_map-append}
 use Rattle.macho_model.specs.Links.{Input, Link}
 use Rattle.macho_model.specs.Needs.{Use, uses_of}
-use Rattle.macho_symbols.specs.Kept.{FileRows, ResolvedRows, Keeps, HasSymbol}
+use Rattle.macho_names.specs.Kept.{FileRows, Keeps}
+use Rattle.macho_symbols.specs.Kept.{ResolvedRows, HasSymbol}
 use Rattle.macho_parts.specs.Noted.{BeginsWith}
 use Rattle.macho_needs.specs.declared.needs.Needs.{Needs}
 use Rattle.macho_needs.specs.Noted.{IsNoted}

@@ -15,9 +15,10 @@ use Rattle.macho_model.specs.Needs.{Use, ByName, uses_of, is_imported, imports_o
 use Rattle.macho_model.specs.Targets.{definition_target}
 use Rattle.macho_model.specs.Consumed.{is_section_target}
 use Rattle.macho_model.specs.Faults.{entry_is_defined}
-use Rattle.macho_symbols.specs.declared.fault.SymbolFault.{SymbolFault}
-use Rattle.macho_symbols.specs.declared.fault.SymbolFault.TheVariants.{DuplicateSymbol, UndefinedSymbol, ExportListMissing, OutOfMemory}
-use Rattle.macho_symbols.specs.Kept.{ResolvedRows, Keeps, IsResolved}
+use Rattle.macho_names.specs.declared.fault.SymbolFault.{SymbolFault}
+use Rattle.macho_names.specs.declared.fault.SymbolFault.TheVariants.{DuplicateSymbol, UndefinedSymbol, ExportListMissing, OutOfMemory}
+use Rattle.macho_names.specs.Kept.{Keeps}
+use Rattle.macho_symbols.specs.Kept.{ResolvedRows, IsResolved}
 use Rattle.macho_symbols.specs.Told.{noting_name, noting_names, IsMissing}
 use Rattle.macho_faults.specs.Errors.{error_of}
 use Rattle.macho_faults.specs.Standing.{Stands}

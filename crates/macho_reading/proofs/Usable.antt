@@ -17,7 +17,8 @@ use Rattle.macho_records.specs.declared.constants.TheConstants.{ARM64_RELOC_ADDE
 use Rattle.macho_model.specs.Links.{Input, Object, Link, SectionId, no_input, object_bytes, object_of, header_at, is_consumed, is_initializers, is_unwind_entries, sections_of}
 use Rattle.macho_model.specs.Needs.{relocation_in, relocations_of, relocations_at, initializer_sections, unwind_sections, PERSONALITY_PLACE}
 use Rattle.macho_model.specs.Consumed.{entry_count, entries_of_link, is_plain_pointer, initializer_relocation_fits, relocations_in_entry, unwind_relocation_fits}
-use Rattle.macho_symbols.specs.Kept.{FileRows, ResolvedRows, Keeps, IsResolved, no_file, kept_of, row_of_symbol, rows_of_object}
+use Rattle.macho_names.specs.Kept.{FileRows, Keeps, no_file, kept_of, row_of_symbol, rows_of_object}
+use Rattle.macho_symbols.specs.Kept.{ResolvedRows, IsResolved}
 use Rattle.macho_needs.proofs.Using.{link_with}
 use Rattle.macho_promise.specs.UnwindSays.{relocation_of}
 use Rattle.macho_standing.specs.Leads.{ObjectsAreRead}

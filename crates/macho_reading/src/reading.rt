@@ -6,7 +6,7 @@ ghost use Rattle.macho_model.specs.Links.{Input, Link};
 ghost use Rattle.macho_model.specs.Needs.{uses_of};
 ghost use Rattle.macho_model.specs.Faults.{entry_is_defined};
 ghost use Rattle.macho_object.specs.Views.{FileBytes};
-ghost use Rattle.macho_symbols.specs.Kept.{Keeps};
+ghost use Rattle.macho_names.specs.Kept.{Keeps};
 ghost use Rattle.macho_symbols.specs.Exported.{AreLists};
 ghost use Rattle.macho_faults.specs.Standing.{Stands};
 ghost use Rattle.macho_survey.specs.Surveys.{AreOfInputs};

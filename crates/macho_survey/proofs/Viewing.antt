@@ -12,7 +12,7 @@ use Rattle.macho_model.specs.Fields.{Field, field_of, fields_of, is_prefix_type}
 use Rattle.macho_model.specs.Values.{needs_fixup, is_pointer, fits_signed}
 use Rattle.macho_model.specs.Targets.{is_import}
 use Rattle.macho_object.specs.Views.{FileBytes}
-use Rattle.macho_symbols.specs.Kept.{FileRows, Keeps}
+use Rattle.macho_names.specs.Kept.{FileRows, Keeps}
 use Rattle.macho_parts.specs.Noted.{BeginsWith, uses_of_carried}
 use Rattle.macho_parts.specs.Sound.{IsSound}
 use Rattle.macho_needs.specs.declared.needs.Needs.{Needs}

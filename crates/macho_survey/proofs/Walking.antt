@@ -10,7 +10,7 @@ use Rattle.macho_model.specs.Objects.{num_sections, section_at}
 use Rattle.macho_model.specs.Links.{Input, Object, Link, SectionId, no_input, object_of, object_bytes, header_at, is_carried, sections_of_file, sections_of, carried_of}
 use Rattle.macho_model.specs.Needs.{Use, ByRelocation, uses_of, carried_uses, relocations_of}
 use Rattle.macho_model.specs.Values.{section_id}
-use Rattle.macho_symbols.specs.Kept.{FileRows, Keeps}
+use Rattle.macho_names.specs.Kept.{FileRows, Keeps}
 use Rattle.macho_parts.specs.Noted.{BeginsWith}
 use Rattle.macho_needs.specs.declared.needs.Needs.{Needs}
 use Rattle.macho_survey.specs.declared.findings.Findings.{Findings}

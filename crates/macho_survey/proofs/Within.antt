@@ -10,7 +10,8 @@ use Rattle.macho_records.specs.Sections.{is_zerofill}
 use Rattle.macho_model.specs.Objects.{num_sections, num_symbols, section_at, section_bytes, relocation_at}
 use Rattle.macho_model.specs.Grammar.{IsObject}
 use Rattle.macho_model.specs.Links.{Input, Object, no_input}
-use Rattle.macho_symbols.specs.Kept.{FileRows, ResolvedRows, Keeps, kept_of, kept_object, row_of_symbol, rows_of_object, no_file, HasSymbol}
+use Rattle.macho_names.specs.Kept.{FileRows, Keeps, kept_of, kept_object, row_of_symbol, rows_of_object, no_file}
+use Rattle.macho_symbols.specs.Kept.{ResolvedRows, HasSymbol}
 use Rattle.macho_needs.specs.Noted.{HasReferent, names_symbol}
 use Rattle.macho_survey.specs.declared.pairs.Seen.{Seen}
 use Rattle.macho_survey.specs.steps.Windows.{window_in}

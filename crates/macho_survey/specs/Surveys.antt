@@ -8,7 +8,7 @@ use Rattle.macho_model.specs.Rows.{is_supported, share_byte, are_pair}
 use Rattle.macho_model.specs.Segments.{segment_name, may_hold_pointers}
 use Rattle.macho_model.specs.Values.{fits_signed, is_pointer, needs_fixup}
 use Rattle.macho_object.specs.Views.{FileBytes}
-use Rattle.macho_symbols.specs.Kept.{FileRows, Keeps}
+use Rattle.macho_names.specs.Kept.{FileRows, Keeps}
 
 -- an input that is an object, as it is viewed
 abbrev pub object_view : Input → Option FileBytes

@@ -8,7 +8,8 @@ ghost use Rattle.macho_model.specs.Objects.{num_sections, section_at, section_by
 ghost use Rattle.macho_model.specs.Links.{Input, Link, SectionId, object_of, carried_of};
 ghost use Rattle.macho_model.specs.Needs.{Use, ByRelocation, uses_of, carried_uses};
 ghost use Rattle.macho_model.specs.Values.{fits_signed, is_absolute_target};
-ghost use Rattle.macho_symbols.specs.Kept.{Keeps, IsResolved};
+ghost use Rattle.macho_names.specs.Kept.{Keeps};
+ghost use Rattle.macho_symbols.specs.Kept.{IsResolved};
 ghost use Rattle.macho_faults.specs.Standing.{Stands};
 ghost use Rattle.macho_parts.specs.Noted.{BeginsWith};
 ghost use Rattle.macho_needs.specs.Noted.{IsNext};

@@ -7,7 +7,7 @@ ghost use Rattle.macho_model.specs.Links.{Input, Object, Link, SectionId, no_inp
 ghost use Rattle.macho_model.specs.Needs.{Use};
 ghost use Rattle.macho_model.specs.Segments.{may_hold_pointers};
 ghost use Rattle.macho_model.specs.Values.{section_id};
-ghost use Rattle.macho_symbols.specs.Kept.{Keeps};
+ghost use Rattle.macho_names.specs.Kept.{Keeps};
 ghost use Rattle.macho_faults.specs.Standing.{Stands};
 ghost use Rattle.macho_parts.specs.Noted.{BeginsWith, uses_of_carried};
 ghost use Rattle.macho_parts.specs.Sound.{IsSound};

@@ -10,12 +10,13 @@ use Rattle.macho_model.specs.declared.targets.Target.TheVariants as target
 use Rattle.macho_model.specs.Links.{Link}
 use Rattle.macho_model.specs.Resolution.{definition_of}
 use Rattle.macho_exports.specs.steps.Lists.{texts_of}
-use Rattle.macho_symbols.specs.declared.fault.SymbolFault.{SymbolFault}
-use Rattle.macho_symbols.specs.declared.fault.SymbolFault.TheVariants.{DuplicateSymbol, UndefinedSymbol, ExportListMissing, OutOfMemory}
+use Rattle.macho_names.specs.declared.fault.SymbolFault.{SymbolFault}
+use Rattle.macho_names.specs.declared.fault.SymbolFault.TheVariants.{DuplicateSymbol, UndefinedSymbol, ExportListMissing, OutOfMemory}
 use Rattle.macho_symbols.specs.declared.solved.Solved.{Solved}
-use Rattle.macho_symbols.specs.Kept.{FileRows, ResolvedRows, IsResolved, kept_of}
+use Rattle.macho_names.specs.Kept.{FileRows, kept_of}
+use Rattle.macho_symbols.specs.Kept.{ResolvedRows, IsResolved}
 use Rattle.macho_symbols.specs.Told.{noting_name, noting_names, AreDefined, IsMissing}
-use Rattle.macho_symbols.specs.steps.Events.{events, best_of}
+use Rattle.macho_names.specs.steps.Events.{events, best_of}
 use Rattle.macho_symbols.specs.steps.Targets.{named_in, is_next, is_nothing, is_missing_in, noting_name_in, noting_names_in}
 use Rattle.macho_symbols.specs.steps.Solved.{IsSolved, IsUnchanged, HasGrown, HaveNoted, IsMissingIn, noted_of}
 use Rattle.macho_symbols.proofs.Defined.{definition_is}

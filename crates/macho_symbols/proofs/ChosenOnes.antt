@@ -4,19 +4,19 @@ use Rattle.std.specs.Str.{bytes_eq}
 use Rattle.std.proofs.lemmas.List.{map-append}
 use Rattle.std.proofs.lemmas.List.Elements.{filter-append}
 use Rattle.macho_model.specs.Resolution.{is_symbol, ImageBase, DSO_HANDLE}
-use Rattle.macho_symbols.specs.declared.notes.Sort.{Sort}
-use Rattle.macho_symbols.specs.declared.notes.Sort.TheVariants.{Section, Absolute, Common as CommonSort, Offered, Nowhere}
+use Rattle.macho_names.specs.declared.notes.Sort.{Sort}
+use Rattle.macho_names.specs.declared.notes.Sort.TheVariants.{Section, Absolute, Common as CommonSort, Offered, Nowhere}
 use Rattle.macho_symbols.specs.declared.solved.Common.{Common}
-use Rattle.macho_symbols.specs.declared.table.Entry.{Entry}
-use Rattle.macho_symbols.specs.Kept.{FileRows}
-use Rattle.macho_symbols.specs.steps.Events.{Event, row_at, row_count, event_at, events_of_file, events_of, events, best_of}
-use Rattle.macho_symbols.specs.steps.Tables.{IsKnown, IsEntryOf, IsNowhere, names_of, entry_name, no_entry}
+use Rattle.macho_names.specs.declared.table.Entry.{Entry}
+use Rattle.macho_names.specs.Kept.{FileRows}
+use Rattle.macho_names.specs.steps.Events.{Event, row_at, row_count, event_at, events_of_file, events_of, events, best_of}
+use Rattle.macho_names.specs.steps.Tables.{IsKnown, IsEntryOf, IsNowhere, names_of, entry_name, no_entry}
 use Rattle.macho_symbols.specs.steps.Targets.{is_chosen_in, defines_in, definition_by, defined_as, image_base, is_of_object, id_of}
 use Rattle.macho_symbols.specs.steps.Solved.{common_told}
-use Rattle.macho_symbols.proofs.Lists.{filter_one, filter_none}
-use Rattle.macho_symbols.proofs.Chains.{name_of_entry}
-use Rattle.macho_symbols.proofs.Taking.{file_rows_more, files_more}
-use Rattle.macho_symbols.proofs.Best.{and_false}
+use Rattle.macho_names.proofs.Lists.{filter_one, filter_none}
+use Rattle.macho_names.proofs.Chains.{name_of_entry}
+use Rattle.macho_names.proofs.Taking.{file_rows_more, files_more}
+use Rattle.macho_names.proofs.Best.{and_false}
 
 pub chosen_more : (files : List FileRows) (file row : ℕ) (old : List Common) (c : Common)
     → is_chosen_in files (event_at files file row) ≡ true → c ≡ common_told (event_at files file row)

@@ -5,15 +5,15 @@ use Rattle.std.proofs.Common.{◌≡◌, ℕ, ◌<◌, Bool, true, false, ◌&&�
 use Rattle.std.proofs.lemmas.Bool.{false≢true}
 use Rattle.macho_model.specs.Links.{Link}
 use Rattle.macho_model.specs.Resolution.{SymbolId, Definition, Symbol, Library, first_or, definition_of, strong_of, weak_of, commons_of, greatest_of, libraries_with}
-use Rattle.macho_symbols.specs.declared.notes.Sort.{Sort}
-use Rattle.macho_symbols.specs.declared.notes.Sort.TheVariants.{Section, Absolute, Common, Offered, Nowhere}
-use Rattle.macho_symbols.specs.Kept.{kept_of}
-use Rattle.macho_symbols.specs.steps.Events.{Event, strength, strength_of, beats, is_of, is_level, events, best_of}
+use Rattle.macho_names.specs.declared.notes.Sort.{Sort}
+use Rattle.macho_names.specs.declared.notes.Sort.TheVariants.{Section, Absolute, Common, Offered, Nowhere}
+use Rattle.macho_names.specs.Kept.{kept_of}
+use Rattle.macho_names.specs.steps.Events.{Event, strength, strength_of, beats, is_of, is_level, events, best_of}
 use Rattle.macho_symbols.specs.steps.Targets.{event_of, id_of, image_base, defined_as, definition_by}
-use Rattle.macho_symbols.proofs.Order.{equal_by_test, stronger_beats, ties_strength}
-use Rattle.macho_symbols.proofs.Best.{best_is, IsBest, none_of, and_false}
+use Rattle.macho_names.proofs.Order.{equal_by_test, stronger_beats, ties_strength}
+use Rattle.macho_names.proofs.Best.{best_is, IsBest, none_of, and_false}
 use Rattle.macho_symbols.proofs.Classes.{strong_class, weak_class, common_class}
-use Rattle.macho_symbols.proofs.KnowingBetter.{filter_same_test}
+use Rattle.macho_names.proofs.KnowingBetter.{filter_same_test}
 use Rattle.macho_symbols.proofs.Greatest.{greatest_first}
 use Rattle.macho_symbols.proofs.Offering.{libraries_empty, libraries_first}
 

@@ -20,16 +20,17 @@ use Rattle.macho_model.specs.Resolution.{SymbolId, Symbol, Library, ImageBase, D
 use Rattle.macho_exports.specs.Entries.{ListEntries}
 use Rattle.macho_exports.proofs.Listed.{listed_is}
 use Rattle.macho_symbols.specs.declared.exports.ExportName.{ExportName}
-use Rattle.macho_symbols.specs.declared.notes.Sort.{Sort}
-use Rattle.macho_symbols.specs.declared.notes.Sort.TheVariants.{Section, Absolute, Common, Offered, Nowhere}
+use Rattle.macho_names.specs.declared.notes.Sort.{Sort}
+use Rattle.macho_names.specs.declared.notes.Sort.TheVariants.{Section, Absolute, Common, Offered, Nowhere}
 use Rattle.macho_symbols.specs.declared.solved.Import.{Import}
 use Rattle.macho_symbols.specs.Exported.{AreLists, IsFromObject, IsReexport, AreExports, export_names}
-use Rattle.macho_symbols.specs.Kept.{FileRows, ResolvedRows, IsResolved, kept_of, row_of_symbol}
-use Rattle.macho_symbols.specs.steps.Events.{Event, events, best_of}
+use Rattle.macho_names.specs.Kept.{FileRows, kept_of, row_of_symbol}
+use Rattle.macho_symbols.specs.Kept.{ResolvedRows, IsResolved}
+use Rattle.macho_names.specs.steps.Events.{Event, events, best_of}
 use Rattle.macho_symbols.specs.steps.Exporting.{open_by, open_of, is_open_in, is_exported_in, is_listed_in, weak_of, weak_in, IsToldIn, AreInOrder, required_in}
 use Rattle.macho_symbols.specs.steps.Solved.{IsImportIn, noted_of}
 use Rattle.macho_symbols.specs.steps.Targets.{event_of, id_of, image_base, defined_as, definition_by, is_of_object, named_in, led_in, lead_in}
-use Rattle.macho_symbols.proofs.Best.{best_is}
+use Rattle.macho_names.proofs.Best.{best_is}
 use Rattle.macho_symbols.proofs.Defined.{definition_is}
 use Rattle.macho_symbols.proofs.Targeted.{best_symbol, named_is}
 

@@ -8,14 +8,14 @@ use Rattle.std.proofs.lemmas.List.Elements.{filter_passes, All-filter}
 use Rattle.macho_records.specs.Symbols.{is_common_of}
 use Rattle.macho_model.specs.Links.{Link, object_of}
 use Rattle.macho_model.specs.Resolution.{SymbolId, symbols_of, commons_of, greatest_of, entry_at, has_name}
-use Rattle.macho_symbols.specs.declared.notes.Sort.TheVariants.{Common}
-use Rattle.macho_symbols.specs.Kept.{Row, kept_of, row_of_symbol, sort_of, value_of}
-use Rattle.macho_symbols.specs.steps.Events.{Event, strength, beats, common_size, size_of_common, is_of, is_level, events}
+use Rattle.macho_names.specs.declared.notes.Sort.TheVariants.{Common}
+use Rattle.macho_names.specs.Kept.{Row, kept_of, row_of_symbol, sort_of, value_of}
+use Rattle.macho_names.specs.steps.Events.{Event, strength, beats, common_size, size_of_common, is_of, is_level, events}
 use Rattle.macho_symbols.specs.steps.Targets.{row_of, event_of, id_of}
-use Rattle.macho_symbols.proofs.Order.{equal_by_test}
-use Rattle.macho_symbols.proofs.Best.{IsBest}
+use Rattle.macho_names.proofs.Order.{equal_by_test}
+use Rattle.macho_names.proofs.Best.{IsBest}
 use Rattle.macho_symbols.proofs.Classes.{common_class, common_alone}
-use Rattle.macho_symbols.proofs.KnowingBetter.{filter_same_test}
+use Rattle.macho_names.proofs.KnowingBetter.{filter_same_test}
 use Rattle.macho_symbols.proofs.ListsMore.{filter-map, filter-filter, filter_same_on}
 
 filter_from : {X : Type 0} (p : X → Bool) (xs : List X) (y d : X) (ys : List X) → filter p xs ≡ y ∷ ys

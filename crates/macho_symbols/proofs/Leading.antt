@@ -7,16 +7,16 @@ use Rattle.std.proofs.lemmas.List.Sums.{position_or_len_is}
 use Rattle.macho_model.specs.Resolution.{SymbolId, same_symbol}
 use Rattle.macho_symbols.specs.declared.solved.Common.{Common}
 use Rattle.macho_symbols.specs.declared.solved.Solved.{Solved}
-use Rattle.macho_symbols.specs.declared.notes.Sort.{Sort}
-use Rattle.macho_symbols.specs.declared.notes.Sort.TheVariants.{Section, Absolute, Common as CommonSort, Offered, Nowhere}
-use Rattle.macho_symbols.specs.declared.table.Entry.{Entry}
-use Rattle.macho_symbols.specs.Kept.{FileRows}
-use Rattle.macho_symbols.specs.steps.Events.{Event, row_at, event_at, events, best_of}
-use Rattle.macho_symbols.specs.steps.Tables.{IsEntryOf, IsNowhere, names_of, entry_name, no_entry}
+use Rattle.macho_names.specs.declared.notes.Sort.{Sort}
+use Rattle.macho_names.specs.declared.notes.Sort.TheVariants.{Section, Absolute, Common as CommonSort, Offered, Nowhere}
+use Rattle.macho_names.specs.declared.table.Entry.{Entry}
+use Rattle.macho_names.specs.Kept.{FileRows}
+use Rattle.macho_names.specs.steps.Events.{Event, row_at, event_at, events, best_of}
+use Rattle.macho_names.specs.steps.Tables.{IsEntryOf, IsNowhere, names_of, entry_name, no_entry}
 use Rattle.macho_symbols.specs.steps.Targets.{named_in, led_in, lead_in, own_in, chosen_in, id_of}
 use Rattle.macho_symbols.specs.steps.Solved.{IsSolved, common_id, common_told, noted_of}
-use Rattle.macho_symbols.proofs.Chains.{name_of_entry}
-use Rattle.macho_symbols.proofs.ChainsMore.{below_more}
+use Rattle.macho_names.proofs.Chains.{name_of_entry}
+use Rattle.macho_names.proofs.ChainsMore.{below_more}
 
 -- the first common of a place
 pub common_found : (commons : List Common) (s : SymbolId) (i : ℕ) (c : Common) → i < length commons

@@ -9,13 +9,13 @@ use Rattle.std.proofs.lemmas.List.Folds.{list_any-append}
 use Rattle.macho_model.specs.Links.{Input, Object, Dylib, Stub, Link, no_input, object_of}
 use Rattle.macho_model.specs.Objects.{num_symbols, symbol_name, symbol_at}
 use Rattle.macho_model.specs.Resolution.{offers, libraries_with}
-use Rattle.macho_symbols.specs.declared.notes.Sort.TheVariants.{Section, Absolute, Common, Nowhere}
-use Rattle.macho_symbols.specs.Kept.{FileRows, no_file, no_row, kept_of, row_of_symbol, rows_of_dylib, rows_of_stub, offered_row, is_offered, sort_of, in_carried}
-use Rattle.macho_symbols.specs.steps.Events.{Event, row_at, row_count, event_at, events_of_file, events_of, events, strength, strength_of, is_of}
+use Rattle.macho_names.specs.declared.notes.Sort.TheVariants.{Section, Absolute, Common, Nowhere}
+use Rattle.macho_names.specs.Kept.{FileRows, no_file, no_row, kept_of, row_of_symbol, rows_of_dylib, rows_of_stub, offered_row, is_offered, sort_of, in_carried}
+use Rattle.macho_names.specs.steps.Events.{Event, row_at, row_count, event_at, events_of_file, events_of, events, strength, strength_of, is_of}
 use Rattle.macho_records.specs.declared.symbols.SymtabEntry.{SymtabEntry}
 use Rattle.macho_records.specs.Symbols.{is_common_of, is_weak_of}
 use Rattle.macho_model.specs.Symbols.{is_absolute}
-use Rattle.macho_symbols.proofs.Chains.{cases_eq}
+use Rattle.macho_names.proofs.Chains.{cases_eq}
 use Rattle.macho_symbols.proofs.Bridge.{file_at, row_kept, count_kept}
 use Rattle.macho_symbols.proofs.ListsMore.{enumerated, filter-flat_map, filter-map, filter_nothing}
 

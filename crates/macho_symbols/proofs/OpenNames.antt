@@ -5,17 +5,17 @@ use Rattle.std.proofs.lemmas.Bool.{not-true, not-false, eqb-true, eqb-false, ne_
 use Rattle.std.specs.List.{list_any}
 use Rattle.std.specs.Str.{bytes_eq}
 use Rattle.macho_exports.specs.Entries.{ListEntries}
-use Rattle.macho_symbols.specs.declared.notes.Sort.{Sort}
-use Rattle.macho_symbols.specs.declared.notes.Sort.TheVariants.{Section, Absolute, Common, Offered, Nowhere}
+use Rattle.macho_names.specs.declared.notes.Sort.{Sort}
+use Rattle.macho_names.specs.declared.notes.Sort.TheVariants.{Section, Absolute, Common, Offered, Nowhere}
 use Rattle.macho_symbols.specs.declared.solved.Solved.{Solved}
 use Rattle.macho_symbols.specs.declared.solved.TheConstants.{UNNUMBERED}
-use Rattle.macho_symbols.specs.declared.table.Entry.{Entry}
-use Rattle.macho_symbols.specs.steps.Events.{Event, row_at, event_at}
+use Rattle.macho_names.specs.declared.table.Entry.{Entry}
+use Rattle.macho_names.specs.steps.Events.{Event, row_at, event_at}
 use Rattle.macho_symbols.specs.steps.Exporting.{open_by, open_of, is_open_in, is_exported_in, is_listed_in, weak_of, weak_in}
 use Rattle.macho_symbols.specs.steps.Solved.{IsSolved, IsNumbered, noted_of}
-use Rattle.macho_symbols.specs.steps.Tables.{IsEntryOf, IsNowhere, names_of, no_entry}
+use Rattle.macho_names.specs.steps.Tables.{IsEntryOf, IsNowhere, names_of, no_entry}
 use Rattle.macho_symbols.specs.steps.Targets.{is_of_object}
-use Rattle.macho_symbols.specs.Kept.{FileRows}
+use Rattle.macho_names.specs.Kept.{FileRows}
 use Rattle.macho_symbols.proofs.Leading.{entry_best}
 use Rattle.macho_symbols.proofs.UsesHere.{next_number}
 

@@ -14,22 +14,23 @@ use Rattle.macho_model.specs.Objects.{section_at}
 use Rattle.macho_model.specs.Links.{Link, Input, Object, Dylib, Stub, no_input, object_of, is_carried}
 use Rattle.macho_model.specs.Resolution.{SymbolId, ImageBase, DSO_HANDLE, symbols_of, entry_at, name_at, same_symbol, is_symbol, defines, definition_of, chosen_commons, stands_in_carried, strong_of}
 use Rattle.macho_model.specs.Faults.{IsDuplicate}
-use Rattle.macho_symbols.specs.declared.fault.SymbolFault.{SymbolFault}
-use Rattle.macho_symbols.specs.declared.fault.SymbolFault.TheVariants.{DuplicateSymbol, UndefinedSymbol, ExportListMissing, OutOfMemory}
-use Rattle.macho_symbols.specs.steps.Tables.{IsClash}
+use Rattle.macho_names.specs.declared.fault.SymbolFault.{SymbolFault}
+use Rattle.macho_names.specs.declared.fault.SymbolFault.TheVariants.{DuplicateSymbol, UndefinedSymbol, ExportListMissing, OutOfMemory}
+use Rattle.macho_names.specs.steps.Tables.{IsClash}
 use Rattle.macho_model.specs.Targets.{own_target, definition_target, target_with}
-use Rattle.macho_symbols.specs.declared.notes.Sort.{Sort}
-use Rattle.macho_symbols.specs.declared.notes.Sort.TheVariants.{Section, Absolute, Common, Offered, Nowhere}
-use Rattle.macho_symbols.specs.Kept.{kept_of, row_of_symbol, sort_of, in_carried, kept_name, no_file, ResolvedRows, IsResolved, HasSymbol, symbol_id}
+use Rattle.macho_names.specs.declared.notes.Sort.{Sort}
+use Rattle.macho_names.specs.declared.notes.Sort.TheVariants.{Section, Absolute, Common, Offered, Nowhere}
+use Rattle.macho_names.specs.Kept.{kept_of, row_of_symbol, sort_of, in_carried, kept_name, no_file}
+use Rattle.macho_symbols.specs.Kept.{ResolvedRows, IsResolved, HasSymbol, symbol_id}
 use Rattle.macho_symbols.specs.Told.{common_of, IsDuplicateOf}
 use Rattle.macho_symbols.specs.steps.Solved.{common_told}
-use Rattle.macho_symbols.specs.steps.Events.{Event, event_at, row_count, events, strength, strength_of, best_of, is_level, is_strong_of}
+use Rattle.macho_names.specs.steps.Events.{Event, event_at, row_count, events, strength, strength_of, best_of, is_level, is_strong_of}
 use Rattle.macho_symbols.specs.steps.Targets.{row_of, event_of, id_of, image_base, defined_as, definition_by, is_of_object, defines_in, chosen_in, own_in, base_target, lead_in, led_in, named_in, target_in}
-use Rattle.macho_symbols.proofs.Best.{best_is, IsBest}
+use Rattle.macho_names.proofs.Best.{best_is, IsBest}
 use Rattle.macho_symbols.proofs.Bridge.{passing, row_kept, count_kept, file_at}
 use Rattle.macho_symbols.proofs.Classes.{common_alone, strong_class}
 use Rattle.macho_symbols.proofs.Defined.{definition_is}
-use Rattle.macho_symbols.proofs.KnowingBetter.{filter_same_test}
+use Rattle.macho_names.proofs.KnowingBetter.{filter_same_test}
 use Rattle.macho_symbols.proofs.ListsMore.{filter-map, filter-filter}
 
 swap : (u v : Bool) → (u && v) ≡ (v && u)

@@ -11,14 +11,15 @@ use Rattle.macho_model.specs.Symbols.{is_global}
 use Rattle.macho_model.specs.Links.{Link, Input, Object, Dylib, Stub, no_input, object_of}
 use Rattle.macho_model.specs.Resolution.{SymbolId, ImageBase, DSO_HANDLE, entry_at, name_at, definition_of, library_name, install_name_in}
 use Rattle.macho_model.specs.Needs.{is_library, is_imported}
-use Rattle.macho_symbols.specs.declared.notes.Sort.{Sort}
-use Rattle.macho_symbols.specs.declared.notes.Sort.TheVariants.{Section, Absolute, Common, Offered, Nowhere}
-use Rattle.macho_symbols.specs.declared.fault.SymbolFault.{SymbolFault}
-use Rattle.macho_symbols.specs.declared.fault.SymbolFault.TheVariants.{DuplicateSymbol, UndefinedSymbol, ExportListMissing, OutOfMemory}
-use Rattle.macho_symbols.specs.Kept.{FileRows, ResolvedRows, IsResolved, HasSymbol, symbol_id, kept_of, kept_name, row_of_symbol, no_file}
+use Rattle.macho_names.specs.declared.notes.Sort.{Sort}
+use Rattle.macho_names.specs.declared.notes.Sort.TheVariants.{Section, Absolute, Common, Offered, Nowhere}
+use Rattle.macho_names.specs.declared.fault.SymbolFault.{SymbolFault}
+use Rattle.macho_names.specs.declared.fault.SymbolFault.TheVariants.{DuplicateSymbol, UndefinedSymbol, ExportListMissing, OutOfMemory}
+use Rattle.macho_names.specs.Kept.{FileRows, kept_of, kept_name, row_of_symbol, no_file}
+use Rattle.macho_symbols.specs.Kept.{ResolvedRows, IsResolved, HasSymbol, symbol_id}
 use Rattle.macho_symbols.specs.Told.{noting, IsDefined, IsUndefined, ImportsAre}
 use Rattle.macho_symbols.specs.declared.solved.Import.{Import}
-use Rattle.macho_symbols.specs.steps.Events.{Event, event_at, events, best_of, library_text}
+use Rattle.macho_names.specs.steps.Events.{Event, event_at, events, best_of, library_text}
 use Rattle.macho_symbols.specs.steps.Targets.{event_of, defined_as, definition_by, lead_in, led_in, named_in, is_next, is_nothing, noting_in}
 use Rattle.macho_symbols.specs.steps.Solved.{IsFoundIn, IsUndefinedIn, IsImportIn, noted_of, library_in}
 use Rattle.macho_symbols.proofs.Defined.{definition_is}

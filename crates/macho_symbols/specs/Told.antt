@@ -10,8 +10,8 @@ use Rattle.macho_model.specs.Resolution.{SymbolId, entry_at, name_at, definition
 use Rattle.macho_model.specs.Faults.{IsDuplicate}
 use Rattle.macho_symbols.specs.declared.solved.Common.{Common}
 use Rattle.macho_symbols.specs.declared.solved.Import.{Import}
-use Rattle.macho_symbols.specs.declared.fault.SymbolFault.{SymbolFault}
-use Rattle.macho_symbols.specs.declared.fault.SymbolFault.TheVariants.{DuplicateSymbol, UndefinedSymbol, ExportListMissing, OutOfMemory}
+use Rattle.macho_names.specs.declared.fault.SymbolFault.{SymbolFault}
+use Rattle.macho_names.specs.declared.fault.SymbolFault.TheVariants.{DuplicateSymbol, UndefinedSymbol, ExportListMissing, OutOfMemory}
 
 -- a common with its size, rounded up to its alignment, and the exponent of that
 abbrev pub common_of : Link → SymbolId → Common

@@ -3,8 +3,8 @@ ghost use Rattle.std.specs.Prelude.{◌≡◌, OnOk, OnErr, IfErr, All, [], ◌�
 ghost use Rattle.macho_exports.specs.steps.Lists.{texts_of};
 ghost use Rattle.macho_symbols.specs.steps.Solved.{IsSolved, IsUnchanged, HasGrown, HaveNoted, IsMissingIn, noted_of};
 
-use crate::fault::SymbolFault;
 use crate::solved::{Solved, is_import, is_nothing};
+use macho_names::SymbolFault;
 
 impl Solved {
     /// Notes a name, where a library defines it and it isn't noted yet.

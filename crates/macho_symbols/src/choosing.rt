@@ -1,16 +1,13 @@
 //! Which symbols define their names, and the commons among them.
 ghost use Rattle.std.specs.Prelude.{◌≡◌, ◌^◌, ◌<◌, ◌++◌, ◌&&◌, ◌==◌, map, filter, length, true, IfOk, IfErr, OnOk};
 ghost use Rattle.macho_bytes.specs.Numbers.{rounded_up};
-ghost use Rattle.macho_symbols.specs.steps.Events.{row_at, row_count, event_at, events, events_of_file, strength};
-ghost use Rattle.macho_symbols.specs.steps.Tables.{IsKnown, IsEntryOf};
+ghost use Rattle.macho_names.specs.steps.Events.{row_at, row_count, event_at, events, events_of_file, strength};
+ghost use Rattle.macho_names.specs.steps.Tables.{IsKnown, IsEntryOf};
 ghost use Rattle.macho_symbols.specs.steps.Targets.{defines_in, is_chosen_in, is_of_object, chosen_in};
 ghost use Rattle.macho_symbols.specs.steps.Solved.{common_told};
 
-use crate::fault::SymbolFault;
-use crate::files::FileNames;
-use crate::notes::Sort;
 use crate::solved::Common;
-use crate::table::{Table, hash, name_in, note_in, rows_in};
+use macho_names::{FileNames, Sort, SymbolFault, Table, hash, name_in, note_in, rows_in};
 use macho_records::rounded_up;
 use std::alloc::Global;
 

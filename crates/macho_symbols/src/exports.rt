@@ -6,17 +6,15 @@ ghost use Rattle.std.specs.Option.{option_copied};
 ghost use Rattle.macho_exports.specs.steps.Lists.{texts_of};
 ghost use Rattle.macho_symbols.specs.steps.Exporting.{is_listed_in, is_open_in, is_exported_in, IsToldIn, IsPairIn, AreInOrder, AreTold, pair_names, required_in};
 ghost use Rattle.macho_symbols.specs.steps.Solved.{IsSolved, IsMissingIn, noted_of};
-ghost use Rattle.macho_symbols.specs.steps.Tables.{names_of, IsEntryOf};
+ghost use Rattle.macho_names.specs.steps.Tables.{names_of, IsEntryOf};
 ghost use Rattle.macho_symbols.specs.steps.Targets.{is_missing_in, is_of_object};
 ghost use Rattle.macho_symbols.specs.Exported.{export_names};
 
 use crate::choosing::is_of_object;
-use crate::fault::SymbolFault;
-use crate::notes::{Note, Sort};
 use crate::solved::{Solved, UNNUMBERED, is_nothing};
-use crate::table::{name_in, note_in};
 use macho_exports::ExportList;
 use macho_model::Target;
+use macho_names::{Note, Sort, SymbolFault, name_in, note_in};
 use std::alloc::Global;
 
 /// A name that an image exports.

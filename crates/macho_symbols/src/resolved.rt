@@ -10,10 +10,10 @@ ghost use Rattle.macho_symbols.specs.Kept.{IsResolved, HasSymbol, symbol_id};
 ghost use Rattle.macho_symbols.specs.Told.{CommonsAre, ImportsAre, IsDefined, IsUndefined, noting, noting_names, AreDefined, IsMissing};
 
 use crate::exports::ExportName;
-use crate::fault::SymbolFault;
 use crate::solved::{Common, Import, Solved};
 use macho_exports::ExportList;
 use macho_model::Target;
+use macho_names::SymbolFault;
 use std::alloc::Global;
 use std::marker::Model;
 

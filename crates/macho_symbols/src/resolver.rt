@@ -3,15 +3,13 @@ ghost use Rattle.std.specs.Prelude.{◌≡◌, ℕ, ◌+◌, ◌^◌, ◌-◌, �
 ghost use Rattle.macho_model.specs.Links.{Input, Link, Object, Dylib, Stub};
 ghost use Rattle.macho_model.specs.Resolution.{strong_of};
 ghost use Rattle.macho_symbols.specs.Told.{IsDuplicateOf};
-ghost use Rattle.macho_symbols.specs.Kept.{Keeps, IsResolved, reading_of};
+ghost use Rattle.macho_names.specs.Kept.{Keeps, reading_of};
+ghost use Rattle.macho_symbols.specs.Kept.{IsResolved};
 
 use crate::choosing::chosen_commons;
-use crate::fault::SymbolFault;
-use crate::files::FileNames;
-use crate::found::found_entries;
 use crate::resolved::Resolved;
 use crate::solved::{Solved, UNNUMBERED};
-use crate::table::Table;
+use macho_names::{FileNames, SymbolFault, Table, found_entries};
 use macho_object::File;
 use macho_stub::DefinedStubLibrary;
 use std::alloc::{AllocError, Global};
@@ -26,7 +24,7 @@ pub struct Resolver {
 
 impl Model for Resolver {
     ghost use Rattle.std.specs.Prelude.{List, length, ◌<◌, ◌^◌};
-    ghost use Rattle.macho_symbols.specs.Kept.{FileRows};
+    ghost use Rattle.macho_names.specs.Kept.{FileRows};
 
     ghost Value = { List FileRows };
 

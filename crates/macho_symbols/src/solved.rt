@@ -1,7 +1,7 @@
 //! What is known once all rows were taken in: where names and symbols lead, and which imports are noted.
 ghost use Rattle.std.specs.Prelude.{◌≡◌, ◌^◌, ◌<◌, ◌++◌, ◌∷◌, [], length, map, IfSome, OnOk, OnErr, IfOk, IfErr};
-ghost use Rattle.macho_symbols.specs.steps.Events.{row_at, row_count, event_at};
-ghost use Rattle.macho_symbols.specs.steps.Tables.{IsEntryOf};
+ghost use Rattle.macho_names.specs.steps.Events.{row_at, row_count, event_at};
+ghost use Rattle.macho_names.specs.steps.Tables.{IsEntryOf};
 ghost use Rattle.macho_symbols.specs.steps.Targets.{named_in, target_in, own_in, base_target, defines_in, chosen_in, id_of, is_next, is_nothing, noting_in};
 ghost use Rattle.macho_symbols.specs.steps.Solved.{IsSolved, IsUnchanged, HasGrown, IsFoundIn, IsUndefinedIn, common_id, noted_of, library_in, is_before, AreAscending, IsPlaceOf};
 ghost use Rattle.std.specs.List.{position_or_len};
@@ -9,12 +9,8 @@ ghost use Rattle.macho_model.specs.Resolution.{same_symbol};
 ghost use Rattle.macho_model.specs.Needs.{import_number};
 
 use crate::choosing::{defines, is_definition};
-use crate::fault::SymbolFault;
-use crate::files::FileNames;
-use crate::found::NO_ENTRY;
-use crate::notes::Sort;
-use crate::table::{Table, name_in, note_in};
 use macho_model::Target;
+use macho_names::{FileNames, NO_ENTRY, Sort, SymbolFault, Table, name_in, note_in};
 
 /// A symbol of a library that something of the link uses.
 #[derive(Drop)]

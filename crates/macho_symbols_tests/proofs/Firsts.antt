@@ -6,7 +6,8 @@ use Rattle.std.proofs.lemmas.List.FromFn.{length-map-range_with_len}
 use Rattle.macho_model.specs.Links.{Link, Input, Object}
 use Rattle.macho_model.specs.Objects.{num_symbols}
 use Rattle.macho_model.specs.Resolution.{SymbolId}
-use Rattle.macho_symbols.specs.Kept.{FileRows, Keeps, IsResolved, ResolvedRows, HasSymbol, kept_of, rows_of_object, row_of_symbol, no_file}
+use Rattle.macho_names.specs.Kept.{FileRows, Keeps, kept_of, rows_of_object, row_of_symbol, no_file}
+use Rattle.macho_symbols.specs.Kept.{IsResolved, ResolvedRows, HasSymbol}
 use Rattle.macho_symbols.specs.Told.{noting}
 use Rattle.macho_symbols_tests.specs.Linked.{link_of, Begins, IsFirst}
 

@@ -1,7 +1,8 @@
 -- A link whose first input is an object.
 use Rattle.std.specs.Prelude.{ℕ, List, ◌∷◌, true, false, [], None, length, ◌≤◌}
 use Rattle.macho_model.specs.Links.{Link, Input, Object}
-use Rattle.macho_symbols.specs.Kept.{FileRows, Keeps, IsResolved, ResolvedRows}
+use Rattle.macho_names.specs.Kept.{FileRows, Keeps}
+use Rattle.macho_symbols.specs.Kept.{IsResolved, ResolvedRows}
 
 abbrev pub link_of : List Input → Link
 link_of inputs = record {

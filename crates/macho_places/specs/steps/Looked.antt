@@ -8,7 +8,7 @@ use Rattle.macho_model.specs.Fixups.{EntryOfImport, same_entry}
 use Rattle.macho_model.specs.Placement.{Placed}
 use Rattle.macho_model.specs.Addresses.{section_address}
 use Rattle.macho_object.specs.Views.{FileBytes, section_count}
-use Rattle.macho_symbols.specs.steps.Events.{event_at}
+use Rattle.macho_names.specs.steps.Events.{event_at}
 use Rattle.macho_symbols.specs.steps.Targets.{target_in}
 use Rattle.macho_needs.specs.Tables.{Numbered, number_of}
 use Rattle.macho_addresses.specs.declared.Addresses.{Addresses}

@@ -7,7 +7,8 @@ use Rattle.macho_model.specs.Links.{Input, Link, SectionId}
 use Rattle.macho_model.specs.Needs.{Use, relocation_in}
 use Rattle.macho_model.specs.Consumed.{is_plain_pointer}
 use Rattle.macho_model.specs.Values.{section_id}
-use Rattle.macho_symbols.specs.Kept.{FileRows, ResolvedRows, Keeps, HasSymbol}
+use Rattle.macho_names.specs.Kept.{FileRows, Keeps}
+use Rattle.macho_symbols.specs.Kept.{ResolvedRows, HasSymbol}
 use Rattle.macho_consumed.specs.declared.rows.Initializer.{Initializer}
 use Rattle.macho_consumed.specs.declared.rows.PersonalityUse.{PersonalityUse}
 use Rattle.macho_consumed.specs.declared.rows.UnwindEntry.{UnwindEntry}

@@ -14,7 +14,7 @@ use Rattle.macho_model.specs.Targets.{is_import}
 use Rattle.macho_model.specs.Segments.{may_hold_pointers}
 use Rattle.macho_model.specs.Values.{section_id, fits_signed, is_absolute_target}
 use Rattle.macho_object.specs.Views.{FileBytes, RelocationBytes}
-use Rattle.macho_symbols.specs.Kept.{FileRows, Keeps}
+use Rattle.macho_names.specs.Kept.{FileRows, Keeps}
 use Rattle.macho_survey.specs.declared.findings.Place.{Place}
 use Rattle.macho_survey.specs.declared.findings.Addend.{Addend}
 use Rattle.macho_survey.specs.declared.findings.Findings.{Findings}

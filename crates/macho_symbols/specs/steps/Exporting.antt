@@ -5,13 +5,13 @@ use Rattle.std.specs.List.{list_any}
 use Rattle.std.specs.Str.{bytes_eq}
 use Rattle.macho_exports.specs.Entries.{ListEntries, is_within}
 use Rattle.macho_symbols.specs.declared.exports.ExportName.{ExportName}
-use Rattle.macho_symbols.specs.declared.notes.Sort.{Sort}
-use Rattle.macho_symbols.specs.declared.notes.Sort.TheVariants.{Section, Absolute, Common, Offered, Nowhere}
-use Rattle.macho_symbols.specs.declared.table.Entry.{Entry}
+use Rattle.macho_names.specs.declared.notes.Sort.{Sort}
+use Rattle.macho_names.specs.declared.notes.Sort.TheVariants.{Section, Absolute, Common, Offered, Nowhere}
+use Rattle.macho_names.specs.declared.table.Entry.{Entry}
 use Rattle.macho_symbols.specs.Exported.{AreRising, export_names}
-use Rattle.macho_symbols.specs.Kept.{FileRows}
-use Rattle.macho_symbols.specs.steps.Events.{Event, events, best_of}
-use Rattle.macho_symbols.specs.steps.Tables.{IsEntryOf, names_of}
+use Rattle.macho_names.specs.Kept.{FileRows}
+use Rattle.macho_names.specs.steps.Events.{Event, events, best_of}
+use Rattle.macho_names.specs.steps.Tables.{IsEntryOf, names_of}
 use Rattle.macho_symbols.specs.steps.Targets.{is_of_object, named_in}
 
 -- the lists contain a name, where there are any

@@ -8,13 +8,13 @@ use Rattle.macho_symbols.specs.declared.solved.Common.{Common}
 use Rattle.macho_symbols.specs.declared.solved.Import.{Import}
 use Rattle.macho_symbols.specs.declared.solved.Solved.{Solved}
 use Rattle.macho_symbols.specs.declared.solved.TheConstants.{UNNUMBERED}
-use Rattle.macho_symbols.specs.Kept.{FileRows, no_file}
-use Rattle.macho_symbols.specs.steps.Events.{Event, events, best_of, library_text}
-use Rattle.macho_symbols.specs.steps.Tables.{IsKnown, names_of}
-use Rattle.macho_symbols.specs.steps.Found.{AreFound}
+use Rattle.macho_names.specs.Kept.{FileRows, no_file}
+use Rattle.macho_names.specs.steps.Events.{Event, events, best_of, library_text}
+use Rattle.macho_names.specs.steps.Tables.{IsKnown, names_of}
+use Rattle.macho_names.specs.steps.Found.{AreFound}
 use Rattle.macho_symbols.specs.steps.Targets.{chosen_in, definition_by, named_in, is_nothing, is_missing_in, noting_names_in}
-use Rattle.macho_symbols.specs.declared.fault.SymbolFault.{SymbolFault}
-use Rattle.macho_symbols.specs.declared.fault.SymbolFault.TheVariants.{DuplicateSymbol, UndefinedSymbol, ExportListMissing, OutOfMemory}
+use Rattle.macho_names.specs.declared.fault.SymbolFault.{SymbolFault}
+use Rattle.macho_names.specs.declared.fault.SymbolFault.TheVariants.{DuplicateSymbol, UndefinedSymbol, ExportListMissing, OutOfMemory}
 
 abbrev pub common_id : Common → SymbolId
 common_id c = record { file = c.file; symbol = c.symbol }

@@ -7,10 +7,10 @@ use Rattle.macho_model.specs.declared.targets.Target.TheVariants as target
 use Rattle.macho_model.specs.Links.{Link, object_of}
 use Rattle.macho_model.specs.Needs.{import_number}
 use Rattle.macho_model.specs.Resolution.{SymbolId, Definition, Symbol, Library, ImageBase, DSO_HANDLE, same_symbol, is_symbol}
-use Rattle.macho_symbols.specs.declared.notes.Sort.{Sort}
-use Rattle.macho_symbols.specs.declared.notes.Sort.TheVariants.{Section, Absolute, Common, Offered, Nowhere}
-use Rattle.macho_symbols.specs.Kept.{Row, FileRows, row_of_symbol}
-use Rattle.macho_symbols.specs.steps.Events.{Event, events, best_of, strength}
+use Rattle.macho_names.specs.declared.notes.Sort.{Sort}
+use Rattle.macho_names.specs.declared.notes.Sort.TheVariants.{Section, Absolute, Common, Offered, Nowhere}
+use Rattle.macho_names.specs.Kept.{Row, FileRows, row_of_symbol}
+use Rattle.macho_names.specs.steps.Events.{Event, events, best_of, strength}
 
 -- the row of a symbol of a link, and its event
 abbrev pub row_of : Link → SymbolId → Row

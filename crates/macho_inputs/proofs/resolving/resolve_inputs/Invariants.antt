@@ -1,5 +1,5 @@
 use Rattle.std.proofs.Common.{map, take}
-use Rattle.macho_symbols.specs.Kept.{Keeps}
+use Rattle.macho_names.specs.Kept.{Keeps}
 use Rattle.macho_inputs.specs.steps.Owned.{input_of}
 use Rattle.macho_inputs.proofs.resolving.resolve_inputs.Given as goal
 

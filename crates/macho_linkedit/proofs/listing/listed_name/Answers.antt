@@ -6,7 +6,7 @@ use Rattle.macho_model.specs.Symbols.{is_global}
 use Rattle.macho_model.specs.Objects.{strings_of, symbol_at, symbol_name}
 use Rattle.macho_model.specs.Resolution.{defines}
 use Rattle.macho_symbols.specs.Kept.{symbol_id}
-use Rattle.macho_symbols.proofs.Entries.{some_if}
+use Rattle.macho_names.proofs.Entries.{some_if}
 use Rattle.macho_linkedit.proofs.Listed.{name_is, name_small, found_name, own_names}
 use Rattle.macho_linkedit.proofs.listing.listed_name.Goals as goal
 use Rattle.macho_linkedit.proofs.listing.listed_name.Goals.{then-is_global, else-is_global}

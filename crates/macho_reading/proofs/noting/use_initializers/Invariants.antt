@@ -2,7 +2,7 @@ use Rattle.std.proofs.Common.{◌++◌, List, take, All}
 use Rattle.std.specs.List.{flat_map}
 use Rattle.macho_model.specs.Links.{Input, Link}
 use Rattle.macho_model.specs.Needs.{Use}
-use Rattle.macho_symbols.specs.Kept.{Keeps}
+use Rattle.macho_names.specs.Kept.{Keeps}
 use Rattle.macho_parts.specs.Noted.{BeginsWith}
 use Rattle.macho_needs.specs.Noted.{IsNoted}
 use Rattle.macho_reading.specs.steps.Rows.{uses_of_row, IsInitializerOf}

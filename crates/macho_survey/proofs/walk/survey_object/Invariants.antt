@@ -1,7 +1,7 @@
 use Rattle.std.proofs.Common.{◌≡◌, ℕ, List, ◌++◌, take}
 use Rattle.macho_model.specs.Links.{Input, Object, Link, SectionId, sections_of_file}
 use Rattle.macho_model.specs.Needs.{Use}
-use Rattle.macho_symbols.specs.Kept.{Keeps}
+use Rattle.macho_names.specs.Kept.{Keeps}
 use Rattle.macho_parts.specs.Noted.{BeginsWith}
 use Rattle.macho_survey.specs.steps.Found.{IsSurveyed}
 use Rattle.macho_survey.specs.steps.Sections.{HasObject, carried_among, uses_among}

@@ -1,6 +1,6 @@
 use Rattle.std.proofs.Common.{ap, sym, ◌∙◌, refl}
 use Rattle.macho_model.specs.declared.targets.Target.TheVariants as target
-use Rattle.macho_symbols.specs.steps.Events.{event_at}
+use Rattle.macho_names.specs.steps.Events.{event_at}
 use Rattle.macho_symbols.specs.steps.Solved.{noted_of}
 use Rattle.macho_symbols.proofs.Leading.{leads, leads_itself, common_ids}
 use Rattle.macho_symbols.proofs.solved.Solved.lead.Goals as goal

@@ -5,9 +5,9 @@ use Rattle.macho_symbols.specs.steps.Solved.{IsUnchanged, IsImportIn, noted_of, 
 use Rattle.macho_symbols.specs.declared.solved.Import.{Import}
 use Rattle.macho_symbols.specs.steps.Targets.{definition_by}
 use Rattle.macho_model.specs.Resolution.{Library}
-use Rattle.macho_symbols.specs.steps.Tables.{names_of, entry_name}
-use Rattle.macho_symbols.specs.steps.Events.{events, best_of}
-use Rattle.macho_symbols.proofs.KnowingBetter.{apart_any}
+use Rattle.macho_names.specs.steps.Tables.{names_of, entry_name}
+use Rattle.macho_names.specs.steps.Events.{events, best_of}
+use Rattle.macho_names.proofs.KnowingBetter.{apart_any}
 use Rattle.macho_symbols.proofs.NotingUses.{import_known, import_offered, numbers_more}
 use Rattle.macho_symbols.proofs.solved.Solved.note.Goals as goal
 

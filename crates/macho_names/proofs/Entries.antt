@@ -1,0 +1,84 @@
+-- What the rules of an object or of a library say of its symbols' entries: names begin inside the string table, and
+-- commons are small. Each is one rule, asked of one symbol.
+use Rattle.std.proofs.Common.{◌≡◌, ℕ, ◌<◌, ◌≤◌, ◌^◌, Bool, true, false, List, length, arith, length-drop, slice_range, ◌&&◌, ◌+◌, if◌then◌else◌, Some, None, refl, ap, ◌∙◌, sym, []}
+use Rattle.macho_records.specs.declared.header.SectionHeader.{SectionHeader}
+use Rattle.macho_model.specs.Links.{is_carried}
+use Rattle.macho_model.specs.Objects.{section_at, symbol_name}
+use Rattle.macho_object.specs.Views.{FileBytes, of_symbol_section, section_index_of, of_section}
+use Rattle.macho_records.specs.declared.symbols.SymtabEntry.{SymtabEntry}
+use Rattle.macho_records.specs.Symbols.{is_weak_of, is_hidden_of}
+use Rattle.macho_names.specs.declared.notes.Sort.{Sort}
+use Rattle.macho_names.specs.Kept.{in_carried, kept_name, sort_of, number_of, value_of, row_of_symbol}
+use Rattle.macho_names.specs.steps.Notes.{IsString, string_at}
+use Rattle.macho_names.specs.declared.notes.Name.{Name}
+use Rattle.std.proofs.lemmas.Bool.Decides.{nat_tests}
+use Rattle.macho_records.specs.Symbols.{is_common_of, common_size_of}
+use Rattle.macho_model.specs.Objects.{num_symbols, symbol_at, strings_of}
+use Rattle.macho_model.specs.ObjectRules.{name_ends}
+use Rattle.macho_model.specs.Symbols.{is_global}
+use Rattle.macho_model.specs.Grammar.{IsFile}
+
+-- a common of an object is small
+pub commons_are_small : (dyn : Bool) (b : List ℕ) (k : ℕ) → IsFile dyn b → dyn ≡ false → k < num_symbols b
+    → is_common_of (symbol_at b k) ≡ true → common_size_of (symbol_at b k) < 2 ^ 64
+commons_are_small true b k whole object among common = cc
+commons_are_small false b k whole object among common = grind (arith, nat_tests, whole.o14 k among)
+
+ends : (b : List ℕ) (k : ℕ) → name_ends b k ≡ true → is_global (symbol_at b k) ≡ true → (symbol_at b k).n_strx ≤ length (strings_of b)
+ends b k named global = grind (arith, nat_tests, length-drop {A = ℕ})
+
+-- the name of a global symbol begins inside the string table
+pub names_begin_inside : (dyn : Bool) (b : List ℕ) (k : ℕ) → IsFile dyn b → k < num_symbols b → is_global (symbol_at b k) ≡ true
+    → (symbol_at b k).n_strx ≤ length (strings_of b)
+names_begin_inside true b k whole among global = ends b k (whole.o9.0 k among) global
+names_begin_inside false b k whole among global = ends b k (whole.o9 k among) global
+
+-- what an answer that is there says
+pub some_if : {X : Type 0} (test : Bool) (x y : X) → Some x ≡ (if test then Some y else None) → (test ≡ true) × (x ≡ y)
+some_if true x y e = (refl, cc)
+some_if false x y e = cc
+
+both : (x y : Bool) → (x && y) ≡ true → (x ≡ true) × (y ≡ true)
+both true true e = (refl, refl)
+both true false e = cc
+both false y e = cc
+
+-- the section that a view tells of a symbol is the one that it stands in
+pub stands_in_carried : (f : FileBytes) (k section : ℕ) (header : SectionHeader) → f.is_dynamic ≡ false → k < num_symbols f.bytes
+    → Some section ≡ of_symbol_section f k (section_index_of f k) → Some header ≡ of_section f section (section_at f.bytes section)
+    → is_carried header ≡ in_carried f.bytes (symbol_at f.bytes k)
+stands_in_carried f k section header object among found told =
+    let which = some_if _ _ _ found in
+    let what = some_if _ _ _ told in
+    let inside = both _ _ (both _ _ which.0).1 in
+    ap is_carried (what.1 ∙ ap (section_at f.bytes) which.1)
+    ∙ sym (ap (λ x. x && is_carried (section_at f.bytes (section_index_of f k))) inside.1)
+
+chosen : (strings : List ℕ) (global : Bool) (at : ℕ)
+    → string_at strings (if global then at else 0) ≡ (if global then string_at strings at else [])
+chosen strings true at = refl
+chosen strings false at = refl
+
+-- the kept name of a symbol
+pub kept_string : (b : List ℕ) (k : ℕ) (e : SymtabEntry) (n : Name) → e ≡ symbol_at b k → IsString (strings_of b) n
+    → n.at ≡ (if is_global e then e.n_strx else 0) → slice_range (strings_of b) n.at (n.at + n.length) ≡ kept_name b k
+unfolding symbol_name
+kept_string b k e n is found at =
+    found.is ∙ ap (string_at (strings_of b)) (at ∙ ap (λ s. if is_global s then s.n_strx else 0) is)
+    ∙ chosen (strings_of b) (is_global (symbol_at b k)) (symbol_at b k).n_strx
+
+-- A row is that of a symbol where each of its parts is.
+pub row_is : (b : List ℕ) (k : ℕ) (e : SymtabEntry) (name : List ℕ) (sort : Sort) (number value : ℕ) (global weak hidden : Bool)
+    → e ≡ symbol_at b k
+    → name ≡ kept_name b k → sort ≡ sort_of b e → number ≡ number_of b e sort → value ≡ value_of b e sort → global ≡ is_global e
+    → weak ≡ is_weak_of e
+    → hidden ≡ is_hidden_of e
+    → record { name = name; sort = sort; number = number; value = value; global = global; weak = weak; hidden = hidden } ≡ row_of_symbol b k
+unfolding row_of_symbol
+row_is b k e name sort number value global weak hidden is n s m v g w h = rw (n, m, v, s, g, w, h, is) refl
+
+-- the name of a symbol of a library
+pub offered_string : (b : List ℕ) (k : ℕ) (e : SymtabEntry) (n : Name) → e ≡ symbol_at b k → IsString (strings_of b) n → n.at ≡ e.n_strx
+    → slice_range (strings_of b) n.at (n.at + n.length) ≡ symbol_name b k
+unfolding symbol_name
+offered_string b k e n is found at = found.is ∙ ap (string_at (strings_of b)) (at ∙ ap (λ s. s.n_strx) is)

@@ -1,0 +1,14 @@
+pub mod Beginning
+pub mod Best
+pub mod Chains
+pub mod ChainsMore
+pub mod Entries
+pub mod FoundRows
+pub mod Improving
+pub mod Knowing
+pub mod KnowingBetter
+pub mod Lists
+pub mod Noting
+pub mod Order
+pub mod Strings
+pub mod Taking

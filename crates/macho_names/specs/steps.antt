@@ -1,0 +1,5 @@
+-- The steps of the table of names: how it holds what is kept, and the order in which it takes rows.
+pub mod Events
+pub mod Found
+pub mod Notes
+pub mod Tables

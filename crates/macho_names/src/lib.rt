@@ -1,0 +1,17 @@
+//! The names of a link's inputs: what is kept of each file's symbols, and for each name the best definition among them.
+#![tactic(auto)]
+
+mod ends;
+mod fault;
+mod files;
+mod found;
+mod notes;
+mod resolve;
+mod table;
+
+pub use ends::{block_ends, string_end};
+pub use fault::SymbolFault;
+pub use files::FileNames;
+pub use found::{NO_ENTRY, found_entries};
+pub use notes::{Name, Note, Sort};
+pub use table::{Entry, Table, hash, name_in, note_in, rows_in};

@@ -1,6 +1,0 @@
-use Rattle.macho_symbols.specs.steps.Events.{events_of}
-use Rattle.macho_symbols.specs.steps.Tables.{IsKnown}
-use Rattle.macho_symbols.proofs.table.Table.take_files.Given as goal
-
-abbrev pub invariant-loop-file : goal.invariant-loop-file
-invariant-loop-file l = IsKnown l.files l.self.heads.items l.self.entries.items (events_of l.files l.file)
