@@ -6,7 +6,7 @@ believed.py --lines         writes the reading list and its parts into docs/THEO
 
 Refused are: a file of specs/steps/ under the clauses of `run` or of a function that the README's table names, a file of specs/
 that imports one of specs/steps/, and a row of that table that names a function or clause that isn't there. (A crate may hand
-functions of its own steps to another crate's code, as macho_model_walks does: these are in no row.)
+functions of its own steps to another crate's code, as macho_memory_walks does: these are in no row.)
 """
 import os
 import re

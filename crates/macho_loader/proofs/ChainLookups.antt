@@ -10,13 +10,13 @@ use Rattle.macho_bytes.specs.Numbers.{le_at}
 use Rattle.macho_model.specs.Images.{segments_of, fixups_header, CHAIN_PAGE, NO_START}
 use Rattle.macho_model.specs.Chain.{chain_segments, next_of, WORD_SIZE, STRIDE, OnChainOf, OnPageChain}
 use Rattle.macho_model.specs.Loader.{IsAccepted, WordFits, is_bind, ordinal_of}
-use Rattle.macho_model_walks.specs.declared.walk.Listed.TheVariants as list
-use Rattle.macho_model_walks.specs.Readings.{IsNth, HasWord, listed, segment_there, table_there}
-use Rattle.macho_model_walks.specs.steps.Walks.{Leads, starts_of, chain_segment_at}
+use Rattle.macho_memory_walks.specs.declared.walk.Listed.TheVariants as list
+use Rattle.macho_memory_walks.specs.Readings.{IsNth, HasWord, listed, segment_there, table_there}
+use Rattle.macho_memory_walks.specs.steps.Walks.{Leads, starts_of, chain_segment_at}
 use Rattle.macho_model_walks.specs.steps.WordTests.{address_in, FitFrom}
 use Rattle.macho_model.proofs.Apart.{EndsBefore}
-use Rattle.macho_model_walks.proofs.ChainSets.{page_has_start}
-use Rattle.macho_model_walks.proofs.WordWalk.{on_some_page, numbered_segment, nth_number, nth_one, segment_has_word, starts_missing, leads_no_lower, page_chain_found, page_chain_only}
+use Rattle.macho_memory_walks.proofs.ChainSets.{page_has_start}
+use Rattle.macho_memory_walks.proofs.WordWalk.{on_some_page, numbered_segment, nth_number, nth_one, segment_has_word, starts_missing, leads_no_lower, page_chain_found, page_chain_only}
 use Rattle.macho_model_walks.proofs.RuleWalk.{import_count_found}
 use Rattle.macho_loader.specs.steps.Words.{StandApart, IsFittingWord, IsReached}
 use Rattle.macho_loader.specs.steps.Held.{IsOnWay}

@@ -15,14 +15,15 @@ use Rattle.macho_model.specs.Images.{segments_of, tables_of, CHAIN_PAGE, fixups_
 use Rattle.macho_model.specs.Chain.{chain_segments, IsFileWord, next_of, WORD_SIZE, STRIDE}
 use Rattle.macho_model.specs.LoadRules.{segment_in, begins_behind}
 use Rattle.macho_model.specs.Loader.{segment_commands, EachNeighbour, WordFits, is_bind, ordinal_of, is_writable, import_count}
-use Rattle.macho_model_walks.specs.declared.walk.Listed.TheVariants as list
-use Rattle.macho_model_walks.specs.Readings.{command_at, IsNth, HasWord, segment_there, table_there, starts_in, page_holds}
-use Rattle.macho_model_walks.specs.steps.Walks.{Leads, starts_of}
-use Rattle.macho_model_walks.specs.steps.Walks as walks
+use Rattle.macho_memory_walks.specs.declared.walk.Listed.TheVariants as list
+use Rattle.macho_memory_walks.specs.Readings.{command_at, IsNth, HasWord, segment_there, table_there, starts_in}
+use Rattle.macho_model_walks.specs.Tests.{page_holds}
+use Rattle.macho_memory_walks.specs.steps.Walks.{Leads, starts_of}
+use Rattle.macho_memory_walks.specs.steps.Walks as walks
 use Rattle.macho_model_walks.specs.steps.WordTests.{address_in, FitFrom, UnfitFrom}
 use Rattle.macho_model.proofs.Apart.{EndsBefore, Holds_address, one_holds}
 use Rattle.macho_model.proofs.EachBelow.{and_left, and_right}
-use Rattle.macho_model_walks.proofs.WordWalk.{word_in_segment, segment_has_word, nth_number, leads_more, starts_found, start_is}
+use Rattle.macho_memory_walks.proofs.WordWalk.{word_in_segment, segment_has_word, nth_number, leads_more, starts_found, start_is}
 use Rattle.macho_model_walks.proofs.RuleWalk.{import_count_found}
 use Rattle.macho_model_walks.proofs.UnfitWords.{kept_at}
 use Rattle.macho_loader.specs.steps.Words.{StandApart, IsFittingWord, IsReached}

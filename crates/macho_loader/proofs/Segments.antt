@@ -15,11 +15,11 @@ use Rattle.macho_model.specs.Commands.{Command, commands_of, commands_end, comma
 use Rattle.macho_model.specs.Images.{segments_of}
 use Rattle.macho_model.specs.LoadRules.{needed_in_image}
 use Rattle.macho_model.specs.Loader.{IsAccepted}
-use Rattle.macho_model_walks.specs.declared.walk.Listed.TheVariants as list
-use Rattle.macho_model_walks.specs.Readings.{command_at, is_listed, listed, IsNth, segment_there}
+use Rattle.macho_memory_walks.specs.declared.walk.Listed.TheVariants as list
+use Rattle.macho_memory_walks.specs.Readings.{command_at, is_listed, listed, IsNth, segment_there}
 use Rattle.macho_model.proofs.EachBelow.{and_left, and_right}
-use Rattle.macho_model_walks.proofs.WordWalk.{nth_number}
-use Rattle.macho_model_walks.proofs.ListedLaws.{count_of_segments}
+use Rattle.macho_memory_walks.proofs.WordWalk.{nth_number}
+use Rattle.macho_memory_walks.proofs.ListedLaws.{count_of_segments}
 
 -- the segment's record stands inside the file
 record_inside : (b : List ℕ) (number place : ℕ) → IsAccepted b → IsNth list.Segments b number place → place + 72 ≤ length b

@@ -3,7 +3,8 @@ ghost use Rattle.std.specs.Prelude.{◌≡◌, ℕ, Some, None};
 ghost use Rattle.macho_model.specs.Grammar.{EachCommand};
 ghost use Rattle.macho_model.specs.LoadRules.{begins_behind};
 ghost use Rattle.macho_model.specs.Loader.{segment_commands, EachNeighbour};
-ghost use Rattle.macho_model_walks.specs.Readings.{command_at, listed, test_of, list_of};
+ghost use Rattle.macho_memory_walks.specs.Readings.{command_at, listed};
+ghost use Rattle.macho_model_walks.specs.Tests.{test_of, list_of};
 ghost use Rattle.macho_model_walks.specs.steps.Asked.{AskedFails, BeginsBefore};
 
 use crate::cursor::{first, step_from};

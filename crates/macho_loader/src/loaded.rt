@@ -36,7 +36,7 @@ impl<'a> Model for Loaded<'a> {
 }
 
 /// How many segments an image has.
-#[tactic(auto, using(macho_model_walks::proofs::ListedLaws::count_of_segments))]
+#[tactic(auto, using(macho_memory_walks::proofs::ListedLaws::count_of_segments))]
 fn count_of_segments(bytes: &[u8]) -> u32
     ensures { result ≡ length (segments_of bytes.now) }
 {

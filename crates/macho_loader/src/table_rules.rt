@@ -2,7 +2,7 @@
 ghost use Rattle.std.specs.Prelude.{◌≡◌, true};
 ghost use Rattle.macho_model.specs.Images.{base_of};
 ghost use Rattle.macho_model.specs.LoadRules.{segment_address, starts_known, starts_fit, starts_all_fit, parts_inside, table_fits};
-ghost use Rattle.macho_model_walks.specs.Readings.{table_there};
+ghost use Rattle.macho_memory_walks.specs.Readings.{table_there};
 
 use crate::cursor::{first, step_from};
 use macho_model_walks::{

@@ -28,7 +28,7 @@ use Rattle.macho_model.specs.Chain as chain
 use Rattle.macho_model.specs.Fixups.{IsFixupPlace, ChainIsWhole}
 use Rattle.macho_model.specs.Fixups as fixups
 use Rattle.macho_model.proofs.EachBelow.{is_equal}
-use Rattle.macho_model_walks.proofs.ChainSets.{is_closed, among_passes, chain_within}
+use Rattle.macho_memory_walks.proofs.ChainSets.{is_closed, among_passes, chain_within}
 use Rattle.macho_model_checks.proofs.Examples.{words8, words, halves, name16}
 use Rattle.macho_model_checks.proofs.ExampleLinks.{entry}
 use Rattle.macho_model_checks.proofs.ExampleCall.{calls_exit, calling, slot_placed, data_placed, placed_call, head_of_call, fixups_of_call, tables_of_call, big_words, signature_of_call, call_image}

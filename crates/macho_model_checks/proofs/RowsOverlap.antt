@@ -18,7 +18,7 @@ use Rattle.macho_model_checks.proofs.Examples.{words8, words, halves, name16, ch
 use Rattle.macho_model_checks.proofs.ExampleImages.{image_with_fixups, one_page, two_pages, overlapping, rebase, bind, data_of_size, data_command, text_command}
 use Rattle.macho_model.proofs.EachBelow.{true_or_false}
 use Rattle.macho_model_checks.proofs.LoaderTests.{load_verdict, load_all_pass}
-use Rattle.macho_model_walks.proofs.ChainSets.{is_closed, is_among, chain_within}
+use Rattle.macho_memory_walks.proofs.ChainSets.{is_closed, is_among, chain_within}
 use Rattle.macho_model.proofs.ChainMemory.{fixed_text_is_held, fixed_word_is_held}
 use Rattle.macho_model_walks.specs.steps.WordTests.{word_fits_test}
 use Rattle.macho_model_walks.proofs.WordFitting.{fits_word}

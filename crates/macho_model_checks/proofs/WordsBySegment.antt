@@ -10,7 +10,7 @@ use Rattle.macho_model.specs.Chain.{chain_segment, chain_segments}
 use Rattle.macho_model_walks.specs.steps.WordTests.{word_fits_test, EachWordFits}
 use Rattle.macho_model.proofs.EachBelow.{each_below, below_pass, and_left, and_right, all_pass}
 use Rattle.macho_model.proofs.PageChains.{with_number}
-use Rattle.macho_model_walks.proofs.ChainSets.{among_passes, is_page_closed, page_within, page_has_start}
+use Rattle.macho_memory_walks.proofs.ChainSets.{among_passes, is_page_closed, page_within, page_has_start}
 use Rattle.macho_model_walks.proofs.WordFitting.{starts_in_chain, page_passes, word_fits}
 
 -- the pages of a segment, by its number, pass with the lists of that segment

@@ -9,16 +9,17 @@ use Rattle.macho_records.specs.declared.header.SegmentCommand.{SegmentCommand}
 use Rattle.macho_model.specs.declared.rules.LoadRule.{LoadRule}
 use Rattle.macho_model.specs.declared.rules.LoadRule.TheVariants.{L1, L2, L3, L4, L5, L6, L7, L8, L9, L10}
 use Rattle.macho_model_walks.specs.declared.loader_rules.Asked.TheVariants as asked
-use Rattle.macho_model_walks.specs.declared.walk.Listed.TheVariants as list
+use Rattle.macho_memory_walks.specs.declared.walk.Listed.TheVariants as list
 use Rattle.macho_model.specs.Commands.{Command, commands_of, command_fits}
 use Rattle.macho_model.specs.Grammar.{EachCommand, CommandFails}
 use Rattle.macho_model.specs.Segments.{TEXT}
 use Rattle.macho_model.specs.Images.{segments_named, table_of_command, tables_of}
 use Rattle.macho_model.specs.LoadRules.{needed_in_image, segment_in, text_holds_commands, table_fits}
 use Rattle.macho_model.specs.Loader.{text_commands, fixup_commands, NeighbourFails, EachNeighbour, TextIsNotOne, SecondTable, IsAccepted, ImageBreaks}
-use Rattle.macho_model_walks.specs.Readings.{listed, test_of}
+use Rattle.macho_memory_walks.specs.Readings.{listed}
+use Rattle.macho_model_walks.specs.Tests.{test_of}
 use Rattle.macho_model.proofs.EachBelow.{true_or_false}
-use Rattle.macho_model_walks.proofs.ListedLaws.{all_listed, texts_listed, texts_are}
+use Rattle.macho_memory_walks.proofs.ListedLaws.{all_listed, texts_listed, texts_are}
 
 -- one that fails is not among those that pass
 pub fails_not_each : (cs : List Command) (place : ℕ) (test : Command → Bool) → CommandFails cs place test → EachCommand cs test → ⊥

@@ -1,11 +1,4 @@
-pub mod ByteReads
-pub mod SegmentWalk
-pub mod NthWalk
-pub mod ListedLaws
-pub mod ChainSets
 pub mod WordFitting
-pub mod WordWalk
 pub mod RuleWalk
 pub mod UnfitWords
 pub mod BrokenRules
-pub mod LoadedMemory

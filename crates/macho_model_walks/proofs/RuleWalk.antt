@@ -9,20 +9,21 @@ use Rattle.std.specs.List.{list_all}
 use Rattle.std.proofs.lemmas.List.{get_or_default, length-map}
 use Rattle.std.proofs.lemmas.List.Folds.{list_all_at}
 use Rattle.macho_model_walks.specs.declared.loader_rules.Asked.{Asked}
-use Rattle.macho_model_walks.specs.declared.walk.Listed.{Listed}
-use Rattle.macho_model_walks.specs.declared.walk.Listed.TheVariants as list
+use Rattle.macho_memory_walks.specs.declared.walk.Listed.{Listed}
+use Rattle.macho_memory_walks.specs.declared.walk.Listed.TheVariants as list
 use Rattle.macho_model.specs.Commands.{Command, header_of}
 use Rattle.macho_model.specs.Grammar.{EachCommand}
 use Rattle.macho_model.specs.LoadRules.{begins_behind, import_fits}
 use Rattle.macho_model.specs.Loader.{segment_commands, text_commands, fixup_commands, EachNeighbour, NeighbourFails, TextIsNotOne, SecondTable, ImportFails, import_count}
-use Rattle.macho_model_walks.specs.Readings.{command_at, listed, IsNth, table_there, list_of, test_of}
-use Rattle.macho_model_walks.specs.steps.Walks.{chain_segment_at}
+use Rattle.macho_memory_walks.specs.Readings.{command_at, listed, IsNth, table_there}
+use Rattle.macho_model_walks.specs.Tests.{list_of, test_of}
+use Rattle.macho_memory_walks.specs.steps.Walks.{chain_segment_at}
 use Rattle.macho_model_walks.specs.steps.Asked.{NumberPasses, NeighbourPasses, BadImport, ImportsFit, TableImportsFit, EachImportFits}
 use Rattle.macho_model_walks.specs.steps.WordTests.{import_exists, NthImportExists}
 use Rattle.macho_model.specs.Images.{table_of_command, tables_of, fixups_header}
 use Rattle.macho_model.specs.Chain.{chain_segments}
-use Rattle.macho_model_walks.proofs.ListedLaws.{texts_listed, tables_are, nth_image}
-use Rattle.macho_model_walks.proofs.WordWalk.{few_listed_of, nth_exists, nth_one, chain_at, count_of_chain}
+use Rattle.macho_memory_walks.proofs.ListedLaws.{texts_listed, tables_are, nth_image, table_contains}
+use Rattle.macho_memory_walks.proofs.WordWalk.{few_listed_of, nth_exists, nth_one, chain_at, count_of_chain}
 use Rattle.macho_model.proofs.EachBelow.{pass_all}
 
 -- a command by its number, whatever stands behind the last
@@ -92,14 +93,7 @@ pub few_tables : (b : List ℕ) → length (listed list.Tables b) ≤ 1 → leng
 unfolding listed
 few_tables b h = h
 
--- a table by its command, and its imports
-pub table_contains : (b : List ℕ) (number place : ℕ) → IsNth list.Tables b number place → Contains (tables_of b) (table_there b place)
-table_contains b number place nth =
-    let same = tables_are b in
-    let long = length-map (listed list.Tables b) (table_of_command b) in
-    subst (λ ts. Contains ts (table_there b place)) (sym same)
-    (number, omega (arith, nth.within, long), nth_image (table_of_command b) list.Tables b number place (table_there b place) nth)
-
+-- a table's imports
 pub import_fails : (b : List ℕ) (number table place : ℕ) → IsNth list.Tables b number table → BadImport b (table_there b table) place
     → ImportFails b place
 import_fails b number table place nth bad =

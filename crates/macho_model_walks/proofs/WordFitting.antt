@@ -11,11 +11,12 @@ use Rattle.macho_records.specs.declared.header.SegmentCommand.{SegmentCommand}
 use Rattle.macho_model.specs.Images.{segments_of, tables_of, CHAIN_PAGE}
 use Rattle.macho_model.specs.Chain.{ChainSegment, chain_segment, chain_segments, WORD_SIZE}
 use Rattle.macho_model.specs.Loader.{is_bind, ordinal_of, is_writable, import_count, WordFits}
-use Rattle.macho_model_walks.specs.Readings.{page_holds}
-use Rattle.macho_model_walks.specs.steps.WordTests.{word_in, stands_in, import_exists, word_fits_test, EachWordFits}
+use Rattle.macho_model_walks.specs.Tests.{page_holds}
+use Rattle.macho_model_walks.specs.steps.WordTests.{import_exists, word_fits_test, EachWordFits}
+use Rattle.macho_memory_walks.specs.steps.Walks.{word_in, stands_in}
 use Rattle.macho_model.proofs.EachBelow.{each_below, below_pass, and_left, and_right, and_both, or_right, neither, not_true, all_pass, pass_all}
 use Rattle.macho_model.proofs.PageChains.{with_number}
-use Rattle.macho_model_walks.proofs.ChainSets.{among_passes, is_page_closed, page_within, page_has_start}
+use Rattle.macho_memory_walks.proofs.ChainSets.{among_passes, is_page_closed, page_within, page_has_start}
 
 -- the page of a segment holds a word, in parts
 holds_parts : (w f e t : Bool) → (w && f && e && t) ≡ true → (w ≡ true) × (f ≡ true) × (e ≡ true) × (t ≡ true)

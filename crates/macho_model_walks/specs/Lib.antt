@@ -1,3 +1,2 @@
-pub mod Readings
-pub mod Loaded
+pub mod Tests
 pub mod steps

@@ -1,5 +1,3 @@
--- The walks' own steps, which no clause of a public function cites.
-pub mod Walks
+-- The rules' own steps, which no clause of a public function cites.
 pub mod Asked
 pub mod WordTests
-pub mod Made

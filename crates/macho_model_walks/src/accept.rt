@@ -57,7 +57,7 @@ fn check_commands(bytes: &[u8]) -> Result<(), LoadFault>
 }
 
 /// Whether the segments have the protections of their names.
-#[tactic(auto, unfolding(crate::specs::Readings::listed))]
+#[tactic(auto, unfolding(macho_memory_walks::specs::Readings::listed))]
 fn check_protections(bytes: &[u8]) -> Result<(), LoadFault>
     ensures ok { OnOk result (LoadKeeps bytes.now LoadRule.L3) }
     ensures why { IfErr result (λ f. ImageBreaks bytes.now f.rule f.place) }
@@ -72,7 +72,7 @@ fn check_protections(bytes: &[u8]) -> Result<(), LoadFault>
 }
 
 /// Whether the segments' file bytes are inside the file.
-#[tactic(auto, unfolding(crate::specs::Readings::listed))]
+#[tactic(auto, unfolding(macho_memory_walks::specs::Readings::listed))]
 fn check_file_bytes(bytes: &[u8]) -> Result<(), LoadFault>
     ensures ok { OnOk result (LoadKeeps bytes.now LoadRule.L4) }
     ensures why { IfErr result (λ f. ImageBreaks bytes.now f.rule f.place) }
@@ -87,7 +87,7 @@ fn check_file_bytes(bytes: &[u8]) -> Result<(), LoadFault>
 }
 
 /// Whether the segments are made of whole pages.
-#[tactic(auto, unfolding(crate::specs::Readings::listed))]
+#[tactic(auto, unfolding(macho_memory_walks::specs::Readings::listed))]
 fn check_pages(bytes: &[u8]) -> Result<(), LoadFault>
     ensures ok { OnOk result (LoadKeeps bytes.now LoadRule.L5) }
     ensures why { IfErr result (λ f. ImageBreaks bytes.now f.rule f.place) }
@@ -102,7 +102,7 @@ fn check_pages(bytes: &[u8]) -> Result<(), LoadFault>
 }
 
 /// Whether the segments stand in order, below 2^64.
-#[tactic(auto, unfolding(crate::specs::Readings::listed))]
+#[tactic(auto, unfolding(macho_memory_walks::specs::Readings::listed))]
 fn check_order(bytes: &[u8]) -> Result<(), LoadFault>
     ensures ok { OnOk result (LoadKeeps bytes.now LoadRule.L6) }
     ensures why { IfErr result (λ f. ImageBreaks bytes.now f.rule f.place) }
@@ -143,7 +143,7 @@ fn check_text(bytes: &[u8]) -> Result<(), LoadFault>
 }
 
 /// Whether there is one fixup table at most, and it is a known one.
-#[tactic(auto, unfolding(crate::specs::Readings::listed))]
+#[tactic(auto, unfolding(macho_memory_walks::specs::Readings::listed))]
 fn check_tables(bytes: &[u8]) -> Result<(), LoadFault>
     ensures ok { OnOk result (LoadKeeps bytes.now LoadRule.L8) }
     ensures why { IfErr result (λ f. ImageBreaks bytes.now f.rule f.place) }

@@ -5,15 +5,16 @@ ghost use Rattle.std.specs.Prelude.{◌≡◌, ◌≤◌, ◌<◌, ℕ, length, 
 ghost use Rattle.macho_model.specs.Grammar.{EachCommand};
 ghost use Rattle.macho_model.specs.LoadRules.{begins_behind};
 ghost use Rattle.macho_model.specs.Loader.{segment_commands, text_commands, fixup_commands, EachNeighbour, TextIsNotOne, SecondTable, ImportFails};
-ghost use Rattle.macho_model_walks.specs.Readings.{command_at, listed, table_there, test_of, list_of};
+ghost use Rattle.macho_memory_walks.specs.Readings.{command_at, listed, table_there};
+ghost use Rattle.macho_model_walks.specs.Tests.{test_of, list_of};
 ghost use Rattle.macho_model_walks.specs.steps.Asked.{AskedFails, BeginsBefore, NumberPasses, NeighbourPasses, BadImport, ImportsFit, TableImportsFit, EachImportFits};
 
 use crate::segment_rules::{
     ends_below, file_bytes_are_inside, follows, holds_commands, is_paged, is_whole,
     protections_are_right,
 };
-use crate::table_rules::{import_is_right, place_of_import, table_at, table_is_right};
-use crate::walk::{Listed, count_of, nth};
+use crate::table_rules::{import_is_right, table_is_right};
+use macho_memory_walks::{Listed, count_of, nth, place_of_import, table_at};
 
 /// What is asked of each command of a list.
 #[derive(Clone, Copy)]

@@ -1,10 +1,4 @@
 //! The tests that the loader makes of one load command.
-//!
-//! A segment's command (`struct segment_command_64` of mach-o/loader.h) is read field by field:
-//!
-//!     8   the name, 16 bytes        40  the file offset, 8      60  the protections at first, 4
-//!     24  the address, 8            48  the bytes in the file   64  the number of sections, 4
-//!     32  the bytes in memory       56  the most protections
 ghost use Rattle.std.specs.Prelude.{◌≡◌};
 ghost use Rattle.macho_bytes.specs.Layouts.{reading};
 ghost use Rattle.macho_bytes.specs.Texts.{name_of};
@@ -13,10 +7,9 @@ ghost use Rattle.macho_model.specs.Commands.{command_fits, commands_end};
 ghost use Rattle.macho_model.specs.ObjectRules.{commands_inside};
 ghost use Rattle.macho_model.specs.Segments.{loaded_protection_of};
 ghost use Rattle.macho_model.specs.LoadRules.{image_head_fits, needed_in_image, segment_in, protections_fit, file_part_inside, segment_is_paged, segment_ends, begins_behind, text_holds_commands};
-ghost use Rattle.macho_model_walks.specs.Readings.{command_at, SaysSegment};
+ghost use Rattle.macho_memory_walks.specs.Readings.{command_at};
 
-use crate::reads::{u32_from, u64_from};
-use crate::walk::is_segment_named;
+use macho_memory_walks::{is_segment_named, segment_at, u32_from};
 use macho_records::{
     CPU_TYPE_ARM64, LC_BUILD_VERSION, LC_CODE_SIGNATURE, LC_DYLD_CHAINED_FIXUPS,
     LC_DYLD_EXPORTS_TRIE, LC_ID_DYLIB, LC_LOAD_DYLIB, LC_LOAD_DYLINKER, LC_MAIN, LC_RPATH,
@@ -26,38 +19,6 @@ use macho_records::{
 
 /// The bytes of a page of a segment.
 const SEGMENT_PAGE: u64 = 0x4000;
-
-/// The numbers of a segment's command.
-#[derive(Clone, Copy)]
-pub struct SegmentNumbers {
-    /// The address of its first byte.
-    pub address: u64,
-    /// Its bytes in memory.
-    pub size: u64,
-    /// The file offset of its first byte.
-    pub file_offset: u64,
-    /// Its bytes in the file.
-    pub file_size: u64,
-    /// What it may ever be accessed for.
-    pub most: u32,
-    /// What it may be accessed for at first.
-    pub first: u32,
-}
-
-/// The numbers of the segment's command at a place.
-#[tactic(auto, unfolding(macho_bytes::specs::Layouts::reading))]
-pub fn segment_at(bytes: &[u8], place: u64) -> SegmentNumbers
-    ensures { SaysSegment result (reading segment_command bytes.now place) }
-{
-    SegmentNumbers {
-        address: u64_from(bytes, place, 24),
-        size: u64_from(bytes, place, 32),
-        file_offset: u64_from(bytes, place, 40),
-        file_size: u64_from(bytes, place, 48),
-        most: u32_from(bytes, place, 56),
-        first: u32_from(bytes, place, 60),
-    }
-}
 
 /// Whether the header is whole, of a 64-bit arm64 executable or dynamic library.
 #[tactic(auto, unfolding(macho_bytes::specs::Layouts::reading, macho_model::specs::Commands::header_of))]

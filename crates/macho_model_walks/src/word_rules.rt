@@ -4,17 +4,18 @@ ghost use Rattle.std.specs.List.{list_all};
 ghost use Rattle.macho_model.specs.LoadRules.{file_part_inside};
 ghost use Rattle.macho_model.specs.Images.{tables_of};
 ghost use Rattle.macho_model.specs.Chain.{chain_segments};
-ghost use Rattle.macho_model.specs.Loader.{is_bind, ordinal_of, import_count, segment_commands, WordFails};
+ghost use Rattle.macho_model.specs.Loader.{import_count, segment_commands, WordFails};
 ghost use Rattle.macho_model.specs.Grammar.{EachCommand};
-ghost use Rattle.macho_model_walks.specs.Readings.{command_at, IsNth, segment_there, page_holds};
-ghost use Rattle.macho_model_walks.specs.steps.Walks.{starts_of, chain_segment_at};
+ghost use Rattle.macho_memory_walks.specs.Readings.{command_at, IsNth, segment_there};
+ghost use Rattle.macho_model_walks.specs.Tests.{page_holds};
+ghost use Rattle.macho_memory_walks.specs.steps.Walks.{starts_of, chain_segment_at};
 ghost use Rattle.macho_model_walks.specs.steps.WordTests.{import_exists, word_fits_test, NthImportExists, UnfitFrom, FitFrom, UnfitOnPage, FitOnPage, FitOnNth, EachWordFits};
-ghost use Rattle.macho_model_walks.specs.declared.walk.Listed.TheVariants as list;
+ghost use Rattle.macho_memory_walks.specs.declared.walk.Listed.TheVariants as list;
 
-use crate::chain_words::{CHAIN_PAGE, NO_START, pages_of, start_of, step_in, word_of};
-use crate::segment_rules::segment_at;
-use crate::table_rules::table_at;
-use crate::walk::{Listed, count_of, nth};
+use macho_memory_walks::{
+    CHAIN_PAGE, Listed, NO_START, binds, count_of, nth, ordinal, pages_of, segment_at, start_of,
+    step_in, table_at, word_of,
+};
 
 /// Whether a word at an address stands in a page of a segment and in its file part, and the segment may be written to.
 pub fn page_has(bytes: &[u8], place: u64, page: u16, address: u128) -> bool
@@ -39,20 +40,6 @@ pub(crate) fn count_of_imports(bytes: &[u8]) -> u32
         Some(place) => table_at(bytes, place).imports_count,
         None => 0,
     }
-}
-
-/// Whether a word binds an import.
-pub fn binds(word: u64) -> bool
-    ensures { result ≡ is_bind word }
-{
-    word >> 63 == 1
-}
-
-/// The number of the import that a word binds.
-pub fn ordinal(word: u64) -> u32
-    ensures { result ≡ ordinal_of word }
-{
-    (word & 0xff_ffff) as u32
 }
 
 /// Whether the import of the word exists that a segment has at an address, if it has one that binds.

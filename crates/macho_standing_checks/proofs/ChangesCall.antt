@@ -22,7 +22,7 @@ use Rattle.macho_model.specs.Images.{segments_of, mapped_segments, base_of, libr
 use Rattle.macho_model.specs.Chain.{ChainSegment, chain_segments, OnChain}
 use Rattle.macho_model.specs.Fixups.{ChainIsWhole}
 use Rattle.macho_model.proofs.EachBelow.{is_equal, true_or_false, and_left, and_right, and_both}
-use Rattle.macho_model_walks.proofs.ChainSets.{is_closed, among_passes, chain_within}
+use Rattle.macho_memory_walks.proofs.ChainSets.{is_closed, among_passes, chain_within}
 use Rattle.macho_model_checks.proofs.Examples.{words8, words, halves, name16, changed}
 use Rattle.macho_model_checks.proofs.ExampleLinks.{entry, section}
 use Rattle.macho_model_checks.proofs.ExampleCall.{calls_exit, calling, placed_call, head_of_call, fixups_of_call, tables_of_call, big_words, signature_of_call, call_image, counts_of_call, uuid_given, code_placed, linkedit_segment}

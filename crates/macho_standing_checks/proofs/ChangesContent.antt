@@ -35,7 +35,7 @@ use Rattle.macho_model.specs.Memory.{Choice, Holds, HoldsNumber, Covers}
 use Rattle.macho_model.specs.Stands.{ImageStands}
 use Rattle.macho_model.specs.Zeros.{contents_of, IsOutsideSpan, IsZeroElsewhere}
 use Rattle.macho_model.proofs.EachBelow.{is_equal, and_left, and_right, and_both}
-use Rattle.macho_model_walks.proofs.ChainSets.{is_closed, among_passes, chain_within}
+use Rattle.macho_memory_walks.proofs.ChainSets.{is_closed, among_passes, chain_within}
 use Rattle.macho_unwind_pages.specs.declared.entries.ResolvedUnwindInfo.{ResolvedUnwindInfo}
 use Rattle.macho_promise.specs.UnwindSays.{IsUnwindText, UnwindSays}
 use Rattle.macho_parts.specs.Filled.{bytes_in_file}

@@ -7,17 +7,11 @@ use Rattle.macho_records.specs.declared.header.SegmentCommand.{SegmentCommand}
 use Rattle.macho_model.specs.Lists.{IsNumber}
 use Rattle.macho_model.specs.Images.{segments_of, tables_of, CHAIN_PAGE}
 use Rattle.macho_model.specs.Chain.{ChainSegment, chain_segments, WORD_SIZE, OnPageChain}
-use Rattle.macho_model_walks.specs.declared.walk.Listed.TheVariants as list
-use Rattle.macho_model_walks.specs.Readings.{IsNth, segment_there, page_holds}
-use Rattle.macho_model_walks.specs.steps.Walks.{Leads, chain_segment_at}
+use Rattle.macho_memory_walks.specs.declared.walk.Listed.TheVariants as list
+use Rattle.macho_memory_walks.specs.Readings.{IsNth, segment_there}
+use Rattle.macho_model_walks.specs.Tests.{page_holds}
+use Rattle.macho_memory_walks.specs.steps.Walks.{Leads, chain_segment_at, word_in, stands_in}
 use Rattle.macho_model.specs.Loader.{is_bind, ordinal_of, is_writable, import_count, OnPageOf, WordFits}
-
--- the word at an address in a segment, and whether it stands whole in its file part
-abbrev pub word_in : List ℕ → ChainSegment → ℕ → ℕ
-word_in b s a = le_at WORD_SIZE b (s.file_offset + (a - s.address))
-
-abbrev pub stands_in : ChainSegment → ℕ → Bool
-stands_in s a = nat_le s.address a && nat_le (a + WORD_SIZE) (s.address + s.file_size)
 
 -- the import of a word exists, where a segment has a word there and it binds one
 abbrev pub import_exists : List ℕ → ℕ → ChainSegment → Bool

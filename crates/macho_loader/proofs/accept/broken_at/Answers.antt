@@ -1,7 +1,7 @@
 -- What the walks say of the commands of a list is what the rules say.
 use Rattle.std.proofs.Common.{refl, sym, subst, ◌∙◌, inl, inr}
 use Rattle.macho_model.specs.Loader.{ImageBreaks}
-use Rattle.macho_model_walks.specs.Readings.{listed}
+use Rattle.macho_memory_walks.specs.Readings.{listed}
 use Rattle.macho_model_walks.specs.steps.Asked.{LoadKeeps}
 use Rattle.macho_model_walks.proofs.BrokenRules.{whole_kept, whole_broken, text_kept, text_broken, tables_kept}
 use Rattle.macho_loader.proofs.accept.broken_at.Goals as goal

@@ -1,8 +1,8 @@
 -- The segment that the walk came to begins behind the one before it; behind the last one all do.
 use Rattle.std.proofs.Common.{◌≡◌, ◌+◌, ◌-◌, ◌≤◌, refl, sym, ap, subst, ◌∙◌, arith}
 use Rattle.std.specs.Prelude.{unwrap_or}
-use Rattle.macho_model_walks.specs.declared.walk.Listed.TheVariants as list
-use Rattle.macho_model_walks.specs.Readings.{IsNth}
+use Rattle.macho_memory_walks.specs.declared.walk.Listed.TheVariants as list
+use Rattle.macho_memory_walks.specs.Readings.{IsNth}
 use Rattle.macho_model_walks.specs.steps.Asked.{BeginsBefore}
 use Rattle.macho_model_walks.proofs.RuleWalk.{neighbour_fails, neighbours_by_number}
 use Rattle.macho_loader.proofs.ListWalks.{order_more}

@@ -1,6 +1,6 @@
 -- The commands that were asked are those of segments.
 use Rattle.std.proofs.Common.{refl}
-use Rattle.macho_model_walks.specs.Readings.{listed}
+use Rattle.macho_memory_walks.specs.Readings.{listed}
 use Rattle.macho_model_walks.proofs.accept.check_order.Goals as goal
 
 pub returns-in-None-clause-ok : goal.returns-in-None-clause-ok

@@ -2,7 +2,7 @@
 use Rattle.std.proofs.Common.{refl, subst}
 use Rattle.macho_model.specs.Loader.{TextIsNotOne}
 use Rattle.macho_model_walks.proofs.RuleWalk.{second_text, no_text, one_text}
-use Rattle.macho_model_walks.proofs.WordWalk.{some_is}
+use Rattle.macho_memory_walks.proofs.WordWalk.{some_is}
 use Rattle.macho_model_walks.proofs.loader_rules.other_text.Goals as goal
 
 pub returns-in-Some-clause-found : goal.returns-in-Some-clause-found

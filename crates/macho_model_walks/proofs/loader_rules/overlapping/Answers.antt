@@ -1,11 +1,11 @@
 -- The two segments are those whose commands were found.
 use Rattle.std.proofs.Common.{◌≡◌, ◌+◌, true, refl, sym, subst, ◌∙◌}
-use Rattle.macho_model_walks.specs.declared.walk.Listed.TheVariants as list
+use Rattle.macho_memory_walks.specs.declared.walk.Listed.TheVariants as list
 use Rattle.macho_model.specs.Loader.{segment_commands, NeighbourFails}
 use Rattle.macho_model.specs.LoadRules.{begins_behind}
-use Rattle.macho_model_walks.specs.Readings.{command_at}
+use Rattle.macho_memory_walks.specs.Readings.{command_at}
 use Rattle.macho_model_walks.proofs.RuleWalk.{neighbour_fails}
-use Rattle.macho_model_walks.proofs.WordWalk.{nth_one, some_is}
+use Rattle.macho_memory_walks.proofs.WordWalk.{nth_one, some_is}
 use Rattle.macho_model_walks.proofs.loader_rules.overlapping.Goals as goal
 
 pub returns-then-follows-clause-only : goal.returns-then-follows-clause-only

@@ -1,6 +1,6 @@
 -- The segment with the number is the one whose command was found.
 use Rattle.std.proofs.Common.{refl}
-use Rattle.macho_model_walks.proofs.ListedLaws.{address_found, address_missing}
+use Rattle.macho_memory_walks.proofs.ListedLaws.{address_found, address_missing}
 use Rattle.macho_model_walks.proofs.table_rules.address_of.Goals as goal
 
 pub returns-in-Some : goal.returns-in-Some

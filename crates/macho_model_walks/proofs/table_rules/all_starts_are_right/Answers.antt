@@ -2,7 +2,7 @@
 use Rattle.std.proofs.Common.{sym, ◌∙◌, arith}
 use Rattle.macho_model.specs.Images.{starts_count}
 use Rattle.macho_model.specs.LoadRules.{starts_fit}
-use Rattle.macho_model_walks.specs.Readings.{table_there}
+use Rattle.macho_memory_walks.specs.Readings.{table_there}
 use Rattle.macho_model.proofs.EachBelow.{fails_below, pass_below}
 use Rattle.macho_model_walks.proofs.table_rules.all_starts_are_right.Goals as goal
 

@@ -1,6 +1,6 @@
 use Rattle.std.proofs.Common.{◌≡◌, ◌<◌, ℕ, true}
 use Rattle.macho_model.specs.LoadRules.{starts_fit}
-use Rattle.macho_model_walks.specs.Readings.{table_there}
+use Rattle.macho_memory_walks.specs.Readings.{table_there}
 use Rattle.macho_model_walks.proofs.table_rules.all_starts_are_right.Given as goal
 
 -- the starts of the segments so far are right

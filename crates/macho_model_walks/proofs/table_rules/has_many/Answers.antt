@@ -1,6 +1,6 @@
 -- A list has so many where it has one at the place before.
 use Rattle.std.proofs.Common.{refl, sym, arith}
-use Rattle.macho_model_walks.proofs.ListedLaws.{many_listed}
+use Rattle.macho_memory_walks.proofs.ListedLaws.{many_listed}
 use Rattle.macho_model_walks.proofs.table_rules.has_many.Goals as goal
 
 pub returns-in-Some : goal.returns-in-Some

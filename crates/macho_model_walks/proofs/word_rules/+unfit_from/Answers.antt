@@ -1,7 +1,7 @@
 -- The word fails, or one that a step leads to, or all fit.
 use Rattle.std.proofs.Common.{◌+◌, false, true, refl, subst, arith}
 use Rattle.macho_model_walks.specs.steps.WordTests.{UnfitFrom, FitFrom}
-use Rattle.macho_model_walks.proofs.WordWalk.{some_is}
+use Rattle.macho_memory_walks.proofs.WordWalk.{some_is}
 use Rattle.macho_model_walks.proofs.UnfitWords.{unfit_here, unfit_behind, fit_from, test_at, step_from, step_back, one_fits}
 use Rattle.macho_model_walks.proofs.word_rules.+unfit_from.Goals as goal
 use Rattle.macho_model_walks.proofs.word_rules.+unfit_from.Goals.{in-Some+in_default-unfit_from, in_default}

@@ -1,0 +1,7 @@
+pub mod ByteReads
+pub mod SegmentWalk
+pub mod NthWalk
+pub mod ListedLaws
+pub mod ChainSets
+pub mod WordWalk
+pub mod LoadedMemory

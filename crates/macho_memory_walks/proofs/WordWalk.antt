@@ -1,0 +1,352 @@
+-- What a walk along a chain finds is what the definitions say of the chain.
+--
+-- The segments as chains see them are numbered as their commands are. So a word of the file at an address is a word that
+-- a numbered segment has there, and it leads on by as many bytes. A chain leads upwards only. The words of a page's chain
+-- are those that its start leads to, and the chain is made of the pages' chains.
+use Rattle.std.proofs.Common.{◌≡◌, ◌≢◌, ℕ, suc, ◌+◌, ◌*◌, ◌-◌, ◌<◌, ◌≤◌, ◌==◌, nat_lt, Bool, true, false, if◌then◌else◌, List, [], ◌∷◌, length, get_or, map, slice_index, refl, sym, ap, subst, ◌∙◌, arith, All, Some, inl, inr}
+use Rattle.std.proofs.lemmas.Bool.{cases_lt}
+use Rattle.std.specs.Prelude.{Contains, filter, unwrap_or}
+use Rattle.std.specs.List.{enumerate_from, range_with_len}
+use Rattle.std.proofs.lemmas.List.{get_or-map, length-map, get_or_default}
+use Rattle.std.proofs.lemmas.List.Elements.{All-filter}
+use Rattle.std.proofs.lemmas.List.FromFn.{get_or-enumerate_from, length-enumerate_from, get_or-range_with_len, length-range_with_len}
+use Rattle.macho_bytes.specs.Numbers.{le_at}
+use Rattle.macho_records.specs.declared.header.SegmentCommand.{SegmentCommand}
+use Rattle.macho_memory_walks.specs.declared.walk.Listed.{Listed}
+use Rattle.macho_memory_walks.specs.declared.walk.Listed.TheVariants as list
+use Rattle.macho_model.specs.Lists.{IsNumber}
+use Rattle.macho_model.specs.Commands.{Command, header_of, commands_of}
+use Rattle.macho_model.specs.Images.{segments_of, Table, table_of_command, starts_count, starts_offset, segment_starts, page_start, NO_START, CHAIN_PAGE}
+use Rattle.macho_model.specs.LoadRules.{segment_in}
+use Rattle.macho_model.specs.Chain.{ChainSegment, chain_segment, chain_segments, starts_in_tables, IsFileWord, next_of, WORD_SIZE, STRIDE, OnChain, OnPageChain}
+use Rattle.macho_model.specs.Chain as chain
+use Rattle.macho_memory_walks.specs.Readings.{command_at, is_listed, listed, IsNth, HasWord, segment_there, table_there, starts_in}
+use Rattle.macho_memory_walks.specs.steps.Walks.{StepOf, StepIn, Leads, starts_of, chain_segment_at}
+use Rattle.macho_memory_walks.specs.steps.Walks as walks
+use Rattle.macho_model.proofs.PageChains.{page_on_chain}
+use Rattle.macho_memory_walks.proofs.SegmentWalk.{at_its_place, length-commands}
+use Rattle.macho_memory_walks.proofs.ListedLaws.{segments_are, tables_are, count_of_segments, nth_image}
+
+-- a filter keeps no more than there is
+few_kept : {X : Type 0} (p : X → Bool) (xs : List X) → length (filter p xs) ≤ length xs
+few_kept p [] = omega arith
+few_kept p (x ∷ xs) =
+    let rest = few_kept p xs in
+    elim (p x) as (λ t. length (if t then x ∷ filter p xs else filter p xs) ≤ suc (length xs))
+    [ true ↦ omega (arith, rest) | false ↦ omega (arith, rest) ]
+
+pub few_listed_of : (which : Listed) (b : List ℕ) → length (listed which b) ≤ (header_of b).ncmds
+unfolding listed
+few_listed_of which b = omega (arith, few_kept (is_listed which b) (commands_of b), length-commands b)
+
+-- each number below the length of a list is that of a command, and of one only
+pub nth_exists : (which : Listed) (b : List ℕ) (number : ℕ) → number < length (listed which b) → (place : ℕ) × IsNth which b number place
+unfolding listed
+nth_exists which b number within =
+    let none : Command = record { at = 0; number = 0; size = 0 } in
+    let c = get_or (listed which b) number none in
+    let stands : All (λ x. x ≡ command_at b x.at) (filter (is_listed which b) (commands_of b)) =
+    All-filter (is_listed which b) (λ x. x ≡ command_at b x.at) (commands_of b) (λ k d lt. at_its_place b k d lt) in
+    let here : c ≡ command_at b c.at = stands number none within in
+    (c.at, record { within = within; is = get_or_default (listed which b) number (command_at b c.at) none within ∙ here })
+
+pub nth_one : (which : Listed) (b : List ℕ) (number p q : ℕ) → IsNth which b number p → IsNth which b number q → p ≡ q
+nth_one which b number p q first second =
+    ap (λ (c : Command). c.at) (sym first.is ∙ get_or_default (listed which b) number (command_at b p) (command_at b q) first.within ∙
+    second.is)
+
+-- a segment as chains see it, by its number
+pub chain_at : (b : List ℕ) (number place : ℕ) (d : ChainSegment) → IsNth list.Segments b number place
+    → get_or (chain_segments b) number d ≡ chain_segment b (number, segment_in b (command_at b place))
+unfolding chain_segments
+chain_at b number place d nth =
+    let s = segment_in b (command_at b place) in
+    let within : number < length (segments_of b) = omega (arith, nth.within, count_of_segments b) in
+    let long = length-enumerate_from 0 (segments_of b) in
+    let from_zero : 0 + number ≡ number = omega arith in
+    let is : get_or (segments_of b) number s ≡ s = ap (λ (xs : List SegmentCommand). get_or xs number s) (segments_are b) ∙ nth_image
+    (segment_in b) list.Segments b number place s nth in
+    get_or-map (chain_segment b) (enumerate_from 0 (segments_of b)) number (number, s) d (omega (arith, within, long))
+    ∙ ap (chain_segment b) (get_or-enumerate_from 0 (segments_of b) number (number, s) within)
+    ∙ ap (λ (k : ℕ). chain_segment b (k, get_or (segments_of b) number s)) from_zero
+    ∙ ap (λ (x : SegmentCommand). chain_segment b (number, x)) is
+
+pub count_of_chain : (b : List ℕ) → length (chain_segments b) ≡ length (listed list.Segments b)
+unfolding chain_segments
+count_of_chain b =
+    length-map (enumerate_from 0 (segments_of b)) (chain_segment b) ∙ length-enumerate_from 0 (segments_of b) ∙ count_of_segments b
+
+pub chain_contains : (b : List ℕ) (number place : ℕ) → IsNth list.Segments b number place
+    → Contains (chain_segments b) (chain_segment b (number, segment_in b (command_at b place)))
+chain_contains b number place nth = (
+  number,
+  omega (arith, nth.within, count_of_chain b),
+  chain_at b number place
+      (chain_segment b (number, segment_in b (command_at b place))) nth,
+)
+
+-- a segment by its number and by its place is one
+pub nth_number : (b : List ℕ) (number place : ℕ) → IsNth list.Segments b number place → IsNumber (segments_of b) number (segment_there b place)
+nth_number b number place nth = (
+  omega (arith, nth.within, count_of_segments b),
+  ap (λ (xs : List SegmentCommand). get_or xs number (segment_there b place)) (segments_are b)
+      ∙ nth_image (segment_in b) list.Segments b number place (segment_there b place) nth,
+)
+
+pub number_place : (b : List ℕ) (number : ℕ) (s : SegmentCommand) → IsNumber (segments_of b) number s
+    → (place : ℕ) × IsNth list.Segments b number place × (segment_there b place ≡ s)
+number_place b number s is =
+    let there = nth_exists list.Segments b number (omega (arith, is.0, count_of_segments b)) in (
+      there.0,
+      there.1,
+      sym (nth_image (segment_in b) list.Segments b number there.0 s there.1)
+          ∙ sym (ap (λ (xs : List SegmentCommand). get_or xs number s) (segments_are b)) ∙ is.1,
+    )
+
+-- each segment of the chain has a number and a place
+pub record IsNumbered (b : List ℕ) (s : ChainSegment) : Type 0 where
+  pub number : ℕ
+  pub place : ℕ
+  pub nth : IsNth list.Segments b number place
+  pub is : s ≡ chain_segment b (number, segment_in b (command_at b place))
+
+pub numbered_segment : (b : List ℕ) (s : ChainSegment) → Contains (chain_segments b) s → IsNumbered b s
+numbered_segment b s (number, within, at) =
+    let there = nth_exists list.Segments b number (omega (arith, within, count_of_chain b)) in
+    record { number = number; place = there.0; nth = there.1; is = sym at ∙ chain_at b number there.0 s there.1 }
+
+-- a word of the file is one that a segment has, and back
+pub record WordIn (b : List ℕ) (a word : ℕ) : Type 0 where
+  pub number : ℕ
+  pub place : ℕ
+  pub nth : IsNth list.Segments b number place
+  pub has : HasWord b (segment_in b (command_at b place)) a word
+
+pub word_in_segment : (b : List ℕ) (a word : ℕ) → IsFileWord (chain_segments b) b a word → WordIn b a word
+word_in_segment b a word stands = of stands.segment stands.from stands.to stands.is (numbered_segment b stands.segment stands.one)
+  where
+    of : (s : ChainSegment) → s.address ≤ a → a + WORD_SIZE ≤ s.address + s.file_size
+        → word ≡ le_at WORD_SIZE b (s.file_offset + (a - s.address))
+        → IsNumbered b s → WordIn b a word
+    of s from to is n =
+        let whole = subst (λ (x : ChainSegment). (x.address ≤ a) × (a + WORD_SIZE ≤ x.address + x.file_size) ×
+        (word ≡ le_at WORD_SIZE b (x.file_offset + (a - x.address)))) n.is (from, to, is) in
+        record { number = n.number; place = n.place; nth = n.nth; has = record { from = whole.0; to = whole.1; is = whole.2 } }
+
+pub segment_has_word : (b : List ℕ) (number place a word : ℕ) → IsNth list.Segments b number place
+    → HasWord b (segment_in b (command_at b place)) a word
+    → IsFileWord (chain_segments b) b a word
+segment_has_word b number place a word nth has =
+    record {
+      segment = chain_segment b (number, segment_in b (command_at b place));
+      one = chain_contains b number place nth;
+      from = has.from;
+      to = has.to;
+      is = has.is;
+    }
+
+-- a step is one that a segment has, and back
+pub step_of_word : (b : List ℕ) (a word : ℕ) → IsFileWord (chain_segments b) b a word → 1 ≤ next_of word
+    → (number : ℕ) × (number < (header_of b).ncmds) × StepIn b number a (STRIDE * next_of word)
+step_of_word b a word stands goes =
+    let w = word_in_segment b a word stands in (
+      w.number,
+      omega (arith, w.nth.within, few_listed_of list.Segments b),
+      record
+          { place = w.place; nth = w.nth; step = record { word = word; has = w.has; goes = goes; is = refl } },
+    )
+
+pub step_leads : (b : List ℕ) (number a n c : ℕ) → StepIn b number a n → Leads b (a + n) c → Leads b a c
+step_leads b number a n c step leads =
+    let s = step.step in
+    walks.Leads.on a s.word c (segment_has_word b number step.place a s.word step.nth s.has) s.goes
+    (subst (λ m. Leads b (a + m) c) s.is leads)
+
+-- the step that a word makes, and no other
+pub some_is : {X : Type 0} (x y : X) → Some x ≡ Some y → x ≡ y
+some_is x y h = ap (λ o. unwrap_or o y) h
+
+pub step_found : (b : List ℕ) (place a word steps n : ℕ) → HasWord b (segment_in b (command_at b place)) a word → steps ≡ next_of word
+    → 1 ≤ steps
+    → Some (4 * steps) ≡ Some n → StepOf b place a n
+step_found b place a word steps n has is some this =
+    record { word = word; has = has; goes = omega (arith, some, is); is = sym (some_is (4 * steps) n this) ∙ ap (λ k. 4 * k) is }
+
+pub step_is : (b : List ℕ) (place a word steps n : ℕ) → ((w : ℕ) → HasWord b (segment_in b (command_at b place)) a w → Some word ≡ Some w)
+    → steps ≡ next_of word → StepOf b place a n → (1 ≤ steps) × (4 * steps ≡ n)
+step_is b place a word steps n only is step =
+    let same : word ≡ step.word = some_is word step.word (only step.word step.has) in
+    let next : steps ≡ next_of step.word = is ∙ ap (λ w. next_of w) same in
+    let goes = step.goes in
+    let long = step.is in
+    (omega (arith, next, goes), omega (arith, next, long))
+
+pub step_at : (b : List ℕ) (number place a n : ℕ) → IsNth list.Segments b number place → StepIn b number a n → StepOf b place a n
+step_at b number place a n nth step = subst (λ p. StepOf b p a n) (nth_one list.Segments b number step.place place step.nth nth) step.step
+
+pub no_step_at : (b : List ℕ) (number a n : ℕ) → length (listed list.Segments b) ≤ number → StepIn b number a n → ⊥
+no_step_at b number a n past step = omega (arith, past, step.nth.within)
+
+-- a chain leads upwards
+pub leads_up : (b : List ℕ) (a c : ℕ) → Leads b a c → a ≤ c
+leads_up b _ _ (walks.Leads.here a) = omega arith
+leads_up b _ _ (walks.Leads.on a word c stands goes rest) = let up = leads_up b (a + STRIDE * next_of word) c rest in omega (arith, up)
+
+-- where no segment leads on, a chain leads to no other address
+pub leads_nowhere : (b : List ℕ) (a c : ℕ) → a < c
+    → ((number n : ℕ) → number < (header_of b).ncmds → StepIn b number a n → Leads b (a + n) c → ⊥) → Leads b a c → ⊥
+leads_nowhere b _ _ before none (walks.Leads.here a) = absurd (omega (arith, before))
+leads_nowhere b _ _ before none (walks.Leads.on a word c stands goes rest) =
+    let step = step_of_word b a word stands goes in none step.0 (STRIDE * next_of word) step.1 step.2 rest
+
+-- one word more at the end
+pub leads_more : (b : List ℕ) (a c word : ℕ) → Leads b a c → IsFileWord (chain_segments b) b c word → 1 ≤ next_of word
+    → Leads b a (c + STRIDE * next_of word)
+leads_more b _ _ word (walks.Leads.here a) stands goes =
+    walks.Leads.on a word (a + STRIDE * next_of word) stands goes (walks.Leads.here (a + STRIDE * next_of word))
+leads_more b _ _ word (walks.Leads.on a first c at_a goes_a rest) stands goes =
+    walks.Leads.on a first (c + STRIDE * next_of word) at_a goes_a (leads_more b (a + STRIDE * next_of first) c word rest stands goes)
+
+-- the first word of a page
+abbrev pub page_first : ChainSegment → ℕ → ℕ
+page_first s page = s.address + CHAIN_PAGE * page + slice_index s.starts page
+
+-- a page's chain is what its start leads to
+pub record FromStart (b : List ℕ) (s : ChainSegment) (page a : ℕ) : Type 0 where
+  pub within : page < length s.starts
+  pub starts : slice_index s.starts page ≢ NO_START
+  pub leads : Leads b (page_first s page) a
+
+pub from_start : (b : List ℕ) (s : ChainSegment) (page a : ℕ) → OnPageChain (chain_segments b) b s page a → FromStart b s page a
+from_start b s page _ (chain.OnPageChain.first within starts) =
+    record { within = within; starts = starts; leads = walks.Leads.here (page_first s page) }
+from_start b s page _ (chain.OnPageChain.next a word on stands goes) =
+    let before = from_start b s page a on in
+    record { within = before.within; starts = before.starts; leads = leads_more b (page_first s page) a word before.leads stands goes }
+
+pub leads_on_page : (b : List ℕ) (s : ChainSegment) (page a c : ℕ) → OnPageChain (chain_segments b) b s page a → Leads b a c
+    → OnPageChain (chain_segments b) b s page c
+leads_on_page b s page _ _ on (walks.Leads.here a) = on
+leads_on_page b s page _ _ on (walks.Leads.on a word c stands goes rest) =
+    leads_on_page b s page (a + STRIDE * next_of word) c (chain.OnPageChain.next a word on stands goes) rest
+
+pub on_page : (b : List ℕ) (s : ChainSegment) (page a : ℕ) → FromStart b s page a → OnPageChain (chain_segments b) b s page a
+on_page b s page a f = leads_on_page b s page (page_first s page) a (chain.OnPageChain.first f.within f.starts) f.leads
+
+-- the chain is made of the pages' chains
+pub record OnSomePage (b : List ℕ) (a : ℕ) : Type 0 where
+  pub segment : ChainSegment
+  pub page : ℕ
+  pub one : Contains (chain_segments b) segment
+  pub on : OnPageChain (chain_segments b) b segment page a
+
+pub on_some_page : (b : List ℕ) (a : ℕ) → OnChain (chain_segments b) b a → OnSomePage b a
+on_some_page b _ (chain.OnChain.first s page one within starts) =
+    record { segment = s; page = page; one = one; on = chain.OnPageChain.first within starts }
+on_some_page b _ (chain.OnChain.next a word on stands goes) =
+    let before = on_some_page b a on in
+    record { segment = before.segment; page = before.page; one = before.one; on = chain.OnPageChain.next a word before.on stands goes }
+
+-- a chain leads from an address to itself, and where it is another one, upwards
+pub leads_here : (b : List ℕ) (a c : ℕ) → a ≡ c → Leads b a c
+leads_here b a c same = subst (λ x. Leads b a x) same (walks.Leads.here a)
+
+pub leads_no_lower : (b : List ℕ) (a c : ℕ) → c < a → Leads b a c → ⊥
+leads_no_lower b a c lower leads = let up = leads_up b a c leads in omega (arith, up, lower)
+
+-- the steps of one segment more do not lead to the end
+pub one_leads_nowhere : (b : List ℕ) (i from to : ℕ) → ((k n : ℕ) → k < i → StepIn b k from n → Leads b (from + n) to → ⊥)
+    → ((n : ℕ) → StepIn b i from n → Leads b (from + n) to → ⊥) → (k n : ℕ) → k < i + 1 → StepIn b k from n → Leads b (from + n) to → ⊥
+one_leads_nowhere b i from to before here k n within step leads =
+    elim (cases_lt k i) [
+      | inl lt ↦ before k n lt step leads
+      | inr le ↦ let same : k ≡ i = omega (arith, le, within) in here n (subst (λ j. StepIn b j from n) same step) leads
+    ]
+
+-- the starts of a page are those of the first table
+first_starts : (b : List ℕ) (k : ℕ) (cs : List Command) (c : Command) → 0 < length cs → get_or cs 0 c ≡ c
+    → starts_in_tables b (map (table_of_command b) cs) k ≡ starts_in b (table_of_command b c) k
+first_starts b k [] c some is = absurd (omega (arith, some))
+first_starts b k (x ∷ cs) c some is = ap (λ y. starts_in b (table_of_command b y) k) is
+
+pub starts_found : (b : List ℕ) (k place : ℕ) → IsNth list.Tables b 0 place → starts_of b k ≡ starts_in b (table_there b place) k
+starts_found b k place nth =
+    ap (λ ts. starts_in_tables b ts k) (tables_are b) ∙ first_starts b k (listed list.Tables b) (command_at b place) nth.within nth.is
+
+no_starts : (b : List ℕ) (k : ℕ) (cs : List Command) → length cs ≤ 0 → starts_in_tables b (map (table_of_command b) cs) k ≡ []
+no_starts b k [] none = refl
+no_starts b k (x ∷ cs) none = absurd (omega (arith, none))
+
+pub starts_missing : (b : List ℕ) (k : ℕ) → length (listed list.Tables b) ≤ 0 → starts_of b k ≡ []
+starts_missing b k none = ap (λ ts. starts_in_tables b ts k) (tables_are b) ∙ no_starts b k (listed list.Tables b) none
+
+-- how many there are, and each
+pub length_starts : (b : List ℕ) (t : Table) (k : ℕ) → nat_lt k (starts_count b t) ≡ true → (starts_offset b t k == 0) ≡ false
+    → length (starts_in b t k) ≡ (segment_starts b t k).page_count
+length_starts b t k within some =
+    rw (within, some) (length-map (range_with_len 0 (segment_starts b t k).page_count) (page_start b t k) ∙ length-range_with_len 0
+    (segment_starts b t k).page_count)
+
+pub start_is : (b : List ℕ) (t : Table) (k page : ℕ) → page < length (starts_in b t k)
+    → page_start b t k page ≡ slice_index (starts_in b t k) page
+start_is b t k page within =
+    cases (nat_lt k (starts_count b t)) (starts_offset b t k == 0) within
+  where
+    ones : List ℕ
+    ones = map (page_start b t k) (range_with_len 0 (segment_starts b t k).page_count)
+
+    cases : (x y : Bool) → page < length (if x then (if y then [] else ones) else [])
+        → page_start b t k page ≡ slice_index (if x then (if y then [] else ones) else []) page
+    cases true true lt = absurd (omega (arith, lt))
+    cases false y lt = absurd (omega (arith, lt))
+    cases true false lt =
+        let long = length-range_with_len 0 (segment_starts b t k).page_count in
+        let within_range : page < (segment_starts b t k).page_count =
+        omega (arith, lt, length-map (range_with_len 0 (segment_starts b t k).page_count) (page_start b t k), long) in
+        sym (get_or-map (page_start b t k) (range_with_len 0 (segment_starts b t k).page_count) page 0 0 (omega (arith, within_range, long))
+        ∙ ap (page_start b t k) (get_or-range_with_len 0 (segment_starts b t k).page_count page 0 within_range ∙ omega arith))
+
+-- an address is on no chain where it is on no segment's
+pub on_no_segment : (b : List ℕ) (a : ℕ) → ((number place : ℕ) → number < (header_of b).ncmds → IsNth list.Segments b number place
+    → (page : ℕ) → OnPageChain (chain_segments b) b (chain_segment_at b number place) page a → ⊥) → OnChain (chain_segments b) b a → ⊥
+on_no_segment b a none on =
+    let some = on_some_page b a on in
+    let n = numbered_segment b some.segment some.one in
+    none n.number n.place (omega (arith, n.nth.within, few_listed_of list.Segments b)) n.nth some.page
+    (subst (λ s. OnPageChain (chain_segments b) b s some.page a) n.is some.on)
+
+pub on_chain_of : (b : List ℕ) (number place page a : ℕ) → IsNth list.Segments b number place
+    → OnPageChain (chain_segments b) b (chain_segment_at b number place) page a → OnChain (chain_segments b) b a
+on_chain_of b number place page a nth on =
+    page_on_chain (chain_segments b) b (chain_segment_at b number place) page a (chain_contains b number place nth) on
+
+-- one more of what has passed
+pub one_more_below : {P : ℕ → Type 0} (i : ℕ) → ((k : ℕ) → k < i → P k) → P i → (k : ℕ) → k < i + 1 → P k
+one_more_below {P = P} i before here k within =
+    elim (cases_lt k i) [ inl lt ↦ before k lt | inr le ↦ let same : i ≡ k = omega (arith, le, within) in subst P same here ]
+
+-- a page's chain, by the words that are read
+pub page_chain_found : (b : List ℕ) (number place page a address start : ℕ) → page < length (starts_of b number)
+    → start ≡ slice_index (starts_of b number) page
+    → (start ≡ NO_START → ⊥) → address ≡ (segment_in b (command_at b place)).vmaddr → Leads b (address + CHAIN_PAGE * page + start) a
+    → OnPageChain (chain_segments b) b (chain_segment_at b number place) page a
+page_chain_found b number place page a address start within is some at leads =
+    on_page b (chain_segment_at b number place) page a (record {
+      within = within;
+      starts = λ none. some (is ∙ none);
+      leads = subst (λ n. Leads b ((segment_in b (command_at b place)).vmaddr + CHAIN_PAGE * page + n) a) is
+          (subst (λ n. Leads b (n + CHAIN_PAGE * page + start) a) at leads);
+    })
+
+pub page_chain_only : (b : List ℕ) (number place page a address start : ℕ) → start ≡ slice_index (starts_of b number) page
+    → address ≡ (segment_in b (command_at b place)).vmaddr → (Leads b (address + CHAIN_PAGE * page + start) a → ⊥)
+    → OnPageChain (chain_segments b) b (chain_segment_at b number place) page a → ⊥
+page_chain_only b number place page a address start is at none on =
+    let f = from_start b (chain_segment_at b number place) page a on in
+    none (subst (λ n. Leads b (n + CHAIN_PAGE * page + start) a) (sym at)
+    (subst (λ n. Leads b ((segment_in b (command_at b place)).vmaddr + CHAIN_PAGE * page + n) a) (sym is) f.leads))
+
+pub page_chain_none : (b : List ℕ) (number place page a start : ℕ) → start ≡ slice_index (starts_of b number) page → start ≡ NO_START
+    → OnPageChain (chain_segments b) b (chain_segment_at b number place) page a → ⊥
+page_chain_none b number place page a start is none on =
+    let f = from_start b (chain_segment_at b number place) page a on in f.starts (sym is ∙ none)
