@@ -14,7 +14,6 @@ pub mod TrieSaid
 pub mod Exporting
 pub mod Rows
 pub mod SymbolsSaid
-pub mod NamesEnd
 pub mod Listed
 pub mod Counted
 pub mod CanList
