@@ -8,6 +8,7 @@ use macho_layout::Placement;
 use macho_model::PlacedSegment;
 use std::alloc::{AllocError, Global};
 
+/// Where a segment stands in memory and in the file.
 fn fixup_segment(segment: PlacedSegment) -> FixupSegment
     ensures { result ≡ fixup_segment segment }
 {

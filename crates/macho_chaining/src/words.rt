@@ -23,7 +23,8 @@ pub fn write_words(
     out: &mut [u8],
 ) -> Result<(), AllocError>
     requires link { (l : Link) × (counts : Counts) × IsToChain l counts (placed_of placement.now) run.old (length out.old) }
-    ensures done { (l : Link) (counts : Counts) → IsToChain l counts (placed_of placement.now) run.old (length out.old) → OnOk result (IsChained l (placed_of placement.now) run.new out.old out.new) }
+    ensures done { (l : Link) (counts : Counts) → IsToChain l counts (placed_of placement.now) run.old (length out.old)
+        → OnOk result (IsChained l (placed_of placement.now) run.new out.old out.new) }
     ensures length { length out.new ≡ length out.old }
     ensures kept { OnErr result (out.new ≡ out.old) }
 {

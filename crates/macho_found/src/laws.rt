@@ -5,7 +5,8 @@ ghost use Rattle.macho_found.specs.Rooms.{PointersStand, SegmentsRise, SegmentsE
 ghost use Rattle.macho_found.specs.Heads.{HeadersStand, TablesEnd, TablesStandLow, HeadsHaveRoom};
 ghost use Rattle.macho_found.specs.Sizes.{RangesSuffice, SymbolsFill, SignaturesFill, RunsAreCounted};
 ghost use Rattle.macho_found.specs.Files.{PartsStand};
-ghost use Rattle.macho_found.specs.Targets.{SymbolsHavePlaces, NamesHavePlaces, RelocationsHavePlaces, PlacesAreOfLink, PlacesAreLow, PlacesAreAbove};
+ghost use Rattle.macho_found.specs.Targets.{SymbolsHavePlaces, NamesHavePlaces, RelocationsHavePlaces};
+ghost use Rattle.macho_found.specs.Targets.{PlacesAreOfLink, PlacesAreLow, PlacesAreAbove};
 ghost use Rattle.macho_found.specs.Names.{ImportsArePlain, ImportsAreTellable, LibrariesAreWhole};
 ghost use Rattle.macho_found.specs.Entries.{OwnEntriesFit, EntriesFit, EntriesAreOfLink};
 ghost use Rattle.macho_found.specs.Template.{TemplatesAreTight};

@@ -1,4 +1,4 @@
-//! The link: from what was gathered to the bytes of an image.
+//! The link: from the arguments and inputs that a linker holds to the bytes of an image.
 ghost use Rattle.std.specs.Prelude.{◌≡◌, IfOk, IfErr};
 ghost use Rattle.macho_model.specs.declared.placed.Counts.{Counts};
 ghost use Rattle.macho_model.specs.Links.{Link};
@@ -16,11 +16,13 @@ use macho_linking::{LinkAsked, link};
 use std::alloc::Global;
 
 impl Linker {
-    /// Links: resolves names, places the parts, writes the image and answers it with its placement.
+    /// Links: resolves names, places the parts, writes the image and answers it with its placement. `uuid` becomes the image's
+    /// identifier.
     ///
     /// # Errors
     ///
-    /// The rule that the inputs break, and where; see `LinkError`.
+    /// `DuplicateSymbol` to `RelocationRange`, for what the inputs ask that can't be met, as `LinkError` says of each; and
+    /// `OutOfMemory`. `BadName` and `BadInput` come when a linker is made or an input is added, never here.
     pub fn link_image(&self, alloc: Global, uuid: [u8; 16]) -> Result<LinkedImage, LinkError>
         // The image is as promised, and nothing stands that it is refused for.
         ensures done { IfOk result (IsImageOf self.now uuid) }
@@ -55,7 +57,8 @@ impl Linker {
     }
 }
 
-/// The refusal of a link. Its paths and its inputs were looked at when they were taken: they aren't refused here.
+/// The refusal of a link. No link is refused for its paths or its inputs, which were looked at when they were taken: `BadName` and
+/// `BadInput`, which don't come, would be told as `OutOfMemory`.
 fn refusal_of(error: LinkError) -> LinkError
     ensures { (l : Link) → IsRefused l error → RefusalStands l result }
 {

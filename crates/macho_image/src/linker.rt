@@ -114,7 +114,7 @@ fn refusal_of_stub(fault: StubFault) -> LinkError
     }
 }
 
-/// Looks whether the text is a stub.
+/// Refuses a text that is no stub.
 fn check_stub(alloc: Global, text: &str) -> Result<(), LinkError>
     ensures found { OnOk result (IsStubInput text.now (says_of text.now)) }
     ensures why { IfErr result (StubRefused text.now) }

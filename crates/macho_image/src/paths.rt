@@ -38,7 +38,8 @@ pub(crate) fn has_nul(text: &[u8]) -> bool
 
 /// Whether a path has no file name: an empty last part, or one that is a directory's own name.
 pub(crate) fn has_no_file_name(path: &[u8]) -> bool
-    ensures { result ≡ ((length (last_part path.now) == 0) || bytes_eq (last_part path.now) (codes ".") || bytes_eq (last_part path.now) (codes "..")) }
+    ensures { result ≡ ((length (last_part path.now) == 0) || bytes_eq (last_part path.now) (codes ".")
+        || bytes_eq (last_part path.now) (codes "..")) }
 {
     let name = last_part(path);
     name.is_empty() || name == b".".as_slice() || name == b"..".as_slice()

@@ -82,7 +82,8 @@ fn kept_names(
     asked: &IndexSet<&[u8]>,
     dead_strip_dylibs: bool,
 ) -> Result<Vec<Vec<u8>>, AllocError>
-    ensures { IfOk result (λ kept. map (λ name. name.items) kept.items ≡ filter (is_kept dead_strip_dylibs (texts asked.now.keys)) (texts names.now)) }
+    ensures { IfOk result (λ kept. map (λ name. name.items) kept.items
+        ≡ filter (is_kept dead_strip_dylibs (texts asked.now.keys)) (texts names.now)) }
 {
     let mut kept = Vec::new(alloc);
     for name in names {
@@ -105,7 +106,8 @@ pub fn needed_libraries(
     dead_strip_dylibs: bool,
 ) -> Result<Vec<Vec<u8>>, AllocError>
     requires { All (λ input. IsInput (input_of input)) inputs.now }
-    ensures { (l : Link) → l.inputs ≡ map input_of inputs.now → l.dead_strip_dylibs ≡ dead_strip_dylibs → ImportsAre l (imports_of l) imports.now
+    ensures { (l : Link) → l.inputs ≡ map input_of inputs.now → l.dead_strip_dylibs ≡ dead_strip_dylibs
+        → ImportsAre l (imports_of l) imports.now
         → IfOk result (λ libraries. map (λ library. library.items) libraries.items ≡ libraries_needed l) }
 {
     let names = install_names(alloc, inputs)?;

@@ -10,7 +10,7 @@ use macho_args::ArgsFault;
 use macho_image::LinkError;
 use std::alloc::AllocError;
 
-/// What a file is that is no input.
+/// What a file that is no input is, by its first bytes.
 #[derive(Clone, Copy, Debug, PartialEq, Eq)]
 pub enum InputKind {
     /// An archive of objects: it begins with `!<arch>` and a line feed.

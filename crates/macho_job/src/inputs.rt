@@ -37,7 +37,8 @@ pub(crate) fn add_inputs<F: Files>(
     requires empty { linker.old ≡ link_of (settings_of args.now) }
     requires unnamed { names_of names.old ≡ [] }
     requires alone { (settings_of args.now).generate ≡ None }
-    ensures added { OnOk result (HaveInputs (F.holds files.old) (settings_of args.now) (settings_of args.now).inputs (names_of names.new) linker.new) }
+    ensures added { OnOk result (HaveInputs (F.holds files.old) (settings_of args.now) (settings_of args.now).inputs
+        (names_of names.new) linker.new) }
     ensures why { IfErr result (JobFails (F.holds files.old) (settings_of args.now) (names_of names.new)
         (reading (F.faults files.old)) (reading (F.faults files.new))) }
     ensures counted { CountsOn (F.faults files.old) (F.faults files.new) }
@@ -77,8 +78,10 @@ fn find_input<F: Files>(
     spec: &InputSpec,
     files: &mut F,
 ) -> Result<FoundFile, Fault>
-    ensures found { IfOk result (λ found. IsSearched (F.holds files.old) (candidates_of (settings_of args.now) (input_of spec.now)) (Some found)) }
-    ensures why { IfErr result (λ fault. (paths : List (List ℕ)) → InputFails (F.holds files.old) (settings_of args.now) paths (input_of spec.now)
+    ensures found { IfOk result (λ found. IsSearched (F.holds files.old) (candidates_of (settings_of args.now) (input_of spec.now))
+        (Some found)) }
+    ensures why { IfErr result (λ fault. (paths : List (List ℕ))
+        → InputFails (F.holds files.old) (settings_of args.now) paths (input_of spec.now)
         (F.faults files.old) (F.faults files.new) fault) }
     ensures counted { CountsOn (F.faults files.old) (F.faults files.new) }
     ensures kept { OnlyReads F.directories F.canonical_paths F.holds F.write_faults files.old files.new }

@@ -9,7 +9,8 @@ ghost use Rattle.macho_args.specs.Store.{Store};
 ghost use Rattle.macho_image.specs.Linkers.{link_of};
 ghost use Rattle.macho_job.specs.Causes.{JobFails, Failures};
 ghost use Rattle.macho_job.specs.steps.Gathering.{HaveLists};
-ghost use Rattle.macho_job.specs.Generator.{generated_object, generated_path, joined_all, OBJECT_HEAD, CALLING_SECTIONS, LAST_SECTIONS, calling_parts, last_parts, calling_object, last_object, function_name, pointer_name};
+ghost use Rattle.macho_job.specs.Generator.{generated_object, generated_path, joined_all, OBJECT_HEAD, CALLING_SECTIONS, LAST_SECTIONS};
+ghost use Rattle.macho_job.specs.Generator.{calling_parts, last_parts, calling_object, last_object, function_name, pointer_name};
 ghost use Rattle.macho_job.specs.Names.{names_of};
 ghost use Rattle.macho_job.specs.steps.Parts.{part_bytes, TakesMade, MadeFails};
 
@@ -20,7 +21,7 @@ use byteorder::{ByteOrder, LittleEndian};
 use macho_image::Linker;
 use std::alloc::{AllocError, Global};
 
-/// A part of an object.
+/// A part of an object's bytes. Numbers are written lowest byte first.
 #[derive(Clone, Copy)]
 enum Part<'a> {
     /// Numbers of four bytes.
@@ -37,7 +38,7 @@ const TEXT_NAMES: [u8; 32] = *b"__text\0\0\0\0\0\0\0\0\0\0__TEXT\0\0\0\0\0\0\0\0
 /// The names of the pointer's section and its segment.
 const DATA_NAMES: [u8; 32] = *b"__data\0\0\0\0\0\0\0\0\0\0__DATA\0\0\0\0\0\0\0\0\0\0";
 
-/// Makes the objects, so many, and adds them to the linker.
+/// Makes `count` objects and adds them to the linker; their paths go to `names`.
 pub(crate) fn add_made(
     alloc: Global,
     linker: &mut Linker,
@@ -80,7 +81,7 @@ fn add_object(alloc: Global, linker: &mut Linker, index: u32, count: u32) -> Res
     }
 }
 
-// An object, by its number among so many.
+// The bytes of the object of a number from 0, among `count` objects.
 #[tactic(auto, unfolding(crate::specs::Generator::generated_object))]
 fn generated_object(alloc: Global, index: u32, count: u32) -> Result<Vec<u8>, AllocError>
     requires { index < count }
@@ -112,7 +113,8 @@ fn push_last(bytes: &mut Vec<u8>, alloc: Global, index: u32) -> Result<(), Alloc
 #[tactic(auto, unfolding(crate::specs::Generator::calling_object))]
 fn push_calling(bytes: &mut Vec<u8>, alloc: Global, index: u32) -> Result<(), AllocError>
     requires { index + 1 < 2 ^ 32 }
-    ensures { OnOk result (bytes.new.items ≡ calling_object bytes.old.items (function_name index) (pointer_name index) (function_name (index + 1))) }
+    ensures { OnOk result (bytes.new.items ≡ calling_object bytes.old.items (function_name index) (pointer_name index)
+        (function_name (index + 1))) }
 {
     let name = function_name(alloc, index)?;
     let pointer = format!(in alloc; "_p{index}")?;
@@ -192,7 +194,7 @@ fn push_calling_parts(
     Ok(())
 }
 
-// Its sections.
+// The section headers of an object whose function calls the next one.
 fn push_calling_sections(bytes: &mut Vec<u8>) -> Result<(), AllocError>
     ensures { OnOk result (bytes.new.items ≡ bytes.old.items ++ joined_all CALLING_SECTIONS) }
 {
@@ -222,7 +224,7 @@ fn push_last_parts(bytes: &mut Vec<u8>, name: u32, pointer: u32) -> Result<(), A
     Ok(())
 }
 
-// Its sections.
+// The section headers of the last object.
 fn push_last_sections(bytes: &mut Vec<u8>) -> Result<(), AllocError>
     ensures { OnOk result (bytes.new.items ≡ bytes.old.items ++ joined_all LAST_SECTIONS) }
 {
@@ -237,7 +239,7 @@ fn push_last_sections(bytes: &mut Vec<u8>) -> Result<(), AllocError>
     push_parts(bytes, &parts)
 }
 
-// The length of a name. One that is too long for a number of four bytes doesn't fit memory.
+// The length of a name in bytes. One of 2^32 or more is refused as want of memory.
 fn size_of(name: &str) -> Result<u32, AllocError>
     ensures { IfOk result (λ size. size ≡ length name.now) }
 {
@@ -256,7 +258,7 @@ fn sum_of(a: u32, b: u32) -> Result<u32, AllocError>
     }
 }
 
-// Parts behind bytes.
+// Writes parts behind the bytes.
 fn push_parts(bytes: &mut Vec<u8>, parts: &[Part<'_>]) -> Result<(), AllocError>
     ensures { OnOk result (bytes.new.items ≡ bytes.old.items ++ flat_map part_bytes parts.now) }
 {

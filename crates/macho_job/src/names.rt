@@ -13,7 +13,7 @@ pub struct FileNames {
 }
 
 impl FileNames {
-    /// No file.
+    /// The paths of no files.
     pub fn new(alloc: Global) -> FileNames
         ensures { names_of result ≡ [] }
     {
@@ -22,7 +22,11 @@ impl FileNames {
         }
     }
 
-    /// One file more, by its path.
+    /// Adds the path of a file behind the others; the file's number is how many there were.
+    ///
+    /// # Errors
+    ///
+    /// There is not enough memory. The paths are as they were.
     pub fn push(&mut self, path: String) -> Result<(), AllocError>
         ensures added { OnOk result (names_of self.new ≡ names_of self.old ++ string_bytes path ∷ []) }
         ensures kept { OnErr result (names_of self.new ≡ names_of self.old) }

@@ -32,26 +32,27 @@ pub struct SizesAsked<'a> {
     pub headerpad: bool,
     /// The imports.
     pub imports: &'a [Import],
-    /// The entries of the import table that pointers need of their own.
+    /// How many entries of the import table pointers need of their own.
     pub own_entries: u64,
     /// The name of the output file.
     pub name: &'a [u8],
-    /// Initializers.
+    /// How many initializers there are.
     pub initializers: u64,
-    /// Bytes that unwind information has at most.
+    /// The most bytes that unwind information may have.
     pub unwind: u64,
     /// Bytes of the exports trie.
     pub trie: u64,
-    /// Symbols of the symbol table.
+    /// How many symbols the symbol table has.
     pub symbols: u64,
     /// Bytes of the string table.
     pub strings: u64,
 }
 
-/// The room for longer names, for each path that names a library or is searched.
+/// The bytes of room for a longer name: one such room for each path that names a library or is searched.
 const NAME_ROOM: u64 = 1024;
 
-/// Counts the sizes of a link.
+/// The sizes of a link that its placement needs: bytes of commands, padding, tables and identifier, and numbers of initializers,
+/// import entries and symbols.
 pub fn count(asked: &SizesAsked<'_>) -> Counts
     requires { FitCounts asked.now }
     ensures { (l : Link) → AreAsked l asked.now → result ≡ counts_with l asked.now.trie }
@@ -71,7 +72,7 @@ pub fn count(asked: &SizesAsked<'_>) -> Counts
     }
 }
 
-/// The bytes of all load commands but the segments'.
+/// The bytes of all load commands except those of segments.
 fn commands_size(asked: &SizesAsked<'_>) -> u64
     requires { FitCounts asked.now }
     ensures { result ≡ commands_asked asked.now }
@@ -131,7 +132,7 @@ fn entry_size(own_entries: u64) -> u64
     if own_entries == 0 { 4 } else { 8 }
 }
 
-/// The bytes of commands with a path each behind a record.
+/// The bytes of commands of one kind, each a record of `front` bytes with a path behind it.
 fn paths_size(front: usize, paths: &[&[u8]]) -> u64
     requires front { front ≤ 24 }
     requires short { All IsPath paths.now }

@@ -62,7 +62,8 @@ pub fn import_table(
 ) -> Result<ImportTable, AllocError>
     requires { FitTable imports.now own.now libraries.now }
     ensures fits { IfOk result (λ t. AreEntries t.format t.entries.items) }
-    ensures done { (l : Link) → AreOfLink l imports.now own.now libraries.now → IfOk result (λ t. IsImportTable l t.format t.entries.items t.names.items) }
+    ensures done { (l : Link) → AreOfLink l imports.now own.now libraries.now
+        → IfOk result (λ t. IsImportTable l t.format t.entries.items t.names.items) }
 {
     let places = places(alloc, libraries)?;
     let mut entries = Vec::with_capacity(alloc, imports.len() + own.len())?;

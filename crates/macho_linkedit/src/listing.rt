@@ -15,7 +15,8 @@ ghost use Rattle.macho_names.specs.Kept.{in_carried};
 ghost use Rattle.macho_symbols.specs.Kept.{IsResolved, HasSymbol, symbol_id};
 ghost use Rattle.macho_linkedit.specs.Listing.{AreObjects, CanBeListed, AreListed, IsRowOf};
 ghost use Rattle.macho_linkedit.specs.steps.Names.{AreNames};
-ghost use Rattle.macho_linkedit.specs.steps.Listing.{is_defined_symbol, name_length, symbols_in, Lists, placed_type_of, placed_description_of};
+ghost use Rattle.macho_linkedit.specs.steps.Listing.{is_defined_symbol, name_length, symbols_in, Lists};
+ghost use Rattle.macho_linkedit.specs.steps.Listing.{placed_type_of, placed_description_of};
 
 use crate::names::Names;
 use crate::symbols::TableRow;
@@ -121,7 +122,8 @@ fn listed_name(
     requires names { AreNames (strings_of object.now.file.bytes) names.now }
     requires among { index < num_symbols object.now.file.bytes }
     requires known { HasSymbol resolved.now object.now.number index }
-    ensures is { (l : Link) (noted : List (List ℕ)) → IsResolved l noted resolved.now → object_of l object.now.number ≡ object.now.file.bytes
+    ensures is { (l : Link) (noted : List (List ℕ)) → IsResolved l noted resolved.now
+        → object_of l object.now.number ≡ object.now.file.bytes
         → result ≡ name_length l (symbol_id object.now.number index) }
     ensures small { IfSome result (λ n. n + 1 < 2 ^ 32) }
 {
@@ -151,8 +153,10 @@ fn list_object(
     requires object { object.now.file.is_dynamic ≡ false }
     requires known { (k : ℕ) → k < num_symbols object.now.file.bytes → HasSymbol resolved.now object.now.number k }
     requires room { table.old.strings + 2 ^ 32 * num_symbols object.now.file.bytes < 2 ^ 64 }
-    ensures done { (l : Link) (noted : List (List ℕ)) → IsResolved l noted resolved.now → object_of l object.now.number ≡ object.now.file.bytes
-        → OnOk result (Lists l (symbols_in object.now.number object.now.file.bytes (num_symbols object.now.file.bytes)) table.old table.new) }
+    ensures done { (l : Link) (noted : List (List ℕ)) → IsResolved l noted resolved.now
+        → object_of l object.now.number ≡ object.now.file.bytes
+        → OnOk result (Lists l (symbols_in object.now.number object.now.file.bytes
+        (num_symbols object.now.file.bytes)) table.old table.new) }
     ensures room { OnOk result (table.new.strings ≤ table.old.strings + 2 ^ 32 * num_symbols object.now.file.bytes) }
 {
     let names = Names::new(alloc, object.file.strings())?;

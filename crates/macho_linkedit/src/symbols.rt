@@ -41,7 +41,7 @@ pub struct TableRow<'a> {
 }
 
 impl SymbolTable {
-    /// A table without symbols, with room for so many and for so many bytes of strings.
+    /// A table without symbols, with memory for `symbols` entries and `strings` bytes of strings. Its strings begin with a NUL.
     ///
     /// # Errors
     ///
@@ -83,7 +83,8 @@ impl SymbolTable {
         Ok(())
     }
 
-    /// Writes the entries at the front of a range of the file, and the strings behind them.
+    /// Writes the entries, 16 bytes each, at the front of a range of the file, and the strings behind them. The bytes behind the
+    /// strings stay.
     pub fn write(&self, out: &mut [u8])
         requires { table_size self.now ≤ length out.old }
         ensures written { out.new ≡ put 0 (table_text self.now) out.old }
@@ -94,7 +95,7 @@ impl SymbolTable {
     }
 }
 
-/// Writes entries at the front of a range. Returns the place behind them.
+/// Writes entries at the front of a range. Returns how many bytes they took.
 fn write_entries(entries: &[SymtabEntry], out: &mut [u8]) -> usize
     requires { 16 * length entries.now ≤ length out.old }
     ensures { IsWrittenSoFar entries.now result out.old out.new }

@@ -1,16 +1,16 @@
-//! The bytes of inputs are bytes.
+//! That the bytes of inputs are numbers below 256: functions that read nothing, for their contracts alone.
 ghost use Rattle.std.specs.Prelude.{◌<◌, All, map};
 ghost use Rattle.macho_inputs.specs.steps.Owned.{input_of};
 ghost use Rattle.macho_answers.specs.Inputs.{HasBytes};
 
 use macho_inputs::OwnedInput;
 
-/// Bytes are numbers below 256, as their type says.
+/// States that bytes are numbers below 256, as their type says.
 fn are_bytes(bytes: &[u8])
     ensures { All (λ x. x < 256) bytes.now }
 {}
 
-/// The bytes of an object are, too.
+/// States it of the bytes of an object; nothing is said of another input.
 fn has_bytes(input: &OwnedInput)
     ensures { HasBytes (input_of input.now) }
 {
@@ -21,7 +21,7 @@ fn has_bytes(input: &OwnedInput)
     }
 }
 
-/// And those of all inputs. No byte is read.
+/// States it of the bytes of all objects among the inputs.
 pub(crate) fn hold_bytes(inputs: &[OwnedInput])
     ensures { All HasBytes (map input_of inputs.now) }
 {

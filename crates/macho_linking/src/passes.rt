@@ -1,4 +1,4 @@
-//! The link as a list of passes.
+//! The link as a list of passes: each takes what the passes before it made, and the first that refuses ends the link.
 ghost use Rattle.std.specs.Prelude.{◌≡◌, ℕ, ◌+◌, ◌<◌, ◌^◌, List, map, length, IfOk, OnOk, IfErr};
 ghost use Rattle.std.specs.Option.{option_copied};
 ghost use Rattle.macho_model.specs.Links.{Link};
@@ -29,7 +29,7 @@ use macho_sizing::{SizedLink, SizesOf, size_link};
 use macho_tables::{kept_exports, told_imports};
 use std::alloc::Global;
 
-/// The name at which an executable begins.
+/// The name at which an executable begins, None for a dynamic library.
 fn entry_name<'a>(asked: &LinkAsked<'a>) -> Option<&'a [u8]>
     ensures { option_copied result ≡ entry_of (link_asked asked.now) }
 {
@@ -113,7 +113,8 @@ fn answer(
     libraries: Vec<Vec<u8>>,
 ) -> Result<LinkedImage, LinkError>
     requires few { length libraries.items + 1 < 2 ^ 32 }
-    ensures done { (l : Link) (uuid : List ℕ) → IsToAnswer l uuid written sized read (map (λ n. n.items) libraries.items) → IfOk result (IsImageOf l uuid) }
+    ensures done { (l : Link) (uuid : List ℕ) → IsToAnswer l uuid written sized read (map (λ n. n.items) libraries.items)
+        → IfOk result (IsImageOf l uuid) }
     ensures why { IfErr result (λ e. e ≡ OutOfMemory) }
 {
     let ReadLink { needs, exports, .. } = read;
@@ -128,11 +129,14 @@ fn answer(
     })
 }
 
-/// Links: answers the image of what is asked for.
+/// Links what is asked for, and answers its image, with `uuid` as its identifier.
 ///
 /// # Errors
 ///
-/// Why the link is refused; see `LinkError`. Of a valid link want of memory alone.
+/// `DuplicateSymbol` where two objects define a name strongly; then a refusal of what the objects ask for (`UndefinedSymbol` to
+/// `FixupPlace` without a placement); then one of numbers and sizes (`TooMany`, `ImageTooLarge`); last, with the placement, one
+/// of a value that can't be written (`FixupPlace`, `RebaseTarget`, `RelocationRange`, `ImageTooLarge`). `OutOfMemory` may come at
+/// any time, and is the only refusal of a valid link.
 pub fn link(alloc: Global, asked: &LinkAsked<'_>, uuid: [u8; 16]) -> Result<LinkedImage, LinkError>
     requires { IsGiven asked.now }
     ensures done { IfOk result (IsImageOf (link_asked asked.now) uuid) }

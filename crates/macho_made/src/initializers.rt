@@ -70,9 +70,11 @@ pub fn write_initializers<P: Places>(
     requires long { length out.old ≡ INITIALIZER_SIZE * length rows.now }
     requires symbols { All (λ row. P.has_symbol places.now row.file row.relocation.r_symbolnum) rows.now }
     ensures length { length out.new ≡ length out.old }
-    ensures done { (l : Link) (counts : Counts) (p : Placed) → IsToMake l counts p → Tells l p (P.look places.now) → rows.now ≡ initializer_rows l
+    ensures done { (l : Link) (counts : Counts) (p : Placed) → IsToMake l counts p → Tells l p (P.look places.now)
+        → rows.now ≡ initializer_rows l
         → OnOk result (IsOffsetsText l p out.new) }
-    ensures why { (l : Link) (counts : Counts) (p : Placed) → IsToMake l counts p → Tells l p (P.look places.now) → rows.now ≡ initializer_rows l
+    ensures why { (l : Link) (counts : Counts) (p : Placed) → IsToMake l counts p → Tells l p (P.look places.now)
+        → rows.now ≡ initializer_rows l
         → IfErr result (IsRefused l p) }
 {
     put_offsets(places, rows, out)

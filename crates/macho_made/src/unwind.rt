@@ -170,9 +170,11 @@ pub fn unwind_text<P: Places>(
 ) -> Result<Vec<u8>, MadeFault>
     requires symbols { All (KnowsPersonality (P.has_symbol places.now)) entries.now }
     requires sound { MayBeBuilt (P.look places.now).base (map (resolved_row (P.look places.now) tables.now.slots) entries.now) }
-    ensures done { (l : Link) (counts : Counts) (p : Placed) → IsToMake l counts p → Tells l p (P.look places.now) → tables.now.slots ≡ slots_of l
+    ensures done { (l : Link) (counts : Counts) (p : Placed) → IsToMake l counts p → Tells l p (P.look places.now)
+        → tables.now.slots ≡ slots_of l
         → entries.now ≡ entry_rows l → IfOk result (λ v. IsUnwindMade l p v.items) }
-    ensures why { (l : Link) (counts : Counts) (p : Placed) → IsToMake l counts p → Tells l p (P.look places.now) → tables.now.slots ≡ slots_of l
+    ensures why { (l : Link) (counts : Counts) (p : Placed) → IsToMake l counts p → Tells l p (P.look places.now)
+        → tables.now.slots ≡ slots_of l
         → entries.now ≡ entry_rows l → IfErr result (IsRefused l p) }
 {
     let resolved = resolve_all(alloc, places, tables, entries)?;

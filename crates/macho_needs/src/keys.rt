@@ -1,23 +1,23 @@
-//! By what slots and entries are found: their targets, and pairs of import and addend.
+//! The keys of the tables of needs: a slot is found by its target, an entry of the import table by import and addend.
 ghost use Rattle.std.specs.Prelude.{◌≡◌};
 ghost use Rattle.macho_needs.specs.Tables.{target_of};
 
 use macho_model::Target;
 
-/// The target of a slot.
+/// The target of a slot, in a form that can be hashed; [`Target`] says what each case means.
 #[derive(Clone, Copy, PartialEq, Eq, Hash)]
 pub enum SlotKey {
     /// A place in a carried section: file, section, offset.
     Section(u32, u32, u64),
-    /// A chosen common.
+    /// A chosen common, by its number.
     Common(u32),
-    /// An import.
+    /// An import, by its number.
     Import(u32),
     /// The first byte of the image.
     Base,
-    /// A value.
+    /// An absolute value.
     Absolute(u64),
-    /// Nothing.
+    /// No target.
     Nothing,
 }
 

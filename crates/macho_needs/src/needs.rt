@@ -44,7 +44,8 @@ pub fn is_carried(header: SectionHeader) -> bool
 /// The start of a section of an object that is named by its number, from 1; nothing where it isn't carried.
 fn section_target(object: &File<'_>, file: u32, number: u32) -> Target
     requires object { object.now.is_dynamic ≡ false }
-    ensures { number - 1 < num_sections object.now.bytes → result ≡ carried_start file (number - 1) (section_at object.now.bytes (number - 1)) }
+    ensures { number - 1 < num_sections object.now.bytes
+        → result ≡ carried_start file (number - 1) (section_at object.now.bytes (number - 1)) }
 {
     let section = number.saturating_sub(1);
     match object.section(section) {
@@ -58,7 +59,7 @@ fn section_target(object: &File<'_>, file: u32, number: u32) -> Target
 }
 
 impl Needs {
-    /// The needs of a link of which nothing is noted. It takes no memory.
+    /// The needs of a link of which nothing is noted. Nothing is allocated.
     pub fn new(alloc: Global, resolved: Resolved) -> Needs
         ensures { (l : Link) → IsResolved l [] resolved → IsNoted l [] result }
     {
@@ -78,7 +79,8 @@ impl Needs {
             → IfOk result (λ t. t ≡ target_with l noted (symbol_id file relocation.r_symbolnum)) }
         ensures found { (l : Link) (noted : List (List ℕ)) → IsResolved l noted self.old.resolved
             → OnOk result (IsDefined l (symbol_id file relocation.r_symbolnum)) }
-        ensures why { (l : Link) (noted : List (List ℕ)) → IsResolved l noted self.old.resolved → IfErr result (IsLostBy l file relocation) }
+        ensures why { (l : Link) (noted : List (List ℕ)) → IsResolved l noted self.old.resolved
+            → IfErr result (IsLostBy l file relocation) }
         ensures others { self.new.tables ≡ self.old.tables }
         ensures kept { OnErr result (self.new.resolved ≡ self.old.resolved) }
     {
@@ -98,9 +100,12 @@ impl Needs {
         ensures noted { (l : Link) (noted : List (List ℕ)) → IsResolved l noted self.old.resolved
             → OnOk result (IsResolved l (noting_by l noted file relocation) self.new.resolved) }
         ensures leads { (l : Link) (noted : List (List ℕ)) → IsResolved l noted self.old.resolved
-            → (relocation.r_extern ≡ false → relocation.r_symbolnum - 1 < num_sections object.now.bytes) → IfOk result (λ t. t ≡ lead_by l noted object.now.bytes file relocation) }
-        ensures found { (l : Link) (noted : List (List ℕ)) → IsResolved l noted self.old.resolved → OnOk result (IsFoundBy l file relocation) }
-        ensures why { (l : Link) (noted : List (List ℕ)) → IsResolved l noted self.old.resolved → IfErr result (IsLostBy l file relocation) }
+            → (relocation.r_extern ≡ false → relocation.r_symbolnum - 1 < num_sections object.now.bytes)
+            → IfOk result (λ t. t ≡ lead_by l noted object.now.bytes file relocation) }
+        ensures found { (l : Link) (noted : List (List ℕ)) → IsResolved l noted self.old.resolved
+            → OnOk result (IsFoundBy l file relocation) }
+        ensures why { (l : Link) (noted : List (List ℕ)) → IsResolved l noted self.old.resolved
+            → IfErr result (IsLostBy l file relocation) }
         ensures others { self.new.tables ≡ self.old.tables }
         ensures kept { OnErr result (self.new.resolved ≡ self.old.resolved) }
     {
@@ -127,7 +132,8 @@ impl Needs {
         requires object { object.now.is_dynamic ≡ false }
         requires symbol { HasReferent self.old.resolved file relocation }
         ensures noted { (l : Link) (us : List Use) (s : SectionId) (r : ℕ) → IsNoted l us self.old → IsNext l us (ByRelocation s r)
-            → IsRelocationOf l s r object.now relocation → s.file ≡ file → pointer ≡ pointer_of l s r → OnOk result (IsNoted l (us ++ ByRelocation s r ∷ []) self.new) }
+            → IsRelocationOf l s r object.now relocation → s.file ≡ file → pointer ≡ pointer_of l s r
+            → OnOk result (IsNoted l (us ++ ByRelocation s r ∷ []) self.new) }
         ensures leads { (l : Link) (us : List Use) (s : SectionId) (r : ℕ) → IsNoted l us self.old → IsNext l us (ByRelocation s r)
             → IsRelocationOf l s r object.now relocation → s.file ≡ file → IfOk result (λ t. t ≡ referent l s r) }
         ensures why { (l : Link) (counts : Counts) (noted : List (List ℕ)) (s : SectionId) (r : ℕ) → IsResolved l noted self.old.resolved

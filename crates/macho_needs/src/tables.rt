@@ -30,11 +30,15 @@ impl Model for Tables {
 
     ghost Value = { Numbered };
 
-    ghost view = { λ t. record { slots = map target_of t.slots.keys; stubs = map target.Import t.stubs.keys; own = map entry_of t.own.keys } };
+    ghost view = { λ t. record {
+      slots = map target_of t.slots.keys;
+      stubs = map target.Import t.stubs.keys;
+      own = map entry_of t.own.keys;
+    } };
 }
 
 impl Tables {
-    /// Tables of nothing. It takes no memory.
+    /// Empty tables. Nothing is allocated.
     pub fn new(alloc: Global) -> Tables
         ensures { result ≡ no_tables }
     {
@@ -45,7 +49,7 @@ impl Tables {
         }
     }
 
-    /// The slots, by number.
+    /// How many slots there are. They are numbered from 0.
     pub fn num_slots(&self) -> usize
         ensures { result ≡ length self.now.slots }
     {
@@ -69,7 +73,7 @@ impl Tables {
         self.slots.get_index_of(&key(target))
     }
 
-    /// The stubs, by number.
+    /// How many stubs there are. They are numbered from 0.
     pub fn num_stubs(&self) -> usize
         ensures { result ≡ length self.now.stubs }
     {
@@ -90,7 +94,7 @@ impl Tables {
         self.stubs.get_index_of(&import)
     }
 
-    /// The entries that pointers need of their own, by number.
+    /// How many entries pointers need of their own. They are numbered from 0.
     pub fn num_own(&self) -> usize
         ensures { result ≡ length self.now.own }
     {
@@ -104,7 +108,7 @@ impl Tables {
         self.own.get_index(number).copied()
     }
 
-    /// The number of such an entry, None where there is none.
+    /// The number of an entry that a pointer needs of its own, None where the tables have no such entry.
     pub fn own_number(&self, entry: OwnEntry) -> Option<usize>
         ensures { result ≡ number_of same_entry self.now.own (entry_of entry) }
     {
@@ -144,7 +148,8 @@ impl Tables {
 
     /// Gives the target of a reference of a type a slot, where it needs one.
     fn note_slot(&mut self, kind: u8, target: Target) -> Result<(), AllocError>
-        ensures { OnOk result (self.new ≡ record self.old { slots = with_some same_target self.old.slots (slot_of_relocation kind target) }) }
+        ensures { OnOk result (self.new
+            ≡ record self.old { slots = with_some same_target self.old.slots (slot_of_relocation kind target) }) }
     {
         if kind == ARM64_RELOC_POINTER_TO_GOT || goes_by_slot(kind) && is_import(target) {
             return self.add_slot(target);
@@ -154,7 +159,8 @@ impl Tables {
 
     /// Gives the target of a reference of a type a stub, where it needs one.
     fn note_stub(&mut self, kind: u8, target: Target) -> Result<(), AllocError>
-        ensures { OnOk result (self.new ≡ record self.old { stubs = with_some same_target self.old.stubs (stub_of_relocation kind target) }) }
+        ensures { OnOk result (self.new
+            ≡ record self.old { stubs = with_some same_target self.old.stubs (stub_of_relocation kind target) }) }
     {
         if kind != ARM64_RELOC_BRANCH26 {
             return Ok(());

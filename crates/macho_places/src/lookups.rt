@@ -65,7 +65,8 @@ impl<'a, 'data> LinkPlaces<'a, 'data> {
         ensures tells { (l : Link) (counts : Counts) → AreOfLink l counts (placed_of placement.now) needs.now views.now
             → IfOk result (λ p. Tells l (placed_of placement.now) (⟦<LinkPlaces<'a, 'data> as Places>⟧.look p)) }
         ensures known { (l : Link) → IsResolved l needs.now.resolved.noted needs.now.resolved
-            → IfOk result (λ p. (file symbol : ℕ) → HasSymbol needs.now.resolved file symbol → ⟦<LinkPlaces<'a, 'data> as Places>⟧.has_symbol p file symbol) }
+            → IfOk result (λ p. (file symbol : ℕ) → HasSymbol needs.now.resolved file symbol
+            → ⟦<LinkPlaces<'a, 'data> as Places>⟧.has_symbol p file symbol) }
     {
         let imports = needs.resolved.imports().len();
         // A link has fewer uses of symbols than that.

@@ -20,7 +20,7 @@ pub(crate) struct Rows {
     pub(crate) entries: Vec<UnwindEntry>,
 }
 
-/// A file that is viewed keeps the rules of its kind.
+/// States that a file that is viewed keeps the rules of its kind: of objects, or of dynamic libraries.
 fn is_whole(view: &Option<File<'_>>)
     ensures { IsWhole view.now }
 {
@@ -29,7 +29,7 @@ fn is_whole(view: &Option<File<'_>>)
     }
 }
 
-/// So do all that are viewed.
+/// States that each file that is viewed keeps the rules of its kind.
 fn are_whole(views: &[Option<File<'_>>])
     ensures { All IsWhole views.now }
 {

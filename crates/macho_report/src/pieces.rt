@@ -25,7 +25,8 @@ pub(crate) enum Piece<'a> {
 
 /// Prints the pieces, one behind the other. Where the sink fails, nothing more is printed.
 pub(crate) fn print_pieces<S: Sink>(sink: &mut S, pieces: &[Piece<'_>]) -> Result<(), SinkFault>
-    ensures { IsPrinted (S.taken sink.old) (S.taken sink.new) (S.faults sink.old) (S.faults sink.new) (flat_map piece_text pieces.now) result }
+    ensures { IsPrinted (S.taken sink.old) (S.taken sink.new) (S.faults sink.old) (S.faults sink.new)
+        (flat_map piece_text pieces.now) result }
 {
     for index in 0..pieces.len() {
         let piece = &pieces[index];

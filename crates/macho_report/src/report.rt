@@ -7,7 +7,8 @@ ghost use Rattle.std.specs.Option.{option_copied};
 ghost use Rattle.std.specs.String.{string_bytes};
 ghost use Rattle.macho_args.specs.Settings.{input_of, word_of};
 ghost use Rattle.macho_job.specs.Names.{names_of};
-ghost use Rattle.macho_report.specs.Lines.{line_of, fault_line, word_text, fault_word, fault_kind, error_text, broken_text, place_text, site_text};
+ghost use Rattle.macho_report.specs.Lines.{line_of, fault_line, word_text, fault_word, fault_kind};
+ghost use Rattle.macho_report.specs.Lines.{error_text, broken_text, place_text, site_text};
 ghost use Rattle.macho_report.specs.Lines.{object_rule, stub_rule, unwind_rule, limit_name, name_of_input, word_name};
 ghost use Rattle.macho_report.specs.Printing.{IsPrinted, IsLineTold};
 ghost use Rattle.macho_report.specs.steps.Groups.{is_of_name, is_of_section, is_of_relocation};
@@ -44,7 +45,8 @@ fn print_line<E: Sink>(
     fault: &Fault,
 ) -> Result<(), SinkFault>
     ensures { IsPrinted (E.taken err.old) (E.taken err.new) (E.faults err.old) (E.faults err.new)
-        (fault_line (map input_of inputs.now) (map (λ list. (list.0, string_bytes list.1)) lists.now) (names_of names.now) fault.now) result }
+        (fault_line (map input_of inputs.now) (map (λ list. (list.0, string_bytes list.1)) lists.now)
+        (names_of names.now) fault.now) result }
 {
     match fault {
         Fault::Words { fault } => print_bad_word(err, *fault),

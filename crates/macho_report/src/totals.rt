@@ -11,7 +11,7 @@ use macho_devices::{Sink, SinkFault};
 use macho_image::LinkedImage;
 use sha2::{Digest, Sha256};
 
-/// Prints the lines of made objects, so many, where some were asked for. Where the sink fails, nothing more is printed.
+/// Prints the lines of `-generate`, where that was given with a `count`. Where the sink fails, nothing more is printed.
 pub(crate) fn print_totals<O: Sink>(
     out: &mut O,
     count: Option<u32>,
@@ -32,7 +32,8 @@ fn print_numbers<O: Sink>(
     fixups: u64,
     bytes: &[u8],
 ) -> Result<(), SinkFault>
-    ensures { IsPrinted (O.taken out.old) (O.taken out.new) (O.faults out.old) (O.faults out.new) (generate_lines count fixups bytes.now) result }
+    ensures { IsPrinted (O.taken out.old) (O.taken out.new) (O.faults out.old) (O.faults out.new)
+        (generate_lines count fixups bytes.now) result }
 {
     let digest = digest_of(bytes);
     let pieces = [

@@ -17,11 +17,11 @@ use macho_model::Counts;
 use macho_symbols::Import;
 use std::alloc::{AllocError, Global};
 
-/// A path of so many bytes is told by no load command.
+/// Paths are shorter than this in bytes: the size of a load command has 32 bits.
 const PATH_LIMIT: usize = 1 << 32;
-/// So many paths are told by no load commands.
+/// There are fewer paths of a kind than this, so that the bytes of their commands don't pass 64 bits.
 const PATHS_LIMIT: usize = 1 << 28;
-/// A name of so many bytes has no room.
+/// The name of the output file is shorter than this in bytes.
 const NAME_LIMIT: usize = 1 << 63;
 
 /// Texts, each as a slice.
@@ -35,7 +35,7 @@ fn slices<'a>(alloc: Global, names: &'a [Vec<u8>]) -> Result<Vec<&'a [u8]>, Allo
     Ok(slices)
 }
 
-/// Looks whether load commands can tell of some paths. Commands of 4 GiB would take more memory than there is.
+/// Refuses paths that load commands can't tell, as want of memory: there is no room for commands of 4 GiB.
 fn check_paths(paths: &[&[u8]]) -> Result<(), AllocError>
     ensures short { OnOk result (All IsPath paths.now) }
     ensures few { OnOk result (length paths.now < 2 ^ 28) }
@@ -51,7 +51,7 @@ fn check_paths(paths: &[&[u8]]) -> Result<(), AllocError>
     Ok(())
 }
 
-/// Looks whether the names of a link itself have room. Names of 4 GiB would take more memory than there is.
+/// Refuses an install name of 4 GiB or more, or an output name of 2^63 bytes or more, as want of memory.
 fn check_names(install_name: &[u8], name: &[u8]) -> Result<(), AllocError>
     ensures path { OnOk result (length install_name.now < 2 ^ 32) }
     ensures name { OnOk result (length name.now < 2 ^ 63) }

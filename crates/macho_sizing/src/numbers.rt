@@ -18,7 +18,7 @@ use macho_model::Limit;
 use macho_symbols::{ExportList, Import};
 use std::alloc::{AllocError, Global};
 
-/// The most libraries.
+/// The most libraries that the image may need.
 const MOST_LIBRARIES: u64 = 240;
 /// The most personality functions.
 const MOST_PERSONALITIES: u64 = 3;
@@ -64,7 +64,7 @@ fn names_size(imports: &[Import]) -> Option<u64>
     Some(size)
 }
 
-/// The symbols of some objects, None from 2^64 on.
+/// How many symbols some objects have together, None from 2^64 on.
 fn object_symbols(objects: &[LinkedObject<'_>]) -> Option<u64>
     ensures { result ≡ fitting (sum_by (λ o. num_symbols o.file.bytes) objects.now) }
 {
@@ -75,7 +75,7 @@ fn object_symbols(objects: &[LinkedObject<'_>]) -> Option<u64>
     Some(symbols)
 }
 
-/// The entries without a star of export lists.
+/// How many entries of the export lists are plain names, without a star; 0 where there are no lists.
 fn plain_entries(list: Option<&ExportList>) -> usize
     ensures { result ≡ plain_of (option_copied list.entry) }
 {
@@ -85,7 +85,7 @@ fn plain_entries(list: Option<&ExportList>) -> usize
     }
 }
 
-/// The numbers of a link. Sums of 2^64 or more would take more memory than there is.
+/// The numbers of a link. A sum of 2^64 or more is refused as want of memory.
 pub(crate) fn count_numbers(
     alloc: Global,
     asked: &SizesOf<'_>,
@@ -118,7 +118,7 @@ pub(crate) fn count_numbers(
     })
 }
 
-/// Looks whether a number passes its limit.
+/// Refuses a number that is more than its limit.
 fn check_one(what: Limit, number: u64, most: u64) -> Result<(), Passed>
     ensures within { OnOk result (number ≤ most) }
     ensures passed { IfErr result (λ p. (p ≡ record { what = what; number = number }) × (most < number)) }
@@ -130,7 +130,8 @@ fn check_one(what: Limit, number: u64, most: u64) -> Result<(), Passed>
     }
 }
 
-/// Looks whether a number passes its limit: that of symbols is told first, then the others in the order of limits.
+/// Refuses the numbers of a link where one passes its limit. Of several that of symbols is told, else the first by the order of
+/// limits.
 pub(crate) fn check_numbers(numbers: &Numbers) -> Result<(), Passed>
     ensures within { OnOk result (AreWithin numbers.now) }
     ensures passed { IfErr result (IsPassed numbers.now) }

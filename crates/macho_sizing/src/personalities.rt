@@ -15,7 +15,7 @@ use macho_model::Target;
 use macho_needs::{Needs, SlotKey};
 use std::alloc::{AllocError, Global};
 
-/// What a target is told apart by.
+/// The key by which a target is told apart from others.
 fn key(target: Target) -> SlotKey
     ensures { target_of result ≡ target }
 {

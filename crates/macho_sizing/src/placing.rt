@@ -22,7 +22,7 @@ use std::alloc::Global;
 
 /// The most pages of a segment that the loader writes pointers in.
 const MOST_PAGES: u64 = 65_535;
-/// File offsets and sizes are told in 32 bits.
+/// File offsets and sizes are below this: they are told in 32 bits.
 const LIMIT_32: u64 = 0x1_0000_0000;
 
 /// Whether the loader writes pointers in a segment.
@@ -67,9 +67,11 @@ fn passes(placement: &Placement) -> Option<u64>
     most_pages(&placement.segments)
 }
 
-/// The refusal of a placement that is too large: for the pages of a segment where those are too many.
+/// The refusal of a placement that is too large: `TooMany` for the pages of a segment where those are too many, else
+/// `ImageTooLarge`, both with the placement.
 fn too_large(placement: Placement) -> LinkError
-    ensures { (l : Link) (counts : LinkCounts) → ImagePasses l (placed_of placement) → IsKept l (placed_of placement) → Stands l counts result }
+    ensures { (l : Link) (counts : LinkCounts) → ImagePasses l (placed_of placement) → IsKept l (placed_of placement)
+        → Stands l counts result }
 {
     match passes(&placement) {
         Some(number) => LinkError::TooMany {

@@ -18,7 +18,7 @@ use macho_layout::{Counts, LayoutFault, Plan};
 use macho_model::Limit;
 use std::alloc::Global;
 
-/// The number of segments or output sections of a plan, where it passes the limit. Of sizes it takes only whether there are
+/// The number of segments or output sections of a plan, where it passes the limit. Both depend on sizes only by whether there are
 /// initializers and unwind entries.
 fn plan_passes(alloc: Global, plan: &Plan, initializers: u64, entries: u64) -> Option<Passed>
     ensures { IfSome result (λ p. FaultStands plan.now (counts_before initializers entries) (TooMany p.what p.number)) }
@@ -67,7 +67,7 @@ fn too_many(passed: Passed) -> LinkError
     }
 }
 
-/// Looks whether a number passes its limit.
+/// Refuses a link of which a number passes its limit: with `TooMany`, without a placement, for the number that is told first.
 pub(crate) fn check_limits(
     alloc: Global,
     asked: &SizesOf<'_>,
@@ -90,9 +90,11 @@ pub(crate) fn check_limits(
     Err(too_many(told_first(passed, of_plan)))
 }
 
-/// The refusal of a link whose content has 2^64 bytes or more: that, unless the plan passes a limit.
+/// The refusal of a link whose content has 2^64 bytes or more: `TooMany` where the plan passes a limit, else `ImageTooLarge`, both
+/// without a placement.
 pub(crate) fn too_large(alloc: Global, asked: &SizesOf<'_>, plan: &Plan) -> LinkError
-    ensures { (l : Link) (counts : LinkCounts) → AreOf l asked.now → IsPlanOf l plan.now → AreCounts l counts → 2 ^ 64 ≤ content_sum l counts
+    ensures { (l : Link) (counts : LinkCounts) → AreOf l asked.now → IsPlanOf l plan.now → AreCounts l counts
+        → 2 ^ 64 ≤ content_sum l counts
         → Stands l counts result }
 {
     let of_plan = plan_passes(

@@ -74,7 +74,8 @@ pub fn size_link(
     list: Option<&ExportList>,
 ) -> Result<SizedLink, LinkError>
     requires { CanBeSized asked.now }
-    ensures done { (l : Link) → AreOf l asked.now → AreLists l (option_copied list.entry) → IfOk result (IsSizedOf l asked.now.exports.now) }
+    ensures done { (l : Link) → AreOf l asked.now → AreLists l (option_copied list.entry)
+        → IfOk result (IsSizedOf l asked.now.exports.now) }
     ensures why { (l : Link) (counts : LinkCounts) → AreOf l asked.now → AreLists l (option_copied list.entry) → AreCounts l counts
         → IfErr result (Stands l counts) }
 {

@@ -1,4 +1,4 @@
-//! What stands against a link, the first of each kind.
+//! What the walk over relocations finds against a link: the first fault of each kind, and the one that is told.
 ghost use Rattle.std.specs.Prelude.{◌≡◌, None, IfSome, IfNone};
 ghost use Rattle.macho_model.specs.declared.placed.Counts.{Counts};
 ghost use Rattle.macho_model.specs.Links.{Link};
@@ -36,7 +36,7 @@ pub(crate) struct Addend {
 pub(crate) struct Findings {
     /// A relocation that isn't supported.
     pub(crate) unsupported: Option<Place>,
-    /// Two that overlap.
+    /// Two relocations that overlap.
     pub(crate) overlap: Option<Pair>,
     /// A pointer to an import whose addend doesn't fit.
     pub(crate) addend: Option<Addend>,
@@ -44,7 +44,7 @@ pub(crate) struct Findings {
     pub(crate) place: Option<Place>,
 }
 
-/// The first one, or another if that is one.
+/// The first place of a kind: the one that was found before, else this one, if it is of the kind.
 fn first_if(is: bool, first: Option<Place>, place: Place) -> Option<Place>
     ensures { result ≡ first_if is first place }
 {
@@ -58,7 +58,7 @@ fn first_if(is: bool, first: Option<Place>, place: Place) -> Option<Place>
 }
 
 impl Findings {
-    /// Nothing.
+    /// No findings.
     pub(crate) fn new() -> Findings
         ensures { result ≡ record { unsupported = None; overlap = None; addend = None; place = None } }
     {
@@ -70,7 +70,7 @@ impl Findings {
         }
     }
 
-    /// With a relocation, if it isn't supported.
+    /// The findings with a relocation that was looked at: `is` says whether it is unsupported.
     pub(crate) fn with_unsupported(self, place: Place, is: bool) -> Findings
         ensures { result ≡ record self { unsupported = first_if is self.unsupported place } }
     {
@@ -80,7 +80,7 @@ impl Findings {
         }
     }
 
-    /// With two that overlap, if there are such.
+    /// The findings with two relocations that overlap, if a section has such.
     pub(crate) fn with_overlap(self, pair: Option<Pair>) -> Findings
         ensures { result ≡ record self { overlap = first_of self.overlap pair } }
     {
@@ -90,7 +90,7 @@ impl Findings {
         }
     }
 
-    /// With a pointer whose addend doesn't fit, if there is one.
+    /// The findings with a pointer whose addend doesn't fit, if there is one.
     pub(crate) fn with_addend(self, addend: Option<Addend>) -> Findings
         ensures { result ≡ record self { addend = first_of self.addend addend } }
     {
@@ -100,7 +100,7 @@ impl Findings {
         }
     }
 
-    /// With a pointer, if it is in a segment that may hold none.
+    /// The findings with a relocation that was looked at: `is` says whether it is a pointer in a segment that may hold none.
     pub(crate) fn with_place(self, place: Place, is: bool) -> Findings
         ensures { result ≡ record self { place = first_if is self.place place } }
     {
@@ -110,7 +110,7 @@ impl Findings {
         }
     }
 
-    /// The least of them as a refusal.
+    /// The refusal that is told: of the kinds that were found the one that stands first in `LinkError`, None without findings.
     pub(crate) fn least(self) -> Option<LinkError>
         ensures told { (l : Link) (counts : Counts) → AreStanding l self → IfSome result (Stands l counts) }
         ensures none { IfNone result (IsClean self) }

@@ -1,5 +1,6 @@
-//! One walk over the carried relocations of a link, before anything has an address: each use is noted, and what stands
-//! against the link that no address is needed for is found.
+//! One walk over the carried relocations of a link, before anything has an address. [`survey`] notes each use, so that imports,
+//! slots and stubs get their numbers, and finds what is wrong with relocations and shows without an address: unsupported ones,
+//! overlaps, addends that don't fit, and pointers in segments that may hold none.
 #![tactic(auto)]
 
 mod findings;

@@ -17,9 +17,9 @@ use std::alloc::{AllocError, Global};
 /// The places between which some fields lie.
 #[derive(Clone, Copy)]
 pub(crate) struct Hull {
-    /// The first of them.
+    /// The least address of a field, in bytes from the section's start.
     pub(crate) low: u64,
-    /// Behind the last.
+    /// The greatest end of a field, one past its last byte.
     pub(crate) high: u64,
 }
 
@@ -33,13 +33,13 @@ fn field_end(rel: RelocationInfo) -> u64
 }
 
 impl Hull {
-    /// That of no fields.
+    /// The hull of no fields: every field stands outside.
     const EMPTY: Hull = Hull {
         low: u64::MAX,
         high: 0,
     };
 
-    /// Whether a field stands before or behind.
+    /// Whether a field stands wholly before or behind the hull.
     fn excludes(self, rel: RelocationInfo) -> bool
         requires { rel.r_length < 4 }
         ensures { result ≡ excludes self rel }
@@ -47,7 +47,7 @@ impl Hull {
         self.high <= u64::from(rel.r_address) || field_end(rel) <= self.low
     }
 
-    /// That with one field more.
+    /// The hull with one field more.
     fn with(self, rel: RelocationInfo) -> Hull
         requires { rel.r_length < 4 }
         ensures { result ≡ hull_with self rel }
@@ -58,7 +58,7 @@ impl Hull {
         }
     }
 
-    /// This one, or another.
+    /// The other hull where `takes` holds, else this one.
     fn or(self, other: Hull, takes: bool) -> Hull
         ensures { result ≡ (if takes then other else self) }
     {
@@ -124,7 +124,8 @@ fn put_field(
     index: u32,
 ) -> Result<Option<u32>, AllocError>
     requires { seen.this.r_length < 4 }
-    ensures { IfOk result (PutsOrTaken (λ p. get nat_eq table.old p) (λ p. get nat_eq table.new p) seen.this.r_address (field_end seen.this) index (ends seen)) }
+    ensures { IfOk result (PutsOrTaken (λ p. get nat_eq table.old p) (λ p. get nat_eq table.new p) seen.this.r_address
+        (field_end seen.this) index (ends seen)) }
 {
     let paired = seen.ends_pair();
     for place in u64::from(seen.this.r_address)..field_end(seen.this) {

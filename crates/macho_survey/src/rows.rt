@@ -3,7 +3,8 @@ ghost use Rattle.std.specs.Prelude.{◌≡◌, true, false};
 ghost use Rattle.macho_model.specs.Targets.{is_import, is_defined};
 ghost use Rattle.macho_model.specs.Rows.{has_form, is_none, defined_or_import, takes_offset, load_fits};
 ghost use Rattle.macho_model.specs.Words.{is_add, is_load_store};
-ghost use Rattle.macho_survey.specs.steps.Supported.{difference_in, addend_in, pointer_in, called_in, page_load, offset_load, slot_reference_in, reference_in, supported_in};
+ghost use Rattle.macho_survey.specs.steps.Supported.{difference_in, addend_in, pointer_in, called_in, page_load};
+ghost use Rattle.macho_survey.specs.steps.Supported.{offset_load, slot_reference_in, reference_in, supported_in};
 
 use crate::pairs::Seen;
 use macho_arm64::{FieldSize, fits_instruction, is_ldr};

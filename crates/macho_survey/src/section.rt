@@ -1,5 +1,6 @@
 //! The relocations of one carried section, looked at one by one.
-ghost use Rattle.std.specs.Prelude.{◌≡◌, ℕ, ◌+◌, ◌-◌, ◌%◌, ◌^◌, ◌<◌, ◌≤◌, ◌++◌, ◌∷◌, [], ◌==◌, if◌then◌else◌, Some, None, true, false, List, length, Contains, OnOk, IfErr};
+ghost use Rattle.std.specs.Prelude.{◌≡◌, ℕ, ◌+◌, ◌-◌, ◌%◌, ◌^◌, ◌<◌, ◌≤◌, ◌++◌, ◌∷◌, [], ◌==◌, if◌then◌else◌};
+ghost use Rattle.std.specs.Prelude.{Some, None, true, false, List, length, Contains, OnOk, IfErr};
 ghost use Rattle.macho_bytes.specs.Numbers.{le_at};
 ghost use Rattle.macho_records.specs.declared.constants.TheConstants.{ARM64_RELOC_UNSIGNED};
 ghost use Rattle.macho_structs.specs.Relocations.{BitsFit};
@@ -14,7 +15,8 @@ ghost use Rattle.macho_faults.specs.Standing.{Stands};
 ghost use Rattle.macho_parts.specs.Noted.{BeginsWith};
 ghost use Rattle.macho_needs.specs.Noted.{IsNext};
 ghost use Rattle.macho_survey.specs.steps.Found.{IsSurveyed};
-ghost use Rattle.macho_survey.specs.steps.Sections.{is_plain, IsSectionOf, HasRows, id_of, counted_from, addend_by, pointer_at, bad_addend, misplaced, judged, pair_of, HasObject, IsCarriedAt};
+ghost use Rattle.macho_survey.specs.steps.Sections.{is_plain, IsSectionOf, HasRows, id_of, counted_from, addend_by, pointer_at};
+ghost use Rattle.macho_survey.specs.steps.Sections.{bad_addend, misplaced, judged, pair_of, HasObject, IsCarriedAt};
 
 use crate::findings::{Addend, Findings, Pair, Place};
 use crate::overlap::first_overlap;
@@ -90,9 +92,11 @@ fn counted_from(object: &File<'_>, rel: RelocationInfo) -> u64
 /// The addend of a relocation that is a pointer of 8 bytes; None for another one.
 fn pointer(object: &File<'_>, bytes: &[u8], seen: Seen) -> Option<u64>
     requires kind { object.now.is_dynamic ≡ false }
-    requires there { (seen.this.r_type == ARM64_RELOC_UNSIGNED) ≡ true → seen.this.r_extern ≡ false → seen.this.r_symbolnum - 1 < num_sections object.now.bytes }
+    requires there { (seen.this.r_type == ARM64_RELOC_UNSIGNED) ≡ true → seen.this.r_extern ≡ false
+        → seen.this.r_symbolnum - 1 < num_sections object.now.bytes }
     requires inside { seen.this.r_length ≡ 3 → seen.this.r_address + 8 ≤ length bytes.now }
-    ensures { result ≡ (if is_plain seen then Some (addend_by object.now.bytes seen.this (le_at 8 bytes.now seen.this.r_address)) else None) }
+    ensures { result ≡ (if is_plain seen
+        then Some (addend_by object.now.bytes seen.this (le_at 8 bytes.now seen.this.r_address)) else None) }
 {
     let rel = seen.this;
     if rel.r_type != ARM64_RELOC_UNSIGNED || rel.r_length != 3 || seen.has_subtrahend() {
@@ -106,7 +110,7 @@ fn pointer(object: &File<'_>, bytes: &[u8], seen: Seen) -> Option<u64>
     }
 }
 
-/// The pointer, where it is to an import and its addend doesn't fit.
+/// A pointer to an import whose addend doesn't fit 32 bits, with its place; None for any other relocation.
 fn bad_addend(place: Place, pointer: Option<u64>, target: Target) -> Option<Addend>
     ensures { result ≡ bad_addend place pointer target }
 {
@@ -119,7 +123,7 @@ fn bad_addend(place: Place, pointer: Option<u64>, target: Target) -> Option<Adde
     }
 }
 
-/// Whether it is a pointer that the loader writes, in a segment that may hold none.
+/// Whether a relocation is a pointer that the loader writes, in a segment that may hold none.
 fn is_misplaced(holds_pointers: bool, pointer: Option<u64>, target: Target) -> bool
     ensures { result ≡ misplaced holds_pointers pointer target }
 {
@@ -140,7 +144,8 @@ fn judged(
     word: u32,
     pointer: Option<u64>,
 ) -> Findings
-    ensures { result ≡ judged findings at.holds_pointers (record { file = at.file; section = at.section; relocation = index }) seen target word pointer }
+    ensures { result ≡ judged findings at.holds_pointers
+        (record { file = at.file; section = at.section; relocation = index }) seen target word pointer }
 {
     let place = Place {
         file: at.file,
@@ -166,7 +171,8 @@ fn survey_relocation(
     requires section { IsSectionOf object.now list.now bytes.now at }
     requires index { index < (section_at object.now.bytes at.section).nreloc }
     requires rows { HasRows needs.old.resolved.files at.file object.now.bytes }
-    ensures surveyed { (l : Link) (ss : List SectionId) (us : List Use) → object_of l at.file ≡ object.now.bytes → Contains (carried_of l) (id_of at)
+    ensures surveyed { (l : Link) (ss : List SectionId) (us : List Use) → object_of l at.file ≡ object.now.bytes
+        → Contains (carried_of l) (id_of at)
         → IsNext l us (ByRelocation (id_of at) index) → IsSurveyed l ss us needs.old findings.old
         → OnOk result (IsSurveyed l ss (us ++ ByRelocation (id_of at) index ∷ []) needs.new findings.new) }
     ensures why { (l : Link) (counts : Counts) (noted : List (List ℕ)) → object_of l at.file ≡ object.now.bytes
@@ -196,10 +202,12 @@ fn survey_relocations(
 ) -> Result<(), LinkError>
     requires section { IsSectionOf object.now list.now bytes.now at }
     requires rows { HasRows needs.old.resolved.files at.file object.now.bytes }
-    ensures surveyed { (l : Link) (ss : List SectionId) (us : List Use) → object_of l at.file ≡ object.now.bytes → Contains (carried_of l) (id_of at)
+    ensures surveyed { (l : Link) (ss : List SectionId) (us : List Use) → object_of l at.file ≡ object.now.bytes
+        → Contains (carried_of l) (id_of at)
         → BeginsWith l (us ++ carried_uses l (id_of at)) → IsSurveyed l ss us needs.old findings.old
         → OnOk result (IsSurveyed l ss (us ++ carried_uses l (id_of at)) needs.new findings.new) }
-    ensures why { (l : Link) (counts : Counts) (ss : List SectionId) (us : List Use) → object_of l at.file ≡ object.now.bytes → Contains (carried_of l) (id_of at)
+    ensures why { (l : Link) (counts : Counts) (ss : List SectionId) (us : List Use) → object_of l at.file ≡ object.now.bytes
+        → Contains (carried_of l) (id_of at)
         → BeginsWith l (us ++ carried_uses l (id_of at)) → IsSurveyed l ss us needs.old findings.old → IfErr result (Stands l counts) }
     ensures kept { (inputs : List Input) → Keeps inputs needs.old.resolved.files → Keeps inputs needs.new.resolved.files }
 {

@@ -1,5 +1,6 @@
 //! The walk: all objects in the order of the inputs, their carried sections and relocations in the order of the tables.
-ghost use Rattle.std.specs.Prelude.{◌≡◌, ℕ, ◌^◌, ◌<◌, ◌++◌, ◌∷◌, [], false, List, length, get_or, Option, Some, None, is_some, IfOk, IfErr, IfSome, IfNone, OnOk};
+ghost use Rattle.std.specs.Prelude.{◌≡◌, ℕ, ◌^◌, ◌<◌, ◌++◌, ◌∷◌, [], false, List, length, get_or, Option};
+ghost use Rattle.std.specs.Prelude.{Some, None, is_some, IfOk, IfErr, IfSome, IfNone, OnOk};
 ghost use Rattle.macho_bytes.specs.Texts.{name_of};
 ghost use Rattle.macho_model.specs.declared.placed.Counts.{Counts};
 ghost use Rattle.macho_model.specs.Objects.{num_sections};
@@ -46,9 +47,11 @@ fn survey_if_carried(
     requires rows { HasRows needs.old.resolved.files file object.now.bytes }
     ensures surveyed { (l : Link) (ss : List SectionId) (us : List Use) → HasObject l file object.now.bytes
         → BeginsWith l (us ++ uses_among l (section_id file section ∷ [])) → IsSurveyed l ss us needs.old findings.old
-        → OnOk result (IsSurveyed l (ss ++ carried_among l (section_id file section ∷ [])) (us ++ uses_among l (section_id file section ∷ [])) needs.new findings.new) }
+        → OnOk result (IsSurveyed l (ss ++ carried_among l (section_id file section ∷ []))
+        (us ++ uses_among l (section_id file section ∷ [])) needs.new findings.new) }
     ensures why { (l : Link) (counts : Counts) (ss : List SectionId) (us : List Use) → HasObject l file object.now.bytes
-        → BeginsWith l (us ++ uses_among l (section_id file section ∷ [])) → IsSurveyed l ss us needs.old findings.old → IfErr result (Stands l counts) }
+        → BeginsWith l (us ++ uses_among l (section_id file section ∷ [])) → IsSurveyed l ss us needs.old findings.old
+        → IfErr result (Stands l counts) }
     ensures kept { (inputs : List Input) → Keeps inputs needs.old.resolved.files → Keeps inputs needs.new.resolved.files }
 {
     let Some(header) = object.section(section) else {
@@ -80,7 +83,8 @@ fn survey_object(
         → OnOk result (IsSurveyed l (ss ++ carried_among l (sections_of_file file (Object object.now.bytes)))
         (us ++ uses_among l (sections_of_file file (Object object.now.bytes))) needs.new findings.new) }
     ensures why { (l : Link) (counts : Counts) (ss : List SectionId) (us : List Use) → HasObject l file object.now.bytes
-        → BeginsWith l (us ++ uses_among l (sections_of_file file (Object object.now.bytes))) → IsSurveyed l ss us needs.old findings.old → IfErr result (Stands l counts) }
+        → BeginsWith l (us ++ uses_among l (sections_of_file file (Object object.now.bytes))) → IsSurveyed l ss us needs.old findings.old
+        → IfErr result (Stands l counts) }
     ensures kept { (inputs : List Input) → Keeps inputs needs.old.resolved.files → Keeps inputs needs.new.resolved.files }
 {
     for section in 0..object.num_sections() {
@@ -104,9 +108,11 @@ fn survey_file(
     requires same { AreOfInputs views.now needs.old.resolved.files }
     ensures surveyed { (l : Link) (ss : List SectionId) (us : List Use) → views.now ≡ views_of l
         → BeginsWith l (us ++ uses_in l (input_at l file ∷ [])) → IsSurveyed l ss us needs.old findings.old
-        → OnOk result (IsSurveyed l (ss ++ carried_in l (input_at l file ∷ [])) (us ++ uses_in l (input_at l file ∷ [])) needs.new findings.new) }
+        → OnOk result (IsSurveyed l (ss ++ carried_in l (input_at l file ∷ []))
+        (us ++ uses_in l (input_at l file ∷ [])) needs.new findings.new) }
     ensures why { (l : Link) (counts : Counts) (ss : List SectionId) (us : List Use) → views.now ≡ views_of l
-        → BeginsWith l (us ++ uses_in l (input_at l file ∷ [])) → IsSurveyed l ss us needs.old findings.old → IfErr result (Stands l counts) }
+        → BeginsWith l (us ++ uses_in l (input_at l file ∷ [])) → IsSurveyed l ss us needs.old findings.old
+        → IfErr result (Stands l counts) }
     ensures kept { (inputs : List Input) → Keeps inputs needs.old.resolved.files → Keeps inputs needs.new.resolved.files }
 {
     match &views[file as usize] {
@@ -134,7 +140,8 @@ pub fn survey(
     ensures noted { (l : Link) → views.now ≡ views_of l → IsNoted l [] needs.old → OnOk result (IsNoted l (uses_of_carried l) needs.new) }
 
     // What is answered stands, and where nothing is, the link is sound.
-    ensures told { (l : Link) (counts : Counts) → views.now ≡ views_of l → IsNoted l [] needs.old → IfOk result (λ told. IfSome told (Stands l counts)) }
+    ensures told { (l : Link) (counts : Counts) → views.now ≡ views_of l → IsNoted l [] needs.old
+        → IfOk result (λ told. IfSome told (Stands l counts)) }
     ensures sound { (l : Link) → views.now ≡ views_of l → IsNoted l [] needs.old → IfOk result (λ told. IfNone told (IsSound l)) }
     ensures why { (l : Link) (counts : Counts) → views.now ≡ views_of l → IsNoted l [] needs.old → IfErr result (Stands l counts) }
     ensures kept { (inputs : List Input) → Keeps inputs needs.old.resolved.files → Keeps inputs needs.new.resolved.files }

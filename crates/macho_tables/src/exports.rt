@@ -97,7 +97,8 @@ fn says_of<P: Places>(
     requires few { length libraries.now + 1 < 2 ^ 32 }
     requires known { FindsPlaces (map (λ n. n.items) libraries.now) (get same_text numbers.now) }
     requires among { IsAmong (length imports.now) export.now.target }
-    ensures is { result ≡ says_said (P.look places.now) views.now imports.now (map (λ n. n.items) libraries.now) export.now.weak export.now.target }
+    ensures is { result ≡ says_said (P.look places.now) views.now imports.now
+        (map (λ n. n.items) libraries.now) export.now.weak export.now.target }
     ensures flags { HasFlags result }
 {
     match export.target {
@@ -120,8 +121,10 @@ pub fn kept_exports<'a>(
 ) -> Result<Vec<NamedExport<'a>>, AllocError>
     requires few { length libraries.now + 1 < 2 ^ 32 }
     requires link { (l : Link) × AreExportsOf l exports.now imports.now (map (λ n. n.items) libraries.now) }
-    ensures kept { (l : Link) → AreExportsOf l exports.now imports.now (map (λ n. n.items) libraries.now) → IfOk result (λ v. AreKept l (exports_told exports.now) v.items) }
-    ensures names { (l : Link) → AreExportsOf l exports.now imports.now (map (λ n. n.items) libraries.now) → ImportsArePlain l → IfOk result (λ v. CanBeTrie v.items) }
+    ensures kept { (l : Link) → AreExportsOf l exports.now imports.now (map (λ n. n.items) libraries.now)
+        → IfOk result (λ v. AreKept l (exports_told exports.now) v.items) }
+    ensures names { (l : Link) → AreExportsOf l exports.now imports.now (map (λ n. n.items) libraries.now) → ImportsArePlain l
+        → IfOk result (λ v. CanBeTrie v.items) }
 {
     let numbers = library_places(alloc, libraries)?;
     let mut kept = Vec::with_capacity(alloc, exports.len())?;
@@ -153,7 +156,8 @@ pub fn said_exports<'a, P: Places>(
     ensures said { (l : Link) (counts : Counts) (p : Placed) → AreExportsOf l exports.now imports.now (map (λ n. n.items) libraries.now)
         → IsToTable l counts p (P.look places.now) → views.now ≡ views_of l
         → IfOk result (λ v. AreSaid l p (exports_told exports.now) v.items) }
-    ensures kept { (l : Link) → AreExportsOf l exports.now imports.now (map (λ n. n.items) libraries.now) → IfOk result (λ v. AreKept l (exports_told exports.now) v.items) }
+    ensures kept { (l : Link) → AreExportsOf l exports.now imports.now (map (λ n. n.items) libraries.now)
+        → IfOk result (λ v. AreKept l (exports_told exports.now) v.items) }
     ensures flags { IfOk result (λ v. All (λ e. HasFlags e.says) v.items) }
 {
     let numbers = library_places(alloc, libraries)?;

@@ -62,7 +62,8 @@ fn row_of<'a, P: Places>(
     requires few { length placement.now.output_sections.items ≤ GREATEST_SECTIONS }
     requires symbol { CanHaveRow object.now index }
     requires known { P.has_symbol places.now object.now.number index }
-    ensures { (l : Link) (counts : Counts) → IsListed l counts (placed_of placement.now) (P.look places.now) object.now index (option_copied lists.entry)
+    ensures { (l : Link) (counts : Counts) → IsListed l counts (placed_of placement.now) (P.look places.now) object.now index
+        (option_copied lists.entry)
         → row_seen result ≡ row_of l counts (placed_of placement.now) (symbol_id object.now.number index) }
 {
     let Some(name) = object.file.symbol_name(index) else {
@@ -89,8 +90,10 @@ pub fn symbol_table<P: Places>(
     requires few { length placement.now.output_sections.items ≤ GREATEST_SECTIONS }
     requires short { listed.now.strings < 2 ^ 32 }
     requires symbols { All (λ o. (k : ℕ) → k < num_symbols o.file.bytes → P.has_symbol places.now o.number k) objects.now }
-    requires link { (l : Link) × (counts : Counts) × AreToList l counts (placed_of placement.now) (P.look places.now) objects.now listed.now (option_copied lists) }
-    ensures { (l : Link) (counts : Counts) → AreToList l counts (placed_of placement.now) (P.look places.now) objects.now listed.now (option_copied lists.entry)
+    requires link { (l : Link) × (counts : Counts)
+        × AreToList l counts (placed_of placement.now) (P.look places.now) objects.now listed.now (option_copied lists) }
+    ensures { (l : Link) (counts : Counts) → AreToList l counts (placed_of placement.now) (P.look places.now) objects.now listed.now
+        (option_copied lists.entry)
         → IfOk result (HasRows (symbol_rows l counts (placed_of placement.now))) }
 {
     let mut table = SymbolTable::with_capacity(

@@ -6,14 +6,15 @@ ghost use Rattle.macho_model.specs.Limits.{GREATEST_SECTIONS};
 ghost use Rattle.macho_model.specs.Objects.{num_symbols};
 ghost use Rattle.macho_model.specs.Segments.{key_of};
 ghost use Rattle.macho_layout.specs.Placements.{placed_of};
-ghost use Rattle.macho_tables.specs.steps.Sections.{key_seen, begins_at, fills, holds_slots, is_made, is_of, number_told, symbol_header, section_told};
+ghost use Rattle.macho_tables.specs.steps.Sections.{key_seen, begins_at, fills, holds_slots, is_made};
+ghost use Rattle.macho_tables.specs.steps.Sections.{is_of, number_told, symbol_header, section_told};
 
 use macho_layout::Placement;
 use macho_linkedit::LinkedObject;
 use macho_model::{Range64, Slot};
 use macho_records::{S_ZEROFILL, SectionFlags, SectionHeader, SymtabEntry, name_bytes};
 
-/// What sections are merged by: segment, name and type.
+/// What sections are merged by: those of one segment, name and type become one output section.
 #[derive(Clone, Copy)]
 pub(crate) struct MergedBy<'a> {
     pub(crate) segment: &'a [u8],

@@ -3,7 +3,8 @@
 //! Its passes are: the words are read, the linker is made, the inputs and the export lists are read and added, the link
 //! makes an image, the image is written, lines are printed; a fault is told.
 
-ghost use Rattle.std.specs.Prelude.{◌≡◌, ℕ, ◌<◌, ◌-◌, ◌^◌, ◌⊎◌, List, [], length, map, true, false, Some, None, Option, IfOk, IfErr, IfSome, OnOk, MatchOption};
+ghost use Rattle.std.specs.Prelude.{◌≡◌, ℕ, ◌<◌, ◌-◌, ◌^◌, ◌⊎◌, List, [], length, map, true, false};
+ghost use Rattle.std.specs.Prelude.{Some, None, Option, IfOk, IfErr, IfSome, OnOk, MatchOption};
 ghost use Rattle.std.specs.String.{string_bytes};
 ghost use Rattle.macho_args.specs.Settings.{settings_of};
 ghost use Rattle.macho_args.specs.SearchPaths.{IsParsed};
@@ -19,7 +20,8 @@ ghost use Rattle.macho_devices.specs.Devices.{OnlyReads, OnlyWrites};
 ghost use Rattle.macho_devices.specs.Faults.{CountsOn};
 ghost use Rattle.macho_job.specs.Causes.{Failures, NoneFailed, failures, status_of, reading, JobFails, WordsFail};
 ghost use Rattle.macho_job.specs.Names.{names_of};
-ghost use Rattle.wild_macho.specs.Runs.{outside, devices, teller, IsRun, RunsBy, IsBadName, KeepsPaths, AskForNoLines, IsSure, IsAnsweredJob};
+ghost use Rattle.wild_macho.specs.Runs.{outside, devices, teller, IsRun, RunsBy, IsBadName};
+ghost use Rattle.wild_macho.specs.Runs.{KeepsPaths, AskForNoLines, IsSure, IsAnsweredJob};
 ghost use Rattle.wild_macho.specs.steps.Made.{IsMade, IsLinkFault, ends, EndFails, Prints, Finishes, Answers};
 
 use macho_args::MachOArgs;
@@ -56,8 +58,10 @@ pub fn run<F: Files, O: Sink, E: Sink>(
 
     // The words are refused, or the run is that of the settings that they say.
     ensures promise { IsRun (texts_of words.now)
-        (devices (outside (F.directories files.old) (F.canonical_paths files.old) (F.holds files.old)) (F.faults files.old) (F.write_faults files.old) (O.faults out.old) (O.taken out.old))
-        (devices (outside (F.directories files.new) (F.canonical_paths files.new) (F.holds files.new)) (F.faults files.new) (F.write_faults files.new) (O.faults out.new) (O.taken out.new))
+        (devices (outside (F.directories files.old) (F.canonical_paths files.old) (F.holds files.old)) (F.faults files.old)
+        (F.write_faults files.old) (O.faults out.old) (O.taken out.old))
+        (devices (outside (F.directories files.new) (F.canonical_paths files.new) (F.holds files.new)) (F.faults files.new)
+        (F.write_faults files.new) (O.faults out.new) (O.taken out.new))
         (teller (E.taken err.old) (E.faults err.old)) (teller (E.taken err.new) (E.faults err.new)) result }
 
     // Directories and canonical paths stay, no count falls. Nothing is printed without an image, where no lines are asked for, and
@@ -68,7 +72,8 @@ pub fn run<F: Files, O: Sink, E: Sink>(
     ensures prints { CountsOn (O.faults out.old) (O.faults out.new) }
     ensures lines { CountsOn (E.faults err.old) (E.faults err.new) }
     ensures unprinted { result.image ≡ None → out.new ≡ out.old }
-    ensures silent { AskForNoLines (texts_of words.now) (outside (F.directories files.old) (F.canonical_paths files.old) (F.holds files.old)) → out.new ≡ out.old }
+    ensures silent { AskForNoLines (texts_of words.now)
+        (outside (F.directories files.old) (F.canonical_paths files.old) (F.holds files.old)) → out.new ≡ out.old }
     ensures quiet { result.fault ≡ None → err.new ≡ err.old }
 
     // Where a job has nothing against it and no device fails, it is done; or memory ran out.
@@ -78,7 +83,7 @@ pub fn run<F: Files, O: Sink, E: Sink>(
         (failures (F.faults files.new) (F.write_faults files.new) (O.faults out.new))
         → (result.status ≡ 0) ⊎ (result.status ≡ 5) }
 
-    // So is a job whose link is valid.
+    // The same holds of a job whose link is valid.
     ensures answered { (m : Store) → F.holds files.old ≡ Some m
         → IsAnsweredJob (texts_of words.now) (outside (F.directories files.old) (F.canonical_paths files.old) (Some m))
         → NoneFailed (failures (F.faults files.old) (F.write_faults files.old) (O.faults out.old))
@@ -94,10 +99,11 @@ pub fn run<F: Files, O: Sink, E: Sink>(
     }
 }
 
-// Reads the words.
+// The arguments that the words say.
 fn read_words<F: Files>(alloc: Global, words: &[String], files: &mut F) -> Result<MachOArgs, Fault>
     requires { length words.now < 2 ^ 32 - 1 }
-    ensures said { IfOk result (λ args. IsParsed (F.directories files.old) (F.canonical_paths files.old) (texts_of words.now) (settings_of args)) }
+    ensures said { IfOk result (λ args. IsParsed (F.directories files.old) (F.canonical_paths files.old) (texts_of words.now)
+        (settings_of args)) }
     ensures why { IfErr result (WordsFail (texts_of words.now)) }
     ensures kept { KeepsOutside F.directories F.canonical_paths F.holds F.faults F.write_faults files.old files.new }
 {
@@ -108,7 +114,7 @@ fn read_words<F: Files>(alloc: Global, words: &[String], files: &mut F) -> Resul
     }
 }
 
-// The run of arguments: what is refused is told.
+// Runs what the arguments say, and tells the fault, if there is one, in a line to `err`.
 fn run_args<F: Files, O: Sink, E: Sink>(
     alloc: Global,
     args: &MachOArgs,
@@ -117,8 +123,10 @@ fn run_args<F: Files, O: Sink, E: Sink>(
     err: &mut E,
 ) -> Ran
     ensures done { RunsBy (settings_of args.now)
-        (devices (outside (F.directories files.old) (F.canonical_paths files.old) (F.holds files.old)) (F.faults files.old) (F.write_faults files.old) (O.faults out.old) (O.taken out.old))
-        (devices (outside (F.directories files.new) (F.canonical_paths files.new) (F.holds files.new)) (F.faults files.new) (F.write_faults files.new) (O.faults out.new) (O.taken out.new))
+        (devices (outside (F.directories files.old) (F.canonical_paths files.old) (F.holds files.old)) (F.faults files.old)
+        (F.write_faults files.old) (O.faults out.old) (O.taken out.old))
+        (devices (outside (F.directories files.new) (F.canonical_paths files.new) (F.holds files.new)) (F.faults files.new)
+        (F.write_faults files.new) (O.faults out.new) (O.taken out.new))
         (teller (E.taken err.old) (E.faults err.old)) (teller (E.taken err.new) (E.faults err.new)) result }
     ensures paths { KeepsPaths F.directories F.canonical_paths files.old files.new }
     ensures reads { CountsOn (F.faults files.old) (F.faults files.new) }
@@ -147,8 +155,10 @@ fn link_args<F: Files, O: Sink>(
 ) -> Ran
     requires unnamed { names_of names.old ≡ [] }
     ensures done { Answers (settings_of args.now) (names_of names.new)
-        (devices (outside (F.directories files.old) (F.canonical_paths files.old) (F.holds files.old)) (F.faults files.old) (F.write_faults files.old) (O.faults out.old) (O.taken out.old))
-        (devices (outside (F.directories files.new) (F.canonical_paths files.new) (F.holds files.new)) (F.faults files.new) (F.write_faults files.new) (O.faults out.new) (O.taken out.new)) result }
+        (devices (outside (F.directories files.old) (F.canonical_paths files.old) (F.holds files.old)) (F.faults files.old)
+        (F.write_faults files.old) (O.faults out.old) (O.taken out.old))
+        (devices (outside (F.directories files.new) (F.canonical_paths files.new) (F.holds files.new)) (F.faults files.new)
+        (F.write_faults files.new) (O.faults out.new) (O.taken out.new)) result }
     ensures named { bad_name (link_of (settings_of args.now)) ≡ true → IsBadName result.fault }
     ensures paths { KeepsPaths F.directories F.canonical_paths files.old files.new }
     ensures reads { CountsOn (F.faults files.old) (F.faults files.new) }
@@ -192,7 +202,7 @@ fn make_image<F: Files>(
     Ok(Made { linker, image })
 }
 
-// Makes the linker.
+// A linker of these arguments, without inputs.
 fn make_linker(alloc: Global, args: &MachOArgs) -> Result<Linker, Fault>
     ensures made { IfOk result (λ linker. linker ≡ link_of (settings_of args.now)) }
     ensures why { IfErr result (λ fault. (told : Option Store) (paths : List (List ℕ)) (old new : Failures)
@@ -206,7 +216,7 @@ fn make_linker(alloc: Global, args: &MachOArgs) -> Result<Linker, Fault>
     }
 }
 
-// Links.
+// The image of what the linker holds.
 fn link(alloc: Global, args: &MachOArgs, linker: &Linker) -> Result<LinkedImage, Fault>
     ensures done { IfOk result (IsImageOf linker.now (uuid_of (settings_of args.now) linker.now.inputs)) }
     ensures why { IfErr result (IsLinkFault linker.now) }
@@ -229,7 +239,8 @@ fn write_image<F: Files, O: Sink>(
     requires { map id_of made.image.placement.sections.items ≡ carried_of made.linker }
     ensures done { Finishes (settings_of args.now) (names_of names.now) made
         (ends (F.holds files.old) (F.holds files.new) (O.taken out.old) (O.taken out.new)) result }
-    ensures why { IfSome result.fault (EndFails (F.write_faults files.old) (F.write_faults files.new) (O.faults out.old) (O.faults out.new)) }
+    ensures why { IfSome result.fault (EndFails (F.write_faults files.old) (F.write_faults files.new) (O.faults out.old)
+        (O.faults out.new)) }
     ensures counted { CountsOn (F.write_faults files.old) (F.write_faults files.new) }
     ensures prints { CountsOn (O.faults out.old) (O.faults out.new) }
     ensures kept { OnlyWrites F.directories F.canonical_paths F.faults files.old files.new }
@@ -250,7 +261,8 @@ fn write_image<F: Files, O: Sink>(
 // Prints the lines of an image that is written.
 fn print_image<O: Sink>(args: &MachOArgs, out: &mut O, names: &FileNames, made: Made) -> Ran
     requires { map id_of made.image.placement.sections.items ≡ carried_of made.linker }
-    ensures done { Prints (settings_of args.now) (names_of names.now) made (O.taken out.old) (O.taken out.new) (O.faults out.old) (O.faults out.new) result }
+    ensures done { Prints (settings_of args.now) (names_of names.now) made (O.taken out.old) (O.taken out.new) (O.faults out.old)
+        (O.faults out.new) result }
     ensures prints { CountsOn (O.faults out.old) (O.faults out.new) }
     ensures silent { (settings_of args.now).map_lines ≡ false → (settings_of args.now).generate ≡ None → out.new ≡ out.old }
 {
@@ -268,7 +280,7 @@ fn print_image<O: Sink>(args: &MachOArgs, out: &mut O, names: &FileNames, made: 
     }
 }
 
-// The answer without an image.
+// The answer of a run that failed before it had an image to write, or whose write ran out of memory.
 fn refused(fault: Fault) -> Ran
     ensures status { result.status ≡ status_of result.fault }
     ensures image { result.image ≡ None }
