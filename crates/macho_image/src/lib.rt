@@ -1,4 +1,5 @@
-//! The linker: what is linked is gathered, and becomes the bytes of an image.
+//! The linker. [`Linker::new`] takes the arguments; `add_object`, `add_dylib`, `add_stub` and `add_export_list` take what is linked,
+//! in order; [`Linker::link_image`] answers the bytes of the image, or why there is none.
 #![tactic(auto)]
 
 mod link;

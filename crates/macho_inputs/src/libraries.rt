@@ -46,7 +46,7 @@ fn install_names(alloc: Global, inputs: &[OwnedInput]) -> Result<Vec<&[u8]>, All
     Ok(names)
 }
 
-/// The names without those that stand there a second time.
+/// The names in order, each once, where it stands first.
 fn distinct_names<'a>(alloc: Global, names: &[&'a [u8]]) -> Result<IndexSet<&'a [u8]>, AllocError>
     ensures { IfOk result (λ set. texts set.keys ≡ distinct bytes_eq (texts names.now)) }
 {
@@ -68,7 +68,7 @@ fn asked_names(alloc: Global, imports: &[Import]) -> Result<IndexSet<&[u8]>, All
     distinct_names(alloc, &names)
 }
 
-/// Whether a library is kept: each is, or only one that an import asks for.
+/// Whether a library is kept: where unused ones are left out only one that an import asks for, else each.
 fn is_kept(name: &[u8], asked: &IndexSet<&[u8]>, dead_strip_dylibs: bool) -> bool
     ensures { result ≡ is_kept dead_strip_dylibs (texts asked.now.keys) name.now }
 {
@@ -94,7 +94,8 @@ fn kept_names(
     Ok(kept)
 }
 
-/// The libraries that the image needs, by install name in input order: all of them, or only those that an import asks for.
+/// The libraries that the image needs, by install name in input order, each once: all of them, or with `dead_strip_dylibs` only those
+/// that an import asks for.
 ///
 /// # Errors
 ///

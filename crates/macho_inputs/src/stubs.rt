@@ -1,4 +1,4 @@
-//! A stub text that was read before, read again.
+//! The text of a stub, read again: it was found to be a stub when it was taken, and its reading isn't kept.
 ghost use Rattle.std.specs.Prelude.{◌≡◌, IfOk};
 ghost use Rattle.macho_promise.specs.Inputs.{IsStubInput};
 ghost use Rattle.macho_names.specs.Kept.{reading_of};

@@ -6,13 +6,13 @@ use macho_symbols::ExportName;
 /// An imported name.
 #[derive(Drop)]
 pub struct ImportName {
-    /// Its library, counted from 1.
+    /// The number of its library among those that the image needs, from 1.
     pub library: u32,
     /// The name.
     pub name: Vec<u8>,
 }
 
-/// A linked image, and what is told of it.
+/// A linked image, and what is told beside its bytes: what a map, a report or a test asks for.
 #[derive(Drop)]
 pub struct LinkedImage {
     /// The bytes of the file.

@@ -57,11 +57,12 @@ fn put_offsets<P: Places>(places: &P, rows: &[Initializer], out: &mut [u8]) -> R
     Ok(())
 }
 
-/// Writes the offset of each initializer from the image's base, one behind the other.
+/// Writes the offset of each initializer from the image's base, one behind the other: 4 bytes each, lowest byte first. `out` is just
+/// their range of the file.
 ///
 /// # Errors
 ///
-/// An initializer stands 2^32 bytes or more behind the base.
+/// `TooLarge` where an initializer stands 2^32 bytes or more behind the base.
 pub fn write_initializers<P: Places>(
     places: &P,
     rows: &[Initializer],

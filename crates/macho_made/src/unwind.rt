@@ -155,13 +155,13 @@ fn section(alloc: Global, base: u64, entries: &[ResolvedUnwindInfo]) -> Result<V
     }
 }
 
-/// The unwind information of entries, as bytes; no entries give no bytes. It has at most the room that was counted, and what is
-/// left of that is for zeros.
+/// The unwind information of entries, as bytes; no entries give no bytes. It has at most the room that was counted for it; the
+/// caller leaves zeros in the rest of that.
 ///
 /// # Errors
 ///
-/// A function, its language data or the slot of its personality stands 2^32 bytes or more behind the base, or ends there, or so many
-/// bytes would be needed; or there is not enough memory.
+/// `TooLarge` where a function, its end, its language data or the slot of its personality stands 2^32 bytes or more behind the base,
+/// or so many bytes would be needed; `OutOfMemory`.
 pub fn unwind_text<P: Places>(
     alloc: Global,
     places: &P,

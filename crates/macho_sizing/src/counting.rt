@@ -62,7 +62,7 @@ fn check_names(install_name: &[u8], name: &[u8]) -> Result<(), AllocError>
     Ok(())
 }
 
-/// The counts of a link.
+/// The counts of a link. `unwind` and `trie` are the most bytes of unwind information and of the exports trie.
 pub(crate) fn count_sizes(
     alloc: Global,
     asked: &SizesOf<'_>,

@@ -26,7 +26,7 @@ use macho_linkedit::{reserve_trie, table_symbols};
 use macho_symbols::{ExportList, Import};
 use std::alloc::Global;
 
-/// The sizes and the placement of a link whose numbers are within the limits, and whose unwind information has so many bytes.
+/// The sizes and the placement of a link whose numbers are within the limits, and whose unwind information has at most `unwind` bytes.
 fn size_within(
     alloc: Global,
     asked: &SizesOf<'_>,

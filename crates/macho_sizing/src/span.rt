@@ -57,7 +57,7 @@ fn with_object(before: u64, object: &File<'_>) -> Option<u64>
     Some(span)
 }
 
-/// A span with the sections of a file, none of what is no object.
+/// A span with the sections of an object; that of another file stays.
 fn with_view(span: u64, view: &Option<File<'_>>) -> Option<u64>
     requires { ViewsObject view.now }
     ensures { result ≡ fitting (span + span_of_view view.now) }

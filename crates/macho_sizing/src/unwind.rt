@@ -10,7 +10,7 @@ use crate::span::text_span;
 use macho_consumed::{RoomFault, unwind_room};
 use std::alloc::{AllocError, Global};
 
-/// The bytes that unwind information has at most. None where they are 2^64 or more, or functions may start that far apart.
+/// The most bytes that unwind information may have. None where they are 2^64 or more, or functions may start that far apart.
 pub(crate) fn unwind_bytes(alloc: Global, asked: &SizesOf<'_>) -> Result<Option<u64>, AllocError>
     requires sized { CanBeSized asked.now }
     requires few { (l : Link) × AreOf l asked.now × (length (personality_targets l) ≤ 3) }

@@ -74,7 +74,8 @@ fn row_of<'a, P: Places>(
     table_row(object, index, is_listed(lists, name), section, address)
 }
 
-/// The symbol table of a placed link, with a row for each listed symbol. `lists` are the export lists, where there are any.
+/// The symbol table of a placed link, with a row for each listed symbol, in order. `listed` are the symbols that were counted before
+/// addresses were known; `lists` are the export lists, where there are any.
 ///
 /// # Errors
 ///

@@ -78,7 +78,7 @@ fn is_of(placement: &Placement, by: &MergedBy<'_>, header: &SectionHeader) -> bo
         && !is_made(placement, header)
 }
 
-/// The number of the output section that sections are merged into, from 1; 0 where there is none.
+/// The number of the output section that sections are merged into, from 1 in the order of section headers; 0 where there is none.
 #[tactic(auto, unfolding(crate::specs::steps::Sections::number_told))]
 fn section_number(placement: &Placement, by: &MergedBy<'_>) -> u8
     requires { length placement.now.output_sections.items ≤ GREATEST_SECTIONS }

@@ -11,7 +11,7 @@ use macho_linked::ImportName;
 use macho_symbols::Import;
 use std::alloc::{AllocError, Global};
 
-/// The imports of a link, each with the number of its library.
+/// The imports of a link by their numbers, each with its name and the number of its library among `libraries`, from 1.
 ///
 /// # Errors
 ///
