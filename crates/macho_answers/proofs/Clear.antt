@@ -8,7 +8,9 @@ use Rattle.macho_model.specs.Links.{Link}
 use Rattle.macho_model.specs.Placement.{Placed}
 use Rattle.macho_model.specs.Limits.{PassesLimit, ImagePasses}
 use Rattle.macho_model.specs.Values.{BadRange, BadRebase}
-use Rattle.macho_model.specs.Faults.{LinkFault, DuplicateSymbol, UndefinedSymbol, EntryNotDefined, ExportListMissing, BadInitializer, BadUnwind, UnsupportedRelocation, OverlappingFields, BindAddend, FixupPlace, TooMany, ImageTooLarge, RebaseTarget, RelocationRange, BadName, FaultStands, IsOfPlacement}
+use Rattle.macho_model.specs.Faults.{LinkFault, DuplicateSymbol, UndefinedSymbol, EntryNotDefined, ExportListMissing, BadInitializer}
+use Rattle.macho_model.specs.Faults.{BadUnwind, UnsupportedRelocation, OverlappingFields, BindAddend, FixupPlace, TooMany, ImageTooLarge}
+use Rattle.macho_model.specs.Faults.{RebaseTarget, RelocationRange, BadName, FaultStands, IsOfPlacement}
 use Rattle.macho_fields.specs.Faults.{IsBadPlace}
 use Rattle.macho_reading.proofs.Refusals.{read_is_not_refused}
 use Rattle.macho_answers.specs.Refusals.{NothingPasses, IsClear, ClearIsUnrefused}

@@ -16,7 +16,10 @@ use Rattle.macho_model.specs.Valid.{IsValid}
 use Rattle.macho_promise.specs.Promise.{IsLaidOut, IsKept}
 use Rattle.macho_promise.specs.Sizes.{AreCounts}
 use Rattle.macho_faults.specs.declared.fault.LinkError.{LinkError}
-use Rattle.macho_faults.specs.declared.fault.LinkError.TheVariants.{DuplicateSymbol, UndefinedSymbol, EntryNotDefined, ExportListMissing, BadInitializer, BadUnwind, UnsupportedRelocation, OverlappingFields, BindAddend, FixupPlace, TooMany, ImageTooLarge, RebaseTarget, RelocationRange, BadName, BadInput, OutOfMemory}
+use Rattle.macho_faults.specs.declared.fault.LinkError.TheVariants.{DuplicateSymbol, UndefinedSymbol, EntryNotDefined, ExportListMissing}
+use Rattle.macho_faults.specs.declared.fault.LinkError.TheVariants.{BadInitializer, BadUnwind, UnsupportedRelocation, OverlappingFields}
+use Rattle.macho_faults.specs.declared.fault.LinkError.TheVariants.{BindAddend, FixupPlace, TooMany, ImageTooLarge, RebaseTarget}
+use Rattle.macho_faults.specs.declared.fault.LinkError.TheVariants.{RelocationRange, BadName, BadInput, OutOfMemory}
 use Rattle.macho_layout.specs.Placements.{placed_of}
 use Rattle.macho_faults.specs.Errors.{placed_if}
 use Rattle.macho_faults.specs.Standing.{Stands, KeepsPlaced, IsStanding}

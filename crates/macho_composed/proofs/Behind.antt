@@ -1,5 +1,6 @@
 -- The file when the other texts are written behind its contents: each stands in a range of its own.
-use Rattle.std.proofs.Common.{◌≡◌, ℕ, ◌+◌, ◌-◌, ◌<◌, ◌≤◌, inl, inr, nat_le, nat_lt, List, [], ◌∷◌, ◌++◌, map, length, filter, refl, sym, ap, subst, ◌∙◌, arith, append_assoc, All, Contains}
+use Rattle.std.proofs.Common.{◌≡◌, ℕ, ◌+◌, ◌-◌, ◌<◌, ◌≤◌, inl, inr, nat_le, nat_lt, List, [], ◌∷◌, ◌++◌, map, length, filter, refl, sym, ap}
+use Rattle.std.proofs.Common.{subst, ◌∙◌, arith, append_assoc, All, Contains}
 use Rattle.std.proofs.lemmas.Bool.{ltb-true}
 use Rattle.macho_bytes.specs.Texts.{Part, end_of}
 use Rattle.macho_model.specs.declared.placed.Counts.{Counts}
@@ -21,7 +22,8 @@ use Rattle.macho_composed.specs.Written.{AreContents, Texts, TextsFit, text_part
 use Rattle.macho_composed.proofs.Pieces.{swapped}
 use Rattle.macho_composed.proofs.Exactly.{filling_lie}
 use Rattle.macho_composed.proofs.Slices.{all_front, all_back, each_all, now_fill}
-use Rattle.macho_composed.proofs.Contents.{Grounds, section_ranges, slot_ranges, stub_ranges, filled_parts, contents_fill, contents_made, words_made, all_ranges}
+use Rattle.macho_composed.proofs.Contents.{Grounds, section_ranges, slot_ranges, stub_ranges, filled_parts, contents_fill, contents_made}
+use Rattle.macho_composed.proofs.Contents.{words_made, all_ranges}
 
 -- no address is told to be past the end of the file
 offset_low : (l : Link) (counts : Counts) (p : Placed) (n a : ℕ) → Grounds l counts p n → offset_in_file p a ≤ n
@@ -37,7 +39,8 @@ offset_low l counts p n a g = by (filter (has_in_file a) p.segments) refl
     by (s ∷ found) e =
         let there = filter_contains (has_in_file a) p.segments s
         (subst (λ (xs : List PlacedSegment). Contains xs s) (sym e) (contains_first s found)) in
-        let below : a < s.address + s.file_size = ltb-true a (s.address + s.file_size) (and_right (nat_le s.address a) (nat_lt a (s.address + s.file_size)) there.1) in
+        let below : a < s.address + s.file_size = ltb-true a (s.address + s.file_size)
+        (and_right (nat_le s.address a) (nat_lt a (s.address + s.file_size)) there.1) in
         let end = all_contains (λ (u : PlacedSegment). u.file_offset + u.file_size ≤ p.linkedit.signature.end) p.segments s ends there.0 in
         omega (arith, below, end, g.size)
 
@@ -60,7 +63,8 @@ apart_behind l counts p n g =
     let joined : EachLater AreApart (content_ranges l p ++ first_ranges p ++ table_span p.linkedit.signature ∷ head_range counts p ∷ []) =
     subst (EachLater AreApart) (regroup (content_ranges l p) (first_ranges p) (table_span p.linkedit.signature) (head_range counts p))
     (all_ranges l counts p n g) in
-    subst (EachLater AreApart) (append_assoc (content_ranges l p) (first_ranges p) (head_range counts p ∷ table_span p.linkedit.signature ∷ []))
+    subst (EachLater AreApart) (append_assoc (content_ranges l p) (first_ranges p)
+    (head_range counts p ∷ table_span p.linkedit.signature ∷ []))
     (swapped (content_ranges l p ++ first_ranges p) (table_span p.linkedit.signature) (head_range counts p) joined)
   where
     regroup : (xs ys : List Span) (a b : Span) → (xs ++ (ys ++ a ∷ [])) ++ b ∷ [] ≡ (xs ++ ys) ++ a ∷ b ∷ []
@@ -117,20 +121,26 @@ texts_end l counts p n t g begin fit =
     let others : List Span = in_file p (range_span p.init_offsets) ∷ in_file p (range_span p.unwind) ∷ map table_span (linkedit_ranges p) in
     let made : All (EndsInFile p) others =
     all_back (EndsInFile p) contents others (all_front (EndsInFile p) (contents ++ others) (head_range counts p ∷ []) all) in
-    let head : All (EndsInFile p) (head_range counts p ∷ []) = all_back (EndsInFile p) (contents ++ others) (head_range counts p ∷ []) all in
+    let head : All (EndsInFile p) (head_range counts p ∷ []) = all_back (EndsInFile p) (contents ++ others) (head_range counts p ∷ []) all
+    in
     each_all (λ (q : Part). end_of q ≤ n) (text_parts p t) (
       front_ends p n _ _ t.initializers g.size (made 0 (head_range counts p) (omega arith)) fit.made.initializers
           (offset_low l counts p n p.init_offsets.start g),
       (
-        front_ends p n _ _ t.unwind g.size (made 1 (head_range counts p) (omega arith)) fit.made.unwind (offset_low l counts p n p.unwind.start g),
+        front_ends p n _ _ t.unwind g.size (made 1 (head_range counts p) (omega arith)) fit.made.unwind
+            (offset_low l counts p n p.unwind.start g),
         (
-          front_ends p n _ _ t.fixups g.size (made 2 (head_range counts p) (omega arith)) fit.fixups (begin 0 p.linkedit.fixups (omega arith)),
+          front_ends p n _ _ t.fixups g.size (made 2 (head_range counts p) (omega arith)) fit.fixups
+              (begin 0 p.linkedit.fixups (omega arith)),
           (
-            front_ends p n _ _ t.trie g.size (made 3 (head_range counts p) (omega arith)) fit.trie (begin 1 p.linkedit.fixups (omega arith)),
+            front_ends p n _ _ t.trie g.size (made 3 (head_range counts p) (omega arith)) fit.trie
+                (begin 1 p.linkedit.fixups (omega arith)),
             (
-              front_ends p n _ _ t.symbols g.size (made 4 (head_range counts p) (omega arith)) fit.symbols.0 (begin 2 p.linkedit.fixups (omega arith)),
+              front_ends p n _ _ t.symbols g.size (made 4 (head_range counts p) (omega arith)) fit.symbols.0
+                  (begin 2 p.linkedit.fixups (omega arith)),
               (
-                front_ends p n _ _ t.strings g.size (made 5 (head_range counts p) (omega arith)) fit.symbols.1 (begin 3 p.linkedit.fixups (omega arith)),
+                front_ends p n _ _ t.strings g.size (made 5 (head_range counts p) (omega arith)) fit.symbols.1
+                    (begin 3 p.linkedit.fixups (omega arith)),
                 (
                   front_ends p n _ _ t.head g.size (head 0 (head_range counts p) (omega arith)) fit.head (omega arith),
                   (
@@ -154,6 +164,7 @@ all_made l counts p run n now t g begin c fit =
     let before = contents_made l counts p run n now g c in
     let made = words_made l counts p run n now g c in
     let lie = filling_lie (map (part_now now) (filled_parts c)) (content_ranges l p)
-    (now_fill c.before now (filled_parts c) (content_ranges l p) before.each (made.size ∙ sym before.size) (contents_fill l p run n now c)) in
+    (now_fill c.before now (filled_parts c) (content_ranges l p) before.each (made.size ∙ sym before.size)
+    (contents_fill l p run n now c)) in
     all_more n (map (part_now now) (filled_parts c)) (text_parts p t) (content_ranges l p) (text_ranges counts p) now made lie
     (apart_behind l counts p n g) (texts_lie counts p t fit) (texts_end l counts p n t g begin fit)

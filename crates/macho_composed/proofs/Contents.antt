@@ -2,7 +2,8 @@
 --
 -- Ranges of a placed link share no byte. So sections stand once all are written, slots are zeros, stubs stand beside; and the words,
 -- which lie in sections and slots, leave every byte outside these ranges.
-use Rattle.std.proofs.Common.{◌≡◌, ℕ, suc, ◌+◌, ◌≤◌, inl, inr, ◌==◌, Bool, true, false, List, [], ◌∷◌, ◌++◌, map, length, slice_index, refl, sym, subst, ◌∙◌, arith, eqb-true, All}
+use Rattle.std.proofs.Common.{◌≡◌, ℕ, suc, ◌+◌, ◌≤◌, inl, inr, ◌==◌, Bool, true, false, List, [], ◌∷◌, ◌++◌, map, length, slice_index, refl}
+use Rattle.std.proofs.Common.{sym, subst, ◌∙◌, arith, eqb-true, All}
 use Rattle.std.proofs.lemmas.Bool.Decides.{nat_tests}
 use Rattle.std.proofs.lemmas.List.{length-replicate, get_or-replicate, get_or_past}
 use Rattle.std.proofs.lemmas.List.Elements.{All-nil, All-cons}
@@ -84,7 +85,8 @@ pub contents_fill : (l : Link) (p : Placed) (run : List Fixup) (n : ℕ) (now : 
     → FillRanges (filled_parts c) (content_ranges l p)
 unfolding content_ranges
 contents_fill l p run n now c =
-    fill_append (c.filled.sections.parts ++ map zero_part (slot_ranges p)) c.filled.stubs.parts (section_ranges l p ++ slot_ranges p) (stub_ranges p)
+    fill_append (c.filled.sections.parts ++ map zero_part (slot_ranges p)) c.filled.stubs.parts (section_ranges l p ++ slot_ranges p)
+    (stub_ranges p)
     (sections_fill l p run n now c)
     (parts_fill (IsStubPart p (length c.filled.between)) (λ s. in_file p (stub_span s)) p.stubs c.filled.stubs.parts c.filled.stubs.each
     (stub_fills p (length c.filled.between)))
@@ -136,10 +138,12 @@ unfolding content_ranges
 sections_made l counts p run n now g c =
     let apart = later_front (section_ranges l p ++ slot_ranges p) (stub_ranges p) (contents_apart l counts p n g) in
     let long = length-replicate {A = ℕ} n 0 in
-    let fill = parts_fill (IsSectionPart l p (length (zeros n))) (λ q. in_file p (section_span l q)) (filled_sections l p) c.filled.sections.parts
+    let fill = parts_fill (IsSectionPart l p (length (zeros n))) (λ q. in_file p (section_span l q)) (filled_sections l p)
+    c.filled.sections.parts
     c.filled.sections.each (section_fills l p (length (zeros n))) in
     let end : All (λ (q : Part). end_of q ≤ n) c.filled.sections.parts =
-    parts_all (IsSectionPart l p (length (zeros n))) (λ q. end_of q ≤ n) (filled_sections l p) c.filled.sections.parts c.filled.sections.each
+    parts_all (IsSectionPart l p (length (zeros n))) (λ q. end_of q ≤ n) (filled_sections l p) c.filled.sections.parts
+    c.filled.sections.each
     (λ q part is. omega (arith, is.ends, long)) in
     let lie = filling_lie c.filled.sections.parts (section_ranges l p) fill in
     let made = all_more n [] c.filled.sections.parts [] (section_ranges l p) (zeros n) (nothing_made n) tt
@@ -152,13 +156,15 @@ pub contents_made : (l : Link) (counts : Counts) (p : Placed) (run : List Fixup)
 unfolding content_ranges
 contents_made l counts p run n now g c =
     let long = length-replicate {A = ℕ} n 0 in
-    let fill = parts_fill (IsStubPart p (length c.filled.between)) (λ s. in_file p (stub_span s)) p.stubs c.filled.stubs.parts c.filled.stubs.each
+    let fill = parts_fill (IsStubPart p (length c.filled.between)) (λ s. in_file p (stub_span s)) p.stubs c.filled.stubs.parts
+    c.filled.stubs.each
     (stub_fills p (length c.filled.between)) in
     let end : All (λ (q : Part). end_of q ≤ n) c.filled.stubs.parts =
     parts_all (IsStubPart p (length c.filled.between)) (λ q. end_of q ≤ n) p.stubs c.filled.stubs.parts c.filled.stubs.each
     (λ s part is. omega (arith, is.ends, c.filled.long, long)) in
     subst (IsMadeOf n (filled_parts c)) (sym c.filled.stubs.same)
-    (all_more n (c.filled.sections.parts ++ map zero_part (slot_ranges p)) c.filled.stubs.parts (section_ranges l p ++ slot_ranges p) (stub_ranges p)
+    (all_more n (c.filled.sections.parts ++ map zero_part (slot_ranges p)) c.filled.stubs.parts (section_ranges l p ++ slot_ranges p)
+    (stub_ranges p)
     c.filled.between (sections_made l counts p run n now g c)
     (filling_lie _ _ (sections_fill l p run n now c))
     (contents_apart l counts p n g) (filling_lie c.filled.stubs.parts (stub_ranges p) fill) end)

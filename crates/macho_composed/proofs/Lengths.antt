@@ -1,5 +1,6 @@
 -- How long the symbol table and the head are, by what a link counts; and two texts that stand one behind the other.
-use Rattle.std.proofs.Common.{◌≡◌, ℕ, suc, ◌+◌, ◌-◌, ◌*◌, ◌<◌, ◌≤◌, ◌⊎◌, inl, inr, List, [], ◌∷◌, ◌++◌, map, length, get_or, sum_by, refl, sym, ap, ◌∙◌, arith, All}
+use Rattle.std.proofs.Common.{◌≡◌, ℕ, suc, ◌+◌, ◌-◌, ◌*◌, ◌<◌, ◌≤◌, ◌⊎◌, inl, inr, List, [], ◌∷◌, ◌++◌, map, length, get_or, sum_by, refl}
+use Rattle.std.proofs.Common.{sym, ap, ◌∙◌, arith, All}
 use Rattle.std.specs.List.{flat_map}
 use Rattle.std.proofs.lemmas.Bool.{cases_lt}
 use Rattle.std.proofs.lemmas.List.Sums.{sum_by-cons}
@@ -36,14 +37,16 @@ pub symbols_counted : (l : Link) (counts : Counts) (p : Placed) (t : SymbolTable
     → length t.entries.items ≡ counts.symbols
 unfolding symbol_rows counts_with
 symbols_counted l counts p t counted has =
-    ap length has.entries_are ∙ entries_long 1 (map (row_of l counts p) (table_symbols l)) ∙ length-map (table_symbols l) (row_of l counts p)
+    ap length has.entries_are ∙ entries_long 1 (map (row_of l counts p) (table_symbols l))
+    ∙ length-map (table_symbols l) (row_of l counts p)
     ∙ sym (ap (λ (c : Counts). c.symbols) counted.are)
 
 sizes_same : (l : Link) (counts : Counts) (p : Placed) (ss : List SymbolId)
     → sum_by name_size (map (row_of l counts p) ss) ≡ sum_by (λ s. text_size (name_at l s)) ss
 sizes_same l counts p [] = refl
 sizes_same l counts p (s ∷ ss) =
-    sum_by-cons name_size (row_of l counts p s) (map (row_of l counts p) ss) ∙ ap (λ (n : ℕ). text_size (name_at l s) + n) (sizes_same l counts p ss)
+    sum_by-cons name_size (row_of l counts p s) (map (row_of l counts p) ss)
+    ∙ ap (λ (n : ℕ). text_size (name_at l s) + n) (sizes_same l counts p ss)
     ∙ sym (sum_by-cons (λ (s : SymbolId). text_size (name_at l s)) s ss)
 
 -- and as many bytes of strings
@@ -78,7 +81,8 @@ pub stands_joined : (b : List ℕ) (at next : ℕ) (x y : List ℕ) → next ≡
     → Stands b (record { at = next; text = y })
     → Stands b (record { at = at; text = x ++ y })
 stands_joined b at next x y is first second =
-    stands_by_bytes b (record { at = at; text = x ++ y }) (omega (arith, second.within, is, length-append x y)) (λ i lt. by i lt (cases_lt i (length x)))
+    stands_by_bytes b (record { at = at; text = x ++ y }) (omega (arith, second.within, is, length-append x y))
+    (λ i lt. by i lt (cases_lt i (length x)))
   where
     here : (q : Part) (i : ℕ) → Stands b q → i < length q.text → get_or b (q.at + i) 0 ≡ get_or q.text i 0
     here q i stands lt =
@@ -87,5 +91,6 @@ stands_joined b at next x y is first second =
     by : (i : ℕ) → i < length (x ++ y) → (i < length x) ⊎ (length x ≤ i) → get_or b (at + i) 0 ≡ get_or (x ++ y) i 0
     by i lt (inl low) = here (record { at = at; text = x }) i first low ∙ sym (get_or_append_left x y 0 i low)
     by i lt (inr high) =
-        ap (λ (k : ℕ). get_or b k 0) (omega (arith, is, high)) ∙ here (record { at = next; text = y }) (i - length x) second (omega (arith, lt, high, length-append x y))
+        ap (λ (k : ℕ). get_or b k 0) (omega (arith, is, high))
+        ∙ here (record { at = next; text = y }) (i - length x) second (omega (arith, lt, high, length-append x y))
         ∙ sym (get_or-append-add x y (i - length x) 0) ∙ ap (λ (k : ℕ). get_or (x ++ y) k 0) (omega (arith, high))

@@ -1,8 +1,10 @@
 -- A file into which contents and texts of a link were written is an image as promised.
 --
--- The parts stand, each in its range. So what their writers promised of every file in which they stand is so of this one; the head tells the
+-- The parts stand, each in its range. So what their writers promised of every file in which they stand is so of this one; the head tells
+-- the
 -- tables where the texts are, and what no content is told of is 0. This is a whole file, of which the law of whole files speaks.
-use Rattle.std.proofs.Common.{◌≡◌, ℕ, ◌+◌, ◌-◌, ◌*◌, ◌/◌, ◌^◌, ◌≤◌, List, [], ◌∷◌, length, drop, replicate, refl, sym, ap, subst, ◌∙◌, arith}
+use Rattle.std.proofs.Common.{◌≡◌, ℕ, ◌+◌, ◌-◌, ◌*◌, ◌/◌, ◌^◌, ◌≤◌, List, [], ◌∷◌, length, drop, replicate, refl, sym, ap, subst, ◌∙◌}
+use Rattle.std.proofs.Common.{arith}
 use Rattle.std.specs.List.{flat_map}
 use Rattle.macho_bytes.specs.Layouts.{spelling, size_of}
 use Rattle.macho_bytes.specs.Texts.{Part, Stands, put}
@@ -89,7 +91,8 @@ standing laws l counts uuid p b ready can begin w =
 no_part : Part
 no_part = record { at = 0; text = [] }
 
-fixups_stand : (l : Link) (counts : Counts) (uuid : List ℕ) (p : Placed) (b : List ℕ) (w : IsWritten l counts uuid p b) → Seen l counts uuid p b w
+fixups_stand : (l : Link) (counts : Counts) (uuid : List ℕ) (p : Placed) (b : List ℕ) (w : IsWritten l counts uuid p b)
+    → Seen l counts uuid p b w
     → FixupsStand l p w.run w.says.1.fixups.imports b
 fixups_stand l counts uuid p b w seen = record {
   run_is = w.filled.chained.run_is;
@@ -105,7 +108,8 @@ trie_says : MeaningLaws → (l : Link) (counts : Counts) (uuid : List ℕ) (p : 
     → TrieSays l b p
 trie_says laws l counts uuid p b ready w seen =
     let m = w.says.1.trie in
-    laws.trie l b p (record { at = p.linkedit.trie.start; size = length w.texts.trie }) m.told m.exports w.texts.trie ready.link.placed.whole_list
+    laws.trie l b p (record { at = p.linkedit.trie.start; size = length w.texts.trie }) m.told m.exports w.texts.trie
+    ready.link.placed.whole_list
     m.said_are (record {
       one = seen.reads.tries;
       size = refl;
@@ -121,7 +125,8 @@ strings_behind : (l : Link) (counts : Counts) (p : Placed) → IsReady l counts 
 strings_behind l counts p ready =
     let least : p.linkedit.strtab.start
     ≡ ((p.linkedit.symtab.start + (p.linkedit.symtab.end - p.linkedit.symtab.start)) + (2 ^ 0 - 1)) / 2 ^ 0 * 2 ^ 0 =
-    ready.laid_out.least.tables 3 (table_piece POINTER_EXPONENT p.linkedit.symtab) (table_piece 0 p.linkedit.strtab) (omega arith, refl) (omega arith, refl) in
+    ready.laid_out.least.tables 3 (table_piece POINTER_EXPONENT p.linkedit.symtab) (table_piece 0 p.linkedit.strtab) (omega arith, refl)
+    (omega arith, refl) in
     let room : p.linkedit.symtab.end ≡ p.linkedit.symtab.start + SYMBOL_SIZE * counts.symbols = ready.laid_out.least.rooms.symbols in
     omega (arith, least, room)
 
@@ -151,10 +156,13 @@ symbols_say laws l counts uuid p b ready w seen =
 
     text : Stands b (record { at = p.linkedit.symtab.start; text = table_text m.table })
     text =
-        stands_joined b p.linkedit.symtab.start p.linkedit.strtab.start (flat_map (spelling symtab_entry) m.table.entries.items) m.table.strings.items
+        stands_joined b p.linkedit.symtab.start p.linkedit.strtab.start (flat_map (spelling symtab_entry) m.table.entries.items)
+        m.table.strings.items
         (next ∙ ap (λ (n : ℕ). p.linkedit.symtab.start + n) (sym (symbols_long m.table.entries.items m.back)))
-        (subst (λ (t : List ℕ). Stands b (record { at = p.linkedit.symtab.start; text = t })) m.entries_are (seen.stands.texts 4 no_part (omega arith)))
-        (subst (λ (t : List ℕ). Stands b (record { at = p.linkedit.strtab.start; text = t })) m.strings_are (seen.stands.texts 5 no_part (omega arith)))
+        (subst (λ (t : List ℕ). Stands b (record { at = p.linkedit.symtab.start; text = t })) m.entries_are
+        (seen.stands.texts 4 no_part (omega arith)))
+        (subst (λ (t : List ℕ). Stands b (record { at = p.linkedit.strtab.start; text = t })) m.strings_are
+        (seen.stands.texts 5 no_part (omega arith)))
 
 -- the header of the fixup table tells where its names begin
 names_end : (l : Link) (p : Placed) (run : List Fixup) (imports : ImportTable) (b : List ℕ) → TableIsOf l p run imports
@@ -197,7 +205,8 @@ zeros : (l : Link) (counts : Counts) (uuid : List ℕ) (p : Placed) (b : List �
     → Seen l counts uuid p b w → IsZeroElsewhere l b p (length w.texts.unwind)
 zeros l counts uuid p b ready w seen =
     let m = w.says.1.fixups in
-    let text : Stands b (record { at = p.linkedit.fixups.start; text = text_of_range p w.run m.imports }) = (fixups_stand l counts uuid p b w seen).text in
+    let text : Stands b (record { at = p.linkedit.fixups.start; text = text_of_range p w.run m.imports }) = (fixups_stand l counts uuid p
+    b w seen).text in
     zero_elsewhere l p w.run w.texts p.linkedit.signature.end b m.imports seen.stands (told l counts uuid p b ready w seen)
     (record { of_link = m.of_link; place = names_end l p w.run m.imports b m.of_link text }) m.is w.says.0.made.initializers
 
@@ -208,8 +217,10 @@ written_is_linked parts laws l counts uuid b p ready can w =
       ready = ready;
       head = record { says = head; fits = omega (arith, w.says.0.trie, table); names = w.says.1.head.names };
       tables = record {
-        fixups = laws.fixups l p w.run w.says.1.fixups.imports b (fixups_stand l counts uuid p b w seen) w.says.1.fixups.of_link can.encoded;
-        imports = laws.imports l p w.run w.says.1.fixups.imports b (fixups_stand l counts uuid p b w seen) w.says.1.fixups.of_link w.says.1.fixups.tellable;
+        fixups = laws.fixups l p w.run w.says.1.fixups.imports b (fixups_stand l counts uuid p b w seen) w.says.1.fixups.of_link
+            can.encoded;
+        imports = laws.imports l p w.run w.says.1.fixups.imports b (fixups_stand l counts uuid p b w seen) w.says.1.fixups.of_link
+            w.says.1.fixups.tellable;
         exports = trie_says laws l counts uuid p b ready w seen;
         symbols = symbols_say laws l counts uuid p b ready w seen;
       };

@@ -1,5 +1,6 @@
 -- Parts and ranges of a file: what stands in a range, and what two files have in common there.
-use Rattle.std.proofs.Common.{◌≡◌, ℕ, suc, ◌+◌, ◌-◌, ◌<◌, ◌≤◌, inl, inr, ◌==◌, Bool, true, false, List, [], ◌∷◌, ◌++◌, map, length, get_or, take, drop, slice_range, slice_index, refl, sym, ap, subst, ◌∙◌, arith, eqb-true, All}
+use Rattle.std.proofs.Common.{◌≡◌, ℕ, suc, ◌+◌, ◌-◌, ◌<◌, ◌≤◌, inl, inr, ◌==◌, Bool, true, false, List, [], ◌∷◌, ◌++◌, map, length, get_or}
+use Rattle.std.proofs.Common.{take, drop, slice_range, slice_index, refl, sym, ap, subst, ◌∙◌, arith, eqb-true, All}
 use Rattle.std.proofs.lemmas.Bool.Decides.{nat_tests}
 use Rattle.std.proofs.lemmas.List.Edits.{length-between, get_or-between}
 use Rattle.std.proofs.lemmas.List.{get_or_append_left, length-append}
@@ -68,8 +69,11 @@ pub now_fill : (b c : List ℕ) (parts : List Part) (spans : List Span) → All 
 now_fill b c [] [] stand same fill = tt
 now_fill b c [] (s ∷ spans) stand same fill = absurd fill
 now_fill b c (q ∷ parts) [] stand same fill = absurd fill
-now_fill b c (q ∷ parts) (s ∷ spans) stand same fill =
-    (by (length_now b c q (stand 0 q (omega arith)) same) fill.0, now_fill b c parts spans (λ k d lt. stand (suc k) d (omega arith)) same fill.1)
+now_fill b c (q ∷ parts) (s ∷ spans) stand same fill = (
+  by (length_now b c q (stand 0 q (omega arith)) same) fill.0,
+  now_fill b c parts spans (λ k d lt. stand (suc k) d (omega arith)) same
+      fill.1,
+)
   where
     by : length (slice_range c q.at (end_of q)) ≡ length q.text → Fills q s → Fills (part_now c q) s
     by long (inl none) = inl (omega (arith, none.0, long), none.1)

@@ -29,7 +29,8 @@ use Rattle.macho_composed.specs.Written.{AreContents, Texts, TextsFit, text_part
 use Rattle.macho_composed.proofs.Pieces.{zero_part}
 use Rattle.macho_composed.proofs.Exactly.{Fills, part_of, part_in, outside_parts}
 use Rattle.macho_composed.proofs.Slices.{text_in, slices_same, byte_same, now_fill}
-use Rattle.macho_composed.proofs.Contents.{Grounds, section_ranges, slot_ranges, filled_parts, sections_fill, contents_fill, contents_made, words_made}
+use Rattle.macho_composed.proofs.Contents.{Grounds, section_ranges, slot_ranges, filled_parts, sections_fill, contents_fill, contents_made}
+use Rattle.macho_composed.proofs.Contents.{words_made}
 use Rattle.macho_composed.proofs.Behind.{TablesBegin, all_made}
 
 -- and the laws on words
@@ -45,7 +46,8 @@ pub record Has (before now b : List ℕ) (q : Part) : Type 0 where
   pub long : length now ≡ length before
   pub last : Stands b (part_now now q)
 
-pub record Whole (l : Link) (counts : Counts) (p : Placed) (run : List Fixup) (n : ℕ) (now : List ℕ) (t : Texts) (c : AreContents l p run n now) : Type 0 where
+pub record Whole (l : Link) (counts : Counts) (p : Placed) (run : List Fixup) (n : ℕ) (now : List ℕ) (t : Texts)
+    (c : AreContents l p run n now) : Type 0 where
   pub before : IsMadeOf n (filled_parts c) c.before
   pub words : IsMadeOf n (map (part_now now) (filled_parts c)) now
   pub last : IsMadeOf n (map (part_now now) (filled_parts c) ++ text_parts p t) (written (text_parts p t) now)
@@ -55,12 +57,14 @@ has : (l : Link) (counts : Counts) (p : Placed) (run : List Fixup) (n : ℕ) (no
 has l counts p run n now t c w q there = record {
   first = all_contains (Stands c.before) (filled_parts c) q w.before.each there;
   long = w.words.size ∙ sym w.before.size;
-  last = all_contains (Stands (written (text_parts p t) now)) (map (part_now now) (filled_parts c) ++ text_parts p t) (part_now now q) w.last.each
+  last = all_contains (Stands (written (text_parts p t) now)) (map (part_now now) (filled_parts c) ++ text_parts p t) (part_now now q)
+      w.last.each
       (Contains-append_left (map (part_now now) (filled_parts c)) (text_parts p t) (part_now now q)
       (contains_map (part_now now) (filled_parts c) q there));
 }
 
-section_stands : (l : Link) (counts : Counts) (p : Placed) (run : List Fixup) (n : ℕ) (now : List ℕ) (t : Texts) (c : AreContents l p run n now)
+section_stands : (l : Link) (counts : Counts) (p : Placed) (run : List Fixup) (n : ℕ) (now : List ℕ) (t : Texts)
+    (c : AreContents l p run n now)
     → WordLaws l counts p → Whole l counts p run n now t c → (q : PlacedSection) → Contains p.sections q
     → SectionIsWritten l (written (text_parts p t) now) p q
 section_stands l counts p run n now t c laws w q there zero =
@@ -71,14 +75,17 @@ section_stands l counts p run n now t c laws w q there zero =
     (Contains-append_left (c.filled.sections.parts ++ map zero_part (slot_ranges p)) c.filled.stubs.parts found.0
     (Contains-append_left c.filled.sections.parts (map zero_part (slot_ranges p)) found.0 found.1)) in
     let first : IsFilled l p q (bytes_in_file c.before p q.address size) =
-    subst (IsFilled l p q) (sym (text_in c.before found.0 (offset_in_file p q.address) size h.first found.2.place found.2.filled.long)) found.2.filled in
+    subst (IsFilled l p q) (sym (text_in c.before found.0 (offset_in_file p q.address) size h.first found.2.place found.2.filled.long))
+    found.2.filled in
     let words : IsFilled l p q (bytes_in_file now p q.address size) =
     laws.sections l counts p run c.before now q laws.link c.chained.written there zero first in
     subst (IsFilled l p q)
-    (sym (slices_same c.before now (written (text_parts p t) now) found.0 (offset_in_file p q.address) size h.first h.long h.last found.2.place found.2.filled.long))
+    (sym (slices_same c.before now (written (text_parts p t) now) found.0 (offset_in_file p q.address) size h.first h.long h.last
+    found.2.place found.2.filled.long))
     words
 
-stub_stands : (l : Link) (counts : Counts) (p : Placed) (run : List Fixup) (n : ℕ) (now : List ℕ) (t : Texts) (c : AreContents l p run n now)
+stub_stands : (l : Link) (counts : Counts) (p : Placed) (run : List Fixup) (n : ℕ) (now : List ℕ) (t : Texts)
+    (c : AreContents l p run n now)
     → WordLaws l counts p → Whole l counts p run n now t c → (s : Stub) → Contains p.stubs s
     → StubIsWritten (written (text_parts p t) now) p s
 stub_stands l counts p run n now t c laws w s there =
@@ -86,14 +93,17 @@ stub_stands l counts p run n now t c laws w s there =
     let h = has l counts p run n now t c w found.0
     (Contains-append_right (c.filled.sections.parts ++ map zero_part (slot_ranges p)) c.filled.stubs.parts found.0 found.1) in
     let first : StubIsSet p s (bytes_in_file c.before p s.address STUB_SIZE) =
-    subst (StubIsSet p s) (sym (text_in c.before found.0 (offset_in_file p s.address) STUB_SIZE h.first (λ some. found.2.place) found.2.set.long)) found.2.set in
+    subst (StubIsSet p s) (sym (text_in c.before found.0 (offset_in_file p s.address) STUB_SIZE h.first (λ some. found.2.place)
+    found.2.set.long)) found.2.set in
     let words : StubIsSet p s (bytes_in_file now p s.address STUB_SIZE) =
     laws.stubs l counts p run c.before now s laws.link c.chained.written there first in
     subst (StubIsSet p s)
-    (sym (slices_same c.before now (written (text_parts p t) now) found.0 (offset_in_file p s.address) STUB_SIZE h.first h.long h.last (λ some. found.2.place)
+    (sym (slices_same c.before now (written (text_parts p t) now) found.0 (offset_in_file p s.address) STUB_SIZE h.first h.long h.last
+    (λ some. found.2.place)
     found.2.set.long)) words
 
-words_stand : (l : Link) (counts : Counts) (p : Placed) (run : List Fixup) (n : ℕ) (now : List ℕ) (t : Texts) (c : AreContents l p run n now)
+words_stand : (l : Link) (counts : Counts) (p : Placed) (run : List Fixup) (n : ℕ) (now : List ℕ) (t : Texts)
+    (c : AreContents l p run n now)
     → Grounds l counts p n → WordLaws l counts p → Whole l counts p run n now t c
     → AllStand (fixup_segments p) run (written (text_parts p t) now)
 unfolding word_ranges

@@ -29,7 +29,8 @@ pub record Laws : Type 0 where
 
 agrees : Laws → (l : Link) (counts : Counts) (uuid b : List ℕ) (p : Placed) → IsWhole l counts uuid b p → Agrees l counts b p
 agrees laws l counts uuid b p w =
-    laws.ties l counts uuid b p w.head.says w.ready.link.objects w.ready.counted w.ready.link.placed w.ready.laid_out w.ready.entry w.head.fits
+    laws.ties l counts uuid b p w.head.says w.ready.link.objects w.ready.counted w.ready.link.placed w.ready.laid_out w.ready.entry
+    w.head.fits
 
 named : Laws → (l : Link) (counts : Counts) (uuid b : List ℕ) (p : Placed) → IsWhole l counts uuid b p → LibrariesSay l b
 named laws l counts uuid b p w = laws.libraries l counts uuid b p w.head.says w.head.names
@@ -70,7 +71,8 @@ tells laws l counts uuid b p w = record {
 
 signed : Laws → (l : Link) (counts : Counts) (uuid b : List ℕ) (p : Placed) → IsWhole l counts uuid b p → IsSigned l b
 signed laws l counts uuid b p w =
-    laws.signature l counts uuid b p w.sealed.signer w.head.says w.ready.counted w.ready.link.placed w.ready.laid_out w.sealed.signs w.sealed.size
+    laws.signature l counts uuid b p w.sealed.signer w.head.says w.ready.counted w.ready.link.placed w.ready.laid_out w.sealed.signs
+    w.sealed.size
     w.sealed.stands
 
 -- THE promise

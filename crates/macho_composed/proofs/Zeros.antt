@@ -1,8 +1,10 @@
 -- What is outside every content of the file is 0.
 --
--- The contents that the file tells are the ranges of sections, slots and stubs, and the texts behind them; of the fixup table the range tells
+-- The contents that the file tells are the ranges of sections, slots and stubs, and the texts behind them; of the fixup table the range
+-- tells
 -- more than its text, and what is behind the names there is 0 too.
-use Rattle.std.proofs.Common.{◌≡◌, ℕ, suc, ◌+◌, ◌-◌, ◌<◌, ◌≤◌, ◌⊎◌, inl, inr, List, [], ◌∷◌, ◌++◌, length, get_or, slice_index, replicate, sym, ap, subst, ◌∙◌, arith, append_assoc, All}
+use Rattle.std.proofs.Common.{◌≡◌, ℕ, suc, ◌+◌, ◌-◌, ◌<◌, ◌≤◌, ◌⊎◌, inl, inr, List, [], ◌∷◌, ◌++◌, length, get_or, slice_index, replicate}
+use Rattle.std.proofs.Common.{sym, ap, subst, ◌∙◌, arith, append_assoc, All}
 use Rattle.std.proofs.lemmas.Bool.{cases_lt}
 use Rattle.std.proofs.lemmas.List.{length-replicate, get_or-replicate, get_or_past}
 use Rattle.std.proofs.lemmas.List.Edits.{get_or-between}
@@ -32,7 +34,8 @@ pub record AreTold (p : Placed) (run : List Fixup) (t : Texts) (b : List ℕ) : 
   pub trie : tries_of b ≡ record { at = p.linkedit.trie.start; size = length t.trie } ∷ []
   pub symbols : symbol_tables_of b ≡ record { at = p.linkedit.symtab.start; size = length t.symbols } ∷ []
   pub strings : string_tables_of b ≡ record { at = p.linkedit.strtab.start; size = length t.strings } ∷ []
-  pub signature : (size : ℕ) × (signatures_of b ≡ record { at = p.linkedit.signature.start; size = size } ∷ []) × (length t.signature ≤ size)
+  pub signature : (size : ℕ) × (signatures_of b ≡ record { at = p.linkedit.signature.start; size = size } ∷ [])
+      × (length t.signature ≤ size)
 
 -- The names of the fixup table end its content.
 pub record NamesEnd (l : Link) (p : Placed) (run : List Fixup) (imports : ImportTable) (b : List ℕ) : Type 0 where
@@ -46,18 +49,22 @@ zero_behind : (l : Link) (p : Placed) (run : List Fixup) (imports : ImportTable)
 unfolding text_of_range
 zero_behind l p run imports k is behind =
     let long = length-replicate {A = ℕ} (range_size p.linkedit.fixups) 0 in
-    get_or-put_above 0 (text_of_table p run imports) (replicate (range_size p.linkedit.fixups) 0) k (omega (arith, is.within, long)) (omega (arith, behind))
+    get_or-put_above 0 (text_of_table p run imports) (replicate (range_size p.linkedit.fixups) 0) k (omega (arith, is.within, long))
+    (omega (arith, behind))
     ∙ by (cases_lt k (range_size p.linkedit.fixups))
   where
-    by : (k < range_size p.linkedit.fixups) ⊎ (range_size p.linkedit.fixups ≤ k) → slice_index (replicate (range_size p.linkedit.fixups) 0) k ≡ 0
+    by : (k < range_size p.linkedit.fixups) ⊎ (range_size p.linkedit.fixups ≤ k)
+        → slice_index (replicate (range_size p.linkedit.fixups) 0) k ≡ 0
     by (inl lt) = get_or-replicate (range_size p.linkedit.fixups) k 0 0 lt
     by (inr le) =
-        get_or_past (replicate (range_size p.linkedit.fixups) 0) k 0 (omega (arith, le, length-replicate {A = ℕ} (range_size p.linkedit.fixups) 0))
+        get_or_past (replicate (range_size p.linkedit.fixups) 0) k 0
+        (omega (arith, le, length-replicate {A = ℕ} (range_size p.linkedit.fixups) 0))
 
 -- a byte of a part is a byte of its text
 byte_of : (b : List ℕ) (q : Part) (i : ℕ) → Stands b q → q.at ≤ i → i < end_of q → slice_index b i ≡ slice_index q.text (i - q.at)
 byte_of b q i stands from to =
-    sym (get_or-between b q.at (end_of q) (i - q.at) 0 (omega (arith, stands.within, from, to)) ∙ ap (λ (k : ℕ). get_or b k 0) (omega (arith, from)))
+    sym (get_or-between b q.at (end_of q) (i - q.at) 0 (omega (arith, stands.within, from, to))
+    ∙ ap (λ (k : ℕ). get_or b k 0) (omega (arith, from)))
     ∙ ap (λ (t : List ℕ). get_or t (i - q.at) 0) stands.same
 
 -- what is outside a range is outside a text at its front
@@ -88,7 +95,8 @@ contents_told l p run t b unwind told =
     (append_assoc (record { start = 0; size = commands_end b } ∷ content_ranges l p) (front_told l b p unwind) (back_told p run t b told))
 
 -- THE bytes outside all contents
-pub zero_elsewhere : (l : Link) (p : Placed) (run : List Fixup) (t : Texts) (n : ℕ) (b : List ℕ) (imports : ImportTable) → AreStanding l p run t n b
+pub zero_elsewhere : (l : Link) (p : Placed) (run : List Fixup) (t : Texts) (n : ℕ) (b : List ℕ) (imports : ImportTable)
+    → AreStanding l p run t n b
     → AreTold p run t b → NamesEnd l p run imports b → t.fixups ≡ text_of_range p run imports
     → length t.initializers ≤ p.init_offsets.end - p.init_offsets.start
     → IsZeroElsewhere l b p (length t.unwind)
@@ -96,7 +104,8 @@ zero_elsewhere l p run t n b imports stands told names is fits i within outside 
     by (subst (λ (xs : List Span). All (IsOutsideSpan i) xs) (contents_told l p run t b (length t.unwind) told) outside)
   where
     by : All (IsOutsideSpan i)
-        ((record { start = 0; size = commands_end b } ∷ content_ranges l p) ++ (front_told l b p (length t.unwind) ++ back_told p run t b told))
+        ((record { start = 0; size = commands_end b } ∷ content_ranges l p) ++ (front_told l b p (length t.unwind) ++ back_told p run t b
+        told))
         → slice_index b i ≡ 0
     by out = decide (cases_lt i p.linkedit.fixups.start)
       where
@@ -122,7 +131,8 @@ zero_elsewhere l p run t n b imports stands told names is fits i within outside 
         rest there =
             stands.rest i (λ k e lt. first (suc k) e (omega (arith, lt)))
             (each_all (IsOutside i) (text_parts p t) (
-              narrower i (offset_in_file p p.init_offsets.start) (p.init_offsets.end - p.init_offsets.start) t.initializers fits (behind 0 d (omega arith)),
+              narrower i (offset_in_file p p.init_offsets.start) (p.init_offsets.end - p.init_offsets.start) t.initializers fits
+                  (behind 0 d (omega arith)),
               (
                 narrower i (offset_in_file p p.unwind.start) (length t.unwind) t.unwind (omega arith) (behind 1 d (omega arith)),
                 (
@@ -135,7 +145,10 @@ zero_elsewhere l p run t n b imports stands told names is fits i within outside 
                         narrower i p.linkedit.strtab.start (length t.strings) t.strings (omega arith) (behind 5 d (omega arith)),
                         (
                           narrower i 0 (commands_end b) t.head (omega (arith, told.head)) (first 0 d (omega arith)),
-                          (narrower i p.linkedit.signature.start told.signature.0 t.signature told.signature.2 (behind 6 d (omega arith)), tt),
+                          (
+                            narrower i p.linkedit.signature.start told.signature.0 t.signature told.signature.2 (behind 6 d (omega arith)),
+                            tt,
+                          ),
                         ),
                       ),
                     ),
@@ -145,7 +158,8 @@ zero_elsewhere l p run t n b imports stands told names is fits i within outside 
             ))
 
         inside : p.linkedit.fixups.start ≤ i → i < p.linkedit.fixups.start + length t.fixups
-            → IsOutsideSpan i (fixups_content l b (record { at = p.linkedit.fixups.start; size = range_size p.linkedit.fixups })) → slice_index b i ≡ 0
+            → IsOutsideSpan i (fixups_content l b (record { at = p.linkedit.fixups.start; size = range_size p.linkedit.fixups }))
+            → slice_index b i ≡ 0
         inside from to (inl below) = absurd (omega (arith, from, below))
         inside from to (inr above) =
             let names_are : length imports.names.items ≡ length (names_text l) = ap length names.of_link.table.names_are in
@@ -157,7 +171,8 @@ zero_elsewhere l p run t n b imports stands told names is fits i within outside 
               names_are,
               table_long p.base run (fixup_segments p) imports.format imports.entries.items imports.names.items,
             ) in
-            byte_of b table i (stands.texts 2 table (omega arith)) from to ∙ ap (λ (text : List ℕ). slice_index text (i - p.linkedit.fixups.start)) is
+            byte_of b table i (stands.texts 2 table (omega arith)) from to
+            ∙ ap (λ (text : List ℕ). slice_index text (i - p.linkedit.fixups.start)) is
             ∙ zero_behind l p run imports (i - p.linkedit.fixups.start) names.of_link long
 
         decide : (i < p.linkedit.fixups.start) ⊎ (p.linkedit.fixups.start ≤ i) → slice_index b i ≡ 0

@@ -2,7 +2,8 @@
 --
 -- By the rules the relocation of a personality is a plain pointer to a symbol, so it leads where the symbol does, and the number of
 -- that target's slot is the place of the target among slots. Whether there is language data, its relocation tells.
-use Rattle.std.proofs.Common.{◌≡◌, ℕ, ◌+◌, ◌*◌, ◌/◌, ◌<◌, ◌≤◌, eqb, eq-eqb, Bool, true, false, cond, ◌&&◌, ◌||◌, not, ◌==◌, nat_lt, List, [], ◌∷◌, length, map, filter, Some, None, is_some, position, refl, sym, ap, ◌∙◌, subst, arith}
+use Rattle.std.proofs.Common.{◌≡◌, ℕ, ◌+◌, ◌*◌, ◌/◌, ◌<◌, ◌≤◌, eqb, eq-eqb, Bool, true, false, cond, ◌&&◌, ◌||◌, not, ◌==◌, nat_lt, List}
+use Rattle.std.proofs.Common.{[], ◌∷◌, length, map, filter, Some, None, is_some, position, refl, sym, ap, ◌∙◌, subst, arith}
 use Rattle.std.proofs.lemmas.Bool.Decides.{nat_tests}
 use Rattle.std.proofs.lemmas.Bool.{eqb-true}
 use Rattle.std.proofs.lemmas.List.{length-map}
@@ -13,7 +14,8 @@ use Rattle.macho_model.specs.declared.rules.UnwindRule.TheVariants.{U2, U7}
 use Rattle.macho_model.specs.Links.{Link, header_at}
 use Rattle.macho_model.specs.Needs.{relocation_in, unwind_sections, PERSONALITY_PLACE}
 use Rattle.macho_model.specs.Targets.{target_of, target_of_relocation, slot_number, slots_of, same_target, is_defined, is_import}
-use Rattle.macho_model.specs.Consumed.{EntryId, entry_count, entries_of_link, relocations_in_entry, unwind_entry, unwind_relocation_fits, LSDA_PLACE}
+use Rattle.macho_model.specs.Consumed.{EntryId, entry_count, entries_of_link, relocations_in_entry, unwind_entry, unwind_relocation_fits}
+use Rattle.macho_model.specs.Consumed.{LSDA_PLACE}
 use Rattle.macho_symbols.specs.Kept.{symbol_id}
 use Rattle.macho_unwind_pages.specs.declared.entries.UnwindInput.{UnwindInput}
 use Rattle.macho_unwind_pages.specs.Bounds.{unwind_bound_of}

@@ -2,7 +2,8 @@
 --
 -- The rows are those of the link's entries, place by place. Where two rows have one start, their entries are two, since rows are
 -- distinct: so the later breaks the rule. Where no two have one, an entry with the start of another is that other.
-use Rattle.std.proofs.Common.{◌≡◌, ◌≢◌, ℕ, ◌/◌, ◌<◌, ◌≤◌, inl, inr, eq-eqb, Bool, true, false, ◌&&◌, ◌||◌, not, ◌==◌, nat_le, List, length, map, get_or, Option, refl, sym, ap, ◌∙◌, subst, arith}
+use Rattle.std.proofs.Common.{◌≡◌, ◌≢◌, ℕ, ◌/◌, ◌<◌, ◌≤◌, inl, inr, eq-eqb, Bool, true, false, ◌&&◌, ◌||◌, not, ◌==◌, nat_le, List, length}
+use Rattle.std.proofs.Common.{map, get_or, Option, refl, sym, ap, ◌∙◌, subst, arith}
 use Rattle.std.proofs.lemmas.Bool.Decides.{nat_tests}
 use Rattle.std.proofs.lemmas.Bool.{eqb-true, cases_lt}
 use Rattle.std.proofs.lemmas.List.{get_or-map, length-map, get_or_default}
@@ -15,7 +16,8 @@ use Rattle.macho_model.specs.Objects.{section_at, relocation_at}
 use Rattle.macho_model.specs.Links.{Link, SectionId, object_of}
 use Rattle.macho_model.specs.Needs.{relocation_in, unwind_sections, PERSONALITY_PLACE}
 use Rattle.macho_model.specs.Targets.{target_of_relocation}
-use Rattle.macho_model.specs.Consumed.{EntryId, entry_count, same_section, same_start, start_alone, entries_of_link, keeps, whole_entries, personality_fits, relocations_in_entry, START_PLACE, LSDA_PLACE}
+use Rattle.macho_model.specs.Consumed.{EntryId, entry_count, same_section, same_start, start_alone, entries_of_link, keeps, whole_entries}
+use Rattle.macho_model.specs.Consumed.{personality_fits, relocations_in_entry, START_PLACE, LSDA_PLACE}
 use Rattle.macho_symbols.specs.Kept.{ResolvedRows, IsResolved}
 use Rattle.macho_consumed.specs.declared.listing.Kind.TheVariants.{Entries}
 use Rattle.macho_consumed.specs.declared.listing.SectionRef.{SectionRef}

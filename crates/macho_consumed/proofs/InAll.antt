@@ -2,7 +2,8 @@
 --
 -- A section that is listed is one of a file that is viewed, and of its kind: it comes from the file's own list, which is a filter
 -- of its sections' numbers. What is added for one section more stands behind what was added before.
-use Rattle.std.proofs.Common.{◌≡◌, ℕ, ◌+◌, ◌/◌, ◌<◌, Bool, true, List, [], ◌∷◌, ◌++◌, length, filter, get_or, take, Option, Some, None, refl, sym, ap, ◌∙◌, subst}
+use Rattle.std.proofs.Common.{◌≡◌, ℕ, ◌+◌, ◌/◌, ◌<◌, Bool, true, List, [], ◌∷◌, ◌++◌, length, filter, get_or, take, Option, Some, None}
+use Rattle.std.proofs.Common.{refl, sym, ap, ◌∙◌, subst}
 use Rattle.std.proofs.lemmas.List.{append-nil, take_more, get_or_default}
 use Rattle.std.proofs.lemmas.List.Elements.{All-more, All-contains, All-nil, All-map, All-from_get_or}
 use Rattle.std.proofs.lemmas.Grind.{flat_map-append}

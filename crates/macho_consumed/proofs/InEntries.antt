@@ -3,7 +3,9 @@
 -- The table tells the relocations of each of an entry's four places: none or one. What the code found of the one, the tests of
 -- the rules say of the list of one: so each rule holds, or is the one that is told. No relocation stands at 8, so one that stands
 -- at a multiple of 8 stands at one of the three addresses.
-use Rattle.std.proofs.Common.{◌≡◌, ◌≢◌, ℕ, ◌+◌, ◌*◌, ◌/◌, ◌%◌, ◌<◌, ◌≤◌, inl, inr, eqb, eq-eqb, Bool, true, false, nat_lt, ◌==◌, if◌then◌else◌, ◌&&◌, ◌||◌, List, [], ◌∷◌, ◌++◌, length, map, filter, get_or, Option, Some, None, option_map, option_to_list, is_some, nat_le, refl, sym, ap, ◌∙◌, subst, arith, below_more, append_assoc}
+use Rattle.std.proofs.Common.{◌≡◌, ◌≢◌, ℕ, ◌+◌, ◌*◌, ◌/◌, ◌%◌, ◌<◌, ◌≤◌, inl, inr, eqb, eq-eqb, Bool, true, false, nat_lt, ◌==◌}
+use Rattle.std.proofs.Common.{if◌then◌else◌, ◌&&◌, ◌||◌, List, [], ◌∷◌, ◌++◌, length, map, filter, get_or, Option, Some, None, option_map}
+use Rattle.std.proofs.Common.{option_to_list, is_some, nat_le, refl, sym, ap, ◌∙◌, subst, arith, below_more, append_assoc}
 use Rattle.std.proofs.lemmas.Bool.Decides.{nat_tests}
 use Rattle.std.specs.List.{range_with_len, list_all, Contains}
 use Rattle.std.proofs.lemmas.List.{append-nil}
@@ -14,7 +16,8 @@ use Rattle.macho_structs.specs.declared.unwind.UnwindInfoEntry.{UnwindInfoEntry}
 use Rattle.macho_model.specs.declared.rules.UnwindRule.{UnwindRule}
 use Rattle.macho_model.specs.Grammar.{IsObject}
 use Rattle.macho_model.specs.Objects.{num_sections, section_at, relocation_at}
-use Rattle.macho_model.specs.Consumed.{is_plain_pointer, each_relocation_in, unwind_relocation_fits, single_relocations, start_fits, function_inside, entry_is_clear, absent_is_zero, START_PLACE, LSDA_PLACE}
+use Rattle.macho_model.specs.Consumed.{is_plain_pointer, each_relocation_in, unwind_relocation_fits, single_relocations, start_fits}
+use Rattle.macho_model.specs.Consumed.{function_inside, entry_is_clear, absent_is_zero, START_PLACE, LSDA_PLACE}
 use Rattle.macho_model.specs.Needs.{PERSONALITY_PLACE}
 use Rattle.macho_promise.specs.UnwindSays.{relocation_of}
 use Rattle.macho_consumed.specs.declared.rows.SectionPlace.{SectionPlace}
@@ -23,7 +26,9 @@ use Rattle.macho_consumed.specs.declared.rows.UnwindEntry.{UnwindEntry}
 use Rattle.macho_consumed.specs.Rows.{start_place, place_named, personality_use, entry_row}
 use Rattle.macho_consumed.specs.steps.Alone.{alone, own}
 use Rattle.macho_consumed.specs.steps.Places.{found, IsTable}
-use Rattle.macho_consumed.specs.steps.Entries.{NamesSection, StartFound, StartBreaks, DataFound, DataBreaks, PersonalityFound, PersonalityBreaks, EntryBreaks, is_clear, at_place, read_entry, data_fits, EntryFits, EntriesFit, HasCells, IsCell, row_in, rows_in}
+use Rattle.macho_consumed.specs.steps.Entries.{NamesSection, StartFound, StartBreaks, DataFound, DataBreaks, PersonalityFound}
+use Rattle.macho_consumed.specs.steps.Entries.{PersonalityBreaks, EntryBreaks, is_clear, at_place, read_entry, data_fits, EntryFits}
+use Rattle.macho_consumed.specs.steps.Entries.{EntriesFit, HasCells, IsCell, row_in, rows_in}
 use Rattle.macho_consumed.proofs.Members.{here, in_filter, to_filter, in_range}
 use Rattle.macho_consumed.proofs.Tests.{both, all_pass, one_fails}
 use Rattle.macho_consumed.proofs.InSlots.{in_cell}
@@ -296,7 +301,16 @@ pub gathered_row : (b : List ℕ) (file number k e : ℕ) (words : UnwindInfoEnt
     → IsGathered b k e words place p d → number ≡ k
     → record { file = file; section = number; entry = e; start = place; length = words.length; encoding = words.encoding; personality = p; lsda = d } ≡ row_in b file k e
 gathered_row b file number k e words place p d g same =
-    subst (λ (n : ℕ). record { file = file; section = n; entry = e; start = place; length = words.length; encoding = words.encoding; personality = p; lsda = d } ≡ row_in b file k e)
+    subst (λ (n : ℕ). record {
+      file = file;
+      section = n;
+      entry = e;
+      start = place;
+      length = words.length;
+      encoding = words.encoding;
+      personality = p;
+      lsda = d;
+    } ≡ row_in b file k e)
     (sym same) (row_is b file k e place p d words g.start g.personality g.lsda g.read)
 
 -- entries so far

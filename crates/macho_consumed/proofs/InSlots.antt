@@ -2,7 +2,9 @@
 --
 -- A cell of the table tells the relocations of its slot: none, or one. Where there is none, or it is no pointer to a symbol,
 -- or the slot isn't empty, the slot breaks the rules; else it fits. Slot by slot the rows are those of the relocations found.
-use Rattle.std.proofs.Common.{◌≡◌, ℕ, ◌+◌, ◌*◌, ◌/◌, ◌%◌, ◌<◌, ◌≤◌, inl, inr, eqb, eq-eqb, true, false, List, [], ◌∷◌, ◌++◌, length, map, Option, Some, None, option_to_list, refl, sym, ap, ◌∙◌, subst, arith, below_more, append_assoc, slice_range, length-take, length-drop, nat_le, ◌≢◌}
+use Rattle.std.proofs.Common.{◌≡◌, ℕ, ◌+◌, ◌*◌, ◌/◌, ◌%◌, ◌<◌, ◌≤◌, inl, inr, eqb, eq-eqb, true, false, List, [], ◌∷◌, ◌++◌, length, map}
+use Rattle.std.proofs.Common.{Option, Some, None, option_to_list, refl, sym, ap, ◌∙◌, subst, arith, below_more, append_assoc, slice_range}
+use Rattle.std.proofs.Common.{length-take, length-drop, nat_le, ◌≢◌}
 use Rattle.std.proofs.lemmas.Bool.Decides.{nat_tests}
 use Rattle.std.proofs.lemmas.Bool.{eqb-true}
 use Rattle.std.proofs.lemmas.List.{append-nil}
@@ -23,7 +25,8 @@ use Rattle.macho_consumed.specs.declared.places.PlaceFault.{PlaceFault}
 use Rattle.macho_consumed.specs.declared.places.PlaceFault.TheVariants.{Between, Unfit, Twice}
 use Rattle.macho_consumed.specs.steps.Alone.{alone, own}
 use Rattle.macho_consumed.specs.steps.Places.{found, IsTable, IsPlaceFault}
-use Rattle.macho_consumed.specs.steps.Slots.{in_slot, is_symbol_pointer, SlotIs, SlotBreaks, SlotsFit, ExternsExist, SectionFits, SectionBreaks, IsBadSection, slot_rows, row_at}
+use Rattle.macho_consumed.specs.steps.Slots.{in_slot, is_symbol_pointer, SlotIs, SlotBreaks, SlotsFit, ExternsExist, SectionFits}
+use Rattle.macho_consumed.specs.steps.Slots.{SectionBreaks, IsBadSection, slot_rows, row_at}
 use Rattle.macho_consumed.proofs.Members.{here, in_filter, to_filter, in_range, to_range}
 use Rattle.macho_consumed.proofs.Ranges.{flat_map_range_more}
 
@@ -95,7 +98,8 @@ unfolding slot_rows
 rows_none b file k rows = sym (append-nil rows)
 
 pub rows_more : (b : List ℕ) (file k n : ℕ) (told : ℕ × RelocationInfo) (rows : List Initializer) → SlotIs b k n told
-    → (rows ++ slot_rows b file k n) ++ record { file = file; section = k; number = told.0; relocation = told.1 } ∷ [] ≡ rows ++ slot_rows b file k (n + 1)
+    → (rows ++ slot_rows b file k n) ++ record { file = file; section = k; number = told.0; relocation = told.1 } ∷ [] ≡ rows ++ slot_rows
+    b file k (n + 1)
 unfolding slot_rows
 rows_more b file k n told rows is =
     let f : ℕ → List Initializer = λ slot. map (row_at b file k) (in_slot b k slot) in

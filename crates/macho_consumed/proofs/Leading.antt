@@ -8,7 +8,8 @@ use Rattle.macho_structs.specs.declared.relocations.RelocationInfo.{RelocationIn
 use Rattle.macho_model.specs.declared.targets.Target.{Target}
 use Rattle.macho_model.specs.declared.targets.Target.TheVariants as target
 use Rattle.macho_model.specs.Links.{Link, SectionId}
-use Rattle.macho_model.specs.Resolution.{SymbolId, Definition, Symbol, Library, ImageBase, entry_at, name_at, definition_of, stands_in_carried}
+use Rattle.macho_model.specs.Resolution.{SymbolId, Definition, Symbol, Library, ImageBase, entry_at, name_at, definition_of}
+use Rattle.macho_model.specs.Resolution.{stands_in_carried}
 use Rattle.macho_model.specs.Symbols.{is_global, is_local, is_absolute}
 use Rattle.macho_model.specs.Needs.{relocation_in, imports_of, import_number}
 use Rattle.macho_model.specs.Targets.{target_with, target_of, target_of_relocation, own_target, definition_target}

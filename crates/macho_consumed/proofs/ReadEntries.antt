@@ -2,7 +2,8 @@
 --
 -- A row is that of an entry of a listed section. All rules but two are kept by the section's bytes; where a personality leads and
 -- that starts are distinct is what the rows are checked for. Where a section breaks a rule by its bytes, it breaks it in the link.
-use Rattle.std.proofs.Common.{◌≡◌, ℕ, ◌+◌, ◌*◌, ◌/◌, ◌<◌, eqb, eq-eqb, Bool, true, false, ◌&&◌, ◌||◌, List, [], ◌∷◌, length, map, filter, get_or, Option, Some, None, refl, sym, ap, ◌∙◌, subst, arith}
+use Rattle.std.proofs.Common.{◌≡◌, ℕ, ◌+◌, ◌*◌, ◌/◌, ◌<◌, eqb, eq-eqb, Bool, true, false, ◌&&◌, ◌||◌, List, [], ◌∷◌, length, map, filter}
+use Rattle.std.proofs.Common.{get_or, Option, Some, None, refl, sym, ap, ◌∙◌, subst, arith}
 use Rattle.std.proofs.lemmas.Bool.{eqb-true}
 use Rattle.std.proofs.lemmas.List.Elements.{All-contains, All-map, All-weaker}
 use Rattle.std.specs.List.{range_with_len, flat_map, list_all, Contains, All}
@@ -14,7 +15,8 @@ use Rattle.macho_model.specs.Links.{Link, SectionId, object_of}
 use Rattle.macho_model.specs.Needs.{relocation_in, unwind_sections, PERSONALITY_PLACE}
 use Rattle.macho_model.specs.declared.targets.Target.{Target}
 use Rattle.macho_model.specs.Targets.{target_of_relocation, target_with, is_defined, is_import}
-use Rattle.macho_model.specs.Consumed.{EntryId, is_plain_pointer, entry_count, relocations_in_entry, entries_of_link, personality_fits, unwind_relocation_fits, LSDA_PLACE}
+use Rattle.macho_model.specs.Consumed.{EntryId, is_plain_pointer, entry_count, relocations_in_entry, entries_of_link, personality_fits}
+use Rattle.macho_model.specs.Consumed.{unwind_relocation_fits, LSDA_PLACE}
 use Rattle.macho_model.specs.Faults.{IsBadEntry}
 use Rattle.macho_symbols.specs.Kept.{ResolvedRows, IsResolved, symbol_id}
 use Rattle.macho_consumed.specs.declared.listing.Kind.TheVariants.{Entries}

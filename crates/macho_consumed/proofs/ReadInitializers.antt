@@ -3,7 +3,8 @@
 -- A row is that of a relocation of a slot of a listed section. By the section's bytes the slot has this one plain pointer, and is
 -- empty; that the pointer leads into a carried section is what the rows are checked for. Where a section is broken by its bytes,
 -- it is broken in the link.
-use Rattle.std.proofs.Common.{◌≡◌, ℕ, ◌+◌, ◌*◌, ◌/◌, ◌%◌, ◌<◌, ◌≤◌, inl, inr, true, false, ◌&&◌, ◌==◌, List, [], ◌∷◌, length, map, get_or, Option, Some, None, is_none, refl, sym, ap, ◌∙◌, subst, arith}
+use Rattle.std.proofs.Common.{◌≡◌, ℕ, ◌+◌, ◌*◌, ◌/◌, ◌%◌, ◌<◌, ◌≤◌, inl, inr, true, false, ◌&&◌, ◌==◌, List, [], ◌∷◌, length, map, get_or}
+use Rattle.std.proofs.Common.{Option, Some, None, is_none, refl, sym, ap, ◌∙◌, subst, arith}
 use Rattle.std.proofs.lemmas.List.FromFn.{length-map-range_with_len}
 use Rattle.std.proofs.lemmas.List.Elements.{All-contains, All-map, All-weaker, All-from_get_or}
 use Rattle.std.specs.List.{range_with_len, flat_map, list_all, Contains, All}
@@ -13,7 +14,8 @@ use Rattle.macho_model.specs.Objects.{num_symbols, section_at, relocation_at}
 use Rattle.macho_model.specs.Links.{Link, SectionId, object_of, header_at}
 use Rattle.macho_model.specs.Needs.{relocations_at, relocation_in, initializer_sections}
 use Rattle.macho_model.specs.Targets.{target_of_relocation, target_with}
-use Rattle.macho_model.specs.Consumed.{is_plain_pointer, bytes_of_section, is_section_target, initializer_section_fits, initializer_slot_fits, initializer_relocation_fits}
+use Rattle.macho_model.specs.Consumed.{is_plain_pointer, bytes_of_section, is_section_target, initializer_section_fits}
+use Rattle.macho_model.specs.Consumed.{initializer_slot_fits, initializer_relocation_fits}
 use Rattle.macho_model.specs.Faults.{IsBadInitializer}
 use Rattle.macho_names.specs.Kept.{FileRows, rows_of_object, row_of_symbol}
 use Rattle.macho_symbols.specs.Kept.{ResolvedRows, IsResolved, HasSymbol, symbol_id}
@@ -25,7 +27,8 @@ use Rattle.macho_consumed.specs.declared.fault.ConsumedFault.TheVariants.{BadIni
 use Rattle.macho_consumed.specs.Views.{AreViews, AreKept}
 use Rattle.macho_consumed.specs.Rows.{initializer_rows_in, initializer_rows}
 use Rattle.macho_consumed.specs.Told.{IsStanding, InitializersKeepRules}
-use Rattle.macho_consumed.specs.steps.Slots.{in_slot, is_symbol_pointer, is_empty_slot, SlotFits, SlotBreaks, SectionBreaks, slot_rows, row_at}
+use Rattle.macho_consumed.specs.steps.Slots.{in_slot, is_symbol_pointer, is_empty_slot, SlotFits, SlotBreaks, SectionBreaks, slot_rows}
+use Rattle.macho_consumed.specs.steps.Slots.{row_at}
 use Rattle.macho_consumed.specs.steps.Listed.{id_of_ref, bytes_in, bytes_viewed}
 use Rattle.macho_consumed.specs.steps.Gathered.{all_of, initializers_at, FitsAt, IsBadAt}
 use Rattle.macho_consumed.specs.Symbols.{HasPointer}

@@ -9,7 +9,8 @@ use Rattle.std.proofs.lemmas.Grind.{flat_map-append}
 use Rattle.std.specs.List.{range_with_len, flat_map, Contains}
 use Rattle.macho_model.specs.declared.rules.UnwindRule.TheVariants.{U3}
 use Rattle.macho_model.specs.Links.{Link, SectionId, header_at}
-use Rattle.macho_model.specs.Needs.{Use, ByInitializer, ByPersonality, relocations_at, initializer_sections, unwind_sections, personality_uses, PERSONALITY_PLACE}
+use Rattle.macho_model.specs.Needs.{Use, ByInitializer, ByPersonality, relocations_at, initializer_sections, unwind_sections}
+use Rattle.macho_model.specs.Needs.{personality_uses, PERSONALITY_PLACE}
 use Rattle.macho_model.specs.Targets.{target_of_relocation}
 use Rattle.macho_model.specs.Consumed.{EntryId, entry_count, entries_of_link, relocations_in_entry, START_PLACE}
 use Rattle.macho_model.specs.Made.{initializers_of}
@@ -17,7 +18,8 @@ use Rattle.macho_parts.specs.Noted.{uses_of_initializers, uses_of_personalities}
 use Rattle.macho_consumed.specs.declared.rows.Initializer.{Initializer}
 use Rattle.macho_consumed.specs.Rows.{initializer_row, initializer_rows_in, initializer_rows, entry_row, entry_rows}
 use Rattle.macho_consumed.specs.Told.{EntriesKeepRules}
-use Rattle.macho_consumed.specs.Laws.{target_of_initializer, use_of_initializer, uses_of_entry, InitializersAreRows, InitializersAreMany, InitializersAreUsed, PersonalitiesAreUsed}
+use Rattle.macho_consumed.specs.Laws.{target_of_initializer, use_of_initializer, uses_of_entry, InitializersAreRows, InitializersAreMany}
+use Rattle.macho_consumed.specs.Laws.{InitializersAreUsed, PersonalitiesAreUsed}
 use Rattle.macho_consumed.proofs.Tests.{left_of, right_of}
 use Rattle.macho_consumed.proofs.Members.{in_range}
 use Rattle.macho_consumed.proofs.Joined.{map_joined, joined_map, joined_agree}

@@ -3,7 +3,8 @@
 -- Of an entry that keeps its rules by the bytes the link knows one relocation of its start, and its row tells where that leads: the
 -- file, the section and the offset in it. Two entries have one start exactly where these are the same, as each start is not below its
 -- section's.
-use Rattle.std.proofs.Common.{◌≡◌, ℕ, ◌-◌, ◌/◌, ◌<◌, ◌≤◌, eq-eqb, Bool, true, false, ◌&&◌, ◌||◌, not, ◌==◌, List, [], ◌∷◌, map, filter, Option, refl, sym, ap, ◌∙◌, subst, arith}
+use Rattle.std.proofs.Common.{◌≡◌, ℕ, ◌-◌, ◌/◌, ◌<◌, ◌≤◌, eq-eqb, Bool, true, false, ◌&&◌, ◌||◌, not, ◌==◌, List, [], ◌∷◌, map, filter}
+use Rattle.std.proofs.Common.{Option, refl, sym, ap, ◌∙◌, subst, arith}
 use Rattle.std.proofs.lemmas.Bool.{eqb-true}
 use Rattle.std.proofs.lemmas.List.Elements.{All-contains, All-map}
 use Rattle.std.specs.List.{range_with_len, Contains, All}
@@ -11,7 +12,8 @@ use Rattle.macho_object.specs.Views.{FileBytes}
 use Rattle.macho_model.specs.Objects.{section_at, relocation_at}
 use Rattle.macho_model.specs.Links.{Link, SectionId, object_of, header_at}
 use Rattle.macho_model.specs.Needs.{section_named, unwind_sections}
-use Rattle.macho_model.specs.Consumed.{EntryId, entry_count, starts_in, same_section, same_start, entries_of_link, unwind_entry, START_PLACE}
+use Rattle.macho_model.specs.Consumed.{EntryId, entry_count, starts_in, same_section, same_start, entries_of_link, unwind_entry}
+use Rattle.macho_model.specs.Consumed.{START_PLACE}
 use Rattle.macho_consumed.specs.declared.listing.Kind.TheVariants.{Entries}
 use Rattle.macho_consumed.specs.declared.listing.SectionRef.{SectionRef}
 use Rattle.macho_consumed.specs.declared.starts.StartKey.{StartKey}

@@ -7,7 +7,8 @@ use Rattle.std.specs.List.{range_with_len, flat_map, enumerate_from}
 use Rattle.std.proofs.lemmas.List.{get_or-map, length-map}
 use Rattle.macho_object.specs.Views.{FileBytes}
 use Rattle.macho_model.specs.Objects.{num_sections, section_at}
-use Rattle.macho_model.specs.Links.{Input, Object, Dylib, Stub, Link, SectionId, object_bytes, object_of, header_at, no_input, sections_of_file, sections_of}
+use Rattle.macho_model.specs.Links.{Input, Object, Dylib, Stub, Link, SectionId, object_bytes, object_of, header_at, no_input}
+use Rattle.macho_model.specs.Links.{sections_of_file, sections_of}
 use Rattle.macho_model.specs.Needs.{initializer_sections, unwind_sections}
 use Rattle.macho_consumed.specs.declared.listing.Kind.{Kind}
 use Rattle.macho_consumed.specs.declared.listing.Kind.TheVariants.{Initializers, Entries}

@@ -3,7 +3,9 @@
 -- So far each cell of the table holds the relocations at its place, at most one. The next relocation has a place of its own:
 -- in its cell nothing stood, and now it stands there; at another place nothing changes, since its address is another. Where
 -- its cell is taken, its place has two relocations, and no later one takes one away.
-use Rattle.std.proofs.Common.{◌≡◌, ◌≢◌, ℕ, ◌+◌, ◌*◌, ◌/◌, ◌%◌, ◌<◌, ◌≤◌, eqb, Bool, true, false, cond, List, [], ◌∷◌, ◌++◌, length, get_or, set, nat_lt, if◌then◌else◌, is_some, ◌^◌, Option, Some, None, option_to_list, replicate, refl, sym, ap, ◌∙◌, subst, arith, below_more, length-set, get_or-set_other, get_or-set_same}
+use Rattle.std.proofs.Common.{◌≡◌, ◌≢◌, ℕ, ◌+◌, ◌*◌, ◌/◌, ◌%◌, ◌<◌, ◌≤◌, eqb, Bool, true, false, cond, List, [], ◌∷◌, ◌++◌, length, get_or}
+use Rattle.std.proofs.Common.{set, nat_lt, if◌then◌else◌, is_some, ◌^◌, Option, Some, None, option_to_list, replicate, refl, sym, ap, ◌∙◌}
+use Rattle.std.proofs.Common.{subst, arith, below_more, length-set, get_or-set_other, get_or-set_same}
 use Rattle.std.proofs.lemmas.Bool.Decides.{nat_tests}
 use Rattle.std.proofs.lemmas.List.{append-nil, get_or_default, length-replicate, get_or-replicate}
 use Rattle.macho_structs.specs.declared.relocations.RelocationInfo.{RelocationInfo}

@@ -8,7 +8,8 @@ use Rattle.macho_object.specs.Views.{FileBytes}
 use Rattle.macho_model.specs.Objects.{section_at}
 use Rattle.macho_model.specs.Links.{Input, Object, Dylib, Stub, Link, object_bytes, object_of, no_input}
 use Rattle.macho_model.specs.Needs.{relocations_at}
-use Rattle.macho_model.specs.Consumed.{initializer_section_fits, whole_entries, each_relocation_in, single_relocations, start_fits, function_inside, entry_is_clear}
+use Rattle.macho_model.specs.Consumed.{initializer_section_fits, whole_entries, each_relocation_in, single_relocations, start_fits}
+use Rattle.macho_model.specs.Consumed.{function_inside, entry_is_clear}
 use Rattle.macho_consumed.specs.Views.{view_of, AreViews}
 use Rattle.macho_consumed.specs.Rows.{initializer_rows_in, entry_row}
 use Rattle.macho_consumed.specs.steps.Alone.{alone, own}

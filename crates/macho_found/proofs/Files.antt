@@ -2,7 +2,8 @@
 --
 -- Each lies in the file part of a segment, whose bytes stand in the file as they do in memory; and file parts end in the file. All
 -- stubs together begin with the first and end with the last, and both lie in `__TEXT`.
-use Rattle.std.proofs.Common.{◌≡◌, ℕ, ◌+◌, ◌-◌, ◌<◌, ◌≤◌, inl, inr, ◌&&◌, ◌==◌, not, if◌then◌else◌, true, false, List, length, get_or, refl, ap, arith}
+use Rattle.std.proofs.Common.{◌≡◌, ℕ, ◌+◌, ◌-◌, ◌<◌, ◌≤◌, inl, inr, ◌&&◌, ◌==◌, not, if◌then◌else◌, true, false, List, length, get_or, refl}
+use Rattle.std.proofs.Common.{ap, arith}
 use Rattle.std.specs.Prelude.{Contains}
 use Rattle.std.proofs.lemmas.Bool.{cases_lt, cases_eq}
 use Rattle.std.proofs.lemmas.Bool.Decides.{nat_tests}
@@ -15,7 +16,8 @@ use Rattle.macho_model.specs.declared.placed.Range64.{Range64}
 use Rattle.macho_model.specs.declared.placed.Stub.{Stub}
 use Rattle.macho_model.specs.Links.{Link, header_at}
 use Rattle.macho_model.specs.Segments.{TEXT, DATA_CONST}
-use Rattle.macho_model.specs.Placement.{Placed, Span, id_of, section_span, slot_span, stub_span, range_span, LiesInNamed, SectionLies, RangeLies}
+use Rattle.macho_model.specs.Placement.{Placed, Span, id_of, section_span, slot_span, stub_span, range_span, LiesInNamed, SectionLies}
+use Rattle.macho_model.specs.Placement.{RangeLies}
 use Rattle.macho_model.specs.Zeros.{filled_sections}
 use Rattle.macho_placing.specs.Laws.{IsWhollyPlaced}
 use Rattle.macho_agreement.proofs.Entry.{one_named}

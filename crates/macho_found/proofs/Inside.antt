@@ -2,7 +2,8 @@
 --
 -- It is of the link. A symbol that stands in a section lies in it, or at its end, by the rules of objects; a section that is named by
 -- its number is led into at its start.
-use Rattle.std.proofs.Common.{◌≡◌, ℕ, ◌+◌, ◌<◌, ◌≤◌, ◌||◌, ◌&&◌, ◌==◌, not, suc, nat_le, nat_lt, Bool, true, false, List, Option, Some, None, refl, sym, ap, subst, ◌∙◌, arith}
+use Rattle.std.proofs.Common.{◌≡◌, ℕ, ◌+◌, ◌<◌, ◌≤◌, ◌||◌, ◌&&◌, ◌==◌, not, suc, nat_le, nat_lt, Bool, true, false, List, Option, Some}
+use Rattle.std.proofs.Common.{None, refl, sym, ap, subst, ◌∙◌, arith}
 use Rattle.std.specs.Prelude.{Contains}
 use Rattle.std.proofs.lemmas.Bool.{and_parts, leb-true, true≢false}
 use Rattle.macho_records.specs.declared.constants.TheConstants.{ARM64_RELOC_ADDEND}
@@ -14,9 +15,11 @@ use Rattle.macho_model.specs.ObjectRules.{value_in_section, relocation_number_ex
 use Rattle.macho_model.specs.Objects.{num_symbols, section_at, relocation_at}
 use Rattle.macho_structs.specs.declared.relocations.RelocationInfo.{RelocationInfo}
 use Rattle.macho_model.specs.Links.{Link, SectionId, object_of, header_at, sections_of, is_carried}
-use Rattle.macho_model.specs.Resolution.{SymbolId, Definition, Symbol, Library, ImageBase, symbols_of, entry_at, name_at, definition_of, stands_in_carried, section_of_symbol}
+use Rattle.macho_model.specs.Resolution.{SymbolId, Definition, Symbol, Library, ImageBase, symbols_of, entry_at, name_at, definition_of}
+use Rattle.macho_model.specs.Resolution.{stands_in_carried, section_of_symbol}
 use Rattle.macho_model.specs.Needs.{relocation_in, section_named, imports_of}
-use Rattle.macho_model.specs.Targets.{place_of_symbol, own_target, definition_target, target_with, target_of, target_of_section, target_of_relocation}
+use Rattle.macho_model.specs.Targets.{place_of_symbol, own_target, definition_target, target_with, target_of, target_of_section}
+use Rattle.macho_model.specs.Targets.{target_of_relocation}
 use Rattle.macho_targets.specs.Laws.{ObjectsAreRead, IsOfLink, section_id}
 use Rattle.macho_targets.proofs.OfLink.{symbol_of, section_of, symbol_there, IsSectionOf}
 use Rattle.macho_targets.proofs.Named.{defined_by, name_of_link, symbol_of_link}

@@ -2,7 +2,8 @@
 --
 -- An import's definition is a library that offers its name: a symbol's name of a dynamic library, which ends in front of the first NUL,
 -- or one that a stub tells. An install name is told by a load command up to the first NUL, or by a stub.
-use Rattle.std.proofs.Common.{◌≡◌, ℕ, suc, ◌+◌, inl, inr, ◌||◌, ◌==◌, not, if◌then◌else◌, Bool, true, false, List, [], ◌∷◌, map, take, Option, Some, None, refl, sym, ap, subst, ◌∙◌, arith, All}
+use Rattle.std.proofs.Common.{◌≡◌, ℕ, suc, ◌+◌, inl, inr, ◌||◌, ◌==◌, not, if◌then◌else◌, Bool, true, false, List, [], ◌∷◌, map, take}
+use Rattle.std.proofs.Common.{Option, Some, None, refl, sym, ap, subst, ◌∙◌, arith, All}
 use Rattle.std.specs.Prelude.{Contains, filter, drop, slice_range, ◌≢◌}
 use Rattle.std.specs.List.{list_any, enumerate_from, filter_map, range_with_len}
 use Rattle.std.specs.Str.{bytes_eq}
@@ -13,13 +14,16 @@ use Rattle.macho_bytes.specs.Texts.{name_of}
 use Rattle.macho_bytes.specs.Layouts.{reading}
 use Rattle.macho_structs.specs.Layouts.{dylib_command}
 use Rattle.macho_records.specs.declared.constants.TheConstants.{LC_ID_DYLIB}
-use Rattle.macho_lists.proofs.Members.{all_contains, contains_all, contains_first, contains_later, filter_contains, map_contains, enumerate_contains}
+use Rattle.macho_lists.proofs.Members.{all_contains, contains_all, contains_first, contains_later, filter_contains, map_contains}
+use Rattle.macho_lists.proofs.Members.{enumerate_contains}
 use Rattle.macho_model.specs.Lists.{IsNumber}
 use Rattle.macho_model.specs.Commands.{Command, numbered}
 use Rattle.macho_model.specs.Objects.{num_symbols, symbol_at, symbol_name, strings_of, first_path, install_name_of}
 use Rattle.macho_model.specs.Links.{Link, Input, Object, Dylib, Stub}
-use Rattle.macho_model.specs.Resolution.{SymbolId, Definition, Symbol, Library, ImageBase, strong_of, weak_of, greatest_of, is_offered_symbol, offers, libraries_with, first_or, definition_of, DSO_HANDLE}
-use Rattle.macho_model.specs.Needs.{is_library, is_imported, imports_of, name_used, uses_of, distinct, library_of_input, libraries_needed, is_needed}
+use Rattle.macho_model.specs.Resolution.{SymbolId, Definition, Symbol, Library, ImageBase, strong_of, weak_of, greatest_of}
+use Rattle.macho_model.specs.Resolution.{is_offered_symbol, offers, libraries_with, first_or, definition_of, DSO_HANDLE}
+use Rattle.macho_model.specs.Needs.{is_library, is_imported, imports_of, name_used, uses_of, distinct, library_of_input, libraries_needed}
+use Rattle.macho_model.specs.Needs.{is_needed}
 use Rattle.macho_agreement.proofs.Names.{name_of-name}
 use Rattle.macho_standing.proofs.Distinct.{of_distinct}
 use Rattle.macho_standing.proofs.Members.{of_filter_map}

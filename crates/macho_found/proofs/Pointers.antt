@@ -3,7 +3,8 @@
 -- A section without bytes has no fields, and a field lies in its section. Fields of one section share no byte, as their
 -- relocations don't, and no relocation gives two fields. Where no place is bad, each word stands at a multiple of four and in
 -- one page.
-use Rattle.std.proofs.Common.{◌≡◌, ℕ, ◌+◌, ◌%◌, ◌<◌, ◌≤◌, ◌⊎◌, inl, inr, ◌&&◌, ◌==◌, not, true, false, List, [], ◌∷◌, map, filter, length, get_or, refl, ap, subst, arith}
+use Rattle.std.proofs.Common.{◌≡◌, ℕ, ◌+◌, ◌%◌, ◌<◌, ◌≤◌, ◌⊎◌, inl, inr, ◌&&◌, ◌==◌, not, true, false, List, [], ◌∷◌, map, filter, length}
+use Rattle.std.proofs.Common.{get_or, refl, ap, subst, arith}
 use Rattle.std.specs.Prelude.{Contains}
 use Rattle.std.proofs.lemmas.Bool.{cases_lt, cases_Bool, and_parts, eqb-true}
 use Rattle.std.proofs.lemmas.List.Elements.{All-map, Contains-get_or}

@@ -2,7 +2,8 @@
 --
 -- They are the pieces of an output section, each of which begins at the least multiple of its alignment behind the one before it; and a
 -- stub's or a slot's size is such a multiple.
-use Rattle.std.proofs.Common.{◌≡◌, ℕ, zero, suc, ◌+◌, ◌*◌, ◌%◌, ◌<◌, ◌||◌, ◌&&◌, ◌==◌, not, Bool, true, false, List, [], ◌∷◌, ◌++◌, map, length, get_or, refl, sym, ap, ◌∙◌, arith, All}
+use Rattle.std.proofs.Common.{◌≡◌, ℕ, zero, suc, ◌+◌, ◌*◌, ◌%◌, ◌<◌, ◌||◌, ◌&&◌, ◌==◌, not, Bool, true, false, List, [], ◌∷◌, ◌++◌, map}
+use Rattle.std.proofs.Common.{length, get_or, refl, sym, ap, ◌∙◌, arith, All}
 use Rattle.std.specs.Prelude.{Contains, nat_lt}
 use Rattle.std.specs.Str.{bytes_eq}
 use Rattle.std.proofs.lemmas.Bool.Decides.{nat_tests}
@@ -17,9 +18,11 @@ use Rattle.macho_model.specs.Lists.{EachNext}
 use Rattle.macho_model.specs.Links.{Link}
 use Rattle.macho_model.specs.Targets.{slots_of, stubs_of}
 use Rattle.macho_model.specs.Resolution.{chosen_commons}
-use Rattle.macho_model.specs.Segments.{PAGEZERO, TEXT, DATA_CONST, DATA, LINKEDIT, has_section_in, other_segments, segment_names_of, list_if}
+use Rattle.macho_model.specs.Segments.{PAGEZERO, TEXT, DATA_CONST, DATA, LINKEDIT, has_section_in, other_segments, segment_names_of}
+use Rattle.macho_model.specs.Segments.{list_if}
 use Rattle.macho_model.specs.Placement.{slot_span, stub_span}
-use Rattle.macho_model.specs.OutputSections.{InitOffsets, UnwindInfo, Stubs, Slots, merged_in, is_zeros, is_code, output_sections_in, output_sections_of, Piece, piece, pieces_of, WORD_EXPONENT, POINTER_EXPONENT}
+use Rattle.macho_model.specs.OutputSections.{InitOffsets, UnwindInfo, Stubs, Slots, merged_in, is_zeros, is_code, output_sections_in}
+use Rattle.macho_model.specs.OutputSections.{output_sections_of, Piece, piece, pieces_of, WORD_EXPONENT, POINTER_EXPONENT}
 use Rattle.macho_model.specs.Order.{BeginsLeast}
 use Rattle.macho_found.specs.Slots.{StubsFollow, SlotsFollow}
 

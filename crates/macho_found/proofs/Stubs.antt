@@ -3,7 +3,8 @@
 -- A call that needs a stub needs a slot of the same import. Stubs lie in `__TEXT`, which begins at the base; slots lie in
 -- `__DATA_CONST`, which begins at the base or above it, and has bytes, so it stands behind. Addresses are less than 2 ^ 64 less 4 GiB
 -- above the base, which is a page's start.
-use Rattle.std.proofs.Common.{◌≡◌, ℕ, ◌+◌, ◌%◌, ◌^◌, ◌<◌, ◌≤◌, ◌⊎◌, inl, inr, ◌==◌, Bool, true, false, List, Some, None, refl, sym, ap, subst, ◌∙◌, arith}
+use Rattle.std.proofs.Common.{◌≡◌, ℕ, ◌+◌, ◌%◌, ◌^◌, ◌<◌, ◌≤◌, ◌⊎◌, inl, inr, ◌==◌, Bool, true, false, List, Some, None, refl, sym, ap}
+use Rattle.std.proofs.Common.{subst, ◌∙◌, arith}
 use Rattle.std.specs.Prelude.{Contains}
 use Rattle.std.specs.List.{filter_map}
 use Rattle.std.specs.Str.{bytes_eq}
@@ -22,7 +23,8 @@ use Rattle.macho_model.specs.declared.targets.Target.TheVariants as target
 use Rattle.macho_model.specs.Links.{Link}
 use Rattle.macho_model.specs.Segments.{PAGEZERO, TEXT, DATA_CONST}
 use Rattle.macho_model.specs.Needs.{Use, ByRelocation, ByInitializer, ByPersonality, ByName, uses_of, relocation_in}
-use Rattle.macho_model.specs.Targets.{same_target, is_import, slots_of, stubs_of, slot_of_use, stub_of_use, slot_of_relocation, stub_of_relocation, target_of_relocation}
+use Rattle.macho_model.specs.Targets.{same_target, is_import, slots_of, stubs_of, slot_of_use, stub_of_use, slot_of_relocation}
+use Rattle.macho_model.specs.Targets.{stub_of_relocation, target_of_relocation}
 use Rattle.macho_model.specs.Placement.{Placed, IsPlaced, is_segment_named, slot_span, stub_span, LiesInNamed}
 use Rattle.macho_placing.specs.Laws.{NonePasses}
 use Rattle.macho_targets.proofs.Above.{segment_above}

@@ -3,7 +3,8 @@
 -- Each word stands in a segment that may hold pointers: a slot in `__DATA_CONST`, a pointer in the segment of its section. Segments
 -- share no address, so any other has no pages with chains; and those have no more than their file part has pages, for which room
 -- is kept. As many entries and bytes of names are kept as the link has.
-use Rattle.std.proofs.Common.{◌≡◌, ℕ, suc, ◌+◌, ◌%◌, ◌<◌, ◌≤◌, ◌⊎◌, inl, inr, ◌==◌, ◌&&◌, not, if◌then◌else◌, nat_le, nat_lt, Bool, true, false, List, [], ◌∷◌, map, length, get_or, refl, sym, ap, ◌∙◌, arith, All, leb-true, ltb-true}
+use Rattle.std.proofs.Common.{◌≡◌, ℕ, suc, ◌+◌, ◌%◌, ◌<◌, ◌≤◌, ◌⊎◌, inl, inr, ◌==◌, ◌&&◌, not, if◌then◌else◌, nat_le, nat_lt, Bool, true}
+use Rattle.std.proofs.Common.{false, List, [], ◌∷◌, map, length, get_or, refl, sym, ap, ◌∙◌, arith, All, leb-true, ltb-true}
 use Rattle.std.specs.Prelude.{Contains, filter, sum_by}
 use Rattle.std.specs.Str.{bytes_eq}
 use Rattle.std.proofs.lemmas.Bool.{cases_lt, cases_Bool, and_parts, true≢false}

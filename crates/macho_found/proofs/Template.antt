@@ -2,14 +2,16 @@
 --
 -- It goes from the start of the first output section of the template to the end of the last. An output section begins where one
 -- of its members does, and ends where one does; and the members of one of the template are sections of the template.
-use Rattle.std.proofs.Common.{◌≡◌, ℕ, ◌+◌, ◌%◌, ◌*◌, ◌^◌, ◌<◌, ◌≤◌, inl, inr, Bool, true, false, List, [], ◌∷◌, ◌++◌, map, filter, length, get_or, fold, Some, None, refl, sym, ap, subst, ◌∙◌, arith, All}
+use Rattle.std.proofs.Common.{◌≡◌, ℕ, ◌+◌, ◌%◌, ◌*◌, ◌^◌, ◌<◌, ◌≤◌, inl, inr, Bool, true, false, List, [], ◌∷◌, ◌++◌, map, filter, length}
+use Rattle.std.proofs.Common.{get_or, fold, Some, None, refl, sym, ap, subst, ◌∙◌, arith, All}
 use Rattle.std.specs.Prelude.{Contains}
 use Rattle.std.specs.List.{range_with_len}
 use Rattle.std.proofs.lemmas.Bool.{cases_Bool, and_from, false≢true}
 use Rattle.std.proofs.lemmas.List.{get_or_default}
 use Rattle.std.proofs.lemmas.List.Elements.{All-append, All-contains, All-contains_itself, Contains-append_cases}
 use Rattle.std.proofs.lemmas.List.FromFn.{length-map-range_with_len, get_or-map-range_with_len}
-use Rattle.macho_lists.proofs.Members.{contains_first, contains_later, contains_map, contains_filter, filter_contains, map_contains, nil_contains}
+use Rattle.macho_lists.proofs.Members.{contains_first, contains_later, contains_map, contains_filter, filter_contains, map_contains}
+use Rattle.macho_lists.proofs.Members.{nil_contains}
 use Rattle.macho_records.specs.Sections.{is_template_type, type_of}
 use Rattle.macho_records.specs.Symbols.{common_exponent_of}
 use Rattle.macho_model.specs.declared.placed.Counts.{Counts}

@@ -50,12 +50,18 @@ one-input bytes (Stub a x) (Stub b y) one other =
     let text : a ≡ b = one.same ∙ sym other.same in
     let sound = subst (λ (t : List ℕ). IsStubInput t x) text one.sound in
     ap (λ (t : List ℕ). Stub t x) text ∙ ap (Stub b) (one-saying b x y sound other.sound)
-one-input bytes (Object a) (Dylib b) one other = absurd (let h : head.Object ≡ head.Dylib = one-head bytes _ _ one.head other.head in let no : ⊥ = cc in no)
-one-input bytes (Object a) (Stub b y) one other = absurd (let h : head.Object ≡ head.Stub = one-head bytes _ _ one.head other.head in let no : ⊥ = cc in no)
-one-input bytes (Dylib a) (Object b) one other = absurd (let h : head.Dylib ≡ head.Object = one-head bytes _ _ one.head other.head in let no : ⊥ = cc in no)
-one-input bytes (Dylib a) (Stub b y) one other = absurd (let h : head.Dylib ≡ head.Stub = one-head bytes _ _ one.head other.head in let no : ⊥ = cc in no)
-one-input bytes (Stub a x) (Object b) one other = absurd (let h : head.Stub ≡ head.Object = one-head bytes _ _ one.head other.head in let no : ⊥ = cc in no)
-one-input bytes (Stub a x) (Dylib b) one other = absurd (let h : head.Stub ≡ head.Dylib = one-head bytes _ _ one.head other.head in let no : ⊥ = cc in no)
+one-input bytes (Object a) (Dylib b) one other = absurd
+    (let h : head.Object ≡ head.Dylib = one-head bytes _ _ one.head other.head in let no : ⊥ = cc in no)
+one-input bytes (Object a) (Stub b y) one other = absurd
+    (let h : head.Object ≡ head.Stub = one-head bytes _ _ one.head other.head in let no : ⊥ = cc in no)
+one-input bytes (Dylib a) (Object b) one other = absurd
+    (let h : head.Dylib ≡ head.Object = one-head bytes _ _ one.head other.head in let no : ⊥ = cc in no)
+one-input bytes (Dylib a) (Stub b y) one other = absurd
+    (let h : head.Dylib ≡ head.Stub = one-head bytes _ _ one.head other.head in let no : ⊥ = cc in no)
+one-input bytes (Stub a x) (Object b) one other = absurd
+    (let h : head.Stub ≡ head.Object = one-head bytes _ _ one.head other.head in let no : ⊥ = cc in no)
+one-input bytes (Stub a x) (Dylib b) one other = absurd
+    (let h : head.Stub ≡ head.Dylib = one-head bytes _ _ one.head other.head in let no : ⊥ = cc in no)
 
 -- Two paths of a list, each the first that holds a file.
 pub record SameFound (p q b c : List ℕ) : Type 0 where
@@ -63,7 +69,8 @@ pub record SameFound (p q b c : List ℕ) : Type 0 where
   pub bytes : b ≡ c
 
 one-found : (files : Store) (xs ys before behind : List (List ℕ)) (p q b c : List ℕ) → before ++ p ∷ behind ≡ xs ++ q ∷ ys
-    → All (IsMissing (Some files)) before → All (IsMissing (Some files)) xs → get files p ≡ Some b → get files q ≡ Some c → SameFound p q b c
+    → All (IsMissing (Some files)) before → All (IsMissing (Some files)) xs → get files p ≡ Some b → get files q ≡ Some c
+    → SameFound p q b c
 one-found files [] ys [] behind p q b c is none also at too =
     let same : p ≡ q = cc in
     record { path = same; bytes = one-text files q b c (subst (λ (t : List ℕ). get files t ≡ Some b) same at) too }
@@ -75,18 +82,23 @@ one-found files [] ys (x ∷ before) behind p q b c is none also at too =
     absurd (not-missing files q c (subst (λ (t : List ℕ). get files t ≡ None) same (All-head (IsMissing (Some files)) x before none)) too)
 one-found files (x ∷ xs) ys (y ∷ before) behind p q b c is none also at too =
     let rest : before ++ p ∷ behind ≡ xs ++ q ∷ ys = cc in
-    one-found files xs ys before behind p q b c rest (All-tail (IsMissing (Some files)) y before none) (All-tail (IsMissing (Some files)) x xs also) at too
+    one-found files xs ys before behind p q b c rest (All-tail (IsMissing (Some files)) y before none)
+    (All-tail (IsMissing (Some files)) x xs also) at too
 
 -- of some paths one is the first that holds a file
-pub one-held : (files : Store) (paths : List (List ℕ)) (p q b c : List ℕ) → IsFirstHeld (Some files) paths p b → IsFirstHeld (Some files) paths q c → SameFound p q b c
+pub one-held : (files : Store) (paths : List (List ℕ)) (p q b c : List ℕ) → IsFirstHeld (Some files) paths p b
+    → IsFirstHeld (Some files) paths q c → SameFound p q b c
 one-held files paths p q b c one other =
-    one-found files other.before other.behind one.before one.behind p q b c (sym one.split ∙ other.split) one.missing other.missing one.held other.held
+    one-found files other.before other.behind one.before one.behind p q b c (sym one.split ∙ other.split) one.missing other.missing
+    one.held other.held
 
 -- an input that was asked for is one file
-pub one-file : (files : Store) (s : Settings) (asked : args.Input) (f g : SourceFile) → IsTaken (Some files) s asked f → IsTaken (Some files) s asked g → f ≡ g
+pub one-file : (files : Store) (s : Settings) (asked : args.Input) (f g : SourceFile) → IsTaken (Some files) s asked f
+    → IsTaken (Some files) s asked g → f ≡ g
 one-file files s asked f g one other =
     let same = one-held files (candidates_of s asked) f.path g.path one.bytes other.bytes one.found other.found in
-    let input : f.input ≡ g.input = one-input other.bytes f.input g.input (subst (λ (b : List ℕ). IsReadAs b f.input) same.bytes one.is) other.is in
+    let input : f.input ≡ g.input = one-input other.bytes f.input g.input (subst (λ (b : List ℕ). IsReadAs b f.input) same.bytes one.is)
+    other.is in
     let make : List ℕ → Input → SourceFile = λ p i. record { path = p; input = i } in
     ap (λ (p : List ℕ). make p f.input) same.path ∙ ap (make g.path) input
 
@@ -120,7 +132,8 @@ lists-once files (list ∷ asked) (x ∷ xs) (y ∷ ys) one other =
     ∙ ap (λ (ts : List (List ℕ)). y ∷ ts) (lists-once files asked xs ys one.1 other.1)
 
 -- THE link of settings is one.
-pub linked-once : (files : Store) (s : Settings) (ps qs : List (List ℕ)) (l m : Link) → Links (Some files) s ps l → Links (Some files) s qs m → l ≡ m
+pub linked-once : (files : Store) (s : Settings) (ps qs : List (List ℕ)) (l m : Link) → Links (Some files) s ps l
+    → Links (Some files) s qs m → l ≡ m
 linked-once files s ps qs l m one other =
     one.linked
     ∙ (ap (λ (fs : List SourceFile). linking s fs one.lists) (files-once files s s.generate one.files other.files one.are other.are)

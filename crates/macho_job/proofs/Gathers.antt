@@ -45,8 +45,10 @@ seen-split {X} {Y} f xs i x within at =
 
 -- a path is the first that holds a file
 pub first-held : {A : Type 0} (told now : Option Store) (paths : List (String A)) (i : ℕ) (path : String A) (text name bytes : List ℕ)
-    (answer : Option (List ℕ)) → now ≡ told → i < length paths → path ≡ get_or paths i path → All (IsMissing told) (map string_bytes (take i paths))
-    → ReadsFile now text answer → text ≡ string_bytes path → answer ≡ Some bytes → name ≡ text → IsFirstHeld told (map string_bytes paths) name bytes
+    (answer : Option (List ℕ)) → now ≡ told → i < length paths → path ≡ get_or paths i path
+    → All (IsMissing told) (map string_bytes (take i paths))
+    → ReadsFile now text answer → text ≡ string_bytes path → answer ≡ Some bytes → name ≡ text
+    → IsFirstHeld told (map string_bytes paths) name bytes
 first-held told now paths i path text name bytes answer same within at missing reads is_text some is_name =
     record {
       before = map string_bytes (take i paths);
@@ -59,9 +61,11 @@ first-held told now paths i path text name bytes answer same within at missing r
     }
 
 -- no path holds a file
-pub none-held : {A : Type 0} (told : Option Store) (paths : List (String A)) (i : ℕ) → length paths ≤ i → All (IsMissing told) (map string_bytes (take i paths))
+pub none-held : {A : Type 0} (told : Option Store) (paths : List (String A)) (i : ℕ) → length paths ≤ i
+    → All (IsMissing told) (map string_bytes (take i paths))
     → All (IsMissing told) (map string_bytes paths)
-none-held told paths i end missing = subst (λ (ps : List (String _)). All (IsMissing told) (map string_bytes ps)) (take_all i paths end) missing
+none-held told paths i end missing = subst (λ (ps : List (String _)). All (IsMissing told) (map string_bytes ps)) (take_all i paths end)
+    missing
 
 -- what follows from an answer
 pub on-ok : {T E P Q : Type 0} (r : Result T E) → (P → Q) → OnOk r P → OnOk r Q
@@ -70,7 +74,8 @@ on-ok (Err e) f p = tt
 
 -- an input is found and taken
 pub takes-file : (told : Option Store) (s : Settings) (asked : Input) (old paths : List (List ℕ)) (l m : Link) (path bytes : List ℕ)
-    → IsFirstHeld told (candidates_of s asked) path bytes → paths ≡ old ++ path ∷ [] → TakesBytesOf bytes l m → TakesFile told s asked old paths l m
+    → IsFirstHeld told (candidates_of s asked) path bytes → paths ≡ old ++ path ∷ [] → TakesBytesOf bytes l m
+    → TakesFile told s asked old paths l m
 takes-file told s asked old paths l m path bytes found named takes = record {
   file = record { path = path; input = takes.input };
   taken = record { bytes = bytes; found = found; is = takes.is };
@@ -79,11 +84,13 @@ takes-file told s asked old paths l m path bytes found named takes = record {
 }
 
 -- nothing is gathered
-pub no-inputs : (told : Option Store) (s : Settings) (paths : List (List ℕ)) (l : Link) → l ≡ link_of s → paths ≡ [] → HaveInputs told s [] paths l
+pub no-inputs : (told : Option Store) (s : Settings) (paths : List (List ℕ)) (l : Link) → l ≡ link_of s → paths ≡ []
+    → HaveInputs told s [] paths l
 no-inputs told s paths l empty unnamed = record { files = []; are = tt; texts = []; listed = tt; named = unnamed; linked = empty }
 
 -- one input more
-pub inputs-more : (told now : Option Store) (s : Settings) (specs : List InputSpec) (i : ℕ) (spec : InputSpec) (old paths : List (List ℕ)) (l m : Link)
+pub inputs-more : (told now : Option Store) (s : Settings) (specs : List InputSpec) (i : ℕ) (spec : InputSpec) (old paths : List (List ℕ))
+    (l m : Link)
     → now ≡ told → i < length specs → spec ≡ get_or specs i spec → HaveInputs told s (map input_of (take i specs)) old l
     → TakesFile now s (input_of spec) old paths l m → HaveInputs told s (map input_of (take (i + 1) specs)) paths m
 inputs-more told now s specs i spec old paths l m same within at have takes =
@@ -104,7 +111,8 @@ inputs-more told now s specs i spec old paths l m same within at have takes =
     }
 
 -- a list of export names more
-pub lists-more : {A : Type 0} (told now : Option Store) (s : Settings) (Such : List SourceFile → Type 0) (lists : List (ℕ × String A)) (i : ℕ) (list : ℕ × String A)
+pub lists-more : {A : Type 0} (told now : Option Store) (s : Settings) (Such : List SourceFile → Type 0) (lists : List (ℕ × String A))
+    (i : ℕ) (list : ℕ × String A)
     (paths : List (List ℕ)) (l m : Link) (text : List ℕ) → now ≡ told → i < length lists → list ≡ get_or lists i list
     → Gathered told s Such (map (λ p. (p.0, string_bytes p.1)) (take i lists)) paths l → HeldAt now (string_bytes list.1) text
     → m ≡ with_export_list l text → Gathered told s Such (map (λ p. (p.0, string_bytes p.1)) (take (i + 1) lists)) paths m
@@ -166,8 +174,10 @@ input-fails told now s specs i spec seen paths l old mid new f same asks within 
     by fault.OutOfMemory none = tt
 
 -- all lists are added
-pub all-lists : {A : Type 0} (told : Option Store) (s : Settings) (lists : List (ℕ × String A)) (i : ℕ) (paths : List (List ℕ)) (l : Link) → length lists ≤ i
-    → HaveLists told s (map (λ p. (p.0, string_bytes p.1)) (take i lists)) paths l → HaveLists told s (map (λ p. (p.0, string_bytes p.1)) lists) paths l
+pub all-lists : {A : Type 0} (told : Option Store) (s : Settings) (lists : List (ℕ × String A)) (i : ℕ) (paths : List (List ℕ)) (l : Link)
+    → length lists ≤ i
+    → HaveLists told s (map (λ p. (p.0, string_bytes p.1)) (take i lists)) paths l
+    → HaveLists told s (map (λ p. (p.0, string_bytes p.1)) lists) paths l
 all-lists {A} told s lists i paths l end have =
     subst (λ (xs : List (ℕ × String A)). HaveLists told s (map (λ p. (p.0, string_bytes p.1)) xs) paths l) (take_all i lists end) have
 
@@ -213,8 +223,10 @@ list-fails {A} told now s lists i list seen paths l old mid new f same asks with
     by fault.OutOfMemory none = tt
 
 -- what is gathered is what the settings link
-pub links-of : (told : Option Store) (s : Settings) (paths : List (List ℕ)) (l : Link) → HaveLists told s s.export_list_paths paths l → Links told s paths l
-links-of told s paths l have = record { files = have.files; are = have.are; lists = have.texts; listed = have.listed; named = have.named; linked = have.linked }
+pub links-of : (told : Option Store) (s : Settings) (paths : List (List ℕ)) (l : Link) → HaveLists told s s.export_list_paths paths l
+    → Links told s paths l
+links-of told s paths l have = record
+    { files = have.files; are = have.are; lists = have.texts; listed = have.listed; named = have.named; linked = have.linked }
 
 -- what is gathered, from a store that tells the same
 pub lists-since : (told now : Option Store) (s : Settings) (lists : List (ℕ × List ℕ)) (paths : List (List ℕ)) (l : Link) → now ≡ told
@@ -222,9 +234,11 @@ pub lists-since : (told now : Option Store) (s : Settings) (lists : List (ℕ ×
 lists-since told now s lists paths l same have = subst (λ (o : Option Store). HaveLists o s lists paths l) (sym same) have
 
 -- a later refusal is one of the whole
-pub later-fails : (told now : Option Store) (s : Settings) (paths : List (List ℕ)) (old mid new : ℕ) (f : Fault) → now ≡ told → CountsOn old mid → CountsOn mid new
+pub later-fails : (told now : Option Store) (s : Settings) (paths : List (List ℕ)) (old mid new : ℕ) (f : Fault) → now ≡ told
+    → CountsOn old mid → CountsOn mid new
     → JobFails now s paths (reading mid) (reading new) f → JobFails told s paths (reading old) (reading new) f
-later-fails told now s paths old mid new f same before after why = by f (subst (λ (o : Option Store). JobFails o s paths (reading mid) (reading new) f) same why)
+later-fails told now s paths old mid new f same before after why = by f
+    (subst (λ (o : Option Store). JobFails o s paths (reading mid) (reading new) f) same why)
   where
     by : (f : Fault) → JobFails told s paths (reading mid) (reading new) f → JobFails told s paths (reading old) (reading new) f
     by (fault.MissingFile word) why = why
@@ -238,8 +252,10 @@ later-fails told now s paths old mid new f same before after why = by f (subst (
     by fault.OutOfMemory why = why
 
 -- the lists were added to what is gathered
-pub lists-joined : {T E : Type 0} (told now : Option Store) (s : Settings) (paths : List (List ℕ)) (l m : Link) (r : Result T E) → now ≡ told
-    → HaveLists told s [] paths l → (HaveLists now s [] paths l → OnOk r (HaveLists now s s.export_list_paths paths m)) → OnOk r (Links told s paths m)
+pub lists-joined : {T E : Type 0} (told now : Option Store) (s : Settings) (paths : List (List ℕ)) (l m : Link) (r : Result T E)
+    → now ≡ told
+    → HaveLists told s [] paths l → (HaveLists now s [] paths l → OnOk r (HaveLists now s s.export_list_paths paths m))
+    → OnOk r (Links told s paths m)
 lists-joined told now s paths l m r same have more =
     on-ok r (λ all. links-of told s paths m (lists-since now told s s.export_list_paths paths m (sym same) all))
     (more (lists-since told now s [] paths l same have))

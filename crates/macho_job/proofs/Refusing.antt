@@ -24,7 +24,8 @@ bytes_fail word bytes e f refused (inl told) = subst (BytesFail word bytes) (sym
 bytes_fail word bytes e f refused (inr told) = subst (BytesFail word bytes) (sym told.1) (refl, refused, told.0)
 
 -- by what the linker answered
-pub answer_fails : (word : ℕ) (bytes : List ℕ) (h : Head) (r : Result ℕ LinkError) (e : LinkError) (f : Fault) → head_of bytes ≡ h → r ≡ Err e
+pub answer_fails : (word : ℕ) (bytes : List ℕ) (h : Head) (r : Result ℕ LinkError) (e : LinkError) (f : Fault) → head_of bytes ≡ h
+    → r ≡ Err e
     → IfErr r (BytesRefused h bytes) → Tells e error.OutOfMemory (Input word e) f → BytesFail word bytes f
 answer_fails word bytes h r e f begins is why told =
     bytes_fail word bytes e f (subst (λ (k : Head). BytesRefused k bytes e) (sym begins)

@@ -29,7 +29,8 @@ use Rattle.macho_job.specs.Heads.{head_of}
 use Rattle.macho_job.specs.Search.{candidates_of, IsMissing, IsFirstHeld}
 use Rattle.macho_job.specs.Generator.{generated_object}
 use Rattle.macho_job.specs.Job.{SourceFile, IsReadAs, IsTaken, IsListed, AreFiles, Links, head_of_kind}
-use Rattle.macho_job.specs.Causes.{Failures, NoneFailed, IsAsked, IsNoText, BytesRefused, InputRefused, MadeRefused, IsUnknown, IsClear, LinkRefused, JobFails}
+use Rattle.macho_job.specs.Causes.{Failures, NoneFailed, IsAsked, IsNoText, BytesRefused, InputRefused, MadeRefused, IsUnknown, IsClear}
+use Rattle.macho_job.specs.Causes.{LinkRefused, JobFails}
 use Rattle.macho_job.proofs.Determined.{one-held, not-missing, linked-once}
 
 -- an element of a list has its partner
@@ -53,7 +54,8 @@ asked-file files s word asked None fs is are asks =
 asked-file files s word asked (Some n) fs is are asks = absurd (let h : Some n ≡ None = sym is ∙ asks.alone in let no : ⊥ = cc in no)
 
 -- a path that is held stands among the candidates
-held-among : (files : Store) (paths : List (List ℕ)) (path bytes : List ℕ) → IsFirstHeld (Some files) paths path bytes → All (IsMissing (Some files)) paths → ⊥
+held-among : (files : Store) (paths : List (List ℕ)) (path bytes : List ℕ) → IsFirstHeld (Some files) paths path bytes
+    → All (IsMissing (Some files)) paths → ⊥
 held-among files paths path bytes first missing =
     not-missing files path bytes (All-contains (IsMissing (Some files)) paths path missing
     (subst (λ (ps : List (List ℕ)). Contains ps path) (sym first.split) (stands first.before path first.behind))) first.held
@@ -103,7 +105,8 @@ dylib-refused bytes (error.RebaseTarget at p) dylib why = absurd why
 dylib-refused bytes (error.RelocationRange at p) dylib why = absurd why
 dylib-refused bytes error.BadName dylib why = absurd why
 
-stub-refused : (bytes : List ℕ) (says : StubReading) (refusal : LinkError) → IsStubInput bytes says → StubRefused bytes refusal ⊎ IsNoText bytes refusal
+stub-refused : (bytes : List ℕ) (says : StubReading) (refusal : LinkError) → IsStubInput bytes says → StubRefused bytes refusal
+    ⊎ IsNoText bytes refusal
     → refusal ≡ error.OutOfMemory
 stub-refused bytes says (error.BadInput (broken.Object f)) stub (inl why) = absurd why
 stub-refused bytes says (error.BadInput (broken.Stub line rule)) stub (inl why) = absurd (why.1 says stub)
@@ -143,7 +146,8 @@ stub-refused bytes says (error.RelocationRange at p) stub (inr why) = absurd why
 stub-refused bytes says error.BadName stub (inr why) = absurd why
 
 -- bytes that are read as an input are refused for want of memory alone
-read-refused : (bytes : List ℕ) (input : Input) (refusal : LinkError) → IsReadAs bytes input → BytesRefused (head_of_kind input) bytes refusal
+read-refused : (bytes : List ℕ) (input : Input) (refusal : LinkError) → IsReadAs bytes input
+    → BytesRefused (head_of_kind input) bytes refusal
     → refusal ≡ error.OutOfMemory
 read-refused bytes (Object b) refusal read why = object-refused bytes refusal (subst IsObject read.same read.sound) why
 read-refused bytes (Dylib b) refusal read why = dylib-refused bytes refusal (subst IsDylib read.same read.sound) why
@@ -164,7 +168,8 @@ begins-unknown files s asked f kind taken unknown =
     no-unknown f.input kind (sym taken.is.head ∙ (ap head_of same.bytes ∙ unknown.is))
 
 -- an input that is taken isn't refused
-taken-refused : (files : Store) (s : Settings) (paths : List (List ℕ)) (asked : args.Input) (f : SourceFile) (refusal : LinkError) → IsTaken (Some files) s asked f
+taken-refused : (files : Store) (s : Settings) (paths : List (List ℕ)) (asked : args.Input) (f : SourceFile) (refusal : LinkError)
+    → IsTaken (Some files) s asked f
     → InputRefused (Some files) s paths asked refusal → ⊥
 taken-refused files s paths asked f refusal taken refused =
     let same = one-held files (candidates_of s asked) f.path refused.path taken.bytes refused.bytes taken.found refused.found in
@@ -201,7 +206,8 @@ known files s paths qs l links clear = record {
       (subst (λ (n : Link). RefusalStands n e) (linked-once files s paths qs has.0 l has.1 links) has.2));
 }
 
-link-refused : (files : Store) (s : Settings) (paths : List (List ℕ)) (refusal : LinkError) → Known files s paths → LinkRefused (Some files) s paths refusal → ⊥
+link-refused : (files : Store) (s : Settings) (paths : List (List ℕ)) (refusal : LinkError) → Known files s paths
+    → LinkRefused (Some files) s paths refusal → ⊥
 unfolding is-memory
 link-refused files s paths error.BadName safe why = let no : true ≡ false = sym why ∙ safe.named in cc
 link-refused files s paths (error.BadInput f) safe why = why
@@ -222,7 +228,8 @@ link-refused files s paths (error.RebaseTarget at p) safe why = safe.never (erro
 link-refused files s paths (error.RelocationRange at p) safe why = safe.never (error.RelocationRange at p) refl why
 
 -- THE fault of a job that has nothing against it, where no device failed: want of memory
-pub sure-fault : (files : Store) (s : Settings) (paths qs : List (List ℕ)) (l : Link) (old new : Failures) (f : Fault) → Links (Some files) s qs l → IsClear l
+pub sure-fault : (files : Store) (s : Settings) (paths qs : List (List ℕ)) (l : Link) (old new : Failures) (f : Fault)
+    → Links (Some files) s qs l → IsClear l
     → NoneFailed old new → JobFails (Some files) s paths old new f → f ≡ fault.OutOfMemory
 sure-fault files s paths qs l old new (fault.MissingFile word) links clear calm (inl (asked, asks, missing)) =
     let f = asked-file files s word asked s.generate links.files refl links.are asks in

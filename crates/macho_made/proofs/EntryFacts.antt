@@ -3,7 +3,8 @@
 -- It has one relocation of its start, by the number of a section that functions stand in; the function lies in that section as the
 -- input has it. Its relocations are plain pointers: that of the personality to a symbol, that of language data by the number of a
 -- carried section. And the bits that number personalities are clear.
-use Rattle.std.proofs.Common.{◌≡◌, ℕ, ◌+◌, ◌*◌, ◌/◌, ◌%◌, ◌^◌, ◌<◌, ◌≤◌, ◌==◌, ◌&&◌, eq-eqb, not, nat_le, nat_lt, Bool, true, false, List, [], ◌∷◌, length, filter, refl, sym, ap, subst, arith}
+use Rattle.std.proofs.Common.{◌≡◌, ℕ, ◌+◌, ◌*◌, ◌/◌, ◌%◌, ◌^◌, ◌<◌, ◌≤◌, ◌==◌, ◌&&◌, eq-eqb, not, nat_le, nat_lt, Bool, true, false, List}
+use Rattle.std.proofs.Common.{[], ◌∷◌, length, filter, refl, sym, ap, subst, arith}
 use Rattle.std.specs.Prelude.{Contains}
 use Rattle.std.proofs.lemmas.Bool.{leb-true, ltb-true, eqb-true}
 use Rattle.macho_lists.proofs.Members.{filter_contains, range_contains, contains_filter, contains_first}
@@ -11,7 +12,8 @@ use Rattle.macho_model.proofs.EachBelow.{and_left, and_right}
 use Rattle.macho_model.specs.declared.rules.UnwindRule.TheVariants.{U2, U3, U4, U5, U7, U8}
 use Rattle.macho_model.specs.Links.{Link, SectionId, header_at, is_carried, is_consumed, is_unwind_entries, sections_of, carried_of}
 use Rattle.macho_model.specs.Needs.{relocation_in, section_named, relocations_of, unwind_sections, PERSONALITY_PLACE}
-use Rattle.macho_model.specs.Consumed.{EntryId, entries_of_link, relocations_in_entry, unwind_entry, is_plain_pointer, holds_functions, lies_in, unwind_relocation_fits, starts_in, START_PLACE, LSDA_PLACE}
+use Rattle.macho_model.specs.Consumed.{EntryId, entries_of_link, relocations_in_entry, unwind_entry, is_plain_pointer, holds_functions}
+use Rattle.macho_model.specs.Consumed.{lies_in, unwind_relocation_fits, starts_in, START_PLACE, LSDA_PLACE}
 use Rattle.macho_consumed.specs.Told.{EntriesKeepRules}
 use Rattle.macho_consumed.proofs.Tests.{passes}
 use Rattle.macho_consumed.proofs.BoundInputs.{IsInSection, in_section}

@@ -14,7 +14,8 @@ use Rattle.macho_model.specs.declared.targets.Target.TheVariants as target
 use Rattle.macho_model.specs.Links.{Link, SectionId, header_at, carried_of}
 use Rattle.macho_model.specs.Needs.{section_named}
 use Rattle.macho_model.specs.WrittenSum.{written_sum_of}
-use Rattle.macho_model.specs.Consumed.{EntryId, entries_of_link, relocations_in_entry, unwind_entry, holds_functions, START_PLACE, LSDA_PLACE}
+use Rattle.macho_model.specs.Consumed.{EntryId, entries_of_link, relocations_in_entry, unwind_entry, holds_functions, START_PLACE}
+use Rattle.macho_model.specs.Consumed.{LSDA_PLACE}
 use Rattle.macho_model.specs.Placement.{Placed, SectionLies, LiesIn, section_span, id_of}
 use Rattle.macho_model.specs.Addresses.{section_address}
 use Rattle.macho_promise.specs.UnwindSays.{moved, start_of, resolved}

@@ -1,7 +1,9 @@
 -- The texts have the room of their ranges, which end in the file.
 --
--- The place of an address in the file is in a file part, or 0; file parts end in the file. A range that isn't empty lies in that of `__TEXT`.
-use Rattle.std.proofs.Common.{◌≡◌, ℕ, ◌+◌, ◌-◌, ◌<◌, ◌≤◌, ◌⊎◌, inl, inr, nat_le, nat_lt, Bool, true, false, cond, List, [], ◌∷◌, map, filter, refl, arith}
+-- The place of an address in the file is in a file part, or 0; file parts end in the file. A range that isn't empty lies in that of
+-- `__TEXT`.
+use Rattle.std.proofs.Common.{◌≡◌, ℕ, ◌+◌, ◌-◌, ◌<◌, ◌≤◌, ◌⊎◌, inl, inr, nat_le, nat_lt, Bool, true, false, cond, List, [], ◌∷◌, map}
+use Rattle.std.proofs.Common.{filter, refl, arith}
 use Rattle.std.specs.Prelude.{All}
 use Rattle.std.proofs.lemmas.Bool.{leb-true, ltb-true, cases_lt}
 use Rattle.std.proofs.lemmas.List.Elements.{All-head, All-tail}

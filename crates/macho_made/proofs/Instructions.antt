@@ -1,7 +1,8 @@
 -- A section with functions is merged with others into an output section that has instructions.
 --
 -- Flags are joined bit by bit, so what one of them has, the joined ones have, and taking away flags of relocations leaves it.
-use Rattle.std.proofs.Common.{◌≡◌, ℕ, ◌/◌, ◌≤◌, inl, inr, ◌==◌, not, Bool, true, false, eq-eqb, List, [], ◌∷◌, ◌++◌, map, refl, sym, ap, ◌∙◌, arith}
+use Rattle.std.proofs.Common.{◌≡◌, ℕ, ◌/◌, ◌≤◌, inl, inr, ◌==◌, not, Bool, true, false, eq-eqb, List, [], ◌∷◌, ◌++◌, map, refl, sym, ap}
+use Rattle.std.proofs.Common.{◌∙◌, arith}
 use Rattle.std.specs.Prelude.{Contains, fold, bit_and, bit_or}
 use Rattle.std.specs.Str.{bytes_eq}
 use Rattle.std.proofs.lemmas.Bool.{eqb-true}

@@ -2,12 +2,14 @@
 --
 -- The relocation of an initializer stands in a slot, so its target is one of the initializers. An entry has one relocation at each place,
 -- so the addresses that they lead to are those of the entry that was built, and none of these is far away.
-use Rattle.std.proofs.Common.{◌≡◌, ℕ, ◌+◌, ◌*◌, ◌-◌, ◌/◌, ◌%◌, ◌^◌, ◌<◌, ◌≤◌, ◌⊎◌, inl, inr, ◌==◌, eq-eqb, true, List, [], ◌∷◌, length, map, refl, sym, ap, subst, arith}
+use Rattle.std.proofs.Common.{◌≡◌, ℕ, ◌+◌, ◌*◌, ◌-◌, ◌/◌, ◌%◌, ◌^◌, ◌<◌, ◌≤◌, ◌⊎◌, inl, inr, ◌==◌, eq-eqb, true, List, [], ◌∷◌, length, map}
+use Rattle.std.proofs.Common.{refl, sym, ap, subst, arith}
 use Rattle.std.specs.Prelude.{Contains, IsSomeAnd, option_map, slice_get, flat_map}
 use Rattle.std.specs.FinMap.{empty}
 use Rattle.std.specs.List.{range_with_len}
 use Rattle.std.proofs.lemmas.Bool.{eqb-true, cases_lt}
-use Rattle.macho_lists.proofs.Members.{all_contains, contains_map, map_contains, contains_flat_map, flat_map_contains, contains_filter, contains_range, contains_cases, nil_contains}
+use Rattle.macho_lists.proofs.Members.{all_contains, contains_map, map_contains, contains_flat_map, flat_map_contains, contains_filter}
+use Rattle.macho_lists.proofs.Members.{contains_range, contains_cases, nil_contains}
 use Rattle.macho_model.proofs.EachBelow.{and_right}
 use Rattle.macho_records.specs.Sections.{type_of}
 use Rattle.macho_records.specs.declared.constants.TheConstants.{S_MOD_INIT_FUNC_POINTERS}
@@ -17,7 +19,8 @@ use Rattle.macho_model.specs.declared.targets.Target.TheVariants as target
 use Rattle.macho_model.specs.Links.{Link, SectionId, header_at}
 use Rattle.macho_model.specs.Needs.{relocation_in, section_named, relocations_of, relocations_at, initializer_sections, PERSONALITY_PLACE}
 use Rattle.macho_model.specs.Targets.{same_target, target_of_relocation}
-use Rattle.macho_model.specs.Consumed.{EntryId, entries_of_link, relocations_in_entry, unwind_entry, personality_targets, is_section_target, initializer_section_fits, START_PLACE, LSDA_PLACE}
+use Rattle.macho_model.specs.Consumed.{EntryId, entries_of_link, relocations_in_entry, unwind_entry, personality_targets, is_section_target}
+use Rattle.macho_model.specs.Consumed.{initializer_section_fits, START_PLACE, LSDA_PLACE}
 use Rattle.macho_model.specs.Made.{initializers_in, initializers_of}
 use Rattle.macho_model.specs.Placement.{Placed}
 use Rattle.macho_model.specs.Addresses.{address_of, section_address, slot_address}

@@ -2,7 +2,8 @@
 --
 -- The relocation of a personality is a use of the link, so its target has a slot, which stands in `__DATA_CONST` and so at the base or
 -- above it. Entries name as many ids as there are targets at most: each id is the number of one, and two ids are of two targets.
-use Rattle.std.proofs.Common.{◌≡◌, ℕ, zero, suc, ◌+◌, ◌*◌, ◌/◌, ◌<◌, ◌≤◌, inl, inr, ◌==◌, eq-eqb, Bool, true, false, List, [], ◌∷◌, ◌++◌, length, map, filter, get_or, refl, sym, ap, subst, ◌∙◌, arith}
+use Rattle.std.proofs.Common.{◌≡◌, ℕ, zero, suc, ◌+◌, ◌*◌, ◌/◌, ◌<◌, ◌≤◌, inl, inr, ◌==◌, eq-eqb, Bool, true, false, List, [], ◌∷◌, ◌++◌}
+use Rattle.std.proofs.Common.{length, map, filter, get_or, refl, sym, ap, subst, ◌∙◌, arith}
 use Rattle.std.specs.Prelude.{Contains, AllPairs, Some, option_map, slice_get, flat_map}
 use Rattle.std.specs.Str.{bytes_eq}
 use Rattle.std.specs.List.{range_with_len, position_or_len, filter_map}
@@ -21,7 +22,8 @@ use Rattle.macho_records.specs.Segments.{text_of}
 use Rattle.macho_model.specs.Lists.{IsNumber}
 use Rattle.macho_model.specs.Links.{Link, SectionId, header_at, carried_of}
 use Rattle.macho_model.specs.ExportLists.{plain_entries}
-use Rattle.macho_model.specs.Needs.{Use, ByPersonality, ByName, uses_of, carried_uses, initializer_uses, initializer_sections, is_imported, personality_uses, relocations_at, unwind_sections, PERSONALITY_PLACE}
+use Rattle.macho_model.specs.Needs.{Use, ByPersonality, ByName, uses_of, carried_uses, initializer_uses, initializer_sections, is_imported}
+use Rattle.macho_model.specs.Needs.{personality_uses, relocations_at, unwind_sections, PERSONALITY_PLACE}
 use Rattle.macho_model.specs.Targets.{same_target, slot_of_use, slots_of, slot_number, target_of_relocation}
 use Rattle.macho_model.specs.Consumed.{EntryId, entries_of_link, relocations_in_entry, personality_targets}
 use Rattle.macho_model.specs.Segments.{DATA_CONST, PAGEZERO}

@@ -3,7 +3,8 @@
 -- The range of initializers lies in the file part of `__TEXT`, so its addresses follow one another in the file as they do in memory, and
 -- number k of the file's offsets is number k of the text. The range of unwind information has the room that was counted, so it begins with
 -- the text, and what the text's look-up finds is found in it.
-use Rattle.std.proofs.Common.{◌≡◌, ℕ, ◌+◌, ◌*◌, ◌-◌, ◌<◌, ◌≤◌, ◌⊎◌, inl, inr, ◌==◌, eq-eqb, Bool, true, cond, List, [], length, map, take, drop, refl, sym, ap, ◌∙◌, arith}
+use Rattle.std.proofs.Common.{◌≡◌, ℕ, ◌+◌, ◌*◌, ◌-◌, ◌<◌, ◌≤◌, ◌⊎◌, inl, inr, ◌==◌, eq-eqb, Bool, true, cond, List, [], length, map, take}
+use Rattle.std.proofs.Common.{drop, refl, sym, ap, ◌∙◌, arith}
 use Rattle.std.specs.Prelude.{slice_range}
 use Rattle.std.specs.List.{range_with_len}
 use Rattle.std.proofs.lemmas.List.{take-take, length-take, length-drop}

@@ -3,7 +3,8 @@
 -- Two entries of a link differ by their section or by their number, and by the rules they begin at two places. Were these at one address,
 -- the sections that they start in would share it, as each start lies before its section's end; so both would be one section, and the
 -- places one. A personality is numbered by its slot, and the placement lists the slots by number.
-use Rattle.std.proofs.Common.{◌≡◌, ℕ, suc, ◌+◌, ◌<◌, ◌≤◌, ◌⊎◌, inl, inr, ◌==◌, ◌&&◌, ◌||◌, eq-eqb, not, true, List, [], ◌∷◌, ◌++◌, length, map, get_or, refl, sym, ap, ◌∙◌, arith}
+use Rattle.std.proofs.Common.{◌≡◌, ℕ, suc, ◌+◌, ◌<◌, ◌≤◌, ◌⊎◌, inl, inr, ◌==◌, ◌&&◌, ◌||◌, eq-eqb, not, true, List, [], ◌∷◌, ◌++◌, length}
+use Rattle.std.proofs.Common.{map, get_or, refl, sym, ap, ◌∙◌, arith}
 use Rattle.std.specs.Prelude.{All, Contains, flat_map, AllPairs, ◌≢◌}
 use Rattle.std.specs.List.{range_with_len, enumerate_from}
 use Rattle.std.proofs.lemmas.Bool.{eqb-true}
@@ -15,10 +16,12 @@ use Rattle.macho_model.specs.declared.placed.Counts.{Counts}
 use Rattle.macho_model.specs.declared.placed.PlacedSection.{PlacedSection}
 use Rattle.macho_model.specs.declared.rules.UnwindRule.TheVariants.{U6}
 use Rattle.macho_model.specs.Objects.{num_sections}
-use Rattle.macho_model.specs.Links.{Link, Input, Object, Dylib, Stub, SectionId, header_at, is_consumed, is_unwind_entries, sections_of_file, sections_of}
+use Rattle.macho_model.specs.Links.{Link, Input, Object, Dylib, Stub, SectionId, header_at, is_consumed, is_unwind_entries}
+use Rattle.macho_model.specs.Links.{sections_of_file, sections_of}
 use Rattle.macho_model.specs.Needs.{section_named, unwind_sections}
 use Rattle.macho_model.specs.Consumed.{EntryId, entries_of_link, entry_count, unwind_entry, starts_in, same_section, same_start}
-use Rattle.macho_model.specs.Placement.{Placed, Span, AreApart, section_span, common_span, slot_span, stub_span, head_span, spans_with, id_of}
+use Rattle.macho_model.specs.Placement.{Placed, Span, AreApart, section_span, common_span, slot_span, stub_span, head_span, spans_with}
+use Rattle.macho_model.specs.Placement.{id_of}
 use Rattle.macho_unwind_pages.specs.declared.entries.ResolvedUnwindInfo.{ResolvedUnwindInfo}
 use Rattle.macho_promise.specs.UnwindSays.{resolved, resolved_entries}
 use Rattle.macho_consumed.proofs.BoundInputs.{in_section}

@@ -1,16 +1,19 @@
 -- Functions start no further apart than the room that is counted for what stands in `__TEXT` with bytes in the file.
 --
--- The output sections with instructions stand first in `__TEXT`, behind the head. A function's section has instructions, so it is merged into
+-- The output sections with instructions stand first in `__TEXT`, behind the head. A function's section has instructions, so it is merged
+-- into
 -- one of these. They stand in a row, and each is a row of its members; so all of them end, from the head's end on, within the sum of what
 -- their members may cost. Members of two are not the same, and all are sections of `__TEXT` with bytes in the file.
-use Rattle.std.proofs.Common.{◌≡◌, ℕ, ◌+◌, ◌≤◌, ◌==◌, ◌&&◌, not, nat_lt, Bool, true, false, List, [], ◌∷◌, ◌++◌, length, map, filter, get_or, refl, sym, ap, subst, ◌∙◌, arith}
+use Rattle.std.proofs.Common.{◌≡◌, ℕ, ◌+◌, ◌≤◌, ◌==◌, ◌&&◌, not, nat_lt, Bool, true, false, List, [], ◌∷◌, ◌++◌, length, map, filter}
+use Rattle.std.proofs.Common.{get_or, refl, sym, ap, subst, ◌∙◌, arith}
 use Rattle.std.specs.Prelude.{Contains, All, sum_by}
 use Rattle.std.specs.Str.{bytes_eq}
 use Rattle.std.proofs.lemmas.Slice.Eq.{bytes_eq-Decides}
 use Rattle.std.proofs.lemmas.List.{append-nil}
 use Rattle.std.proofs.lemmas.List.Elements.{Contains-append_left}
 use Rattle.std.proofs.lemmas.List.Sums.{sum_by-cons}
-use Rattle.macho_lists.proofs.Members.{all_contains, contains_first, contains_later, contains_map, contains_filter, filter_contains, contains_flat_map}
+use Rattle.macho_lists.proofs.Members.{all_contains, contains_first, contains_later, contains_map, contains_filter, filter_contains}
+use Rattle.macho_lists.proofs.Members.{contains_flat_map}
 use Rattle.macho_lists.proofs.Orders.{EachLater, later_filter, later_pairs}
 use Rattle.macho_model.proofs.EachBelow.{and_left, and_right, and_both}
 use Rattle.macho_records.specs.Sections.{is_zerofill, has_instructions}
@@ -23,10 +26,13 @@ use Rattle.macho_model.specs.Links.{Link, SectionId, header_at, carried_of, plac
 use Rattle.macho_model.specs.Symbols.{is_in_segment}
 use Rattle.macho_model.specs.Targets.{stubs_of}
 use Rattle.macho_model.specs.Consumed.{holds_functions}
-use Rattle.macho_model.specs.Segments.{TEXT, DATA, COMMON, OutputKey, same_key, key_of, common_key, output_keys_of, list_if, segment_names_of}
+use Rattle.macho_model.specs.Segments.{TEXT, DATA, COMMON, OutputKey, same_key, key_of, common_key, output_keys_of, list_if}
+use Rattle.macho_model.specs.Segments.{segment_names_of}
 use Rattle.macho_model.specs.WrittenSum.{section_cost}
 use Rattle.macho_model.specs.Placement.{Placed, id_of, section_span, is_segment_named}
-use Rattle.macho_model.specs.OutputSections.{OutputSection, Merged, InitOffsets, UnwindInfo, Stubs, flags_of_key, is_zeros, is_code, merged_in, sections_of_text, output_sections_in, output_sections_of, Piece, piece, end_of_piece, placed_members, pieces_of, extent_of}
+use Rattle.macho_model.specs.OutputSections.{OutputSection, Merged, InitOffsets, UnwindInfo, Stubs, flags_of_key, is_zeros, is_code}
+use Rattle.macho_model.specs.OutputSections.{merged_in, sections_of_text, output_sections_in, output_sections_of, Piece, piece}
+use Rattle.macho_model.specs.OutputSections.{end_of_piece, placed_members, pieces_of, extent_of}
 use Rattle.macho_model.specs.Order.{front_of, sections_in, row_of, BeginsLeast}
 use Rattle.macho_promise.specs.Sizes.{text_span}
 use Rattle.macho_unwind_pages.specs.Entries.{SpansAtMost}

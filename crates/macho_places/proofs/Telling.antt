@@ -3,7 +3,8 @@
 -- Addresses of commons, slots and stubs stand at the numbers of what they belong to, since the placement lists these as the link
 -- does. Symbols lead where the link's do, since the rows are kept of its inputs. A placed section is one of an object of the
 -- link, whose view shows its header. Entries are numbered as the link's are.
-use Rattle.std.proofs.Common.{◌≡◌, ℕ, suc, ◌+◌, ◌<◌, ◌==◌, not, cond, Bool, true, false, List, [], ◌∷◌, ◌++◌, map, filter, length, get_or, refl, sym, ap, subst, ◌∙◌, arith, inl, inr, if◌then◌else◌, Option, Some, None}
+use Rattle.std.proofs.Common.{◌≡◌, ℕ, suc, ◌+◌, ◌<◌, ◌==◌, not, cond, Bool, true, false, List, [], ◌∷◌, ◌++◌, map, filter, length, get_or}
+use Rattle.std.proofs.Common.{refl, sym, ap, subst, ◌∙◌, arith, inl, inr, if◌then◌else◌, Option, Some, None}
 use Rattle.std.specs.Prelude.{nat_lt, position, is_none, Contains}
 use Rattle.std.specs.List.{position_or_len, range_with_len}
 use Rattle.std.proofs.lemmas.Bool.{cases_lt}
@@ -20,7 +21,8 @@ use Rattle.macho_model.specs.declared.targets.Target.{Target}
 use Rattle.macho_model.specs.declared.targets.Target.TheVariants as target
 use Rattle.macho_model.specs.Commands.{commands_of, commands_from, header_of}
 use Rattle.macho_model.specs.Objects.{num_sections, num_symbols, symtab_of, section_at}
-use Rattle.macho_model.specs.Links.{Input, Object, Dylib, Stub as StubInput, Link, SectionId, object_of, object_bytes, no_input, header_at, is_template, sections_of, carried_of, is_carried}
+use Rattle.macho_model.specs.Links.{Input, Object, Dylib, Stub as StubInput, Link, SectionId, object_of, object_bytes, no_input, header_at}
+use Rattle.macho_model.specs.Links.{is_template, sections_of, carried_of, is_carried}
 use Rattle.macho_model.specs.Needs.{imports_of}
 use Rattle.macho_model.specs.Targets.{same_target, target_of}
 use Rattle.macho_model.specs.Placement.{Placed, id_of}

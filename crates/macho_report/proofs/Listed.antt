@@ -8,7 +8,8 @@ use Rattle.std.proofs.lemmas.List.{get_or-map, length-map}
 use Rattle.std.proofs.lemmas.List.Elements.{All-nil, All-append, All-filter, All-map, All-weaker}
 use Rattle.std.proofs.lemmas.List.FromFn.{length-range_with_len, get_or-range_with_len}
 use Rattle.macho_model.specs.declared.placed.PlacedSection.{PlacedSection}
-use Rattle.macho_model.specs.Links.{Link, SectionId, Input, Object, Dylib, Stub, no_input, is_carried, header_at, sections_of_file, sections_of, carried_of}
+use Rattle.macho_model.specs.Links.{Link, SectionId, Input, Object, Dylib, Stub, no_input, is_carried, header_at, sections_of_file}
+use Rattle.macho_model.specs.Links.{sections_of, carried_of}
 use Rattle.macho_model.specs.Objects.{num_sections}
 use Rattle.macho_model.specs.Placement.{id_of}
 use Rattle.macho_report.specs.steps.Sections.{HasSection}
@@ -22,7 +23,8 @@ record IsAmong (inputs : List Input) (base : ℕ) (s : SectionId) : Type 0 where
   object : get_or inputs place no_input ≡ Object bytes
   within : s.section < num_sections bytes
 
-next-among : (input : Input) (inputs : List Input) (base : ℕ) (s : SectionId) → IsAmong inputs (base + 1) s → IsAmong (input ∷ inputs) base s
+next-among : (input : Input) (inputs : List Input) (base : ℕ) (s : SectionId) → IsAmong inputs (base + 1) s
+    → IsAmong (input ∷ inputs) base s
 next-among input inputs base s among = record {
   bytes = among.bytes;
   place = suc among.place;
@@ -45,12 +47,15 @@ of-file (Object bytes) inputs base =
     each k d below =
         let lt : k < num_sections bytes = omega (arith, below, length-range_with_len 0 (num_sections bytes)) in
         let at : get_or (range_with_len 0 (num_sections bytes)) k d ≡ 0 + k = get_or-range_with_len 0 (num_sections bytes) k d lt in
-        subst (λ (j : ℕ). IsAmong (Object bytes ∷ inputs) base (record { file = base; section = j })) (sym at) (numbered (0 + k) (omega (arith, lt)))
+        subst (λ (j : ℕ). IsAmong (Object bytes ∷ inputs) base (record { file = base; section = j })) (sym at)
+        (numbered (0 + k) (omega (arith, lt)))
 
-all-among : (inputs : List Input) (base : ℕ) → All (IsAmong inputs base) (flat_map (λ i. sections_of_file i.0 i.1) (enumerate_from base inputs))
+all-among : (inputs : List Input) (base : ℕ) → All (IsAmong inputs base)
+    (flat_map (λ i. sections_of_file i.0 i.1) (enumerate_from base inputs))
 all-among [] base = All-nil (IsAmong [] base)
 all-among (input ∷ inputs) base =
-    All-append (IsAmong (input ∷ inputs) base) (sections_of_file base input) (flat_map (λ i. sections_of_file i.0 i.1) (enumerate_from (base + 1) inputs))
+    All-append (IsAmong (input ∷ inputs) base) (sections_of_file base input)
+    (flat_map (λ i. sections_of_file i.0 i.1) (enumerate_from (base + 1) inputs))
     (of-file input inputs base)
     (All-weaker (IsAmong inputs (base + 1)) (IsAmong (input ∷ inputs) base) (next-among input inputs base) _ (all-among inputs (base + 1)))
 
@@ -72,8 +77,10 @@ carried-there l =
     (All-weaker (IsAmong l.inputs 0) (HasSection l) (is-section l) (sections_of l) (all-among l.inputs 0))
 
 -- so is each of the placed ones, which stand in that order
-pub placed-there : (l : Link) (sections : List PlacedSection) (k : ℕ) (q : PlacedSection) → map id_of sections ≡ carried_of l → k < length sections
+pub placed-there : (l : Link) (sections : List PlacedSection) (k : ℕ) (q : PlacedSection) → map id_of sections ≡ carried_of l
+    → k < length sections
     → HasSection l (id_of (get_or sections k q))
 placed-there l sections k q is within =
     let all : All (HasSection l) (map id_of sections) = subst (All (HasSection l)) (sym is) (carried-there l) in
-    subst (HasSection l) (get_or-map id_of sections k q (id_of q) within) (all k (id_of q) (omega (arith, within, length-map sections id_of)))
+    subst (HasSection l) (get_or-map id_of sections k q (id_of q) within)
+    (all k (id_of q) (omega (arith, within, length-map sections id_of)))

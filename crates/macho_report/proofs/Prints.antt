@@ -2,7 +2,8 @@
 --
 -- Pieces that were taken make one text that was taken. Where the sink fails within a piece, it took the pieces before and a front
 -- of this one: that is a front of the whole text, as long as both together.
-use Rattle.std.proofs.Common.{◌≡◌, ℕ, suc, ◌+◌, ◌<◌, ◌≤◌, min, inl, inr, arith, refl, ap, sym, subst, ◌∙◌, List, [], ◌++◌, take, drop, length, get_or, append_assoc, Option, Some, None, Result, Ok, Err}
+use Rattle.std.proofs.Common.{◌≡◌, ℕ, suc, ◌+◌, ◌<◌, ◌≤◌, min, inl, inr, arith, refl, ap, sym, subst, ◌∙◌, List, [], ◌++◌, take, drop}
+use Rattle.std.proofs.Common.{length, get_or, append_assoc, Option, Some, None, Result, Ok, Err}
 use Rattle.std.specs.List.{flat_map}
 use Rattle.std.specs.Option.{option_map}
 use Rattle.std.proofs.Math.Seq.{drop-cons, take-append-add}
@@ -28,7 +29,8 @@ front-is xs ys zs n =
     take-append-add xs (ys ++ zs) (min n (length ys))
     ∙ (ap (λ (t : List ℕ). xs ++ t) (take-append-le (min n (length ys)) ys zs inside) ∙ ap (λ (t : List ℕ). xs ++ t) (take_min n ys))
 
-pub takes-front : (a b c : Option (List ℕ)) (xs ys zs : List ℕ) → TakesBytes a b xs → TakesPrefix b c ys → TakesPrefix a c (xs ++ (ys ++ zs))
+pub takes-front : (a b c : Option (List ℕ)) (xs ys zs : List ℕ) → TakesBytes a b xs → TakesPrefix b c ys
+    → TakesPrefix a c (xs ++ (ys ++ zs))
 takes-front a b c xs ys zs p q = record {
   left = length xs + min q.left (length ys);
   taken = subst (λ (t : List ℕ). TakesBytes a c t) (sym (front-is xs ys zs q.left)) (takes-more a b c xs (take q.left ys) p q.taken);
@@ -42,31 +44,44 @@ around {X} f xs i d within =
     ∙ (flat_map-append f (take i xs) (drop i xs) ∙ ap (λ (ys : List X). flat_map f (take i xs) ++ flat_map f ys) (drop-cons xs i d within))
 
 -- a piece is refused
-pub piece-refused : {X A E : Type 0} (f : X → List ℕ) (xs : List X) (i : ℕ) (d : X) (a b c : Option (List ℕ)) (old mid new : ℕ) (r : Result A E) (e : E) → r ≡ Err e
-    → i < length xs → TakesBytes a b (flat_map f (take i xs)) → TakesPrefix b c (f (get_or xs i d)) → CountsOn old mid → CountsOn mid new → CountRose mid new
+pub piece-refused : {X A E : Type 0} (f : X → List ℕ) (xs : List X) (i : ℕ) (d : X) (a b c : Option (List ℕ)) (old mid new : ℕ)
+    (r : Result A E) (e : E) → r ≡ Err e
+    → i < length xs → TakesBytes a b (flat_map f (take i xs)) → TakesPrefix b c (f (get_or xs i d)) → CountsOn old mid → CountsOn mid new
+    → CountRose mid new
     → IsPrinted a c old new (flat_map f xs) r
 piece-refused {X} {A} {E} f xs i d a b c old mid new r e is within p q before after rose =
     subst (λ (s : Result A E). IsPrinted a c old new (flat_map f xs) s) (sym is) (record {
       done = tt;
-      left = subst (λ (t : List ℕ). TakesPrefix a c t) (sym (around f xs i d within)) (takes-front a b c (flat_map f (take i xs)) (f (get_or xs i d)) (flat_map f (drop (suc i) xs)) p q);
+      left = subst (λ (t : List ℕ). TakesPrefix a c t) (sym (around f xs i d within))
+          (takes-front a b c (flat_map f (take i xs)) (f (get_or xs i d)) (flat_map f (drop (suc i) xs)) p q);
       why = rose-since old mid new before after rose;
-      counted = record { never_falls = omega (arith, before.never_falls, after.never_falls); never_passes = λ low. after.never_passes (before.never_passes low) };
+      counted = record {
+        never_falls = omega (arith, before.never_falls, after.never_falls);
+        never_passes = λ low. after.never_passes
+            (before.never_passes low);
+      };
     })
 
 -- all pieces are taken
-pub pieces-taken : {X : Type 0} (f : X → List ℕ) (xs : List X) (i : ℕ) (a b : Option (List ℕ)) → length xs ≤ i → TakesBytes a b (flat_map f (take i xs))
+pub pieces-taken : {X : Type 0} (f : X → List ℕ) (xs : List X) (i : ℕ) (a b : Option (List ℕ)) → length xs ≤ i
+    → TakesBytes a b (flat_map f (take i xs))
     → TakesBytes a b (flat_map f xs)
 pieces-taken {X} f xs i a b end p = subst (λ (ys : List X). TakesBytes a b (flat_map f ys)) (take_all i xs end) p
 
 -- a line that was printed was told
-pub told-by : {A E : Type 0} (a b : Option (List ℕ)) (old new : ℕ) (line : List ℕ) (r : Result A E) → IsPrinted a b old new line r → IsLineTold a b old new line
+pub told-by : {A E : Type 0} (a b : Option (List ℕ)) (old new : ℕ) (line : List ℕ) (r : Result A E) → IsPrinted a b old new line r
+    → IsLineTold a b old new line
 told-by a b old new line (Ok x) p = record { told = inl p.done; counted = p.counted }
 told-by a b old new line (Err e) p = record { told = inr (p.left, p.why); counted = p.counted }
 
 -- counts go on
 pub counts-since : (old mid new : ℕ) → CountsOn old mid → CountsOn mid new → CountsOn old new
 counts-since old mid new before after =
-    record { never_falls = omega (arith, before.never_falls, after.never_falls); never_passes = λ low. after.never_passes (before.never_passes low) }
+    record {
+      never_falls = omega (arith, before.never_falls, after.never_falls);
+      never_passes = λ low. after.never_passes
+          (before.never_passes low);
+    }
 
 -- the first of two texts is refused
 pub first-refused : {A E : Type 0} (a b : Option (List ℕ)) (old new : ℕ) (xs ys : List ℕ) (r : Result A E) (e : E) → r ≡ Err e
@@ -80,7 +95,8 @@ first-refused {A} {E} a b old new xs ys r e is left rose counted =
     })
 
 -- the first of two texts is taken
-pub both-printed : {A E : Type 0} (a b c : Option (List ℕ)) (old mid new : ℕ) (xs ys : List ℕ) (r : Result A E) → TakesBytes a b xs → CountsOn old mid
+pub both-printed : {A E : Type 0} (a b c : Option (List ℕ)) (old mid new : ℕ) (xs ys : List ℕ) (r : Result A E) → TakesBytes a b xs
+    → CountsOn old mid
     → IsPrinted b c mid new ys r → IsPrinted a c old new (xs ++ ys) r
 both-printed a b c old mid new xs ys (Ok x) taken before p =
     record { done = takes-more a b c xs ys taken p.done; left = tt; why = tt; counted = counts-since old mid new before p.counted }

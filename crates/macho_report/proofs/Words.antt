@@ -15,23 +15,27 @@ find-map : {X Y : Type 0} (f : X → Y) (test : Y → Bool) (xs : List X) → fi
 find-map f test [] = refl
 find-map {X} {Y} f test (x ∷ xs) = by (test (f x)) _ (find (λ x. test (f x)) xs) (find-map f test xs)
   where
-    by : (b : Bool) (o : Option Y) (r : Option X) → o ≡ option_map f r → (if b then Some (f x) else o) ≡ option_map f (if b then Some x else r)
+    by : (b : Bool) (o : Option Y) (r : Option X) → o ≡ option_map f r
+        → (if b then Some (f x) else o) ≡ option_map f (if b then Some x else r)
     by true o r e = refl
     by false o r e = e
 
 abbrev plain : {A : Type 0} → ℕ × String A → ℕ × List ℕ
 plain list = (list.0, string_bytes list.1)
 
-inputs-found : (inputs : List InputSpec) (word : ℕ) (o : Option (Bor InputSpec)) → option_copied o ≡ find (λ spec. word_of (input_of spec) == word) inputs
+inputs-found : (inputs : List InputSpec) (word : ℕ) (o : Option (Bor InputSpec))
+    → option_copied o ≡ find (λ spec. word_of (input_of spec) == word) inputs
     → find (λ input. word_of input == word) (map input_of inputs) ≡ option_map input_of (option_copied o)
 inputs-found inputs word o is = find-map input_of (λ input. word_of input == word) inputs ∙ ap (option_map input_of) (sym is)
 
-lists-found : {A : Type 0} (lists : List (ℕ × String A)) (word : ℕ) (o : Option (Bor (ℕ × String A))) → option_copied o ≡ find (λ list. list.0 == word) lists
+lists-found : {A : Type 0} (lists : List (ℕ × String A)) (word : ℕ) (o : Option (Bor (ℕ × String A)))
+    → option_copied o ≡ find (λ list. list.0 == word) lists
     → find (λ list. list.0 == word) (map plain lists) ≡ option_map plain (option_copied o)
 lists-found lists word o is = find-map plain (λ list. list.0 == word) lists ∙ ap (option_map plain) (sym is)
 
 -- an input stands in the word
-pub input-told : {A : Type 0} (inputs : List InputSpec) (lists : List (ℕ × String A)) (word : ℕ) (o : Option (Bor InputSpec)) (spec : Bor InputSpec) (name : List ℕ)
+pub input-told : {A : Type 0} (inputs : List InputSpec) (lists : List (ℕ × String A)) (word : ℕ) (o : Option (Bor InputSpec))
+    (spec : Bor InputSpec) (name : List ℕ)
     → option_copied o ≡ find (λ spec. word_of (input_of spec) == word) inputs → o ≡ Some spec → name ≡ name_of_input (input_of spec.now)
     → name ≡ word_name (map input_of inputs) (map (λ list. (list.0, string_bytes list.1)) lists) word
 input-told inputs lists word o spec name found some is =
@@ -39,18 +43,22 @@ input-told inputs lists word o spec name found some is =
     is ∙ sym (ap (λ (i : Option Input). input_name i (list_name (find (λ list. list.0 == word) (map plain lists)))) told)
 
 -- a list does
-pub list-told : {A : Type 0} (inputs : List InputSpec) (lists : List (ℕ × String A)) (word : ℕ) (o : Option (Bor InputSpec)) (p : Option (Bor (ℕ × String A)))
+pub list-told : {A : Type 0} (inputs : List InputSpec) (lists : List (ℕ × String A)) (word : ℕ) (o : Option (Bor InputSpec))
+    (p : Option (Bor (ℕ × String A)))
     (list : Bor (ℕ × String A)) (name : List ℕ) → option_copied o ≡ find (λ spec. word_of (input_of spec) == word) inputs → o ≡ None
     → option_copied p ≡ find (λ list. list.0 == word) lists → p ≡ Some list → name ≡ string_bytes list.now.1
     → name ≡ word_name (map input_of inputs) (map (λ list. (list.0, string_bytes list.1)) lists) word
 list-told {A} inputs lists word o p list name found none listed some is =
     let told = inputs-found inputs word o found ∙ ap (λ (q : Option (Bor InputSpec)). option_map input_of (option_copied q)) none in
     let there = lists-found lists word p listed ∙ ap (λ (q : Option (Bor (ℕ × String A))). option_map plain (option_copied q)) some in
-    is ∙ sym (ap (λ (i : Option Input). input_name i (list_name (find (λ list. list.0 == word) (map plain lists)))) told ∙ ap list_name there)
+    is ∙ sym (ap (λ (i : Option Input). input_name i (list_name (find (λ list. list.0 == word) (map plain lists)))) told
+    ∙ ap list_name there)
 
 -- nothing does
-pub none-told : {A : Type 0} (inputs : List InputSpec) (lists : List (ℕ × String A)) (word : ℕ) (o : Option (Bor InputSpec)) (p : Option (Bor (ℕ × String A)))
-    → option_copied o ≡ find (λ spec. word_of (input_of spec) == word) inputs → o ≡ None → option_copied p ≡ find (λ list. list.0 == word) lists → p ≡ None
+pub none-told : {A : Type 0} (inputs : List InputSpec) (lists : List (ℕ × String A)) (word : ℕ) (o : Option (Bor InputSpec))
+    (p : Option (Bor (ℕ × String A)))
+    → option_copied o ≡ find (λ spec. word_of (input_of spec) == word) inputs → o ≡ None
+    → option_copied p ≡ find (λ list. list.0 == word) lists → p ≡ None
     → [] ≡ word_name (map input_of inputs) (map (λ list. (list.0, string_bytes list.1)) lists) word
 none-told {A} inputs lists word o p found none listed empty =
     let told = inputs-found inputs word o found ∙ ap (λ (q : Option (Bor InputSpec)). option_map input_of (option_copied q)) none in

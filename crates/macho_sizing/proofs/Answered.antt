@@ -1,5 +1,6 @@
 -- Where all numbers are within their limits, and a placement is answered, no limit is passed.
-use Rattle.std.proofs.Common.{◌≡◌, ℕ, ◌≤◌, if◌then◌else◌, Bool, true, false, List, length, map, refl, sym, ap, ◌∙◌, subst, arith, None, Some, ◌^◌, inl, inr}
+use Rattle.std.proofs.Common.{◌≡◌, ℕ, ◌≤◌, if◌then◌else◌, Bool, true, false, List, length, map, refl, sym, ap, ◌∙◌, subst, arith, None}
+use Rattle.std.proofs.Common.{Some, ◌^◌, inl, inr}
 use Rattle.macho_model.specs.declared.placed.Counts.{Counts}
 use Rattle.macho_model.specs.declared.targets.Limit.{Limit}
 use Rattle.macho_model.specs.declared.targets.Limit.TheVariants as limit

@@ -3,7 +3,9 @@
 -- One row more adds its personality function, unless it is there. By the rules the relocation of a personality is one pointer
 -- to a symbol, so it leads where the row's symbol does. The ids of entries are the numbers of the slots of what rows name; in
 -- order they are no more than those of the functions, each taken once.
-use Rattle.std.proofs.Common.{◌≡◌, ℕ, zero, suc, ◌+◌, ◌*◌, ◌/◌, ◌<◌, ◌≤◌, eqb, eq-eqb, ◌&&◌, ◌||◌, ◌==◌, Bool, true, false, Contains, subst, leb-true, inl, inr, List, [], ◌∷◌, ◌++◌, map, length, get_or, take, refl, sym, ap, ◌∙◌, arith, Some, None, append-nil}
+use Rattle.std.proofs.Common.{◌≡◌, ℕ, zero, suc, ◌+◌, ◌*◌, ◌/◌, ◌<◌, ◌≤◌, eqb, eq-eqb, ◌&&◌, ◌||◌, ◌==◌, Bool, true, false, Contains, subst}
+use Rattle.std.proofs.Common.{leb-true, inl, inr, List, [], ◌∷◌, ◌++◌, map, length, get_or, take, refl, sym, ap, ◌∙◌, arith, Some, None}
+use Rattle.std.proofs.Common.{append-nil}
 use Rattle.std.specs.Prelude.{Option, nat_lt, filter}
 use Rattle.std.specs.List.{filter_map, cons_option, flat_map}
 use Rattle.std.proofs.lemmas.List.{take_more}

@@ -2,7 +2,8 @@
 --
 -- Its sections are those of its views, its commons the chosen ones by their places, its slots and stubs the link's lists. A chosen common
 -- is a symbol of an object that keeps its rules, so it is aligned to 2 ^ 14 at most.
-use Rattle.std.proofs.Common.{◌≡◌, ℕ, ◌+◌, ◌<◌, ◌≤◌, Bool, true, false, not, ◌||◌, ◌&&◌, List, [], ◌∷◌, ◌++◌, map, length, get_or, refl, sym, ap, ◌∙◌, subst, arith, leb-true}
+use Rattle.std.proofs.Common.{◌≡◌, ℕ, ◌+◌, ◌<◌, ◌≤◌, Bool, true, false, not, ◌||◌, ◌&&◌, List, [], ◌∷◌, ◌++◌, map, length, get_or, refl}
+use Rattle.std.proofs.Common.{sym, ap, ◌∙◌, subst, arith, leb-true}
 use Rattle.std.specs.Prelude.{All, Contains, Option}
 use Rattle.std.specs.List.{enumerate_from, range_with_len, position_or_len}
 use Rattle.std.proofs.lemmas.Bool.{false≢true}

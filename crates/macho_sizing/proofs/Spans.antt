@@ -2,7 +2,8 @@
 --
 -- Each is a sum over the carried sections in `__TEXT` with bytes in the file: by views and numbers of sections, and by sections of the
 -- link. Such a section is placed at its own alignment, since what is thread-local stands in `__DATA`.
-use Rattle.std.proofs.Common.{◌≡◌, ℕ, ◌+◌, ◌^◌, ◌<◌, ◌≤◌, ◌&&◌, ◌||◌, not, ◌==◌, if◌then◌else◌, suc, Bool, true, false, List, [], ◌∷◌, ◌++◌, map, length, get_or, take, sum_by, refl, sym, ap, ◌∙◌, subst, arith, Some, None}
+use Rattle.std.proofs.Common.{◌≡◌, ℕ, ◌+◌, ◌^◌, ◌<◌, ◌≤◌, ◌&&◌, ◌||◌, not, ◌==◌, if◌then◌else◌, suc, Bool, true, false, List, [], ◌∷◌, ◌++◌}
+use Rattle.std.proofs.Common.{map, length, get_or, take, sum_by, refl, sym, ap, ◌∙◌, subst, arith, Some, None}
 use Rattle.std.specs.Prelude.{All, filter, Option, max, nat_lt}
 use Rattle.std.specs.List.{flat_map, range_with_len, enumerate_from}
 use Rattle.std.specs.Str.{bytes_eq}
@@ -20,7 +21,8 @@ use Rattle.macho_model.specs.Objects.{num_sections, section_at}
 use Rattle.macho_model.specs.ObjectRules.{is_thread_local}
 use Rattle.macho_model.specs.Segments.{TEXT, DATA}
 use Rattle.macho_model.specs.Symbols.{is_in_segment}
-use Rattle.macho_model.specs.Links.{Link, Input, Object, Dylib, Stub, SectionId, object_bytes, object_of, no_input, header_at, sections_of_file, sections_of, is_carried, template_exponent, placed_exponent, carried_of}
+use Rattle.macho_model.specs.Links.{Link, Input, Object, Dylib, Stub, SectionId, object_bytes, object_of, no_input, header_at}
+use Rattle.macho_model.specs.Links.{sections_of_file, sections_of, is_carried, template_exponent, placed_exponent, carried_of}
 use Rattle.macho_model.specs.WrittenSum.{section_cost as cost_in_link}
 use Rattle.macho_object.specs.Views.{FileBytes}
 use Rattle.macho_parts.specs.Views.{object_view, views_of, ViewsObject}

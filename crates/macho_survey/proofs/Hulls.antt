@@ -1,6 +1,7 @@
 -- Fields that rise or fall. What all fields so far lie between is known; one more that stands before or behind that shares no
 -- byte with any. The second of a pair is held against what those before its partner lie between.
-use Rattle.std.proofs.Common.{◌≡◌, ℕ, ◌+◌, ◌-◌, ◌*◌, ◌<◌, ◌≤◌, ◌⊎◌, inl, inr, Bool, true, false, ◌&&◌, ◌||◌, nat_le, nat_lt, ◌==◌, min, max, List, Option, Some, None, refl, sym, ap, ◌∙◌, subst, arith, if◌then◌else◌}
+use Rattle.std.proofs.Common.{◌≡◌, ℕ, ◌+◌, ◌-◌, ◌*◌, ◌<◌, ◌≤◌, ◌⊎◌, inl, inr, Bool, true, false, ◌&&◌, ◌||◌, nat_le, nat_lt, ◌==◌, min, max}
+use Rattle.std.proofs.Common.{List, Option, Some, None, refl, sym, ap, ◌∙◌, subst, arith, if◌then◌else◌}
 use Rattle.std.proofs.lemmas.Bool.Decides.{nat_tests}
 use Rattle.std.proofs.lemmas.Bool.{cases_lt, eq-eqb}
 use Rattle.macho_structs.specs.declared.relocations.RelocationInfo.{RelocationInfo}
@@ -42,11 +43,13 @@ partner b k i e q before last =
     let next : q + 1 ≡ i = omega arith in
     subst (λ n. are_one b k q n ≡ true) next (partner_at b k q (subst (λ n. ends (window_in b k n) ≡ true) (sym next) e))
 
-pub apart_more : (b : List ℕ) (k i : ℕ) (older hull : Hull) → AreApart b k i → ((q : ℕ) → q + 1 < i → IsInside older (relocation_at b k q)) → Holds b k hull i
+pub apart_more : (b : List ℕ) (k i : ℕ) (older hull : Hull) → AreApart b k i
+    → ((q : ℕ) → q + 1 < i → IsInside older (relocation_at b k q)) → Holds b k hull i
     → excludes (if ends (window_in b k i) then older else hull) (relocation_at b k i) ≡ true → AreApart b k (i + 1)
 apart_more b k i older hull apart old all test = record { each = λ q r order below. by q r order (cases_lt r i) below }
   where
-    new : (e : Bool) → ends (window_in b k i) ≡ e → excludes (if e then older else hull) (relocation_at b k i) ≡ true → (q : ℕ) → q < i → GoTogether b k q i
+    new : (e : Bool) → ends (window_in b k i) ≡ e → excludes (if e then older else hull) (relocation_at b k i) ≡ true → (q : ℕ) → q < i
+        → GoTogether b k q i
     new false is t q before = inl (outside hull (relocation_at b k q) (relocation_at b k i) (all q before) t)
     new true is t q before = at (cases_lt (q + 1) i)
       where

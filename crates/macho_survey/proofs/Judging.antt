@@ -1,11 +1,13 @@
 -- One relocation more. Its use is noted; what stands against it by itself is found, unless another of its kind was before; and
 -- where nothing is found, it is fine.
-use Rattle.std.proofs.Common.{◌≡◌, ℕ, ◌+◌, ◌<◌, Bool, true, false, ◌&&◌, ◌||◌, not, ◌==◌, List, [], ◌∷◌, ◌++◌, Option, Some, None, IfSome, All, Contains, is_some, map, filter, codes, refl, sym, ap, ◌∙◌, subst, if◌then◌else◌}
+use Rattle.std.proofs.Common.{◌≡◌, ℕ, ◌+◌, ◌<◌, Bool, true, false, ◌&&◌, ◌||◌, not, ◌==◌, List, [], ◌∷◌, ◌++◌, Option, Some, None, IfSome}
+use Rattle.std.proofs.Common.{All, Contains, is_some, map, filter, codes, refl, sym, ap, ◌∙◌, subst, if◌then◌else◌}
 use Rattle.std.specs.Str.{bytes_eq}
 use Rattle.std.proofs.lemmas.List.Elements.{All-push}
 use Rattle.macho_bytes.specs.Texts.{name_of}
 use Rattle.macho_records.specs.declared.header.SectionHeader.{SectionHeader}
-use Rattle.macho_records.specs.declared.constants.TheConstants.{ARM64_RELOC_ADDEND, ARM64_RELOC_SUBTRACTOR, S_THREAD_LOCAL_REGULAR, S_THREAD_LOCAL_VARIABLES, S_THREAD_LOCAL_ZEROFILL}
+use Rattle.macho_records.specs.declared.constants.TheConstants.{ARM64_RELOC_ADDEND, ARM64_RELOC_SUBTRACTOR, S_THREAD_LOCAL_REGULAR}
+use Rattle.macho_records.specs.declared.constants.TheConstants.{S_THREAD_LOCAL_VARIABLES, S_THREAD_LOCAL_ZEROFILL}
 use Rattle.macho_records.specs.Sections.{type_of}
 use Rattle.macho_model.specs.declared.targets.Target.{Target}
 use Rattle.macho_model.specs.Symbols.{is_in_segment}
@@ -71,11 +73,13 @@ pub record IsJudged (l : Link) (s : SectionId) (r word : ℕ) : Type 0 where
   pub word_is : (relocation_in l s r).r_length ≡ 2 → word ≡ content_of l s r
 
 -- a pointer's field is one of the section's
-pub field_there : (l : Link) (s : SectionId) (r : ℕ) → r < (header_at l s).nreloc → is_prefix_type (relocation_in l s r).r_type ≡ false → Contains (fields_of l s) (field_of l s r)
+pub field_there : (l : Link) (s : SectionId) (r : ℕ) → r < (header_at l s).nreloc → is_prefix_type (relocation_in l s r).r_type ≡ false
+    → Contains (fields_of l s) (field_of l s r)
 unfolding fields_of
 field_there l s r there plain =
     in_map (field_of l s) (filter (λ q. not (is_prefix_type (relocation_in l s q).r_type)) (relocations_of l s)) r
-    (in_filter (λ q. not (is_prefix_type (relocation_in l s q).r_type)) (relocations_of l s) r (ap not plain) (in_range (header_at l s).nreloc r there))
+    (in_filter (λ q. not (is_prefix_type (relocation_in l s q).r_type)) (relocations_of l s) r (ap not plain)
+    (in_range (header_at l s).nreloc r there))
 
 plain_prefix : (l : Link) (s : SectionId) (r : ℕ) → IsPlain l s r → is_prefix_type (relocation_in l s r).r_type ≡ false
 plain_prefix l s r is = ap is_prefix_type is.type
@@ -83,15 +87,18 @@ plain_prefix l s r is = ap is_prefix_type is.type
 plain_field : (l : Link) (s : SectionId) (r word : ℕ) → IsJudged l s r word → is_pointer (field_of l s r) ≡ true → IsPlain l s r
 plain_field l s r word is e = plain_says l s r (plain_is l s r is.small ∙ e)
 
-field_is : (l : Link) (s : SectionId) (r word : ℕ) → IsJudged l s r word → is_pointer (field_of l s r) ≡ true → FieldOf l s r (field_of l s r)
+field_is : (l : Link) (s : SectionId) (r word : ℕ) → IsJudged l s r word → is_pointer (field_of l s r) ≡ true
+    → FieldOf l s r (field_of l s r)
 field_is l s r word is e = (is.carried, field_there l s r is.there (plain_prefix l s r (plain_field l s r word is e)), refl)
 
 -- a descriptor of a thread-local variable is in a segment that may hold pointers
-descriptors : (h : SectionHeader) → (not (is_thread_local (type_of h)) || is_in_segment DATA h) ≡ true → (type_of h == S_THREAD_LOCAL_VARIABLES) ≡ true → may_hold_pointers (name_of h.segname) ≡ true
+descriptors : (h : SectionHeader) → (not (is_thread_local (type_of h)) || is_in_segment DATA h) ≡ true
+    → (type_of h == S_THREAD_LOCAL_VARIABLES) ≡ true → may_hold_pointers (name_of h.segname) ≡ true
 descriptors h rule e = by (is_in_segment DATA h) refl
   where
     local : is_thread_local (type_of h) ≡ true
-    local = ap (λ b. (type_of h == S_THREAD_LOCAL_REGULAR) || (type_of h == S_THREAD_LOCAL_ZEROFILL) || b) e ∙ last ((type_of h == S_THREAD_LOCAL_REGULAR) || (type_of h == S_THREAD_LOCAL_ZEROFILL))
+    local = ap (λ b. (type_of h == S_THREAD_LOCAL_REGULAR) || (type_of h == S_THREAD_LOCAL_ZEROFILL) || b) e
+        ∙ last ((type_of h == S_THREAD_LOCAL_REGULAR) || (type_of h == S_THREAD_LOCAL_ZEROFILL))
       where
         last : (b : Bool) → (b || true) ≡ true
         last true = refl
@@ -107,7 +114,14 @@ bad_stands : (l : Link) (s : SectionId) (r word : ℕ) (t : Target) → IsJudged
 bad_stands l s r word t is leads = by (is_pointer (field_of l s r)) refl
   where
     told : is_pointer (field_of l s r) ≡ true → (b c : Bool) → is_import t ≡ b → fits_signed 32 (addend_of l s r) ≡ c
-        → IfSome (if b && not c then Some (record { place = record { file = s.file; section = s.section; relocation = r }; addend = addend_of l s r }) else None) (IsBadAddend l)
+        → IfSome (if b && not c then Some (record {
+          place = record {
+            file = s.file;
+            section = s.section;
+            relocation = r;
+          };
+          addend = addend_of l s r;
+        }) else None) (IsBadAddend l)
     told e true false i f =
         let import : is_import (target_of_relocation l s r) ≡ true
         = ap is_import (sym (leads ∙ plain_leads l s r (plain_field l s r word is e))) ∙ i in
@@ -116,16 +130,19 @@ bad_stands l s r word t is leads = by (is_pointer (field_of l s r)) refl
     told e false c i f = tt
 
     by : (x : Bool) → is_pointer (field_of l s r) ≡ x
-        → IfSome (bad_addend (record { file = s.file; section = s.section; relocation = r }) (if x then Some (addend_of l s r) else None) t) (IsBadAddend l)
+        → IfSome (bad_addend (record { file = s.file; section = s.section; relocation = r }) (if x then Some (addend_of l s r) else None)
+        t) (IsBadAddend l)
     by true e = told e (is_import t) (fits_signed 32 (addend_of l s r)) refl refl
     by false e = tt
 
 -- the place that is told
-misplaced_is : (l : Link) (s : SectionId) (r word : ℕ) (t : Target) (holds : Bool) → IsJudged l s r word → t ≡ referent l s r → holds ≡ may_hold_pointers (segment_name l s)
+misplaced_is : (l : Link) (s : SectionId) (r word : ℕ) (t : Target) (holds : Bool) → IsJudged l s r word → t ≡ referent l s r
+    → holds ≡ may_hold_pointers (segment_name l s)
     → misplaced holds (pointer_of l s r) t ≡ (needs_fixup l s (field_of l s r) && not (may_hold_pointers (segment_name l s)))
 misplaced_is l s r word t holds is leads held = by (is_pointer (field_of l s r)) refl
   where
-    fixup : is_pointer (field_of l s r) ≡ true → (a d m : Bool) → is_absolute_target (target_of_relocation l s r) ≡ a → is_template_offset l s (field_of l s r) ≡ d → may_hold_pointers (segment_name l s) ≡ m
+    fixup : is_pointer (field_of l s r) ≡ true → (a d m : Bool) → is_absolute_target (target_of_relocation l s r) ≡ a
+        → is_template_offset l s (field_of l s r) ≡ d → may_hold_pointers (segment_name l s) ≡ m
         → (not a && not m) ≡ (not a && not d && not m)
     fixup e a d true x y z = both_false (not a) (not a && not d)
       where
@@ -140,7 +157,8 @@ misplaced_is l s r word t holds is leads held = by (is_pointer (field_of l s r))
         and_true true = refl
         and_true false = refl
     fixup e a true false x y z =
-        let type : (type_of (header_at l s) == S_THREAD_LOCAL_VARIABLES) ≡ true = first (type_of (header_at l s) == S_THREAD_LOCAL_VARIABLES) _ y in
+        let type : (type_of (header_at l s) == S_THREAD_LOCAL_VARIABLES) ≡ true = first
+        (type_of (header_at l s) == S_THREAD_LOCAL_VARIABLES) _ y in
         let may : may_hold_pointers (segment_name l s) ≡ true = descriptors (header_at l s) (is.object.o11 s.section is.among) type in
         let no : true ≡ false = sym may ∙ z in cc
       where
@@ -152,32 +170,40 @@ misplaced_is l s r word t holds is leads held = by (is_pointer (field_of l s r))
     target_is e = leads ∙ plain_leads l s r (plain_field l s r word is e)
 
     by : (x : Bool) → is_pointer (field_of l s r) ≡ x
-        → misplaced holds (if is_pointer (field_of l s r) then Some (addend_of l s r) else None) t ≡ (needs_fixup l s (field_of l s r) && not (may_hold_pointers (segment_name l s)))
+        → misplaced holds (if is_pointer (field_of l s r) then Some (addend_of l s r) else None) t ≡ (needs_fixup l s (field_of l s r) &&
+        not (may_hold_pointers (segment_name l s)))
     by true e =
         ap (λ b. misplaced holds (if b then Some (addend_of l s r) else None) t) e
         ∙ ap (λ u. not (is_absolute_target u) && not holds) (target_is e)
         ∙ ap (λ b. not (is_absolute_target (target_of_relocation l s r)) && not b) held
-        ∙ fixup e (is_absolute_target (target_of_relocation l s r)) (is_template_offset l s (field_of l s r)) (may_hold_pointers (segment_name l s)) refl refl refl
-        ∙ ap (λ b. b && not (is_absolute_target (target_of_relocation l s r)) && not (is_template_offset l s (field_of l s r)) && not (may_hold_pointers (segment_name l s))) (sym e)
+        ∙ fixup e (is_absolute_target (target_of_relocation l s r)) (is_template_offset l s (field_of l s r))
+        (may_hold_pointers (segment_name l s)) refl refl refl
+        ∙ ap (λ b. b && not (is_absolute_target (target_of_relocation l s r)) && not (is_template_offset l s (field_of l s r)) &&
+        not (may_hold_pointers (segment_name l s))) (sym e)
     by false e =
         ap (λ b. misplaced holds (if b then Some (addend_of l s r) else None) t) e
-        ∙ ap (λ b. b && not (is_absolute_target (target_of_relocation l s r)) && not (is_template_offset l s (field_of l s r)) && not (may_hold_pointers (segment_name l s))) (sym e)
+        ∙ ap (λ b. b && not (is_absolute_target (target_of_relocation l s r)) && not (is_template_offset l s (field_of l s r)) &&
+        not (may_hold_pointers (segment_name l s))) (sym e)
 
 both : (a b : Bool) → (a && b) ≡ true → (a ≡ true) × (b ≡ true)
 both true b e = (refl, e)
 both false b e = cc
 
 -- one relocation more is judged
-pub judged_more : (l : Link) (ss : List SectionId) (us : List Use) (old new : Needs) (f : Findings) (s : SectionId) (r word : ℕ) (t : Target) (holds : Bool) → IsJudged l s r word
-    → IsSurveyed l ss us old f → IsNoted l (us ++ ByRelocation s r ∷ []) new → t ≡ referent l s r → holds ≡ may_hold_pointers (segment_name l s)
-    → IsSurveyed l ss (us ++ ByRelocation s r ∷ []) new (judged f holds (record { file = s.file; section = s.section; relocation = r }) (window_of l s r) t word (pointer_of l s r))
+pub judged_more : (l : Link) (ss : List SectionId) (us : List Use) (old new : Needs) (f : Findings) (s : SectionId) (r word : ℕ)
+    (t : Target) (holds : Bool) → IsJudged l s r word
+    → IsSurveyed l ss us old f → IsNoted l (us ++ ByRelocation s r ∷ []) new → t ≡ referent l s r
+    → holds ≡ may_hold_pointers (segment_name l s)
+    → IsSurveyed l ss (us ++ ByRelocation s r ∷ []) new
+    (judged f holds (record { file = s.file; section = s.section; relocation = r }) (window_of l s r) t word (pointer_of l s r))
 judged_more l ss us old new f s r word t holds is before noted leads held = record {
   noted = noted;
   standing = record {
     unsupported = if_first (IsUnsupported l) (not (supported_in (window_of l s r) t word)) f.unsupported at before.standing.unsupported
         (λ e. (is.carried, is.there, sym supported ∙ false_of_not (supported_in (window_of l s r) t word) e));
     overlap = before.standing.overlap;
-    addend = if_first_of (IsBadAddend l) f.addend (bad_addend at (pointer_of l s r) t) before.standing.addend (bad_stands l s r word t is leads);
+    addend = if_first_of (IsBadAddend l) f.addend (bad_addend at (pointer_of l s r) t) before.standing.addend
+        (bad_stands l s r word t is leads);
     place = if_first (IsBadPlace l) (misplaced holds (pointer_of l s r) t) f.place at before.standing.place
         (λ e. let h = both (needs_fixup l s (field_of l s r)) (not (may_hold_pointers (segment_name l s))) (sym place ∙ e) in
         (field_of l s r, field_is l s r word is (pointed h.0), h.0, false_of_not (may_hold_pointers (segment_name l s)) h.1));
@@ -199,7 +225,8 @@ judged_more l ss us old new f s r word t holds is before noted leads held = reco
     place = misplaced_is l s r word t holds is leads held
 
     pointed : needs_fixup l s (field_of l s r) ≡ true → is_pointer (field_of l s r) ≡ true
-    pointed e = (both (is_pointer (field_of l s r)) _ (both (is_pointer (field_of l s r) && not (is_absolute_target (target_of_relocation l s r))) _ e).0).0
+    pointed e = (both (is_pointer (field_of l s r)) _
+        (both (is_pointer (field_of l s r) && not (is_absolute_target (target_of_relocation l s r))) _ e).0).0
 
     clean : IsClean after → IsClean f
     clean c = record {
@@ -215,23 +242,29 @@ judged_more l ss us old new f s r word t holds is before noted leads held = reco
     if_told : Bool → Option Addend
     if_told b = if b then told else None
 
-    fits : (x : Bool) → is_pointer (field_of l s r) ≡ x → bad_addend at (if x then Some (addend_of l s r) else None) t ≡ None → is_pointer (field_of l s r) ≡ true → is_import (target_of_relocation l s r) ≡ true
+    fits : (x : Bool) → is_pointer (field_of l s r) ≡ x → bad_addend at (if x then Some (addend_of l s r) else None) t ≡ None
+        → is_pointer (field_of l s r) ≡ true → is_import (target_of_relocation l s r) ≡ true
         → fits_signed 32 (addend_of l s r) ≡ true
     fits false e none p i = let no : false ≡ true = sym e ∙ p in cc
     fits true e none p i =
         let import : is_import t ≡ true = ap is_import (leads ∙ plain_leads l s r (plain_field l s r word is p)) ∙ i in
         good (fits_signed 32 (addend_of l s r)) refl (sym (ap (λ b. if_told (b && not (fits_signed 32 (addend_of l s r)))) import) ∙ none)
       where
-        good : (b : Bool) → fits_signed 32 (addend_of l s r) ≡ b → if_told (true && not (fits_signed 32 (addend_of l s r))) ≡ None → fits_signed 32 (addend_of l s r) ≡ true
+        good : (b : Bool) → fits_signed 32 (addend_of l s r) ≡ b → if_told (true && not (fits_signed 32 (addend_of l s r))) ≡ None
+            → fits_signed 32 (addend_of l s r) ≡ true
         good true g h = g
         good false g h = let no : told ≡ None = sym (ap (λ b. if_told (true && not b)) g) ∙ h in cc
 
-    holds_it : needs_fixup l s (field_of l s r) ≡ true → (needs_fixup l s (field_of l s r) && not (may_hold_pointers (segment_name l s))) ≡ false → may_hold_pointers (segment_name l s) ≡ true
-    holds_it e none = true_of_not (may_hold_pointers (segment_name l s)) (sym (ap (λ b. b && not (may_hold_pointers (segment_name l s))) e) ∙ none)
+    holds_it : needs_fixup l s (field_of l s r) ≡ true
+        → (needs_fixup l s (field_of l s r) && not (may_hold_pointers (segment_name l s))) ≡ false
+        → may_hold_pointers (segment_name l s) ≡ true
+    holds_it e none = true_of_not (may_hold_pointers (segment_name l s))
+        (sym (ap (λ b. b && not (may_hold_pointers (segment_name l s))) e) ∙ none)
 
     fine : IsClean after → IsFineRelocation l s r
     fine c = record {
-      supported = sym supported ∙ true_of_not (supported_in (window_of l s r) t word) (none_first (not (supported_in (window_of l s r) t word)) f.unsupported at c.unsupported).1;
+      supported = sym supported ∙ true_of_not (supported_in (window_of l s r) t word)
+          (none_first (not (supported_in (window_of l s r) t word)) f.unsupported at c.unsupported).1;
       addend = fits (is_pointer (field_of l s r)) refl (none_first_of f.addend (bad_addend at (pointer_of l s r) t) c.addend).1;
       place = λ e. holds_it e (sym place ∙ (none_first (misplaced holds (pointer_of l s r) t) f.place at c.place).1);
     }

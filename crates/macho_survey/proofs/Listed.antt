@@ -1,5 +1,6 @@
 -- Elements of lists that are mapped and filtered, and the numbers below a bound.
-use Rattle.std.proofs.Common.{◌≡◌, ℕ, ◌+◌, ◌<◌, ◌⊎◌, inl, inr, Bool, true, false, cond, List, [], ◌∷◌, ◌++◌, map, filter, length, get_or, Contains, refl, sym, ap, ◌∙◌, subst, arith}
+use Rattle.std.proofs.Common.{◌≡◌, ℕ, ◌+◌, ◌<◌, ◌⊎◌, inl, inr, Bool, true, false, cond, List, [], ◌∷◌, ◌++◌, map, filter, length, get_or}
+use Rattle.std.proofs.Common.{Contains, refl, sym, ap, ◌∙◌, subst, arith}
 use Rattle.std.specs.List.{range_with_len}
 use Rattle.std.proofs.lemmas.List.Elements.{Contains-append_left, Contains-append_right, Contains-append_cases, Contains-push_cases}
 use Rattle.std.proofs.lemmas.List.FromFn.{length-range_with_len, get_or-range_with_len}
@@ -29,7 +30,8 @@ pub of_map : {X Y : Type 0} (f : X → Y) (xs : List X) (y : Y) → Contains (ma
 of_map f [] y h = absurd (omega (arith, h.1))
 of_map {X} {Y} f (x ∷ xs) y h = by (of_map f xs y) (first_or_later (f x) (map f xs) y h)
   where
-    by : (Contains (map f xs) y → (z : X) × Contains xs z × (f z ≡ y)) → (f x ≡ y) ⊎ Contains (map f xs) y → (z : X) × Contains (x ∷ xs) z × (f z ≡ y)
+    by : (Contains (map f xs) y → (z : X) × Contains xs z × (f z ≡ y)) → (f x ≡ y) ⊎ Contains (map f xs) y → (z : X) × Contains (x ∷ xs) z
+        × (f z ≡ y)
     by more (inl e) = (x, here x xs, e)
     by more (inr g) = let m = more g in (m.0, later x xs m.0 m.1, m.2)
 
@@ -37,7 +39,8 @@ pub in_filter : {X : Type 0} (p : X → Bool) (xs : List X) (x : X) → p x ≡ 
 in_filter p [] x t h = h
 in_filter {X} p (y ∷ ys) x t h = by (in_filter p ys x t) (p y) refl (first_or_later y ys x h)
   where
-    by : (Contains ys x → Contains (filter p ys) x) → (b : Bool) → p y ≡ b → (y ≡ x) ⊎ Contains ys x → Contains (cond b (y ∷ filter p ys) (filter p ys)) x
+    by : (Contains ys x → Contains (filter p ys) x) → (b : Bool) → p y ≡ b → (y ≡ x) ⊎ Contains ys x
+        → Contains (cond b (y ∷ filter p ys) (filter p ys)) x
     by more true e (inl same) = subst (Contains (y ∷ filter p ys)) same (here y (filter p ys))
     by more true e (inr g) = later y (filter p ys) x (more g)
     by more false e (inl same) = let u : false ≡ true = sym e ∙ ap p same ∙ t in cc

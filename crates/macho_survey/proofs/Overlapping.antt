@@ -1,5 +1,6 @@
 -- One section more: two relocations that overlap in it are found, or all are apart.
-use Rattle.std.proofs.Common.{◌≡◌, ℕ, ◌<◌, ◌⊎◌, true, false, List, [], ◌∷◌, ◌++◌, Option, Some, None, IfSome, Contains, refl, sym, ap, ◌∙◌, subst}
+use Rattle.std.proofs.Common.{◌≡◌, ℕ, ◌<◌, ◌⊎◌, true, false, List, [], ◌∷◌, ◌++◌, Option, Some, None, IfSome, Contains, refl, sym, ap, ◌∙◌}
+use Rattle.std.proofs.Common.{subst}
 use Rattle.std.proofs.lemmas.List.Elements.{All-push}
 use Rattle.macho_model.specs.Objects.{num_sections, section_at}
 use Rattle.macho_model.specs.Links.{Link, SectionId, object_of, header_at, is_carried, carried_of}
@@ -17,15 +18,18 @@ use Rattle.macho_survey.proofs.Judging.{if_first_of, none_first_of}
 use Rattle.macho_survey.proofs.Walking.{carried_there, same_object}
 
 -- by the bytes of the link's object
-told_stands : (l : Link) (at : Section) (told : Option (ℕ × ℕ)) → Contains (carried_of l) (id_of at) → IsFoundIn (object_of l at.file) at.section told → IfSome (pair_of at told) (IsOverlap l)
+told_stands : (l : Link) (at : Section) (told : Option (ℕ × ℕ)) → Contains (carried_of l) (id_of at)
+    → IsFoundIn (object_of l at.file) at.section told → IfSome (pair_of at told) (IsOverlap l)
 told_stands l at None carried found = tt
 told_stands l at (Some p) carried found = (carried, found.order, found.there, found.share, found.apart)
 
-none_apart : (l : Link) (at : Section) (told : Option (ℕ × ℕ)) → IsFoundIn (object_of l at.file) at.section told → pair_of at told ≡ None → IsApart l (id_of at)
+none_apart : (l : Link) (at : Section) (told : Option (ℕ × ℕ)) → IsFoundIn (object_of l at.file) at.section told → pair_of at told ≡ None
+    → IsApart l (id_of at)
 none_apart l at None found e = record { each = found.each }
 none_apart l at (Some p) found e = cc
 
-pub overlap_more : (l : Link) (ss : List SectionId) (us : List Use) (n : Needs) (f : Findings) (at : Section) (told : Option (ℕ × ℕ)) (b : List ℕ) → HasObject l at.file b
+pub overlap_more : (l : Link) (ss : List SectionId) (us : List Use) (n : Needs) (f : Findings) (at : Section) (told : Option (ℕ × ℕ))
+    (b : List ℕ) → HasObject l at.file b
     → at.section < num_sections b → is_carried (section_at b at.section) ≡ true → IsFoundIn b at.section told → IsSurveyed l ss us n f
     → IsSurveyed l (ss ++ id_of at ∷ []) us n (record f { overlap = first_of f.overlap (pair_of at told) })
 overlap_more l ss us n f at told b has among carried found before = record {
@@ -37,7 +41,8 @@ overlap_more l ss us n f at told b has among carried found before = record {
     place = before.standing.place;
   };
   fine = λ c. before.fine (clean c);
-  apart = λ c. All-push (IsApart l) ss (id_of at) (before.apart (clean c)) (none_apart l at told found_here (none_first_of f.overlap (pair_of at told) c.overlap).1);
+  apart = λ c. All-push (IsApart l) ss (id_of at) (before.apart (clean c))
+      (none_apart l at told found_here (none_first_of f.overlap (pair_of at told) c.overlap).1);
 }
   where
     there : Contains (carried_of l) (id_of at)
@@ -47,4 +52,10 @@ overlap_more l ss us n f at told b has among carried found before = record {
     found_here = subst (λ bytes. IsFoundIn bytes at.section told) (sym (same_object l at.file b has)) found
 
     clean : IsClean (record f { overlap = first_of f.overlap (pair_of at told) }) → IsClean f
-    clean c = record { unsupported = c.unsupported; overlap = (none_first_of f.overlap (pair_of at told) c.overlap).0; addend = c.addend; place = c.place }
+    clean c = record {
+      unsupported = c.unsupported;
+      overlap = (none_first_of f.overlap (pair_of at told)
+          c.overlap).0;
+      addend = c.addend;
+      place = c.place;
+    }

@@ -1,6 +1,7 @@
 -- A table of places. Each byte that a relocation stands in has the first one that stood there. So one more relocation shares a
 -- byte with an earlier one exactly where the table has an entry at one of its bytes; and that is its partner, or the two overlap.
-use Rattle.std.proofs.Common.{◌≡◌, ℕ, ◌+◌, ◌-◌, ◌<◌, ◌≤◌, ◌⊎◌, inl, inr, Bool, true, false, ◌&&◌, nat_le, nat_lt, ◌==◌, max, List, Option, Some, None, refl, sym, ap, ◌∙◌, subst, arith, pow_pos, if◌then◌else◌}
+use Rattle.std.proofs.Common.{◌≡◌, ℕ, ◌+◌, ◌-◌, ◌<◌, ◌≤◌, ◌⊎◌, inl, inr, Bool, true, false, ◌&&◌, nat_le, nat_lt, ◌==◌, max, List, Option}
+use Rattle.std.proofs.Common.{Some, None, refl, sym, ap, ◌∙◌, subst, arith, pow_pos, if◌then◌else◌}
 use Rattle.std.proofs.lemmas.Bool.{cases_lt, eq-eqb, eqb-true}
 use Rattle.std.proofs.lemmas.Bool.Decides.{nat_tests}
 use Rattle.macho_structs.specs.declared.relocations.RelocationInfo.{RelocationInfo}
@@ -8,7 +9,8 @@ use Rattle.macho_model.specs.Objects.{section_at, relocation_at}
 use Rattle.macho_model.specs.Fields.{is_pair}
 use Rattle.macho_survey.specs.declared.pairs.Seen.{Seen}
 use Rattle.macho_survey.specs.steps.Windows.{window_in, ends, tests_before}
-use Rattle.macho_survey.specs.steps.Overlaps.{field_end, shares, are_one, GoTogether, AreApart, Overlaps, IsFoundIn, or_new, IsPartner, IsPut, IsTaken, IsTable, PutsOrTaken}
+use Rattle.macho_survey.specs.steps.Overlaps.{field_end, shares, are_one, GoTogether, AreApart, Overlaps, IsFoundIn, or_new, IsPartner}
+use Rattle.macho_survey.specs.steps.Overlaps.{IsPut, IsTaken, IsTable, PutsOrTaken}
 use Rattle.macho_survey.proofs.Hulls.{partner}
 
 -- bytes put in one at a time
@@ -19,7 +21,8 @@ nothing_put t a index paired = record {
   others = λ p out. refl;
 }
 
-pub put_more : (old mid new : ℕ → Option ℕ) (a p index : ℕ) (paired : Bool) → a ≤ p → IsPut old mid a p index paired → IsPut mid new p (p + 1) index paired
+pub put_more : (old mid new : ℕ → Option ℕ) (a p index : ℕ) (paired : Bool) → a ≤ p → IsPut old mid a p index paired
+    → IsPut mid new p (p + 1) index paired
     → IsPut old new a (p + 1) index paired
 put_more old mid new a p index paired from first last = record {
   there = λ q low high. at q low high (cases_lt q p);
@@ -42,7 +45,8 @@ put_more old mid new a p index paired from first last = record {
     out q (inl h) = last.others q (inl (omega (arith, h, from))) ∙ first.others q (inl h)
     out q (inr h) = last.others q (inr h) ∙ first.others q (inr (omega (arith, h)))
 
-pub taken_here : (old mid : ℕ → Option ℕ) (a e p index : ℕ) (paired : Bool) (q : ℕ) → a ≤ p → p < e → IsPut old mid a p index paired → IsTaken mid p (p + 1) index paired q
+pub taken_here : (old mid : ℕ → Option ℕ) (a e p index : ℕ) (paired : Bool) (q : ℕ) → a ≤ p → p < e → IsPut old mid a p index paired
+    → IsTaken mid p (p + 1) index paired q
     → IsTaken old a e index paired q
 taken_here old mid a e p index paired q from below first taken = record {
   place = taken.place;
@@ -65,7 +69,8 @@ shared a e b f test one two = by (nat_lt a f) refl
   where
     by : (x : Bool) → nat_lt a f ≡ x → (a ≤ max a b) × (max a b < e) × (b ≤ max a b) × (max a b < f)
     by true t = let u : nat_lt b e ≡ true = sym (ap (λ y. y && nat_lt b e) t) ∙ test in
-        let x : a < f = grind (arith, nat_tests) in let y : b < e = grind (arith, nat_tests) in (omega arith, omega arith, omega arith, omega arith)
+        let x : a < f = grind (arith, nat_tests) in let y : b < e = grind (arith, nat_tests)
+        in (omega arith, omega arith, omega arith, omega arith)
     by false t = let u : false ≡ true = sym (ap (λ y. y && nat_lt b e) t) ∙ test in cc
 
 some_bytes : (rel : RelocationInfo) → rel.r_address < field_end rel
@@ -75,7 +80,8 @@ some_bytes rel = omega (arith, pow_pos rel.r_length)
 pair_ends : (b : List ℕ) (k i q : ℕ) → are_one b k q i ≡ true → (ends (window_in b k i) ≡ true → q + 1 ≡ i → ⊥) → ⊥
 pair_ends b k i q e stranger =
     let next : q + 1 ≡ i = sym (eqb-true i (q + 1) (first (i == q + 1) (is_pair (relocation_at b k q) (relocation_at b k i)) e)) in
-    let pair : is_pair (relocation_at b k q) (relocation_at b k i) ≡ true = second (i == q + 1) (is_pair (relocation_at b k q) (relocation_at b k i)) e in
+    let pair : is_pair (relocation_at b k q) (relocation_at b k i) ≡ true = second (i == q + 1)
+    (is_pair (relocation_at b k q) (relocation_at b k i)) e in
     let one : nat_le 1 i ≡ true = grind (arith, nat_tests) in
     let back : i - 1 ≡ q = omega arith in
     stranger (ap (λ t. tests_before is_pair (if t then Some (relocation_at b k (i - 1)) else None) (relocation_at b k i)) one
@@ -103,7 +109,8 @@ pub table_more : (b : List ℕ) (k i : ℕ) (old new : ℕ → Option ℕ) → I
     → IsPut old new (relocation_at b k i).r_address (field_end (relocation_at b k i)) i (ends (window_in b k i)) → IsTable b k (i + 1) new
 table_more b k i old new is put = record {
   says = λ p q e. says p q e (in_or_out (relocation_at b k i).r_address (field_end (relocation_at b k i)) p);
-  full = λ p r below low high. full p r below low high (cases_lt r i) (in_or_out (relocation_at b k i).r_address (field_end (relocation_at b k i)) p);
+  full = λ p r below low high. full p r below low high (cases_lt r i)
+      (in_or_out (relocation_at b k i).r_address (field_end (relocation_at b k i)) p);
 }
   where
     Out : ℕ → Type 0
@@ -124,7 +131,8 @@ table_more b k i old new is put = record {
 
     says : (p q : ℕ) → new p ≡ Some q → In p ⊎ Out p → Stands p q
     says p q e (inr out) = older p q (sym (put.others p out) ∙ e)
-    says p q e (inl h) = let same : or_new (old p) i ≡ q = let x : Some (or_new (old p) i) ≡ Some q = sym (put.there p h.0 h.1) ∙ e in cc in fresh p q h (old p) refl same
+    says p q e (inl h) = let same : or_new (old p) i ≡ q = let x : Some (or_new (old p) i) ≡ Some q = sym (put.there p h.0 h.1)
+        ∙ e in cc in fresh p q h (old p) refl same
 
     Full : (ℕ → Option ℕ) → ℕ → ℕ → Type 0
     Full t p r = (t p ≡ Some r) ⊎ ((q : ℕ) × (t p ≡ Some q) × (q + 1 ≡ r))
@@ -141,7 +149,8 @@ table_more b k i old new is put = record {
     own p h None e partner = inl (put.there p h.0 h.1 ∙ ap (λ o. Some (or_new o i)) e)
     own p h (Some x) e partner = inr (x, put.there p h.0 h.1 ∙ ap (λ o. Some (or_new o i)) e, partner.1)
 
-    full : (p r : ℕ) → r < i + 1 → (relocation_at b k r).r_address ≤ p → p < field_end (relocation_at b k r) → (r < i) ⊎ (i ≤ r) → In p ⊎ Out p → Full new p r
+    full : (p r : ℕ) → r < i + 1 → (relocation_at b k r).r_address ≤ p → p < field_end (relocation_at b k r) → (r < i) ⊎ (i ≤ r) → In p
+        ⊎ Out p → Full new p r
     full p r below low high (inl h) where_is = stays p r where_is (is.full p r h low high)
     full p r below low high (inr h) where_is =
         let same : i ≡ r = omega arith in
@@ -150,12 +159,16 @@ table_more b k i old new is put = record {
         subst (Full new p) same (own p (low_is, high_is) (old p) refl (put.partner p low_is high_is))
 
 pub apart_more : (b : List ℕ) (k i : ℕ) (old new : ℕ → Option ℕ) → IsTable b k i old
-    → IsPut old new (relocation_at b k i).r_address (field_end (relocation_at b k i)) i (ends (window_in b k i)) → AreApart b k i → AreApart b k (i + 1)
+    → IsPut old new (relocation_at b k i).r_address (field_end (relocation_at b k i)) i (ends (window_in b k i)) → AreApart b k i
+    → AreApart b k (i + 1)
 apart_more b k i old new is put apart = record { each = λ q r order below. by q r order (cases_lt r i) below }
   where
-    met : (p q : ℕ) → q < i → IsPartner (old p) (ends (window_in b k i)) i → (old p ≡ Some q) ⊎ ((x : ℕ) × (old p ≡ Some x) × (x + 1 ≡ q)) → GoTogether b k q i
-    met p q before goes (inl e) = let h = subst (λ o. IsPartner o (ends (window_in b k i)) i) e goes in inr (partner b k i h.0 q before (omega (arith, h.1)))
-    met p q before goes (inr h) = let g = subst (λ o. IsPartner o (ends (window_in b k i)) i) h.1 goes in absurd (omega (arith, g.1, h.2, before))
+    met : (p q : ℕ) → q < i → IsPartner (old p) (ends (window_in b k i)) i → (old p ≡ Some q) ⊎ ((x : ℕ) × (old p ≡ Some x) × (x + 1 ≡ q))
+        → GoTogether b k q i
+    met p q before goes (inl e) = let h = subst (λ o. IsPartner o (ends (window_in b k i)) i) e goes in inr
+        (partner b k i h.0 q before (omega (arith, h.1)))
+    met p q before goes (inr h) = let g = subst (λ o. IsPartner o (ends (window_in b k i)) i) h.1 goes in absurd
+        (omega (arith, g.1, h.2, before))
 
     new_one : (q : ℕ) → q < i → (t : Bool) → shares (relocation_at b k q) (relocation_at b k i) ≡ t → GoTogether b k q i
     new_one q before false e = inl e
@@ -180,13 +193,15 @@ taken_overlaps b k i old q is there taken =
     let at = is.says taken.place q taken.has in record {
       order = at.0;
       there = there;
-      share = meets (relocation_at b k q).r_address (field_end (relocation_at b k q)) (relocation_at b k i).r_address (field_end (relocation_at b k i)) taken.place at.1 at.2 taken.low taken.high;
+      share = meets (relocation_at b k q).r_address (field_end (relocation_at b k q)) (relocation_at b k i).r_address
+          (field_end (relocation_at b k i)) taken.place at.1 at.2 taken.low taken.high;
       apart = strange (are_one b k q i) refl;
     }
   where
     meets : (a e c f p : ℕ) → a ≤ p → p < e → c ≤ p → p < f → (nat_lt a f && nat_lt c e) ≡ true
     meets a e c f p l h m g =
-        let x : nat_lt a f ≡ true = grind (arith, nat_tests) in let y : nat_lt c e ≡ true = grind (arith, nat_tests) in ap (λ t. t && nat_lt c e) x ∙ y
+        let x : nat_lt a f ≡ true = grind (arith, nat_tests) in let y : nat_lt c e ≡ true = grind (arith, nat_tests) in ap
+        (λ t. t && nat_lt c e) x ∙ y
 
     strange : (t : Bool) → are_one b k q i ≡ t → are_one b k q i ≡ false
     strange false e = e
@@ -200,9 +215,12 @@ seen_put b k i old new seen told answer is same put =
     subst (PutsOrTaken old new (relocation_at b k i).r_address (field_end (relocation_at b k i)) i (ends (window_in b k i))) same
     (subst (λ (s : Seen). PutsOrTaken old new s.this.r_address (field_end s.this) i (ends s) told) is put)
 
-pub seen_taken : (b : List ℕ) (k i : ℕ) (old new : ℕ → Option ℕ) (seen : Seen) (told : Option ℕ) (q : ℕ) → IsTable b k i old → i < (section_at b k).nreloc
-    → seen ≡ window_in b k i → told ≡ Some q → PutsOrTaken old new seen.this.r_address (field_end seen.this) i (ends seen) told → Overlaps b k q i
-seen_taken b k i old new seen told q table there is same put = taken_overlaps b k i old q table there (seen_put b k i old new seen told (Some q) is same put)
+pub seen_taken : (b : List ℕ) (k i : ℕ) (old new : ℕ → Option ℕ) (seen : Seen) (told : Option ℕ) (q : ℕ) → IsTable b k i old
+    → i < (section_at b k).nreloc
+    → seen ≡ window_in b k i → told ≡ Some q → PutsOrTaken old new seen.this.r_address (field_end seen.this) i (ends seen) told
+    → Overlaps b k q i
+seen_taken b k i old new seen told q table there is same put = taken_overlaps b k i old q table there
+    (seen_put b k i old new seen told (Some q) is same put)
 
 -- the table and what is known of the relocations in it, with one more
 pub record IsSurely (b : List ℕ) (k i : ℕ) (t : ℕ → Option ℕ) : Type 0 where
@@ -210,7 +228,8 @@ pub record IsSurely (b : List ℕ) (k i : ℕ) (t : ℕ → Option ℕ) : Type 0
   pub apart : AreApart b k i
 
 pub seen_more : (b : List ℕ) (k i : ℕ) (old new : ℕ → Option ℕ) (seen : Seen) (told : Option ℕ) → IsTable b k i old → AreApart b k i
-    → seen ≡ window_in b k i → told ≡ None → PutsOrTaken old new seen.this.r_address (field_end seen.this) i (ends seen) told → IsSurely b k (i + 1) new
+    → seen ≡ window_in b k i → told ≡ None → PutsOrTaken old new seen.this.r_address (field_end seen.this) i (ends seen) told
+    → IsSurely b k (i + 1) new
 seen_more b k i old new seen told table apart is same put =
     let here = seen_put b k i old new seen told None is same put in
     record { table = table_more b k i old new table here; apart = apart_more b k i old new table here apart }

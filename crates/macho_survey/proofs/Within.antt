@@ -1,5 +1,6 @@
 -- What the rules of an object give: a relocation's field is inside its section's bytes, and what it names is there.
-use Rattle.std.proofs.Common.{◌≡◌, ℕ, ◌+◌, ◌-◌, ◌^◌, ◌<◌, ◌≤◌, Bool, true, false, ◌&&◌, ◌||◌, not, ◌==◌, nat_le, nat_lt, List, [], length, slice_range, get_or, Option, Some, is_none, map, refl, sym, ap, ◌∙◌, subst, arith, min, if◌then◌else◌}
+use Rattle.std.proofs.Common.{◌≡◌, ℕ, ◌+◌, ◌-◌, ◌^◌, ◌<◌, ◌≤◌, Bool, true, false, ◌&&◌, ◌||◌, not, ◌==◌, nat_le, nat_lt, List, [], length}
+use Rattle.std.proofs.Common.{slice_range, get_or, Option, Some, is_none, map, refl, sym, ap, ◌∙◌, subst, arith, min, if◌then◌else◌}
 use Rattle.std.proofs.lemmas.Bool.Decides.{nat_tests}
 use Rattle.std.proofs.lemmas.Bool.{eqb-true}
 use Rattle.std.proofs.lemmas.List.{length-map, get_or-map, length-take, length-drop}
@@ -17,21 +18,25 @@ use Rattle.macho_survey.specs.declared.pairs.Seen.{Seen}
 use Rattle.macho_survey.specs.steps.Windows.{window_in}
 use Rattle.macho_survey.specs.steps.Sections.{HasRows}
 
-within : (zero : Bool) (b : List ℕ) (offset size nreloc end r : ℕ) → (not zero || (nreloc == 0)) ≡ true → (zero || nat_le (offset + size) (length b)) ≡ true → nat_le end size ≡ true
+within : (zero : Bool) (b : List ℕ) (offset size nreloc end r : ℕ) → (not zero || (nreloc == 0)) ≡ true
+    → (zero || nat_le (offset + size) (length b)) ≡ true → nat_le end size ≡ true
     → r < nreloc → end ≤ length (if zero then [] else slice_range b offset (offset + size))
 within true b offset size nreloc end r none inside low some = let e : nreloc ≡ 0 = eqb-true nreloc 0 none in absurd (omega (arith, e, some))
 within false b offset size nreloc end r none inside low some =
     let there : offset + size ≤ length b = grind (arith, nat_tests) in
     let enough : end ≤ size = grind (arith, nat_tests) in
-    let long : length (slice_range b offset (offset + size)) ≡ size = simp (length-take, length-drop) (omega (arith, there)) in omega (arith, enough, long)
+    let long : length (slice_range b offset (offset + size)) ≡ size = simp (length-take, length-drop) (omega (arith, there)) in omega
+    (arith, enough, long)
 
 pub field_within : (b : List ℕ) (k r : ℕ) → IsObject b → k < num_sections b → r < (section_at b k).nreloc
     → (relocation_at b k r).r_address + 2 ^ (relocation_at b k r).r_length ≤ length (section_bytes b k)
 unfolding section_bytes
 field_within b k r is among there =
     let h = section_at b k in
-    within (is_zerofill h) b h.offset h.size h.nreloc ((relocation_at b k r).r_address + 2 ^ (relocation_at b k r).r_length) r (is.o12 k among)
-    (left (is_zerofill h || nat_le (h.offset + h.size) (length b)) (nat_le (h.addr + h.size) (2 ^ 64)) (is.o6 k among)) (is.o10.1 k r among there) there
+    within (is_zerofill h) b h.offset h.size h.nreloc ((relocation_at b k r).r_address + 2 ^ (relocation_at b k r).r_length) r
+    (is.o12 k among)
+    (left (is_zerofill h || nat_le (h.offset + h.size) (length b)) (nat_le (h.addr + h.size) (2 ^ 64)) (is.o6 k among))
+    (is.o10.1 k r among there) there
   where
     left : (a c : Bool) → (a && c) ≡ true → a ≡ true
     left true c t = refl
@@ -40,23 +45,29 @@ field_within b k r is among there =
 -- what a relocation names
 number_test : RelocationInfo → ℕ → ℕ → Bool
 number_test q symbols sections =
-    if q.r_extern then nat_lt q.r_symbolnum symbols else (q.r_type == ARM64_RELOC_ADDEND) || (nat_le 1 q.r_symbolnum && nat_le q.r_symbolnum sections)
+    if q.r_extern then nat_lt q.r_symbolnum symbols else (q.r_type == ARM64_RELOC_ADDEND) ||
+    (nat_le 1 q.r_symbolnum && nat_le q.r_symbolnum sections)
 
-numbered : (b : List ℕ) (k r : ℕ) → IsObject b → k < num_sections b → r < (section_at b k).nreloc → number_test (relocation_at b k r) (num_symbols b) (num_sections b) ≡ true
+numbered : (b : List ℕ) (k r : ℕ) → IsObject b → k < num_sections b → r < (section_at b k).nreloc
+    → number_test (relocation_at b k r) (num_symbols b) (num_sections b) ≡ true
 unfolding number_test
 numbered b k r is among there = is.o5.1 k r among there
 
-pub section_there : (b : List ℕ) (k r : ℕ) → IsObject b → k < num_sections b → r < (section_at b k).nreloc → ((relocation_at b k r).r_type == ARM64_RELOC_ADDEND) ≡ false
+pub section_there : (b : List ℕ) (k r : ℕ) → IsObject b → k < num_sections b → r < (section_at b k).nreloc
+    → ((relocation_at b k r).r_type == ARM64_RELOC_ADDEND) ≡ false
     → (relocation_at b k r).r_extern ≡ false → (relocation_at b k r).r_symbolnum - 1 < num_sections b
 unfolding number_test
-section_there b k r is among there other local = by (relocation_at b k r).r_extern ((relocation_at b k r).r_type == ARM64_RELOC_ADDEND) _ _ _ (numbered b k r is among there) local other
+section_there b k r is among there other local = by (relocation_at b k r).r_extern ((relocation_at b k r).r_type == ARM64_RELOC_ADDEND) _
+    _ _ (numbered b k r is among there) local other
   where
-    by : (e a known : Bool) (n sections : ℕ) → (if e then known else a || (nat_le 1 n && nat_le n sections)) ≡ true → e ≡ false → a ≡ false → n - 1 < sections
+    by : (e a known : Bool) (n sections : ℕ) → (if e then known else a || (nat_le 1 n && nat_le n sections)) ≡ true → e ≡ false
+        → a ≡ false → n - 1 < sections
     by true a known n sections t e f = cc
     by false true known n sections t e f = cc
     by false false known n sections t e f = grind (arith, nat_tests)
 
-symbol_there : (b : List ℕ) (k r : ℕ) → IsObject b → k < num_sections b → r < (section_at b k).nreloc → names_symbol (relocation_at b k r) ≡ true
+symbol_there : (b : List ℕ) (k r : ℕ) → IsObject b → k < num_sections b → r < (section_at b k).nreloc
+    → names_symbol (relocation_at b k r) ≡ true
     → (relocation_at b k r).r_symbolnum < num_symbols b
 unfolding number_test
 symbol_there b k r is among there named =
@@ -70,7 +81,8 @@ rows_long : (b : List ℕ) → length (kept_object b).rows ≡ num_symbols b
 unfolding rows_of_object
 rows_long b = length-map-range_with_len (row_of_symbol b) 0 (num_symbols b)
 
-pub has_referent : (rows : ResolvedRows) (file : ℕ) (b : List ℕ) (k r : ℕ) → HasRows rows.files file b → IsObject b → k < num_sections b → r < (section_at b k).nreloc
+pub has_referent : (rows : ResolvedRows) (file : ℕ) (b : List ℕ) (k r : ℕ) → HasRows rows.files file b → IsObject b → k < num_sections b
+    → r < (section_at b k).nreloc
     → HasReferent rows file (relocation_at b k r)
 has_referent rows file b k r has is among there named =
     let kept : get_or rows.files file no_file ≡ kept_object b
@@ -82,7 +94,8 @@ has_referent rows file b k r has is among there named =
     )
 
 -- of a relocation that is seen with its neighbours
-pub seen_within : (b : List ℕ) (k r n : ℕ) (bytes : List ℕ) (seen : Seen) → IsObject b → k < num_sections b → r < (section_at b k).nreloc → bytes ≡ section_bytes b k
+pub seen_within : (b : List ℕ) (k r n : ℕ) (bytes : List ℕ) (seen : Seen) → IsObject b → k < num_sections b → r < (section_at b k).nreloc
+    → bytes ≡ section_bytes b k
     → seen ≡ window_in b k r → seen.this.r_length ≡ n → seen.this.r_address + 2 ^ n ≤ length bytes
 seen_within b k r n bytes seen is among there bytes_are seen_is long =
     let long_is : (relocation_at b k r).r_length ≡ n = ap (λ (s : Seen). s.this.r_length) (sym seen_is) ∙ long in
@@ -92,15 +105,19 @@ seen_within b k r n bytes seen is among there bytes_are seen_is long =
     = subst (λ m. m + 2 ^ n ≤ length (section_bytes b k)) (ap (λ (s : Seen). s.this.r_address) (sym seen_is)) inside in
     subst (λ (bs : List ℕ). seen.this.r_address + 2 ^ n ≤ length bs) (sym bytes_are) placed
 
-pub seen_section : (b : List ℕ) (k r : ℕ) (seen : Seen) → IsObject b → k < num_sections b → r < (section_at b k).nreloc → seen ≡ window_in b k r
+pub seen_section : (b : List ℕ) (k r : ℕ) (seen : Seen) → IsObject b → k < num_sections b → r < (section_at b k).nreloc
+    → seen ≡ window_in b k r
     → (seen.this.r_type == ARM64_RELOC_UNSIGNED) ≡ true → seen.this.r_extern ≡ false → seen.this.r_symbolnum - 1 < num_sections b
 seen_section b k r seen is among there seen_is plain local =
     let same : relocation_at b k r ≡ seen.this = ap (λ (s : Seen). s.this) (sym seen_is) in
     let other : ((relocation_at b k r).r_type == ARM64_RELOC_ADDEND) ≡ false
-    = ap (λ (q : RelocationInfo). q.r_type == ARM64_RELOC_ADDEND) same ∙ ap (λ n. n == ARM64_RELOC_ADDEND) (eqb-true seen.this.r_type ARM64_RELOC_UNSIGNED plain) in
-    subst (λ (q : RelocationInfo). q.r_symbolnum - 1 < num_sections b) same (section_there b k r is among there other (ap (λ (q : RelocationInfo). q.r_extern) same ∙ local))
+    = ap (λ (q : RelocationInfo). q.r_type == ARM64_RELOC_ADDEND) same
+    ∙ ap (λ n. n == ARM64_RELOC_ADDEND) (eqb-true seen.this.r_type ARM64_RELOC_UNSIGNED plain) in
+    subst (λ (q : RelocationInfo). q.r_symbolnum - 1 < num_sections b) same
+    (section_there b k r is among there other (ap (λ (q : RelocationInfo). q.r_extern) same ∙ local))
 
-pub seen_referent : (rows : ResolvedRows) (file : ℕ) (b : List ℕ) (k r : ℕ) (seen : Seen) → HasRows rows.files file b → IsObject b → k < num_sections b → r < (section_at b k).nreloc
+pub seen_referent : (rows : ResolvedRows) (file : ℕ) (b : List ℕ) (k r : ℕ) (seen : Seen) → HasRows rows.files file b → IsObject b
+    → k < num_sections b → r < (section_at b k).nreloc
     → seen ≡ window_in b k r → HasReferent rows file seen.this
 seen_referent rows file b k r seen has is among there seen_is =
     subst (HasReferent rows file) (ap (λ (s : Seen). s.this) (sym seen_is)) (has_referent rows file b k r has is among there)

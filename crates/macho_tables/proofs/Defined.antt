@@ -8,7 +8,9 @@ use Rattle.macho_records.specs.Symbols.{is_common_of, is_weak_of}
 use Rattle.macho_model.specs.declared.targets.Target.TheVariants as target
 use Rattle.macho_model.specs.Symbols.{is_absolute}
 use Rattle.macho_model.specs.Links.{Link}
-use Rattle.macho_model.specs.Resolution.{SymbolId, Definition, Symbol, Library, ImageBase, entry_at, symbols_of, stands_in_carried, same_symbol, is_definition, is_strong, is_weak, has_name, strong_of, weak_of, commons_of, greatest_of, libraries_with, first_or, definition_of, chosen_commons, DSO_HANDLE}
+use Rattle.macho_model.specs.Resolution.{SymbolId, Definition, Symbol, Library, ImageBase, entry_at, symbols_of, stands_in_carried}
+use Rattle.macho_model.specs.Resolution.{same_symbol, is_definition, is_strong, is_weak, has_name, strong_of, weak_of, commons_of}
+use Rattle.macho_model.specs.Resolution.{greatest_of, libraries_with, first_or, definition_of, chosen_commons, DSO_HANDLE}
 use Rattle.macho_model.specs.Targets.{own_target, place_of_symbol}
 use Rattle.macho_model.specs.Rows.{is_none}
 use Rattle.macho_model.proofs.EachBelow.{and_left, and_right}
@@ -49,7 +51,8 @@ defined_leads l name t h =
     elim (among_first (strong_of l name) _ t h) [
       | inl strong ↦
           let f = filter_contains (λ (s : SymbolId). is_strong l s && has_name l name s) (symbols_of l) t strong in
-          definition_leads l t (and_left (is_definition l t) (not (is_weak_of (entry_at l t))) (and_left (is_strong l t) (has_name l name t) f.1))
+          definition_leads l t (and_left (is_definition l t) (not (is_weak_of (entry_at l t)))
+          (and_left (is_strong l t) (has_name l name t) f.1))
       | inr h2 ↦ elim (among_first (weak_of l name) _ t h2) [
         | inl weak ↦
             let f = filter_contains (λ (s : SymbolId). is_weak l s && has_name l name s) (symbols_of l) t weak in

@@ -39,7 +39,8 @@ pub record IsToldName (l : Link) (e : ExportName) : Type 0 where
   pub target_is : e.target ≡ target_of_name l e.name.items
 
 -- a name of an import leads to its number: a library defines it
-leads_on : (l : Link) (name : List ℕ) → Contains (imports_of l) name → target_of_name l name ≡ target.Import (import_number (imports_of l) name)
+leads_on : (l : Link) (name : List ℕ) → Contains (imports_of l) name
+    → target_of_name l name ≡ target.Import (import_number (imports_of l) name)
 unfolding imports_of
 leads_on l name among =
     let used = of_distinct bytes_eq (filter (is_imported l) (filter_map (name_used l) (uses_of l))) name among in
@@ -94,7 +95,8 @@ export_plain l e plain (inl (s, exported, weak, leads)) =
 export_plain l e plain (inr (among, lists, listed, weak, leads)) = all_contains IsPlain (imports_of l) e.name.items plain among
 
 -- an export that is an import is among them, by its number
-pub export_imported : (l : Link) (imports : List Import) (e : ExportName) (id : ℕ) → ImportsAre l (imports_of l) imports → IsExportedName l e
+pub export_imported : (l : Link) (imports : List Import) (e : ExportName) (id : ℕ) → ImportsAre l (imports_of l) imports
+    → IsExportedName l e
     → e.target ≡ target.Import id
     → IsImported l imports e.name.items id
 export_imported l imports e id are (inl (s, exported, weak, leads)) is =

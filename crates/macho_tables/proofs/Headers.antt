@@ -1,7 +1,8 @@
 -- The header of an output section tells whether sections are merged into it, and by what.
 --
 -- A merged output section with bytes begins at no place of the linker's own, and what the linker makes does; stubs tell their size besides.
-use Rattle.std.proofs.Common.{◌≡◌, ℕ, ◌<◌, ◌≤◌, ◌⊎◌, inl, inr, ◌==◌, ◌&&◌, ◌||◌, not, Bool, true, false, List, [], ◌∷◌, length, refl, sym, ap, subst, ◌∙◌, arith, Contains, eqb-true}
+use Rattle.std.proofs.Common.{◌≡◌, ℕ, ◌<◌, ◌≤◌, ◌⊎◌, inl, inr, ◌==◌, ◌&&◌, ◌||◌, not, Bool, true, false, List, [], ◌∷◌, length, refl, sym}
+use Rattle.std.proofs.Common.{ap, subst, ◌∙◌, arith, Contains, eqb-true}
 use Rattle.std.specs.Prelude.{nat_lt}
 use Rattle.std.specs.Str.{bytes_eq}
 use Rattle.std.proofs.lemmas.Bool.{and_parts, ltb-true, lt-ltb, eq-eqb, false_from_ne_true}
@@ -17,7 +18,8 @@ use Rattle.macho_model.specs.declared.targets.Target.{Target}
 use Rattle.macho_model.specs.Links.{Link}
 use Rattle.macho_model.specs.Targets.{slots_of}
 use Rattle.macho_model.specs.Segments.{TEXT, DATA_CONST, OutputKey, same_key, key_of, output_keys_of}
-use Rattle.macho_model.specs.OutputSections.{OutputSection, Merged, InitOffsets, UnwindInfo, Stubs, Slots, output_sections_in, output_sections_of, output_header}
+use Rattle.macho_model.specs.OutputSections.{OutputSection, Merged, InitOffsets, UnwindInfo, Stubs, Slots, output_sections_in}
+use Rattle.macho_model.specs.OutputSections.{output_sections_of, output_header}
 use Rattle.macho_model.specs.Placement.{Placed}
 use Rattle.macho_model.specs.SymbolRows.{is_merged}
 use Rattle.macho_placing.specs.Laws.{IsWhollyPlaced}
@@ -25,7 +27,8 @@ use Rattle.macho_layout.proofs.Named.{name_in_field}
 use Rattle.macho_lists.proofs.Members.{all_contains}
 use Rattle.macho_tables.specs.steps.Sections.{begins_at, fills, holds_slots, is_made, is_of}
 use Rattle.macho_tables.proofs.Outputs.{Fact, facts_in}
-use Rattle.macho_tables.proofs.MadeSections.{IsOutput, output_of, not_both, key_whole, key_told, Begins, init_begins, unwind_begins, slots_begin, init_there, unwind_there, slots_there, slots_placed}
+use Rattle.macho_tables.proofs.MadeSections.{IsOutput, output_of, not_both, key_whole, key_told, Begins, init_begins, unwind_begins}
+use Rattle.macho_tables.proofs.MadeSections.{slots_begin, init_there, unwind_there, slots_there, slots_placed}
 
 -- THE test of a merged section's header: no part of the linker's own begins there with bytes.
 merged_not_made : (l : Link) (counts : Counts) (p : Placed) (key : OutputKey) → IsWhollyPlaced l counts p
@@ -57,7 +60,8 @@ merged_not_made l counts p key placed there =
         let both = and_parts (bytes_eq (name_of h.segname) n && (h.addr == address)) (not (h.size == 0)) is in
         let front = and_parts (bytes_eq (name_of h.segname) n) (h.addr == address) both.0 in
         let segment : name ≡ n =
-        sym fact.1 ∙ sym (key_whole l key fact.0).segment ∙ sym (name_in_field key.segment) ∙ (bytes_eq-Decides (name_of h.segname) n).0 front.0 in
+        sym fact.1 ∙ sym (key_whole l key fact.0).segment ∙ sym (name_in_field key.segment)
+        ∙ (bytes_eq-Decides (name_of h.segname) n).0 front.0 in
         let some : 1 ≤ h.size = positive h.size both.1 in
         not_both l counts p o.segment (Merged key) m placed o.placed o.there
         (subst (λ (k : List ℕ). Contains (output_sections_in l counts k) m) (sym segment) in_n) differ
@@ -125,7 +129,8 @@ begun l p m n address begins named =
 both_true : (a b : Bool) → a ≡ true → b ≡ true → (a && b) ≡ true
 both_true a b e f = rw (e, f) refl
 
-made_is : (l : Link) (counts : Counts) (p : Placed) (o : OutputSection) → IsWhollyPlaced l counts p → Contains (output_sections_of l counts) o
+made_is : (l : Link) (counts : Counts) (p : Placed) (o : OutputSection) → IsWhollyPlaced l counts p
+    → Contains (output_sections_of l counts) o
     → (o ≡ InitOffsets) ⊎ ((o ≡ UnwindInfo) ⊎ (o ≡ Slots))
     → is_made p (output_header l p o) ≡ true
 made_is l counts p o placed there (inl is) =

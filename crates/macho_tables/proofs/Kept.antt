@@ -55,7 +55,8 @@ keeps_place l exports imports libraries e says of there is = is ∙ by e.target 
   where
     by : (t : Target) → e.target ≡ t → kept_of (says_kept imports libraries t) ≡ kept_for l e.name.items t
     by (target.Import id) leads =
-        let one = export_imported l imports e id of.imports_are (all_contains (IsExportedName l) exports e of.exports_are.each there) leads in
+        let one = export_imported l imports e id of.imports_are (all_contains (IsExportedName l) exports e of.exports_are.each there)
+        leads in
         ap (λ (n : ℕ). as_reexport REEXPORT n [])
         (ap (number_in libraries) one.library
         ∙ ap (λ (names : List (List ℕ)). number_in names (import_library l e.name.items)) of.libraries_are)
@@ -99,7 +100,8 @@ names_seen exports says v is =
     ∙ map_map (λ (p : List ℕ × ExportSays). p.0) (λ (e : ExportName). (e.name.items, says e)) exports
 
 -- THE names of a trie.
-pub can_be_trie : (l : Link) (exports : List ExportName) (imports : List Import) (libraries : List (List ℕ)) (says : ExportName → ExportSays)
+pub can_be_trie : (l : Link) (exports : List ExportName) (imports : List Import) (libraries : List (List ℕ))
+    (says : ExportName → ExportSays)
     (v : List NamedExport)
     → AreExportsOf l exports imports libraries → ImportsArePlain l → map seen v ≡ map (λ e. (e.name.items, says e)) exports → CanBeTrie v
 can_be_trie l exports imports libraries says v of plain is = record {

@@ -1,5 +1,6 @@
 -- Lists that loops make, one element more.
-use Rattle.std.proofs.Common.{◌≡◌, ℕ, suc, ◌+◌, ◌<◌, List, [], ◌∷◌, ◌++◌, map, take, length, get_or, refl, sym, ap, subst, ◌∙◌, All, Contains, Bool, ◌⊎◌, inl, inr, arith}
+use Rattle.std.proofs.Common.{◌≡◌, ℕ, suc, ◌+◌, ◌<◌, List, [], ◌∷◌, ◌++◌, map, take, length, get_or, refl, sym, ap, subst, ◌∙◌, All}
+use Rattle.std.proofs.Common.{Contains, Bool, ◌⊎◌, inl, inr, arith}
 use Rattle.std.specs.Prelude.{filter, not}
 use Rattle.std.proofs.lemmas.List.{take_more, map-append}
 use Rattle.macho_lists.proofs.Members.{contains_first, contains_later, contains_cases, filter_contains}
@@ -26,7 +27,8 @@ map_same {Y = Y} f g (x ∷ xs) each =
 -- what is left of a list without repeats is of the list
 pub of_distinct : {X : Type 0} (same : X → X → Bool) (xs : List X) (x : X) → Contains (distinct same xs) x → Contains xs x
 of_distinct same [] x has = has
-of_distinct {X = X} same (y ∷ ys) x has = by (of_distinct same ys x) (contains_cases y (filter (λ z. not (same y z)) (distinct same ys)) x has)
+of_distinct {X = X} same (y ∷ ys) x has = by (of_distinct same ys x)
+    (contains_cases y (filter (λ z. not (same y z)) (distinct same ys)) x has)
   where
     by : (Contains (distinct same ys) x → Contains ys x) → (y ≡ x) ⊎ Contains (filter (λ z. not (same y z)) (distinct same ys)) x
         → Contains (y ∷ ys) x

@@ -3,7 +3,8 @@
 -- What the linker makes is not empty where it is there, and begins where the placement says. A merged output section of the same segment
 -- with bytes can't begin there too, since of two in a row one ends before the other begins. Its name, its segment and its type are those of
 -- its key.
-use Rattle.std.proofs.Common.{◌≡◌, ℕ, suc, ◌+◌, ◌*◌, ◌<◌, ◌≤◌, ◌⊎◌, inl, inr, ◌==◌, ◌&&◌, ◌||◌, not, Bool, true, false, List, [], ◌∷◌, ◌++◌, map, fold, length, get_or, refl, sym, ap, subst, ◌∙◌, arith, All, AllPairs, Contains, min}
+use Rattle.std.proofs.Common.{◌≡◌, ℕ, suc, ◌+◌, ◌*◌, ◌<◌, ◌≤◌, ◌⊎◌, inl, inr, ◌==◌, ◌&&◌, ◌||◌, not, Bool, true, false, List, [], ◌∷◌, ◌++◌}
+use Rattle.std.proofs.Common.{map, fold, length, get_or, refl, sym, ap, subst, ◌∙◌, arith, All, AllPairs, Contains, min}
 use Rattle.std.specs.Prelude.{nat_lt}
 use Rattle.std.proofs.lemmas.Bool.{lt-ltb}
 use Rattle.std.proofs.lemmas.Bool.Decides.{nat_tests}
@@ -19,14 +20,18 @@ use Rattle.macho_model.specs.declared.placed.Slot.{Slot}
 use Rattle.macho_model.specs.Links.{Link, SectionId, header_at, carried_of}
 use Rattle.macho_model.specs.Resolution.{chosen_commons}
 use Rattle.macho_model.specs.Targets.{slots_of, stubs_of}
-use Rattle.macho_model.specs.Segments.{PAGEZERO, TEXT, DATA_CONST, DATA, LINKEDIT, OutputKey, same_key, key_of, common_key, output_keys_of, segment_names_of, other_segments, has_section_in, list_if}
-use Rattle.macho_model.specs.OutputSections.{OutputSection, Merged, InitOffsets, UnwindInfo, Stubs, Slots, Piece, piece, pieces_of, extent_of, around, flags_of_key, is_zeros, is_code, merged_in, output_sections_in, output_sections_of, output_header, POINTER_EXPONENT}
+use Rattle.macho_model.specs.Segments.{PAGEZERO, TEXT, DATA_CONST, DATA, LINKEDIT, OutputKey, same_key, key_of, common_key, output_keys_of}
+use Rattle.macho_model.specs.Segments.{segment_names_of, other_segments, has_section_in, list_if}
+use Rattle.macho_model.specs.OutputSections.{OutputSection, Merged, InitOffsets, UnwindInfo, Stubs, Slots, Piece, piece, pieces_of}
+use Rattle.macho_model.specs.OutputSections.{extent_of, around, flags_of_key, is_zeros, is_code, merged_in, output_sections_in}
+use Rattle.macho_model.specs.OutputSections.{output_sections_of, output_header, POINTER_EXPONENT}
 use Rattle.macho_model.specs.Order.{EndsBefore, row_of, sections_in}
 use Rattle.macho_model.specs.Placement.{Placed, slot_span, range_span}
 use Rattle.macho_placing.specs.Laws.{IsWhollyPlaced}
 use Rattle.macho_placing.proofs.Names.{name_twice}
 use Rattle.macho_layout.proofs.Named.{name_in_field}
-use Rattle.macho_lists.proofs.Members.{contains_first, map_contains, contains_flat_map, flat_map_contains, all_contains, contains_cases, nil_contains}
+use Rattle.macho_lists.proofs.Members.{contains_first, map_contains, contains_flat_map, flat_map_contains, all_contains, contains_cases}
+use Rattle.macho_lists.proofs.Members.{nil_contains}
 use Rattle.macho_lists.proofs.Orders.{later_pairs}
 use Rattle.macho_standing.proofs.Members.{one_or_pair}
 use Rattle.macho_standing.proofs.LowByte.{type_is}
@@ -38,7 +43,8 @@ pub record IsOutput (l : Link) (counts : Counts) (p : Placed) (o : OutputSection
   pub placed : Contains p.segments segment
   pub there : Contains (sections_in l counts segment) o
 
-pub output_of : (l : Link) (counts : Counts) (p : Placed) (o : OutputSection) → IsWhollyPlaced l counts p → Contains (output_sections_of l counts) o
+pub output_of : (l : Link) (counts : Counts) (p : Placed) (o : OutputSection) → IsWhollyPlaced l counts p
+    → Contains (output_sections_of l counts) o
     → IsOutput l counts p o
 unfolding output_sections_of
 output_of l counts p o placed has =
@@ -97,7 +103,8 @@ pub record IsWholeKey (key : OutputKey) : Type 0 where
 pub key_whole : (l : Link) (key : OutputKey) → Contains (output_keys_of l) key → IsWholeKey key
 unfolding output_keys_of
 key_whole l key there = elim
-    (Contains-append_cases (map (λ s. key_of (header_at l s)) (carried_of l)) (list_if (not (length (chosen_commons l) == 0)) (common_key ∷ [])) key
+    (Contains-append_cases (map (λ s. key_of (header_at l s)) (carried_of l))
+    (list_if (not (length (chosen_commons l) == 0)) (common_key ∷ [])) key
     (of_distinct same_key _ key there)) [
       | inl of_section ↦ section (map_contains (λ s. key_of (header_at l s)) (carried_of l) key of_section)
       | inr of_commons ↦ common (not (length (chosen_commons l) == 0)) of_commons
@@ -176,7 +183,8 @@ pub slots_begin : (l : Link) (counts : Counts) (p : Placed) (s : Slot) (rest : L
 unfolding pieces_of
 slots_begin l counts p s rest placed are there =
     let pairs = subst (λ (slots : List Slot). AllPairs EndsBefore (map slot_piece slots)) are
-    (all_contains (λ (o : OutputSection). AllPairs EndsBefore (pieces_of l p o)) (output_sections_of l counts) Slots placed.order.pieces there) in
+    (all_contains (λ (o : OutputSection). AllPairs EndsBefore (pieces_of l p o)) (output_sections_of l counts) Slots placed.order.pieces
+    there) in
     let b = subst
     (λ (slots : List Slot). ((around (map slot_piece slots)).start ≡ s.address) × (1 ≤ (around (map slot_piece slots)).size)) (sym are)
     (around_slots s rest pairs) in

@@ -3,7 +3,8 @@
 -- A header is one of a key exactly where its output section is the one that the key's sections are merged into; so the first places agree.
 -- The key of a symbol's section, or of the commons, has its output section in the segment that it names, which is in the image since the
 -- section, or a common, lies in it.
-use Rattle.std.proofs.Common.{◌≡◌, ℕ, suc, ◌+◌, ◌<◌, ◌≤◌, ◌==◌, not, Bool, true, false, List, [], ◌∷◌, ◌++◌, map, length, refl, sym, ap, subst, ◌∙◌, arith, All, Contains}
+use Rattle.std.proofs.Common.{◌≡◌, ℕ, suc, ◌+◌, ◌<◌, ◌≤◌, ◌==◌, not, Bool, true, false, List, [], ◌∷◌, ◌++◌, map, length, refl, sym, ap}
+use Rattle.std.proofs.Common.{subst, ◌∙◌, arith, All, Contains}
 use Rattle.std.specs.Prelude.{if◌then◌else◌, nat_lt}
 use Rattle.std.specs.List.{position_or_len}
 use Rattle.std.proofs.lemmas.Bool.{lt-ltb}
@@ -18,12 +19,15 @@ use Rattle.macho_model.specs.declared.placed.PlacedSegment.{PlacedSegment}
 use Rattle.macho_model.specs.declared.placed.PlacedCommon.{PlacedCommon}
 use Rattle.macho_model.specs.Links.{Link, SectionId, header_at, carried_of}
 use Rattle.macho_model.specs.Resolution.{chosen_commons}
-use Rattle.macho_model.specs.Segments.{DATA, OutputKey, same_key, key_of, common_key, segment_name, output_keys_of, segment_names_of, list_if}
-use Rattle.macho_model.specs.OutputSections.{OutputSection, Merged, output_sections_in, output_sections_of, output_sections_for, output_header}
+use Rattle.macho_model.specs.Segments.{DATA, OutputKey, same_key, key_of, common_key, segment_name, output_keys_of, segment_names_of}
+use Rattle.macho_model.specs.Segments.{list_if}
+use Rattle.macho_model.specs.OutputSections.{OutputSection, Merged, output_sections_in, output_sections_of, output_sections_for}
+use Rattle.macho_model.specs.OutputSections.{output_header}
 use Rattle.macho_model.specs.Placement.{Placed, id_of, is_segment_named, SectionLies, LiesInNamed, common_span}
 use Rattle.macho_model.specs.SymbolRows.{is_merged, section_number}
 use Rattle.macho_placing.specs.Laws.{IsWhollyPlaced}
-use Rattle.macho_lists.proofs.Members.{contains_first, contains_map, map_contains, contains_flat_map, contains_range, all_contains, contains_all}
+use Rattle.macho_lists.proofs.Members.{contains_first, contains_map, map_contains, contains_flat_map, contains_range, all_contains}
+use Rattle.macho_lists.proofs.Members.{contains_all}
 use Rattle.macho_standing.proofs.Distinct.{in_distinct}
 use Rattle.macho_standing.proofs.TemplateKeys.{same_is, same_itself}
 use Rattle.macho_targets.proofs.Named.{position_below}
@@ -73,7 +77,8 @@ numbers_agree l counts p key placed there =
 
     first : position_or_len (is_of p key) (map (output_header l p) all) ≡ place
     first = same_place (output_header l p) (is_of p key) (is_merged key) all
-        (contains_all (λ (o : OutputSection). is_of p key (output_header l p o) ≡ is_merged key o) all (header_agrees l counts p key placed))
+        (contains_all (λ (o : OutputSection). is_of p key (output_header l p o) ≡ is_merged key o) all
+        (header_agrees l counts p key placed))
 
     below : place < length all
     below = position_below (is_merged key) all (Merged key) there (same_itself key)
@@ -87,7 +92,8 @@ name_there : (l : Link) (counts : Counts) (p : Placed) (s : PlacedSegment) (n : 
     → Contains (segment_names_of l) n
 name_there l counts p s n placed one named =
     subst (λ (names : List (List ℕ)). Contains names n) placed.order.segments
-    (subst (λ (m : List ℕ). Contains (map (λ (t : PlacedSegment). text_of t.name) p.segments) m) ((bytes_eq-Decides (text_of s.name) n).0 named)
+    (subst (λ (m : List ℕ). Contains (map (λ (t : PlacedSegment). text_of t.name) p.segments) m)
+    ((bytes_eq-Decides (text_of s.name) n).0 named)
     (contains_map (λ (t : PlacedSegment). text_of t.name) p.segments s one))
 
 output_there : (l : Link) (counts : Counts) (key : OutputKey) → Contains (segment_names_of l) key.segment → Contains (output_keys_of l) key

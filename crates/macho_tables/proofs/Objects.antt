@@ -1,8 +1,10 @@
 -- The objects of a link by their numbers, and the symbols of the table among them.
 --
--- Objects are listed in the order of the inputs, so their numbers rise. A symbol of the table is one of an input that is an object, which is
+-- Objects are listed in the order of the inputs, so their numbers rise. A symbol of the table is one of an input that is an object, which
+-- is
 -- listed under its number with its bytes.
-use Rattle.std.proofs.Common.{◌≡◌, ℕ, ◌+◌, ◌^◌, ◌<◌, ◌≤◌, false, List, [], ◌∷◌, map, take, length, get_or, refl, sym, ap, subst, ◌∙◌, arith, All, Contains}
+use Rattle.std.proofs.Common.{◌≡◌, ℕ, ◌+◌, ◌^◌, ◌<◌, ◌≤◌, false, List, [], ◌∷◌, map, take, length, get_or, refl, sym, ap, subst, ◌∙◌, arith}
+use Rattle.std.proofs.Common.{All, Contains}
 use Rattle.std.specs.Prelude.{sum_by, Option}
 use Rattle.std.specs.List.{filter_map, enumerate_from}
 use Rattle.std.proofs.lemmas.List.{length-map}
@@ -99,7 +101,8 @@ pub row_rests : (l : Link) (counts : Counts) (p : Placed) (look : Look) (objects
 row_rests l counts p look objects t lists place o s to listed at is = (
   record {
     kind = all_contains (λ (x : LinkedObject). x.file.is_dynamic ≡ false) objects o to.kinds (place, at.within, sym is);
-    among = subst (λ (b : List ℕ). s.symbol < num_symbols b) same (subst (λ (b : List ℕ). s.symbol < num_symbols b) (sym of.object) of.symbol);
+    among = subst (λ (b : List ℕ). s.symbol < num_symbols b) same
+        (subst (λ (b : List ℕ). s.symbol < num_symbols b) (sym of.object) of.symbol);
     plain = subst (λ (b : List ℕ). is_stab_of (symbol_at b s.symbol) ≡ false) same (no_stab l s in_it);
   },
   record {
@@ -126,7 +129,8 @@ row_rests l counts p look objects t lists place o s to listed at is = (
     same = ap (object_of l) number ∙ bytes
 
 -- the strings of the first rows are short, where all are
-pub strings_short : (l : Link) (counts : Counts) (p : Placed) (t : TableSymbols) (n : ℕ) (table : SymbolTable) → AreListed l t → t.strings < 2 ^ 32
+pub strings_short : (l : Link) (counts : Counts) (p : Placed) (t : TableSymbols) (n : ℕ) (table : SymbolTable) → AreListed l t
+    → t.strings < 2 ^ 32
     → HasRows (map (row_of l counts p) (take n (map id_of_symbol t.symbols.items))) table → length table.strings.items < 2 ^ 32
 strings_short l counts p t n table are short has =
     let rows : List SymbolRow = map (row_of l counts p) (take n (map id_of_symbol t.symbols.items)) in

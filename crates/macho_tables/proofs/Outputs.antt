@@ -2,7 +2,8 @@
 --
 -- The output sections of a segment are lists of merged ones that pass a test, with what the linker makes between. A merged one is of a key
 -- of the segment, and what is made is there only where it is not empty. The tests of a segment's lists take every key of it.
-use Rattle.std.proofs.Common.{◌≡◌, ℕ, ◌≤◌, ◌==◌, ◌&&◌, not, Bool, true, false, List, [], ◌∷◌, ◌++◌, filter, length, refl, ap, subst, ◌∙◌, arith, All, Contains}
+use Rattle.std.proofs.Common.{◌≡◌, ℕ, ◌≤◌, ◌==◌, ◌&&◌, not, Bool, true, false, List, [], ◌∷◌, ◌++◌, filter, length, refl, ap, subst, ◌∙◌}
+use Rattle.std.proofs.Common.{arith, All, Contains}
 use Rattle.std.specs.Prelude.{nat_lt}
 use Rattle.std.specs.Str.{bytes_eq}
 use Rattle.std.proofs.lemmas.Bool.{and_parts, ltb-true}
@@ -14,7 +15,8 @@ use Rattle.macho_model.specs.declared.placed.Counts.{Counts}
 use Rattle.macho_model.specs.Links.{Link}
 use Rattle.macho_model.specs.Targets.{slots_of, stubs_of}
 use Rattle.macho_model.specs.Segments.{TEXT, DATA, DATA_CONST, OutputKey, same_key, common_key, output_keys_of, list_if}
-use Rattle.macho_model.specs.OutputSections.{OutputSection, Merged, InitOffsets, UnwindInfo, Stubs, Slots, is_zeros, is_code, merged_in, sections_of_text, sections_of_data, sections_of_other, output_sections_in}
+use Rattle.macho_model.specs.OutputSections.{OutputSection, Merged, InitOffsets, UnwindInfo, Stubs, Slots, is_zeros, is_code, merged_in}
+use Rattle.macho_model.specs.OutputSections.{sections_of_text, sections_of_data, sections_of_other, output_sections_in}
 use Rattle.macho_lists.proofs.Members.{contains_map, map_contains, contains_filter, filter_contains, contains_all}
 
 -- What is known of an output section of a segment.
@@ -136,9 +138,11 @@ text_merged l counts key there is = by (is_zeros key) (is_code l key) refl refl
         Contains-append_left ((((A ++ B) ++ C) ++ D) ++ E) G m (Contains-append_right (((A ++ B) ++ C) ++ D) E m
         (merged_there l TEXT (λ k. not (is_zeros k) && not (is_code l k)) key there is (neither (is_zeros key) (is_code l key) e f)))
 
-data_merged : (l : Link) (key : OutputKey) → Contains (output_keys_of l) key → key.segment ≡ DATA → Contains (sections_of_data l) (Merged key)
+data_merged : (l : Link) (key : OutputKey) → Contains (output_keys_of l) key → key.segment ≡ DATA
+    → Contains (sections_of_data l) (Merged key)
 data_merged l key there is =
-    by (is_zeros key) (key.type == S_THREAD_LOCAL_REGULAR) (key.type == S_THREAD_LOCAL_ZEROFILL) (same_key common_key key) refl refl refl refl
+    by (is_zeros key) (key.type == S_THREAD_LOCAL_REGULAR) (key.type == S_THREAD_LOCAL_ZEROFILL) (same_key common_key key) refl refl refl
+    refl
   where
     A : List OutputSection
     A = merged_in l DATA (λ k. not (is_zeros k) && not (k.type == S_THREAD_LOCAL_REGULAR))

@@ -40,7 +40,8 @@ use Rattle.macho_linkedit.proofs.Exporting.{values_are_found, reexports_are_foun
 use Rattle.macho_linkedit.proofs.Numbering.{not_own}
 use Rattle.macho_tables.specs.Placed.{IsToTable}
 use Rattle.macho_tables.specs.Exports.{exports_told, AreExportsOf}
-use Rattle.macho_tables.specs.steps.Says.{number_in, library_at, says_kept, address_in, is_local_header, header_in, is_local_in, value_in, says_said, seen, all_said}
+use Rattle.macho_tables.specs.steps.Says.{number_in, library_at, says_kept, address_in, is_local_header, header_in, is_local_in, value_in}
+use Rattle.macho_tables.specs.steps.Says.{says_said, seen, all_said}
 use Rattle.macho_tables.proofs.Exported.{IsExportedName, names_are, exports_are_told, export_imported}
 use Rattle.macho_tables.proofs.Kept.{names_seen}
 use Rattle.macho_tables.proofs.Defined.{defined_leads, own_is_some}
@@ -122,7 +123,8 @@ export_found l counts p look exports imports libraries e of to there =
   where
     object : (t : Target) (s : SymbolId) → IsExported l e.name.items s → t ≡ target_of_name l e.name.items
         → IsFoundExport l p e.name.items (said_of (says_said look (views_of l) imports libraries (is_weak_of (entry_at l s)) t))
-    object (target.Section file section offset) s exported is = value_found l counts p look e.name.items s (target.Section file section offset) to exported is refl
+    object (target.Section file section offset) s exported is = value_found l counts p look e.name.items s
+        (target.Section file section offset) to exported is refl
     object (target.Common id) s exported is = value_found l counts p look e.name.items s (target.Common id) to exported is refl
     object target.Base s exported is = value_found l counts p look e.name.items s target.Base to exported is refl
     object (target.Absolute value) s exported is = absolute_found l p look e.name.items s value exported is
@@ -137,11 +139,13 @@ export_found l counts p look exports imports libraries e of to there =
         → IsFoundExport l p e.name.items (said_of (Reexport (library_number l (import_library l e.name.items))))
         → IsFoundExport l p e.name.items (said_of (says_said look (views_of l) imports libraries e.weak e.target))
     import_said id leads found =
-        let one = export_imported l imports e id of.imports_are (all_contains (IsExportedName l) exports e of.exports_are.each there) leads in
+        let one = export_imported l imports e id of.imports_are (all_contains (IsExportedName l) exports e of.exports_are.each there)
+        leads in
         let number : number_in libraries (library_at imports id) ≡ library_number l (import_library l e.name.items) =
         ap (number_in libraries) one.library
         ∙ ap (λ (names : List (List ℕ)). number_in names (import_library l e.name.items)) of.libraries_are in
-        subst (λ (t : Target). IsFoundExport l p e.name.items (said_of (says_said look (views_of l) imports libraries e.weak t))) (sym leads)
+        subst (λ (t : Target). IsFoundExport l p e.name.items (said_of (says_said look (views_of l) imports libraries e.weak t)))
+        (sym leads)
         (subst (λ (n : ℕ). IsFoundExport l p e.name.items (said_of (Reexport n))) (sym number) found)
 
     by : IsExportedName l e
@@ -175,7 +179,8 @@ are_said l counts p look exports imports libraries v of to is = record {
         (export_found l counts p look exports imports libraries e of to there)
 
 -- each keeps the place of what it is exported as
-pub said_keeps : (look : Look) (views : List (Option FileBytes)) (imports : List Import) (libraries : List (List ℕ)) (weak : Bool) (t : Target)
+pub said_keeps : (look : Look) (views : List (Option FileBytes)) (imports : List Import) (libraries : List (List ℕ)) (weak : Bool)
+    (t : Target)
     → kept_of (says_said look views imports libraries weak t) ≡ kept_of (says_kept imports libraries t)
 said_keeps look views imports libraries weak (target.Section file section offset) = refl
 said_keeps look views imports libraries weak (target.Common id) = refl

@@ -1,6 +1,7 @@
 -- The sizes of a symbol table are those of the layout, which are limited.
 --
--- A plan counts the output sections that are laid out, and at most 255. The strings are counted before addresses are known, and as many bytes
+-- A plan counts the output sections that are laid out, and at most 255. The strings are counted before addresses are known, and as many
+-- bytes
 -- are kept for them in a range that ends below 2 ^ 32.
 use Rattle.std.proofs.Common.{◌∷◌, [], ap, arith, Contains}
 use Rattle.macho_model.specs.declared.placed.Counts.{Counts}

@@ -2,12 +2,14 @@
 --
 -- A symbol of the table is defined: it stands in a carried section, has a value of its own, or is a common. A global one is the definition
 -- of its name. So what it leads to is what it leads to by itself; its section and its address are told.
-use Rattle.std.proofs.Common.{◌≡◌, ℕ, ◌<◌, ◌≤◌, ◌==◌, ◌&&◌, ◌||◌, not, Bool, true, false, List, [], ◌∷◌, length, refl, sym, ap, subst, ◌∙◌, arith, Contains, eqb-true}
+use Rattle.std.proofs.Common.{◌≡◌, ℕ, ◌<◌, ◌≤◌, ◌==◌, ◌&&◌, ◌||◌, not, Bool, true, false, List, [], ◌∷◌, length, refl, sym, ap, subst, ◌∙◌}
+use Rattle.std.proofs.Common.{arith, Contains, eqb-true}
 use Rattle.std.specs.Prelude.{if◌then◌else◌, nat_lt, Option, Some, None}
 use Rattle.std.proofs.lemmas.Bool.{and_parts, lt-ltb, true≢false}
 use Rattle.macho_records.specs.declared.symbols.SymtabEntry.{SymtabEntry}
 use Rattle.macho_records.specs.declared.constants.TheConstants.{N_ABS, N_SECT, N_UNDF}
-use Rattle.macho_records.specs.Symbols.{is_common_of, is_stab_of, is_external_of, is_undefined_of, is_absolute_of, is_defined_of, symbol_type_of, is_default_strippable_of}
+use Rattle.macho_records.specs.Symbols.{is_common_of, is_stab_of, is_external_of, is_undefined_of, is_absolute_of, is_defined_of}
+use Rattle.macho_records.specs.Symbols.{symbol_type_of, is_default_strippable_of}
 use Rattle.macho_model.specs.declared.placed.Counts.{Counts}
 use Rattle.macho_model.specs.declared.targets.Target.{Target}
 use Rattle.macho_model.specs.declared.targets.Target.TheVariants as target
@@ -15,7 +17,8 @@ use Rattle.macho_model.specs.Symbols.{is_absolute, is_global, is_local, is_in_se
 use Rattle.macho_model.specs.Objects.{num_symbols, num_sections, section_at}
 use Rattle.macho_model.specs.Links.{Link, SectionId, object_of, header_at, sections_of, carried_of, is_carried}
 use Rattle.macho_model.specs.Needs.{imports_of}
-use Rattle.macho_model.specs.Resolution.{SymbolId, Definition, Symbol, Library, ImageBase, entry_at, name_at, symbols_of, stands_in_carried, section_of_symbol, is_symbol, defines, is_chosen, chosen_commons, definition_of}
+use Rattle.macho_model.specs.Resolution.{SymbolId, Definition, Symbol, Library, ImageBase, entry_at, name_at, symbols_of, stands_in_carried}
+use Rattle.macho_model.specs.Resolution.{section_of_symbol, is_symbol, defines, is_chosen, chosen_commons, definition_of}
 use Rattle.macho_model.specs.Targets.{own_target, target_of, target_with, definition_target}
 use Rattle.macho_model.specs.Segments.{key_of, common_key}
 use Rattle.macho_model.specs.SymbolTable.{is_named_definition, is_in_table, table_symbols}
@@ -45,7 +48,8 @@ in_table l s listed =
     record {
       there = f.0;
       defined = (and_parts (not ((entry_at l s).n_strx == 0)) _ both.0).1;
-      own = λ global. by (is_global (entry_at l s)) (defines l s) (not (is_default_strippable_of (entry_at l s) (name_at l s))) global both.1;
+      own = λ global. by (is_global (entry_at l s)) (defines l s) (not (is_default_strippable_of (entry_at l s) (name_at l s))) global
+          both.1;
     }
   where
     by : (g d other : Bool) → g ≡ true → (if g then d else other) ≡ true → d ≡ true

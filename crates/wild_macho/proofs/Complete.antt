@@ -25,7 +25,8 @@ said-not-refused : (words : List (List ℕ)) (files : Outside) (s : Settings) (f
 said-not-refused words files s f says breaks =
     let h : Ok says.said ≡ Err f = sym says.read ∙ breaks.told says.root_of in cc
 
-words-fault : (words : List (List ℕ)) (files : Outside) (s : Settings) (f : Fault) → Says words files s → WordsFail words f → f ≡ fault.OutOfMemory
+words-fault : (words : List (List ℕ)) (files : Outside) (s : Settings) (f : Fault) → Says words files s → WordsFail words f
+    → f ≡ fault.OutOfMemory
 words-fault words files s (fault.Words refusal) says fails = absurd (said-not-refused words files s refusal says fails)
 words-fault words files s fault.OutOfMemory says fails = refl
 words-fault words files s (fault.MissingFile word) says fails = absurd fails
@@ -41,8 +42,10 @@ status-is : (status : ℕ) (f : Option Fault) → status ≡ status_of f → IfS
 status-is status None is memory = inl is
 status-is status (Some f) is memory = inr (is ∙ ap (λ (g : Fault). status_of (Some g)) memory)
 
-by-settings : (words : List (List ℕ)) (d : Option Directories) (c : Option CanonicalPaths) (files : Store) (old new : Devices) (before after : Teller) (s : Settings) (f : Option Fault)
-    → old.outside ≡ outside d c (Some files) → IsSure words (outside d c (Some files)) → NoneFailed old.failures new.failures → Says words (outside d c (Some files)) s
+by-settings : (words : List (List ℕ)) (d : Option Directories) (c : Option CanonicalPaths) (files : Store) (old new : Devices)
+    (before after : Teller) (s : Settings) (f : Option Fault)
+    → old.outside ≡ outside d c (Some files) → IsSure words (outside d c (Some files)) → NoneFailed old.failures new.failures
+    → Says words (outside d c (Some files)) s
     → IfSome f (HasCauseIn s old new before after) → IfSome f (λ g. g ≡ fault.OutOfMemory)
 by-settings words d c files old new before after s None same sure calm says why = tt
 by-settings words d c files old new before after s (Some f) same sure calm says why =
@@ -51,8 +54,10 @@ by-settings words d c files old new before after s (Some f) same sure calm says 
     (subst (λ (o : Outside). JobFails o.store s why.paths old.failures new.failures f) same why.why)
 
 -- THE answer of a run whose job has nothing against it
-pub sure-status : (words : List (List ℕ)) (d : Option Directories) (c : Option CanonicalPaths) (told : Option Store) (files : Store) (old new : Devices) (before after : Teller) (ran : Ran)
-    → old.outside ≡ outside d c told → told ≡ Some files → IsRun words old new before after ran → IsSure words (outside d c (Some files)) → NoneFailed old.failures new.failures
+pub sure-status : (words : List (List ℕ)) (d : Option Directories) (c : Option CanonicalPaths) (told : Option Store) (files : Store)
+    (old new : Devices) (before after : Teller) (ran : Ran)
+    → old.outside ≡ outside d c told → told ≡ Some files → IsRun words old new before after ran → IsSure words (outside d c (Some files))
+    → NoneFailed old.failures new.failures
     → (ran.status ≡ 0) ⊎ (ran.status ≡ 5)
 sure-status words d c told files old new before after ran from tells (refused r) sure calm =
     status-is ran.status (Some r.fault) r.status (words-fault words (outside d c (Some files)) sure.said r.fault sure.says r.why)

@@ -98,9 +98,11 @@ early-leaves told s paths a b fault.Print old new same why = none-rose why
 early-leaves told s paths a b fault.OutOfMemory old new same why = same
 
 -- a run that is refused before the image is written
-pub answers-refused : (s : Settings) (paths : List (List ℕ)) (files later : Outside) (a b writes after prints : ℕ) (printed : Option (List ℕ)) (f : Fault) (ran : Ran)
+pub answers-refused : (s : Settings) (paths : List (List ℕ)) (files later : Outside) (a b writes after prints : ℕ)
+    (printed : Option (List ℕ)) (f : Fault) (ran : Ran)
     → ran.status ≡ status_of ran.fault → ran.image ≡ None → ran.fault ≡ Some f → later.store ≡ files.store → after ≡ writes
-    → JobFails files.store s paths (reading a) (reading b) f → Answers s paths (devices files a writes prints printed) (devices later b after prints printed) ran
+    → JobFails files.store s paths (reading a) (reading b) f
+    → Answers s paths (devices files a writes prints printed) (devices later b after prints printed) ran
 answers-refused s paths files later a b writes after prints printed f ran status none is same counted why =
     let old : Devices = devices files a writes prints printed in
     let new : Devices = devices later b after prints printed in
@@ -123,7 +125,8 @@ bare-leaves old new f is same = subst (λ (g : Option Fault). LeavesNothing g ol
 end-image : (s : Settings) (paths : List (List ℕ)) (old new : Devices) (made : Made) (f : Option Fault) (image : Option LinkedImage)
     → IsMade old.outside.store s paths made
     → MatchOption image (LeavesNothing f old new)
-    (λ i. (i ≡ made.image) × LeavesImage f old.outside.store new.outside.store s.output i.bytes.items × LeavesLines f old.printed new.printed (run_lines s made.linker paths i))
+    (λ i. (i ≡ made.image) × LeavesImage f old.outside.store new.outside.store s.output i.bytes.items
+    × LeavesLines f old.printed new.printed (run_lines s made.linker paths i))
     → MatchOption image (LeavesNothing f old new) (HasImage s old new f)
 end-image s paths old new made f None is end = end
 end-image s paths old new made f (Some i) is end = record {
@@ -139,7 +142,8 @@ ended : (s : Settings) (paths : List (List ℕ)) (old new : Devices) (made : Mad
     → e.old_store ≡ old.outside.store → e.new_store ≡ new.outside.store → e.old_printed ≡ old.printed → e.new_printed ≡ new.printed
     → MatchOption image (EndsBare e f) (EndsWith s paths made e f)
     → MatchOption image (LeavesNothing f old new)
-    (λ i. (i ≡ made.image) × LeavesImage f old.outside.store new.outside.store s.output i.bytes.items × LeavesLines f old.printed new.printed (run_lines s made.linker paths i))
+    (λ i. (i ≡ made.image) × LeavesImage f old.outside.store new.outside.store s.output i.bytes.items
+    × LeavesLines f old.printed new.printed (run_lines s made.linker paths i))
 ended s paths old new made e f None is1 is2 is3 is4 end =
     bare-leaves old new f end.memory (record { files = sym is2 ∙ (end.same_store ∙ is1); lines = sym is4 ∙ (end.same_printed ∙ is3) })
 ended s paths old new made e f (Some i) is1 is2 is3 is4 end = (
@@ -165,7 +169,8 @@ end-cause told s paths a b writes later prints after (Some (fault.Words refusal)
 end-cause told s paths a b writes later prints after (Some (fault.Read word)) why = absurd why
 
 -- a run that comes to the write
-pub answers-written : (s : Settings) (paths : List (List ℕ)) (files later : Outside) (a b writes before finish prints after : ℕ) (printed told : Option (List ℕ)) (mid : Option Store)
+pub answers-written : (s : Settings) (paths : List (List ℕ)) (files later : Outside) (a b writes before finish prints after : ℕ)
+    (printed told : Option (List ℕ)) (mid : Option Store)
     (made : Made) (ran : Ran) → mid ≡ files.store → before ≡ writes → IsMade files.store s paths made
     → Finishes s paths made (record { old_store = mid; new_store = later.store; old_printed = printed; new_printed = told }) ran
     → IfSome ran.fault (EndFails before finish prints after)
@@ -175,7 +180,8 @@ answers-written s paths files later a b writes before finish prints after printe
     let new : Devices = devices later b finish after told in
     record {
       status = ends.status;
-      image = end-image s paths old new made ran.fault ran.image is (ended s paths old new made _ ran.fault ran.image same refl refl refl ends.image);
+      image = end-image s paths old new made ran.fault ran.image is
+          (ended s paths old new made _ ran.fault ran.image same refl refl refl ends.image);
       why = end-cause files.store s paths a b writes finish prints after ran.fault
           (subst (λ (n : ℕ). IfSome ran.fault (EndFails n finish prints after)) counted why);
     }
@@ -207,7 +213,8 @@ lines-finish s paths made e prints after ran wrote p = record {
     written (Some (fault.Read word)) why = absurd why
 
 -- and the cause of their fault
-pub lines-cause : (writes later prints after : ℕ) (f : Option Fault) → PrintFails prints after f → IfSome f (EndFails writes later prints after)
+pub lines-cause : (writes later prints after : ℕ) (f : Option Fault) → PrintFails prints after f
+    → IfSome f (EndFails writes later prints after)
 lines-cause writes later prints after None why = tt
 lines-cause writes later prints after (Some fault.Print) why = why
 lines-cause writes later prints after (Some fault.Write) why = absurd why
@@ -220,7 +227,8 @@ lines-cause writes later prints after (Some (fault.Words refusal)) why = absurd 
 lines-cause writes later prints after (Some (fault.Read word)) why = absurd why
 
 -- a run that was answered, and whose fault was told
-pub told-run : (s : Settings) (paths : List (List ℕ)) (old new : Devices) (before after : Teller) (ran : Ran) (f : Fault) → ran.fault ≡ Some f → Answers s paths old new ran
+pub told-run : (s : Settings) (paths : List (List ℕ)) (old new : Devices) (before after : Teller) (ran : Ran) (f : Fault)
+    → ran.fault ≡ Some f → Answers s paths old new ran
     → (bad_name (link_of s) ≡ true → IsBadName ran.fault)
     → IsLineTold before.taken after.taken before.faults after.faults (fault_line s.inputs s.export_list_paths paths f)
     → RunsBy s old new before after ran
@@ -235,7 +243,8 @@ told-run s paths old new before after ran f is answers named line = record {
 }
 
 -- a run without a fault
-pub quiet-run : (s : Settings) (paths : List (List ℕ)) (old new : Devices) (before after : Teller) (ran : Ran) → ran.fault ≡ None → Answers s paths old new ran
+pub quiet-run : (s : Settings) (paths : List (List ℕ)) (old new : Devices) (before after : Teller) (ran : Ran) → ran.fault ≡ None
+    → Answers s paths old new ran
     → (bad_name (link_of s) ≡ true → IsBadName ran.fault) → RunsBy s old new before after ran
 quiet-run s paths old new before after ran is answers named = record {
   status = answers.status;
@@ -245,23 +254,30 @@ quiet-run s paths old new before after ran is answers named = record {
 }
 
 -- devices that tell the same
-pub same-devices : (d e : Option Directories) (c k : Option CanonicalPaths) (h m : Option Store) (r q w v p : ℕ) (t : Option (List ℕ)) → e ≡ d → k ≡ c → m ≡ h → q ≡ r → v ≡ w
+pub same-devices : (d e : Option Directories) (c k : Option CanonicalPaths) (h m : Option Store) (r q w v p : ℕ) (t : Option (List ℕ))
+    → e ≡ d → k ≡ c → m ≡ h → q ≡ r → v ≡ w
     → devices (outside e k m) q v p t ≡ devices (outside d c h) r w p t
 same-devices d e c k h m r q w v p t is1 is2 is3 is4 is5 = rw (is1, is2, is3, is4, is5) refl
 
 -- a run from devices that tell the same
-pub runs-from : (s : Settings) (d e : Option Directories) (c k : Option CanonicalPaths) (h m : Option Store) (r q w v p : ℕ) (t : Option (List ℕ)) (new : Devices)
-    (before after : Teller) (ran : Ran) → e ≡ d → k ≡ c → m ≡ h → q ≡ r → v ≡ w → RunsBy s (devices (outside e k m) q v p t) new before after ran
+pub runs-from : (s : Settings) (d e : Option Directories) (c k : Option CanonicalPaths) (h m : Option Store) (r q w v p : ℕ)
+    (t : Option (List ℕ)) (new : Devices)
+    (before after : Teller) (ran : Ran) → e ≡ d → k ≡ c → m ≡ h → q ≡ r → v ≡ w
+    → RunsBy s (devices (outside e k m) q v p t) new before after ran
     → RunsBy s (devices (outside d c h) r w p t) new before after ran
 runs-from s d e c k h m r q w v p t new before after ran is1 is2 is3 is4 is5 runs =
     subst (λ (old : Devices). RunsBy s old new before after ran) (same-devices d e c k h m r q w v p t is1 is2 is3 is4 is5) runs
 
 -- the same line, told with the same inputs, lists and paths
-pub same-line : {A : Type 0} (a b : Option (List ℕ)) (old new : ℕ) (xs ys : List InputSpec) (us vs : List (ℕ × String A)) (ps qs : List (List ℕ)) (f : Fault)
+pub same-line : {A : Type 0} (a b : Option (List ℕ)) (old new : ℕ) (xs ys : List InputSpec) (us vs : List (ℕ × String A))
+    (ps qs : List (List ℕ)) (f : Fault)
     → xs ≡ ys → us ≡ vs → ps ≡ qs
     → IsLineTold a b old new (fault_line (map input_of xs) (map (λ list. (list.0, string_bytes list.1)) us) ps f)
     → IsLineTold a b old new (fault_line (map input_of ys) (map (λ list. (list.0, string_bytes list.1)) vs) qs f)
 same-line {A} a b old new xs ys us vs ps qs f is1 is2 is3 line =
-    subst (λ (zs : List (List ℕ)). IsLineTold a b old new (fault_line (map input_of ys) (map (λ list. (list.0, string_bytes list.1)) vs) zs f)) is3
-    (subst (λ (ws : List (ℕ × String A)). IsLineTold a b old new (fault_line (map input_of ys) (map (λ list. (list.0, string_bytes list.1)) ws) ps f)) is2
-    (subst (λ (zs : List InputSpec). IsLineTold a b old new (fault_line (map input_of zs) (map (λ list. (list.0, string_bytes list.1)) us) ps f)) is1 line))
+    subst (λ (zs : List (List ℕ)). IsLineTold a b old new
+    (fault_line (map input_of ys) (map (λ list. (list.0, string_bytes list.1)) vs) zs f)) is3
+    (subst (λ (ws : List (ℕ × String A)). IsLineTold a b old new
+    (fault_line (map input_of ys) (map (λ list. (list.0, string_bytes list.1)) ws) ps f)) is2
+    (subst (λ (zs : List InputSpec). IsLineTold a b old new
+    (fault_line (map input_of zs) (map (λ list. (list.0, string_bytes list.1)) us) ps f)) is1 line))

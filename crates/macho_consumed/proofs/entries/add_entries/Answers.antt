@@ -12,7 +12,8 @@ pub loop-entry-preserved : goal.loop-entry-preserved
 loop-entry-preserved c =
     let e = c.section_of-source.ensures.is in
     let fits = subst (λ (s : RelocationBytes). EntryFits s.bytes s.section c.loop-entry.entry) e c.in-Ok-entry.ensures.found in
-    let is = subst (λ (s : RelocationBytes). c.in-Ok-entry.row ≡ row_in s.bytes c.args.number s.section c.loop-entry.entry) e c.in-Ok-entry.ensures.done in
+    let is = subst (λ (s : RelocationBytes). c.in-Ok-entry.row ≡ row_in s.bytes c.args.number s.section c.loop-entry.entry) e
+    c.in-Ok-entry.ensures.done in
     record {
       fit = entries_more _ _ _ c.loop-entry.invariant.fit fits;
       rows = c.in_ok-push-in-Ok-entry.ensures.items ∙ ap (λ

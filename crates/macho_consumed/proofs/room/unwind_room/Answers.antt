@@ -37,5 +37,6 @@ returns-in-Ok-None-clause-why c = λ l noted keeps are spans.
 pub returns-in-Err-TooManyPersonalities-clause-why : goal.returns-in-Err-TooManyPersonalities-clause-why
 returns-in-Err-TooManyPersonalities-clause-why c = λ l noted keeps are spans.
     let told : HasTooMany c.deref.result.now =
-    subst (λ (f : UnwindFault). BoundFault c.deref.result.now f) c.in-Err-TooManyPersonalities.field-0-is c.in-Err-TooManyPersonalities.ensures.why in
+    subst (λ (f : UnwindFault). BoundFault c.deref.result.now f) c.in-Err-TooManyPersonalities.field-0-is
+    c.in-Err-TooManyPersonalities.ensures.why in
     subst HasTooMany (c.deref.ensures.value ∙ c.in-Ok.ensures l noted ∙ ap (map (input_by l)) are ∙ inputs_told l keeps) told

@@ -23,7 +23,8 @@ loop-slot-preserved c =
     let e = c.section_of-source.ensures.is in
     let is = subst (λ (s : RelocationBytes). SlotIs s.bytes s.section c.loop-slot.slot
     (c.in-Some.index, c.in-Some.relocation)) e c.in-Some.ensures in
-    let row : Initializer = record { file = c.args.number; section = c.args.section; number = c.in-Some.index; relocation = c.in-Some.relocation } in
+    let row : Initializer = record
+    { file = c.args.number; section = c.args.section; number = c.in-Some.index; relocation = c.in-Some.relocation } in
     record {
       fit = slots_more _ _ _ _ c.loop-slot.invariant.fit is;
       rows = c.in_ok-push.ensures.items ∙ ap (λ (rows : List Initializer). rows ++ row ∷ []) c.loop-slot.invariant.rows

@@ -17,6 +17,8 @@ loop-entry-preserved c =
     let here = row_here c.args.entries.now c.loop-entry.entry-index c.loop-entry-test.true in
     record {
       keys = put_new row _ _ _ c.start_key.ensures c.in_ok-insert.ensures.keys new
-          ∙ keys_more c.args.entries.now c.loop-entry.entry-index row c.loop-entry.starts.keys c.loop-entry.invariant.keys c.loop-entry-test.true here;
-      apart = apart_more c.args.entries.now c.loop-entry.entry-index row c.loop-entry.starts.keys c.loop-entry.invariant.keys c.loop-entry-test.true here new c.loop-entry.invariant.apart;
+          ∙ keys_more c.args.entries.now c.loop-entry.entry-index row c.loop-entry.starts.keys c.loop-entry.invariant.keys
+          c.loop-entry-test.true here;
+      apart = apart_more c.args.entries.now c.loop-entry.entry-index row c.loop-entry.starts.keys c.loop-entry.invariant.keys
+          c.loop-entry-test.true here new c.loop-entry.invariant.apart;
     }

@@ -5,4 +5,5 @@ use Rattle.macho_found.proofs.TableRooms.{tables_room}
 use Rattle.macho_found.proofs.laws.words_have_room.Goals as goal
 
 pub returns : goal.returns
-returns c = record { pointers = pointers_stand; segments = segments_rise; ends = segments_end; words = words_room; fits = runs_fit; table = tables_room }
+returns c = record
+    { pointers = pointers_stand; segments = segments_rise; ends = segments_end; words = words_room; fits = runs_fit; table = tables_room }

@@ -8,7 +8,8 @@ use Rattle.macho_job.proofs.inputs.add_inputs.Goals as goal
 
 pub loop-spec-init : goal.loop-spec-init
 loop-spec-init g c = (
-  no-inputs (g.F.Paths.holds c.args.files.now) (settings_of c.args.args.now) (names_of c.args.names.now) c.args.linker.now c.requires.empty c.requires.unnamed,
+  no-inputs (g.F.Paths.holds c.args.files.now) (settings_of c.args.args.now) (names_of c.args.names.now) c.args.linker.now
+      c.requires.empty c.requires.unnamed,
   search rules,
   search rules,
 )
@@ -24,9 +25,12 @@ returns-in_err-add_input-clause-why g c =
 
 pub loop-spec-preserved : goal.loop-spec-preserved
 loop-spec-preserved g c = (
-  inputs-more (g.F.Paths.holds c.args.files.now) (g.F.Paths.holds c.loop-spec.files) (settings_of c.args.args.now) c.args.args.now.inputs.items
-      c.loop-spec.spec-index c.spec-item.result (names_of c.loop-spec.names) (names_of c.add_input.new.names) c.loop-spec.linker c.add_input.new.linker
-      c.loop-spec.invariant.2.same_files (rw c.deref-spec-items.ensures.value at c.loop-spec-test.true) (rw c.deref-spec-items.ensures.value at c.spec-item.is)
+  inputs-more (g.F.Paths.holds c.args.files.now) (g.F.Paths.holds c.loop-spec.files) (settings_of c.args.args.now)
+      c.args.args.now.inputs.items
+      c.loop-spec.spec-index c.spec-item.result (names_of c.loop-spec.names) (names_of c.add_input.new.names) c.loop-spec.linker
+      c.add_input.new.linker
+      c.loop-spec.invariant.2.same_files (rw c.deref-spec-items.ensures.value at c.loop-spec-test.true)
+      (rw c.deref-spec-items.ensures.value at c.spec-item.is)
       c.loop-spec.invariant.0 c.in_ok-add_input.ensures.added,
   search rules,
   search rules,

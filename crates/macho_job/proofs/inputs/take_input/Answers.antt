@@ -11,12 +11,15 @@ returns-in-Err-clause-why c =
     let begins = sym (c.head_of.ensures ∙ ap head_of c.deref.ensures.value) in
     elim c.match-head_of.branch [
       | in-Object w ↦
-          answer_fails c.args.word c.args.bytes.items head.Object w.add_object-added.result c.in-Err.error c.of_input.result (begins ∙ w.in-Object.is)
+          answer_fails c.args.word c.args.bytes.items head.Object w.add_object-added.result c.in-Err.error c.of_input.result
+          (begins ∙ w.in-Object.is)
           (sym w.added-is ∙ c.in-Err.is) w.add_object-added.ensures.why c.of_input.ensures
       | in-Dylib w ↦
-          answer_fails c.args.word c.args.bytes.items head.Dylib w.add_dylib-added.result c.in-Err.error c.of_input.result (begins ∙ w.in-Dylib.is)
+          answer_fails c.args.word c.args.bytes.items head.Dylib w.add_dylib-added.result c.in-Err.error c.of_input.result
+          (begins ∙ w.in-Dylib.is)
           (sym w.added-is ∙ c.in-Err.is) w.add_dylib-added.ensures.why c.of_input.ensures
       | in-Stub w ↦
-          answer_fails c.args.word c.args.bytes.items head.Stub w.add_text-added.result c.in-Err.error c.of_input.result (begins ∙ w.in-Stub.is)
+          answer_fails c.args.word c.args.bytes.items head.Stub w.add_text-added.result c.in-Err.error c.of_input.result
+          (begins ∙ w.in-Stub.is)
           (sym w.added-is ∙ c.in-Err.is) w.add_text-added.ensures.why c.of_input.ensures
     ]

@@ -19,9 +19,12 @@ returns-in_err-text-clause-why g c =
 pub loop-list-preserved : goal.loop-list-preserved
 loop-list-preserved g c = (
   λ paths have. lists-more (g.F.Paths.holds c.args.files.now) (g.F.Paths.holds c.loop-list.files) (settings_of c.args.args.now)
-      (AreFiles (g.F.Paths.holds c.args.files.now) (settings_of c.args.args.now) (settings_of c.args.args.now).generate) c.args.args.now.export_list_paths.items
-      c.loop-list.list-index c.list-item.result paths c.loop-list.linker c.add_list.new.linker c.in_ok-text.text.items c.loop-list.invariant.2.same_files
-      (rw c.deref-list-items.ensures.value at c.loop-list-test.true) (rw c.deref-list-items.ensures.value at c.list-item.is) (c.loop-list.invariant.0 paths have)
+      (AreFiles (g.F.Paths.holds c.args.files.now) (settings_of c.args.args.now) (settings_of c.args.args.now).generate)
+      c.args.args.now.export_list_paths.items
+      c.loop-list.list-index c.list-item.result paths c.loop-list.linker c.add_list.new.linker c.in_ok-text.text.items
+      c.loop-list.invariant.2.same_files
+      (rw c.deref-list-items.ensures.value at c.loop-list-test.true) (rw c.deref-list-items.ensures.value at c.list-item.is)
+      (c.loop-list.invariant.0 paths have)
       (rw c.as_str.ensures.value at c.in_ok-text.ensures.held) (rw c.deref.ensures.value at c.in_ok-add_list.ensures.added),
   search rules,
   search rules,
@@ -29,5 +32,6 @@ loop-list-preserved g c = (
 
 pub returns-clause-added : goal.returns-clause-added
 returns-clause-added g c =
-    λ paths have. all-lists (g.F.Paths.holds c.args.files.now) (settings_of c.args.args.now) c.args.args.now.export_list_paths.items c.loop-list.list-index
+    λ paths have. all-lists (g.F.Paths.holds c.args.files.now) (settings_of c.args.args.now) c.args.args.now.export_list_paths.items
+    c.loop-list.list-index
     paths c.loop-list.linker (rw c.deref-list-items.ensures.value at c.loop-list-test.false) (c.loop-list.invariant.0 paths have)

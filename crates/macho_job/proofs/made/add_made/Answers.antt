@@ -15,12 +15,14 @@ returns-in_err-add_object-clause-why c =
 pub loop-index-preserved : goal.loop-index-preserved
 loop-index-preserved c =
     let added = c.in_ok-add_object.ensures.added in (
-      made-more c.args.linker.now c.loop-index.linker c.add_object.new.linker c.args.count c.loop-index.index c.loop-index.invariant.0 added,
+      made-more c.args.linker.now c.loop-index.linker c.add_object.new.linker c.args.count c.loop-index.index c.loop-index.invariant.0
+          added,
       objects-more c.args.count c.loop-index.index c.loop-index.invariant.1 added.object,
       paths-more c.loop-index.index _ _ _ c.loop-index.invariant.2 c.in_ok-push.ensures.added c.in_ok-generated_path.ensures,
     )
 
 pub returns-clause-added : goal.returns-clause-added
 returns-clause-added c =
-    λ told s asked empty. all-made told s c.args.count c.loop-index.index (names_of c.loop-index.names) c.args.linker.now c.loop-index.linker asked empty
+    λ told s asked empty. all-made told s c.args.count c.loop-index.index (names_of c.loop-index.names) c.args.linker.now
+    c.loop-index.linker asked empty
     c.loop-index-test.false c.loop-index.auto.index-end c.loop-index.invariant.0 c.loop-index.invariant.1 c.loop-index.invariant.2

@@ -12,6 +12,7 @@ print_section-requires g c = placed-there c.args.linker.now c.args.sections.now 
 pub returns-in_err-print_section : goal.returns-in_err-print_section
 returns-in_err-print_section g c =
     let p = err_from_is_err_and c.from_residual.result c.from_residual.ensures.1 in
-    piece-refused (map_line c.args.linker.now (names_of c.args.names.now)) c.args.sections.now c.loop-index.index _ _ _ _ _ _ _ c.from_residual.result p.0 p.1 c.loop-index-test.true
+    piece-refused (map_line c.args.linker.now (names_of c.args.names.now)) c.args.sections.now c.loop-index.index _ _ _ _ _ _ _
+    c.from_residual.result p.0 p.1 c.loop-index-test.true
     c.loop-index.invariant.0 c.in_err-print_section.ensures.left c.loop-index.invariant.1 c.in_err-print_section.ensures.counted
     c.in_err-print_section.ensures.why

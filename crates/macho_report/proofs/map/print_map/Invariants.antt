@@ -9,5 +9,6 @@ use Rattle.macho_report.proofs.map.print_map.Given as goal
 -- the lines so far are taken
 abbrev pub invariant-loop-index : goal.invariant-loop-index
 invariant-loop-index g l =
-    TakesBytes (g.O.Sink.taken l.initial.out) (g.O.Sink.taken l.out) (flat_map (map_line l.linker (names_of l.names)) (take l.index l.sections))
+    TakesBytes (g.O.Sink.taken l.initial.out) (g.O.Sink.taken l.out)
+    (flat_map (map_line l.linker (names_of l.names)) (take l.index l.sections))
     × CountsOn (g.O.Sink.faults l.initial.out) (g.O.Sink.faults l.out)

@@ -17,10 +17,14 @@ loop-index-preserved c =
     = c.or.ensures ∙ ap (λ t. if t then older else hull) (c.ends_pair.ensures ∙ ap ends c.of-seen.ensures.seen) in
     let test : excludes (if ends (window_in b k c.loop-index.index) then older else hull) (relocation_at b k c.loop-index.index) ≡ true
     = sym (c.excludes.ensures ∙ ap (λ h. excludes h c.of-seen.result.this) against
-    ∙ ap (λ (s : Seen). excludes (if ends (window_in b k c.loop-index.index) then older else hull) s.this) c.of-seen.ensures.seen) ∙ c.if-not-excludes.false in
-    let new : c.with-hull.result ≡ hull_with hull (relocation_at b k c.loop-index.index) = c.with-hull.ensures ∙ ap (λ (s : Seen). hull_with hull s.this) c.of-seen.ensures.seen in
+    ∙ ap (λ (s : Seen). excludes (if ends (window_in b k c.loop-index.index) then older else hull) s.this) c.of-seen.ensures.seen)
+    ∙ c.if-not-excludes.false in
+    let new : c.with-hull.result ≡ hull_with hull (relocation_at b k c.loop-index.index) = c.with-hull.ensures
+    ∙ ap (λ (s : Seen). hull_with hull s.this) c.of-seen.ensures.seen in
     record {
-      apart = apart_more b k c.loop-index.index older hull c.loop-index.invariant.apart c.loop-index.invariant.older c.loop-index.invariant.hull test;
+      apart = apart_more b k c.loop-index.index older hull c.loop-index.invariant.apart c.loop-index.invariant.older
+          c.loop-index.invariant.hull test;
       older = λ q below. c.loop-index.invariant.hull q (omega (arith, below));
-      hull = subst (λ h. Holds b k h (c.loop-index.index + 1)) (sym new) (hull_more b k c.loop-index.index hull c.loop-index.invariant.hull);
+      hull = subst (λ h. Holds b k h (c.loop-index.index + 1)) (sym new)
+          (hull_more b k c.loop-index.index hull c.loop-index.invariant.hull);
     }

@@ -12,5 +12,6 @@ returns-in-Some c =
 pub loop-index-preserved : goal.loop-index-preserved
 loop-index-preserved c =
     let more = seen_more c.args.list.now.bytes c.args.list.now.section c.loop-index.index _ _ c.of.result c.in_ok-earlier.field-0
-    c.loop-index.invariant.table c.loop-index.invariant.apart c.of.ensures.seen (none_left _ c.in_default.not-Some) c.in_ok-earlier.ensures in
+    c.loop-index.invariant.table c.loop-index.invariant.apart c.of.ensures.seen (none_left _ c.in_default.not-Some)
+    c.in_ok-earlier.ensures in
     record { table = more.table; apart = more.apart }

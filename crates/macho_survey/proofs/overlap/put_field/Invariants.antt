@@ -4,4 +4,5 @@ use Rattle.macho_survey.specs.steps.Overlaps.{IsPut}
 use Rattle.macho_survey.proofs.overlap.put_field.Given as goal
 
 abbrev pub invariant-loop-place : goal.invariant-loop-place
-invariant-loop-place l = IsPut (λ p. get nat_eq l.initial.table p) (λ p. get nat_eq l.table p) l.fn.seen.this.r_address l.place l.index l.paired
+invariant-loop-place l = IsPut (λ p. get nat_eq l.initial.table p) (λ p. get nat_eq l.table p) l.fn.seen.this.r_address l.place l.index
+    l.paired

@@ -12,13 +12,15 @@ use Rattle.macho_survey.proofs.section.survey_relocations.Goals as goal
 
 pub loop-index-init : goal.loop-index-init
 loop-index-init c = record {
-  surveyed = λ l ss us object carried begins is. subst (λ (ws : List Use). IsSurveyed l ss ws c.args.needs.now c.args.findings.now) (sym (append-nil us)) is;
+  surveyed = λ l ss us object carried begins is. subst (λ (ws : List Use). IsSurveyed l ss ws c.args.needs.now c.args.findings.now)
+      (sym (append-nil us)) is;
   kept = λ inputs keeps. keeps;
 }
 
 pub survey_relocation-requires-clause-rows : goal.survey_relocation-requires-clause-rows
 survey_relocation-requires-clause-rows c =
-    rows_kept c.args.needs.now.resolved.files c.loop-index.needs.resolved.files c.args.at.file c.args.object.now.bytes c.requires.rows c.loop-index.invariant.kept
+    rows_kept c.args.needs.now.resolved.files c.loop-index.needs.resolved.files c.args.at.file c.args.object.now.bytes c.requires.rows
+    c.loop-index.invariant.kept
 
 pub survey_relocation-requires-clause-index : goal.survey_relocation-requires-clause-index
 survey_relocation-requires-clause-index c =
@@ -33,9 +35,11 @@ loop-index-preserved c = record {
       let below : c.loop-index.index < (header_at l s).nreloc
       = subst (λ b. c.loop-index.index < (section_at b c.args.at.section).nreloc) (sym object)
       (subst (λ (n : RelocationBytes). c.loop-index.index < (section_at n.bytes n.section).nreloc) c.requires.section.list_is there) in
-      let more = c.in-Ok.ensures.surveyed l ss (us ++ take c.loop-index.index (carried_uses l s)) object carried (next_is l us s c.loop-index.index below begins)
+      let more = c.in-Ok.ensures.surveyed l ss (us ++ take c.loop-index.index (carried_uses l s)) object carried
+      (next_is l us s c.loop-index.index below begins)
       (c.loop-index.invariant.surveyed l ss us object carried begins is) in
-      subst (λ (ws : List Use). IsSurveyed l ss ws c.survey_relocation.new.needs c.survey_relocation.new.findings) (uses_more l us s c.loop-index.index below) more;
+      subst (λ (ws : List Use). IsSurveyed l ss ws c.survey_relocation.new.needs c.survey_relocation.new.findings)
+      (uses_more l us s c.loop-index.index below) more;
   kept = λ inputs keeps. c.in-Ok.ensures.kept inputs (c.loop-index.invariant.kept inputs keeps);
 }
 
@@ -47,7 +51,8 @@ returns-in-Err-clause-why c l counts ss us object carried begins is =
     = subst (λ b. c.loop-index.index < (section_at b c.args.at.section).nreloc) (sym object)
     (subst (λ (n : RelocationBytes). c.loop-index.index < (section_at n.bytes n.section).nreloc) c.requires.section.list_is there) in
     c.in-Err.ensures.why l counts (imports_in l (us ++ take c.loop-index.index (carried_uses l s))) object
-    (next_there l (us ++ take c.loop-index.index (carried_uses l s)) (ByRelocation s c.loop-index.index) (next_is l us s c.loop-index.index below begins))
+    (next_there l (us ++ take c.loop-index.index (carried_uses l s)) (ByRelocation s c.loop-index.index)
+    (next_is l us s c.loop-index.index below begins))
     (c.loop-index.invariant.surveyed l ss us object carried begins is).noted.imports
 
 pub returns-clause-surveyed : goal.returns-clause-surveyed
@@ -58,4 +63,5 @@ returns-clause-surveyed c l ss us object carried begins is =
     = subst (λ b. (section_at b c.args.at.section).nreloc ≤ c.loop-index.index) (sym object)
     (subst (λ (n : RelocationBytes). (section_at n.bytes n.section).nreloc ≤ c.loop-index.index) c.requires.section.list_is past) in
     subst (λ (ws : List Use). IsSurveyed l ss (us ++ ws) c.loop-index.needs c.loop-index.findings)
-    (all_taken c.loop-index.index (carried_uses l s) (omega (arith, past_here, uses_long l s))) (c.loop-index.invariant.surveyed l ss us object carried begins is)
+    (all_taken c.loop-index.index (carried_uses l s) (omega (arith, past_here, uses_long l s)))
+    (c.loop-index.invariant.surveyed l ss us object carried begins is)

@@ -10,7 +10,8 @@ use Rattle.macho_survey.proofs.section.survey_relocations.Given as goal
 abbrev pub invariant-loop-index : goal.invariant-loop-index
 invariant-loop-index v =
     record {
-      surveyed : (l : Link) (ss : List SectionId) (us : List Use) → object_of l v.at.file ≡ v.object.bytes → Contains (carried_of l) (id_of v.at)
+      surveyed : (l : Link) (ss : List SectionId) (us : List Use) → object_of l v.at.file ≡ v.object.bytes
+          → Contains (carried_of l) (id_of v.at)
           → BeginsWith l (us ++ carried_uses l (id_of v.at)) → IsSurveyed l ss us v.initial.needs v.initial.findings
           → IsSurveyed l ss (us ++ take v.index (carried_uses l (id_of v.at))) v.needs v.findings;
       kept : (inputs : List Input) → Keeps inputs v.initial.needs.resolved.files → Keeps inputs v.needs.resolved.files;

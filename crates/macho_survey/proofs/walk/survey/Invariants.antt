@@ -12,6 +12,7 @@ abbrev pub invariant-loop-file : goal.invariant-loop-file
 invariant-loop-file v =
     record {
       surveyed : (l : Link) → v.views ≡ views_of l → IsNoted l [] v.initial.needs
-          → IsSurveyed l (carried_in l (take v.file (enumerate_from 0 l.inputs))) (uses_in l (take v.file (enumerate_from 0 l.inputs))) v.needs v.findings;
+          → IsSurveyed l (carried_in l (take v.file (enumerate_from 0 l.inputs))) (uses_in l (take v.file (enumerate_from 0 l.inputs)))
+          v.needs v.findings;
       kept : (inputs : List Input) → Keeps inputs v.initial.needs.resolved.files → Keeps inputs v.needs.resolved.files;
     }

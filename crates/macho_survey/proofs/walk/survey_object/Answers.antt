@@ -4,7 +4,8 @@ use Rattle.macho_model.specs.Objects.{num_sections}
 use Rattle.macho_model.specs.Links.{Object, sections_of_file}
 use Rattle.macho_model.specs.Values.{section_id}
 use Rattle.macho_survey.specs.steps.Sections.{carried_among, uses_among}
-use Rattle.macho_survey.proofs.Walking.{walked_more, walk_begins, walked_all, walked_none, carried_joins, uses_join, sections_long, section_of, rows_kept}
+use Rattle.macho_survey.proofs.Walking.{walked_more, walk_begins, walked_all, walked_none, carried_joins, uses_join, sections_long}
+use Rattle.macho_survey.proofs.Walking.{section_of, rows_kept}
 use Rattle.macho_survey.proofs.walk.survey_object.Goals as goal
 
 pub loop-section-init : goal.loop-section-init
@@ -15,22 +16,27 @@ loop-section-init c = record {
 
 pub survey_if_carried-requires-clause-rows : goal.survey_if_carried-requires-clause-rows
 survey_if_carried-requires-clause-rows c =
-    rows_kept c.args.needs.now.resolved.files c.loop-section.needs.resolved.files c.args.file c.args.object.now.bytes c.requires.rows c.loop-section.invariant.kept
+    rows_kept c.args.needs.now.resolved.files c.loop-section.needs.resolved.files c.args.file c.args.object.now.bytes c.requires.rows
+    c.loop-section.invariant.kept
 
 pub loop-section-preserved : goal.loop-section-preserved
 loop-section-preserved c =
     let count : c.num_sections-section-end.result ≡ num_sections c.args.object.now.bytes
     = c.num_sections-section-end.ensures ∙ ap (λ b. if b then 0 else num_sections c.args.object.now.bytes) c.requires.kind in
     let inside : c.loop-section.section < num_sections c.args.object.now.bytes = omega (arith, count) in
-    let below : c.loop-section.section < length (sections_of_file c.args.file (Object c.args.object.now.bytes)) = omega (arith, inside, sections_long c.args.file c.args.object.now.bytes) in
+    let below : c.loop-section.section < length (sections_of_file c.args.file (Object c.args.object.now.bytes)) = omega
+    (arith, inside, sections_long c.args.file c.args.object.now.bytes) in
     let at = section_of c.args.file c.args.object.now.bytes c.loop-section.section inside in
     record {
       surveyed = λ l ss us has begins is.
-          walked_more l (carried_among l) (uses_among l) (carried_joins l) (uses_join l) ss us (sections_of_file c.args.file (Object c.args.object.now.bytes)) c.loop-section.section
+          walked_more l (carried_among l) (uses_among l) (carried_joins l) (uses_join l) ss us
+          (sections_of_file c.args.file (Object c.args.object.now.bytes)) c.loop-section.section
           (section_id c.args.file c.loop-section.section) c.survey_if_carried.new.needs c.survey_if_carried.new.findings below at
-          (c.in-Ok.ensures.surveyed l (ss ++ carried_among l (take c.loop-section.section (sections_of_file c.args.file (Object c.args.object.now.bytes))))
+          (c.in-Ok.ensures.surveyed l (ss ++ carried_among l (take c.loop-section.section
+          (sections_of_file c.args.file (Object c.args.object.now.bytes))))
           (us ++ uses_among l (take c.loop-section.section (sections_of_file c.args.file (Object c.args.object.now.bytes)))) has
-          (walk_begins l (uses_among l) (uses_join l) us (sections_of_file c.args.file (Object c.args.object.now.bytes)) c.loop-section.section (section_id c.args.file c.loop-section.section) below at begins)
+          (walk_begins l (uses_among l) (uses_join l) us (sections_of_file c.args.file (Object c.args.object.now.bytes))
+          c.loop-section.section (section_id c.args.file c.loop-section.section) below at begins)
           (c.loop-section.invariant.surveyed l ss us has begins is));
       kept = λ inputs keeps. c.in-Ok.ensures.kept inputs (c.loop-section.invariant.kept inputs keeps);
     }
@@ -40,17 +46,22 @@ returns-in-Err-clause-why c l counts ss us has begins is =
     let count : c.num_sections-section-end.result ≡ num_sections c.args.object.now.bytes
     = c.num_sections-section-end.ensures ∙ ap (λ b. if b then 0 else num_sections c.args.object.now.bytes) c.requires.kind in
     let inside : c.loop-section.section < num_sections c.args.object.now.bytes = omega (arith, count) in
-    let below : c.loop-section.section < length (sections_of_file c.args.file (Object c.args.object.now.bytes)) = omega (arith, inside, sections_long c.args.file c.args.object.now.bytes) in
+    let below : c.loop-section.section < length (sections_of_file c.args.file (Object c.args.object.now.bytes)) = omega
+    (arith, inside, sections_long c.args.file c.args.object.now.bytes) in
     let at = section_of c.args.file c.args.object.now.bytes c.loop-section.section inside in
-    c.in-Err.ensures.why l counts (ss ++ carried_among l (take c.loop-section.section (sections_of_file c.args.file (Object c.args.object.now.bytes))))
+    c.in-Err.ensures.why l counts (ss ++ carried_among l (take c.loop-section.section
+    (sections_of_file c.args.file (Object c.args.object.now.bytes))))
     (us ++ uses_among l (take c.loop-section.section (sections_of_file c.args.file (Object c.args.object.now.bytes)))) has
-    (walk_begins l (uses_among l) (uses_join l) us (sections_of_file c.args.file (Object c.args.object.now.bytes)) c.loop-section.section (section_id c.args.file c.loop-section.section) below at begins)
+    (walk_begins l (uses_among l) (uses_join l) us (sections_of_file c.args.file (Object c.args.object.now.bytes)) c.loop-section.section
+    (section_id c.args.file c.loop-section.section) below at begins)
     (c.loop-section.invariant.surveyed l ss us has begins is)
 
 pub returns-clause-surveyed : goal.returns-clause-surveyed
 returns-clause-surveyed c l ss us has begins is =
     let count : c.num_sections-section-end.result ≡ num_sections c.args.object.now.bytes
     = c.num_sections-section-end.ensures ∙ ap (λ b. if b then 0 else num_sections c.args.object.now.bytes) c.requires.kind in
-    let past : length (sections_of_file c.args.file (Object c.args.object.now.bytes)) ≤ c.loop-section.section = omega (arith, count, sections_long c.args.file c.args.object.now.bytes) in
-    walked_all l (carried_among l) (uses_among l) ss us (sections_of_file c.args.file (Object c.args.object.now.bytes)) c.loop-section.section c.loop-section.needs c.loop-section.findings past
+    let past : length (sections_of_file c.args.file (Object c.args.object.now.bytes)) ≤ c.loop-section.section = omega
+    (arith, count, sections_long c.args.file c.args.object.now.bytes) in
+    walked_all l (carried_among l) (uses_among l) ss us (sections_of_file c.args.file (Object c.args.object.now.bytes))
+    c.loop-section.section c.loop-section.needs c.loop-section.findings past
     (c.loop-section.invariant.surveyed l ss us has begins is)

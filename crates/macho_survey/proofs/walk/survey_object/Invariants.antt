@@ -11,7 +11,8 @@ abbrev pub invariant-loop-section : goal.invariant-loop-section
 invariant-loop-section v =
     record {
       surveyed : (l : Link) (ss : List SectionId) (us : List Use) → HasObject l v.file v.object.bytes
-          → BeginsWith l (us ++ uses_among l (sections_of_file v.file (Object v.object.bytes))) → IsSurveyed l ss us v.initial.needs v.initial.findings
+          → BeginsWith l (us ++ uses_among l (sections_of_file v.file (Object v.object.bytes)))
+          → IsSurveyed l ss us v.initial.needs v.initial.findings
           → IsSurveyed l (ss ++ carried_among l (take v.section (sections_of_file v.file (Object v.object.bytes))))
           (us ++ uses_among l (take v.section (sections_of_file v.file (Object v.object.bytes)))) v.needs v.findings;
       kept : (inputs : List Input) → Keeps inputs v.initial.needs.resolved.files → Keeps inputs v.needs.resolved.files;

@@ -9,6 +9,7 @@ pub returns-in-Ok-clause-done : goal.returns-in-Ok-clause-done
 returns-in-Ok-clause-done g c =
     answers-written (settings_of c.args.args.now) (names_of c.make_image.new.names)
     (outside (g.F.Paths.directories c.args.files.now) (g.F.Paths.canonical_paths c.args.files.now) (g.F.Paths.holds c.args.files.now))
-    (outside (g.F.Paths.directories c.write_image.new.files) (g.F.Paths.canonical_paths c.write_image.new.files) (g.F.Paths.holds c.write_image.new.files))
+    (outside (g.F.Paths.directories c.write_image.new.files) (g.F.Paths.canonical_paths c.write_image.new.files)
+    (g.F.Paths.holds c.write_image.new.files))
     _ _ _ _ _ _ _ _ _ (g.F.Paths.holds c.make_image.new.files) c.in-Ok.made c.write_image.result c.make_image.ensures.kept.same_files
     c.make_image.ensures.kept.same_write_faults c.in-Ok.ensures.made c.write_image.ensures.done c.write_image.ensures.why

@@ -12,7 +12,8 @@ returns-in_err-linker-clause-why g c =
 pub returns-in_err-image-clause-why : goal.returns-in_err-image-clause-why
 returns-in_err-image-clause-why g c =
     let p = err_from_is_err_and c.from_residual-in_err-image.result c.from_residual-in_err-image.ensures.1 in
-    rw (p.1, p.2) (c.in_err-image.ensures.why.fails (g.F.Paths.holds c.args.files.now) (settings_of c.args.args.now) (names_of c.gather.new.names) _ _
+    rw (p.1, p.2) (c.in_err-image.ensures.why.fails (g.F.Paths.holds c.args.files.now) (settings_of c.args.args.now)
+    (names_of c.gather.new.names) _ _
     c.in_ok-gather.ensures.gathered)
 
 pub returns-clause-made : goal.returns-clause-made

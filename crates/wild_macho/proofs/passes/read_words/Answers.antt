@@ -4,4 +4,5 @@ use Rattle.wild_macho.proofs.Joining.{words-fail}
 use Rattle.wild_macho.proofs.passes.read_words.Goals as goal
 
 pub returns-in-Err-clause-why : goal.returns-in-Err-clause-why
-returns-in-Err-clause-why g c = words-fail (texts_of c.args.words.now) c.in-Err.fault c.of_words.result c.in-Err.ensures.why c.of_words.ensures
+returns-in-Err-clause-why g c = words-fail (texts_of c.args.words.now) c.in-Err.fault c.of_words.result c.in-Err.ensures.why
+    c.of_words.ensures

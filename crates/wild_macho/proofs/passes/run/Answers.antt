@@ -20,13 +20,15 @@ returns-in-Ok-clause-promise g c =
 pub returns-in-Ok-clause-complete : goal.returns-in-Ok-clause-complete
 returns-in-Ok-clause-complete g c =
     λ files tells sure calm.
-    sure-status (texts_of c.args.words.now) (g.F.Paths.directories c.args.files.now) (g.F.Paths.canonical_paths c.args.files.now) (g.F.Paths.holds c.args.files.now) files
+    sure-status (texts_of c.args.words.now) (g.F.Paths.directories c.args.files.now) (g.F.Paths.canonical_paths c.args.files.now)
+    (g.F.Paths.holds c.args.files.now) files
     _ _ _ _ c.run_args.result refl tells (returns-in-Ok-clause-promise g c) sure calm
 
 pub returns-in-Ok-clause-answered : goal.returns-in-Ok-clause-answered
 returns-in-Ok-clause-answered g c =
     λ files tells job calm. returns-in-Ok-clause-complete g c files tells
-    (sure_of (texts_of c.args.words.now) (outside (g.F.Paths.directories c.args.files.now) (g.F.Paths.canonical_paths c.args.files.now) (Some files)) job) calm
+    (sure_of (texts_of c.args.words.now) (outside (g.F.Paths.directories c.args.files.now) (g.F.Paths.canonical_paths c.args.files.now)
+    (Some files)) job) calm
 
 pub returns-in-Err-clause-promise : goal.returns-in-Err-clause-promise
 returns-in-Err-clause-promise g c =
@@ -37,7 +39,9 @@ returns-in-Err-clause-promise g c =
       status = subst (λ (f : Option Fault). c.refused.result.status ≡ status_of f) c.refused.ensures.fault c.refused.ensures.status;
       image = c.refused.ensures.image;
       why = c.in-Err.ensures.why;
-      same = same-devices _ _ _ _ _ _ _ _ _ _ _ _ kept.same_directories kept.same_canonical_paths kept.same_files kept.same_faults kept.same_write_faults;
-      line = same-line {A = Global} (g.E.Sink.taken c.args.err.now) (g.E.Sink.taken c.print_fault.new.err) (g.E.Sink.faults c.args.err.now) (g.E.Sink.faults c.print_fault.new.err)
+      same = same-devices _ _ _ _ _ _ _ _ _ _ _ _ kept.same_directories kept.same_canonical_paths kept.same_files kept.same_faults
+          kept.same_write_faults;
+      line = same-line {A = Global} (g.E.Sink.taken c.args.err.now) (g.E.Sink.taken c.print_fault.new.err)
+          (g.E.Sink.faults c.args.err.now) (g.E.Sink.faults c.print_fault.new.err)
           [] [] [] [] (names_of c.new.result) [] c.in-Err.fault refl refl c.new.ensures c.print_fault.ensures;
     })

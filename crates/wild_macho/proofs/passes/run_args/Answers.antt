@@ -10,7 +10,8 @@ pub returns-clause-done : goal.returns-clause-done
 returns-clause-done g c =
     elim c.match-ran.branch [
       | in-Some w ↦
-          rw w.err-is (told-run (settings_of c.args.args.now) (names_of c.link_args-ran.new.names) _ _ _ _ c.link_args-ran.result w.in-Some.fault
+          rw w.err-is (told-run (settings_of c.args.args.now) (names_of c.link_args-ran.new.names) _ _ _ _ c.link_args-ran.result
+          w.in-Some.fault
           w.in-Some.is c.link_args-ran.ensures.done c.link_args-ran.ensures.named
           (same-line (g.E.Sink.taken c.args.err.now) (g.E.Sink.taken w.print_fault.new.err)
           (g.E.Sink.faults c.args.err.now) (g.E.Sink.faults w.print_fault.new.err) w.deref.result.now c.args.args.now.inputs.items

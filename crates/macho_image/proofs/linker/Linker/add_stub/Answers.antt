@@ -9,6 +9,8 @@ use Rattle.macho_image.proofs.linker.Linker.add_stub.Goals as goal
 
 pub invariant_of-self-2 : goal.invariant_of-self-2
 invariant_of-self-2 c =
-    let more = taken_more (λ (i : OwnedInput). IsInput (input_of i)) c.self.inside.inputs.items c.push.new.self.items _ c.args.self.now.inputs
-    c.in_ok-push.ensures.items c.self.invariant.0 (search (rules, c.in_ok-check_stub.ensures.found)) (ap (λ (l : Link). l.inputs) c.self.view_is) c.requires.few in
+    let more = taken_more (λ (i : OwnedInput). IsInput (input_of i)) c.self.inside.inputs.items c.push.new.self.items _
+    c.args.self.now.inputs
+    c.in_ok-push.ensures.items c.self.invariant.0 (search (rules, c.in_ok-check_stub.ensures.found))
+    (ap (λ (l : Link). l.inputs) c.self.view_is) c.requires.few in
     (more.0, more.1, c.self.invariant.2)
