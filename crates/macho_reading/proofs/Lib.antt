@@ -4,3 +4,4 @@ pub mod Used
 pub mod Usable
 pub mod Named
 pub mod Finished
+pub mod Placed

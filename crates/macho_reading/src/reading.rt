@@ -77,7 +77,7 @@ fn read_behind(
 {
     let rows = match read_rows(alloc, views, &needs.resolved) {
         Ok(rows) => rows,
-        Err(fault) => return Err(refusal(alloc, needs, entry, list, fault)),
+        Err(fault) => return Err(refusal(alloc, needs, views, entry, list, fault)),
     };
     match note_rest(alloc, needs, &rows, entry, list) {
         Ok(()) => Ok(rows),
@@ -132,7 +132,7 @@ fn with_exports(
 ///
 /// A name that is used, entered at or listed has no definition, a section of initializers or of unwind entries breaks its rules,
 /// a relocation is not supported, two overlap, an addend doesn't fit, a pointer stands where none may, or there is not enough memory.
-/// Of several refusals that is told which stands first in `LinkError`, except that the names of broken sections are passed over.
+/// Of several refusals that is told which stands first in `LinkError`.
 pub fn read_link(
     alloc: Global,
     resolved: Resolved,

@@ -1,5 +1,5 @@
 //! What is told of a link whose consumed sections are broken.
-ghost use Rattle.std.specs.Prelude.{◌≡◌, ℕ, List};
+ghost use Rattle.std.specs.Prelude.{◌≡◌, ℕ, ◌^◌, ◌<◌, List, length};
 ghost use Rattle.std.specs.Option.{option_copied};
 ghost use Rattle.macho_model.specs.declared.placed.Counts.{Counts};
 ghost use Rattle.macho_model.specs.Links.{Input, Link};
@@ -7,13 +7,16 @@ ghost use Rattle.macho_names.specs.Kept.{Keeps};
 ghost use Rattle.macho_symbols.specs.Kept.{IsResolved};
 ghost use Rattle.macho_symbols.specs.Exported.{AreLists};
 ghost use Rattle.macho_faults.specs.Standing.{Stands};
+ghost use Rattle.macho_survey.specs.Surveys.{AreOfInputs, views_of};
 ghost use Rattle.macho_consumed.specs.Told.{IsStanding};
 ghost use Rattle.macho_reading.specs.Read.{entry_of};
 
 use crate::names::{find_entry, note_list};
+use crate::undefined::find_undefined;
 use macho_consumed::ConsumedFault;
 use macho_faults::LinkError;
 use macho_needs::Needs;
+use macho_object::File;
 use macho_symbols::ExportList;
 use std::alloc::Global;
 
@@ -46,18 +49,25 @@ fn error_of(fault: ConsumedFault) -> LinkError
     }
 }
 
-/// The refusal that is told where consumed sections are broken: that of the entry or of a name of export lists goes before.
+/// The refusal that is told where consumed sections are broken: that of a name of initializers or of personality functions, of the
+/// entry or of a name of export lists goes before.
 pub(crate) fn refusal(
     alloc: Global,
     needs: &mut Needs,
+    views: &[Option<File<'_>>],
     entry: Option<&[u8]>,
     list: Option<&ExportList>,
     fault: ConsumedFault,
 ) -> LinkError
-    ensures told { (l : Link) (counts : Counts) (noted : List (List ℕ)) → IsResolved l noted needs.old.resolved → option_copied entry.entry ≡ entry_of l
-        → AreLists l (option_copied list.entry) → IsStanding l fault → Stands l counts result }
+    requires few { length views.now < 2 ^ 32 }
+    requires same { AreOfInputs views.now needs.old.resolved.files }
+    ensures told { (l : Link) (counts : Counts) (noted : List (List ℕ)) → views.now ≡ views_of l → IsResolved l noted needs.old.resolved
+        → option_copied entry.entry ≡ entry_of l → AreLists l (option_copied list.entry) → IsStanding l fault → Stands l counts result }
     ensures kept { (inputs : List Input) → Keeps inputs needs.old.resolved.files → Keeps inputs needs.new.resolved.files }
 {
+    if let Err(error) = find_undefined(needs, views) {
+        return error;
+    }
     if let Err(error) = find_entry(alloc, &needs.resolved, entry) {
         return error;
     }

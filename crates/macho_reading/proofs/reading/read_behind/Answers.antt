@@ -7,7 +7,8 @@ use Rattle.macho_reading.proofs.reading.read_behind.Goals as goal
 pub returns-in-Err-clause-why : goal.returns-in-Err-clause-why
 returns-in-Err-clause-why c l counts at =
     let noted = imports_in l (uses_of_carried l) in
-    c.refusal.ensures.told l counts noted at.noted.imports at.entry_is at.lists (c.in-Err.ensures.why l noted at.views_are at.noted.imports)
+    c.refusal.ensures.told l counts noted at.views_are at.noted.imports at.entry_is at.lists
+    (c.in-Err.ensures.why l noted at.views_are at.noted.imports)
 
 pub returns-in-Ok-note_rest-clause-done : goal.returns-in-Ok-note_rest-clause-done
 returns-in-Ok-note_rest-clause-done c l at =

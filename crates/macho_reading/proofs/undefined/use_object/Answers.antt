@@ -1,0 +1,25 @@
+-- Rows of symbols stay those of the inputs, section by section.
+use Rattle.std.proofs.Common.{◌≡◌, ap, ◌∙◌, arith, if◌then◌else◌}
+use Rattle.macho_model.specs.Objects.{num_sections}
+use Rattle.macho_survey.proofs.Walking.{rows_kept}
+use Rattle.macho_reading.proofs.undefined.use_object.Goals as goal
+
+pub loop-section-init : goal.loop-section-init
+loop-section-init c inputs keeps = keeps
+
+pub use_section-requires-clause-there : goal.use_section-requires-clause-there
+use_section-requires-clause-there c =
+    let count : c.num_sections-section-end.result ≡ num_sections c.args.object.now.bytes
+    = c.num_sections-section-end.ensures ∙ ap (λ b. if b then 0 else num_sections c.args.object.now.bytes) c.requires.kind in
+    omega (arith, count)
+
+pub use_section-requires-clause-rows : goal.use_section-requires-clause-rows
+use_section-requires-clause-rows c =
+    rows_kept c.args.needs.now.resolved.files c.loop-section.needs.resolved.files c.args.file c.args.object.now.bytes c.requires.rows
+    c.loop-section.invariant
+
+pub loop-section-preserved : goal.loop-section-preserved
+loop-section-preserved c inputs keeps = c.in-Ok.ensures.kept inputs (c.loop-section.invariant inputs keeps)
+
+pub returns-in-Err-clause-why : goal.returns-in-Err-clause-why
+returns-in-Err-clause-why c l counts has keeps = c.in-Err.ensures.why l counts has (c.loop-section.invariant l.inputs keeps)

@@ -1,0 +1,7 @@
+use Rattle.std.proofs.Common.{List}
+use Rattle.macho_model.specs.Links.{Input}
+use Rattle.macho_names.specs.Kept.{Keeps}
+use Rattle.macho_reading.proofs.undefined.use_object.Given as goal
+
+abbrev pub invariant-loop-section : goal.invariant-loop-section
+invariant-loop-section v = (inputs : List Input) → Keeps inputs v.initial.needs.resolved.files → Keeps inputs v.needs.resolved.files
