@@ -41,7 +41,8 @@ use Rattle.macho_fields.proofs.Placing.{defined_is}
 use Rattle.macho_fields.proofs.Supporting.{row_test, no_addend, supported_fits}
 use Rattle.macho_fields.proofs.Reading.{target_read, read_is}
 use Rattle.macho_fields.proofs.One.{one_stands}
-use Rattle.macho_fields.proofs.Steps.{still_input, filled_none, filled_prefix, filled_field}
+use Rattle.macho_fields.proofs.Steps.{filled_none, filled_prefix, filled_field}
+use Rattle.macho_fields.proofs.Still.{IsStill, still_behind, still_alone}
 use Rattle.macho_fields.proofs.Ends.{Behind}
 
 -- a field that fits its kind leads somewhere
@@ -136,22 +137,22 @@ section_exists b k r h other plain =
 
 -- THE next field, of the bytes of its object.
 next_in : (l : Link) (p : Placed) (q : PlacedSection) (look : Look) (descriptors : Bool) (r : ℕ) (text old : List ℕ) (n : Near)
-    (f : read.Field) (asked run : List Fixup)
+    (f : read.Field)
     → RelocationsAreSupported l → IsFillable l p q look → IsObject (object_of l q.file) → q.section < num_sections (object_of l q.file)
     → text ≡ section_bytes (object_of l q.file) q.section → length text ≡ (header_at l (id_of q)).size → q.address + length text ≤ 2 ^ 64
     → descriptors ≡ (type_of (header_at l (id_of q)) == S_THREAD_LOCAL_VARIABLES) → r < (header_at l (id_of q)).nreloc
     → IsNear (object_of l q.file) q.section r n → IsRead look q.file (object_of l q.file) text n f
     → is_prefix_type n.relocation.r_type ≡ false
-    → IsFilledTo l p q r asked old run → IsNext l p q look descriptors r old × (seen f ≡ field_of l (id_of q) r)
-next_in l p q look descriptors r text old n f asked run sound fill object section bytes long low are among near is own filled = (
+    → IsStill l q r old → IsNext l p q look descriptors r old × (seen f ≡ field_of l (id_of q) r)
+next_in l p q look descriptors r text old n f sound fill object section bytes long low are among near is own kept = (
   record {
     fill = fill;
     descriptors_are = are;
     among = among;
     field = ap not plain;
     fits = fits;
-    still = still_input l p q r asked old run sound fill.carried among filled inside (sym (ap length bytes) ∙ long);
-    inside = omega (arith, inside, filled.long);
+    still = kept.input inside;
+    inside = omega (arith, inside, kept.long);
     low = omega (arith, inside, long, low, positive);
   },
   read_is l p look s r text n f fill.tells near is bytes exponent (section_exists b q.section r (exists r among) other)
@@ -210,20 +211,20 @@ next_in l p q look descriptors r text old n f asked run sound fill object sectio
 
 -- The same of bytes that are those of the object.
 pub next_is : (l : Link) (p : Placed) (q : PlacedSection) (look : Look) (descriptors : Bool) (r : ℕ) (b text old : List ℕ) (n : Near)
-    (f : read.Field) (asked run : List Fixup)
+    (f : read.Field)
     → object_of l q.file ≡ b → RelocationsAreSupported l → IsFillable l p q look → IsObject b → q.section < num_sections b
     → text ≡ section_bytes b q.section → length text ≡ (section_at b q.section).size → q.address + length text ≤ 2 ^ 64
     → descriptors ≡ (type_of (section_at b q.section) == S_THREAD_LOCAL_VARIABLES) → r < (section_at b q.section).nreloc
     → IsNear b q.section r n → IsRead look q.file b text n f → is_prefix_type n.relocation.r_type ≡ false
-    → IsFilledTo l p q r asked old run → IsNext l p q look descriptors r old × (seen f ≡ field_of l (id_of q) r)
-next_is l p q look descriptors r b text old n f asked run same sound fill =
+    → IsStill l q r old → IsNext l p q look descriptors r old × (seen f ≡ field_of l (id_of q) r)
+next_is l p q look descriptors r b text old n f same sound fill =
     subst (λ (m : List ℕ). IsObject m → q.section < num_sections m → text ≡ section_bytes m q.section
     → length text ≡ (section_at m q.section).size
     → q.address + length text ≤ 2 ^ 64 → descriptors ≡ (type_of (section_at m q.section) == S_THREAD_LOCAL_VARIABLES)
     → r < (section_at m q.section).nreloc → IsNear m q.section r n → IsRead look q.file m text n f
     → is_prefix_type n.relocation.r_type ≡ false
-    → IsFilledTo l p q r asked old run → IsNext l p q look descriptors r old × (seen f ≡ field_of l (id_of q) r))
-    same (next_in l p q look descriptors r text old n f asked run sound fill)
+    → IsStill l q r old → IsNext l p q look descriptors r old × (seen f ≡ field_of l (id_of q) r))
+    same (next_in l p q look descriptors r text old n f sound fill)
 
 -- each field of a section stands inside it
 inside_all : (l : Link) (q : PlacedSection) (b : List ℕ) → object_of l q.file ≡ b → IsObject b → q.section < num_sections b → (r : ℕ)
@@ -242,16 +243,16 @@ among_in : (l : Link) (q : PlacedSection) (b : List ℕ) (r : ℕ) → object_of
 among_in l q b r same lt = subst (λ (m : List ℕ). r < (section_at m q.section).nreloc) (sym same) lt
 
 -- The next field by where the section comes from.
-pub next_of : (l : Link) (p : Placed) (look : Look) (s : Source) (r : ℕ) (old : List ℕ) (n : Near) (f : read.Field) (asked run : List Fixup)
+pub next_of : (l : Link) (p : Placed) (look : Look) (s : Source) (r : ℕ) (old : List ℕ) (n : Near) (f : read.Field)
     → IsSource s → IsToFill l p s.place look s.file.now.bytes → r < (section_at s.file.now.bytes s.place.section).nreloc
     → IsNear s.list.now.bytes s.list.now.section r n → IsRead look s.place.file s.file.now.bytes s.bytes.now n f
     → is_prefix_type n.relocation.r_type ≡ false
-    → IsFilledTo l p s.place r asked old run → IsNext l p s.place look s.descriptors r old × (seen f ≡ field_of l (id_of s.place) r)
-next_of l p look s r old n f asked run source fill among near is own filled =
-    next_is l p s.place look s.descriptors r s.file.now.bytes s.bytes.now old n f asked run fill.object fill.sound.relocations
+    → IsStill l s.place r old → IsNext l p s.place look s.descriptors r old × (seen f ≡ field_of l (id_of s.place) r)
+next_of l p look s r old n f source fill among near is own still =
+    next_is l p s.place look s.descriptors r s.file.now.bytes s.bytes.now old n f fill.object fill.sound.relocations
     (fillable l p s.place look s.file.now.bytes fill)
     source.object source.among source.bytes source.long source.low source.descriptors among
-    (subst (λ (v : RelocationBytes). IsNear v.bytes v.section r n) source.list near) is own filled
+    (subst (λ (v : RelocationBytes). IsNear v.bytes v.section r n) source.list near) is own still
 
 -- one field more
 pub one_more : (l : Link) (p : Placed) (look : Look) (s : Source) (r : ℕ) (old new : List ℕ) (n : Near) (f : read.Field)
@@ -262,7 +263,8 @@ pub one_more : (l : Link) (p : Placed) (look : Look) (s : Source) (r : ℕ) (old
     → IsFilledTo l p s.place r asked old run → IsDone look s.descriptors s.place (seen f) old new run more
     → IsFilledTo l p s.place (r + 1) asked new more
 one_more l p look s r old new n f asked run more source fill among near is own filled done =
-    let next = next_of l p look s r old n f asked run source fill among near is own filled in
+    let next = next_of l p look s r old n f source fill among near is own
+    (still_behind l p look s r old asked run source fill among filled) in
     filled_field l p s.place look s.descriptors r asked old new run more fill.sound.relocations
     (inside_all l s.place s.file.now.bytes fill.object source.object source.among) filled next.0
     (subst (λ (g : Field). IsDone look s.descriptors s.place g old new run more) next.1 done)
@@ -275,9 +277,21 @@ pub one_stopped : (l : Link) (p : Placed) (look : Look) (s : Source) (r : ℕ) (
     → is_prefix_type n.relocation.r_type ≡ false
     → IsFilledTo l p s.place r asked old run → IsStopped look s.descriptors s.place (seen f) old fault → FillStands l p fault
 one_stopped l p look s r old n f asked run fault source fill among near is own filled stopped =
-    let next = next_of l p look s r old n f asked run source fill among near is own filled in
+    let next = next_of l p look s r old n f source fill among near is own
+    (still_behind l p look s r old asked run source fill among filled) in
     one_stands l p s.place look s.descriptors r old fault next.0
     (subst (λ (g : Field). IsStopped look s.descriptors s.place g old fault) next.1 stopped)
+
+-- also where the field is looked at alone, in the bytes of the object
+pub one_alone : (l : Link) (p : Placed) (look : Look) (s : Source) (r : ℕ) (n : Near) (f : read.Field) (fault : FillFault)
+    → IsSource s → IsToFill l p s.place look s.file.now.bytes → r < (section_at s.file.now.bytes s.place.section).nreloc
+    → IsNear s.list.now.bytes s.list.now.section r n → IsRead look s.place.file s.file.now.bytes s.bytes.now n f
+    → is_prefix_type n.relocation.r_type ≡ false
+    → IsStopped look s.descriptors s.place (seen f) s.bytes.now fault → FillStands l p fault
+one_alone l p look s r n f fault source fill among near is own stopped =
+    let next = next_of l p look s r s.bytes.now n f source fill among near is own (still_alone l p look s r source fill) in
+    one_stands l p s.place look s.descriptors r s.bytes.now fault next.0
+    (subst (λ (g : Field). IsStopped look s.descriptors s.place g s.bytes.now fault) next.1 stopped)
 
 -- a relocation that is a part of the next one's field
 pub one_prefix : (l : Link) (p : Placed) (look : Look) (s : Source) (r : ℕ) (old : List ℕ) (n : Near) (asked run : List Fixup) → IsSource s

@@ -14,6 +14,8 @@ mod fault;
 mod field;
 mod kinds;
 mod laws;
+mod least;
+mod making;
 mod places;
 mod section;
 mod slots;
@@ -23,6 +25,7 @@ mod write;
 
 pub use fault::FillFault;
 pub use laws::placed_things_are_found;
+pub use least::section_fault;
 pub use places::Places;
 pub use section::fill_section;
 pub use slots::slot_fixups;

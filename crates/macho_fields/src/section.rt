@@ -9,20 +9,20 @@ ghost use Rattle.macho_parts.specs.Asked.{fixups_in};
 ghost use Rattle.macho_parts.specs.Filled.{IsFilled};
 ghost use Rattle.macho_fields.specs.Filling.{IsToFill};
 ghost use Rattle.macho_fields.specs.Faults.{FillStands, NoneStandsIn};
-ghost use Rattle.macho_fields.specs.steps.Fields.{seen, start_of, in_template};
+ghost use Rattle.macho_fields.specs.steps.Fields.{seen};
 ghost use Rattle.macho_fields.specs.steps.Writes.{IsPut};
 ghost use Rattle.macho_fields.specs.steps.Filled.{IsSource, IsAsked, CannotAsk, CannotSet, written_in, IsDone, IsStopped};
 ghost use Rattle.macho_fields.specs.steps.Sections.{IsFilledTo};
 
-use crate::asking::{asks, fixup_of, is_in_template, may_stand};
+use crate::asking::asks;
 use crate::fault::FillFault;
 use crate::field::{Field, near_at, read_field};
 use crate::kinds::is_prefix;
+use crate::making::{fault_of, word_of, written_of};
 use crate::places::Places;
-use crate::values::write_of;
-use crate::write::{WriteFault, put_field};
+use crate::write::put_field;
 use macho_fixups::Fixup;
-use macho_model::{PlacedSection, Site};
+use macho_model::PlacedSection;
 use macho_object::{File, RelocationList};
 use macho_records::{S_THREAD_LOCAL_VARIABLES, SectionFlags};
 
@@ -52,39 +52,12 @@ fn ask<P: Places>(
     ensures done { OnOk result (IsAsked (P.look places.now) place (seen field.now) run.old.items run.new.items) }
     ensures why { IfErr result (CannotAsk (P.look places.now) place (seen field.now)) }
 {
-    let address = place.address + u64::from(field.offset);
-    if !may_stand(address) {
-        return Err(FillFault::Place {
-            file: place.file,
-            section: place.section,
-            relocation: field.relocation,
-        });
-    }
-    match fixup_of(places, field.target, field.addend) {
-        Some(kind) => {
-            run.push(Fixup { address, kind })?;
+    match word_of(places, place, field) {
+        Ok(word) => {
+            run.push(word)?;
             Ok(())
         }
-        None => Err(FillFault::Rebase {
-            at: Site::Field {
-                file: place.file,
-                section: place.section,
-                relocation: field.relocation,
-            },
-        }),
-    }
-}
-
-/// What a pointer counts from: the start of the template, where it is an offset in it.
-fn start_of<P: Places>(places: &P, in_template: bool) -> u64
-    ensures { result ≡ start_of in_template (P.look places.now).template }
-{
-    if !in_template {
-        return 0;
-    }
-    match places.template() {
-        Some(range) => range.start,
-        None => 0,
+        Err(fault) => Err(fault),
     }
 }
 
@@ -100,24 +73,10 @@ fn set<P: Places>(
     ensures done { OnOk result (IsPut (written_in (P.look places.now) descriptors place (seen field.now)) out.old out.new) }
     ensures why { IfErr result (CannotSet (P.look places.now) descriptors place (seen field.now) out.old) }
 {
-    let in_template = descriptors && is_in_template(places, field.target);
-    let start = start_of(places, in_template);
-    let write = write_of(
-        places,
-        field,
-        place.address + u64::from(field.offset),
-        start,
-    );
+    let write = written_of(places, place, field, descriptors);
     match put_field(&write, out) {
         Ok(()) => Ok(()),
-        Err(WriteFault::NoWord) => Err(FillFault::Unsupported),
-        Err(WriteFault::Range) => Err(FillFault::Range {
-            at: Site::Field {
-                file: place.file,
-                section: place.section,
-                relocation: field.relocation,
-            },
-        }),
+        Err(fault) => Err(fault_of(fault, place, field)),
     }
 }
 

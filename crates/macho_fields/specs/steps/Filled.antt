@@ -14,6 +14,8 @@ use Rattle.macho_fields.specs.declared.fault.FillFault.{FillFault}
 use Rattle.macho_fields.specs.declared.fault.FillFault.TheVariants.{Range, Rebase, Place, Unsupported, OutOfMemory}
 use Rattle.macho_fields.specs.declared.section.Source.{Source}
 use Rattle.macho_fields.specs.declared.write.FieldWrite.{FieldWrite}
+use Rattle.macho_fields.specs.declared.write.WriteFault.{WriteFault}
+use Rattle.macho_fields.specs.declared.write.WriteFault.TheVariants as write_fault
 use Rattle.macho_fields.specs.Looks.{Look}
 use Rattle.macho_fields.specs.steps.Fields.{kind_in, write_in, start_of, in_template, asks, is_encodable, kind_asked, may_stand}
 use Rattle.macho_fields.specs.steps.Writes.{IsPut, HasField, DoesNotHold}
@@ -36,6 +38,12 @@ place_in q f = q.address + f.offset
 abbrev pub site_in : PlacedSection → Field → Site
 site_in q f = site.Field q.file q.section f.relocation
 
+-- the word that the loader is asked to make of a field
+pub record IsWordOf (look : Look) (q : PlacedSection) (f : Field) (word : Fixup) : Type 0 where
+  pub stands : may_stand (place_in q f) ≡ true
+  pub encodable : is_encodable look f.target f.addend ≡ true
+  pub is : word ≡ record { address = place_in q f; kind = kind_asked look f.target f.addend }
+
 -- the loader was asked to write a field
 pub record IsAsked (look : Look) (q : PlacedSection) (f : Field) (old new : List Fixup) : Type 0 where
   pub stands : may_stand (place_in q f) ≡ true
@@ -57,6 +65,11 @@ start_in look descriptors f = start_of (descriptors && in_template look f.target
 
 abbrev pub written_in : Look → Bool → PlacedSection → Field → FieldWrite
 written_in look descriptors q f = write_in look (place_in q f) (start_in look descriptors f) f (kind_in f)
+
+-- why a field isn't filled, by why its value isn't written
+abbrev pub fault_in : PlacedSection → Field → WriteFault → FillFault
+fault_in q f write_fault.NoWord = Unsupported
+fault_in q f write_fault.Range = Range (site_in q f)
 
 abbrev pub CannotSet : Look → Bool → PlacedSection → Field → List ℕ → FillFault → Type 0
 CannotSet look descriptors q f old (Range at) = (at ≡ site_in q f) × DoesNotHold (written_in look descriptors q f) old

@@ -44,3 +44,7 @@ pub record DoesNotHold (w : FieldWrite) (old : List ℕ) : Type 0 where
 abbrev pub CannotPut : FieldWrite → List ℕ → WriteFault → Type 0
 CannotPut w old NoWord = HasField w old → ⊥
 CannotPut w old Range = DoesNotHold w old
+
+-- the same of bytes that begin with the field
+abbrev pub at_start : FieldWrite → FieldWrite
+at_start w = record { at = 0; size = w.size; relax = w.relax; value = w.value }
