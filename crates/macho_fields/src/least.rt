@@ -19,7 +19,7 @@ use crate::section::Source;
 use crate::write::write_fault;
 use macho_model::{PlacedSection, Site};
 use macho_object::File;
-use macho_records::{S_THREAD_LOCAL_VARIABLES, SectionFlags};
+use macho_records::{ARM64_RELOC_UNSIGNED, S_THREAD_LOCAL_VARIABLES, SectionFlags};
 
 /// Where a fault stands in the order of refusals: a bad place, then a value that has no word, then one that doesn't fit; a
 /// field's before a slot's, and that before a stub's.
@@ -66,7 +66,8 @@ fn field_fault<P: Places>(places: &P, source: &Source<'_, '_>, field: &Field) ->
     }
 }
 
-/// Why the field of a relocation can't be filled, None where it can or there is no such field.
+/// Why a pointer can't be filled, None where it can or the relocation is of another type: what else can't be filled is out of
+/// range, and of such fields the first one was met already.
 fn relocation_fault<P: Places>(places: &P, source: &Source<'_, '_>, index: u32) -> Option<FillFault>
     requires source { IsSource source.now }
     requires index { index < (section_at source.now.file.now.bytes source.now.place.section).nreloc }
@@ -76,6 +77,9 @@ fn relocation_fault<P: Places>(places: &P, source: &Source<'_, '_>, index: u32) 
 {
     let near = near_at(source.list, index);
     if is_prefix(near.relocation.r_type) {
+        return None;
+    }
+    if near.relocation.r_type != ARM64_RELOC_UNSIGNED {
         return None;
     }
     let field = read_field(places, source.place.file, source.file, source.bytes, &near);
@@ -98,8 +102,9 @@ fn relocations_fault<P: Places>(places: &P, source: &Source<'_, '_>, told: FillF
     least
 }
 
-/// The fault that is told where a section may have several, and another fault stands already: the first in the order of
-/// refusals, and of one rank the one that stands already, or the first by relocation. Nothing is written, and no memory taken.
+/// The fault that is told where pointers of a section may have several, and another fault stands already, the first that was
+/// met: the first in the order of refusals, and of one rank the one that stands already, or the first by relocation. Nothing is
+/// written, and no memory taken.
 pub fn section_fault<P: Places>(
     places: &P,
     file: &File<'_>,

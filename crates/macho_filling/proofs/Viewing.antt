@@ -4,7 +4,7 @@
 -- in order. So what filling one section rests on follows from what filling all of them does. A section of zeros has no fields: it
 -- asks for nothing, and nothing stands against it.
 use Rattle.std.proofs.Common.{◌≡◌, ℕ, true, false, Bool, List, [], ◌++◌, map, filter, length, get_or, refl, sym, ap, subst, ◌∙◌, arith, append-nil, inl, inr, if◌then◌else◌, Option, Some, None, Result, Ok, Err, OnOk}
-use Rattle.std.specs.Prelude.{Contains, nat_lt}
+use Rattle.std.specs.Prelude.{Contains, All, nat_lt}
 use Rattle.std.proofs.lemmas.Bool.{cases_lt, true≢false}
 use Rattle.std.proofs.lemmas.List.{get_or_past, get_or-map, length-map}
 use Rattle.macho_records.specs.Sections.{is_zerofill}
@@ -23,8 +23,8 @@ use Rattle.macho_fixups.specs.declared.run.Fixup.{Fixup}
 use Rattle.macho_fields.specs.Looks.{Look}
 use Rattle.macho_fields.specs.Filling.{IsToFill}
 use Rattle.macho_fields.specs.Faults.{NoneStandsIn}
-use Rattle.macho_filling.specs.Fitting.{AreToFill}
-use Rattle.macho_filling.specs.steps.Sections.{IsPut, IsDone}
+use Rattle.macho_filling.specs.Fitting.{SectionsFit, AreToFill}
+use Rattle.macho_filling.specs.steps.Sections.{IsPut, IsDone, IsSeen}
 
 -- two facts of an Ok give a third
 pub on_ok_all : {X E A B C D : Type 0} (r : Result X E) → (A → B → C → D) → OnOk r A → OnOk r B → OnOk r C → OnOk r D
@@ -129,3 +129,13 @@ filled_done l p q old new run next filled put asked none = record {
 pub on_ok_always : {X E A : Type 0} (r : Result X E) → A → OnOk r A
 on_ok_always (Ok x) a = a
 on_ok_always (Err e) a = tt
+
+-- sections that have room are those of viewed objects
+pub sections_seen : (views : List (Option FileBytes)) (p : Placed) (n : ℕ) → SectionsFit views p n → All (IsSeen views) p.sections
+sections_seen views p n fit k d lt = record {
+  file = (fit k d lt).file;
+  viewed = (fit k d lt).viewed;
+  static = (fit k d lt).static;
+  among = (fit k d lt).among;
+  low = λ filled. ((fit k d lt).room filled).low;
+}

@@ -9,6 +9,7 @@ ghost use Rattle.macho_fields.specs.Through.{StubsAreFound, NoStubIsFar};
 ghost use Rattle.macho_filling.specs.Fitting.{SectionsFit, StubsFit, AreKnown, AreAllToFill};
 ghost use Rattle.macho_filling.specs.Filled.{StubsAreFilled, ContentsAreFilled, NoneIsBad};
 
+use crate::least::least_fault;
 use crate::sections::fill_sections;
 use macho_fields::{FillFault, Places, fill_stubs, slot_fixups};
 use macho_fixups::Fixup;
@@ -46,8 +47,10 @@ fn set_stubs<P: Places>(places: &P, placement: &Placement, out: &mut [u8]) -> Re
 ///
 /// # Errors
 ///
-/// A value doesn't fit where it is to be written, or a word can't be written by the loader; or there is not enough memory. The
-/// bytes and the run are then of no use.
+/// A value doesn't fit where it is to be written, or a word can't be written by the loader; or there is not enough memory. Of
+/// several faults the first in the order of refusals is told: a pointer's bad place, a value that has no word, one that doesn't
+/// fit; of one kind a field's before a slot's and a stub's, and the first by section and relocation. The bytes and the run are
+/// then of no use.
 pub fn fill_contents<P: Places>(
     places: &P,
     views: &[Option<File<'_>>],
@@ -75,10 +78,10 @@ pub fn fill_contents<P: Places>(
         return Err(FillFault::OutOfMemory);
     }
     if let Err(fault) = slot_fixups(places, &placement.slots, run) {
-        return Err(fault);
+        return Err(least_fault(places, views, placement, fault));
     }
     if let Err(fault) = fill_sections(places, views, placement, run, out) {
-        return Err(fault);
+        return Err(least_fault(places, views, placement, fault));
     }
     set_stubs(places, placement, out)
 }

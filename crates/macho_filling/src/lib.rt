@@ -8,6 +8,7 @@
 
 mod contents;
 mod laws;
+mod least;
 mod sections;
 
 pub use contents::fill_contents;

@@ -20,7 +20,7 @@ use macho_object::File;
 use macho_places::file_offset;
 
 /// The view of an object, None of another file.
-fn view_of<'view, 'data>(
+pub(crate) fn view_of<'view, 'data>(
     views: &'view [Option<File<'data>>],
     number: u32,
 ) -> Option<&'view File<'data>>

@@ -15,6 +15,7 @@ mod lists;
 mod passes;
 mod paths;
 mod planned;
+mod refused;
 mod sealing;
 mod tables;
 mod write;

@@ -6,9 +6,10 @@ ghost use Rattle.macho_linking.specs.steps.Planned.{IsPlanned, IsLooked, KnowsAl
 ghost use Rattle.macho_linking.specs.steps.Unwritten.{UnwrittenStands};
 ghost use Rattle.macho_linking.specs.steps.Imaged.{IsImaged};
 
-use crate::contents::{write_contents, write_offsets, write_unwind};
+use crate::contents::{write_offsets, write_unwind};
 use crate::fault::Unwritten;
 use crate::planned::Planned;
+use crate::refused::try_contents;
 use crate::sealing::{sign, write_head};
 use crate::tables::{write_imports, write_symbols, write_trie};
 use macho_composed::written_files_are_linked;
@@ -38,7 +39,7 @@ fn write_parts<P: Places>(
     ensures done { (l : Link) → IsLooked l b.now (P.look places.now) → IfOk result (IsImaged l (counts_of b.now) (placement_of b.now) uuid out.new) }
     ensures why { (l : Link) → IsLooked l b.now (P.look places.now) → IfErr result (UnwrittenStands l (placement_of b.now)) }
 {
-    let run = write_contents(alloc, b, places, out)?;
+    let run = try_contents(alloc, b, places, out)?;
     write_offsets(b, places, out)?;
     write_unwind(alloc, b, places, out)?;
     write_imports(alloc, b, &run, out)?;

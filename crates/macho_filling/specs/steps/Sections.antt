@@ -1,11 +1,13 @@
 -- Sections while they are filled: one that was taken care of, and the first ones of a placement.
-use Rattle.std.specs.Prelude.{◌≡◌, ℕ, not, true, false, List, ◌++◌, length, filter, take, All}
+use Rattle.std.specs.Prelude.{◌≡◌, ℕ, ◌+◌, ◌^◌, ◌<◌, ◌≤◌, not, true, false, List, ◌++◌, length, filter, take, get_or, Option, Some, None, All}
 use Rattle.std.specs.List.{flat_map}
 use Rattle.macho_bytes.specs.Texts.{Part, put}
 use Rattle.macho_records.specs.Sections.{is_zerofill}
 use Rattle.macho_model.specs.declared.placed.PlacedSection.{PlacedSection}
+use Rattle.macho_model.specs.Objects.{num_sections, section_at}
 use Rattle.macho_model.specs.Links.{Link, header_at}
 use Rattle.macho_model.specs.Placement.{Placed, id_of}
+use Rattle.macho_object.specs.Views.{FileBytes}
 use Rattle.macho_fixups.specs.declared.run.Fixup.{Fixup}
 use Rattle.macho_parts.specs.Asked.{fixups_in}
 use Rattle.macho_ranges.specs.Parts.{written}
@@ -37,3 +39,11 @@ pub record AreDone (l : Link) (p : Placed) (n : ℕ) (old new : List ℕ) (run n
   pub long : length new ≡ length old
   pub asked : next ≡ run ++ flat_map (fixups_in l p) (take n p.sections)
   pub none : All (NoneStandsIn l p) (take n p.sections)
+
+-- A placed section is one of a viewed object, and ends below 2 ^ 64 where it has bytes.
+pub record IsSeen (views : List (Option FileBytes)) (q : PlacedSection) : Type 0 where
+  pub file : FileBytes
+  pub viewed : get_or views q.file None ≡ Some file
+  pub static : file.is_dynamic ≡ false
+  pub among : q.section < num_sections file.bytes
+  pub low : is_zerofill (section_at file.bytes q.section) ≡ false → q.address + (section_at file.bytes q.section).size ≤ 2 ^ 64

@@ -1,6 +1,7 @@
 -- Slots, sections and stubs, one after the other.
+use Rattle.std.proofs.Common.{length}
 use Rattle.macho_layout.specs.Placements.{placed_of}
-use Rattle.macho_filling.proofs.Viewing.{on_ok_one, on_ok_always}
+use Rattle.macho_filling.proofs.Viewing.{on_ok_one, on_ok_always, sections_seen}
 use Rattle.macho_filling.proofs.Firsts.{asked_joined}
 use Rattle.macho_filling.proofs.NoneBad.{none_is_bad}
 use Rattle.macho_filling.proofs.contents.fill_contents.Goals as goal
@@ -23,3 +24,21 @@ returns-clause-only g c l all =
 
 pub returns-clause-why : goal.returns-clause-why
 returns-clause-why g c l all = c.set_stubs.ensures.why l all.sections.tells.addresses all.stubs
+
+-- a refusal that was met, or one of a section that is told before it
+pub returns-in-Err-clause-why : goal.returns-in-Err-clause-why
+returns-in-Err-clause-why g c l all =
+    let p = placed_of c.args.placement.now in
+    c.least_fault.ensures l all.sections (c.in-Err.ensures.why l p all.sections.tells all.slots c.deref.ensures.value)
+
+pub returns-in-Err-fill_sections-clause-why : goal.returns-in-Err-fill_sections-clause-why
+returns-in-Err-fill_sections-clause-why g c l all =
+    c.least_fault-in-Err-fill_sections.ensures l all.sections (c.in-Err-fill_sections.ensures.why l all.sections)
+
+pub least_fault-requires-clause-seen : goal.least_fault-requires-clause-seen
+least_fault-requires-clause-seen g c =
+    sections_seen c.args.views.now (placed_of c.args.placement.now) (length c.args.out.now) c.requires.sections
+
+pub least_fault-requires-in-Err-fill_sections-clause-seen : goal.least_fault-requires-in-Err-fill_sections-clause-seen
+least_fault-requires-in-Err-fill_sections-clause-seen g c =
+    sections_seen c.args.views.now (placed_of c.args.placement.now) (length c.args.out.now) c.requires.sections

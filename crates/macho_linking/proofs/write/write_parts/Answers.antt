@@ -41,12 +41,12 @@ write_head-requires-clause-trie g c =
 pub returns-clause-done : goal.returns-clause-done
 returns-clause-done g c l h =
     let p = placement_of c.args.b.now in
-    let contents = subst (λ (run : List Fixup). AreContents l p run p.linkedit.signature.end c.write_contents.new.out) (sym c.deref.ensures.value)
+    let contents = subst (λ (run : List Fixup). AreContents l p run p.linkedit.signature.end c.try_contents.new.out) (sym c.deref.ensures.value)
     (c.in_ok-run.ensures.done l h) in
     parts_written c.written_files_are_linked.ensures l c.args.b.now c.args.uuid c.sign.new.out c.deref.result.now c.len.result h.planned
     (c.in_ok-run.ensures.good l h)
     (record {
-      contents = c.write_contents.new.out;
+      contents = c.try_contents.new.out;
       filled = contents;
       offset_bytes = c.write_offsets.new.out;
       offsets = c.in_ok-write_offsets.ensures.done l h;
