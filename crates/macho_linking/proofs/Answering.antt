@@ -10,4 +10,5 @@ err_with (Err x) e P told p = subst P (sym told) p
 
 -- a buffer into which so many bytes were written, as many as it has, is these bytes
 pub whole_buffer : (now old : List ℕ) (len : ℕ) → length now ≡ len → take len (now ++ drop (length now) old) ≡ now
-whole_buffer now old len long = ap (λ (n : ℕ). take n (now ++ drop (length now) old)) (sym long) ∙ take-append_seam now (drop (length now) old)
+whole_buffer now old len long = ap (λ (n : ℕ). take n (now ++ drop (length now) old)) (sym long)
+    ∙ take-append_seam now (drop (length now) old)

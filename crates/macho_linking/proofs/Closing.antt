@@ -1,6 +1,7 @@
 -- The answer of a link, by those of its passes.
 --
--- A refusal that stands for the sizes of the link is the link's. What was read, sized and placed is what an image is written from; and what is
+-- A refusal that stands for the sizes of the link is the link's. What was read, sized and placed is what an image is written from; and what
+-- is
 -- written then is as promised, with nothing that stands against it.
 use Rattle.std.proofs.Common.{◌≡◌, ℕ, ◌+◌, ◌<◌, ◌≤◌, ◌⊎◌, inl, inr, ◌^◌, false, List, map, length, refl, sym, ap, subst, ◌∙◌, arith, All}
 use Rattle.std.specs.Prelude.{Option, Some, None, Result, Ok, Err, IfOk, OnOk, IfErr, IsErrAnd}
@@ -14,7 +15,8 @@ use Rattle.macho_model.specs.Links.{Link}
 use Rattle.macho_model.specs.Limits.{GREATEST_LIBRARIES}
 use Rattle.macho_model.specs.Needs.{libraries_needed, imports_of}
 use Rattle.macho_model.specs.Placement.{Placed}
-use Rattle.macho_model.specs.Faults.{LinkFault, FixupPlace, ImageTooLarge, RebaseTarget, RelocationRange, FaultStands, kept_placement, bad_name}
+use Rattle.macho_model.specs.Faults.{LinkFault, FixupPlace, ImageTooLarge, RebaseTarget, RelocationRange, FaultStands, kept_placement}
+use Rattle.macho_model.specs.Faults.{bad_name}
 use Rattle.macho_model.specs.Told.{imports_told}
 use Rattle.macho_placing.specs.Laws.{NonePasses}
 use Rattle.macho_promise.specs.Sizes.{AreCounts}
@@ -73,7 +75,8 @@ refused l (Err e) fine stands = standing_is_told l e fine.objects fine.bytes fin
 pub refused_with : {X : Type 0} (l : Link) (r : Result X LinkError) (e : LinkError) → IsFine l → IsErrAnd r (λ x. x ≡ e) → StandsAlways l e
     → IfErr r (IsRefused l)
 refused_with l (Ok x) e fine told stands = absurd told
-refused_with l (Err x) e fine told stands = standing_is_told l x fine.objects fine.bytes fine.name (subst (StandsAlways l) (sym told) stands)
+refused_with l (Err x) e fine told stands = standing_is_told l x fine.objects fine.bytes fine.name
+    (subst (StandsAlways l) (sym told) stands)
 
 -- no limit is passed by what was placed
 sized_within : (l : Link) (kept : List NamedExport) (s : SizedLink) → IsSizedOf l kept s → NonePasses l s.counts (placed_of s.placement)
@@ -86,25 +89,32 @@ sized_within l kept s h = record {
 }
 
 -- a fault of the placement is a refusal that stands
-late : (l : Link) (kept : List NamedExport) (s : SizedLink) (f : LinkFault) → IsSizedOf l kept s → kept_placement f ≡ Some (placed_of s.placement)
+late : (l : Link) (kept : List NamedExport) (s : SizedLink) (f : LinkFault) → IsSizedOf l kept s
+    → kept_placement f ≡ Some (placed_of s.placement)
     → FaultStands l s.counts f → (counts : Counts) → AreCounts l counts → IsStanding l counts f
-late l kept s f h keeps stands = late_is_standing l s.counts (placed_of s.placement) f h.placed (sized_within l kept s h) h.counted keeps stands
+late l kept s f h keeps stands = late_is_standing l s.counts (placed_of s.placement) f h.placed (sized_within l kept s h) h.counted keeps
+    stands
 
 -- why a placed image isn't written is a refusal that stands
-pub unwritten_stands : (l : Link) (read : ReadLink) (s : SizedLink) (e : Unwritten) → HasSizes l read s → UnwrittenStands l (placed_of s.placement) e
+pub unwritten_stands : (l : Link) (read : ReadLink) (s : SizedLink) (e : Unwritten) → HasSizes l read s
+    → UnwrittenStands l (placed_of s.placement) e
     → StandsAlways l (refusal_of e s.placement)
-unwritten_stands l read s (Unfilled (fill.Range at)) h stands = late l h.kept s (RelocationRange at (placed_of s.placement)) h.sizes refl stands
-unwritten_stands l read s (Unfilled (fill.Rebase at)) h stands = late l h.kept s (RebaseTarget at (placed_of s.placement)) h.sizes refl stands
+unwritten_stands l read s (Unfilled (fill.Range at)) h stands = late l h.kept s (RelocationRange at (placed_of s.placement)) h.sizes refl
+    stands
+unwritten_stands l read s (Unfilled (fill.Rebase at)) h stands = late l h.kept s (RebaseTarget at (placed_of s.placement)) h.sizes refl
+    stands
 unwritten_stands l read s (Unfilled (fill.Place file section relocation)) h stands =
     late l h.kept s (FixupPlace file section relocation (Some (placed_of s.placement))) h.sizes refl stands
 unwritten_stands l read s (Unfilled fill.Unsupported) h stands = λ counts are. tt
 unwritten_stands l read s (Unfilled fill.OutOfMemory) h stands = λ counts are. tt
-unwritten_stands l read s (Unmade made.TooLarge) h stands = late l h.kept s (ImageTooLarge (Some (placed_of s.placement))) h.sizes refl stands
+unwritten_stands l read s (Unmade made.TooLarge) h stands = late l h.kept s (ImageTooLarge (Some (placed_of s.placement))) h.sizes refl
+    stands
 unwritten_stands l read s (Unmade made.OutOfMemory) h stands = λ counts are. tt
 unwritten_stands l read s OutOfMemory h stands = λ counts are. tt
 
 -- want of memory is free
-pub refused_memory : {X : Type 0} (l : Link) (r : Result X LinkError) → IsFine l → IfErr r (λ e. e ≡ error.OutOfMemory) → IfErr r (IsRefused l)
+pub refused_memory : {X : Type 0} (l : Link) (r : Result X LinkError) → IsFine l → IfErr r (λ e. e ≡ error.OutOfMemory)
+    → IfErr r (IsRefused l)
 refused_memory l (Ok x) fine is = tt
 refused_memory l (Err e) fine is =
     standing_is_told l e fine.objects fine.bytes fine.name (subst (StandsAlways l) (sym is) (λ counts are. tt))
@@ -113,13 +123,15 @@ pub refused_as : (l : Link) (e x : LinkError) → IsFine l → e ≡ x → Stand
 refused_as l e x fine is stands = standing_is_told l e fine.objects fine.bytes fine.name (subst (StandsAlways l) (sym is) stands)
 
 -- what was sized is planned
-pub planned : (l : Link) (b : Planned) → AreInputs l b → IsReadOf l b.read.now → AreKnown b.views.now b.read.now → HasSizes l b.read.now b.sized.now
+pub planned : (l : Link) (b : Planned) → AreInputs l b → IsReadOf l b.read.now → AreKnown b.views.now b.read.now
+    → HasSizes l b.read.now b.sized.now
     → IsPlanned l b
 planned l b inputs read known sizes =
     record { inputs = inputs; read = read; known = known; kept = sizes.kept; exports = sizes.exports; sized = sizes.sizes }
 
 -- the libraries of a sized link are few
-pub libraries_few : (l : Link) (read : ReadLink) (sized : SizedLink) → HasSizes l read sized → length (libraries_needed l) ≤ GREATEST_LIBRARIES
+pub libraries_few : (l : Link) (read : ReadLink) (sized : SizedLink) → HasSizes l read sized
+    → length (libraries_needed l) ≤ GREATEST_LIBRARIES
 libraries_few l read sized h = by (cases_lt GREATEST_LIBRARIES (length (libraries_needed l)))
   where
     by : (GREATEST_LIBRARIES < length (libraries_needed l)) ⊎ (length (libraries_needed l) ≤ GREATEST_LIBRARIES)
@@ -131,7 +143,8 @@ libraries_few l read sized h = by (cases_lt GREATEST_LIBRARIES (length (librarie
 pub answered : (l : Link) (uuid : List ℕ) (written : Written) (sized : SizedLink) (read : ReadLink) (libraries : List (List ℕ))
     (imports : List ImportName) → IsToAnswer l uuid written sized read libraries → map import_of imports ≡ imports_told l
     → (image : LinkedImage) → image.bytes.items ≡ written.bytes.items → image.placement ≡ sized.placement
-    → map (λ library. library.items) image.libraries.items ≡ libraries → image.imports.items ≡ imports → image.exports.items ≡ read.exports.items
+    → map (λ library. library.items) image.libraries.items ≡ libraries → image.imports.items ≡ imports
+    → image.exports.items ≡ read.exports.items
     → image.fixups ≡ written.fixups → IsImageOf l uuid image
 answered l uuid written sized read libraries imports h told image bytes placement names listed exports fixups = record {
   counts = sized.counts;

@@ -45,7 +45,8 @@ pub to_chain : (l : Link) (b : Planned) (asked run none : List Fixup) (n : ℕ) 
 to_chain l b asked run none n h good empty is same whole = record {
   can = planned_chained l b h good;
   asked_are = same ∙ is ∙ ap (λ (t : List Fixup). t ++ fixups_asked l (placement_of b)) empty;
-  room = subst (HaveRoom (fixup_segments (placement_of b)) asked) (sym whole) (words_room l (counts_of b) (placement_of b) asked h.sized.placed);
+  room = subst (HaveRoom (fixup_segments (placement_of b)) asked) (sym whole)
+      (words_room l (counts_of b) (placement_of b) asked h.sized.placed);
 }
 
 pub contents : (l : Link) (b : Planned) (run new : List Fixup) (out before now : List ℕ)

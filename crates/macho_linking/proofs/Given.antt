@@ -1,5 +1,6 @@
 -- What is given to a link, as the passes ask for it; and answers of a link by those of its passes.
-use Rattle.std.proofs.Common.{◌≡◌, ℕ, ◌+◌, ◌<◌, ◌≤◌, ◌^◌, ◌==◌, not, true, List, [], ◌∷◌, map, length, refl, sym, ap, subst, ◌∙◌, arith, All}
+use Rattle.std.proofs.Common.{◌≡◌, ℕ, ◌+◌, ◌<◌, ◌≤◌, ◌^◌, ◌==◌, not, true, List, [], ◌∷◌, map, length, refl, sym, ap, subst, ◌∙◌, arith}
+use Rattle.std.proofs.Common.{All}
 use Rattle.std.specs.Prelude.{Option, Some, None, Result, Ok, Err, IfOk, OnOk, IfErr}
 use Rattle.std.proofs.lemmas.Bool.{ne_eqb}
 use Rattle.std.proofs.lemmas.List.{length-map}
@@ -64,7 +65,8 @@ on_ok (Ok x) P p = p
 on_ok (Err e) P p = tt
 
 -- a refusal that stands for all sizes
-pub stands_always : {X : Type 0} (l : Link) (r : Result X LinkError) → ((counts : Counts) → IfErr r (Stands l counts)) → IfErr r (StandsAlways l)
+pub stands_always : {X : Type 0} (l : Link) (r : Result X LinkError) → ((counts : Counts) → IfErr r (Stands l counts))
+    → IfErr r (StandsAlways l)
 stands_always l (Ok x) each = tt
 stands_always l (Err e) each = λ counts are. each counts
 
@@ -83,7 +85,8 @@ pub inputs_given : (a : LinkAsked) → IsGiven a → All IsInput (link_asked a).
 inputs_given a given = All-map IsInput input_of a.inputs.now given.inputs
 
 -- views are as few as inputs
-pub views_few : (a : LinkAsked) (views : List (Option FileBytes)) → IsGiven a → views ≡ parts.views_of (link_asked a) → length views < 2 ^ 32
+pub views_few : (a : LinkAsked) (views : List (Option FileBytes)) → IsGiven a → views ≡ parts.views_of (link_asked a)
+    → length views < 2 ^ 32
 views_few a views given is =
     let long : length views ≡ length (map parts.object_view (map input_of a.inputs.now)) = ap length is in
     omega (arith, long, length-map (map input_of a.inputs.now) parts.object_view, length-map a.inputs.now input_of, given.few)

@@ -27,7 +27,8 @@ pub record Handed (l : Link) (a : SizesOf) (views : List (Option FileBytes)) (ob
   pub exports : AreKept l (exports_told read.exports.items) a.exports.now
   pub trie : CanBeTrie a.exports.now
 
-pub are_of : (l : Link) (a : SizesOf) (views : List (Option FileBytes)) (objects : List LinkedObject) (lists : Option ListEntries) (read : ReadLink)
+pub are_of : (l : Link) (a : SizesOf) (views : List (Option FileBytes)) (objects : List LinkedObject) (lists : Option ListEntries)
+    (read : ReadLink)
     (libraries : List (List ℕ)) → IsToSize l views objects lists read libraries → Handed l a views objects read libraries → AreOf l a
 are_of l a views objects lists read libraries h handed = record {
   arguments = handed.arguments;
@@ -59,7 +60,8 @@ can_be_sized l a views objects lists read libraries h handed = record {
   of_link = are_of l a views objects lists read libraries h handed;
 }
 
-pub has_sizes : {E : Type 0} (l : Link) (read : ReadLink) (kept : List NamedExport) (r : Result SizedLink E) → AreKept l (exports_told read.exports.items) kept
+pub has_sizes : {E : Type 0} (l : Link) (read : ReadLink) (kept : List NamedExport) (r : Result SizedLink E)
+    → AreKept l (exports_told read.exports.items) kept
     → IfOk r (IsSizedOf l kept) → IfOk r (λ sized. HasSizes l read sized)
 has_sizes l read kept (Ok sized) exports sizes = record { kept = kept; exports = exports; sizes = sizes }
 has_sizes l read kept (Err e) exports sizes = tt

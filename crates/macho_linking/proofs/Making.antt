@@ -52,7 +52,8 @@ entries_sound l b look h =
     subst (λ (es : _). MayBeBuilt look.base (map (resolved_row look slots) es)) (sym h.planned.read.entries)
     (rows_sound l (counts_of b) (placement_of b) look slots (planned_to_make l b h.planned) h.tells h.planned.read.needs.slots)
 
-pub offsets_put : (l : Link) (b : Planned) (at k : ℕ) (text out : List ℕ) → IsPlanned l b → length out ≡ (placement_of b).linkedit.signature.end
+pub offsets_put : (l : Link) (b : Planned) (at k : ℕ) (text out : List ℕ) → IsPlanned l b
+    → length out ≡ (placement_of b).linkedit.signature.end
     → at ≡ offset_in_file (placement_of b) (placement_of b).init_offsets.start → k ≡ length text → IsOffsetsText l (placement_of b) text
     → OffsetsArePut l (placement_of b) out (put_mid at k out text)
 offsets_put l b at k text out h long place whole says = record {

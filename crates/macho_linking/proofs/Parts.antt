@@ -18,7 +18,8 @@ use Rattle.macho_composed.specs.Written.{AreContents, Texts, text_parts}
 use Rattle.macho_composed.specs.Meaning.{IsWritten, WrittenIsLinked, HeadMeans}
 use Rattle.macho_linking.specs.declared.planned.Planned.{Planned}
 use Rattle.macho_linking.specs.steps.Planned.{IsPlanned, placement_of, counts_of}
-use Rattle.macho_linking.specs.steps.Written.{OffsetsArePut, UnwindIsPut, FixupsArePut, TrieIsPut, SymbolsArePut, HeadIsWritten, SignatureIsPut}
+use Rattle.macho_linking.specs.steps.Written.{OffsetsArePut, UnwindIsPut, FixupsArePut, TrieIsPut, SymbolsArePut, HeadIsWritten}
+use Rattle.macho_linking.specs.steps.Written.{SignatureIsPut}
 use Rattle.macho_linking.specs.steps.Imaged.{IsImaged}
 use Rattle.macho_linking.proofs.Ready.{planned_to_make, planned_chained, planned_ready}
 
@@ -41,7 +42,8 @@ pub record Writes (l : Link) (counts : Counts) (uuid : List ℕ) (p : Placed) (r
   pub head : HeadIsWritten l counts uuid p trie_size symbol_bytes head_bytes
   pub signature : SignatureIsPut l p head_bytes b
 
-abbrev pub texts_of : {l : Link} {counts : Counts} {uuid : List ℕ} {p : Placed} {run : List Fixup} {b : List ℕ} → Writes l counts uuid p run b → Texts
+abbrev pub texts_of : {l : Link} {counts : Counts} {uuid : List ℕ} {p : Placed} {run : List Fixup} {b : List ℕ}
+    → Writes l counts uuid p run b → Texts
 texts_of w = record {
   initializers = w.offsets.text;
   unwind = w.unwind.text;
@@ -101,7 +103,8 @@ parts_written law l b uuid bytes run fixups h good w many = record {
 }
 
 -- a trie that stands in a file of fewer than 2 ^ 32 bytes has fewer
-pub trie_small : (l : Link) (b : Planned) (size : ℕ) (old new : List ℕ) → IsPlanned l b → TrieIsPut l (placement_of b) size old new → size < 2 ^ 32
+pub trie_small : (l : Link) (b : Planned) (size : ℕ) (old new : List ℕ) → IsPlanned l b → TrieIsPut l (placement_of b) size old new
+    → size < 2 ^ 32
 trie_small l b size old new h put =
     let low : (placement_of b).linkedit.trie.end < LIMIT_32 = h.sized.limits.ranges (placement_of b).linkedit.trie (1, omega arith, refl) in
     omega (arith, put.long, put.fits, low)

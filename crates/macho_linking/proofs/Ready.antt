@@ -10,7 +10,8 @@
 -- planned_chained       its words can be written where nothing stands against them
 -- planned_ready         an image of it can be whole
 -- planned_to_fill, planned_sections, planned_stubs, planned_symbols      its sections and stubs can be filled
-use Rattle.std.proofs.Common.{◌≡◌, ℕ, ◌+◌, ◌-◌, ◌*◌, ◌<◌, ◌≤◌, ◌⊎◌, inl, inr, List, map, length, refl, sym, ap, subst, ◌∙◌, arith, All, Contains, get_or, Option, Some, None}
+use Rattle.std.proofs.Common.{◌≡◌, ℕ, ◌+◌, ◌-◌, ◌*◌, ◌<◌, ◌≤◌, ◌⊎◌, inl, inr, List, map, length, refl, sym, ap, subst, ◌∙◌, arith, All}
+use Rattle.std.proofs.Common.{Contains, get_or, Option, Some, None}
 use Rattle.std.proofs.lemmas.Bool.{cases_lt}
 use Rattle.macho_layout.specs.Placements.{placed_of}
 use Rattle.macho_model.specs.declared.placed.Counts.{Counts}
@@ -113,13 +114,15 @@ planned_entries l b h =
     let many : (counts_of b).imports ≡ length (import_entries_of l) = ap (λ (c : Counts). c.imports) h.sized.counted.are in
     by many (cases_lt GREATEST_IMPORTS (length (import_entries_of l)))
   where
-    by : (counts_of b).imports ≡ length (import_entries_of l) → (GREATEST_IMPORTS < length (import_entries_of l)) ⊎ (length (import_entries_of l) ≤ GREATEST_IMPORTS)
+    by : (counts_of b).imports ≡ length (import_entries_of l) → (GREATEST_IMPORTS < length (import_entries_of l))
+        ⊎ (length (import_entries_of l) ≤ GREATEST_IMPORTS)
         → length (import_entries_of l) ≤ GREATEST_IMPORTS
     by many (inl more) =
         absurd (h.sized.limits.numbers limit.Imports (counts_of b).imports (refl, subst (λ (n : ℕ). GREATEST_IMPORTS < n) (sym many) more))
     by many (inr fits) = fits
 
-pub planned_chained : (l : Link) (b : Planned) → IsPlanned l b → NoneIsBad l (placement_of b) → CanBeChained l (counts_of b) (placement_of b)
+pub planned_chained : (l : Link) (b : Planned) → IsPlanned l b → NoneIsBad l (placement_of b)
+    → CanBeChained l (counts_of b) (placement_of b)
 planned_chained l b h good = record {
   placed = h.sized.placed;
   leads = links_lead l h.inputs.rules.0 h.read.fit.sound (personalities_are_fit l h.read.fit.entries);
@@ -139,7 +142,8 @@ planned_ready l b h = record {
     segments_rise l (counts_of b) (placement_of b) h.sized.placed (planned_within l b h),
     segments_end l (counts_of b) (placement_of b) h.sized.placed (planned_within l b h),
   );
-  template = templates_tight l h.sized.planned.plan (counts_of b) (placement_of b) h.sized.planned.of_link h.sized.planned.fits h.sized.planned.laid;
+  template = templates_tight l h.sized.planned.plan (counts_of b) (placement_of b) h.sized.planned.of_link h.sized.planned.fits
+      h.sized.planned.laid;
 }
 
 pub planned_to_fill : (l : Link) (b : Planned) (look : Look) → IsLooked l b look → fitting.AreAllToFill l (placement_of b) b.views.now look
@@ -161,7 +165,8 @@ pub planned_sections : (l : Link) (b : Planned) → IsPlanned l b
 planned_sections l b h =
     let stand = parts_stand l (counts_of b) (placement_of b) h.sized.placed in
     subst (λ (vs : _). fitting.SectionsFit vs (placement_of b) (placement_of b).linkedit.signature.end) (sym h.inputs.views)
-    (sections_have_room l (counts_of b) (placement_of b) (placement_of b).linkedit.signature.end h.sized.placed.placed h.sized.placed.order.sections
+    (sections_have_room l (counts_of b) (placement_of b) (placement_of b).linkedit.signature.end h.sized.placed.placed
+    h.sized.placed.order.sections
     (segments_end l (counts_of b) (placement_of b) h.sized.placed (planned_within l b h)) (λ k d lt. (stand.sections k d lt).ends))
 
 pub planned_stubs : (l : Link) (b : Planned) → IsPlanned l b → fitting.StubsFit (placement_of b) (placement_of b).linkedit.signature.end
@@ -174,4 +179,7 @@ pub planned_symbols : (l : Link) (b : Planned) (has_symbol : ℕ → ℕ → Typ
     → fitting.AreKnown b.views.now has_symbol
 planned_symbols l b has_symbol h knows =
     let known = symbols_are_known l _ b.read.now.needs.resolved h.read.resolved in
-    record { each = λ k f is s lt. knows k s (known.each k f (subst (λ (vs : List (Option FileBytes)). get_or vs k None ≡ Some f) h.inputs.views is) s lt) }
+    record {
+      each = λ k f is s lt. knows k s (known.each k f (subst (λ (vs : List (Option FileBytes)). get_or vs k None ≡ Some f)
+          h.inputs.views is) s lt);
+    }

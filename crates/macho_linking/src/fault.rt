@@ -12,7 +12,7 @@ use std::alloc::{AllocError, AllocFailed};
 /// Why an image isn't written.
 #[derive(Clone, Copy, Drop)]
 pub(crate) enum Unwritten {
-    /// A field, a stub or a word of the loader can't be.
+    /// A field, a stub or a word of the loader can't be written.
     Unfilled(FillFault),
     /// An offset passes 32 bits.
     Unmade(MadeFault),
@@ -77,6 +77,9 @@ pub(crate) fn refusal(fault: Unwritten, placement: Placement) -> LinkError
         Unwritten::Unmade(MadeFault::TooLarge) => LinkError::ImageTooLarge {
             placement: Some(placement),
         },
-        _ => LinkError::OutOfMemory,
+        // (a link that was read has no field of an unknown kind)
+        Unwritten::Unfilled(FillFault::Unsupported | FillFault::OutOfMemory)
+        | Unwritten::Unmade(MadeFault::OutOfMemory)
+        | Unwritten::OutOfMemory => LinkError::OutOfMemory,
     }
 }

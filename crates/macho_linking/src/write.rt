@@ -36,7 +36,8 @@ fn write_parts<P: Places>(
     requires link { (l : Link) × IsLooked l b.now (P.look places.now) }
     requires zeros { out.old ≡ zeros (placement_of b.now).linkedit.signature.end }
     ensures length { length out.new ≡ length out.old }
-    ensures done { (l : Link) → IsLooked l b.now (P.look places.now) → IfOk result (IsImaged l (counts_of b.now) (placement_of b.now) uuid out.new) }
+    ensures done { (l : Link) → IsLooked l b.now (P.look places.now)
+        → IfOk result (IsImaged l (counts_of b.now) (placement_of b.now) uuid out.new) }
     ensures why { (l : Link) → IsLooked l b.now (P.look places.now) → IfErr result (UnwrittenStands l (placement_of b.now)) }
 {
     let run = try_contents(alloc, b, places, out)?;
@@ -58,7 +59,8 @@ pub(crate) fn write_image(
     uuid: [u8; 16],
 ) -> Result<Written, Unwritten>
     requires { (l : Link) × IsPlanned l b.now }
-    ensures done { (l : Link) → IsPlanned l b.now → IfOk result (λ w. IsImaged l (counts_of b.now) (placement_of b.now) uuid w.bytes.items w.fixups) }
+    ensures done { (l : Link) → IsPlanned l b.now
+        → IfOk result (λ w. IsImaged l (counts_of b.now) (placement_of b.now) uuid w.bytes.items w.fixups) }
     ensures why { (l : Link) → IsPlanned l b.now → IfErr result (UnwrittenStands l (placement_of b.now)) }
 {
     let size = b.sized.placement.linkedit.signature.end as usize;

@@ -12,7 +12,8 @@ pub fill_contents-requires-clause-sections : goal.fill_contents-requires-clause-
 fill_contents-requires-clause-sections g c =
     let some = c.requires.link in
     let b = c.args.b.now in
-    subst (SectionsFit b.views.now (placement_of b)) (sym (zeros_long _ c.args.out.now c.requires.zeros)) (planned_sections some.0 b some.1.planned)
+    subst (SectionsFit b.views.now (placement_of b)) (sym (zeros_long _ c.args.out.now c.requires.zeros))
+    (planned_sections some.0 b some.1.planned)
 
 pub fill_contents-requires-clause-symbols : goal.fill_contents-requires-clause-symbols
 fill_contents-requires-clause-symbols g c =
@@ -28,7 +29,8 @@ fill_contents-requires-clause-stubs g c =
 pub returns-in_err-fill_contents-clause-why : goal.returns-in_err-fill_contents-clause-why
 returns-in_err-fill_contents-clause-why g c = λ l h.
     let b = c.args.b.now in
-    refused c.from_residual.result (UnwrittenStands l (placement_of b)) (Unfilled c.in_err-fill_contents.field-0.0) c.from_residual.ensures.1
+    refused c.from_residual.result (UnwrittenStands l (placement_of b)) (Unfilled c.in_err-fill_contents.field-0.0)
+    c.from_residual.ensures.1
     (c.in_err-fill_contents.ensures.why l (planned_to_fill l b (g.P.Places.look c.args.places.now) h))
 
 pub write_words-requires : goal.write_words-requires
@@ -40,7 +42,8 @@ write_words-requires g c =
       link = (
         some.0,
         counts_of b,
-        to_chain some.0 b c.deref_mut.result.now c.fill_contents.new.run.items c.new-run.result.items (length c.fill_contents.new.out) some.1.planned
+        to_chain some.0 b c.deref_mut.result.now c.fill_contents.new.run.items c.new-run.result.items (length c.fill_contents.new.out)
+            some.1.planned
             (c.in_ok-fill_contents.ensures.only some.0 fill) c.new-run.ensures.items
             (c.in_ok-fill_contents.ensures.asked some.0 fill) c.deref_mut.ensures.value
             (omega (arith, c.fill_contents.auto.out, zeros_long _ c.args.out.now c.requires.zeros)),

@@ -35,7 +35,8 @@ write_initializers-requires-clause-symbols g c =
 pub returns-in_err-write_initializers-clause-why : goal.returns-in_err-write_initializers-clause-why
 returns-in_err-write_initializers-clause-why g c = λ l h.
     let b = c.args.b.now in
-    refused c.from_residual.result (UnwrittenStands l (placement_of b)) (Unmade c.in_err-write_initializers.field-0.0) c.from_residual.ensures.1
+    refused c.from_residual.result (UnwrittenStands l (placement_of b)) (Unmade c.in_err-write_initializers.field-0.0)
+    c.from_residual.ensures.1
     (c.in_err-write_initializers.ensures.why l (counts_of b) (placement_of b) (planned_to_make l b h.planned) h.tells
     (c.deref-2.ensures.value ∙ h.planned.read.initializers))
 

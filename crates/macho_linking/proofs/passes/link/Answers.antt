@@ -67,7 +67,11 @@ write_image-requires c =
           subst (All (λ (o : LinkedObject). o.file.is_dynamic ≡ false)) (sym c.deref-6.ensures.value) c.in_ok-objects.ensures.kinds,
         );
         lists = subst (AreLists l) (sym c.as_ref-list.ensures.value) (lists_are l c.in_ok-list.list c.in_ok-list.ensures);
-        rules = (inputs_are_read l (inputs_given c.args.asked.now c.requires), inputs_are_plain l (inputs_given c.args.asked.now c.requires));
+        rules = (
+          inputs_are_read l (inputs_given c.args.asked.now c.requires),
+          inputs_are_plain l
+              (inputs_given c.args.asked.now c.requires),
+        );
         libraries = (ap (map (λ n. n.items)) c.deref-7.ensures.value
             ∙ c.in_ok-libraries.ensures l refl refl (c.imports-imports.ensures l (imports_of l) c.in_ok-read.ensures.done.resolved));
       }) c.in_ok-read.ensures.done
@@ -96,7 +100,11 @@ returns-in-Ok-clause-done c =
           subst (All (λ (o : LinkedObject). o.file.is_dynamic ≡ false)) (sym c.deref-6.ensures.value) c.in_ok-objects.ensures.kinds,
         );
         lists = subst (AreLists l) (sym c.as_ref-list.ensures.value) (lists_are l c.in_ok-list.list c.in_ok-list.ensures);
-        rules = (inputs_are_read l (inputs_given c.args.asked.now c.requires), inputs_are_plain l (inputs_given c.args.asked.now c.requires));
+        rules = (
+          inputs_are_read l (inputs_given c.args.asked.now c.requires),
+          inputs_are_plain l
+              (inputs_given c.args.asked.now c.requires),
+        );
         libraries = (ap (map (λ n. n.items)) c.deref-7.ensures.value
             ∙ c.in_ok-libraries.ensures l refl refl (c.imports-imports.ensures l (imports_of l) c.in_ok-read.ensures.done.resolved));
       }) c.in_ok-read.ensures.done
@@ -111,7 +119,8 @@ returns-in-Ok-clause-done c =
 
 pub returns-in-Ok-clause-why : goal.returns-in-Ok-clause-why
 returns-in-Ok-clause-why c =
-    refused_memory (link_asked c.args.asked.now) c.answer.result (fine_link c.args.asked.now c.requires c.hold_bytes.ensures) c.answer.ensures.why
+    refused_memory (link_asked c.args.asked.now) c.answer.result (fine_link c.args.asked.now c.requires c.hold_bytes.ensures)
+    c.answer.ensures.why
 
 pub returns-clause-why : goal.returns-clause-why
 returns-clause-why c =

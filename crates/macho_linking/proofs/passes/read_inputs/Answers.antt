@@ -20,7 +20,8 @@ read_link-requires-clause-same c =
 pub returns-clause-done : goal.returns-clause-done
 returns-clause-done c =
     let l = link_asked c.args.asked.now in
-    c.read_link.ensures.done l (link_handed l c.args.views.now c.in_ok-resolved.resolved _ _ c.requires.views (c.in_ok-resolved.ensures.done l refl)
+    c.read_link.ensures.done l (link_handed l c.args.views.now c.in_ok-resolved.resolved _ _ c.requires.views
+    (c.in_ok-resolved.ensures.done l refl)
     c.entry_name.ensures c.requires.lists)
 
 pub returns-clause-single : goal.returns-clause-single
@@ -31,5 +32,6 @@ returns-clause-single c =
 pub returns-clause-why : goal.returns-clause-why
 returns-clause-why c =
     let l = link_asked c.args.asked.now in
-    stands_always l c.read_link.result (λ counts. c.read_link.ensures.why l counts (link_handed l c.args.views.now c.in_ok-resolved.resolved _ _
+    stands_always l c.read_link.result (λ counts. c.read_link.ensures.why l counts
+    (link_handed l c.args.views.now c.in_ok-resolved.resolved _ _
     c.requires.views (c.in_ok-resolved.ensures.done l refl) c.entry_name.ensures c.requires.lists))

@@ -17,7 +17,8 @@ kept_exports-requires-clause-link c =
     let l = link_asked c.args.asked.now in (
       l,
       record {
-        exports_are = subst (λ (es : List ExportName). AreExports l (imports_of l) es) (sym c.deref.ensures.value) c.requires.read_is.0.exports;
+        exports_are = subst (λ (es : List ExportName). AreExports l (imports_of l) es) (sym c.deref.ensures.value)
+            c.requires.read_is.0.exports;
         imports_are = c.imports.ensures l (imports_of l) c.requires.read_is.0.resolved;
         libraries_are = c.requires.libraries_are;
       },
@@ -26,7 +27,8 @@ kept_exports-requires-clause-link c =
 pub size_link-requires : goal.size_link-requires
 size_link-requires c =
     let l = link_asked c.args.asked.now in
-    can_be_sized l _ c.args.views.now c.args.objects.now (option_copied c.args.list) c.args.read.now (map (λ n. n.items) c.args.libraries.now) c.requires
+    can_be_sized l _ c.args.views.now c.args.objects.now (option_copied c.args.list) c.args.read.now
+    (map (λ n. n.items) c.args.libraries.now) c.requires
     (record {
       arguments = record {
         executable = refl;
@@ -42,12 +44,14 @@ size_link-requires c =
       exports = (subst (AreKept l (exports_told c.args.read.now.exports.items)) (sym c.deref-4.ensures.value)
           (subst (λ (es : List ExportName). AreKept l (exports_told es) c.in_ok-exports.exports.items) c.deref.ensures.value
           (c.in_ok-exports.ensures.kept l (record {
-            exports_are = subst (λ (es : List ExportName). AreExports l (imports_of l) es) (sym c.deref.ensures.value) c.requires.read_is.0.exports;
+            exports_are = subst (λ (es : List ExportName). AreExports l (imports_of l) es) (sym c.deref.ensures.value)
+                c.requires.read_is.0.exports;
             imports_are = c.imports.ensures l (imports_of l) c.requires.read_is.0.resolved;
             libraries_are = c.requires.libraries_are;
           }))));
       trie = subst CanBeTrie (sym c.deref-4.ensures.value) (c.in_ok-exports.ensures.names l (record {
-        exports_are = subst (λ (es : List ExportName). AreExports l (imports_of l) es) (sym c.deref.ensures.value) c.requires.read_is.0.exports;
+        exports_are = subst (λ (es : List ExportName). AreExports l (imports_of l) es) (sym c.deref.ensures.value)
+            c.requires.read_is.0.exports;
         imports_are = c.imports.ensures l (imports_of l) c.requires.read_is.0.resolved;
         libraries_are = c.requires.libraries_are;
       }) (imports_plain l c.requires.rules.1));
@@ -56,7 +60,8 @@ size_link-requires c =
 pub returns-clause-done : goal.returns-clause-done
 returns-clause-done c =
     let l = link_asked c.args.asked.now in
-    let of_link = are_of l _ c.args.views.now c.args.objects.now (option_copied c.args.list) c.args.read.now (map (λ n. n.items) c.args.libraries.now)
+    let of_link = are_of l _ c.args.views.now c.args.objects.now (option_copied c.args.list) c.args.read.now
+    (map (λ n. n.items) c.args.libraries.now)
     c.requires (record {
       arguments = record {
         executable = refl;
@@ -72,20 +77,24 @@ returns-clause-done c =
       exports = (subst (AreKept l (exports_told c.args.read.now.exports.items)) (sym c.deref-4.ensures.value)
           (subst (λ (es : List ExportName). AreKept l (exports_told es) c.in_ok-exports.exports.items) c.deref.ensures.value
           (c.in_ok-exports.ensures.kept l (record {
-            exports_are = subst (λ (es : List ExportName). AreExports l (imports_of l) es) (sym c.deref.ensures.value) c.requires.read_is.0.exports;
+            exports_are = subst (λ (es : List ExportName). AreExports l (imports_of l) es) (sym c.deref.ensures.value)
+                c.requires.read_is.0.exports;
             imports_are = c.imports.ensures l (imports_of l) c.requires.read_is.0.resolved;
             libraries_are = c.requires.libraries_are;
           }))));
       trie = subst CanBeTrie (sym c.deref-4.ensures.value) (c.in_ok-exports.ensures.names l (record {
-        exports_are = subst (λ (es : List ExportName). AreExports l (imports_of l) es) (sym c.deref.ensures.value) c.requires.read_is.0.exports;
+        exports_are = subst (λ (es : List ExportName). AreExports l (imports_of l) es) (sym c.deref.ensures.value)
+            c.requires.read_is.0.exports;
         imports_are = c.imports.ensures l (imports_of l) c.requires.read_is.0.resolved;
         libraries_are = c.requires.libraries_are;
       }) (imports_plain l c.requires.rules.1));
     }) in
-    has_sizes l c.args.read.now c.deref-4.result.now c.size_link.result (subst (AreKept l (exports_told c.args.read.now.exports.items)) (sym c.deref-4.ensures.value)
+    has_sizes l c.args.read.now c.deref-4.result.now c.size_link.result
+    (subst (AreKept l (exports_told c.args.read.now.exports.items)) (sym c.deref-4.ensures.value)
     (subst (λ (es : List ExportName). AreKept l (exports_told es) c.in_ok-exports.exports.items) c.deref.ensures.value
     (c.in_ok-exports.ensures.kept l (record {
-      exports_are = subst (λ (es : List ExportName). AreExports l (imports_of l) es) (sym c.deref.ensures.value) c.requires.read_is.0.exports;
+      exports_are = subst (λ (es : List ExportName). AreExports l (imports_of l) es) (sym c.deref.ensures.value)
+          c.requires.read_is.0.exports;
       imports_are = c.imports.ensures l (imports_of l) c.requires.read_is.0.resolved;
       libraries_are = c.requires.libraries_are;
     })))) (c.size_link.ensures.done l of_link c.requires.lists_are)
@@ -93,7 +102,8 @@ returns-clause-done c =
 pub returns-clause-why : goal.returns-clause-why
 returns-clause-why c =
     let l = link_asked c.args.asked.now in
-    let of_link = are_of l _ c.args.views.now c.args.objects.now (option_copied c.args.list) c.args.read.now (map (λ n. n.items) c.args.libraries.now)
+    let of_link = are_of l _ c.args.views.now c.args.objects.now (option_copied c.args.list) c.args.read.now
+    (map (λ n. n.items) c.args.libraries.now)
     c.requires (record {
       arguments = record {
         executable = refl;
@@ -109,12 +119,14 @@ returns-clause-why c =
       exports = (subst (AreKept l (exports_told c.args.read.now.exports.items)) (sym c.deref-4.ensures.value)
           (subst (λ (es : List ExportName). AreKept l (exports_told es) c.in_ok-exports.exports.items) c.deref.ensures.value
           (c.in_ok-exports.ensures.kept l (record {
-            exports_are = subst (λ (es : List ExportName). AreExports l (imports_of l) es) (sym c.deref.ensures.value) c.requires.read_is.0.exports;
+            exports_are = subst (λ (es : List ExportName). AreExports l (imports_of l) es) (sym c.deref.ensures.value)
+                c.requires.read_is.0.exports;
             imports_are = c.imports.ensures l (imports_of l) c.requires.read_is.0.resolved;
             libraries_are = c.requires.libraries_are;
           }))));
       trie = subst CanBeTrie (sym c.deref-4.ensures.value) (c.in_ok-exports.ensures.names l (record {
-        exports_are = subst (λ (es : List ExportName). AreExports l (imports_of l) es) (sym c.deref.ensures.value) c.requires.read_is.0.exports;
+        exports_are = subst (λ (es : List ExportName). AreExports l (imports_of l) es) (sym c.deref.ensures.value)
+            c.requires.read_is.0.exports;
         imports_are = c.imports.ensures l (imports_of l) c.requires.read_is.0.resolved;
         libraries_are = c.requires.libraries_are;
       }) (imports_plain l c.requires.rules.1));

@@ -15,4 +15,5 @@ loop-segment-preserved c =
 
 pub returns : goal.returns
 unfolding first_size
-returns c = size_nowhere c.args.segments.now c.loop-segment.segment-index (omega (arith, c.loop-segment-test.false)) c.loop-segment.invariant
+returns c = size_nowhere c.args.segments.now c.loop-segment.segment-index (omega (arith, c.loop-segment-test.false))
+    c.loop-segment.invariant

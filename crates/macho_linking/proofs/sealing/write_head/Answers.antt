@@ -35,7 +35,8 @@ write_image_head-requires-clause-room g c =
     let b = c.args.b.now in
     let parts = head_parts l b c.entry_offset.result c.args.uuid c.stamped_uuid.result c.args.trie c.requires.link.1.planned
     (c.entry_offset.ensures l c.requires.link.1) c.stamped_uuid.ensures in
-    let owed = head_owed l b (head_of b c.entry_offset.result c.stamped_uuid.result c.args.trie) c.args.uuid c.requires.link.1.planned parts in
+    let owed = head_owed l b (head_of b c.entry_offset.result c.stamped_uuid.result c.args.trie) c.args.uuid c.requires.link.1.planned
+    parts in
     omega (arith, owed.room, c.requires.long)
 
 pub returns-clause-done : goal.returns-clause-done

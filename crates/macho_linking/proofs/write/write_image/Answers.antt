@@ -16,7 +16,8 @@ returns-in_err-places-clause-why c l h =
 
 pub returns-in_err-bytes-clause-why : goal.returns-in_err-bytes-clause-why
 returns-in_err-bytes-clause-why c l h =
-    err_with c.from_residual-in_err-bytes.result OutOfMemory (UnwrittenStands l (placement_of c.args.b.now)) c.from_residual-in_err-bytes.ensures.1 tt
+    err_with c.from_residual-in_err-bytes.result OutOfMemory (UnwrittenStands l (placement_of c.args.b.now))
+    c.from_residual-in_err-bytes.ensures.1 tt
 
 pub write_parts-requires-clause-known : goal.write_parts-requires-clause-known
 write_parts-requires-clause-known c =
@@ -35,11 +36,16 @@ pub returns-in_err-fixups-clause-why : goal.returns-in_err-fixups-clause-why
 returns-in_err-fixups-clause-why c l h =
     err_with c.from_residual-in_err-fixups.result c.in_err-fixups.field-0.0 (UnwrittenStands l (placement_of c.args.b.now))
     c.from_residual-in_err-fixups.ensures.1
-    (c.in_err-fixups.ensures.why l (record { planned = h; tells = c.in_ok-places.ensures.tells l (counts_of c.args.b.now) (planned_of_link l c.args.b.now h) }))
+    (c.in_err-fixups.ensures.why l (record {
+      planned = h;
+      tells = c.in_ok-places.ensures.tells l (counts_of c.args.b.now)
+          (planned_of_link l c.args.b.now h);
+    }))
 
 pub returns-clause-done : goal.returns-clause-done
 returns-clause-done c l h =
     let image = c.in_ok-fixups.ensures.done l
     (record { planned = h; tells = c.in_ok-places.ensures.tells l (counts_of c.args.b.now) (planned_of_link l c.args.b.now h) }) in
     subst (λ bytes. IsImaged l (counts_of c.args.b.now) (placement_of c.args.b.now) c.args.uuid bytes c.in_ok-fixups.fixups)
-    (sym (whole_buffer c.write_parts.new.out c.in_ok-bytes.bytes.items c.in_ok-bytes.bytes.len (omega (arith, c.write_parts.ensures.length, c.deref_mut.ensures.len)))) image
+    (sym (whole_buffer c.write_parts.new.out c.in_ok-bytes.bytes.items c.in_ok-bytes.bytes.len
+    (omega (arith, c.write_parts.ensures.length, c.deref_mut.ensures.len)))) image

@@ -36,12 +36,14 @@ write_imports-requires-clause-link g c =
 
 pub write_head-requires-clause-trie : goal.write_head-requires-clause-trie
 write_head-requires-clause-trie g c =
-    trie_small c.requires.link.0 c.args.b.now c.in_ok-trie.trie _ _ c.requires.link.1.planned (c.in_ok-trie.ensures.done c.requires.link.0 c.requires.link.1)
+    trie_small c.requires.link.0 c.args.b.now c.in_ok-trie.trie _ _ c.requires.link.1.planned
+    (c.in_ok-trie.ensures.done c.requires.link.0 c.requires.link.1)
 
 pub returns-clause-done : goal.returns-clause-done
 returns-clause-done g c l h =
     let p = placement_of c.args.b.now in
-    let contents = subst (λ (run : List Fixup). AreContents l p run p.linkedit.signature.end c.try_contents.new.out) (sym c.deref.ensures.value)
+    let contents = subst (λ (run : List Fixup). AreContents l p run p.linkedit.signature.end c.try_contents.new.out)
+    (sym c.deref.ensures.value)
     (c.in_ok-run.ensures.done l h) in
     parts_written c.written_files_are_linked.ensures l c.args.b.now c.args.uuid c.sign.new.out c.deref.result.now c.len.result h.planned
     (c.in_ok-run.ensures.good l h)
