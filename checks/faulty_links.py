@@ -8,6 +8,7 @@ import random
 from dataclasses import dataclass
 from struct import pack, pack_into
 
+from hostile import object_of
 from plain_linker import DATA, TEXT, ZEROFILL, ZEROFILLS, Library, Object, Options, Section, Symbol, object_bytes, stub_bytes, up
 from random_links import BRANCH, INSTRUCTIONS, POINTER, SECTION_POINTER
 
@@ -107,6 +108,19 @@ class Unit:
         return Object(sections, symbols)
 
 
+class Bulk:
+    """An object of many sections that share their bytes, so that an image is asked for which is larger than its inputs."""
+
+    def __init__(self, segment, name, size, count):
+        self.row, self.size, self.count = (segment, name), size, count
+
+    def text(self):
+        return object_of([(*self.row, 0, self.size, 0, 0, 0, 0, 0)] * self.count, bytes(self.size), b"", [])
+
+    def finished(self):
+        return Object([Section(*self.row, 0, 0, b"", self.size * self.count)], [])
+
+
 @dataclass
 class Fault:
     """A fault that is planted: its family, its number in the order of refusals, its line, and where it stands.
@@ -143,7 +157,7 @@ class Maker:
         self.random = random.Random(seed)
         self.pick, self.is_far, self.count = self.random.choice, is_far, 0
         self.units = [Unit() for _ in range(self.random.randint(2, 3))]
-        self.raw, self.libraries, self.entry, self.is_dylib = [], [SYSTEM], None, self.random.random() < 0.2
+        self.bulk, self.libraries, self.entry, self.is_dylib = [], [SYSTEM], None, self.random.random() < 0.2
         self.lists = self.pick([[], [[b"_main"]], [[b"_exit", b"_m*"], [b"_main"]]])
         for unit in self.units:
             self.add_good(unit)
@@ -231,10 +245,10 @@ class Maker:
         """Numbers and addresses; the inputs stand in a random order."""
         for unit in self.units:
             unit.shuffle(self.random)
-        self.inputs = self.units + self.libraries + self.raw
+        self.inputs = self.units + self.libraries + self.bulk
         self.random.shuffle(self.inputs)
         self.paths = ["in%d.%s" % (number, "tbd" if isinstance(one, Library) else "o") for number, one in enumerate(self.inputs)]
-        self.made = [one.finished() if isinstance(one, Unit) else one for one in self.inputs]
+        self.made = [one if isinstance(one, Library) else one.finished() for one in self.inputs]
         self.options = Options(dylib=self.is_dylib, lists=[b"\n".join(lines) for lines in self.lists])
 
     def file(self, unit):
@@ -242,9 +256,13 @@ class Maker:
 
     def files(self):
         """The files by their paths."""
-        texts = {Object: lambda one: object_bytes(one, 0x2000), Library: stub_bytes, bytes: lambda one: one}
-        files = {path: texts[type(one)](one) for path, one in zip(self.paths, self.made)}
+        files = {path: self.text(one, made) for path, one, made in zip(self.paths, self.inputs, self.made)}
         return files | {"list%d" % number: text for number, text in enumerate(self.options.lists)}
+
+    def text(self, one, made):
+        if isinstance(one, Library):
+            return stub_bytes(one)
+        return one.text() if isinstance(one, Bulk) else object_bytes(made, 0x2000)
 
     def words(self):
         words = ["-o", "out", "-uuid", "00" * 16, *self.paths]

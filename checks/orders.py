@@ -23,8 +23,10 @@ LATER = {
     "personality's target": (7, 1),
     "second of two starts": (7, 2),
     "first of two starts": (7, 3),
-    "place by address": (13, 1),
-    "offset": (13, 2),
+    "pages": (13, 1),
+    "file": (13, 2),
+    "place by address": (13, 3),
+    "offset": (13, 4),
 }
 # Families that it looks for behind those of their section.
 BEHIND = ("slot", "entry before a cut", "entry before another's relocation")
@@ -69,6 +71,8 @@ KNOWN = [
     ),
     (["number: segments", "place: odd"], ("place by address", "number"), "where a number passes its limit there are no addresses"),
     (["size: sum", "place: odd"], ("place by address", "sum"), "where the sum of sizes passes its limit there are no addresses"),
+    (["number: pages", "place: odd"], ("place by address", "pages"), "where pages are too many nothing is written at an address"),
+    (["size: sum", "number: pages"], ("pages", "sum"), "where the sum of sizes passes its limit there are no addresses"),
     (["size: file", "place: odd"], ("place by address", "file"), "where the file is too large nothing is written at an address"),
     (["definitions: crossed"], ("two definitions", "two definitions"), "of such names that with the first second definition is told"),
     (["overlap: crossed"], ("overlap", "overlap"), "of fields that overlap the two whose second comes first are told"),

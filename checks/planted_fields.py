@@ -2,8 +2,7 @@
 
 from struct import pack, pack_into
 
-from faulty_links import Fault, Part
-from hostile import object_of
+from faulty_links import Bulk, Fault, Part
 from plain_linker import DATA, TEXT, Library, Link, Refused
 from random_links import POINTER, SECTION_POINTER, TO_SLOT
 
@@ -127,11 +126,28 @@ def huge_section(m):
     return [Fault("sum", 13, "image too large")]
 
 
+def plain(link, look):
+    """What is looked up in a plain link that is placed. Where a lesser fault stops that, it isn't asked for."""
+    one = Link(link.made, link.options)
+    try:
+        one.define()
+        for turn in (one.walk, one.read_initializers, one.read_unwind, one.read_lists, one.choose, one.merge, one.place):
+            turn()
+        return look(one)
+    except (Refused, KeyError, IndexError, ValueError):
+        return 0
+
+
+def many_pages(m):
+    """More than 1 GiB of data."""
+    m.bulk.append(Bulk(DATA, b"__data", 1 << 20, 1025))
+    count = lambda one: next(size // 0x4000 for name, _, _, _, size in one.segments if name == DATA)
+    return [Fault("pages", 12, lambda link: "too many pages: %d" % plain(link, count), at=(7,))]
+
+
 def large_file(m):
-    """Sections of 4 GiB in all that share their bytes."""
-    size, count = 1 << 20, 1 << 12
-    row = TEXT, b"__const", 0, size, 0, 0, 0, 0, 0
-    m.raw.append(object_of([row] * count, bytes(size), b"", []))
+    """4 GiB of constants."""
+    m.bulk.append(Bulk(TEXT, b"__const", 1 << 20, 1 << 12))
     return [Fault("file", 13, "image too large")]
 
 
@@ -185,26 +201,15 @@ def misplaced_far_pointer(m):
     return [relocation(*row, unit, part, at) for row in told]
 
 
-def slot_number(link, unit, name):
-    """The number of the slot of a symbol: that of its first need. Where a lesser fault stops the walk, it isn't asked for."""
-    plain = Link(link.made, link.options)
-    try:
-        plain.define()
-        plain.walk()
-        plain.read_unwind()
-        return plain.slots.index(plain.target(link.file(unit), unit.row(name)))
-    except (Refused, KeyError, IndexError, ValueError):
-        return 0
-
-
 def far_slot(by_personality):
     def plant(m):
         unit = m.unit()
         name = m.room(unit, FURTHER)
         part, place = (m.unwind(unit, 1), 16) if by_personality else m.data(unit, 8)
         part.ask(place, POINTER if by_personality else TO_SLOT, name)
-        line = lambda link: "slot %d: bad target" % slot_number(link, unit, name)
-        return [Fault("slot's target", 14, line, at=lambda link: (slot_number(link, unit, name),), phase=1)]
+        number = lambda link: plain(link, lambda one: one.slots.index(one.target(link.file(unit), unit.row(name))))
+        line = lambda link: "slot %d: bad target" % number(link)
+        return [Fault("slot's target", 14, line, at=lambda link: (number(link),), phase=1)]
 
     return plant
 

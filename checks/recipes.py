@@ -114,6 +114,7 @@ RECIPES = {
     "number: libraries": fields.many_libraries,
     "number: sections": fields.many_sections,
     "number: personalities": fields.many_personalities,
+    "number: pages": fields.many_pages,
     "size: sum": fields.huge_section,
     "size: file": fields.large_file,
     "size: initializer": fields.far_initializer,
