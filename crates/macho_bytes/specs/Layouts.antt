@@ -1,7 +1,7 @@
 -- The layout of a record: a table of its fields in order, in rows of one width. What the bytes at a place
 -- say, and how a record is spelled, both follow from the table.
 use Rattle.std.specs.Prelude.{◌≡◌, ℕ, zero, suc, ◌+◌, ◌*◌, nat_le, if◌then◌else◌, List, [], ◌∷◌, ◌++◌, length, slice_range, slice_index, Option, Some, None}
-use Rattle.macho_bytes.specs.Numbers.{ByteOrder, row_bytes}
+use Rattle.macho_bytes.specs.Numbers.{ByteOrder, little, row_bytes}
 use Rattle.macho_bytes.specs.Texts.{Stands}
 
 -- A row of a record R: numbers of one width in bytes, or a text. Each has the fields of a record, and a
@@ -16,6 +16,10 @@ pub record Layout (R : Type 0) : Type 0 where
   pub order : ByteOrder
   pub blank : R
   pub rows : List (Row R)
+
+-- a record of little-endian numbers, as all are but the code signature's
+abbrev pub little_record : {R : Type 0} → R → List (Row R) → Layout R
+little_record blank rows = record { order = little; blank = blank; rows = rows }
 
 -- the bytes that a record's fields of a row are spelled by
 abbrev pub row_text : {R : Type 0} → ByteOrder → R → Row R → List ℕ
