@@ -16,7 +16,9 @@ use Rattle.macho_model.specs.declared.placed.PlacedSegment.{PlacedSegment}
 use Rattle.macho_model.specs.Links.{Link}
 use Rattle.macho_model.specs.Segments.{TEXT, DATA, DATA_CONST, segment_rank, segment_names_of, list_if, OutputKey, output_keys_of}
 use Rattle.macho_model.specs.Placement.{Placed, EachFollows}
-use Rattle.macho_model.specs.OutputSections.{OutputSection, Merged, InitOffsets, UnwindInfo, Stubs, Slots, merged_in, sections_of_text, sections_of_data, sections_of_other, output_sections_in, output_sections_of, output_sections_for, output_header, key_of_output}
+use Rattle.macho_model.specs.OutputSections.{OutputSection, Merged, InitOffsets, UnwindInfo, Stubs, Slots, merged_in, sections_of_text}
+use Rattle.macho_model.specs.OutputSections.{sections_of_data, sections_of_other, output_sections_in, output_sections_of}
+use Rattle.macho_model.specs.OutputSections.{output_sections_for, output_header, key_of_output}
 use Rattle.macho_model.specs.Order.{StandInOrder}
 use Rattle.macho_model.specs.Head.{headers_in}
 use Rattle.macho_lists.proofs.Orders.{EachLater, each_later}

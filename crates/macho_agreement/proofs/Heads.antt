@@ -19,7 +19,8 @@ use Rattle.macho_model.specs.Links.{Link}
 use Rattle.macho_model.specs.Needs.{libraries_needed}
 use Rattle.macho_model.specs.Segments.{list_if}
 use Rattle.macho_model.specs.Placement.{Placed, head_size}
-use Rattle.macho_model.specs.Head.{HeadCommand, HeadSays, commands_for, header_for, segment_for, entry_point_for, versions_for, dylinker_for, dylib_for, rpath_for, headers_in, size_said, path_command_size}
+use Rattle.macho_model.specs.Head.{HeadCommand, HeadSays, commands_for, header_for, segment_for, entry_point_for, versions_for}
+use Rattle.macho_model.specs.Head.{dylinker_for, dylib_for, rpath_for, headers_in, size_said, path_command_size}
 use Rattle.macho_promise.specs.Sizes.{commands_size, own_commands_size, versions_size}
 
 -- the commands of the segments

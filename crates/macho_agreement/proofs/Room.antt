@@ -5,7 +5,8 @@
 -- `__TEXT` stands at most `__PAGEZERO`, which has no bytes in the file, so `__TEXT` begins the file; it is at least as long as
 -- the head of the
 -- placement, in which the load commands end.
-use Rattle.std.proofs.Common.{◌≡◌, ℕ, zero, suc, ◌+◌, ◌-◌, ◌<◌, ◌≤◌, Bool, true, false, List, [], ◌∷◌, ◌++◌, map, length, get_or, refl, sym, ap, subst, ◌∙◌, arith, All, ltb-true}
+use Rattle.std.proofs.Common.{◌≡◌, ℕ, zero, suc, ◌+◌, ◌-◌, ◌<◌, ◌≤◌, Bool, true, false, List, [], ◌∷◌, ◌++◌, map, length, get_or, refl}
+use Rattle.std.proofs.Common.{sym, ap, subst, ◌∙◌, arith, All, ltb-true}
 use Rattle.std.specs.Prelude.{Contains, filter, nat_lt}
 use Rattle.std.specs.Str.{bytes_eq}
 use Rattle.std.proofs.lemmas.Bool.Decides.{nat_tests}

@@ -81,7 +81,8 @@ loads_from input word value slot s y h load row whole moved =
     record { load = still; reaches = omega arith; kept = h.kept }
 
 -- the load of a slot that was made an ADD, and then given the target's offset
-pub adds_to : (input add word value x s y : ℕ) → is_ldr input ≡ true → IsMadeAdd input add → Holds Low12 add word value → value ≡ low (address x)
+pub adds_to : (input add word value x s y : ℕ) → is_ldr input ≡ true → IsMadeAdd input add → Holds Low12 add word value
+    → value ≡ low (address x)
     → s % SEGMENT_PAGE ≡ 0 → Same (x + s) y → AddsTo word input y
 adds_to input add word value x s y load made h row whole moved =
     let still : is_add word ≡ true = rw (same_operation word add h.kept) made.add in

@@ -36,7 +36,8 @@ record IsFound (P : KindRow → Type 0) (type length : ℕ) (info : RelocationKi
   pub length_is : row.r_length ≡ length
   pub info_is : row.info ≡ info
 
-found_row : (P : KindRow → Type 0) (rows : List KindRow) (type length : ℕ) (pcrel : Bool) (info : RelocationKindInfo) → AllByRecursion P rows
+found_row : (P : KindRow → Type 0) (rows : List KindRow) (type length : ℕ) (pcrel : Bool) (info : RelocationKindInfo)
+    → AllByRecursion P rows
     → option_map (λ k. k.info) (find (is_row_of type length pcrel) rows) ≡ Some info → IsFound P type length info
 found_row P [] type length pcrel info all h = absurd (cc)
 found_row P (k ∷ rows) type length pcrel info all h =

@@ -3,18 +3,24 @@
 -- A link supports a relocation of each type under a form: its length and whether it is relative, which are those of a row
 -- of that type, and an instruction at its place, which is one that the row's field is part of. The tests of its type are
 -- taken one by one.
-use Rattle.std.proofs.Common.{◌≡◌, ℕ, ◌==◌, ◌&&◌, ◌||◌, not, if◌then◌else◌, Bool, true, false, Option, Some, refl, sym, ap, subst, ◌∙◌, inl, inr}
+use Rattle.std.proofs.Common.{◌≡◌, ℕ, ◌==◌, ◌&&◌, ◌||◌, not, if◌then◌else◌, Bool, true, false, Option, Some, refl, sym, ap, subst, ◌∙◌}
+use Rattle.std.proofs.Common.{inl, inr}
 use Rattle.std.specs.Prelude.{is_some}
 use Rattle.std.proofs.lemmas.Bool.{cases_Bool, cases_eq, eqb-true, eq-eqb, ne_eqb}
 use Rattle.macho_structs.specs.declared.relocations.RelocationInfo.{RelocationInfo}
-use Rattle.macho_records.specs.declared.constants.TheConstants.{ARM64_RELOC_ADDEND, ARM64_RELOC_BRANCH26, ARM64_RELOC_GOT_LOAD_PAGE21, ARM64_RELOC_GOT_LOAD_PAGEOFF12, ARM64_RELOC_PAGE21, ARM64_RELOC_PAGEOFF12, ARM64_RELOC_POINTER_TO_GOT, ARM64_RELOC_SUBTRACTOR, ARM64_RELOC_TLVP_LOAD_PAGE21, ARM64_RELOC_TLVP_LOAD_PAGEOFF12, ARM64_RELOC_UNSIGNED}
+use Rattle.macho_records.specs.declared.constants.TheConstants.{ARM64_RELOC_ADDEND, ARM64_RELOC_BRANCH26, ARM64_RELOC_GOT_LOAD_PAGE21}
+use Rattle.macho_records.specs.declared.constants.TheConstants.{ARM64_RELOC_GOT_LOAD_PAGEOFF12, ARM64_RELOC_PAGE21, ARM64_RELOC_PAGEOFF12}
+use Rattle.macho_records.specs.declared.constants.TheConstants.{ARM64_RELOC_POINTER_TO_GOT, ARM64_RELOC_SUBTRACTOR}
+use Rattle.macho_records.specs.declared.constants.TheConstants.{ARM64_RELOC_TLVP_LOAD_PAGE21, ARM64_RELOC_TLVP_LOAD_PAGEOFF12}
+use Rattle.macho_records.specs.declared.constants.TheConstants.{ARM64_RELOC_UNSIGNED}
 use Rattle.macho_model.specs.declared.targets.Target.{Target}
 use Rattle.macho_model.specs.Links.{Link, SectionId}
 use Rattle.macho_model.specs.Needs.{relocation_in}
 use Rattle.macho_model.specs.Targets.{target_of_relocation, is_defined}
 use Rattle.macho_model.specs.Fields.{content_of, has_subtrahend}
 use Rattle.macho_model.specs.Words.{is_adrp, is_branch, is_ldr}
-use Rattle.macho_model.specs.Rows.{has_form, begins_pair, is_none, difference_fits, addend_fits, pointer_fits, may_be_called, defined_or_import, takes_offset, load_fits, is_supported}
+use Rattle.macho_model.specs.Rows.{has_form, begins_pair, is_none, difference_fits, addend_fits, pointer_fits, may_be_called}
+use Rattle.macho_model.specs.Rows.{defined_or_import, takes_offset, load_fits, is_supported}
 use Rattle.macho_arm64.specs.declared.kinds.RelocationKindInfo.{RelocationKindInfo}
 use Rattle.macho_arm64.specs.Kinds.{kind_among, kind_at, info_of}
 use Rattle.macho_arm64.specs.Fields.{fits_word}
@@ -32,7 +38,8 @@ flag false true h = absurd (cc)
 flag false false h = refl
 
 form_length : (rel : RelocationInfo) (length : ℕ) (pcrel extern : Bool) → has_form rel length pcrel extern ≡ true → rel.r_length ≡ length
-form_length rel length pcrel extern h = eqb-true rel.r_length length (left (rel.r_length == length) _ (left ((rel.r_length == length) && _) _ h))
+form_length rel length pcrel extern h = eqb-true rel.r_length length (left (rel.r_length == length) _
+    (left ((rel.r_length == length) && _) _ h))
 
 form_pcrel : (rel : RelocationInfo) (length : ℕ) (pcrel extern : Bool) → has_form rel length pcrel extern ≡ true → rel.r_pcrel ≡ pcrel
 form_pcrel rel length pcrel extern h =
@@ -55,7 +62,8 @@ not_true true h = absurd (cc)
 not_true false h = refl
 
 -- a form of a type, with what the word at its place is
-formed : (rel : RelocationInfo) (type length word : ℕ) (pcrel : Bool) (info : RelocationKindInfo) → rel.r_type ≡ type → kind_at type length pcrel ≡ Some info
+formed : (rel : RelocationInfo) (type length word : ℕ) (pcrel : Bool) (info : RelocationKindInfo) → rel.r_type ≡ type
+    → kind_at type length pcrel ≡ Some info
     → has_form rel length pcrel true ≡ true → fits_word info.size word ≡ true → IsKnown rel word
 formed rel type length word pcrel info t at form fits =
     known rel type length word pcrel info t (form_length rel length pcrel true form) (form_pcrel rel length pcrel true form) at fits
@@ -75,7 +83,8 @@ of_difference : (l : Link) (s : SectionId) (r type : ℕ) (four eight : Relocati
     → fits_word eight.size (content_of l s r) ≡ true → difference_fits l s r ≡ true → IsKnown (relocation_in l s r) (content_of l s r)
 of_difference l s r type four eight t at_four at_eight fits_four fits_eight h =
     of_bytes (relocation_in l s r) type (content_of l s r) four eight t at_four at_eight fits_four fits_eight
-    (left (has_form (relocation_in l s r) 2 false true || has_form (relocation_in l s r) 3 false true) (is_defined (target_of_relocation l s r)) h)
+    (left (has_form (relocation_in l s r) 2 false true || has_form (relocation_in l s r) 3 false true)
+    (is_defined (target_of_relocation l s r)) h)
 
 of_pointer : (l : Link) (s : SectionId) (r : ℕ) → (relocation_in l s r).r_type ≡ ARM64_RELOC_UNSIGNED → pointer_fits l s r ≡ true
     → IsKnown (relocation_in l s r) (content_of l s r)
@@ -86,7 +95,8 @@ of_pointer l s r t h =
           let g : difference_fits l s r ≡ true = rw behind at h in
           of_difference l s r ARM64_RELOC_UNSIGNED _ _ t refl refl refl refl g
       | inr alone ↦
-          let g : (((relocation_in l s r).r_length == 3) && not (relocation_in l s r).r_pcrel && not (is_none (target_of_relocation l s r))) ≡ true =
+          let g : (((relocation_in l s r).r_length == 3) && not (relocation_in l s r).r_pcrel && not
+          (is_none (target_of_relocation l s r))) ≡ true =
           rw alone at h in
           let both = left (((relocation_in l s r).r_length == 3) && not (relocation_in l s r).r_pcrel) _ g in
           known (relocation_in l s r) ARM64_RELOC_UNSIGNED 3 (content_of l s r) false _ t

@@ -1,9 +1,11 @@
 -- Cells by rank.
 --
--- A filter by one rank and a filter by the ranks below it have no cell in common, so their sums are at most that of the ranks up to it, and all ranks together
+-- A filter by one rank and a filter by the ranks below it have no cell in common, so their sums are at most that of the ranks up to it,
+-- and all ranks together
 -- cost at most what all cells cost. The cells of one rank more stand behind the others. A cell whose rank is below the
 -- count stands in the row; and in a row of rising ranks a cell of a lower rank ends before one of a higher rank begins.
-use Rattle.std.proofs.Common.{◌≡◌, ℕ, ◌+◌, ◌-◌, ◌≤◌, ◌==◌, zero, suc, Bool, true, false, cond, ltb, not, take, drop, List, [], ◌∷◌, ◌++◌, filter, sum_by, refl, sym, ap, ◌∙◌, arith}
+use Rattle.std.proofs.Common.{◌≡◌, ℕ, ◌+◌, ◌-◌, ◌≤◌, ◌==◌, zero, suc, Bool, true, false, cond, ltb, not, take, drop, List, [], ◌∷◌, ◌++◌}
+use Rattle.std.proofs.Common.{filter, sum_by, refl, sym, ap, ◌∙◌, arith}
 use Rattle.std.specs.List.{flat_map, range_with_len}
 use Rattle.std.proofs.lemmas.Bool.{le-ltb}
 use Rattle.std.proofs.lemmas.Bool.Decides.{nat_tests}

@@ -4,7 +4,8 @@
 -- filter passes the new member over. The members that were there end at the cell's size or before, so the new one stands
 -- behind them. A cell's cost grows by the bytes of the member and at most twice the padding of its alignment: once in front
 -- of it, and once because the greatest of two powers of two is below their sum.
-use Rattle.std.proofs.Common.{◌≡◌, ℕ, ◌+◌, ◌^◌, ◌<◌, ◌≤◌, ◌==◌, true, List, [], ◌∷◌, ◌++◌, length, map, fold, get_or, set, sum_by, max, bit_or, inl, inr, refl, sym, ap, ◌∙◌, subst, arith}
+use Rattle.std.proofs.Common.{◌≡◌, ℕ, ◌+◌, ◌^◌, ◌<◌, ◌≤◌, ◌==◌, true, List, [], ◌∷◌, ◌++◌, length, map, fold, get_or, set, sum_by, max}
+use Rattle.std.proofs.Common.{bit_or, inl, inr, refl, sym, ap, ◌∙◌, subst, arith}
 use Rattle.std.proofs.lemmas.Bool.{cases_eq, cases_lt, eq-eqb, ne_eqb}
 use Rattle.std.proofs.lemmas.Nat.{pow_pos}
 use Rattle.std.proofs.Math.Nat.{max-eq_left, max-eq_right}

@@ -3,7 +3,8 @@
 -- A slot that is bound has no addend, and a pointer's addend is in its word only where there is room. What moves is asked for by its
 -- distance from the base: by the address of its target, which is the only place that it has, and the addend. Of a value that has a word
 -- that distance has none of the bits that a word has no room for.
-use Rattle.std.proofs.Common.{◌≡◌, ℕ, ◌+◌, ◌-◌, ◌%◌, ◌^◌, ◌≤◌, ◌==◌, Bool, true, false, List, map, length, get_or, refl, sym, ap, ◌∙◌, arith, inl, inr, All}
+use Rattle.std.proofs.Common.{◌≡◌, ℕ, ◌+◌, ◌-◌, ◌%◌, ◌^◌, ◌≤◌, ◌==◌, Bool, true, false, List, map, length, get_or, refl, sym, ap, ◌∙◌}
+use Rattle.std.proofs.Common.{arith, inl, inr, All}
 use Rattle.std.specs.Prelude.{Contains, if◌then◌else◌}
 use Rattle.std.proofs.lemmas.Bool.{cases_Bool, cases_lt, eq-eqb}
 use Rattle.std.proofs.lemmas.List.{get_or-map, length-map}
@@ -79,11 +80,13 @@ slot_number_of l p s are (k, lt, at) =
       ),
     )
 
-memory_ends : (p : Placed) → All (λ (s : FixupSegment). (s.address + s.size ≤ 2 ^ 64) × (s.file_offset + s.file_size ≤ 2 ^ 64)) (fixup_segments p)
+memory_ends : (p : Placed) → All (λ (s : FixupSegment). (s.address + s.size ≤ 2 ^ 64) × (s.file_offset + s.file_size ≤ 2 ^ 64))
+    (fixup_segments p)
     → All (λ (s : PlacedSegment). s.address + s.size ≤ 2 ^ 64) p.segments
 memory_ends p ends =
     contains_all (λ (s : PlacedSegment). s.address + s.size ≤ 2 ^ 64) p.segments
-    (λ s one. (all_contains (λ (t : FixupSegment). (t.address + t.size ≤ 2 ^ 64) × (t.file_offset + t.file_size ≤ 2 ^ 64)) (fixup_segments p)
+    (λ s one. (all_contains (λ (t : FixupSegment). (t.address + t.size ≤ 2 ^ 64) × (t.file_offset + t.file_size ≤ 2 ^ 64))
+    (fixup_segments p)
     (fixup_segment s) ends (contains_map fixup_segment p.segments s one)).0)
 
 -- THE word of a slot

@@ -25,7 +25,8 @@ use Rattle.macho_linkedit.specs.declared.imports.ImportTable.{ImportTable}
 use Rattle.macho_linkedit.proofs.TableSays.{table_is_said}
 use Rattle.macho_standing.proofs.TableLength.{table_long}
 use Rattle.macho_chaining.specs.Writing.{range_size, text_of_table, text_of_range}
-use Rattle.macho_chaining.specs.Laws.{word_ranges, WordLiesIn, AgreeIn, BytesOutsideStay, WordsStay, FixupsStand, FixupsAreKept, ImportsAreKept}
+use Rattle.macho_chaining.specs.Laws.{word_ranges, WordLiesIn, AgreeIn, BytesOutsideStay, WordsStay, FixupsStand, FixupsAreKept}
+use Rattle.macho_chaining.specs.Laws.{ImportsAreKept}
 use Rattle.macho_chaining.proofs.Lying.{words_lie}
 
 -- a byte outside a range is outside a word in it
@@ -53,7 +54,10 @@ bytes_stay l counts p run before now i can w outside =
 
 pub words_stay : WordsStay
 words_stay l counts p run before now b can w long agree =
-    record { each = λ k d lt. by (get_or run k d) (step_of run k) (words_lie l counts p (get_or run k d) can (w.each k d lt)) (w.written.each k d lt) }
+    record {
+      each = λ k d lt. by (get_or run k d) (step_of run k) (words_lie l counts p (get_or run k d) can (w.each k d lt))
+          (w.written.each k d lt);
+    }
   where
     by : (f : Fixup) (next : ℕ) → (s : Span) × Contains (word_ranges l p) s × WordLiesIn (place_of (fixup_segments p) f.address) s
         → Stands now (record { at = place_of (fixup_segments p) f.address; text = le_bytes WORD_SIZE (word_of f.kind next) })

@@ -44,7 +44,8 @@ file_part zeros size file memory filled some = let none : (size == 0) ≡ false 
 pub words_lie : WordsLieInRanges
 unfolding word_ranges
 words_lie l counts p _ can (slot s one) =
-    let held = All-contains (λ (t : Slot). LiesInNamed p DATA_CONST true (slot_span t)) p.slots s can.placed.placed.in_segment.slots one in (
+    let held = All-contains (λ (t : Slot). LiesInNamed p DATA_CONST true (slot_span t)) p.slots s can.placed.placed.in_segment.slots
+    one in (
       in_file p (slot_span s),
       Contains-append_right (map (λ (q : PlacedSection). in_file p (section_span l q)) (filled_sections l p))
           (map (λ (t : Slot). in_file p (slot_span t)) p.slots) (in_file p (slot_span s))

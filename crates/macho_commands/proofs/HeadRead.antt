@@ -9,10 +9,12 @@ use Rattle.macho_model.specs.Segments.{list_if}
 use Rattle.macho_model.specs.Agreement.{SegmentPlace, place_by_command, place_told}
 use Rattle.macho_model.specs.Head.{HeadCommand, segment_for, entry_point_for}
 use Rattle.macho_commands.specs.Laws.{HeadIsRead}
-use Rattle.macho_commands.proofs.Told.{segment_taken, entry_taken, segments-told, headers-told, entry-told, uuid-told, libraries-told, fixups-told, trie-told, symbols-told, strings-told, signature-told}
+use Rattle.macho_commands.proofs.Told.{segment_taken, entry_taken, segments-told, headers-told, entry-told, uuid-told, libraries-told}
+use Rattle.macho_commands.proofs.Told.{fixups-told, trie-told, symbols-told, strings-told, signature-told}
 
 -- a segment's command tells the placed segment
-places_agree : (p : Placed) (segments : List PlacedSegment) → map place_by_command (map segment_taken (map (segment_for p) segments)) ≡ map place_told segments
+places_agree : (p : Placed) (segments : List PlacedSegment) → map place_by_command (map segment_taken (map (segment_for p) segments)) ≡
+    map place_told segments
 places_agree p [] = refl
 places_agree p (s ∷ segments) = ap (λ (ps : List SegmentPlace). place_told s ∷ ps) (places_agree p segments)
 

@@ -4,14 +4,17 @@
 -- since a record has the size of its layout. What is asked of a segment's command is asked of its record, and the records
 -- are those of the placement: protections by name, whole pages, one behind the other. Ranks of names rise, so `__TEXT`
 -- stands once; it is there, begins the file and holds the commands.
-use Rattle.std.proofs.Common.{◌≡◌, ℕ, zero, suc, ◌+◌, ◌*◌, ◌<◌, ◌≤◌, ◌==◌, ◌&&◌, nat_le, Bool, true, false, List, [], ◌∷◌, map, length, get_or, inl, inr, refl, sym, ap, subst, ◌∙◌, arith, All}
+use Rattle.std.proofs.Common.{◌≡◌, ℕ, zero, suc, ◌+◌, ◌*◌, ◌<◌, ◌≤◌, ◌==◌, ◌&&◌, nat_le, Bool, true, false, List, [], ◌∷◌, map, length}
+use Rattle.std.proofs.Common.{get_or, inl, inr, refl, sym, ap, subst, ◌∙◌, arith, All}
 use Rattle.std.specs.Prelude.{◌||◌, sum_by, if◌then◌else◌, Option, Some, None}
 use Rattle.std.proofs.lemmas.Bool.{le-leb}
 use Rattle.std.proofs.lemmas.List.Elements.{All-map, All-cons, All-nil, All-append, All-from_recursion}
 use Rattle.macho_bytes.specs.Layouts.{size_of}
 use Rattle.macho_records.specs.Layouts.{segment_command, section_header, symtab_command}
-use Rattle.macho_structs.specs.Layouts.{entry_point_command, dylinker_command, dylib_command, rpath_command, linkedit_data_command, uuid_command, build_version_command}
-use Rattle.macho_records.specs.declared.constants.TheConstants.{LC_CODE_SIGNATURE, LC_DYLD_CHAINED_FIXUPS, LC_DYLD_EXPORTS_TRIE, LC_ID_DYLIB, LC_LOAD_DYLIB, MH_DYLIB, MH_EXECUTE}
+use Rattle.macho_structs.specs.Layouts.{entry_point_command, dylinker_command, dylib_command, rpath_command, linkedit_data_command}
+use Rattle.macho_structs.specs.Layouts.{uuid_command, build_version_command}
+use Rattle.macho_records.specs.declared.constants.TheConstants.{LC_CODE_SIGNATURE, LC_DYLD_CHAINED_FIXUPS, LC_DYLD_EXPORTS_TRIE}
+use Rattle.macho_records.specs.declared.constants.TheConstants.{LC_ID_DYLIB, LC_LOAD_DYLIB, MH_DYLIB, MH_EXECUTE}
 use Rattle.macho_records.specs.declared.header.MachHeader.{MachHeader}
 use Rattle.macho_model.specs.declared.placed.Counts.{Counts}
 use Rattle.macho_model.specs.Commands.{Command, commands_of, commands_end, command_fits}
@@ -21,9 +24,13 @@ use Rattle.macho_model.specs.Needs.{libraries_needed}
 use Rattle.macho_model.specs.Segments.{list_if}
 use Rattle.macho_model.specs.Placement.{Placed}
 use Rattle.macho_model.specs.LoadRules.{image_head_fits, needed_in_image}
-use Rattle.macho_model.specs.Head.{HeadCommand, Segment, EntryPoint, Uuid, BuildVersion, Dylinker, Dylib, Rpath, LinkeditData, Symtab, Other, segment_for, entry_point_for, uuid_for, versions_for, dylinker_for, dylib_for, rpath_for, linkedit_for, symtab_for, range_size, command_in, commands_in, size_said, header_for, commands_for, HeadSays}
+use Rattle.macho_model.specs.Head.{HeadCommand, Segment, EntryPoint, Uuid, BuildVersion, Dylinker, Dylib, Rpath, LinkeditData, Symtab}
+use Rattle.macho_model.specs.Head.{Other, segment_for, entry_point_for, uuid_for, versions_for, dylinker_for, dylib_for, rpath_for}
+use Rattle.macho_model.specs.Head.{linkedit_for, symtab_for, range_size, command_in, commands_in, size_said, header_for, commands_for}
+use Rattle.macho_model.specs.Head.{HeadSays}
 use Rattle.macho_commands.proofs.Told.{tables_for}
-use Rattle.macho_commands.proofs.Shapes.{IsRead, Shape, a_segment, an_entry_point, a_uuid, a_build_version, a_dylinker, a_dylib, an_rpath, a_symtab, a_table, unknown, shape, size_said-is}
+use Rattle.macho_commands.proofs.Shapes.{IsRead, Shape, a_segment, an_entry_point, a_uuid, a_build_version, a_dylinker, a_dylib, an_rpath}
+use Rattle.macho_commands.proofs.Shapes.{a_symtab, a_table, unknown, shape, size_said-is}
 use Rattle.macho_commands.proofs.Walked.{AllRead, commands-read, sizes-in, commands-end, each_said}
 
 -- the bytes that are read of a command, by what it says
@@ -54,7 +61,21 @@ needed-is b c (a_table (inl n) e) = rw (e, n) refl
 needed-is b c (a_table (inr (inl n)) e) = rw (e, n) refl
 needed-is b c (a_table (inr (inr n)) e) = rw (e, n) refl
 needed-is b c (unknown u e) =
-    rw (e, u.segment, u.symtab, u.load_dylib, u.id_dylib, u.dylinker, u.rpath, u.uuid, u.build_version, u.entry_point, u.signature, u.trie, u.fixups) refl
+    rw (
+      e,
+      u.segment,
+      u.symtab,
+      u.load_dylib,
+      u.id_dylib,
+      u.dylinker,
+      u.rpath,
+      u.uuid,
+      u.build_version,
+      u.entry_point,
+      u.signature,
+      u.trie,
+      u.fixups,
+    ) refl
 
 -- a command is at least as long as its head and as what is read of it
 pub record IsWhole (h : HeadCommand) : Type 0 where
@@ -108,7 +129,8 @@ commands-whole l counts p uuid trie =
     (All-append IsWhole _ _
     (All-append IsWhole _ _
     (All-append IsWhole _ _
-    (All-append IsWhole _ _ (All-append IsWhole _ _ segments entry) uuids) (versions_whole l.versions)) (name_whole l.executable l.install_name)) libraries) paths)
+    (All-append IsWhole _ _ (All-append IsWhole _ _ segments entry) uuids) (versions_whole l.versions))
+    (name_whole l.executable l.install_name)) libraries) paths)
     tables
 
 -- a command of a walk is read
@@ -134,7 +156,8 @@ pub each-fits : (l : Link) (counts : Counts) (uuid b : List ℕ) (p : Placed) �
     → EachCommand (commands_of b) (command_fits (needed_in_image b) b)
 unfolding commands_in
 each-fits l counts uuid b p h =
-    let said : All IsWhole (map (command_in b) (commands_of b)) = subst (All IsWhole) (sym h.commands) (commands-whole l counts p uuid h.trie) in
+    let said : All IsWhole (map (command_in b) (commands_of b)) = subst (All IsWhole) (sym h.commands)
+    (commands-whole l counts p uuid h.trie) in
     let each = each_said b IsWhole (commands_of b) said in
     let inside = commands-end b (commands_end b) (omega (arith, ends-said l counts uuid b p h)) in
     λ k d lt.
@@ -145,11 +168,13 @@ each-fits l counts uuid b p h =
     (le-leb (needed_in_image b c) c.size (omega (arith, needed-is b c (shape b c), it.needed, size)))
 
 -- an executable or a dynamic library
-type_known : (e : Bool) → (((if e then MH_EXECUTE else MH_DYLIB) == MH_EXECUTE) || ((if e then MH_EXECUTE else MH_DYLIB) == MH_DYLIB)) ≡ true
+type_known : (e : Bool) → (((if e then MH_EXECUTE else MH_DYLIB) == MH_EXECUTE) || ((if e then MH_EXECUTE else MH_DYLIB) == MH_DYLIB)) ≡
+    true
 type_known true = refl
 type_known false = refl
 
-pub head-fits : (l : Link) (counts : Counts) (uuid b : List ℕ) (p : Placed) → HeadSays l counts uuid b p → 32 ≤ length b → image_head_fits b ≡ true
+pub head-fits : (l : Link) (counts : Counts) (uuid b : List ℕ) (p : Placed) → HeadSays l counts uuid b p → 32 ≤ length b
+    → image_head_fits b ≡ true
 unfolding header_for
 head-fits l counts uuid b p h room =
     let long : nat_le 32 (length b) ≡ true = le-leb 32 (length b) room in

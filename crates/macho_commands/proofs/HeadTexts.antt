@@ -23,14 +23,16 @@ use Rattle.macho_commands.specs.Heads.{header_of_kind, head_text, HeadIsReadable
 use Rattle.macho_commands.specs.Laws.{FoundIsSaid}
 
 -- header and commands, put one behind the other
-pub head_put : (kind : ImageKind) (commands : List Command) (before headed now : List ℕ) → ReadsBack mach_header (header_of_kind kind commands)
+pub head_put : (kind : ImageKind) (commands : List Command) (before headed now : List ℕ)
+    → ReadsBack mach_header (header_of_kind kind commands)
     → length (commands_text commands) ≡ commands_size commands → 32 + commands_size commands ≤ length before
     → headed ≡ put 0 (spelling mach_header (header_of_kind kind commands)) before → now ≡ put 32 (commands_text commands) headed
     → now ≡ put 0 (head_text kind commands) before
 unfolding head_text
 head_put kind commands before headed now back long room first second =
     second ∙ ap (put 32 (commands_text commands)) first
-    ∙ put-put 0 32 (spelling mach_header (header_of_kind kind commands)) (commands_text commands) before (omega (arith, back.long)) (omega (arith, long))
+    ∙ put-put 0 32 (spelling mach_header (header_of_kind kind commands)) (commands_text commands) before (omega (arith, back.long))
+    (omega (arith, long))
 
 pub length-head : (kind : ImageKind) (commands : List Command) → ReadsBack mach_header (header_of_kind kind commands)
     → length (commands_text commands) ≡ commands_size commands → length (head_text kind commands) ≡ 32 + commands_size commands
@@ -40,7 +42,8 @@ length-head kind commands back long =
     ∙ ap (λ (n : ℕ). n + length (commands_text commands)) back.long ∙ ap (λ (n : ℕ). 32 + n) long
 
 -- THE head is found
-pub head_readable : (kind : ImageKind) (commands : List Command) → ReadsBack mach_header (header_of_kind kind commands) → ListIsReadable commands
+pub head_readable : (kind : ImageKind) (commands : List Command) → ReadsBack mach_header (header_of_kind kind commands)
+    → ListIsReadable commands
     → HeadIsReadable kind commands
 unfolding head_text header_of commands_of commands_in
 head_readable kind commands back readable = record {
@@ -50,7 +53,8 @@ head_readable kind commands back readable = record {
       let list = readable.found b 32 (stands-back b 0 32 front (commands_text commands) (omega (arith, back.long)) s) in
       record {
         header = header;
-        said = ap (λ (h : MachHeader). map (command_in b) (commands_from b 32 h.ncmds)) header ∙ ap (map (command_in b)) list.list ∙ list.said;
+        said = ap (λ (h : MachHeader). map (command_in b) (commands_from b 32 h.ncmds)) header ∙ ap (map (command_in b)) list.list
+            ∙ list.said;
       };
 }
 
@@ -65,7 +69,8 @@ found_said l counts uuid b p trie kind commands executable thread_locals are fou
   trie = trie;
   header = found.header
       ∙ ap (λ (n : ℕ). record (header_of_kind kind commands) { sizeofcmds = n }) (sizes-are commands)
-      ∙ ap (λ (n : ℕ). told n (sum_by size_said (map said_by commands)) kind.executable kind.thread_locals) (sym (length-map commands said_by))
+      ∙ ap (λ (n : ℕ). told n (sum_by size_said (map said_by commands)) kind.executable kind.thread_locals)
+      (sym (length-map commands said_by))
       ∙ ap (λ (hs : List HeadCommand). told (length hs) (sum_by size_said hs) kind.executable kind.thread_locals) are
       ∙ ap (λ (e : Bool). told (length list) (sum_by size_said list) e kind.thread_locals) executable
       ∙ ap (told (length list) (sum_by size_said list) l.executable) thread_locals;
@@ -76,4 +81,5 @@ found_said l counts uuid b p trie kind commands executable thread_locals are fou
     list = commands_for l counts p uuid trie
 
     told : ℕ → ℕ → Bool → Bool → MachHeader
-    told count size e t = record (header_of_kind (record { executable = e; thread_locals = t }) commands) { ncmds = count; sizeofcmds = size }
+    told count size e t = record (header_of_kind (record { executable = e; thread_locals = t }) commands)
+        { ncmds = count; sizeofcmds = size }

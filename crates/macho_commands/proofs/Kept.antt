@@ -3,7 +3,8 @@
 -- Header and command sizes are those that the file says. Each rule on segments is asked of the placed segments: their
 -- commands have the protections of their names, they are made of whole pages, stand in order and have room in the file
 -- and in memory. `__TEXT` is there once, at the file's start, and is as long as the commands need.
-use Rattle.std.proofs.Common.{◌≡◌, ℕ, ◌+◌, ◌%◌, ◌^◌, ◌≤◌, ◌==◌, ◌&&◌, nat_le, Bool, true, List, map, length, get_or, refl, sym, ap, subst, ◌∙◌, arith}
+use Rattle.std.proofs.Common.{◌≡◌, ℕ, ◌+◌, ◌%◌, ◌^◌, ◌≤◌, ◌==◌, ◌&&◌, nat_le, Bool, true, List, map, length, get_or, refl, sym, ap, subst}
+use Rattle.std.proofs.Common.{◌∙◌, arith}
 use Rattle.std.specs.Prelude.{filter}
 use Rattle.std.proofs.lemmas.Bool.{le-leb, eq-eqb}
 use Rattle.std.proofs.lemmas.List.{length-map}
@@ -20,7 +21,8 @@ use Rattle.macho_model.specs.LoadRules.{text_holds_commands}
 use Rattle.macho_commands.specs.Laws.{HeadKeepsRules}
 use Rattle.macho_commands.proofs.Told.{segments-told}
 use Rattle.macho_commands.proofs.HeadRules.{and-true, ends-said, each-fits, head-fits}
-use Rattle.macho_commands.proofs.SegmentRules.{record_for, AreOf, are-of, each_tested, neighbours_follow, one_text, named-records, named_each}
+use Rattle.macho_commands.proofs.SegmentRules.{record_for, AreOf, are-of, each_tested, neighbours_follow, one_text, named-records}
+use Rattle.macho_commands.proofs.SegmentRules.{named_each}
 
 -- what the loader asks of a segment's record
 abbrev pub protected : SegmentCommand → Bool
@@ -51,15 +53,18 @@ head_kept l counts uuid b p says order room = record {
   l1 = head-fits l counts uuid b p says (omega (arith, ends-said l counts uuid b p says, long));
   l2 = (le-leb (commands_end b) (length b) long, each-fits l counts uuid b p says);
   l3 = each_tested b p first protected are (λ k d lt. protected_for p (get_or p.segments k d));
-  l4 = each_tested b p first (inside b) are (λ k d lt. and-true _ _ (le-leb _ _ (room.file k d lt)) (le-leb _ _ (order.paged k d lt).file_size));
+  l4 = each_tested b p first (inside b) are (λ k d lt. and-true _ _ (le-leb _ _ (room.file k d lt))
+      (le-leb _ _ (order.paged k d lt).file_size));
   l5 = each_tested b p first paged are (λ k d lt. paged_for p (get_or p.segments k d) (order.paged k d lt));
   l6 = (
     each_tested b p first ends are (λ k d lt. le-leb _ _ (room.memory k d lt)),
     neighbours_follow l b p first are order.follow,
   );
   l7 = (
-    ap length texts ∙ length-map (filter (is_segment_named TEXT) p.segments) (record_for p) ∙ one_text l p first order.follow order.begins.1 order.begins.2,
-    All-same (λ r. text_holds_commands b r ≡ true) (segments_named TEXT b) (map (record_for p) (filter (is_segment_named TEXT) p.segments)) texts
+    ap length texts ∙ length-map (filter (is_segment_named TEXT) p.segments) (record_for p)
+        ∙ one_text l p first order.follow order.begins.1 order.begins.2,
+    All-same (λ r. text_holds_commands b r ≡ true) (segments_named TEXT b) (map (record_for p)
+        (filter (is_segment_named TEXT) p.segments)) texts
         (All-map (λ r. text_holds_commands b r ≡ true) (record_for p) (filter (is_segment_named TEXT) p.segments)
         (named_each p TEXT (λ s. text_holds_commands b (record_for p s) ≡ true)
         (λ k d lt named. and-true _ _ (eq-eqb _ 0 (room.text k d lt named).0) (le-leb _ _ (room.text k d lt named).1)))),
@@ -81,5 +86,6 @@ head_kept l counts uuid b p says order room = record {
         let at : ℕ = order.begins.1.0 in
         let there = order.begins.1.1 in
         let is : get_or p.segments at first ≡ first = order.begins.1.2 in
-        let named : is_segment_named TEXT (get_or p.segments at first) ≡ true = subst (λ (s : PlacedSegment). is_segment_named TEXT s ≡ true) (sym is) order.begins.2 in
+        let named : is_segment_named TEXT (get_or p.segments at first) ≡ true = subst
+        (λ (s : PlacedSegment). is_segment_named TEXT s ≡ true) (sym is) order.begins.2 in
         omega (arith, room.text at first there named, room.file at first there)

@@ -26,14 +26,18 @@ length-filled front path =
     omega (arith, length-append path gap, count)
 
 -- a record's text and the path behind it
-pub path_written : (at front : ℕ) (text path before headed now : List ℕ) → length text ≡ front → at + path_command_size front path ≤ length before
-    → headed ≡ put at text before → now ≡ put (at + front) (path_filled front path) headed → now ≡ put at (text ++ path_filled front path) before
+pub path_written : (at front : ℕ) (text path before headed now : List ℕ) → length text ≡ front
+    → at + path_command_size front path ≤ length before
+    → headed ≡ put at text before → now ≡ put (at + front) (path_filled front path) headed
+    → now ≡ put at (text ++ path_filled front path) before
 path_written at front text path before headed now long room first second =
     second ∙ ap (put (at + front) (path_filled front path)) first
     ∙ put-put at (at + front) text (path_filled front path) before (omega (arith, long)) (omega (arith, length-filled front path))
 
-pub length-path_written : (front : ℕ) (text path : List ℕ) → length text ≡ front → length (text ++ path_filled front path) ≡ path_command_size front path
-length-path_written front text path long = length-append text (path_filled front path) ∙ ap (λ (n : ℕ). n + length (path_filled front path)) long ∙ length-filled front path
+pub length-path_written : (front : ℕ) (text path : List ℕ) → length text ≡ front
+    → length (text ++ path_filled front path) ≡ path_command_size front path
+length-path_written front text path long = length-append text (path_filled front path)
+    ∙ ap (λ (n : ℕ). n + length (path_filled front path)) long ∙ length-filled front path
 
 -- a command is written, has its size, and is found again
 pub record Done (h : HeadCommand) (size at : ℕ) (before now : List ℕ) : Type 0 where
@@ -58,7 +62,8 @@ dylib_sized number time current compatible n = record {
 abbrev pub rpath_sized : ℕ → RpathCommand
 rpath_sized n = record { cmd = LC_RPATH; cmdsize = n; name_offset = 12 }
 
-pub dylinker_done : (n at : ℕ) (before headed now : List ℕ) → n ≡ path_command_size 12 DYLINKER → at + path_command_size 12 DYLINKER ≤ length before
+pub dylinker_done : (n at : ℕ) (before headed now : List ℕ) → n ≡ path_command_size 12 DYLINKER
+    → at + path_command_size 12 DYLINKER ≤ length before
     → ReadsBack dylinker_command (dylinker_sized n) → headed ≡ put at (spelling dylinker_command (dylinker_sized n)) before
     → now ≡ put (at + 12) (path_filled 12 DYLINKER) headed → Done dylinker_for (path_command_size 12 DYLINKER) at before now
 unfolding text_said
@@ -70,18 +75,21 @@ dylinker_done n at before headed now sized room reads first second =
       written = path_written at 12 text DYLINKER before headed now back.long room
           (first ∙ ap (λ (k : ℕ). put at (spelling dylinker_command (dylinker_sized k)) before) sized) second;
       long = length-path_written 12 text DYLINKER back.long;
-      readable = dylinker_readable (dylinker_sized (path_command_size 12 DYLINKER)) (path_filled 12 DYLINKER) refl (sym (length-filled 12 DYLINKER)) back;
+      readable = dylinker_readable (dylinker_sized (path_command_size 12 DYLINKER)) (path_filled 12 DYLINKER) refl
+          (sym (length-filled 12 DYLINKER)) back;
     }
 
 pub dylib_done : (number time current compatible : ℕ) (path : List ℕ) (n at : ℕ) (before headed now : List ℕ)
     → (number ≡ LC_ID_DYLIB) ⊎ (number ≡ LC_LOAD_DYLIB) → n ≡ path_command_size 24 path → at + path_command_size 24 path ≤ length before
     → ReadsBack dylib_command (dylib_sized number time current compatible n)
-    → headed ≡ put at (spelling dylib_command (dylib_sized number time current compatible n)) before → now ≡ put (at + 24) (path_filled 24 path) headed
+    → headed ≡ put at (spelling dylib_command (dylib_sized number time current compatible n)) before
+    → now ≡ put (at + 24) (path_filled 24 path) headed
     → Done (dylib_for number time current compatible path) (path_command_size 24 path) at before now
 unfolding text_said
 dylib_done number time current compatible path n at before headed now known sized room reads first second =
     let told : ℕ → DylibCommand = dylib_sized number time current compatible in
-    let back : ReadsBack dylib_command (told (path_command_size 24 path)) = subst (λ (k : ℕ). ReadsBack dylib_command (told k)) sized reads in
+    let back : ReadsBack dylib_command (told (path_command_size 24 path)) = subst (λ (k : ℕ). ReadsBack dylib_command (told k)) sized
+    reads in
     let text : List ℕ = spelling dylib_command (told (path_command_size 24 path)) in
     record {
       written = path_written at 24 text path before headed now back.long room
@@ -90,12 +98,14 @@ dylib_done number time current compatible path n at before headed now known size
       readable = dylib_readable (told (path_command_size 24 path)) (path_filled 24 path) known (sym (length-filled 24 path)) back;
     }
 
-pub rpath_done : (path : List ℕ) (n at : ℕ) (before headed now : List ℕ) → n ≡ path_command_size 12 path → at + path_command_size 12 path ≤ length before
+pub rpath_done : (path : List ℕ) (n at : ℕ) (before headed now : List ℕ) → n ≡ path_command_size 12 path
+    → at + path_command_size 12 path ≤ length before
     → ReadsBack rpath_command (rpath_sized n) → headed ≡ put at (spelling rpath_command (rpath_sized n)) before
     → now ≡ put (at + 12) (path_filled 12 path) headed → Done (rpath_for path) (path_command_size 12 path) at before now
 unfolding text_said
 rpath_done path n at before headed now sized room reads first second =
-    let back : ReadsBack rpath_command (rpath_sized (path_command_size 12 path)) = subst (λ (k : ℕ). ReadsBack rpath_command (rpath_sized k)) sized reads in
+    let back : ReadsBack rpath_command (rpath_sized (path_command_size 12 path)) = subst
+    (λ (k : ℕ). ReadsBack rpath_command (rpath_sized k)) sized reads in
     let text : List ℕ = spelling rpath_command (rpath_sized (path_command_size 12 path)) in
     record {
       written = path_written at 12 text path before headed now back.long room

@@ -3,7 +3,8 @@
 -- Each record begins with the command's number and size, in the same four bytes each as the head that every command has:
 -- so where a record reads back, the head does. Behind the record stand records of one size each, which read back one by
 -- one, or a path, which is the bytes from the record's end to the command's.
-use Rattle.std.proofs.Common.{◌≡◌, ℕ, zero, suc, ◌+◌, ◌*◌, ◌<◌, List, [], ◌∷◌, ◌++◌, length, get_or, map, slice_range, refl, ◌⊎◌, ap, ◌∙◌, arith}
+use Rattle.std.proofs.Common.{◌≡◌, ℕ, zero, suc, ◌+◌, ◌*◌, ◌<◌, List, [], ◌∷◌, ◌++◌, length, get_or, map, slice_range, refl, ◌⊎◌, ap, ◌∙◌}
+use Rattle.std.proofs.Common.{arith}
 use Rattle.std.specs.List.{flat_map, range_with_len}
 use Rattle.std.proofs.lemmas.List.{ext_get_or}
 use Rattle.std.proofs.lemmas.List.FromFn.{length-map-range_with_len, get_or-map-range_with_len}
@@ -12,7 +13,8 @@ use Rattle.macho_bytes.specs.Layouts.{Layout, reading, spelling, size_of, ReadsB
 use Rattle.macho_bytes.proofs.Numbers.{stands-front, stands-back}
 use Rattle.macho_bytes.proofs.Tables.{EachLong, table-stands}
 use Rattle.macho_records.specs.Layouts.{segment_command, section_header, symtab_command}
-use Rattle.macho_structs.specs.Layouts.{entry_point_command, dylinker_command, dylib_command, rpath_command, linkedit_data_command, uuid_command, build_version_command, build_tool_version}
+use Rattle.macho_structs.specs.Layouts.{entry_point_command, dylinker_command, dylib_command, rpath_command, linkedit_data_command}
+use Rattle.macho_structs.specs.Layouts.{uuid_command, build_version_command, build_tool_version}
 use Rattle.macho_records.specs.declared.header.SegmentCommand.{SegmentCommand}
 use Rattle.macho_records.specs.declared.header.SectionHeader.{SectionHeader}
 use Rattle.macho_records.specs.declared.symbols.SymtabCommand.{SymtabCommand}
@@ -24,18 +26,21 @@ use Rattle.macho_structs.specs.declared.commands.LinkeditDataCommand.{LinkeditDa
 use Rattle.macho_structs.specs.declared.commands.UuidCommand.{UuidCommand}
 use Rattle.macho_structs.specs.declared.commands.BuildVersionCommand.{BuildVersionCommand}
 use Rattle.macho_structs.specs.declared.commands.BuildToolVersion.{BuildToolVersion}
-use Rattle.macho_records.specs.declared.constants.TheConstants.{LC_BUILD_VERSION, LC_ID_DYLIB, LC_LOAD_DYLIB, LC_LOAD_DYLINKER, LC_MAIN, LC_RPATH, LC_SEGMENT_64, LC_SYMTAB, LC_UUID}
+use Rattle.macho_records.specs.declared.constants.TheConstants.{LC_BUILD_VERSION, LC_ID_DYLIB, LC_LOAD_DYLIB, LC_LOAD_DYLINKER, LC_MAIN}
+use Rattle.macho_records.specs.declared.constants.TheConstants.{LC_RPATH, LC_SEGMENT_64, LC_SYMTAB, LC_UUID}
 use Rattle.macho_model.specs.Agreement.{section_headers_at}
 use Rattle.macho_model.specs.Head.{Segment, EntryPoint, Uuid, BuildVersion, Dylinker, Dylib, Rpath, LinkeditData, Symtab, behind, tools_at}
 use Rattle.macho_commands.specs.Texts.{text_said}
 use Rattle.macho_commands.specs.steps.Writing.{IsLinkedit}
 use Rattle.macho_commands.specs.Reading.{IsReadable, placed_at}
 use Rattle.macho_commands.specs.steps.Writing.{EachReadsBack}
-use Rattle.macho_commands.proofs.Numbered.{in_segment, in_entry_point, in_uuid, in_build_version, in_dylinker, in_dylib, in_rpath, in_symtab, in_linkedit}
+use Rattle.macho_commands.proofs.Numbered.{in_segment, in_entry_point, in_uuid, in_build_version, in_dylinker, in_dylib, in_rpath}
+use Rattle.macho_commands.proofs.Numbered.{in_symtab, in_linkedit}
 
 -- records of one size, one behind the other, are read one by one
 pub records-read : {R : Type 0} (l : Layout R) (w : ℕ) (rs : List R) (none : R) (b : List ℕ) (at : ℕ) → size_of l ≡ w → EachReadsBack l rs
-    → Stands b (record { at = at; text = flat_map (spelling l) rs }) → map (λ k. reading l b (at + w * k)) (range_with_len 0 (length rs)) ≡ rs
+    → Stands b (record { at = at; text = flat_map (spelling l) rs }) → map (λ k. reading l b (at + w * k)) (range_with_len 0 (length rs))
+    ≡ rs
 records-read {R = R} l w rs none b at sized back s =
     ext_get_or none (map f (range_with_len 0 (length rs))) rs (length-map-range_with_len f 0 (length rs))
     (λ k lt.
@@ -60,15 +65,18 @@ behind-stands b at w size front path long is s =
 abbrev pub no_header : SectionHeader
 no_header = section_header.blank
 
-pub segment_readable : (r : SegmentCommand) (headers : List SectionHeader) (none : SectionHeader) → r.cmd ≡ LC_SEGMENT_64 → r.nsects ≡ length headers
+pub segment_readable : (r : SegmentCommand) (headers : List SectionHeader) (none : SectionHeader) → r.cmd ≡ LC_SEGMENT_64
+    → r.nsects ≡ length headers
     → ReadsBack segment_command r → EachReadsBack section_header headers → IsReadable (Segment r headers)
 unfolding text_said section_headers_at reading
 segment_readable r headers none number count back each = record {
   found = λ b at s.
       let e = back.back b at (stands-front b at (spelling segment_command r) (flat_map (spelling section_header) headers) s) in
-      let behind_it = stands-back b at (at + 72) (spelling segment_command r) (flat_map (spelling section_header) headers) (omega (arith, back.long)) s in
+      let behind_it = stands-back b at (at + 72) (spelling segment_command r) (flat_map (spelling section_header) headers)
+      (omega (arith, back.long)) s in
       let sections : section_headers_at b at ≡ headers =
-      ap (λ (n : ℕ). map (λ k. reading section_header b (at + 72 + 80 * k)) (range_with_len 0 n)) (ap (λ (x : SegmentCommand). x.nsects) e ∙ count)
+      ap (λ (n : ℕ). map (λ k. reading section_header b (at + 72 + 80 * k)) (range_with_len 0 n))
+      (ap (λ (x : SegmentCommand). x.nsects) e ∙ count)
       ∙ records-read section_header 80 headers none b (at + 72) refl each behind_it in
       record {
         number = ap (λ (x : SegmentCommand). x.cmd) e;
@@ -126,16 +134,19 @@ linkedit_readable r number back = record {
       };
 }
 
-pub build_version_readable : (r : BuildVersionCommand) (tool : BuildToolVersion) → r.cmd ≡ LC_BUILD_VERSION → r.ntools ≡ 1 → ReadsBack build_version_command r
+pub build_version_readable : (r : BuildVersionCommand) (tool : BuildToolVersion) → r.cmd ≡ LC_BUILD_VERSION → r.ntools ≡ 1
+    → ReadsBack build_version_command r
     → ReadsBack build_tool_version tool → IsReadable (BuildVersion r (tool ∷ []))
 unfolding text_said reading
 build_version_readable r tool number one back tool_back = record {
   found = λ b at s.
       let e = back.back b at (stands-front b at (spelling build_version_command r) (spelling build_tool_version tool ++ []) s) in
-      let behind_it = stands-back b at (at + 24) (spelling build_version_command r) (spelling build_tool_version tool ++ []) (omega (arith, back.long)) s in
+      let behind_it = stands-back b at (at + 24) (spelling build_version_command r) (spelling build_tool_version tool ++ [])
+      (omega (arith, back.long)) s in
       let each : EachReadsBack build_tool_version (tool ∷ []) = record { each = λ k d lt. first_alone tool k d lt tool_back } in
       let tools : tools_at b at ≡ tool ∷ [] =
-      ap (λ (n : ℕ). map (λ k. reading build_tool_version b (at + 24 + 8 * k)) (range_with_len 0 n)) (ap (λ (x : BuildVersionCommand). x.ntools) e ∙ one)
+      ap (λ (n : ℕ). map (λ k. reading build_tool_version b (at + 24 + 8 * k)) (range_with_len 0 n))
+      (ap (λ (x : BuildVersionCommand). x.ntools) e ∙ one)
       ∙ records-read build_tool_version 8 (tool ∷ []) tool b (at + 24) refl each behind_it in
       record {
         number = ap (λ (x : BuildVersionCommand). x.cmd) e;
@@ -150,7 +161,8 @@ build_version_readable r tool number one back tool_back = record {
     first_alone tool zero d lt back = back
     first_alone tool (suc k) d lt back = absurd (omega arith)
 
-pub dylinker_readable : (r : DylinkerCommand) (path : List ℕ) → r.cmd ≡ LC_LOAD_DYLINKER → r.cmdsize ≡ 12 + length path → ReadsBack dylinker_command r
+pub dylinker_readable : (r : DylinkerCommand) (path : List ℕ) → r.cmd ≡ LC_LOAD_DYLINKER → r.cmdsize ≡ 12 + length path
+    → ReadsBack dylinker_command r
     → IsReadable (Dylinker r path)
 unfolding text_said reading
 dylinker_readable r path number size back = record {
@@ -165,7 +177,8 @@ dylinker_readable r path number size back = record {
       };
 }
 
-pub dylib_readable : (r : DylibCommand) (path : List ℕ) → (r.cmd ≡ LC_ID_DYLIB) ⊎ (r.cmd ≡ LC_LOAD_DYLIB) → r.cmdsize ≡ 24 + length path → ReadsBack dylib_command r
+pub dylib_readable : (r : DylibCommand) (path : List ℕ) → (r.cmd ≡ LC_ID_DYLIB) ⊎ (r.cmd ≡ LC_LOAD_DYLIB) → r.cmdsize ≡ 24 + length path
+    → ReadsBack dylib_command r
     → IsReadable (Dylib r path)
 unfolding text_said reading
 dylib_readable r path number size back = record {

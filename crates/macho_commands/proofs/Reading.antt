@@ -24,15 +24,19 @@ use Rattle.macho_commands.proofs.Numbered.{in_segment, in_entry_point}
 use Rattle.macho_commands.specs.Reading.{IsFound, IsReadable, placed_at, placed_commands, EachFound, ListIsReadable}
 
 -- the first of some commands, and the rest of them
-pub each_found : (commands : List Command) (b : List ℕ) (at : ℕ) → ((k : ℕ) (d : Command) → k < length commands → IsReadable (said_by (get_or commands k d)))
+pub each_found : (commands : List Command) (b : List ℕ) (at : ℕ) → ((k : ℕ) (d : Command) → k < length commands
+    → IsReadable (said_by (get_or commands k d)))
     → ((k : ℕ) (d : Command) → k < length commands → length (text_of (get_or commands k d)) ≡ size_of_command (get_or commands k d))
     → Stands b (record { at = at; text = flat_map text_of commands }) → EachFound b at commands
 each_found [] b at readable long s = tt
 each_found (c ∷ cs) b at readable long s =
     let first = (readable 0 c (omega arith)).found b at (stands-front b at (text_of c) (flat_map text_of cs) s) in
     let next : at + size_of_command c ≡ at + length (text_of c) = omega (arith, long 0 c (omega arith)) in
-    let rest = stands-back b at (at + size_of_command c) (text_of c) (flat_map text_of cs) next s in
-    (first, each_found cs b (at + size_of_command c) (λ k d lt. readable (suc k) d (omega arith)) (λ k d lt. long (suc k) d (omega arith)) rest)
+    let rest = stands-back b at (at + size_of_command c) (text_of c) (flat_map text_of cs) next s in (
+      first,
+      each_found cs b (at + size_of_command c) (λ k d lt. readable (suc k) d (omega arith)) (λ k d lt. long (suc k) d (omega arith))
+          rest,
+    )
 
 -- the walk over the heads meets them
 pub commands_from-found : (commands : List Command) (b : List ℕ) (at : ℕ) → EachFound b at commands
@@ -45,7 +49,8 @@ commands_from-found (c ∷ cs) b at each =
     rw (each.0.number, each.0.size, rest) refl
 
 -- and what they say
-pub commands-said : (commands : List Command) (b : List ℕ) (at : ℕ) → EachFound b at commands → map (command_in b) (placed_commands at commands) ≡ map said_by commands
+pub commands-said : (commands : List Command) (b : List ℕ) (at : ℕ) → EachFound b at commands
+    → map (command_in b) (placed_commands at commands) ≡ map said_by commands
 commands-said [] b at each = refl
 commands-said (c ∷ cs) b at each =
     ap (λ (h : HeadCommand). h ∷ map (command_in b) (placed_commands (at + size_of_command c) cs)) each.0.says
@@ -59,20 +64,23 @@ pub record ReadableSoFar (i : ℕ) (commands : List Command) : Type 0 where
 pub readable_begins : (commands : List Command) → ReadableSoFar 0 commands
 readable_begins commands = record { readable = λ k d lt. absurd (omega arith); long = λ k d lt. absurd (omega arith) }
 
-pub readable_goes_on : (i : ℕ) (commands : List Command) (d : Command) → i < length commands → ReadableSoFar i commands → IsReadable (said_by (get_or commands i d))
+pub readable_goes_on : (i : ℕ) (commands : List Command) (d : Command) → i < length commands → ReadableSoFar i commands
+    → IsReadable (said_by (get_or commands i d))
     → length (text_of (get_or commands i d)) ≡ size_of_command (get_or commands i d) → ReadableSoFar (i + 1) commands
 readable_goes_on i commands d lt so_far here long = record {
   readable = λ k e below. elim (cases_lt k i) [
     | inl less ↦ so_far.readable k e less
     | inr last ↦
-        let same : get_or commands i d ≡ get_or commands k e = get_or_default commands i d e lt ∙ ap (λ (n : ℕ). get_or commands n e) (omega arith) in
+        let same : get_or commands i d ≡ get_or commands k e = get_or_default commands i d e lt
+        ∙ ap (λ (n : ℕ). get_or commands n e) (omega arith) in
         let Readable : Command → Type 0 = λ c. IsReadable (said_by c) in
         subst Readable same here
   ];
   long = λ k e below. elim (cases_lt k i) [
     | inl less ↦ so_far.long k e less
     | inr last ↦
-        let same : get_or commands i d ≡ get_or commands k e = get_or_default commands i d e lt ∙ ap (λ (n : ℕ). get_or commands n e) (omega arith) in
+        let same : get_or commands i d ≡ get_or commands k e = get_or_default commands i d e lt
+        ∙ ap (λ (n : ℕ). get_or commands n e) (omega arith) in
         let Long : Command → Type 0 = λ c. length (text_of c) ≡ size_of_command c in
         subst Long same long
   ];
@@ -87,21 +95,25 @@ readable_ends i commands past so_far = record {
 }
 
 -- the record of a segment, and of an entry, that is found
-pub segment-found : (b : List ℕ) (at : ℕ) (r : SegmentCommand) (headers : List SectionHeader) → r.cmd ≡ LC_SEGMENT_64 → IsFound b at (Segment r headers)
+pub segment-found : (b : List ℕ) (at : ℕ) (r : SegmentCommand) (headers : List SectionHeader) → r.cmd ≡ LC_SEGMENT_64
+    → IsFound b at (Segment r headers)
     → reading segment_command b at ≡ r
 segment-found b at r headers number found =
     let e : Segment (reading segment_command b at) (section_headers_at b at) ≡ Segment r headers =
     sym (in_segment b (placed_at at (Segment r headers)) number) ∙ found.says in
     cc
 
-pub headers-found : (b : List ℕ) (at : ℕ) (r : SegmentCommand) (headers : List SectionHeader) → r.cmd ≡ LC_SEGMENT_64 → IsFound b at (Segment r headers)
+pub headers-found : (b : List ℕ) (at : ℕ) (r : SegmentCommand) (headers : List SectionHeader) → r.cmd ≡ LC_SEGMENT_64
+    → IsFound b at (Segment r headers)
     → section_headers_at b at ≡ headers
 headers-found b at r headers number found =
     let e : Segment (reading segment_command b at) (section_headers_at b at) ≡ Segment r headers =
     sym (in_segment b (placed_at at (Segment r headers)) number) ∙ found.says in
     cc
 
-pub entry_point-found : (b : List ℕ) (at : ℕ) (r : EntryPointCommand) → r.cmd ≡ LC_MAIN → IsFound b at (EntryPoint r) → reading entry_point_command b at ≡ r
+pub entry_point-found : (b : List ℕ) (at : ℕ) (r : EntryPointCommand) → r.cmd ≡ LC_MAIN → IsFound b at (EntryPoint r)
+    → reading entry_point_command b at ≡ r
 entry_point-found b at r number found =
-    let e : EntryPoint (reading entry_point_command b at) ≡ EntryPoint r = sym (in_entry_point b (placed_at at (EntryPoint r)) number) ∙ found.says in
+    let e : EntryPoint (reading entry_point_command b at) ≡ EntryPoint r = sym (in_entry_point b (placed_at at (EntryPoint r)) number)
+    ∙ found.says in
     cc

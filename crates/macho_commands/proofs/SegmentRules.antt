@@ -4,7 +4,8 @@
 -- it is enough to test these. Neighbours follow each other, so none begins below the end of the one before it. Ranks of
 -- names rise from neighbour to neighbour, so from each segment to every later one: two segments of one name would have
 -- one rank, so `__TEXT` stands once where it stands.
-use Rattle.std.proofs.Common.{◌≡◌, ℕ, zero, suc, ◌+◌, ◌<◌, Bool, true, false, List, [], ◌∷◌, map, length, get_or, refl, sym, ap, subst, ◌∙◌, arith, All}
+use Rattle.std.proofs.Common.{◌≡◌, ℕ, zero, suc, ◌+◌, ◌<◌, Bool, true, false, List, [], ◌∷◌, map, length, get_or, refl, sym, ap, subst}
+use Rattle.std.proofs.Common.{◌∙◌, arith, All}
 use Rattle.std.specs.Prelude.{filter, Contains}
 use Rattle.std.proofs.lemmas.Bool.{le-leb}
 use Rattle.std.proofs.lemmas.List.{get_or-map, length-map, get_or_default}
@@ -42,7 +43,8 @@ pub are-of : (b : List ℕ) (p : Placed) → segments_of b ≡ map segment_taken
 are-of b p told = told ∙ records-are p p.segments
 
 -- segment number k: how its command's record is that of the placed one
-record-at : (b : List ℕ) (p : Placed) (k : ℕ) (c : Command) (s : PlacedSegment) → AreOf b p → k < length (segment_commands b) → get_or (segment_commands b) k c ≡ c
+record-at : (b : List ℕ) (p : Placed) (k : ℕ) (c : Command) (s : PlacedSegment) → AreOf b p → k < length (segment_commands b)
+    → get_or (segment_commands b) k c ≡ c
     → segment_in b c ≡ record_for p (get_or p.segments k s)
 unfolding segments_of
 record-at b p k c s are lt at_k =
@@ -60,7 +62,8 @@ length-segments b p are =
     sym (length-map (segment_commands b) f) ∙ ap length are ∙ length-map p.segments (record_for p)
 
 -- a test of each segment's command is one of each placed segment
-pub each_tested : (b : List ℕ) (p : Placed) (s : PlacedSegment) (test : SegmentCommand → Bool) → AreOf b p → All (λ q. test (record_for p q) ≡ true) p.segments
+pub each_tested : (b : List ℕ) (p : Placed) (s : PlacedSegment) (test : SegmentCommand → Bool) → AreOf b p
+    → All (λ q. test (record_for p q) ≡ true) p.segments
     → EachCommand (segment_commands b) (λ c. test (segment_in b c))
 each_tested b p s test are each k d lt =
     let c : Command = get_or (segment_commands b) k d in
@@ -78,7 +81,8 @@ neighbours_follow l b p s are follow k c d at_k at_next =
     let second : segment_in b d ≡ record_for p two = record-at b p (k + 1) d s are at_next.0 at_next.1 in
     let lt : k + 1 < length p.segments = omega (arith, count, at_next.0) in
     let there : k < length p.segments = omega (arith, lt) in
-    let next = follow k one two (there, sym (get_or_default p.segments k s one there)) (lt, sym (get_or_default p.segments (k + 1) s two lt)) in
+    let next = follow k one two (there, sym (get_or_default p.segments k s one there))
+    (lt, sym (get_or_default p.segments (k + 1) s two lt)) in
     le-leb _ _ (omega (
       arith,
       ap (λ (r : SegmentCommand). r.vmaddr + r.vmsize) first,
@@ -117,12 +121,14 @@ none_named : (l : Link) (segments : List PlacedSegment) → All (λ t. 1 < rank 
 none_named l [] above = refl
 none_named l (t ∷ segments) above = by (none_named l segments (λ k d lt. above (suc k) d (omega arith))) (is_segment_named TEXT t) refl
   where
-    by : filter (is_segment_named TEXT) segments ≡ [] → (x : Bool) → is_segment_named TEXT t ≡ x → filter (is_segment_named TEXT) (t ∷ segments) ≡ []
+    by : filter (is_segment_named TEXT) segments ≡ [] → (x : Bool) → is_segment_named TEXT t ≡ x
+        → filter (is_segment_named TEXT) (t ∷ segments) ≡ []
     by rest true e = absurd (omega (arith, text_rank l t e, above 0 t (omega arith)))
     by rest false e = rw e rest
 
 -- THE one `__TEXT`
-one_named : (l : Link) (segments : List PlacedSegment) → Rises l segments → (k : ℕ) (s : PlacedSegment) → k < length segments → get_or segments k s ≡ s
+one_named : (l : Link) (segments : List PlacedSegment) → Rises l segments → (k : ℕ) (s : PlacedSegment) → k < length segments
+    → get_or segments k s ≡ s
     → is_segment_named TEXT s ≡ true → length (filter (is_segment_named TEXT) segments) ≡ 1
 one_named l [] rises k s lt at_k named = absurd (omega arith)
 one_named l (t ∷ segments) rises zero s lt at_k named =
@@ -130,15 +136,19 @@ one_named l (t ∷ segments) rises zero s lt at_k named =
     rw first (ap (λ (ss : List PlacedSegment). length (t ∷ ss))
     (none_named l segments (λ j d below. omega (arith, text_rank l t first, rises.0 j d below))))
 one_named l (t ∷ segments) rises (suc k) s lt at_k named =
-    let later : is_segment_named TEXT (get_or segments k s) ≡ true = subst (λ (x : PlacedSegment). is_segment_named TEXT x ≡ true) (sym at_k) named in
-    by (one_named l segments rises.1 k s (omega arith) at_k named) (text_rank l (get_or segments k s) later) (rises.0 k s (omega arith)) (is_segment_named TEXT t) refl
+    let later : is_segment_named TEXT (get_or segments k s) ≡ true = subst (λ (x : PlacedSegment). is_segment_named TEXT x ≡ true)
+    (sym at_k) named in
+    by (one_named l segments rises.1 k s (omega arith) at_k named) (text_rank l (get_or segments k s) later) (rises.0 k s (omega arith))
+    (is_segment_named TEXT t) refl
   where
-    by : length (filter (is_segment_named TEXT) segments) ≡ 1 → rank l (get_or segments k s) ≡ 1 → rank l t < rank l (get_or segments k s) → (x : Bool)
+    by : length (filter (is_segment_named TEXT) segments) ≡ 1 → rank l (get_or segments k s) ≡ 1 → rank l t < rank l (get_or segments k s)
+        → (x : Bool)
         → is_segment_named TEXT t ≡ x → length (filter (is_segment_named TEXT) (t ∷ segments)) ≡ 1
     by rest one above true e = absurd (omega (arith, text_rank l t e, one, above))
     by rest one above false e = rw e rest
 
-pub one_text : (l : Link) (p : Placed) (s : PlacedSegment) → EachFollows l p.segments → Contains p.segments s → is_segment_named TEXT s ≡ true
+pub one_text : (l : Link) (p : Placed) (s : PlacedSegment) → EachFollows l p.segments → Contains p.segments s
+    → is_segment_named TEXT s ≡ true
     → length (filter (is_segment_named TEXT) p.segments) ≡ 1
 one_text l p s follow there named = one_named l p.segments (follows_rise l p.segments follow) there.0 s there.1 there.2 named
 

@@ -7,14 +7,19 @@ use Rattle.std.proofs.Common.{◌≡◌, ℕ, ◌⊎◌, ◌==◌, Bool, true, f
 use Rattle.std.proofs.lemmas.Bool.{eqb-true}
 use Rattle.macho_bytes.specs.Layouts.{reading, size_of}
 use Rattle.macho_records.specs.Layouts.{load_command, segment_command, symtab_command}
-use Rattle.macho_structs.specs.Layouts.{entry_point_command, dylinker_command, dylib_command, rpath_command, linkedit_data_command, uuid_command, build_version_command}
-use Rattle.macho_records.specs.declared.constants.TheConstants.{LC_BUILD_VERSION, LC_CODE_SIGNATURE, LC_DYLD_CHAINED_FIXUPS, LC_DYLD_EXPORTS_TRIE, LC_ID_DYLIB, LC_LOAD_DYLIB, LC_LOAD_DYLINKER, LC_MAIN, LC_RPATH, LC_SEGMENT_64, LC_SYMTAB, LC_UUID}
+use Rattle.macho_structs.specs.Layouts.{entry_point_command, dylinker_command, dylib_command, rpath_command, linkedit_data_command}
+use Rattle.macho_structs.specs.Layouts.{uuid_command, build_version_command}
+use Rattle.macho_records.specs.declared.constants.TheConstants.{LC_BUILD_VERSION, LC_CODE_SIGNATURE, LC_DYLD_CHAINED_FIXUPS}
+use Rattle.macho_records.specs.declared.constants.TheConstants.{LC_DYLD_EXPORTS_TRIE, LC_ID_DYLIB, LC_LOAD_DYLIB, LC_LOAD_DYLINKER}
+use Rattle.macho_records.specs.declared.constants.TheConstants.{LC_MAIN, LC_RPATH, LC_SEGMENT_64, LC_SYMTAB, LC_UUID}
 use Rattle.macho_model.specs.Commands.{Command}
 use Rattle.macho_model.specs.Agreement.{section_headers_at}
-use Rattle.macho_model.specs.Head.{Segment, EntryPoint, Uuid, BuildVersion, Dylinker, Dylib, Rpath, LinkeditData, Symtab, Other, behind, tools_at, command_in, size_said}
+use Rattle.macho_model.specs.Head.{Segment, EntryPoint, Uuid, BuildVersion, Dylinker, Dylib, Rpath, LinkeditData, Symtab, Other, behind}
+use Rattle.macho_model.specs.Head.{tools_at, command_in, size_said}
 use Rattle.macho_commands.specs.Texts.{number_said}
 use Rattle.macho_commands.specs.steps.Writing.{IsLinkedit}
-use Rattle.macho_commands.proofs.Numbered.{in_segment, in_entry_point, in_uuid, in_build_version, in_dylinker, in_dylib, in_rpath, in_symtab, in_linkedit}
+use Rattle.macho_commands.proofs.Numbered.{in_segment, in_entry_point, in_uuid, in_build_version, in_dylinker, in_dylib, in_rpath}
+use Rattle.macho_commands.proofs.Numbered.{in_symtab, in_linkedit}
 
 -- no test of the number passes
 pub record IsUnknown (c : Command) : Type 0 where
@@ -35,9 +40,12 @@ pub data Shape (b : List ℕ) (c : Command) : Type 0 where
   a_segment : c.number ≡ LC_SEGMENT_64 → command_in b c ≡ Segment (reading segment_command b c.at) (section_headers_at b c.at) → Shape b c
   an_entry_point : c.number ≡ LC_MAIN → command_in b c ≡ EntryPoint (reading entry_point_command b c.at) → Shape b c
   a_uuid : c.number ≡ LC_UUID → command_in b c ≡ Uuid (reading uuid_command b c.at) → Shape b c
-  a_build_version : c.number ≡ LC_BUILD_VERSION → command_in b c ≡ BuildVersion (reading build_version_command b c.at) (tools_at b c.at) → Shape b c
-  a_dylinker : c.number ≡ LC_LOAD_DYLINKER → command_in b c ≡ Dylinker (reading dylinker_command b c.at) (behind b c (size_of dylinker_command)) → Shape b c
-  a_dylib : (c.number ≡ LC_ID_DYLIB) ⊎ (c.number ≡ LC_LOAD_DYLIB) → command_in b c ≡ Dylib (reading dylib_command b c.at) (behind b c (size_of dylib_command)) → Shape b c
+  a_build_version : c.number ≡ LC_BUILD_VERSION → command_in b c ≡ BuildVersion (reading build_version_command b c.at) (tools_at b c.at)
+      → Shape b c
+  a_dylinker : c.number ≡ LC_LOAD_DYLINKER → command_in b c ≡ Dylinker (reading dylinker_command b c.at)
+      (behind b c (size_of dylinker_command)) → Shape b c
+  a_dylib : (c.number ≡ LC_ID_DYLIB) ⊎ (c.number ≡ LC_LOAD_DYLIB) → command_in b c ≡ Dylib (reading dylib_command b c.at)
+      (behind b c (size_of dylib_command)) → Shape b c
   an_rpath : c.number ≡ LC_RPATH → command_in b c ≡ Rpath (reading rpath_command b c.at) (behind b c (size_of rpath_command)) → Shape b c
   a_symtab : c.number ≡ LC_SYMTAB → command_in b c ≡ Symtab (reading symtab_command b c.at) → Shape b c
   a_table : IsLinkedit c.number → command_in b c ≡ LinkeditData (reading linkedit_data_command b c.at) → Shape b c
@@ -46,7 +54,20 @@ pub data Shape (b : List ℕ) (c : Command) : Type 0 where
 unknown-is : (b : List ℕ) (c : Command) → IsUnknown c → command_in b c ≡ Other c.number c.size
 unfolding command_in
 unknown-is b c u =
-    rw (u.segment, u.entry_point, u.uuid, u.build_version, u.dylinker, u.id_dylib, u.load_dylib, u.rpath, u.symtab, u.fixups, u.trie, u.signature) refl
+    rw (
+      u.segment,
+      u.entry_point,
+      u.uuid,
+      u.build_version,
+      u.dylinker,
+      u.id_dylib,
+      u.load_dylib,
+      u.rpath,
+      u.symtab,
+      u.fixups,
+      u.trie,
+      u.signature,
+    ) refl
 
 -- the test of a number, from what it answers
 Tested : Command → ℕ → Type 0

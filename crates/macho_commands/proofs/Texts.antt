@@ -3,7 +3,8 @@
 -- A section header has 80 bytes, since it reads back. So the headers joined end to end have 80 bytes each, and the
 -- next one is written at 80 times its number behind the first. The loop over commands goes the same way, with each
 -- command's own size.
-use Rattle.std.proofs.Common.{◌≡◌, ℕ, suc, ◌+◌, ◌*◌, ◌<◌, ◌≤◌, List, [], ◌∷◌, length, get_or, take, refl, sym, ap, subst, ◌∙◌, arith, inl, inr}
+use Rattle.std.proofs.Common.{◌≡◌, ℕ, suc, ◌+◌, ◌*◌, ◌<◌, ◌≤◌, List, [], ◌∷◌, length, get_or, take, refl, sym, ap, subst, ◌∙◌, arith, inl}
+use Rattle.std.proofs.Common.{inr}
 use Rattle.std.specs.List.{flat_map}
 use Rattle.std.specs.Prelude.{sum_by}
 use Rattle.std.proofs.Math.Nat.{mul-suc}
@@ -21,7 +22,8 @@ use Rattle.macho_commands.specs.Commands.{text_of, size_of_command}
 use Rattle.macho_commands.specs.steps.Writing.{EachReadsBack}
 
 -- texts of one length joined end to end
-pub length-flat_map_same : {X : Type 0} (f : X → List ℕ) (w : ℕ) (xs : List X) → ((i : ℕ) (d : X) → i < length xs → length (f (get_or xs i d)) ≡ w)
+pub length-flat_map_same : {X : Type 0} (f : X → List ℕ) (w : ℕ) (xs : List X)
+    → ((i : ℕ) (d : X) → i < length xs → length (f (get_or xs i d)) ≡ w)
     → length (flat_map f xs) ≡ w * length xs
 length-flat_map_same f w [] each = omega arith
 length-flat_map_same f w (x ∷ xs) each =
@@ -60,8 +62,10 @@ headers_go_on at place i headers d before out now lt room so_far back is =
       ];
     }
 
-pub headers_end : (at place i : ℕ) (headers : List SectionHeader) (before now : List ℕ) → length headers ≤ i → HeadersSoFar at place i headers before now
-    → (now ≡ put at (flat_map (spelling section_header) headers) before) × (length (flat_map (spelling section_header) headers) ≡ 80 * length headers)
+pub headers_end : (at place i : ℕ) (headers : List SectionHeader) (before now : List ℕ) → length headers ≤ i
+    → HeadersSoFar at place i headers before now
+    → (now ≡ put at (flat_map (spelling section_header) headers) before)
+    × (length (flat_map (spelling section_header) headers) ≡ 80 * length headers)
     × EachReadsBack section_header headers
 headers_end at place i headers before now past so_far = (
   (texts_end (spelling section_header) at place i headers before now past so_far.texts).written,
@@ -89,10 +93,12 @@ pub commands_go_on : (at place i : ℕ) (commands : List Command) (d : Command) 
 commands_go_on at place i commands d before out now lt room so_far long is =
     let all = sum_by_more_le size_of_command commands i d lt in
     record {
-      texts = texts_go_on text_of at place (place + size_of_command (get_or commands i d)) i commands (get_or commands i d) before out now lt
+      texts = texts_go_on text_of at place (place + size_of_command (get_or commands i d)) i commands (get_or commands i d) before out now
+          lt
           (get_or_default commands i d (get_or commands i d) lt) so_far.texts (omega (arith, long)) (omega (arith, so_far.here, all)) is;
       here = omega (arith, so_far.here, sum_by_more size_of_command commands i d lt);
-      keeps = ap length is ∙ length-put place (text_of (get_or commands i d)) out (omega (arith, so_far.here, so_far.keeps, long, all)) ∙ so_far.keeps;
+      keeps = ap length is ∙ length-put place (text_of (get_or commands i d)) out (omega (arith, so_far.here, so_far.keeps, long, all))
+          ∙ so_far.keeps;
     }
 
 -- the next command has room
@@ -102,9 +108,11 @@ pub command_room : (at place i : ℕ) (commands : List Command) (d : Command) (b
 command_room at place i commands d before out lt room so_far =
     omega (arith, so_far.here, so_far.keeps, sum_by_more_le size_of_command commands i d lt)
 
-pub commands_end : (at place i : ℕ) (commands : List Command) (before now : List ℕ) → length commands ≤ i → CommandsSoFar at place i commands before now
+pub commands_end : (at place i : ℕ) (commands : List Command) (before now : List ℕ) → length commands ≤ i
+    → CommandsSoFar at place i commands before now
     → (now ≡ put at (flat_map text_of commands) before) × (length (flat_map text_of commands) ≡ sum_by size_of_command commands)
 commands_end at place i commands before now past so_far =
     let all = texts_end text_of at place i commands before now past so_far.texts in
-    let here : place ≡ at + sum_by size_of_command commands = so_far.here ∙ ap (λ (cs : List Command). at + sum_by size_of_command cs) (take_all i commands past) in
+    let here : place ≡ at + sum_by size_of_command commands = so_far.here
+    ∙ ap (λ (cs : List Command). at + sum_by size_of_command cs) (take_all i commands past) in
     (all.written, omega (arith, all.ends, here))

@@ -3,7 +3,8 @@
 -- Each reading chooses the commands of a number and takes something of each. That is the same as choosing among what the
 -- file says; and of the commands of a link one piece has the number. So segments, section headers, tables, libraries,
 -- entry and UUID are those of the placement and of the link.
-use Rattle.std.proofs.Common.{◌≡◌, ℕ, zero, suc, ◌+◌, ◌*◌, ◌==◌, replicate, get_or, take, drop, Bool, true, false, List, [], ◌∷◌, ◌++◌, map, inl, inr, refl, sym, ap, ◌∙◌, arith}
+use Rattle.std.proofs.Common.{◌≡◌, ℕ, zero, suc, ◌+◌, ◌*◌, ◌==◌, replicate, get_or, take, drop, Bool, true, false, List, [], ◌∷◌, ◌++◌}
+use Rattle.std.proofs.Common.{map, inl, inr, refl, sym, ap, ◌∙◌, arith}
 use Rattle.std.specs.List.{flat_map}
 use Rattle.std.proofs.lemmas.List.{append-nil}
 use Rattle.std.proofs.lemmas.List.Folds.{flat_map-map}
@@ -14,7 +15,9 @@ use Rattle.macho_structs.specs.Layouts.{entry_point_command, dylib_command, uuid
 use Rattle.macho_records.specs.declared.header.SegmentCommand.{SegmentCommand}
 use Rattle.macho_records.specs.declared.header.SectionHeader.{SectionHeader}
 use Rattle.macho_records.specs.declared.symbols.SymtabCommand.{SymtabCommand}
-use Rattle.macho_records.specs.declared.constants.TheConstants.{LC_BUILD_VERSION, LC_CODE_SIGNATURE, LC_DYLD_CHAINED_FIXUPS, LC_DYLD_EXPORTS_TRIE, LC_ID_DYLIB, LC_LOAD_DYLIB, LC_LOAD_DYLINKER, LC_MAIN, LC_RPATH, LC_SEGMENT_64, LC_SYMTAB, LC_UUID}
+use Rattle.macho_records.specs.declared.constants.TheConstants.{LC_BUILD_VERSION, LC_CODE_SIGNATURE, LC_DYLD_CHAINED_FIXUPS}
+use Rattle.macho_records.specs.declared.constants.TheConstants.{LC_DYLD_EXPORTS_TRIE, LC_ID_DYLIB, LC_LOAD_DYLIB, LC_LOAD_DYLINKER}
+use Rattle.macho_records.specs.declared.constants.TheConstants.{LC_MAIN, LC_RPATH, LC_SEGMENT_64, LC_SYMTAB, LC_UUID}
 use Rattle.macho_model.specs.declared.placed.Counts.{Counts}
 use Rattle.macho_model.specs.Links.{Link}
 use Rattle.macho_model.specs.Needs.{libraries_needed}
@@ -22,9 +25,12 @@ use Rattle.macho_model.specs.Placement.{Placed}
 use Rattle.macho_model.specs.Segments.{list_if}
 use Rattle.macho_model.specs.Commands.{Command, numbered, path_of}
 use Rattle.macho_model.specs.Agreement.{section_headers_at, section_headers_of}
-use Rattle.macho_model.specs.Images.{segments_of, Table, table_of_command, tables_of, tries_of, signatures_of, symbols_range, strings_range, symbol_tables_of, string_tables_of, entries_of_file, libraries_of}
+use Rattle.macho_model.specs.Images.{segments_of, Table, table_of_command, tables_of, tries_of, signatures_of, symbols_range}
+use Rattle.macho_model.specs.Images.{strings_range, symbol_tables_of, string_tables_of, entries_of_file, libraries_of}
 use Rattle.macho_model.specs.Signature.{uuid_written}
-use Rattle.macho_model.specs.Head.{HeadCommand, Segment, EntryPoint, Uuid, Dylib, LinkeditData, Symtab, headers_in, segment_for, entry_point_for, uuid_for, dylib_for, linkedit_for, symtab_for, path_filled, range_size, commands_for, commands_in, behind}
+use Rattle.macho_model.specs.Head.{HeadCommand, Segment, EntryPoint, Uuid, Dylib, LinkeditData, Symtab, headers_in, segment_for}
+use Rattle.macho_model.specs.Head.{entry_point_for, uuid_for, dylib_for, linkedit_for, symtab_for, path_filled, range_size, commands_for}
+use Rattle.macho_model.specs.Head.{commands_in, behind}
 use Rattle.macho_commands.proofs.Numbered.{in_segment, in_entry_point, in_uuid, in_dylib, in_symtab, in_linkedit}
 use Rattle.macho_commands.proofs.Walked.{said_with, chosen_in}
 use Rattle.macho_commands.proofs.Listed.{pieces-are, all_kept, none_kept, entry_kept, entry_dropped}
@@ -103,7 +109,8 @@ entry-listed l counts p uuid trie =
     ∙ simp append-nil
 
 libraries-listed : (l : Link) (counts : Counts) (p : Placed) (uuid : List ℕ) (trie : ℕ)
-    → said_with LC_LOAD_DYLIB (commands_for l counts p uuid trie) ≡ map (dylib_for LC_LOAD_DYLIB 2 0x054c0000 0x00010000) (libraries_needed l)
+    → said_with LC_LOAD_DYLIB (commands_for l counts p uuid trie) ≡ map (dylib_for LC_LOAD_DYLIB 2 0x054c0000 0x00010000)
+    (libraries_needed l)
 libraries-listed l counts p uuid trie =
     pieces-are LC_LOAD_DYLIB l counts p uuid trie (record {
       segments = [];
@@ -212,7 +219,8 @@ pub entry-told : (l : Link) (counts : Counts) (uuid b : List ℕ) (p : Placed) (
     → entries_of_file b ≡ map entry_taken (list_if l.executable (entry_point_for l p ∷ []))
 unfolding entries_of_file
 entry-told l counts uuid b p trie says =
-    chosen_in LC_MAIN (λ c. (reading entry_point_command b c.at).entryoff) entry_taken b (λ c n. sym (ap entry_taken (in_entry_point b c n)))
+    chosen_in LC_MAIN (λ c. (reading entry_point_command b c.at).entryoff) entry_taken b
+    (λ c n. sym (ap entry_taken (in_entry_point b c n)))
     ∙ ap (λ (hs : List HeadCommand). map entry_taken (said_with LC_MAIN hs)) says
     ∙ ap (map entry_taken) (entry-listed l counts p uuid trie)
 
@@ -306,7 +314,8 @@ names_told b (c ∷ cs) (name ∷ names) e =
     ap (λ (t : List ℕ). t ∷ map (λ d. path_of b d (reading dylib_command b d.at).name_offset) cs) here
     ∙ ap (λ (ts : List (List ℕ)). name_of name ∷ ts) (names_told b cs names (ap (λ (xs : List (ℕ × List ℕ)). drop 1 xs) e))
 
-libraries-taken : (names : List (List ℕ)) → map path_taken (map (dylib_for LC_LOAD_DYLIB 2 0x054c0000 0x00010000) names) ≡ map path_for names
+libraries-taken : (names : List (List ℕ)) → map path_taken (map (dylib_for LC_LOAD_DYLIB 2 0x054c0000 0x00010000) names) ≡ map path_for
+    names
 libraries-taken [] = refl
 libraries-taken (name ∷ names) = ap (λ (xs : List (ℕ × List ℕ)). path_for name ∷ xs) (libraries-taken names)
 

@@ -39,7 +39,8 @@ chosen {X = X} n f g b (c ∷ cs) read same = by (chosen n f g b cs read.1 same)
     told : number_said (command_in b c) ≡ c.number
     told = number_said-is b c read.0 (shape b c)
 
-    by : map f (filter (λ d. d.number == n) cs) ≡ map g (filter (λ h. number_said h == n) (map (command_in b) cs)) → (x : Bool) → (c.number == n) ≡ x
+    by : map f (filter (λ d. d.number == n) cs) ≡ map g (filter (λ h. number_said h == n) (map (command_in b) cs)) → (x : Bool)
+        → (c.number == n) ≡ x
         → map f (filter (λ d. d.number == n) (c ∷ cs)) ≡ map g (filter (λ h. number_said h == n) (map (command_in b) (c ∷ cs)))
     by rest true e =
         rw (told, e) (ap (λ (x : X). x ∷ map f (filter (λ d. d.number == n) cs)) (same c (eqb-true c.number n e))
@@ -50,7 +51,8 @@ chosen {X = X} n f g b (c ∷ cs) read same = by (chosen n f g b cs read.1 same)
 abbrev pub said_with : ℕ → List HeadCommand → List HeadCommand
 said_with n hs = filter (λ h. number_said h == n) hs
 
-pub chosen_in : {X : Type 0} (n : ℕ) (f : Command → X) (g : HeadCommand → X) (b : List ℕ) → ((c : Command) → c.number ≡ n → f c ≡ g (command_in b c))
+pub chosen_in : {X : Type 0} (n : ℕ) (f : Command → X) (g : HeadCommand → X) (b : List ℕ)
+    → ((c : Command) → c.number ≡ n → f c ≡ g (command_in b c))
     → map f (numbered n b) ≡ map g (said_with n (commands_in b))
 unfolding commands_in
 chosen_in n f g b same = chosen n f g b (commands_of b) (commands-read b) same
@@ -72,23 +74,28 @@ unfolding commands_in
 sizes-in b = sizes-said b (commands_of b) (commands-read b)
 
 -- each command ends where all do or before
-walk-ends : (b : List ℕ) (at n end : ℕ) → at + sum_by (λ c. c.size) (commands_from b at n) ≤ end → All (λ c. c.at + c.size ≤ end) (commands_from b at n)
+walk-ends : (b : List ℕ) (at n end : ℕ) → at + sum_by (λ c. c.size) (commands_from b at n) ≤ end
+    → All (λ c. c.at + c.size ≤ end) (commands_from b at n)
 unfolding commands_from
 walk-ends b at zero end inside = All-nil (λ c. c.at + c.size ≤ end)
 walk-ends b at (suc n) end inside =
     let next : ℕ = at + (reading load_command b at).cmdsize in
     let first : Command = record { at = at; number = (reading load_command b at).cmd; size = (reading load_command b at).cmdsize } in
-    let all : sum_by (λ (c : Command). c.size) (first ∷ commands_from b next n) ≡ first.size + sum_by (λ (c : Command). c.size) (commands_from b next n) =
+    let all : sum_by (λ (c : Command). c.size) (first ∷ commands_from b next n) ≡ first.size + sum_by (λ (c : Command). c.size)
+    (commands_from b next n) =
     sum_by-cons (λ (c : Command). c.size) first (commands_from b next n) in
     let behind : at + (first.size + sum_by (λ (c : Command). c.size) (commands_from b next n)) ≤ end =
     subst (λ (k : ℕ). at + k ≤ end) all inside in
-    All-cons (λ c. c.at + c.size ≤ end) first (commands_from b next n) (omega (arith, behind)) (walk-ends b next n end (omega (arith, behind)))
+    All-cons (λ c. c.at + c.size ≤ end) first (commands_from b next n) (omega (arith, behind))
+    (walk-ends b next n end (omega (arith, behind)))
 
 pub commands-end : (b : List ℕ) (end : ℕ) → 32 + sum_by (λ c. c.size) (commands_of b) ≤ end → All (λ c. c.at + c.size ≤ end) (commands_of b)
 unfolding commands_of
 commands-end b end inside = walk-ends b 32 (header_of b).ncmds end inside
 
 -- what holds of each command that is said holds of each command, with what it says
-pub each_said : (b : List ℕ) (P : HeadCommand → Type 0) (cs : List Command) → All P (map (command_in b) cs) → All (λ c. P (command_in b c)) cs
+pub each_said : (b : List ℕ) (P : HeadCommand → Type 0) (cs : List Command) → All P (map (command_in b) cs)
+    → All (λ c. P (command_in b c)) cs
 each_said b P cs each =
-    λ k d lt. subst P (get_or-map (command_in b) cs k d (command_in b d) lt) (each k (command_in b d) (omega (arith, length-map cs (command_in b))))
+    λ k d lt. subst P (get_or-map (command_in b) cs k d (command_in b d) lt) (each k (command_in b d)
+    (omega (arith, length-map cs (command_in b))))

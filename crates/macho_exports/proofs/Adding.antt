@@ -1,6 +1,7 @@
 -- Entries that are added to a list: those of one line, and of a text line by line. A text has a first line and the lines
 -- behind it, so its entries are that line's and those of the rest. Taking off what was added leaves what was there.
-use Rattle.std.proofs.Common.{◌≡◌, ℕ, ◌+◌, ◌==◌, not, true, false, Bool, List, [], ◌∷◌, ◌++◌, length, get_or, take, drop, map, filter, refl, ap, sym, ◌∙◌, arith, append-nil, vec_len}
+use Rattle.std.proofs.Common.{◌≡◌, ℕ, ◌+◌, ◌==◌, not, true, false, Bool, List, [], ◌∷◌, ◌++◌, length, get_or, take, drop, map, filter}
+use Rattle.std.proofs.Common.{refl, ap, sym, ◌∙◌, arith, append-nil, vec_len}
 use Rattle.std.proofs.lemmas.Bool.{false_from_ne_true}
 use Rattle.std.proofs.lemmas.List.{append_assoc, take-map, take_at, length-map}
 use Rattle.std.proofs.lemmas.List.Elements.{filter-append}

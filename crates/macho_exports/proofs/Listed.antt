@@ -1,6 +1,7 @@
 -- A list contains a name where it is a plain entry or matches a pattern. All entries are the plain ones and the patterns;
 -- a plain one matches itself alone.
-use Rattle.std.proofs.Common.{◌≡◌, ℕ, ◌+◌, ◌<◌, ◌==◌, ◌||◌, not, if◌then◌else◌, true, false, Bool, List, [], ◌∷◌, length, get_or, take, filter, refl, ap, sym, ◌∙◌, arith}
+use Rattle.std.proofs.Common.{◌≡◌, ℕ, ◌+◌, ◌<◌, ◌==◌, ◌||◌, not, if◌then◌else◌, true, false, Bool, List, [], ◌∷◌, length, get_or, take}
+use Rattle.std.proofs.Common.{filter, refl, ap, sym, ◌∙◌, arith}
 use Rattle.std.proofs.lemmas.Bool.{both_ways, false_from_ne_true}
 use Rattle.std.proofs.lemmas.Cmp.{nat_list_eq_equiv}
 use Rattle.std.proofs.lemmas.List.{get_or-map, length-map}

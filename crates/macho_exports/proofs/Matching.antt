@@ -4,7 +4,8 @@
 -- behind the star (`front`). Behind a star any place may be taken. Where plain bytes l and a star stand there, and l stands
 -- in the name first at a place: behind it the rest must match behind the second star. Every other place of l is later, and
 -- what matches some end of a later rest matches an end of this one too (`behind_later`), so the first place is enough.
-use Rattle.std.proofs.Common.{◌≡◌, ℕ, ◌+◌, ◌-◌, ◌<◌, ◌≤◌, ◌==◌, ◌&&◌, true, false, Bool, List, [], ◌∷◌, ◌++◌, length, get_or, take, drop, refl, ap, sym, ◌∙◌, arith, suc, min, inl, inr, length-drop, take-append-drop, length-take, drop-drop}
+use Rattle.std.proofs.Common.{◌≡◌, ℕ, ◌+◌, ◌-◌, ◌<◌, ◌≤◌, ◌==◌, ◌&&◌, true, false, Bool, List, [], ◌∷◌, ◌++◌, length, get_or, take, drop}
+use Rattle.std.proofs.Common.{refl, ap, sym, ◌∙◌, arith, suc, min, inl, inr, length-drop, take-append-drop, length-take, drop-drop}
 use Rattle.std.proofs.lemmas.Bool.{false_from_ne_true, and_parts, and_from, both_ways, cases_lt, eqb-true, eqb-false, ne_eqb, eq-eqb}
 use Rattle.std.proofs.lemmas.Bool.Decides.{nat_tests}
 use Rattle.std.proofs.lemmas.List.{drop_more, drop_all, length-take-le, get_or-take, get_or_default}

@@ -1,7 +1,8 @@
 -- The places of plain entries. A name that is among entries stands first at one place, which entries behind leave as it
 -- is. So a place that was noted stays right where entries are added or the last ones are taken back. A name that is noted
 -- for the first time gets the place behind all; for each other name the table finds what it found before.
-use Rattle.std.proofs.Common.{◌≡◌, ℕ, ◌<◌, ◌≤◌, true, false, Bool, Option, Some, None, List, [], ◌∷◌, ◌++◌, length, get_or, refl, ap, subst, sym, ◌∙◌, arith, inl, inr, length-append, nat_eq}
+use Rattle.std.proofs.Common.{◌≡◌, ℕ, ◌<◌, ◌≤◌, true, false, Bool, Option, Some, None, List, [], ◌∷◌, ◌++◌, length, get_or, refl, ap}
+use Rattle.std.proofs.Common.{subst, sym, ◌∙◌, arith, inl, inr, length-append, nat_eq}
 use Rattle.std.specs.Cmp.Lexicographic.{pointwise}
 use Rattle.std.proofs.lemmas.Bool.{both_ways, false_from_ne_true, cases_lt, or_cases, or_left}
 use Rattle.std.proofs.lemmas.Cmp.{nat_list_eq_equiv}

@@ -3,9 +3,11 @@
 -- Where the first n bytes are blank and the next one isn't, or there is none, the text without blanks in front is what
 -- stands behind the n bytes. The text without blanks behind is the same of the reversed text: of its n first bytes,
 -- which are the n last ones of the text.
-use Rattle.std.proofs.Common.{◌≡◌, ℕ, ◌-◌, ◌<◌, ◌≤◌, true, false, List, ◌++◌, length, get_or, take, drop, ap, sym, ◌∙◌, arith, eq-eqb, length-drop, take-append-drop}
+use Rattle.std.proofs.Common.{◌≡◌, ℕ, ◌-◌, ◌<◌, ◌≤◌, true, false, List, ◌++◌, length, get_or, take, drop, ap, sym, ◌∙◌, arith, eq-eqb}
+use Rattle.std.proofs.Common.{length-drop, take-append-drop}
 use Rattle.std.proofs.lemmas.Bool.{ne_eqb}
-use Rattle.std.proofs.lemmas.List.{reverse-append, reverse-reverse, take_all, drop_at, length-take-le, length-reverse, get_or-reverse, get_or_default}
+use Rattle.std.proofs.lemmas.List.{reverse-append, reverse-reverse, take_all, drop_at, length-take-le, length-reverse, get_or-reverse}
+use Rattle.std.proofs.lemmas.List.{get_or_default}
 use Rattle.std.proofs.lemmas.List.Sums.{prefix_len_is, prefix_len-le-length, position_or_len_is}
 use Rattle.std.proofs.lemmas.List.Folds.{list_any_at, list_any_none}
 use Rattle.std.specs.Prelude.{reverse}

@@ -37,4 +37,5 @@ none_no_pages s fixups none =
   where
     of_none : (f : Fixup) → is_in s f.address ≡ false → pages_with s f ≤ 0
     of_none f out =
-        let is : pages_with s f ≡ 0 = ap (λ (t : Bool). if t then f.address / CHAIN_PAGE - s.address / CHAIN_PAGE + 1 else 0) out in omega (arith, is)
+        let is : pages_with s f ≡ 0 = ap (λ (t : Bool). if t then f.address / CHAIN_PAGE - s.address / CHAIN_PAGE + 1 else 0) out in omega
+        (arith, is)

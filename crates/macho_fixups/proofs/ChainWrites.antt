@@ -3,7 +3,8 @@
 -- The next word is put at its place. Words before it stand apart from it, so they stand as before; the word itself
 -- stands since it was put; and a byte outside all of them is outside the one just put, so it is as before too. The
 -- segments that were passed end in front of this address, and so in front of every later one.
-use Rattle.std.proofs.Common.{◌≡◌, ℕ, ◌+◌, ◌<◌, ◌≤◌, ◌⊎◌, nat_le, true, false, List, length, get_or, arith, refl, sym, ap, subst, ◌∙◌, inl, inr}
+use Rattle.std.proofs.Common.{◌≡◌, ℕ, ◌+◌, ◌<◌, ◌≤◌, ◌⊎◌, nat_le, true, false, List, length, get_or, arith, refl, sym, ap, subst, ◌∙◌}
+use Rattle.std.proofs.Common.{inl, inr}
 use Rattle.std.specs.Prelude.{slice_index}
 use Rattle.std.proofs.lemmas.Bool.{cases_lt}
 use Rattle.std.proofs.lemmas.Bool.Decides.{nat_tests}
@@ -36,13 +37,19 @@ pub record WordsSoFar (segments : List FixupSegment) (fixups : List Fixup) (m i 
 pub words_begin : (segments : List FixupSegment) (fixups : List Fixup) (out : List ℕ) → WordsSoFar segments fixups 0 0 out out
 words_begin segments fixups out =
     record {
-      written = record { size = refl; words = λ k d none. absurd (omega arith); each = λ k d none. absurd (omega arith); outside = λ i all. refl };
+      written = record {
+        size = refl;
+        words = λ k d none. absurd (omega arith);
+        each = λ k d none. absurd (omega arith);
+        outside = λ i all. refl;
+      };
       words = record { each = λ k d none. absurd (omega arith) };
       passed = λ k d le lt. record { each = λ j e none. absurd (omega arith) };
     }
 
 -- there is room for the next word
-pub word_room : (segments : List FixupSegment) (fixups : List Fixup) (d : Fixup) (i m n : ℕ) → i < length fixups → HaveRoom segments fixups n
+pub word_room : (segments : List FixupSegment) (fixups : List Fixup) (d : Fixup) (i m n : ℕ) → i < length fixups
+    → HaveRoom segments fixups n
     → IsSegmentOf segments (get_or fixups i d).address m → place_of segments (get_or fixups i d).address + WORD_SIZE ≤ n
 word_room segments fixups d i m n lt room one =
     let holds = one.holds no_segment in
@@ -54,9 +61,11 @@ pub word_goes_on : (segments : List FixupSegment) (fixups : List Fixup) (d : Fix
     → i < length fixups → AreFixups segments fixups → AreSegments segments → HaveRoom segments fixups (length before)
     → WordsSoFar segments fixups old i before out → IsSegmentOf segments (get_or fixups i d).address m
     → place ≡ place_of segments (get_or fixups i d).address → has_word (get_or fixups i d).kind ≡ true
-    → steps ≡ step_of fixups i → word ≡ word_of (get_or fixups i d).kind steps → IsWordOf (get_or fixups i d).kind steps word → now ≡ put place (le_bytes WORD_SIZE word) out
+    → steps ≡ step_of fixups i → word ≡ word_of (get_or fixups i d).kind steps → IsWordOf (get_or fixups i d).kind steps word
+    → now ≡ put place (le_bytes WORD_SIZE word) out
     → WordsSoFar segments fixups m (i + 1) before now
-word_goes_on segments fixups d i old m place steps word before out now lt run order room so_far one at has stepped as_steps as_said put_now =
+word_goes_on segments fixups d i old m place steps word before out now lt run order room so_far one at has stepped as_steps as_said
+    put_now =
     record {
       written = record { size = omega (arith, size, so_far.written.size); words = fields; each = each; outside = outside };
       words = record { each = words };
@@ -109,7 +118,8 @@ word_goes_on segments fixups d i old m place steps word before out now lt run or
           (subst (λ (w : ℕ). IsWordOf (get_or fixups i d).kind (step_of fixups i) w) is says))
     ]
 
-    apart : (k : ℕ) (e : Fixup) → k < i → (end_of (word_part segments fixups k (get_or fixups k e)) ≤ part.at) ⊎ (end_of part ≤ place_of segments (get_or fixups k e).address)
+    apart : (k : ℕ) (e : Fixup) → k < i → (end_of (word_part segments fixups k (get_or fixups k e)) ≤ part.at)
+        ⊎ (end_of part ≤ place_of segments (get_or fixups k e).address)
     apart k e early =
         let far : (get_or fixups k e).address + WORD_SIZE ≤ (get_or fixups i d).address =
         omega (arith, run.sorted k i e early lt, ap (λ (f : Fixup). f.address) (own e)) in
@@ -124,7 +134,8 @@ word_goes_on segments fixups d i old m place steps word before out now lt run or
     each k e less = elim (cases_lt k i) [
       | inl early ↦
           subst (λ (t : List ℕ). Stands t (word_part segments fixups k (get_or fixups k e))) (sym written)
-          (stands_beside part.at part.text out (word_part segments fixups k (get_or fixups k e)) fits (so_far.written.each k e early) (apart k e early))
+          (stands_beside part.at part.text out (word_part segments fixups k (get_or fixups k e)) fits (so_far.written.each k e early)
+          (apart k e early))
       | inr here ↦
           let same : i ≡ k = omega arith in
           subst (λ (j : ℕ). Stands now (word_part segments fixups j (get_or fixups j e))) same

@@ -4,7 +4,8 @@
 -- sorted no later fixup is below either: so the run is cut there. The pages up to the last fixup of a segment are the
 -- greatest count among its fixups: all counts are at most that of the last, since page numbers grow with addresses.
 -- The first fixup of a page, if there is one, is where the run is cut in front of the page.
-use Rattle.std.proofs.Common.{◌≡◌, ℕ, zero, suc, ◌+◌, ◌-◌, ◌/◌, ◌%◌, ◌<◌, ◌≤◌, ◌==◌, ◌⊎◌, ◌&&◌, nat_le, nat_lt, Bool, true, false, List, [], ◌∷◌, length, get_or, arith, refl, ap, ◌∙◌, inl, inr}
+use Rattle.std.proofs.Common.{◌≡◌, ℕ, zero, suc, ◌+◌, ◌-◌, ◌/◌, ◌%◌, ◌<◌, ◌≤◌, ◌==◌, ◌⊎◌, ◌&&◌, nat_le, nat_lt, Bool, true, false, List}
+use Rattle.std.proofs.Common.{[], ◌∷◌, length, get_or, arith, refl, ap, ◌∙◌, inl, inr}
 use Rattle.std.proofs.Math.Nat.{le-max_left, le-max_right, max-le}
 use Rattle.std.proofs.lemmas.Bool.{cases_lt}
 use Rattle.std.proofs.lemmas.Bool.Decides.{nat_tests}
@@ -102,7 +103,8 @@ pub pages_with-out : (s : FixupSegment) (f : Fixup) → (f.address < s.address) 
 pages_with-out s f out =
     let no : is_in s f.address ≡ false = elim out [
       | inl low ↦ let t : nat_le s.address f.address ≡ false = grind (arith, nat_tests) in rw t refl
-      | inr high ↦ outside (nat_le s.address f.address) (let t : nat_lt f.address (s.address + s.file_size) ≡ false = grind (arith, nat_tests) in t)
+      | inr high ↦ outside (nat_le s.address f.address) (let t : nat_lt f.address (s.address + s.file_size) ≡ false = grind
+          (arith, nat_tests) in t)
     ] in rw no refl
   where
     outside : (b : Bool) → nat_lt f.address (s.address + s.file_size) ≡ false → (b && nat_lt f.address (s.address + s.file_size)) ≡ false

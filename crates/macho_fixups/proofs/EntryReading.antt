@@ -3,7 +3,8 @@
 -- Entry k stands k sizes behind the first. Its word is the sum of the library and of the name's place times 512, so its
 -- fields are read by dividing; in the format with addends, the addend stands behind the word. In the other format the
 -- addend is read as 0, which is what each entry has.
-use Rattle.std.proofs.Common.{◌≡◌, ℕ, ◌+◌, ◌*◌, ◌^◌, ◌<◌, ◌==◌, ◌⊎◌, true, false, List, ◌++◌, length, get_or, arith, refl, sym, ap, subst, ◌∙◌, inl, inr, if◌then◌else◌, ℤ, pos}
+use Rattle.std.proofs.Common.{◌≡◌, ℕ, ◌+◌, ◌*◌, ◌^◌, ◌<◌, ◌==◌, ◌⊎◌, true, false, List, ◌++◌, length, get_or, arith, refl, sym, ap, subst}
+use Rattle.std.proofs.Common.{◌∙◌, inl, inr, if◌then◌else◌, ℤ, pos}
 use Rattle.std.specs.Prelude.{All}
 use Rattle.std.specs.Int.{w32, cast_unsigned}
 use Rattle.std.specs.List.{flat_map}
@@ -26,7 +27,8 @@ use Rattle.macho_fixups.specs.Readings.{entry_seen}
 entry_long : (format : ℕ) (e : ImportEntry) → length (entry_text format e) ≡ import_entry_size format
 unfolding entry_text
 entry_long format e =
-    elim (format == 2) as (λ t. length (if t then le_bytes 4 (entry_word e) ++ le_bytes 4 (cast_unsigned w32 e.addend) else le_bytes 4 (entry_word e))
+    elim (format == 2) as (λ t. length (if t then le_bytes 4 (entry_word e)
+    ++ le_bytes 4 (cast_unsigned w32 e.addend) else le_bytes 4 (entry_word e))
     ≡ (if t then 8 else 4)) [
       | true ↦
           omega (
@@ -59,7 +61,8 @@ unfolding entry_text
 addend_stands b p format e two s =
     let yes : (format == 2) ≡ true = grind (arith, nat_tests) in
     let both : entry_text format e ≡ le_bytes 4 (entry_word e) ++ le_bytes 4 (cast_unsigned w32 e.addend) = rw yes refl in
-    stands-back b p (p + 4) (le_bytes 4 (entry_word e)) (le_bytes 4 (cast_unsigned w32 e.addend)) (omega (arith, little_is_sound.long 4 (entry_word e)))
+    stands-back b p (p + 4) (le_bytes 4 (entry_word e)) (le_bytes 4 (cast_unsigned w32 e.addend))
+    (omega (arith, little_is_sound.long 4 (entry_word e)))
     (subst (λ (x : List ℕ). Stands b (record { at = p; text = x })) both s)
 
 -- the addend that is read
@@ -74,7 +77,8 @@ addend_read b p format e known plain fits s =
           zero_read ∙ ap (λ (z : ℤ). signed 32 (cast_unsigned w32 z)) (sym (plain one))
       | inr two ↦
           let yes : (format == 2) ≡ true = grind (arith, nat_tests) in
-          let is = number-stands little little_is_sound 4 (cast_unsigned w32 e.addend) b (p + 4) fits.addend_fits (addend_stands b p format e two s) in
+          let is = number-stands little little_is_sound 4 (cast_unsigned w32 e.addend) b (p + 4) fits.addend_fits
+          (addend_stands b p format e two s) in
           let read : (if format == 2 then signed 32 (le_at 4 b (p + 4)) else 0) ≡ signed 32 (le_at 4 b (p + 4)) = rw yes refl in
           read ∙ ap (λ (n : ℕ). signed 32 n) is
     ]
@@ -87,14 +91,21 @@ name_of_word : (library name : ℕ) → library < 256 → name < 2 ^ 23 → bits
 name_of_word library name a b = omega (arith, a, b)
 
 -- THE entry that is read.
-pub entry_read : (b : List ℕ) (t : Table) (format place : ℕ) (imports : List ImportEntry) (k : ℕ) (d : ImportEntry) (h : ChainedFixupsHeader)
+pub entry_read : (b : List ℕ) (t : Table) (format place : ℕ) (imports : List ImportEntry) (k : ℕ) (d : ImportEntry)
+    (h : ChainedFixupsHeader)
     → fixups_header b t ≡ h → h.imports_offset ≡ place → h.imports_format ≡ format → AreEntries format imports → All EntryFits imports
     → Stands b (record { at = t.at + place; text = flat_map (entry_text format) imports }) → k < length imports
     → import_entry b t k ≡ entry_seen (get_or imports k d)
 entry_read b t format place imports k d h header offset formatted known fits stands lt =
-    ap (λ (n : ℕ). let x : images.ImportEntry = record { library = bits 0 8 n; name_offset = bits 9 23 n; addend = entry_addend b t k } in x)
+    ap (λ (n : ℕ). let x : images.ImportEntry = record { library = bits 0 8 n; name_offset = bits 9 23 n; addend = entry_addend b t k } in
+    x)
     (ap (λ (p : ℕ). le_at 4 b p) at ∙ word)
-    ∙ ap (λ (n : ℕ). let x : images.ImportEntry = record { library = n; name_offset = bits 9 23 (entry_word e); addend = entry_addend b t k } in x)
+    ∙ ap (λ (n : ℕ). let x : images.ImportEntry = record {
+      library = n;
+      name_offset = bits 9 23 (entry_word e);
+      addend = entry_addend b t
+          k;
+    } in x)
     (library_of e.library e.name_offset (fits k d lt).library_fits (known.names k d lt))
     ∙ ap (λ (n : ℕ). let x : images.ImportEntry = record { library = e.library; name_offset = n; addend = entry_addend b t k } in x)
     (name_of_word e.library e.name_offset (fits k d lt).library_fits (known.names k d lt))
@@ -122,5 +133,6 @@ entry_read b t format place imports k d h header offset formatted known fits sta
     addend : entry_addend b t k ≡ signed 32 (cast_unsigned w32 e.addend)
     addend =
         ap (λ (x : ℕ). if (fixups_header b t).imports_format == 2 then signed 32 (le_at 4 b (x + 4)) else 0) at
-        ∙ ap (λ (f : ℕ). if f == 2 then signed 32 (le_at 4 b (p + 4)) else 0) (ap (λ (x : ChainedFixupsHeader). x.imports_format) header ∙ formatted)
+        ∙ ap (λ (f : ℕ). if f == 2 then signed 32 (le_at 4 b (p + 4)) else 0) (ap (λ (x : ChainedFixupsHeader). x.imports_format) header
+        ∙ formatted)
         ∙ addend_read b p format e known.known (λ one. known.plain one k d lt) (fits k d lt) here

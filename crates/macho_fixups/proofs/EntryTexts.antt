@@ -3,7 +3,8 @@
 -- An entry is its word, and in the format with addends its addend behind it: two puts next to each other are one. All
 -- entries of a format have one size, so entry k begins k sizes behind the first, and each is put where those before
 -- it end.
-use Rattle.std.proofs.Common.{◌≡◌, ℕ, ◌+◌, ◌*◌, ◌<◌, ◌≤◌, ◌==◌, true, false, List, ◌++◌, length, get_or, take, arith, refl, sym, ap, ◌∙◌, subst, inl, inr}
+use Rattle.std.proofs.Common.{◌≡◌, ℕ, ◌+◌, ◌*◌, ◌<◌, ◌≤◌, ◌==◌, true, false, List, ◌++◌, length, get_or, take, arith, refl, sym, ap, ◌∙◌}
+use Rattle.std.proofs.Common.{subst, inl, inr}
 use Rattle.std.proofs.lemmas.Bool.Decides.{nat_tests}
 use Rattle.std.proofs.Math.Nat.{mul-add, mul-le-mul_left}
 use Rattle.std.specs.List.{flat_map}
@@ -59,9 +60,14 @@ pub record EntriesSoFar (format at place i : ℕ) (imports : List ImportEntry) (
   pub here : place ≡ at + import_entry_size format * i
   pub fits : (k : ℕ) (d : ImportEntry) → k < i → EntryFits (get_or imports k d)
 
-pub entries_begin : (format at : ℕ) (imports : List ImportEntry) (out : List ℕ) → at ≤ length out → EntriesSoFar format at at 0 imports out out
+pub entries_begin : (format at : ℕ) (imports : List ImportEntry) (out : List ℕ) → at ≤ length out
+    → EntriesSoFar format at at 0 imports out out
 entries_begin format at imports out fits =
-    record { texts = record { written = texts_begin (entry_text format) at out fits; ends = omega arith }; here = omega arith; fits = λ k d less. absurd (omega arith) }
+    record {
+      texts = record { written = texts_begin (entry_text format) at out fits; ends = omega arith };
+      here = omega arith;
+      fits = λ k d less. absurd (omega arith);
+    }
 
 -- there is room for one entry more
 pub entry_room : (format at place i : ℕ) (imports : List ImportEntry) (before now : List ℕ) → i < length imports
@@ -70,12 +76,15 @@ pub entry_room : (format at place i : ℕ) (imports : List ImportEntry) (before 
 entry_room format at place i imports before now lt room so_far =
     let step : import_entry_size format * (i + 1) ≡ import_entry_size format * i + import_entry_size format =
     mul-add (import_entry_size format) i 1 ∙ omega arith in
-    let most : import_entry_size format * (i + 1) ≤ import_entry_size format * length imports = mul-le-mul_left (import_entry_size format) (omega arith) in
+    let most : import_entry_size format * (i + 1) ≤ import_entry_size format * length imports = mul-le-mul_left (import_entry_size format)
+    (omega arith) in
     omega (arith, so_far.here, step, most, room)
 
-pub entries_go_on : (format at place next i : ℕ) (imports : List ImportEntry) (d : ImportEntry) (before out now : List ℕ) → i < length imports
+pub entries_go_on : (format at place next i : ℕ) (imports : List ImportEntry) (d : ImportEntry) (before out now : List ℕ)
+    → i < length imports
     → at + import_entry_size format * length imports ≤ length before → EntriesSoFar format at place i imports before out
-    → length (entry_text format (get_or imports i d)) ≡ import_entry_size format → EntryFits (get_or imports i d) → next ≡ place + import_entry_size format
+    → length (entry_text format (get_or imports i d)) ≡ import_entry_size format → EntryFits (get_or imports i d)
+    → next ≡ place + import_entry_size format
     → now ≡ put place (entry_text format (get_or imports i d)) out → EntriesSoFar format at next (i + 1) imports before now
 entries_go_on format at place next i imports d before out now lt room so_far long one moved is =
     let step : import_entry_size format * (i + 1) ≡ import_entry_size format * i + import_entry_size format =
@@ -100,5 +109,6 @@ pub entries_end : (format at place i : ℕ) (imports : List ImportEntry) (before
     × All EntryFits imports
 entries_end format at place i imports before now past within so_far =
     let all = texts_end (entry_text format) at place i imports before now past so_far.texts in
-    let count : import_entry_size format * i ≡ import_entry_size format * length imports = ap (λ (k : ℕ). import_entry_size format * k) (omega arith) in
+    let count : import_entry_size format * i ≡ import_entry_size format * length imports = ap (λ (k : ℕ). import_entry_size format * k)
+    (omega arith) in
     (all.written, omega (arith, all.ends, so_far.here, count), λ k d lt. so_far.fits k d (omega arith))

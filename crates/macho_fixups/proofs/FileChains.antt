@@ -39,7 +39,8 @@ parts : ℕ → ℕ → ℕ → List ℕ → ChainSegment
 parts address offset size starts = record { address = address; file_offset = offset; file_size = size; starts = starts }
 
 -- the starts of a number below the table's count
-starts_here : (b : List ℕ) (t : Table) (k : ℕ) → tables_of b ≡ t ∷ [] → k < starts_count b t → starts_in_tables b (tables_of b) k ≡ page_starts b t k
+starts_here : (b : List ℕ) (t : Table) (k : ℕ) → tables_of b ≡ t ∷ [] → k < starts_count b t
+    → starts_in_tables b (tables_of b) k ≡ page_starts b t k
 starts_here b t k one lt =
     let told : nat_lt k (starts_count b t) ≡ true = grind (arith, nat_tests) in
     ap (λ (ts : List Table). starts_in_tables b ts k) one ∙ ap (λ (e : Bool). if e then page_starts b t k else []) told
@@ -47,7 +48,8 @@ starts_here b t k one lt =
 pub chains_told : ChainsAreTold
 unfolding chain_segments parts
 chains_told b t segments one count agree =
-    ext_get_or nothing (map (chain_segment b) (enumerate_from 0 (segments_of b))) (told_segments b t segments) (file_long ∙ sym told_long) at
+    ext_get_or nothing (map (chain_segment b) (enumerate_from 0 (segments_of b))) (told_segments b t segments) (file_long ∙ sym told_long)
+    at
   where
     file_long : length (map (chain_segment b) (enumerate_from 0 (segments_of b))) ≡ length segments
     file_long =

@@ -31,7 +31,8 @@ no_start_at_end fixups next number cut end =
     sym (start_of-none fixups number (λ j e lt is. omega (arith, lower fixups next number cut j e (omega arith))))
 
 -- nor has one whose next fixup is on another page
-pub no_start_behind : (fixups : List Fixup) (next number : ℕ) (d : Fixup) → AreSorted fixups → IsCut fixups next (number * CHAIN_PAGE) → next < length fixups
+pub no_start_behind : (fixups : List Fixup) (next number : ℕ) (d : Fixup) → AreSorted fixups → IsCut fixups next (number * CHAIN_PAGE)
+    → next < length fixups
     → ((get_or fixups next d).address / CHAIN_PAGE ≡ number → ⊥) → NO_START ≡ start_of fixups number
 no_start_behind fixups next number d sorted cut within other =
     sym (start_of-none fixups number none)
@@ -48,7 +49,8 @@ no_start_behind fixups next number d sorted cut within other =
                 other (omega (arith, sorted next j e behind lt, same, here))
             | inr at ↦
                 let same : (get_or fixups j e).address ≡ (get_or fixups next d).address =
-                ap (λ (k : ℕ). (get_or fixups k e).address) (omega arith) ∙ ap (λ (f : Fixup). f.address) (get_or_default fixups next e d within) in
+                ap (λ (k : ℕ). (get_or fixups k e).address) (omega arith)
+                ∙ ap (λ (f : Fixup). f.address) (get_or_default fixups next e d within) in
                 other (omega (arith, same))
           ]
         ]
@@ -67,12 +69,15 @@ pub record PagesSoFar (fixups : List Fixup) (first pages at place i : ℕ) (befo
   pub texts : MoreTexts (start_text fixups first) at place (take i (range_with_len 0 pages)) before now
   pub here : place ≡ at + 2 * i
 
-pub pages_begin : (fixups : List Fixup) (first pages at : ℕ) (out : List ℕ) → at ≤ length out → PagesSoFar fixups first pages at at 0 out out
+pub pages_begin : (fixups : List Fixup) (first pages at : ℕ) (out : List ℕ) → at ≤ length out
+    → PagesSoFar fixups first pages at at 0 out out
 pages_begin fixups first pages at out fits =
     record { texts = record { written = texts_begin (start_text fixups first) at out fits; ends = omega arith }; here = omega arith }
 
-pub pages_go_on : (fixups : List Fixup) (first pages at place next i start : ℕ) (before out now : List ℕ) → i < pages → at + 2 * pages ≤ length before
-    → PagesSoFar fixups first pages at place i before out → start ≡ start_of fixups (first + i) → next ≡ place + 2 → now ≡ put place (le_bytes 2 start) out
+pub pages_go_on : (fixups : List Fixup) (first pages at place next i start : ℕ) (before out now : List ℕ) → i < pages
+    → at + 2 * pages ≤ length before
+    → PagesSoFar fixups first pages at place i before out → start ≡ start_of fixups (first + i) → next ≡ place + 2
+    → now ≡ put place (le_bytes 2 start) out
     → PagesSoFar fixups first pages at next (i + 1) before now
 pages_go_on fixups first pages at place next i start before out now lt room so_far is moved written =
     let long = little_is_sound.long 2 (start_of fixups (first + i)) in
@@ -89,7 +94,8 @@ pub pages_end : (fixups : List Fixup) (first pages at place i : ℕ) (before now
     → (now ≡ put at (page_starts_text fixups first pages) before) × (length (page_starts_text fixups first pages) ≡ 2 * pages)
 unfolding page_starts_text
 pages_end fixups first pages at place i before now end so_far =
-    let all = texts_end (start_text fixups first) at place i (range_with_len 0 pages) before now (omega (arith, length-range_with_len 0 pages)) so_far.texts in
+    let all = texts_end (start_text fixups first) at place i (range_with_len 0 pages) before now
+    (omega (arith, length-range_with_len 0 pages)) so_far.texts in
     (all.written, omega (arith, all.ends, so_far.here))
 
 -- the run is cut in front of the next page too

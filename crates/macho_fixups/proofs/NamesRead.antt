@@ -3,10 +3,12 @@
 -- The names begin where the header says, and lie in the table's range. So from an entry's place on, the bytes of the
 -- range are those of the names: first those of the entry's name, none of which is 0, and then its NUL. The name ends
 -- there, and one byte more is left in the range.
-use Rattle.std.proofs.Common.{◌≡◌, ℕ, ◌+◌, ◌-◌, ◌<◌, ◌≤◌, nat_lt, true, List, [], ◌∷◌, ◌++◌, length, take, drop, slice_range, get_or, arith, refl, sym, ap, ◌∙◌}
+use Rattle.std.proofs.Common.{◌≡◌, ℕ, ◌+◌, ◌-◌, ◌<◌, ◌≤◌, nat_lt, true, List, [], ◌∷◌, ◌++◌, length, take, drop, slice_range, get_or}
+use Rattle.std.proofs.Common.{arith, refl, sym, ap, ◌∙◌}
 use Rattle.std.specs.Prelude.{slice_index}
 use Rattle.std.proofs.lemmas.Bool.Decides.{nat_tests}
-use Rattle.std.proofs.lemmas.List.{ext_get_or, get_or-drop, get_or-take, get_or_append_left, get_or-append_right, length-append, length-take, length-drop}
+use Rattle.std.proofs.lemmas.List.{ext_get_or, get_or-drop, get_or-take, get_or_append_left, get_or-append_right, length-append}
+use Rattle.std.proofs.lemmas.List.{length-take, length-drop}
 use Rattle.std.proofs.lemmas.List.Edits.{get_or-between}
 use Rattle.macho_bytes.specs.Texts.{Stands, name_of}
 use Rattle.macho_bytes.proofs.Names.{name_of-ends}
@@ -61,7 +63,15 @@ behind b names name from to at stands room there =
 
     long : length name < length (drop at (slice_range b from to))
     long =
-        omega (arith, ends, room, stands.within, length-drop at (slice_range b from to), length-take (to - from) (drop from b), length-drop from b)
+        omega (
+          arith,
+          ends,
+          room,
+          stands.within,
+          length-drop at (slice_range b from to),
+          length-take (to - from) (drop from b),
+          length-drop from b,
+        )
 
     each : (i : ℕ) → i < length name + 1 → slice_index (drop at (slice_range b from to)) i ≡ get_or (name ++ 0 ∷ []) i 0
     each i lt =
@@ -83,7 +93,8 @@ names_are_read b t fixups segments format imports names k d name read room lt na
     same : drop (import_entry b t k).name_offset (table_names b t) ≡ range
     same =
         ap (λ (e : images.ImportEntry). drop e.name_offset (table_names b t)) (read.entries k d lt)
-        ∙ ap (λ (h : ChainedFixupsHeader). drop (get_or imports k d).name_offset (slice_range b (t.at + h.symbols_offset) (t.at + t.size))) read.header
+        ∙ ap (λ (h : ChainedFixupsHeader). drop (get_or imports k d).name_offset
+        (slice_range b (t.at + h.symbols_offset) (t.at + t.size))) read.header
 
     here : IsBehind range name
     here = behind b names name (t.at + place) (t.at + t.size) (get_or imports k d).name_offset read.texts (omega (arith, room)) named.stands

@@ -41,7 +41,13 @@ pub next_page : (fixups : List Fixup) (s : FixupSegment) (next pages : ℕ) → 
     → IsNextBelow fixups next (s.address + s.file_size) → IsNextPage fixups s next pages
 next_page fixups s next pages paged p below =
     record {
-      more = omega (arith, pages_of-above s fixups next e below.0, pages_with-in s (get_or fixups next e) (omega (arith, low, high e)) (below.1 e), high e);
+      more = omega (
+        arith,
+        pages_of-above s fixups next e below.0,
+        pages_with-in s (get_or fixups next e) (omega (arith, low, high e))
+            (below.1 e),
+        high e,
+      );
       cut = subst (λ (b : ℕ). IsCut fixups next b) (omega (arith, high e, below.1 e)) p.cut;
       low = low;
       high = high;
@@ -58,7 +64,8 @@ next_page fixups s next pages paged p below =
     high d = omega (arith, p.cut.above next d (omega arith) below.0, below.1 d)
 
 -- one page more is passed
-pub pages_more : (fixups : List Fixup) (s : FixupSegment) (next pages to page left size : ℕ) → AreSorted fixups → IsNextPage fixups s next pages
+pub pages_more : (fixups : List Fixup) (s : FixupSegment) (next pages to page left size : ℕ) → AreSorted fixups
+    → IsNextPage fixups s next pages
     → page ≡ (s.address / CHAIN_PAGE + pages) * CHAIN_PAGE → left ≡ s.file_size - (page - s.address) → size ≡ min left CHAIN_PAGE
     → IsSkip fixups next (page + size) to → ArePassedPages fixups s to (pages + 1)
 pages_more fixups s next pages to page left size sorted p page_is left_is size_is skip =
@@ -71,7 +78,8 @@ pages_more fixups s next pages to page left size sorted p page_is left_is size_i
     }
 
 -- no fixup of the segment is left
-pub run_ends : (fixups : List Fixup) (s : FixupSegment) (next bound : ℕ) → AreSorted fixups → bound ≤ s.address + s.file_size → IsCut fixups next bound
+pub run_ends : (fixups : List Fixup) (s : FixupSegment) (next bound : ℕ) → AreSorted fixups → bound ≤ s.address + s.file_size
+    → IsCut fixups next bound
     → IsNoneBelow fixups next (s.address + s.file_size) → IsCut fixups next (s.address + s.file_size)
 run_ends fixups s next bound sorted low cut none =
     record {

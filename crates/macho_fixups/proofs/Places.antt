@@ -3,7 +3,8 @@
 -- Segments are in order and share no address, so the first segment whose file part does not end in front of an address
 -- is the one that has it, if one has. Its place in the file is counted from the segment's. Two words in one segment
 -- are as far apart in the file as in memory; in two segments their places lie in file parts that share no byte.
-use Rattle.std.proofs.Common.{◌≡◌, ℕ, zero, suc, ◌+◌, ◌-◌, ◌<◌, ◌≤◌, ◌⊎◌, ◌&&◌, nat_le, nat_lt, Bool, true, false, List, [], ◌∷◌, length, get_or, arith, refl, sym, ap, subst, ◌∙◌, inl, inr}
+use Rattle.std.proofs.Common.{◌≡◌, ℕ, zero, suc, ◌+◌, ◌-◌, ◌<◌, ◌≤◌, ◌⊎◌, ◌&&◌, nat_le, nat_lt, Bool, true, false, List, [], ◌∷◌, length}
+use Rattle.std.proofs.Common.{get_or, arith, refl, sym, ap, subst, ◌∙◌, inl, inr}
 use Rattle.std.specs.Prelude.{Contains}
 use Rattle.std.proofs.lemmas.Bool.{cases_lt}
 use Rattle.std.proofs.lemmas.Bool.Decides.{nat_tests}
@@ -77,7 +78,8 @@ first_has segments a m d order one passed within ahead =
               absurd (omega (arith, behind, ap (λ (t : FixupSegment). t.address + t.file_size) (n.is e), one.2.1))
           | inr from ↦ elim (cases_lt m n.number) [
             | inl late ↦
-                let own : (get_or segments m e).address + (get_or segments m e).size ≡ (get_or segments m d).address + (get_or segments m d).size =
+                let own : (get_or segments m e).address + (get_or segments m e).size ≡ (get_or segments m d).address +
+                (get_or segments m d).size =
                 ap (λ (t : FixupSegment). t.address + t.size) (get_or_default segments m e d within) in
                 absurd (omega (
                   arith,
@@ -136,7 +138,8 @@ one_passed segments m a d within passed behind =
       each = λ j e lt. elim (cases_lt j m) [
         | inl early ↦ passed.each j e early
         | inr at ↦
-            let same : (get_or segments j e).address + (get_or segments j e).file_size ≡ (get_or segments m d).address + (get_or segments m d).file_size =
+            let same : (get_or segments j e).address + (get_or segments j e).file_size ≡ (get_or segments m d).address +
+            (get_or segments m d).file_size =
             ap (λ (k : ℕ). (get_or segments k e).address + (get_or segments k e).file_size) (omega arith)
             ∙ ap (λ (t : FixupSegment). t.address + t.file_size) (get_or_default segments m e d within) in
             omega (arith, same, behind)
@@ -166,9 +169,17 @@ places_apart segments a b order one two far =
           ]
           | inr from ↦ elim (cases_lt n m) [
             | inl higher ↦
-                absurd (omega (arith, order.in_order n m no_segment higher of_a.within, order.sizes n no_segment of_b.within, in_a.0, in_b.1, far))
+                absurd (omega (
+                  arith,
+                  order.in_order n m no_segment higher of_a.within,
+                  order.sizes n no_segment of_b.within,
+                  in_a.0,
+                  in_b.1,
+                  far,
+                ))
             | inr same ↦
-                let at : get_or segments n no_segment ≡ get_or segments m no_segment = ap (λ (k : ℕ). get_or segments k no_segment) (omega arith) in
+                let at : get_or segments n no_segment ≡ get_or segments m no_segment = ap (λ (k : ℕ). get_or segments k no_segment)
+                (omega arith) in
                 inl (omega (
                   arith,
                   at_a,

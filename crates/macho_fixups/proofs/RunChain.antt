@@ -3,7 +3,8 @@
 -- A page start is the offset of the page's first fixup, so the first rule gives the address of a fixup. The word of a
 -- fixup leads to the next fixup of its page or nowhere, so the second rule does too. The other way, by the number of
 -- a fixup: the first of its page is at the page's start, and another one is where the word before it leads to.
-use Rattle.std.proofs.Common.{◌≡◌, ◌≢◌, ℕ, zero, suc, ◌+◌, ◌*◌, ◌-◌, ◌/◌, ◌%◌, ◌<◌, ◌≤◌, ◌==◌, nat_lt, true, false, List, [], ◌∷◌, length, map, get_or, slice_index, arith, refl, sym, ap, subst, ◌∙◌, inl, inr, if◌then◌else◌}
+use Rattle.std.proofs.Common.{◌≡◌, ◌≢◌, ℕ, zero, suc, ◌+◌, ◌*◌, ◌-◌, ◌/◌, ◌%◌, ◌<◌, ◌≤◌, ◌==◌, nat_lt, true, false, List, [], ◌∷◌, length}
+use Rattle.std.proofs.Common.{map, get_or, slice_index, arith, refl, sym, ap, subst, ◌∙◌, inl, inr, if◌then◌else◌}
 use Rattle.std.specs.Prelude.{Contains}
 use Rattle.std.specs.List.{range_with_len}
 use Rattle.std.proofs.lemmas.Bool.{cases_lt}
@@ -28,7 +29,8 @@ use Rattle.macho_fixups.proofs.Places.{place_of-at, numbered, number_of}
 -- the words of the run have the fields that are asked
 abbrev pub AreWords : List Fixup → Type 0
 AreWords fixups =
-    (k : ℕ) (d : Fixup) → k < length fixups → IsWordOf (get_or fixups k d).kind (step_of fixups k) (word_of (get_or fixups k d).kind (step_of fixups k))
+    (k : ℕ) (d : Fixup) → k < length fixups → IsWordOf (get_or fixups k d).kind (step_of fixups k)
+    (word_of (get_or fixups k d).kind (step_of fixups k))
 
 -- the steps of a fixup that isn't the last one
 step_of-next : (fixups : List Fixup) (k : ℕ) (d : Fixup) → k + 1 < length fixups
@@ -67,7 +69,8 @@ start_of-found (f ∷ fixups) number d some =
 abbrev pub IsSeen : List FixupSegment → List Fixup → ChainSegment → Type 0
 IsSeen segments fixups g = (s : FixupSegment) × Contains segments s × (g ≡ chain_seen fixups s)
 
-pub seen_of : (segments : List FixupSegment) (fixups : List Fixup) (g : ChainSegment) → Contains (map (chain_seen fixups) segments) g → IsSeen segments fixups g
+pub seen_of : (segments : List FixupSegment) (fixups : List Fixup) (g : ChainSegment) → Contains (map (chain_seen fixups) segments) g
+    → IsSeen segments fixups g
 seen_of segments fixups g one =
     All-contains (IsSeen segments fixups) (map (chain_seen fixups) segments) g
     (λ k d lt.
@@ -91,10 +94,12 @@ pub place_in : (segments : List FixupSegment) (s : FixupSegment) (a : ℕ) → A
     → place_of segments a ≡ s.file_offset + (a - s.address)
 place_in segments s a order one holds =
     let n = number_of segments s one in
-    place_of-at segments a n.number no_segment (numbered segments s a order n holds) ∙ ap (λ (t : FixupSegment). t.file_offset + (a - t.address)) (n.is no_segment)
+    place_of-at segments a n.number no_segment (numbered segments s a order n holds)
+    ∙ ap (λ (t : FixupSegment). t.file_offset + (a - t.address)) (n.is no_segment)
 
 -- the word that stands at a fixup
-standing : (segments : List FixupSegment) (fixups : List Fixup) (b : List ℕ) (k : ℕ) (d : Fixup) → AreWords fixups → AllStand segments fixups b
+standing : (segments : List FixupSegment) (fixups : List Fixup) (b : List ℕ) (k : ℕ) (d : Fixup) → AreWords fixups
+    → AllStand segments fixups b
     → k < length fixups
     → le_at WORD_SIZE b (place_of segments (get_or fixups k d).address) ≡ word_of (get_or fixups k d).kind (step_of fixups k)
 standing segments fixups b k d words stand lt =
@@ -102,7 +107,8 @@ standing segments fixups b k d words stand lt =
     (place_of segments (get_or fixups k d).address) (words k d lt).fits (stand.each k d lt)
 
 -- a file's word at a fixup is that of the run
-pub word_is : (segments : List FixupSegment) (fixups : List Fixup) (b : List ℕ) (k word : ℕ) (d : Fixup) → AreSegments segments → AreWords fixups
+pub word_is : (segments : List FixupSegment) (fixups : List Fixup) (b : List ℕ) (k word : ℕ) (d : Fixup) → AreSegments segments
+    → AreWords fixups
     → AllStand segments fixups b → k < length fixups → IsFileWord (map (chain_seen fixups) segments) b (get_or fixups k d).address word
     → word ≡ word_of (get_or fixups k d).kind (step_of fixups k)
 word_is segments fixups b k word d order words stand lt w =
@@ -111,11 +117,16 @@ word_is segments fixups b k word d order words stand lt w =
     let size : w.segment.file_size ≡ seen.0.file_size = ap (λ (g : ChainSegment). g.file_size) seen.2 in
     let place : w.segment.file_offset + ((get_or fixups k d).address - w.segment.address) ≡ place_of segments (get_or fixups k d).address =
     ap (λ (g : ChainSegment). g.file_offset + ((get_or fixups k d).address - g.address)) seen.2
-    ∙ sym (place_in segments seen.0 (get_or fixups k d).address order seen.1 (omega (arith, w.from, address), omega (arith, w.to, address, size))) in
+    ∙ sym (place_in segments seen.0 (get_or fixups k d).address order seen.1 (
+      omega (arith, w.from, address),
+      omega
+          (arith, w.to, address, size),
+    )) in
     w.is ∙ ap (λ (p : ℕ). le_at WORD_SIZE b p) place ∙ standing segments fixups b k d words stand lt
 
 -- and it stands there
-word_there : (segments : List FixupSegment) (fixups : List Fixup) (b : List ℕ) (k : ℕ) (d : Fixup) → AreFixups segments fixups → AreSegments segments
+word_there : (segments : List FixupSegment) (fixups : List Fixup) (b : List ℕ) (k : ℕ) (d : Fixup) → AreFixups segments fixups
+    → AreSegments segments
     → AreWords fixups → AllStand segments fixups b → k < length fixups
     → IsFileWord (map (chain_seen fixups) segments) b (get_or fixups k d).address (word_of (get_or fixups k d).kind (step_of fixups k))
 word_there segments fixups b k d run order words stand lt =
@@ -138,7 +149,8 @@ exact a b steps le four_a four_b some is =
     ] is
 
 -- where a word leads on, the next fixup is there
-pub leads : (fixups : List Fixup) (k : ℕ) (d : Fixup) (segments : List FixupSegment) → AreFixups segments fixups → k < length fixups → 1 ≤ step_of fixups k
+pub leads : (fixups : List Fixup) (k : ℕ) (d : Fixup) (segments : List FixupSegment) → AreFixups segments fixups → k < length fixups
+    → 1 ≤ step_of fixups k
     → (k + 1 < length fixups) × ((get_or fixups k d).address + STRIDE * step_of fixups k ≡ (get_or fixups (k + 1) d).address)
 leads fixups k d segments run lt some =
     elim (cases_lt (k + 1) (length fixups)) [
@@ -158,7 +170,8 @@ pub record IsNumbered (fixups : List Fixup) (a : ℕ) (d : Fixup) : Type 0 where
   pub is : (get_or fixups k d).address ≡ a
 
 -- page number by the segment's
-pub page_address : (s start number page a : ℕ) → s % CHAIN_PAGE ≡ 0 → number ≡ s / CHAIN_PAGE + page → a / CHAIN_PAGE ≡ number → a % CHAIN_PAGE ≡ start
+pub page_address : (s start number page a : ℕ) → s % CHAIN_PAGE ≡ 0 → number ≡ s / CHAIN_PAGE + page → a / CHAIN_PAGE ≡ number
+    → a % CHAIN_PAGE ≡ start
     → a ≡ s + CHAIN_PAGE * page + start
 page_address s start number page a whole is on at = omega (arith, whole, is, on, at)
 
@@ -183,7 +196,8 @@ only segments fixups b d run order words stand _ (chain.OnChain.first g page one
     subst (λ (h : ChainSegment). page < length h.starts → slice_index h.starts page ≢ NO_START
     → IsNumbered fixups (h.address + CHAIN_PAGE * page + slice_index h.starts page) d) (sym seen.2) (at_start seen.0 seen.1) within some
   where
-    at_start : (s : FixupSegment) → Contains segments s → page < length (starts_in fixups s) → slice_index (starts_in fixups s) page ≢ NO_START
+    at_start : (s : FixupSegment) → Contains segments s → page < length (starts_in fixups s)
+        → slice_index (starts_in fixups s) page ≢ NO_START
         → IsNumbered fixups (s.address + CHAIN_PAGE * page + slice_index (starts_in fixups s) page) d
     at_start s one lt start =
         let here = start_in fixups s page (omega (arith, lt, starts_long fixups s)) in
@@ -191,8 +205,10 @@ only segments fixups b d run order words stand _ (chain.OnChain.first g page one
         record {
           k = found.k;
           within = found.within;
-          is = page_address s.address (slice_index (starts_in fixups s) page) (s.address / CHAIN_PAGE + page) page (get_or fixups found.k d).address
-              (All-contains (λ (t : FixupSegment). t.address % CHAIN_PAGE ≡ 0) segments s order.paged one) refl found.on (found.at ∙ sym here);
+          is = page_address s.address (slice_index (starts_in fixups s) page) (s.address / CHAIN_PAGE + page) page
+              (get_or fixups found.k d).address
+              (All-contains (λ (t : FixupSegment). t.address % CHAIN_PAGE ≡ 0) segments s order.paged one) refl found.on
+              (found.at ∙ sym here);
         }
 only segments fixups b d run order words stand _ (chain.OnChain.next a word on stands goes) =
     let before = only segments fixups b d run order words stand a on in
@@ -203,8 +219,10 @@ only segments fixups b d run order words stand _ (chain.OnChain.next a word on s
     record { k = before.k + 1; within = next.0; is = omega (arith, next.1, before.is, steps) }
 
 -- the first fixup of a page is at the page's start
-first_on : (segments : List FixupSegment) (fixups : List Fixup) (b : List ℕ) (k : ℕ) (d : Fixup) → AreFixups segments fixups → AreSegments segments
-    → k < length fixups → ((j : ℕ) (e : Fixup) → j < k → (get_or fixups j e).address / CHAIN_PAGE < (get_or fixups k d).address / CHAIN_PAGE)
+first_on : (segments : List FixupSegment) (fixups : List Fixup) (b : List ℕ) (k : ℕ) (d : Fixup) → AreFixups segments fixups
+    → AreSegments segments
+    → k < length fixups → ((j : ℕ) (e : Fixup) → j < k → (get_or fixups j e).address / CHAIN_PAGE < (get_or fixups k d).address /
+    CHAIN_PAGE)
     → OnChain (map (chain_seen fixups) segments) b (get_or fixups k d).address
 first_on segments fixups b k d run order lt before =
     let one = run.in_segment k d lt in at_page one.0 one.1 one.2
@@ -215,7 +233,8 @@ first_on segments fixups b k d run order lt before =
     at_page : (s : FixupSegment) → Contains segments s → Holds s a → OnChain (map (chain_seen fixups) segments) b a
     at_page s one holds =
         let page : ℕ = a / CHAIN_PAGE - s.address / CHAIN_PAGE in
-        let whole : s.address % CHAIN_PAGE ≡ 0 = All-contains (λ (t : FixupSegment). t.address % CHAIN_PAGE ≡ 0) segments s order.paged one in
+        let whole : s.address % CHAIN_PAGE ≡ 0 = All-contains (λ (t : FixupSegment). t.address % CHAIN_PAGE ≡ 0) segments s order.paged
+        one in
         let counted = pages_with-in s (get_or fixups k d) holds.0 (omega (arith, holds.1)) in
         let few : page < pages_of s fixups = omega (arith, counted, pages_of-above s fixups k d lt) in
         let number : s.address / CHAIN_PAGE + page ≡ a / CHAIN_PAGE = omega (arith, holds.0) in
@@ -250,7 +269,8 @@ found segments fixups b d run order words stand (suc k) lt =
           omega (arith, run.sorted j k e less (omega arith), own, lower)
       | inr at ↦
           let own : (get_or fixups j e).address ≡ (get_or fixups k d).address =
-          ap (λ (n : ℕ). (get_or fixups n e).address) (omega arith) ∙ ap (λ (f : Fixup). f.address) (get_or_default fixups k e d (omega arith)) in
+          ap (λ (n : ℕ). (get_or fixups n e).address) (omega arith) ∙ ap (λ (f : Fixup). f.address)
+          (get_or_default fixups k e d (omega arith)) in
           omega (arith, own, lower)
     ]
 
@@ -261,15 +281,19 @@ found segments fixups b d run order words stand (suc k) lt =
         let within : k < length fixups = omega arith in
         let next : k + 1 ≡ suc k = omega arith in
         let more : k + 1 < length fixups = omega arith in
-        let yes : ((get_or fixups k d).address / CHAIN_PAGE == (get_or fixups (suc k) d).address / CHAIN_PAGE) ≡ true = grind (arith, nat_tests) in
+        let yes : ((get_or fixups k d).address / CHAIN_PAGE == (get_or fixups (suc k) d).address / CHAIN_PAGE) ≡ true = grind
+        (arith, nat_tests) in
         let steps : step_of fixups k ≡ ((get_or fixups (suc k) d).address - (get_or fixups k d).address) / STRIDE =
-        step_of-next fixups k d more ∙ ap (λ (n : ℕ). step_between (get_or fixups k d).address (get_or fixups n d).address) next ∙ rw yes refl in
+        step_of-next fixups k d more ∙ ap (λ (n : ℕ). step_between (get_or fixups k d).address (get_or fixups n d).address) next
+        ∙ rw yes refl in
         let word : ℕ = word_of (get_or fixups k d).kind (step_of fixups k) in
         let goes : next_of word ≡ step_of fixups k = (words k d within).leads in
         let some : 1 ≤ step_of fixups k = omega (arith, steps, ordered) in
         let there = leads fixups k d segments run within some in
-        let last : (get_or fixups (k + 1) d).address ≡ (get_or fixups (suc k) d).address = ap (λ (n : ℕ). (get_or fixups n d).address) next in
-        let place : (get_or fixups k d).address + STRIDE * next_of word ≡ (get_or fixups (suc k) d).address = omega (arith, there.1, goes, last) in
+        let last : (get_or fixups (k + 1) d).address ≡ (get_or fixups (suc k) d).address = ap (λ (n : ℕ). (get_or fixups n d).address)
+        next in
+        let place : (get_or fixups k d).address + STRIDE * next_of word ≡ (get_or fixups (suc k) d).address = omega
+        (arith, there.1, goes, last) in
         subst (λ (x : ℕ). OnChain (map (chain_seen fixups) segments) b x) place
         (chain.OnChain.next (get_or fixups k d).address word on
         (word_there segments fixups b k d run order words stand within) (omega (arith, goes, some)))
@@ -286,25 +310,31 @@ steps_lead segments fixups k d run lt = record {
     between : k + 1 < length fixups → step_of fixups k ≡ step_between (get_or fixups k d).address (get_or fixups (k + 1) d).address
     between more = step_of-next fixups k d more
 
-    other : k + 1 < length fixups → ((get_or fixups k d).address / CHAIN_PAGE ≡ (get_or fixups (k + 1) d).address / CHAIN_PAGE → ⊥) → step_of fixups k ≡ 0
+    other : k + 1 < length fixups → ((get_or fixups k d).address / CHAIN_PAGE ≡ (get_or fixups (k + 1) d).address / CHAIN_PAGE → ⊥)
+        → step_of fixups k ≡ 0
     other more apart =
-        let no : ((get_or fixups k d).address / CHAIN_PAGE == (get_or fixups (k + 1) d).address / CHAIN_PAGE) ≡ false = grind (arith, nat_tests) in
+        let no : ((get_or fixups k d).address / CHAIN_PAGE == (get_or fixups (k + 1) d).address / CHAIN_PAGE) ≡ false = grind
+        (arith, nat_tests) in
         between more ∙ rw no refl
 
-    same_page : k + 1 < length fixups → 1 ≤ step_of fixups k → (get_or fixups (k + 1) d).address / CHAIN_PAGE ≡ (get_or fixups k d).address / CHAIN_PAGE
+    same_page : k + 1 < length fixups → 1 ≤ step_of fixups k → (get_or fixups (k + 1) d).address / CHAIN_PAGE ≡
+        (get_or fixups k d).address / CHAIN_PAGE
     same_page more some = elim (cases_lt ((get_or fixups k d).address / CHAIN_PAGE) ((get_or fixups (k + 1) d).address / CHAIN_PAGE)) [
       | inl less ↦ absurd (omega (arith, some, other more (λ e. omega (arith, e, less))))
       | inr high ↦ omega (arith, high, run.sorted k (k + 1) d (omega arith) more)
     ]
 
-    other_page : k + 1 < length fixups → step_of fixups k ≡ 0 → (get_or fixups k d).address / CHAIN_PAGE < (get_or fixups (k + 1) d).address / CHAIN_PAGE
+    other_page : k + 1 < length fixups → step_of fixups k ≡ 0 → (get_or fixups k d).address / CHAIN_PAGE <
+        (get_or fixups (k + 1) d).address / CHAIN_PAGE
     other_page more none = elim (cases_lt ((get_or fixups k d).address / CHAIN_PAGE) ((get_or fixups (k + 1) d).address / CHAIN_PAGE)) [
       | inl less ↦ less
       | inr high ↦
           let ordered = run.sorted k (k + 1) d (omega arith) more in
           let yes : ((get_or fixups k d).address / CHAIN_PAGE == (get_or fixups (k + 1) d).address / CHAIN_PAGE) ≡ true =
-          (let same : (get_or fixups k d).address / CHAIN_PAGE ≡ (get_or fixups (k + 1) d).address / CHAIN_PAGE = omega (arith, high, ordered) in
+          (let same : (get_or fixups k d).address / CHAIN_PAGE ≡ (get_or fixups (k + 1) d).address / CHAIN_PAGE = omega
+          (arith, high, ordered) in
           grind (arith, nat_tests)) in
-          let steps : step_of fixups k ≡ ((get_or fixups (k + 1) d).address - (get_or fixups k d).address) / STRIDE = between more ∙ rw yes refl in
+          let steps : step_of fixups k ≡ ((get_or fixups (k + 1) d).address - (get_or fixups k d).address) / STRIDE = between more
+          ∙ rw yes refl in
           absurd (omega (arith, steps, none, ordered))
     ]

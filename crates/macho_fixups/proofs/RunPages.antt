@@ -4,7 +4,8 @@
 -- page's chain is that of a fixup of the page. Some fixup of the segment stands on that page or behind it, so a segment
 -- behind this one begins at a later page, and one in front of it ends in front of the page. So the fixup, which some
 -- segment holds, is held by this one.
-use Rattle.std.proofs.Common.{◌≡◌, ℕ, ◌+◌, ◌/◌, ◌%◌, ◌<◌, ◌≤◌, List, [], ◌∷◌, length, map, get_or, slice_index, arith, refl, sym, ap, subst, ◌∙◌, inl, inr}
+use Rattle.std.proofs.Common.{◌≡◌, ℕ, ◌+◌, ◌/◌, ◌%◌, ◌<◌, ◌≤◌, List, [], ◌∷◌, length, map, get_or, slice_index, arith, refl, sym, ap}
+use Rattle.std.proofs.Common.{subst, ◌∙◌, inl, inr}
 use Rattle.std.specs.Prelude.{Contains}
 use Rattle.std.proofs.lemmas.Bool.{cases_lt}
 use Rattle.std.proofs.lemmas.List.Elements.{All-contains, All-contains_itself}
@@ -20,7 +21,8 @@ use Rattle.macho_fixups.specs.Chains.{starts_in, chain_seen, step_of, AllStand, 
 use Rattle.macho_fixups.proofs.Cuts.{pages_with-in, pages_with-out}
 use Rattle.macho_fixups.proofs.SegmentWrites.{no_segment}
 use Rattle.macho_fixups.proofs.Places.{HasNumber, number_of}
-use Rattle.macho_fixups.proofs.RunChain.{AreWords, seen_of, start_in, starts_long, start_of-found, word_is, leads, steps_lead, page_address, only, found}
+use Rattle.macho_fixups.proofs.RunChain.{AreWords, seen_of, start_in, starts_long, start_of-found, word_is, leads, steps_lead}
+use Rattle.macho_fixups.proofs.RunChain.{page_address, only, found}
 
 -- a fixup of a segment on a page or behind it
 record IsFarOn (s : FixupSegment) (fixups : List Fixup) (page : ℕ) : Type 0 where
@@ -138,7 +140,8 @@ only_page segments fixups b d run order words stand s page one _ (chain.OnPageCh
     record {
       k = first.k;
       within = first.within;
-      is = page_address s.address (slice_index (starts_in fixups s) page) (s.address / CHAIN_PAGE + page) page (get_or fixups first.k d).address
+      is = page_address s.address (slice_index (starts_in fixups s) page) (s.address / CHAIN_PAGE + page) page
+          (get_or fixups first.k d).address
           (All-contains (λ (t : FixupSegment). t.address % CHAIN_PAGE ≡ 0) segments s order.paged one) refl first.on (first.at ∙ sym here);
       on = first.on;
       few = few;
@@ -158,7 +161,8 @@ only_page segments fixups b d run order words stand s page one _ (chain.OnPageCh
     }
 
 -- a word of a page's chain
-page_word : (segments : List FixupSegment) (fixups : List Fixup) (b : List ℕ) (g : ChainSegment) (page a : ℕ) (d : Fixup) → AreFixups segments fixups
+page_word : (segments : List FixupSegment) (fixups : List Fixup) (b : List ℕ) (g : ChainSegment) (page a : ℕ) (d : Fixup)
+    → AreFixups segments fixups
     → AreSegments segments → AreWords fixups → AllStand segments fixups b → Contains (map (chain_seen fixups) segments) g
     → OnPageChain (map (chain_seen fixups) segments) b g page a → IsPageWord fixups g page a
 page_word segments fixups b g page a d run order words stand one on =
@@ -170,7 +174,8 @@ page_word segments fixups b g page a d run order words stand one on =
         → IsPageWord fixups (chain_seen fixups s) page a
     of_segment s one on =
         let here = only_page segments fixups b d run order words stand s page one a on in
-        let whole : s.address % CHAIN_PAGE ≡ 0 = All-contains (λ (t : FixupSegment). t.address % CHAIN_PAGE ≡ 0) segments s order.paged one in
+        let whole : s.address % CHAIN_PAGE ≡ 0 = All-contains (λ (t : FixupSegment). t.address % CHAIN_PAGE ≡ 0) segments s order.paged
+        one in
         let in_page = run.in_page here.k d here.within in
         record {
           one = (get_or fixups here.k d, All-contains_itself fixups here.k d here.within, here.is);
@@ -194,7 +199,8 @@ chain_is_run segments fixups run order words =
         λ one. back b a stand one.0 one.1 one.2,
       );
       says = λ b k word d stand lt w.
-          subst (λ (v : ℕ). IsWordOf (get_or fixups k d).kind (step_of fixups k) v) (sym (word_is segments fixups b k word d order words stand lt w))
+          subst (λ (v : ℕ). IsWordOf (get_or fixups k d).kind (step_of fixups k) v)
+          (sym (word_is segments fixups b k word d order words stand lt w))
           (words k d lt);
       onward = λ b k word d stand lt w.
           let goes : step_of fixups k ≡ next_of word =

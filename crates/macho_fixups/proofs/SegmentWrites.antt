@@ -3,7 +3,8 @@
 -- So far both are put. An offset more and a text more, each where those before it end, are put too: the two puts at
 -- the two places share no byte, so their order does not matter, and each joins the one that it touches. The run of
 -- fixups is passed in step: those that are passed lie below every later segment, since segments do not overlap.
-use Rattle.std.proofs.Common.{◌≡◌, ℕ, suc, ◌+◌, ◌*◌, ◌-◌, ◌^◌, ◌<◌, ◌≤◌, ◌==◌, List, [], ◌∷◌, ◌++◌, length, get_or, take, arith, refl, sym, ap, subst, ◌∙◌, inl, inr, true, false, if◌then◌else◌}
+use Rattle.std.proofs.Common.{◌≡◌, ℕ, suc, ◌+◌, ◌*◌, ◌-◌, ◌^◌, ◌<◌, ◌≤◌, ◌==◌, List, [], ◌∷◌, ◌++◌, length, get_or, take, arith, refl}
+use Rattle.std.proofs.Common.{sym, ap, subst, ◌∙◌, inl, inr, true, false, if◌then◌else◌}
 use Rattle.std.specs.Prelude.{All, sum_by}
 use Rattle.std.specs.List.{flat_map}
 use Rattle.std.proofs.lemmas.Bool.{cases_lt}
@@ -87,7 +88,8 @@ sum_bound fixups (x ∷ xs) each =
     ]
 
 -- Segments so far.
-pub record SegmentsSoFar (base at : ℕ) (fixups : List Fixup) (segments : List FixupSegment) (slot place next i : ℕ) (before now : List ℕ) : Type 0 where
+pub record SegmentsSoFar (base at : ℕ) (fixups : List Fixup) (segments : List FixupSegment) (slot place next i : ℕ)
+    (before now : List ℕ) : Type 0 where
   pub written : now ≡ put (at + 4) (offsets_text (4 + 4 * length segments) fixups (take i segments))
       (put (at + 4 + 4 * length segments) (flat_map (segment_text base fixups) (take i segments)) before)
   pub slots : slot ≡ at + 4 + 4 * i
@@ -97,7 +99,8 @@ pub record SegmentsSoFar (base at : ℕ) (fixups : List Fixup) (segments : List 
   pub passed : next ≤ length fixups
   pub below : (j : ℕ) (e : FixupSegment) → i ≤ j → j < length segments → AreBelow fixups next (get_or segments j e).address
 
-pub segments_begin : (base at : ℕ) (fixups : List Fixup) (segments : List FixupSegment) (out : List ℕ) → at + 4 + 4 * length segments ≤ length out
+pub segments_begin : (base at : ℕ) (fixups : List Fixup) (segments : List FixupSegment) (out : List ℕ)
+    → at + 4 + 4 * length segments ≤ length out
     → SegmentsSoFar base at fixups segments (at + 4) (at + 4 + 4 * length segments) 0 0 out out
 unfolding offsets_text
 segments_begin base at fixups segments out fits =
@@ -124,7 +127,8 @@ segment_room fixups segments i d lt =
     )
 
 -- one segment more
-pub segments_go_on : (base at : ℕ) (fixups : List Fixup) (segments : List FixupSegment) (d : FixupSegment) (slot place next i end offset : ℕ)
+pub segments_go_on : (base at : ℕ) (fixups : List Fixup) (segments : List FixupSegment) (d : FixupSegment)
+    (slot place next i end offset : ℕ)
     (before out a b : List ℕ) → i < length segments → AreSegments segments
     → at + (4 + 4 * length segments + sum_by (segment_size fixups) segments) ≤ length before
     → SegmentsSoFar base at fixups segments slot place next i before out
@@ -137,10 +141,19 @@ segments_go_on base at fixups segments d slot place next i end offset before out
     record {
       written = second ∙ ap (put place text) (first ∙ ap (put slot (le_bytes 4 offset)) so_far.written) ∙ joined
           ∙ ap (λ (t : List ℕ). put (at + 4) t (put start (flat_map (segment_text base fixups) (take i segments) ++ text) before)) offsets
-          ∙ ap (λ (t : List ℕ). put (at + 4) (offsets_text (4 + 4 * length segments) fixups (take (i + 1) segments)) (put start t before)) texts;
+          ∙ ap (λ (t : List ℕ). put (at + 4) (offsets_text (4 + 4 * length segments) fixups (take (i + 1) segments)) (put start t before))
+          texts;
       slots = omega (arith, so_far.slots);
       ends = omega (arith, so_far.ends, sums);
-      long = omega (arith, so_far.long, sums, long, sym (ap length texts), length-append (flat_map (segment_text base fixups) (take i segments)) text);
+      long = omega (
+        arith,
+        so_far.long,
+        sums,
+        long,
+        sym (ap length texts),
+        length-append
+            (flat_map (segment_text base fixups) (take i segments)) text,
+      );
       count = omega (arith, so_far.count, ap length more, length-append (take i segments) (x ∷ []));
       passed = cut.within;
       below = λ j e le within. below_cut fixups end (x.address + x.file_size) (get_or segments j e).address cut (later j e le within);
@@ -179,15 +192,23 @@ segments_go_on base at fixups segments d slot place next i end offset before out
         ap (λ (s : FixupSegment). s.address + s.size) (get_or_default segments i e d lt) in
         omega (arith, order.in_order i j e (omega arith) within, order.sizes i d lt, same)
 
-    joined : put place text (put slot (le_bytes 4 offset) (put (at + 4) old (put start (flat_map (segment_text base fixups) (take i segments)) before)))
+    joined : put place text (put slot (le_bytes 4 offset) (put (at + 4) old (put start
+        (flat_map (segment_text base fixups) (take i segments)) before)))
         ≡ put (at + 4) (old ++ le_bytes 4 offset) (put start (flat_map (segment_text base fixups) (take i segments) ++ text) before)
     joined =
         let texts_now : List ℕ = flat_map (segment_text base fixups) (take i segments) in
         let fits = segment_room fixups segments i d lt in
         let four = little_is_sound.long 4 offset in
         let size = length-offsets (4 + 4 * length segments) fixups (take i segments) in
-        let under : length (put start texts_now before) ≡ length before = length-put start texts_now before (omega (arith, so_far.long, room, fits)) in
-        let whole : length (old ++ le_bytes 4 offset) ≡ 4 * i + 4 = omega (arith, length-append old (le_bytes 4 offset), four, size, so_far.count) in
+        let under : length (put start texts_now before) ≡ length before = length-put start texts_now before
+        (omega (arith, so_far.long, room, fits)) in
+        let whole : length (old ++ le_bytes 4 offset) ≡ 4 * i + 4 = omega (
+          arith,
+          length-append old (le_bytes 4 offset),
+          four,
+          size,
+          so_far.count,
+        ) in
         ap (put place text) (put-put (at + 4) slot old (le_bytes 4 offset) (put start texts_now before)
         (omega (arith, so_far.slots, size, so_far.count)) (omega (arith, so_far.slots, four, under, room)))
         ∙ sym (put_swap (at + 4) place (old ++ le_bytes 4 offset) text (put start texts_now before) (omega (arith, whole, so_far.ends))
@@ -196,16 +217,19 @@ segments_go_on base at fixups segments d slot place next i end offset before out
         (omega (arith, long, so_far.ends, room, fits)))
 
 -- the same, of what the pass over a segment says: its text is written, and then its offset
-pub segment_done : (base at : ℕ) (fixups : List Fixup) (segments : List FixupSegment) (d : FixupSegment) (slot place next i end offset pages size : ℕ)
+pub segment_done : (base at : ℕ) (fixups : List Fixup) (segments : List FixupSegment) (d : FixupSegment)
+    (slot place next i end offset pages size : ℕ)
     (before out a b : List ℕ) → i < length segments → AreSegments segments
     → at + (4 + 4 * length segments + sum_by (segment_size fixups) segments) ≤ length before → length out ≡ length before
     → SegmentsSoFar base at fixups segments slot place next i before out
     → IsCut fixups end ((get_or segments i d).address + (get_or segments i d).file_size) → pages ≡ pages_of (get_or segments i d) fixups
     → offset ≡ (if pages == 0 then 0 else place - at) → length (starts_text base fixups (get_or segments i d) pages) ≡ starts_size pages
-    → a ≡ put place (starts_text base fixups (get_or segments i d) pages) out → b ≡ put slot (le_bytes 4 offset) a → size ≡ starts_size pages
+    → a ≡ put place (starts_text base fixups (get_or segments i d) pages) out → b ≡ put slot (le_bytes 4 offset) a
+    → size ≡ starts_size pages
     → SegmentsSoFar base at fixups segments (slot + 4) (place + size) end (i + 1) before b
 unfolding segment_text segment_size
-segment_done base at fixups segments d slot place next i end offset pages size before out a b lt order room kept so_far cut counted is long first second sized =
+segment_done base at fixups segments d slot place next i end offset pages size before out a b lt order room kept so_far cut counted is
+    long first second sized =
     let moved : place + starts_size (pages_of (get_or segments i d) fixups) ≡ place + size =
     ap (λ (n : ℕ). place + n) (sym (sized ∙ ap (λ (p : ℕ). starts_size p) counted)) in
     let text : List ℕ = starts_text base fixups (get_or segments i d) pages in
@@ -214,20 +238,25 @@ segment_done base at fixups segments d slot place next i end offset pages size b
     = omega (arith, kept, so_far.ends, room, fits, long, ap (λ (p : ℕ). starts_size p) counted) in
     let swapped : b ≡ put place text (put slot (le_bytes 4 offset) out)
     = second ∙ ap (put slot (le_bytes 4 offset)) first
-    ∙ put_swap slot place (le_bytes 4 offset) text out (omega (arith, little_is_sound.long 4 offset, so_far.slots, so_far.ends, lt)) whole in
+    ∙ put_swap slot place (le_bytes 4 offset) text out (omega (arith, little_is_sound.long 4 offset, so_far.slots, so_far.ends, lt))
+    whole in
     subst (λ (n : ℕ). SegmentsSoFar base at fixups segments (slot + 4) n end (i + 1) before b) moved
-    (segments_go_on base at fixups segments d slot place next i end offset before out (put slot (le_bytes 4 offset) out) b lt order room so_far cut
+    (segments_go_on base at fixups segments d slot place next i end offset before out (put slot (le_bytes 4 offset) out) b lt order room
+    so_far cut
     (is ∙ ap (λ (p : ℕ). if p == 0 then 0 else place - at) counted)
-    (ap (λ (p : ℕ). length (starts_text base fixups (get_or segments i d) p)) (sym counted) ∙ long ∙ ap (λ (p : ℕ). starts_size p) counted) refl
+    (ap (λ (p : ℕ). length (starts_text base fixups (get_or segments i d) p)) (sym counted) ∙ long
+    ∙ ap (λ (p : ℕ). starts_size p) counted) refl
     (swapped ∙ ap (λ (p : ℕ). put place (starts_text base fixups (get_or segments i d) p) (put slot (le_bytes 4 offset) out)) counted))
 
 -- the places that a segment is written to lie inside, and its distance is small
-pub record HasRoom (at slot place : ℕ) (fixups : List Fixup) (segments : List FixupSegment) (i : ℕ) (d : FixupSegment) (n : ℕ) : Type 0 where
-  pub offset : slot + 4 ≤ n
-  pub text : place + segment_size fixups (get_or segments i d) ≤ n
-  pub near : place - at < 2 ^ 32
+pub record HasRoom (at slot place : ℕ) (fixups : List Fixup) (segments : List FixupSegment) (i : ℕ) (d : FixupSegment) (n : ℕ) : Type 0
+  where
+    pub offset : slot + 4 ≤ n
+    pub text : place + segment_size fixups (get_or segments i d) ≤ n
+    pub near : place - at < 2 ^ 32
 
-pub has_room : (base at : ℕ) (fixups : List Fixup) (segments : List FixupSegment) (d : FixupSegment) (slot place next i : ℕ) (before out : List ℕ)
+pub has_room : (base at : ℕ) (fixups : List Fixup) (segments : List FixupSegment) (d : FixupSegment) (slot place next i : ℕ)
+    (before out : List ℕ)
     → i < length segments → length segments ≤ 6 → All (λ s. pages_of s fixups ≤ 65535) segments
     → at + (4 + 4 * length segments + sum_by (segment_size fixups) segments) ≤ length before
     → SegmentsSoFar base at fixups segments slot place next i before out → HasRoom at slot place fixups segments i d (length before)
@@ -253,11 +282,18 @@ segments_end base at fixups segments slot place next i before now past room so_f
     let all : take i segments ≡ segments = take_all i segments past in
     let size = length-offsets (4 + 4 * length segments) fixups segments in
     let long : length (flat_map (segment_text base fixups) segments) ≡ sum_by (segment_size fixups) segments =
-    ap (λ (t : List FixupSegment). length (flat_map (segment_text base fixups) t)) (sym all) ∙ so_far.long ∙ ap (sum_by (segment_size fixups)) all in (
+    ap (λ (t : List FixupSegment). length (flat_map (segment_text base fixups) t)) (sym all) ∙ so_far.long
+    ∙ ap (sum_by (segment_size fixups)) all in (
       so_far.written
           ∙ ap (λ (t : List FixupSegment). put (at + 4) (offsets_text (4 + 4 * length segments) fixups t)
           (put (at + 4 + 4 * length segments) (flat_map (segment_text base fixups) t) before)) all
           ∙ put_in_front (at + 4) (at + 4 + 4 * length segments) _ _ before (omega (arith, size)) (omega (arith, long, room)),
-      omega (arith, size, long, length-append (offsets_text (4 + 4 * length segments) fixups segments) (flat_map (segment_text base fixups) segments)),
+      omega (
+        arith,
+        size,
+        long,
+        length-append (offsets_text (4 + 4 * length segments) fixups segments)
+            (flat_map (segment_text base fixups) segments),
+      ),
       omega (arith, so_far.ends, ap (sum_by (segment_size fixups)) all),
     )

@@ -3,7 +3,8 @@
 -- The number of segments and the offsets stand one behind the other, and behind them what is told of each segment, at
 -- the place that its offset tells. There its record says how many pages it has, and each page's start stands two
 -- bytes behind the one before it. A segment without pages has the offset 0, and no starts are read.
-use Rattle.std.proofs.Common.{◌≡◌, ℕ, zero, suc, ◌+◌, ◌*◌, ◌/◌, ◌%◌, ◌^◌, ◌<◌, ◌≤◌, ◌==◌, Bool, true, false, List, [], ◌∷◌, ◌++◌, length, get_or, take, arith, refl, sym, ap, subst, ◌∙◌, inl, inr, if◌then◌else◌}
+use Rattle.std.proofs.Common.{◌≡◌, ℕ, zero, suc, ◌+◌, ◌*◌, ◌/◌, ◌%◌, ◌^◌, ◌<◌, ◌≤◌, ◌==◌, Bool, true, false, List, [], ◌∷◌, ◌++◌, length}
+use Rattle.std.proofs.Common.{get_or, take, arith, refl, sym, ap, subst, ◌∙◌, inl, inr, if◌then◌else◌}
 use Rattle.std.specs.Prelude.{sum_by}
 use Rattle.std.specs.List.{flat_map, range_with_len}
 use Rattle.std.proofs.lemmas.Bool.{cases_lt}
@@ -31,7 +32,10 @@ use Rattle.macho_fixups.proofs.SegmentWrites.{offset_at, sum_bound}
 
 -- each start has two bytes
 two_bytes : (fixups : List Fixup) (first pages : ℕ) → EachLong (start_text fixups first) 2 (range_with_len 0 pages)
-two_bytes fixups first pages = record { long = λ k d lt. little_is_sound.long 2 (start_of fixups (first + get_or (range_with_len 0 pages) k d)) }
+two_bytes fixups first pages = record {
+  long = λ k d lt. little_is_sound.long 2 (start_of fixups
+      (first + get_or (range_with_len 0 pages) k d));
+}
 
 length-page_starts : (fixups : List Fixup) (first pages : ℕ) → length (page_starts_text fixups first pages) ≡ 2 * pages
 unfolding page_starts_text
@@ -132,10 +136,19 @@ start_stands b fixups p first pages page s lt =
     ∙ ap (λ (n : ℕ). start_of fixups (first + n)) number
 
 -- the record of a segment reads back
-record_back : (base pages : ℕ) (s : FixupSegment) → pages ≤ 65535 → s.address < 2 ^ 64 → ReadsBack chained_starts_in_segment (starts_record base s pages)
+record_back : (base pages : ℕ) (s : FixupSegment) → pages ≤ 65535 → s.address < 2 ^ 64
+    → ReadsBack chained_starts_in_segment (starts_record base s pages)
 record_back base pages s few fits =
-    reads_back chained_starts_in_segment (starts_record base s pages) little_is_sound
-    (((omega arith, tt), refl), (((omega arith, (omega arith, tt)), refl), (((omega arith, tt), refl), (((omega arith, tt), refl), (((omega arith, tt), refl), tt)))))
+    reads_back chained_starts_in_segment (starts_record base s pages) little_is_sound (
+      ((omega arith, tt), refl),
+      (
+        ((omega arith, (omega arith, tt)), refl),
+        (
+          ((omega arith, tt), refl),
+          (((omega arith, tt), refl), (((omega arith, tt), refl), tt)),
+        ),
+      ),
+    )
     refl
 
 -- the sum of the texts in front of a segment's

@@ -3,7 +3,8 @@
 -- The parts of the table stand where the lengths before them end. The header's record reads back, and tells that the
 -- starts begin at 28. There the offsets of the segments stand, and each leads to what is told of its segment: the
 -- record says how many pages there are, and their starts are read as they were written.
-use Rattle.std.proofs.Common.{◌≡◌, ℕ, ◌+◌, ◌*◌, ◌/◌, ◌<◌, ◌≤◌, ◌==◌, Bool, true, false, List, [], ◌++◌, length, map, get_or, arith, refl, sym, ap, subst, ◌∙◌, inl, inr, if◌then◌else◌}
+use Rattle.std.proofs.Common.{◌≡◌, ℕ, ◌+◌, ◌*◌, ◌/◌, ◌<◌, ◌≤◌, ◌==◌, Bool, true, false, List, [], ◌++◌, length, map, get_or, arith, refl}
+use Rattle.std.proofs.Common.{sym, ap, subst, ◌∙◌, inl, inr, if◌then◌else◌}
 use Rattle.std.specs.Prelude.{◌↔◌, All}
 use Rattle.std.specs.List.{flat_map, range_with_len, enumerate_from}
 use Rattle.macho_model.specs.Chain.{ChainSegment, OnChain}
@@ -18,12 +19,14 @@ use Rattle.macho_bytes.proofs.Numbers.{little_is_sound, number-stands, stands-fr
 use Rattle.macho_structs.specs.Layouts.{chained_fixups_header}
 use Rattle.macho_structs.specs.declared.fixups.ChainedStartsInSegment.{ChainedStartsInSegment}
 use Rattle.macho_structs.specs.declared.fixups.ChainedFixupsHeader.{ChainedFixupsHeader}
-use Rattle.macho_model.specs.Images.{CHAIN_PAGE, Table, fixups_header, starts_place, starts_offset, segment_starts, segment_starts_place, page_start, page_starts}
+use Rattle.macho_model.specs.Images.{CHAIN_PAGE, Table, fixups_header, starts_place, starts_offset, segment_starts, segment_starts_place}
+use Rattle.macho_model.specs.Images.{page_start, page_starts}
 use Rattle.macho_fixups.specs.declared.run.Fixup.{Fixup}
 use Rattle.macho_fixups.specs.declared.run.FixupSegment.{FixupSegment}
 use Rattle.macho_fixups.specs.declared.imports.ImportEntry.{ImportEntry}
 use Rattle.macho_fixups.specs.Runs.{pages_of, start_of}
-use Rattle.macho_fixups.specs.Tables.{offsets_text, segment_text, image_starts_text, image_starts_size, entry_text, table_header, table_text, names_place}
+use Rattle.macho_fixups.specs.Tables.{offsets_text, segment_text, image_starts_text, image_starts_size, entry_text, table_header}
+use Rattle.macho_fixups.specs.Tables.{table_text, names_place}
 use Rattle.macho_fixups.specs.Chains.{starts_in, chain_seen, IsAddressOf}
 use Rattle.macho_fixups.specs.Calls.{FitsTable, AreEntries}
 use Rattle.macho_fixups.specs.steps.Calls.{EntryFits}
@@ -41,11 +44,18 @@ same_map f g n each =
     ext_get_or 0 (map f (range_with_len 0 n)) (map g (range_with_len 0 n))
     (length-map (range_with_len 0 n) f ∙ sym (length-map (range_with_len 0 n) g)) at
   where
-    at : (i : ℕ) → i < length (map f (range_with_len 0 n)) → get_or (map f (range_with_len 0 n)) i 0 ≡ get_or (map g (range_with_len 0 n)) i 0
+    at : (i : ℕ) → i < length (map f (range_with_len 0 n)) → get_or (map f (range_with_len 0 n)) i 0 ≡ get_or (map g (range_with_len 0 n))
+        i 0
     at i lt =
         let long : length (map f (range_with_len 0 n)) ≡ n = length-map (range_with_len 0 n) f ∙ length-range_with_len 0 n in
         let within : i < length (range_with_len 0 n) = omega (arith, lt, long, length-range_with_len 0 n) in
-        let number : get_or (range_with_len 0 n) i 0 ≡ i = omega (arith, lt, long, get_or-range_with_len 0 n i 0 (omega (arith, lt, long))) in
+        let number : get_or (range_with_len 0 n) i 0 ≡ i = omega (
+          arith,
+          lt,
+          long,
+          get_or-range_with_len 0 n i 0
+              (omega (arith, lt, long)),
+        ) in
         get_or-map f (range_with_len 0 n) i 0 0 within ∙ ap f number ∙ each i (omega (arith, lt, long)) ∙ sym (ap g number)
         ∙ sym (get_or-map g (range_with_len 0 n) i 0 0 within)
 
@@ -93,7 +103,8 @@ told_are b t fixups segments starts =
     long = length-map (enumerate_from 0 segments) (told_segment b t) ∙ length-enumerate_from 0 segments
 
     at : (i : ℕ) → i < length (told_segments b t segments)
-        → get_or (told_segments b t segments) i (chain_seen fixups no_segment) ≡ get_or (map (chain_seen fixups) segments) i (chain_seen fixups no_segment)
+        → get_or (told_segments b t segments) i (chain_seen fixups no_segment) ≡ get_or (map (chain_seen fixups) segments) i
+        (chain_seen fixups no_segment)
     at i lt =
         let within : i < length segments = omega (arith, lt, long) in
         let number : 0 + i ≡ i = omega arith in
@@ -102,13 +113,20 @@ told_are b t fixups segments starts =
         (omega (arith, within, length-enumerate_from 0 segments))
         ∙ ap (told_segment b t) (get_or-enumerate_from 0 segments i (0, no_segment) within)
         ∙ ap (λ (n : ℕ). told_segment b t (n, s)) number
-        ∙ ap (λ (x : List ℕ). let g : ChainSegment = record { address = s.address; file_offset = s.file_offset; file_size = s.file_size; starts = x } in g)
+        ∙ ap (λ (x : List ℕ). let g : ChainSegment = record {
+          address = s.address;
+          file_offset = s.file_offset;
+          file_size = s.file_size;
+          starts = x;
+        } in g)
         (starts i no_segment within)
         ∙ sym (get_or-map (chain_seen fixups) segments i no_segment (chain_seen fixups no_segment) within)
 
 -- THE table reads back.
-pub table_reads_back : (base : ℕ) (fixups : List Fixup) (segments : List FixupSegment) (format : ℕ) (imports : List ImportEntry) (names : List ℕ)
-    → FitsTable base fixups segments → AreEntries format imports → All EntryFits imports → ReadsBack chained_fixups_header (table_header fixups segments format imports)
+pub table_reads_back : (base : ℕ) (fixups : List Fixup) (segments : List FixupSegment) (format : ℕ) (imports : List ImportEntry)
+    (names : List ℕ)
+    → FitsTable base fixups segments → AreEntries format imports → All EntryFits imports
+    → ReadsBack chained_fixups_header (table_header fixups segments format imports)
     → length (image_starts_text base fixups segments) ≡ image_starts_size fixups segments
     → length (names) + names_place fixups segments format imports ≡ length (table_text base fixups segments format imports names)
     → TableReadsBack base fixups segments format imports names
@@ -140,11 +158,13 @@ table_reads_back base fixups segments format imports names fits known entry_fits
     behind_count b t stands =
         stands-back b (t.at + 28) (t.at + 28 + 4) (le_bytes 4 (length segments))
         (offsets_text (4 + 4 * length segments) fixups segments ++ flat_map (segment_text base fixups) segments)
-        (omega (arith, little_is_sound.long 4 (length segments))) (stands-front b (t.at + 28) image (entries ++ names) (told_starts b t stands))
+        (omega (arith, little_is_sound.long 4 (length segments))) (stands-front b (t.at + 28) image (entries ++ names)
+        (told_starts b t stands))
 
     offsets_there : (b : List ℕ) (t : Table) → Stands b (record { at = t.at; text = head ++ (image ++ (entries ++ names)) })
         → Stands b (record { at = t.at + 28 + 4; text = offsets_text (4 + 4 * length segments) fixups segments })
-    offsets_there b t stands = stands-front b (t.at + 28 + 4) (offsets_text (4 + 4 * length segments) fixups segments) _ (behind_count b t stands)
+    offsets_there b t stands = stands-front b (t.at + 28 + 4) (offsets_text (4 + 4 * length segments) fixups segments) _
+        (behind_count b t stands)
 
     texts_there : (b : List ℕ) (t : Table) → Stands b (record { at = t.at; text = head ++ (image ++ (entries ++ names)) })
         → Stands b (record { at = t.at + 28 + 4 + 4 * length segments; text = flat_map (segment_text base fixups) segments })
@@ -171,10 +191,12 @@ table_reads_back base fixups segments format imports names fits known entry_fits
           starts = each;
           told = told;
           chain = λ run stand a. subst (λ (g : List ChainSegment). OnChain g b a ↔ IsAddressOf fixups a) (sym told) (run.set b a stand);
-          entries = λ k d lt. entry_read b t format (28 + image_starts_size fixups segments) imports k d (table_header fixups segments format imports)
+          entries = λ k d lt. entry_read b t format (28 + image_starts_size fixups segments) imports k d
+              (table_header fixups segments format imports)
               header_is refl refl known entry_fits
               (stands-front b (t.at + (28 + image_starts_size fixups segments)) entries names
-              (stands-back b (t.at + 28) (t.at + (28 + image_starts_size fixups segments)) image (entries ++ names) (omega (arith, long)) rest)) lt;
+              (stands-back b (t.at + 28) (t.at + (28 + image_starts_size fixups segments)) image (entries ++ names) (omega (arith, long))
+              rest)) lt;
           texts = stands-back b (t.at + 28 + length image) (t.at + names_place fixups segments format imports) entries names
               (omega (
                 arith,
@@ -191,5 +213,6 @@ table_reads_back base fixups segments format imports names fits known entry_fits
     taken : (b : List ℕ) (t : Table) → Stands b (record { at = t.at; text = head ++ (image ++ (entries ++ names)) })
         → HasTable b t base segments (length (head ++ (image ++ (entries ++ names)))) → table_fits b t ≡ true
     taken b t stands has =
-        table_taken base (length (head ++ (image ++ (entries ++ names)))) fixups segments format imports b t fits known (read b t stands).header
+        table_taken base (length (head ++ (image ++ (entries ++ names)))) fixups segments format imports b t fits known
+        (read b t stands).header
         (read b t stands).count (offsets_there b t stands) (texts_there b t stands) (omega (arith, whole)) has

@@ -4,7 +4,8 @@
 -- front of that, and these are no more than the range. Of a segment without pages nothing is asked. The record of one
 -- with pages ends in front of the imports, since the texts of the segments add up, and it says the segment's address
 -- less the base: added to the base again that is the address, which is below 2 ^ 64.
-use Rattle.std.proofs.Common.{◌≡◌, ℕ, suc, ◌+◌, ◌*◌, ◌-◌, ◌%◌, ◌^◌, ◌<◌, ◌≤◌, ◌==◌, ◌&&◌, ◌||◌, nat_le, Bool, true, false, List, [], ◌∷◌, length, map, get_or, arith, refl, ap, ◌∙◌, inl, inr}
+use Rattle.std.proofs.Common.{◌≡◌, ℕ, suc, ◌+◌, ◌*◌, ◌-◌, ◌%◌, ◌^◌, ◌<◌, ◌≤◌, ◌==◌, ◌&&◌, ◌||◌, nat_le, Bool, true, false, List, [], ◌∷◌}
+use Rattle.std.proofs.Common.{length, map, get_or, arith, refl, ap, ◌∙◌, inl, inr}
 use Rattle.std.specs.List.{flat_map, range_with_len, list_all}
 use Rattle.std.proofs.lemmas.Bool.{cases_lt}
 use Rattle.std.proofs.lemmas.Bool.Decides.{nat_tests}
@@ -14,7 +15,8 @@ use Rattle.macho_bytes.specs.Texts.{Stands}
 use Rattle.macho_structs.specs.declared.fixups.ChainedFixupsHeader.{ChainedFixupsHeader}
 use Rattle.macho_structs.specs.declared.fixups.ChainedStartsInSegment.{ChainedStartsInSegment}
 use Rattle.macho_records.specs.declared.header.SegmentCommand.{SegmentCommand}
-use Rattle.macho_model.specs.Images.{Table, IMPORT_FORMAT, IMPORT_ADDEND_FORMAT, CHAIN_PAGE, fixups_header, import_entry_size, starts_place, starts_count, starts_offset, segment_starts, segments_of, base_of}
+use Rattle.macho_model.specs.Images.{Table, IMPORT_FORMAT, IMPORT_ADDEND_FORMAT, CHAIN_PAGE, fixups_header, import_entry_size}
+use Rattle.macho_model.specs.Images.{starts_place, starts_count, starts_offset, segment_starts, segments_of, base_of}
 use Rattle.macho_model.specs.LoadRules.{POINTER_FORMAT, starts_fit, starts_all_fit, header_known, parts_inside, table_fits}
 use Rattle.macho_fixups.specs.declared.run.Fixup.{Fixup}
 use Rattle.macho_fixups.specs.declared.run.FixupSegment.{FixupSegment}
@@ -71,7 +73,8 @@ texts_end fixups segments k d lt some =
     omega (arith, size, segment_room fixups segments k d lt)
 
 -- what is asked of segment k
-segment_taken : (base at : ℕ) (fixups : List Fixup) (segments : List FixupSegment) (b : List ℕ) (t : Table) (k : ℕ) (h : ChainedFixupsHeader)
+segment_taken : (base at : ℕ) (fixups : List Fixup) (segments : List FixupSegment) (b : List ℕ) (t : Table) (k : ℕ)
+    (h : ChainedFixupsHeader)
     → FitsTable base fixups segments → fixups_header b t ≡ h → h.starts_offset ≡ 28 → at ≡ t.at + 28
     → Stands b (record { at = at + 4; text = offsets_text (4 + 4 * length segments) fixups segments })
     → Stands b (record { at = at + 4 + 4 * length segments; text = flat_map (segment_text base fixups) segments }) → k < length segments
@@ -121,14 +124,25 @@ segment_taken base at fixups segments b t k h fits header begins is_at offsets t
         let told = record_read base at fixups segments b t k no_segment fits place offsets texts lt some in
         let end = texts_end fixups segments k no_segment lt some in
         let count : (segment_starts b t k).page_count ≡ pages = ap (λ (r : ChainedStartsInSegment). r.page_count) told.is in
-        let offset : (segment_starts b t k).segment_offset ≡ s.address - base = ap (λ (r : ChainedStartsInSegment). r.segment_offset) told.is in
-        let small : s.address < 2 ^ 64 = omega (arith, fits.order.ends k no_segment lt, fits.order.sizes k no_segment lt, pages_of-no_bytes s fixups some) in
-        let above : base ≤ s.address = elim (fits.above k no_segment lt) [ inl none ↦ absurd (omega (arith, none, some)) | inr high ↦ high ] in
+        let offset : (segment_starts b t k).segment_offset ≡ s.address - base = ap (λ (r : ChainedStartsInSegment). r.segment_offset)
+        told.is in
+        let small : s.address < 2 ^ 64 = omega (
+          arith,
+          fits.order.ends k no_segment lt,
+          fits.order.sizes k no_segment lt,
+          pages_of-no_bytes s fixups some,
+        ) in
+        let above : base ≤ s.address = elim (fits.above k no_segment lt) [
+          | inl none ↦ absurd (omega (arith, none, some))
+          | inr high ↦ high
+        ] in
         let whole : nat_le ((fixups_header b t).starts_offset + starts_offset b t k + 22) t.size ≡ true =
         at_most _ _ (omega (arith, starts, told.offset, end, room)) in
-        let listed : nat_le ((fixups_header b t).starts_offset + starts_offset b t k + 22 + 2 * (segment_starts b t k).page_count) t.size ≡ true =
+        let listed : nat_le ((fixups_header b t).starts_offset + starts_offset b t k + 22 + 2 * (segment_starts b t k).page_count) t.size
+        ≡ true =
         at_most _ _ (omega (arith, starts, told.offset, end, room, count)) in
-        let paged : ((segment_starts b t k).page_size == CHAIN_PAGE) ≡ true = same _ _ (ap (λ (r : ChainedStartsInSegment). r.page_size) told.is) in
+        let paged : ((segment_starts b t k).page_size == CHAIN_PAGE) ≡ true = same _ _
+        (ap (λ (r : ChainedStartsInSegment). r.page_size) told.is) in
         let formatted : ((segment_starts b t k).pointer_format == POINTER_FORMAT) ≡ true =
         same _ _ (ap (λ (r : ChainedStartsInSegment). r.pointer_format) told.is) in
         let placed : (((segment_starts b t k).segment_offset + base_of b) % 2 ^ 64
@@ -138,7 +152,8 @@ segment_taken base at fixups segments b t k h fits header begins is_at offsets t
         (and_both _ _ (and_both _ _ whole listed) (and_both _ _ (and_both _ _ paged formatted) placed))
 
 -- THE table is taken.
-pub table_taken : (base size : ℕ) (fixups : List Fixup) (segments : List FixupSegment) (format : ℕ) (imports : List ImportEntry) (b : List ℕ) (t : Table)
+pub table_taken : (base size : ℕ) (fixups : List Fixup) (segments : List FixupSegment) (format : ℕ) (imports : List ImportEntry)
+    (b : List ℕ) (t : Table)
     → FitsTable base fixups segments → AreEntries format imports → fixups_header b t ≡ table_header fixups segments format imports
     → starts_count b t ≡ length segments
     → Stands b (record { at = t.at + 28 + 4; text = offsets_text (4 + 4 * length segments) fixups segments })
@@ -159,9 +174,11 @@ table_taken base size fixups segments format imports b t fits entries header cou
           | inr two ↦ or_right _ _ (same _ _ (is ∙ two))
         ]
 
-    imports_end : (fixups_header b t).imports_offset + import_entry_size (fixups_header b t).imports_format * (fixups_header b t).imports_count ≤ t.size
+    imports_end : (fixups_header b t).imports_offset + import_entry_size (fixups_header b t).imports_format *
+        (fixups_header b t).imports_count ≤ t.size
     imports_end =
-        let is : (fixups_header b t).imports_offset + import_entry_size (fixups_header b t).imports_format * (fixups_header b t).imports_count
+        let is : (fixups_header b t).imports_offset + import_entry_size (fixups_header b t).imports_format *
+        (fixups_header b t).imports_count
         ≡ names_place fixups segments format imports =
         ap (λ (h : ChainedFixupsHeader). h.imports_offset + import_entry_size h.imports_format * h.imports_count) header in
         omega (arith, is, long, has.room)
@@ -174,12 +191,14 @@ table_taken base size fixups segments format imports b t fits entries header cou
 
     parts : parts_inside b t ≡ true
     parts =
-        let count_fits : nat_le ((fixups_header b t).starts_offset + 4) t.size ≡ true = at_most _ _ (omega (arith, long, has.room, starts)) in
+        let count_fits : nat_le ((fixups_header b t).starts_offset + 4) t.size ≡ true = at_most _ _
+        (omega (arith, long, has.room, starts)) in
         let offsets_fit : nat_le ((fixups_header b t).starts_offset + 4 + 4 * starts_count b t) t.size ≡ true =
         at_most _ _ (omega (arith, long, has.room, starts, count)) in
         let there : nat_le (starts_count b t) (length (segments_of b)) ≡ true = at_most _ _ (omega (arith, count, has.agree.count)) in
         let entries_fit : nat_le ((fixups_header b t).imports_offset
-        + import_entry_size (fixups_header b t).imports_format * (fixups_header b t).imports_count) t.size ≡ true = at_most _ _ imports_end in
+        + import_entry_size (fixups_header b t).imports_format * (fixups_header b t).imports_count) t.size ≡ true = at_most _ _
+        imports_end in
         let names_fit : nat_le (fixups_header b t).symbols_offset t.size ≡ true =
         at_most _ _ (omega (arith, long, has.room, ap (λ (h : ChainedFixupsHeader). h.symbols_offset) header)) in
         and_both _ _ (and_both _ _ (and_both _ _ (and_both _ _ count_fits offsets_fit) there) entries_fit) names_fit
@@ -187,5 +206,6 @@ table_taken base size fixups segments format imports b t fits entries header cou
     all_starts : starts_all_fit b t ≡ true
     all_starts =
         all_below (starts_fit b t) (starts_count b t) (λ k lt. segment_taken base (t.at + 28) fixups segments b t k
-        (table_header fixups segments format imports) fits header refl refl offsets texts (omega (arith, lt, count)) (omega (arith, long, has.room))
+        (table_header fixups segments format imports) fits header refl refl offsets texts (omega (arith, lt, count))
+        (omega (arith, long, has.room))
         has.begins has.agree)

@@ -3,7 +3,8 @@
 -- Starts, imports and names are put each where the one before ends, and the header in front of them: so all are one
 -- put. Each segment with pages takes 22 bytes and two for each page, and there are six at most: so the table has no
 -- more bytes than are kept for it, whose sum is rounded up.
-use Rattle.std.proofs.Common.{◌≡◌, ℕ, ◌+◌, ◌*◌, ◌^◌, ◌<◌, ◌≤◌, ◌==◌, List, [], ◌∷◌, ◌++◌, length, arith, refl, ap, ◌∙◌, true, false, inl, inr, if◌then◌else◌}
+use Rattle.std.proofs.Common.{◌≡◌, ℕ, ◌+◌, ◌*◌, ◌^◌, ◌<◌, ◌≤◌, ◌==◌, List, [], ◌∷◌, ◌++◌, length, arith, refl, ap, ◌∙◌, true, false, inl}
+use Rattle.std.proofs.Common.{inr, if◌then◌else◌}
 use Rattle.std.specs.Prelude.{sum_by}
 use Rattle.std.proofs.Math.Nat.{mul-le-mul}
 use Rattle.std.proofs.lemmas.Bool.{cases_lt}
@@ -51,7 +52,8 @@ entry_at_most : (format : ℕ) → import_entry_size format ≤ 8
 entry_at_most format = elim (format == 2) as (λ b. (if b then 8 else 4) ≤ 8) [ true ↦ omega arith | false ↦ omega arith ]
 
 -- the place of the names is small
-pub names_near : (base format : ℕ) (fixups : List Fixup) (segments : List FixupSegment) (imports : List ImportEntry) → FitsTable base fixups segments
+pub names_near : (base format : ℕ) (fixups : List Fixup) (segments : List FixupSegment) (imports : List ImportEntry)
+    → FitsTable base fixups segments
     → AreEntries format imports → (imports_place fixups segments < 2 ^ 32) × (names_place fixups segments format imports < 2 ^ 32)
 unfolding image_starts_size
 names_near base format fixups segments imports fits entries =
@@ -84,7 +86,8 @@ texts_by_pages fixups (s ∷ segments) =
     ]
 
 -- the table fits the room
-pub table_fits : (base format names : ℕ) (fixups : List Fixup) (segments : List FixupSegment) (imports : List ImportEntry) → FitsTable base fixups segments
+pub table_fits : (base format names : ℕ) (fixups : List Fixup) (segments : List FixupSegment) (imports : List ImportEntry)
+    → FitsTable base fixups segments
     → names_place fixups segments format imports + names
     ≤ table_room (length imports) (import_entry_size format) names (all_pages fixups segments)
 unfolding image_starts_size

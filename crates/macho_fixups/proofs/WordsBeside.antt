@@ -60,10 +60,14 @@ beside segments s t a f order of_s of_t low high held apart =
         → (s.file_offset + (a - s.address) + 1 ≤ t.file_offset + (f - t.address))
         ⊎ (t.file_offset + (f - t.address) + WORD_SIZE ≤ s.file_offset + (a - s.address))
     parts which =
-        let from_s : (get_or segments n.number no_segment).file_offset ≡ s.file_offset = ap (λ (x : FixupSegment). x.file_offset) (n.is no_segment) in
-        let long_s : (get_or segments n.number no_segment).file_size ≡ s.file_size = ap (λ (x : FixupSegment). x.file_size) (n.is no_segment) in
-        let from_t : (get_or segments m.number no_segment).file_offset ≡ t.file_offset = ap (λ (x : FixupSegment). x.file_offset) (m.is no_segment) in
-        let long_t : (get_or segments m.number no_segment).file_size ≡ t.file_size = ap (λ (x : FixupSegment). x.file_size) (m.is no_segment) in
+        let from_s : (get_or segments n.number no_segment).file_offset ≡ s.file_offset = ap (λ (x : FixupSegment). x.file_offset)
+        (n.is no_segment) in
+        let long_s : (get_or segments n.number no_segment).file_size ≡ s.file_size = ap (λ (x : FixupSegment). x.file_size)
+        (n.is no_segment) in
+        let from_t : (get_or segments m.number no_segment).file_offset ≡ t.file_offset = ap (λ (x : FixupSegment). x.file_offset)
+        (m.is no_segment) in
+        let long_t : (get_or segments m.number no_segment).file_size ≡ t.file_size = ap (λ (x : FixupSegment). x.file_size)
+        (m.is no_segment) in
         elim which [
           | inl before ↦ inl (omega (arith, before, from_s, long_s, from_t, low, high))
           | inr after ↦ inr (omega (arith, after, from_s, from_t, long_t, held.0, held.1))
@@ -73,7 +77,8 @@ pub bytes_stay : BytesStay
 bytes_stay segments fixups before now s a over one low high apart =
     over.written.outside (s.file_offset + (a - s.address)) out
   where
-    out : (k : ℕ) (d : Fixup) → k < length fixups → IsOutside (s.file_offset + (a - s.address)) (word_part segments fixups k (get_or fixups k d))
+    out : (k : ℕ) (d : Fixup) → k < length fixups → IsOutside (s.file_offset + (a - s.address))
+        (word_part segments fixups k (get_or fixups k d))
     out k d lt =
         let held = over.run.in_segment k d lt in
         let place = place_in segments held.0 (get_or fixups k d).address over.order held.1 held.2 in

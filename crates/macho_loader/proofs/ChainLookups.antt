@@ -3,7 +3,8 @@
 -- Each word on the chain fits in the page of a segment, so the segment has a word there; and one segment alone has a word at an
 -- address, by its number too. So a look-up asks that segment, and the page that the address is in. A walk from the page's
 -- start that stands below the address leads there exactly where its next word does.
-use Rattle.std.proofs.Common.{◌≡◌, ℕ, ◌+◌, ◌*◌, ◌-◌, ◌/◌, ◌<◌, ◌≤◌, true, List, length, get_or, slice_index, refl, ap, subst, arith, inl, inr}
+use Rattle.std.proofs.Common.{◌≡◌, ℕ, ◌+◌, ◌*◌, ◌-◌, ◌/◌, ◌<◌, ◌≤◌, true, List, length, get_or, slice_index, refl, ap, subst, arith, inl}
+use Rattle.std.proofs.Common.{inr}
 use Rattle.std.proofs.lemmas.Bool.{cases_lt}
 use Rattle.std.proofs.lemmas.List.{get_or_default}
 use Rattle.macho_bytes.specs.Numbers.{le_at}
@@ -16,7 +17,8 @@ use Rattle.macho_memory_walks.specs.steps.Walks.{Leads, starts_of, chain_segment
 use Rattle.macho_model_walks.specs.steps.WordTests.{address_in, FitFrom}
 use Rattle.macho_model.proofs.Apart.{EndsBefore}
 use Rattle.macho_memory_walks.proofs.ChainSets.{page_has_start}
-use Rattle.macho_memory_walks.proofs.WordWalk.{on_some_page, numbered_segment, nth_number, nth_one, segment_has_word, starts_missing, leads_no_lower, page_chain_found, page_chain_only}
+use Rattle.macho_memory_walks.proofs.WordWalk.{on_some_page, numbered_segment, nth_number, nth_one, segment_has_word, starts_missing}
+use Rattle.macho_memory_walks.proofs.WordWalk.{leads_no_lower, page_chain_found, page_chain_only}
 use Rattle.macho_model_walks.proofs.RuleWalk.{import_count_found}
 use Rattle.macho_loader.specs.steps.Words.{StandApart, IsFittingWord, IsReached}
 use Rattle.macho_loader.specs.steps.Held.{IsOnWay}
@@ -86,7 +88,8 @@ on_its_page b number place page a word accepted nth has is on =
     let s = stands_on_page b a accepted on in
     let w = le_at WORD_SIZE b ((segment_there b s.place).fileoff + (a - (segment_there b s.place).vmaddr)) in
     let same : s.number ≡ number = one_number b s.number s.place number place a w word (stand_apart b accepted) s.nth nth s.has has in
-    let there : s.place ≡ place = nth_one list.Segments b number s.place place (subst (λ k. IsNth list.Segments b k s.place) same s.nth) nth in
+    let there : s.place ≡ place = nth_one list.Segments b number s.place place (subst (λ k. IsNth list.Segments b k s.place) same s.nth)
+    nth in
     let fits = subst (λ p. WordFits b (segment_there b p) s.page a) there s.fits in
     let from = fits.page_from in
     let to = fits.page_to in
@@ -131,7 +134,8 @@ way_more b number place page from to offset word stride apart nth pages way fitt
     record {
       reached = reached_more b number place page from offset word stride apart nth pages way.reached fitting is short some;
       onward = λ leads.
-          elim (leads_next b number place word (address_in b place offset) (address_in b place to) apart nth fitting.has (way.onward leads)) [
+          elim (leads_next b number place word (address_in b place offset) (address_in b place to) apart nth fitting.has
+          (way.onward leads)) [
             | inl here ↦ absurd (omega (arith, here, below))
             | inr on ↦ subst (λ x. Leads b x (address_in b place to)) there on.1
           ];
@@ -147,7 +151,8 @@ way_ends b number place page from to offset word stride apart nth way fitting is
       | inr on ↦ let goes = on.0 in omega (arith, goes, is, none)
     ]
 
-pub way_breaks : (b : List ℕ) (number place page from to offset : ℕ) → FitFrom b number place page from → IsOnWay b place page from to offset
+pub way_breaks : (b : List ℕ) (number place page from to offset : ℕ) → FitFrom b number place page from
+    → IsOnWay b place page from to offset
     → (WordFits b (segment_there b place) page (address_in b place offset) → ⊥) → ⊥
 way_breaks b number place page from to offset fit way unfit = unfit (fit (address_in b place offset) way.reached.leads)
 

@@ -4,7 +4,8 @@
 -- has a word at an address, and a word that fits has one next word. What it leads to is itself and what that next one leads
 -- to: the walk keeps that all fit where the rest fits. A step leads upwards, and a word that fits is in its page, so the
 -- walk ends.
-use Rattle.std.proofs.Common.{◌≡◌, ℕ, zero, suc, ◌+◌, ◌*◌, ◌-◌, ◌<◌, ◌≤◌, ◌^◌, nat_le, true, ◌&&◌, List, length, get_or, slice_index, refl, sym, ap, subst, ◌∙◌, arith, inl, inr, ◌⊎◌}
+use Rattle.std.proofs.Common.{◌≡◌, ℕ, zero, suc, ◌+◌, ◌*◌, ◌-◌, ◌<◌, ◌≤◌, ◌^◌, nat_le, true, ◌&&◌, List, length, get_or, slice_index}
+use Rattle.std.proofs.Common.{refl, sym, ap, subst, ◌∙◌, arith, inl, inr, ◌⊎◌}
 use Rattle.std.specs.Prelude.{AllPairs}
 use Rattle.std.proofs.lemmas.Bool.{cases_lt, leb-true, le-leb}
 use Rattle.std.proofs.lemmas.List.{get_or_default, get_or-map, length-map}
@@ -33,12 +34,17 @@ commands_rise : (b : List ℕ) (cs : List Command) → EachNeighbour cs (begins_
     → EndsBefore (segment_in b (get_or cs i e)) (segment_in b (get_or cs j e))
 commands_rise b cs h i zero e before within = absurd (omega (arith, before))
 commands_rise b cs h i (suc m) e before within =
-    let step = h m (get_or cs m e) (get_or cs (m + 1) e) (omega (arith, within), get_or_default cs m (get_or cs m e) e (omega (arith, within)))
+    let step = h m (get_or cs m e) (get_or cs (m + 1) e) (
+      omega (arith, within),
+      get_or_default cs m (get_or cs m e) e
+          (omega (arith, within)),
+    )
     (omega (arith, within), get_or_default cs (m + 1) (get_or cs (m + 1) e) e (omega (arith, within))) in
     let same : m + 1 ≡ suc m = omega arith in
     let next : EndsBefore (segment_in b (get_or cs m e)) (segment_in b (get_or cs (suc m) e)) =
     subst (λ k. EndsBefore (segment_in b (get_or cs m e)) (segment_in b (get_or cs k e))) same
-    (leb-true ((segment_in b (get_or cs m e)).vmaddr + (segment_in b (get_or cs m e)).vmsize) (segment_in b (get_or cs (m + 1) e)).vmaddr step) in
+    (leb-true ((segment_in b (get_or cs m e)).vmaddr + (segment_in b (get_or cs m e)).vmsize) (segment_in b (get_or cs (m + 1) e)).vmaddr
+    step) in
     elim (cases_lt i m) [
       | inl lt ↦ let so_far = commands_rise b cs h i m e lt (omega (arith, within)) in omega (arith, so_far, next)
       | inr le ↦
@@ -96,7 +102,8 @@ page_word b place page a holds =
     record {
       from = omega (arith, from);
       to = leb-true (a + WORD_SIZE) (s.vmaddr + s.filesize)
-          (and_right (is_writable s && nat_le (s.vmaddr + CHAIN_PAGE * page) a && nat_le (a + WORD_SIZE) (s.vmaddr + CHAIN_PAGE * (page + 1)))
+          (and_right (is_writable s && nat_le (s.vmaddr + CHAIN_PAGE * page) a && nat_le (a + WORD_SIZE)
+          (s.vmaddr + CHAIN_PAGE * (page + 1)))
           (nat_le (a + WORD_SIZE) (s.vmaddr + s.filesize)) holds);
       is = refl;
     }
@@ -107,7 +114,8 @@ pub fits_here : (b : List ℕ) (number place page a word : ℕ) → StandApart b
     → (is_bind word ≡ true → ordinal_of word < import_count b (tables_of b)) → WordFits b (segment_there b place) page a
 fits_here b number place page a word apart nth holds has import =
     let s = segment_there b place in
-    let all = and_left (is_writable s && nat_le (s.vmaddr + CHAIN_PAGE * page) a && nat_le (a + WORD_SIZE) (s.vmaddr + CHAIN_PAGE * (page + 1)))
+    let all = and_left (is_writable s && nat_le (s.vmaddr + CHAIN_PAGE * page) a && nat_le (a + WORD_SIZE)
+    (s.vmaddr + CHAIN_PAGE * (page + 1)))
     (nat_le (a + WORD_SIZE) (s.vmaddr + s.filesize)) holds in
     let both = and_left (is_writable s && nat_le (s.vmaddr + CHAIN_PAGE * page) a)
     (nat_le (a + WORD_SIZE) (s.vmaddr + CHAIN_PAGE * (page + 1))) all in
@@ -161,7 +169,8 @@ reached_more b number place page from offset word stride apart nth pages reached
     let there : address_in b place offset + STRIDE * next_of word ≡ address_in b place (offset + stride) = omega (arith, is) in
     let page_to = fitting.fits.page_to in
     record {
-      leads = subst (λ x. Leads b (address_in b place from) x) there (leads_more b (address_in b place from) (address_in b place offset) word
+      leads = subst (λ x. Leads b (address_in b place from) x) there (leads_more b (address_in b place from) (address_in b place offset)
+          word
           reached.leads (segment_has_word b number place (address_in b place offset) word nth fitting.has) goes);
       rest = λ fit. reached.rest (λ c leads.
           elim (leads_next b number place word (address_in b place offset) c apart nth fitting.has leads) [

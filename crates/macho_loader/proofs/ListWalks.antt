@@ -19,7 +19,8 @@ more_below {P = P} i n more before here k within =
     elim (cases_lt k i) [ inl lt ↦ before k lt | inr le ↦ let same : i ≡ k = omega (arith, le, within, more) in subst P same here ]
 
 -- the segment that the walk came to begins behind the one before it
-pub order_more : (b : List ℕ) (n m last place : ℕ) → m ≡ n + 1 → (1 ≤ n → IsNth list.Segments b (n - 1) last) → IsNth list.Segments b n place
+pub order_more : (b : List ℕ) (n m last place : ℕ) → m ≡ n + 1 → (1 ≤ n → IsNth list.Segments b (n - 1) last)
+    → IsNth list.Segments b n place
     → ((k : ℕ) → k + 1 < n → NeighbourPasses b k)
     → (1 ≤ n → begins_behind b (command_at b last) (command_at b place) ≡ true) → (k : ℕ) → k + 1 < m → NeighbourPasses b k
 order_more b n m last place more known nth before follows k within first second at_first at_second =

@@ -2,7 +2,8 @@
 --
 -- The command is whole and stands inside the file, so the record is there. Its number in the list of segments' commands is
 -- the segment's.
-use Rattle.std.proofs.Common.{◌≡◌, ℕ, zero, suc, ◌+◌, ◌==◌, ◌≤◌, nat_le, true, ◌&&◌, List, [], ◌∷◌, length, refl, sym, ap, subst, ◌∙◌, arith, Some, None}
+use Rattle.std.proofs.Common.{◌≡◌, ℕ, zero, suc, ◌+◌, ◌==◌, ◌≤◌, nat_le, true, ◌&&◌, List, [], ◌∷◌, length, refl, sym, ap, subst, ◌∙◌}
+use Rattle.std.proofs.Common.{arith, Some, None}
 use Rattle.std.specs.List.{slice_get}
 use Rattle.std.proofs.lemmas.Bool.{leb-true, le-leb}
 use Rattle.std.proofs.lemmas.Option.{slice_get-get_or}
@@ -31,12 +32,14 @@ record_inside b number place accepted nth =
     (All-filter (is_listed list.Segments b) (λ x. test x ≡ true) (commands_of b) accepted.l2.1 number c nth.within) in
     let kind : (c.number == LC_SEGMENT_64) ≡ true = subst (λ (x : Command). (x.number == LC_SEGMENT_64) ≡ true) nth.is
     (filter_passes (is_listed list.Segments b) (commands_of b) number c nth.within) in
-    let first = and_left (nat_le (size_of load_command) c.size && nat_le (c.at + c.size) (commands_end b)) (nat_le (needed_in_image b c) c.size)
+    let first = and_left (nat_le (size_of load_command) c.size && nat_le (c.at + c.size) (commands_end b))
+    (nat_le (needed_in_image b c) c.size)
     whole in
     let ends = leb-true (c.at + c.size) (commands_end b)
     (and_right (nat_le (size_of load_command) c.size) (nat_le (c.at + c.size) (commands_end b)) first) in
     let long = leb-true (needed_in_image b c) c.size
-    (and_right (nat_le (size_of load_command) c.size && nat_le (c.at + c.size) (commands_end b)) (nat_le (needed_in_image b c) c.size) whole) in
+    (and_right (nat_le (size_of load_command) c.size && nat_le (c.at + c.size) (commands_end b)) (nat_le (needed_in_image b c) c.size)
+    whole) in
     let needs : needed_in_image b c ≡ segment_size b place = rw kind refl in
     let inside = leb-true (commands_end b) (length b) accepted.l2.0 in
     omega (arith, ends, long, needs, inside)

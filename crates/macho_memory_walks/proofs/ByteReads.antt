@@ -2,7 +2,8 @@
 --
 -- A byte behind the end reads as 0, so a number of w bytes is the sum of its bytes, wherever it stands; one of twice as
 -- many bytes is the sum of its halves. A range that is cut at the end has the same bytes, since there are no others.
-use Rattle.std.proofs.Common.{◌≡◌, ℕ, zero, suc, ◌+◌, ◌*◌, ◌-◌, ◌≤◌, List, [], ◌∷◌, length, take, drop, slice_index, slice_range, refl, ap, arith}
+use Rattle.std.proofs.Common.{◌≡◌, ℕ, zero, suc, ◌+◌, ◌*◌, ◌-◌, ◌≤◌, List, [], ◌∷◌, length, take, drop, slice_index, slice_range, refl}
+use Rattle.std.proofs.Common.{ap, arith}
 use Rattle.std.proofs.lemmas.List.{get_or-drop, length-drop}
 use Rattle.byteorder.specs.Endian.{little_from}
 use Rattle.macho_bytes.specs.Numbers.{le_at}

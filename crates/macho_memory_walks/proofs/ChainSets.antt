@@ -3,7 +3,8 @@
 -- A list is closed where it has the word of each page start, and with each of its addresses whose word leads on, the
 -- address that it leads to. The chain is the least set with these rules, so it lies within any such list: by the rule
 -- that put an address on the chain, the first finds it among the starts, and the second next to one found before.
-use Rattle.std.proofs.Common.{◌≡◌, ℕ, ◌+◌, ◌*◌, ◌<◌, ◌≤◌, nat_le, ◌==◌, Bool, true, false, not, ◌&&◌, ◌||◌, List, [], ◌∷◌, length, slice_index, refl, sym, subst}
+use Rattle.std.proofs.Common.{◌≡◌, ℕ, ◌+◌, ◌*◌, ◌<◌, ◌≤◌, nat_le, ◌==◌, Bool, true, false, not, ◌&&◌, ◌||◌, List, [], ◌∷◌, length}
+use Rattle.std.proofs.Common.{slice_index, refl, sym, subst}
 use Rattle.std.specs.List.{list_all, list_any}
 use Rattle.std.proofs.lemmas.Bool.{le-leb}
 use Rattle.std.proofs.lemmas.List.Elements.{All-contains}
@@ -11,7 +12,8 @@ use Rattle.macho_model.specs.Images.{NO_START, CHAIN_PAGE}
 use Rattle.macho_model.specs.Chain.{ChainSegment, WORD_SIZE, STRIDE, IsFileWord, next_of, OnChain, OnPageChain}
 use Rattle.macho_model.specs.Chain as chain
 use Rattle.macho_memory_walks.specs.steps.Walks.{word_in, stands_in}
-use Rattle.macho_model.proofs.EachBelow.{each_below, true_or_false, and_left, and_right, and_both, or_right, neither, not_true, is_equal, unequal_is, all_pass, below_pass}
+use Rattle.macho_model.proofs.EachBelow.{each_below, true_or_false, and_left, and_right, and_both, or_right, neither, not_true, is_equal}
+use Rattle.macho_model.proofs.EachBelow.{unequal_is, all_pass, below_pass}
 
 -- an address is among some
 abbrev pub is_among : List ℕ → ℕ → Bool

@@ -1,5 +1,6 @@
 -- The lists of commands that the walks are over, as the definitions have them, and what a command by its number says.
-use Rattle.std.proofs.Common.{◌≡◌, ℕ, zero, suc, ◌-◌, ◌<◌, ◌≤◌, ◌==◌, nat_le, Bool, true, false, ◌&&◌, not, if◌then◌else◌, List, [], ◌∷◌, length, get_or, map, refl, sym, ap, subst, ◌∙◌, arith}
+use Rattle.std.proofs.Common.{◌≡◌, ℕ, zero, suc, ◌-◌, ◌<◌, ◌≤◌, ◌==◌, nat_le, Bool, true, false, ◌&&◌, not, if◌then◌else◌, List, [], ◌∷◌}
+use Rattle.std.proofs.Common.{length, get_or, map, refl, sym, ap, subst, ◌∙◌, arith}
 use Rattle.std.specs.Prelude.{filter, Contains}
 use Rattle.std.proofs.lemmas.Bool.{le-leb}
 use Rattle.std.proofs.lemmas.Bool.Decides.{nat_tests}
@@ -10,7 +11,8 @@ use Rattle.macho_memory_walks.specs.declared.walk.Listed.{Listed}
 use Rattle.macho_memory_walks.specs.declared.walk.Listed.TheVariants as list
 use Rattle.macho_model.specs.Commands.{Command, commands_of, numbered}
 use Rattle.macho_model.specs.Segments.{PAGEZERO, TEXT}
-use Rattle.macho_model.specs.Images.{is_named, segments_of, mapped_segments, segments_named, base_of, first_address, libraries_of, table_of_command, tables_of}
+use Rattle.macho_model.specs.Images.{is_named, segments_of, mapped_segments, segments_named, base_of, first_address, libraries_of}
+use Rattle.macho_model.specs.Images.{table_of_command, tables_of}
 use Rattle.macho_model.specs.LoadRules.{segment_in, segment_address}
 use Rattle.macho_model.specs.Loader.{segment_commands, text_commands, fixup_commands}
 use Rattle.macho_memory_walks.specs.Readings.{command_at, listed, IsNth, table_there}

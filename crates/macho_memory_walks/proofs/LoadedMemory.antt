@@ -4,7 +4,8 @@
 -- the greatest. What the loader makes of it is found by trying each segment that has the word and each fixup table that
 -- has its import: any choice that gives the addresses chooses just these. Where no chain word covers, the byte is a
 -- mapped segment's, found by trying each.
-use Rattle.std.proofs.Common.{◌≡◌, ℕ, ◌+◌, ◌-◌, ◌<◌, ◌≤◌, List, length, get_or, slice_index, refl, sym, ap, subst, ◌∙◌, arith, Some, None, inl, inr}
+use Rattle.std.proofs.Common.{◌≡◌, ℕ, ◌+◌, ◌-◌, ◌<◌, ◌≤◌, List, length, get_or, slice_index, refl, sym, ap, subst, ◌∙◌, arith, Some, None}
+use Rattle.std.proofs.Common.{inl, inr}
 use Rattle.std.specs.Prelude.{Contains, is_some}
 use Rattle.std.specs.List.{slice_get}
 use Rattle.std.proofs.lemmas.List.{length-map}
@@ -18,7 +19,8 @@ use Rattle.macho_model.specs.Loader.{is_bind, ordinal_of}
 use Rattle.macho_model.specs.Memory.{Choice, IsBound, Becomes, Covers, IsFixed, IsSegmentByte, Holds}
 use Rattle.macho_memory_walks.specs.Readings.{command_at, listed, IsNth, HasWord, table_there}
 use Rattle.macho_memory_walks.specs.steps.Walks.{SegmentHas, NthLacksByte}
-use Rattle.macho_memory_walks.specs.steps.Made.{CoversLast, IsUncovered, IsMade, IsWordByte, BoundIn, BoundByNth, MakesNothing, NthMakesNothing}
+use Rattle.macho_memory_walks.specs.steps.Made.{CoversLast, IsUncovered, IsMade, IsWordByte, BoundIn, BoundByNth, MakesNothing}
+use Rattle.macho_memory_walks.specs.steps.Made.{NthMakesNothing}
 use Rattle.macho_memory_walks.specs.Loaded.{Gives}
 use Rattle.macho_model.proofs.EachBelow.{true_or_false}
 use Rattle.macho_memory_walks.proofs.ListedLaws.{mapped_are, tables_are, nth_image}

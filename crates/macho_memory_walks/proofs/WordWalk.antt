@@ -3,7 +3,8 @@
 -- The segments as chains see them are numbered as their commands are. So a word of the file at an address is a word that
 -- a numbered segment has there, and it leads on by as many bytes. A chain leads upwards only. The words of a page's chain
 -- are those that its start leads to, and the chain is made of the pages' chains.
-use Rattle.std.proofs.Common.{◌≡◌, ◌≢◌, ℕ, suc, ◌+◌, ◌*◌, ◌-◌, ◌<◌, ◌≤◌, ◌==◌, nat_lt, Bool, true, false, if◌then◌else◌, List, [], ◌∷◌, length, get_or, map, slice_index, refl, sym, ap, subst, ◌∙◌, arith, All, Some, inl, inr}
+use Rattle.std.proofs.Common.{◌≡◌, ◌≢◌, ℕ, suc, ◌+◌, ◌*◌, ◌-◌, ◌<◌, ◌≤◌, ◌==◌, nat_lt, Bool, true, false, if◌then◌else◌, List, [], ◌∷◌}
+use Rattle.std.proofs.Common.{length, get_or, map, slice_index, refl, sym, ap, subst, ◌∙◌, arith, All, Some, inl, inr}
 use Rattle.std.proofs.lemmas.Bool.{cases_lt}
 use Rattle.std.specs.Prelude.{Contains, filter, unwrap_or}
 use Rattle.std.specs.List.{enumerate_from, range_with_len}
@@ -16,9 +17,11 @@ use Rattle.macho_memory_walks.specs.declared.walk.Listed.{Listed}
 use Rattle.macho_memory_walks.specs.declared.walk.Listed.TheVariants as list
 use Rattle.macho_model.specs.Lists.{IsNumber}
 use Rattle.macho_model.specs.Commands.{Command, header_of, commands_of}
-use Rattle.macho_model.specs.Images.{segments_of, Table, table_of_command, starts_count, starts_offset, segment_starts, page_start, NO_START, CHAIN_PAGE}
+use Rattle.macho_model.specs.Images.{segments_of, Table, table_of_command, starts_count, starts_offset, segment_starts, page_start}
+use Rattle.macho_model.specs.Images.{NO_START, CHAIN_PAGE}
 use Rattle.macho_model.specs.LoadRules.{segment_in}
-use Rattle.macho_model.specs.Chain.{ChainSegment, chain_segment, chain_segments, starts_in_tables, IsFileWord, next_of, WORD_SIZE, STRIDE, OnChain, OnPageChain}
+use Rattle.macho_model.specs.Chain.{ChainSegment, chain_segment, chain_segments, starts_in_tables, IsFileWord, next_of, WORD_SIZE, STRIDE}
+use Rattle.macho_model.specs.Chain.{OnChain, OnPageChain}
 use Rattle.macho_model.specs.Chain as chain
 use Rattle.macho_memory_walks.specs.Readings.{command_at, is_listed, listed, IsNth, HasWord, segment_there, table_there, starts_in}
 use Rattle.macho_memory_walks.specs.steps.Walks.{StepOf, StepIn, Leads, starts_of, chain_segment_at}
@@ -86,7 +89,8 @@ chain_contains b number place nth = (
 )
 
 -- a segment by its number and by its place is one
-pub nth_number : (b : List ℕ) (number place : ℕ) → IsNth list.Segments b number place → IsNumber (segments_of b) number (segment_there b place)
+pub nth_number : (b : List ℕ) (number place : ℕ) → IsNth list.Segments b number place
+    → IsNumber (segments_of b) number (segment_there b place)
 nth_number b number place nth = (
   omega (arith, nth.within, count_of_segments b),
   ap (λ (xs : List SegmentCommand). get_or xs number (segment_there b place)) (segments_are b)

@@ -8,7 +8,8 @@ use Rattle.macho_model.specs.declared.rules.ObjectRule.TheVariants.{O1, O2, O3, 
 use Rattle.macho_records.specs.declared.constants.TheConstants.{LC_ID_DYLIB, LC_SEGMENT_64, LC_SYMTAB}
 use Rattle.macho_model.specs.Commands.{Command, commands_of, numbered, command_fits}
 use Rattle.macho_model.specs.ObjectRules.{needed_in_object, needed_in_dylib, has_one, symbol_section_exists, value_in_section, path_ends}
-use Rattle.macho_model.specs.Grammar.{EachSection, EachSymbol, EachRelocation, IsObject, IsDylib, SectionFails, SymbolFails, RelocationFails, IsNotOne, ObjectBreaks, DylibBreaks}
+use Rattle.macho_model.specs.Grammar.{EachSection, EachSymbol, EachRelocation, IsObject, IsDylib, SectionFails, SymbolFails}
+use Rattle.macho_model.specs.Grammar.{RelocationFails, IsNotOne, ObjectBreaks, DylibBreaks}
 use Rattle.macho_model.proofs.EachBelow.{true_or_false, is_equal, or_second}
 use Rattle.macho_model_walks.proofs.BrokenRules.{fails_not_each}
 

@@ -11,7 +11,8 @@ smallest =
     words (0xfeedfacf ∷ 0x0100000c ∷ 0 ∷ 2 ∷ 4 ∷ 280 ∷ 0x200085 ∷ 0 ∷ [])
     ++ words (0x19 ∷ 72 ∷ []) ++ name16 (codes "__PAGEZERO") ++ words8 (0 ∷ 0x100000000 ∷ 0 ∷ 0 ∷ []) ++ words (0 ∷ 0 ∷ 0 ∷ 0 ∷ [])
     ++ words (0x19 ∷ 152 ∷ []) ++ name16 (codes "__TEXT") ++ words8 (0x100000000 ∷ 0x4000 ∷ 0 ∷ 0x4000 ∷ []) ++ words (5 ∷ 5 ∷ 1 ∷ 0 ∷ [])
-    ++ name16 (codes "__text") ++ name16 (codes "__TEXT") ++ words8 (0x100000138 ∷ 8 ∷ []) ++ words (0x138 ∷ 2 ∷ 0 ∷ 0 ∷ 0x80000400 ∷ 0 ∷ 0 ∷ 0 ∷ [])
+    ++ name16 (codes "__text") ++ name16 (codes "__TEXT") ++ words8 (0x100000138 ∷ 8 ∷ [])
+    ++ words (0x138 ∷ 2 ∷ 0 ∷ 0 ∷ 0x80000400 ∷ 0 ∷ 0 ∷ 0 ∷ [])
     ++ words (0x80000028 ∷ 24 ∷ []) ++ words8 (0x138 ∷ 0 ∷ [])
     ++ words (0xe ∷ 32 ∷ 12 ∷ []) ++ codes "/usr/lib/dyld" ++ replicate 7 0
     ++ words (0x52800000 ∷ 0xd65f03c0 ∷ [])
@@ -27,7 +28,8 @@ image_with_fixups pages starts content =
     words (0xfeedfacf ∷ 0x0100000c ∷ 0 ∷ 2 ∷ 5 ∷ 288 ∷ 0x200085 ∷ 0 ∷ [])
     ++ words (0x19 ∷ 72 ∷ []) ++ name16 (codes "__PAGEZERO") ++ words8 (0 ∷ 0x100000000 ∷ 0 ∷ 0 ∷ []) ++ words (0 ∷ 0 ∷ 0 ∷ 0 ∷ [])
     ++ words (0x19 ∷ 72 ∷ []) ++ name16 (codes "__TEXT") ++ words8 (0x100000000 ∷ 0x4000 ∷ 0 ∷ 0x4000 ∷ []) ++ words (5 ∷ 5 ∷ 0 ∷ 0 ∷ [])
-    ++ words (0x19 ∷ 72 ∷ []) ++ name16 (codes "__DATA") ++ words8 (0x100004000 ∷ 0x8000 ∷ 0x4000 ∷ length content ∷ []) ++ words (3 ∷ 3 ∷ 0 ∷ 0 ∷ [])
+    ++ words (0x19 ∷ 72 ∷ []) ++ name16 (codes "__DATA") ++ words8 (0x100004000 ∷ 0x8000 ∷ 0x4000 ∷ length content ∷ [])
+    ++ words (3 ∷ 3 ∷ 0 ∷ 0 ∷ [])
     ++ words (0xc ∷ 56 ∷ 24 ∷ 2 ∷ 0x054c0000 ∷ 0x00010000 ∷ []) ++ codes "/usr/lib/libSystem.B.dylib" ++ replicate 6 0
     ++ words (0x80000034 ∷ 16 ∷ 320 ∷ 83 ∷ [])
     ++ words (0 ∷ 28 ∷ 72 ∷ 76 ∷ 1 ∷ 1 ∷ 0 ∷ [])

@@ -17,12 +17,18 @@ text_object text relocations symbols strings =
     ++ words (0x19 ∷ 152 ∷ []) ++ name16 [] ++ words8 (0 ∷ length text ∷ 208 ∷ length text ∷ []) ++ words (7 ∷ 7 ∷ 1 ∷ 0 ∷ [])
     ++ name16 (codes "__text") ++ name16 (codes "__TEXT") ++ words8 (0 ∷ length text ∷ [])
     ++ words (208 ∷ 2 ∷ (208 + length text) ∷ (length relocations / 8) ∷ 0x80000400 ∷ 0 ∷ 0 ∷ 0 ∷ [])
-    ++ words (2 ∷ 24 ∷ (208 + length text + length relocations) ∷ (length symbols / 16) ∷ (208 + length text + length relocations + length symbols) ∷ length strings ∷ [])
+    ++ words (2 ∷ 24 ∷ (208 + length text + length relocations) ∷ (length symbols / 16)
+    ∷ (208 + length text + length relocations + length symbols) ∷ length strings ∷ [])
     ++ text ++ relocations ++ symbols ++ strings
 
 -- a library's stub text, read
 abbrev pub system : Input
-system = Stub [] (record { install_name = codes "/usr/lib/libSystem.B.dylib"; names = codes "_exit" ∷ codes "_write" ∷ codes "_f" ∷ []; weak_names = [] })
+system = Stub [] (record {
+  install_name = codes "/usr/lib/libSystem.B.dylib";
+  names = codes "_exit" ∷ codes "_write" ∷ codes "_f"
+      ∷ [];
+  weak_names = [];
+})
 
 -- an executable of inputs
 abbrev pub executable_of : List Input → Link

@@ -3,7 +3,8 @@
 -- These rules speak of each command, table or import, which are finitely many, so each has a test that is true exactly
 -- where the rule is kept. The last rule speaks of each word on the chain, and is shown apart. So the tests, computed,
 -- show of an example that it is accepted, or which rule it breaks, and that it keeps the others.
-use Rattle.std.proofs.Common.{◌≡◌, ◌≢◌, ℕ, ◌+◌, ◌-◌, nat_le, ◌==◌, Bool, true, false, not, ◌&&◌, List, [], ◌∷◌, length, get_or, map, refl, sym, ap, ◌∙◌, arith}
+use Rattle.std.proofs.Common.{◌≡◌, ◌≢◌, ℕ, ◌+◌, ◌-◌, nat_le, ◌==◌, Bool, true, false, not, ◌&&◌, List, [], ◌∷◌, length, get_or, map, refl}
+use Rattle.std.proofs.Common.{sym, ap, ◌∙◌, arith}
 use Rattle.std.specs.List.{list_all}
 use Rattle.std.proofs.lemmas.Bool.{leb-true, le-leb}
 use Rattle.std.proofs.lemmas.List.{get_or_default}
@@ -14,11 +15,13 @@ use Rattle.macho_model.specs.Commands.{Command, commands_of, command_fits}
 use Rattle.macho_model.specs.ObjectRules.{commands_inside}
 use Rattle.macho_model.specs.Segments.{TEXT}
 use Rattle.macho_model.specs.Images.{segments_named, tables_of, fixups_header}
-use Rattle.macho_model.specs.LoadRules.{image_head_fits, needed_in_image, protections_fit, file_part_inside, segment_is_paged, segment_ends, begins_behind, text_holds_commands, table_fits, import_fits}
+use Rattle.macho_model.specs.LoadRules.{image_head_fits, needed_in_image, protections_fit, file_part_inside, segment_is_paged}
+use Rattle.macho_model.specs.LoadRules.{segment_ends, begins_behind, text_holds_commands, table_fits, import_fits}
 use Rattle.macho_model.specs.Loader.{EachNeighbour, segment_commands, IsAccepted}
 use Rattle.macho_model_walks.specs.steps.WordTests.{EachWordFits}
 use Rattle.macho_model_walks.specs.steps.Asked.{LoadKeeps}
-use Rattle.macho_model.proofs.EachBelow.{each_below, true_or_false, and_left, and_right, and_both, is_equal, equal_is, same_number, other_number, all_pass, pass_all, below_pass, pass_below}
+use Rattle.macho_model.proofs.EachBelow.{each_below, true_or_false, and_left, and_right, and_both, is_equal, equal_is, same_number}
+use Rattle.macho_model.proofs.EachBelow.{other_number, all_pass, pass_all, below_pass, pass_below}
 
 -- an image that keeps each rule is accepted
 pub accepted_keeping : (b : List ℕ) → ((rule : LoadRule) → LoadKeeps b rule) → IsAccepted b
@@ -30,7 +33,8 @@ no_command : Command
 no_command = record { at = 0; number = 0; size = 0 }
 
 abbrev pub each_neighbour : List Command → (Command → Command → Bool) → Bool
-each_neighbour cs test = each_below (length cs - 1) (λ k. test (get_or cs k (record { at = 0; number = 0; size = 0 })) (get_or cs (k + 1) (record { at = 0; number = 0; size = 0 })))
+each_neighbour cs test = each_below (length cs - 1) (λ k. test (get_or cs k (record { at = 0; number = 0; size = 0 }))
+    (get_or cs (k + 1) (record { at = 0; number = 0; size = 0 })))
 
 neighbours_pass : (cs : List Command) (test : Command → Command → Bool) → each_neighbour cs test ≡ true → EachNeighbour cs test
 unfolding no_command
@@ -167,7 +171,8 @@ unfolding load_verdict
 load_verdict_at b rule = at_load_rule (load_test b) rule
 
 -- each rule with a test by it, the last one by its own proof
-each_load_rule : (b : List ℕ) → ((rule : LoadRule) → HasTest rule → LoadKeeps b rule) → LoadKeeps b L10 → (rule : LoadRule) → LoadKeeps b rule
+each_load_rule : (b : List ℕ) → ((rule : LoadRule) → HasTest rule → LoadKeeps b rule) → LoadKeeps b L10 → (rule : LoadRule)
+    → LoadKeeps b rule
 each_load_rule b h last L1 = h L1 tt
 each_load_rule b h last L2 = h L2 tt
 each_load_rule b h last L3 = h L3 tt
@@ -182,7 +187,8 @@ each_load_rule b h last L10 = last
 -- where all tests are true, each rule with a test is kept
 pub load_kept : (b : List ℕ) → load_verdict b ≡ load_all_pass → (rule : LoadRule) → HasTest rule → LoadKeeps b rule
 load_kept b h rule some =
-    load_test_shows b rule some (sym (load_verdict_at b rule) ∙ ap (λ (v : List Bool). get_or v (load_number rule) false) h ∙ at_load_rule (λ r. true) rule)
+    load_test_shows b rule some (sym (load_verdict_at b rule) ∙ ap (λ (v : List Bool). get_or v (load_number rule) false) h
+    ∙ at_load_rule (λ r. true) rule)
 
 -- An example whose tests are all true, and whose chain words fit, is accepted.
 pub is_accepted : (b : List ℕ) → load_verdict b ≡ load_all_pass → EachWordFits b → IsAccepted b
@@ -203,4 +209,5 @@ load_breaks_alone b rule h =
   where
     answer : (r : LoadRule) → load_test b r ≡ not (load_number r == load_number rule)
     answer r =
-        sym (load_verdict_at b r) ∙ ap (λ (v : List Bool). get_or v (load_number r) false) h ∙ at_load_rule (λ q. not (load_number q == load_number rule)) r
+        sym (load_verdict_at b r) ∙ ap (λ (v : List Bool). get_or v (load_number r) false) h
+        ∙ at_load_rule (λ q. not (load_number q == load_number rule)) r

@@ -10,9 +10,13 @@ use Rattle.macho_model.specs.declared.rules.ObjectRule.{ObjectRule}
 use Rattle.macho_model.specs.declared.rules.ObjectRule.TheVariants.{O1, O2, O3, O4, O5, O6, O7, O8, O9, O10, O11, O12, O13, O14}
 use Rattle.macho_model.specs.Commands.{commands_of, command_fits}
 use Rattle.macho_model.specs.Objects.{num_sections, section_at, num_symbols}
-use Rattle.macho_model.specs.ObjectRules.{head_fits, commands_inside, needed_in_object, has_one, tables_inside, symbol_section_exists, relocation_number_exists, data_inside, exponent_fits, value_in_section, name_ends, relocations_inside, field_inside, thread_local_in_data, zerofill_unrelocated, global_has_name, common_fits}
+use Rattle.macho_model.specs.ObjectRules.{head_fits, commands_inside, needed_in_object, has_one, tables_inside, symbol_section_exists}
+use Rattle.macho_model.specs.ObjectRules.{relocation_number_exists, data_inside, exponent_fits, value_in_section, name_ends}
+use Rattle.macho_model.specs.ObjectRules.{relocations_inside, field_inside, thread_local_in_data, zerofill_unrelocated, global_has_name}
+use Rattle.macho_model.specs.ObjectRules.{common_fits}
 use Rattle.macho_model.specs.Grammar.{EachSection, EachSymbol, EachRelocation, EachCommand, IsObject}
-use Rattle.macho_model.proofs.EachBelow.{each_below, true_or_false, and_left, and_right, and_both, same_number, other_number, all_pass, pass_all, below_pass, pass_below}
+use Rattle.macho_model.proofs.EachBelow.{each_below, true_or_false, and_left, and_right, and_both, same_number, other_number, all_pass}
+use Rattle.macho_model.proofs.EachBelow.{pass_all, below_pass, pass_below}
 
 -- what an object keeps, rule by rule: the fields of `IsObject`
 abbrev pub Keeps : List ℕ → ObjectRule → Type 0
@@ -72,7 +76,8 @@ each_relocation b test = each_below (num_sections b) (λ k. each_below (section_
 
 relocations_pass : (b : List ℕ) (test : ℕ → ℕ → Bool) → each_relocation b test ≡ true → EachRelocation b test
 relocations_pass b test h k r in_sections in_table =
-    below_pass (section_at b k).nreloc (test k) (below_pass (num_sections b) (λ j. each_below (section_at b j).nreloc (test j)) h k in_sections) r in_table
+    below_pass (section_at b k).nreloc (test k) (below_pass (num_sections b) (λ j. each_below (section_at b j).nreloc (test j)) h k
+    in_sections) r in_table
 
 pass_relocations : (b : List ℕ) (test : ℕ → ℕ → Bool) → EachRelocation b test → each_relocation b test ≡ true
 pass_relocations b test h =
@@ -104,7 +109,11 @@ test_shows b O2 h = (
   all_pass (command_fits (needed_in_object b) b) (commands_of b)
       (and_right (commands_inside b) (list_all (command_fits (needed_in_object b) b) (commands_of b)) h),
 )
-test_shows b O3 h = (and_left (has_one LC_SEGMENT_64 b) (has_one LC_SYMTAB b) h, and_right (has_one LC_SEGMENT_64 b) (has_one LC_SYMTAB b) h)
+test_shows b O3 h = (
+  and_left (has_one LC_SEGMENT_64 b) (has_one LC_SYMTAB b) h,
+  and_right (has_one LC_SEGMENT_64 b) (has_one LC_SYMTAB b)
+      h,
+)
 test_shows b O4 h = h
 test_shows b O5 h = (
   below_pass (num_symbols b) (symbol_section_exists b)
@@ -117,8 +126,10 @@ test_shows b O7 h = below_pass (num_sections b) (exponent_fits b) h
 test_shows b O8 h = below_pass (num_symbols b) (value_in_section b) h
 test_shows b O9 h = below_pass (num_symbols b) (name_ends b) h
 test_shows b O10 h = (
-  below_pass (num_sections b) (relocations_inside b) (and_left (each_below (num_sections b) (relocations_inside b)) (each_relocation b (field_inside b)) h),
-  relocations_pass b (field_inside b) (and_right (each_below (num_sections b) (relocations_inside b)) (each_relocation b (field_inside b)) h),
+  below_pass (num_sections b) (relocations_inside b) (and_left (each_below (num_sections b) (relocations_inside b))
+      (each_relocation b (field_inside b)) h),
+  relocations_pass b (field_inside b) (and_right (each_below (num_sections b) (relocations_inside b)) (each_relocation b (field_inside b))
+      h),
 )
 test_shows b O11 h = below_pass (num_sections b) (thread_local_in_data b) h
 test_shows b O12 h = below_pass (num_sections b) (zerofill_unrelocated b) h
@@ -216,7 +227,8 @@ at_rule f O14 = refl
 -- An example whose tests are all true is an object.
 pub is_object : (b : List ℕ) → verdict b ≡ all_pass_verdict → IsObject b
 is_object b h =
-    keeps_all b (λ rule. test_shows b rule (sym (verdict_at b rule) ∙ ap (λ (v : List Bool). get_or v (number rule) false) h ∙ at_rule (λ r. true) rule))
+    keeps_all b (λ rule. test_shows b rule (sym (verdict_at b rule) ∙ ap (λ (v : List Bool). get_or v (number rule) false) h
+    ∙ at_rule (λ r. true) rule))
 
 -- one rule is broken, and all others are kept
 pub record BreaksAlone (b : List ℕ) (rule : ObjectRule) : Type 0 where

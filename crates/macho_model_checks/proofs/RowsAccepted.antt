@@ -23,7 +23,8 @@ use Rattle.macho_model_checks.proofs.Examples.{words8, words, halves, name16, ch
 use Rattle.macho_model_checks.proofs.ExampleImages.{image_with_fixups, one_page, data_command}
 use Rattle.macho_model.proofs.EachBelow.{true_or_false, is_equal}
 use Rattle.macho_model_checks.proofs.ValidTests.{one_passes}
-use Rattle.macho_model_checks.proofs.LoaderTests.{HasTest, load_number, load_verdict, load_all_but, load_all_pass, is_accepted, load_breaks_alone, load_kept}
+use Rattle.macho_model_checks.proofs.LoaderTests.{HasTest, load_number, load_verdict, load_all_but, load_all_pass, is_accepted}
+use Rattle.macho_model_checks.proofs.LoaderTests.{load_breaks_alone, load_kept}
 use Rattle.macho_model_walks.proofs.WordFitting.{fits_word}
 use Rattle.macho_model.proofs.PageChains.{number_in_chain}
 
@@ -32,7 +33,8 @@ abbrev pub has_no_start : List ℕ → Bool
 has_no_start b = list_all (λ (s : ChainSegment). length s.starts == 0) (chain_segments b)
 
 -- a page with a chain has a start
-page_has_start : (segments : List ChainSegment) (b : List ℕ) (s : ChainSegment) (page a : ℕ) → OnPageChain segments b s page a → page < length s.starts
+page_has_start : (segments : List ChainSegment) (b : List ℕ) (s : ChainSegment) (page a : ℕ) → OnPageChain segments b s page a
+    → page < length s.starts
 page_has_start segments b s page _ (chain.OnPageChain.first within starts) = within
 page_has_start segments b s page _ (chain.OnPageChain.next a word on stands goes) = page_has_start segments b s page a on
 
@@ -40,7 +42,8 @@ page_has_start segments b s page _ (chain.OnPageChain.next a word on stands goes
 pub no_words : (b : List ℕ) → has_no_start b ≡ true → LoadKeeps b L10
 no_words b none number segment page a is on =
     let s = chain_segment b (number, segment) in
-    let empty = is_equal (length s.starts) 0 (one_passes (λ (x : ChainSegment). length x.starts == 0) (chain_segments b) s none (number_in_chain b number segment is)) in
+    let empty = is_equal (length s.starts) 0 (one_passes (λ (x : ChainSegment). length x.starts == 0) (chain_segments b) s none
+    (number_in_chain b number segment is)) in
     let within = page_has_start (chain_segments b) b s page a on in
     absurd (omega (arith, empty, within))
 
@@ -49,7 +52,8 @@ unfoldable pub unchained : List ℕ
 unchained = changed one_page (320 + 40) (words (0 ∷ []))
 
 unchained_facts : (load_verdict unchained ≡ load_all_pass) × (has_no_start unchained ≡ true)
-unfolding load_verdict commands_end chain_segments mapped_segments tables_of base_of segments_of commands_of commands_from header_of libraries_of reading le_at row_bytes le_bytes words8 words halves name16 image_with_fixups one_page changed unchained
+unfolding load_verdict commands_end chain_segments mapped_segments tables_of base_of segments_of commands_of commands_from header_of
+    libraries_of reading le_at row_bytes le_bytes words8 words halves name16 image_with_fixups one_page changed unchained
 unchained_facts = (refl, refl)
 
 -- THE loader accepts it.
@@ -88,9 +92,24 @@ abbrev ChangeFacts : AcceptedChange → Type 0
 ChangeFacts c = (load_verdict (changed_unchained c) ≡ load_all_but c.rule) × (has_no_start (changed_unchained c) ≡ true) × HasTest c.rule
 
 change_facts : AllByRecursion ChangeFacts accepted_changes
-unfolding load_verdict commands_end chain_segments mapped_segments tables_of base_of segments_of commands_of commands_from header_of libraries_of reading le_at row_bytes le_bytes words8 words halves name16 image_with_fixups one_page changed unchained
-change_facts =
-    ((refl, refl, tt), ((refl, refl, tt), ((refl, refl, tt), ((refl, refl, tt), ((refl, refl, tt), ((refl, refl, tt), ((refl, refl, tt), ((refl, refl, tt), ((refl, refl, tt), tt)))))))))
+unfolding load_verdict commands_end chain_segments mapped_segments tables_of base_of segments_of commands_of commands_from header_of
+    libraries_of reading le_at row_bytes le_bytes words8 words halves name16 image_with_fixups one_page changed unchained
+change_facts = (
+  (refl, refl, tt),
+  (
+    (refl, refl, tt),
+    (
+      (refl, refl, tt),
+      (
+        (refl, refl, tt),
+        (
+          (refl, refl, tt),
+          ((refl, refl, tt), ((refl, refl, tt), ((refl, refl, tt), ((refl, refl, tt), tt)))),
+        ),
+      ),
+    ),
+  ),
+)
 
 -- one rule of all ten is broken, and each other one is kept
 pub record RuleAlone (b : List ℕ) (rule : LoadRule) : Type 0 where
@@ -102,7 +121,8 @@ by_test b rule verdict none some =
     let tested = load_breaks_alone b rule verdict in
     record { broken = tested.broken; others = λ other apart. each other apart tested.others }
   where
-    each : (other : LoadRule) → load_number other ≢ load_number rule → ((q : LoadRule) → HasTest q → load_number q ≢ load_number rule → LoadKeeps b q) → LoadKeeps b other
+    each : (other : LoadRule) → load_number other ≢ load_number rule → ((q : LoadRule) → HasTest q → load_number q ≢ load_number rule
+        → LoadKeeps b q) → LoadKeeps b other
     each L1 apart h = h L1 tt apart
     each L2 apart h = h L2 tt apart
     each L3 apart h = h L3 tt apart
@@ -122,14 +142,16 @@ each_accepted_change_breaks_its_rule k d lt =
 
 -- The last rule: the page start comes back, so near the end of the file part that its word passes it.
 unfoldable pub word_passes : List ℕ
-word_passes = changed unchained (320 + 40) (words (16 ∷ 24 ∷ []) ++ halves (0x4000 ∷ 6 ∷ []) ++ words8 (0x4000 ∷ []) ++ words (0 ∷ []) ++ halves (1 ∷ 0x1c ∷ []))
+word_passes = changed unchained (320 + 40) (words (16 ∷ 24 ∷ []) ++ halves (0x4000 ∷ 6 ∷ []) ++ words8 (0x4000 ∷ []) ++ words (0 ∷ [])
+    ++ halves (1 ∷ 0x1c ∷ []))
 
 abbrev pub data_segment : ChainSegment
 data_segment = record { address = 0x100004000; file_offset = 0x4000; file_size = 32; starts = 0x1c ∷ [] }
 
 word_facts : (load_verdict word_passes ≡ load_all_pass) × IsNumber (segments_of word_passes) 2 data_command
     × (chain_segment word_passes (2, data_command) ≡ data_segment) × (word_fits_test word_passes data_command 0 0x10000401c ≡ false)
-unfolding load_verdict commands_end chain_segments mapped_segments tables_of base_of segments_of commands_of commands_from header_of libraries_of reading le_at row_bytes le_bytes words8 words halves name16 image_with_fixups one_page changed unchained word_passes
+unfolding load_verdict commands_end chain_segments mapped_segments tables_of base_of segments_of commands_of commands_from header_of
+    libraries_of reading le_at row_bytes le_bytes words8 words halves name16 image_with_fixups one_page changed unchained word_passes
 word_facts = (refl, (omega arith, refl), refl, refl)
 
 word_on : OnPageChain (chain_segments word_passes) word_passes data_segment 0 0x10000401c

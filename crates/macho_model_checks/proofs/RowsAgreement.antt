@@ -16,22 +16,26 @@ use Rattle.macho_model.specs.Commands.{header_of, commands_from, commands_of, co
 use Rattle.macho_model.specs.Links.{Link}
 use Rattle.macho_model.specs.Images.{segments_of, base_of, libraries_of, tables_of, entries_of_file}
 use Rattle.macho_model.specs.Placement.{Placed}
-use Rattle.macho_model.specs.Agreement.{SegmentPlace, place_by_command, SegmentsAgree, HeadAgrees, section_headers_at, section_headers_of, HeadersAgree}
+use Rattle.macho_model.specs.Agreement.{SegmentPlace, place_by_command, SegmentsAgree, HeadAgrees, section_headers_at, section_headers_of}
+use Rattle.macho_model.specs.Agreement.{HeadersAgree}
 use Rattle.macho_model.specs.Head.{HeadSays, header_for}
 use Rattle.macho_model_checks.proofs.Examples.{words8, words, name16}
 use Rattle.macho_model_checks.proofs.ExampleImages.{smallest}
-use Rattle.macho_model_checks.proofs.ExamplePlacement.{counts_a, placed_a, placed_with, pagezero_to, text_from, header_a, section_a, nothing, no_tables}
+use Rattle.macho_model_checks.proofs.ExamplePlacement.{counts_a, placed_a, placed_with, pagezero_to, text_from, header_a, section_a}
+use Rattle.macho_model_checks.proofs.ExamplePlacement.{nothing, no_tables}
 use Rattle.macho_model_checks.proofs.LoaderTests.{load_verdict, load_all_pass}
 
 -- The smallest image: four commands of 280 bytes, two segments, one section header.
 pub smallest_agrees : SegmentsAgree smallest placed_a × HeadAgrees counts_a smallest placed_a × HeadersAgree smallest placed_a
     × (entries_of_file smallest ≡ 0x138 ∷ []) × (base_of smallest ≡ 0x100000000)
-unfolding segments_of base_of entries_of_file section_headers_of section_headers_at commands_end commands_of commands_from header_of reading le_at row_bytes le_bytes words8 words name16 smallest
+unfolding segments_of base_of entries_of_file section_headers_of section_headers_at commands_end commands_of commands_from header_of
+    reading le_at row_bytes le_bytes words8 words name16 smallest
 smallest_agrees = (refl, refl, refl, refl, refl)
 
 -- a segment's command without sections, `__TEXT` with one, the entry point, and the dynamic linker
 unfoldable pub plain_segment : List ℕ → List ℕ → ℕ → List ℕ
-plain_segment name places protection = words (0x19 ∷ 72 ∷ []) ++ name16 name ++ words8 places ++ words (protection ∷ protection ∷ 0 ∷ 0 ∷ [])
+plain_segment name places protection = words (0x19 ∷ 72 ∷ []) ++ name16 name ++ words8 places
+    ++ words (protection ∷ protection ∷ 0 ∷ 0 ∷ [])
 
 unfoldable pub no_page : List ℕ
 no_page = plain_segment (codes "__PAGEZERO") (0 ∷ 0x100000000 ∷ 0 ∷ 0 ∷ []) 0
@@ -39,10 +43,12 @@ no_page = plain_segment (codes "__PAGEZERO") (0 ∷ 0x100000000 ∷ 0 ∷ 0 ∷ 
 unfoldable pub text_with_section : List ℕ → ℕ → ℕ → List ℕ
 text_with_section places address offset =
     words (0x19 ∷ 152 ∷ []) ++ name16 (codes "__TEXT") ++ words8 places ++ words (5 ∷ 5 ∷ 1 ∷ 0 ∷ [])
-    ++ name16 (codes "__text") ++ name16 (codes "__TEXT") ++ words8 (address ∷ 8 ∷ []) ++ words (offset ∷ 2 ∷ 0 ∷ 0 ∷ 0x80000400 ∷ 0 ∷ 0 ∷ 0 ∷ [])
+    ++ name16 (codes "__text") ++ name16 (codes "__TEXT") ++ words8 (address ∷ 8 ∷ [])
+    ++ words (offset ∷ 2 ∷ 0 ∷ 0 ∷ 0x80000400 ∷ 0 ∷ 0 ∷ 0 ∷ [])
 
 unfoldable pub begins_at : ℕ → List ℕ
-begins_at offset = words (0x80000028 ∷ 24 ∷ []) ++ words8 (offset ∷ 0 ∷ []) ++ words (0xe ∷ 32 ∷ 12 ∷ []) ++ codes "/usr/lib/dyld" ++ replicate 7 0
+begins_at offset = words (0x80000028 ∷ 24 ∷ []) ++ words8 (offset ∷ 0 ∷ []) ++ words (0xe ∷ 32 ∷ 12 ∷ []) ++ codes "/usr/lib/dyld"
+    ++ replicate 7 0
 
 abbrev pub some_code : List ℕ
 some_code = words (0x52800000 ∷ 0xd65f03c0 ∷ [])
@@ -69,7 +75,8 @@ told_elsewhere = placed_with 0x100000000 0x100000000 0x100004180 0x8000 None
 
 elsewhere_facts : (load_verdict entry_elsewhere ≡ load_all_pass) × (base_of entry_elsewhere ≡ 0x100004000)
     × (length (map place_by_command (segments_of entry_elsewhere)) ≡ 3)
-unfolding load_verdict commands_end tables_of base_of segments_of libraries_of commands_of commands_from header_of reading le_at row_bytes le_bytes words8 words name16 plain_segment no_page text_with_section begins_at head_of entry_elsewhere
+unfolding load_verdict commands_end tables_of base_of segments_of libraries_of commands_of commands_from header_of reading le_at row_bytes
+    le_bytes words8 words name16 plain_segment no_page text_with_section begins_at head_of entry_elsewhere
 elsewhere_facts = (refl, refl, refl)
 
 pub entry_elsewhere_is_refused : SegmentsAgree entry_elsewhere told_elsewhere → ⊥
@@ -85,7 +92,8 @@ bare =
     ++ some_code ++ replicate 16248 0
 
 bare_facts : (load_verdict bare ≡ load_all_pass) × ((header_of bare).flags ≡ 0)
-unfolding load_verdict commands_end tables_of base_of segments_of libraries_of commands_of commands_from header_of reading le_at row_bytes le_bytes words8 words name16 plain_segment bare
+unfolding load_verdict commands_end tables_of base_of segments_of libraries_of commands_of commands_from header_of reading le_at row_bytes
+    le_bytes words8 words name16 plain_segment bare
 bare_facts = (refl, refl)
 
 pub bare_is_refused : (l : Link) (counts : Counts) (uuid : List ℕ) (p : Placed) → HeadSays l counts uuid bare p → ⊥
@@ -118,8 +126,10 @@ with_data = record {
   linkedit = no_tables;
 }
 
-twice_facts : (load_verdict one_page_twice ≡ load_all_pass) × ((get_or (map place_by_command (segments_of one_page_twice)) 2 no_place).file_offset ≡ 0)
-unfolding load_verdict commands_end tables_of base_of segments_of libraries_of commands_of commands_from header_of reading le_at row_bytes le_bytes words8 words name16 plain_segment no_page text_with_section begins_at head_of one_page_twice no_place
+twice_facts : (load_verdict one_page_twice ≡ load_all_pass) × ((get_or (map place_by_command (segments_of one_page_twice)) 2
+    no_place).file_offset ≡ 0)
+unfolding load_verdict commands_end tables_of base_of segments_of libraries_of commands_of commands_from header_of reading le_at row_bytes
+    le_bytes words8 words name16 plain_segment no_page text_with_section begins_at head_of one_page_twice no_place
 twice_facts = (refl, refl)
 
 pub one_page_twice_is_refused : SegmentsAgree one_page_twice with_data → ⊥
@@ -135,7 +145,8 @@ data_in_text =
     ++ some_code ++ replicate 32448 0
 
 in_text_facts : (load_verdict data_in_text ≡ load_all_pass) × (length (map place_by_command (segments_of data_in_text)) ≡ 2)
-unfolding load_verdict commands_end tables_of base_of segments_of libraries_of commands_of commands_from header_of reading le_at row_bytes le_bytes words8 words name16 plain_segment no_page text_with_section begins_at head_of data_in_text
+unfolding load_verdict commands_end tables_of base_of segments_of libraries_of commands_of commands_from header_of reading le_at row_bytes
+    le_bytes words8 words name16 plain_segment no_page text_with_section begins_at head_of data_in_text
 in_text_facts = (refl, refl)
 
 pub data_in_text_is_refused : SegmentsAgree data_in_text with_data → ⊥

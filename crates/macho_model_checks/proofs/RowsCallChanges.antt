@@ -6,21 +6,26 @@ use Rattle.macho_bytes.specs.Numbers.{le_at, le_bytes, be_at, be_bytes, row_byte
 use Rattle.macho_bytes.specs.Layouts.{reading}
 use Rattle.macho_model.specs.declared.placed.PlacedSection.{PlacedSection}
 use Rattle.macho_model.specs.Commands.{header_of, commands_from, commands_of, commands_end}
-use Rattle.macho_model.specs.Objects.{segment_of, num_sections, section_place, section_at, section_bytes, symtab_of, num_symbols, symbol_place, symbol_at, strings_of, symbol_name, relocation_place, relocation_at}
+use Rattle.macho_model.specs.Objects.{segment_of, num_sections, section_place, section_at, section_bytes, symtab_of, num_symbols}
+use Rattle.macho_model.specs.Objects.{symbol_place, symbol_at, strings_of, symbol_name, relocation_place, relocation_at}
 use Rattle.macho_model.specs.ExportLists.{plain_entries, all_entries, entries_of}
 use Rattle.macho_model.specs.Links.{sections_of, carried_of, template_exponent, placed_exponent}
-use Rattle.macho_model.specs.Resolution.{symbols_of, strong_of, weak_of, commons_of, greatest_of, libraries_with, definition_of, chosen_commons}
+use Rattle.macho_model.specs.Resolution.{symbols_of, strong_of, weak_of, commons_of, greatest_of, libraries_with, definition_of}
+use Rattle.macho_model.specs.Resolution.{chosen_commons}
 use Rattle.macho_model.specs.Needs.{initializer_sections, unwind_sections, uses_of, imports_of, libraries_needed}
 use Rattle.macho_model.specs.Targets.{target_of, target_of_relocation, slots_of, stubs_of, target_of_name}
 use Rattle.macho_model.specs.Fields.{fields_of}
 use Rattle.macho_model.specs.Segments.{other_segments, segment_names_of, output_keys_of, segments_for}
 use Rattle.macho_model.specs.Placement.{Placed}
 use Rattle.macho_model.specs.Values.{no_choice}
-use Rattle.macho_model.specs.Images.{segments_of, mapped_segments, base_of, libraries_of, tables_of, tries_of, signatures_of, symbol_tables_of, string_tables_of, entries_of_file, Table}
+use Rattle.macho_model.specs.Images.{segments_of, mapped_segments, base_of, libraries_of, tables_of, tries_of, signatures_of}
+use Rattle.macho_model.specs.Images.{symbol_tables_of, string_tables_of, entries_of_file, Table}
 use Rattle.macho_model.specs.Fixups.{own_entries, import_entries_of, entries_have_addends}
 use Rattle.macho_model_checks.proofs.Examples.{words8, words, halves, name16, changed}
 use Rattle.macho_model_checks.proofs.ExampleLinks.{entry}
-use Rattle.macho_model_checks.proofs.ExampleCall.{calls_exit, calling, data_placed, placed_call, head_of_call, fixups_of_call, tables_of_call, big_words, signature_of_call, call_image, counts_of_call, code_placed, range}
+use Rattle.macho_model_checks.proofs.ExampleCall.{calls_exit, calling, data_placed, placed_call, head_of_call, fixups_of_call}
+use Rattle.macho_model_checks.proofs.ExampleCall.{tables_of_call, big_words, signature_of_call, call_image, counts_of_call, code_placed}
+use Rattle.macho_model_checks.proofs.ExampleCall.{range}
 use Rattle.std.specs.Prelude.{codes}
 use Rattle.macho_model.specs.OutputSections.{output_sections_of, output_sections_for, pieces_of}
 use Rattle.macho_model.specs.Agreement.{EntryAgrees}
@@ -51,7 +56,9 @@ unfoldable pub other_trie : List ℕ
 other_trie = 0x00 ∷ 0x01 ∷ 0x5f ∷ 0x6d ∷ 0x61 ∷ 0x69 ∷ 0x6e ∷ 0x00 ∷ 0x09 ∷ 0x03 ∷ 0x00 ∷ 0x9c ∷ 0x07 ∷ 0x00 ∷ []
 
 other_trie_there : (tries_of with_another_export ≡ trie_table ∷ []) × (table_bytes with_another_export trie_table ≡ other_trie)
-unfolding changed with_another_export other_trie commands_end commands_of commands_from header_of reading le_at row_bytes le_bytes words8 words halves name16 entry calls_exit head_of_call fixups_of_call tables_of_call be_at be_bytes big_words signature_of_call call_image segments_of mapped_segments base_of libraries_of tables_of tries_of signatures_of symbol_tables_of string_tables_of entries_of_file
+unfolding changed with_another_export other_trie commands_end commands_of commands_from header_of reading le_at row_bytes le_bytes words8
+    words halves name16 entry calls_exit head_of_call fixups_of_call tables_of_call be_at be_bytes big_words signature_of_call call_image
+    segments_of mapped_segments base_of libraries_of tables_of tries_of signatures_of symbol_tables_of string_tables_of entries_of_file
 other_trie_there = (refl, refl)
 
 abbrev other_last : Node
@@ -86,7 +93,9 @@ unfoldable pub without_last : List ℕ
 without_last = take 49947 call_image
 
 without_last_facts : (signatures_of without_last ≡ record { at = 0xc100; size = 0x21c } ∷ []) × (length without_last ≡ 49947)
-unfolding without_last commands_end commands_of commands_from header_of reading le_at row_bytes le_bytes words8 words halves name16 entry calls_exit head_of_call fixups_of_call tables_of_call be_at be_bytes big_words signature_of_call call_image segments_of mapped_segments base_of libraries_of tables_of tries_of signatures_of symbol_tables_of string_tables_of entries_of_file
+unfolding without_last commands_end commands_of commands_from header_of reading le_at row_bytes le_bytes words8 words halves name16 entry
+    calls_exit head_of_call fixups_of_call tables_of_call be_at be_bytes big_words signature_of_call call_image segments_of
+    mapped_segments base_of libraries_of tables_of tries_of signatures_of symbol_tables_of string_tables_of entries_of_file
 without_last_facts = (refl, refl)
 
 pub end_is_asked : IsSigned calling without_last → ⊥
@@ -103,7 +112,15 @@ with_another_entry = changed call_image 720 (words (0x39c ∷ []))
 
 entry_facts : (entries_of_file with_another_entry ≡ 0x39c ∷ []) × (base_of with_another_entry ≡ 0x100000000)
     × (target_of_name calling calling.entry ≡ target.Section 0 0 0)
-unfolding changed with_another_entry commands_end commands_of commands_from header_of reading le_at row_bytes le_bytes words8 words halves name16 entry calls_exit head_of_call fixups_of_call tables_of_call be_at be_bytes big_words signature_of_call call_image segments_of mapped_segments base_of libraries_of tables_of tries_of signatures_of symbol_tables_of string_tables_of entries_of_file segment_of num_sections section_place section_at section_bytes symtab_of num_symbols symbol_place symbol_at strings_of symbol_name relocation_place relocation_at sections_of carried_of template_exponent placed_exponent symbols_of strong_of weak_of commons_of greatest_of libraries_with definition_of chosen_commons initializer_sections unwind_sections uses_of imports_of libraries_needed target_of target_of_relocation slots_of stubs_of fields_of plain_entries all_entries entries_of other_segments segment_names_of output_keys_of own_entries import_entries_of entries_have_addends fixup_count names_text
+unfolding changed with_another_entry commands_end commands_of commands_from header_of reading le_at row_bytes le_bytes words8 words halves
+    name16 entry calls_exit head_of_call fixups_of_call tables_of_call be_at be_bytes big_words signature_of_call call_image segments_of
+    mapped_segments base_of libraries_of tables_of tries_of signatures_of symbol_tables_of string_tables_of entries_of_file segment_of
+    num_sections section_place section_at section_bytes symtab_of num_symbols symbol_place symbol_at strings_of symbol_name
+    relocation_place relocation_at sections_of carried_of template_exponent placed_exponent symbols_of strong_of weak_of
+    commons_of greatest_of libraries_with definition_of chosen_commons initializer_sections unwind_sections uses_of
+    imports_of libraries_needed target_of target_of_relocation slots_of stubs_of fields_of plain_entries all_entries
+    entries_of other_segments segment_names_of output_keys_of own_entries import_entries_of entries_have_addends
+    fixup_count names_text
 entry_facts = (refl, refl, refl)
 
 pub code_is_at : (x : ℕ) → IsAt calling placed_call 0 no_choice (target.Section 0 0 0) x → x ≡ 0x100000398
@@ -128,7 +145,14 @@ abbrev pub with_range : Placed
 with_range = record placed_call { unwind = range 0x1000003ac 0x1000003b0 }
 
 none_resolved : resolved_entries calling with_range ≡ []
-unfolding commands_end commands_of commands_from header_of reading le_at row_bytes le_bytes words8 words halves name16 entry calls_exit head_of_call fixups_of_call tables_of_call be_at be_bytes big_words signature_of_call call_image segment_of num_sections section_place section_at section_bytes symtab_of num_symbols symbol_place symbol_at strings_of symbol_name relocation_place relocation_at sections_of carried_of template_exponent placed_exponent symbols_of strong_of weak_of commons_of greatest_of libraries_with definition_of chosen_commons initializer_sections unwind_sections uses_of imports_of libraries_needed target_of target_of_relocation slots_of stubs_of fields_of plain_entries all_entries entries_of other_segments segment_names_of output_keys_of table_symbols symbol_rows symbol_rows_in output_sections_of output_sections_for pieces_of segments_for entries_of_link resolved_entries
+unfolding commands_end commands_of commands_from header_of reading le_at row_bytes le_bytes words8 words halves name16 entry calls_exit
+    head_of_call fixups_of_call tables_of_call be_at be_bytes big_words signature_of_call call_image segment_of num_sections section_place
+    section_at section_bytes symtab_of num_symbols symbol_place symbol_at strings_of symbol_name relocation_place relocation_at
+    sections_of carried_of template_exponent placed_exponent symbols_of strong_of weak_of commons_of greatest_of libraries_with
+    definition_of chosen_commons initializer_sections unwind_sections uses_of imports_of libraries_needed target_of
+    target_of_relocation slots_of stubs_of fields_of plain_entries all_entries entries_of other_segments segment_names_of
+    output_keys_of table_symbols symbol_rows symbol_rows_in output_sections_of output_sections_for pieces_of
+    segments_for entries_of_link resolved_entries
 none_resolved = refl
 
 pub range_is_asked : UnwindSays calling call_image with_range → ⊥
@@ -140,7 +164,14 @@ data_higher = record placed_call { sections = code_placed ∷ record data_placed
 
 header_there : map (λ (h : SectionHeader). h.addr) (output_sections_for calling counts_of_call data_higher)
     ≡ 0x100000398 ∷ 0x1000003a0 ∷ 0x100004000 ∷ 0x100008008 ∷ []
-unfolding commands_end commands_of commands_from header_of reading le_at row_bytes le_bytes words8 words halves name16 entry calls_exit head_of_call fixups_of_call tables_of_call be_at be_bytes big_words signature_of_call call_image segment_of num_sections section_place section_at section_bytes symtab_of num_symbols symbol_place symbol_at strings_of symbol_name relocation_place relocation_at sections_of carried_of template_exponent placed_exponent symbols_of strong_of weak_of commons_of greatest_of libraries_with definition_of chosen_commons initializer_sections unwind_sections uses_of imports_of libraries_needed target_of target_of_relocation slots_of stubs_of fields_of plain_entries all_entries entries_of other_segments segment_names_of output_keys_of table_symbols symbol_rows symbol_rows_in output_sections_of output_sections_for pieces_of segments_for
+unfolding commands_end commands_of commands_from header_of reading le_at row_bytes le_bytes words8 words halves name16 entry calls_exit
+    head_of_call fixups_of_call tables_of_call be_at be_bytes big_words signature_of_call call_image segment_of num_sections section_place
+    section_at section_bytes symtab_of num_symbols symbol_place symbol_at strings_of symbol_name relocation_place relocation_at
+    sections_of carried_of template_exponent placed_exponent symbols_of strong_of weak_of commons_of greatest_of libraries_with
+    definition_of chosen_commons initializer_sections unwind_sections uses_of imports_of libraries_needed target_of
+    target_of_relocation slots_of stubs_of fields_of plain_entries all_entries entries_of other_segments segment_names_of
+    output_keys_of table_symbols symbol_rows symbol_rows_in output_sections_of output_sections_for pieces_of
+    segments_for
 header_there = refl
 
 pub header_is_asked : IsLaidOut calling counts_of_call data_higher → ⊥

@@ -3,7 +3,8 @@
 -- The run is computed from the link and its placement: the slot, bound to the one import with no addend, and the pointer, which moves
 -- with its target. The table of that run and the words with no step are computed by the definitions, and compared with the bytes that
 -- were written out by hand.
-use Rattle.std.proofs.Common.{◌≡◌, ℕ, zero, suc, pos, ◌+◌, ◌%◌, ◌<◌, ◌≤◌, Bool, true, not, List, [], ◌∷◌, ◌++◌, length, get_or, refl, ap, sym, ◌∙◌, subst, arith, All}
+use Rattle.std.proofs.Common.{◌≡◌, ℕ, zero, suc, pos, ◌+◌, ◌%◌, ◌<◌, ◌≤◌, Bool, true, not, List, [], ◌∷◌, ◌++◌, length, get_or, refl, ap}
+use Rattle.std.proofs.Common.{sym, ◌∙◌, subst, arith, All}
 use Rattle.std.specs.Prelude.{codes, slice_range, Contains}
 use Rattle.std.specs.List.{list_all}
 use Rattle.std.proofs.lemmas.List.Elements.{All-nil, All-cons}
@@ -27,23 +28,28 @@ use Rattle.macho_fixups.specs.declared.imports.ImportEntry.{ImportEntry}
 use Rattle.macho_fixups.specs.Words.{FitsOrdinal, word_of}
 use Rattle.macho_fixups.specs.Runs.{AreFixups, Holds, pages_of, start_of}
 use Rattle.macho_fixups.specs.Chains.{word_part, place_of, step_of}
-use Rattle.macho_fixups.specs.Tables.{table_text, entry_text, image_starts_text, image_starts_size, offsets_text, segment_text, segment_size, starts_text, page_starts_text}
+use Rattle.macho_fixups.specs.Tables.{table_text, entry_text, image_starts_text, image_starts_size, offsets_text, segment_text}
+use Rattle.macho_fixups.specs.Tables.{segment_size, starts_text, page_starts_text}
 use Rattle.macho_promise.specs.FixupsSay.{IsFixupOf, kind_for, fixup_segments, import_format, FixupsSay}
 use Rattle.macho_promise.specs.FixupsSay as promised
-use Rattle.macho_model_checks.proofs.ExampleCall.{calls_exit, calling, code_placed, slot_placed, data_placed, placed_call, head_of_call, fixups_of_call, tables_of_call, big_words, signature_of_call, call_image}
+use Rattle.macho_model_checks.proofs.ExampleCall.{calls_exit, calling, code_placed, slot_placed, data_placed, placed_call, head_of_call}
+use Rattle.macho_model_checks.proofs.ExampleCall.{fixups_of_call, tables_of_call, big_words, signature_of_call, call_image}
 use Rattle.macho_model_checks.proofs.ValidTests.{one_passes}
 use Rattle.macho_bytes.specs.Numbers.{le_at, le_bytes, be_at, be_bytes, row_bytes}
 use Rattle.macho_bytes.specs.Layouts.{reading, spelling}
 use Rattle.macho_model.specs.Commands.{header_of, commands_from, commands_of, commands_end}
-use Rattle.macho_model.specs.Objects.{segment_of, num_sections, section_place, section_at, section_bytes, symtab_of, num_symbols, symbol_place, symbol_at, strings_of, symbol_name, relocation_place, relocation_at}
+use Rattle.macho_model.specs.Objects.{segment_of, num_sections, section_place, section_at, section_bytes, symtab_of, num_symbols}
+use Rattle.macho_model.specs.Objects.{symbol_place, symbol_at, strings_of, symbol_name, relocation_place, relocation_at}
 use Rattle.macho_model.specs.ExportLists.{plain_entries, all_entries, entries_of}
 use Rattle.macho_model.specs.Links.{sections_of, carried_of, template_exponent, placed_exponent}
-use Rattle.macho_model.specs.Resolution.{symbols_of, strong_of, weak_of, commons_of, greatest_of, libraries_with, definition_of, chosen_commons}
+use Rattle.macho_model.specs.Resolution.{symbols_of, strong_of, weak_of, commons_of, greatest_of, libraries_with, definition_of}
+use Rattle.macho_model.specs.Resolution.{chosen_commons}
 use Rattle.macho_model.specs.Needs.{initializer_sections, unwind_sections, uses_of, imports_of, libraries_needed}
 use Rattle.macho_model.specs.Targets.{target_of, target_of_relocation, slots_of, stubs_of}
 use Rattle.macho_model.specs.Fields.{fields_of}
 use Rattle.macho_model.specs.Segments.{other_segments, segment_names_of, output_keys_of}
-use Rattle.macho_model.specs.Images.{segments_of, mapped_segments, base_of, libraries_of, tables_of, tries_of, signatures_of, symbol_tables_of, string_tables_of, entries_of_file}
+use Rattle.macho_model.specs.Images.{segments_of, mapped_segments, base_of, libraries_of, tables_of, tries_of, signatures_of}
+use Rattle.macho_model.specs.Images.{symbol_tables_of, string_tables_of, entries_of_file}
 use Rattle.macho_model.specs.Fixups.{own_entries, import_entries_of, entries_have_addends}
 use Rattle.macho_model.specs.ImportTable.{fixup_count, names_text}
 use Rattle.macho_model_checks.proofs.Examples.{words8, words, halves, name16}
@@ -102,7 +108,15 @@ is_of_pointer =
 
 -- the branch needs none, so there is no other
 branch_plain : list_all (λ (f : Field). not (needs_fixup calling (id_of code_placed) f)) (fields_of calling (id_of code_placed)) ≡ true
-unfolding commands_end commands_of commands_from header_of reading le_at row_bytes le_bytes words8 words halves name16 entry calls_exit head_of_call fixups_of_call tables_of_call be_at be_bytes big_words signature_of_call call_image segment_of num_sections section_place section_at section_bytes symtab_of num_symbols symbol_place symbol_at strings_of symbol_name relocation_place relocation_at sections_of carried_of template_exponent placed_exponent symbols_of strong_of weak_of commons_of greatest_of libraries_with definition_of chosen_commons initializer_sections unwind_sections uses_of imports_of libraries_needed target_of target_of_relocation slots_of stubs_of fields_of plain_entries all_entries entries_of other_segments segment_names_of output_keys_of own_entries import_entries_of entries_have_addends fixup_count names_text segments_of mapped_segments base_of libraries_of tables_of tries_of signatures_of symbol_tables_of string_tables_of entries_of_file
+unfolding commands_end commands_of commands_from header_of reading le_at row_bytes le_bytes words8 words halves name16 entry calls_exit
+    head_of_call fixups_of_call tables_of_call be_at be_bytes big_words signature_of_call call_image segment_of num_sections section_place
+    section_at section_bytes symtab_of num_symbols symbol_place symbol_at strings_of symbol_name relocation_place relocation_at
+    sections_of carried_of template_exponent placed_exponent symbols_of strong_of weak_of commons_of greatest_of libraries_with
+    definition_of chosen_commons initializer_sections unwind_sections uses_of imports_of libraries_needed target_of
+    target_of_relocation slots_of stubs_of fields_of plain_entries all_entries entries_of other_segments segment_names_of
+    output_keys_of own_entries import_entries_of entries_have_addends fixup_count names_text segments_of
+    mapped_segments base_of libraries_of tables_of tries_of signatures_of symbol_tables_of string_tables_of
+    entries_of_file
 branch_plain = refl
 
 abbrev pub fixup_in : PlacedSection → Field → Fixup
@@ -140,23 +154,43 @@ abbrev pub entry_of_exit : ImportEntry
 entry_of_exit = record { library = 1; name_offset = 0; addend = pos 0 }
 
 image_size : length call_image ≡ 49948
-unfolding commands_end commands_of commands_from header_of reading le_at row_bytes le_bytes words8 words halves name16 entry calls_exit head_of_call fixups_of_call tables_of_call be_at be_bytes big_words signature_of_call call_image segments_of mapped_segments base_of libraries_of tables_of tries_of signatures_of symbol_tables_of string_tables_of entries_of_file
+unfolding commands_end commands_of commands_from header_of reading le_at row_bytes le_bytes words8 words halves name16 entry calls_exit
+    head_of_call fixups_of_call tables_of_call be_at be_bytes big_words signature_of_call call_image segments_of mapped_segments base_of
+    libraries_of tables_of tries_of signatures_of symbol_tables_of string_tables_of entries_of_file
 image_size = refl
 
 abbrev pub name_of_exit : List ℕ
 name_of_exit = codes "_exit" ++ 0 ∷ []
 
 pub table_size : length (table_text 0x100000000 fixups_in_call (fixup_segments placed_call) 1 (entry_of_exit ∷ []) name_of_exit) ≡ 110
-unfolding table_text image_starts_text image_starts_size offsets_text segment_text segment_size starts_text page_starts_text pages_of start_of entry_text spelling row_bytes le_bytes
+unfolding table_text image_starts_text image_starts_size offsets_text segment_text segment_size starts_text page_starts_text pages_of
+    start_of entry_text spelling row_bytes le_bytes
 table_size = refl
 
 pub what_is_asked : (import_format calling ≡ 1) × (names_text calling ≡ name_of_exit)
-unfolding commands_end commands_of commands_from header_of reading le_at row_bytes le_bytes words8 words halves name16 entry calls_exit head_of_call fixups_of_call tables_of_call be_at be_bytes big_words signature_of_call call_image segment_of num_sections section_place section_at section_bytes symtab_of num_symbols symbol_place symbol_at strings_of symbol_name relocation_place relocation_at sections_of carried_of template_exponent placed_exponent symbols_of strong_of weak_of commons_of greatest_of libraries_with definition_of chosen_commons initializer_sections unwind_sections uses_of imports_of libraries_needed target_of target_of_relocation slots_of stubs_of fields_of plain_entries all_entries entries_of other_segments segment_names_of output_keys_of own_entries import_entries_of entries_have_addends fixup_count names_text segments_of mapped_segments base_of libraries_of tables_of tries_of signatures_of symbol_tables_of string_tables_of entries_of_file
+unfolding commands_end commands_of commands_from header_of reading le_at row_bytes le_bytes words8 words halves name16 entry calls_exit
+    head_of_call fixups_of_call tables_of_call be_at be_bytes big_words signature_of_call call_image segment_of num_sections section_place
+    section_at section_bytes symtab_of num_symbols symbol_place symbol_at strings_of symbol_name relocation_place relocation_at
+    sections_of carried_of template_exponent placed_exponent symbols_of strong_of weak_of commons_of greatest_of libraries_with
+    definition_of chosen_commons initializer_sections unwind_sections uses_of imports_of libraries_needed target_of
+    target_of_relocation slots_of stubs_of fields_of plain_entries all_entries entries_of other_segments segment_names_of
+    output_keys_of own_entries import_entries_of entries_have_addends fixup_count names_text segments_of
+    mapped_segments base_of libraries_of tables_of tries_of signatures_of symbol_tables_of string_tables_of
+    entries_of_file
 what_is_asked = (refl, refl)
 
 table_there : slice_range call_image 0xc000 0xc06e
     ≡ table_text 0x100000000 fixups_in_call (fixup_segments placed_call) 1 (entry_of_exit ∷ []) name_of_exit
-unfolding commands_end commands_of commands_from header_of reading le_at row_bytes le_bytes words8 words halves name16 entry calls_exit head_of_call fixups_of_call tables_of_call be_at be_bytes big_words signature_of_call call_image segment_of num_sections section_place section_at section_bytes symtab_of num_symbols symbol_place symbol_at strings_of symbol_name relocation_place relocation_at sections_of carried_of template_exponent placed_exponent symbols_of strong_of weak_of commons_of greatest_of libraries_with definition_of chosen_commons initializer_sections unwind_sections uses_of imports_of libraries_needed target_of target_of_relocation slots_of stubs_of fields_of plain_entries all_entries entries_of other_segments segment_names_of output_keys_of own_entries import_entries_of entries_have_addends fixup_count names_text segments_of mapped_segments base_of libraries_of tables_of tries_of signatures_of symbol_tables_of string_tables_of entries_of_file table_text image_starts_text image_starts_size offsets_text segment_text segment_size starts_text page_starts_text pages_of start_of entry_text spelling
+unfolding commands_end commands_of commands_from header_of reading le_at row_bytes le_bytes words8 words halves name16 entry calls_exit
+    head_of_call fixups_of_call tables_of_call be_at be_bytes big_words signature_of_call call_image segment_of num_sections section_place
+    section_at section_bytes symtab_of num_symbols symbol_place symbol_at strings_of symbol_name relocation_place relocation_at
+    sections_of carried_of template_exponent placed_exponent symbols_of strong_of weak_of commons_of greatest_of libraries_with
+    definition_of chosen_commons initializer_sections unwind_sections uses_of imports_of libraries_needed target_of
+    target_of_relocation slots_of stubs_of fields_of plain_entries all_entries entries_of other_segments segment_names_of
+    output_keys_of own_entries import_entries_of entries_have_addends fixup_count names_text segments_of
+    mapped_segments base_of libraries_of tables_of tries_of signatures_of symbol_tables_of string_tables_of
+    entries_of_file table_text image_starts_text image_starts_size offsets_text segment_text segment_size
+    starts_text page_starts_text pages_of start_of entry_text spelling
 table_there = refl
 
 pub table_stands : Stands call_image (record {
@@ -178,7 +212,9 @@ abbrev pub part_of_pointer : Part
 part_of_pointer = word_part (fixup_segments placed_call) fixups_in_call 1 fixup_of_pointer
 
 words_there : (slice_range call_image 0x4000 0x4008 ≡ part_of_slot.text) × (slice_range call_image 0x8000 0x8008 ≡ part_of_pointer.text)
-unfolding commands_end commands_of commands_from header_of reading le_at row_bytes le_bytes words8 words halves name16 entry calls_exit head_of_call fixups_of_call tables_of_call be_at be_bytes big_words signature_of_call call_image segments_of mapped_segments base_of libraries_of tables_of tries_of signatures_of symbol_tables_of string_tables_of entries_of_file place_of step_of word_of
+unfolding commands_end commands_of commands_from header_of reading le_at row_bytes le_bytes words8 words halves name16 entry calls_exit
+    head_of_call fixups_of_call tables_of_call be_at be_bytes big_words signature_of_call call_image segments_of mapped_segments base_of
+    libraries_of tables_of tries_of signatures_of symbol_tables_of string_tables_of entries_of_file place_of step_of word_of
 words_there = (refl, refl)
 
 word_facts : (part_of_slot.at ≡ 0x4000) × (length part_of_slot.text ≡ 8) × (part_of_pointer.at ≡ 0x8000) × (length part_of_pointer.text ≡ 8)
@@ -198,7 +234,9 @@ each_word (suc zero) d within = record {
 each_word (suc (suc k)) d within = absurd (omega (arith, within))
 
 pub one_table : tables_of call_image ≡ record { at = 0xc000; size = 0xd0 } ∷ []
-unfolding commands_end commands_of commands_from header_of reading le_at row_bytes le_bytes words8 words halves name16 entry calls_exit head_of_call fixups_of_call tables_of_call be_at be_bytes big_words signature_of_call call_image segments_of mapped_segments base_of libraries_of tables_of tries_of signatures_of symbol_tables_of string_tables_of entries_of_file
+unfolding commands_end commands_of commands_from header_of reading le_at row_bytes le_bytes words8 words halves name16 entry calls_exit
+    head_of_call fixups_of_call tables_of_call be_at be_bytes big_words signature_of_call call_image segments_of mapped_segments base_of
+    libraries_of tables_of tries_of signatures_of symbol_tables_of string_tables_of entries_of_file
 one_table = refl
 
 -- THE fixup table and the words of its chains

@@ -2,7 +2,8 @@
 --
 -- Neighbours and pairs are tested on the pieces that the link and the placement have: `__TEXT` with its head, the code and the stub,
 -- `__DATA_CONST` with the slot, and the five tables of `__LINKEDIT`. A test that passes shows what it tests.
-use Rattle.std.proofs.Common.{◌≡◌, ℕ, zero, suc, ◌+◌, ◌^◌, ◌≤◌, ◌==◌, ◌&&◌, nat_le, Bool, true, List, [], ◌∷◌, get_or, refl, ap, ◌∙◌, subst, arith, rules}
+use Rattle.std.proofs.Common.{◌≡◌, ℕ, zero, suc, ◌+◌, ◌^◌, ◌≤◌, ◌==◌, ◌&&◌, nat_le, Bool, true, List, [], ◌∷◌, get_or, refl, ap, ◌∙◌}
+use Rattle.std.proofs.Common.{subst, arith, rules}
 use Rattle.std.proofs.lemmas.Bool.Decides.{nat_tests}
 use Rattle.std.specs.List.{All, AllPairs, list_all}
 use Rattle.std.proofs.lemmas.List.Kept.{AllPairs-cons}
@@ -11,16 +12,20 @@ use Rattle.macho_model.specs.declared.placed.PlacedSegment.{PlacedSegment}
 use Rattle.macho_model.specs.Lists.{EachNext}
 use Rattle.macho_model.specs.Placement.{linkedit_ranges}
 use Rattle.macho_model.specs.OutputSections.{OutputSection, Piece, end_of_piece}
-use Rattle.macho_model.specs.Order.{sections_in, row_of, table_pieces, EndsBefore, BeginsLeast, StandInOrder, AreLeast, least_size, least_file_size, HaveRoom, LiesInFile, IsLow}
+use Rattle.macho_model.specs.Order.{sections_in, row_of, table_pieces, EndsBefore, BeginsLeast, StandInOrder, AreLeast, least_size}
+use Rattle.macho_model.specs.Order.{least_file_size, HaveRoom, LiesInFile, IsLow}
 use Rattle.macho_model.proofs.EachBelow.{and_left, and_right, is_equal, all_pass}
-use Rattle.macho_model_checks.proofs.ExampleCall.{calls_exit, calling, counts_of_call, placed_call, head_of_call, fixups_of_call, tables_of_call, big_words, signature_of_call, call_image}
+use Rattle.macho_model_checks.proofs.ExampleCall.{calls_exit, calling, counts_of_call, placed_call, head_of_call, fixups_of_call}
+use Rattle.macho_model_checks.proofs.ExampleCall.{tables_of_call, big_words, signature_of_call, call_image}
 use Rattle.macho_bytes.specs.Numbers.{le_at, le_bytes, be_at, be_bytes, row_bytes}
 use Rattle.macho_bytes.specs.Layouts.{reading}
 use Rattle.macho_model.specs.Commands.{header_of, commands_from, commands_of, commands_end}
-use Rattle.macho_model.specs.Objects.{segment_of, num_sections, section_place, section_at, section_bytes, symtab_of, num_symbols, symbol_place, symbol_at, strings_of, symbol_name, relocation_place, relocation_at}
+use Rattle.macho_model.specs.Objects.{segment_of, num_sections, section_place, section_at, section_bytes, symtab_of, num_symbols}
+use Rattle.macho_model.specs.Objects.{symbol_place, symbol_at, strings_of, symbol_name, relocation_place, relocation_at}
 use Rattle.macho_model.specs.ExportLists.{plain_entries, all_entries, entries_of}
 use Rattle.macho_model.specs.Links.{sections_of, carried_of, template_exponent, placed_exponent}
-use Rattle.macho_model.specs.Resolution.{symbols_of, strong_of, weak_of, commons_of, greatest_of, libraries_with, definition_of, chosen_commons}
+use Rattle.macho_model.specs.Resolution.{symbols_of, strong_of, weak_of, commons_of, greatest_of, libraries_with, definition_of}
+use Rattle.macho_model.specs.Resolution.{chosen_commons}
 use Rattle.macho_model.specs.Needs.{initializer_sections, unwind_sections, uses_of, imports_of, libraries_needed}
 use Rattle.macho_model.specs.Targets.{target_of, target_of_relocation, slots_of, stubs_of}
 use Rattle.macho_model.specs.Fields.{fields_of}
@@ -89,7 +94,14 @@ file_size_in_call s = least_file_size calling counts_of_call placed_call s
 order_computed : (list_all (λ (s : PlacedSegment). are_ordered (row_in_call s)) placed_call.segments ≡ true)
     × (list_all (λ (o : OutputSection). are_ordered (pieces_in_call o)) outputs_of_call ≡ true)
     × (are_ordered (table_pieces placed_call) ≡ true)
-unfolding commands_end commands_of commands_from header_of reading le_at row_bytes le_bytes words8 words halves name16 entry calls_exit head_of_call fixups_of_call tables_of_call be_at be_bytes big_words signature_of_call call_image segment_of num_sections section_place section_at section_bytes symtab_of num_symbols symbol_place symbol_at strings_of symbol_name relocation_place relocation_at sections_of carried_of template_exponent placed_exponent symbols_of strong_of weak_of commons_of greatest_of libraries_with definition_of chosen_commons initializer_sections unwind_sections uses_of imports_of libraries_needed target_of target_of_relocation slots_of stubs_of fields_of plain_entries all_entries entries_of other_segments segment_names_of output_keys_of table_symbols symbol_rows symbol_rows_in output_sections_of output_sections_for pieces_of segments_for row_of
+unfolding commands_end commands_of commands_from header_of reading le_at row_bytes le_bytes words8 words halves name16 entry calls_exit
+    head_of_call fixups_of_call tables_of_call be_at be_bytes big_words signature_of_call call_image segment_of num_sections section_place
+    section_at section_bytes symtab_of num_symbols symbol_place symbol_at strings_of symbol_name relocation_place relocation_at
+    sections_of carried_of template_exponent placed_exponent symbols_of strong_of weak_of commons_of greatest_of libraries_with
+    definition_of chosen_commons initializer_sections unwind_sections uses_of imports_of libraries_needed target_of
+    target_of_relocation slots_of stubs_of fields_of plain_entries all_entries entries_of other_segments segment_names_of
+    output_keys_of table_symbols symbol_rows symbol_rows_in output_sections_of output_sections_for pieces_of
+    segments_for row_of
 order_computed = (refl, refl, refl)
 
 least_computed : (list_all (λ (s : PlacedSegment). are_least (row_in_call s)) placed_call.segments ≡ true)
@@ -97,7 +109,14 @@ least_computed : (list_all (λ (s : PlacedSegment). are_least (row_in_call s)) p
     × (are_least (table_pieces placed_call) ≡ true)
     × (list_all (λ (s : PlacedSegment). s.size == size_in_call s) placed_call.segments ≡ true)
     × (list_all (λ (s : PlacedSegment). s.file_size == file_size_in_call s) placed_call.segments ≡ true)
-unfolding commands_end commands_of commands_from header_of reading le_at row_bytes le_bytes words8 words halves name16 entry calls_exit head_of_call fixups_of_call tables_of_call be_at be_bytes big_words signature_of_call call_image segment_of num_sections section_place section_at section_bytes symtab_of num_symbols symbol_place symbol_at strings_of symbol_name relocation_place relocation_at sections_of carried_of template_exponent placed_exponent symbols_of strong_of weak_of commons_of greatest_of libraries_with definition_of chosen_commons initializer_sections unwind_sections uses_of imports_of libraries_needed target_of target_of_relocation slots_of stubs_of fields_of plain_entries all_entries entries_of other_segments segment_names_of output_keys_of table_symbols symbol_rows symbol_rows_in output_sections_of output_sections_for pieces_of segments_for row_of
+unfolding commands_end commands_of commands_from header_of reading le_at row_bytes le_bytes words8 words halves name16 entry calls_exit
+    head_of_call fixups_of_call tables_of_call be_at be_bytes big_words signature_of_call call_image segment_of num_sections section_place
+    section_at section_bytes symtab_of num_symbols symbol_place symbol_at strings_of symbol_name relocation_place relocation_at
+    sections_of carried_of template_exponent placed_exponent symbols_of strong_of weak_of commons_of greatest_of libraries_with
+    definition_of chosen_commons initializer_sections unwind_sections uses_of imports_of libraries_needed target_of
+    target_of_relocation slots_of stubs_of fields_of plain_entries all_entries entries_of other_segments segment_names_of
+    output_keys_of table_symbols symbol_rows symbol_rows_in output_sections_of output_sections_for pieces_of
+    segments_for row_of
 least_computed = (refl, refl, refl, refl, refl)
 
 call_rooms : HaveRoom counts_of_call placed_call
@@ -105,7 +124,14 @@ call_rooms = record { initializers = refl; unwind = refl; fixups = refl; trie = 
 
 -- THE order
 pub call_stands_in_order : StandInOrder calling counts_of_call placed_call
-unfolding commands_end commands_of commands_from header_of reading le_at row_bytes le_bytes words8 words halves name16 entry calls_exit head_of_call fixups_of_call tables_of_call be_at be_bytes big_words signature_of_call call_image segment_of num_sections section_place section_at section_bytes symtab_of num_symbols symbol_place symbol_at strings_of symbol_name relocation_place relocation_at sections_of carried_of template_exponent placed_exponent symbols_of strong_of weak_of commons_of greatest_of libraries_with definition_of chosen_commons initializer_sections unwind_sections uses_of imports_of libraries_needed target_of target_of_relocation slots_of stubs_of fields_of plain_entries all_entries entries_of other_segments segment_names_of output_keys_of table_symbols symbol_rows symbol_rows_in output_sections_of output_sections_for pieces_of segments_for row_of
+unfolding commands_end commands_of commands_from header_of reading le_at row_bytes le_bytes words8 words halves name16 entry calls_exit
+    head_of_call fixups_of_call tables_of_call be_at be_bytes big_words signature_of_call call_image segment_of num_sections section_place
+    section_at section_bytes symtab_of num_symbols symbol_place symbol_at strings_of symbol_name relocation_place relocation_at
+    sections_of carried_of template_exponent placed_exponent symbols_of strong_of weak_of commons_of greatest_of libraries_with
+    definition_of chosen_commons initializer_sections unwind_sections uses_of imports_of libraries_needed target_of
+    target_of_relocation slots_of stubs_of fields_of plain_entries all_entries entries_of other_segments segment_names_of
+    output_keys_of table_symbols symbol_rows symbol_rows_in output_sections_of output_sections_for pieces_of
+    segments_for row_of
 call_stands_in_order = record {
   segments = refl;
   names = refl;

@@ -8,16 +8,21 @@ use Rattle.std.specs.List.{All, AllPairs, list_all}
 use Rattle.macho_model.specs.declared.placed.PlacedSegment.{PlacedSegment}
 use Rattle.macho_model.specs.Lists.{EachNext}
 use Rattle.macho_model.specs.OutputSections.{OutputSection, Piece}
-use Rattle.macho_model.specs.Order.{sections_in, row_of, table_pieces, EndsBefore, BeginsLeast, StandInOrder, AreLeast, least_size, least_file_size, HaveRoom, IsLow}
+use Rattle.macho_model.specs.Order.{sections_in, row_of, table_pieces, EndsBefore, BeginsLeast, StandInOrder, AreLeast, least_size}
+use Rattle.macho_model.specs.Order.{least_file_size, HaveRoom, IsLow}
 use Rattle.macho_model.proofs.EachBelow.{and_left, and_right, is_equal, all_pass}
-use Rattle.macho_model_checks.proofs.ExampleCall.{calls_exit, calling, counts_of_call, placed_call, code_placed, data_placed, stub_placed, data_segment, stubs_header, slots_header, data_header, head_of_call, fixups_of_call, tables_of_call, big_words, signature_of_call, call_image}
+use Rattle.macho_model_checks.proofs.ExampleCall.{calls_exit, calling, counts_of_call, placed_call, code_placed, data_placed, stub_placed}
+use Rattle.macho_model_checks.proofs.ExampleCall.{data_segment, stubs_header, slots_header, data_header, head_of_call, fixups_of_call}
+use Rattle.macho_model_checks.proofs.ExampleCall.{tables_of_call, big_words, signature_of_call, call_image}
 use Rattle.macho_bytes.specs.Numbers.{le_at, le_bytes, be_at, be_bytes, row_bytes}
 use Rattle.macho_bytes.specs.Layouts.{reading}
 use Rattle.macho_model.specs.Commands.{header_of, commands_from, commands_of, commands_end}
-use Rattle.macho_model.specs.Objects.{segment_of, num_sections, section_place, section_at, section_bytes, symtab_of, num_symbols, symbol_place, symbol_at, strings_of, symbol_name, relocation_place, relocation_at}
+use Rattle.macho_model.specs.Objects.{segment_of, num_sections, section_place, section_at, section_bytes, symtab_of, num_symbols}
+use Rattle.macho_model.specs.Objects.{symbol_place, symbol_at, strings_of, symbol_name, relocation_place, relocation_at}
 use Rattle.macho_model.specs.ExportLists.{plain_entries, all_entries, entries_of}
 use Rattle.macho_model.specs.Links.{sections_of, carried_of, template_exponent, placed_exponent}
-use Rattle.macho_model.specs.Resolution.{symbols_of, strong_of, weak_of, commons_of, greatest_of, libraries_with, definition_of, chosen_commons}
+use Rattle.macho_model.specs.Resolution.{symbols_of, strong_of, weak_of, commons_of, greatest_of, libraries_with, definition_of}
+use Rattle.macho_model.specs.Resolution.{chosen_commons}
 use Rattle.macho_model.specs.Needs.{initializer_sections, unwind_sections, uses_of, imports_of, libraries_needed}
 use Rattle.macho_model.specs.Targets.{target_of, target_of_relocation, slots_of, stubs_of}
 use Rattle.macho_model.specs.Fields.{fields_of}
@@ -107,12 +112,26 @@ data_extent = piece 0x100008008 8 3
 
 gap_facts : (are_rows_ordered with_gap ≡ true) × (are_pieces_ordered with_gap ≡ true) × (are_ordered (table_pieces with_gap) ≡ true)
     × (row_with with_gap data_segment ≡ front_of_data ∷ data_extent ∷ [])
-unfolding commands_end commands_of commands_from header_of reading le_at row_bytes le_bytes words8 words halves name16 entry calls_exit head_of_call fixups_of_call tables_of_call be_at be_bytes big_words signature_of_call call_image segment_of num_sections section_place section_at section_bytes symtab_of num_symbols symbol_place symbol_at strings_of symbol_name relocation_place relocation_at sections_of carried_of template_exponent placed_exponent symbols_of strong_of weak_of commons_of greatest_of libraries_with definition_of chosen_commons initializer_sections unwind_sections uses_of imports_of libraries_needed target_of target_of_relocation slots_of stubs_of fields_of plain_entries all_entries entries_of other_segments segment_names_of output_keys_of table_symbols symbol_rows symbol_rows_in output_sections_of output_sections_for pieces_of segments_for row_of
+unfolding commands_end commands_of commands_from header_of reading le_at row_bytes le_bytes words8 words halves name16 entry calls_exit
+    head_of_call fixups_of_call tables_of_call be_at be_bytes big_words signature_of_call call_image segment_of num_sections section_place
+    section_at section_bytes symtab_of num_symbols symbol_place symbol_at strings_of symbol_name relocation_place relocation_at
+    sections_of carried_of template_exponent placed_exponent symbols_of strong_of weak_of commons_of greatest_of libraries_with
+    definition_of chosen_commons initializer_sections unwind_sections uses_of imports_of libraries_needed target_of
+    target_of_relocation slots_of stubs_of fields_of plain_entries all_entries entries_of other_segments segment_names_of
+    output_keys_of table_symbols symbol_rows symbol_rows_in output_sections_of output_sections_for pieces_of
+    segments_for row_of
 gap_facts = (refl, refl, refl, refl)
 
 -- it stands in order, its section headers are those of the link, and its tables lie in the file
 pub gap_in_order : StandInOrder calling counts_of_call with_gap
-unfolding commands_end commands_of commands_from header_of reading le_at row_bytes le_bytes words8 words halves name16 entry calls_exit head_of_call fixups_of_call tables_of_call be_at be_bytes big_words signature_of_call call_image segment_of num_sections section_place section_at section_bytes symtab_of num_symbols symbol_place symbol_at strings_of symbol_name relocation_place relocation_at sections_of carried_of template_exponent placed_exponent symbols_of strong_of weak_of commons_of greatest_of libraries_with definition_of chosen_commons initializer_sections unwind_sections uses_of imports_of libraries_needed target_of target_of_relocation slots_of stubs_of fields_of plain_entries all_entries entries_of other_segments segment_names_of output_keys_of table_symbols symbol_rows symbol_rows_in output_sections_of output_sections_for pieces_of segments_for row_of
+unfolding commands_end commands_of commands_from header_of reading le_at row_bytes le_bytes words8 words halves name16 entry calls_exit
+    head_of_call fixups_of_call tables_of_call be_at be_bytes big_words signature_of_call call_image segment_of num_sections section_place
+    section_at section_bytes symtab_of num_symbols symbol_place symbol_at strings_of symbol_name relocation_place relocation_at
+    sections_of carried_of template_exponent placed_exponent symbols_of strong_of weak_of commons_of greatest_of libraries_with
+    definition_of chosen_commons initializer_sections unwind_sections uses_of imports_of libraries_needed target_of
+    target_of_relocation slots_of stubs_of fields_of plain_entries all_entries entries_of other_segments segment_names_of
+    output_keys_of table_symbols symbol_rows symbol_rows_in output_sections_of output_sections_for pieces_of
+    segments_for row_of
 gap_in_order = record {
   segments = refl;
   names = refl;
@@ -124,7 +143,14 @@ gap_in_order = record {
 }
 
 pub gap_in_headers : with_gap.output_sections ≡ output_sections_for calling counts_of_call with_gap
-unfolding commands_end commands_of commands_from header_of reading le_at row_bytes le_bytes words8 words halves name16 entry calls_exit head_of_call fixups_of_call tables_of_call be_at be_bytes big_words signature_of_call call_image segment_of num_sections section_place section_at section_bytes symtab_of num_symbols symbol_place symbol_at strings_of symbol_name relocation_place relocation_at sections_of carried_of template_exponent placed_exponent symbols_of strong_of weak_of commons_of greatest_of libraries_with definition_of chosen_commons initializer_sections unwind_sections uses_of imports_of libraries_needed target_of target_of_relocation slots_of stubs_of fields_of plain_entries all_entries entries_of other_segments segment_names_of output_keys_of table_symbols symbol_rows symbol_rows_in output_sections_of output_sections_for pieces_of segments_for row_of
+unfolding commands_end commands_of commands_from header_of reading le_at row_bytes le_bytes words8 words halves name16 entry calls_exit
+    head_of_call fixups_of_call tables_of_call be_at be_bytes big_words signature_of_call call_image segment_of num_sections section_place
+    section_at section_bytes symtab_of num_symbols symbol_place symbol_at strings_of symbol_name relocation_place relocation_at
+    sections_of carried_of template_exponent placed_exponent symbols_of strong_of weak_of commons_of greatest_of libraries_with
+    definition_of chosen_commons initializer_sections unwind_sections uses_of imports_of libraries_needed target_of
+    target_of_relocation slots_of stubs_of fields_of plain_entries all_entries entries_of other_segments segment_names_of
+    output_keys_of table_symbols symbol_rows symbol_rows_in output_sections_of output_sections_for pieces_of
+    segments_for row_of
 gap_in_headers = refl
 
 pub gap_is_low : IsLow with_gap
@@ -144,7 +170,14 @@ exchanged_facts : (are_rows_least with_list_exchanged ≡ true) × (are_pieces_l
     × (are_least (table_pieces with_list_exchanged) ≡ true) × (are_sizes_least with_list_exchanged ≡ true)
     × (map (λ (s : SectionId). s.section) (map id_of with_list_exchanged.sections) ≡ 1 ∷ 0 ∷ [])
     × (map (λ (s : SectionId). s.section) (carried_of calling) ≡ 0 ∷ 1 ∷ [])
-unfolding commands_end commands_of commands_from header_of reading le_at row_bytes le_bytes words8 words halves name16 entry calls_exit head_of_call fixups_of_call tables_of_call be_at be_bytes big_words signature_of_call call_image segment_of num_sections section_place section_at section_bytes symtab_of num_symbols symbol_place symbol_at strings_of symbol_name relocation_place relocation_at sections_of carried_of template_exponent placed_exponent symbols_of strong_of weak_of commons_of greatest_of libraries_with definition_of chosen_commons initializer_sections unwind_sections uses_of imports_of libraries_needed target_of target_of_relocation slots_of stubs_of fields_of plain_entries all_entries entries_of other_segments segment_names_of output_keys_of table_symbols symbol_rows symbol_rows_in output_sections_of output_sections_for pieces_of segments_for row_of
+unfolding commands_end commands_of commands_from header_of reading le_at row_bytes le_bytes words8 words halves name16 entry calls_exit
+    head_of_call fixups_of_call tables_of_call be_at be_bytes big_words signature_of_call call_image segment_of num_sections section_place
+    section_at section_bytes symtab_of num_symbols symbol_place symbol_at strings_of symbol_name relocation_place relocation_at
+    sections_of carried_of template_exponent placed_exponent symbols_of strong_of weak_of commons_of greatest_of libraries_with
+    definition_of chosen_commons initializer_sections unwind_sections uses_of imports_of libraries_needed target_of
+    target_of_relocation slots_of stubs_of fields_of plain_entries all_entries entries_of other_segments segment_names_of
+    output_keys_of table_symbols symbol_rows symbol_rows_in output_sections_of output_sections_for pieces_of
+    segments_for row_of
 exchanged_facts = (refl, refl, refl, refl, refl, refl)
 
 exchanged_rooms : HaveRoom counts_of_call with_list_exchanged
@@ -181,7 +214,14 @@ with_places_exchanged = record placed_call {
 
 places_row : row_with with_places_exchanged (text_from 0x100000000 0x4000)
     ≡ piece 0x100000000 0x398 0 ∷ piece 0x1000003a4 8 2 ∷ piece 0x100000398 12 2 ∷ []
-unfolding commands_end commands_of commands_from header_of reading le_at row_bytes le_bytes words8 words halves name16 entry calls_exit head_of_call fixups_of_call tables_of_call be_at be_bytes big_words signature_of_call call_image segment_of num_sections section_place section_at section_bytes symtab_of num_symbols symbol_place symbol_at strings_of symbol_name relocation_place relocation_at sections_of carried_of template_exponent placed_exponent symbols_of strong_of weak_of commons_of greatest_of libraries_with definition_of chosen_commons initializer_sections unwind_sections uses_of imports_of libraries_needed target_of target_of_relocation slots_of stubs_of fields_of plain_entries all_entries entries_of other_segments segment_names_of output_keys_of table_symbols symbol_rows symbol_rows_in output_sections_of output_sections_for pieces_of segments_for row_of
+unfolding commands_end commands_of commands_from header_of reading le_at row_bytes le_bytes words8 words halves name16 entry calls_exit
+    head_of_call fixups_of_call tables_of_call be_at be_bytes big_words signature_of_call call_image segment_of num_sections section_place
+    section_at section_bytes symtab_of num_symbols symbol_place symbol_at strings_of symbol_name relocation_place relocation_at
+    sections_of carried_of template_exponent placed_exponent symbols_of strong_of weak_of commons_of greatest_of libraries_with
+    definition_of chosen_commons initializer_sections unwind_sections uses_of imports_of libraries_needed target_of
+    target_of_relocation slots_of stubs_of fields_of plain_entries all_entries entries_of other_segments segment_names_of
+    output_keys_of table_symbols symbol_rows symbol_rows_in output_sections_of output_sections_for pieces_of
+    segments_for row_of
 places_row = refl
 
 pub order_is_asked : StandInOrder calling counts_of_call with_places_exchanged → ⊥

@@ -3,7 +3,8 @@
 -- Of the link: a name with a definition in an object is `_main`, since the object has no other definition, and there are no export
 -- lists. Of the bytes: the first node has one edge, `_main`, to a node that exports the value 0x398 and has no edge. And the
 -- fourteen bytes are the trie of that one name: its radix tree has one edge, and the place of its child one byte.
-use Rattle.std.proofs.Common.{◌≡◌, ℕ, zero, suc, ◌+◌, ◌<◌, ◌≤◌, Bool, true, false, if◌then◌else◌, List, [], ◌∷◌, ◌++◌, length, take, drop, map, refl, ap, sym, ◌∙◌, subst, arith, inl, inr, Option, Some, None}
+use Rattle.std.proofs.Common.{◌≡◌, ℕ, zero, suc, ◌+◌, ◌<◌, ◌≤◌, Bool, true, false, if◌then◌else◌, List, [], ◌∷◌, ◌++◌, length, take, drop}
+use Rattle.std.proofs.Common.{map, refl, ap, sym, ◌∙◌, subst, arith, inl, inr, Option, Some, None}
 use Rattle.std.specs.Prelude.{codes, slice_index, slice_index_or, nat_eq, unwrap_or}
 use Rattle.std.specs.List.{find, starts_with}
 use Rattle.std.specs.Str.{bytes_eq}
@@ -25,19 +26,23 @@ use Rattle.macho_trie.specs.Lookup.{leads, Finds, trie_finds}
 use Rattle.macho_trie.specs.Lookup as lookup
 use Rattle.macho_promise.specs.TrieSays.{trie_export, table_bytes, IsFoundExport, IsTrieText, TrieSays}
 use Rattle.macho_model_checks.proofs.ExamplePlacement.{section_a}
-use Rattle.macho_model_checks.proofs.ExampleCall.{calls_exit, calling, placed_call, head_of_call, fixups_of_call, tables_of_call, big_words, signature_of_call, call_image}
+use Rattle.macho_model_checks.proofs.ExampleCall.{calls_exit, calling, placed_call, head_of_call, fixups_of_call, tables_of_call}
+use Rattle.macho_model_checks.proofs.ExampleCall.{big_words, signature_of_call, call_image}
 use Rattle.macho_bytes.specs.Numbers.{le_at, le_bytes, be_at, be_bytes, row_bytes}
 use Rattle.macho_bytes.specs.Layouts.{reading}
 use Rattle.macho_model.specs.Commands.{header_of, commands_from, commands_of, commands_end}
-use Rattle.macho_model.specs.Objects.{segment_of, num_sections, section_place, section_at, section_bytes, symtab_of, num_symbols, symbol_place, symbol_at, strings_of, symbol_name, relocation_place, relocation_at}
+use Rattle.macho_model.specs.Objects.{segment_of, num_sections, section_place, section_at, section_bytes, symtab_of, num_symbols}
+use Rattle.macho_model.specs.Objects.{symbol_place, symbol_at, strings_of, symbol_name, relocation_place, relocation_at}
 use Rattle.macho_model.specs.ExportLists.{plain_entries, all_entries, entries_of}
 use Rattle.macho_model.specs.Links.{sections_of, carried_of, template_exponent, placed_exponent}
-use Rattle.macho_model.specs.Resolution.{SymbolId, Definition, Symbol, Library, ImageBase, DSO_HANDLE, first_or, symbols_of, strong_of, weak_of, commons_of, greatest_of, libraries_with, definition_of, chosen_commons}
+use Rattle.macho_model.specs.Resolution.{SymbolId, Definition, Symbol, Library, ImageBase, DSO_HANDLE, first_or, symbols_of, strong_of}
+use Rattle.macho_model.specs.Resolution.{weak_of, commons_of, greatest_of, libraries_with, definition_of, chosen_commons}
 use Rattle.macho_model.specs.Needs.{initializer_sections, unwind_sections, uses_of, imports_of, libraries_needed}
 use Rattle.macho_model.specs.Targets.{target_of_name, target_of, target_of_relocation, slots_of, stubs_of}
 use Rattle.macho_model.specs.Fields.{fields_of}
 use Rattle.macho_model.specs.Segments.{other_segments, segment_names_of, output_keys_of}
-use Rattle.macho_model.specs.Images.{Table, segments_of, mapped_segments, base_of, libraries_of, tables_of, tries_of, signatures_of, symbol_tables_of, string_tables_of, entries_of_file}
+use Rattle.macho_model.specs.Images.{Table, segments_of, mapped_segments, base_of, libraries_of, tables_of, tries_of, signatures_of}
+use Rattle.macho_model.specs.Images.{symbol_tables_of, string_tables_of, entries_of_file}
 use Rattle.macho_model.specs.Fixups.{own_entries, import_entries_of, entries_have_addends}
 use Rattle.macho_model.specs.ImportTable.{fixup_count, names_text}
 use Rattle.macho_model_checks.proofs.Examples.{words8, words, halves, name16}
@@ -50,7 +55,9 @@ abbrev pub trie_table : Table
 trie_table = record { at = 0xc0d0; size = 14 }
 
 trie_there : (tries_of call_image ≡ trie_table ∷ []) × (table_bytes call_image trie_table ≡ trie_of_call)
-unfolding commands_end commands_of commands_from header_of reading le_at row_bytes le_bytes words8 words halves name16 entry calls_exit head_of_call fixups_of_call tables_of_call be_at be_bytes big_words signature_of_call call_image segments_of mapped_segments base_of libraries_of tables_of tries_of signatures_of symbol_tables_of string_tables_of entries_of_file trie_of_call
+unfolding commands_end commands_of commands_from header_of reading le_at row_bytes le_bytes words8 words halves name16 entry calls_exit
+    head_of_call fixups_of_call tables_of_call be_at be_bytes big_words signature_of_call call_image segments_of mapped_segments base_of
+    libraries_of tables_of tries_of signatures_of symbol_tables_of string_tables_of entries_of_file trie_of_call
 trie_there = (refl, refl)
 
 -- the symbol of `_main`, and what it is exported as
@@ -82,7 +89,13 @@ from_strong false m s [] false h = absurd (let no : false ≡ true = ap is_in_ob
 definition_here : (name : List ℕ) → definition_of calling name
     ≡ first_or (map Symbol (if bytes_eq (codes "_main") name then main_symbol ∷ [] else []))
     (first_or (map Library (libraries_with calling name)) (if bytes_eq name DSO_HANDLE then Some ImageBase else None))
-unfolding commands_end commands_of commands_from header_of reading le_at row_bytes le_bytes words8 words halves name16 entry calls_exit head_of_call fixups_of_call tables_of_call be_at be_bytes big_words signature_of_call call_image segment_of num_sections section_place section_at section_bytes symtab_of num_symbols symbol_place symbol_at strings_of symbol_name relocation_place relocation_at sections_of carried_of template_exponent placed_exponent symbols_of strong_of weak_of commons_of greatest_of definition_of chosen_commons initializer_sections unwind_sections uses_of imports_of libraries_needed target_of target_of_relocation slots_of stubs_of fields_of plain_entries all_entries entries_of other_segments segment_names_of output_keys_of own_entries import_entries_of entries_have_addends fixup_count names_text
+unfolding commands_end commands_of commands_from header_of reading le_at row_bytes le_bytes words8 words halves name16 entry calls_exit
+    head_of_call fixups_of_call tables_of_call be_at be_bytes big_words signature_of_call call_image segment_of num_sections section_place
+    section_at section_bytes symtab_of num_symbols symbol_place symbol_at strings_of symbol_name relocation_place relocation_at
+    sections_of carried_of template_exponent placed_exponent symbols_of strong_of weak_of commons_of greatest_of definition_of
+    chosen_commons initializer_sections unwind_sections uses_of imports_of libraries_needed target_of target_of_relocation
+    slots_of stubs_of fields_of plain_entries all_entries entries_of other_segments segment_names_of output_keys_of
+    own_entries import_entries_of entries_have_addends fixup_count names_text
 definition_here name = refl
 
 pub named_main : (name : List ℕ) (s : SymbolId) → definition_of calling name ≡ Some (Symbol s) → (name ≡ codes "_main") × (s ≡ main_symbol)
@@ -94,7 +107,13 @@ named_main name s h =
 
 pub main_facts : (target_of_name calling (codes "_main") ≡ target.Section 0 0 0) × (weak_flag calling main_symbol ≡ 0)
     × (section_flag calling 0 0 ≡ 0)
-unfolding commands_end commands_of commands_from header_of reading le_at row_bytes le_bytes words8 words halves name16 entry calls_exit head_of_call fixups_of_call tables_of_call be_at be_bytes big_words signature_of_call call_image segment_of num_sections section_place section_at section_bytes symtab_of num_symbols symbol_place symbol_at strings_of symbol_name relocation_place relocation_at sections_of carried_of template_exponent placed_exponent symbols_of strong_of weak_of commons_of greatest_of libraries_with definition_of chosen_commons initializer_sections unwind_sections uses_of imports_of libraries_needed target_of target_of_relocation slots_of stubs_of fields_of plain_entries all_entries entries_of other_segments segment_names_of output_keys_of own_entries import_entries_of entries_have_addends fixup_count names_text
+unfolding commands_end commands_of commands_from header_of reading le_at row_bytes le_bytes words8 words halves name16 entry calls_exit
+    head_of_call fixups_of_call tables_of_call be_at be_bytes big_words signature_of_call call_image segment_of num_sections section_place
+    section_at section_bytes symtab_of num_symbols symbol_place symbol_at strings_of symbol_name relocation_place relocation_at
+    sections_of carried_of template_exponent placed_exponent symbols_of strong_of weak_of commons_of greatest_of libraries_with
+    definition_of chosen_commons initializer_sections unwind_sections uses_of imports_of libraries_needed target_of
+    target_of_relocation slots_of stubs_of fields_of plain_entries all_entries entries_of other_segments segment_names_of
+    output_keys_of own_entries import_entries_of entries_have_addends fixup_count names_text
 main_facts = (refl, refl, refl)
 
 value_is : (e : Export) → ValueOf calling placed_call 0 (target.Section 0 0 0) e → e ≡ Value 0 0x398
@@ -118,11 +137,23 @@ exported_is name _ (exports.ExportedAs.from_object s e exported value) =
 exported_is name _ (exports.ExportedAs.from_library one lists listed) = absurd (let no : false ≡ true = lists in cc)
 
 pub main_is_exported : IsExported calling (codes "_main") main_symbol
-unfolding commands_end commands_of commands_from header_of reading le_at row_bytes le_bytes words8 words halves name16 entry calls_exit head_of_call fixups_of_call tables_of_call be_at be_bytes big_words signature_of_call call_image segment_of num_sections section_place section_at section_bytes symtab_of num_symbols symbol_place symbol_at strings_of symbol_name relocation_place relocation_at sections_of carried_of template_exponent placed_exponent symbols_of strong_of weak_of commons_of greatest_of libraries_with definition_of chosen_commons initializer_sections unwind_sections uses_of imports_of libraries_needed target_of target_of_relocation slots_of stubs_of fields_of plain_entries all_entries entries_of other_segments segment_names_of output_keys_of own_entries import_entries_of entries_have_addends fixup_count names_text
+unfolding commands_end commands_of commands_from header_of reading le_at row_bytes le_bytes words8 words halves name16 entry calls_exit
+    head_of_call fixups_of_call tables_of_call be_at be_bytes big_words signature_of_call call_image segment_of num_sections section_place
+    section_at section_bytes symtab_of num_symbols symbol_place symbol_at strings_of symbol_name relocation_place relocation_at
+    sections_of carried_of template_exponent placed_exponent symbols_of strong_of weak_of commons_of greatest_of libraries_with
+    definition_of chosen_commons initializer_sections unwind_sections uses_of imports_of libraries_needed target_of
+    target_of_relocation slots_of stubs_of fields_of plain_entries all_entries entries_of other_segments segment_names_of
+    output_keys_of own_entries import_entries_of entries_have_addends fixup_count names_text
 main_is_exported = (refl, refl, refl)
 
 main_exported : ExportedAs calling placed_call (codes "_main") (Value 0 0x398)
-unfolding commands_end commands_of commands_from header_of reading le_at row_bytes le_bytes words8 words halves name16 entry calls_exit head_of_call fixups_of_call tables_of_call be_at be_bytes big_words signature_of_call call_image segment_of num_sections section_place section_at section_bytes symtab_of num_symbols symbol_place symbol_at strings_of symbol_name relocation_place relocation_at sections_of carried_of template_exponent placed_exponent symbols_of strong_of weak_of commons_of greatest_of libraries_with definition_of chosen_commons initializer_sections unwind_sections uses_of imports_of libraries_needed target_of target_of_relocation slots_of stubs_of fields_of plain_entries all_entries entries_of other_segments segment_names_of output_keys_of own_entries import_entries_of entries_have_addends fixup_count names_text
+unfolding commands_end commands_of commands_from header_of reading le_at row_bytes le_bytes words8 words halves name16 entry calls_exit
+    head_of_call fixups_of_call tables_of_call be_at be_bytes big_words signature_of_call call_image segment_of num_sections section_place
+    section_at section_bytes symtab_of num_symbols symbol_place symbol_at strings_of symbol_name relocation_place relocation_at
+    sections_of carried_of template_exponent placed_exponent symbols_of strong_of weak_of commons_of greatest_of libraries_with
+    definition_of chosen_commons initializer_sections unwind_sections uses_of imports_of libraries_needed target_of
+    target_of_relocation slots_of stubs_of fields_of plain_entries all_entries entries_of other_segments segment_names_of
+    output_keys_of own_entries import_entries_of entries_have_addends fixup_count names_text
 main_exported = exports.ExportedAs.from_object main_symbol (Value 0 0x398) main_is_exported
     (0x100000398, 0x398, (section_a 0x100000398, (0, omega arith, refl), refl, refl, refl), refl, refl)
 

@@ -24,14 +24,16 @@ word8_of text = le_at 8 text 0
 
 -- the fields of a word that moves with the image: `00 40 00 00 00 00 10 00` has target 0x4000 and two steps
 pub a_rebase_word : (is_bind (word8_of (0x00 ∷ 0x40 ∷ 0 ∷ 0 ∷ 0 ∷ 0 ∷ 0x10 ∷ 0 ∷ [])) ≡ false)
-    × (rebase_target (word8_of (0x00 ∷ 0x40 ∷ 0 ∷ 0 ∷ 0 ∷ 0 ∷ 0x10 ∷ 0 ∷ [])) ≡ 0x4000) × (next_of (word8_of (0x00 ∷ 0x40 ∷ 0 ∷ 0 ∷ 0 ∷ 0 ∷ 0x10 ∷ 0 ∷ [])) ≡ 2)
+    × (rebase_target (word8_of (0x00 ∷ 0x40 ∷ 0 ∷ 0 ∷ 0 ∷ 0 ∷ 0x10 ∷ 0 ∷ [])) ≡ 0x4000)
+    × (next_of (word8_of (0x00 ∷ 0x40 ∷ 0 ∷ 0 ∷ 0 ∷ 0 ∷ 0x10 ∷ 0 ∷ [])) ≡ 2)
     × (rebase_high (word8_of (0x00 ∷ 0x40 ∷ 0 ∷ 0 ∷ 0xf0 ∷ 0x07 ∷ 0 ∷ 0 ∷ [])) ≡ 0x7f)
 unfolding le_at
 a_rebase_word = (refl, refl, refl, refl)
 
 -- and of one that binds: `03 00 00 05 00 00 00 80` has import 3 and addend 5, and ends its page
 pub a_bind_word : (is_bind (word8_of (0x03 ∷ 0 ∷ 0 ∷ 0x05 ∷ 0 ∷ 0 ∷ 0 ∷ 0x80 ∷ [])) ≡ true)
-    × (ordinal_of (word8_of (0x03 ∷ 0 ∷ 0 ∷ 0x05 ∷ 0 ∷ 0 ∷ 0 ∷ 0x80 ∷ [])) ≡ 3) × (bind_addend (word8_of (0x03 ∷ 0 ∷ 0 ∷ 0x05 ∷ 0 ∷ 0 ∷ 0 ∷ 0x80 ∷ [])) ≡ 5)
+    × (ordinal_of (word8_of (0x03 ∷ 0 ∷ 0 ∷ 0x05 ∷ 0 ∷ 0 ∷ 0 ∷ 0x80 ∷ [])) ≡ 3)
+    × (bind_addend (word8_of (0x03 ∷ 0 ∷ 0 ∷ 0x05 ∷ 0 ∷ 0 ∷ 0 ∷ 0x80 ∷ [])) ≡ 5)
     × (next_of (word8_of (0x03 ∷ 0 ∷ 0 ∷ 0x05 ∷ 0 ∷ 0 ∷ 0 ∷ 0x80 ∷ [])) ≡ 0)
 unfolding le_at
 a_bind_word = (refl, refl, refl, refl)
@@ -46,7 +48,8 @@ data_of_two_pages = record { address = 0x100004000; file_offset = 0x4000; file_s
 
 abbrev pub segments_of_two_pages : List ChainSegment
 segments_of_two_pages =
-    record { address = 0; file_offset = 0; file_size = 0; starts = [] } ∷ record { address = 0x100000000; file_offset = 0; file_size = 0x4000; starts = [] }
+    record { address = 0; file_offset = 0; file_size = 0; starts = [] }
+    ∷ record { address = 0x100000000; file_offset = 0; file_size = 0x4000; starts = [] }
     ∷ data_of_two_pages ∷ []
 
 -- what the bytes of a word are
@@ -81,14 +84,16 @@ unfolding le_at row_bytes le_bytes words8 words halves name16 image_with_fixups 
 closed = refl
 
 pub only_these_on_the_chain : (a : ℕ) → OnChainOf two_pages a → is_among three_words a ≡ true
-only_these_on_the_chain a on = chain_within segments_of_two_pages two_pages three_words closed a (subst (λ segments. OnChain segments two_pages a) chain_segments_of_two_pages on)
+only_these_on_the_chain a on = chain_within segments_of_two_pages two_pages three_words closed a
+    (subst (λ segments. OnChain segments two_pages a) chain_segments_of_two_pages on)
 
 -- each fits, so the loader accepts the image
 abbrev pub words_of_page : ℕ → List ℕ
 words_of_page page = if page == 0 then 0x100004010 ∷ 0x100004018 ∷ [] else 0x100008008 ∷ []
 
 all_fit : pages_pass two_pages words_of_page ≡ true
-unfolding chain_segments mapped_segments tables_of base_of segments_of commands_of commands_from header_of libraries_of reading le_at row_bytes le_bytes words8 words halves name16 image_with_fixups two_pages
+unfolding chain_segments mapped_segments tables_of base_of segments_of commands_of commands_from header_of libraries_of reading le_at
+    row_bytes le_bytes words8 words halves name16 image_with_fixups two_pages
 all_fit = refl
 
 pub two_pages_is_accepted : IsAccepted two_pages

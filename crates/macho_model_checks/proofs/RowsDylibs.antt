@@ -11,9 +11,11 @@ use Rattle.macho_bytes.specs.Layouts.{reading}
 use Rattle.macho_records.specs.declared.constants.TheConstants.{LC_ID_DYLIB, LC_SYMTAB, MH_DYLIB}
 use Rattle.macho_model.specs.Commands.{header_of, commands_from, commands_of, commands_end, numbered, command_fits}
 use Rattle.macho_model.specs.Objects.{symtab_of, num_symbols, symbol_place, symbol_at, strings_of, symbol_name, install_name_of}
-use Rattle.macho_model.specs.ObjectRules.{head_fits, commands_inside, needed_in_dylib, has_one, tables_inside, name_ends, path_ends, global_has_name}
+use Rattle.macho_model.specs.ObjectRules.{head_fits, commands_inside, needed_in_dylib, has_one, tables_inside, name_ends, path_ends}
+use Rattle.macho_model.specs.ObjectRules.{global_has_name}
 use Rattle.macho_model.specs.Grammar.{IsDylib}
-use Rattle.macho_model.proofs.EachBelow.{each_below, true_or_false, and_left, and_right, and_both, all_pass, pass_all, below_pass, pass_below}
+use Rattle.macho_model.proofs.EachBelow.{each_below, true_or_false, and_left, and_right, and_both, all_pass, pass_all, below_pass}
+use Rattle.macho_model.proofs.EachBelow.{pass_below}
 use Rattle.macho_model_checks.proofs.Examples.{words8, words, halves, changed}
 
 -- Header 32 bytes; the install name `/a` 32, symbol table 24, UUID 24; at 112 the global `_f`, at 128 its name.
@@ -28,7 +30,8 @@ dylib_c =
 
 -- what it says
 pub names_of_c : (install_name_of dylib_c ≡ codes "/a") × (num_symbols dylib_c ≡ 1) × (symbol_name dylib_c 0 ≡ codes "_f")
-unfolding install_name_of symbol_name header_of commands_from commands_of symtab_of num_symbols symbol_place symbol_at strings_of le_at le_bytes row_bytes reading words8 words halves dylib_c
+unfolding install_name_of symbol_name header_of commands_from commands_of symtab_of num_symbols symbol_place symbol_at strings_of le_at
+    le_bytes row_bytes reading words8 words halves dylib_c
 names_of_c = (refl, refl, refl)
 
 -- the tests of the rules: the first four, then of names and of global symbols
@@ -49,7 +52,11 @@ is_dylib b h =
     let ans = λ (n : ℕ). answer n (dylib_tests b) (replicate 6 true) h in
     record {
       o1 = ans 0;
-      o2 = (and_left (commands_inside b) _ (ans 1), all_pass (command_fits needed_in_dylib b) (commands_of b) (and_right (commands_inside b) _ (ans 1)));
+      o2 = (
+        and_left (commands_inside b) _ (ans 1),
+        all_pass (command_fits needed_in_dylib b) (commands_of b)
+            (and_right (commands_inside b) _ (ans 1)),
+      );
       o3 = (and_left (has_one LC_ID_DYLIB b) _ (ans 2), and_right (has_one LC_ID_DYLIB b) _ (ans 2));
       o4 = ans 3;
       o9 = (
@@ -64,16 +71,19 @@ unfolding dylib_tests
 dylib_passes b d =
     rw (
       d.o1,
-      and_both (commands_inside b) (list_all (command_fits needed_in_dylib b) (commands_of b)) d.o2.0 (pass_all (command_fits needed_in_dylib b) (commands_of b) d.o2.1),
+      and_both (commands_inside b) (list_all (command_fits needed_in_dylib b) (commands_of b)) d.o2.0
+          (pass_all (command_fits needed_in_dylib b) (commands_of b) d.o2.1),
       and_both (has_one LC_ID_DYLIB b) (has_one LC_SYMTAB b) d.o3.0 d.o3.1,
       d.o4,
-      and_both (each_below (num_symbols b) (name_ends b)) (list_all (path_ends b) (numbered LC_ID_DYLIB b)) (pass_below (num_symbols b) (name_ends b) d.o9.0)
+      and_both (each_below (num_symbols b) (name_ends b)) (list_all (path_ends b) (numbered LC_ID_DYLIB b))
+          (pass_below (num_symbols b) (name_ends b) d.o9.0)
           (pass_all (path_ends b) (numbered LC_ID_DYLIB b) d.o9.1),
       pass_below (num_symbols b) (global_has_name b) d.o13,
     ) refl
 
 pub c_is_dylib : IsDylib dylib_c
-unfolding dylib_tests header_of commands_from commands_of commands_end symtab_of num_symbols symbol_place symbol_at strings_of le_at le_bytes row_bytes reading words8 words halves dylib_c
+unfolding dylib_tests header_of commands_from commands_of commands_end symtab_of num_symbols symbol_place symbol_at strings_of le_at
+    le_bytes row_bytes reading words8 words halves dylib_c
 c_is_dylib = is_dylib dylib_c refl
 
 -- A change of the library and the number of the test that fails.
@@ -106,7 +116,8 @@ dylib_changes =
     ∷ []
 
 verdicts : AllByRecursion (λ c. dylib_tests (changed_dylib c) ≡ all_but c.test) dylib_changes
-unfolding dylib_tests header_of commands_from commands_of commands_end symtab_of num_symbols symbol_place symbol_at strings_of le_at le_bytes row_bytes reading words8 words halves dylib_c changed
+unfolding dylib_tests header_of commands_from commands_of commands_end symtab_of num_symbols symbol_place symbol_at strings_of le_at
+    le_bytes row_bytes reading words8 words halves dylib_c changed
 verdicts = (refl, (refl, (refl, (refl, (refl, (refl, (refl, tt)))))))
 
 -- Each change fails its test, and no other one.
@@ -114,6 +125,8 @@ pub each_dylib_change : All (λ c. dylib_tests (changed_dylib c) ≡ all_but c.t
 each_dylib_change = All-from_recursion (λ c. dylib_tests (changed_dylib c) ≡ all_but c.test) dylib_changes verdicts
 
 -- So none of them is a library.
-pub broken_is_no_dylib : (b : List ℕ) (n : ℕ) → get_or (all_but n) n false ≡ false → get_or (replicate 6 true) n false ≡ true → dylib_tests b ≡ all_but n → IsDylib b → ⊥
+pub broken_is_no_dylib : (b : List ℕ) (n : ℕ) → get_or (all_but n) n false ≡ false → get_or (replicate 6 true) n false ≡ true
+    → dylib_tests b ≡ all_but n → IsDylib b → ⊥
 broken_is_no_dylib b n fails among h d =
-    true_or_false (get_or (dylib_tests b) n false) (answer n (dylib_tests b) (replicate 6 true) (dylib_passes b d) ∙ among) (answer n (dylib_tests b) (all_but n) h ∙ fails)
+    true_or_false (get_or (dylib_tests b) n false) (answer n (dylib_tests b) (replicate 6 true) (dylib_passes b d) ∙ among)
+    (answer n (dylib_tests b) (all_but n) h ∙ fails)

@@ -23,6 +23,7 @@ unfolding plain_entries all_entries entries_of
 its_plain_names = refl
 
 -- a star inside and at both ends; no other byte stands for more than itself
-pub patterns : (matches (codes "_*x") (codes "_x") ≡ true) × (matches (codes "*b*") (codes "abc") ≡ true) × (matches (codes "_?") (codes "_a") ≡ false)
+pub patterns : (matches (codes "_*x") (codes "_x") ≡ true) × (matches (codes "*b*") (codes "abc") ≡ true)
+    × (matches (codes "_?") (codes "_a") ≡ false)
     × (matches (codes "*") [] ≡ true) × (matches (codes "_*x") (codes "_xy") ≡ false)
 patterns = (refl, refl, refl, refl, refl)

@@ -34,12 +34,15 @@ a_pointer_relocation = refl
 
 -- which words are which instructions: B, ADRP x0, ADD x0, LDR x0, LDR w0, LDRB w0, LDR q0
 pub kinds : (is_branch 0x14000000 ≡ true) × (is_branch 0x94000000 ≡ true) × (is_branch 0x90000000 ≡ false) × (is_adrp 0x90000000 ≡ true)
-    × (is_adrp 0x10000000 ≡ false) × (is_add 0x91000000 ≡ true) × (is_add 0x91400000 ≡ false) × (is_ldr 0xf9400000 ≡ true) × (is_ldr 0xf9000000 ≡ false)
-    × (is_load_store 0xf9000000 ≡ true) × (is_load_store 0xb9400000 ≡ true) × (is_load_store 0x3dc00000 ≡ true) × (is_load_store 0x91000000 ≡ false)
+    × (is_adrp 0x10000000 ≡ false) × (is_add 0x91000000 ≡ true) × (is_add 0x91400000 ≡ false) × (is_ldr 0xf9400000 ≡ true)
+    × (is_ldr 0xf9000000 ≡ false)
+    × (is_load_store 0xf9000000 ≡ true) × (is_load_store 0xb9400000 ≡ true) × (is_load_store 0x3dc00000 ≡ true)
+    × (is_load_store 0x91000000 ≡ false)
 kinds = (refl, refl, refl, refl, refl, refl, refl, refl, refl, refl, refl, refl, refl)
 
 -- the scales of their immediates
-pub scales : (scale_of 0x91000000 ≡ 1) × (load_scale 0x39400000 ≡ 1) × (load_scale 0x79400000 ≡ 2) × (load_scale 0xb9400000 ≡ 4) × (load_scale 0xf9400000 ≡ 8)
+pub scales : (scale_of 0x91000000 ≡ 1) × (load_scale 0x39400000 ≡ 1) × (load_scale 0x79400000 ≡ 2) × (load_scale 0xb9400000 ≡ 4)
+    × (load_scale 0xf9400000 ≡ 8)
     × (load_scale 0x3d400000 ≡ 1) × (load_scale 0x3dc00000 ≡ 16)
 scales = (refl, refl, refl, refl, refl, refl, refl)
 
@@ -91,7 +94,8 @@ unfolding le_at
 a_load_of_a_slot = record { load = refl; reaches = refl; kept = refl }
 
 -- a difference of 4 bytes with content -4, of addresses 16 apart: `0c 00 00 00`; one with the lesser address first
-pub a_difference : IsDifference 4 (word_of 0x0c 0x00 0x00 0x00) (0x100004010 + slide) (0x100004000 + slide) (signed 32 (word_of 0xfc 0xff 0xff 0xff))
+pub a_difference : IsDifference 4 (word_of 0x0c 0x00 0x00 0x00) (0x100004010 + slide) (0x100004000 + slide)
+    (signed 32 (word_of 0xfc 0xff 0xff 0xff))
 unfolding le_at
 a_difference = refl
 
@@ -112,7 +116,8 @@ pub a_stub : GoesThrough 0x100004000 0x100008010 (word_of 0x30 0x00 0x00 0x90) (
 unfolding le_at
 a_stub = record { pages = (refl, refl); reaches = refl; load = (refl, refl, refl); offset = refl; leaves = refl }
 
-pub a_stub_slid : GoesThrough (0x100004000 + slide) (0x100008010 + slide) (word_of 0x30 0x00 0x00 0x90) (word_of 0x10 0x0a 0x40 0xf9) (word_of 0x00 0x02 0x1f 0xd6)
+pub a_stub_slid : GoesThrough (0x100004000 + slide) (0x100008010 + slide) (word_of 0x30 0x00 0x00 0x90) (word_of 0x10 0x0a 0x40 0xf9)
+    (word_of 0x00 0x02 0x1f 0xd6)
 unfolding le_at
 a_stub_slid = record { pages = (refl, refl); reaches = refl; load = (refl, refl, refl); offset = refl; leaves = refl }
 

@@ -14,18 +14,22 @@ use Rattle.macho_model.specs.Chain.{chain_segments}
 use Rattle.macho_model.specs.Loader.{IsAccepted}
 use Rattle.macho_model_checks.proofs.Examples.{words8, words, halves, name16, changed}
 use Rattle.macho_model_checks.proofs.ExampleImages.{smallest, image_with_fixups, one_page, two_pages}
-use Rattle.macho_model_checks.proofs.LoaderTests.{load_verdict, load_all_but, load_all_pass, is_accepted, LoadBreaksAlone, load_breaks_alone}
+use Rattle.macho_model_checks.proofs.LoaderTests.{load_verdict, load_all_but, load_all_pass, is_accepted, LoadBreaksAlone}
+use Rattle.macho_model_checks.proofs.LoaderTests.{load_breaks_alone}
 use Rattle.macho_model.proofs.PageChains.{no_page_of}
 
 -- the commands of the smallest image, its base, and the addresses of what is mapped
 pub commands_of_smallest : commands_of smallest ≡
-    record { at = 32; number = 0x19; size = 72 } ∷ record { at = 104; number = 0x19; size = 152 } ∷ record { at = 256; number = 0x80000028; size = 24 }
+    record { at = 32; number = 0x19; size = 72 } ∷ record { at = 104; number = 0x19; size = 152 }
+    ∷ record { at = 256; number = 0x80000028; size = 24 }
     ∷ record { at = 280; number = 0xe; size = 32 } ∷ []
 unfolding commands_of commands_from header_of reading le_at row_bytes le_bytes words8 words name16 smallest
 commands_of_smallest = refl
 
-pub base_of_smallest : (base_of smallest ≡ 0x100000000) × (map (λ s. s.vmaddr) (mapped_segments smallest) ≡ 0x100000000 ∷ []) × (length (segments_of smallest) ≡ 2)
-unfolding base_of mapped_segments segments_of commands_of commands_from header_of reading le_at row_bytes le_bytes words8 words name16 smallest
+pub base_of_smallest : (base_of smallest ≡ 0x100000000) × (map (λ s. s.vmaddr) (mapped_segments smallest) ≡ 0x100000000 ∷ [])
+    × (length (segments_of smallest) ≡ 2)
+unfolding base_of mapped_segments segments_of commands_of commands_from header_of reading le_at row_bytes le_bytes words8 words name16
+    smallest
 base_of_smallest = (refl, refl, refl)
 
 -- the smallest image has no fixup table, and the loader accepts it
@@ -34,29 +38,35 @@ unfolding tables_of commands_of commands_from header_of reading le_at row_bytes 
 no_tables = refl
 
 pub smallest_is_accepted : IsAccepted smallest
-unfolding load_verdict tables_of base_of segments_of commands_of commands_from commands_end header_of libraries_of reading le_at row_bytes le_bytes words8 words name16 smallest
+unfolding load_verdict tables_of base_of segments_of commands_of commands_from commands_end header_of libraries_of reading le_at row_bytes
+    le_bytes words8 words name16 smallest
 smallest_is_accepted = is_accepted smallest refl (λ number s page a is on. absurd (no_page_of smallest no_tables number s page a is on))
 
 -- what the image with fixups says of its segments, its library and its table
 pub segments_of_one_page : (map (λ s. s.vmaddr) (mapped_segments one_page) ≡ 0x100000000 ∷ 0x100004000 ∷ [])
     × (libraries_of one_page ≡ codes "/usr/lib/libSystem.B.dylib" ∷ []) × (tables_of one_page ≡ record { at = 320; size = 83 } ∷ [])
-unfolding mapped_segments tables_of base_of segments_of commands_of commands_from header_of libraries_of reading le_at row_bytes le_bytes words8 words halves name16 image_with_fixups one_page
+unfolding mapped_segments tables_of base_of segments_of commands_of commands_from header_of libraries_of reading le_at row_bytes le_bytes
+    words8 words halves name16 image_with_fixups one_page
 segments_of_one_page = (refl, refl, refl)
 
 -- each segment as chains see it, with its page starts
 pub chain_segments_of_two_pages : chain_segments two_pages ≡
-    record { address = 0; file_offset = 0; file_size = 0; starts = [] } ∷ record { address = 0x100000000; file_offset = 0; file_size = 0x4000; starts = [] }
+    record { address = 0; file_offset = 0; file_size = 0; starts = [] }
+    ∷ record { address = 0x100000000; file_offset = 0; file_size = 0x4000; starts = [] }
     ∷ record { address = 0x100004000; file_offset = 0x4000; file_size = 0x4010; starts = 0x10 ∷ 8 ∷ [] } ∷ []
-unfolding chain_segments mapped_segments tables_of base_of segments_of commands_of commands_from header_of libraries_of reading le_at row_bytes le_bytes words8 words halves name16 image_with_fixups two_pages
+unfolding chain_segments mapped_segments tables_of base_of segments_of commands_of commands_from header_of libraries_of reading le_at
+    row_bytes le_bytes words8 words halves name16 image_with_fixups two_pages
 chain_segments_of_two_pages = refl
 
 -- its tests
 pub verdict_of_one_page : load_verdict one_page ≡ load_all_pass
-unfolding load_verdict tables_of base_of segments_of commands_of commands_from commands_end header_of libraries_of reading le_at row_bytes le_bytes words8 words halves name16 image_with_fixups one_page
+unfolding load_verdict tables_of base_of segments_of commands_of commands_from commands_end header_of libraries_of reading le_at row_bytes
+    le_bytes words8 words halves name16 image_with_fixups one_page
 verdict_of_one_page = refl
 
 pub verdict_of_two_pages : load_verdict two_pages ≡ load_all_pass
-unfolding load_verdict tables_of base_of segments_of commands_of commands_from commands_end header_of libraries_of reading le_at row_bytes le_bytes words8 words halves name16 image_with_fixups two_pages
+unfolding load_verdict tables_of base_of segments_of commands_of commands_from commands_end header_of libraries_of reading le_at row_bytes
+    le_bytes words8 words halves name16 image_with_fixups two_pages
 verdict_of_two_pages = refl
 
 -- A change of the image of one page and the rule that it breaks.
@@ -99,7 +109,8 @@ load_changes =
     ∷ record {
       rule = L8;
       at = 248;
-      text = words (0x80000034 ∷ 56 ∷ 320 ∷ 83 ∷ []) ++ replicate 40 0 ++ words (0x80000034 ∷ 16 ∷ 320 ∷ 83 ∷ []) ++ words (0 ∷ 28 ∷ 72 ∷ 76 ∷ 0 ∷ []);
+      text = words (0x80000034 ∷ 56 ∷ 320 ∷ 83 ∷ []) ++ replicate 40 0 ++ words (0x80000034 ∷ 16 ∷ 320 ∷ 83 ∷ [])
+          ++ words (0 ∷ 28 ∷ 72 ∷ 76 ∷ 0 ∷ []);
     }
     -- a table that passes the file; another version, import format, page size, pointer format; starts of another address
     ∷ record { rule = L8; at = 304 + 12; text = words (16097 ∷ []) }
@@ -119,11 +130,13 @@ load_changes =
 
 -- what the tests say of each change
 load_verdicts : AllByRecursion (λ c. load_verdict (changed_image c) ≡ load_all_but c.rule) load_changes
-unfolding load_verdict tables_of base_of segments_of commands_of commands_from commands_end header_of libraries_of reading le_at row_bytes le_bytes words8 words halves name16 image_with_fixups one_page changed
+unfolding load_verdict tables_of base_of segments_of commands_of commands_from commands_end header_of libraries_of reading le_at row_bytes
+    le_bytes words8 words halves name16 image_with_fixups one_page changed
 load_verdicts = (refl, (refl, (refl, (refl, (refl, (refl, (refl, (refl, (refl, (refl, (refl, (refl, (refl, (refl, (refl, (refl, (refl, (refl, (refl, (refl, (refl, (refl, (refl, (refl, (refl, tt)))))))))))))))))))))))))
 
 -- Each change breaks its rule, and no other one that has a test.
 pub each_load_change_breaks_its_rule : All (λ c. LoadBreaksAlone (changed_image c) c.rule) load_changes
 each_load_change_breaks_its_rule =
-    All-weaker (λ c. load_verdict (changed_image c) ≡ load_all_but c.rule) (λ c. LoadBreaksAlone (changed_image c) c.rule) (λ c is. load_breaks_alone (changed_image c) c.rule is) load_changes
+    All-weaker (λ c. load_verdict (changed_image c) ≡ load_all_but c.rule) (λ c. LoadBreaksAlone (changed_image c) c.rule)
+    (λ c is. load_breaks_alone (changed_image c) c.rule is) load_changes
     (All-from_recursion (λ c. load_verdict (changed_image c) ≡ load_all_but c.rule) load_changes load_verdicts)

@@ -13,10 +13,12 @@ use Rattle.macho_model_checks.proofs.RowsValid.{data_object, initializers_object
 use Rattle.macho_bytes.specs.Numbers.{le_at, le_bytes, row_bytes}
 use Rattle.macho_bytes.specs.Layouts.{reading}
 use Rattle.macho_model.specs.Commands.{header_of, commands_from, commands_of, commands_end}
-use Rattle.macho_model.specs.Objects.{segment_of, num_sections, section_place, section_at, section_bytes, symtab_of, num_symbols, symbol_place, symbol_at, strings_of, symbol_name, relocation_place, relocation_at}
+use Rattle.macho_model.specs.Objects.{segment_of, num_sections, section_place, section_at, section_bytes, symtab_of, num_symbols}
+use Rattle.macho_model.specs.Objects.{symbol_place, symbol_at, strings_of, symbol_name, relocation_place, relocation_at}
 use Rattle.macho_model.specs.ExportLists.{plain_entries, all_entries, entries_of}
 use Rattle.macho_model.specs.Links.{Link, sections_of, carried_of, template_exponent, placed_exponent}
-use Rattle.macho_model.specs.Resolution.{symbols_of, strong_of, weak_of, commons_of, greatest_of, libraries_with, definition_of, chosen_commons}
+use Rattle.macho_model.specs.Resolution.{symbols_of, strong_of, weak_of, commons_of, greatest_of, libraries_with, definition_of}
+use Rattle.macho_model.specs.Resolution.{chosen_commons}
 use Rattle.macho_model.specs.Needs.{initializer_sections, unwind_sections, uses_of, imports_of, libraries_needed}
 use Rattle.macho_model.specs.Targets.{target_of, target_of_relocation, slots_of, stubs_of}
 use Rattle.macho_model.specs.Fields.{fields_of}
@@ -29,20 +31,33 @@ two_initializers = link_of_object (initializers_object 9 (0 ∷ 0 ∷ []) (0 ∷
 
 abbrev pub placed_initializers : Placed
 placed_initializers =
-    record (placed_with 0x100000000 0x100000000 0x100000010 0x4000 None) { init_offsets = record { start = 0x100000018; end = 0x100000020 } }
+    record (placed_with 0x100000000 0x100000000 0x100000010 0x4000 None) {
+      init_offsets = record
+          { start = 0x100000018; end = 0x100000020 };
+    }
 
 unfoldable pub offsets_file : ℕ → List ℕ
 offsets_file second = replicate 24 0 ++ words (16 ∷ second ∷ [])
 
 pub offsets_are_said : InitOffsetsSay two_initializers (offsets_file 16) placed_initializers
-unfolding header_of commands_from commands_of commands_end segment_of num_sections section_place section_at section_bytes symtab_of num_symbols symbol_place symbol_at strings_of symbol_name relocation_place relocation_at sections_of carried_of template_exponent placed_exponent symbols_of strong_of weak_of commons_of greatest_of libraries_with definition_of chosen_commons initializer_sections unwind_sections uses_of imports_of libraries_needed target_of target_of_relocation slots_of stubs_of fields_of plain_entries all_entries entries_of le_at le_bytes row_bytes reading words8 words halves name16 entry text_object data_object initializers_object offset_in_file section_address initializers_of offsets_file
+unfolding header_of commands_from commands_of commands_end segment_of num_sections section_place section_at section_bytes symtab_of
+    num_symbols symbol_place symbol_at strings_of symbol_name relocation_place relocation_at sections_of carried_of template_exponent
+    placed_exponent symbols_of strong_of weak_of commons_of greatest_of libraries_with definition_of chosen_commons
+    initializer_sections unwind_sections uses_of imports_of libraries_needed target_of target_of_relocation slots_of stubs_of
+    fields_of plain_entries all_entries entries_of le_at le_bytes row_bytes reading words8 words halves name16 entry
+    text_object data_object initializers_object offset_in_file section_address initializers_of offsets_file
 offsets_are_said = record { many = refl; are = refl }
 
 offsets_there :
     (map (initializer_at (offsets_file 20) placed_initializers) (range_with_len 0 (length (initializers_of two_initializers)))
     ≡ 0x100000010 ∷ 0x100000014 ∷ [])
     × (map (address_of placed_initializers) (initializers_of two_initializers) ≡ 0x100000010 ∷ 0x100000010 ∷ [])
-unfolding header_of commands_from commands_of commands_end segment_of num_sections section_place section_at section_bytes symtab_of num_symbols symbol_place symbol_at strings_of symbol_name relocation_place relocation_at sections_of carried_of template_exponent placed_exponent symbols_of strong_of weak_of commons_of greatest_of libraries_with definition_of chosen_commons initializer_sections unwind_sections uses_of imports_of libraries_needed target_of target_of_relocation slots_of stubs_of fields_of plain_entries all_entries entries_of le_at le_bytes row_bytes reading words8 words halves name16 entry text_object data_object initializers_object offset_in_file section_address initializers_of offsets_file
+unfolding header_of commands_from commands_of commands_end segment_of num_sections section_place section_at section_bytes symtab_of
+    num_symbols symbol_place symbol_at strings_of symbol_name relocation_place relocation_at sections_of carried_of template_exponent
+    placed_exponent symbols_of strong_of weak_of commons_of greatest_of libraries_with definition_of chosen_commons
+    initializer_sections unwind_sections uses_of imports_of libraries_needed target_of target_of_relocation slots_of stubs_of
+    fields_of plain_entries all_entries entries_of le_at le_bytes row_bytes reading words8 words halves name16 entry
+    text_object data_object initializers_object offset_in_file section_address initializers_of offsets_file
 offsets_there = (refl, refl)
 
 -- another offset is refused
@@ -84,7 +99,8 @@ abbrev pub told_template : ℕ → Placed
 told_template start = placed_with 0 0 0 0x4000 (Some (record { start = start; end = 0x4010 }))
 
 headers_there : template_headers template_file ≡ values_header ∷ zeros_header ∷ []
-unfolding template_headers section_headers_of section_headers_at template_file commands_from commands_of header_of reading le_at le_bytes row_bytes words8 words name16
+unfolding template_headers section_headers_of section_headers_at template_file commands_from commands_of header_of reading le_at le_bytes
+    row_bytes words8 words name16
 headers_there = refl
 
 abbrev pub lies_inside : SectionHeader → Type 0

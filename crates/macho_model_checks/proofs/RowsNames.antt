@@ -6,11 +6,13 @@ use Rattle.macho_records.specs.declared.segments.TheConstants.SegmentName as nam
 use Rattle.macho_model.specs.Segments.{PAGEZERO, TEXT, DATA, DATA_CONST, LINKEDIT}
 
 -- `SEG_PAGEZERO`, `SEG_TEXT`, `SEG_DATA`, `SEG_LINKEDIT` of `mach-o/loader.h`, and two that have no name there
-pub segment_names : (text_of name.PAGEZERO ≡ PAGEZERO) × (text_of name.TEXT ≡ TEXT) × (text_of name.DATA ≡ DATA) × (text_of name.DATA_CONST ≡ DATA_CONST)
+pub segment_names : (text_of name.PAGEZERO ≡ PAGEZERO) × (text_of name.TEXT ≡ TEXT) × (text_of name.DATA ≡ DATA)
+    × (text_of name.DATA_CONST ≡ DATA_CONST)
     × (text_of name.LINKEDIT ≡ LINKEDIT) × (text_of name.LLVM ≡ codes "__LLVM")
 segment_names = (refl, refl, refl, refl, refl, refl)
 
 -- the words of the definitions, letter by letter
-pub names_of_the_model : (PAGEZERO ≡ codes "__PAGEZERO") × (TEXT ≡ codes "__TEXT") × (DATA ≡ codes "__DATA") × (DATA_CONST ≡ codes "__DATA_CONST")
+pub names_of_the_model : (PAGEZERO ≡ codes "__PAGEZERO") × (TEXT ≡ codes "__TEXT") × (DATA ≡ codes "__DATA")
+    × (DATA_CONST ≡ codes "__DATA_CONST")
     × (LINKEDIT ≡ codes "__LINKEDIT")
 names_of_the_model = (refl, refl, refl, refl, refl)

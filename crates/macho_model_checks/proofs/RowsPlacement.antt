@@ -3,7 +3,8 @@
 -- The section stands behind the 312 bytes of header and commands, at 0x100000138; all other parts are empty. Each part
 -- of the relation is shown of every placement of this shape as far as it asks something of the shape's numbers; so a
 -- change of these numbers breaks the part that asks, and keeps the others by the same lemmas.
-use Rattle.std.proofs.Common.{◌≡◌, ℕ, zero, suc, ◌+◌, ◌%◌, ◌≤◌, ◌⊎◌, ◌==◌, nat_le, ◌^◌, ◌&&◌, ◌||◌, not, Bool, false, ◌≢◌, List, [], ◌∷◌, length, get_or, map, refl, sym, ap, ◌∙◌, arith, inl, inr, None, Some, All, true}
+use Rattle.std.proofs.Common.{◌≡◌, ℕ, zero, suc, ◌+◌, ◌%◌, ◌≤◌, ◌⊎◌, ◌==◌, nat_le, ◌^◌, ◌&&◌, ◌||◌, not, Bool, false, ◌≢◌, List, [], ◌∷◌}
+use Rattle.std.proofs.Common.{length, get_or, map, refl, sym, ap, ◌∙◌, arith, inl, inr, None, Some, All, true}
 use Rattle.std.specs.Prelude.{Option, is_some, AllPairs}
 use Rattle.std.specs.List.{AllByRecursion}
 use Rattle.std.proofs.lemmas.Bool.{leb-true, le-leb}
@@ -17,8 +18,12 @@ use Rattle.macho_model.specs.declared.placed.PlacedSection.{PlacedSection}
 use Rattle.macho_model.specs.Links.{SectionId, header_at, carried_of, placed_exponent}
 use Rattle.macho_model.specs.Segments.{TEXT, base_of_link, segment_rank}
 use Rattle.macho_model.specs.WrittenSum.{written_sum_of}
-use Rattle.macho_model.specs.Placement.{Placed, Span, AreApart, spans_with, spans_of, SectionLies, TableLies, IsWholeList, IsAligned, IsInSegment, IsPaged, Follows, EachFollows, IsInOrder, TextBegins, TemplateHolds, is_segment_named, template_sections, LiesIn, IsPlaced, id_of, section_span, head_span, range_span, linkedit_span, linkedit_ranges}
-use Rattle.macho_model.proofs.EachBelow.{true_or_false, and_left, and_right, and_both, either, or_first, or_second, is_equal, equal_is, same_number, other_number}
+use Rattle.macho_model.specs.Placement.{Placed, Span, AreApart, spans_with, spans_of, SectionLies, TableLies, IsWholeList, IsAligned}
+use Rattle.macho_model.specs.Placement.{IsInSegment, IsPaged, Follows, EachFollows, IsInOrder, TextBegins, TemplateHolds}
+use Rattle.macho_model.specs.Placement.{is_segment_named, template_sections, LiesIn, IsPlaced, id_of, section_span, head_span, range_span}
+use Rattle.macho_model.specs.Placement.{linkedit_span, linkedit_ranges}
+use Rattle.macho_model.proofs.EachBelow.{true_or_false, and_left, and_right, and_both, either, or_first, or_second, is_equal, equal_is}
+use Rattle.macho_model.proofs.EachBelow.{same_number, other_number}
 use Rattle.macho_model_checks.proofs.Examples.{name16}
 use Rattle.macho_model_checks.proofs.ExampleLinks.{section}
 use Rattle.macho_model_checks.proofs.ExamplePlacement.{link_a, counts_a, nothing, pagezero_to, text_from, section_a, placed_with, placed_a}
@@ -81,31 +86,36 @@ module _ (base start address size : ℕ) (template : Option Range64) where
 
   aligned : address % 4 ≡ 0 → IsAligned link_a (placed_with base start address size template)
   aligned four = record {
-    sections = All-cons (λ (q : PlacedSection). q.address % 2 ^ placed_exponent link_a (id_of q) ≡ 0) (section_a address) [] (rw exponent_a four) (All-nil (λ (q : PlacedSection). q.address % 2 ^ placed_exponent link_a (id_of q) ≡ 0));
+    sections = All-cons (λ (q : PlacedSection). q.address % 2 ^ placed_exponent link_a (id_of q) ≡ 0) (section_a address) []
+        (rw exponent_a four) (All-nil (λ (q : PlacedSection). q.address % 2 ^ placed_exponent link_a (id_of q) ≡ 0));
     commons = λ k d lt. absurd (omega (arith, lt));
     slots = λ k d lt. absurd (omega (arith, lt));
     stubs = λ k d lt. absurd (omega (arith, lt));
   }
 
-  lies : start ≤ address → address + 8 ≤ start + 0x4000 → SectionLies link_a (placed_with base start address size template) (section_a address)
+  lies : start ≤ address → address + 8 ≤ start + 0x4000 → SectionLies link_a (placed_with base start address size template)
+      (section_a address)
   unfolding name16
   lies from to = rw section_of_a (text_from start size, (omega arith, refl), refl, record { from = from; to = to })
 
   in_segment : start ≤ address → address + 8 ≤ start + 0x4000 → IsInSegment link_a (placed_with base start address size template)
   in_segment from to = record {
-    sections = All-cons (SectionLies link_a (placed_with base start address size template)) (section_a address) [] (lies from to) (All-nil (SectionLies link_a (placed_with base start address size template)));
+    sections = All-cons (SectionLies link_a (placed_with base start address size template)) (section_a address) [] (lies from to)
+        (All-nil (SectionLies link_a (placed_with base start address size template)));
     commons = λ k d lt. absurd (omega (arith, lt));
     slots = λ k d lt. absurd (omega (arith, lt));
     stubs = λ k d lt. absurd (omega (arith, lt));
     init_offsets = (omega arith, inl refl);
     unwind = (omega arith, inl refl);
-    linkedit = All-from_recursion (TableLies (placed_with base start address size template)) (linkedit_ranges (placed_with base start address size template))
+    linkedit = All-from_recursion (TableLies (placed_with base start address size template))
+        (linkedit_ranges (placed_with base start address size template))
         (inl refl, (inl refl, (inl refl, (inl refl, (inl refl, tt)))));
   }
 
   -- the empty ranges are apart from everything
   empties : List Span
-  empties = range_span nothing ∷ range_span nothing ∷ map (linkedit_span (placed_with base start address size template)) (linkedit_ranges (placed_with base start address size template))
+  empties = range_span nothing ∷ range_span nothing ∷ map (linkedit_span (placed_with base start address size template))
+      (linkedit_ranges (placed_with base start address size template))
 
   each_is_empty : All (λ (e : Span). e.size ≡ 0) empties
   unfolding empties
@@ -121,12 +131,16 @@ module _ (base start address size : ℕ) (template : Option Range64) where
       → AllPairs AreApart (spans_of link_a counts_a (placed_with base start address size template))
   unfolding spans_with empties
   apart beside =
-      AllPairs-cons AreApart (head_span counts_a (placed_with base start address size template)) (section_span link_a (section_a address) ∷ empties)
-      (All-cons (AreApart (head_span counts_a (placed_with base start address size template))) (section_span link_a (section_a address)) empties beside
+      AllPairs-cons AreApart (head_span counts_a (placed_with base start address size template))
+      (section_span link_a (section_a address) ∷ empties)
+      (All-cons (AreApart (head_span counts_a (placed_with base start address size template))) (section_span link_a (section_a address))
+      empties beside
       (apart_from_empties (head_span counts_a (placed_with base start address size template))))
-      (AllPairs-cons AreApart (section_span link_a (section_a address)) empties (apart_from_empties (section_span link_a (section_a address))) empties_apart)
+      (AllPairs-cons AreApart (section_span link_a (section_a address)) empties (apart_from_empties
+      (section_span link_a (section_a address))) empties_apart)
 
-  beside : (base + 312 ≤ address) ⊎ (address + 8 ≤ base) → AreApart (head_span counts_a (placed_with base start address size template)) (section_span link_a (section_a address))
+  beside : (base + 312 ≤ address) ⊎ (address + 8 ≤ base) → AreApart (head_span counts_a (placed_with base start address size template))
+      (section_span link_a (section_a address))
   beside h = rw section_of_a (inr (inr h))
 
   follows : Follows link_a (pagezero_to start) (text_from start size)
@@ -164,22 +178,26 @@ is_none : (t : Option Range64) → t ≡ None → not (is_some t) ≡ true
 is_none t h = rw h refl
 
 -- What a part asks is enough.
-pub part_holds : (base start address size : ℕ) (template : Option Range64) (part : PlacementPart) → asks base start address size template part ≡ true
+pub part_holds : (base start address size : ℕ) (template : Option Range64) (part : PlacementPart)
+    → asks base start address size template part ≡ true
     → Part (placed_with base start address size template) part
 part_holds base start address size template Base h = is_equal base 0x100000000 h
 part_holds base start address size template WholeList h = whole base start address size template
 part_holds base start address size template Aligned h = aligned base start address size template (is_equal (address % 4) 0 h)
 part_holds base start address size template InSegment h =
-    in_segment base start address size template (leb-true start address (and_left (nat_le start address) (nat_le (address + 8) (start + 0x4000)) h))
+    in_segment base start address size template (leb-true start address (and_left (nat_le start address)
+    (nat_le (address + 8) (start + 0x4000)) h))
     (leb-true (address + 8) (start + 0x4000) (and_right (nat_le start address) (nat_le (address + 8) (start + 0x4000)) h))
 part_holds base start address size template NonOverlapping h =
-    apart base start address size template (beside base start address size template (elim (either (nat_le (base + 312) address) (nat_le (address + 8) base) h) [
+    apart base start address size template (beside base start address size template
+    (elim (either (nat_le (base + 312) address) (nat_le (address + 8) base) h) [
       | inl before ↦ inl (leb-true (base + 312) address before)
       | inr behind ↦ inr (leb-true (address + 8) base behind)
     ]))
 part_holds base start address size template InOrder h =
     let rest = and_right (size % 0x4000 == 0) (nat_le 0x4000 size && (start == 0x100000000)) h in
-    in_order base start address size template (is_equal (size % 0x4000) 0 (and_left (size % 0x4000 == 0) (nat_le 0x4000 size && (start == 0x100000000)) h))
+    in_order base start address size template (is_equal (size % 0x4000) 0 (and_left (size % 0x4000 == 0)
+    (nat_le 0x4000 size && (start == 0x100000000)) h))
     (leb-true 0x4000 size (and_left (nat_le 0x4000 size) (start == 0x100000000) rest))
     (is_equal start 0x100000000 (and_right (nat_le 0x4000 size) (start == 0x100000000) rest))
 part_holds base start address size template Template h = no_template base start address size template (none_is template h)
@@ -204,7 +222,8 @@ a_is_placed = placed_by_parts placed_a (λ part. part_holds 0x100000000 0x100000
 
 -- the section lies in `__TEXT`, so between its address and the end of its file part
 inside : (start address size : ℕ) (s : PlacedSegment) → text_from start size ≡ s
-    → LiesIn (not (is_zerofill (header_at link_a (section 0 0))) && not ((header_at link_a (section 0 0)).size == 0)) (section_span link_a (section_a address)) s
+    → LiesIn (not (is_zerofill (header_at link_a (section 0 0))) && not ((header_at link_a (section 0 0)).size == 0))
+    (section_span link_a (section_a address)) s
     → (start ≤ address) × (address + 8 ≤ start + 0x4000)
 unfolding name16
 inside start address size s is lies =
@@ -212,12 +231,15 @@ inside start address size s is lies =
     (there.from, there.to)
 
 -- the first two parts are header and section
-first_two : (base start address size : ℕ) (template : Option Range64) → AllPairs AreApart (spans_of link_a counts_a (placed_with base start address size template))
+first_two : (base start address size : ℕ) (template : Option Range64) → AllPairs AreApart
+    (spans_of link_a counts_a (placed_with base start address size template))
     → AreApart (head_span counts_a (placed_with base start address size template)) (section_span link_a (section_a address))
 unfolding spans_with
-first_two base start address size template h = h 0 1 (head_span counts_a (placed_with base start address size template)) (omega arith) (omega arith)
+first_two base start address size template h = h 0 1 (head_span counts_a (placed_with base start address size template)) (omega arith)
+    (omega arith)
 
-beside_needed : (base start address size : ℕ) (template : Option Range64) → AreApart (head_span counts_a (placed_with base start address size template)) (section_span link_a (section_a address))
+beside_needed : (base start address size : ℕ) (template : Option Range64)
+    → AreApart (head_span counts_a (placed_with base start address size template)) (section_span link_a (section_a address))
     → (base + 312 ≤ address) ⊎ (address + 8 ≤ base)
 beside_needed base start address size template h =
     elim (rw section_of_a at h) [
@@ -225,7 +247,8 @@ beside_needed base start address size template h =
       | inr rest ↦ elim rest [ inl empty ↦ absurd (omega (arith, empty)) | inr both ↦ both ]
     ]
 
-no_template_sections : (base start address size : ℕ) (template : Option Range64) → template_sections link_a (placed_with base start address size template) ≡ []
+no_template_sections : (base start address size : ℕ) (template : Option Range64)
+    → template_sections link_a (placed_with base start address size template) ≡ []
 unfolding name16
 no_template_sections base start address size template = rw section_of_a refl
 
@@ -240,7 +263,8 @@ begins_needed start size (s, among, named, at_base) =
     among named at_base
 
 -- What a part asks is needed.
-pub part_asks : (base start address size : ℕ) (template : Option Range64) (part : PlacementPart) → Part (placed_with base start address size template) part
+pub part_asks : (base start address size : ℕ) (template : Option Range64) (part : PlacementPart)
+    → Part (placed_with base start address size template) part
     → asks base start address size template part ≡ true
 part_asks base start address size template Base h = equal_is base 0x100000000 h
 part_asks base start address size template WholeList h = refl
@@ -250,7 +274,8 @@ part_asks base start address size template Aligned h =
 part_asks base start address size template InSegment h =
     let lies = h.sections 0 (section_a address) (omega arith) in
     let both = inside start address size lies.0 lies.1.1 lies.3 in
-    and_both (nat_le start address) (nat_le (address + 8) (start + 0x4000)) (le-leb start address both.0) (le-leb (address + 8) (start + 0x4000) both.1)
+    and_both (nat_le start address) (nat_le (address + 8) (start + 0x4000)) (le-leb start address both.0)
+    (le-leb (address + 8) (start + 0x4000) both.1)
 part_asks base start address size template NonOverlapping h =
     elim (beside_needed base start address size template (first_two base start address size template h)) [
       | inl before ↦ or_first (nat_le (base + 312) address) (nat_le (address + 8) base) (le-leb (base + 312) address before)
@@ -325,20 +350,24 @@ abbrev pub changed_placement : PlacementChange → Placed
 changed_placement c = placed_with c.base c.start c.address c.size c.template
 
 -- what each part asks of a change
-asked : AllByRecursion (λ c. map (asks c.base c.start c.address c.size c.template) parts ≡ map (λ q. not (part_number q == part_number c.part)) parts) placement_changes
+asked : AllByRecursion (λ c. map (asks c.base c.start c.address c.size c.template) parts ≡ map
+    (λ q. not (part_number q == part_number c.part)) parts) placement_changes
 asked = (refl, (refl, (refl, (refl, (refl, (refl, (refl, (refl, tt))))))))
 
 pub record PartAlone (p : Placed) (part : PlacementPart) : Type 0 where
   pub broken : Part p part → ⊥
   pub others : (other : PlacementPart) → part_number other ≢ part_number part → Part p other
 
-part_alone : (c : PlacementChange) → map (asks c.base c.start c.address c.size c.template) parts ≡ map (λ q. not (part_number q == part_number c.part)) parts
+part_alone : (c : PlacementChange) → map (asks c.base c.start c.address c.size c.template) parts ≡ map
+    (λ q. not (part_number q == part_number c.part)) parts
     → PartAlone (changed_placement c) c.part
 part_alone c h =
     record {
-      broken = λ holds. true_or_false (asks c.base c.start c.address c.size c.template c.part) (part_asks c.base c.start c.address c.size c.template c.part holds)
+      broken = λ holds. true_or_false (asks c.base c.start c.address c.size c.template c.part)
+          (part_asks c.base c.start c.address c.size c.template c.part holds)
           (answer c.part ∙ same_number (part_number c.part));
-      others = λ other apart. part_holds c.base c.start c.address c.size c.template other (answer other ∙ other_number (part_number other) (part_number c.part) apart);
+      others = λ other apart. part_holds c.base c.start c.address c.size c.template other
+          (answer other ∙ other_number (part_number other) (part_number c.part) apart);
     }
   where
     answer : (q : PlacementPart) → asks c.base c.start c.address c.size c.template q ≡ not (part_number q == part_number c.part)
@@ -349,9 +378,11 @@ part_alone c h =
 -- Each change breaks its part of the relation, and no other one.
 pub each_placement_change_breaks_its_part : All (λ c. PartAlone (changed_placement c) c.part) placement_changes
 each_placement_change_breaks_its_part =
-    All-weaker (λ c. map (asks c.base c.start c.address c.size c.template) parts ≡ map (λ q. not (part_number q == part_number c.part)) parts)
+    All-weaker (λ c. map (asks c.base c.start c.address c.size c.template) parts ≡ map (λ q. not (part_number q == part_number c.part))
+    parts)
     (λ c. PartAlone (changed_placement c) c.part) part_alone placement_changes
-    (All-from_recursion (λ c. map (asks c.base c.start c.address c.size c.template) parts ≡ map (λ q. not (part_number q == part_number c.part)) parts) placement_changes asked)
+    (All-from_recursion (λ c. map (asks c.base c.start c.address c.size c.template) parts ≡ map
+    (λ q. not (part_number q == part_number c.part)) parts) placement_changes asked)
 
 -- A placement without the section lacks a thing of the link, and keeps the other parts: it has fewer things to ask of.
 abbrev pub placed_without : Placed
@@ -389,7 +420,11 @@ others_without InSegment apart =
       linkedit = with_it.linkedit;
     }
 others_without NonOverlapping apart = apart_without_section
-others_without InOrder apart = record { paged = a_is_placed.in_order.paged; follow = a_is_placed.in_order.follow; begins = a_is_placed.in_order.begins }
+others_without InOrder apart = record {
+  paged = a_is_placed.in_order.paged;
+  follow = a_is_placed.in_order.follow;
+  begins = a_is_placed.in_order.begins;
+}
 others_without Template apart = refl
 others_without WithinSum apart = a_is_placed.within_sum
 

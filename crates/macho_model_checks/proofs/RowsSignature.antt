@@ -60,7 +60,9 @@ table_signed = record { at = 128; size = 156 }
 
 -- THE file is signed
 pub small_is_signed : IsSigned signing small_signed
-unfolding sha256 compress rounds schedule first_words hash_after digest_bytes header_of commands_from commands_of commands_end segments_of signatures_of reading spelling le_at le_bytes be_at be_bytes row_bytes words8 words name16 big_words page_signed digest_of_page small_signed page_digest page_digests signature_text
+unfolding sha256 compress rounds schedule first_words hash_after digest_bytes header_of commands_from commands_of commands_end segments_of
+    signatures_of reading spelling le_at le_bytes be_at be_bytes row_bytes words8 words name16 big_words page_signed digest_of_page
+    small_signed page_digest page_digests signature_text
 small_is_signed = record { limit = 128; size = 156; one = refl; ends = refl; text = text_signed; text_is = refl; says = refl }
 
 -- what a file with these commands is signed by
@@ -82,7 +84,9 @@ with_another_digest = changed small_signed 283 (0x78 ∷ [])
 other_digest_facts : (signatures_of with_another_digest ≡ table_signed ∷ []) × (segments_named TEXT with_another_digest ≡ text_signed ∷ [])
     × (slice_index (slice_range with_another_digest 128 (length with_another_digest)) 155 ≡ 0x78)
     × (slice_index (signature_text (signed_of signing text_signed 128) with_another_digest) 155 ≡ 0x77)
-unfolding sha256 compress rounds schedule first_words hash_after digest_bytes header_of commands_from commands_of commands_end segments_of signatures_of reading spelling le_at le_bytes be_at be_bytes row_bytes words8 words name16 big_words page_signed digest_of_page small_signed page_digest page_digests signature_text changed with_another_digest
+unfolding sha256 compress rounds schedule first_words hash_after digest_bytes header_of commands_from commands_of commands_end segments_of
+    signatures_of reading spelling le_at le_bytes be_at be_bytes row_bytes words8 words name16 big_words page_signed digest_of_page
+    small_signed page_digest page_digests signature_text changed with_another_digest
 other_digest_facts = (refl, refl, refl, refl)
 
 pub digest_is_asked : IsSigned signing with_another_digest → ⊥
@@ -97,7 +101,9 @@ with_another_page = changed small_signed 120 (1 ∷ [])
 other_page_facts : (signatures_of with_another_page ≡ table_signed ∷ []) × (segments_named TEXT with_another_page ≡ text_signed ∷ [])
     × (slice_index (slice_range with_another_page 128 (length with_another_page)) 155 ≡ 0x77)
     × (slice_index (signature_text (signed_of signing text_signed 128) with_another_page) 155 ≡ 0xd1)
-unfolding sha256 compress rounds schedule first_words hash_after digest_bytes header_of commands_from commands_of commands_end segments_of signatures_of reading spelling le_at le_bytes be_at be_bytes row_bytes words8 words name16 big_words page_signed digest_of_page small_signed page_digest page_digests signature_text changed with_another_page
+unfolding sha256 compress rounds schedule first_words hash_after digest_bytes header_of commands_from commands_of commands_end segments_of
+    signatures_of reading spelling le_at le_bytes be_at be_bytes row_bytes words8 words name16 big_words page_signed digest_of_page
+    small_signed page_digest page_digests signature_text changed with_another_page
 other_page_facts = (refl, refl, refl, refl)
 
 pub page_is_asked : IsSigned signing with_another_page → ⊥

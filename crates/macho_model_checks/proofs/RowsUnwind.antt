@@ -3,7 +3,8 @@
 -- The object's function has 8 bytes and no frame. It stands at 0x138, and the section `__unwind_info` behind it: header, the one
 -- encoding, the page's entry and the last one, and the page with its one function (`mach-o/compact_unwind_encoding.h`). Entries have one
 -- plan, so a section with another encoding, or with another end of the last function, is none of theirs.
-use Rattle.std.proofs.Common.{◌≡◌, ℕ, ◌+◌, ◌-◌, ◌/◌, ◌%◌, ◌^◌, ◌<◌, ◌≤◌, List, [], ◌∷◌, ◌++◌, length, get_or, replicate, refl, sym, ap, ◌∙◌, subst, inl, inr, arith, None, All}
+use Rattle.std.proofs.Common.{◌≡◌, ℕ, ◌+◌, ◌-◌, ◌/◌, ◌%◌, ◌^◌, ◌<◌, ◌≤◌, List, [], ◌∷◌, ◌++◌, length, get_or, replicate, refl, sym, ap}
+use Rattle.std.proofs.Common.{◌∙◌, subst, inl, inr, arith, None, All}
 use Rattle.std.specs.Prelude.{slice_index, slice_range, IfSome}
 use Rattle.std.proofs.lemmas.List.Elements.{All-nil, All-cons}
 use Rattle.std.proofs.lemmas.List.Sorted.{IsPermutation-refl}
@@ -12,10 +13,12 @@ use Rattle.macho_bytes.specs.Numbers.{le_at, le_bytes, row_bytes}
 use Rattle.macho_bytes.specs.Layouts.{reading, spelling}
 use Rattle.macho_bytes.specs.Texts.{Stands}
 use Rattle.macho_model.specs.Commands.{header_of, commands_from, commands_of, commands_end}
-use Rattle.macho_model.specs.Objects.{segment_of, num_sections, section_place, section_at, section_bytes, symtab_of, num_symbols, symbol_place, symbol_at, strings_of, symbol_name, relocation_place, relocation_at}
+use Rattle.macho_model.specs.Objects.{segment_of, num_sections, section_place, section_at, section_bytes, symtab_of, num_symbols}
+use Rattle.macho_model.specs.Objects.{symbol_place, symbol_at, strings_of, symbol_name, relocation_place, relocation_at}
 use Rattle.macho_model.specs.ExportLists.{plain_entries, all_entries, entries_of}
 use Rattle.macho_model.specs.Links.{Link, sections_of, carried_of, template_exponent, placed_exponent}
-use Rattle.macho_model.specs.Resolution.{symbols_of, strong_of, weak_of, commons_of, greatest_of, libraries_with, definition_of, chosen_commons}
+use Rattle.macho_model.specs.Resolution.{symbols_of, strong_of, weak_of, commons_of, greatest_of, libraries_with, definition_of}
+use Rattle.macho_model.specs.Resolution.{chosen_commons}
 use Rattle.macho_model.specs.Needs.{initializer_sections, unwind_sections, uses_of, imports_of, libraries_needed}
 use Rattle.macho_model.specs.Targets.{target_of, target_of_relocation, slots_of, stubs_of}
 use Rattle.macho_model.specs.Fields.{fields_of}
@@ -60,7 +63,12 @@ abbrev pub functions : List ResolvedUnwindInfo
 functions = function_there ∷ []
 
 resolved_are : resolved_entries unwinding placed_unwind ≡ functions
-unfolding commands_end commands_of commands_from header_of reading le_at row_bytes le_bytes words8 words halves name16 entry segment_of num_sections section_place section_at section_bytes symtab_of num_symbols symbol_place symbol_at strings_of symbol_name relocation_place relocation_at sections_of carried_of template_exponent placed_exponent symbols_of strong_of weak_of commons_of greatest_of libraries_with definition_of chosen_commons initializer_sections unwind_sections uses_of imports_of libraries_needed target_of target_of_relocation slots_of stubs_of fields_of plain_entries all_entries entries_of entries_of_link section_address resolved_entries data_object unwind_object unwind_entry
+unfolding commands_end commands_of commands_from header_of reading le_at row_bytes le_bytes words8 words halves name16 entry segment_of
+    num_sections section_place section_at section_bytes symtab_of num_symbols symbol_place symbol_at strings_of symbol_name
+    relocation_place relocation_at sections_of carried_of template_exponent placed_exponent symbols_of strong_of weak_of commons_of
+    greatest_of libraries_with definition_of chosen_commons initializer_sections unwind_sections uses_of imports_of
+    libraries_needed target_of target_of_relocation slots_of stubs_of fields_of plain_entries all_entries entries_of
+    entries_of_link section_address resolved_entries data_object unwind_object unwind_entry
 resolved_are = refl
 
 range_there : unwind_bytes unwind_file placed_unwind ≡ unwind_section
@@ -208,7 +216,8 @@ with_another_end = changed unwind_file 0x16c (0x3c ∷ [])
 
 changed_bytes : (slice_index (unwind_bytes with_another_encoding placed_unwind) 31 ≡ 4) × (slice_index unwind_section 31 ≡ 2)
     × (slice_index (unwind_bytes with_another_end placed_unwind) 44 ≡ 0x3c) × (slice_index unwind_section 44 ≡ 0x40)
-unfolding words halves le_bytes row_bytes unwind_section unwind_file offset_in_file unwind_bytes changed with_another_encoding with_another_end
+unfolding words halves le_bytes row_bytes unwind_section unwind_file offset_in_file unwind_bytes changed with_another_encoding
+    with_another_end
 changed_bytes = (refl, refl, refl, refl)
 
 pub encoding_is_asked : UnwindSays unwinding with_another_encoding placed_unwind → ⊥

@@ -8,10 +8,12 @@ use Rattle.macho_bytes.specs.Numbers.{le_at, le_bytes, row_bytes}
 use Rattle.macho_bytes.specs.Layouts.{reading}
 use Rattle.macho_model.specs.declared.placed.Counts.{Counts}
 use Rattle.macho_model.specs.Commands.{header_of, commands_from, commands_of, commands_end}
-use Rattle.macho_model.specs.Objects.{segment_of, num_sections, section_place, section_at, section_bytes, symtab_of, num_symbols, symbol_place, symbol_at, strings_of, symbol_name, relocation_place, relocation_at}
+use Rattle.macho_model.specs.Objects.{segment_of, num_sections, section_place, section_at, section_bytes, symtab_of, num_symbols}
+use Rattle.macho_model.specs.Objects.{symbol_place, symbol_at, strings_of, symbol_name, relocation_place, relocation_at}
 use Rattle.macho_model.specs.ExportLists.{plain_entries, all_entries, entries_of}
 use Rattle.macho_model.specs.Links.{Link, Object, sections_of, carried_of, template_exponent, placed_exponent}
-use Rattle.macho_model.specs.Resolution.{symbols_of, strong_of, weak_of, commons_of, greatest_of, libraries_with, definition_of, chosen_commons}
+use Rattle.macho_model.specs.Resolution.{symbols_of, strong_of, weak_of, commons_of, greatest_of, libraries_with, definition_of}
+use Rattle.macho_model.specs.Resolution.{chosen_commons}
 use Rattle.macho_model.specs.Needs.{initializer_sections, unwind_sections, uses_of, imports_of, libraries_needed}
 use Rattle.macho_model.specs.Targets.{target_of, target_of_relocation, slots_of, stubs_of}
 use Rattle.macho_model.specs.Fields.{fields_of}
@@ -24,7 +26,10 @@ use Rattle.macho_model.proofs.EachBelow.{true_or_false}
 use Rattle.macho_model_checks.proofs.Examples.{words8, words, halves, name16, object_a}
 use Rattle.macho_model_checks.proofs.ExampleLinks.{entry, text_object, executable_of}
 use Rattle.macho_model_checks.proofs.ExamplePlacement.{link_a, counts_a}
-use Rattle.macho_model_checks.proofs.ValidTests.{ValidPart, Single, Used, Listed, Begun, Supported, NonOverlapping, Fitting, Initializers, Slots, AtSlots, Whole, Unwind, Limits, Sum, ValidKeeps, valid_verdict, verdict_but, is_part, valid_answer, shows_valid_test, is_valid_by_tests, ValidBreaksAlone, valid_breaks_alone}
+use Rattle.macho_model_checks.proofs.ValidTests.{ValidPart, Single, Used, Listed, Begun, Supported, NonOverlapping, Fitting, Initializers}
+use Rattle.macho_model_checks.proofs.ValidTests.{Slots, AtSlots, Whole, Unwind, Limits, Sum, ValidKeeps, valid_verdict, verdict_but}
+use Rattle.macho_model_checks.proofs.ValidTests.{is_part, valid_answer, shows_valid_test, is_valid_by_tests, ValidBreaksAlone}
+use Rattle.macho_model_checks.proofs.ValidTests.{valid_breaks_alone}
 
 -- a global symbol at the start of the first section, and its name
 abbrev pub main_entry : List ℕ
@@ -36,7 +41,8 @@ main_name = 0 ∷ codes "_main" ++ 0 ∷ []
 -- a call of `_f`, which nothing defines
 unfoldable pub calls_nothing : List ℕ
 calls_nothing =
-    text_object (words (0x94000000 ∷ 0xd65f03c0 ∷ [])) (words (0 ∷ 0x2d000001 ∷ [])) (main_entry ++ entry 7 0x01 0 0 0) (main_name ++ codes "_f" ++ 0 ∷ [])
+    text_object (words (0x94000000 ∷ 0xd65f03c0 ∷ [])) (words (0 ∷ 0x2d000001 ∷ [])) (main_entry ++ entry 7 0x01 0 0 0)
+    (main_name ++ codes "_f" ++ 0 ∷ [])
 
 -- instructions and relocations of `_main` at a place
 unfoldable pub calls_main : List ℕ → List ℕ → ℕ → List ℕ
@@ -47,7 +53,8 @@ calls_main instructions relocations place = text_object (words instructions) (wo
 unfoldable pub data_object : List ℕ → List ℕ → ℕ → List ℕ → List ℕ → List ℕ
 data_object name segment flags content relocations =
     words (0xfeedfacf ∷ 0x0100000c ∷ 0 ∷ 1 ∷ 2 ∷ 256 ∷ 0x2000 ∷ 0 ∷ [])
-    ++ words (0x19 ∷ 232 ∷ []) ++ name16 [] ++ words8 (0 ∷ (8 + length content) ∷ 288 ∷ (8 + length content) ∷ []) ++ words (7 ∷ 7 ∷ 2 ∷ 0 ∷ [])
+    ++ words (0x19 ∷ 232 ∷ []) ++ name16 [] ++ words8 (0 ∷ (8 + length content) ∷ 288 ∷ (8 + length content) ∷ [])
+    ++ words (7 ∷ 7 ∷ 2 ∷ 0 ∷ [])
     ++ name16 (codes "__text") ++ name16 (codes "__TEXT") ++ words8 (0 ∷ 8 ∷ []) ++ words (288 ∷ 2 ∷ 0 ∷ 0 ∷ 0x80000400 ∷ 0 ∷ 0 ∷ 0 ∷ [])
     ++ name16 name ++ name16 segment ++ words8 (8 ∷ length content ∷ [])
     ++ words (296 ∷ 3 ∷ (296 + length content) ∷ (length relocations / 8) ∷ flags ∷ 0 ∷ 0 ∷ 0 ∷ [])
@@ -59,7 +66,8 @@ unfoldable pub data_pointer : List ℕ → List ℕ → List ℕ → List ℕ
 data_pointer segment content relocations = data_object (codes "__data") segment 0 (words8 content) (words relocations)
 
 unfoldable pub initializers_object : ℕ → List ℕ → List ℕ → List ℕ
-initializers_object flags content relocations = data_object (codes "__mod_init_func") (codes "__DATA") flags (words8 content) (words relocations)
+initializers_object flags content relocations = data_object (codes "__mod_init_func") (codes "__DATA") flags (words8 content)
+    (words relocations)
 
 unfoldable pub unwind_object : List ℕ → List ℕ → List ℕ
 unwind_object content relocations = data_object (codes "__compact_unwind") (codes "__LD") 0x02000000 content (words relocations)
@@ -82,12 +90,20 @@ valid_links =
     ∷ []
 
 valid_link_verdicts : AllByRecursion (λ l. valid_verdict l counts_a ≡ verdict_but (λ q. false)) valid_links
-unfolding valid_verdict header_of commands_from commands_of commands_end segment_of num_sections section_place section_at section_bytes symtab_of num_symbols symbol_place symbol_at strings_of symbol_name relocation_place relocation_at sections_of carried_of template_exponent placed_exponent symbols_of strong_of weak_of commons_of greatest_of libraries_with definition_of chosen_commons initializer_sections unwind_sections uses_of imports_of libraries_needed target_of target_of_relocation slots_of stubs_of fields_of is_supported plain_entries all_entries entries_of other_segments segment_rank segment_names_of output_keys_of output_count content_sum command_sum unsigned_sum written_sum_of personality_targets entries_of_link le_at le_bytes row_bytes reading words8 words halves name16 object_a entry text_object data_object calls_nothing calls_main data_pointer initializers_object unwind_object unwind_entry
+unfolding valid_verdict header_of commands_from commands_of commands_end segment_of num_sections section_place section_at section_bytes
+    symtab_of num_symbols symbol_place symbol_at strings_of symbol_name relocation_place relocation_at sections_of carried_of
+    template_exponent placed_exponent symbols_of strong_of weak_of commons_of greatest_of libraries_with definition_of chosen_commons
+    initializer_sections unwind_sections uses_of imports_of libraries_needed target_of target_of_relocation slots_of stubs_of
+    fields_of is_supported plain_entries all_entries entries_of other_segments segment_rank segment_names_of output_keys_of
+    output_count content_sum command_sum unsigned_sum written_sum_of personality_targets entries_of_link le_at le_bytes
+    row_bytes reading words8 words halves name16 object_a entry text_object data_object calls_nothing calls_main
+    data_pointer initializers_object unwind_object unwind_entry
 valid_link_verdicts = (refl, (refl, (refl, (refl, (refl, tt)))))
 
 pub each_link_is_valid : All (λ l. IsValid l counts_a) valid_links
 each_link_is_valid =
-    All-weaker (λ l. valid_verdict l counts_a ≡ verdict_but (λ q. false)) (λ l. IsValid l counts_a) (λ l is. is_valid_by_tests l counts_a is) valid_links
+    All-weaker (λ l. valid_verdict l counts_a ≡ verdict_but (λ q. false)) (λ l. IsValid l counts_a)
+    (λ l is. is_valid_by_tests l counts_a is) valid_links
     (All-from_recursion (λ l. valid_verdict l counts_a ≡ verdict_but (λ q. false)) valid_links valid_link_verdicts)
 
 pub a_is_valid : IsValid link_a counts_a
@@ -142,7 +158,14 @@ valid_changes =
 
 -- what the tests say of each change
 valid_verdicts : AllByRecursion (λ c. valid_verdict c.link c.counts ≡ verdict_but (is_part c.part)) valid_changes
-unfolding valid_verdict header_of commands_from commands_of commands_end segment_of num_sections section_place section_at section_bytes symtab_of num_symbols symbol_place symbol_at strings_of symbol_name relocation_place relocation_at sections_of carried_of template_exponent placed_exponent symbols_of strong_of weak_of commons_of greatest_of libraries_with definition_of chosen_commons initializer_sections unwind_sections uses_of imports_of libraries_needed target_of target_of_relocation slots_of stubs_of fields_of is_supported plain_entries all_entries entries_of other_segments segment_rank segment_names_of output_keys_of output_count content_sum command_sum unsigned_sum written_sum_of personality_targets entries_of_link le_at le_bytes row_bytes reading words8 words halves name16 object_a entry text_object data_object calls_nothing calls_main data_pointer initializers_object unwind_object unwind_entry
+unfolding valid_verdict header_of commands_from commands_of commands_end segment_of num_sections section_place section_at section_bytes
+    symtab_of num_symbols symbol_place symbol_at strings_of symbol_name relocation_place relocation_at sections_of carried_of
+    template_exponent placed_exponent symbols_of strong_of weak_of commons_of greatest_of libraries_with definition_of chosen_commons
+    initializer_sections unwind_sections uses_of imports_of libraries_needed target_of target_of_relocation slots_of stubs_of
+    fields_of is_supported plain_entries all_entries entries_of other_segments segment_rank segment_names_of output_keys_of
+    output_count content_sum command_sum unsigned_sum written_sum_of personality_targets entries_of_link le_at le_bytes
+    row_bytes reading words8 words halves name16 object_a entry text_object data_object calls_nothing calls_main
+    data_pointer initializers_object unwind_object unwind_entry
 valid_verdicts =
     (refl, (refl, (refl, (refl, (refl, (refl, (refl, (refl, (refl, (refl, (refl, (refl, (refl, (refl, (refl, (refl, (refl, (refl, (refl, (refl, (refl, (refl, (refl, (refl, (refl, tt)))))))))))))))))))))))))
 
@@ -158,9 +181,17 @@ abbrev pub undefined : Link
 undefined = executable_of (Object calls_nothing ∷ [])
 
 undefined_verdict : valid_verdict undefined counts_a ≡ verdict_but (λ q. is_part Used q || is_part Supported q)
-unfolding valid_verdict header_of commands_from commands_of commands_end segment_of num_sections section_place section_at section_bytes symtab_of num_symbols symbol_place symbol_at strings_of symbol_name relocation_place relocation_at sections_of carried_of template_exponent placed_exponent symbols_of strong_of weak_of commons_of greatest_of libraries_with definition_of chosen_commons initializer_sections unwind_sections uses_of imports_of libraries_needed target_of target_of_relocation slots_of stubs_of fields_of is_supported plain_entries all_entries entries_of other_segments segment_rank segment_names_of output_keys_of output_count content_sum command_sum unsigned_sum written_sum_of personality_targets entries_of_link le_at le_bytes row_bytes reading words8 words halves name16 object_a entry text_object data_object calls_nothing calls_main data_pointer initializers_object unwind_object unwind_entry
+unfolding valid_verdict header_of commands_from commands_of commands_end segment_of num_sections section_place section_at section_bytes
+    symtab_of num_symbols symbol_place symbol_at strings_of symbol_name relocation_place relocation_at sections_of carried_of
+    template_exponent placed_exponent symbols_of strong_of weak_of commons_of greatest_of libraries_with definition_of chosen_commons
+    initializer_sections unwind_sections uses_of imports_of libraries_needed target_of target_of_relocation slots_of stubs_of
+    fields_of is_supported plain_entries all_entries entries_of other_segments segment_rank segment_names_of output_keys_of
+    output_count content_sum command_sum unsigned_sum written_sum_of personality_targets entries_of_link le_at le_bytes
+    row_bytes reading words8 words halves name16 object_a entry text_object data_object calls_nothing calls_main
+    data_pointer initializers_object unwind_object unwind_entry
 undefined_verdict = refl
 
 pub undefined_is_not_used : ValidKeeps undefined counts_a Used → ⊥
 undefined_is_not_used kept =
-    true_or_false _ (shows_valid_test undefined counts_a Used kept) (valid_answer undefined counts_a (λ q. is_part Used q || is_part Supported q) undefined_verdict Used)
+    true_or_false _ (shows_valid_test undefined counts_a Used kept) (valid_answer undefined counts_a
+    (λ q. is_part Used q || is_part Supported q) undefined_verdict Used)

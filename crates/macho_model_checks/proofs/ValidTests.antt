@@ -3,7 +3,8 @@
 -- A part speaks of each symbol, use, section, relocation, slot or limit, and of these a link has finitely many: so it has a
 -- test that is true exactly where the part holds. Of names there are more, but one with two definitions is that of a symbol.
 -- So the tests, computed, show of a small link that it is valid, or which part it breaks, and that it keeps the others.
-use Rattle.std.proofs.Common.{◌≡◌, ◌≢◌, ℕ, ◌+◌, ◌*◌, ◌/◌, ◌%◌, ◌<◌, ◌≤◌, ◌==◌, ◌⊎◌, inl, inr, nat_le, Bool, true, false, not, ◌&&◌, ◌||◌, List, [], ◌∷◌, length, get_or, map, refl, sym, ap, ◌∙◌, arith, Some, None, All}
+use Rattle.std.proofs.Common.{◌≡◌, ◌≢◌, ℕ, ◌+◌, ◌*◌, ◌/◌, ◌%◌, ◌<◌, ◌≤◌, ◌==◌, ◌⊎◌, inl, inr, nat_le, Bool, true, false, not, ◌&&◌, ◌||◌}
+use Rattle.std.proofs.Common.{List, [], ◌∷◌, length, get_or, map, refl, sym, ap, ◌∙◌, arith, Some, None, All}
 use Rattle.std.specs.Prelude.{Option, Contains, is_some, filter}
 use Rattle.std.specs.List.{list_all}
 use Rattle.std.proofs.lemmas.Bool.{leb-true, le-leb, cases_lt}
@@ -26,7 +27,8 @@ use Rattle.macho_model.specs.Consumed.{initializer_section_fits, initializer_slo
 use Rattle.macho_model.specs.Limits.{limited}
 use Rattle.macho_model.specs.Faults.{entry_is_defined}
 use Rattle.macho_model.specs.Valid.{VALID_SUM, field_fits, IsValid}
-use Rattle.macho_model.proofs.EachBelow.{each_below, true_or_false, and_right, or_second, same_number, other_number, all_pass, pass_all, below_pass, pass_below}
+use Rattle.macho_model.proofs.EachBelow.{each_below, true_or_false, and_right, or_second, same_number, other_number, all_pass, pass_all}
+use Rattle.macho_model.proofs.EachBelow.{below_pass, pass_below}
 
 -- The parts of validity.
 pub data ValidPart : Type 0 where
@@ -47,12 +49,14 @@ pub data ValidPart : Type 0 where
 
 abbrev pub ValidKeeps : Link → Counts → ValidPart → Type 0
 ValidKeeps l counts Single = (name : List ℕ) → length (strong_of l name) ≤ 1
-ValidKeeps l counts Used = (u : Use) (name : List ℕ) → Contains (uses_of l) u → name_used l u ≡ Some name → is_some (definition_of l name) ≡ true
+ValidKeeps l counts Used = (u : Use) (name : List ℕ) → Contains (uses_of l) u → name_used l u ≡ Some name
+    → is_some (definition_of l name) ≡ true
 ValidKeeps l counts Listed = All (λ name. is_some (definition_of l name) ≡ true) (plain_entries l.export_lists)
 ValidKeeps l counts Begun = entry_is_defined l ≡ true
 ValidKeeps l counts Supported = (s : SectionId) (r : ℕ) → Contains (carried_of l) s → r < (header_at l s).nreloc → is_supported l s r ≡ true
 ValidKeeps l counts NonOverlapping =
-    (s : SectionId) (q r : ℕ) → Contains (carried_of l) s → q < r → r < (header_at l s).nreloc → (share_byte l s q r ≡ false) ⊎ (are_pair l s q r ≡ true)
+    (s : SectionId) (q r : ℕ) → Contains (carried_of l) s → q < r → r < (header_at l s).nreloc → (share_byte l s q r ≡ false)
+    ⊎ (are_pair l s q r ≡ true)
 ValidKeeps l counts Fitting =
     (s : SectionId) → Contains (carried_of l) s → All (λ f. field_fits l s f (kind_of f.type (is_some f.subtrahend)) ≡ true) (fields_of l s)
 ValidKeeps l counts Initializers = All (λ s. initializer_section_fits l s ≡ true) (initializer_sections l)
@@ -60,7 +64,8 @@ ValidKeeps l counts Slots =
     (s : SectionId) (slot : ℕ) → Contains (initializer_sections l) s → POINTER_SIZE * slot + POINTER_SIZE ≤ (header_at l s).size
     → initializer_slot_fits l s slot ≡ true
 ValidKeeps l counts AtSlots =
-    (s : SectionId) (r : ℕ) → Contains (initializer_sections l) s → r < (header_at l s).nreloc → ((relocation_in l s r).r_address % POINTER_SIZE == 0) ≡ true
+    (s : SectionId) (r : ℕ) → Contains (initializer_sections l) s → r < (header_at l s).nreloc
+    → ((relocation_in l s r).r_address % POINTER_SIZE == 0) ≡ true
 ValidKeeps l counts Whole = All (λ s. whole_entries l s ≡ true) (unwind_sections l)
 ValidKeeps l counts Unwind =
     (s : SectionId) (e : ℕ) (rule : UnwindRule) → Contains (unwind_sections l) s → e < entry_count l s → keeps l s e rule ≡ true
@@ -107,7 +112,8 @@ unwind_rules = U1 ∷ U2 ∷ U3 ∷ U4 ∷ U5 ∷ U6 ∷ U7 ∷ U8 ∷ []
 
 abbrev pub all_limits : List Limit
 all_limits =
-    limit.Segments ∷ limit.Libraries ∷ limit.Sections ∷ limit.Personalities ∷ limit.Imports ∷ limit.NameBytes ∷ limit.Symbols ∷ limit.Pages ∷ []
+    limit.Segments ∷ limit.Libraries ∷ limit.Sections ∷ limit.Personalities ∷ limit.Imports ∷ limit.NameBytes ∷ limit.Symbols
+    ∷ limit.Pages ∷ []
 
 abbrev pub is_in_limit : Link → Counts → Limit → Bool
 is_in_limit l counts what = nat_le (limited l counts what).0 (limited l counts what).1
@@ -119,8 +125,10 @@ valid_test l counts Used = list_all (λ u. is_defined_if l (name_used l u)) (use
 valid_test l counts Listed = list_all (λ name. is_some (definition_of l name)) (plain_entries l.export_lists)
 valid_test l counts Begun = entry_is_defined l
 valid_test l counts Supported = list_all (λ s. each_below (header_at l s).nreloc (is_supported l s)) (carried_of l)
-valid_test l counts NonOverlapping = list_all (λ s. each_below (header_at l s).nreloc (λ r. each_below r (part_in_peace l s r))) (carried_of l)
-valid_test l counts Fitting = list_all (λ s. list_all (λ f. field_fits l s f (kind_of f.type (is_some f.subtrahend))) (fields_of l s)) (carried_of l)
+valid_test l counts NonOverlapping = list_all (λ s. each_below (header_at l s).nreloc (λ r. each_below r (part_in_peace l s r)))
+    (carried_of l)
+valid_test l counts Fitting = list_all (λ s. list_all (λ f. field_fits l s f (kind_of f.type (is_some f.subtrahend))) (fields_of l s))
+    (carried_of l)
 valid_test l counts Initializers = list_all (initializer_section_fits l) (initializer_sections l)
 valid_test l counts Slots = list_all (λ s. each_below ((header_at l s).size / 8) (initializer_slot_fits l s)) (initializer_sections l)
 valid_test l counts AtSlots =
@@ -138,7 +146,8 @@ pub passes_each : {X : Type 0} (test : X → Bool) (xs : List X) → ((x : X) �
 passes_each test xs h = pass_all test xs (λ k d lt. h (get_or xs k d) (Contains-get_or xs k d lt))
 
 -- a name with two strong definitions is that of a symbol
-single_shows : (l : Link) → list_all (λ s. nat_le (length (strong_of l (name_at l s))) 1) (symbols_of l) ≡ true → (name : List ℕ) → length (strong_of l name) ≤ 1
+single_shows : (l : Link) → list_all (λ s. nat_le (length (strong_of l (name_at l s))) 1) (symbols_of l) ≡ true → (name : List ℕ)
+    → length (strong_of l name) ≤ 1
 unfolding strong_of
 single_shows l h name =
     elim (cases_lt 1 (length (strong_of l name))) [
@@ -149,17 +158,21 @@ single_shows l h name =
           let s = get_or (strong_of l name) 0 none in
           let among : Contains (symbols_of l) s =
           All-filter test (λ x. Contains (symbols_of l) x) (symbols_of l) (λ k d lt. Contains-get_or (symbols_of l) k d lt) 0 none some in
-          let named = (bytes_eq-Decides (name_at l s) name).0 (and_right (is_strong l s) (has_name l name s) (filter_passes test (symbols_of l) 0 none some)) in
-          let few = leb-true (length (strong_of l (name_at l s))) 1 (one_passes (λ x. nat_le (length (strong_of l (name_at l x))) 1) (symbols_of l) s h among) in
+          let named = (bytes_eq-Decides (name_at l s) name).0 (and_right (is_strong l s) (has_name l name s)
+          (filter_passes test (symbols_of l) 0 none some)) in
+          let few = leb-true (length (strong_of l (name_at l s))) 1 (one_passes (λ x. nat_le (length (strong_of l (name_at l x))) 1)
+          (symbols_of l) s h among) in
           let same : length (strong_of l (name_at l s)) ≡ length (strong_of l name) = ap (λ n. length (strong_of l n)) named in
           absurd (omega (arith, many, few, same))
       | inr few ↦ few
     ]
 
-used_shows : (l : Link) (u : Use) (name : List ℕ) → is_defined_if l (name_used l u) ≡ true → name_used l u ≡ Some name → is_some (definition_of l name) ≡ true
+used_shows : (l : Link) (u : Use) (name : List ℕ) → is_defined_if l (name_used l u) ≡ true → name_used l u ≡ Some name
+    → is_some (definition_of l name) ≡ true
 used_shows l u name h is = ap (is_defined_if l) (sym is) ∙ h
 
-shows_used : (l : Link) (u : Use) (found : Option (List ℕ)) → name_used l u ≡ found → ((name : List ℕ) → name_used l u ≡ Some name → is_some (definition_of l name) ≡ true)
+shows_used : (l : Link) (u : Use) (found : Option (List ℕ)) → name_used l u ≡ found
+    → ((name : List ℕ) → name_used l u ≡ Some name → is_some (definition_of l name) ≡ true)
     → is_defined_if l found ≡ true
 shows_used l u None is h = refl
 shows_used l u (Some name) is h = h name is
@@ -183,7 +196,8 @@ unwind_shows l s e U6 h = all_pass (keeps l s e) unwind_rules h 5 U1 (omega arit
 unwind_shows l s e U7 h = all_pass (keeps l s e) unwind_rules h 6 U1 (omega arith)
 unwind_shows l s e U8 h = all_pass (keeps l s e) unwind_rules h 7 U1 (omega arith)
 
-limit_shows : (l : Link) (counts : Counts) (what : Limit) → list_all (is_in_limit l counts) all_limits ≡ true → is_in_limit l counts what ≡ true
+limit_shows : (l : Link) (counts : Counts) (what : Limit) → list_all (is_in_limit l counts) all_limits ≡ true
+    → is_in_limit l counts what ≡ true
 limit_shows l counts limit.Segments h = all_pass (is_in_limit l counts) all_limits h 0 limit.Segments (omega arith)
 limit_shows l counts limit.Libraries h = all_pass (is_in_limit l counts) all_limits h 1 limit.Segments (omega arith)
 limit_shows l counts limit.Sections h = all_pass (is_in_limit l counts) all_limits h 2 limit.Segments (omega arith)
@@ -204,19 +218,23 @@ valid_test_shows l counts Supported h =
     λ s r one lt. below_pass (header_at l s).nreloc (is_supported l s)
     (one_passes (λ x. each_below (header_at l x).nreloc (is_supported l x)) (carried_of l) s h one) r lt
 valid_test_shows l counts NonOverlapping h =
-    λ s q r one before lt. let of_section = one_passes (λ x. each_below (header_at l x).nreloc (λ r. each_below r (part_in_peace l x r))) (carried_of l) s h one in
+    λ s q r one before lt. let of_section = one_passes (λ x. each_below (header_at l x).nreloc (λ r. each_below r (part_in_peace l x r)))
+    (carried_of l) s h one in
     peace_shows (share_byte l s q r) (are_pair l s q r)
-    (below_pass r (part_in_peace l s r) (below_pass (header_at l s).nreloc (λ r. each_below r (part_in_peace l s r)) of_section r lt) q before)
+    (below_pass r (part_in_peace l s r) (below_pass (header_at l s).nreloc (λ r. each_below r (part_in_peace l s r)) of_section r lt) q
+    before)
 valid_test_shows l counts Fitting h =
     λ s one. all_pass (λ f. field_fits l s f (kind_of f.type (is_some f.subtrahend))) (fields_of l s)
     (one_passes (λ x. list_all (λ f. field_fits l x f (kind_of f.type (is_some f.subtrahend))) (fields_of l x)) (carried_of l) s h one)
 valid_test_shows l counts Initializers h = all_pass (initializer_section_fits l) (initializer_sections l) h
 valid_test_shows l counts Slots h =
     λ s slot one lt. below_pass ((header_at l s).size / 8) (initializer_slot_fits l s)
-    (one_passes (λ x. each_below ((header_at l x).size / 8) (initializer_slot_fits l x)) (initializer_sections l) s h one) slot (omega (arith, lt))
+    (one_passes (λ x. each_below ((header_at l x).size / 8) (initializer_slot_fits l x)) (initializer_sections l) s h one) slot
+    (omega (arith, lt))
 valid_test_shows l counts AtSlots h =
     λ s r one lt. below_pass (header_at l s).nreloc (λ r. (relocation_in l s r).r_address % POINTER_SIZE == 0)
-    (one_passes (λ x. each_below (header_at l x).nreloc (λ r. (relocation_in l x r).r_address % POINTER_SIZE == 0)) (initializer_sections l) s h one) r lt
+    (one_passes (λ x. each_below (header_at l x).nreloc (λ r. (relocation_in l x r).r_address % POINTER_SIZE == 0))
+    (initializer_sections l) s h one) r lt
 valid_test_shows l counts Whole h = all_pass (whole_entries l) (unwind_sections l) h
 valid_test_shows l counts Unwind h =
     λ s e rule one lt. unwind_shows l s e rule
@@ -228,9 +246,11 @@ valid_test_shows l counts Sum h = leb-true (written_sum_of l counts) VALID_SUM h
 -- A part that holds has a test that is true.
 pub shows_valid_test : (l : Link) (counts : Counts) (part : ValidPart) → ValidKeeps l counts part → valid_test l counts part ≡ true
 shows_valid_test l counts Single h =
-    passes_each (λ s. nat_le (length (strong_of l (name_at l s))) 1) (symbols_of l) (λ s one. le-leb (length (strong_of l (name_at l s))) 1 (h (name_at l s)))
+    passes_each (λ s. nat_le (length (strong_of l (name_at l s))) 1) (symbols_of l)
+    (λ s one. le-leb (length (strong_of l (name_at l s))) 1 (h (name_at l s)))
 shows_valid_test l counts Used h =
-    passes_each (λ u. is_defined_if l (name_used l u)) (uses_of l) (λ u one. shows_used l u (name_used l u) refl (λ name is. h u name one is))
+    passes_each (λ u. is_defined_if l (name_used l u)) (uses_of l) (λ u one. shows_used l u (name_used l u) refl
+    (λ name is. h u name one is))
 shows_valid_test l counts Listed h = pass_all (λ name. is_some (definition_of l name)) (plain_entries l.export_lists) h
 shows_valid_test l counts Begun h = h
 shows_valid_test l counts Supported h =
@@ -253,7 +273,8 @@ shows_valid_test l counts AtSlots h =
 shows_valid_test l counts Whole h = pass_all (whole_entries l) (unwind_sections l) h
 shows_valid_test l counts Unwind h =
     passes_each (λ s. each_below (entry_count l s) (λ e. list_all (keeps l s e) unwind_rules)) (unwind_sections l)
-    (λ s one. pass_below (entry_count l s) (λ e. list_all (keeps l s e) unwind_rules) (λ e lt. pass_all (keeps l s e) unwind_rules (λ k d within. h s e (get_or unwind_rules k d) one lt)))
+    (λ s one. pass_below (entry_count l s) (λ e. list_all (keeps l s e) unwind_rules)
+    (λ e lt. pass_all (keeps l s e) unwind_rules (λ k d within. h s e (get_or unwind_rules k d) one lt)))
 shows_valid_test l counts Limits h =
     pass_all (is_in_limit l counts) all_limits (λ k d within. le-leb _ _ (h (get_or all_limits k d)))
 shows_valid_test l counts Sum h = le-leb (written_sum_of l counts) VALID_SUM h
@@ -261,7 +282,8 @@ shows_valid_test l counts Sum h = le-leb (written_sum_of l counts) VALID_SUM h
 -- the parts and their places among them
 abbrev pub valid_parts : List ValidPart
 valid_parts =
-    Single ∷ Used ∷ Listed ∷ Begun ∷ Supported ∷ NonOverlapping ∷ Fitting ∷ Initializers ∷ Slots ∷ AtSlots ∷ Whole ∷ Unwind ∷ Limits ∷ Sum ∷ []
+    Single ∷ Used ∷ Listed ∷ Begun ∷ Supported ∷ NonOverlapping ∷ Fitting ∷ Initializers ∷ Slots ∷ AtSlots ∷ Whole ∷ Unwind ∷ Limits ∷ Sum
+    ∷ []
 
 abbrev pub valid_number : ValidPart → ℕ
 valid_number Single = 0
@@ -309,7 +331,8 @@ pub valid_answer : (l : Link) (counts : Counts) (broken : ValidPart → Bool) �
     → valid_test l counts q ≡ not (broken q)
 unfolding valid_verdict
 valid_answer l counts broken h q =
-    sym (at_valid_part (valid_test l counts) q) ∙ ap (λ (v : List Bool). get_or v (valid_number q) false) h ∙ at_valid_part (λ r. not (broken r)) q
+    sym (at_valid_part (valid_test l counts) q) ∙ ap (λ (v : List Bool). get_or v (valid_number q) false) h
+    ∙ at_valid_part (λ r. not (broken r)) q
 
 -- A link whose tests are all true is valid.
 pub is_valid_by_tests : (l : Link) (counts : Counts) → valid_verdict l counts ≡ verdict_but (λ q. false) → IsValid l counts
@@ -321,12 +344,14 @@ pub record ValidBreaksAlone (l : Link) (counts : Counts) (part : ValidPart) : Ty
   pub not_valid : IsValid l counts → ⊥
   pub others : (other : ValidPart) → valid_number other ≢ valid_number part → ValidKeeps l counts other
 
-pub valid_breaks_alone : (l : Link) (counts : Counts) (part : ValidPart) → valid_verdict l counts ≡ verdict_but (is_part part) → ValidBreaksAlone l counts part
+pub valid_breaks_alone : (l : Link) (counts : Counts) (part : ValidPart) → valid_verdict l counts ≡ verdict_but (is_part part)
+    → ValidBreaksAlone l counts part
 valid_breaks_alone l counts part h =
     record {
       broken = breaks;
       not_valid = λ v. breaks (keeping_valid l counts v part);
-      others = λ other apart. valid_test_shows l counts other (valid_answer l counts (is_part part) h other ∙ other_number (valid_number other) (valid_number part) apart);
+      others = λ other apart. valid_test_shows l counts other (valid_answer l counts (is_part part) h other
+          ∙ other_number (valid_number other) (valid_number part) apart);
     }
   where
     breaks : ValidKeeps l counts part → ⊥

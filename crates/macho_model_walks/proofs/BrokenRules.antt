@@ -15,7 +15,8 @@ use Rattle.macho_model.specs.Grammar.{EachCommand, CommandFails}
 use Rattle.macho_model.specs.Segments.{TEXT}
 use Rattle.macho_model.specs.Images.{segments_named, table_of_command, tables_of}
 use Rattle.macho_model.specs.LoadRules.{needed_in_image, segment_in, text_holds_commands, table_fits}
-use Rattle.macho_model.specs.Loader.{text_commands, fixup_commands, NeighbourFails, EachNeighbour, TextIsNotOne, SecondTable, IsAccepted, ImageBreaks}
+use Rattle.macho_model.specs.Loader.{text_commands, fixup_commands, NeighbourFails, EachNeighbour, TextIsNotOne, SecondTable, IsAccepted}
+use Rattle.macho_model.specs.Loader.{ImageBreaks}
 use Rattle.macho_memory_walks.specs.Readings.{listed}
 use Rattle.macho_model_walks.specs.Tests.{test_of}
 use Rattle.macho_model.proofs.EachBelow.{true_or_false}

@@ -3,7 +3,8 @@
 -- Each command of a list has a number below the count of all. So where those with each number pass, all pass; and one
 -- that is found by its number and fails is one of the list. The same holds of neighbours, of the one `__TEXT` and of the
 -- one fixup table, which are told by the commands with the numbers 0 and 1.
-use Rattle.std.proofs.Common.{◌≡◌, ℕ, ◌+◌, ◌<◌, ◌≤◌, true, false, List, [], ◌∷◌, length, get_or, refl, sym, ap, subst, ◌∙◌, arith, inl, inr, map}
+use Rattle.std.proofs.Common.{◌≡◌, ℕ, ◌+◌, ◌<◌, ◌≤◌, true, false, List, [], ◌∷◌, length, get_or, refl, sym, ap, subst, ◌∙◌, arith, inl}
+use Rattle.std.proofs.Common.{inr, map}
 use Rattle.std.specs.Prelude.{Contains}
 use Rattle.std.specs.List.{list_all}
 use Rattle.std.proofs.lemmas.List.{get_or_default, length-map}
@@ -14,7 +15,8 @@ use Rattle.macho_memory_walks.specs.declared.walk.Listed.TheVariants as list
 use Rattle.macho_model.specs.Commands.{Command, header_of}
 use Rattle.macho_model.specs.Grammar.{EachCommand}
 use Rattle.macho_model.specs.LoadRules.{begins_behind, import_fits}
-use Rattle.macho_model.specs.Loader.{segment_commands, text_commands, fixup_commands, EachNeighbour, NeighbourFails, TextIsNotOne, SecondTable, ImportFails, import_count}
+use Rattle.macho_model.specs.Loader.{segment_commands, text_commands, fixup_commands, EachNeighbour, NeighbourFails, TextIsNotOne}
+use Rattle.macho_model.specs.Loader.{SecondTable, ImportFails, import_count}
 use Rattle.macho_memory_walks.specs.Readings.{command_at, listed, IsNth, table_there}
 use Rattle.macho_model_walks.specs.Tests.{list_of, test_of}
 use Rattle.macho_memory_walks.specs.steps.Walks.{chain_segment_at}

@@ -3,7 +3,8 @@
 -- A word that does not fit is told where it stands. One that fits is in its page, so a step from it stays near the page,
 -- and it is one of finitely many. All that it leads to are itself and what its steps lead to, whatever segment they are
 -- read in; so where it fits and those fit, all fit. The words of the page's chain are those that its start leads to.
-use Rattle.std.proofs.Common.{◌≡◌, ℕ, ◌+◌, ◌*◌, ◌-◌, ◌^◌, ◌<◌, ◌≤◌, nat_le, Bool, true, false, List, length, slice_index, refl, sym, ap, subst, ◌∙◌, arith, inl, inr}
+use Rattle.std.proofs.Common.{◌≡◌, ℕ, ◌+◌, ◌*◌, ◌-◌, ◌^◌, ◌<◌, ◌≤◌, nat_le, Bool, true, false, List, length, slice_index, refl, sym, ap}
+use Rattle.std.proofs.Common.{subst, ◌∙◌, arith, inl, inr}
 use Rattle.std.proofs.lemmas.Bool.{leb-true, cases_lt}
 use Rattle.macho_memory_walks.specs.declared.walk.Listed.TheVariants as list
 use Rattle.macho_model.specs.Commands.{header_of}
@@ -16,10 +17,12 @@ use Rattle.macho_model.specs.Loader.{segment_commands, OnPageOf, WordFits, WordF
 use Rattle.macho_memory_walks.specs.Readings.{command_at, listed, IsNth, segment_there}
 use Rattle.macho_memory_walks.specs.steps.Walks.{StepIn, Leads, starts_of, chain_segment_at}
 use Rattle.macho_memory_walks.specs.steps.Walks as walks
-use Rattle.macho_model_walks.specs.steps.WordTests.{word_fits_test, address_in, UnfitFrom, FitFrom, UnfitOnPage, FitOnPage, FitOnNth, EachWordFits}
+use Rattle.macho_model_walks.specs.steps.WordTests.{word_fits_test, address_in, UnfitFrom, FitFrom, UnfitOnPage, FitOnPage, FitOnNth}
+use Rattle.macho_model_walks.specs.steps.WordTests.{EachWordFits}
 use Rattle.macho_model.proofs.EachBelow.{true_or_false, and_left}
 use Rattle.macho_model_walks.proofs.WordFitting.{word_fits, fits_word}
-use Rattle.macho_memory_walks.proofs.WordWalk.{step_leads, step_of_word, page_chain_found, page_chain_none, from_start, nth_number, number_place, few_listed_of, nth_one}
+use Rattle.macho_memory_walks.proofs.WordWalk.{step_leads, step_of_word, page_chain_found, page_chain_none, from_start, nth_number}
+use Rattle.macho_memory_walks.proofs.WordWalk.{number_place, few_listed_of, nth_one}
 
 -- a word that passes ends in its page
 pub in_page : (b : List ℕ) (place page offset : ℕ) → word_fits_test b (segment_there b place) page (address_in b place offset) ≡ true

@@ -2,7 +2,8 @@
 --
 -- The rule asks that the page's segment holds the word, and of each segment that has a word there that its import exists. So
 -- it has a test, and of a chain within a closed list of addresses it is enough to test those.
-use Rattle.std.proofs.Common.{◌≡◌, ℕ, ◌+◌, ◌*◌, ◌<◌, ◌≤◌, nat_le, nat_lt, Bool, true, false, not, ◌&&◌, ◌||◌, List, length, get_or, refl, sym, subst}
+use Rattle.std.proofs.Common.{◌≡◌, ℕ, ◌+◌, ◌*◌, ◌<◌, ◌≤◌, nat_le, nat_lt, Bool, true, false, not, ◌&&◌, ◌||◌, List, length, get_or, refl}
+use Rattle.std.proofs.Common.{sym, subst}
 use Rattle.std.specs.Prelude.{Contains}
 use Rattle.std.specs.List.{list_all, enumerate_from}
 use Rattle.std.proofs.lemmas.Bool.{leb-true, le-leb, ltb-true, lt-ltb}
@@ -14,7 +15,8 @@ use Rattle.macho_model.specs.Loader.{is_bind, ordinal_of, is_writable, import_co
 use Rattle.macho_model_walks.specs.Tests.{page_holds}
 use Rattle.macho_model_walks.specs.steps.WordTests.{import_exists, word_fits_test, EachWordFits}
 use Rattle.macho_memory_walks.specs.steps.Walks.{word_in, stands_in}
-use Rattle.macho_model.proofs.EachBelow.{each_below, below_pass, and_left, and_right, and_both, or_right, neither, not_true, all_pass, pass_all}
+use Rattle.macho_model.proofs.EachBelow.{each_below, below_pass, and_left, and_right, and_both, or_right, neither, not_true, all_pass}
+use Rattle.macho_model.proofs.EachBelow.{pass_all}
 use Rattle.macho_model.proofs.PageChains.{with_number}
 use Rattle.macho_memory_walks.proofs.ChainSets.{among_passes, is_page_closed, page_within, page_has_start}
 
@@ -26,7 +28,8 @@ holds_parts w f e t h =
     (and_left w f two, and_right w f two, and_right (w && f) e three, and_right (w && f && e) t h)
 
 -- the import of a word exists, in the segment that has the word
-exists : (b : List ℕ) (a : ℕ) (x : ChainSegment) (word : ℕ) → import_exists b a x ≡ true → x.address ≤ a → a + WORD_SIZE ≤ x.address + x.file_size
+exists : (b : List ℕ) (a : ℕ) (x : ChainSegment) (word : ℕ) → import_exists b a x ≡ true → x.address ≤ a
+    → a + WORD_SIZE ≤ x.address + x.file_size
     → word ≡ word_in b x a → is_bind word ≡ true → ordinal_of word < import_count b (tables_of b)
 exists b a x word h from to is binds =
     let whole : stands_in x a ≡ true = and_both (nat_le x.address a) (nat_le (a + WORD_SIZE) (x.address + x.file_size))
@@ -53,7 +56,8 @@ word_fits b s page a h =
       page_to = leb-true (a + WORD_SIZE) (s.vmaddr + CHAIN_PAGE * (page + 1)) held.2;
       to = leb-true (a + WORD_SIZE) (s.vmaddr + s.filesize) held.3;
       import = λ word stands binds. exists b a stands.segment word
-          (All-contains (λ y. import_exists b a y ≡ true) (chain_segments b) stands.segment imports stands.one) stands.from stands.to stands.is binds;
+          (All-contains (λ y. import_exists b a y ≡ true) (chain_segments b) stands.segment imports stands.one) stands.from stands.to
+          stands.is binds;
     }
 
 -- a word that fits passes
@@ -108,9 +112,11 @@ pub words_fit : (b : List ℕ) (words_of : ℕ → List ℕ) → pages_pass b wo
 words_fit b words_of pass number s page a is on =
     let one = with_number b number s is in
     let c = chain_segment b (number, s) in
-    let here = All-contains (λ x. each_below (starts_in_chain b x) (page_passes b words_of x) ≡ true) (enumerate_from 0 (segments_of b)) (number, s)
+    let here = All-contains (λ x. each_below (starts_in_chain b x) (page_passes b words_of x) ≡ true) (enumerate_from 0 (segments_of b))
+    (number, s)
     (all_pass (λ x. each_below (starts_in_chain b x) (page_passes b words_of x)) (enumerate_from 0 (segments_of b)) pass) one in
-    let both = below_pass (length c.starts) (page_passes b words_of (number, s)) here page (page_has_start (chain_segments b) b c page a on) in
+    let both = below_pass (length c.starts) (page_passes b words_of (number, s)) here page
+    (page_has_start (chain_segments b) b c page a on) in
     let closed = and_left (is_page_closed (chain_segments b) b (words_of page) c page)
     (list_all (word_fits_test b s page) (words_of page)) both in
     let fit = and_right (is_page_closed (chain_segments b) b (words_of page) c page) (list_all (word_fits_test b s page) (words_of page))

@@ -2,14 +2,16 @@
 --
 -- The parts in order: header and commands, sections and commons, slots, stubs, the two ranges, tables. Each list is apart in itself. The
 -- homes of two lists have other numbers; the head ends where cells begin, and the tables begin where cells end.
-use Rattle.std.proofs.Common.{◌≡◌, ℕ, ◌+◌, ◌-◌, ◌<◌, ◌≤◌, ◌⊎◌, List, [], ◌∷◌, ◌++◌, map, length, get_or, All, AllPairs, sym, ap, subst, arith, inl, inr}
+use Rattle.std.proofs.Common.{◌≡◌, ℕ, ◌+◌, ◌-◌, ◌<◌, ◌≤◌, ◌⊎◌, List, [], ◌∷◌, ◌++◌, map, length, get_or, All, AllPairs, sym, ap, subst}
+use Rattle.std.proofs.Common.{arith, inl, inr}
 use Rattle.std.proofs.lemmas.List.Elements.{All-cons, All-append, All-map, All-weaker, All-same, All-from_recursion}
 use Rattle.std.proofs.lemmas.List.Kept.{AllPairs-cons}
 use Rattle.macho_model.specs.declared.placed.Counts.{Counts}
 use Rattle.macho_model.specs.declared.placed.Linkedit.{Linkedit}
 use Rattle.macho_model.specs.declared.placed.Range64.{Range64}
 use Rattle.macho_model.specs.Links.{Link}
-use Rattle.macho_model.specs.Placement.{Placed, Span, AreApart, section_span, common_span, slot_span, stub_span, range_span, head_span, linkedit_span, linkedit_ranges, spans_of, spans_with}
+use Rattle.macho_model.specs.Placement.{Placed, Span, AreApart, section_span, common_span, slot_span, stub_span, range_span, head_span}
+use Rattle.macho_model.specs.Placement.{linkedit_span, linkedit_ranges, spans_of, spans_with}
 use Rattle.macho_layout.specs.Plans.{Planning, IsPlanOf}
 use Rattle.macho_layout.specs.Places.{row_pages}
 use Rattle.macho_layout.specs.Sums.{FitsLimits, base_of, head_size}
@@ -27,7 +29,9 @@ use Rattle.macho_placing.proofs.RowFacts.{row_stack, rows_rise}
 use Rattle.macho_cells.proofs.Multiples.{rounded-above}
 use Rattle.macho_placing.proofs.Lists.{pairs_append, pairs_map, all_both}
 use Rattle.macho_placing.proofs.Scene.{members_stand}
-use Rattle.macho_placing.proofs.Homes.{AtHome, Any, homes_apart, member_span, member_home, members_are, members_apart, slot_home, stub_home, init_home, unwind_home, slots_apart, stubs_apart, home_between, AboveAll, tables_above, table_span_is}
+use Rattle.macho_placing.proofs.Homes.{AtHome, Any, homes_apart, member_span, member_home, members_are, members_apart, slot_home}
+use Rattle.macho_placing.proofs.Homes.{stub_home, init_home, unwind_home, slots_apart, stubs_apart, home_between, AboveAll, tables_above}
+use Rattle.macho_placing.proofs.Homes.{table_span_is}
 use Rattle.macho_placing.proofs.Counted.{head_is}
 use Rattle.macho_placing.proofs.Lying.{ranges_between}
 

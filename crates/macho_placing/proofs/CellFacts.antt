@@ -2,7 +2,8 @@
 --
 -- The cells have different numbers, so each placed one has its start at its number. A cell whose rank is below the ranks of the
 -- rows is placed; so it stands behind the head, at a multiple of its alignment, in the segment of its rank, and apart from each other cell.
-use Rattle.std.proofs.Common.{◌≡◌, ℕ, zero, suc, ◌+◌, ◌*◌, ◌%◌, ◌^◌, ◌<◌, ◌≤◌, ◌⊎◌, nat_lt, Bool, true, false, cond, List, [], ◌∷◌, ◌++◌, map, length, get_or, All, AllPairs, Contains, refl, sym, ap, ◌∙◌, subst, arith, inl, inr}
+use Rattle.std.proofs.Common.{◌≡◌, ℕ, zero, suc, ◌+◌, ◌*◌, ◌%◌, ◌^◌, ◌<◌, ◌≤◌, ◌⊎◌, nat_lt, Bool, true, false, cond, List, [], ◌∷◌, ◌++◌}
+use Rattle.std.proofs.Common.{map, length, get_or, All, AllPairs, Contains, refl, sym, ap, ◌∙◌, subst, arith, inl, inr}
 use Rattle.std.specs.List.{range_with_len}
 use Rattle.std.proofs.lemmas.Bool.{cases_lt}
 use Rattle.std.proofs.lemmas.List.{get_or_default}
@@ -21,7 +22,8 @@ use Rattle.macho_layout.specs.Cells.{merged_cell, cell_if, text_cell, made_cells
 use Rattle.macho_layout.specs.Places.{number_at}
 use Rattle.macho_rows.specs.Rows.{AreRows, segments_from}
 use Rattle.macho_placing.proofs.Lists.{pairs_append, pairs_unmap, pairs_weaker, flag_pairs}
-use Rattle.macho_placing.proofs.RowFacts.{RowsRise, rows_rise, rows_hold, InRow, end_of_cell, IsWholeCell, OtherNumbers, ranks_apart, ranks_have, ranks_sorted}
+use Rattle.macho_placing.proofs.RowFacts.{RowsRise, rows_rise, rows_hold, InRow, end_of_cell, IsWholeCell, OtherNumbers, ranks_apart}
+use Rattle.macho_placing.proofs.RowFacts.{ranks_have, ranks_sorted}
 
 abbrev NumbersRise : Cell → Cell → Type 0
 NumbersRise a b = a.number < b.number

@@ -1,8 +1,10 @@
 -- Nine ranks of a row, and the classes of `__DATA` by four tests.
 --
--- Ranks that are told one by one are told together. A key of `__DATA` is data or zeros, and by its type and name of the template or of the commons; of
+-- Ranks that are told one by one are told together. A key of `__DATA` is data or zeros, and by its type and name of the template or of
+-- the commons; of
 -- these tests each class is one.
-use Rattle.std.proofs.Common.{◌≡◌, ℕ, zero, suc, ◌+◌, ◌*◌, ◌<◌, ◌≤◌, ◌==◌, ◌&&◌, nat_lt, not, if◌then◌else◌, Bool, true, false, cond, List, [], ◌∷◌, ◌++◌, map, filter, length, get_or, refl, sym, ap, ◌∙◌, subst, arith, inl, inr}
+use Rattle.std.proofs.Common.{◌≡◌, ℕ, zero, suc, ◌+◌, ◌*◌, ◌<◌, ◌≤◌, ◌==◌, ◌&&◌, nat_lt, not, if◌then◌else◌, Bool, true, false, cond}
+use Rattle.std.proofs.Common.{List, [], ◌∷◌, ◌++◌, map, filter, length, get_or, refl, sym, ap, ◌∙◌, subst, arith, inl, inr}
 use Rattle.std.specs.Str.{bytes_eq}
 use Rattle.std.proofs.lemmas.Bool.{false≢true, cases_lt, cases_eq, eqb-true, eq-eqb, ne_eqb, lt-ltb, le-ltb}
 use Rattle.std.proofs.lemmas.Bool.Decides.{same_from_decides}
@@ -17,7 +19,8 @@ use Rattle.macho_model.specs.Links.{Link}
 use Rattle.macho_model.specs.Targets.{slots_of, stubs_of}
 use Rattle.macho_model.specs.Segments.{TEXT, DATA_CONST, DATA, COMMON, OutputKey, same_key, common_key, output_keys_of, list_if}
 use Rattle.macho_model.specs.Placement.{Placed}
-use Rattle.macho_model.specs.OutputSections.{OutputSection, InitOffsets, UnwindInfo, Stubs, Slots, merged_in, is_zeros, is_code, flags_of_key, sections_of_text, sections_of_data, sections_of_other, output_sections_in}
+use Rattle.macho_model.specs.OutputSections.{OutputSection, InitOffsets, UnwindInfo, Stubs, Slots, merged_in, is_zeros, is_code}
+use Rattle.macho_model.specs.OutputSections.{flags_of_key, sections_of_text, sections_of_data, sections_of_other, output_sections_in}
 use Rattle.macho_cells.specs.declared.place.Cell.{Cell}
 use Rattle.macho_cells.specs.Ranks.{has_rank, of_ranks}
 use Rattle.macho_layout.specs.Plans.{Planning, IsPlanOf}
@@ -32,7 +35,8 @@ use Rattle.macho_layout.proofs.SumLaw.{and_group}
 use Rattle.macho_placing.proofs.Ordered.{nine_ranks, pair_same}
 
 -- nine ranks that are told one by one
-pub nine_row : (n : ℕ) (cells b0 b1 b2 b3 b4 b5 b6 b7 b8 : List Cell) → filter (has_rank (n + 0)) cells ≡ b0 → filter (has_rank (n + 1)) cells
+pub nine_row : (n : ℕ) (cells b0 b1 b2 b3 b4 b5 b6 b7 b8 : List Cell) → filter (has_rank (n + 0)) cells ≡ b0
+    → filter (has_rank (n + 1)) cells
     ≡ b1 → filter (has_rank (n + 2)) cells ≡ b2
     → filter (has_rank (n + 3)) cells ≡ b3 → filter (has_rank (n + 4)) cells ≡ b4 → filter (has_rank (n + 5)) cells ≡ b5 → filter
     (has_rank (n + 6)) cells ≡ b6

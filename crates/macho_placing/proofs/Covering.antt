@@ -1,11 +1,16 @@
 -- Classes of the template, and the range around cells that rise.
 --
--- By cases on the tests that tell a class. One cell more makes the range end where that cell does; since the cells rise, each ends there or before.
-use Rattle.std.proofs.Common.{◌≡◌, ℕ, ◌+◌, ◌*◌, ◌/◌, ◌%◌, ◌^◌, ◌<◌, ◌≤◌, ◌⊎◌, ◌==◌, ◌||◌, not, if◌then◌else◌, Bool, true, false, List, [], ◌∷◌, ◌++◌, map, filter, length, get_or, fold, All, AllPairs, Contains, Some, None, refl, sym, ap, ◌∙◌, subst, arith, inl, inr}
+-- By cases on the tests that tell a class. One cell more makes the range end where that cell does; since the cells rise, each ends there
+-- or before.
+use Rattle.std.proofs.Common.{◌≡◌, ℕ, ◌+◌, ◌*◌, ◌/◌, ◌%◌, ◌^◌, ◌<◌, ◌≤◌, ◌⊎◌, ◌==◌, ◌||◌, not, if◌then◌else◌, Bool, true, false, List, []}
+use Rattle.std.proofs.Common.{◌∷◌, ◌++◌, map, filter, length, get_or, fold, All, AllPairs, Contains, Some, None, refl, sym, ap, ◌∙◌}
+use Rattle.std.proofs.Common.{subst, arith, inl, inr}
 use Rattle.std.specs.List.{range_with_len}
-use Rattle.std.proofs.lemmas.Bool.{false≢true, false_from_ne_true, not-true, eqb-true, and_parts, and_from, or_cases, or_left, or_right, cases_lt, cases_eq, cases_order}
+use Rattle.std.proofs.lemmas.Bool.{false≢true, false_from_ne_true, not-true, eqb-true, and_parts, and_from, or_cases, or_left, or_right}
+use Rattle.std.proofs.lemmas.Bool.{cases_lt, cases_eq, cases_order}
 use Rattle.std.proofs.lemmas.Slice.Eq.{bytes_eq-Decides}
-use Rattle.std.proofs.lemmas.List.Elements.{All-nil, All-cons, All-head, All-tail, All-append, All-map, All-weaker, All-filter, All-contains, All-contains_itself}
+use Rattle.std.proofs.lemmas.List.Elements.{All-nil, All-cons, All-head, All-tail, All-append, All-map, All-weaker, All-filter}
+use Rattle.std.proofs.lemmas.List.Elements.{All-contains, All-contains_itself}
 use Rattle.std.proofs.lemmas.List.FromFn.{length-map-range_with_len, get_or-map-range_with_len}
 use Rattle.std.proofs.lemmas.List.Kept.{AllPairs-filter}
 use Rattle.macho_records.specs.declared.constants.TheConstants.{S_THREAD_LOCAL_REGULAR, S_THREAD_LOCAL_ZEROFILL, S_THREAD_LOCAL_VARIABLES}
@@ -17,7 +22,9 @@ use Rattle.macho_model.specs.declared.placed.PlacedCommon.{PlacedCommon}
 use Rattle.macho_model.specs.declared.placed.Range64.{Range64}
 use Rattle.macho_model.specs.Links.{Link, SectionId, header_at, carried_of, is_template, is_carried}
 use Rattle.macho_model.specs.Segments.{TEXT, DATA, segment_name}
-use Rattle.macho_model.specs.Placement.{Placed, Span, AreApart, id_of, section_span, common_span, slot_span, stub_span, range_span, head_span, linkedit_span, linkedit_ranges, spans_with, HoldsSpan, TemplateHolds, template_sections, other_sections}
+use Rattle.macho_model.specs.Placement.{Placed, Span, AreApart, id_of, section_span, common_span, slot_span, stub_span, range_span}
+use Rattle.macho_model.specs.Placement.{head_span, linkedit_span, linkedit_ranges, spans_with, HoldsSpan, TemplateHolds}
+use Rattle.macho_model.specs.Placement.{template_sections, other_sections}
 use Rattle.macho_cells.specs.declared.members.PlacedMember.{PlacedMember}
 use Rattle.macho_cells.specs.declared.place.Cell.{Cell}
 use Rattle.macho_cells.specs.declared.place.PlacedCell.{PlacedCell}
@@ -90,7 +97,8 @@ pub record Covers (r : Range64) (cs : List PlacedCell) (r2 : Range64) : Type 0 w
   pub each : All (λ c. end_of_cell c ≤ r2.end) cs
   pub most : (m : ℕ) → r.end ≤ m → All (λ c. end_of_cell c ≤ m) cs → r2.end ≤ m
 
-pub covers : (r : Range64) (cs : List PlacedCell) → AllPairs CellsRise cs → All (λ c. r.end ≤ c.start) cs → All (λ c. end_of_cell c < 2 ^ 64) cs
+pub covers : (r : Range64) (cs : List PlacedCell) → AllPairs CellsRise cs → All (λ c. r.end ≤ c.start) cs
+    → All (λ c. end_of_cell c < 2 ^ 64) cs
     → (r2 : Range64) × Covers r cs r2
 covers r [] rise behind_r small = (
   r,

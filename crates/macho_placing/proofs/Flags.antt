@@ -2,7 +2,8 @@
 --
 -- A cell's flags begin with the type and join those of its members: sections with the key, as the link lists them, then commons, whose
 -- flags are 0. Taking away the flags that tell of relocations leaves those that tell of instructions.
-use Rattle.std.proofs.Common.{◌≡◌, ℕ, ◌<◌, ◌==◌, not, Bool, List, [], ◌∷◌, ◌++◌, map, filter, length, get_or, fold, bit_and, bit_or, All, refl, sym, ap, ◌∙◌, arith}
+use Rattle.std.proofs.Common.{◌≡◌, ℕ, ◌<◌, ◌==◌, not, Bool, List, [], ◌∷◌, ◌++◌, map, filter, length, get_or, fold, bit_and, bit_or, All}
+use Rattle.std.proofs.Common.{refl, sym, ap, ◌∙◌, arith}
 use Rattle.std.proofs.lemmas.Nat.{and_assoc}
 use Rattle.std.specs.Int.Bits.{or_comm}
 use Rattle.std.proofs.lemmas.List.{map-append, take-append-drop}

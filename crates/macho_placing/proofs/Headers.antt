@@ -3,7 +3,8 @@
 -- The cell's title is the key's name, or that of what the linker makes; start, size and alignment are those of the piece around its
 -- pieces. The file offset is told from the segment of its rank, which is the only one of that name; no sum wraps, since a segment's file
 -- offset is at most its address.
-use Rattle.std.proofs.Common.{◌≡◌, ℕ, zero, suc, ◌+◌, ◌-◌, ◌/◌, ◌%◌, ◌^◌, ◌<◌, ◌≤◌, nat_lt, if◌then◌else◌, Bool, true, false, cond, List, [], ◌∷◌, filter, length, get_or, All, AllPairs, Contains, refl, sym, ap, ◌∙◌, subst, arith}
+use Rattle.std.proofs.Common.{◌≡◌, ℕ, zero, suc, ◌+◌, ◌-◌, ◌/◌, ◌%◌, ◌^◌, ◌<◌, ◌≤◌, nat_lt, if◌then◌else◌, Bool, true, false, cond, List}
+use Rattle.std.proofs.Common.{[], ◌∷◌, filter, length, get_or, All, AllPairs, Contains, refl, sym, ap, ◌∙◌, subst, arith}
 use Rattle.std.proofs.lemmas.Bool.{lt-ltb, le-ltb, false_from_ne_true}
 use Rattle.std.proofs.lemmas.Slice.Eq.{bytes_eq-Decides}
 use Rattle.std.proofs.lemmas.List.{get_or_default}
@@ -15,7 +16,9 @@ use Rattle.macho_model.specs.declared.placed.PlacedSegment.{PlacedSegment}
 use Rattle.macho_model.specs.Links.{Link}
 use Rattle.macho_model.specs.Segments.{TEXT, DATA_CONST, OutputKey, segment_rank}
 use Rattle.macho_model.specs.Placement.{Placed, is_segment_named, IsPaged}
-use Rattle.macho_model.specs.OutputSections.{OutputSection, Merged, InitOffsets, UnwindInfo, Stubs, Slots, Piece, is_zeros, flags_of_key, flags_of_output, stub_size_of, key_of_output, file_offset_in, file_offset_of as model_offset, output_header}
+use Rattle.macho_model.specs.OutputSections.{OutputSection, Merged, InitOffsets, UnwindInfo, Stubs, Slots, Piece, is_zeros, flags_of_key}
+use Rattle.macho_model.specs.OutputSections.{flags_of_output, stub_size_of, key_of_output, file_offset_in, file_offset_of as model_offset}
+use Rattle.macho_model.specs.OutputSections.{output_header}
 use Rattle.macho_cells.specs.declared.place.Cell.{Cell}
 use Rattle.macho_cells.specs.declared.place.PlacedCell.{PlacedCell}
 use Rattle.macho_layout.specs.Plans.{Planning, IsPlanOf}

@@ -1,8 +1,10 @@
 -- No two parts share an address.
 --
--- Each part lies in a cell, its home; two parts with different homes are apart, since their cells are. In one cell, members stand one behind
+-- Each part lies in a cell, its home; two parts with different homes are apart, since their cells are. In one cell, members stand one
+-- behind
 -- the other, and so do slots, and stubs. Header and commands end before the first cell, and all cells end before the tables.
-use Rattle.std.proofs.Common.{◌≡◌, ℕ, ◌+◌, ◌*◌, ◌-◌, ◌<◌, ◌≤◌, ◌⊎◌, List, ◌++◌, map, length, get_or, All, AllPairs, Contains, refl, sym, ap, ◌∙◌, arith, inl, inr}
+use Rattle.std.proofs.Common.{◌≡◌, ℕ, ◌+◌, ◌*◌, ◌-◌, ◌<◌, ◌≤◌, ◌⊎◌, List, ◌++◌, map, length, get_or, All, AllPairs, Contains, refl, sym}
+use Rattle.std.proofs.Common.{ap, ◌∙◌, arith, inl, inr}
 use Rattle.std.proofs.lemmas.Bool.{cases_lt, cases_eq}
 use Rattle.std.proofs.lemmas.List.{map-append, take-append-drop}
 use Rattle.std.proofs.lemmas.List.Elements.{All-map}
@@ -14,7 +16,8 @@ use Rattle.macho_model.specs.declared.placed.PlacedSegment.{PlacedSegment}
 use Rattle.macho_model.specs.declared.placed.Range64.{Range64}
 use Rattle.macho_model.specs.Links.{Link, header_at}
 use Rattle.macho_model.specs.Resolution.{entry_at}
-use Rattle.macho_model.specs.Placement.{Placed, Span, AreApart, id_of, common_of, section_span, common_span, slot_span, stub_span, range_span, linkedit_span, linkedit_start, linkedit_ranges}
+use Rattle.macho_model.specs.Placement.{Placed, Span, AreApart, id_of, common_of, section_span, common_span, slot_span, stub_span}
+use Rattle.macho_model.specs.Placement.{range_span, linkedit_span, linkedit_start, linkedit_ranges}
 use Rattle.macho_cells.specs.declared.members.Member.{Member}
 use Rattle.macho_cells.specs.declared.members.PlacedMember.{PlacedMember}
 use Rattle.macho_cells.specs.declared.place.Cell.{Cell}
@@ -29,7 +32,8 @@ use Rattle.macho_placing.proofs.Lists.{pairs_map, zip_map, zip_and}
 use Rattle.macho_placing.proofs.CellFacts.{cells_apart, cells_numbered_apart}
 use Rattle.macho_placing.proofs.Members.{SectionAt, CommonAt, sections_zip, commons_zip, section_members, common_members}
 use Rattle.macho_placing.proofs.Scene.{home, stands, MemberStands, members_stand, section_members_stand, common_members_stand}
-use Rattle.macho_placing.proofs.Made.{init_cell, unwind_cell, stub_cell, slot_cell, init_there, unwind_there, stubs_there, slots_there, slots_rank, init_range, unwind_range}
+use Rattle.macho_placing.proofs.Made.{init_cell, unwind_cell, stub_cell, slot_cell, init_there, unwind_there, stubs_there, slots_there}
+use Rattle.macho_placing.proofs.Made.{slots_rank, init_range, unwind_range}
 use Rattle.macho_placing.proofs.Segments.{last_alone}
 use Rattle.macho_placing.proofs.Lying.{slot_at, stub_at, ranges_between}
 

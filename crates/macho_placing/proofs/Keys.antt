@@ -2,11 +2,13 @@
 --
 -- A plan's output sections are named as the link's keys, filled with zeros, in the same order. No two keys are the same, so a key has the
 -- number of its place. A section's cell has the number of the section's key, and that of the commons has the number of theirs.
-use Rattle.std.proofs.Common.{◌≡◌, ℕ, zero, suc, ◌<◌, ◌≤◌, ◌==◌, ◌&&◌, not, Bool, true, false, cond, List, [], ◌∷◌, ◌++◌, map, length, get_or, replicate, ◌-◌, All, AllPairs, Contains, refl, sym, ap, ◌∙◌, arith, inl, inr}
+use Rattle.std.proofs.Common.{◌≡◌, ℕ, zero, suc, ◌<◌, ◌≤◌, ◌==◌, ◌&&◌, not, Bool, true, false, cond, List, [], ◌∷◌, ◌++◌, map, length}
+use Rattle.std.proofs.Common.{get_or, replicate, ◌-◌, All, AllPairs, Contains, refl, sym, ap, ◌∙◌, arith, inl, inr}
 use Rattle.std.specs.List.{list_any, position_or_len}
 use Rattle.std.proofs.lemmas.Bool.{eqb-true, eq-eqb, cases_lt}
 use Rattle.std.proofs.lemmas.Bool.Decides.{same_from_decides}
-use Rattle.std.proofs.lemmas.List.{append-nil, length-map, length-append, get_or-map, get_or_default, get_or_append_left, get_or_past, map_push}
+use Rattle.std.proofs.lemmas.List.{append-nil, length-map, length-append, get_or-map, get_or_default, get_or_append_left, get_or_past}
+use Rattle.std.proofs.lemmas.List.{map_push}
 use Rattle.std.proofs.lemmas.List.Elements.{All-nil, All-cons, All-append, All-map, All-contains_itself}
 use Rattle.macho_bytes.specs.Texts.{name_of}
 use Rattle.macho_records.specs.declared.segments.SegmentName.{SegmentName}

@@ -3,7 +3,8 @@
 -- A member stands at a multiple of its alignment in its cell, and the cell at a multiple of a greater power of two. The rank of a
 -- cell tells the segment that holds it, and that its bytes are in the file part where it is filled. Slots, stubs and ranges lie in
 -- their cells, tables between the offset of `__LINKEDIT` and the end of the signature.
-use Rattle.std.proofs.Common.{◌≡◌, ℕ, ◌+◌, ◌*◌, ◌/◌, ◌%◌, ◌^◌, ◌<◌, ◌≤◌, ◌==◌, ◌&&◌, not, if◌then◌else◌, Bool, true, false, List, [], ◌∷◌, ◌++◌, filter, length, get_or, All, Contains, refl, sym, ap, ◌∙◌, subst, arith, inl, inr}
+use Rattle.std.proofs.Common.{◌≡◌, ℕ, ◌+◌, ◌*◌, ◌/◌, ◌%◌, ◌^◌, ◌<◌, ◌≤◌, ◌==◌, ◌&&◌, not, if◌then◌else◌, Bool, true, false, List, [], ◌∷◌}
+use Rattle.std.proofs.Common.{◌++◌, filter, length, get_or, All, Contains, refl, sym, ap, ◌∙◌, subst, arith, inl, inr}
 use Rattle.std.proofs.lemmas.Bool.{false≢true, and_parts, not-true, cases_lt}
 use Rattle.std.proofs.lemmas.Nat.{pow_pos}
 use Rattle.std.proofs.lemmas.Slice.Eq.{bytes_eq-Decides}
@@ -23,7 +24,9 @@ use Rattle.macho_model.specs.Lists.{IsNumber}
 use Rattle.macho_model.specs.Links.{Link, SectionId, header_at, carried_of, sections_of, is_carried, placed_exponent}
 use Rattle.macho_model.specs.Resolution.{entry_at}
 use Rattle.macho_model.specs.Segments.{TEXT, DATA_CONST, DATA, segment_name, list_if, one_if}
-use Rattle.macho_model.specs.Placement.{Placed, Span, id_of, common_of, section_span, common_span, slot_span, stub_span, range_span, is_segment_named, LiesIn, LiesInNamed, SectionLies, TableLies, RangeLies, linkedit_ranges, IsAligned, IsInSegment}
+use Rattle.macho_model.specs.Placement.{Placed, Span, id_of, common_of, section_span, common_span, slot_span, stub_span, range_span}
+use Rattle.macho_model.specs.Placement.{is_segment_named, LiesIn, LiesInNamed, SectionLies, TableLies, RangeLies, linkedit_ranges}
+use Rattle.macho_model.specs.Placement.{IsAligned, IsInSegment}
 use Rattle.macho_cells.specs.declared.members.Member.{Member}
 use Rattle.macho_cells.specs.declared.members.PlacedMember.{PlacedMember}
 use Rattle.macho_cells.specs.declared.place.Cell.{Cell}
@@ -42,8 +45,11 @@ use Rattle.macho_placing.proofs.Lists.{zip_all}
 use Rattle.macho_placing.proofs.Members.{SectionAt, CommonAt, sections_zip, commons_zip, section_members, common_members}
 use Rattle.macho_placing.proofs.Names.{name_twice, mapped_of, segment_key_is}
 use Rattle.macho_placing.proofs.Places.{number_in, number_is, IsMapped, mapped_number, class_filled, text_mapped}
-use Rattle.macho_placing.proofs.Scene.{home, Stands, no_wrap, MemberStands, section_members_stand, common_members_stand, section_cell, section_there, section_segment, common_cell, home_rank}
-use Rattle.macho_placing.proofs.Made.{init_cell, unwind_cell, stub_cell, slot_cell, numbered_at, length-numbered, const_there, const_number, text_number, init_stands, unwind_stands, stubs_stand, slots_stand, init_range, unwind_range}
+use Rattle.macho_placing.proofs.Scene.{home, Stands, no_wrap, MemberStands, section_members_stand, common_members_stand, section_cell}
+use Rattle.macho_placing.proofs.Scene.{section_there, section_segment, common_cell, home_rank}
+use Rattle.macho_placing.proofs.Made.{init_cell, unwind_cell, stub_cell, slot_cell, numbered_at, length-numbered, const_there}
+use Rattle.macho_placing.proofs.Made.{const_number, text_number, init_stands, unwind_stands, stubs_stand, slots_stand, init_range}
+use Rattle.macho_placing.proofs.Made.{unwind_range}
 use Rattle.macho_placing.proofs.Segments.{last_segment, segments_are, row_segment_named, numbered_segment}
 
 -- the sum of two multiples

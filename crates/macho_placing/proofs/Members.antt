@@ -3,10 +3,12 @@
 -- The placed sections are the plan's, one by one, and so are its members; so a placed section stands behind the start of its cell by
 -- its member's offset. The same holds of commons, which are the members behind the sections. In its cell a member is inside, at a
 -- multiple of its alignment, which is at most the cell's.
-use Rattle.std.proofs.Common.{◌≡◌, ℕ, ◌+◌, ◌%◌, ◌^◌, ◌<◌, ◌≤◌, nat_lt, if◌then◌else◌, Bool, true, List, [], ◌∷◌, ◌++◌, map, length, get_or, take, drop, All, Contains, refl, sym, ap, ◌∙◌, subst, arith}
+use Rattle.std.proofs.Common.{◌≡◌, ℕ, ◌+◌, ◌%◌, ◌^◌, ◌<◌, ◌≤◌, nat_lt, if◌then◌else◌, Bool, true, List, [], ◌∷◌, ◌++◌, map, length}
+use Rattle.std.proofs.Common.{get_or, take, drop, All, Contains, refl, sym, ap, ◌∙◌, subst, arith}
 use Rattle.std.specs.List.{enumerate_from, AllZip, AllByRecursion}
 use Rattle.std.proofs.lemmas.Bool.{eq-eqb, lt-ltb}
-use Rattle.std.proofs.lemmas.List.{append_assoc, append-nil, get_or_at, get_or_default, get_or-map, length-map, length_push, length-append, take-append-drop, take-map, drop-map, take_at, drop_at}
+use Rattle.std.proofs.lemmas.List.{append_assoc, append-nil, get_or_at, get_or_default, get_or-map, length-map, length_push}
+use Rattle.std.proofs.lemmas.List.{length-append, take-append-drop, take-map, drop-map, take_at, drop_at}
 use Rattle.std.proofs.lemmas.List.Elements.{All-head, All-tail, All-from_recursion, All-contains_itself}
 use Rattle.std.proofs.lemmas.List.FromFn.{get_or-enumerate_from, length-enumerate_from}
 use Rattle.macho_model.specs.declared.placed.PlacedSection.{PlacedSection}

@@ -2,13 +2,15 @@
 --
 -- The plan's mapped segments are those of the link but for `__PAGEZERO` and `__LINKEDIT`, filled with zeros. Their ranks rise, since the
 -- other segments are numbered as first seen and none of them stands twice; so each name has the place at which it stands.
-use Rattle.std.proofs.Common.{◌≡◌, ℕ, ◌+◌, ◌-◌, ◌<◌, ◌≤◌, ◌==◌, ◌||◌, not, Bool, true, false, List, [], ◌∷◌, ◌++◌, map, filter, length, get_or, take, replicate, All, AllPairs, refl, sym, ap, ◌∙◌, subst, arith}
+use Rattle.std.proofs.Common.{◌≡◌, ℕ, ◌+◌, ◌-◌, ◌<◌, ◌≤◌, ◌==◌, ◌||◌, not, Bool, true, false, List, [], ◌∷◌, ◌++◌, map, filter, length}
+use Rattle.std.proofs.Common.{get_or, take, replicate, All, AllPairs, refl, sym, ap, ◌∙◌, subst, arith}
 use Rattle.std.specs.List.{position_or_len, prefix_len}
 use Rattle.std.specs.Str.{bytes_eq}
 use Rattle.std.proofs.lemmas.Bool.{not-true, or_parts}
 use Rattle.std.proofs.lemmas.Slice.Eq.{bytes_eq-Decides}
 use Rattle.std.proofs.lemmas.List.{append_assoc, map-append, take_all, get_or-take, get_or_default}
-use Rattle.std.proofs.lemmas.List.Elements.{All-nil, All-cons, All-head, All-tail, All-append, All-weaker, All-filter, All-map, filter_passes, filter_agree}
+use Rattle.std.proofs.lemmas.List.Elements.{All-nil, All-cons, All-head, All-tail, All-append, All-weaker, All-filter, All-map}
+use Rattle.std.proofs.lemmas.List.Elements.{filter_passes, filter_agree}
 use Rattle.std.proofs.lemmas.List.Folds.{length-prefix_len}
 use Rattle.std.proofs.lemmas.List.Kept.{AllPairs-cons, AllPairs-filter}
 use Rattle.std.proofs.lemmas.List.Sums.{position_or_len_is, prefix_len-le-length, prefix_len_is, prefix_len_passes}
@@ -19,7 +21,8 @@ use Rattle.macho_model.specs.Links.{Link, SectionId, header_at, carried_of}
 use Rattle.macho_model.specs.Resolution.{chosen_commons}
 use Rattle.macho_model.specs.Targets.{slots_of}
 use Rattle.macho_model.specs.Needs.{distinct}
-use Rattle.macho_model.specs.Segments.{PAGEZERO, TEXT, DATA_CONST, DATA, LINKEDIT, segment_name, is_known_segment, other_segments, has_section_in, segment_names_of, segment_rank, list_if}
+use Rattle.macho_model.specs.Segments.{PAGEZERO, TEXT, DATA_CONST, DATA, LINKEDIT, segment_name, is_known_segment, other_segments}
+use Rattle.macho_model.specs.Segments.{has_section_in, segment_names_of, segment_rank, list_if}
 use Rattle.macho_layout.specs.Plans.{Planning, IsPlanOf}
 use Rattle.macho_layout.specs.Keys.{padded}
 use Rattle.macho_layout.specs.Names.{is_other, section_segments, has_segment, has_data, has_data_const, mapped_names}

@@ -2,7 +2,8 @@
 --
 -- A stack stands in order, and each of its pieces at the least place. So do rows of segments, pieces of output sections, and tables;
 -- `__PAGEZERO` and `__LINKEDIT` have their front alone. The ends of rows tell the sizes.
-use Rattle.std.proofs.Common.{◌≡◌, ℕ, ◌-◌, Bool, true, false, List, [], ◌∷◌, ◌++◌, map, length, get_or, All, AllPairs, refl, sym, ap, ◌∙◌, subst, arith}
+use Rattle.std.proofs.Common.{◌≡◌, ℕ, ◌-◌, Bool, true, false, List, [], ◌∷◌, ◌++◌, map, length, get_or, All, AllPairs, refl, sym, ap, ◌∙◌}
+use Rattle.std.proofs.Common.{subst, arith}
 use Rattle.std.specs.Str.{bytes_eq}
 use Rattle.std.proofs.lemmas.List.Elements.{All-nil, All-cons, All-append, All-weaker}
 use Rattle.macho_bytes.specs.Numbers.{rounded_up}

@@ -2,7 +2,8 @@
 --
 -- Row by row the cells are those of the segments' output sections, so all cells are those of all mapped segments'; the linker's other two
 -- segments have none. A placed cell is the cell of its output section at the start of its number, and its header is that output section's.
-use Rattle.std.proofs.Common.{◌≡◌, ℕ, zero, suc, ◌+◌, ◌*◌, ◌<◌, ◌≤◌, Bool, true, false, List, [], ◌∷◌, ◌++◌, map, length, get_or, take, All, Contains, refl, sym, ap, ◌∙◌, arith}
+use Rattle.std.proofs.Common.{◌≡◌, ℕ, zero, suc, ◌+◌, ◌*◌, ◌<◌, ◌≤◌, Bool, true, false, List, [], ◌∷◌, ◌++◌, map, length, get_or, take}
+use Rattle.std.proofs.Common.{All, Contains, refl, sym, ap, ◌∙◌, arith}
 use Rattle.std.specs.List.{flat_map}
 use Rattle.std.proofs.lemmas.List.{append-nil, map-append, map-id, take_more, take_all, get_or_default}
 use Rattle.std.proofs.lemmas.List.Concat.{flat_map-append}

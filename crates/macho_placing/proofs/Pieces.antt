@@ -2,11 +2,13 @@
 --
 -- The members of a cell are a stack from 0 on; moved by the cell's start, a multiple of the greatest alignment, they are one from there on.
 -- Equal parts of whole alignments are one, and so is one range. So the piece around an output section's pieces is the cell.
-use Rattle.std.proofs.Common.{◌≡◌, ℕ, suc, ◌+◌, ◌*◌, ◌-◌, ◌%◌, ◌^◌, ◌<◌, ◌≤◌, Bool, true, false, cond, List, [], ◌∷◌, ◌++◌, map, filter, length, get_or, All, Contains, refl, sym, ap, ◌∙◌, subst, arith, inl, inr}
+use Rattle.std.proofs.Common.{◌≡◌, ℕ, suc, ◌+◌, ◌*◌, ◌-◌, ◌%◌, ◌^◌, ◌<◌, ◌≤◌, Bool, true, false, cond, List, [], ◌∷◌, ◌++◌, map, filter}
+use Rattle.std.proofs.Common.{length, get_or, All, Contains, refl, sym, ap, ◌∙◌, subst, arith, inl, inr}
 use Rattle.std.proofs.lemmas.Bool.{eq-eqb, eqb-true}
 use Rattle.std.proofs.lemmas.Nat.{pow_pos}
 use Rattle.std.proofs.lemmas.List.{map-append, take-append-drop, length-map, get_or_default}
-use Rattle.std.proofs.lemmas.List.Elements.{All-map, All-filter, All-contains, recursion_from_All, filter-append, filter_passes, Contains-append_left, Contains-append_right}
+use Rattle.std.proofs.lemmas.List.Elements.{All-map, All-filter, All-contains, recursion_from_All, filter-append, filter_passes}
+use Rattle.std.proofs.lemmas.List.Elements.{Contains-append_left, Contains-append_right}
 use Rattle.macho_bytes.specs.Numbers.{rounded_up}
 use Rattle.macho_records.specs.Symbols.{common_exponent_of}
 use Rattle.macho_model.specs.declared.placed.Counts.{Counts}
@@ -18,7 +20,8 @@ use Rattle.macho_model.specs.Links.{Link, SectionId, placed_exponent, greatest}
 use Rattle.macho_model.specs.Resolution.{entry_at}
 use Rattle.macho_model.specs.Segments.{OutputKey, same_key, common_key, output_keys_of, list_if}
 use Rattle.macho_model.specs.Placement.{Placed, Span, id_of, common_of, section_span, common_span, slot_span, stub_span, range_span}
-use Rattle.macho_model.specs.OutputSections.{OutputSection, Merged, InitOffsets, UnwindInfo, Stubs, Slots, Piece, piece, pieces_of, extent_of, around}
+use Rattle.macho_model.specs.OutputSections.{OutputSection, Merged, InitOffsets, UnwindInfo, Stubs, Slots, Piece, piece, pieces_of}
+use Rattle.macho_model.specs.OutputSections.{extent_of, around}
 use Rattle.macho_cells.specs.declared.members.Member.{Member}
 use Rattle.macho_cells.specs.declared.members.PlacedMember.{PlacedMember}
 use Rattle.macho_cells.specs.declared.place.Cell.{Cell}
@@ -39,12 +42,15 @@ use Rattle.macho_placing.proofs.Lists.{zip_map, zip_and, zip_filter, zip_find, m
 use Rattle.macho_placing.proofs.Stacks.{piece_block, around_is}
 use Rattle.macho_placing.proofs.CellFacts.{unmap_has}
 use Rattle.macho_placing.proofs.Members.{SectionAt, CommonAt, back_are, sections_zip, commons_zip, section_members, common_members}
-use Rattle.macho_placing.proofs.Scene.{home, home_there, Stands, stands, MemberStands, members_stand, section_members_stand, common_members_stand, zip_right}
+use Rattle.macho_placing.proofs.Scene.{home, home_there, Stands, stands, MemberStands, members_stand, section_members_stand}
+use Rattle.macho_placing.proofs.Scene.{common_members_stand, zip_right}
 use Rattle.macho_placing.proofs.Counted.{all_ranks, output_from}
 use Rattle.macho_placing.proofs.Homes.{section_span_is, common_span_is, member_span}
-use Rattle.macho_placing.proofs.Keys.{IsKey, key_at, key_name, keys_are_keys, same_names, numbers_agree, number_of, key_number, keys_many, output_named, output_key_is, section_key_at, common_key_at}
+use Rattle.macho_placing.proofs.Keys.{IsKey, key_at, key_name, keys_are_keys, same_names, numbers_agree, number_of, key_number, keys_many}
+use Rattle.macho_placing.proofs.Keys.{output_named, output_key_is, section_key_at, common_key_at}
 use Rattle.macho_placing.proofs.Lying.{section_exponent, slot_at, stub_at, slots_start, stubs_start, slots_whole, stubs_whole, sum_whole}
-use Rattle.macho_placing.proofs.Made.{init_cell, unwind_cell, stub_cell, slot_cell, init_stands, unwind_stands, stubs_stand, slots_stand, init_range, unwind_range, length-numbered}
+use Rattle.macho_placing.proofs.Made.{init_cell, unwind_cell, stub_cell, slot_cell, init_stands, unwind_stands, stubs_stand, slots_stand}
+use Rattle.macho_placing.proofs.Made.{init_range, unwind_range, length-numbered}
 
 -- the piece that a cell is
 abbrev pub cell_piece : List ℕ → Cell → Piece

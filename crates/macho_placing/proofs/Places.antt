@@ -1,9 +1,11 @@
 -- In which segment an output section stands.
 --
--- A section's segment is `__TEXT`, or one of which the link says that it is there, or one of the others; so it has a number among the mapped
+-- A section's segment is `__TEXT`, or one of which the link says that it is there, or one of the others; so it has a number among the
+-- mapped
 -- ones. Each mapped segment has the number of its place, since their ranks rise. An output section's rank tells that number,
 -- and below 6 over it that it has bytes in the file.
-use Rattle.std.proofs.Common.{◌≡◌, ℕ, ◌+◌, ◌<◌, ◌==◌, ◌||◌, not, if◌then◌else◌, Bool, true, false, cond, List, [], ◌∷◌, ◌++◌, map, filter, length, get_or, All, AllPairs, Contains, refl, sym, ap, ◌∙◌, subst, arith, inl, inr}
+use Rattle.std.proofs.Common.{◌≡◌, ℕ, ◌+◌, ◌<◌, ◌==◌, ◌||◌, not, if◌then◌else◌, Bool, true, false, cond, List, [], ◌∷◌, ◌++◌, map, filter}
+use Rattle.std.proofs.Common.{length, get_or, All, AllPairs, Contains, refl, sym, ap, ◌∙◌, subst, arith, inl, inr}
 use Rattle.std.specs.List.{list_any, position_or_len}
 use Rattle.std.specs.Str.{bytes_eq}
 use Rattle.std.proofs.lemmas.Bool.{false≢true, not-false, or_left, or_right, or_from, cases_Bool, false_from_ne_true}
@@ -19,7 +21,8 @@ use Rattle.macho_model.specs.Links.{Link, SectionId, header_at, carried_of}
 use Rattle.macho_model.specs.Resolution.{chosen_commons}
 use Rattle.macho_model.specs.Targets.{slots_of}
 use Rattle.macho_model.specs.Needs.{distinct}
-use Rattle.macho_model.specs.Segments.{PAGEZERO, TEXT, DATA_CONST, DATA, LINKEDIT, segment_name, is_known_segment, other_segments, has_section_in, segment_rank, list_if}
+use Rattle.macho_model.specs.Segments.{PAGEZERO, TEXT, DATA_CONST, DATA, LINKEDIT, segment_name, is_known_segment, other_segments}
+use Rattle.macho_model.specs.Segments.{has_section_in, segment_rank, list_if}
 use Rattle.macho_layout.specs.declared.spec.OutputName.{OutputName}
 use Rattle.macho_layout.specs.Plans.{Planning, IsPlanOf, MayStand, spec_of}
 use Rattle.macho_layout.specs.Keys.{padded, same_segment, same_output}

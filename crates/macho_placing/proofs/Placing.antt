@@ -3,7 +3,8 @@
 -- Base, lists, the beginning of `__TEXT` and the end within the sum are laws of the layout; the other fields are proved beside. A plan has
 -- as many segments and output sections as its link, and the link's sum. What isn't small has a segment or a signature past the limit;
 -- where all is small, all tables end with the signature. Fewer pages need no more room.
-use Rattle.std.proofs.Common.{◌≡◌, ℕ, zero, suc, ◌*◌, ◌^◌, ◌≤◌, ◌&&◌, nat_lt, if◌then◌else◌, Bool, true, false, Some, None, List, [], ◌∷◌, All, Contains, sum_by, refl, sym, ap, ◌∙◌, arith, inl, inr}
+use Rattle.std.proofs.Common.{◌≡◌, ℕ, zero, suc, ◌*◌, ◌^◌, ◌≤◌, ◌&&◌, nat_lt, if◌then◌else◌, Bool, true, false, Some, None, List, [], ◌∷◌}
+use Rattle.std.proofs.Common.{All, Contains, sum_by, refl, sym, ap, ◌∙◌, arith, inl, inr}
 use Rattle.std.specs.List.{list_all}
 use Rattle.std.proofs.lemmas.Bool.{false≢true, and_parts, and_cases, ltb-true, ltb-false}
 use Rattle.std.proofs.lemmas.List.Elements.{All-head, All-tail, All-contains}

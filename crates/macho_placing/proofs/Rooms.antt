@@ -2,7 +2,8 @@
 --
 -- The tables are one stack from the offset of `__LINKEDIT` on. A row's file part is whole pages, so its pages rounded up or down are the
 -- same; the segments in which the loader writes pointers are two of the rows, in the link's words and in the plan's.
-use Rattle.std.proofs.Common.{◌≡◌, ℕ, ◌+◌, ◌*◌, ◌-◌, ◌/◌, ◌%◌, ◌<◌, ◌≤◌, ◌||◌, Bool, true, false, cond, List, [], ◌∷◌, ◌++◌, map, filter, length, get_or, sum_by, All, AllPairs, refl, sym, ap, ◌∙◌, subst, arith}
+use Rattle.std.proofs.Common.{◌≡◌, ℕ, ◌+◌, ◌*◌, ◌-◌, ◌/◌, ◌%◌, ◌<◌, ◌≤◌, ◌||◌, Bool, true, false, cond, List, [], ◌∷◌, ◌++◌, map, filter}
+use Rattle.std.proofs.Common.{length, get_or, sum_by, All, AllPairs, refl, sym, ap, ◌∙◌, subst, arith}
 use Rattle.std.specs.Str.{bytes_eq}
 use Rattle.std.proofs.lemmas.List.{get_or-map, length-map, append-nil}
 use Rattle.std.proofs.lemmas.List.Elements.{All-nil, All-cons, All-head, All-tail, filter-append}
@@ -18,7 +19,8 @@ use Rattle.macho_model.specs.Links.{Link}
 use Rattle.macho_model.specs.Segments.{DATA, DATA_CONST, SEGMENT_PAGE, may_hold_pointers, list_if}
 use Rattle.macho_model.specs.Placement.{Placed, linkedit_ranges}
 use Rattle.macho_model.specs.OutputSections.{Piece}
-use Rattle.macho_model.specs.Order.{first_offset, table_pieces, EndsBefore, BeginsLeast, pages_of, pointer_pages, fixup_room, signature_room, HaveRoom, LiesInFile, IsLow}
+use Rattle.macho_model.specs.Order.{first_offset, table_pieces, EndsBefore, BeginsLeast, pages_of, pointer_pages, fixup_room}
+use Rattle.macho_model.specs.Order.{signature_room, HaveRoom, LiesInFile, IsLow}
 use Rattle.macho_cells.specs.Blocks.{StandLeast}
 use Rattle.macho_cells.proofs.Multiples.{rounded-multiple}
 use Rattle.macho_layout.specs.Plans.{Planning, IsPlanOf}

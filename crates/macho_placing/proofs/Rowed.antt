@@ -2,7 +2,8 @@
 --
 -- In `__TEXT` ranks are code, offsets of initializers, unwind information, stubs, other data, zeros; in `__DATA` data, the two parts of the
 -- template, commons, other zeros; in any other segment slots, data, zeros. A rank that a segment doesn't have has no cell.
-use Rattle.std.proofs.Common.{◌≡◌, ℕ, zero, suc, ◌+◌, ◌*◌, ◌<◌, ◌≤◌, ◌==◌, ◌&&◌, nat_lt, not, if◌then◌else◌, Bool, true, false, cond, List, [], ◌∷◌, ◌++◌, map, filter, length, get_or, refl, sym, ap, ◌∙◌, subst, arith, inl, inr}
+use Rattle.std.proofs.Common.{◌≡◌, ℕ, zero, suc, ◌+◌, ◌*◌, ◌<◌, ◌≤◌, ◌==◌, ◌&&◌, nat_lt, not, if◌then◌else◌, Bool, true, false, cond}
+use Rattle.std.proofs.Common.{List, [], ◌∷◌, ◌++◌, map, filter, length, get_or, refl, sym, ap, ◌∙◌, subst, arith, inl, inr}
 use Rattle.std.specs.Str.{bytes_eq}
 use Rattle.std.proofs.lemmas.Bool.{false≢true, cases_lt, cases_eq, eqb-true, eq-eqb, ne_eqb, lt-ltb, le-ltb}
 use Rattle.std.proofs.lemmas.Bool.Decides.{same_from_decides}
@@ -17,7 +18,8 @@ use Rattle.macho_model.specs.Links.{Link}
 use Rattle.macho_model.specs.Targets.{slots_of, stubs_of}
 use Rattle.macho_model.specs.Segments.{TEXT, DATA_CONST, DATA, COMMON, OutputKey, same_key, common_key, output_keys_of, list_if}
 use Rattle.macho_model.specs.Placement.{Placed}
-use Rattle.macho_model.specs.OutputSections.{OutputSection, InitOffsets, UnwindInfo, Stubs, Slots, merged_in, is_zeros, is_code, flags_of_key, sections_of_text, sections_of_data, sections_of_other, output_sections_in}
+use Rattle.macho_model.specs.OutputSections.{OutputSection, InitOffsets, UnwindInfo, Stubs, Slots, merged_in, is_zeros, is_code}
+use Rattle.macho_model.specs.OutputSections.{flags_of_key, sections_of_text, sections_of_data, sections_of_other, output_sections_in}
 use Rattle.macho_cells.specs.declared.place.Cell.{Cell}
 use Rattle.macho_cells.specs.Ranks.{has_rank, of_ranks}
 use Rattle.macho_layout.specs.Plans.{Planning, IsPlanOf}
@@ -35,8 +37,10 @@ use Rattle.macho_placing.proofs.Counted.{positive}
 use Rattle.macho_placing.proofs.Made.{init_cell, unwind_cell, stub_cell, slot_cell, const_number, const_there}
 use Rattle.macho_placing.proofs.Keys.{key_name, number_of, key_turn}
 use Rattle.macho_placing.proofs.Flags.{instructions_are}
-use Rattle.macho_placing.proofs.Ordered.{nine_ranks, pair_same, key_cell, cell_for, KeyFacts, key_flags, row_merged, row_empty, made_row, only_merged, only_made, flag_cell}
-use Rattle.macho_placing.proofs.Classes.{nine_row, nothing_more, regular_data, zero_data, common_data, data_class, four, five, six, seven, eight, no_class, none0, none1, none2, none3}
+use Rattle.macho_placing.proofs.Ordered.{nine_ranks, pair_same, key_cell, cell_for, KeyFacts, key_flags, row_merged, row_empty, made_row}
+use Rattle.macho_placing.proofs.Ordered.{only_merged, only_made, flag_cell}
+use Rattle.macho_placing.proofs.Classes.{nine_row, nothing_more, regular_data, zero_data, common_data, data_class, four, five, six, seven}
+use Rattle.macho_placing.proofs.Classes.{eight, no_class, none0, none1, none2, none3}
 
 module _ (l : Link) (p : Planning) (counts : Counts) (q : Placed) (plan : IsPlanOf l p) (fits : FitsLimits p counts)
     (h : IsLaidOut p counts q) where

@@ -2,7 +2,8 @@
 --
 -- The output section of a section has the section's name, so its segment is the section's; that of the commons is `__common` of
 -- `__DATA`. Each is a cell whose rank is one of the rows, so it stands; all cells end before the tables, far below 2^64, so no sum wraps.
-use Rattle.std.proofs.Common.{◌≡◌, ℕ, ◌+◌, ◌*◌, ◌/◌, ◌%◌, ◌^◌, ◌<◌, ◌≤◌, ◌==◌, ◌||◌, nat_lt, not, Bool, true, List, [], ◌∷◌, ◌++◌, map, length, get_or, All, Contains, refl, sym, ap, ◌∙◌, subst, arith, inl, inr}
+use Rattle.std.proofs.Common.{◌≡◌, ℕ, ◌+◌, ◌*◌, ◌/◌, ◌%◌, ◌^◌, ◌<◌, ◌≤◌, ◌==◌, ◌||◌, nat_lt, not, Bool, true, List, [], ◌∷◌, ◌++◌, map}
+use Rattle.std.proofs.Common.{length, get_or, All, Contains, refl, sym, ap, ◌∙◌, subst, arith, inl, inr}
 use Rattle.std.specs.List.{list_any, position_or_len, range_with_len, AllZip}
 use Rattle.std.proofs.lemmas.Bool.{ltb-true, ltb-false, ne_eqb, cases_Bool, or_right}
 use Rattle.std.proofs.lemmas.List.{get_or_past, get_or-take, get_or-drop, length-map, length-take, length-drop, take-append-drop}
@@ -38,7 +39,8 @@ use Rattle.macho_layout.proofs.SumLaw.{output_key, outputs_are, outputs_once, ou
 use Rattle.macho_layout.proofs.TableRooms.{rows_room}
 use Rattle.macho_layout.proofs.Tables.{output-decides}
 use Rattle.macho_placing.proofs.CellFacts.{CellStands, cell_stands, cells_numbered_apart}
-use Rattle.macho_placing.proofs.Members.{SectionAt, CommonAt, IsInCell, member_in, section_members, common_members, sections_zip, commons_zip}
+use Rattle.macho_placing.proofs.Members.{SectionAt, CommonAt, IsInCell, member_in, section_members, common_members, sections_zip}
+use Rattle.macho_placing.proofs.Members.{commons_zip}
 use Rattle.macho_placing.proofs.Names.{IsName, name_twice, mapped_of, mapped_are, segment_key_is}
 use Rattle.macho_placing.proofs.Places.{number_in, number_is, IsMapped, mapped_number, section_mapped, data_mapped, class_small}
 

@@ -1,8 +1,11 @@
 -- The segments of a placement.
 --
--- `__PAGEZERO` goes up to the base, the rows follow one another from there on, and the tables follow the last row. A row's address and sizes
--- are whole pages, so all are. The names are those of the link, filled with zeros, so their ranks rise, and `__LINKEDIT` is the last segment alone.
-use Rattle.std.proofs.Common.{◌≡◌, ℕ, zero, suc, ◌+◌, ◌-◌, ◌%◌, ◌<◌, if◌then◌else◌, Bool, true, false, cond, List, [], ◌∷◌, ◌++◌, map, filter, length, get_or, drop, All, Contains, refl, sym, ap, ◌∙◌, subst, arith}
+-- `__PAGEZERO` goes up to the base, the rows follow one another from there on, and the tables follow the last row. A row's address and
+-- sizes
+-- are whole pages, so all are. The names are those of the link, filled with zeros, so their ranks rise, and `__LINKEDIT` is the last
+-- segment alone.
+use Rattle.std.proofs.Common.{◌≡◌, ℕ, zero, suc, ◌+◌, ◌-◌, ◌%◌, ◌<◌, if◌then◌else◌, Bool, true, false, cond, List, [], ◌∷◌, ◌++◌, map}
+use Rattle.std.proofs.Common.{filter, length, get_or, drop, All, Contains, refl, sym, ap, ◌∙◌, subst, arith}
 use Rattle.std.specs.Str.{bytes_eq}
 use Rattle.std.proofs.lemmas.Bool.{false≢true, false_from_ne_true}
 use Rattle.std.proofs.lemmas.Slice.Eq.{bytes_eq-Decides}
@@ -16,7 +19,8 @@ use Rattle.macho_model.specs.declared.placed.Counts.{Counts}
 use Rattle.macho_model.specs.declared.placed.PlacedSegment.{PlacedSegment}
 use Rattle.macho_model.specs.Lists.{IsNumber, EachNext}
 use Rattle.macho_model.specs.Links.{Link}
-use Rattle.macho_model.specs.Segments.{PAGEZERO, LINKEDIT, SEGMENT_PAGE, PAGEZERO_SIZE, is_known_segment, other_segments, segment_names_of, segment_rank, list_if, one_if}
+use Rattle.macho_model.specs.Segments.{PAGEZERO, LINKEDIT, SEGMENT_PAGE, PAGEZERO_SIZE, is_known_segment, other_segments}
+use Rattle.macho_model.specs.Segments.{segment_names_of, segment_rank, list_if, one_if}
 use Rattle.macho_model.specs.Placement.{Placed, is_segment_named, IsPaged, Follows}
 use Rattle.macho_cells.specs.declared.place.Cell.{Cell}
 use Rattle.macho_cells.proofs.Multiples.{rounded-above, rounded-multiple}
@@ -31,7 +35,8 @@ use Rattle.macho_layout.specs.Laid.{IsLaidOut, zero_page, tables_segment}
 use Rattle.macho_layout.proofs.Named.{name_in_field}
 use Rattle.macho_rows.proofs.RowSteps.{row-cost, rounded-mono}
 use Rattle.macho_layout.proofs.Whole.{map_map}
-use Rattle.macho_placing.proofs.Names.{IsName, mapped_of, mapped_are, mapped_all, mapped_names_are, segment_names_are, others_unknown, names_rise, flag_names}
+use Rattle.macho_placing.proofs.Names.{IsName, mapped_of, mapped_are, mapped_all, mapped_names_are, segment_names_are, others_unknown}
+use Rattle.macho_placing.proofs.Names.{names_rise, flag_names}
 
 -- names of rows' segments
 names_from : (names : List SegmentName) (head n a o : ℕ) (rs : List RowCells) → n + length rs ≡ length names → map

@@ -3,7 +3,8 @@
 -- Each begins at the least multiple behind the one before it, and ends before those behind it begin. The greatest end is that of
 -- the last. Where the row begins at a multiple of the first one's alignment, the first stands at its start, which is the least of
 -- all places; so the piece around them is from the start to the end.
-use Rattle.std.proofs.Common.{◌≡◌, ℕ, zero, suc, ◌+◌, ◌-◌, ◌%◌, ◌^◌, ◌≤◌, List, [], ◌∷◌, map, get_or, fold, min, AllPairs, refl, ap, ◌∙◌, subst, arith}
+use Rattle.std.proofs.Common.{◌≡◌, ℕ, zero, suc, ◌+◌, ◌-◌, ◌%◌, ◌^◌, ◌≤◌, List, [], ◌∷◌, map, get_or, fold, min, AllPairs, refl, ap, ◌∙◌}
+use Rattle.std.proofs.Common.{subst, arith}
 use Rattle.std.specs.List.{AllByRecursion}
 use Rattle.std.proofs.lemmas.Nat.{pow_pos}
 use Rattle.macho_model.specs.Lists.{EachNext}

@@ -1,13 +1,18 @@
 -- The thread-local template.
 --
--- Its output sections have the two ranks of `__DATA` that are for it, one behind the other; every other cell has a lower rank than both or a
+-- Its output sections have the two ranks of `__DATA` that are for it, one behind the other; every other cell has a lower rank than both
+-- or a
 -- higher one. So cells of the template stand together: the range goes from the start of the first of them to the end of the last, and holds
 -- each; any other cell ends before that range or begins behind it, and so does what has another home.
-use Rattle.std.proofs.Common.{◌≡◌, ℕ, ◌+◌, ◌*◌, ◌/◌, ◌%◌, ◌^◌, ◌<◌, ◌≤◌, ◌⊎◌, ◌==◌, ◌||◌, not, if◌then◌else◌, Bool, true, false, List, [], ◌∷◌, ◌++◌, map, filter, length, get_or, fold, All, AllPairs, Contains, Some, None, refl, sym, ap, ◌∙◌, subst, arith, inl, inr}
+use Rattle.std.proofs.Common.{◌≡◌, ℕ, ◌+◌, ◌*◌, ◌/◌, ◌%◌, ◌^◌, ◌<◌, ◌≤◌, ◌⊎◌, ◌==◌, ◌||◌, not, if◌then◌else◌, Bool, true, false, List, []}
+use Rattle.std.proofs.Common.{◌∷◌, ◌++◌, map, filter, length, get_or, fold, All, AllPairs, Contains, Some, None, refl, sym, ap, ◌∙◌}
+use Rattle.std.proofs.Common.{subst, arith, inl, inr}
 use Rattle.std.specs.List.{range_with_len}
-use Rattle.std.proofs.lemmas.Bool.{false≢true, false_from_ne_true, not-true, eqb-true, and_parts, and_from, or_cases, or_left, or_right, cases_lt, cases_eq, cases_order}
+use Rattle.std.proofs.lemmas.Bool.{false≢true, false_from_ne_true, not-true, eqb-true, and_parts, and_from, or_cases, or_left, or_right}
+use Rattle.std.proofs.lemmas.Bool.{cases_lt, cases_eq, cases_order}
 use Rattle.std.proofs.lemmas.Slice.Eq.{bytes_eq-Decides}
-use Rattle.std.proofs.lemmas.List.Elements.{All-nil, All-cons, All-head, All-tail, All-append, All-map, All-weaker, All-filter, All-contains, All-contains_itself}
+use Rattle.std.proofs.lemmas.List.Elements.{All-nil, All-cons, All-head, All-tail, All-append, All-map, All-weaker, All-filter}
+use Rattle.std.proofs.lemmas.List.Elements.{All-contains, All-contains_itself}
 use Rattle.std.proofs.lemmas.List.FromFn.{length-map-range_with_len, get_or-map-range_with_len}
 use Rattle.std.proofs.lemmas.List.Kept.{AllPairs-filter}
 use Rattle.macho_records.specs.declared.constants.TheConstants.{S_THREAD_LOCAL_REGULAR, S_THREAD_LOCAL_ZEROFILL, S_THREAD_LOCAL_VARIABLES}
@@ -19,7 +24,9 @@ use Rattle.macho_model.specs.declared.placed.PlacedCommon.{PlacedCommon}
 use Rattle.macho_model.specs.declared.placed.Range64.{Range64}
 use Rattle.macho_model.specs.Links.{Link, SectionId, header_at, carried_of, is_template, is_carried}
 use Rattle.macho_model.specs.Segments.{TEXT, DATA, segment_name}
-use Rattle.macho_model.specs.Placement.{Placed, Span, AreApart, id_of, section_span, common_span, slot_span, stub_span, range_span, head_span, linkedit_span, linkedit_ranges, spans_with, HoldsSpan, TemplateHolds, template_sections, other_sections}
+use Rattle.macho_model.specs.Placement.{Placed, Span, AreApart, id_of, section_span, common_span, slot_span, stub_span, range_span}
+use Rattle.macho_model.specs.Placement.{head_span, linkedit_span, linkedit_ranges, spans_with, HoldsSpan, TemplateHolds}
+use Rattle.macho_model.specs.Placement.{template_sections, other_sections}
 use Rattle.macho_cells.specs.declared.members.PlacedMember.{PlacedMember}
 use Rattle.macho_cells.specs.declared.place.Cell.{Cell}
 use Rattle.macho_cells.specs.declared.place.PlacedCell.{PlacedCell}
@@ -42,10 +49,12 @@ use Rattle.macho_placing.proofs.CellFacts.{cells_numbered_apart, unmap_has, at_s
 use Rattle.macho_placing.proofs.RowFacts.{RowsRise, end_of_cell, CellsRise}
 use Rattle.macho_placing.proofs.Members.{SectionAt, CommonAt, sections_zip, commons_zip, section_members, common_members}
 use Rattle.macho_placing.proofs.Places.{class_small}
-use Rattle.macho_placing.proofs.Scene.{home, MemberStands, section_members_stand, common_members_stand, section_cell, section_segment, common_cell, address_low}
+use Rattle.macho_placing.proofs.Scene.{home, MemberStands, section_members_stand, common_members_stand, section_cell, section_segment}
+use Rattle.macho_placing.proofs.Scene.{common_cell, address_low}
 use Rattle.macho_placing.proofs.Made.{init_cell, unwind_cell, stub_cell, slot_cell}
 use Rattle.macho_placing.proofs.Counted.{flag_some, output_from, all_ranks, head_is}
-use Rattle.macho_placing.proofs.Homes.{AtHome, member_home, member_span, section_span_is, common_span_is, slot_home, stub_home, init_home, unwind_home, AboveAll, tables_above}
+use Rattle.macho_placing.proofs.Homes.{AtHome, member_home, member_span, section_span_is, common_span_is, slot_home, stub_home, init_home}
+use Rattle.macho_placing.proofs.Homes.{unwind_home, AboveAll, tables_above}
 use Rattle.macho_placing.proofs.Lying.{carried_is}
 use Rattle.macho_placing.proofs.Segments.{filter_none}
 use Rattle.macho_placing.proofs.Covering.{class_tells, class_template, two_classes, Covers, covers}

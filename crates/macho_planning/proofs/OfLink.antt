@@ -10,7 +10,8 @@ use Rattle.std.proofs.lemmas.List.{map-append, get_or_default, get_or-map, lengt
 use Rattle.std.proofs.lemmas.List.Elements.{filter-append}
 use Rattle.std.proofs.lemmas.List.Concat.{flat_map-cons}
 use Rattle.macho_model.specs.Objects.{num_sections, section_at}
-use Rattle.macho_model.specs.Links.{Link, Input, Object, Dylib, Stub, SectionId, object_bytes, object_of, no_input, header_at, sections_of_file, sections_of, is_carried, carried_of}
+use Rattle.macho_model.specs.Links.{Link, Input, Object, Dylib, Stub, SectionId, object_bytes, object_of, no_input, header_at}
+use Rattle.macho_model.specs.Links.{sections_of_file, sections_of, is_carried, carried_of}
 use Rattle.macho_layout.specs.declared.spec.SectionSpec.{SectionSpec}
 use Rattle.macho_layout.specs.Plans.{spec_of}
 use Rattle.macho_parts.specs.Views.{object_view, views_of}

@@ -5,12 +5,14 @@
 -- with bytes, slots, stubs, what the linker makes in theirs, tables in that of `__LINKEDIT`, the head in that of `__TEXT`,
 -- which begins the file. So
 -- their ranges of the file are apart, in whatever order they are taken. File parts end in the file, so the ranges do.
-use Rattle.std.proofs.Common.{◌≡◌, ℕ, ◌+◌, ◌-◌, ◌≤◌, inl, inr, ◌==◌, ◌&&◌, not, Bool, true, false, List, [], ◌∷◌, ◌++◌, map, get_or, refl, sym, ap, subst, ◌∙◌, arith, All, eqb-true}
+use Rattle.std.proofs.Common.{◌≡◌, ℕ, ◌+◌, ◌-◌, ◌≤◌, inl, inr, ◌==◌, ◌&&◌, not, Bool, true, false, List, [], ◌∷◌, ◌++◌, map, get_or, refl}
+use Rattle.std.proofs.Common.{sym, ap, subst, ◌∙◌, arith, All, eqb-true}
 use Rattle.std.specs.Prelude.{Contains, filter, AllPairs}
 use Rattle.std.proofs.lemmas.List.{append-nil}
 use Rattle.std.proofs.lemmas.List.Elements.{All-nil, All-cons}
 use Rattle.macho_lists.proofs.Members.{contains_filter, filter_contains, all_contains, contains_all, contains_first}
-use Rattle.macho_lists.proofs.Orders.{EachLater, later_pairs, later_append, Sub, sub_same, sub_append, sub_dropped, sub_filter, sub_all, sub_later, later_all}
+use Rattle.macho_lists.proofs.Orders.{EachLater, later_pairs, later_append, Sub, sub_same, sub_append, sub_dropped, sub_filter, sub_all}
+use Rattle.macho_lists.proofs.Orders.{sub_later, later_all}
 use Rattle.macho_records.specs.Sections.{is_zerofill}
 use Rattle.macho_model.specs.declared.placed.Counts.{Counts}
 use Rattle.macho_model.specs.declared.placed.PlacedSection.{PlacedSection}
@@ -18,7 +20,9 @@ use Rattle.macho_model.specs.declared.placed.PlacedSegment.{PlacedSegment}
 use Rattle.macho_model.specs.declared.placed.Range64.{Range64}
 use Rattle.macho_model.specs.Links.{Link, header_at}
 use Rattle.macho_model.specs.Segments.{TEXT, DATA_CONST, LINKEDIT}
-use Rattle.macho_model.specs.Placement.{Placed, Span, AreApart, IsPlaced, id_of, section_span, common_span, slot_span, stub_span, range_span, head_span, head_size, linkedit_ranges, linkedit_span, linkedit_start, spans_of, spans_with, LiesIn, LiesInNamed, SectionLies, RangeLies, TableLies, is_segment_named}
+use Rattle.macho_model.specs.Placement.{Placed, Span, AreApart, IsPlaced, id_of, section_span, common_span, slot_span, stub_span}
+use Rattle.macho_model.specs.Placement.{range_span, head_span, head_size, linkedit_ranges, linkedit_span, linkedit_start, spans_of}
+use Rattle.macho_model.specs.Placement.{spans_with, LiesIn, LiesInNamed, SectionLies, RangeLies, TableLies, is_segment_named}
 use Rattle.macho_model.specs.Zeros.{in_file, filled_sections}
 use Rattle.macho_promise.specs.Promise.{IsLaidOut}
 use Rattle.macho_agreement.proofs.Room.{text_begins, text_holds_head, file_parts_end}

@@ -5,15 +5,18 @@
 -- whatever the order, and a byte in none of them is as it was: 0. A later write over some parts alone, as that of the words
 -- that the loader writes,
 -- leaves the others, and each of these holds then what stands there.
-use Rattle.std.proofs.Common.{◌≡◌, ℕ, suc, ◌+◌, ◌-◌, ◌<◌, ◌≤◌, ◌⊎◌, inl, inr, ◌==◌, Bool, true, false, List, [], ◌∷◌, ◌++◌, map, length, get_or, slice_index, slice_range, refl, sym, ap, subst, ◌∙◌, arith, append_assoc, eqb-true, All}
+use Rattle.std.proofs.Common.{◌≡◌, ℕ, suc, ◌+◌, ◌-◌, ◌<◌, ◌≤◌, ◌⊎◌, inl, inr, ◌==◌, Bool, true, false, List, [], ◌∷◌, ◌++◌, map, length}
+use Rattle.std.proofs.Common.{get_or, slice_index, slice_range, refl, sym, ap, subst, ◌∙◌, arith, append_assoc, eqb-true, All}
 use Rattle.std.proofs.lemmas.Bool.Decides.{nat_tests}
 use Rattle.std.proofs.lemmas.Bool.{cases_lt}
-use Rattle.std.proofs.lemmas.List.{get_or_past, get_or_append_left, get_or_at, get_or-map, get_or-replicate, append-nil, length-append, length-map, length-replicate}
+use Rattle.std.proofs.lemmas.List.{get_or_past, get_or_append_left, get_or_at, get_or-map, get_or-replicate, append-nil, length-append}
+use Rattle.std.proofs.lemmas.List.{length-map, length-replicate}
 use Rattle.std.proofs.lemmas.List.Edits.{length-between}
 use Rattle.std.proofs.lemmas.List.Elements.{All-nil, All-cons, All-append, All-map, Contains-append_right}
 use Rattle.macho_bytes.specs.Texts.{put, Part, end_of, Stands, Apart, IsOutside}
 use Rattle.macho_bytes.specs.Images.{zeros}
-use Rattle.macho_bytes.proofs.Puts.{length-put, get_or-put_below, get_or-put_above, put_stands, put_nothing, is_put, stands_by_bytes, stands_beside}
+use Rattle.macho_bytes.proofs.Puts.{length-put, get_or-put_below, get_or-put_above, put_stands, put_nothing, is_put, stands_by_bytes}
+use Rattle.macho_bytes.proofs.Puts.{stands_beside}
 use Rattle.macho_model.specs.Placement.{Span, AreApart}
 use Rattle.macho_lists.proofs.Members.{all_contains, contains_first}
 use Rattle.macho_lists.proofs.Orders.{EachLater}

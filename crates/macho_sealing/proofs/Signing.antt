@@ -3,7 +3,8 @@
 -- The file has one `__TEXT`, told as the placement tells it: it begins the file and has the size that is signed. The range has
 -- the room that was
 -- counted, which is the length of the signature's text, and with it the file ends.
-use Rattle.std.proofs.Common.{◌≡◌, ℕ, suc, ◌+◌, ◌-◌, ◌*◌, ◌/◌, ◌⊎◌, inl, inr, Bool, true, false, List, [], ◌∷◌, map, length, get_or, slice_range, refl, sym, ap, subst, ◌∙◌, arith, rules, All}
+use Rattle.std.proofs.Common.{◌≡◌, ℕ, suc, ◌+◌, ◌-◌, ◌*◌, ◌/◌, ◌⊎◌, inl, inr, Bool, true, false, List, [], ◌∷◌, map, length, get_or}
+use Rattle.std.proofs.Common.{slice_range, refl, sym, ap, subst, ◌∙◌, arith, rules, All}
 use Rattle.std.specs.Prelude.{Contains, filter, drop}
 use Rattle.std.specs.Str.{bytes_eq}
 use Rattle.std.proofs.lemmas.Slice.Eq.{bytes_eq-Decides}

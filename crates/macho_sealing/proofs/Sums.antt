@@ -12,7 +12,8 @@ use Rattle.macho_model.specs.Links.{Link}
 use Rattle.macho_model.specs.Placement.{Placed}
 use Rattle.macho_model.specs.Head.{commands_for, header_for, size_said, describes_thread_locals}
 use Rattle.macho_commands.specs.declared.command.Command.{Command}
-use Rattle.macho_commands.specs.declared.command.Command.TheVariants.{Segment, EntryPoint, Uuid, BuildVersion, Dylinker, IdDylib, LoadDylib, Rpath, ChainedFixups, ExportsTrie, Symtab, CodeSignature}
+use Rattle.macho_commands.specs.declared.command.Command.TheVariants.{Segment, EntryPoint, Uuid, BuildVersion, Dylinker, IdDylib}
+use Rattle.macho_commands.specs.declared.command.Command.TheVariants.{LoadDylib, Rpath, ChainedFixups, ExportsTrie, Symtab, CodeSignature}
 use Rattle.macho_commands.specs.declared.head.ImageKind.{ImageKind}
 use Rattle.macho_commands.specs.Commands.{said_by, Fits, size_of_command, commands_size}
 use Rattle.macho_commands.specs.Heads.{head_text, HeadIsReadable}

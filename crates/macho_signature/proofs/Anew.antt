@@ -4,9 +4,11 @@
 -- of no other page: so every other page has the digest that it had. The list of all digests is those before these pages,
 -- theirs, and those behind. Where the old list stands in the signature, putting the middle ones anew leaves the first
 -- and the last as they are, and gives the new list whole.
-use Rattle.std.proofs.Common.{◌≡◌, ℕ, ◌+◌, ◌-◌, ◌*◌, ◌<◌, ◌≤◌, ◌⊎◌, ◌≢◌, List, ◌++◌, length, get_or, slice_range, slice_index, slice_set, drop, ◌%◌, inl, inr, refl, sym, ap, subst, ◌∙◌, arith, min}
+use Rattle.std.proofs.Common.{◌≡◌, ℕ, ◌+◌, ◌-◌, ◌*◌, ◌<◌, ◌≤◌, ◌⊎◌, ◌≢◌, List, ◌++◌, length, get_or, slice_range, slice_index, slice_set}
+use Rattle.std.proofs.Common.{drop, ◌%◌, inl, inr, refl, sym, ap, subst, ◌∙◌, arith, min}
 use Rattle.std.proofs.lemmas.Bool.{cases_lt}
-use Rattle.std.proofs.lemmas.List.{length-append, ext_get_or, get_or_append_left, get_or-append_right, length-take, length-drop, length-set, get_or-set_same, get_or-set_other}
+use Rattle.std.proofs.lemmas.List.{length-append, ext_get_or, get_or_append_left, get_or-append_right, length-take, length-drop}
+use Rattle.std.proofs.lemmas.List.{length-set, get_or-set_same, get_or-set_other}
 use Rattle.std.proofs.lemmas.List.FromFn.{length-map-range_with_len, get_or-map-range_with_len}
 use Rattle.std.proofs.lemmas.Bool.Decides.{nat_tests}
 use Rattle.std.proofs.lemmas.List.Edits.{get_or-between}
@@ -42,7 +44,8 @@ pub uuid_written-is : (uuid : List ℕ) → length uuid ≡ 16
 unfolding uuid_written
 uuid_written-is uuid sixteen =
     ext_get_or 0 (slice_set six 8 eighth) (uuid_written uuid) (long ∙ sym (length-uuid_written uuid))
-    (λ i lt. each i (omega (arith, long)) ∙ sym (get_or-map-range_with_len (λ k. uuid_byte k (slice_index uuid k)) 0 16 i i 0 (omega (arith, long)) (omega arith)))
+    (λ i lt. each i (omega (arith, long)) ∙ sym (get_or-map-range_with_len (λ k. uuid_byte k (slice_index uuid k)) 0 16 i i 0
+    (omega (arith, long)) (omega arith)))
   where
     sixth : ℕ
     sixth = 0x30 + slice_index uuid 6 % 16
@@ -87,9 +90,11 @@ range-put_other at text bytes from to fits beside =
     long = length-put at text bytes fits
 
     same_long : length (slice_range (put at text bytes) from to) ≡ length (slice_range bytes from to)
-    same_long = length-range (put at text bytes) from to ∙ ap (λ (n : ℕ). min (to - from) (n - from)) long ∙ sym (length-range bytes from to)
+    same_long = length-range (put at text bytes) from to ∙ ap (λ (n : ℕ). min (to - from) (n - from)) long
+        ∙ sym (length-range bytes from to)
 
-    same : (i : ℕ) → i < length (slice_range (put at text bytes) from to) → get_or (slice_range (put at text bytes) from to) i 0 ≡ get_or (slice_range bytes from to) i 0
+    same : (i : ℕ) → i < length (slice_range (put at text bytes) from to)
+        → get_or (slice_range (put at text bytes) from to) i 0 ≡ get_or (slice_range bytes from to) i 0
     same i lt =
         let inside : from + i < to = omega (arith, length-range (put at text bytes) from to) in
         get_or-between (put at text bytes) from to i 0 inside
@@ -101,7 +106,8 @@ range-put_other at text bytes from to fits beside =
 
 -- the digest of a page that a put leaves alone
 digest-put_other : (at : ℕ) (text bytes : List ℕ) (k limit : ℕ) → at + length text ≤ length bytes
-    → (SIGNED_PAGE * (k + 1) ≤ at) ⊎ (at + length text ≤ SIGNED_PAGE * k) → page_digest (put at text bytes) k limit ≡ page_digest bytes k limit
+    → (SIGNED_PAGE * (k + 1) ≤ at) ⊎ (at + length text ≤ SIGNED_PAGE * k)
+    → page_digest (put at text bytes) k limit ≡ page_digest bytes k limit
 unfolding page_digest
 digest-put_other at text bytes k limit fits beside =
     ap sha256 (range-put_other at text bytes (SIGNED_PAGE * k) (min (SIGNED_PAGE * (k + 1)) limit) fits (elim beside [
@@ -110,7 +116,8 @@ digest-put_other at text bytes k limit fits beside =
     ]))
 
 -- a middle text put anew over a text that stands
-put-middle : (at place : ℕ) (x y z new bytes : List ℕ) → Stands bytes (record { at = at; text = x ++ (y ++ z) }) → place ≡ at + length x → length new ≡ length y
+put-middle : (at place : ℕ) (x y z new bytes : List ℕ) → Stands bytes (record { at = at; text = x ++ (y ++ z) }) → place ≡ at + length x
+    → length new ≡ length y
     → put place new bytes ≡ put at (x ++ (new ++ z)) bytes
 put-middle at place x y z new bytes s here long =
     is_put at (x ++ (new ++ z)) bytes (put place new bytes) (omega (arith, whole, s.within, old)) (length-put place new bytes fits)
@@ -167,9 +174,11 @@ digests_split b first middle behind is =
     ∙ ap (λ (t : List ℕ). digests_from b 0 first ++ t) (digests_join b first middle behind)
 
 -- THE signature is right again
-pub signed_anew : (signed uuid signature : List ℕ) (hashes place : ℕ) → length uuid ≡ 16 → SIGNED_PAGE * (last_page place + 1) ≤ length signed
+pub signed_anew : (signed uuid signature : List ℕ) (hashes place : ℕ) → length uuid ≡ 16
+    → SIGNED_PAGE * (last_page place + 1) ≤ length signed
     → Stands signature (record { at = hashes; text = digests_of signed })
-    → put (hashes + 32 * first_page place) (digests_from (put place uuid signed) (first_page place) (last_page place + 1 - first_page place)) signature
+    → put (hashes + 32 * first_page place) (digests_from (put place uuid signed) (first_page place)
+    (last_page place + 1 - first_page place)) signature
     ≡ put hashes (digests_of (put place uuid signed)) signature
 signed_anew signed uuid signature hashes place sixteen whole right =
     put-middle hashes (hashes + 32 * first) front (digests_from signed first middle) rest (digests_from now first middle) signature

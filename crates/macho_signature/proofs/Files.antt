@@ -2,7 +2,8 @@
 --
 -- The digests of the pages below a limit are made of bytes below it alone. So files that agree below the limit have the
 -- same signature: the bytes in front of it by themselves, the file before it is put, and the file that has it.
-use Rattle.std.proofs.Common.{◌≡◌, ℕ, ◌+◌, ◌*◌, ◌<◌, ◌≤◌, List, ◌++◌, length, get_or, drop, slice_range, refl, sym, ap, subst, ◌∙◌, arith, min}
+use Rattle.std.proofs.Common.{◌≡◌, ℕ, ◌+◌, ◌*◌, ◌<◌, ◌≤◌, List, ◌++◌, length, get_or, drop, slice_range, refl, sym, ap, subst, ◌∙◌, arith}
+use Rattle.std.proofs.Common.{min}
 use Rattle.std.proofs.lemmas.List.{length-append, ext_get_or, get_or_append_left}
 use Rattle.std.proofs.lemmas.List.Edits.{get_or-between}
 use Rattle.std.proofs.Math.Seq.{take-append_seam, drop-append-add}
@@ -47,7 +48,8 @@ put-behind front text rest =
     ∙ ap (λ (t : List ℕ). front ++ (text ++ t)) (drop-append-add front rest (length text)))
 
 -- the signature put behind what it signs
-pub file_signed : (s : Signed) (front rest file : List ℕ) → s.limit ≡ length front → file ≡ front ++ rest → front ++ put 0 (signature_text s front) rest ≡ put s.limit (signature_text s file) file
+pub file_signed : (s : Signed) (front rest file : List ℕ) → s.limit ≡ length front → file ≡ front ++ rest → front
+    ++ put 0 (signature_text s front) rest ≡ put s.limit (signature_text s file) file
 file_signed s front rest file limit is =
     put-behind front (signature_text s front) rest
     ∙ ap (λ (t : List ℕ). put (length front) t (front ++ rest)) (signature-alike s front (front ++ rest) alike)
@@ -62,7 +64,8 @@ file_signed s front rest file limit is =
     }
 
 -- it stands in the file that has it, as that file's own
-pub signed_stands : (s : Signed) (file now : List ℕ) → s.limit + length (signature_text s file) ≤ length file → now ≡ put s.limit (signature_text s file) file
+pub signed_stands : (s : Signed) (file now : List ℕ) → s.limit + length (signature_text s file) ≤ length file
+    → now ≡ put s.limit (signature_text s file) file
     → Stands now (record { at = s.limit; text = signature_text s now })
 signed_stands s file now fits is =
     let alike : AgreeBelow s.limit file now = record {
@@ -70,5 +73,6 @@ signed_stands s file now fits is =
       second = omega (arith, ap length is, length-put s.limit (signature_text s file) file fits);
       same = λ i lt. sym (ap (λ (b : List ℕ). get_or b i 0) is ∙ get_or-put_below s.limit (signature_text s file) file i fits lt);
     } in
-    let there = subst (λ (b : List ℕ). Stands b (record { at = s.limit; text = signature_text s file })) (sym is) (put_stands s.limit (signature_text s file) file fits) in
+    let there = subst (λ (b : List ℕ). Stands b (record { at = s.limit; text = signature_text s file })) (sym is)
+    (put_stands s.limit (signature_text s file) file fits) in
     subst (λ (t : List ℕ). Stands now (record { at = s.limit; text = t })) (signature-alike s file now alike) there

@@ -19,7 +19,8 @@ unfolding page_digest
 length-page_digest b k limit = length-sha256 _
 
 -- texts over a run of numbers that falls into two runs
-runs_join : (f : ℕ → List ℕ) (a m n : ℕ) → flat_map f (range_with_len a (m + n)) ≡ flat_map f (range_with_len a m) ++ flat_map f (range_with_len (a + m) n)
+runs_join : (f : ℕ → List ℕ) (a m n : ℕ) → flat_map f (range_with_len a (m + n)) ≡ flat_map f (range_with_len a m)
+    ++ flat_map f (range_with_len (a + m) n)
 runs_join f a zero n =
     let e : 0 + n ≡ n = omega arith in
     let z : a ≡ a + 0 = omega arith in
@@ -39,7 +40,8 @@ length-run f w a (suc n) each =
     omega (arith, each a, length-run f w (a + 1) n each, length-append (f a) (flat_map f (range_with_len (a + 1) n)), mul-suc w n)
 
 -- the same texts over a run on which two functions agree
-runs_agree : (f g : ℕ → List ℕ) (a n : ℕ) → ((k : ℕ) → a ≤ k → k < a + n → f k ≡ g k) → flat_map f (range_with_len a n) ≡ flat_map g (range_with_len a n)
+runs_agree : (f g : ℕ → List ℕ) (a n : ℕ) → ((k : ℕ) → a ≤ k → k < a + n → f k ≡ g k)
+    → flat_map f (range_with_len a n) ≡ flat_map g (range_with_len a n)
 runs_agree f g a zero same = refl
 runs_agree f g a (suc n) same =
     ap (λ (t : List ℕ). t ++ flat_map f (range_with_len (a + 1) n)) (same a (omega arith) (omega arith))
@@ -51,10 +53,12 @@ unfolding digests_from
 length-digests b first count = length-run (λ k. page_digest b k (length b)) 32 first count (λ k. length-page_digest b k (length b))
 
 -- no page is signed yet
-pub pages_begin : (b : List ℕ) (at first none : ℕ) (out : List ℕ) → none ≡ 0 → at ≤ length out → out ≡ put at (digests_from b first none) out
+pub pages_begin : (b : List ℕ) (at first none : ℕ) (out : List ℕ) → none ≡ 0 → at ≤ length out
+    → out ≡ put at (digests_from b first none) out
 unfolding digests_from
 pages_begin b at first none out is fits =
-    sym (put_nothing at out fits) ∙ ap (λ (k : ℕ). put at (flat_map (λ j. page_digest b j (length b)) (range_with_len first k)) out) (sym is)
+    sym (put_nothing at out fits) ∙ ap (λ (k : ℕ). put at (flat_map (λ j. page_digest b j (length b)) (range_with_len first k)) out)
+    (sym is)
 
 -- one page more
 pub pages_go_on : (b : List ℕ) (at place first page count more : ℕ) (before out now : List ℕ) → page ≡ first + count → more ≡ count + 1
@@ -63,7 +67,8 @@ pub pages_go_on : (b : List ℕ) (at place first page count more : ℕ) (before 
 unfolding digests_from
 pages_go_on b at place first page count more before out now here next ends room so_far is =
     is ∙ ap (put place (f page)) so_far
-    ∙ put-put at place run (f page) before (omega (arith, ends, length-digests b first count, long)) (omega (arith, room, length-page_digest b page (length b)))
+    ∙ put-put at place run (f page) before (omega (arith, ends, length-digests b first count, long))
+    (omega (arith, room, length-page_digest b page (length b)))
     ∙ ap (λ (t : List ℕ). put at t before) (sym all)
   where
     f : ℕ → List ℕ
@@ -85,7 +90,8 @@ unfolding digests_from
 digests_join b first m n = runs_join (λ k. page_digest b k (length b)) first m n
 
 -- the digests of pages that are alike
-pub digests_agree : (b c : List ℕ) (first count : ℕ) → ((k : ℕ) → first ≤ k → k < first + count → page_digest b k (length b) ≡ page_digest c k (length c))
+pub digests_agree : (b c : List ℕ) (first count : ℕ) → ((k : ℕ) → first ≤ k → k < first + count
+    → page_digest b k (length b) ≡ page_digest c k (length c))
     → digests_from b first count ≡ digests_from c first count
 unfolding digests_from
 digests_agree b c first count same = runs_agree (λ k. page_digest b k (length b)) (λ k. page_digest c k (length c)) first count same
@@ -101,7 +107,8 @@ unfolding page_digests
 length-page_digests b limit = length-run (λ k. page_digest b k limit) 32 0 (page_count limit) (λ k. length-page_digest b k limit)
 
 -- files that are alike below a limit have the same digests
-pub page_digests-alike : (b c : List ℕ) (limit : ℕ) → ((k : ℕ) → page_digest b k limit ≡ page_digest c k limit) → page_digests b limit ≡ page_digests c limit
+pub page_digests-alike : (b c : List ℕ) (limit : ℕ) → ((k : ℕ) → page_digest b k limit ≡ page_digest c k limit)
+    → page_digests b limit ≡ page_digests c limit
 unfolding page_digests
 page_digests-alike b c limit same =
     runs_agree (λ k. page_digest b k limit) (λ k. page_digest c k limit) 0 (page_count limit) (λ k from to. same k)

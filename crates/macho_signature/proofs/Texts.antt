@@ -11,7 +11,8 @@ use Rattle.macho_bytes.specs.Layouts.{spelling}
 use Rattle.macho_bytes.proofs.Numbers.{length-row_big}
 use Rattle.macho_bytes.proofs.Puts.{put-put, length-put}
 use Rattle.macho_structs.specs.Layouts.{code_directory}
-use Rattle.macho_model.specs.Signature.{Signed, SUPER_BLOB_MAGIC, DIRECTORY_PLACE, directory_size, directory_for, identifier_text, page_count, page_digests, signature_text}
+use Rattle.macho_model.specs.Signature.{Signed, SUPER_BLOB_MAGIC, DIRECTORY_PLACE, directory_size, directory_for, identifier_text}
+use Rattle.macho_model.specs.Signature.{page_count, page_digests, signature_text}
 use Rattle.macho_signature.specs.Sizes.{identifier_size, digests_offset, signature_size}
 use Rattle.macho_signature.proofs.Pages.{length-page_digests}
 
@@ -43,7 +44,8 @@ length-signature s b directory =
 
 -- the four parts, put one behind the other
 pub signature_put : (s : Signed) (b : List ℕ) (size at : ℕ) (digests before headed directed named now : List ℕ)
-    → length (spelling code_directory (directory_for s)) ≡ 88 → size ≡ signature_size (length s.name) s.limit → at ≡ digests_offset (length s.name)
+    → length (spelling code_directory (directory_for s)) ≡ 88 → size ≡ signature_size (length s.name) s.limit
+    → at ≡ digests_offset (length s.name)
     → size ≤ length before → digests ≡ page_digests b s.limit
     → headed ≡ put 0 (row_bytes big 4 (SUPER_BLOB_MAGIC ∷ size ∷ 1 ∷ 0 ∷ DIRECTORY_PLACE ∷ [])) before
     → directed ≡ put DIRECTORY_PLACE (spelling code_directory (directory_for s)) headed → named ≡ put 108 (identifier_text s.name) directed
@@ -51,10 +53,12 @@ pub signature_put : (s : Signed) (b : List ℕ) (size at : ℕ) (digests before 
 unfolding signature_text
 signature_put s b size at digests before headed directed named now directory sized offset room are first second third fourth =
     fourth ∙ ap (put at digests) three
-    ∙ put-put 0 at (front ++ directory_text ++ identifier_text s.name) digests before (omega (arith, offset, two_long, length-identifier s.name, three_long))
+    ∙ put-put 0 at (front ++ directory_text ++ identifier_text s.name) digests before
+    (omega (arith, offset, two_long, length-identifier s.name, three_long))
     (omega (arith, offset, sized, digests_long))
     ∙ ap (λ (t : List ℕ). put 0 (front ++ directory_text ++ identifier_text s.name ++ t) before) are
-    ∙ ap (λ (n : ℕ). put 0 (row_bytes big 4 (SUPER_BLOB_MAGIC ∷ n ∷ 1 ∷ 0 ∷ DIRECTORY_PLACE ∷ []) ++ directory_text ++ identifier_text s.name ++ page_digests b s.limit) before) whole
+    ∙ ap (λ (n : ℕ). put 0 (row_bytes big 4 (SUPER_BLOB_MAGIC ∷ n ∷ 1 ∷ 0 ∷ DIRECTORY_PLACE ∷ []) ++ directory_text
+    ++ identifier_text s.name ++ page_digests b s.limit) before) whole
   where
     front : List ℕ
     front = row_bytes big 4 (SUPER_BLOB_MAGIC ∷ size ∷ 1 ∷ 0 ∷ DIRECTORY_PLACE ∷ [])
@@ -83,4 +87,5 @@ signature_put s b size at digests before headed directed named now directory siz
 
     three : named ≡ put 0 (front ++ directory_text ++ identifier_text s.name) before
     three = third ∙ ap (put 108 (identifier_text s.name)) two
-        ∙ put-put 0 108 (front ++ directory_text) (identifier_text s.name) before (omega (arith, two_long)) (omega (arith, length-identifier s.name, sized, room))
+        ∙ put-put 0 108 (front ++ directory_text) (identifier_text s.name) before (omega (arith, two_long))
+        (omega (arith, length-identifier s.name, sized, room))

@@ -4,7 +4,8 @@
 -- begin with it go through the first edges, all others through the rest. All names through an edge begin with its label, and
 -- with no longer text, since a name ends there or two edges begin with different bytes; so the labels are equal. Behind the label
 -- the same name ends, and the same names lead on.
-use Rattle.std.proofs.Common.{◌≡◌, ℕ, ◌<◌, ◌≤◌, List, [], ◌∷◌, ◌++◌, length, drop, refl, sym, ap, ◌∙◌, subst, arith, inl, inr, Some, None, append-nil}
+use Rattle.std.proofs.Common.{◌≡◌, ℕ, ◌<◌, ◌≤◌, List, [], ◌∷◌, ◌++◌, length, drop, refl, sym, ap, ◌∙◌, subst, arith, inl, inr, Some, None}
+use Rattle.std.proofs.Common.{append-nil}
 use Rattle.std.specs.Prelude.{◌⊎◌, slice_index, Option, IsSome}
 use Rattle.std.proofs.lemmas.List.{length-append, append_cancel_left}
 use Rattle.macho_trie.specs.Trees.{Edges, no_edge, edge, LeadsTo, edge_count, BeginsAbove, AreRadix}

@@ -4,28 +4,34 @@
 -- the end of the file, an import told of a second library of one; each breaks a test of the loader. Fixups: without the page start of
 -- the pointer's segment the chain lacks the pointer. Content: with another instruction in the code memory has a byte that the input
 -- has not, since no chain word covers it and one segment alone has the address.
-use Rattle.std.proofs.Common.{◌≡◌, if◌then◌else◌, ℕ, ◌+◌, ◌==◌, ◌||◌, Bool, true, false, not, List, [], ◌∷◌, inl, inr, refl, sym, subst, arith, ◌<◌, ◌&&◌, length, get_or, map, ap, ◌∙◌, ◌-◌, ◌≤◌, nat_le, nat_lt, All, slice_index, take}
+use Rattle.std.proofs.Common.{◌≡◌, if◌then◌else◌, ℕ, ◌+◌, ◌==◌, ◌||◌, Bool, true, false, not, List, [], ◌∷◌, inl, inr, refl, sym, subst}
+use Rattle.std.proofs.Common.{arith, ◌<◌, ◌&&◌, length, get_or, map, ap, ◌∙◌, ◌-◌, ◌≤◌, nat_le, nat_lt, All, slice_index, take}
 use Rattle.std.specs.List.{list_all}
 use Rattle.macho_bytes.specs.Numbers.{le_at, le_bytes, be_at, be_bytes, row_bytes}
 use Rattle.macho_bytes.specs.Layouts.{reading}
 use Rattle.macho_model.specs.Commands.{header_of, commands_from, commands_of, commands_end}
-use Rattle.macho_model.specs.Objects.{segment_of, num_sections, section_place, section_at, section_bytes, symtab_of, num_symbols, symbol_place, symbol_at, strings_of, symbol_name, relocation_place, relocation_at}
+use Rattle.macho_model.specs.Objects.{segment_of, num_sections, section_place, section_at, section_bytes, symtab_of, num_symbols}
+use Rattle.macho_model.specs.Objects.{symbol_place, symbol_at, strings_of, symbol_name, relocation_place, relocation_at}
 use Rattle.macho_model.specs.ExportLists.{plain_entries, all_entries, entries_of}
 use Rattle.macho_records.specs.Sections.{is_zerofill}
 use Rattle.macho_model.specs.Links.{header_at, sections_of, carried_of, template_exponent, placed_exponent, object_of}
-use Rattle.macho_model.specs.Resolution.{symbols_of, strong_of, weak_of, commons_of, greatest_of, libraries_with, definition_of, chosen_commons}
+use Rattle.macho_model.specs.Resolution.{symbols_of, strong_of, weak_of, commons_of, greatest_of, libraries_with, definition_of}
+use Rattle.macho_model.specs.Resolution.{chosen_commons}
 use Rattle.macho_model.specs.Needs.{initializer_sections, unwind_sections, uses_of, imports_of, libraries_needed}
 use Rattle.macho_model.specs.Targets.{target_of, target_of_relocation, slots_of, stubs_of}
 use Rattle.macho_model.specs.Fields.{Field, fields_of}
 use Rattle.macho_model.specs.Segments.{other_segments, segment_names_of, output_keys_of}
-use Rattle.macho_model.specs.Images.{segments_of, mapped_segments, base_of, libraries_of, tables_of, tries_of, signatures_of, symbol_tables_of, string_tables_of, entries_of_file, Table}
+use Rattle.macho_model.specs.Images.{segments_of, mapped_segments, base_of, libraries_of, tables_of, tries_of, signatures_of}
+use Rattle.macho_model.specs.Images.{symbol_tables_of, string_tables_of, entries_of_file, Table}
 use Rattle.macho_model.specs.Chain.{ChainSegment, chain_segments, OnChain}
 use Rattle.macho_model.specs.Fixups.{ChainIsWhole}
 use Rattle.macho_model.proofs.EachBelow.{is_equal, true_or_false, and_left, and_right, and_both}
 use Rattle.macho_memory_walks.proofs.ChainSets.{is_closed, among_passes, chain_within}
 use Rattle.macho_model_checks.proofs.Examples.{words8, words, halves, name16, changed}
 use Rattle.macho_model_checks.proofs.ExampleLinks.{entry, section}
-use Rattle.macho_model_checks.proofs.ExampleCall.{calls_exit, calling, placed_call, head_of_call, fixups_of_call, tables_of_call, big_words, signature_of_call, call_image, counts_of_call, uuid_given, code_placed, linkedit_segment}
+use Rattle.macho_model_checks.proofs.ExampleCall.{calls_exit, calling, placed_call, head_of_call, fixups_of_call, tables_of_call}
+use Rattle.macho_model_checks.proofs.ExampleCall.{big_words, signature_of_call, call_image, counts_of_call, uuid_given, code_placed}
+use Rattle.macho_model_checks.proofs.ExampleCall.{linkedit_segment}
 use Rattle.macho_model_checks.proofs.ValidTests.{one_passes}
 use Rattle.std.specs.Prelude.{Contains}
 use Rattle.macho_model.specs.Loader.{IsAccepted}
@@ -76,7 +82,9 @@ unfoldable pub without_end : List ℕ
 without_end = take 49947 call_image
 
 without_end_facts : (length without_end ≡ 49947) × (load_test without_end L4 ≡ false)
-unfolding without_end commands_end commands_of commands_from header_of reading le_at row_bytes le_bytes words8 words halves name16 entry calls_exit head_of_call fixups_of_call tables_of_call be_at be_bytes big_words signature_of_call call_image segments_of mapped_segments base_of libraries_of tables_of tries_of signatures_of symbol_tables_of string_tables_of entries_of_file
+unfolding without_end commands_end commands_of commands_from header_of reading le_at row_bytes le_bytes words8 words halves name16 entry
+    calls_exit head_of_call fixups_of_call tables_of_call be_at be_bytes big_words signature_of_call call_image segments_of
+    mapped_segments base_of libraries_of tables_of tries_of signatures_of symbol_tables_of string_tables_of entries_of_file
 without_end_facts = (refl, refl)
 
 pub head_is_needed : Breaks (HeadIsWritten calling counts_of_call uuid_given without_end placed_call) (IsAccepted without_end)
@@ -92,7 +100,9 @@ data_elsewhere = changed call_image 512 (words8 (0x100010000 ∷ []))
 
 elsewhere_facts : (map (λ (s : SegmentPlace). s.address) (map place_by_command (segments_of data_elsewhere))
     ≡ 0 ∷ 0x100000000 ∷ 0x100004000 ∷ 0x100010000 ∷ 0x10000c000 ∷ []) × (load_test data_elsewhere L6 ≡ false)
-unfolding changed data_elsewhere commands_end commands_of commands_from header_of reading le_at row_bytes le_bytes words8 words halves name16 entry calls_exit head_of_call fixups_of_call tables_of_call be_at be_bytes big_words signature_of_call call_image segments_of mapped_segments base_of libraries_of tables_of tries_of signatures_of symbol_tables_of string_tables_of entries_of_file
+unfolding changed data_elsewhere commands_end commands_of commands_from header_of reading le_at row_bytes le_bytes words8 words halves
+    name16 entry calls_exit head_of_call fixups_of_call tables_of_call be_at be_bytes big_words signature_of_call call_image segments_of
+    mapped_segments base_of libraries_of tables_of tries_of signatures_of symbol_tables_of string_tables_of entries_of_file
 elsewhere_facts = (refl, refl)
 
 pub agreement_is_needed : Breaks (Agrees calling counts_of_call data_elsewhere placed_call) (IsAccepted data_elsewhere)
@@ -111,7 +121,9 @@ with_table_over = changed call_image 860 (words (0x10000 ∷ []))
 
 over_facts : (tables_of with_table_over ≡ record { at = 0xc000; size = 0x10000 } ∷ []) × (length with_table_over ≡ 49948)
     × (load_test with_table_over L8 ≡ false)
-unfolding changed with_table_over commands_end commands_of commands_from header_of reading le_at row_bytes le_bytes words8 words halves name16 entry calls_exit head_of_call fixups_of_call tables_of_call be_at be_bytes big_words signature_of_call call_image segments_of mapped_segments base_of libraries_of tables_of tries_of signatures_of symbol_tables_of string_tables_of entries_of_file
+unfolding changed with_table_over commands_end commands_of commands_from header_of reading le_at row_bytes le_bytes words8 words halves
+    name16 entry calls_exit head_of_call fixups_of_call tables_of_call be_at be_bytes big_words signature_of_call call_image segments_of
+    mapped_segments base_of libraries_of tables_of tries_of signatures_of symbol_tables_of string_tables_of entries_of_file
 over_facts = (refl, refl, refl)
 
 pub table_is_needed : Breaks (FixupsAreWritten calling with_table_over placed_call) (IsAccepted with_table_over)
@@ -142,7 +154,9 @@ chained_without =
 without_start_facts : (chain_segments without_start ≡ chained_without)
     × (told_segments without_start table_there (fixup_segments placed_call) ≡ chained_without)
     × (tables_of without_start ≡ table_there ∷ []) × (is_closed chained_without without_start (0x100004000 ∷ []) ≡ true)
-unfolding changed without_start chain_segments commands_end commands_of commands_from header_of reading le_at row_bytes le_bytes words8 words halves name16 entry calls_exit head_of_call fixups_of_call tables_of_call be_at be_bytes big_words signature_of_call call_image segments_of mapped_segments base_of libraries_of tables_of tries_of signatures_of symbol_tables_of string_tables_of entries_of_file
+unfolding changed without_start chain_segments commands_end commands_of commands_from header_of reading le_at row_bytes le_bytes words8
+    words halves name16 entry calls_exit head_of_call fixups_of_call tables_of_call be_at be_bytes big_words signature_of_call call_image
+    segments_of mapped_segments base_of libraries_of tables_of tries_of signatures_of symbol_tables_of string_tables_of entries_of_file
 without_start_facts = (refl, refl, refl, refl)
 
 not_on : OnChain chained_without without_start 0x100008000 → ⊥
@@ -168,7 +182,9 @@ starts_are_needed = record {
 
 -- 5. Imports: `_exit` is told of the second library of one.
 another_library_fails : load_test with_another_library L9 ≡ false
-unfolding changed with_another_library commands_end commands_of commands_from header_of reading le_at row_bytes le_bytes words8 words halves name16 entry calls_exit head_of_call fixups_of_call tables_of_call be_at be_bytes big_words signature_of_call call_image segments_of mapped_segments base_of libraries_of tables_of tries_of signatures_of symbol_tables_of string_tables_of entries_of_file
+unfolding changed with_another_library commands_end commands_of commands_from header_of reading le_at row_bytes le_bytes words8 words
+    halves name16 entry calls_exit head_of_call fixups_of_call tables_of_call be_at be_bytes big_words signature_of_call call_image
+    segments_of mapped_segments base_of libraries_of tables_of tries_of signatures_of symbol_tables_of string_tables_of entries_of_file
 another_library_fails = refl
 
 pub imports_are_needed : Breaks (ImportsAreWritten calling with_another_library) (IsAccepted with_another_library)
@@ -192,15 +208,29 @@ other_code_facts : (chain_segments with_other_code ≡ segments_in_chain)
     × (is_closed segments_in_chain with_other_code words_in_chain ≡ true)
     × (list_all is_text (mapped_segments with_other_code) ≡ true)
     × (slice_index with_other_code 0x39c ≡ 0x1f)
-unfolding changed with_other_code chain_segments commands_end commands_of commands_from header_of reading le_at row_bytes le_bytes words8 words halves name16 entry calls_exit head_of_call fixups_of_call tables_of_call be_at be_bytes big_words signature_of_call call_image segments_of mapped_segments base_of libraries_of tables_of tries_of signatures_of symbol_tables_of string_tables_of entries_of_file
+unfolding changed with_other_code chain_segments commands_end commands_of commands_from header_of reading le_at row_bytes le_bytes words8
+    words halves name16 entry calls_exit head_of_call fixups_of_call tables_of_call be_at be_bytes big_words signature_of_call call_image
+    segments_of mapped_segments base_of libraries_of tables_of tries_of signatures_of symbol_tables_of string_tables_of entries_of_file
 other_code_facts = (refl, refl, refl, refl)
 
 filled_code : is_zerofill (header_at calling (section 0 0)) ≡ false
-unfolding commands_end commands_of commands_from header_of reading le_at row_bytes le_bytes words8 words halves name16 entry calls_exit head_of_call fixups_of_call tables_of_call be_at be_bytes big_words signature_of_call call_image segment_of num_sections section_place section_at section_bytes symtab_of num_symbols symbol_place symbol_at strings_of symbol_name relocation_place relocation_at sections_of carried_of template_exponent placed_exponent symbols_of strong_of weak_of commons_of greatest_of libraries_with definition_of chosen_commons initializer_sections unwind_sections uses_of imports_of libraries_needed target_of target_of_relocation slots_of stubs_of fields_of plain_entries all_entries entries_of other_segments segment_names_of output_keys_of
+unfolding commands_end commands_of commands_from header_of reading le_at row_bytes le_bytes words8 words halves name16 entry calls_exit
+    head_of_call fixups_of_call tables_of_call be_at be_bytes big_words signature_of_call call_image segment_of num_sections section_place
+    section_at section_bytes symtab_of num_symbols symbol_place symbol_at strings_of symbol_name relocation_place relocation_at
+    sections_of carried_of template_exponent placed_exponent symbols_of strong_of weak_of commons_of greatest_of libraries_with
+    definition_of chosen_commons initializer_sections unwind_sections uses_of imports_of libraries_needed target_of
+    target_of_relocation slots_of stubs_of fields_of plain_entries all_entries entries_of other_segments segment_names_of
+    output_keys_of
 filled_code = refl
 
 input_byte : slice_index (section_bytes (object_of calling 0) 0) 4 ≡ 0xc0
-unfolding commands_end commands_of commands_from header_of reading le_at row_bytes le_bytes words8 words halves name16 entry calls_exit head_of_call fixups_of_call tables_of_call be_at be_bytes big_words signature_of_call call_image segment_of num_sections section_place section_at section_bytes symtab_of num_symbols symbol_place symbol_at strings_of symbol_name relocation_place relocation_at sections_of carried_of template_exponent placed_exponent symbols_of strong_of weak_of commons_of greatest_of libraries_with definition_of chosen_commons initializer_sections unwind_sections uses_of imports_of libraries_needed target_of target_of_relocation slots_of stubs_of fields_of plain_entries all_entries entries_of other_segments segment_names_of output_keys_of
+unfolding commands_end commands_of commands_from header_of reading le_at row_bytes le_bytes words8 words halves name16 entry calls_exit
+    head_of_call fixups_of_call tables_of_call be_at be_bytes big_words signature_of_call call_image segment_of num_sections section_place
+    section_at section_bytes symtab_of num_symbols symbol_place symbol_at strings_of symbol_name relocation_place relocation_at
+    sections_of carried_of template_exponent placed_exponent symbols_of strong_of weak_of commons_of greatest_of libraries_with
+    definition_of chosen_commons initializer_sections unwind_sections uses_of imports_of libraries_needed target_of
+    target_of_relocation slots_of stubs_of fields_of plain_entries all_entries entries_of other_segments segment_names_of
+    output_keys_of
 input_byte = refl
 
 no_word_there : (w : ℕ) → Covers with_other_code w 0x10000039c → ⊥
@@ -248,7 +278,9 @@ unfolding field_call
 outside_branch = rw fields_call (All-cons (IsOutsideField 4) field_call [] (inr (omega arith)) (All-nil (IsOutsideField 4)))
 
 other_bytes : slice_index (bytes_in_file with_other_code placed_call 0x100000398 8) 4 ≡ 0x1f
-unfolding changed with_other_code offset_in_file commands_end commands_of commands_from header_of reading le_at row_bytes le_bytes words8 words halves name16 entry calls_exit head_of_call fixups_of_call tables_of_call be_at be_bytes big_words signature_of_call call_image segments_of mapped_segments base_of libraries_of tables_of tries_of signatures_of symbol_tables_of string_tables_of entries_of_file
+unfolding changed with_other_code offset_in_file commands_end commands_of commands_from header_of reading le_at row_bytes le_bytes words8
+    words halves name16 entry calls_exit head_of_call fixups_of_call tables_of_call be_at be_bytes big_words signature_of_call call_image
+    segments_of mapped_segments base_of libraries_of tables_of tries_of signatures_of symbol_tables_of string_tables_of entries_of_file
 other_bytes = refl
 
 -- it stands at no slide, for no choice

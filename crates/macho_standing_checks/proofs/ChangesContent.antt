@@ -5,7 +5,8 @@
 --
 -- Unwind information: a byte of a section stands behind the stub, where none is told. Sections and stub are written, and all other
 -- bytes are 0; but a link without entries has no such bytes.
-use Rattle.std.proofs.Common.{◌≡◌, ◌≢◌, if◌then◌else◌, ℕ, ◌+◌, ◌-◌, ◌<◌, ◌≤◌, ◌==◌, ◌||◌, ◌&&◌, Bool, true, false, not, List, [], ◌∷◌, length, take, drop, get_or, inl, inr, refl, sym, ap, ◌∙◌, subst, arith, nat_le, nat_lt, All, slice_index}
+use Rattle.std.proofs.Common.{◌≡◌, ◌≢◌, if◌then◌else◌, ℕ, ◌+◌, ◌-◌, ◌<◌, ◌≤◌, ◌==◌, ◌||◌, ◌&&◌, Bool, true, false, not, List, [], ◌∷◌}
+use Rattle.std.proofs.Common.{length, take, drop, get_or, inl, inr, refl, sym, ap, ◌∙◌, subst, arith, nat_le, nat_lt, All, slice_index}
 use Rattle.std.proofs.lemmas.List.{append_assoc}
 use Rattle.std.proofs.lemmas.List.Elements.{All-nil, All-cons, All-from_recursion}
 use Rattle.std.proofs.lemmas.Bool.{leb-true, le-leb, lt-ltb, ltb-true, ltb-false}
@@ -17,16 +18,19 @@ use Rattle.macho_bytes.specs.Texts.{put}
 use Rattle.macho_bytes.proofs.Puts.{length-put, get_or-put_below, get_or-put_above}
 use Rattle.macho_records.specs.declared.header.SegmentCommand.{SegmentCommand}
 use Rattle.macho_model.specs.Commands.{header_of, commands_from, commands_of, commands_end}
-use Rattle.macho_model.specs.Objects.{segment_of, num_sections, section_place, section_at, section_bytes, symtab_of, num_symbols, symbol_place, symbol_at, strings_of, symbol_name, relocation_place, relocation_at}
+use Rattle.macho_model.specs.Objects.{segment_of, num_sections, section_place, section_at, section_bytes, symtab_of, num_symbols}
+use Rattle.macho_model.specs.Objects.{symbol_place, symbol_at, strings_of, symbol_name, relocation_place, relocation_at}
 use Rattle.macho_model.specs.ExportLists.{plain_entries, all_entries, entries_of}
 use Rattle.macho_model.specs.Links.{sections_of, carried_of, template_exponent, placed_exponent}
-use Rattle.macho_model.specs.Resolution.{symbols_of, strong_of, weak_of, commons_of, greatest_of, libraries_with, definition_of, chosen_commons}
+use Rattle.macho_model.specs.Resolution.{symbols_of, strong_of, weak_of, commons_of, greatest_of, libraries_with, definition_of}
+use Rattle.macho_model.specs.Resolution.{chosen_commons}
 use Rattle.macho_model.specs.Needs.{initializer_sections, unwind_sections, uses_of, imports_of, libraries_needed}
 use Rattle.macho_model.specs.Targets.{target_of, target_of_relocation, slots_of, stubs_of}
 use Rattle.macho_model.specs.Fields.{fields_of}
 use Rattle.macho_model.specs.Segments.{other_segments, segment_names_of, output_keys_of}
 use Rattle.macho_model.specs.Placement.{Placed, Span}
-use Rattle.macho_model.specs.Images.{segments_of, mapped_segments, base_of, libraries_of, tables_of, tries_of, signatures_of, symbol_tables_of, string_tables_of, entries_of_file}
+use Rattle.macho_model.specs.Images.{segments_of, mapped_segments, base_of, libraries_of, tables_of, tries_of, signatures_of}
+use Rattle.macho_model.specs.Images.{symbol_tables_of, string_tables_of, entries_of_file}
 use Rattle.macho_model.specs.Fixups.{own_entries, import_entries_of, entries_have_addends}
 use Rattle.macho_model.specs.ImportTable.{fixup_count, names_text}
 use Rattle.macho_model.specs.Chain.{ChainSegment, chain_segments, OnChain}
@@ -42,7 +46,8 @@ use Rattle.macho_parts.specs.Filled.{bytes_in_file}
 use Rattle.macho_standing.specs.Composed.{SectionIsWritten, StubIsWritten, ContentIsWritten}
 use Rattle.macho_model_checks.proofs.Examples.{words8, words, halves, name16, changed}
 use Rattle.macho_model_checks.proofs.ExampleLinks.{entry}
-use Rattle.macho_model_checks.proofs.ExampleCall.{calls_exit, calling, code_placed, data_placed, stub_placed, placed_call, head_of_call, fixups_of_call, tables_of_call, big_words, signature_of_call, call_image, range}
+use Rattle.macho_model_checks.proofs.ExampleCall.{calls_exit, calling, code_placed, data_placed, stub_placed, placed_call, head_of_call}
+use Rattle.macho_model_checks.proofs.ExampleCall.{fixups_of_call, tables_of_call, big_words, signature_of_call, call_image, range}
 use Rattle.macho_model_checks.proofs.ValidTests.{one_passes}
 use Rattle.macho_model_checks.proofs.RowsCallChain.{segments_in_chain, words_in_chain}
 use Rattle.macho_model_checks.proofs.RowsCallUnwind.{no_entries}
@@ -56,7 +61,9 @@ abbrev with_byte : ℕ → ℕ → List ℕ
 with_byte at byte = changed call_image at (byte ∷ [])
 
 image_size : length call_image ≡ 49948
-unfolding commands_end commands_of commands_from header_of reading le_at row_bytes le_bytes words8 words halves name16 entry calls_exit head_of_call fixups_of_call tables_of_call be_at be_bytes big_words signature_of_call call_image segments_of mapped_segments base_of libraries_of tables_of tries_of signatures_of symbol_tables_of string_tables_of entries_of_file
+unfolding commands_end commands_of commands_from header_of reading le_at row_bytes le_bytes words8 words halves name16 entry calls_exit
+    head_of_call fixups_of_call tables_of_call be_at be_bytes big_words signature_of_call call_image segments_of mapped_segments base_of
+    libraries_of tables_of tries_of signatures_of symbol_tables_of string_tables_of entries_of_file
 image_size = refl
 
 -- all other bytes are those of the image
@@ -94,7 +101,9 @@ other_stub_facts : (chain_segments with_other_stub ≡ segments_in_chain)
     × (is_closed segments_in_chain with_other_stub words_in_chain ≡ true)
     × (list_all is_text (mapped_segments with_other_stub) ≡ true)
     × (slice_index with_other_stub 0x3a8 ≡ 0x20)
-unfolding changed with_other_stub chain_segments commands_end commands_of commands_from header_of reading le_at row_bytes le_bytes words8 words halves name16 entry calls_exit head_of_call fixups_of_call tables_of_call be_at be_bytes big_words signature_of_call call_image segments_of mapped_segments base_of libraries_of tables_of tries_of signatures_of symbol_tables_of string_tables_of entries_of_file
+unfolding changed with_other_stub chain_segments commands_end commands_of commands_from header_of reading le_at row_bytes le_bytes words8
+    words halves name16 entry calls_exit head_of_call fixups_of_call tables_of_call be_at be_bytes big_words signature_of_call call_image
+    segments_of mapped_segments base_of libraries_of tables_of tries_of signatures_of symbol_tables_of string_tables_of entries_of_file
 other_stub_facts = (refl, refl, refl, refl)
 
 no_word_there : (w : ℕ) → Covers with_other_stub w 0x1000003a8 → ⊥
@@ -150,7 +159,15 @@ other_stub_bytes : (bytes_in_file with_other_stub placed_call 0x100000398 8 ≡ 
     × (bytes_in_file with_other_stub placed_call 0x100008000 8 ≡ bytes_in_file call_image placed_call 0x100008000 8)
     × (le_at 4 (bytes_in_file with_other_stub placed_call 0x1000003a0 12) 8 ≡ 0xd61f0220)
     × (contents_of calling with_other_stub placed_call 0 ≡ contents_of_call)
-unfolding changed with_other_stub commands_end commands_of commands_from header_of reading le_at row_bytes le_bytes words8 words halves name16 entry calls_exit head_of_call fixups_of_call tables_of_call be_at be_bytes big_words signature_of_call call_image segment_of num_sections section_place section_at section_bytes symtab_of num_symbols symbol_place symbol_at strings_of symbol_name relocation_place relocation_at sections_of carried_of template_exponent placed_exponent symbols_of strong_of weak_of commons_of greatest_of libraries_with definition_of chosen_commons initializer_sections unwind_sections uses_of imports_of libraries_needed target_of target_of_relocation slots_of stubs_of fields_of plain_entries all_entries entries_of other_segments segment_names_of output_keys_of own_entries import_entries_of entries_have_addends fixup_count names_text segments_of mapped_segments base_of libraries_of tables_of tries_of signatures_of symbol_tables_of string_tables_of entries_of_file offset_in_file contents_of
+unfolding changed with_other_stub commands_end commands_of commands_from header_of reading le_at row_bytes le_bytes words8 words halves
+    name16 entry calls_exit head_of_call fixups_of_call tables_of_call be_at be_bytes big_words signature_of_call call_image segment_of
+    num_sections section_place section_at section_bytes symtab_of num_symbols symbol_place symbol_at strings_of symbol_name
+    relocation_place relocation_at sections_of carried_of template_exponent placed_exponent symbols_of strong_of weak_of
+    commons_of greatest_of libraries_with definition_of chosen_commons initializer_sections unwind_sections uses_of imports_of
+    libraries_needed target_of target_of_relocation slots_of stubs_of fields_of plain_entries all_entries entries_of
+    other_segments segment_names_of output_keys_of own_entries import_entries_of entries_have_addends fixup_count
+    names_text segments_of mapped_segments base_of libraries_of tables_of tries_of signatures_of symbol_tables_of
+    string_tables_of entries_of_file offset_in_file contents_of
 other_stub_bytes = (refl, refl, refl, refl)
 
 -- its sections are filled
@@ -164,7 +181,15 @@ other_stub_sections =
 
 -- and what nothing stands in is 0
 contents_are : contents_of calling call_image placed_call 0 ≡ contents_of_call
-unfolding commands_end commands_of commands_from header_of reading le_at row_bytes le_bytes words8 words halves name16 entry calls_exit head_of_call fixups_of_call tables_of_call be_at be_bytes big_words signature_of_call call_image segment_of num_sections section_place section_at section_bytes symtab_of num_symbols symbol_place symbol_at strings_of symbol_name relocation_place relocation_at sections_of carried_of template_exponent placed_exponent symbols_of strong_of weak_of commons_of greatest_of libraries_with definition_of chosen_commons initializer_sections unwind_sections uses_of imports_of libraries_needed target_of target_of_relocation slots_of stubs_of fields_of plain_entries all_entries entries_of other_segments segment_names_of output_keys_of own_entries import_entries_of entries_have_addends fixup_count names_text segments_of mapped_segments base_of libraries_of tables_of tries_of signatures_of symbol_tables_of string_tables_of entries_of_file offset_in_file contents_of
+unfolding commands_end commands_of commands_from header_of reading le_at row_bytes le_bytes words8 words halves name16 entry calls_exit
+    head_of_call fixups_of_call tables_of_call be_at be_bytes big_words signature_of_call call_image segment_of num_sections section_place
+    section_at section_bytes symtab_of num_symbols symbol_place symbol_at strings_of symbol_name relocation_place relocation_at
+    sections_of carried_of template_exponent placed_exponent symbols_of strong_of weak_of commons_of greatest_of libraries_with
+    definition_of chosen_commons initializer_sections unwind_sections uses_of imports_of libraries_needed target_of
+    target_of_relocation slots_of stubs_of fields_of plain_entries all_entries entries_of other_segments segment_names_of
+    output_keys_of own_entries import_entries_of entries_have_addends fixup_count names_text segments_of
+    mapped_segments base_of libraries_of tables_of tries_of signatures_of symbol_tables_of string_tables_of
+    entries_of_file offset_in_file contents_of
 contents_are = refl
 
 pub other_stub_zeros : IsZeroElsewhere calling with_other_stub placed_call 0
@@ -210,7 +235,15 @@ other_unwind_facts : (bytes_in_file with_other_unwind placed_call 0x100000398 8 
     × (contents_of calling with_other_unwind placed_call 0 ≡ contents_of_call)
     × (contents_of calling with_other_unwind placed_with_room 1 ≡ contents_with_byte)
     × (slice_index with_other_unwind 0x3ac ≡ 1)
-unfolding changed with_other_unwind commands_end commands_of commands_from header_of reading le_at row_bytes le_bytes words8 words halves name16 entry calls_exit head_of_call fixups_of_call tables_of_call be_at be_bytes big_words signature_of_call call_image segment_of num_sections section_place section_at section_bytes symtab_of num_symbols symbol_place symbol_at strings_of symbol_name relocation_place relocation_at sections_of carried_of template_exponent placed_exponent symbols_of strong_of weak_of commons_of greatest_of libraries_with definition_of chosen_commons initializer_sections unwind_sections uses_of imports_of libraries_needed target_of target_of_relocation slots_of stubs_of fields_of plain_entries all_entries entries_of other_segments segment_names_of output_keys_of own_entries import_entries_of entries_have_addends fixup_count names_text segments_of mapped_segments base_of libraries_of tables_of tries_of signatures_of symbol_tables_of string_tables_of entries_of_file offset_in_file contents_of
+unfolding changed with_other_unwind commands_end commands_of commands_from header_of reading le_at row_bytes le_bytes words8 words halves
+    name16 entry calls_exit head_of_call fixups_of_call tables_of_call be_at be_bytes big_words signature_of_call call_image segment_of
+    num_sections section_place section_at section_bytes symtab_of num_symbols symbol_place symbol_at strings_of symbol_name
+    relocation_place relocation_at sections_of carried_of template_exponent placed_exponent symbols_of strong_of weak_of
+    commons_of greatest_of libraries_with definition_of chosen_commons initializer_sections unwind_sections uses_of imports_of
+    libraries_needed target_of target_of_relocation slots_of stubs_of fields_of plain_entries all_entries entries_of
+    other_segments segment_names_of output_keys_of own_entries import_entries_of entries_have_addends fixup_count
+    names_text segments_of mapped_segments base_of libraries_of tables_of tries_of signatures_of symbol_tables_of
+    string_tables_of entries_of_file offset_in_file contents_of
 other_unwind_facts = (refl, refl, refl, refl, refl, refl)
 
 pub other_unwind_sections : All (SectionIsWritten calling with_other_unwind placed_call) placed_call.sections

@@ -2,7 +2,8 @@
 --
 -- What the table and the words say is computed in `RowsCallFixups`. Here the words lead to no further one, so the chain is the run; the
 -- table reads back; and of the two words the one that moves has a target that it has room for.
-use Rattle.std.proofs.Common.{◌≡◌, ℕ, zero, suc, ◌+◌, ◌%◌, ◌^◌, ◌<◌, ◌≤◌, ◌⊎◌, true, false, List, [], ◌∷◌, length, get_or, map, refl, sym, ap, subst, ◌∙◌, arith, inl, inr, All, slice_range}
+use Rattle.std.proofs.Common.{◌≡◌, ℕ, zero, suc, ◌+◌, ◌%◌, ◌^◌, ◌<◌, ◌≤◌, ◌⊎◌, true, false, List, [], ◌∷◌, length, get_or, map, refl, sym}
+use Rattle.std.proofs.Common.{ap, subst, ◌∙◌, arith, inl, inr, All, slice_range}
 use Rattle.std.specs.Prelude.{Contains, pos, codes, ◌++◌}
 use Rattle.std.specs.List.{AllByRecursion}
 use Rattle.std.proofs.lemmas.Bool.{true≢false}
@@ -32,7 +33,8 @@ use Rattle.macho_fixups.specs.declared.words.FixupKind.TheVariants.{Rebase, Bind
 use Rattle.macho_fixups.specs.Words.{FitsOrdinal, IsWordOf, word_of}
 use Rattle.macho_fixups.specs.Runs.{AreFixups, Holds, pages_of, start_of}
 use Rattle.macho_fixups.specs.Chains.{ChainIsRun, step_of, place_of, word_part}
-use Rattle.macho_fixups.specs.Tables.{table_header, table_text, image_starts_text, image_starts_size, offsets_text, segment_text, segment_size, starts_text, page_starts_text, entry_text}
+use Rattle.macho_fixups.specs.Tables.{table_header, table_text, image_starts_text, image_starts_size, offsets_text, segment_text}
+use Rattle.macho_fixups.specs.Tables.{segment_size, starts_text, page_starts_text, entry_text}
 use Rattle.macho_fixups.specs.Readings.{TableReadsBack}
 use Rattle.macho_fixups.specs.Calls.{FitsTable, AreEntries}
 use Rattle.macho_fixups.specs.steps.Calls.{EntryFits}
@@ -43,10 +45,12 @@ use Rattle.macho_promise.specs.FixupsSay as promised
 use Rattle.macho_bytes.specs.Numbers.{le_at, le_bytes, row_bytes, be_at, be_bytes}
 use Rattle.macho_bytes.specs.Layouts.{reading}
 use Rattle.macho_model.specs.Commands.{header_of, commands_from, commands_of, commands_end}
-use Rattle.macho_model.specs.Objects.{segment_of, num_sections, section_place, section_at, section_bytes, symtab_of, num_symbols, symbol_place, symbol_at, strings_of, symbol_name, relocation_place, relocation_at}
+use Rattle.macho_model.specs.Objects.{segment_of, num_sections, section_place, section_at, section_bytes, symtab_of, num_symbols}
+use Rattle.macho_model.specs.Objects.{symbol_place, symbol_at, strings_of, symbol_name, relocation_place, relocation_at}
 use Rattle.macho_model.specs.ExportLists.{plain_entries, all_entries, entries_of}
 use Rattle.macho_model.specs.Links.{SectionId, sections_of, carried_of, template_exponent, placed_exponent}
-use Rattle.macho_model.specs.Resolution.{symbols_of, strong_of, weak_of, commons_of, greatest_of, libraries_with, definition_of, chosen_commons}
+use Rattle.macho_model.specs.Resolution.{symbols_of, strong_of, weak_of, commons_of, greatest_of, libraries_with, definition_of}
+use Rattle.macho_model.specs.Resolution.{chosen_commons}
 use Rattle.macho_model.specs.Needs.{initializer_sections, unwind_sections, uses_of, imports_of, libraries_needed}
 use Rattle.macho_model.specs.Targets.{target_of, target_of_relocation, slots_of, stubs_of}
 use Rattle.macho_model.specs.Fields.{Field, fields_of}
@@ -61,7 +65,8 @@ use Rattle.macho_model.specs.Images.{segments_of, base_of, tables_of, entries_of
 use Rattle.macho_model.specs.Addresses.{offset_in_file}
 use Rattle.macho_model_checks.proofs.ExampleCall.{head_of_call, fixups_of_call, tables_of_call, big_words, signature_of_call, call_image}
 use Rattle.macho_model_checks.proofs.ExamplePlacement.{section_a}
-use Rattle.macho_model_checks.proofs.RowsCallFixups.{fixups_in_call, run_of_call, entry_of_exit, name_of_exit, table_size, what_is_asked, call_fixups}
+use Rattle.macho_model_checks.proofs.RowsCallFixups.{fixups_in_call, run_of_call, entry_of_exit, name_of_exit, table_size, what_is_asked}
+use Rattle.macho_model_checks.proofs.RowsCallFixups.{call_fixups}
 use Rattle.macho_model_checks.proofs.RowsCallChain.{pointer_field, data_fields}
 use Rattle.macho_standing.specs.Composed.{FixupsAreWritten}
 use Rattle.macho_standing.proofs.Members.{front_or_rest, in_none}
@@ -150,7 +155,8 @@ header_back = rw header_call (reads_back chained_fixups_header header_of_table l
 
 starts_size : length (image_starts_text 0x100000000 fixups_in_call (fixup_segments placed_call))
     ≡ image_starts_size fixups_in_call (fixup_segments placed_call)
-unfolding image_starts_text image_starts_size offsets_text segment_text segment_size starts_text page_starts_text pages_of start_of spelling row_bytes le_bytes
+unfolding image_starts_text image_starts_size offsets_text segment_text segment_size starts_text page_starts_text pages_of start_of
+    spelling row_bytes le_bytes
 starts_size = refl
 
 table_back : TableReadsBack 0x100000000 fixups_in_call (fixup_segments placed_call) 1 (entry_of_exit ∷ []) name_of_exit

@@ -1,7 +1,8 @@
 -- The placement of the call's link is placed.
 --
 -- The sections, the slot and the stub are the link's. Each part lies in its segment, and all of them are apart, by a test of each pair.
-use Rattle.std.proofs.Common.{◌≡◌, zero, suc, ◌+◌, ◌%◌, ◌^◌, ◌≤◌, ◌==◌, ◌&&◌, ◌||◌, nat_le, Bool, true, List, [], ◌∷◌, refl, sym, arith, inl, inr}
+use Rattle.std.proofs.Common.{◌≡◌, zero, suc, ◌+◌, ◌%◌, ◌^◌, ◌≤◌, ◌==◌, ◌&&◌, ◌||◌, nat_le, Bool, true, List, [], ◌∷◌, refl, sym, arith}
+use Rattle.std.proofs.Common.{inl, inr}
 use Rattle.std.specs.Prelude.{AllPairs}
 use Rattle.std.specs.List.{list_all, AllByRecursion}
 use Rattle.std.proofs.lemmas.Bool.{and_parts, or_cases, eqb-true, leb-true}
@@ -14,15 +15,19 @@ use Rattle.macho_model.specs.declared.placed.Slot.{Slot}
 use Rattle.macho_model.specs.declared.placed.Stub.{Stub}
 use Rattle.macho_model.specs.declared.targets.Target.TheVariants as target
 use Rattle.macho_model.specs.Segments.{DATA_CONST}
-use Rattle.macho_model.specs.Placement.{Span, AreApart, spans_with, spans_of, id_of, slot_span, stub_span, SectionLies, LiesInNamed, TableLies, linkedit_ranges, IsWholeList, IsAligned, IsInSegment, IsPaged, Follows, EachFollows, IsInOrder, TextBegins, TemplateHolds, IsPlaced}
+use Rattle.macho_model.specs.Placement.{Span, AreApart, spans_with, spans_of, id_of, slot_span, stub_span, SectionLies, LiesInNamed}
+use Rattle.macho_model.specs.Placement.{TableLies, linkedit_ranges, IsWholeList, IsAligned, IsInSegment, IsPaged, Follows, EachFollows}
+use Rattle.macho_model.specs.Placement.{IsInOrder, TextBegins, TemplateHolds, IsPlaced}
 use Rattle.macho_model.proofs.EachBelow.{all_pass}
 use Rattle.macho_bytes.specs.Numbers.{le_at, le_bytes, row_bytes}
 use Rattle.macho_bytes.specs.Layouts.{reading}
 use Rattle.macho_model.specs.Commands.{header_of, commands_from, commands_of, commands_end}
-use Rattle.macho_model.specs.Objects.{segment_of, num_sections, section_place, section_at, section_bytes, symtab_of, num_symbols, symbol_place, symbol_at, strings_of, symbol_name, relocation_place, relocation_at}
+use Rattle.macho_model.specs.Objects.{segment_of, num_sections, section_place, section_at, section_bytes, symtab_of, num_symbols}
+use Rattle.macho_model.specs.Objects.{symbol_place, symbol_at, strings_of, symbol_name, relocation_place, relocation_at}
 use Rattle.macho_model.specs.ExportLists.{plain_entries, all_entries, entries_of}
 use Rattle.macho_model.specs.Links.{sections_of, carried_of, template_exponent, placed_exponent}
-use Rattle.macho_model.specs.Resolution.{symbols_of, strong_of, weak_of, commons_of, greatest_of, libraries_with, definition_of, chosen_commons}
+use Rattle.macho_model.specs.Resolution.{symbols_of, strong_of, weak_of, commons_of, greatest_of, libraries_with, definition_of}
+use Rattle.macho_model.specs.Resolution.{chosen_commons}
 use Rattle.macho_model.specs.Needs.{initializer_sections, unwind_sections, uses_of, imports_of, libraries_needed}
 use Rattle.macho_model.specs.Targets.{target_of, target_of_relocation, slots_of, stubs_of, slot_number}
 use Rattle.macho_model.specs.Fields.{fields_of}
@@ -32,7 +37,8 @@ use Rattle.macho_model.specs.Segments.{TEXT, other_segments, segment_rank, segme
 use Rattle.macho_model.specs.WrittenSum.{content_sum, command_sum, unsigned_sum, written_sum_of}
 use Rattle.macho_model_checks.proofs.Examples.{words8, words, halves, name16}
 use Rattle.macho_model_checks.proofs.ExampleLinks.{entry, section}
-use Rattle.macho_model_checks.proofs.ExampleCall.{calls_exit, calling, counts_of_call, code_placed, data_placed, slot_placed, stub_placed, placed_call, constants_segment, data_segment, linkedit_segment}
+use Rattle.macho_model_checks.proofs.ExampleCall.{calls_exit, calling, counts_of_call, code_placed, data_placed, slot_placed, stub_placed}
+use Rattle.macho_model_checks.proofs.ExampleCall.{placed_call, constants_segment, data_segment, linkedit_segment}
 use Rattle.macho_model_checks.proofs.ExamplePlacement.{pagezero_to, text_from}
 use Rattle.macho_standing_checks.proofs.FactsCall.{carried_call, exponents_call, commons_call, slots_call, stubs_call, sum_call}
 
@@ -66,7 +72,13 @@ pairs_by_test R test sound (x ∷ xs) h =
     (pairs_by_test R test sound xs both.1)
 
 pairs_pass : pairs_test apart_test (spans_of calling counts_of_call placed_call) ≡ true
-unfolding spans_with header_of commands_from commands_of commands_end segment_of num_sections section_place section_at section_bytes symtab_of num_symbols symbol_place symbol_at strings_of symbol_name relocation_place relocation_at sections_of carried_of template_exponent placed_exponent symbols_of strong_of weak_of commons_of greatest_of libraries_with definition_of chosen_commons initializer_sections unwind_sections uses_of imports_of libraries_needed target_of target_of_relocation slots_of stubs_of fields_of is_supported plain_entries all_entries entries_of other_segments segment_rank segment_names_of output_keys_of output_count content_sum command_sum unsigned_sum written_sum_of personality_targets entries_of_link le_at le_bytes row_bytes reading words8 words halves name16 entry calls_exit
+unfolding spans_with header_of commands_from commands_of commands_end segment_of num_sections section_place section_at section_bytes
+    symtab_of num_symbols symbol_place symbol_at strings_of symbol_name relocation_place relocation_at sections_of carried_of
+    template_exponent placed_exponent symbols_of strong_of weak_of commons_of greatest_of libraries_with definition_of chosen_commons
+    initializer_sections unwind_sections uses_of imports_of libraries_needed target_of target_of_relocation slots_of stubs_of
+    fields_of is_supported plain_entries all_entries entries_of other_segments segment_rank segment_names_of output_keys_of
+    output_count content_sum command_sum unsigned_sum written_sum_of personality_targets entries_of_link le_at le_bytes
+    row_bytes reading words8 words halves name16 entry calls_exit
 pairs_pass = refl
 
 whole_call : IsWholeList calling placed_call
@@ -89,7 +101,13 @@ aligned_call = record {
 }
 
 sections_lie : SectionLies calling placed_call code_placed × SectionLies calling placed_call data_placed
-unfolding header_of commands_from commands_of commands_end segment_of num_sections section_place section_at section_bytes symtab_of num_symbols symbol_place symbol_at strings_of symbol_name relocation_place relocation_at sections_of carried_of template_exponent placed_exponent symbols_of strong_of weak_of commons_of greatest_of libraries_with definition_of chosen_commons initializer_sections unwind_sections uses_of imports_of libraries_needed target_of target_of_relocation slots_of stubs_of fields_of is_supported plain_entries all_entries entries_of other_segments segment_rank segment_names_of output_keys_of output_count content_sum command_sum unsigned_sum written_sum_of personality_targets entries_of_link le_at le_bytes row_bytes reading words8 words halves name16 entry calls_exit
+unfolding header_of commands_from commands_of commands_end segment_of num_sections section_place section_at section_bytes symtab_of
+    num_symbols symbol_place symbol_at strings_of symbol_name relocation_place relocation_at sections_of carried_of template_exponent
+    placed_exponent symbols_of strong_of weak_of commons_of greatest_of libraries_with definition_of chosen_commons
+    initializer_sections unwind_sections uses_of imports_of libraries_needed target_of target_of_relocation slots_of stubs_of
+    fields_of is_supported plain_entries all_entries entries_of other_segments segment_rank segment_names_of output_keys_of
+    output_count content_sum command_sum unsigned_sum written_sum_of personality_targets entries_of_link le_at le_bytes
+    row_bytes reading words8 words halves name16 entry calls_exit
 sections_lie = (
   (text_from 0x100000000 0x4000, (omega arith, refl), refl, record { from = omega arith; to = omega arith }),
   (data_segment, (omega arith, refl), refl, record { from = omega arith; to = omega arith }),
@@ -131,19 +149,43 @@ inside_call = record {
 }
 
 follows_0 : Follows calling (pagezero_to 0x100000000) (text_from 0x100000000 0x4000)
-unfolding header_of commands_from commands_of commands_end segment_of num_sections section_place section_at section_bytes symtab_of num_symbols symbol_place symbol_at strings_of symbol_name relocation_place relocation_at sections_of carried_of template_exponent placed_exponent symbols_of strong_of weak_of commons_of greatest_of libraries_with definition_of chosen_commons initializer_sections unwind_sections uses_of imports_of libraries_needed target_of target_of_relocation slots_of stubs_of fields_of is_supported plain_entries all_entries entries_of other_segments segment_rank segment_names_of output_keys_of output_count content_sum command_sum unsigned_sum written_sum_of personality_targets entries_of_link le_at le_bytes row_bytes reading words8 words halves name16 entry calls_exit
+unfolding header_of commands_from commands_of commands_end segment_of num_sections section_place section_at section_bytes symtab_of
+    num_symbols symbol_place symbol_at strings_of symbol_name relocation_place relocation_at sections_of carried_of template_exponent
+    placed_exponent symbols_of strong_of weak_of commons_of greatest_of libraries_with definition_of chosen_commons
+    initializer_sections unwind_sections uses_of imports_of libraries_needed target_of target_of_relocation slots_of stubs_of
+    fields_of is_supported plain_entries all_entries entries_of other_segments segment_rank segment_names_of output_keys_of
+    output_count content_sum command_sum unsigned_sum written_sum_of personality_targets entries_of_link le_at le_bytes
+    row_bytes reading words8 words halves name16 entry calls_exit
 follows_0 = record { rank = omega arith; address = refl; file_offset = refl }
 
 follows_1 : Follows calling (text_from 0x100000000 0x4000) constants_segment
-unfolding header_of commands_from commands_of commands_end segment_of num_sections section_place section_at section_bytes symtab_of num_symbols symbol_place symbol_at strings_of symbol_name relocation_place relocation_at sections_of carried_of template_exponent placed_exponent symbols_of strong_of weak_of commons_of greatest_of libraries_with definition_of chosen_commons initializer_sections unwind_sections uses_of imports_of libraries_needed target_of target_of_relocation slots_of stubs_of fields_of is_supported plain_entries all_entries entries_of other_segments segment_rank segment_names_of output_keys_of output_count content_sum command_sum unsigned_sum written_sum_of personality_targets entries_of_link le_at le_bytes row_bytes reading words8 words halves name16 entry calls_exit
+unfolding header_of commands_from commands_of commands_end segment_of num_sections section_place section_at section_bytes symtab_of
+    num_symbols symbol_place symbol_at strings_of symbol_name relocation_place relocation_at sections_of carried_of template_exponent
+    placed_exponent symbols_of strong_of weak_of commons_of greatest_of libraries_with definition_of chosen_commons
+    initializer_sections unwind_sections uses_of imports_of libraries_needed target_of target_of_relocation slots_of stubs_of
+    fields_of is_supported plain_entries all_entries entries_of other_segments segment_rank segment_names_of output_keys_of
+    output_count content_sum command_sum unsigned_sum written_sum_of personality_targets entries_of_link le_at le_bytes
+    row_bytes reading words8 words halves name16 entry calls_exit
 follows_1 = record { rank = omega arith; address = refl; file_offset = refl }
 
 follows_2 : Follows calling constants_segment data_segment
-unfolding header_of commands_from commands_of commands_end segment_of num_sections section_place section_at section_bytes symtab_of num_symbols symbol_place symbol_at strings_of symbol_name relocation_place relocation_at sections_of carried_of template_exponent placed_exponent symbols_of strong_of weak_of commons_of greatest_of libraries_with definition_of chosen_commons initializer_sections unwind_sections uses_of imports_of libraries_needed target_of target_of_relocation slots_of stubs_of fields_of is_supported plain_entries all_entries entries_of other_segments segment_rank segment_names_of output_keys_of output_count content_sum command_sum unsigned_sum written_sum_of personality_targets entries_of_link le_at le_bytes row_bytes reading words8 words halves name16 entry calls_exit
+unfolding header_of commands_from commands_of commands_end segment_of num_sections section_place section_at section_bytes symtab_of
+    num_symbols symbol_place symbol_at strings_of symbol_name relocation_place relocation_at sections_of carried_of template_exponent
+    placed_exponent symbols_of strong_of weak_of commons_of greatest_of libraries_with definition_of chosen_commons
+    initializer_sections unwind_sections uses_of imports_of libraries_needed target_of target_of_relocation slots_of stubs_of
+    fields_of is_supported plain_entries all_entries entries_of other_segments segment_rank segment_names_of output_keys_of
+    output_count content_sum command_sum unsigned_sum written_sum_of personality_targets entries_of_link le_at le_bytes
+    row_bytes reading words8 words halves name16 entry calls_exit
 follows_2 = record { rank = omega arith; address = refl; file_offset = refl }
 
 follows_3 : Follows calling data_segment linkedit_segment
-unfolding header_of commands_from commands_of commands_end segment_of num_sections section_place section_at section_bytes symtab_of num_symbols symbol_place symbol_at strings_of symbol_name relocation_place relocation_at sections_of carried_of template_exponent placed_exponent symbols_of strong_of weak_of commons_of greatest_of libraries_with definition_of chosen_commons initializer_sections unwind_sections uses_of imports_of libraries_needed target_of target_of_relocation slots_of stubs_of fields_of is_supported plain_entries all_entries entries_of other_segments segment_rank segment_names_of output_keys_of output_count content_sum command_sum unsigned_sum written_sum_of personality_targets entries_of_link le_at le_bytes row_bytes reading words8 words halves name16 entry calls_exit
+unfolding header_of commands_from commands_of commands_end segment_of num_sections section_place section_at section_bytes symtab_of
+    num_symbols symbol_place symbol_at strings_of symbol_name relocation_place relocation_at sections_of carried_of template_exponent
+    placed_exponent symbols_of strong_of weak_of commons_of greatest_of libraries_with definition_of chosen_commons
+    initializer_sections unwind_sections uses_of imports_of libraries_needed target_of target_of_relocation slots_of stubs_of
+    fields_of is_supported plain_entries all_entries entries_of other_segments segment_rank segment_names_of output_keys_of
+    output_count content_sum command_sum unsigned_sum written_sum_of personality_targets entries_of_link le_at le_bytes
+    row_bytes reading words8 words halves name16 entry calls_exit
 follows_3 = record { rank = omega arith; address = refl; file_offset = refl }
 
 each_follows : EachFollows calling placed_call.segments
@@ -177,7 +219,13 @@ order_call = record {
 }
 
 template_call : TemplateHolds calling counts_of_call placed_call placed_call.template
-unfolding header_of commands_from commands_of commands_end segment_of num_sections section_place section_at section_bytes symtab_of num_symbols symbol_place symbol_at strings_of symbol_name relocation_place relocation_at sections_of carried_of template_exponent placed_exponent symbols_of strong_of weak_of commons_of greatest_of libraries_with definition_of chosen_commons initializer_sections unwind_sections uses_of imports_of libraries_needed target_of target_of_relocation slots_of stubs_of fields_of is_supported plain_entries all_entries entries_of other_segments segment_rank segment_names_of output_keys_of output_count content_sum command_sum unsigned_sum written_sum_of personality_targets entries_of_link le_at le_bytes row_bytes reading words8 words halves name16 entry calls_exit
+unfolding header_of commands_from commands_of commands_end segment_of num_sections section_place section_at section_bytes symtab_of
+    num_symbols symbol_place symbol_at strings_of symbol_name relocation_place relocation_at sections_of carried_of template_exponent
+    placed_exponent symbols_of strong_of weak_of commons_of greatest_of libraries_with definition_of chosen_commons
+    initializer_sections unwind_sections uses_of imports_of libraries_needed target_of target_of_relocation slots_of stubs_of
+    fields_of is_supported plain_entries all_entries entries_of other_segments segment_rank segment_names_of output_keys_of
+    output_count content_sum command_sum unsigned_sum written_sum_of personality_targets entries_of_link le_at le_bytes
+    row_bytes reading words8 words halves name16 entry calls_exit
 template_call = refl
 
 -- THE placement

@@ -6,7 +6,9 @@
 use Rattle.std.proofs.Common.{◌≡◌, ℕ, true, false, List, [], ◌∷◌, ◌++◌, replicate, codes, refl}
 use Rattle.macho_bytes.specs.Numbers.{le_at, be_at, le_bytes, be_bytes, row_bytes}
 use Rattle.macho_bytes.specs.Layouts.{Layout, spelling, reading}
-use Rattle.macho_structs.specs.Layouts.{entry_point_command, dylinker_command, dylib_command, rpath_command, linkedit_data_command, uuid_command, build_version_command, build_tool_version, chained_fixups_header, chained_starts_in_segment, unwind_info_entry, code_directory}
+use Rattle.macho_structs.specs.Layouts.{entry_point_command, dylinker_command, dylib_command, rpath_command, linkedit_data_command}
+use Rattle.macho_structs.specs.Layouts.{uuid_command, build_version_command, build_tool_version, chained_fixups_header}
+use Rattle.macho_structs.specs.Layouts.{chained_starts_in_segment, unwind_info_entry, code_directory}
 use Rattle.macho_structs.specs.Relocations.{relocation_info}
 
 -- the record is spelled by the bytes, and they are read as the record

@@ -3,7 +3,8 @@
 -- Segments stand one behind the other, and `__TEXT` begins at the base: a segment behind it begins there or above. The only
 -- segment in front of it
 -- is `__PAGEZERO`, which no carried section is in. Sections and commons stand in segments that are not in front of `__TEXT`.
-use Rattle.std.proofs.Common.{◌≡◌, ℕ, zero, suc, ◌+◌, ◌-◌, ◌<◌, ◌≤◌, ◌||◌, not, nat_lt, Bool, true, false, List, length, get_or, refl, sym, ap, subst, ◌∙◌, arith}
+use Rattle.std.proofs.Common.{◌≡◌, ℕ, zero, suc, ◌+◌, ◌-◌, ◌<◌, ◌≤◌, ◌||◌, not, nat_lt, Bool, true, false, List, length, get_or, refl}
+use Rattle.std.proofs.Common.{sym, ap, subst, ◌∙◌, arith}
 use Rattle.std.specs.Prelude.{Contains, codes, if◌then◌else◌}
 use Rattle.std.specs.List.{position_or_len}
 use Rattle.std.proofs.lemmas.Bool.{ltb-true}
@@ -26,7 +27,8 @@ use Rattle.macho_targets.specs.Laws.{section_id, TargetsStandAbove}
 use Rattle.macho_targets.proofs.Places.{section_place, common_place}
 use Rattle.macho_model.specs.Links.{Link, SectionId, header_at, is_carried, sections_of, carried_of}
 use Rattle.macho_model.specs.Segments.{PAGEZERO, TEXT, DATA_CONST, DATA, LINKEDIT, base_of_link, segment_rank, segment_name, other_segments}
-use Rattle.macho_model.specs.Placement.{Placed, IsPlaced, IsInOrder, Follows, EachFollows, is_segment_named, SectionLies, LiesInNamed, common_span, id_of}
+use Rattle.macho_model.specs.Placement.{Placed, IsPlaced, IsInOrder, Follows, EachFollows, is_segment_named, SectionLies, LiesInNamed}
+use Rattle.macho_model.specs.Placement.{common_span, id_of}
 
 -- neighbours by their numbers
 pub next_follows : (l : Link) (segments : List PlacedSegment) (d : PlacedSegment) → EachFollows l segments → (k : ℕ)

@@ -4,7 +4,8 @@
 -- global, with this name. So where it is a common, it is chosen. What a symbol leads to by itself is then the section that it
 -- stands in, or its
 -- number among the chosen commons; what it leads to by its name is that of the definition.
-use Rattle.std.proofs.Common.{◌≡◌, ℕ, ◌<◌, ◌⊎◌, inl, inr, ◌==◌, ◌&&◌, ◌||◌, not, nat_le, Bool, true, false, List, [], ◌∷◌, map, length, refl, sym, ap, subst, ◌∙◌, arith, eq-eqb}
+use Rattle.std.proofs.Common.{◌≡◌, ℕ, ◌<◌, ◌⊎◌, inl, inr, ◌==◌, ◌&&◌, ◌||◌, not, nat_le, Bool, true, false, List, [], ◌∷◌, map, length}
+use Rattle.std.proofs.Common.{refl, sym, ap, subst, ◌∙◌, arith, eq-eqb}
 use Rattle.std.specs.Prelude.{Contains, Option, Some, None, if◌then◌else◌}
 use Rattle.std.specs.List.{position_or_len, list_all}
 use Rattle.std.specs.Str.{bytes_eq}
@@ -15,7 +16,10 @@ use Rattle.macho_records.specs.Symbols.{is_common_of, is_external_of, is_undefin
 use Rattle.macho_records.specs.declared.symbols.SymtabEntry.{SymtabEntry}
 use Rattle.macho_model.specs.Symbols.{is_absolute, is_global, is_local}
 use Rattle.macho_model.specs.Links.{Link}
-use Rattle.macho_model.specs.Resolution.{SymbolId, Definition, Symbol, Library, ImageBase, symbols_of, entry_at, name_at, stands_in_carried, same_symbol, strong_of, weak_of, commons_of, greatest_of, libraries_with, first_or, definition_of, is_symbol, is_chosen, chosen_commons, has_name, is_strong, is_weak, DSO_HANDLE}
+use Rattle.macho_model.specs.Resolution.{SymbolId, Definition, Symbol, Library, ImageBase, symbols_of, entry_at, name_at}
+use Rattle.macho_model.specs.Resolution.{stands_in_carried, same_symbol, strong_of, weak_of, commons_of, greatest_of, libraries_with}
+use Rattle.macho_model.specs.Resolution.{first_or, definition_of, is_symbol, is_chosen, chosen_commons, has_name, is_strong, is_weak}
+use Rattle.macho_model.specs.Resolution.{DSO_HANDLE}
 use Rattle.macho_model.specs.Targets.{own_target, definition_target, target_with, is_defined}
 use Rattle.macho_targets.specs.Laws.{ObjectsAreRead, IsOfLink, SymbolTargetsAreOfLink, NameTargetsAreOfLink}
 use Rattle.macho_targets.proofs.OfLink.{carried_symbol}

@@ -11,12 +11,14 @@ use Rattle.std.specs.List.{range_with_len, enumerate_from}
 use Rattle.std.proofs.lemmas.List.{get_or_default}
 use Rattle.std.proofs.lemmas.Bool.{leb-true}
 use Rattle.macho_model.proofs.EachBelow.{and_left, and_right}
-use Rattle.macho_lists.proofs.Members.{contains_map, map_contains, contains_filter, contains_flat_map, flat_map_contains, contains_range, range_contains, contains_enumerate, enumerate_contains}
+use Rattle.macho_lists.proofs.Members.{contains_map, map_contains, contains_filter, contains_flat_map, flat_map_contains, contains_range}
+use Rattle.macho_lists.proofs.Members.{range_contains, contains_enumerate, enumerate_contains}
 use Rattle.macho_model.specs.Lists.{IsNumber}
 use Rattle.macho_model.specs.Symbols.{is_in_section}
 use Rattle.macho_model.specs.Objects.{num_sections, num_symbols, symbol_at}
 use Rattle.macho_model.specs.Grammar.{IsObject}
-use Rattle.macho_model.specs.Links.{Link, Input, Object, Dylib, Stub, object_bytes, no_input, object_of, SectionId, header_at, sections_of_file, sections_of, is_carried, carried_of}
+use Rattle.macho_model.specs.Links.{Link, Input, Object, Dylib, Stub, object_bytes, no_input, object_of, SectionId, header_at}
+use Rattle.macho_model.specs.Links.{sections_of_file, sections_of, is_carried, carried_of}
 use Rattle.macho_model.specs.Resolution.{SymbolId, symbols_of_file, symbols_of, entry_at, section_of_symbol, stands_in_carried}
 use Rattle.macho_targets.specs.Laws.{ObjectsAreRead, section_id}
 

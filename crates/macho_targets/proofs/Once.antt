@@ -5,7 +5,8 @@
 -- nothing. Commons are listed by number. Slots' targets are a list with repeats taken out. So two entries of one section, one
 -- common or one target
 -- have one number in the list, and are one.
-use Rattle.std.proofs.Common.{◌≡◌, ℕ, zero, suc, ◌+◌, ◌<◌, ◌≤◌, ◌⊎◌, inl, inr, ◌==◌, ◌&&◌, not, nat_lt, Bool, true, false, List, [], ◌∷◌, map, length, get_or, refl, sym, ap, ◌∙◌, arith, eq-eqb, All}
+use Rattle.std.proofs.Common.{◌≡◌, ℕ, zero, suc, ◌+◌, ◌<◌, ◌≤◌, ◌⊎◌, inl, inr, ◌==◌, ◌&&◌, not, nat_lt, Bool, true, false, List, [], ◌∷◌}
+use Rattle.std.proofs.Common.{map, length, get_or, refl, sym, ap, ◌∙◌, arith, eq-eqb, All}
 use Rattle.std.specs.Prelude.{filter, Contains}
 use Rattle.std.specs.List.{range_with_len, enumerate_from, flat_map, filter_map}
 use Rattle.std.proofs.lemmas.Bool.{eqb-true, ltb-true}
@@ -19,7 +20,8 @@ use Rattle.macho_lists.proofs.Orders.{EachLater, later_filter, later_append, lat
 use Rattle.macho_model.specs.declared.targets.Target.{Target}
 use Rattle.macho_model.specs.declared.targets.Target.TheVariants as target
 use Rattle.macho_model.specs.Objects.{num_sections}
-use Rattle.macho_model.specs.Links.{Link, Input, Object, Dylib, Stub, SectionId, sections_of_file, sections_of, carried_of, header_at, is_carried}
+use Rattle.macho_model.specs.Links.{Link, Input, Object, Dylib, Stub, SectionId, sections_of_file, sections_of, carried_of, header_at}
+use Rattle.macho_model.specs.Links.{is_carried}
 use Rattle.macho_model.specs.Needs.{distinct, uses_of}
 use Rattle.macho_model.specs.Targets.{same_target, slots_of, slot_of_use}
 use Rattle.macho_targets.specs.Laws.{section_id}

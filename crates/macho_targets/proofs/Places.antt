@@ -2,7 +2,8 @@
 --
 -- A section that the placement lists stands somewhere in its list, and the first that has its file and number is told as its address; no
 -- other has them, since carried sections are listed once each, by file and number. Commons are listed by number, slots by target.
-use Rattle.std.proofs.Common.{◌≡◌, ℕ, ◌+◌, ◌<◌, ◌⊎◌, inl, inr, ◌==◌, ◌&&◌, Bool, true, false, List, [], ◌∷◌, map, length, refl, sym, ap, subst, ◌∙◌, arith, eq-eqb}
+use Rattle.std.proofs.Common.{◌≡◌, ℕ, ◌+◌, ◌<◌, ◌⊎◌, inl, inr, ◌==◌, ◌&&◌, Bool, true, false, List, [], ◌∷◌, map, length, refl, sym, ap}
+use Rattle.std.proofs.Common.{subst, ◌∙◌, arith, eq-eqb}
 use Rattle.std.specs.Prelude.{filter, Contains}
 use Rattle.std.proofs.lemmas.Bool.{eqb-true}
 use Rattle.macho_lists.proofs.Members.{contains_cases, contains_first, contains_later, nil_contains, map_contains, contains_range}
@@ -19,7 +20,8 @@ use Rattle.macho_model.specs.Placement.{Placed, id_of}
 use Rattle.macho_model.specs.Addresses.{first_number, section_address, common_address, slot_address}
 use Rattle.macho_lists.proofs.Orders.{EachLater}
 use Rattle.macho_targets.specs.Laws.{ListsAll, section_id, TargetsHavePlaces, PlacesAreOne, SlotsHavePlaces, SlotPlacesAreOne}
-use Rattle.macho_targets.proofs.Once.{Before, carried_rise, not_before, one_element, numbers_rise, same_target_is, same_targets, slots_differ}
+use Rattle.macho_targets.proofs.Once.{Before, carried_rise, not_before, one_element, numbers_rise, same_target_is, same_targets}
+use Rattle.macho_targets.proofs.Once.{slots_differ}
 
 -- the first that passes is one of the list, and passes
 pub first_passes : {X : Type 0} (p : X → Bool) (f : X → ℕ) (xs : List X) (x : X) → Contains xs x → p x ≡ true

@@ -2,7 +2,8 @@
 --
 -- By the rules of objects a relocation that names a symbol names one that its object has, and so does one that names a section. An addend
 -- that is not extern may name neither, so it is left out.
-use Rattle.std.proofs.Common.{◌≡◌, ℕ, suc, ◌-◌, ◌<◌, ◌≤◌, ◌==◌, ◌&&◌, nat_le, nat_lt, Bool, true, false, List, refl, sym, ap, subst, ◌∙◌, arith}
+use Rattle.std.proofs.Common.{◌≡◌, ℕ, suc, ◌-◌, ◌<◌, ◌≤◌, ◌==◌, ◌&&◌, nat_le, nat_lt, Bool, true, false, List, refl, sym, ap, subst, ◌∙◌}
+use Rattle.std.proofs.Common.{arith}
 use Rattle.std.proofs.lemmas.Bool.{leb-true}
 use Rattle.macho_model.proofs.EachBelow.{and_left, and_right}
 use Rattle.macho_records.specs.declared.constants.TheConstants.{ARM64_RELOC_ADDEND}

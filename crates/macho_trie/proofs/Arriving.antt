@@ -3,13 +3,15 @@
 -- Two names that are equal up to a depth have the same ways up to it, so what is known of the open nodes above that depth
 -- holds for both. The lesser name leaves the way there, at a byte below that of the closed child, or ends there. At the
 -- end only the root is open, and its row is the first of the table.
-use Rattle.std.proofs.Common.{◌≡◌, ℕ, ◌<◌, ◌≤◌, nat_lt, if◌then◌else◌, true, false, List, [], ◌∷◌, ◌++◌, length, take, slice_index, refl, sym, ap, subst, ◌∙◌, arith, inl, inr}
+use Rattle.std.proofs.Common.{◌≡◌, ℕ, ◌<◌, ◌≤◌, nat_lt, if◌then◌else◌, true, false, List, [], ◌∷◌, ◌++◌, length, take, slice_index, refl}
+use Rattle.std.proofs.Common.{sym, ap, subst, ◌∙◌, arith, inl, inr}
 use Rattle.std.proofs.lemmas.Bool.{cases_lt, lt-ltb}
 use Rattle.std.proofs.lemmas.Bool.Decides.{nat_tests}
 use Rattle.std.proofs.lemmas.List.{take-take, get_or-take}
 use Rattle.macho_trie.specs.Trees.{Edges, no_edge, edge, edge_count, BeginsAbove}
 use Rattle.macho_trie.specs.Tables.{first_edges, later_edges, name_at, trees_of}
-use Rattle.macho_trie.specs.steps.Building.{names_along, names_open, AreAbove, BeginsWith, IsOpenAt, IsClosing, IsClosed, IsReady, arrived, AreOpenAt, AreClosing, AreReady, root_node}
+use Rattle.macho_trie.specs.steps.Building.{names_along, names_open, AreAbove, BeginsWith, IsOpenAt, IsClosing, IsClosed, IsReady}
+use Rattle.macho_trie.specs.steps.Building.{arrived, AreOpenAt, AreClosing, AreReady, root_node}
 use Rattle.macho_trie.proofs.Building.{node_count-rows}
 use Rattle.macho_trie.specs.declared.table.Row.{Row}
 use Rattle.macho_trie.specs.declared.build.Open.{Open}

@@ -3,13 +3,15 @@
 -- The builder pushes rows and open nodes at the ends of lists that are read backwards. So its last open node is the
 -- deepest one, and the row that it pushes stands in front. A group has fewer than 256 edges, since their labels begin
 -- with rising bytes.
-use Rattle.std.proofs.Common.{◌≡◌, ◌⊎◌, ℕ, ◌+◌, ◌<◌, ◌≤◌, if◌then◌else◌, Bool, true, false, List, [], ◌∷◌, ◌++◌, length, take, reverse, max, slice_index, refl, sym, ap, subst, ◌∙◌, arith, inl, inr}
+use Rattle.std.proofs.Common.{◌≡◌, ◌⊎◌, ℕ, ◌+◌, ◌<◌, ◌≤◌, if◌then◌else◌, Bool, true, false, List, [], ◌∷◌, ◌++◌, length, take, reverse}
+use Rattle.std.proofs.Common.{max, slice_index, refl, sym, ap, subst, ◌∙◌, arith, inl, inr}
 use Rattle.std.proofs.lemmas.Bool.Decides.{nat_tests}
 use Rattle.std.proofs.lemmas.List.{reverse-append, take_all}
 use Rattle.macho_trie.specs.steps.Symbols.{IsPlain}
 use Rattle.macho_trie.specs.Trees.{Edges, no_edge, edge, edge_count, BeginsAbove, AreRadix}
 use Rattle.macho_trie.specs.Tables.{first_edges, later_edges, name_at, symbol_at, trees_of}
-use Rattle.macho_trie.specs.steps.Building.{ending, names_open, IsGroup, IsClosing, closed_row, hanging_depth, adopted, AreClosing, AreClosed, ClosedAs}
+use Rattle.macho_trie.specs.steps.Building.{ending, names_open, IsGroup, IsClosing, closed_row, hanging_depth, adopted, AreClosing}
+use Rattle.macho_trie.specs.steps.Building.{AreClosed, ClosedAs}
 use Rattle.macho_trie.specs.declared.table.Row.{Row}
 use Rattle.macho_trie.specs.declared.build.Open.{Open}
 use Rattle.macho_trie.proofs.Building.{closes, names_closed}

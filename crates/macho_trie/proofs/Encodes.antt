@@ -4,7 +4,8 @@
 -- length, since each node has as many bytes as its size says. The tree that the rows spell is the radix tree of the
 -- names, so the bytes are its exports trie. Terminal parts that are nowhere longer have no greater size, and the one for
 -- the greatest address is at least as long as that for any other.
-use Rattle.std.proofs.Common.{◌≡◌, ◌↔◌, ℕ, zero, suc, ◌+◌, ◌^◌, ◌<◌, ◌≤◌, List, [], ◌∷◌, ◌++◌, length, sum, map, slice_index, get_or, Option, Some, None, Contains, refl, sym, ap, subst, ◌∙◌, arith, inl, inr}
+use Rattle.std.proofs.Common.{◌≡◌, ◌↔◌, ℕ, zero, suc, ◌+◌, ◌^◌, ◌<◌, ◌≤◌, List, [], ◌∷◌, ◌++◌, length, sum, map, slice_index, get_or}
+use Rattle.std.proofs.Common.{Option, Some, None, Contains, refl, sym, ap, subst, ◌∙◌, arith, inl, inr}
 use Rattle.std.specs.Option.{option_map}
 use Rattle.std.specs.List.{All}
 use Rattle.std.proofs.lemmas.Bool.{cases_lt}
@@ -18,7 +19,8 @@ use Rattle.macho_trie.specs.steps.Says.{IsSound}
 use Rattle.macho_trie.specs.Symbols.{symbols_of, names_of}
 use Rattle.macho_trie.specs.Trees.{Edges, no_edge, edge, LeadsTo, edge_count, node_count}
 use Rattle.macho_trie.specs.Tables.{name_at, trees_of, IsTable}
-use Rattle.macho_trie.specs.Encoding.{export_bytes, terminal_bytes, says_of, edges_bytes, node_bytes, tree_bytes, node_sizes, place_of, total_of, terminal_size, AreLeast, IsExportsTrie}
+use Rattle.macho_trie.specs.Encoding.{export_bytes, terminal_bytes, says_of, edges_bytes, node_bytes, tree_bytes, node_sizes, place_of}
+use Rattle.macho_trie.specs.Encoding.{total_of, terminal_size, AreLeast, IsExportsTrie}
 use Rattle.macho_trie.specs.steps.Layouts.{names_at, says_at, size_at, tree_at, AreLaidOut}
 use Rattle.macho_trie.specs.Tries.{IsTrieOf, IsSizeOf, IsShortest, IsRoomFor, AreNoLarger, Reserves, AreReserved}
 use Rattle.macho_trie.specs.declared.layout.Layout.{Layout}

@@ -3,7 +3,8 @@
 -- At a node with nothing left of the name, the relation's first rule alone can have held, since a step takes at least one
 -- byte of what is left. With something left, the second rule alone can have held, and its edge is the one of the step.
 -- So the answer from the node is the answer from the child, or none where there is no node or no step.
-use Rattle.std.proofs.Common.{◌≡◌, ℕ, ◌+◌, List, [], ◌∷◌, length, take, drop, ◌-◌, slice_index, Option, Some, None, IfSome, refl, sym, ap, subst, ◌∙◌, arith}
+use Rattle.std.proofs.Common.{◌≡◌, ℕ, ◌+◌, List, [], ◌∷◌, length, take, drop, ◌-◌, slice_index, Option, Some, None, IfSome, refl, sym, ap}
+use Rattle.std.proofs.Common.{subst, ◌∙◌, arith}
 use Rattle.std.specs.Option.{option_map, option_and_then}
 use Rattle.std.specs.List.{find}
 use Rattle.macho_trie.specs.Exports.{Exported, exported_of}

@@ -4,7 +4,8 @@
 -- labels begin with different bytes. So that edge is the first, and what is left of the name is found from its child on.
 -- The other way round, the edge that is taken is one of the tree, its label is the name's beginning, and what is found
 -- from its child on is what the rest leads to.
-use Rattle.std.proofs.Common.{◌≡◌, ◌⊎◌, ℕ, ◌+◌, ◌<◌, ◌≤◌, ◌&&◌, nat_lt, nat_eq, Bool, true, false, List, [], ◌++◌, length, take, drop, slice_index, Option, Some, None, refl, sym, ap, subst, ◌∙◌, arith, inl, inr}
+use Rattle.std.proofs.Common.{◌≡◌, ◌⊎◌, ℕ, ◌+◌, ◌<◌, ◌≤◌, ◌&&◌, nat_lt, nat_eq, Bool, true, false, List, [], ◌++◌, length, take, drop}
+use Rattle.std.proofs.Common.{slice_index, Option, Some, None, refl, sym, ap, subst, ◌∙◌, arith, inl, inr}
 use lib.Pointwise.{pointwise, bytes_decides}
 use Rattle.std.specs.Option.{option_map}
 use Rattle.std.specs.List.{find, starts_with}

@@ -4,11 +4,13 @@
 -- list, and the first of them grows. To work off the list keeps what is known of the widths, and their sum rises whenever one of
 -- them grows. It is at most ten for each row. Where none grows, no place is another one, so the list comes out empty. So both come
 -- to an end. Nothing is said of the edges that aren't on the list: that none is too narrow is seen by the last look.
-use Rattle.std.proofs.Common.{◌≡◌, ◌⊎◌, ℕ, ◌+◌, ◌-◌, ◌*◌, ◌<◌, ◌≤◌, List, [], ◌∷◌, length, map, sum, slice_index, refl, sym, ap, subst, ◌∙◌, arith, inl, inr}
+use Rattle.std.proofs.Common.{◌≡◌, ◌⊎◌, ℕ, ◌+◌, ◌-◌, ◌*◌, ◌<◌, ◌≤◌, List, [], ◌∷◌, length, map, sum, slice_index, refl, sym, ap, subst}
+use Rattle.std.proofs.Common.{◌∙◌, arith, inl, inr}
 use Rattle.std.specs.List.{All, range_with_len}
 use Rattle.macho_trie.specs.Trees.{node_count}
 use Rattle.macho_trie.specs.Encoding.{place_of}
-use Rattle.macho_trie.specs.steps.Layouts.{names_at, size_at, tree_at, ArePlaces, AreLaidOut, AreLow, AreLowWidths, AreListed, AreGrown, IsNarrow, needed}
+use Rattle.macho_trie.specs.steps.Layouts.{names_at, size_at, tree_at, ArePlaces, AreLaidOut, AreLow, AreLowWidths, AreListed, AreGrown}
+use Rattle.macho_trie.specs.steps.Layouts.{IsNarrow, needed}
 use Rattle.macho_trie.specs.declared.layout.Layout.{Layout}
 use Rattle.macho_trie.proofs.Building.{node_count-rows}
 use Rattle.macho_trie.proofs.Widths.{least_at_end, sum_few, place_at, length-places}
@@ -88,7 +90,8 @@ rank-low [] = omega arith
 rank-low (x ∷ xs) = omega arith
 
 -- one round over the list
-pub list_grows : (first was now places placed list seen : List ℕ) → ((was ≡ first) × IsNarrow places was (slice_index list 0)) ⊎ (sum first < sum was)
+pub list_grows : (first was now places placed list seen : List ℕ) → ((was ≡ first) × IsNarrow places was (slice_index list 0))
+    ⊎ (sum first < sum was)
     → placed ≡ places → seen ≡ list → 1 ≤ length list
     → (1 ≤ length seen → IsNarrow placed was (slice_index seen 0) → sum was < sum now) → AreGrown was now → sum first < sum now
 list_grows first was now places placed list seen (inl same) placed_is seen_is some head grown =
@@ -103,12 +106,14 @@ pub list_ends : (l : Layout) (was now places moved seen moved_seen list next : L
     → (seen ≡ moved_seen → next ≡ []) → AreGrown was now
     → 2 * (10 * length l.rows.now - sum now) + rank next < 2 * (10 * length l.rows.now - sum was) + rank list
 list_ends l was now places moved seen moved_seen list next low some at to seen_is moved_is none (inl same) =
-    let all : places ≡ moved = at ∙ ap (λ (ws : List ℕ). map (place_of (size_at l) (slice_index ws) (tree_at l)) (range_with_len 0 (length l.rows.now + 1))) (sym same) ∙ sym to in
+    let all : places ≡ moved = at ∙ ap (λ (ws : List ℕ). map (place_of (size_at l) (slice_index ws) (tree_at l))
+    (range_with_len 0 (length l.rows.now + 1))) (sym same) ∙ sym to in
     omega (arith, ap sum same, ap rank (none (seen_is ∙ all ∙ sym moved_is)), rank-some list some)
 list_ends l was now places moved seen moved_seen list next low some at to seen_is moved_is none (inr more) =
     omega (arith, fewer_left l was now low.long low.low more, rank-low next)
 
-pub moved_listed : (l : Layout) (now moved seen list : List ℕ) → ArePlaces l (slice_index now) moved → seen ≡ moved → AreListed (length seen - 1) list
+pub moved_listed : (l : Layout) (now moved seen list : List ℕ) → ArePlaces l (slice_index now) moved → seen ≡ moved
+    → AreListed (length seen - 1) list
     → AreListed (length l.rows.now) list
 moved_listed l now moved seen list to seen_is listed =
     let same : length seen - 1 ≡ length l.rows.now
@@ -124,7 +129,8 @@ pub record AreReady (l : Layout) (at places list : List ℕ) : Type 0 where
   pub narrow : IsNarrow places at (slice_index list 0)
   pub some : 1 ≤ length list
 
-pub ready : (l : Layout) (widths seen placed places at list : List ℕ) → AreSeen l widths seen placed places → AreLowWidths l widths → at ≡ widths
+pub ready : (l : Layout) (widths seen placed places at list : List ℕ) → AreSeen l widths seen placed places → AreLowWidths l widths
+    → at ≡ widths
     → 1 ≤ length list → All (IsNarrow placed seen) list → AreListed (length seen) list → AreReady l at places list
 ready l widths seen placed places at list s low at_is some all listed =
     let P : List ℕ → Type 0 = λ ws. ArePlaces l (slice_index ws) places in

@@ -3,7 +3,8 @@
 -- While the table is built, a row tells how many rows stand behind its subtree, since these are there already. The rows behind
 -- a row spell the trees of its children and those beside it, one node each. So with n rows in all, those that stand behind the
 -- subtree begin at n less their number, which is the row itself and the nodes of its children further on.
-use Rattle.std.proofs.Common.{◌≡◌, ℕ, zero, suc, ◌+◌, ◌<◌, ◌≤◌, false, List, [], ◌∷◌, length, drop, get_or, refl, sym, ap, subst, ◌∙◌, arith}
+use Rattle.std.proofs.Common.{◌≡◌, ℕ, zero, suc, ◌+◌, ◌<◌, ◌≤◌, false, List, [], ◌∷◌, length, drop, get_or, refl, sym, ap, subst, ◌∙◌}
+use Rattle.std.proofs.Common.{arith}
 use Rattle.std.specs.List.{All}
 use Rattle.std.proofs.lemmas.List.{length-map, length-drop, get_or-map, drop-map}
 use Rattle.macho_trie.specs.Trees.{Edges, edge, node_count}
@@ -23,7 +24,11 @@ spelled : (names : List (List ℕ)) (count : ℕ) (rows : List Row) → AreClose
 spelled names count [] c = tt
 spelled names count (row ∷ rows) c =
     let R : Edges → Type 0 = λ es. IsRow names (numbered count row) es in (
-      subst R (sym (trees-numbered names count rows)) (record { symbol = c.0.row.symbol; label = c.0.row.label; children = c.0.row.children }),
+      subst R (sym (trees-numbered names count rows)) (record {
+        symbol = c.0.row.symbol;
+        label = c.0.row.label;
+        children = c.0.row.children;
+      }),
       spelled names count rows c.1,
     )
 
@@ -61,7 +66,8 @@ numbered_sound names rows c = record { trees = spelled names (length rows) rows 
 
     after : (i : ℕ) → i < length (numbered_rows (length rows) rows)
         → (row_at (numbered_rows (length rows) rows) i).after
-        ≡ i + 1 + node_count (first_edges (row_at (numbered_rows (length rows) rows) i).children (trees_from names (numbered_rows (length rows) rows) (i + 1)))
+        ≡ i + 1 + node_count (first_edges (row_at (numbered_rows (length rows) rows) i).children
+        (trees_from names (numbered_rows (length rows) rows) (i + 1)))
     after i inside =
         let within : i < length rows = omega (arith, inside, length-map rows (numbered (length rows))) in
         let is : row_at (numbered_rows (length rows) rows) i ≡ numbered (length rows) (get_or rows i none)

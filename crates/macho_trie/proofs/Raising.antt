@@ -4,7 +4,8 @@
 -- child. So an edge that gets d bytes more moves its child, and all nodes behind that, by d bytes, and moves the others in front
 -- of the child by d bytes or not at all. The edges of a list are looked at from the first child on, so the place of the next
 -- child is its former place and all the bytes by which the edges before have grown.
-use Rattle.std.proofs.Common.{◌≡◌, ◌⊎◌, ℕ, zero, suc, ◌+◌, ◌-◌, ◌<◌, ◌≤◌, List, [], ◌∷◌, ◌++◌, length, take, sum, map, set, slice_index, Option, refl, sym, ap, subst, ◌∙◌, arith, inl, inr}
+use Rattle.std.proofs.Common.{◌≡◌, ◌⊎◌, ℕ, zero, suc, ◌+◌, ◌-◌, ◌<◌, ◌≤◌, List, [], ◌∷◌, ◌++◌, length, take, sum, map, set, slice_index}
+use Rattle.std.proofs.Common.{Option, refl, sym, ap, subst, ◌∙◌, arith, inl, inr}
 use Rattle.std.specs.List.{range_with_len}
 use Rattle.std.proofs.lemmas.Bool.{cases_lt}
 use Rattle.std.proofs.lemmas.List.{length-set, set-get_or, get_or-set_same, get_or-set_other}
@@ -30,7 +31,8 @@ edges_size-apart width wider c d i (edge label symbol below rest) r apart =
     omega (
       arith,
       r.other i (elim apart [ inl low ↦ inr low | inr high ↦ inl (omega arith) ]),
-      edges_size-apart width wider c d (i + (node_count below + 1)) rest r (elim apart [ inl low ↦ inl (omega arith) | inr high ↦ inr (omega arith) ]),
+      edges_size-apart width wider c d (i + (node_count below + 1)) rest r (elim apart
+          [ inl low ↦ inl (omega arith) | inr high ↦ inr (omega arith) ]),
     )
 
 take_zero : (k : ℕ) (ys : List ℕ) → k ≡ 0 → take k ys ≡ []
@@ -166,11 +168,16 @@ widening_first size tree places list was n low at l = record {
   more = omega arith;
   none = λ e. refl;
   first = λ some. absurd (omega arith);
-  placed = λ j some within. omega (arith, place_at (place_of size (slice_index was) tree) places n (slice_index list j) at (omega (arith, l.child j 0 within)));
+  placed = λ j some within. omega (
+    arith,
+    place_at (place_of size (slice_index was) tree) places n (slice_index list j) at
+        (omega (arith, l.child j 0 within)),
+  );
 }
 
 -- one edge more is looked at
-pub widening_more : (size : Option ℕ → ℕ) (tree : Edges) (places list was now next : List ℕ) (i n place child growth more : ℕ) → IsOneTree tree
+pub widening_more : (size : Option ℕ → ℕ) (tree : Edges) (places list was now next : List ℕ) (i n place child growth more : ℕ)
+    → IsOneTree tree
     → node_count tree ≡ n → length was ≡ n → AreListed n list → i < length list
     → child ≡ slice_index list i → place ≡ slice_index places child + growth → IsLookedAt place child more now next
     → AreWidening size tree places list was now i growth → AreWidening size tree places list was next (i + 1) (growth + more)
@@ -209,7 +216,8 @@ widening_more size tree places list was now next i n place child growth more one
         ∙ ap (λ (k : ℕ). slice_index places k + growth) (sym child_is) ∙ sym place_is
 
     changed : slice_index now child + more ≡ length (uleb_of place) → (k : ℕ) → (slice_index next k ≡ slice_index now k)
-        ⊎ ((slice_index now k ≤ slice_index next k) × (k ≡ child) × (slice_index next k ≡ length (uleb_of (place_of size (slice_index now) tree child))))
+        ⊎ ((slice_index now k ≤ slice_index next k) × (k ≡ child) × (slice_index next k ≡ length
+        (uleb_of (place_of size (slice_index now) tree child))))
     changed need k = elim (cases_lt k child) [
       | inl low ↦ inl (apart k (inl low))
       | inr high ↦
@@ -219,7 +227,18 @@ widening_more size tree places list was now next i n place child growth more one
                 let is : k ≡ child = omega arith in
                 let value : slice_index next k ≡ slice_index now k + more
                 = subst (λ (m : ℕ). slice_index next m ≡ slice_index now m + more) (sym is) at in
-                inr (omega (arith, value), is, omega (arith, ap (λ (m : ℕ). slice_index next m) is, at, need, ap (λ (p : ℕ). length (uleb_of p)) here))
+                inr (
+                  omega (arith, value),
+                  is,
+                  omega (
+                    arith,
+                    ap (λ (m : ℕ). slice_index next m) is,
+                    at,
+                    need,
+                    ap
+                        (λ (p : ℕ). length (uleb_of p)) here,
+                  ),
+                )
           ]
     ]
 
@@ -235,7 +254,8 @@ widening_more size tree places list was now next i n place child growth more one
             | inr none ↦
                 let zero_growth : growth ≡ 0 = omega arith in
                 let head : child ≡ slice_index list 0 = child_is ∙ ap (λ (k : ℕ). slice_index list k) (omega arith) in
-                let where_is : place ≡ slice_index places (slice_index list 0) = place_is ∙ omega (arith, zero_growth, ap (λ (k : ℕ). slice_index places k) head) in
+                let where_is : place ≡ slice_index places (slice_index list 0) = place_is
+                ∙ omega (arith, zero_growth, ap (λ (k : ℕ). slice_index places k) head) in
                 let width : slice_index now child ≡ slice_index was (slice_index list 0)
                 = ap (λ (ws : List ℕ). slice_index ws child) (w.none zero_growth) ∙ ap (λ (k : ℕ). slice_index was k) head in
                 omega (arith, looked.enough, ap (λ (p : ℕ). length (uleb_of p)) where_is, width, narrow.narrow)
@@ -249,6 +269,7 @@ widening_more size tree places list was now next i n place child growth more one
         omega (
           arith,
           place-raised size (slice_index now) (slice_index next) child more (slice_index list j) tree one raised
-              (omega (arith, child_is, (l.child i 0 inside).0)) (omega (arith, child_is, (l.child i 0 inside).1, nodes)) (omega (arith, behind)),
+              (omega (arith, child_is, (l.child i 0 inside).0)) (omega (arith, child_is, (l.child i 0 inside).1, nodes))
+              (omega (arith, behind)),
           w.placed j (omega arith) inside_j,
         )

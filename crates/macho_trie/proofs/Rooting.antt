@@ -3,12 +3,14 @@
 -- Closing a further node keeps the names that are in the tree, so after all of them the tree has these and the one that
 -- ended at the first. Where the deepest node is of depth 0, no node can be above it, so it is the root, and no tree is
 -- left beside its children.
-use Rattle.std.proofs.Common.{◌≡◌, ℕ, suc, ◌+◌, ◌-◌, ◌<◌, ◌≤◌, nat_lt, if◌then◌else◌, Bool, true, false, List, [], ◌∷◌, ◌++◌, length, take, slice_range, reverse, Option, refl, sym, ap, subst, ◌∙◌, arith}
+use Rattle.std.proofs.Common.{◌≡◌, ℕ, suc, ◌+◌, ◌-◌, ◌<◌, ◌≤◌, nat_lt, if◌then◌else◌, Bool, true, false, List, [], ◌∷◌, ◌++◌, length}
+use Rattle.std.proofs.Common.{take, slice_range, reverse, Option, refl, sym, ap, subst, ◌∙◌, arith}
 use Rattle.std.proofs.lemmas.Bool.{lt-ltb}
 use Rattle.std.proofs.lemmas.Bool.Decides.{nat_tests}
 use Rattle.macho_trie.specs.Trees.{Edges, no_edge, edge}
 use Rattle.macho_trie.specs.Tables.{first_edges, later_edges, name_at, symbol_at, trees_of}
-use Rattle.macho_trie.specs.steps.Building.{ending, names_along, AreAbove, IsRoot, closed_row, deepest, arrived, AreOpenAt, AreClosing, AreClosed, AreReady, AreRoot, AreClosedRows, ClosedAs, ArrivedAs, RootedAs, numbered_rows}
+use Rattle.macho_trie.specs.steps.Building.{ending, names_along, AreAbove, IsRoot, closed_row, deepest, arrived, AreOpenAt, AreClosing}
+use Rattle.macho_trie.specs.steps.Building.{AreClosed, AreReady, AreRoot, AreClosedRows, ClosedAs, ArrivedAs, RootedAs, numbered_rows}
 use Rattle.macho_trie.specs.declared.table.Row.{Row}
 use Rattle.macho_trie.specs.declared.build.Open.{Open}
 use Rattle.macho_trie.proofs.Numbering.{trees-numbered, numbered_sound}
@@ -140,26 +142,55 @@ last_root names symbol terminal rows all mid node last r =
 
 -- the rows from the first to the last, the root's in front
 pub root_first : (symbol : ℕ) (terminal : Bool) (rows pushed : List Row) (node : Open) → node.depth ≡ 0
-    → pushed ≡ rows ++ record { symbol = symbol; is_terminal = terminal; children = node.children; start = 0; length = 0; after = node.opened } ∷ []
+    → pushed ≡ rows ++ record {
+      symbol = symbol;
+      is_terminal = terminal;
+      children = node.children;
+      start = 0;
+      length = 0;
+      after = node.opened;
+    } ∷ []
     → reverse pushed ≡ closed_row symbol terminal 0 node ∷ reverse rows
 root_first symbol terminal rows pushed node top row_is =
     let zero_long : 0 ≡ node.depth - 0 = omega (arith, top) in
-    let row : ℕ → Row = λ n. record { symbol = symbol; is_terminal = terminal; children = node.children; start = 0; length = n; after = node.opened } in
+    let row : ℕ → Row = λ n. record {
+      symbol = symbol;
+      is_terminal = terminal;
+      children = node.children;
+      start = 0;
+      length = n;
+      after = node.opened;
+    } in
     reverse-last rows pushed (row 0) row_is ∙ ap (λ (n : ℕ). row n ∷ reverse rows) zero_long
 
 pub rooted_closed : (names : List (List ℕ)) (symbol : ℕ) (terminal : Bool) (rows pushed : List Row) (all mid : List Open) (node : Open)
     → all ≡ mid ++ node ∷ [] → AreRoot names symbol terminal (reverse rows) (reverse all)
-    → pushed ≡ rows ++ record { symbol = symbol; is_terminal = terminal; children = node.children; start = 0; length = 0; after = node.opened } ∷ []
+    → pushed ≡ rows ++ record {
+      symbol = symbol;
+      is_terminal = terminal;
+      children = node.children;
+      start = 0;
+      length = 0;
+      after = node.opened;
+    } ∷ []
     → AreClosedRows names (reverse pushed)
 rooted_closed names symbol terminal rows pushed all mid node last r row_is =
     let at = last_root names symbol terminal (reverse rows) all mid node last r in
     let I : List Open → Type 0 = λ os. IsRoot names symbol terminal (reverse rows) node os in
     let C : List Row → Type 0 = λ rs. AreClosedRows names rs in
-    subst C (sym (root_first symbol terminal rows pushed node at.depth row_is)) (root_closed names symbol terminal (reverse rows) node (subst I at.alone at))
+    subst C (sym (root_first symbol terminal rows pushed node at.depth row_is)) (root_closed names symbol terminal (reverse rows) node
+    (subst I at.alone at))
 
 pub rooted_after : (names : List (List ℕ)) (symbol : ℕ) (terminal : Bool) (rows pushed after : List Row) (all mid : List Open) (node : Open)
     → all ≡ mid ++ node ∷ [] → AreRoot names symbol terminal (reverse rows) (reverse all)
-    → pushed ≡ rows ++ record { symbol = symbol; is_terminal = terminal; children = node.children; start = 0; length = 0; after = node.opened } ∷ []
+    → pushed ≡ rows ++ record {
+      symbol = symbol;
+      is_terminal = terminal;
+      children = node.children;
+      start = 0;
+      length = 0;
+      after = node.opened;
+    } ∷ []
     → after ≡ numbered_rows (length (reverse pushed)) (reverse pushed) → RootedAs names symbol terminal (reverse rows) (reverse all) after
 rooted_after names symbol terminal rows pushed after all mid node last r row_is after_is =
     let at = last_root names symbol terminal (reverse rows) all mid node last r in

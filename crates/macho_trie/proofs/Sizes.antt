@@ -2,7 +2,8 @@
 --
 -- A row's tree stands before the trees behind it, its children first. So the sizes of the nodes in preorder are those of
 -- the rows in order, and the edges of a row are those of its children's rows, one after the other.
-use Rattle.std.proofs.Common.{◌≡◌, ℕ, zero, suc, ◌+◌, ◌-◌, ◌<◌, ◌≤◌, List, [], ◌∷◌, ◌++◌, length, take, drop, sum, map, slice_index, get_or, Option, Some, true, refl, sym, ap, subst, append_assoc, ◌∙◌, arith}
+use Rattle.std.proofs.Common.{◌≡◌, ℕ, zero, suc, ◌+◌, ◌-◌, ◌<◌, ◌≤◌, List, [], ◌∷◌, ◌++◌, length, take, drop, sum, map, slice_index}
+use Rattle.std.proofs.Common.{get_or, Option, Some, true, refl, sym, ap, subst, append_assoc, ◌∙◌, arith}
 use Rattle.std.proofs.lemmas.List.{length-take, length-drop, length-append, get_or-drop, get_or-map}
 use Rattle.std.proofs.lemmas.List.Sums.{sum_by_more}
 use Rattle.macho_bytes.specs.Uleb.{uleb_of}
@@ -10,7 +11,8 @@ use Rattle.macho_trie.specs.Exports.{Exported, as_value}
 use Rattle.macho_trie.specs.Says.{symbol_of, said_of}
 use Rattle.macho_trie.specs.declared.symbols.Symbol.{Symbol}
 use Rattle.macho_trie.specs.Trees.{Edges, no_edge, edge, edge_count, node_count}
-use Rattle.macho_trie.specs.Tables.{first_edges, later_edges, label_of, symbol_at, trees_of, name_at, row_at, trees_from, children_at, IsRow, SpellTrees, AreRows}
+use Rattle.macho_trie.specs.Tables.{first_edges, later_edges, label_of, symbol_at, trees_of, name_at, row_at, trees_from, children_at}
+use Rattle.macho_trie.specs.Tables.{IsRow, SpellTrees, AreRows}
 use Rattle.macho_trie.specs.Encoding.{edges_size, node_sizes, place_of, says_of, export_bytes, terminal_size}
 use Rattle.macho_trie.specs.declared.table.Row.{Row}
 use Rattle.macho_trie.proofs.Building.{node_count-rows}

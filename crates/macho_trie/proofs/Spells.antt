@@ -2,7 +2,8 @@
 --
 -- As with sizes: the bytes of the nodes in preorder are those of the rows in order, and the edges of a row are those of its
 -- children's rows, one after the other. What is written so far and the bytes of what is left are the bytes of all.
-use Rattle.std.proofs.Common.{◌≡◌, ℕ, zero, suc, ◌+◌, ◌-◌, ◌<◌, ◌≤◌, List, [], ◌∷◌, ◌++◌, length, drop, true, Option, Some, refl, sym, ap, subst, append_assoc, ◌∙◌, arith}
+use Rattle.std.proofs.Common.{◌≡◌, ℕ, zero, suc, ◌+◌, ◌-◌, ◌<◌, ◌≤◌, List, [], ◌∷◌, ◌++◌, length, drop, true, Option, Some, refl, sym, ap}
+use Rattle.std.proofs.Common.{subst, append_assoc, ◌∙◌, arith}
 use Rattle.std.specs.Option.{option_map}
 use Rattle.std.proofs.lemmas.List.{append-nil}
 use Rattle.macho_bytes.specs.Uleb.{uleb_of}

@@ -3,7 +3,8 @@
 -- With consistent widths a node has as many bytes as its size says, so the place of a node, which is the sum of the sizes of
 -- those before it, is where its bytes begin. Each node is read there: the places that edges name are within the bytes,
 -- so they are numbers of 64 bits, and so is the size of each terminal part.
-use Rattle.std.proofs.Common.{◌≡◌, ℕ, suc, ◌+◌, ◌^◌, ◌<◌, ◌≤◌, List, [], ◌∷◌, ◌++◌, length, take, drop, sum, get_or, Option, Some, None, IfSome, Contains, refl, sym, ap, subst, append_assoc, ◌∙◌, arith, inl, inr}
+use Rattle.std.proofs.Common.{◌≡◌, ℕ, suc, ◌+◌, ◌^◌, ◌<◌, ◌≤◌, List, [], ◌∷◌, ◌++◌, length, take, drop, sum, get_or, Option, Some, None}
+use Rattle.std.proofs.Common.{IfSome, Contains, refl, sym, ap, subst, append_assoc, ◌∙◌, arith, inl, inr}
 use Rattle.std.specs.Option.{option_map}
 use Rattle.std.proofs.lemmas.List.{append-nil, length-append, take-append-le, get_or_default}
 use Rattle.std.proofs.Math.Seq.{take-append-add}
@@ -14,7 +15,8 @@ use Rattle.macho_trie.specs.steps.Says.{IsSound}
 use Rattle.macho_trie.specs.Nodes.{node_at}
 use Rattle.macho_trie.specs.Lookup.{Finds, here, along, trie_finds}
 use Rattle.macho_trie.specs.Trees.{Edges, no_edge, edge, LeadsTo, edge_count, node_count, AreRadix}
-use Rattle.macho_trie.specs.Encoding.{export_bytes, terminal_bytes, says_of, edges_bytes, node_bytes, tree_bytes, edges_size, node_sizes, place_of, total_of, terminal_size, IsExportsTrie}
+use Rattle.macho_trie.specs.Encoding.{export_bytes, terminal_bytes, says_of, edges_bytes, node_bytes, tree_bytes, edges_size, node_sizes}
+use Rattle.macho_trie.specs.Encoding.{place_of, total_of, terminal_size, IsExportsTrie}
 use Rattle.macho_trie.proofs.Sizes.{length-node_sizes}
 use Rattle.macho_trie.proofs.Readback.{drop_more, node_here, node_of}
 use Rattle.macho_trie.proofs.Following.{AllStand, leads_found, found_leads, at_child}

@@ -2,7 +2,8 @@
 --
 -- The part is read by two numbers and, for a reexport, a name. Each lemma here follows one way through the definition:
 -- the first number isn't there, the second isn't, there is no reexport, the name has no end, or all stands.
-use Rattle.std.proofs.Common.{◌≡◌, ℕ, ◌+◌, ◌-◌, ◌<◌, ◌≤◌, ◌/◌, ◌%◌, ◌==◌, nat_lt, true, false, List, length, take, drop, slice_index, slice_range, Option, Some, None, refl, sym, ap, ◌∙◌, arith, eq-eqb}
+use Rattle.std.proofs.Common.{◌≡◌, ℕ, ◌+◌, ◌-◌, ◌<◌, ◌≤◌, ◌/◌, ◌%◌, ◌==◌, nat_lt, true, false, List, length, take, drop, slice_index}
+use Rattle.std.proofs.Common.{slice_range, Option, Some, None, refl, sym, ap, ◌∙◌, arith, eq-eqb}
 use Rattle.std.specs.Option.{option_map}
 use Rattle.std.proofs.lemmas.Bool.{lt-ltb}
 use Rattle.std.proofs.lemmas.Bool.Decides.{nat_tests}

@@ -4,7 +4,8 @@
 -- them is at most that under those, so what it needs is at most what they give. So widths that are raised to what the
 -- present places need stay at most any that are wide enough. They also stay at most what the present places need, since
 -- places only grow. When no edge is too narrow, each width is what its place needs.
-use Rattle.std.proofs.Common.{◌≡◌, ◌⊎◌, ℕ, zero, suc, ◌+◌, ◌*◌, ◌<◌, ◌≤◌, List, [], ◌∷◌, ◌++◌, length, take, sum, map, slice_index, replicate, Option, sym, ap, ◌∙◌, arith, inl, inr}
+use Rattle.std.proofs.Common.{◌≡◌, ◌⊎◌, ℕ, zero, suc, ◌+◌, ◌*◌, ◌<◌, ◌≤◌, List, [], ◌∷◌, ◌++◌, length, take, sum, map, slice_index}
+use Rattle.std.proofs.Common.{replicate, Option, sym, ap, ◌∙◌, arith, inl, inr}
 use Rattle.std.specs.List.{range_with_len}
 use Rattle.std.proofs.lemmas.List.Sums.{sum_by-cons}
 use Rattle.std.proofs.lemmas.List.FromFn.{get_or-map-range_with_len, length-map-range_with_len}

@@ -12,7 +12,8 @@ pub returns : goal.returns
 returns c = record {
   kept = tt;
   done =
-      table_put (placed_of c.args.placement.now) c.args.run.now c.args.table.now c.deref.result.now c.deref-2.result.now c.deref-3.result.now
+      table_put (placed_of c.args.placement.now) c.args.run.now c.args.table.now c.deref.result.now c.deref-2.result.now
+      c.deref-3.result.now
       c.args.out.now c.write_chained_fixup_table.new.out c.requires.fits
       (record {
         segments_are = c.deref.ensures.value ∙ c.in_ok-segments.ensures;

@@ -15,8 +15,10 @@ returns-clause-done c =
 
 pub returns-clause-length : goal.returns-clause-length
 returns-clause-length c =
-    length-head c.args.kind c.args.commands.now (subst (ReadsBack mach_header) c.header_for-header.ensures c.write.ensures.back) c.write_commands.ensures.long
+    length-head c.args.kind c.args.commands.now (subst (ReadsBack mach_header) c.header_for-header.ensures c.write.ensures.back)
+    c.write_commands.ensures.long
 
 pub returns-clause-found : goal.returns-clause-found
 returns-clause-found c =
-    head_readable c.args.kind c.args.commands.now (subst (ReadsBack mach_header) c.header_for-header.ensures c.write.ensures.back) c.write_commands.ensures.readable
+    head_readable c.args.kind c.args.commands.now (subst (ReadsBack mach_header) c.header_for-header.ensures c.write.ensures.back)
+    c.write_commands.ensures.readable

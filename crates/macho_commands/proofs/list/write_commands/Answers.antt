@@ -14,12 +14,15 @@ write-requires-clause-room c =
 
 pub loop-command-preserved : goal.loop-command-preserved
 loop-command-preserved c =
-    let Next : ℕ → Type 0 = λ size. CommandsSoFar c.args.at (c.loop-command.place + size) (c.loop-command.command-index + 1) c.args.commands.now
+    let Next : ℕ → Type 0 = λ size. CommandsSoFar c.args.at (c.loop-command.place + size) (c.loop-command.command-index + 1)
+    c.args.commands.now
     c.args.out.now c.write.new.out in (
       subst Next (sym c.size-place.ensures)
-          (commands_go_on c.args.at c.loop-command.place c.loop-command.command-index c.args.commands.now _ c.args.out.now c.loop-command.out
+          (commands_go_on c.args.at c.loop-command.place c.loop-command.command-index c.args.commands.now _ c.args.out.now
+          c.loop-command.out
           c.write.new.out c.loop-command-test.true c.requires.room c.loop-command.invariant.0 c.write.ensures.long c.write.ensures.written),
-      readable_goes_on c.loop-command.command-index c.args.commands.now _ c.loop-command-test.true c.loop-command.invariant.1 c.write.ensures.readable
+      readable_goes_on c.loop-command.command-index c.args.commands.now _ c.loop-command-test.true c.loop-command.invariant.1
+          c.write.ensures.readable
           c.write.ensures.long,
     )
 
@@ -36,4 +39,5 @@ returns-clause-long c =
     c.loop-command-test.false c.loop-command.invariant.0).1
 
 pub returns-clause-readable : goal.returns-clause-readable
-returns-clause-readable c = readable_ends c.loop-command.command-index c.args.commands.now c.loop-command-test.false c.loop-command.invariant.1
+returns-clause-readable c = readable_ends c.loop-command.command-index c.args.commands.now c.loop-command-test.false
+    c.loop-command.invariant.1

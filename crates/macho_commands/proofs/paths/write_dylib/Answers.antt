@@ -2,13 +2,16 @@ use Rattle.macho_commands.proofs.PathTexts.{dylib_done}
 use Rattle.macho_commands.proofs.paths.write_dylib.Goals as goal
 
 pub returns-clause-written : goal.returns-clause-written
-returns-clause-written c = (dylib_done c.args.number c.args.timestamp c.args.current c.args.compatible c.args.name.now _ c.args.at c.args.out.now c.write.new.out c.put_path.new.out
+returns-clause-written c = (dylib_done c.args.number c.args.timestamp c.args.current c.args.compatible c.args.name.now _ c.args.at
+    c.args.out.now c.write.new.out c.put_path.new.out
     c.requires.number c.path_command_size.ensures c.requires.room c.write.ensures.back c.write.ensures.written c.put_path.ensures).written
 
 pub returns-clause-long : goal.returns-clause-long
-returns-clause-long c = (dylib_done c.args.number c.args.timestamp c.args.current c.args.compatible c.args.name.now _ c.args.at c.args.out.now c.write.new.out c.put_path.new.out
+returns-clause-long c = (dylib_done c.args.number c.args.timestamp c.args.current c.args.compatible c.args.name.now _ c.args.at
+    c.args.out.now c.write.new.out c.put_path.new.out
     c.requires.number c.path_command_size.ensures c.requires.room c.write.ensures.back c.write.ensures.written c.put_path.ensures).long
 
 pub returns-clause-readable : goal.returns-clause-readable
-returns-clause-readable c = (dylib_done c.args.number c.args.timestamp c.args.current c.args.compatible c.args.name.now _ c.args.at c.args.out.now c.write.new.out c.put_path.new.out
+returns-clause-readable c = (dylib_done c.args.number c.args.timestamp c.args.current c.args.compatible c.args.name.now _ c.args.at
+    c.args.out.now c.write.new.out c.put_path.new.out
     c.requires.number c.path_command_size.ensures c.requires.room c.write.ensures.back c.write.ensures.written c.put_path.ensures).readable

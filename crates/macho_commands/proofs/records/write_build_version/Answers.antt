@@ -14,10 +14,18 @@ use Rattle.macho_commands.proofs.records.write_build_version.Goals as goal
 pub returns-clause-written : goal.returns-clause-written
 unfolding text_said
 returns-clause-written c =
-    let r : BuildVersionCommand = record { cmd = LC_BUILD_VERSION; cmdsize = 32; platform = PLATFORM_MACOS; minos = c.args.minimum; sdk = c.args.sdk; ntools = 1 } in
+    let r : BuildVersionCommand = record {
+      cmd = LC_BUILD_VERSION;
+      cmdsize = 32;
+      platform = PLATFORM_MACOS;
+      minos = c.args.minimum;
+      sdk = c.args.sdk;
+      ntools = 1;
+    } in
     let tool : BuildToolVersion = record { tool = THIS_TOOL; version = THIS_VERSION } in
     c.write-2.ensures.written
     ∙ ap (put (c.args.at + 24) (spelling build_tool_version tool)) c.write.ensures.written
     ∙ put-put c.args.at (c.args.at + 24) (spelling build_version_command r) (spelling build_tool_version tool) c.args.out.now
     (omega (arith, c.write.ensures.back.long)) (omega (arith, c.write-2.ensures.back.long, c.requires))
-    ∙ ap (λ (t : List ℕ). put c.args.at (spelling build_version_command r ++ t) c.args.out.now) (sym (append-nil (spelling build_tool_version tool)))
+    ∙ ap (λ (t : List ℕ). put c.args.at (spelling build_version_command r ++ t) c.args.out.now)
+    (sym (append-nil (spelling build_tool_version tool)))

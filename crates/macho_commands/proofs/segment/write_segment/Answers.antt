@@ -21,10 +21,12 @@ returns-clause-written c =
     λ name. record (segment_record c.args.segment.now c.args.protection c.args.flags (length c.args.headers.now)) { segname = name } in
     let front = spelling segment_command (told c.into_bytes.result) in
     let behind = flat_map (spelling section_header) c.args.headers.now in
-    subst (λ (name : List ℕ). c.write_headers.new.out ≡ put c.args.at (spelling segment_command (told name) ++ behind) c.args.out.now) c.into_bytes.ensures
+    subst (λ (name : List ℕ). c.write_headers.new.out ≡ put c.args.at (spelling segment_command (told name) ++ behind) c.args.out.now)
+    c.into_bytes.ensures
     (c.write_headers.ensures.written
     ∙ ap (λ (o : List ℕ). put (c.args.at + 72) behind o) c.write.ensures.written
-    ∙ put-put c.args.at (c.args.at + 72) front behind c.args.out.now (omega (arith, c.write.ensures.back.long)) (omega (arith, c.write_headers.ensures.long)))
+    ∙ put-put c.args.at (c.args.at + 72) front behind c.args.out.now (omega (arith, c.write.ensures.back.long))
+    (omega (arith, c.write_headers.ensures.long)))
 
 pub returns-clause-long : goal.returns-clause-long
 unfolding text_said
@@ -33,7 +35,8 @@ returns-clause-long c =
     λ name. record (segment_record c.args.segment.now c.args.protection c.args.flags (length c.args.headers.now)) { segname = name } in
     let back : ReadsBack segment_command (told (bytes_of c.args.segment.now.name)) =
     subst (λ (name : List ℕ). ReadsBack segment_command (told name)) c.into_bytes.ensures c.write.ensures.back in
-    length-append (spelling segment_command (told (bytes_of c.args.segment.now.name))) (flat_map (spelling section_header) c.args.headers.now)
+    length-append (spelling segment_command (told (bytes_of c.args.segment.now.name)))
+    (flat_map (spelling section_header) c.args.headers.now)
     ∙ ap (λ (n : ℕ). n + length (flat_map (spelling section_header) c.args.headers.now)) back.long
     ∙ ap (λ (n : ℕ). 72 + n) c.write_headers.ensures.long
 
@@ -42,4 +45,5 @@ returns-clause-readable c =
     let told : List ℕ → SegmentCommand =
     λ name. record (segment_record c.args.segment.now c.args.protection c.args.flags (length c.args.headers.now)) { segname = name } in
     segment_readable (told (bytes_of c.args.segment.now.name)) c.args.headers.now no_header refl refl
-    (subst (λ (name : List ℕ). ReadsBack segment_command (told name)) c.into_bytes.ensures c.write.ensures.back) c.write_headers.ensures.back
+    (subst (λ (name : List ℕ). ReadsBack segment_command (told name)) c.into_bytes.ensures c.write.ensures.back)
+    c.write_headers.ensures.back

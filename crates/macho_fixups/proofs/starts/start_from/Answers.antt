@@ -8,7 +8,8 @@ returns-then-next-fixups c =
 
 pub returns-then-address-number : goal.returns-then-address-number
 returns-then-address-number c =
-    no_start_behind c.args.fixups.now c.args.next c.args.number _ c.requires.sorted c.requires.next (omega (arith, c.if-next-fixups.false, c.requires.next.within))
+    no_start_behind c.args.fixups.now c.args.next c.args.number _ c.requires.sorted c.requires.next
+    (omega (arith, c.if-next-fixups.false, c.requires.next.within))
     c.if-address-number.true
 
 pub returns : goal.returns

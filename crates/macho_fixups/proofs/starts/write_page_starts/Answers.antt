@@ -9,7 +9,8 @@ use Rattle.macho_fixups.proofs.starts.write_page_starts.Goals as goal
 
 pub pages-init : goal.pages-init
 pages-init c = record {
-  so_far = pages_begin c.args.fixups.now (c.args.segment.now.address / CHAIN_PAGE) (pages_of c.args.segment.now c.args.fixups.now) c.args.at c.args.out.now
+  so_far = pages_begin c.args.fixups.now (c.args.segment.now.address / CHAIN_PAGE) (pages_of c.args.segment.now c.args.fixups.now)
+      c.args.at c.args.out.now
       (omega (arith, c.requires.room));
   passed = pages_first c.args.fixups.now c.args.segment.now c.args.begin c.requires.paged c.requires.begin;
 }
@@ -43,10 +44,13 @@ pages-preserved c =
     let p = next_page c.args.fixups.now c.args.segment.now c.pages.next c.pages.pages c.requires.paged c.pages.invariant.passed
     (c.has_next.ensures.some c.pages-test.true) in
     record {
-      so_far = pages_go_on c.args.fixups.now (c.args.segment.now.address / CHAIN_PAGE) (pages_of c.args.segment.now c.args.fixups.now) c.args.at
-          c.pages.place _ c.pages.pages c.start_from.result c.args.out.now c.pages.out c.put_little.new.out (omega (arith, p.more)) c.requires.room
+      so_far = pages_go_on c.args.fixups.now (c.args.segment.now.address / CHAIN_PAGE) (pages_of c.args.segment.now c.args.fixups.now)
+          c.args.at
+          c.pages.place _ c.pages.pages c.start_from.result c.args.out.now c.pages.out c.put_little.new.out (omega (arith, p.more))
+          c.requires.room
           c.pages.invariant.so_far c.start_from.ensures refl c.put_little.ensures.written;
-      passed = pages_more c.args.fixups.now c.args.segment.now c.pages.next c.pages.pages c.skip_below-next.result _ _ c.min.result c.requires.sorted p
+      passed = pages_more c.args.fixups.now c.args.segment.now c.pages.next c.pages.pages c.skip_below-next.result _ _ c.min.result
+          c.requires.sorted p
           refl refl c.min.ensures c.skip_below-next.ensures;
     }
 
@@ -60,15 +64,18 @@ pub returns-clause-written : goal.returns-clause-written
 returns-clause-written c =
     let all = all_passed c.args.fixups.now c.args.segment.now c.pages.next c.pages.pages c.requires.sorted c.pages.invariant.passed
     (c.has_next.ensures.none c.pages-test.false) in
-    let end = pages_end c.args.fixups.now (c.args.segment.now.address / CHAIN_PAGE) (pages_of c.args.segment.now c.args.fixups.now) c.args.at
+    let end = pages_end c.args.fixups.now (c.args.segment.now.address / CHAIN_PAGE) (pages_of c.args.segment.now c.args.fixups.now)
+    c.args.at
     c.pages.place c.pages.pages c.args.out.now c.pages.out all.1 c.pages.invariant.so_far in
-    end.0 ∙ ap (λ (n : ℕ). put c.args.at (page_starts_text c.args.fixups.now (c.args.segment.now.address / CHAIN_PAGE) n) c.args.out.now) (sym all.1)
+    end.0 ∙ ap (λ (n : ℕ). put c.args.at (page_starts_text c.args.fixups.now (c.args.segment.now.address / CHAIN_PAGE) n) c.args.out.now)
+    (sym all.1)
 
 pub returns-clause-long : goal.returns-clause-long
 returns-clause-long c =
     let all = all_passed c.args.fixups.now c.args.segment.now c.pages.next c.pages.pages c.requires.sorted c.pages.invariant.passed
     (c.has_next.ensures.none c.pages-test.false) in
-    let end = pages_end c.args.fixups.now (c.args.segment.now.address / CHAIN_PAGE) (pages_of c.args.segment.now c.args.fixups.now) c.args.at
+    let end = pages_end c.args.fixups.now (c.args.segment.now.address / CHAIN_PAGE) (pages_of c.args.segment.now c.args.fixups.now)
+    c.args.at
     c.pages.place c.pages.pages c.args.out.now c.pages.out all.1 c.pages.invariant.so_far in
     let same = ap (λ (n : ℕ). length (page_starts_text c.args.fixups.now (c.args.segment.now.address / CHAIN_PAGE) n)) all.1 in
     omega (arith, end.1, all.1, same)

@@ -8,7 +8,8 @@ write_parts-requires-clause-room c =
       arith,
       c.fill.ensures.len,
       c.requires.room,
-      table_fits c.args.base c.args.format (length c.args.names.now) c.args.fixups.now c.args.segments.now c.args.imports.now c.requires.fits,
+      table_fits c.args.base c.args.format (length c.args.names.now) c.args.fixups.now c.args.segments.now c.args.imports.now
+          c.requires.fits,
     )
 
 pub returns-clause-long : goal.returns-clause-long
@@ -17,5 +18,6 @@ returns-clause-long c =
       arith,
       c.write_parts.ensures.long,
       c.requires.room,
-      table_fits c.args.base c.args.format (length c.args.names.now) c.args.fixups.now c.args.segments.now c.args.imports.now c.requires.fits,
+      table_fits c.args.base c.args.format (length c.args.names.now) c.args.fixups.now c.args.segments.now c.args.imports.now
+          c.requires.fits,
     )

@@ -10,7 +10,8 @@ pub returns-clause-written : goal.returns-clause-written
 unfolding image_starts_size image_starts_text
 returns-clause-written c =
     let n = length c.args.segments.now in
-    let rest = offsets_text (4 + 4 * n) c.args.fixups.now c.args.segments.now ++ flat_map (segment_text c.args.base c.args.fixups.now) c.args.segments.now in
+    let rest = offsets_text (4 + 4 * n) c.args.fixups.now c.args.segments.now
+    ++ flat_map (segment_text c.args.base c.args.fixups.now) c.args.segments.now in
     c.write_segments.ensures.written ∙ ap (λ (o : List ℕ). put (c.args.at + 4) rest o) c.put_little.ensures.written
     ∙ put-put c.args.at (c.args.at + 4) (le_bytes 4 n) rest c.args.out.now (omega (arith, c.put_little.ensures.long))
     (omega (arith, c.write_segments.ensures.long, c.requires.room))

@@ -46,7 +46,8 @@ returns-clause-written c =
     ∙ ap (put 0 (spelling chained_fixups_header header))
     (c.put_text.ensures ∙ ap (put _ c.args.names.now) (c.write_imports.ensures.written
     ∙ ap (put c.write_image_starts-imports_at.result imports) c.write_image_starts-imports_at.ensures.written))
-    ∙ joined 28 c.write_image_starts-imports_at.result (c.write_image_starts-imports_at.result + c.entry_size.result * length c.args.imports.now)
+    ∙ joined 28 c.write_image_starts-imports_at.result (c.write_image_starts-imports_at.result + c.entry_size.result * length
+    c.args.imports.now)
     (spelling chained_fixups_header header) starts imports c.args.names.now c.args.out.now
     (sym (header_long header)) (omega (arith, at_imports, c.write_image_starts-imports_at.ensures.long))
     (omega (arith, at_names, at_imports, c.write_imports.ensures.long)) (omega (arith, at_names, c.requires.room))
@@ -57,7 +58,8 @@ returns-clause-long c =
     omega (
       arith,
       joined_long (spelling chained_fixups_header (table_header c.args.fixups.now c.args.segments.now c.args.format c.args.imports.now))
-          (image_starts_text c.args.base c.args.fixups.now c.args.segments.now) (flat_map (entry_text c.args.format) c.args.imports.now) c.args.names.now,
+          (image_starts_text c.args.base c.args.fixups.now c.args.segments.now) (flat_map (entry_text c.args.format) c.args.imports.now)
+          c.args.names.now,
       c.write_image_starts-imports_at.ensures.long,
       c.write_imports.ensures.long,
       header_long (table_header c.args.fixups.now c.args.segments.now c.args.format c.args.imports.now),
@@ -75,5 +77,6 @@ returns-clause-read c =
     let same = ap (λ (n : ℕ). record header { imports_offset = c.write_image_starts-imports_at.result; symbols_offset = n }) at_names
     ∙ ap (λ (n : ℕ). record header { imports_offset = n }) at_imports in
     table_reads_back c.args.base c.args.fixups.now c.args.segments.now c.args.format c.args.imports.now c.args.names.now c.requires.fits
-    c.requires.entries c.write_imports.ensures.fits (subst (λ (h : ChainedFixupsHeader). ReadsBack chained_fixups_header h) same c.write.ensures.back)
+    c.requires.entries c.write_imports.ensures.fits (subst (λ (h : ChainedFixupsHeader). ReadsBack chained_fixups_header h) same
+    c.write.ensures.back)
     c.write_image_starts-imports_at.ensures.long (omega (arith, returns-clause-long c))

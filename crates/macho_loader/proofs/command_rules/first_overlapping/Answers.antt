@@ -7,12 +7,17 @@ use Rattle.macho_model_walks.specs.steps.Asked.{BeginsBefore}
 use Rattle.macho_model_walks.proofs.RuleWalk.{neighbour_fails, neighbours_by_number}
 use Rattle.macho_loader.proofs.ListWalks.{order_more}
 use Rattle.macho_loader.proofs.command_rules.first_overlapping.Goals as goal
-use Rattle.macho_loader.proofs.command_rules.first_overlapping.Goals.{else-at-gt0-via-then-at-gt0+else-not-follows, else-at-gt0-via-else-at-gt0}
+use Rattle.macho_loader.proofs.command_rules.first_overlapping.Goals.{else-at-gt0-via-then-at-gt0+else-not-follows}
+use Rattle.macho_loader.proofs.command_rules.first_overlapping.Goals.{else-at-gt0-via-else-at-gt0}
 
 pub loop-step-init : goal.loop-step-init
 loop-step-init c =
-    let none = c.first-at.ensures.none in
-    (c.first-at.ensures.at list.Segments c.args.bytes.now, λ some. absurd (omega (arith, some, none)), λ k lt. absurd (omega (arith, lt, none)))
+    let none = c.first-at.ensures.none in (
+      c.first-at.ensures.at list.Segments c.args.bytes.now,
+      λ some. absurd (omega (arith, some, none)),
+      λ k lt. absurd
+          (omega (arith, lt, none)),
+    )
 
 pub returns-then-not-follows-clause-found : goal.returns-then-not-follows-clause-found
 returns-then-not-follows-clause-found c place is =

@@ -13,7 +13,8 @@ loop-offset-init c =
 pub returns-then-stride-eq0-clause-only : goal.returns-then-stride-eq0-clause-only
 returns-then-stride-eq0-clause-only c _ leads =
     let s = c.args.segment in
-    way_ends c.args.bytes.now s.number s.place c.args.page c.args.from c.args.to c.loop-offset.offset c.in-Some.word c.stride_of-stride.result
+    way_ends c.args.bytes.now s.number s.place c.args.page c.args.from c.args.to c.loop-offset.offset c.in-Some.word
+    c.stride_of-stride.result
     c.requires.apart c.requires.chained.nth c.loop-offset.invariant (c.in-Some.ensures.found c.in-Some.word refl)
     c.stride_of-stride.ensures.is c.if-stride-eq0.true c.loop-offset-test.true leads
 
@@ -22,7 +23,8 @@ loop-offset-preserved c =
     let s = c.args.segment in
     let pages = c.ranges.page.fits in
     let some = c.if-stride-eq0.false in
-    way_more c.args.bytes.now s.number s.place c.args.page c.args.from c.args.to c.loop-offset.offset c.in-Some.word c.stride_of-stride.result
+    way_more c.args.bytes.now s.number s.place c.args.page c.args.from c.args.to c.loop-offset.offset c.in-Some.word
+    c.stride_of-stride.result
     c.requires.apart c.requires.chained.nth (omega (arith, pages)) c.loop-offset.invariant (c.in-Some.ensures.found c.in-Some.word refl)
     c.stride_of-stride.ensures.is c.stride_of-stride.ensures.small (grind (arith, some)) c.loop-offset-test.true
 
@@ -30,4 +32,5 @@ pub returns-clause-only : goal.returns-clause-only
 returns-clause-only c other leads =
     let past = c.loop-offset-test.false in
     let behind : c.args.to < c.loop-offset.offset = grind (arith, nat_tests, other, past) in
-    way_passes c.args.bytes.now c.args.segment.place c.args.page c.args.from c.args.to c.loop-offset.offset c.loop-offset.invariant behind leads
+    way_passes c.args.bytes.now c.args.segment.place c.args.page c.args.from c.args.to c.loop-offset.offset c.loop-offset.invariant behind
+    leads

@@ -10,7 +10,8 @@ pub returns-then-stride-eq0-clause-only : goal.returns-then-stride-eq0-clause-on
 returns-then-stride-eq0-clause-only c _ =
     let s = c.args.segment in
     all_fit c.args.bytes.now s.number s.place c.args.page c.args.from c.loop-word.offset c.in-Some.word c.stride_of-stride.result
-    c.requires.apart c.requires.chained.nth c.loop-word.invariant (c.in-Some.ensures.found c.in-Some.word refl) c.stride_of-stride.ensures.is
+    c.requires.apart c.requires.chained.nth c.loop-word.invariant (c.in-Some.ensures.found c.in-Some.word refl)
+    c.stride_of-stride.ensures.is
     c.if-stride-eq0.true
 
 pub loop-word-preserved : goal.loop-word-preserved

@@ -9,7 +9,8 @@ returns-then-start-clause-only c _ =
     let s = c.args.segment in
     let start = c.start_of_page-start.result in
     fit_without_start b s.number s.place c.args.page start
-    (start_found b s.number s.table c.args.page start c.requires.chained.table c.requires.among c.start_of_page-start.ensures) c.if-start.true
+    (start_found b s.number s.table c.args.page start c.requires.chained.table c.requires.among c.start_of_page-start.ensures)
+    c.if-start.true
 
 pub returns-clause-found : goal.returns-clause-found
 returns-clause-found c x is =

@@ -4,7 +4,8 @@ use Rattle.std.proofs.lemmas.Bool.Decides.{nat_tests}
 use Rattle.macho_memory_walks.specs.steps.Walks.{Leads}
 use Rattle.macho_memory_walks.proofs.WordWalk.{step_leads, leads_here, leads_no_lower, leads_nowhere, one_leads_nowhere, some_is}
 use Rattle.macho_memory_walks.proofs.chain_words.+reaches.Goals as goal
-use Rattle.macho_memory_walks.proofs.chain_words.+reaches.Goals.{in-Some+else-step-to, else-step-to-via-then-step-to+else-reaches, else-step-to-via-else-step-to, in_default}
+use Rattle.macho_memory_walks.proofs.chain_words.+reaches.Goals.{in-Some+else-step-to, else-step-to-via-then-step-to+else-reaches}
+use Rattle.macho_memory_walks.proofs.chain_words.+reaches.Goals.{else-step-to-via-else-step-to, in_default}
 
 pub returns-then-from-to-clause-found : goal.returns-then-from-to-clause-found
 returns-then-from-to-clause-found t c is = leads_here c.args.bytes.now c.args.from c.args.to (grind (arith, nat_tests))

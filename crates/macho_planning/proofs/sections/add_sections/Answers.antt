@@ -15,7 +15,8 @@ loop-section-preserved c =
     let bytes = c.args.object.now.bytes in
     let k = c.loop-section.section in
     let same = (header_viewed c.args.object.now k c.in-Some.header c.requires.object c.in-Some.ensures).0 in
-    let added = c.in_ok-add_section.ensures ∙ ap (λ (h : SectionHeader). with_specs c.loop-section.plan (list_if (is_carried h) (spec_for file k h ∷ []))) same in
+    let added = c.in_ok-add_section.ensures ∙ ap (λ (h : SectionHeader). with_specs c.loop-section.plan
+    (list_if (is_carried h) (spec_for file k h ∷ []))) same in
     with_both c.args.plan.now c.loop-section.plan c.add_section.new.plan (specs_below file bytes k)
     (list_if (is_carried (section_at bytes k)) (spec_for file k (section_at bytes k) ∷ [])) c.loop-section.invariant added
     ∙ ap (with_specs c.args.plan.now) (sym (specs_more file bytes k))

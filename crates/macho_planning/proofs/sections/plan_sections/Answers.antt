@@ -19,6 +19,8 @@ loop-file-preserved c =
     let k = c.loop-file.file in
     let lt : k < length views = omega arith in
     let same = get_or_default views k c.index-views-file.result None lt in
-    with_both c.args.plan.now c.loop-file.plan c.add_view.new.plan (specs_of_first views k) (specs_of_view k (get_or views k None)) c.loop-file.invariant
-    (c.in_ok-add_view.ensures ∙ ap (λ (v : Option FileBytes). with_specs c.loop-file.plan (specs_of_view k v)) (c.index-views-file.is ∙ same))
+    with_both c.args.plan.now c.loop-file.plan c.add_view.new.plan (specs_of_first views k) (specs_of_view k (get_or views k None))
+    c.loop-file.invariant
+    (c.in_ok-add_view.ensures ∙ ap (λ (v : Option FileBytes). with_specs c.loop-file.plan (specs_of_view k v))
+    (c.index-views-file.is ∙ same))
     ∙ ap (with_specs c.args.plan.now) (sym (files_more views k))

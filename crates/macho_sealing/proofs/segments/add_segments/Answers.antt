@@ -12,7 +12,8 @@ pub headers_from-headers-requires : goal.headers_from-headers-requires
 headers_from-headers-requires c =
     let same = c.as_slice-segment-items.ensures.value in
     let lt : c.loop-segment.segment-index < length c.args.placement.now.segments.items = omega (arith, ap length same) in
-    next_inside (placed_of c.args.placement.now) _ _ c.loop-segment.at c.loop-segment.segment-index _ no_segment c.requires.split c.loop-segment.invariant lt
+    next_inside (placed_of c.args.placement.now) _ _ c.loop-segment.at c.loop-segment.segment-index _ no_segment c.requires.split
+    c.loop-segment.invariant lt
     (ap (λ (ss : List PlacedSegment). get_or ss c.loop-segment.segment-index no_segment) same)
 
 pub loop-segment-preserved : goal.loop-segment-preserved
@@ -23,6 +24,7 @@ loop-segment-preserved c =
     let own = c.headers_from-headers.ensures
     ∙ next_own (placed_of c.args.placement.now) _ _ c.loop-segment.at c.loop-segment.segment-index _ no_segment c.requires.split
     c.loop-segment.invariant lt is in
-    one_more (placed_of c.args.placement.now) _ _ _ c.loop-segment.at c.loop-segment.segment-index _ _ _ no_segment c.loop-segment.invariant lt is
+    one_more (placed_of c.args.placement.now) _ _ _ c.loop-segment.at c.loop-segment.segment-index _ _ _ no_segment
+    c.loop-segment.invariant lt is
     (c.segment_command.ensures (placed_of c.args.placement.now) own) (ap length own)
     (ap (map said_by) c.in_ok-push.ensures.items ∙ map-append said_by c.loop-segment.commands.items (c.segment_command.result ∷ []))

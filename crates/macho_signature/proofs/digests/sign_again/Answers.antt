@@ -15,4 +15,5 @@ returns-clause-done c =
     ∙ ap (λ (t : List ℕ). put c.args.hashes_offset t c.args.signature.now) (digests_all c.args.signed.now)
 
 pub returns-clause-length : goal.returns-clause-length
-returns-clause-length c = sym (ap length (digests_all c.args.signed.now)) ∙ length-digests c.args.signed.now 0 (page_count (length c.args.signed.now))
+returns-clause-length c = sym (ap length (digests_all c.args.signed.now))
+    ∙ length-digests c.args.signed.now 0 (page_count (length c.args.signed.now))

@@ -13,10 +13,14 @@ pub returns-clause-done : goal.returns-clause-done
 returns-clause-done c =
     let back : ReadsBack code_directory (directory_for (signed_by c.args.signer.now (length c.args.signed.now))) =
     subst (ReadsBack code_directory) c.directory_of.ensures c.write.ensures.back in
-    signature_put (signed_by c.args.signer.now (length c.args.signed.now)) c.args.signed.now c.signature_size-size.result c.digests_offset.result
-    (digests_of c.args.signed.now) c.args.signature.now c.write_super_blob.new.out c.write.new.out c.write_identifier.new.out c.sign_again.new.signature back.long
-    c.signature_size-size.ensures c.digests_offset.ensures (omega (arith, c.requires.room, c.signature_size-size.ensures)) refl c.write_super_blob.ensures
-    (c.write.ensures.written ∙ ap (λ (r : CodeDirectory). put 20 (spelling code_directory r) c.write_super_blob.new.out) c.directory_of.ensures) c.write_identifier.ensures c.sign_again.ensures.done
+    signature_put (signed_by c.args.signer.now (length c.args.signed.now)) c.args.signed.now c.signature_size-size.result
+    c.digests_offset.result
+    (digests_of c.args.signed.now) c.args.signature.now c.write_super_blob.new.out c.write.new.out c.write_identifier.new.out
+    c.sign_again.new.signature back.long
+    c.signature_size-size.ensures c.digests_offset.ensures (omega (arith, c.requires.room, c.signature_size-size.ensures)) refl
+    c.write_super_blob.ensures
+    (c.write.ensures.written ∙ ap (λ (r : CodeDirectory). put 20 (spelling code_directory r) c.write_super_blob.new.out)
+    c.directory_of.ensures) c.write_identifier.ensures c.sign_again.ensures.done
 
 pub returns-clause-length : goal.returns-clause-length
 returns-clause-length c =

@@ -15,7 +15,8 @@ returns-clause-done c =
     let same : length front ≡ c.args.limit = c.split_at_mut-signed.ensures.front_len in
     ap (λ (t : List ℕ). front ++ t) c.sign.ensures.done
     ∙ ap (λ (n : ℕ). front ++ put 0 (signature_text (signed_by c.args.signer.now n) front) rest) same
-    ∙ file_signed (signed_by c.args.signer.now c.args.limit) front rest c.args.file.now (omega (arith, same)) c.split_at_mut-signed.ensures.value
+    ∙ file_signed (signed_by c.args.signer.now c.args.limit) front rest c.args.file.now (omega (arith, same))
+    c.split_at_mut-signed.ensures.value
 
 pub returns-clause-stands : goal.returns-clause-stands
 returns-clause-stands c =
@@ -23,5 +24,6 @@ returns-clause-stands c =
     let same : length front ≡ c.args.limit = c.split_at_mut-signed.ensures.front_len in
     let Long : ℕ → Type 0 = λ n. length (spelling code_directory (directory_for (signed_by c.args.signer.now n))) ≡ 88 in
     let long = length-signature (signed_by c.args.signer.now c.args.limit) c.args.file.now (subst Long same c.sign.ensures.back.long) in
-    signed_stands (signed_by c.args.signer.now c.args.limit) c.args.file.now (front ++ c.sign.new.signature) (omega (arith, long, c.requires.room))
+    signed_stands (signed_by c.args.signer.now c.args.limit) c.args.file.now (front ++ c.sign.new.signature)
+    (omega (arith, long, c.requires.room))
     (returns-clause-done c)

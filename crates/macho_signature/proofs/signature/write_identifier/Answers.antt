@@ -8,6 +8,7 @@ pub returns : goal.returns
 returns c =
     let m : ℕ = 108 + c.identifier_size.result - (108 + length c.args.name.now) in
     let gap : m ≡ identifier_size (length c.args.name.now) - length c.args.name.now = omega (arith, c.identifier_size.ensures) in
-    put_mid-filled 108 _ m c.args.name.now c.args.out.now c.copy_from_slice.new.self c.fill.new.self (omega arith) (omega (arith, gap, c.requires.room))
+    put_mid-filled 108 _ m c.args.name.now c.args.out.now c.copy_from_slice.new.self c.fill.new.self (omega arith)
+    (omega (arith, gap, c.requires.room))
     c.copy_from_slice.ensures.after (c.fill.ensures.after (λ y e. e))
     ∙ ap (λ (n : ℕ). put 108 (c.args.name.now ++ replicate n 0) c.args.out.now) gap

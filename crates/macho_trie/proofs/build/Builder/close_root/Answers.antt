@@ -18,8 +18,10 @@ overflow_cast-root c =
 pub number_ends-requires : goal.number_ends-requires
 number_ends-requires c =
     let A : List Row → Type 0 = λ rs. All (λ row. row.after ≤ length rs) rs in
-    subst A (sym (c.deref_mut.ensures.value ∙ c.reverse.ensures.items)) (ends_within (names_in c.args.self) _ (rooted_closed (names_in c.args.self) c.args.symbol c.args.is_terminal
-    c.args.self.rows.items c.push.new.self.items c.args.self.nodes.items c.pop.new.self.items c.in-Some.root c.in-Some.ensures.items c.requires
+    subst A (sym (c.deref_mut.ensures.value ∙ c.reverse.ensures.items)) (ends_within (names_in c.args.self) _
+    (rooted_closed (names_in c.args.self) c.args.symbol c.args.is_terminal
+    c.args.self.rows.items c.push.new.self.items c.args.self.nodes.items c.pop.new.self.items c.in-Some.root c.in-Some.ensures.items
+    c.requires
     c.in_ok-push.ensures.items))
 
 pub returns : goal.returns

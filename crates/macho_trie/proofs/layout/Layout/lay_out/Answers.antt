@@ -44,7 +44,12 @@ returns-then-is_empty c =
 pub looks-smaller : goal.looks-smaller
 looks-smaller c =
     let low = c.in_ok-work_off.ensures.low in
-    let same = with_items_is c.looks.widths c.work_off.new.widths (omega (arith, low.long, c.looks.invariant.low.long, c.looks.widths.ok.0)) in
+    let same = with_items_is c.looks.widths c.work_off.new.widths (omega (
+      arith,
+      low.long,
+      c.looks.invariant.low.long,
+      c.looks.widths.ok.0,
+    )) in
     let less = fewer_left c.args.self.now c.looks.widths.items c.work_off.new.widths low.long low.low (omega (
       arith,
       c.in_ok-work_off.ensures.grown,
@@ -55,6 +60,11 @@ looks-smaller c =
 pub looks-preserved : goal.looks-preserved
 looks-preserved c =
     let low = c.in_ok-work_off.ensures.low in
-    let same = with_items_is c.looks.widths c.work_off.new.widths (omega (arith, low.long, c.looks.invariant.low.long, c.looks.widths.ok.0)) in
+    let same = with_items_is c.looks.widths c.work_off.new.widths (omega (
+      arith,
+      low.long,
+      c.looks.invariant.low.long,
+      c.looks.widths.ok.0,
+    )) in
     let W : List ℕ → Type 0 = λ ws. AreLowWidths c.args.self.now ws in
     record { low = subst W (sym same) low }

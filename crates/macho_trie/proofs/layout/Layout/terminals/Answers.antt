@@ -7,7 +7,8 @@ use Rattle.macho_trie.proofs.Cursor.{row_sound}
 use Rattle.macho_trie.proofs.layout.Layout.terminals.Goals as goal
 
 pub terminal_size-requires : goal.terminal_size-requires
-terminal_size-requires c = (row_sound (names_at c.args.self.now) c.args.self.now.rows.now c.loop-row.row _ c.requires.trees (omega arith)).symbol
+terminal_size-requires c = (row_sound (names_at c.args.self.now) c.args.self.now.rows.now c.loop-row.row _ c.requires.trees
+    (omega arith)).symbol
 
 pub loop-row-preserved : goal.loop-row-preserved
 loop-row-preserved c =

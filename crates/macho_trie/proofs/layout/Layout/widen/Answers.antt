@@ -27,6 +27,7 @@ loop-child-preserved c =
     (slice_index c.args.list.now c.loop-child.child-index) c.loop-child.growth c.widen_edge.result c.requires.root
     (node_count-rows (names_at c.args.self.now) c.args.self.now.rows.now) c.requires.low.long c.requires.list c.loop-child-test.true refl
     c.in_ok-place.ensures c.widen_edge.ensures c.loop-child.invariant in
-    let W : ℕ → Type 0 = λ n. AreWidening (size_at c.args.self.now) (tree_at c.args.self.now) c.args.places.now c.args.list.now c.args.widths.now
+    let W : ℕ → Type 0 = λ n. AreWidening (size_at c.args.self.now) (tree_at c.args.self.now) c.args.places.now c.args.list.now
+    c.args.widths.now
     c.widen_edge.new.widths (c.loop-child.child-index + 1) n in
     subst W (sym c.in_ok-growth.ensures) more

@@ -9,7 +9,8 @@ invariant-list l = record {
   placed : ArePlaces l.self (slice_index l.widths) l.places.items;
   low : AreLowWidths l.self l.widths;
   listed : AreListed (length l.self.rows.now) l.list.items;
-  grown : ((l.widths ≡ l.initial.widths) × IsNarrow l.places.items l.widths (slice_index l.list.items 0)) ⊎ (sum l.initial.widths < sum l.widths);
+  grown : ((l.widths ≡ l.initial.widths) × IsNarrow l.places.items l.widths (slice_index l.list.items 0))
+      ⊎ (sum l.initial.widths < sum l.widths);
 }
 
 -- widths grow, or the list comes out empty
