@@ -28,6 +28,9 @@ pub struct ExportName {
     pub weak: bool,
 }
 
+/// The most bytes that exported names may have together: the symbol table has each whole, and no image has as many (4 GiB).
+const MOST_BYTES: usize = 0x1_0000_0000;
+
 /// Whether export lists contain a name, where there are any.
 fn is_listed(list: Option<&ExportList>, name: &[u8]) -> bool
     ensures { result ≡ is_listed_in (option_copied list.entry) name.now }
@@ -92,7 +95,7 @@ impl Solved {
 }
 
 impl Solved {
-    /// The exported names in rising order, each with its entry's number.
+    /// The exported names in rising order, each with its entry's number. Names of 4 GiB and more are not held.
     fn exported_names(
         &self,
         alloc: Global,
@@ -104,11 +107,17 @@ impl Solved {
         ensures why { IfErr result (λ fault. fault ≡ SymbolFault.OutOfMemory) }
     {
         let mut names = Vec::new(alloc);
+        let mut room = MOST_BYTES;
         for number in 0..self.table.len() {
             if !self.is_exported(number, list) {
                 continue;
             }
-            names.push((self.entry_name(number), number))?;
+            let name = self.entry_name(number);
+            if room < name.len() {
+                return Err(SymbolFault::OutOfMemory);
+            }
+            room -= name.len();
+            names.push((name, number))?;
         }
         names.sort()?;
         Ok(names)

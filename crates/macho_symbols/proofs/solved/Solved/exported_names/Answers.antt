@@ -19,9 +19,9 @@ loop-number-preserved c =
     let s = c.args.self.now in
     let test = is_exported_in s.files.items (noted_of s.imports.items) (option_copied c.args.list) in
     subst (AreFound s.files.items s.table.entries.items test (c.loop-number.number + 1)) (sym c.in_ok-push.ensures.items)
-    (found_more s.files.items s.table.entries.items test c.loop-number.number c.loop-number.names.items c.entry_name.result
+    (found_more s.files.items s.table.entries.items test c.loop-number.number c.loop-number.names.items c.entry_name-name.result
     c.loop-number.invariant
-    (omega arith) c.entry_name.ensures (sym c.is_exported.ensures ∙ c.if-not-is_exported.false))
+    (omega arith) c.entry_name-name.ensures (sym c.is_exported.ensures ∙ c.if-not-is_exported.false))
 
 pub loop-number-preserved-then-not-is_exported : goal.loop-number-preserved-then-not-is_exported
 loop-number-preserved-then-not-is_exported c =
