@@ -170,28 +170,13 @@ fn read_page(bytes: &[u8], header: CompactUnwindInfoHeader, number: u32) -> Opti
     let next = read_entry(bytes, header, number + 1);
     let place = entry.page_offset as usize;
     let head = CompressedPage::read(bytes, place)?;
-    let lsdas = next
-        .lsda_index_offset
-        .saturating_sub(entry.lsda_index_offset)
-        / 8;
-    let has_functions = is_whole(
-        bytes,
-        place + head.functions_offset as usize,
-        4,
-        head.functions_len as u32,
-    );
-    let has_encodings = is_whole(
-        bytes,
-        place + head.local_opcodes_offset as usize,
-        4,
-        head.local_opcodes_len as u32,
-    );
-    let has_lsdas = is_whole(
-        bytes,
-        entry.lsda_index_offset as usize,
-        LsdaEntry::SIZE,
-        lsdas,
-    );
+    let functions = place + head.functions_offset as usize;
+    let encodings = place + head.local_opcodes_offset as usize;
+    let first = entry.lsda_index_offset;
+    let lsdas = next.lsda_index_offset.saturating_sub(first) / 8;
+    let has_functions = is_whole(bytes, functions, 4, head.functions_len as u32);
+    let has_encodings = is_whole(bytes, encodings, 4, head.local_opcodes_len as u32);
+    let has_lsdas = is_whole(bytes, first as usize, LsdaEntry::SIZE, lsdas);
     if head.kind == COMPRESSED && has_functions && has_encodings && has_lsdas {
         Some(Page {
             number,
