@@ -17,8 +17,8 @@ use Rattle.macho_model.specs.declared.targets.Target.{Target}
 use Rattle.macho_model.specs.declared.targets.Target.TheVariants as target
 use Rattle.macho_model.specs.Links.{Link}
 use Rattle.macho_model.specs.Segments.{TEXT, segment_rank, list_if, base_of_link}
-use Rattle.macho_model.specs.Placement.{Placed, IsPlaced, IsInOrder, EachFollows, is_segment_named}
-use Rattle.macho_model.specs.Images.{segments_of, is_named, first_address, base_of, entries_of_file}
+use Rattle.macho_model.specs.Placement.{Placed, IsPlaced, IsInOrder, is_segment_named, Follows}
+use Rattle.macho_model.specs.Images.{segments_of, is_named, base_of, entries_of_file}
 use Rattle.macho_model.specs.Needs.{imports_of}
 use Rattle.macho_model.specs.Targets.{target_of_name, is_defined}
 use Rattle.macho_model.specs.Consumed.{is_section_target}
@@ -27,6 +27,7 @@ use Rattle.macho_model.specs.Stands.{IsAt}
 use Rattle.macho_model.specs.Faults.{entry_is_defined}
 use Rattle.macho_model.specs.Agreement.{SegmentPlace, place_by_command, place_told, SegmentsAgree, EntryAgrees}
 use Rattle.macho_model.specs.Addresses.{address_of}
+use Rattle.macho_model.specs.Lists.{of_first, EachNext}
 use Rattle.macho_targets.specs.Laws.{ObjectsAreRead, ListsAll, IsOfLink}
 use Rattle.macho_targets.proofs.Named.{name_of_link}
 use Rattle.macho_targets.proofs.Places.{places_are_had}
@@ -40,7 +41,7 @@ start_of_first [] = 0
 start_of_first (s ∷ segments) = s.address
 
 first_alike : (cs : List SegmentCommand) (segments : List PlacedSegment) → map place_by_command cs ≡ map place_told segments
-    → first_address (filter (is_named TEXT) cs) ≡ start_of_first (filter (is_segment_named TEXT) segments)
+    → of_first 0 (λ (s : SegmentCommand). s.vmaddr) (filter (is_named TEXT) cs) ≡ start_of_first (filter (is_segment_named TEXT) segments)
 first_alike [] [] e = refl
 first_alike [] (s ∷ segments) e = cc
 first_alike (c ∷ cs) [] e = cc
@@ -52,14 +53,16 @@ first_alike (c ∷ cs) (s ∷ segments) e = by (first_alike cs segments (ap (dro
     test : is_named TEXT c ≡ is_segment_named TEXT s
     test = ap (λ (q : SegmentPlace). bytes_eq q.name TEXT) one
 
-    by : first_address (filter (is_named TEXT) cs) ≡ start_of_first (filter (is_segment_named TEXT) segments) → (x : Bool)
+    by : of_first 0 (λ (s : SegmentCommand). s.vmaddr) (filter (is_named TEXT) cs)
+        ≡ start_of_first (filter (is_segment_named TEXT) segments) → (x : Bool)
         → is_segment_named TEXT s ≡ x
-        → first_address (filter (is_named TEXT) (c ∷ cs)) ≡ start_of_first (filter (is_segment_named TEXT) (s ∷ segments))
+        → of_first 0 (λ (s : SegmentCommand). s.vmaddr) (filter (is_named TEXT) (c ∷ cs))
+        ≡ start_of_first (filter (is_segment_named TEXT) (s ∷ segments))
     by rest true is = rw (test, is) (ap (λ (q : SegmentPlace). q.address) one)
     by rest false is = rw (test, is) rest
 
 -- two segments of one name are one
-pub one_named : (l : Link) (segments : List PlacedSegment) (name : List ℕ) (s t : PlacedSegment) → EachFollows l segments
+pub one_named : (l : Link) (segments : List PlacedSegment) (name : List ℕ) (s t : PlacedSegment) → EachNext (Follows l) segments
     → Contains segments s
     → Contains segments t → is_segment_named name s ≡ true → is_segment_named name t ≡ true → s ≡ t
 one_named l segments name s t follow has there s_named t_named =
@@ -69,7 +72,7 @@ one_named l segments name s t follow has there s_named t_named =
     (λ n m e lt. omega (arith, ap (segment_rank l) e, lt)) (ranks_rise l segments follow) s t has there same
 
 -- the first one of the name stands where any of the name stands
-pub first_is : (l : Link) (segments : List PlacedSegment) (s : PlacedSegment) → EachFollows l segments → Contains segments s
+pub first_is : (l : Link) (segments : List PlacedSegment) (s : PlacedSegment) → EachNext (Follows l) segments → Contains segments s
     → is_segment_named TEXT s ≡ true
     → start_of_first (filter (is_segment_named TEXT) segments) ≡ s.address
 first_is l segments s follow has named = by (filter (is_segment_named TEXT) segments) refl

@@ -15,12 +15,13 @@ use Rattle.macho_model.specs.declared.placed.Counts.{Counts}
 use Rattle.macho_model.specs.declared.placed.PlacedSegment.{PlacedSegment}
 use Rattle.macho_model.specs.Links.{Link}
 use Rattle.macho_model.specs.Segments.{TEXT, DATA, DATA_CONST, segment_rank, segment_names_of, list_if, OutputKey, output_keys_of}
-use Rattle.macho_model.specs.Placement.{Placed, EachFollows}
+use Rattle.macho_model.specs.Placement.{Placed, Follows}
 use Rattle.macho_model.specs.OutputSections.{OutputSection, Merged, InitOffsets, UnwindInfo, Stubs, Slots, merged_in, sections_of_text}
 use Rattle.macho_model.specs.OutputSections.{sections_of_data, sections_of_other, output_sections_in, output_sections_of}
 use Rattle.macho_model.specs.OutputSections.{output_sections_for, output_header, key_of_output}
 use Rattle.macho_model.specs.Order.{StandInOrder}
 use Rattle.macho_model.specs.Head.{headers_in}
+use Rattle.macho_model.specs.Lists.{EachNext}
 use Rattle.macho_lists.proofs.Orders.{EachLater, each_later}
 use Rattle.macho_agreement.proofs.Names.{name_of-name, name_in_field}
 use Rattle.macho_agreement.proofs.Classes.{AllDiffer, IsOfClass, split_again, flat_map-map, map-flat_map}
@@ -59,7 +60,7 @@ names_differ l (s ∷ segments) later = (
 )
 
 -- ranks of their names rise
-pub ranks_rise : (l : Link) (segments : List PlacedSegment) → EachFollows l segments
+pub ranks_rise : (l : Link) (segments : List PlacedSegment) → EachNext (Follows l) segments
     → EachLater (λ n m. segment_rank l n < segment_rank l m) (map name_told segments)
 ranks_rise l segments follow =
     mapped segments
@@ -70,7 +71,7 @@ ranks_rise l segments follow =
     mapped (s ∷ ss) later =
         (All-map (λ m. segment_rank l (name_told s) < segment_rank l m) name_told ss later.0, mapped ss later.1)
 
-pub all_differ : (l : Link) (segments : List PlacedSegment) → EachFollows l segments → AllDiffer (map name_told segments)
+pub all_differ : (l : Link) (segments : List PlacedSegment) → EachNext (Follows l) segments → AllDiffer (map name_told segments)
 all_differ l segments follow =
     names_differ l segments
     (each_later (Below l) (λ s t u one two. omega (arith, one, two)) segments (λ k x y at_k at_next. (follow k x y at_k at_next).rank))
@@ -144,7 +145,7 @@ header_class l counts p n whole =
     ∙ ap name_of (output_class l counts n k d lt) ∙ whole)
 
 -- THE headers of all segments' names are the output sections
-pub headers-are : (l : Link) (counts : Counts) (p : Placed) → StandInOrder l counts p → EachFollows l p.segments
+pub headers-are : (l : Link) (counts : Counts) (p : Placed) → StandInOrder l counts p → EachNext (Follows l) p.segments
     → p.output_sections ≡ output_sections_for l counts p → flat_map (headers_in p) p.segments ≡ p.output_sections
 unfolding output_sections_for output_sections_of
 headers-are l counts p order follow are =

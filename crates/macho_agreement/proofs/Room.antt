@@ -19,14 +19,15 @@ use Rattle.macho_model.specs.declared.placed.Counts.{Counts}
 use Rattle.macho_model.specs.declared.placed.PlacedSegment.{PlacedSegment}
 use Rattle.macho_model.specs.Links.{Link, greatest}
 use Rattle.macho_model.specs.Segments.{PAGEZERO, TEXT, LINKEDIT, SEGMENT_PAGE, segment_rank, segment_names_of}
-use Rattle.macho_model.specs.Placement.{Placed, EachFollows, is_segment_named, head_size}
+use Rattle.macho_model.specs.Placement.{Placed, is_segment_named, head_size, Follows}
 use Rattle.macho_model.specs.OutputSections.{end_of_piece, extent_of}
 use Rattle.macho_model.specs.Order.{least_file_size, row_of, filled_in, used_by, front_of, LiesInFile}
+use Rattle.macho_model.specs.Lists.{EachNext}
 use Rattle.macho_promise.specs.Promise.{IsLaidOut}
 use Rattle.macho_targets.proofs.Above.{next_follows, rises, positive, text_rank}
 
 -- a file part behind another one begins where that one ends, or later
-pub file_behind : (l : Link) (segments : List PlacedSegment) (d : PlacedSegment) → EachFollows l segments → (i n j : ℕ) → j ≡ i + n + 1
+pub file_behind : (l : Link) (segments : List PlacedSegment) (d : PlacedSegment) → EachNext (Follows l) segments → (i n j : ℕ) → j ≡ i + n + 1
     → j < length segments
     → (get_or segments i d).file_offset + (get_or segments i d).file_size ≤ (get_or segments j d).file_offset
 file_behind l segments d follow i zero j is lt =
@@ -80,7 +81,7 @@ last_size : (l : Link) (counts : Counts) (p : Placed) (s : PlacedSegment) → s.
 last_size l counts p s least named = least ∙ rw (tables_named (text_of s.name) named, named) refl
 
 -- the file parts end in the file
-pub file_parts_end : (l : Link) (counts : Counts) (p : Placed) → EachFollows l p.segments → IsLaidOut l counts p
+pub file_parts_end : (l : Link) (counts : Counts) (p : Placed) → EachNext (Follows l) p.segments → IsLaidOut l counts p
     → All (λ s. s.file_offset + s.file_size ≤ p.linkedit.signature.end) p.segments
 file_parts_end l counts p follow laid k d lt = by (nat_lt k last.number) refl
   where
@@ -127,7 +128,7 @@ least_rank l name low = by (bytes_eq name PAGEZERO) refl
     by false e = absurd (omega (arith, low, positive l name e))
 
 -- `__TEXT` is the first segment, or the one behind `__PAGEZERO`, which has no bytes in the file
-pub text_begins : (l : Link) (counts : Counts) (p : Placed) → EachFollows l p.segments → IsLaidOut l counts p
+pub text_begins : (l : Link) (counts : Counts) (p : Placed) → EachNext (Follows l) p.segments → IsLaidOut l counts p
     → All (λ s. is_segment_named TEXT s ≡ true → s.file_offset ≡ 0) p.segments
 text_begins l counts p follow laid zero d lt named =
     laid.low.front (get_or p.segments 0 d) (lt, sym (get_or_default p.segments 0 d (get_or p.segments 0 d) lt))

@@ -8,9 +8,9 @@ use Rattle.macho_model.specs.Links.{Link}
 use Rattle.macho_model.specs.Placement.{Placed}
 use Rattle.macho_model.specs.Limits.{PassesLimit, ImagePasses}
 use Rattle.macho_model.specs.Values.{BadRange, BadRebase}
-use Rattle.macho_model.specs.Faults.{LinkFault, DuplicateSymbol, UndefinedSymbol, EntryNotDefined, ExportListMissing, BadInitializer}
+use Rattle.macho_model.specs.Faults.{LinkFault, DuplicateSymbol, UndefinedSymbol, EntryNotDefined, ExportListMissing, BadInitializer, kept_placement}
 use Rattle.macho_model.specs.Faults.{BadUnwind, UnsupportedRelocation, OverlappingFields, BindAddend, FixupPlace, TooMany, ImageTooLarge}
-use Rattle.macho_model.specs.Faults.{RebaseTarget, RelocationRange, BadName, FaultStands, IsOfPlacement}
+use Rattle.macho_model.specs.Faults.{RebaseTarget, RelocationRange, BadName, FaultStands}
 use Rattle.macho_fields.specs.Faults.{IsBadPlace}
 use Rattle.macho_reading.proofs.Refusals.{read_is_not_refused}
 use Rattle.macho_answers.specs.Refusals.{NothingPasses, IsClear, ClearIsUnrefused}
@@ -26,7 +26,8 @@ none_passes l counts p limits (inl (s, has, inr size)) = absurd (omega (arith, s
 none_passes l counts p limits (inr (inl (r, has, end))) = absurd (omega (arith, end, limits.ranges r has))
 none_passes l counts p limits (inr (inr (x, written, far))) = absurd (omega (arith, far, limits.written x written))
 
-none : (l : Link) (counts : Counts) (p : Placed) → IsClear l counts p → (f : LinkFault) → IsOfPlacement p f → FaultStands l counts f → ⊥
+none : (l : Link) (counts : Counts) (p : Placed) → IsClear l counts p → (f : LinkFault)
+    → (kept_placement f ≡ None) ⊎ (kept_placement f ≡ Some p) → FaultStands l counts f → ⊥
 none l counts p clear (DuplicateSymbol name first second) of stands = clear.single name first second stands
 none l counts p clear (UndefinedSymbol name file) of stands = read_is_not_refused l counts (UndefinedSymbol name file) clear.fit tt stands
 none l counts p clear (EntryNotDefined name) of stands = read_is_not_refused l counts (EntryNotDefined name) clear.fit tt stands

@@ -9,6 +9,7 @@ use Rattle.std.specs.Prelude.{Contains, if◌then◌else◌}
 use Rattle.std.proofs.lemmas.Bool.{cases_Bool, cases_lt, eq-eqb}
 use Rattle.std.proofs.lemmas.List.{get_or-map, length-map}
 use Rattle.std.proofs.lemmas.List.Elements.{All-contains}
+use Rattle.std.specs.FinMap.{empty}
 use Rattle.macho_bytes.specs.Numbers.{bits}
 use Rattle.macho_model.specs.declared.placed.Counts.{Counts}
 use Rattle.macho_model.specs.declared.placed.PlacedSection.{PlacedSection}
@@ -24,7 +25,7 @@ use Rattle.macho_model.specs.Fields.{Field, fields_of}
 use Rattle.macho_model.specs.Fixups.{has_room}
 use Rattle.macho_model.specs.Placement.{Placed, IsWholeList, id_of}
 use Rattle.macho_model.specs.Addresses.{address_of}
-use Rattle.macho_model.specs.Values.{needs_fixup, no_choice, IsNotEncodable}
+use Rattle.macho_model.specs.Values.{needs_fixup, IsNotEncodable}
 use Rattle.macho_fixups.specs.declared.run.Fixup.{Fixup}
 use Rattle.macho_fixups.specs.declared.run.FixupSegment.{FixupSegment}
 use Rattle.macho_fixups.specs.declared.words.FixupKind.TheVariants.{Rebase, Bind}
@@ -99,7 +100,7 @@ slot_has l counts p s can one = elim (cases_Bool (is_import s.target)) [
       let n = slot_number_of l p s whole.slots one in
       let has : HasPlace l s.target = All-contains (HasPlace l) (slots_of l) s.target can.leads.slots (n.0, n.1.0, n.1.1) in
       let x : ℕ = address_of p s.target in
-      let at = is_at l p no_choice s.target whole has moves in
+      let at = is_at l p empty s.target whole has moves in
       let encoded : IsNotEncodable p x → ⊥ = λ bad. can.encoded (site.Slot n.0) (s.target, x, n.1, moves, at, bad) in
       let fits = address_fits l counts p s.target can.placed.placed (memory_ends p can.segments.ends) has in
       let above = address_above l p x can.placed.placed.base fits encoded in
@@ -118,7 +119,7 @@ pointer_has l counts p q f can one there needs = elim (cases_Bool (is_import f.t
       let carried = placed_is_carried l p q whole one in
       let has : HasPlace l f.target = can.leads.pointers (id_of q) f carried there needs in
       let x : ℕ = address_of p f.target in
-      let at = is_at l p no_choice f.target whole has moves in
+      let at = is_at l p empty f.target whole has moves in
       ap has_word (kind_moves l p f.target f.addend moves)
       ∙ rebase_has p ((x + f.addend) % 2 ^ 64)
       (λ bad. can.encoded (site.Field q.file q.section f.relocation) (f, x, (carried, there, refl), needs, moves, at, bad))

@@ -15,16 +15,17 @@ use Rattle.macho_bytes.specs.Layouts.{reading}
 use Rattle.macho_records.specs.Layouts.{segment_command}
 use Rattle.macho_records.specs.Segments.{text_of}
 use Rattle.macho_records.specs.declared.header.SegmentCommand.{SegmentCommand}
+use Rattle.macho_records.specs.declared.constants.TheConstants.{LC_SEGMENT_64}
 use Rattle.macho_model.specs.declared.placed.PlacedSegment.{PlacedSegment}
-use Rattle.macho_model.specs.Commands.{Command}
+use Rattle.macho_model.specs.Commands.{Command, numbered}
 use Rattle.macho_model.specs.Grammar.{EachCommand}
 use Rattle.macho_model.specs.Links.{Link}
 use Rattle.macho_model.specs.Segments.{TEXT, segment_rank}
-use Rattle.macho_model.specs.Placement.{Placed, EachFollows, is_segment_named}
+use Rattle.macho_model.specs.Placement.{Placed, is_segment_named, Follows}
 use Rattle.macho_model.specs.Images.{segments_of, is_named}
 use Rattle.macho_model.specs.LoadRules.{segment_in, begins_behind}
-use Rattle.macho_model.specs.Loader.{segment_commands, EachNeighbour}
 use Rattle.macho_model.specs.Head.{segment_for}
+use Rattle.macho_model.specs.Lists.{EachNext}
 use Rattle.macho_commands.proofs.Told.{segment_taken}
 
 -- the record of a placed segment
@@ -43,36 +44,36 @@ pub are-of : (b : List ℕ) (p : Placed) → segments_of b ≡ map segment_taken
 are-of b p told = told ∙ records-are p p.segments
 
 -- segment number k: how its command's record is that of the placed one
-record-at : (b : List ℕ) (p : Placed) (k : ℕ) (c : Command) (s : PlacedSegment) → AreOf b p → k < length (segment_commands b)
-    → get_or (segment_commands b) k c ≡ c
+record-at : (b : List ℕ) (p : Placed) (k : ℕ) (c : Command) (s : PlacedSegment) → AreOf b p
+    → k < length (numbered LC_SEGMENT_64 b) → get_or (numbered LC_SEGMENT_64 b) k c ≡ c
     → segment_in b c ≡ record_for p (get_or p.segments k s)
 unfolding segments_of
 record-at b p k c s are lt at_k =
     let f : Command → SegmentCommand = λ d. reading segment_command b d.at in
-    let count : length (segment_commands b) ≡ length p.segments =
-    sym (length-map (segment_commands b) f) ∙ ap length are ∙ length-map p.segments (record_for p) in
-    sym (get_or-map f (segment_commands b) k c (f c) lt ∙ ap f at_k)
+    let count : length (numbered LC_SEGMENT_64 b) ≡ length p.segments =
+    sym (length-map (numbered LC_SEGMENT_64 b) f) ∙ ap length are ∙ length-map p.segments (record_for p) in
+    sym (get_or-map f (numbered LC_SEGMENT_64 b) k c (f c) lt ∙ ap f at_k)
     ∙ ap (λ (rs : List SegmentCommand). get_or rs k (f c)) are
     ∙ get_or-map (record_for p) p.segments k s (f c) (omega (arith, count))
 
-length-segments : (b : List ℕ) (p : Placed) → AreOf b p → length (segment_commands b) ≡ length p.segments
+length-segments : (b : List ℕ) (p : Placed) → AreOf b p → length (numbered LC_SEGMENT_64 b) ≡ length p.segments
 unfolding segments_of
 length-segments b p are =
     let f : Command → SegmentCommand = λ d. reading segment_command b d.at in
-    sym (length-map (segment_commands b) f) ∙ ap length are ∙ length-map p.segments (record_for p)
+    sym (length-map (numbered LC_SEGMENT_64 b) f) ∙ ap length are ∙ length-map p.segments (record_for p)
 
 -- a test of each segment's command is one of each placed segment
 pub each_tested : (b : List ℕ) (p : Placed) (s : PlacedSegment) (test : SegmentCommand → Bool) → AreOf b p
     → All (λ q. test (record_for p q) ≡ true) p.segments
-    → EachCommand (segment_commands b) (λ c. test (segment_in b c))
+    → EachCommand (numbered LC_SEGMENT_64 b) (λ c. test (segment_in b c))
 each_tested b p s test are each k d lt =
-    let c : Command = get_or (segment_commands b) k d in
-    let at_k : get_or (segment_commands b) k c ≡ c = sym (get_or_default (segment_commands b) k d c lt) in
+    let c : Command = get_or (numbered LC_SEGMENT_64 b) k d in
+    let at_k : get_or (numbered LC_SEGMENT_64 b) k c ≡ c = sym (get_or_default (numbered LC_SEGMENT_64 b) k d c lt) in
     ap test (record-at b p k c s are lt at_k) ∙ each k s (omega (arith, length-segments b p are))
 
 -- neighbours stand one behind the other
-pub neighbours_follow : (l : Link) (b : List ℕ) (p : Placed) (s : PlacedSegment) → AreOf b p → EachFollows l p.segments
-    → EachNeighbour (segment_commands b) (begins_behind b)
+pub neighbours_follow : (l : Link) (b : List ℕ) (p : Placed) (s : PlacedSegment) → AreOf b p → EachNext (Follows l) p.segments
+    → EachNext (λ c d. begins_behind b c d ≡ true) (numbered LC_SEGMENT_64 b)
 neighbours_follow l b p s are follow k c d at_k at_next =
     let count = length-segments b p are in
     let one : PlacedSegment = get_or p.segments k s in
@@ -98,11 +99,11 @@ abbrev Rises : Link → List PlacedSegment → Type 0
 Rises l [] = Unit {0}
 Rises l (s ∷ segments) = All (λ t. rank l s < rank l t) segments × Rises l segments
 
-follows_rise : (l : Link) (segments : List PlacedSegment) → EachFollows l segments → Rises l segments
+follows_rise : (l : Link) (segments : List PlacedSegment) → EachNext (Follows l) segments → Rises l segments
 follows_rise l [] follow = tt
 follows_rise l (s ∷ []) follow = (All-nil (λ t. rank l s < rank l t), tt)
 follows_rise l (s ∷ t ∷ segments) follow =
-    let later : EachFollows l (t ∷ segments) = λ k x y at_k at_next.
+    let later : EachNext (Follows l) (t ∷ segments) = λ k x y at_k at_next.
     let more : suc k + 1 ≡ suc (k + 1) = omega arith in
     let here : suc k < length (s ∷ t ∷ segments) = omega (arith, at_k.0) in
     let behind : suc k + 1 < length (s ∷ t ∷ segments) = omega (arith, at_next.0) in
@@ -147,7 +148,7 @@ one_named l (t ∷ segments) rises (suc k) s lt at_k named =
     by rest one above true e = absurd (omega (arith, text_rank l t e, one, above))
     by rest one above false e = rw e rest
 
-pub one_text : (l : Link) (p : Placed) (s : PlacedSegment) → EachFollows l p.segments → Contains p.segments s
+pub one_text : (l : Link) (p : Placed) (s : PlacedSegment) → EachNext (Follows l) p.segments → Contains p.segments s
     → is_segment_named TEXT s ≡ true
     → length (filter (is_segment_named TEXT) p.segments) ≡ 1
 one_text l p s follow there named = one_named l p.segments (follows_rise l p.segments follow) there.0 s there.1 there.2 named

@@ -16,9 +16,9 @@ use Rattle.macho_model.specs.declared.placed.Slot.{Slot}
 use Rattle.macho_model.specs.declared.placed.Stub.{Stub}
 use Rattle.macho_model.specs.Links.{Link}
 use Rattle.macho_model.specs.Placement.{Placed, Span, AreApart, IsPlaced, section_span, slot_span, stub_span}
-use Rattle.macho_model.specs.WrittenSum.{SLOT_SIZE}
 use Rattle.macho_model.specs.Addresses.{offset_in_file}
 use Rattle.macho_model.specs.Zeros.{in_file, filled_sections}
+use Rattle.macho_model.specs.Needs.{POINTER_SIZE}
 use Rattle.macho_fixups.specs.declared.run.Fixup.{Fixup}
 use Rattle.macho_lists.proofs.Orders.{EachLater, later_pairs}
 use Rattle.macho_promise.specs.Promise.{IsLaidOut}
@@ -117,7 +117,7 @@ slots_end l counts p n g =
         (here (each 0 (in_file p (slot_span s)) (omega arith)))
         (low slots (λ k d lt. each (suc k) d (omega arith)))
       where
-        here : EndsInFile p (in_file p (slot_span s)) → offset_in_file p s.address + SLOT_SIZE ≤ n
+        here : EndsInFile p (in_file p (slot_span s)) → offset_in_file p s.address + POINTER_SIZE ≤ n
         here (inl none) = absurd (omega (arith, none))
         here (inr inside) = omega (arith, inside, g.size)
 

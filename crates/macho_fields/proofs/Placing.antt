@@ -3,6 +3,7 @@
 -- A thing that is placed has one address, and the look-ups tell it. So a target in its place is where the look-ups say, and
 -- nowhere else; a slot and a stub likewise.
 use Rattle.std.proofs.Common.{◌≡◌, ℕ, ◌+◌, true, false, refl, sym, ap, subst, ◌∙◌, arith}
+use Rattle.std.specs.FinMap.{empty}
 use Rattle.macho_model.specs.declared.targets.Target.{Target}
 use Rattle.macho_model.specs.declared.targets.Target.TheVariants as target
 use Rattle.macho_model.specs.Links.{Link}
@@ -11,7 +12,6 @@ use Rattle.macho_model.specs.Rows.{is_none}
 use Rattle.macho_model.specs.Placement.{Placed}
 use Rattle.macho_model.specs.Addresses.{section_address, common_address, slot_address, address_of}
 use Rattle.macho_model.specs.Stands.{IsAt, SlotAt, StubAt, CallIsAt, LoadIsAt}
-use Rattle.macho_model.specs.Values.{no_choice}
 use Rattle.macho_model.proofs.EachBelow.{true_or_false}
 use Rattle.macho_fields.specs.Looks.{Look, TellsAddresses, IsThere, HasSlot, HasStub, IsPlacedOnce, stub_address}
 use Rattle.macho_fields.specs.steps.Fields.{address_in, call_in, load_in}
@@ -28,7 +28,7 @@ address_told p look target.None tells = refl
 
 -- a target is at that address
 pub stands_at : (l : Link) (p : Placed) (t : Target) → IsPlacedOnce p → IsThere p t → is_import t ≡ false → is_none t ≡ false
-    → IsAt l p 0 no_choice t (address_of p t)
+    → IsAt l p 0 empty t (address_of p t)
 stands_at l p (target.Section file section offset) once there own some = (
   section_address p file section,
   (
@@ -49,7 +49,7 @@ stands_at l p (target.Absolute value) once there own some = refl
 stands_at l p target.None once there own some = absurd (true_or_false true refl some)
 
 -- and nowhere else
-pub stands_only : (l : Link) (p : Placed) (t : Target) (x : ℕ) → IsPlacedOnce p → is_import t ≡ false → IsAt l p 0 no_choice t x
+pub stands_only : (l : Link) (p : Placed) (t : Target) (x : ℕ) → IsPlacedOnce p → is_import t ≡ false → IsAt l p 0 empty t x
     → x ≡ address_of p t
 stands_only l p (target.Section file section offset) x once own h =
     let q = h.1 in
@@ -72,10 +72,10 @@ defined_is target.Base moves = (refl, refl)
 defined_is (target.Absolute value) moves = absurd (true_or_false false moves refl)
 defined_is target.None moves = absurd (true_or_false false moves refl)
 
-pub in_image_at : (l : Link) (p : Placed) (t : Target) → IsPlacedOnce p → IsInImage p t → IsAt l p 0 no_choice t (address_of p t)
+pub in_image_at : (l : Link) (p : Placed) (t : Target) → IsPlacedOnce p → IsInImage p t → IsAt l p 0 empty t (address_of p t)
 in_image_at l p t once h = let d = defined_is t h.defined in stands_at l p t once h.there d.0 d.1
 
-pub in_image_only : (l : Link) (p : Placed) (t : Target) (x : ℕ) → IsPlacedOnce p → IsInImage p t → IsAt l p 0 no_choice t x
+pub in_image_only : (l : Link) (p : Placed) (t : Target) (x : ℕ) → IsPlacedOnce p → IsInImage p t → IsAt l p 0 empty t x
     → x ≡ address_of p t
 in_image_only l p t x once h at = stands_only l p t x once (defined_is t h.defined).0 at
 
@@ -104,11 +104,11 @@ stub_at p id once h =
 
 -- The same by the look-ups: what moves with the image.
 pub image_looked : (l : Link) (p : Placed) (look : Look) (t : Target) → TellsAddresses p look → IsPlacedOnce p → IsInImage p t
-    → IsAt l p 0 no_choice t (address_in look t)
-image_looked l p look t tells once h = subst (IsAt l p 0 no_choice t) (sym (address_told p look t tells)) (in_image_at l p t once h)
+    → IsAt l p 0 empty t (address_in look t)
+image_looked l p look t tells once h = subst (IsAt l p 0 empty t) (sym (address_told p look t tells)) (in_image_at l p t once h)
 
 pub image_only : (l : Link) (p : Placed) (look : Look) (t : Target) (x : ℕ) → TellsAddresses p look → IsPlacedOnce p → IsInImage p t
-    → IsAt l p 0 no_choice t x → x ≡ address_in look t
+    → IsAt l p 0 empty t x → x ≡ address_in look t
 image_only l p look t x tells once h at = in_image_only l p t x once h at ∙ sym (address_told p look t tells)
 
 -- a slot
@@ -121,7 +121,7 @@ pub slot_looked_only : (p : Placed) (look : Look) (t : Target) (x : ℕ) → Tel
 slot_looked_only p look t x tells once h = slot_only p t x once h ∙ sym (tells.slots t)
 
 -- what is called
-call_direct : (l : Link) (p : Placed) (t : Target) (x : ℕ) → is_import t ≡ false → IsAt l p 0 no_choice t x → CallIsAt l p 0 no_choice t x
+call_direct : (l : Link) (p : Placed) (t : Target) (x : ℕ) → is_import t ≡ false → IsAt l p 0 empty t x → CallIsAt l p 0 empty t x
 call_direct l p (target.Section file section offset) x own h = h
 call_direct l p (target.Common id) x own h = h
 call_direct l p (target.Import id) x own h = absurd (true_or_false true refl own)
@@ -129,7 +129,7 @@ call_direct l p target.Base x own h = h
 call_direct l p (target.Absolute value) x own h = h
 call_direct l p target.None x own h = h
 
-direct_call : (l : Link) (p : Placed) (t : Target) (x : ℕ) → is_import t ≡ false → CallIsAt l p 0 no_choice t x → IsAt l p 0 no_choice t x
+direct_call : (l : Link) (p : Placed) (t : Target) (x : ℕ) → is_import t ≡ false → CallIsAt l p 0 empty t x → IsAt l p 0 empty t x
 direct_call l p (target.Section file section offset) x own h = h
 direct_call l p (target.Common id) x own h = h
 direct_call l p (target.Import id) x own h = absurd (true_or_false true refl own)
@@ -146,7 +146,7 @@ call_in_direct look (target.Absolute value) own = refl
 call_in_direct look target.None own = refl
 
 stub_call : (l : Link) (p : Placed) (look : Look) (t : Target) → TellsAddresses p look → IsPlacedOnce p → is_import t ≡ true → HasStub p t
-    → CallIsAt l p 0 no_choice t (call_in look t)
+    → CallIsAt l p 0 empty t (call_in look t)
 stub_call l p look (target.Import id) tells once moves h = subst (StubAt p 0 id) (sym (tells.stubs id)) (stub_at p id once h)
 stub_call l p look (target.Section file section offset) tells once moves h = absurd (true_or_false false moves refl)
 stub_call l p look (target.Common id) tells once moves h = absurd (true_or_false false moves refl)
@@ -155,7 +155,7 @@ stub_call l p look (target.Absolute value) tells once moves h = absurd (true_or_
 stub_call l p look target.None tells once moves h = absurd (true_or_false false moves refl)
 
 stub_call_only : (l : Link) (p : Placed) (look : Look) (t : Target) (x : ℕ) → TellsAddresses p look → IsPlacedOnce p → is_import t ≡ true
-    → CallIsAt l p 0 no_choice t x → x ≡ call_in look t
+    → CallIsAt l p 0 empty t x → x ≡ call_in look t
 stub_call_only l p look (target.Import id) x tells once moves h = stub_only p id x once h ∙ sym (tells.stubs id)
 stub_call_only l p look (target.Section file section offset) x tells once moves h = absurd (true_or_false false moves refl)
 stub_call_only l p look (target.Common id) x tells once moves h = absurd (true_or_false false moves refl)
@@ -164,22 +164,22 @@ stub_call_only l p look (target.Absolute value) x tells once moves h = absurd (t
 stub_call_only l p look target.None x tells once moves h = absurd (true_or_false false moves refl)
 
 pub call_looked : (l : Link) (p : Placed) (look : Look) (t : Target) → TellsAddresses p look → IsPlacedOnce p → IsCallable p t
-    → CallIsAt l p 0 no_choice t (call_in look t)
+    → CallIsAt l p 0 empty t (call_in look t)
 call_looked l p look t tells once (direct h) =
     let own = (defined_is t h.defined).0 in
-    subst (CallIsAt l p 0 no_choice t) (sym (call_in_direct look t own))
+    subst (CallIsAt l p 0 empty t) (sym (call_in_direct look t own))
     (call_direct l p t (address_in look t) own (image_looked l p look t tells once h))
 call_looked l p look t tells once (by_stub moves h) = stub_call l p look t tells once moves h
 
 pub call_only : (l : Link) (p : Placed) (look : Look) (t : Target) (x : ℕ) → TellsAddresses p look → IsPlacedOnce p → IsCallable p t
-    → CallIsAt l p 0 no_choice t x → x ≡ call_in look t
+    → CallIsAt l p 0 empty t x → x ≡ call_in look t
 call_only l p look t x tells once (direct h) at =
     let own = (defined_is t h.defined).0 in
     image_only l p look t x tells once h (direct_call l p t x own at) ∙ sym (call_in_direct look t own)
 call_only l p look t x tells once (by_stub moves h) at = stub_call_only l p look t x tells once moves at
 
 -- what is loaded
-load_direct : (l : Link) (p : Placed) (t : Target) (x : ℕ) → is_defined t ≡ true → IsAt l p 0 no_choice t x → LoadIsAt l p 0 no_choice t x
+load_direct : (l : Link) (p : Placed) (t : Target) (x : ℕ) → is_defined t ≡ true → IsAt l p 0 empty t x → LoadIsAt l p 0 empty t x
 load_direct l p (target.Section file section offset) x moves h = h
 load_direct l p (target.Common id) x moves h = h
 load_direct l p (target.Import id) x moves h = absurd (true_or_false false moves refl)
@@ -187,7 +187,7 @@ load_direct l p target.Base x moves h = h
 load_direct l p (target.Absolute value) x moves h = absurd (true_or_false false moves refl)
 load_direct l p target.None x moves h = h
 
-direct_load : (l : Link) (p : Placed) (t : Target) (x : ℕ) → is_defined t ≡ true → LoadIsAt l p 0 no_choice t x → IsAt l p 0 no_choice t x
+direct_load : (l : Link) (p : Placed) (t : Target) (x : ℕ) → is_defined t ≡ true → LoadIsAt l p 0 empty t x → IsAt l p 0 empty t x
 direct_load l p (target.Section file section offset) x moves h = h
 direct_load l p (target.Common id) x moves h = h
 direct_load l p (target.Import id) x moves h = absurd (true_or_false false moves refl)
@@ -211,7 +211,7 @@ load_in_slot look target.Base moves = absurd (true_or_false false moves refl)
 load_in_slot look (target.Absolute value) moves = absurd (true_or_false false moves refl)
 load_in_slot look target.None moves = absurd (true_or_false false moves refl)
 
-load_slot : (l : Link) (p : Placed) (t : Target) (x : ℕ) → is_import t ≡ true → SlotAt p 0 t x → LoadIsAt l p 0 no_choice t x
+load_slot : (l : Link) (p : Placed) (t : Target) (x : ℕ) → is_import t ≡ true → SlotAt p 0 t x → LoadIsAt l p 0 empty t x
 load_slot l p (target.Import id) x moves h = h
 load_slot l p (target.Section file section offset) x moves h = absurd (true_or_false false moves refl)
 load_slot l p (target.Common id) x moves h = absurd (true_or_false false moves refl)
@@ -219,7 +219,7 @@ load_slot l p target.Base x moves h = absurd (true_or_false false moves refl)
 load_slot l p (target.Absolute value) x moves h = absurd (true_or_false false moves refl)
 load_slot l p target.None x moves h = absurd (true_or_false false moves refl)
 
-slot_load : (l : Link) (p : Placed) (t : Target) (x : ℕ) → is_import t ≡ true → LoadIsAt l p 0 no_choice t x → SlotAt p 0 t x
+slot_load : (l : Link) (p : Placed) (t : Target) (x : ℕ) → is_import t ≡ true → LoadIsAt l p 0 empty t x → SlotAt p 0 t x
 slot_load l p (target.Import id) x moves h = h
 slot_load l p (target.Section file section offset) x moves h = absurd (true_or_false false moves refl)
 slot_load l p (target.Common id) x moves h = absurd (true_or_false false moves refl)
@@ -228,16 +228,16 @@ slot_load l p (target.Absolute value) x moves h = absurd (true_or_false false mo
 slot_load l p target.None x moves h = absurd (true_or_false false moves refl)
 
 pub load_looked : (l : Link) (p : Placed) (look : Look) (t : Target) → TellsAddresses p look → IsPlacedOnce p → IsLoadable p t
-    → LoadIsAt l p 0 no_choice t (load_in look t)
+    → LoadIsAt l p 0 empty t (load_in look t)
 load_looked l p look t tells once (direct h) =
-    subst (LoadIsAt l p 0 no_choice t) (sym (load_in_direct look t (defined_is t h.defined).0))
+    subst (LoadIsAt l p 0 empty t) (sym (load_in_direct look t (defined_is t h.defined).0))
     (load_direct l p t (address_in look t) h.defined (image_looked l p look t tells once h))
 load_looked l p look t tells once (by_slot moves h) =
-    subst (LoadIsAt l p 0 no_choice t) (sym (load_in_slot look t moves))
+    subst (LoadIsAt l p 0 empty t) (sym (load_in_slot look t moves))
     (load_slot l p t (look.slot t) moves (slot_looked p look t tells once h))
 
 pub load_only : (l : Link) (p : Placed) (look : Look) (t : Target) (x : ℕ) → TellsAddresses p look → IsPlacedOnce p → IsLoadable p t
-    → LoadIsAt l p 0 no_choice t x → x ≡ load_in look t
+    → LoadIsAt l p 0 empty t x → x ≡ load_in look t
 load_only l p look t x tells once (direct h) at =
     image_only l p look t x tells once h (direct_load l p t x h.defined at) ∙ sym (load_in_direct look t (defined_is t h.defined).0)
 load_only l p look t x tells once (by_slot moves h) at =

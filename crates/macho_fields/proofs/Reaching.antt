@@ -4,6 +4,7 @@
 -- target is nowhere but where the look-ups say. A pointer always fits its 8 bytes. The load of a slot always fits, since a
 -- slot stands at a multiple of 8, and so does the ADD that is made of one.
 use Rattle.std.proofs.Common.{◌≡◌, ℕ, ◌+◌, ◌%◌, ◌≤◌, ◌==◌, ◌||◌, true, false, Bool, List, Option, Some, None, refl, sym, ap, subst, ◌∙◌, arith, inl, inr, ◌⊎◌, length, Contains}
+use Rattle.std.specs.FinMap.{empty}
 use Rattle.macho_bytes.specs.Numbers.{le_at, page, low}
 use Rattle.macho_model.specs.declared.placed.PlacedSection.{PlacedSection}
 use Rattle.macho_model.specs.declared.placed.Slot.{Slot}
@@ -16,7 +17,7 @@ use Rattle.macho_model.specs.Meaning.{address}
 use Rattle.macho_model.specs.Placement.{Placed, id_of}
 use Rattle.macho_model.specs.Addresses.{slot_address}
 use Rattle.macho_model.specs.Stands.{Kind, Pointer, Difference, Branch, Page, Offset, SlotPage, SlotOffset, SlotDistance, NoKind, SubtrahendIsAt}
-use Rattle.macho_model.specs.Values.{no_choice, less, DoesNotFit, branch_reaches, page_reaches, offset_fits, fits_signed}
+use Rattle.macho_model.specs.Values.{less, DoesNotFit, branch_reaches, page_reaches, offset_fits, fits_signed}
 use Rattle.macho_model.proofs.EachBelow.{true_or_false}
 use Rattle.macho_arm64.specs.declared.kinds.FieldSize.TheVariants.{Bytes, Adr, JumpCall, Low12}
 use Rattle.macho_arm64.specs.Fields.{fits_word, can_hold}
@@ -34,7 +35,7 @@ use Rattle.macho_fields.proofs.Saying.{subtracted_at, import_stays, other_goes}
 
 subtracted_only : (l : Link) (p : Placed) (look : Look) (t : Option Target) (y : ℕ) → TellsAddresses p look → IsPlacedOnce p
     → IsSubtracted p t
-    → SubtrahendIsAt l p 0 no_choice t y → y ≡ minus_in look t
+    → SubtrahendIsAt l p 0 empty t y → y ≡ minus_in look t
 subtracted_only l p look None y tells once h at = absurd h
 subtracted_only l p look (Some t) y tells once h at = image_only l p look t y tells once h at
 

@@ -4,6 +4,7 @@
 -- where the target is. The field holds it, and the rest of its word is the input's, or the ADD's that was made of it. So
 -- the laws of fields say what the word means.
 use Rattle.std.proofs.Common.{◌≡◌, ℕ, ◌+◌, ◌^◌, ◌<◌, true, false, Bool, List, Option, Some, None, refl, sym, ap, subst, ◌∙◌, arith}
+use Rattle.std.specs.FinMap.{empty}
 use Rattle.macho_bytes.specs.Numbers.{le_at, page, low}
 use Rattle.macho_model.specs.declared.placed.PlacedSection.{PlacedSection}
 use Rattle.macho_model.specs.declared.placed.Range64.{Range64}
@@ -16,7 +17,7 @@ use Rattle.macho_model.specs.Fields.{Field}
 use Rattle.macho_model.specs.Meaning.{Same, address, IsDistance}
 use Rattle.macho_model.specs.Placement.{Placed, id_of}
 use Rattle.macho_model.specs.Stands.{IsAt, Kind, Pointer, Difference, Branch, Page, Offset, SlotPage, SlotOffset, SlotDistance, NoKind, PointerSays, LoadSays, SubtrahendIsAt, Says, Seen, is_template_offset}
-use Rattle.macho_model.specs.Values.{no_choice, less}
+use Rattle.macho_model.specs.Values.{less}
 use Rattle.macho_model.proofs.EachBelow.{true_or_false}
 use Rattle.macho_arm64.specs.declared.kinds.FieldSize.{FieldSize}
 use Rattle.macho_arm64.specs.declared.kinds.FieldSize.TheVariants.{Bytes, Adr, JumpCall, Low12}
@@ -54,7 +55,7 @@ held size w o v mid old new input four same still h =
     subst (λ (k : ℕ). Holds size k (le_at w new o) v) from (subst (λ (n : ℕ). Holds size (le_at 4 mid o) (le_at n new o) v) (sym four) h)
 
 pub subtracted_at : (l : Link) (p : Placed) (look : Look) (t : Option Target) → TellsAddresses p look → IsPlacedOnce p → IsSubtracted p t
-    → SubtrahendIsAt l p 0 no_choice t (minus_in look t)
+    → SubtrahendIsAt l p 0 empty t (minus_in look t)
 subtracted_at l p look None tells once h = h
 subtracted_at l p look (Some t) tells once h = image_looked l p look t tells once h
 
@@ -70,7 +71,7 @@ load_says : (l : Link) (p : Placed) (look : Look) (t : Target) (input mid word :
     → is_ldr input ≡ true
     → (is_import t ≡ true → mid ≡ input) → (is_import t ≡ false → IsMadeAdd input mid)
     → Holds Low12 mid word (low (address (load_in look t)))
-    → IsLoadable p t → LoadSays l p 0 no_choice t word input
+    → IsLoadable p t → LoadSays l p 0 empty t word input
 load_says l p look (target.Import id) input mid word tells once load kept made h (by_slot moves slot) = (
   look.slot (target.Import id),
   slot_looked p look (target.Import id) tells once slot,
@@ -136,10 +137,10 @@ pub says_by_kind : (l : Link) (p : Placed) (look : Look) (q : PlacedSection) (f 
     → TellsAddresses p look → IsPlacedOnce p → place_in q f < 2 ^ 64 → KindFits p f input kind
     → (kind ≡ Pointer → (is_import f.target ≡ false) × IsStart (is_template_offset l (id_of q) f) p.template start)
     → le_at f.width old f.offset ≡ input → IsPut (write_in look (place_in q f) start f kind) old new
-    → Says l p 0 no_choice (id_of q) f (seen_as q f new input) kind
+    → Says l p 0 empty (id_of q) f (seen_as q f new input) kind
 says_by_kind l p look q f start input old new Pointer tells once below fits begins still put =
     let own = begins refl in
-    let at = subst (IsAt l p 0 no_choice f.target) (sym (address_told p look f.target tells))
+    let at = subst (IsAt l p 0 empty f.target) (sym (address_told p look f.target tells))
     (stands_at l p f.target once fits.2 own.0 fits.1) in
     let word = le_at f.width new f.offset in
     let value = less (address_in look f.target + f.addend) start in

@@ -17,7 +17,7 @@ use Rattle.macho_structs.specs.declared.fixups.ChainedStartsInSegment.{ChainedSt
 use Rattle.macho_records.specs.declared.header.SegmentCommand.{SegmentCommand}
 use Rattle.macho_model.specs.Images.{Table, IMPORT_FORMAT, IMPORT_ADDEND_FORMAT, CHAIN_PAGE, fixups_header, import_entry_size}
 use Rattle.macho_model.specs.Images.{starts_place, starts_count, starts_offset, segment_starts, segments_of, base_of}
-use Rattle.macho_model.specs.LoadRules.{POINTER_FORMAT, starts_fit, starts_all_fit, header_known, parts_inside, table_fits}
+use Rattle.macho_model.specs.LoadRules.{starts_fit, starts_all_fit, header_known, parts_inside, table_fits}
 use Rattle.macho_fixups.specs.declared.run.Fixup.{Fixup}
 use Rattle.macho_fixups.specs.declared.run.FixupSegment.{FixupSegment}
 use Rattle.macho_fixups.specs.declared.imports.ImportEntry.{ImportEntry}
@@ -143,7 +143,7 @@ segment_taken base at fixups segments b t k h fits header begins is_at offsets t
         at_most _ _ (omega (arith, starts, told.offset, end, room, count)) in
         let paged : ((segment_starts b t k).page_size == CHAIN_PAGE) ≡ true = same _ _
         (ap (λ (r : ChainedStartsInSegment). r.page_size) told.is) in
-        let formatted : ((segment_starts b t k).pointer_format == POINTER_FORMAT) ≡ true =
+        let formatted : ((segment_starts b t k).pointer_format == 6) ≡ true =
         same _ _ (ap (λ (r : ChainedStartsInSegment). r.pointer_format) told.is) in
         let placed : (((segment_starts b t k).segment_offset + base_of b) % 2 ^ 64
         == get_or (map (λ (c : SegmentCommand). c.vmaddr) (segments_of b)) k 0) ≡ true =

@@ -16,9 +16,9 @@ use Rattle.macho_structs.specs.Layouts.{dylib_command}
 use Rattle.macho_records.specs.declared.constants.TheConstants.{LC_ID_DYLIB}
 use Rattle.macho_lists.proofs.Members.{all_contains, contains_all, contains_first, contains_later, filter_contains, map_contains}
 use Rattle.macho_lists.proofs.Members.{enumerate_contains}
-use Rattle.macho_model.specs.Lists.{IsNumber}
-use Rattle.macho_model.specs.Commands.{Command, numbered}
-use Rattle.macho_model.specs.Objects.{num_symbols, symbol_at, symbol_name, strings_of, first_path, install_name_of}
+use Rattle.macho_model.specs.Lists.{IsNumber, of_first}
+use Rattle.macho_model.specs.Commands.{Command, numbered, path_of}
+use Rattle.macho_model.specs.Objects.{num_symbols, symbol_at, symbol_name, strings_of, install_name_of}
 use Rattle.macho_model.specs.Links.{Link, Input, Object, Dylib, Stub}
 use Rattle.macho_model.specs.Resolution.{SymbolId, Definition, Symbol, Library, ImageBase, strong_of, weak_of, greatest_of}
 use Rattle.macho_model.specs.Resolution.{is_offered_symbol, offers, libraries_with, first_or, definition_of, DSO_HANDLE}
@@ -125,7 +125,9 @@ pub imports_tellable : ImportsAreTellable
 imports_tellable l plain few = record { plain = imports_plain l plain; libraries_few = few }
 
 -- an install name is whole
-path_whole : (b : List ℕ) (cs : List Command) → name_of (first_path b cs) ≡ first_path b cs
+path_whole : (b : List ℕ) (cs : List Command)
+    → name_of (of_first [] (λ (c : Command). path_of b c (reading dylib_command b c.at).name_offset) cs)
+    ≡ of_first [] (λ (c : Command). path_of b c (reading dylib_command b c.at).name_offset) cs
 path_whole b [] = refl
 path_whole b (c ∷ cs) = name_of-name (slice_range b (c.at + (reading dylib_command b c.at).name_offset) (c.at + c.size))
 

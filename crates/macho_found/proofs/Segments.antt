@@ -14,7 +14,8 @@ use Rattle.macho_model.specs.Links.{Link}
 use Rattle.macho_model.specs.Images.{CHAIN_PAGE}
 use Rattle.macho_model.specs.Segments.{base_of_link, PAGEZERO_SIZE}
 use Rattle.macho_model.specs.WrittenSum.{written_sum_of}
-use Rattle.macho_model.specs.Placement.{Placed, IsPlaced, EachFollows}
+use Rattle.macho_model.specs.Placement.{Placed, IsPlaced, Follows}
+use Rattle.macho_model.specs.Lists.{EachNext}
 use Rattle.macho_fixups.specs.declared.run.Fixup.{Fixup}
 use Rattle.macho_fixups.specs.declared.run.FixupSegment.{FixupSegment}
 use Rattle.macho_fixups.specs.Runs.{Holds}
@@ -61,7 +62,7 @@ Rises s t = (s.address + s.size ≤ t.address) × (s.file_offset + s.file_size �
 chained : (s t u : PlacedSegment) → Rises s t → Rises t u → Rises s u
 chained s t u first second = (omega (arith, first.0, second.0), omega (arith, first.1, second.1))
 
-rising : (l : Link) (segments : List PlacedSegment) → EachFollows l segments → AllPairs Rises segments
+rising : (l : Link) (segments : List PlacedSegment) → EachNext (Follows l) segments → AllPairs Rises segments
 rising l segments follow =
     later_all Rises segments
     (each_later Rises chained segments

@@ -1,7 +1,6 @@
 -- The names of imports and of libraries hold no NUL.
 use Rattle.std.specs.Prelude.{◌≢◌, ℕ, ◌≤◌, List, length, All}
 use Rattle.macho_model.specs.Lists.{IsNumber}
-use Rattle.macho_model.specs.Limits.{GREATEST_LIBRARIES}
 use Rattle.macho_model.specs.Links.{Link, StubReading, Stub}
 use Rattle.macho_model.specs.Needs.{imports_of, libraries_needed}
 use Rattle.macho_agreement.specs.Laws.{NamesAreWhole}
@@ -26,7 +25,7 @@ ImportsArePlain = (l : Link) → StubsArePlain l → All IsPlain (imports_of l)
 
 -- so a table can tell the imports, as there are few enough libraries
 abbrev pub ImportsAreTellable : Type 0
-ImportsAreTellable = (l : Link) → StubsArePlain l → length (libraries_needed l) ≤ GREATEST_LIBRARIES → AreTellable l
+ImportsAreTellable = (l : Link) → StubsArePlain l → length (libraries_needed l) ≤ 240 → AreTellable l
 
 -- and load commands can tell the libraries
 abbrev pub LibrariesAreWhole : Type 0

@@ -8,7 +8,7 @@ use Rattle.macho_model.specs.Links.{Link}
 use Rattle.macho_model.specs.Placement.{Placed}
 use Rattle.macho_model.specs.Fixups.{import_entries_of}
 use Rattle.macho_model.specs.Images.{import_entry_size}
-use Rattle.macho_model.specs.Limits.{PassesLimit, GREATEST_IMPORTS}
+use Rattle.macho_model.specs.Limits.{PassesLimit}
 use Rattle.macho_fixups.specs.declared.run.Fixup.{Fixup}
 use Rattle.macho_fixups.specs.declared.imports.ImportEntry.{ImportEntry}
 use Rattle.macho_fixups.specs.Runs.{AreSegments}
@@ -31,7 +31,7 @@ NoPlaceIsBad l p = (q : PlacedSection) (r : ℕ) → Contains p.sections q → I
 abbrev pub PointersStand : Type 0
 PointersStand =
     (l : Link) (counts : Counts) (p : Placed) → IsSoundlyPlaced l counts p → NoPlaceIsBad l p
-    → length (import_entries_of l) ≤ GREATEST_IMPORTS → PointersFit l p
+    → length (import_entries_of l) ≤ 2 ^ 24 → PointersFit l p
 
 -- the segments rise in memory and in the file, and no address passes 2 ^ 64
 abbrev pub SegmentsRise : Type 0

@@ -5,7 +5,8 @@ use Rattle.macho_model.specs.declared.placed.Slot.{Slot}
 use Rattle.macho_model.specs.declared.placed.Stub.{Stub}
 use Rattle.macho_model.specs.Links.{Link}
 use Rattle.macho_model.specs.Placement.{Placed}
-use Rattle.macho_model.specs.WrittenSum.{SLOT_SIZE, STUB_SIZE}
+use Rattle.macho_model.specs.WrittenSum.{STUB_SIZE}
+use Rattle.macho_model.specs.Needs.{POINTER_SIZE}
 use Rattle.macho_placing.specs.Laws.{IsWhollyPlaced}
 use Rattle.macho_fields.specs.Through.{SlotsAreFound, StubsAreFound}
 use Rattle.macho_found.specs.Premises.{IsSoundlyPlaced}
@@ -27,4 +28,4 @@ StubsFollow =
 abbrev pub SlotsFollow : Type 0
 SlotsFollow =
     (l : Link) (counts : Counts) (p : Placed) → IsWhollyPlaced l counts p → (k : ℕ) (d : Slot) → k < length p.slots
-    → (get_or p.slots k d).address ≡ (get_or p.slots 0 d).address + SLOT_SIZE * k
+    → (get_or p.slots k d).address ≡ (get_or p.slots 0 d).address + POINTER_SIZE * k

@@ -2,7 +2,8 @@
 use Rattle.std.specs.Prelude.{ℕ, ◌+◌, ◌*◌, ◌-◌, ◌/◌, ◌^◌, ◌==◌, ◌≤◌, ◌<◌, nat_lt, not, if◌then◌else◌, Option, Some, None, length, sum_by}
 use Rattle.macho_model.specs.declared.placed.Counts.{Counts}
 use Rattle.macho_model.specs.Segments.{SEGMENT_PAGE, PAGEZERO_SIZE, one_if}
-use Rattle.macho_model.specs.WrittenSum.{SLOT_SIZE, STUB_SIZE, INITIALIZER_SIZE, SYMBOL_SIZE, SIGNED_PAGE, DIGEST_SIZE, TABLES_FIXED, SIGNATURE_FIXED, padding_of}
+use Rattle.macho_model.specs.WrittenSum.{STUB_SIZE, INITIALIZER_SIZE, SYMBOL_SIZE, SIGNED_PAGE, DIGEST_SIZE, SIGNATURE_FIXED, padding_of}
+use Rattle.macho_model.specs.Needs.{POINTER_SIZE}
 use Rattle.macho_layout.specs.Plans.{Planning}
 use Rattle.macho_layout.specs.Names.{segment_count, merged_count}
 use Rattle.macho_layout.specs.Members.{template_align, placed_align}
@@ -26,7 +27,7 @@ output_count p counts =
 
 abbrev pub content_sum : Planning → Counts → ℕ
 content_sum p counts =
-    members_cost p + SLOT_SIZE * length p.slots + STUB_SIZE * length p.stubs + INITIALIZER_SIZE * counts.initializers + counts.unwind
+    members_cost p + POINTER_SIZE * length p.slots + STUB_SIZE * length p.stubs + INITIALIZER_SIZE * counts.initializers + counts.unwind
 
 abbrev pub command_sum : Planning → Counts → ℕ
 command_sum p counts = 72 * segment_count p + 80 * output_count p counts + counts.commands
@@ -34,7 +35,7 @@ command_sum p counts = 72 * segment_count p + 80 * output_count p counts + count
 abbrev pub unsigned_sum : Planning → Counts → ℕ
 unsigned_sum p counts =
     content_sum p counts + 32 + command_sum p counts + counts.padding + counts.trie + SYMBOL_SIZE * counts.symbols + counts.strings
-    + TABLES_FIXED + counts.import_size * counts.imports + counts.name_bytes
+    + 216 + counts.import_size * counts.imports + counts.name_bytes
     + 2 * (content_sum p counts / SEGMENT_PAGE + (length p.sections + length p.commons + 1))
     + 2 * SEGMENT_PAGE * (segment_count p - one_if p.executable)
 

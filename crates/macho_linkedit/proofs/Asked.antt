@@ -14,7 +14,7 @@ use Rattle.macho_model.specs.declared.placed.PlacedSection.{PlacedSection}
 use Rattle.macho_model.specs.Links.{Link, header_at, carried_of}
 use Rattle.macho_model.specs.Fields.{Field, fields_of}
 use Rattle.macho_model.specs.Values.{needs_fixup}
-use Rattle.macho_model.specs.Placement.{Placed, Span, spans_of, spans_with, AreApart, section_span, common_span, slot_span, stub_span, head_span, id_of, IsPlaced}
+use Rattle.macho_model.specs.Placement.{Placed, Span, spans_with, AreApart, section_span, common_span, slot_span, stub_span, head_span, id_of, IsPlaced}
 use Rattle.macho_fixups.specs.declared.run.Fixup.{Fixup}
 use Rattle.macho_parts.specs.Asked.{slot_fixup, field_fixup, fixups_in, fixups_asked}
 use Rattle.macho_linkedit.specs.Runs.{PointersFit, WordsApart, IsWordPlace}
@@ -25,14 +25,14 @@ use Rattle.macho_linkedit.proofs.Pairs.{pairs_front, pairs_back, pairs_tail, pai
 abbrev before_slots : Link → Counts → Placed → List Span
 before_slots l counts p = head_span counts p ∷ map (section_span l) p.sections ++ map (common_span l) p.commons
 
-to_slots : (l : Link) (counts : Counts) (p : Placed) → AllPairs AreApart (spans_of l counts p)
+to_slots : (l : Link) (counts : Counts) (p : Placed) → AllPairs AreApart (spans_with l counts p p.sections)
     → AllPairs AreApart (before_slots l counts p ++ map slot_span p.slots)
 unfolding spans_with
 to_slots l counts p h =
     pairs_front AreApart (before_slots l counts p ++ map slot_span p.slots) (map stub_span p.stubs)
     (pairs_front AreApart (before_slots l counts p ++ map slot_span p.slots ++ map stub_span p.stubs) _ h)
 
-to_sections : (l : Link) (counts : Counts) (p : Placed) → AllPairs AreApart (spans_of l counts p) → AllPairs AreApart
+to_sections : (l : Link) (counts : Counts) (p : Placed) → AllPairs AreApart (spans_with l counts p p.sections) → AllPairs AreApart
     (map (section_span l) p.sections)
 to_sections l counts p h =
     pairs_tail AreApart (head_span counts p) (map (section_span l) p.sections)

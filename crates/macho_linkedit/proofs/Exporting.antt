@@ -4,6 +4,7 @@
 -- as the address less the base, or as the value, with the flags of what it is.
 use Rattle.std.proofs.Common.{◌≡◌, ℕ, ◌+◌, ◌-◌, ◌≤◌, Bool, true, false, if◌then◌else◌, refl, sym, ap, arith}
 use Rattle.std.specs.List.{position_or_len}
+use Rattle.std.specs.FinMap.{empty}
 use Rattle.macho_records.specs.Symbols.{is_weak_of, is_common_of}
 use Rattle.macho_model.specs.declared.targets.Target.{Target}
 use Rattle.macho_model.specs.declared.targets.Target.TheVariants as target
@@ -14,7 +15,7 @@ use Rattle.macho_model.specs.Needs.{imports_of, import_library}
 use Rattle.macho_model.specs.Targets.{place_of_symbol, own_target, definition_target, target_of_name}
 use Rattle.macho_model.specs.Placement.{Placed}
 use Rattle.macho_model.specs.Exports.{Export, Value, Reexport, from_object, from_library, ValueOf, weak_flag, section_flag, library_number}
-use Rattle.macho_model.specs.Values.{is_absolute_target, no_choice}
+use Rattle.macho_model.specs.Values.{is_absolute_target}
 use Rattle.macho_model.specs.Stands.{IsAt}
 use Rattle.macho_promise.specs.TrieSays.{trie_export}
 use Rattle.macho_linkedit.specs.Tries.{said_of, value_said, is_thread_local}
@@ -41,7 +42,7 @@ record IsSaid (l : Link) (p : Placed) (s : SymbolId) (t : Target) (address : ℕ
   value : ValueOf l p (weak_flag l s) t export
   is : said_of (value_said t (is_weak_of (entry_at l s)) (is_thread_local l t) address p.base) ≡ trie_export export
 
-by_target : (l : Link) (p : Placed) (s : SymbolId) (t : Target) (address : ℕ) → own_target l s ≡ t → IsAt l p 0 no_choice t address
+by_target : (l : Link) (p : Placed) (s : SymbolId) (t : Target) (address : ℕ) → own_target l s ≡ t → IsAt l p 0 empty t address
     → (is_absolute_target t ≡ false → p.base ≤ address) → IsSaid l p s t address
 by_target l p s (target.Section file section offset) address is at above =
     let low : p.base ≤ address = above refl in record {

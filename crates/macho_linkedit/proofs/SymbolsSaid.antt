@@ -19,13 +19,14 @@ use Rattle.macho_bytes.proofs.Tables.{table-stands, length-table}
 use Rattle.macho_records.specs.Layouts.{symtab_command, symtab_entry}
 use Rattle.macho_records.specs.declared.symbols.SymtabEntry.{SymtabEntry}
 use Rattle.macho_records.specs.declared.constants.TheConstants.{LC_SYMTAB}
-use Rattle.macho_model.specs.Commands.{Command, numbered, first_place}
+use Rattle.macho_model.specs.Commands.{Command, numbered}
 use Rattle.macho_model.specs.Objects.{symtab_of, num_symbols, symbol_place, symbol_at, strings_of, symbol_name}
 use Rattle.macho_model.specs.Links.{Link, object_of}
 use Rattle.macho_model.specs.Resolution.{SymbolId, name_at}
 use Rattle.macho_model.specs.Images.{Table, symbols_range, strings_range, symbol_tables_of, string_tables_of}
 use Rattle.macho_model.specs.SymbolTable.{table_symbols}
 use Rattle.macho_model.specs.SymbolRows.{SymbolRow, row_of, symbol_rows, row_in, symbol_rows_in, strings_text, string_places, string_places_in}
+use Rattle.macho_model.specs.Lists.{of_first}
 use Rattle.macho_names.proofs.Lists.{map_same}
 use Rattle.macho_linkedit.specs.declared.symbols.SymbolTable.{SymbolTable}
 use Rattle.macho_linkedit.specs.Symbols.{entry_for, entries_from, strings_of_rows, table_text, HasRows, SymbolsStand}
@@ -39,6 +40,10 @@ record IsTold (b : List ℕ) (symbols strings : Table) : Type 0 where
   nsyms : 16 * (symtab_of b).nsyms ≡ symbols.size
   stroff : (symtab_of b).stroff ≡ strings.at
   strsize : (symtab_of b).strsize ≡ strings.size
+
+-- the place of the first of some commands
+abbrev first_place : List Command → ℕ
+first_place cs = of_first 0 (λ (c : Command). c.at) cs
 
 told : (b : List ℕ) (symbols strings : Table) → symbol_tables_of b ≡ symbols ∷ [] → string_tables_of b ≡ strings ∷ []
     → IsTold b symbols strings

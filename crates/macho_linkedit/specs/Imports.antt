@@ -1,6 +1,6 @@
 -- The import table of a link, before it stands in a file: an entry for each import by its number, then those that pointers need
 -- of their own, and the names of the imports (`mach-o/fixup-chains.h`).
-use Rattle.std.specs.Prelude.{◌≡◌, ℕ, ◌+◌, ◌<◌, ◌≤◌, true, ◌≢◌, List, [], ◌∷◌, length, map, get_or, sum_by, All}
+use Rattle.std.specs.Prelude.{◌≡◌, ℕ, ◌+◌, ◌<◌, ◌≤◌, true, ◌≢◌, List, [], ◌∷◌, length, map, get_or, sum_by, All, ◌^◌}
 use Rattle.std.specs.Borrow.{Bor}
 use Rattle.std.specs.Int.{w32, cast_unsigned}
 use Rattle.macho_bytes.specs.Numbers.{signed}
@@ -8,7 +8,6 @@ use Rattle.macho_model.specs.Links.{Link}
 use Rattle.macho_model.specs.Needs.{imports_of, import_library, libraries_needed}
 use Rattle.macho_model.specs.Exports.{library_number}
 use Rattle.macho_model.specs.Values.{fits_signed}
-use Rattle.macho_model.specs.Limits.{GREATEST_LIBRARIES, GREATEST_IMPORTS, GREATEST_NAME_BYTES}
 use Rattle.macho_model.specs.Fixups.{EntryOfImport, own_entries, import_entries_of}
 use Rattle.macho_model.specs.ImportTable.{names_text, name_place, entry_of_link}
 use Rattle.macho_bytes.specs.Texts.{Stands}
@@ -36,9 +35,9 @@ name_bytes imports = sum_by (λ i. length i.name.items + 1) imports
 
 -- The numbers are within the limits of the format, and an own entry is one of an import, with an addend of 32 bits.
 pub record FitTable (imports : List Import) (own : List OwnEntry) (libraries : List (Bor (List ℕ))) : Type 0 where
-  pub libraries_few : length libraries ≤ GREATEST_LIBRARIES
-  pub entries_few : length imports + length own ≤ GREATEST_IMPORTS
-  pub names_short : name_bytes imports ≤ GREATEST_NAME_BYTES
+  pub libraries_few : length libraries ≤ 240
+  pub entries_few : length imports + length own ≤ 2 ^ 24
+  pub names_short : name_bytes imports ≤ 2 ^ 23
   pub among : All (λ o. o.import < length imports) own
   pub addends : All (λ o. fits_signed 32 o.addend ≡ true) own
 
@@ -68,7 +67,7 @@ pub record IsImportTable (l : Link) (format : ℕ) (entries : List ImportEntry) 
 -- The names of imports hold no NUL, and there are few enough libraries that a number of one fits a byte.
 pub record AreTellable (l : Link) : Type 0 where
   pub plain : All (λ name. All (λ c. c ≢ 0) name) (imports_of l)
-  pub libraries_few : length (libraries_needed l) ≤ GREATEST_LIBRARIES
+  pub libraries_few : length (libraries_needed l) ≤ 240
 
 -- A table of these fixups, entries and names stands in a file at the range of the file's one table, whole, and is read back.
 pub record TableStands (b : List ℕ) (t : Table) (base : ℕ) (fixups : List Fixup) (segments : List FixupSegment) (format : ℕ)

@@ -1,5 +1,6 @@
 -- Laws on the tables of `__LINKEDIT`: each is the contract of a function of `src/laws.rt`.
 use Rattle.std.specs.Prelude.{◌≡◌, ℕ, ◌≤◌, ◌<◌, ◌^◌, false, List, map, length, sum_by, All, IsPermutation}
+use Rattle.std.specs.FinMap.{empty}
 use Rattle.macho_model.specs.declared.placed.Counts.{Counts}
 use Rattle.macho_model.specs.Links.{Link}
 use Rattle.macho_model.specs.Placement.{Placed, IsWholeList, IsPlaced}
@@ -17,7 +18,7 @@ use Rattle.macho_model.specs.Resolution.{SymbolId, entry_at}
 use Rattle.macho_model.specs.Needs.{import_library}
 use Rattle.macho_model.specs.Targets.{target_of_name}
 use Rattle.macho_model.specs.Exports.{IsExported, library_number}
-use Rattle.macho_model.specs.Values.{is_absolute_target, no_choice}
+use Rattle.macho_model.specs.Values.{is_absolute_target}
 use Rattle.macho_model.specs.Stands.{IsAt}
 use Rattle.macho_model.specs.Told.{ToldExport, IsReexported}
 use Rattle.macho_linkedit.specs.declared.exports.ExportSays.TheVariants.{Reexport}
@@ -80,7 +81,7 @@ SymbolsAreSaid =
 -- an exported name that an object defines, and one that is exported on from a library, say what they are exported as
 abbrev pub ValuesAreFound : Type 0
 ValuesAreFound =
-    (l : Link) (p : Placed) (name : List ℕ) (s : SymbolId) (address : ℕ) → IsExported l name s → IsAt l p 0 no_choice
+    (l : Link) (p : Placed) (name : List ℕ) (s : SymbolId) (address : ℕ) → IsExported l name s → IsAt l p 0 empty
     (target_of_name l name) address
     → (is_absolute_target (target_of_name l name) ≡ false → p.base ≤ address)
     → IsFoundExport l p name (said_of

@@ -10,7 +10,6 @@ ghost use Rattle.std.specs.Int.{w32, cast_unsigned};
 ghost use Rattle.macho_bytes.specs.Numbers.{signed};
 ghost use Rattle.macho_model.specs.Links.{Link};
 ghost use Rattle.macho_model.specs.Values.{fits_signed};
-ghost use Rattle.macho_model.specs.Limits.{GREATEST_LIBRARIES, GREATEST_NAME_BYTES};
 ghost use Rattle.macho_fixups.specs.Calls.{AreEntries};
 ghost use Rattle.macho_linkedit.specs.Imports.{FitTable, AreOfLink, IsImportTable, texts, name_bytes};
 ghost use Rattle.macho_linkedit.specs.steps.Libraries.{same_text, FindsPlaces};
@@ -88,8 +87,8 @@ fn add_imports(
     places: &IndexMap<&[u8], u32>,
     entries: &mut Vec<ImportEntry>,
 ) -> Result<Vec<u8>, AllocError>
-    requires few { length libraries.now ≤ GREATEST_LIBRARIES }
-    requires short { name_bytes imports.now ≤ GREATEST_NAME_BYTES }
+    requires few { length libraries.now ≤ 240 }
+    requires short { name_bytes imports.now ≤ 2 ^ 23 }
     requires known { FindsPlaces (texts libraries.now) (get same_text places.now) }
     requires none { entries.old.items ≡ [] }
     ensures { IfOk result (λ names. HavePlain (texts libraries.now) imports.now (length imports.now) entries.new.items names.items) }

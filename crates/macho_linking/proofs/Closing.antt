@@ -12,7 +12,6 @@ use Rattle.macho_layout.specs.Placements.{placed_of}
 use Rattle.macho_model.specs.declared.placed.Counts.{Counts}
 use Rattle.macho_model.specs.declared.targets.Limit.TheVariants as limit
 use Rattle.macho_model.specs.Links.{Link}
-use Rattle.macho_model.specs.Limits.{GREATEST_LIBRARIES}
 use Rattle.macho_model.specs.Needs.{libraries_needed, imports_of}
 use Rattle.macho_model.specs.Placement.{Placed}
 use Rattle.macho_model.specs.Faults.{LinkFault, FixupPlace, ImageTooLarge, RebaseTarget, RelocationRange, FaultStands, kept_placement}
@@ -131,11 +130,11 @@ planned l b inputs read known sizes =
 
 -- the libraries of a sized link are few
 pub libraries_few : (l : Link) (read : ReadLink) (sized : SizedLink) → HasSizes l read sized
-    → length (libraries_needed l) ≤ GREATEST_LIBRARIES
-libraries_few l read sized h = by (cases_lt GREATEST_LIBRARIES (length (libraries_needed l)))
+    → length (libraries_needed l) ≤ 240
+libraries_few l read sized h = by (cases_lt 240 (length (libraries_needed l)))
   where
-    by : (GREATEST_LIBRARIES < length (libraries_needed l)) ⊎ (length (libraries_needed l) ≤ GREATEST_LIBRARIES)
-        → length (libraries_needed l) ≤ GREATEST_LIBRARIES
+    by : (240 < length (libraries_needed l)) ⊎ (length (libraries_needed l) ≤ 240)
+        → length (libraries_needed l) ≤ 240
     by (inl more) = absurd (h.sizes.limits.numbers limit.Libraries (length (libraries_needed l)) (refl, more))
     by (inr few) = few
 

@@ -11,8 +11,9 @@ use Rattle.macho_lists.proofs.Members.{contains_filter, filter_contains, contain
 use Rattle.macho_model.specs.declared.placed.PlacedSegment.{PlacedSegment}
 use Rattle.macho_model.specs.Links.{Link}
 use Rattle.macho_model.specs.Segments.{TEXT}
-use Rattle.macho_model.specs.Placement.{EachFollows, is_segment_named}
+use Rattle.macho_model.specs.Placement.{is_segment_named, Follows}
 use Rattle.macho_model.specs.Addresses.{first_number}
+use Rattle.macho_model.specs.Lists.{EachNext}
 use Rattle.macho_agreement.proofs.Entry.{one_named}
 
 unfoldable pub first_size : List PlacedSegment → ℕ
@@ -50,7 +51,7 @@ unfolding first_size
 size_nowhere segments i all left = sym (left ∙ ap first_size (drop_of_length-le segments all))
 
 -- THE size of any `__TEXT` of a link
-pub size_of_text : (l : Link) (segments : List PlacedSegment) (s : PlacedSegment) → EachFollows l segments → Contains segments s
+pub size_of_text : (l : Link) (segments : List PlacedSegment) (s : PlacedSegment) → EachNext (Follows l) segments → Contains segments s
     → is_segment_named TEXT s ≡ true → first_size segments ≡ s.file_size
 unfolding first_size
 size_of_text l segments s follow has named = by (filter (is_segment_named TEXT) segments) refl

@@ -10,7 +10,6 @@ use Rattle.macho_layout.specs.Placements.{placed_of}
 use Rattle.macho_model.specs.declared.placed.Counts.{Counts}
 use Rattle.macho_model.specs.declared.targets.Limit.TheVariants as limit
 use Rattle.macho_model.specs.Links.{Input, Object, Dylib, Stub, Link}
-use Rattle.macho_model.specs.Limits.{GREATEST_LIBRARIES}
 use Rattle.macho_model.specs.Needs.{libraries_needed}
 use Rattle.macho_object.specs.Views.{FileBytes}
 use Rattle.macho_exports.specs.Entries.{ListEntries}
@@ -76,7 +75,7 @@ stands_counted l (Ok x) each = tt
 stands_counted l (Err e) each = each
 
 -- a link with so many libraries has too many
-pub too_many : (l : Link) (number : ℕ) → number ≡ length (libraries_needed l) → GREATEST_LIBRARIES < number
+pub too_many : (l : Link) (number : ℕ) → number ≡ length (libraries_needed l) → 240 < number
     → StandsAlways l (error.TooMany limit.Libraries number None)
 too_many l number is more = λ counts are. record { stands = (is, more); kept = tt }
 

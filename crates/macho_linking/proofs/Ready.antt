@@ -13,6 +13,7 @@
 use Rattle.std.proofs.Common.{◌≡◌, ℕ, ◌+◌, ◌-◌, ◌*◌, ◌<◌, ◌≤◌, ◌⊎◌, inl, inr, List, map, length, refl, sym, ap, subst, ◌∙◌, arith, All}
 use Rattle.std.proofs.Common.{Contains, get_or, Option, Some, None}
 use Rattle.std.proofs.lemmas.Bool.{cases_lt}
+use Rattle.std.specs.Prelude.{◌^◌}
 use Rattle.macho_layout.specs.Placements.{placed_of}
 use Rattle.macho_model.specs.declared.placed.Counts.{Counts}
 use Rattle.macho_model.specs.declared.placed.PlacedSection.{PlacedSection}
@@ -21,7 +22,6 @@ use Rattle.macho_model.specs.Links.{Link}
 use Rattle.macho_model.specs.Needs.{imports_of}
 use Rattle.macho_model.specs.Targets.{target_of}
 use Rattle.macho_model.specs.Fixups.{import_entries_of}
-use Rattle.macho_model.specs.Limits.{GREATEST_IMPORTS}
 use Rattle.macho_model.specs.Placement.{Placed, section_span, id_of}
 use Rattle.macho_model.specs.Addresses.{offset_in_file}
 use Rattle.macho_model.specs.Zeros.{filled_sections}
@@ -108,17 +108,17 @@ planned_to_table l b look h = record {
   fit = addresses_fit l b h.planned;
 }
 
-pub planned_entries : (l : Link) (b : Planned) → IsPlanned l b → length (import_entries_of l) ≤ GREATEST_IMPORTS
+pub planned_entries : (l : Link) (b : Planned) → IsPlanned l b → length (import_entries_of l) ≤ 2 ^ 24
 unfolding counts_with
 planned_entries l b h =
     let many : (counts_of b).imports ≡ length (import_entries_of l) = ap (λ (c : Counts). c.imports) h.sized.counted.are in
-    by many (cases_lt GREATEST_IMPORTS (length (import_entries_of l)))
+    by many (cases_lt (2 ^ 24) (length (import_entries_of l)))
   where
-    by : (counts_of b).imports ≡ length (import_entries_of l) → (GREATEST_IMPORTS < length (import_entries_of l))
-        ⊎ (length (import_entries_of l) ≤ GREATEST_IMPORTS)
-        → length (import_entries_of l) ≤ GREATEST_IMPORTS
+    by : (counts_of b).imports ≡ length (import_entries_of l) → (2 ^ 24 < length (import_entries_of l))
+        ⊎ (length (import_entries_of l) ≤ 2 ^ 24)
+        → length (import_entries_of l) ≤ 2 ^ 24
     by many (inl more) =
-        absurd (h.sized.limits.numbers limit.Imports (counts_of b).imports (refl, subst (λ (n : ℕ). GREATEST_IMPORTS < n) (sym many) more))
+        absurd (h.sized.limits.numbers limit.Imports (counts_of b).imports (refl, subst (λ (n : ℕ). 2 ^ 24 < n) (sym many) more))
     by many (inr fits) = fits
 
 pub planned_chained : (l : Link) (b : Planned) → IsPlanned l b → NoneIsBad l (placement_of b)

@@ -8,7 +8,6 @@ use Rattle.macho_bytes.specs.Texts.{put}
 use Rattle.macho_bytes.proofs.Puts.{put-put}
 use Rattle.macho_bytes.proofs.Writes.{put_mid-whole}
 use Rattle.macho_records.specs.Layouts.{symtab_entry}
-use Rattle.macho_model.specs.Limits.{GREATEST_SECTIONS}
 use Rattle.macho_model.specs.Links.{Link}
 use Rattle.macho_model.specs.Needs.{imports_of}
 use Rattle.macho_model.specs.Objects.{num_symbols}
@@ -30,7 +29,7 @@ use Rattle.macho_linking.specs.steps.Planned.{IsPlanned, IsLooked, KnowsAll, pla
 use Rattle.macho_linking.specs.steps.Written.{SymbolsArePut}
 use Rattle.macho_linking.proofs.Ready.{planned_within, planned_to_table}
 
-pub outputs_few : (l : Link) (b : Planned) → IsPlanned l b → length (placement_of b).output_sections ≤ GREATEST_SECTIONS
+pub outputs_few : (l : Link) (b : Planned) → IsPlanned l b → length (placement_of b).output_sections ≤ 255
 outputs_few l b h =
     sections_are_few l h.sized.planned.plan (counts_of b) (placement_of b) h.sized.planned.of_link h.sized.planned.fits h.sized.planned.laid
 

@@ -6,7 +6,6 @@ use Rattle.std.proofs.lemmas.List.{length-map}
 use Rattle.macho_bytes.specs.Texts.{put}
 use Rattle.macho_model.specs.declared.targets.Limit.TheVariants as limit
 use Rattle.macho_model.specs.Links.{Link}
-use Rattle.macho_model.specs.Limits.{GREATEST_LIBRARIES}
 use Rattle.macho_model.specs.Needs.{imports_of, libraries_needed}
 use Rattle.macho_symbols.specs.declared.exports.ExportName.{ExportName}
 use Rattle.macho_symbols.specs.declared.solved.Import.{Import}
@@ -26,11 +25,11 @@ use Rattle.macho_linking.specs.declared.planned.Planned.{Planned}
 use Rattle.macho_linking.specs.steps.Planned.{IsPlanned, placement_of, counts_of}
 use Rattle.macho_linking.specs.steps.Written.{TrieIsPut}
 
-libraries_within : (l : Link) (b : Planned) → IsPlanned l b → length (libraries_needed l) ≤ GREATEST_LIBRARIES
-libraries_within l b h = by (cases_lt GREATEST_LIBRARIES (length (libraries_needed l)))
+libraries_within : (l : Link) (b : Planned) → IsPlanned l b → length (libraries_needed l) ≤ 240
+libraries_within l b h = by (cases_lt 240 (length (libraries_needed l)))
   where
-    by : (GREATEST_LIBRARIES < length (libraries_needed l)) ⊎ (length (libraries_needed l) ≤ GREATEST_LIBRARIES)
-        → length (libraries_needed l) ≤ GREATEST_LIBRARIES
+    by : (240 < length (libraries_needed l)) ⊎ (length (libraries_needed l) ≤ 240)
+        → length (libraries_needed l) ≤ 240
     by (inl more) = absurd (h.sized.limits.numbers limit.Libraries (length (libraries_needed l)) (refl, more))
     by (inr few) = few
 

@@ -11,11 +11,12 @@ use Rattle.std.proofs.lemmas.Bool.{cases_lt, leb-true, le-leb}
 use Rattle.std.proofs.lemmas.List.{get_or_default, get_or-map, length-map}
 use Rattle.macho_bytes.specs.Numbers.{le_at}
 use Rattle.macho_records.specs.declared.header.SegmentCommand.{SegmentCommand}
-use Rattle.macho_model.specs.Commands.{Command}
+use Rattle.macho_records.specs.declared.constants.TheConstants.{LC_SEGMENT_64}
+use Rattle.macho_model.specs.Commands.{Command, numbered}
 use Rattle.macho_model.specs.Images.{segments_of, tables_of, CHAIN_PAGE, fixups_header, page_start}
 use Rattle.macho_model.specs.Chain.{chain_segments, IsFileWord, next_of, WORD_SIZE, STRIDE}
 use Rattle.macho_model.specs.LoadRules.{segment_in, begins_behind}
-use Rattle.macho_model.specs.Loader.{segment_commands, EachNeighbour, WordFits, is_bind, ordinal_of, is_writable, import_count}
+use Rattle.macho_model.specs.Loader.{WordFits, is_bind, ordinal_of, is_writable, import_count}
 use Rattle.macho_memory_walks.specs.declared.walk.Listed.TheVariants as list
 use Rattle.macho_memory_walks.specs.Readings.{command_at, IsNth, HasWord, segment_there, table_there, starts_in}
 use Rattle.macho_model_walks.specs.Tests.{page_holds}
@@ -24,13 +25,14 @@ use Rattle.macho_memory_walks.specs.steps.Walks as walks
 use Rattle.macho_model_walks.specs.steps.WordTests.{address_in, FitFrom, UnfitFrom}
 use Rattle.macho_model.proofs.Apart.{EndsBefore, Holds_address, one_holds}
 use Rattle.macho_model.proofs.EachBelow.{and_left, and_right}
+use Rattle.macho_model.specs.Lists.{EachNext}
 use Rattle.macho_memory_walks.proofs.WordWalk.{word_in_segment, segment_has_word, nth_number, leads_more, starts_found, start_is}
 use Rattle.macho_model_walks.proofs.RuleWalk.{import_count_found}
 use Rattle.macho_model_walks.proofs.UnfitWords.{kept_at}
 use Rattle.macho_loader.specs.steps.Words.{StandApart, IsFittingWord, IsReached}
 
 -- the step from neighbours to all
-commands_rise : (b : List ℕ) (cs : List Command) → EachNeighbour cs (begins_behind b) → (i j : ℕ) (e : Command) → i < j → j < length cs
+commands_rise : (b : List ℕ) (cs : List Command) → EachNext (λ c d. begins_behind b c d ≡ true) cs → (i j : ℕ) (e : Command) → i < j → j < length cs
     → EndsBefore (segment_in b (get_or cs i e)) (segment_in b (get_or cs j e))
 commands_rise b cs h i zero e before within = absurd (omega (arith, before))
 commands_rise b cs h i (suc m) e before within =
@@ -52,14 +54,14 @@ commands_rise b cs h i (suc m) e before within =
           subst (λ k. EndsBefore (segment_in b (get_or cs k e)) (segment_in b (get_or cs (suc m) e))) (sym here) next
     ]
 
-pub segments_rise : (b : List ℕ) → EachNeighbour (segment_commands b) (begins_behind b) → AllPairs EndsBefore (segments_of b)
+pub segments_rise : (b : List ℕ) → EachNext (λ c d. begins_behind b c d ≡ true) (numbered LC_SEGMENT_64 b) → AllPairs EndsBefore (segments_of b)
 unfolding segments_of
 segments_rise b neighbours i j d before within =
-    let long : j < length (segment_commands b) = omega (arith, within, length-map (segment_commands b) (segment_in b)) in
-    let e : Command = get_or (segment_commands b) 0 (record { at = 0; number = 0; size = 0 }) in
-    let at_i = get_or-map (segment_in b) (segment_commands b) i e d (omega (arith, long, before)) in
-    let at_j = get_or-map (segment_in b) (segment_commands b) j e d long in
-    let rise = commands_rise b (segment_commands b) neighbours i j e before long in
+    let long : j < length (numbered LC_SEGMENT_64 b) = omega (arith, within, length-map (numbered LC_SEGMENT_64 b) (segment_in b)) in
+    let e : Command = get_or (numbered LC_SEGMENT_64 b) 0 (record { at = 0; number = 0; size = 0 }) in
+    let at_i = get_or-map (segment_in b) (numbered LC_SEGMENT_64 b) i e d (omega (arith, long, before)) in
+    let at_j = get_or-map (segment_in b) (numbered LC_SEGMENT_64 b) j e d long in
+    let rise = commands_rise b (numbered LC_SEGMENT_64 b) neighbours i j e before long in
     rw (at_i, at_j) rise
 
 -- a segment that has a word there holds its address in memory

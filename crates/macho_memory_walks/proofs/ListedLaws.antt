@@ -11,10 +11,11 @@ use Rattle.macho_memory_walks.specs.declared.walk.Listed.{Listed}
 use Rattle.macho_memory_walks.specs.declared.walk.Listed.TheVariants as list
 use Rattle.macho_model.specs.Commands.{Command, commands_of, numbered}
 use Rattle.macho_model.specs.Segments.{PAGEZERO, TEXT}
-use Rattle.macho_model.specs.Images.{is_named, segments_of, mapped_segments, segments_named, base_of, first_address, libraries_of}
-use Rattle.macho_model.specs.Images.{table_of_command, tables_of}
+use Rattle.macho_model.specs.Images.{is_named, segments_of, mapped_segments, segments_named, base_of, libraries_of, table_of_command}
+use Rattle.macho_model.specs.Images.{tables_of}
 use Rattle.macho_model.specs.LoadRules.{segment_in, segment_address}
-use Rattle.macho_model.specs.Loader.{segment_commands, text_commands, fixup_commands}
+use Rattle.macho_model.specs.Loader.{text_commands, fixup_commands}
+use Rattle.macho_model.specs.Lists.{of_first}
 use Rattle.macho_memory_walks.specs.Readings.{command_at, listed, IsNth, table_there}
 
 -- two filters are one
@@ -52,7 +53,7 @@ pub all_listed : (b : List ℕ) → listed list.All b ≡ commands_of b
 unfolding listed
 all_listed b = all_kept (commands_of b)
 
-pub segments_listed : (b : List ℕ) → listed list.Segments b ≡ segment_commands b
+pub segments_listed : (b : List ℕ) → listed list.Segments b ≡ numbered LC_SEGMENT_64 b
 unfolding listed
 segments_listed b = refl
 
@@ -68,12 +69,12 @@ tables_listed b = refl
 pub texts_are : (b : List ℕ) → segments_named TEXT b ≡ map (segment_in b) (listed list.Texts b)
 unfolding segments_of
 texts_are b =
-    filter_map (segment_in b) (is_named TEXT) (segment_commands b) ∙ ap (λ cs. map (segment_in b) cs) (sym (texts_listed b))
+    filter_map (segment_in b) (is_named TEXT) (numbered LC_SEGMENT_64 b) ∙ ap (λ cs. map (segment_in b) cs) (sym (texts_listed b))
 
 pub mapped_are : (b : List ℕ) → mapped_segments b ≡ map (segment_in b) (listed list.Mapped b)
 unfolding mapped_segments segments_of listed
 mapped_are b =
-    filter_map (segment_in b) (λ s. not (is_named PAGEZERO s)) (segment_commands b)
+    filter_map (segment_in b) (λ s. not (is_named PAGEZERO s)) (numbered LC_SEGMENT_64 b)
     ∙ ap (λ cs. map (segment_in b) cs) (sym (two_filters (λ c. c.number == LC_SEGMENT_64) (λ c. not (is_named PAGEZERO (segment_in b c)))
     (commands_of b)))
 
@@ -128,7 +129,7 @@ address_missing b number past =
     (omega (arith, past, count_of_segments b, length-map (segments_of b) (λ (s : SegmentCommand). s.vmaddr))))
 
 first_is : (b : List ℕ) (cs : List Command) (c : Command) → 0 < length cs → get_or cs 0 c ≡ c
-    → (segment_in b c).vmaddr ≡ first_address (map (segment_in b) cs)
+    → (segment_in b c).vmaddr ≡ of_first 0 (λ (s : SegmentCommand). s.vmaddr) (map (segment_in b) cs)
 first_is b [] c some is = absurd (omega (arith, some))
 first_is b (x ∷ cs) c some is = ap (λ (y : Command). (segment_in b y).vmaddr) (sym is)
 
@@ -137,16 +138,17 @@ pub base_found : (b : List ℕ) (place address : ℕ) → IsNth list.Texts b 0 p
 unfolding base_of
 base_found b place address nth is =
     is ∙ first_is b (listed list.Texts b) (command_at b place) nth.within nth.is ∙ ap
-    (λ (segments : List SegmentCommand). first_address segments) (sym (texts_are b))
+    (λ (segments : List SegmentCommand). of_first 0 (λ (s : SegmentCommand). s.vmaddr) segments) (sym (texts_are b))
 
-no_first : (b : List ℕ) (cs : List Command) → length cs ≤ 0 → 0 ≡ first_address (map (segment_in b) cs)
+no_first : (b : List ℕ) (cs : List Command) → length cs ≤ 0 → 0 ≡ of_first 0 (λ (s : SegmentCommand). s.vmaddr) (map (segment_in b) cs)
 no_first b [] none = refl
 no_first b (x ∷ cs) none = absurd (omega (arith, none))
 
 pub base_missing : (b : List ℕ) → length (listed list.Texts b) ≤ 0 → 0 ≡ base_of b
 unfolding base_of
 base_missing b none =
-    no_first b (listed list.Texts b) none ∙ ap (λ (segments : List SegmentCommand). first_address segments) (sym (texts_are b))
+    no_first b (listed list.Texts b) none ∙ ap
+    (λ (segments : List SegmentCommand). of_first 0 (λ (s : SegmentCommand). s.vmaddr) segments) (sym (texts_are b))
 
 -- a list has so many elements where it has one at the place before
 pub many_listed : (which : Listed) (b : List ℕ) (count place : ℕ) → 1 ≤ count → IsNth which b (count - 1) place

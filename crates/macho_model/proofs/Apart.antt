@@ -3,25 +3,27 @@
 -- Each segment begins where the one before it ends, or behind; so, step by step, behind the end of every earlier one.
 -- An address in two segments would lie behind the end of one and before it. Hence a segment's byte is determined, and so
 -- is the word that the file has at an address, since a segment's file part is in its memory.
-use Rattle.std.proofs.Common.{◌≡◌, ℕ, zero, suc, ◌+◌, ◌-◌, ◌<◌, ◌≤◌, nat_lt, not, if◌then◌else◌, List, length, get_or, slice_index, sym, ap, subst, ◌∙◌, arith, inl, inr}
+use Rattle.std.proofs.Common.{◌≡◌, ℕ, zero, suc, ◌+◌, ◌-◌, ◌<◌, ◌≤◌, nat_lt, not, if◌then◌else◌, List, length, get_or, slice_index, sym, ap, subst, ◌∙◌, arith, inl, inr, true}
 use Rattle.std.specs.Prelude.{Contains, AllPairs}
 use Rattle.std.proofs.lemmas.Bool.{cases_lt, leb-true}
 use Rattle.std.proofs.lemmas.List.{get_or_default, get_or-map, length-map}
 use Rattle.std.proofs.lemmas.List.Kept.{AllPairs-filter}
 use Rattle.macho_records.specs.declared.header.SegmentCommand.{SegmentCommand}
-use Rattle.macho_model.specs.Commands.{Command}
+use Rattle.macho_records.specs.declared.constants.TheConstants.{LC_SEGMENT_64}
+use Rattle.macho_model.specs.Commands.{Command, numbered}
 use Rattle.macho_model.specs.Segments.{PAGEZERO}
 use Rattle.macho_model.specs.Images.{segments_of, mapped_segments, is_named}
 use Rattle.macho_model.specs.LoadRules.{segment_in, begins_behind}
-use Rattle.macho_model.specs.Loader.{segment_commands, EachNeighbour, IsAccepted}
+use Rattle.macho_model.specs.Loader.{IsAccepted}
 use Rattle.macho_model.specs.Memory.{IsSegmentByte}
+use Rattle.macho_model.specs.Lists.{EachNext}
 
 -- a segment ends before another one begins
 abbrev pub EndsBefore : SegmentCommand → SegmentCommand → Type 0
 EndsBefore s t = s.vmaddr + s.vmsize ≤ t.vmaddr
 
 -- the step from neighbours to all
-commands_rise : (b : List ℕ) (cs : List Command) → EachNeighbour cs (begins_behind b) → (i j : ℕ) (e : Command) → i < j → j < length cs
+commands_rise : (b : List ℕ) (cs : List Command) → EachNext (λ c d. begins_behind b c d ≡ true) cs → (i j : ℕ) (e : Command) → i < j → j < length cs
     → EndsBefore (segment_in b (get_or cs i e)) (segment_in b (get_or cs j e))
 commands_rise b cs h i zero e before within = absurd (omega (arith, before))
 commands_rise b cs h i (suc m) e before within =
@@ -40,11 +42,11 @@ commands_rise b cs h i (suc m) e before within =
 pub segments_rise : (b : List ℕ) → IsAccepted b → AllPairs EndsBefore (segments_of b)
 unfolding segments_of
 segments_rise b accepted i j d before within =
-    let long : j < length (segment_commands b) = omega (arith, within, length-map (segment_commands b) (segment_in b)) in
-    let e : Command = get_or (segment_commands b) 0 (record { at = 0; number = 0; size = 0 }) in
-    let at_i = get_or-map (segment_in b) (segment_commands b) i e d (omega (arith, long)) in
-    let at_j = get_or-map (segment_in b) (segment_commands b) j e d long in
-    let rise = commands_rise b (segment_commands b) accepted.l6.1 i j e before long in
+    let long : j < length (numbered LC_SEGMENT_64 b) = omega (arith, within, length-map (numbered LC_SEGMENT_64 b) (segment_in b)) in
+    let e : Command = get_or (numbered LC_SEGMENT_64 b) 0 (record { at = 0; number = 0; size = 0 }) in
+    let at_i = get_or-map (segment_in b) (numbered LC_SEGMENT_64 b) i e d (omega (arith, long)) in
+    let at_j = get_or-map (segment_in b) (numbered LC_SEGMENT_64 b) j e d long in
+    let rise = commands_rise b (numbered LC_SEGMENT_64 b) accepted.l6.1 i j e before long in
     rw (at_i, at_j) rise
 
 pub mapped_rise : (b : List ℕ) → IsAccepted b → AllPairs EndsBefore (mapped_segments b)

@@ -27,8 +27,7 @@ address_of p (target.Section file section offset) = section_address p file secti
 address_of p (target.Common id) = common_address p id
 address_of p target.Base = p.base
 address_of p (target.Absolute value) = value
-address_of p (target.Import id) = 0
-address_of p target.None = 0
+address_of p t = 0
 
 -- a segment has an address in its file part
 abbrev pub has_in_file : ℕ → PlacedSegment → Bool

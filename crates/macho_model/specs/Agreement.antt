@@ -40,10 +40,6 @@ place_told s = record { name = text_of s.name; address = s.address; size = s.siz
 abbrev pub SegmentsAgree : List ℕ → Placed → Type 0
 SegmentsAgree b p = map place_by_command (segments_of b) ≡ map place_told p.segments
 
--- the load commands of the file end, with the padding behind them, where the placement's head ends
-abbrev pub HeadAgrees : Counts → List ℕ → Placed → Type 0
-HeadAgrees counts b p = commands_end b + counts.padding ≡ head_size counts p
-
 -- the section headers behind a segment's command, and those of a file, in order
 unfoldable pub section_headers_at : List ℕ → ℕ → List SectionHeader
 section_headers_at b at =
@@ -51,10 +47,6 @@ section_headers_at b at =
 
 unfoldable pub section_headers_of : List ℕ → List SectionHeader
 section_headers_of b = flat_map (λ c. section_headers_at b c.at) (numbered LC_SEGMENT_64 b)
-
--- the section headers of the file are the placement's output sections, in order
-abbrev pub HeadersAgree : List ℕ → Placed → Type 0
-HeadersAgree b p = section_headers_of b ≡ p.output_sections
 
 abbrev pub table_of_range : Range64 → Table
 table_of_range r = record { at = r.start; size = r.end - r.start }
@@ -70,20 +62,18 @@ pub record TablesAgree (b : List ℕ) (p : Placed) : Type 0 where
   pub strings : string_tables_of b ≡ table_of_range p.linkedit.strtab ∷ []
   pub signature : signatures_of b ≡ table_of_range p.linkedit.signature ∷ []
 
--- an executable begins at one place, counted from where the file's own `__TEXT` is: at its entry, at every slide
-abbrev pub EntersAt : Link → List ℕ → Placed → Type 0
-EntersAt l b p =
-    (offset : ℕ) × (entries_of_file b ≡ offset ∷ [])
-    × ((s : ℕ) (choice : Choice) → IsAt l p s choice (target_of_name l l.entry) (base_of b + offset + s))
-
--- an executable begins at its entry; a dynamic library begins nowhere
+-- An executable begins at one place, counted from where the file's own `__TEXT` is: at its entry, at every slide. A dynamic library
+-- begins nowhere.
 pub record EntryAgrees (l : Link) (b : List ℕ) (p : Placed) : Type 0 where
-  pub executable : l.executable ≡ true → EntersAt l b p
+  pub executable : l.executable ≡ true → (offset : ℕ) × (entries_of_file b ≡ offset ∷ [])
+      × ((s : ℕ) (choice : Choice) → IsAt l p s choice (target_of_name l l.entry) (base_of b + offset + s))
   pub library : l.executable ≡ false → entries_of_file b ≡ []
 
 -- What the load commands say is what the placement says.
 pub record CommandsAgree (l : Link) (counts : Counts) (b : List ℕ) (p : Placed) : Type 0 where
   pub segments : SegmentsAgree b p
-  pub head : HeadAgrees counts b p
-  pub headers : HeadersAgree b p
+  -- the load commands of the file end, with the padding behind them, where the placement's head ends
+  pub head : commands_end b + counts.padding ≡ head_size counts p
+  -- the section headers of the file are the placement's output sections, in order
+  pub headers : section_headers_of b ≡ p.output_sections
   pub entry : EntryAgrees l b p

@@ -1,10 +1,11 @@
 -- The words on the chain: those that the loader writes anew. They are the least set with two rules: a page start puts
 -- its word on the chain, and each word on the chain leads to the next one (`mach-o/fixup-chains.h`).
-use Rattle.std.specs.Prelude.{◌≡◌, ◌≢◌, ℕ, ◌+◌, ◌*◌, ◌-◌, ◌<◌, ◌≤◌, nat_lt, if◌then◌else◌, List, [], ◌∷◌, length, map, slice_index, Contains}
+use Rattle.std.specs.Prelude.{◌≡◌, ◌≢◌, ℕ, ◌+◌, ◌*◌, ◌-◌, ◌<◌, ◌≤◌, nat_lt, if◌then◌else◌, List, [], length, map, slice_index, Contains}
 use Rattle.std.specs.List.{enumerate_from}
 use Rattle.macho_bytes.specs.Numbers.{le_at, bits}
 use Rattle.macho_records.specs.declared.header.SegmentCommand.{SegmentCommand}
 use Rattle.macho_model.specs.Images.{Table, segments_of, tables_of, starts_count, page_starts, NO_START, CHAIN_PAGE}
+use Rattle.macho_model.specs.Lists.{of_first}
 
 -- A segment as chains see it: its address, its file range and its page starts.
 pub record ChainSegment : Type 0 where
@@ -48,8 +49,7 @@ pub data OnPageChain (segments : List ChainSegment) (b : List ℕ) (s : ChainSeg
 
 -- a segment by its command, with the starts that a table has for its number
 abbrev pub starts_in_tables : List ℕ → List Table → ℕ → List ℕ
-starts_in_tables b [] k = []
-starts_in_tables b (t ∷ tables) k = if nat_lt k (starts_count b t) then page_starts b t k else []
+starts_in_tables b tables k = of_first [] (λ t. if nat_lt k (starts_count b t) then page_starts b t k else []) tables
 
 abbrev pub chain_segment : List ℕ → ℕ × SegmentCommand → ChainSegment
 chain_segment b (k, s) = record { address = s.vmaddr; file_offset = s.fileoff; file_size = s.filesize; starts = starts_in_tables b (tables_of b) k }
@@ -58,6 +58,5 @@ chain_segment b (k, s) = record { address = s.vmaddr; file_offset = s.fileoff; f
 unfoldable pub chain_segments : List ℕ → List ChainSegment
 chain_segments b = map (chain_segment b) (enumerate_from 0 (segments_of b))
 
--- the chain of a file
 abbrev pub OnChainOf : List ℕ → ℕ → Type 0
 OnChainOf b a = OnChain (chain_segments b) b a

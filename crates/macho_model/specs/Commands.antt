@@ -4,6 +4,7 @@ use Rattle.macho_bytes.specs.Layouts.{reading, size_of}
 use Rattle.macho_bytes.specs.Texts.{name_of}
 use Rattle.macho_records.specs.Layouts.{mach_header, load_command, segment_command, section_header}
 use Rattle.macho_records.specs.declared.header.MachHeader.{MachHeader}
+use Rattle.macho_model.specs.Lists.{of_first}
 
 -- A load command: its place in the file, its number and its size in bytes.
 pub record Command : Type 0 where
@@ -11,7 +12,6 @@ pub record Command : Type 0 where
   pub number : ℕ
   pub size : ℕ
 
--- the header of a file
 unfoldable pub header_of : List ℕ → MachHeader
 header_of b = reading mach_header b 0
 
@@ -26,21 +26,15 @@ commands_from b at (suc count) =
 unfoldable pub commands_of : List ℕ → List Command
 commands_of b = commands_from b (size_of mach_header) (header_of b).ncmds
 
--- the place where the commands end
 unfoldable pub commands_end : List ℕ → ℕ
 commands_end b = size_of mach_header + (header_of b).sizeofcmds
 
--- the commands of a number
 abbrev pub numbered : ℕ → List ℕ → List Command
 numbered n b = filter (λ c. c.number == n) (commands_of b)
 
 -- the place of the first command of a number, 0 where there is none
-abbrev pub first_place : List Command → ℕ
-first_place [] = 0
-first_place (c ∷ cs) = c.at
-
 abbrev pub place_of : ℕ → List ℕ → ℕ
-place_of n b = first_place (numbered n b)
+place_of n b = of_first 0 (λ c. c.at) (numbered n b)
 
 -- the path of a command: from the offset that stands in it up to the first NUL or the command's end
 abbrev pub path_of : List ℕ → Command → ℕ → List ℕ

@@ -153,7 +153,6 @@ abbrev pub each_relocation_in : Link → SectionId → ℕ → Bool
 each_relocation_in l s e =
     list_all (unwind_relocation_fits l s) (filter (λ r. (relocation_in l s r).r_address / UNWIND_ENTRY_SIZE == e) (relocations_of l s))
 
--- an entry keeps a rule
 abbrev pub keeps : Link → SectionId → ℕ → UnwindRule → Bool
 keeps l s e U1 = whole_entries l s
 keeps l s e U2 = each_relocation_in l s e

@@ -55,9 +55,7 @@ ValueOf l p weak (target.Section file section offset) e =
 ValueOf l p weak (target.Common id) e =
     (c : PlacedCommon) × (value : ℕ) × Contains p.commons c × (c.id ≡ id) × (value + p.base ≡ c.address) × (e ≡ Value weak value)
 ValueOf l p weak (target.Absolute value) e = e ≡ Value (FLAG_ABSOLUTE + weak) value
-ValueOf l p weak (target.Import id) e = ⊥
-ValueOf l p weak target.Base e = ⊥
-ValueOf l p weak target.None e = ⊥
+ValueOf l p weak t e = ⊥
 
 -- the number of a library among those of the image, from 1
 abbrev pub library_number : Link → List ℕ → ℕ

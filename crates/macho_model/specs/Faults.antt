@@ -142,10 +142,6 @@ kept_placement (RebaseTarget at placement) = Some placement
 kept_placement (RelocationRange at placement) = Some placement
 kept_placement fault = None
 
--- a refusal is of the link alone, or of this placement of it
-abbrev pub IsOfPlacement : Placed → LinkFault → Type 0
-IsOfPlacement p f = (kept_placement f ≡ None) ⊎ (kept_placement f ≡ Some p)
-
 -- No refusal stands: in the link, or in this placement of it.
 pub record NoneStands (l : Link) (counts : Counts) (p : Placed) : Type 0 where
-  pub none : (f : LinkFault) → IsOfPlacement p f → FaultStands l counts f → ⊥
+  pub none : (f : LinkFault) → (kept_placement f ≡ None) ⊎ (kept_placement f ≡ Some p) → FaultStands l counts f → ⊥

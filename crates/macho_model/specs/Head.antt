@@ -195,7 +195,6 @@ commands_for l counts p uuid trie =
     ∷ symtab_for counts p
     ∷ linkedit_for LC_CODE_SIGNATURE p.linkedit.signature.start (range_size p.linkedit.signature) ∷ []
 
--- the bytes of a command, as it says itself
 abbrev pub size_said : HeadCommand → ℕ
 size_said (Segment command headers) = command.cmdsize
 size_said (EntryPoint command) = command.cmdsize

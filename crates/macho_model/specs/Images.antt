@@ -1,6 +1,6 @@
 -- What the bytes of an image say to the loader: its segments, its libraries, its fixup table. Each is a total function
 -- of the whole list of bytes; `Loader` tells when an image is accepted.
-use Rattle.std.specs.Prelude.{ℕ, ◌+◌, ◌*◌, ◌-◌, ◌==◌, if◌then◌else◌, not, Bool, List, [], ◌∷◌, map, filter, drop, slice_range, get_or}
+use Rattle.std.specs.Prelude.{ℕ, ◌+◌, ◌*◌, ◌-◌, ◌==◌, if◌then◌else◌, not, Bool, List, [], map, filter, drop, slice_range, get_or}
 use Rattle.std.specs.List.{range_with_len}
 use Rattle.std.specs.Str.{bytes_eq}
 use Rattle.macho_bytes.specs.Numbers.{le_at, bits, signed}
@@ -14,6 +14,7 @@ use Rattle.macho_structs.specs.declared.fixups.ChainedStartsInSegment.{ChainedSt
 use Rattle.macho_records.specs.declared.constants.TheConstants.{LC_CODE_SIGNATURE, LC_DYLD_CHAINED_FIXUPS, LC_DYLD_EXPORTS_TRIE, LC_LOAD_DYLIB, LC_MAIN, LC_SEGMENT_64, LC_SYMTAB}
 use Rattle.macho_model.specs.Commands.{Command, numbered, path_of}
 use Rattle.macho_model.specs.Segments.{PAGEZERO, TEXT}
+use Rattle.macho_model.specs.Lists.{of_first}
 
 -- the segments, in the order of their commands
 unfoldable pub segments_of : List ℕ → List SegmentCommand
@@ -30,12 +31,8 @@ unfoldable pub mapped_segments : List ℕ → List SegmentCommand
 mapped_segments b = filter (λ s. not (is_named PAGEZERO s)) (segments_of b)
 
 -- the address of the image's first byte: that of `__TEXT`
-abbrev pub first_address : List SegmentCommand → ℕ
-first_address [] = 0
-first_address (s ∷ segments) = s.vmaddr
-
 unfoldable pub base_of : List ℕ → ℕ
-base_of b = first_address (segments_named TEXT b)
+base_of b = of_first 0 (λ s. s.vmaddr) (segments_named TEXT b)
 
 -- the libraries that the image needs, in order; imports count them from 1
 unfoldable pub libraries_of : List ℕ → List (List ℕ)

@@ -20,55 +20,26 @@ use Rattle.macho_model.specs.Placement.{Placed, linkedit_ranges}
 use Rattle.macho_model.specs.Order.{pages_of}
 use Rattle.macho_model.specs.Stands.{IsAt, SlotAt, SectionAt}
 
--- the greatest numbers that the format takes
-abbrev pub GREATEST_SEGMENTS : ℕ
-GREATEST_SEGMENTS = 6
-
-abbrev pub GREATEST_LIBRARIES : ℕ
-GREATEST_LIBRARIES = 240
-
-abbrev pub GREATEST_SECTIONS : ℕ
-GREATEST_SECTIONS = 255
-
-abbrev pub GREATEST_PERSONALITIES : ℕ
-GREATEST_PERSONALITIES = 3
-
-abbrev pub GREATEST_IMPORTS : ℕ
-GREATEST_IMPORTS = 2 ^ 24
-
-abbrev pub GREATEST_NAME_BYTES : ℕ
-GREATEST_NAME_BYTES = 2 ^ 23
-
-abbrev pub GREATEST_SYMBOLS : ℕ
-GREATEST_SYMBOLS = 2 ^ 32 - 2
-
-abbrev pub GREATEST_PAGES : ℕ
-GREATEST_PAGES = 65535
-
--- a number that a limit speaks of, without a placement
+-- a number that a limit speaks of, without a placement, and the greatest that the format takes
 abbrev pub limited : Link → Counts → Limit → ℕ × ℕ
-limited l counts limit.Segments = (length (segment_names_of l), GREATEST_SEGMENTS)
-limited l counts limit.Libraries = (length (libraries_needed l), GREATEST_LIBRARIES)
-limited l counts limit.Sections = (output_count l counts, GREATEST_SECTIONS)
-limited l counts limit.Personalities = (length (personality_targets l), GREATEST_PERSONALITIES)
-limited l counts limit.Imports = (counts.imports, GREATEST_IMPORTS)
-limited l counts limit.NameBytes = (counts.name_bytes, GREATEST_NAME_BYTES)
-limited l counts limit.Symbols = (length (symbols_of l) + length (plain_entries l.export_lists), GREATEST_SYMBOLS)
-limited l counts limit.Pages = (0, GREATEST_PAGES)
+limited l counts limit.Segments = (length (segment_names_of l), 6)
+limited l counts limit.Libraries = (length (libraries_needed l), 240)
+limited l counts limit.Sections = (output_count l counts, 255)
+limited l counts limit.Personalities = (length (personality_targets l), 3)
+limited l counts limit.Imports = (counts.imports, 2 ^ 24)
+limited l counts limit.NameBytes = (counts.name_bytes, 2 ^ 23)
+limited l counts limit.Symbols = (length (symbols_of l) + length (plain_entries l.export_lists), 2 ^ 32 - 2)
+limited l counts limit.Pages = (0, 65535)
 
 abbrev pub PassesLimit : Link → Counts → Limit → ℕ → Option Placed → Type 0
 PassesLimit l counts what number None = (number ≡ (limited l counts what).0) × ((limited l counts what).1 < number)
 PassesLimit l counts limit.Pages number (Some p) =
-    (s : PlacedSegment) × Contains p.segments s × (may_hold_pointers (text_of s.name) ≡ true) × (number ≡ pages_of s) × (GREATEST_PAGES < number)
+    (s : PlacedSegment) × Contains p.segments s × (may_hold_pointers (text_of s.name) ≡ true) × (number ≡ pages_of s) × (65535 < number)
 PassesLimit l counts what number (Some p) = ⊥
 
 -- the numbers that are written in 32 bits
 abbrev pub LIMIT_32 : ℕ
 LIMIT_32 = 2 ^ 32
-
--- a range of the file ends past what 32 bits tell, as its start, its size or the file itself does then
-abbrev pub RangePasses : Range64 → Type 0
-RangePasses r = LIMIT_32 ≤ r.end
 
 -- An address whose offset from the base is written in 32 bits: an initializer, the start or the end of a function, its
 -- language data, the slot of its personality.
@@ -84,11 +55,12 @@ pub data IsWritten32 (l : Link) (p : Placed) : ℕ → Type 0 where
       → IsWritten32 l p (at + ((unwind_entry l d.of_section d.entry).lsda - (header_at l (section_named l d.of_section r)).addr))
   personality : (t : Target) (x : ℕ) → Contains (personality_targets l) t → SlotAt p 0 t x → IsWritten32 l p x
 
--- a file offset or size, or an offset from the base that initializers or unwind entries are written as, passes 32 bits
+-- a file offset or size, the end of a table, or an offset from the base that initializers or unwind entries are written as,
+-- passes 32 bits
 abbrev pub ImagePasses : Link → Placed → Type 0
 ImagePasses l p =
     ((s : PlacedSegment) × Contains p.segments s × ((LIMIT_32 ≤ s.file_offset) ⊎ (LIMIT_32 ≤ s.file_size)))
-    ⊎ ((r : Range64) × Contains (linkedit_ranges p) r × RangePasses r)
+    ⊎ ((r : Range64) × Contains (linkedit_ranges p) r × (LIMIT_32 ≤ r.end))
     ⊎ ((x : ℕ) × IsWritten32 l p x × (p.base + LIMIT_32 ≤ x))
 
 abbrev pub IsTooLarge : Link → Counts → Option Placed → Type 0

@@ -39,8 +39,7 @@ pub record Link : Type 0 where
 -- the bytes of an object, none for another input
 abbrev pub object_bytes : Input → List ℕ
 object_bytes (Object bytes) = bytes
-object_bytes (Dylib bytes) = []
-object_bytes (Stub text says) = []
+object_bytes library = []
 
 abbrev pub no_input : Input
 no_input = Object []
@@ -76,11 +75,9 @@ is_consumed h = not (should_exclude_of h) && (is_initializers h || is_unwind_ent
 abbrev pub is_template : SectionHeader → Bool
 is_template h = is_carried h && is_template_type (type_of h)
 
--- the sections of one file
 abbrev pub sections_of_file : ℕ → Input → List SectionId
 sections_of_file file (Object bytes) = map (λ k. record { file = file; section = k }) (range_with_len 0 (num_sections bytes))
-sections_of_file file (Dylib bytes) = []
-sections_of_file file (Stub text says) = []
+sections_of_file file library = []
 
 -- all sections of all objects, by file, then section
 unfoldable pub sections_of : Link → List SectionId

@@ -63,18 +63,15 @@ begins_behind b c d = nat_le ((segment_in b c).vmaddr + (segment_in b c).vmsize)
 abbrev pub text_holds_commands : List ℕ → SegmentCommand → Bool
 text_holds_commands b s = (s.fileoff == 0) && nat_le (commands_end b) s.filesize
 
--- the pointer format of arm64 images: an offset from the base (`DYLD_CHAINED_PTR_64_OFFSET`)
-abbrev pub POINTER_FORMAT : ℕ
-POINTER_FORMAT = 6
-
 -- the address of a segment by its number, 0 where there is none
 abbrev pub segment_address : List ℕ → ℕ → ℕ
 segment_address b k = get_or (map (λ s. s.vmaddr) (segments_of b)) k 0
 
--- L8, of a segment's starts: they have the known page size and format and the segment's place
+-- L8, of a segment's starts: they have the known page size, pointers as offsets from the base (`DYLD_CHAINED_PTR_64_OFFSET`, 6),
+-- and the segment's place
 abbrev pub starts_known : List ℕ → Table → ℕ → Bool
 starts_known b t k =
-    ((segment_starts b t k).page_size == CHAIN_PAGE) && ((segment_starts b t k).pointer_format == POINTER_FORMAT)
+    ((segment_starts b t k).page_size == CHAIN_PAGE) && ((segment_starts b t k).pointer_format == 6)
     && (((segment_starts b t k).segment_offset + base_of b) % 2 ^ 64 == segment_address b k)
 
 -- and stand inside the table; a segment without fixups has none

@@ -1,17 +1,16 @@
 -- When the loader accepts an image: the tests of `LoadRules`, asked of each record, and of each word on the chain. A
 -- refusal names a rule and the file offset of what breaks it.
-use Rattle.std.specs.Prelude.{◌≡◌, ℕ, ◌+◌, ◌-◌, ◌<◌, ◌≤◌, ◌⊎◌, ◌==◌, Bool, true, false, List, [], ◌∷◌, length, filter, All, Contains, ◌*◌}
+use Rattle.std.specs.Prelude.{◌≡◌, ℕ, ◌+◌, ◌-◌, ◌<◌, ◌≤◌, ◌⊎◌, ◌==◌, Bool, true, false, List, [], length, filter, All, Contains, ◌*◌}
 use Rattle.macho_bytes.specs.Numbers.{bits}
 use Rattle.macho_records.specs.declared.header.SegmentCommand.{SegmentCommand}
 use Rattle.macho_model.specs.declared.rules.LoadRule.{LoadRule}
 use Rattle.macho_model.specs.declared.rules.LoadRule.TheVariants.{L1, L2, L3, L4, L5, L6, L7, L8, L9, L10}
 use Rattle.macho_records.specs.declared.constants.TheConstants.{LC_DYLD_CHAINED_FIXUPS, LC_SEGMENT_64}
-use Rattle.macho_model.specs.Lists.{IsNumber, EachNext}
+use Rattle.macho_model.specs.Lists.{IsNumber, EachNext, of_first}
 use Rattle.macho_model.specs.Commands.{Command, commands_of, numbered, command_fits}
 use Rattle.macho_model.specs.ObjectRules.{commands_inside}
 use Rattle.macho_model.specs.Grammar.{EachCommand, CommandFails}
 use Rattle.macho_model.specs.Segments.{TEXT}
-use Rattle.macho_model.specs.Lists.{IsNumber}
 use Rattle.macho_model.specs.Images.{segments_of, is_named, segments_named, Table, table_of_command, tables_of, fixups_header, import_place, CHAIN_PAGE}
 use Rattle.macho_model.specs.Chain.{chain_segment, chain_segments, IsFileWord, WORD_SIZE, OnPageChain}
 use Rattle.macho_model.specs.LoadRules.{image_head_fits, needed_in_image, segment_in, protections_fit, file_part_inside, segment_is_paged, segment_ends, begins_behind, text_holds_commands, table_fits, import_fits}
@@ -23,14 +22,11 @@ is_bind word = bits 63 1 word == 1
 abbrev pub ordinal_of : ℕ → ℕ
 ordinal_of word = bits 0 24 word
 
--- a segment may be written to
 abbrev pub is_writable : SegmentCommand → Bool
 is_writable s = bits 1 1 s.initprot == 1
 
--- how many imports an image has
 abbrev pub import_count : List ℕ → List Table → ℕ
-import_count b [] = 0
-import_count b (t ∷ tables) = (fixups_header b t).imports_count
+import_count b tables = of_first 0 (λ t. (fixups_header b t).imports_count) tables
 
 -- an address is on the chain of a page of a segment, by the segment's number
 abbrev pub OnPageOf : List ℕ → ℕ → SegmentCommand → ℕ → ℕ → Type 0
@@ -45,22 +41,14 @@ pub record WordFits (b : List ℕ) (s : SegmentCommand) (page a : ℕ) : Type 0 
   pub to : a + WORD_SIZE ≤ s.vmaddr + s.filesize
   pub import : (word : ℕ) → IsFileWord (chain_segments b) b a word → is_bind word ≡ true → ordinal_of word < import_count b (tables_of b)
 
--- each segment and the one behind it
-abbrev pub EachNeighbour : List Command → (Command → Command → Bool) → Type 0
-EachNeighbour cs test = EachNext (λ c d. test c d ≡ true) cs
-
--- the commands of segments
-abbrev pub segment_commands : List ℕ → List Command
-segment_commands b = numbered LC_SEGMENT_64 b
-
 -- THE loader accepts an image: one field for each rule.
 pub record IsAccepted (b : List ℕ) : Type 0 where
   pub l1 : image_head_fits b ≡ true
   pub l2 : (commands_inside b ≡ true) × EachCommand (commands_of b) (command_fits (needed_in_image b) b)
-  pub l3 : EachCommand (segment_commands b) (protections_fit b)
-  pub l4 : EachCommand (segment_commands b) (file_part_inside b)
-  pub l5 : EachCommand (segment_commands b) (segment_is_paged b)
-  pub l6 : EachCommand (segment_commands b) (segment_ends b) × EachNeighbour (segment_commands b) (begins_behind b)
+  pub l3 : EachCommand (numbered LC_SEGMENT_64 b) (protections_fit b)
+  pub l4 : EachCommand (numbered LC_SEGMENT_64 b) (file_part_inside b)
+  pub l5 : EachCommand (numbered LC_SEGMENT_64 b) (segment_is_paged b)
+  pub l6 : EachCommand (numbered LC_SEGMENT_64 b) (segment_ends b) × EachNext (λ c d. begins_behind b c d ≡ true) (numbered LC_SEGMENT_64 b)
   pub l7 : (length (segments_named TEXT b) ≡ 1) × All (λ s. text_holds_commands b s ≡ true) (segments_named TEXT b)
   pub l8 : (length (tables_of b) ≤ 1) × All (λ t. table_fits b t ≡ true) (tables_of b)
   pub l9 : (t : Table) (k : ℕ) → Contains (tables_of b) t → k < (fixups_header b t).imports_count → import_fits b t k ≡ true
@@ -74,7 +62,7 @@ NeighbourFails cs place test =
 
 -- the commands of `__TEXT` segments
 abbrev pub text_commands : List ℕ → List Command
-text_commands b = filter (λ c. is_named TEXT (segment_in b c)) (segment_commands b)
+text_commands b = filter (λ c. is_named TEXT (segment_in b c)) (numbered LC_SEGMENT_64 b)
 
 -- there is no `__TEXT`, told at 0, or a second one, told at its command
 abbrev pub TextIsNotOne : List ℕ → ℕ → Type 0
@@ -105,10 +93,11 @@ WordFails b place =
 abbrev pub ImageBreaks : List ℕ → LoadRule → ℕ → Type 0
 ImageBreaks b L1 place = (place ≡ 0) × (image_head_fits b ≡ false)
 ImageBreaks b L2 place = ((place ≡ 0) × (commands_inside b ≡ false)) ⊎ CommandFails (commands_of b) place (command_fits (needed_in_image b) b)
-ImageBreaks b L3 place = CommandFails (segment_commands b) place (protections_fit b)
-ImageBreaks b L4 place = CommandFails (segment_commands b) place (file_part_inside b)
-ImageBreaks b L5 place = CommandFails (segment_commands b) place (segment_is_paged b)
-ImageBreaks b L6 place = CommandFails (segment_commands b) place (segment_ends b) ⊎ NeighbourFails (segment_commands b) place (begins_behind b)
+ImageBreaks b L3 place = CommandFails (numbered LC_SEGMENT_64 b) place (protections_fit b)
+ImageBreaks b L4 place = CommandFails (numbered LC_SEGMENT_64 b) place (file_part_inside b)
+ImageBreaks b L5 place = CommandFails (numbered LC_SEGMENT_64 b) place (segment_is_paged b)
+ImageBreaks b L6 place =
+    CommandFails (numbered LC_SEGMENT_64 b) place (segment_ends b) ⊎ NeighbourFails (numbered LC_SEGMENT_64 b) place (begins_behind b)
 ImageBreaks b L7 place = TextIsNotOne b place ⊎ CommandFails (text_commands b) place (λ c. text_holds_commands b (segment_in b c))
 ImageBreaks b L8 place = SecondTable b place ⊎ CommandFails (fixup_commands b) place (λ c. table_fits b (table_of_command b c))
 ImageBreaks b L9 place = ImportFails b place

@@ -4,7 +4,6 @@ use Rattle.std.specs.Prelude.{◌≡◌, ℕ, ◌+◌, ◌*◌, ◌%◌, ◌^◌
 use Rattle.macho_bytes.specs.Numbers.{signed, page, low}
 use Rattle.macho_model.specs.Words.{is_adrp, imm21, imm26, is_add, is_ldr, imm12, scale_of, base_register, written_register, without_imm21, without_imm26, without_imm12, BR_X16, X16}
 
--- two addresses are the same
 abbrev pub Same : ℕ → ℕ → Type 0
 Same x y = x % 2 ^ 64 ≡ y % 2 ^ 64
 

@@ -24,12 +24,10 @@ abbrev pub chosen : Choice → List ℕ → List ℕ → Option ℕ
 chosen choice library name = get choice (library, name)
 
 -- the choice has an address below 2 ^ 64 for each import of an image
-abbrev pub BindsImport : List ℕ → Choice → Table → ℕ → Type 0
-BindsImport b choice t k =
-    (x : ℕ) × (x < 2 ^ 64) × (chosen choice (import_library_name b (import_entry b t k)) (import_name b t (import_entry b t k)) ≡ Some x)
-
 abbrev pub BindsAll : List ℕ → Choice → Type 0
-BindsAll b choice = (t : Table) (k : ℕ) → Contains (tables_of b) t → k < (fixups_header b t).imports_count → BindsImport b choice t k
+BindsAll b choice =
+    (t : Table) (k : ℕ) → Contains (tables_of b) t → k < (fixups_header b t).imports_count
+    → (x : ℕ) × (x < 2 ^ 64) × (chosen choice (import_library_name b (import_entry b t k)) (import_name b t (import_entry b t k)) ≡ Some x)
 
 -- a slide fits an image: no mapped segment passes 2 ^ 64
 abbrev pub FitsSlide : List ℕ → ℕ → Type 0

@@ -9,9 +9,9 @@ use Rattle.macho_model.specs.Objects.{relocation_at, install_name_of}
 use Rattle.macho_model.specs.ExportLists.{plain_entries}
 use Rattle.macho_model.specs.Links.{Input, Object, Dylib, Stub, Link, object_of, SectionId, header_at, is_consumed, is_initializers, is_unwind_entries, sections_of, carried_of}
 use Rattle.macho_model.specs.Symbols.{is_global}
-use Rattle.macho_model.specs.Resolution.{SymbolId, Definition, Symbol, Library, ImageBase, definition_of, entry_at, name_at, library_name}
+use Rattle.macho_model.specs.Resolution.{SymbolId, Definition, Library, definition_of, entry_at, name_at, library_name}
 
--- the bytes of an initializer's slot and of a compact unwind entry, and the place of the personality in the latter
+-- the bytes of a pointer or a slot and of a compact unwind entry, and the place of the personality in the latter
 -- (`mach-o/compact_unwind_encoding.h`)
 abbrev pub POINTER_SIZE : ℕ
 POINTER_SIZE = 8
@@ -54,12 +54,10 @@ unwind_sections l = filter (λ s. is_consumed (header_at l s) && is_unwind_entri
 abbrev pub carried_uses : Link → SectionId → List Use
 carried_uses l s = map (ByRelocation s) (relocations_of l s)
 
--- slot by slot
 abbrev pub initializer_uses : Link → SectionId → List Use
 initializer_uses l s =
     flat_map (λ slot. map (ByInitializer s) (relocations_at l s (POINTER_SIZE * slot))) (range_with_len 0 ((header_at l s).size / POINTER_SIZE))
 
--- entry by entry
 abbrev pub personality_uses : Link → SectionId → List Use
 personality_uses l s =
     flat_map (λ entry. map (ByPersonality s) (relocations_at l s (UNWIND_ENTRY_SIZE * entry + PERSONALITY_PLACE)))
@@ -67,15 +65,12 @@ personality_uses l s =
 
 -- a name is defined by a library
 abbrev pub is_library : Option Definition → Bool
-is_library None = false
-is_library (Some (Symbol s)) = false
 is_library (Some (Library file)) = true
-is_library (Some ImageBase) = false
+is_library d = false
 
 abbrev pub is_imported : Link → List ℕ → Bool
 is_imported l name = is_library (definition_of l name)
 
--- the walk
 unfoldable pub uses_of : Link → List Use
 uses_of l =
     flat_map (carried_uses l) (carried_of l) ++ flat_map (initializer_uses l) (initializer_sections l)
@@ -120,10 +115,8 @@ import_number noted name = position_or_len (bytes_eq name) noted
 
 -- the number of the library that defines a name, 0 for any other name
 abbrev pub library_file : Option Definition → ℕ
-library_file None = 0
-library_file (Some (Symbol s)) = 0
 library_file (Some (Library file)) = file
-library_file (Some ImageBase) = 0
+library_file d = 0
 
 -- the install name of the library that an import is bound to
 abbrev pub import_library : Link → List ℕ → List ℕ

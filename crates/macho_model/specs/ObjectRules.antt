@@ -13,10 +13,6 @@ use Rattle.macho_records.specs.Sections.{is_zerofill, type_of}
 use Rattle.macho_model.specs.Commands.{Command, header_of, commands_end, numbered, segment_size}
 use Rattle.macho_model.specs.Objects.{num_sections, section_at, symtab_of, num_symbols, symbol_at, strings_of, relocation_at}
 
--- the greatest alignment that is taken, as an exponent of 2: a page of 16 KiB
-abbrev pub GREATEST_EXPONENT : ℕ
-GREATEST_EXPONENT = 14
-
 -- O1: a whole 64-bit arm64 header of the type, in a file of fewer than 2 ^ 32 bytes
 abbrev pub head_fits : ℕ → List ℕ → Bool
 head_fits filetype b =
@@ -63,9 +59,9 @@ data_inside b k =
     (is_zerofill (section_at b k) || nat_le ((section_at b k).offset + (section_at b k).size) (length b))
     && nat_le ((section_at b k).addr + (section_at b k).size) (2 ^ 64)
 
--- O7: a section is aligned to 2 ^ 14 at most
+-- O7: a section is aligned to 2 ^ 14 at most, a page of 16 KiB
 abbrev pub exponent_fits : List ℕ → ℕ → Bool
-exponent_fits b k = nat_le (section_at b k).align GREATEST_EXPONENT
+exponent_fits b k = nat_le (section_at b k).align 14
 
 -- O8: a symbol stands in its section, or at its end
 abbrev pub value_in_section : List ℕ → ℕ → Bool
@@ -113,4 +109,4 @@ global_has_name b k = is_stab_of (symbol_at b k) || not (is_external_of (symbol_
 abbrev pub common_fits : List ℕ → ℕ → Bool
 common_fits b k =
     not (is_common_of (symbol_at b k))
-    || (nat_le (common_exponent_of (symbol_at b k)) GREATEST_EXPONENT && nat_lt (common_size_of (symbol_at b k)) (2 ^ 64))
+    || (nat_le (common_exponent_of (symbol_at b k)) 14 && nat_lt (common_size_of (symbol_at b k)) (2 ^ 64))

@@ -1,6 +1,6 @@
 -- What the bytes of an object or of a dynamic library say: its sections, symbols, names, relocations and install name.
 -- Each is a total function of the whole list of bytes; `Grammar` tells when the bytes are whole.
-use Rattle.std.specs.Prelude.{ℕ, ◌+◌, ◌*◌, ◌==◌, if◌then◌else◌, List, [], ◌∷◌, drop, slice_range}
+use Rattle.std.specs.Prelude.{ℕ, ◌+◌, ◌*◌, ◌==◌, if◌then◌else◌, List, [], drop, slice_range}
 use Rattle.macho_bytes.specs.Texts.{name_of}
 use Rattle.macho_bytes.specs.Layouts.{reading, size_of}
 use Rattle.macho_records.specs.Layouts.{segment_command, section_header, symtab_command, symtab_entry}
@@ -13,7 +13,8 @@ use Rattle.macho_records.specs.declared.symbols.SymtabEntry.{SymtabEntry}
 use Rattle.macho_structs.specs.declared.relocations.RelocationInfo.{RelocationInfo}
 use Rattle.macho_records.specs.declared.constants.TheConstants.{LC_ID_DYLIB, LC_SEGMENT_64, LC_SYMTAB}
 use Rattle.macho_records.specs.Sections.{is_zerofill}
-use Rattle.macho_model.specs.Commands.{Command, numbered, place_of, path_of}
+use Rattle.macho_model.specs.Commands.{numbered, place_of, path_of}
+use Rattle.macho_model.specs.Lists.{of_first}
 
 -- an object's one segment, which holds all its sections
 unfoldable pub segment_of : List ℕ → SegmentCommand
@@ -62,9 +63,5 @@ unfoldable pub relocation_at : List ℕ → ℕ → ℕ → RelocationInfo
 relocation_at b k r = reading relocation_info b (relocation_place b k r)
 
 -- the install name of a dynamic library: the path of its first such command
-abbrev pub first_path : List ℕ → List Command → List ℕ
-first_path b [] = []
-first_path b (c ∷ cs) = path_of b c (reading dylib_command b c.at).name_offset
-
 unfoldable pub install_name_of : List ℕ → List ℕ
-install_name_of b = first_path b (numbered LC_ID_DYLIB b)
+install_name_of b = of_first [] (λ c. path_of b c (reading dylib_command b c.at).name_offset) (numbered LC_ID_DYLIB b)

@@ -8,7 +8,7 @@ use Rattle.macho_records.specs.Segments.{bytes_of, text_of, name_field}
 use Rattle.macho_model.specs.declared.placed.Counts.{Counts}
 use Rattle.macho_model.specs.declared.placed.PlacedSegment.{PlacedSegment}
 use Rattle.macho_model.specs.declared.placed.Range64.{Range64}
-use Rattle.macho_model.specs.Lists.{IsNumber, EachNext}
+use Rattle.macho_model.specs.Lists.{IsNumber, EachNext, of_first}
 use Rattle.macho_model.specs.Links.{Link, carried_of, greatest}
 use Rattle.macho_model.specs.Resolution.{chosen_commons}
 use Rattle.macho_model.specs.Segments.{PAGEZERO, TEXT, LINKEDIT, SEGMENT_PAGE, PAGEZERO_SIZE, may_hold_pointers, segment_names_of}
@@ -31,27 +31,17 @@ filled_in l counts s = filter (λ o. not (is_zeros (key_of_output o))) (sections
 unfoldable pub row_of : Link → Counts → Placed → PlacedSegment → List OutputSection → List Piece
 row_of l counts p s sections = front_of counts p s ∷ map (extent_of l p) sections
 
--- the tables of `__LINKEDIT`, in file offsets; a signature begins at a multiple of 16
+-- a table of `__LINKEDIT`, in file offsets
 abbrev pub table_piece : ℕ → Range64 → Piece
 table_piece exponent r = record { start = r.start; size = r.end - r.start; exponent = exponent }
 
-abbrev pub SIGNATURE_EXPONENT : ℕ
-SIGNATURE_EXPONENT = 4
-
--- the file offset of `__LINKEDIT`, 0 where there is none
-abbrev pub first_offset : List PlacedSegment → ℕ
-first_offset [] = 0
-first_offset (s ∷ segments) = s.file_offset
-
-abbrev pub linkedit_front : Placed → Piece
-linkedit_front p = record { start = first_offset (filter (is_segment_named LINKEDIT) p.segments); size = 0; exponent = 0 }
-
+-- the file offset of `__LINKEDIT`, 0 where there is none, and its tables; a signature begins at a multiple of 16
 abbrev pub table_pieces : Placed → List Piece
 table_pieces p =
-    linkedit_front p ∷ table_piece POINTER_EXPONENT p.linkedit.fixups ∷ table_piece 0 p.linkedit.trie ∷ table_piece POINTER_EXPONENT p.linkedit.symtab
-    ∷ table_piece 0 p.linkedit.strtab ∷ table_piece SIGNATURE_EXPONENT p.linkedit.signature ∷ []
+    record { start = of_first 0 (λ s. s.file_offset) (filter (is_segment_named LINKEDIT) p.segments); size = 0; exponent = 0 }
+    ∷ table_piece POINTER_EXPONENT p.linkedit.fixups ∷ table_piece 0 p.linkedit.trie ∷ table_piece POINTER_EXPONENT p.linkedit.symtab
+    ∷ table_piece 0 p.linkedit.strtab ∷ table_piece 4 p.linkedit.signature ∷ []
 
--- a piece ends before another begins
 abbrev pub EndsBefore : Piece → Piece → Type 0
 EndsBefore c d = end_of_piece c ≤ d.start
 
@@ -108,7 +98,6 @@ fixup_room counts pages = rounded_up 8 (188 + counts.import_size * counts.import
 abbrev pub signature_room : Counts → ℕ → ℕ
 signature_room counts limit = SIGNATURE_FIXED + counts.identifier + DIGEST_SIZE * (rounded_up SIGNED_PAGE limit / SIGNED_PAGE)
 
--- a range has so many bytes
 abbrev pub HasRoom : Range64 → ℕ → Type 0
 HasRoom r room = r.end ≡ r.start + room
 

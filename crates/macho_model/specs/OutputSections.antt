@@ -11,7 +11,6 @@ use Rattle.macho_records.specs.Symbols.{common_exponent_of}
 use Rattle.macho_model.specs.declared.placed.Counts.{Counts}
 use Rattle.macho_model.specs.declared.placed.PlacedSection.{PlacedSection}
 use Rattle.macho_model.specs.declared.placed.PlacedCommon.{PlacedCommon}
-use Rattle.macho_model.specs.declared.placed.PlacedSegment.{PlacedSegment}
 use Rattle.macho_model.specs.declared.placed.Slot.{Slot}
 use Rattle.macho_model.specs.declared.placed.Stub.{Stub}
 use Rattle.macho_model.specs.Links.{Link, SectionId, header_at, carried_of, placed_exponent, greatest}
@@ -20,6 +19,7 @@ use Rattle.macho_model.specs.Targets.{slots_of, stubs_of}
 use Rattle.macho_model.specs.Segments.{TEXT, DATA_CONST, DATA, OutputKey, same_key, key_of, common_key, output_keys_of, segment_names_of, list_if}
 use Rattle.macho_model.specs.WrittenSum.{STUB_SIZE}
 use Rattle.macho_model.specs.Placement.{Placed, Span, id_of, section_span, common_of, common_span, slot_span, stub_span, range_span, is_segment_named}
+use Rattle.macho_model.specs.Lists.{of_first}
 
 -- An output section: sections of the objects that are merged, or one that the linker makes.
 pub data OutputSection : Type 0 where
@@ -148,12 +148,10 @@ stub_size_of Stubs = STUB_SIZE
 stub_size_of o = 0
 
 -- the file offset of an address of a segment, 0 where there is no such segment
-abbrev pub file_offset_in : List PlacedSegment → ℕ → ℕ
-file_offset_in [] address = 0
-file_offset_in (s ∷ segments) address = s.file_offset + (address - s.address)
-
 abbrev pub file_offset_of : Placed → OutputKey → ℕ → ℕ
-file_offset_of p key address = if is_zeros key then 0 else file_offset_in (filter (is_segment_named key.segment) p.segments) address
+file_offset_of p key address =
+    if is_zeros key then 0
+    else of_first 0 (λ s. s.file_offset + (address - s.address)) (filter (is_segment_named key.segment) p.segments)
 
 -- the header of an output section
 abbrev pub output_header : Link → Placed → OutputSection → SectionHeader

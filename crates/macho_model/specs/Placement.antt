@@ -17,12 +17,13 @@ use Rattle.macho_model.specs.declared.targets.Target.TheVariants as target
 use Rattle.macho_records.specs.Sections.{is_zerofill}
 use Rattle.macho_records.specs.Segments.{text_of}
 use Rattle.macho_records.specs.Symbols.{common_exponent_of, common_size_of}
-use Rattle.macho_model.specs.Lists.{IsNumber, EachNext}
+use Rattle.macho_model.specs.Lists.{IsNumber, EachNext, of_first}
 use Rattle.macho_model.specs.Links.{Link, SectionId, header_at, carried_of, is_template, placed_exponent}
 use Rattle.macho_model.specs.Resolution.{SymbolId, entry_at, chosen_commons}
 use Rattle.macho_model.specs.Targets.{slots_of, stubs_of, slot_number}
 use Rattle.macho_model.specs.Segments.{TEXT, DATA_CONST, DATA, LINKEDIT, SEGMENT_PAGE, base_of_link, segment_name, segment_rank}
-use Rattle.macho_model.specs.WrittenSum.{SLOT_SIZE, STUB_SIZE, written_sum_of}
+use Rattle.macho_model.specs.WrittenSum.{STUB_SIZE, written_sum_of}
+use Rattle.macho_model.specs.Needs.{POINTER_SIZE}
 
 -- A placement in plain lists: where each thing got its addresses and its file range.
 pub record Placed : Type 0 where
@@ -65,7 +66,7 @@ abbrev pub common_span : Link → PlacedCommon → Span
 common_span l c = record { start = c.address; size = common_size_of (entry_at l (common_of l c.id)) }
 
 abbrev pub slot_span : Slot → Span
-slot_span s = record { start = s.address; size = SLOT_SIZE }
+slot_span s = record { start = s.address; size = POINTER_SIZE }
 
 abbrev pub stub_span : Stub → Span
 stub_span s = record { start = s.address; size = STUB_SIZE }
@@ -85,12 +86,11 @@ abbrev pub is_segment_named : List ℕ → PlacedSegment → Bool
 is_segment_named name s = bytes_eq (text_of s.name) name
 
 -- a table of `__LINKEDIT` has a file range; in memory it stands where the segment's file bytes are mapped to
-abbrev pub linkedit_start : List PlacedSegment → ℕ → ℕ
-linkedit_start [] offset = offset
-linkedit_start (s ∷ segments) offset = s.address + offset - s.file_offset
-
 abbrev pub linkedit_span : Placed → Range64 → Span
-linkedit_span p r = record { start = linkedit_start (filter (is_segment_named LINKEDIT) p.segments) r.start; size = r.end - r.start }
+linkedit_span p r = record {
+  start = of_first r.start (λ s. s.address + r.start - s.file_offset) (filter (is_segment_named LINKEDIT) p.segments);
+  size = r.end - r.start;
+}
 
 abbrev pub linkedit_ranges : Placed → List Range64
 linkedit_ranges p = p.linkedit.fixups ∷ p.linkedit.trie ∷ p.linkedit.symtab ∷ p.linkedit.strtab ∷ p.linkedit.signature ∷ []
@@ -100,9 +100,6 @@ unfoldable pub spans_with : Link → Counts → Placed → List PlacedSection �
 spans_with l counts p sections =
     head_span counts p ∷ map (section_span l) sections ++ map (common_span l) p.commons ++ map slot_span p.slots ++ map stub_span p.stubs
     ++ range_span p.init_offsets ∷ range_span p.unwind ∷ map (linkedit_span p) (linkedit_ranges p)
-
-abbrev pub spans_of : Link → Counts → Placed → List Span
-spans_of l counts p = spans_with l counts p p.sections
 
 -- a range lies in a segment, and in its file part where it has file bytes
 pub record LiesIn (in_file : Bool) (span : Span) (s : PlacedSegment) : Type 0 where
@@ -169,20 +166,15 @@ pub record Follows (l : Link) (s t : PlacedSegment) : Type 0 where
   pub address : t.address ≡ s.address + s.size
   pub file_offset : t.file_offset ≡ s.file_offset + s.file_size
 
--- each segment follows the one before it
-abbrev pub EachFollows : Link → List PlacedSegment → Type 0
-EachFollows l segments = EachNext (Follows l) segments
-
 -- `__TEXT` begins at the image's base, so that all segments behind it stand there or later
 abbrev pub TextBegins : Link → List PlacedSegment → Type 0
 TextBegins l segments = (s : PlacedSegment) × Contains segments s × (is_segment_named TEXT s ≡ true) × (s.address ≡ base_of_link l)
 
 pub record IsInOrder (l : Link) (p : Placed) : Type 0 where
   pub paged : All IsPaged p.segments
-  pub follow : EachFollows l p.segments
+  pub follow : EachNext (Follows l) p.segments
   pub begins : TextBegins l p.segments
 
--- a range of addresses holds another
 abbrev pub HoldsSpan : Range64 → Span → Type 0
 HoldsSpan r span = (r.start ≤ span.start) × (span.start + span.size ≤ r.end)
 
@@ -214,7 +206,7 @@ pub record IsPlaced (l : Link) (counts : Counts) (p : Placed) : Type 0 where
   -- each part lies in its segment
   pub in_segment : IsInSegment l p
   -- no two parts share an address
-  pub apart : AllPairs AreApart (spans_of l counts p)
+  pub apart : AllPairs AreApart (spans_with l counts p p.sections)
   -- segments stand one behind the other, in the order of their names, and `__TEXT` begins at the base
   pub in_order : IsInOrder l p
   -- thread-local initial values stand together, apart from all else

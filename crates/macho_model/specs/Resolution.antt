@@ -26,8 +26,7 @@ name_at l s = symbol_name (object_of l s.file) s.symbol
 -- the symbols of one file, and all symbols of all objects, by file, then index
 abbrev pub symbols_of_file : ℕ → Input → List SymbolId
 symbols_of_file file (Object bytes) = map (λ k. record { file = file; symbol = k }) (range_with_len 0 (num_symbols bytes))
-symbols_of_file file (Dylib bytes) = []
-symbols_of_file file (Stub text says) = []
+symbols_of_file file library = []
 
 unfoldable pub symbols_of : Link → List SymbolId
 symbols_of l = flat_map (λ i. symbols_of_file i.0 i.1) (enumerate_from 0 l.inputs)
@@ -108,10 +107,8 @@ definition_of l name =
 
 -- a symbol is the one that defines its name
 abbrev pub is_symbol : SymbolId → Option Definition → Bool
-is_symbol s None = false
 is_symbol s (Some (Symbol t)) = same_symbol s t
-is_symbol s (Some (Library file)) = false
-is_symbol s (Some ImageBase) = false
+is_symbol s d = false
 
 abbrev pub defines : Link → SymbolId → Bool
 defines l s = is_global (entry_at l s) && is_symbol s (definition_of l (name_at l s))
@@ -123,7 +120,6 @@ is_chosen l s = is_common_of (entry_at l s) && defines l s
 unfoldable pub chosen_commons : Link → List SymbolId
 chosen_commons l = filter (is_chosen l) (symbols_of l)
 
--- the install name of a library
 abbrev pub install_name_in : Input → List ℕ
 install_name_in (Object bytes) = []
 install_name_in (Dylib bytes) = install_name_of bytes

@@ -56,7 +56,6 @@ takes_offset w = is_add w || is_load_store w
 abbrev pub load_fits : ℕ → Target → Bool
 load_fits w t = is_ldr w && (is_import t || not (written_register w == REGISTER_31))
 
--- A relocation is supported.
 unfoldable pub is_supported : Link → SectionId → ℕ → Bool
 is_supported l s r = supported (relocation_in l s r) (target_of_relocation l s r) (content_of l s r)
   where
@@ -74,12 +73,10 @@ is_supported l s r = supported (relocation_in l s r) (target_of_relocation l s r
         else if rel.r_type == ARM64_RELOC_ADDEND then addend_fits l s r && begins_pair l s r
         else false
 
--- two relocations of a section share a byte
 abbrev pub share_byte : Link → SectionId → ℕ → ℕ → Bool
 share_byte l s q r =
     nat_lt (relocation_in l s q).r_address ((relocation_in l s r).r_address + 2 ^ (relocation_in l s r).r_length)
     && nat_lt (relocation_in l s r).r_address ((relocation_in l s q).r_address + 2 ^ (relocation_in l s q).r_length)
 
--- two relocations of a section are a pair
 abbrev pub are_pair : Link → SectionId → ℕ → ℕ → Bool
 are_pair l s q r = (r == q + 1) && is_pair (relocation_in l s q) (relocation_in l s r)

@@ -114,7 +114,6 @@ same_key a b = bytes_eq a.segment b.segment && bytes_eq a.name b.name && (a.type
 abbrev pub key_of : SectionHeader → OutputKey
 key_of h = record { segment = name_of h.segname; name = name_of h.sectname; type = type_of h }
 
--- the section that commons stand in
 abbrev pub common_key : OutputKey
 common_key = record { segment = DATA; name = COMMON; type = S_ZEROFILL }
 

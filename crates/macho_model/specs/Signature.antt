@@ -35,7 +35,6 @@ page_digest b k limit = sha256 (slice_range b (SIGNED_PAGE * k) (min (SIGNED_PAG
 abbrev pub page_count : ℕ → ℕ
 page_count limit = (limit + (SIGNED_PAGE - 1)) / SIGNED_PAGE
 
--- the digests of all pages, in order
 unfoldable pub page_digests : List ℕ → ℕ → List ℕ
 page_digests b limit = flat_map (λ k. page_digest b k limit) (range_with_len 0 (page_count limit))
 
@@ -52,18 +51,9 @@ pub record Signed : Type 0 where
   pub text_size : ℕ
   pub limit : ℕ
 
--- `CSMAGIC_EMBEDDED_SIGNATURE`, `CSMAGIC_CODEDIRECTORY`; the flags `CS_ADHOC` and `CS_LINKER_SIGNED`; `CS_EXECSEG_MAIN_BINARY`
+-- `CSMAGIC_EMBEDDED_SIGNATURE`
 abbrev pub SUPER_BLOB_MAGIC : ℕ
 SUPER_BLOB_MAGIC = 0xfade0cc0
-
-abbrev pub DIRECTORY_MAGIC : ℕ
-DIRECTORY_MAGIC = 0xfade0c02
-
-abbrev pub LINKER_SIGNED : ℕ
-LINKER_SIGNED = 0x20002
-
-abbrev pub MAIN_BINARY : ℕ
-MAIN_BINARY = 1
 
 -- the super blob has a head of three words and one index of two: the code directory's type and place
 abbrev pub DIRECTORY_PLACE : ℕ
@@ -73,12 +63,13 @@ DIRECTORY_PLACE = 20
 abbrev pub directory_size : Signed → ℕ
 directory_size s = size_of code_directory + length (identifier_text s.name) + DIGEST_SIZE * page_count s.limit
 
+-- its magic is `CSMAGIC_CODEDIRECTORY`, its flags `CS_ADHOC` and `CS_LINKER_SIGNED`, an executable's `CS_EXECSEG_MAIN_BINARY`
 abbrev pub directory_for : Signed → CodeDirectory
 directory_for s = record {
-  magic = DIRECTORY_MAGIC;
+  magic = 0xfade0c02;
   length = directory_size s;
   version = 0x20400;
-  flags = LINKER_SIGNED;
+  flags = 0x20002;
   hash_offset = size_of code_directory + length (identifier_text s.name);
   ident_offset = size_of code_directory;
   special_slots = 0;
@@ -96,7 +87,7 @@ directory_for s = record {
   code_limit64 = 0;
   exec_base = s.text_offset;
   exec_limit = s.text_size;
-  exec_flags = if s.executable then MAIN_BINARY else 0;
+  exec_flags = if s.executable then 1 else 0;
 }
 
 -- the bytes of a signature: the super blob with one code directory, the identifier, the digests

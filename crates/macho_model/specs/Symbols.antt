@@ -5,7 +5,6 @@ use Rattle.macho_records.specs.declared.symbols.SymtabEntry.{SymtabEntry}
 use Rattle.macho_records.specs.Symbols.{is_stab_of, is_defined_of, is_absolute_of, is_external_of}
 use Rattle.macho_records.specs.Sections.{section_name_of, segment_name_of}
 
--- a symbol of a section
 abbrev pub is_in_section : SymtabEntry → Bool
 is_in_section s = not (is_stab_of s) && is_defined_of s
 
@@ -21,10 +20,8 @@ is_global s = not (is_stab_of s) && is_external_of s
 abbrev pub is_local : SymtabEntry → Bool
 is_local s = not (is_stab_of s) && not (is_external_of s)
 
--- a section is in the segment of this name
 abbrev pub is_in_segment : List ℕ → SectionHeader → Bool
 is_in_segment name h = bytes_eq (segment_name_of h) name
 
--- a section has this name
 abbrev pub has_section_name : List ℕ → SectionHeader → Bool
 has_section_name name h = bytes_eq (section_name_of h) name

@@ -8,7 +8,7 @@ use Rattle.macho_records.specs.Symbols.{is_common_of}
 use Rattle.macho_records.specs.declared.constants.TheConstants.{ARM64_RELOC_BRANCH26, ARM64_RELOC_GOT_LOAD_PAGE21, ARM64_RELOC_GOT_LOAD_PAGEOFF12, ARM64_RELOC_POINTER_TO_GOT, ARM64_RELOC_TLVP_LOAD_PAGE21, ARM64_RELOC_TLVP_LOAD_PAGEOFF12}
 use Rattle.macho_model.specs.Links.{Link, SectionId, header_at, is_carried}
 use Rattle.macho_model.specs.Resolution.{SymbolId, Definition, Symbol, Library, ImageBase, entry_at, name_at, same_symbol, section_of_symbol, stands_in_carried, definition_of, chosen_commons}
-use Rattle.macho_model.specs.Needs.{Use, ByRelocation, ByInitializer, ByPersonality, ByName, relocation_in, section_named, symbol_of_relocation, imports_of, import_number, uses_of, distinct}
+use Rattle.macho_model.specs.Needs.{Use, ByRelocation, ByPersonality, relocation_in, section_named, symbol_of_relocation, imports_of, import_number, uses_of, distinct}
 
 -- the place of a symbol in its section
 abbrev pub place_of_symbol : Link → SymbolId → Target
@@ -38,11 +38,8 @@ target_with l noted s =
     else target.None
 
 -- the target of a global name, where all imports are noted
-abbrev pub target_of_definition : Link → List ℕ → Option Definition → Target
-target_of_definition l name d = definition_target l (imports_of l) name d
-
 abbrev pub target_of_name : Link → List ℕ → Target
-target_of_name l name = target_of_definition l name (definition_of l name)
+target_of_name l name = definition_target l (imports_of l) name (definition_of l name)
 
 -- The target of a symbol, where all imports are noted.
 unfoldable pub target_of : Link → SymbolId → Target
@@ -94,9 +91,8 @@ slot_of_relocation type t = if (type == ARM64_RELOC_POINTER_TO_GOT) || (goes_by_
 
 abbrev pub slot_of_use : Link → Use → Option Target
 slot_of_use l (ByRelocation s r) = slot_of_relocation (relocation_in l s r).r_type (target_of_relocation l s r)
-slot_of_use l (ByInitializer s r) = None
 slot_of_use l (ByPersonality s r) = Some (target_of_relocation l s r)
-slot_of_use l (ByName name) = None
+slot_of_use l u = None
 
 -- the targets that have a slot, by first need; a slot is numbered by its place here
 unfoldable pub slots_of : Link → List Target
@@ -111,9 +107,7 @@ stub_of_relocation type t = if (type == ARM64_RELOC_BRANCH26) && is_import t the
 
 abbrev pub stub_of_use : Link → Use → Option Target
 stub_of_use l (ByRelocation s r) = stub_of_relocation (relocation_in l s r).r_type (target_of_relocation l s r)
-stub_of_use l (ByInitializer s r) = None
-stub_of_use l (ByPersonality s r) = None
-stub_of_use l (ByName name) = None
+stub_of_use l u = None
 
 -- the imports that have a stub, by first need; a stub is numbered by its place here
 unfoldable pub stubs_of : Link → List Target

@@ -15,7 +15,7 @@ use Rattle.macho_model.specs.Words.{scale_of}
 use Rattle.macho_model.specs.Segments.{segment_name, may_hold_pointers}
 use Rattle.macho_model.specs.WrittenSum.{written_sum_of}
 use Rattle.macho_model.specs.Placement.{common_of}
-use Rattle.macho_model.specs.Stands.{Kind, Pointer, Difference, Branch, Page, Offset, SlotPage, SlotOffset, SlotDistance, NoKind, kind_of}
+use Rattle.macho_model.specs.Stands.{Kind, Pointer, Difference, Branch, Page, Offset, kind_of}
 use Rattle.macho_model.specs.Rows.{is_supported, share_byte, are_pair}
 use Rattle.macho_model.specs.Consumed.{initializer_section_fits, initializer_slot_fits, entry_count, whole_entries, keeps}
 use Rattle.macho_model.specs.Limits.{limited}
@@ -59,10 +59,7 @@ field_fits l s f Difference = (f.width == 8) || is_small f.addend
 field_fits l s f Branch = is_small f.addend && stands_at_multiple l s 4 f && is_multiple l 4 f.target f.addend
 field_fits l s f Page = is_small f.addend
 field_fits l s f Offset = is_small f.addend && is_multiple l (scale_of (content_of l s f.relocation)) f.target f.addend
-field_fits l s f SlotPage = true
-field_fits l s f SlotOffset = true
-field_fits l s f SlotDistance = true
-field_fits l s f NoKind = true
+field_fits l s f kind = true
 
 -- the greatest written sum of a valid link
 abbrev pub VALID_SUM : ℕ

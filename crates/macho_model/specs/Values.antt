@@ -1,5 +1,5 @@
 -- When a value does not fit where it is to be written: a pointer or slot as a chain word, a relocated field, a stub.
--- Addresses are those of a placement, before any slide.
+-- Addresses are those of a placement, before any slide and with no import chosen (`empty`).
 use Rattle.std.specs.Prelude.{◌≡◌, ℕ, ◌+◌, ◌-◌, ◌%◌, ◌^◌, ◌<◌, ◌≤◌, ◌⊎◌, ◌==◌, nat_le, nat_lt, ◌&&◌, ◌||◌, not, Bool, true, false, length, get_or, Contains, is_some}
 use Rattle.std.specs.FinMap.{empty}
 use Rattle.macho_bytes.specs.Numbers.{bits, page, low}
@@ -14,8 +14,7 @@ use Rattle.macho_model.specs.Targets.{is_import, slots_of}
 use Rattle.macho_model.specs.Fields.{Field, fields_of, content_of}
 use Rattle.macho_model.specs.Words.{scale_of}
 use Rattle.macho_model.specs.Placement.{Placed}
-use Rattle.macho_model.specs.Memory.{Choice}
-use Rattle.macho_model.specs.Stands.{Kind, Pointer, Difference, Branch, Page, Offset, SlotPage, SlotOffset, SlotDistance, NoKind, kind_of, is_template_offset, SectionAt, IsAt, SlotAt, CallIsAt, LoadIsAt, SubtrahendIsAt}
+use Rattle.macho_model.specs.Stands.{Kind, Pointer, Difference, Branch, Page, Offset, SlotPage, SlotDistance, kind_of, is_template_offset, SectionAt, IsAt, SlotAt, CallIsAt, LoadIsAt, SubtrahendIsAt}
 
 abbrev pub section_id : ℕ → ℕ → SectionId
 section_id file section = record { file = file; section = section }
@@ -40,10 +39,6 @@ needs_fixup l s f = is_pointer f && not (is_absolute_target f.target) && not (is
 abbrev pub FieldOf : Link → SectionId → ℕ → Field → Type 0
 FieldOf l s relocation f = Contains (carried_of l) s × Contains (fields_of l s) f × (f.relocation ≡ relocation)
 
--- the choice of no import: where targets that move are, at slide 0
-abbrev pub no_choice : Choice
-no_choice = empty
-
 -- a value is below the base, or has bits that a chain word has no room for
 abbrev pub IsNotEncodable : Placed → ℕ → Type 0
 IsNotEncodable p value = (value < p.base) ⊎ (1 ≤ bits 36 20 (value - p.base))
@@ -52,10 +47,10 @@ IsNotEncodable p value = (value < p.base) ⊎ (1 ≤ bits 36 20 (value - p.base)
 abbrev pub BadRebase : Link → Placed → Site → Type 0
 BadRebase l p (site.Field file section relocation) =
     (f : Field) × (x : ℕ) × FieldOf l (section_id file section) relocation f × (needs_fixup l (section_id file section) f ≡ true)
-    × (is_import f.target ≡ false) × IsAt l p 0 no_choice f.target x × IsNotEncodable p ((x + f.addend) % 2 ^ 64)
+    × (is_import f.target ≡ false) × IsAt l p 0 empty f.target x × IsNotEncodable p ((x + f.addend) % 2 ^ 64)
 BadRebase l p (site.Slot index) =
     (t : Target) × (x : ℕ) × IsNumber (slots_of l) index t × (is_import t ≡ false) × IsAt l p 0
-    no_choice t x
+    empty t x
     × IsNotEncodable p x
 BadRebase l p (site.Stub index) = ⊥
 
@@ -79,18 +74,16 @@ offset_fits input x = low (x % 2 ^ 64) % scale_of input == 0
 
 -- a field's value does not fit, by its kind, at a place
 abbrev pub DoesNotFit : Link → Placed → SectionId → Field → ℕ → ℕ → Kind → Type 0
-DoesNotFit l p s f place input Pointer = ⊥
 DoesNotFit l p s f place input Difference =
-    (x : ℕ) × (y : ℕ) × IsAt l p 0 no_choice f.target x × SubtrahendIsAt l p 0 no_choice f.subtrahend y × (f.width ≡ 4)
+    (x : ℕ) × (y : ℕ) × IsAt l p 0 empty f.target x × SubtrahendIsAt l p 0 empty f.subtrahend y × (f.width ≡ 4)
     × (fits_signed 32 (less (x + f.addend) y) ≡ false)
 DoesNotFit l p s f place input Branch =
-    (x : ℕ) × CallIsAt l p 0 no_choice f.target x × (branch_reaches place (x + f.addend) ≡ false)
-DoesNotFit l p s f place input Page = (x : ℕ) × IsAt l p 0 no_choice f.target x × (page_reaches place (x + f.addend) ≡ false)
-DoesNotFit l p s f place input Offset = (x : ℕ) × IsAt l p 0 no_choice f.target x × (offset_fits input (x + f.addend) ≡ false)
-DoesNotFit l p s f place input SlotPage = (x : ℕ) × LoadIsAt l p 0 no_choice f.target x × (page_reaches place x ≡ false)
-DoesNotFit l p s f place input SlotOffset = ⊥
+    (x : ℕ) × CallIsAt l p 0 empty f.target x × (branch_reaches place (x + f.addend) ≡ false)
+DoesNotFit l p s f place input Page = (x : ℕ) × IsAt l p 0 empty f.target x × (page_reaches place (x + f.addend) ≡ false)
+DoesNotFit l p s f place input Offset = (x : ℕ) × IsAt l p 0 empty f.target x × (offset_fits input (x + f.addend) ≡ false)
+DoesNotFit l p s f place input SlotPage = (x : ℕ) × LoadIsAt l p 0 empty f.target x × (page_reaches place x ≡ false)
 DoesNotFit l p s f place input SlotDistance = (x : ℕ) × SlotAt p 0 f.target x × (fits_signed 32 (less x place) ≡ false)
-DoesNotFit l p s f place input NoKind = ⊥
+DoesNotFit l p s f place input kind = ⊥
 
 -- a field's value does not fit it; or a stub's slot is out of its reach
 abbrev pub BadRange : Link → Placed → Site → Type 0

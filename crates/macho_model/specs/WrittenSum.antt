@@ -9,13 +9,11 @@ use Rattle.macho_model.specs.Links.{Link, SectionId, header_at, carried_of, plac
 use Rattle.macho_model.specs.Resolution.{SymbolId, entry_at, chosen_commons}
 use Rattle.macho_model.specs.Targets.{slots_of, stubs_of}
 use Rattle.macho_model.specs.Segments.{SEGMENT_PAGE, segment_names_of, output_count, one_if}
+use Rattle.macho_model.specs.Needs.{POINTER_SIZE}
 
 -- what alignment to an exponent of 2 may cost: in front of the section, and in front of its output section
 abbrev pub padding_of : ℕ → ℕ
 padding_of exponent = 2 * (2 ^ exponent - 1)
-
-abbrev pub SLOT_SIZE : ℕ
-SLOT_SIZE = 8
 
 abbrev pub STUB_SIZE : ℕ
 STUB_SIZE = 12
@@ -41,8 +39,8 @@ common_cost l s = common_size_of (entry_at l s) + padding_of (common_exponent_of
 -- sections, commons, slots, stubs, initializers and unwind information
 unfoldable pub content_sum : Link → Counts → ℕ
 content_sum l counts =
-    sum_by (section_cost l) (carried_of l) + sum_by (common_cost l) (chosen_commons l) + SLOT_SIZE * length (slots_of l) + STUB_SIZE * length (stubs_of l)
-    + INITIALIZER_SIZE * counts.initializers + counts.unwind
+    sum_by (section_cost l) (carried_of l) + sum_by (common_cost l) (chosen_commons l) + POINTER_SIZE * length (slots_of l)
+    + STUB_SIZE * length (stubs_of l) + INITIALIZER_SIZE * counts.initializers + counts.unwind
 
 -- the segments that are mapped from the file: all but `__PAGEZERO`
 abbrev pub file_segments : Link → ℕ
@@ -53,15 +51,11 @@ unfoldable pub command_sum : Link → Counts → ℕ
 command_sum l counts =
     size_of segment_command * length (segment_names_of l) + size_of section_header * output_count l counts + counts.commands
 
--- the fixed parts of a fixup table and of the tables' alignment
-abbrev pub TABLES_FIXED : ℕ
-TABLES_FIXED = 216
-
--- with header, commands and the tables; a segment may cost two pages of 16 KiB
+-- with header, commands and the tables, whose fixed parts and alignment take 216 bytes; a segment may cost two pages of 16 KiB
 unfoldable pub unsigned_sum : Link → Counts → ℕ
 unsigned_sum l counts =
     content_sum l counts + size_of mach_header + command_sum l counts + counts.padding + counts.trie + SYMBOL_SIZE * counts.symbols + counts.strings
-    + TABLES_FIXED + counts.import_size * counts.imports + counts.name_bytes
+    + 216 + counts.import_size * counts.imports + counts.name_bytes
     + 2 * (content_sum l counts / SEGMENT_PAGE + (length (carried_of l) + length (chosen_commons l) + 1)) + 2 * SEGMENT_PAGE * file_segments l
 
 -- the fixed parts of a signature: its superblob and code directory

@@ -13,7 +13,6 @@ use Rattle.macho_model.specs.ImportTable.{names_text}
 abbrev pub in_file : Placed → Span → Span
 in_file p s = record { start = offset_in_file p s.start; size = s.size }
 
--- the sections that have bytes in the file
 abbrev pub filled_sections : Link → Placed → List PlacedSection
 filled_sections l p = filter (λ q. not (is_zerofill (header_at l (id_of q)))) p.sections
 

@@ -9,19 +9,21 @@ use Rattle.std.specs.List.{list_all}
 use Rattle.std.proofs.lemmas.Bool.{leb-true, le-leb}
 use Rattle.std.proofs.lemmas.List.{get_or_default}
 use Rattle.std.proofs.lemmas.List.Elements.{All-contains, Contains-get_or}
+use Rattle.macho_records.specs.declared.constants.TheConstants.{LC_SEGMENT_64}
 use Rattle.macho_model.specs.declared.rules.LoadRule.{LoadRule}
 use Rattle.macho_model.specs.declared.rules.LoadRule.TheVariants.{L1, L2, L3, L4, L5, L6, L7, L8, L9, L10}
-use Rattle.macho_model.specs.Commands.{Command, commands_of, command_fits}
+use Rattle.macho_model.specs.Commands.{Command, commands_of, command_fits, numbered}
 use Rattle.macho_model.specs.ObjectRules.{commands_inside}
 use Rattle.macho_model.specs.Segments.{TEXT}
 use Rattle.macho_model.specs.Images.{segments_named, tables_of, fixups_header}
 use Rattle.macho_model.specs.LoadRules.{image_head_fits, needed_in_image, protections_fit, file_part_inside, segment_is_paged}
 use Rattle.macho_model.specs.LoadRules.{segment_ends, begins_behind, text_holds_commands, table_fits, import_fits}
-use Rattle.macho_model.specs.Loader.{EachNeighbour, segment_commands, IsAccepted}
+use Rattle.macho_model.specs.Loader.{IsAccepted}
 use Rattle.macho_model_walks.specs.steps.WordTests.{EachWordFits}
 use Rattle.macho_model_walks.specs.steps.Asked.{LoadKeeps}
 use Rattle.macho_model.proofs.EachBelow.{each_below, true_or_false, and_left, and_right, and_both, is_equal, equal_is, same_number}
 use Rattle.macho_model.proofs.EachBelow.{other_number, all_pass, pass_all, below_pass, pass_below}
+use Rattle.macho_model.specs.Lists.{EachNext}
 
 -- an image that keeps each rule is accepted
 pub accepted_keeping : (b : List ℕ) → ((rule : LoadRule) → LoadKeeps b rule) → IsAccepted b
@@ -36,7 +38,8 @@ abbrev pub each_neighbour : List Command → (Command → Command → Bool) → 
 each_neighbour cs test = each_below (length cs - 1) (λ k. test (get_or cs k (record { at = 0; number = 0; size = 0 }))
     (get_or cs (k + 1) (record { at = 0; number = 0; size = 0 })))
 
-neighbours_pass : (cs : List Command) (test : Command → Command → Bool) → each_neighbour cs test ≡ true → EachNeighbour cs test
+neighbours_pass : (cs : List Command) (test : Command → Command → Bool) → each_neighbour cs test ≡ true
+    → EachNext (λ c d. test c d ≡ true) cs
 unfolding no_command
 neighbours_pass cs test h k c d (before, at_k) (lt, at_next) =
     let there = below_pass (length cs - 1) (λ j. test (get_or cs j no_command) (get_or cs (j + 1) no_command)) h k (omega arith) in
@@ -44,7 +47,8 @@ neighbours_pass cs test h k c d (before, at_k) (lt, at_next) =
     let second : get_or cs (k + 1) no_command ≡ d = get_or_default cs (k + 1) no_command d lt ∙ at_next in
     rw (← first, ← second) there
 
-pass_neighbours : (cs : List Command) (test : Command → Command → Bool) → EachNeighbour cs test → each_neighbour cs test ≡ true
+pass_neighbours : (cs : List Command) (test : Command → Command → Bool) → EachNext (λ c d. test c d ≡ true) cs
+    → each_neighbour cs test ≡ true
 unfolding no_command
 pass_neighbours cs test h =
     pass_below (length cs - 1) (λ j. test (get_or cs j no_command) (get_or cs (j + 1) no_command))
@@ -56,10 +60,10 @@ pass_neighbours cs test h =
 abbrev pub load_test : List ℕ → LoadRule → Bool
 load_test b L1 = image_head_fits b
 load_test b L2 = commands_inside b && list_all (command_fits (needed_in_image b) b) (commands_of b)
-load_test b L3 = list_all (protections_fit b) (segment_commands b)
-load_test b L4 = list_all (file_part_inside b) (segment_commands b)
-load_test b L5 = list_all (segment_is_paged b) (segment_commands b)
-load_test b L6 = list_all (segment_ends b) (segment_commands b) && each_neighbour (segment_commands b) (begins_behind b)
+load_test b L3 = list_all (protections_fit b) (numbered LC_SEGMENT_64 b)
+load_test b L4 = list_all (file_part_inside b) (numbered LC_SEGMENT_64 b)
+load_test b L5 = list_all (segment_is_paged b) (numbered LC_SEGMENT_64 b)
+load_test b L6 = list_all (segment_ends b) (numbered LC_SEGMENT_64 b) && each_neighbour (numbered LC_SEGMENT_64 b) (begins_behind b)
 load_test b L7 = (length (segments_named TEXT b) == 1) && list_all (text_holds_commands b) (segments_named TEXT b)
 load_test b L8 = nat_le (length (tables_of b)) 1 && list_all (table_fits b) (tables_of b)
 load_test b L9 = list_all (λ t. each_below (fixups_header b t).imports_count (import_fits b t)) (tables_of b)
@@ -78,14 +82,14 @@ load_test_shows b L2 some h = (
   all_pass (command_fits (needed_in_image b) b) (commands_of b)
       (and_right (commands_inside b) (list_all (command_fits (needed_in_image b) b) (commands_of b)) h),
 )
-load_test_shows b L3 some h = all_pass (protections_fit b) (segment_commands b) h
-load_test_shows b L4 some h = all_pass (file_part_inside b) (segment_commands b) h
-load_test_shows b L5 some h = all_pass (segment_is_paged b) (segment_commands b) h
+load_test_shows b L3 some h = all_pass (protections_fit b) (numbered LC_SEGMENT_64 b) h
+load_test_shows b L4 some h = all_pass (file_part_inside b) (numbered LC_SEGMENT_64 b) h
+load_test_shows b L5 some h = all_pass (segment_is_paged b) (numbered LC_SEGMENT_64 b) h
 load_test_shows b L6 some h = (
-  all_pass (segment_ends b) (segment_commands b)
-      (and_left (list_all (segment_ends b) (segment_commands b)) (each_neighbour (segment_commands b) (begins_behind b)) h),
-  neighbours_pass (segment_commands b) (begins_behind b)
-      (and_right (list_all (segment_ends b) (segment_commands b)) (each_neighbour (segment_commands b) (begins_behind b)) h),
+  all_pass (segment_ends b) (numbered LC_SEGMENT_64 b)
+      (and_left (list_all (segment_ends b) (numbered LC_SEGMENT_64 b)) (each_neighbour (numbered LC_SEGMENT_64 b) (begins_behind b)) h),
+  neighbours_pass (numbered LC_SEGMENT_64 b) (begins_behind b)
+      (and_right (list_all (segment_ends b) (numbered LC_SEGMENT_64 b)) (each_neighbour (numbered LC_SEGMENT_64 b) (begins_behind b)) h),
 )
 load_test_shows b L7 some h = (
   is_equal (length (segments_named TEXT b)) 1
@@ -109,12 +113,12 @@ shows_load_test b L1 h = h
 shows_load_test b L2 h =
     and_both (commands_inside b) (list_all (command_fits (needed_in_image b) b) (commands_of b)) h.0
     (pass_all (command_fits (needed_in_image b) b) (commands_of b) h.1)
-shows_load_test b L3 h = pass_all (protections_fit b) (segment_commands b) h
-shows_load_test b L4 h = pass_all (file_part_inside b) (segment_commands b) h
-shows_load_test b L5 h = pass_all (segment_is_paged b) (segment_commands b) h
+shows_load_test b L3 h = pass_all (protections_fit b) (numbered LC_SEGMENT_64 b) h
+shows_load_test b L4 h = pass_all (file_part_inside b) (numbered LC_SEGMENT_64 b) h
+shows_load_test b L5 h = pass_all (segment_is_paged b) (numbered LC_SEGMENT_64 b) h
 shows_load_test b L6 h =
-    and_both (list_all (segment_ends b) (segment_commands b)) (each_neighbour (segment_commands b) (begins_behind b))
-    (pass_all (segment_ends b) (segment_commands b) h.0) (pass_neighbours (segment_commands b) (begins_behind b) h.1)
+    and_both (list_all (segment_ends b) (numbered LC_SEGMENT_64 b)) (each_neighbour (numbered LC_SEGMENT_64 b) (begins_behind b))
+    (pass_all (segment_ends b) (numbered LC_SEGMENT_64 b) h.0) (pass_neighbours (numbered LC_SEGMENT_64 b) (begins_behind b) h.1)
 shows_load_test b L7 h =
     and_both (length (segments_named TEXT b) == 1) (list_all (text_holds_commands b) (segments_named TEXT b))
     (equal_is (length (segments_named TEXT b)) 1 h.0) (pass_all (text_holds_commands b) (segments_named TEXT b) h.1)

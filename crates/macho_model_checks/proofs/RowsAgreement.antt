@@ -5,7 +5,7 @@
 -- while it begins elsewhere, maps a page twice, or puts data where it may be run: the segments of its commands are not those
 -- of the placement then. And a file without a dynamic linker is no image at all, whatever its placement is.
 use Rattle.std.proofs.Common.{◌≡◌, ℕ, List, [], ◌∷◌, ◌++◌, length, get_or, map, replicate, refl, ap, ◌∙◌, sym, arith, None}
-use Rattle.std.specs.Prelude.{codes}
+use Rattle.std.specs.Prelude.{codes, ◌+◌}
 use Rattle.macho_bytes.specs.Numbers.{le_at, le_bytes, row_bytes}
 use Rattle.macho_bytes.specs.Layouts.{reading}
 use Rattle.macho_records.specs.declared.header.MachHeader.{MachHeader}
@@ -15,9 +15,8 @@ use Rattle.macho_model.specs.declared.placed.PlacedSegment.{PlacedSegment}
 use Rattle.macho_model.specs.Commands.{header_of, commands_from, commands_of, commands_end}
 use Rattle.macho_model.specs.Links.{Link}
 use Rattle.macho_model.specs.Images.{segments_of, base_of, libraries_of, tables_of, entries_of_file}
-use Rattle.macho_model.specs.Placement.{Placed}
-use Rattle.macho_model.specs.Agreement.{SegmentPlace, place_by_command, SegmentsAgree, HeadAgrees, section_headers_at, section_headers_of}
-use Rattle.macho_model.specs.Agreement.{HeadersAgree}
+use Rattle.macho_model.specs.Placement.{Placed, head_size}
+use Rattle.macho_model.specs.Agreement.{SegmentPlace, place_by_command, SegmentsAgree, section_headers_at, section_headers_of}
 use Rattle.macho_model.specs.Head.{HeadSays, header_for}
 use Rattle.macho_model_checks.proofs.Examples.{words8, words, name16}
 use Rattle.macho_model_checks.proofs.ExampleImages.{smallest}
@@ -26,7 +25,8 @@ use Rattle.macho_model_checks.proofs.ExamplePlacement.{nothing, no_tables}
 use Rattle.macho_model_checks.proofs.LoaderTests.{load_verdict, load_all_pass}
 
 -- The smallest image: four commands of 280 bytes, two segments, one section header.
-pub smallest_agrees : SegmentsAgree smallest placed_a × HeadAgrees counts_a smallest placed_a × HeadersAgree smallest placed_a
+pub smallest_agrees : SegmentsAgree smallest placed_a
+    × (commands_end smallest + counts_a.padding ≡ head_size counts_a placed_a) × (section_headers_of smallest ≡ placed_a.output_sections)
     × (entries_of_file smallest ≡ 0x138 ∷ []) × (base_of smallest ≡ 0x100000000)
 unfolding segments_of base_of entries_of_file section_headers_of section_headers_at commands_end commands_of commands_from header_of
     reading le_at row_bytes le_bytes words8 words name16 smallest

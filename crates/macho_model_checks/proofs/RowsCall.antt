@@ -11,7 +11,7 @@ use Rattle.macho_records.specs.declared.header.MachHeader.{MachHeader}
 use Rattle.macho_structs.specs.Layouts.{uuid_command, code_directory}
 use Rattle.macho_records.specs.declared.constants.TheConstants.{LC_UUID}
 use Rattle.macho_model.specs.declared.placed.Counts.{Counts}
-use Rattle.macho_model.specs.Placement.{Placed}
+use Rattle.macho_model.specs.Placement.{Placed, head_size}
 use Rattle.macho_model.specs.Chain.{chain_segments}
 use Rattle.macho_model.specs.Exports.{library_number}
 use Rattle.macho_model.specs.Commands.{numbered, header_of, commands_from, commands_of, commands_end}
@@ -31,7 +31,7 @@ use Rattle.macho_model.specs.Images.{signatures_of, symbol_tables_of, string_tab
 use Rattle.macho_model.specs.Loader.{IsAccepted}
 use Rattle.macho_model.specs.Fixups.{own_entries, import_entries_of, entries_have_addends}
 use Rattle.macho_model.specs.Addresses.{section_address, common_address, slot_address}
-use Rattle.macho_model.specs.Agreement.{SegmentsAgree, HeadAgrees, section_headers_of, section_headers_at, HeadersAgree, TablesAgree}
+use Rattle.macho_model.specs.Agreement.{SegmentsAgree, section_headers_of, section_headers_at, TablesAgree}
 use Rattle.macho_model.specs.Signature.{uuid_written, UuidSays, Signed, DIRECTORY_PLACE, directory_size, directory_for, identifier_text}
 use Rattle.macho_model.specs.Faults.{last_part}
 use Rattle.macho_model.specs.Head.{HeadSays, commands_in, command_in, commands_for, header_for}
@@ -89,8 +89,8 @@ unfolding commands_end commands_of commands_from header_of reading le_at row_byt
 call_uuid = refl
 
 -- the placement
-pub call_agrees : SegmentsAgree call_image placed_call × HeadAgrees counts_of_call call_image placed_call
-    × HeadersAgree call_image placed_call
+pub call_agrees : SegmentsAgree call_image placed_call × (commands_end call_image + counts_of_call.padding ≡ head_size counts_of_call placed_call)
+    × (section_headers_of call_image ≡ placed_call.output_sections)
     × (entries_of_file call_image ≡ 0x398 ∷ []) × (base_of call_image ≡ 0x100000000)
 unfolding commands_end commands_of commands_from header_of reading le_at row_bytes le_bytes words8 words halves name16 entry calls_exit
     head_of_call fixups_of_call tables_of_call be_at be_bytes big_words signature_of_call call_image segments_of mapped_segments base_of

@@ -17,7 +17,6 @@ use Rattle.macho_model.specs.Targets.{target_of, target_of_relocation, slots_of,
 use Rattle.macho_model.specs.Fields.{fields_of}
 use Rattle.macho_model.specs.Segments.{other_segments, segment_names_of, output_keys_of, segments_for}
 use Rattle.macho_model.specs.Placement.{Placed}
-use Rattle.macho_model.specs.Values.{no_choice}
 use Rattle.macho_model.specs.Images.{segments_of, mapped_segments, base_of, libraries_of, tables_of, tries_of, signatures_of}
 use Rattle.macho_model.specs.Images.{symbol_tables_of, string_tables_of, entries_of_file, Table}
 use Rattle.macho_model.specs.Fixups.{own_entries, import_entries_of, entries_have_addends}
@@ -27,6 +26,7 @@ use Rattle.macho_model_checks.proofs.ExampleCall.{calls_exit, calling, data_plac
 use Rattle.macho_model_checks.proofs.ExampleCall.{tables_of_call, big_words, signature_of_call, call_image, counts_of_call, code_placed}
 use Rattle.macho_model_checks.proofs.ExampleCall.{range}
 use Rattle.std.specs.Prelude.{codes}
+use Rattle.std.specs.FinMap.{empty}
 use Rattle.macho_model.specs.OutputSections.{output_sections_of, output_sections_for, pieces_of}
 use Rattle.macho_model.specs.Agreement.{EntryAgrees}
 use Rattle.macho_model.specs.Signature.{IsSigned}
@@ -123,7 +123,7 @@ unfolding changed with_another_entry commands_end commands_of commands_from head
     fixup_count names_text
 entry_facts = (refl, refl, refl)
 
-pub code_is_at : (x : ℕ) → IsAt calling placed_call 0 no_choice (target.Section 0 0 0) x → x ≡ 0x100000398
+pub code_is_at : (x : ℕ) → IsAt calling placed_call 0 empty (target.Section 0 0 0) x → x ≡ 0x100000398
 code_is_at x (address, (q, (zero, within, is), file, number, at), sum) =
     let place : 0x100000398 ≡ address = ap (λ (r : PlacedSection). r.address) is ∙ at in omega (arith, place, sum)
 code_is_at x (address, (q, (suc zero, within, is), file, number, at), sum) =
@@ -134,9 +134,9 @@ pub entry_is_asked : EntryAgrees calling with_another_entry placed_call → ⊥
 entry_is_asked agrees =
     let enters = agrees.executable refl in
     let offset : 0x39c ≡ enters.0 = ap (λ (ns : List ℕ). get_or ns 0 enters.0) (sym entry_facts.0 ∙ enters.1) in
-    let there : IsAt calling placed_call 0 no_choice (target.Section 0 0 0) (base_of with_another_entry + enters.0 + 0) =
-    subst (λ (t : Target). IsAt calling placed_call 0 no_choice t (base_of with_another_entry + enters.0 + 0)) entry_facts.2
-    (enters.2 0 no_choice) in
+    let there : IsAt calling placed_call 0 empty (target.Section 0 0 0) (base_of with_another_entry + enters.0 + 0) =
+    subst (λ (t : Target). IsAt calling placed_call 0 empty t (base_of with_another_entry + enters.0 + 0)) entry_facts.2
+    (enters.2 0 empty) in
     let place = code_is_at (base_of with_another_entry + enters.0 + 0) there in
     absurd (omega (arith, offset, place, entry_facts.1))
 

@@ -18,12 +18,12 @@ use Rattle.macho_model.specs.declared.placed.PlacedSection.{PlacedSection}
 use Rattle.macho_model.specs.Links.{SectionId, header_at, carried_of, placed_exponent}
 use Rattle.macho_model.specs.Segments.{TEXT, base_of_link, segment_rank}
 use Rattle.macho_model.specs.WrittenSum.{written_sum_of}
-use Rattle.macho_model.specs.Placement.{Placed, Span, AreApart, spans_with, spans_of, SectionLies, TableLies, IsWholeList, IsAligned}
-use Rattle.macho_model.specs.Placement.{IsInSegment, IsPaged, Follows, EachFollows, IsInOrder, TextBegins, TemplateHolds}
-use Rattle.macho_model.specs.Placement.{is_segment_named, template_sections, LiesIn, IsPlaced, id_of, section_span, head_span, range_span}
-use Rattle.macho_model.specs.Placement.{linkedit_span, linkedit_ranges}
+use Rattle.macho_model.specs.Placement.{Placed, Span, AreApart, spans_with, SectionLies, TableLies, IsWholeList, IsAligned, IsInSegment}
+use Rattle.macho_model.specs.Placement.{IsPaged, Follows, IsInOrder, TextBegins, TemplateHolds, is_segment_named, template_sections}
+use Rattle.macho_model.specs.Placement.{LiesIn, IsPlaced, id_of, section_span, head_span, range_span, linkedit_span, linkedit_ranges}
 use Rattle.macho_model.proofs.EachBelow.{true_or_false, and_left, and_right, and_both, either, or_first, or_second, is_equal, equal_is}
 use Rattle.macho_model.proofs.EachBelow.{same_number, other_number}
+use Rattle.macho_model.specs.Lists.{EachNext}
 use Rattle.macho_model_checks.proofs.Examples.{name16}
 use Rattle.macho_model_checks.proofs.ExampleLinks.{section}
 use Rattle.macho_model_checks.proofs.ExamplePlacement.{link_a, counts_a, nothing, pagezero_to, text_from, section_a, placed_with, placed_a}
@@ -45,7 +45,7 @@ Part p Base = p.base ≡ base_of_link link_a
 Part p WholeList = IsWholeList link_a p
 Part p Aligned = IsAligned link_a p
 Part p InSegment = IsInSegment link_a p
-Part p NonOverlapping = AllPairs AreApart (spans_of link_a counts_a p)
+Part p NonOverlapping = AllPairs AreApart (spans_with link_a counts_a p p.sections)
 Part p InOrder = IsInOrder link_a p
 Part p Template = TemplateHolds link_a counts_a p p.template
 Part p WithinSum = All (λ (s : PlacedSegment). s.address + s.size ≤ p.base + written_sum_of link_a counts_a) p.segments
@@ -128,7 +128,8 @@ module _ (base start address size : ℕ) (template : Option Range64) where
   empties_apart i j d lt within = inl (each_is_empty i d (omega arith))
 
   apart : AreApart (head_span counts_a (placed_with base start address size template)) (section_span link_a (section_a address))
-      → AllPairs AreApart (spans_of link_a counts_a (placed_with base start address size template))
+      → AllPairs AreApart (spans_with link_a counts_a (placed_with base start address size template)
+      (placed_with base start address size template).sections)
   unfolding spans_with empties
   apart beside =
       AllPairs-cons AreApart (head_span counts_a (placed_with base start address size template))
@@ -147,7 +148,7 @@ module _ (base start address size : ℕ) (template : Option Range64) where
   unfolding segment_rank name16
   follows = record { rank = omega arith; address = omega arith; file_offset = refl }
 
-  each_follows : EachFollows link_a (pagezero_to start ∷ text_from start size ∷ [])
+  each_follows : EachNext (Follows link_a) (pagezero_to start ∷ text_from start size ∷ [])
   each_follows zero s t (before, at_s) (within, at_t) = rw (← at_s, ← at_t) follows
   each_follows (suc k) s t before (within, at_t) = absurd (omega (arith, within))
 
@@ -231,8 +232,9 @@ inside start address size s is lies =
     (there.from, there.to)
 
 -- the first two parts are header and section
-first_two : (base start address size : ℕ) (template : Option Range64) → AllPairs AreApart
-    (spans_of link_a counts_a (placed_with base start address size template))
+first_two : (base start address size : ℕ) (template : Option Range64)
+    → AllPairs AreApart (spans_with link_a counts_a (placed_with base start address size template)
+    (placed_with base start address size template).sections)
     → AreApart (head_span counts_a (placed_with base start address size template)) (section_span link_a (section_a address))
 unfolding spans_with
 first_two base start address size template h = h 0 1 (head_span counts_a (placed_with base start address size template)) (omega arith)
@@ -393,7 +395,7 @@ section_is_missing whole =
     let long = length_permutation [] (carried_of link_a) whole.sections in
     let one = ap (λ (xs : List SectionId). length xs) carried_a in omega arith
 
-apart_without_section : AllPairs AreApart (spans_of link_a counts_a placed_without)
+apart_without_section : AllPairs AreApart (spans_with link_a counts_a placed_without placed_without.sections)
 unfolding spans_with empties
 apart_without_section =
     AllPairs-cons AreApart (head_span counts_a placed_a) (empties 0x100000000 0x100000000 0x100000138 0x4000 None)

@@ -15,11 +15,11 @@ use Rattle.macho_model.specs.Grammar.{EachCommand, CommandFails}
 use Rattle.macho_model.specs.Segments.{TEXT}
 use Rattle.macho_model.specs.Images.{segments_named, table_of_command, tables_of}
 use Rattle.macho_model.specs.LoadRules.{needed_in_image, segment_in, text_holds_commands, table_fits}
-use Rattle.macho_model.specs.Loader.{text_commands, fixup_commands, NeighbourFails, EachNeighbour, TextIsNotOne, SecondTable, IsAccepted}
-use Rattle.macho_model.specs.Loader.{ImageBreaks}
+use Rattle.macho_model.specs.Loader.{text_commands, fixup_commands, NeighbourFails, TextIsNotOne, SecondTable, IsAccepted, ImageBreaks}
 use Rattle.macho_memory_walks.specs.Readings.{listed}
 use Rattle.macho_model_walks.specs.Tests.{test_of}
 use Rattle.macho_model.proofs.EachBelow.{true_or_false}
+use Rattle.macho_model.specs.Lists.{EachNext}
 use Rattle.macho_memory_walks.proofs.ListedLaws.{all_listed, texts_listed, texts_are}
 
 -- one that fails is not among those that pass
@@ -27,8 +27,8 @@ pub fails_not_each : (cs : List Command) (place : ℕ) (test : Command → Bool)
 fails_not_each cs place test (k, c, (within, is), told, fails) each =
     true_or_false (test c) (subst (λ x. test x ≡ true) is (each k c within)) fails
 
-neighbours_fail : (cs : List Command) (place : ℕ) (test : Command → Command → Bool) → NeighbourFails cs place test → EachNeighbour cs test
-    → ⊥
+neighbours_fail : (cs : List Command) (place : ℕ) (test : Command → Command → Bool) → NeighbourFails cs place test
+    → EachNext (λ c d. test c d ≡ true) cs → ⊥
 neighbours_fail cs place test (k, c, d, first, second, told, fails) each =
     true_or_false (test c d) (each k c d first second) fails
 

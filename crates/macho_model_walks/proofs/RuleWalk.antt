@@ -12,11 +12,11 @@ use Rattle.std.proofs.lemmas.List.Folds.{list_all_at}
 use Rattle.macho_model_walks.specs.declared.loader_rules.Asked.{Asked}
 use Rattle.macho_memory_walks.specs.declared.walk.Listed.{Listed}
 use Rattle.macho_memory_walks.specs.declared.walk.Listed.TheVariants as list
-use Rattle.macho_model.specs.Commands.{Command, header_of}
+use Rattle.macho_records.specs.declared.constants.TheConstants.{LC_SEGMENT_64}
+use Rattle.macho_model.specs.Commands.{Command, header_of, numbered}
 use Rattle.macho_model.specs.Grammar.{EachCommand}
 use Rattle.macho_model.specs.LoadRules.{begins_behind, import_fits}
-use Rattle.macho_model.specs.Loader.{segment_commands, text_commands, fixup_commands, EachNeighbour, NeighbourFails, TextIsNotOne}
-use Rattle.macho_model.specs.Loader.{SecondTable, ImportFails, import_count}
+use Rattle.macho_model.specs.Loader.{text_commands, fixup_commands, NeighbourFails, TextIsNotOne, SecondTable, ImportFails, import_count}
 use Rattle.macho_memory_walks.specs.Readings.{command_at, listed, IsNth, table_there}
 use Rattle.macho_model_walks.specs.Tests.{list_of, test_of}
 use Rattle.macho_memory_walks.specs.steps.Walks.{chain_segment_at}
@@ -27,6 +27,7 @@ use Rattle.macho_model.specs.Chain.{chain_segments}
 use Rattle.macho_memory_walks.proofs.ListedLaws.{texts_listed, tables_are, nth_image, table_contains}
 use Rattle.macho_memory_walks.proofs.WordWalk.{few_listed_of, nth_exists, nth_one, chain_at, count_of_chain}
 use Rattle.macho_model.proofs.EachBelow.{pass_all}
+use Rattle.macho_model.specs.Lists.{EachNext}
 
 -- a command by its number, whatever stands behind the last
 at_number : (which : Listed) (b : List ℕ) (number place : ℕ) (d : Command) → IsNth which b number place
@@ -41,7 +42,7 @@ each_by_number b what pass k d lt =
     (pass k (omega (arith, lt, few_listed_of (list_of what) b)) there.0 there.1)
 
 pub neighbours_by_number : (b : List ℕ) → ((k : ℕ) → k < (header_of b).ncmds → NeighbourPasses b k)
-    → EachNeighbour (segment_commands b) (begins_behind b)
+    → EachNext (λ c d. begins_behind b c d ≡ true) (numbered LC_SEGMENT_64 b)
 unfolding listed
 neighbours_by_number b pass k c d (before, at_k) (lt, at_next) = listed_neighbours lt at_k at_next
   where
@@ -56,7 +57,7 @@ neighbours_by_number b pass k c d (before, at_k) (lt, at_next) = listed_neighbou
         (pass k (omega (arith, within, few_listed_of list.Segments b)) first.0 second.0 first.1 second.1)
 
 pub neighbour_fails : (b : List ℕ) (number place next : ℕ) → IsNth list.Segments b number place → IsNth list.Segments b (number + 1) next
-    → begins_behind b (command_at b place) (command_at b next) ≡ false → NeighbourFails (segment_commands b) next (begins_behind b)
+    → begins_behind b (command_at b place) (command_at b next) ≡ false → NeighbourFails (numbered LC_SEGMENT_64 b) next (begins_behind b)
 unfolding listed
 neighbour_fails b number place next first second fails =
     (number, command_at b place, command_at b next, (first.within, first.is), (second.within, second.is), refl, fails)

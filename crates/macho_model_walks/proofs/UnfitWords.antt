@@ -7,13 +7,14 @@ use Rattle.std.proofs.Common.{◌≡◌, ℕ, ◌+◌, ◌*◌, ◌-◌, ◌^◌
 use Rattle.std.proofs.Common.{subst, ◌∙◌, arith, inl, inr}
 use Rattle.std.proofs.lemmas.Bool.{leb-true, cases_lt}
 use Rattle.macho_memory_walks.specs.declared.walk.Listed.TheVariants as list
-use Rattle.macho_model.specs.Commands.{header_of}
+use Rattle.macho_model.specs.Commands.{header_of, numbered}
 use Rattle.macho_model.specs.Grammar.{EachCommand}
 use Rattle.macho_model.specs.Images.{NO_START, CHAIN_PAGE}
 use Rattle.macho_model.specs.LoadRules.{segment_in, file_part_inside}
 use Rattle.macho_records.specs.declared.header.SegmentCommand.{SegmentCommand}
+use Rattle.macho_records.specs.declared.constants.TheConstants.{LC_SEGMENT_64}
 use Rattle.macho_model.specs.Chain.{next_of, STRIDE}
-use Rattle.macho_model.specs.Loader.{segment_commands, OnPageOf, WordFits, WordFails}
+use Rattle.macho_model.specs.Loader.{OnPageOf, WordFits, WordFails}
 use Rattle.macho_memory_walks.specs.Readings.{command_at, listed, IsNth, segment_there}
 use Rattle.macho_memory_walks.specs.steps.Walks.{StepIn, Leads, starts_of, chain_segment_at}
 use Rattle.macho_memory_walks.specs.steps.Walks as walks
@@ -122,7 +123,7 @@ each_word b fit number s page a is on =
     (fit number (omega (arith, there.1.within, few_listed_of list.Segments b)) there.0 there.1 page a) on
 
 -- a rule that each segment's command keeps, of the one at a place
-pub kept_at : (b : List ℕ) (number place : ℕ) → EachCommand (segment_commands b) (file_part_inside b) → IsNth list.Segments b number place
+pub kept_at : (b : List ℕ) (number place : ℕ) → EachCommand (numbered LC_SEGMENT_64 b) (file_part_inside b) → IsNth list.Segments b number place
     → file_part_inside b (command_at b place) ≡ true
 unfolding listed
 kept_at b number place each nth = subst (λ c. file_part_inside b c ≡ true) nth.is (each number (command_at b place) nth.within)

@@ -1,8 +1,10 @@
 //! The first rule of the loader that an image breaks, by asking each rule in turn: plain and slow.
 ghost use Rattle.std.specs.Prelude.{◌≡◌, OnOk, OnErr, IfErr};
+ghost use Rattle.macho_records.specs.declared.constants.TheConstants.{LC_SEGMENT_64};
 ghost use Rattle.macho_model.specs.Grammar.{EachCommand};
 ghost use Rattle.macho_model.specs.LoadRules.{file_part_inside};
-ghost use Rattle.macho_model.specs.Loader.{segment_commands, IsAccepted, ImageBreaks};
+ghost use Rattle.macho_model.specs.Loader.{IsAccepted, ImageBreaks};
+ghost use Rattle.macho_model.specs.Commands.{numbered};
 ghost use Rattle.macho_model_walks.specs.steps.Asked.{LoadKeeps};
 
 use crate::loader_rules::{
@@ -179,7 +181,7 @@ fn check_imports(bytes: &[u8]) -> Result<(), LoadFault>
 
 /// Whether the chain words fit.
 fn check_words(bytes: &[u8]) -> Result<(), LoadFault>
-    requires { EachCommand (segment_commands bytes.now) (file_part_inside bytes.now) }
+    requires { EachCommand (numbered LC_SEGMENT_64 bytes.now) (file_part_inside bytes.now) }
     ensures ok { OnOk result (LoadKeeps bytes.now LoadRule.L10) }
     ensures why { IfErr result (λ f. ImageBreaks bytes.now f.rule f.place) }
 {

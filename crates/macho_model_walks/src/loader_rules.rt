@@ -1,10 +1,13 @@
 //! The loader's rules, one after the other, each asked of every record that it speaks of: plain and slow.
 //!
 //! Each function answers the place of a record that breaks its rule, or None where none does.
-ghost use Rattle.std.specs.Prelude.{◌≡◌, ◌≤◌, ◌<◌, ℕ, length, Some, None};
+ghost use Rattle.std.specs.Prelude.{◌≡◌, ◌≤◌, ◌<◌, ℕ, length, Some, None, true};
+ghost use Rattle.macho_records.specs.declared.constants.TheConstants.{LC_SEGMENT_64};
 ghost use Rattle.macho_model.specs.Grammar.{EachCommand};
 ghost use Rattle.macho_model.specs.LoadRules.{begins_behind};
-ghost use Rattle.macho_model.specs.Loader.{segment_commands, text_commands, fixup_commands, EachNeighbour, TextIsNotOne, SecondTable, ImportFails};
+ghost use Rattle.macho_model.specs.Loader.{text_commands, fixup_commands, TextIsNotOne, SecondTable, ImportFails};
+ghost use Rattle.macho_model.specs.Lists.{EachNext};
+ghost use Rattle.macho_model.specs.Commands.{numbered};
 ghost use Rattle.macho_memory_walks.specs.Readings.{command_at, listed, table_there};
 ghost use Rattle.macho_model_walks.specs.Tests.{test_of, list_of};
 ghost use Rattle.macho_model_walks.specs.steps.Asked.{AskedFails, BeginsBefore, NumberPasses, NeighbourPasses, BadImport, ImportsFit, TableImportsFit, EachImportFits};
@@ -118,7 +121,7 @@ fn overlapping(bytes: &[u8], number: u32) -> Option<u64>
 /// The place of the first segment that does not begin behind the end of the one before it.
 pub(crate) fn first_overlapping(bytes: &[u8]) -> Option<u64>
     ensures found { (place : ℕ) → result ≡ Some place → BeginsBefore bytes.now place }
-    ensures only { result ≡ None → EachNeighbour (segment_commands bytes.now) (begins_behind bytes.now) }
+    ensures only { result ≡ None → EachNext (λ c d. begins_behind bytes.now c d ≡ true) (numbered LC_SEGMENT_64 bytes.now) }
 {
     for number in 0..count_of(bytes) {
         if let Some(place) = overlapping(bytes, number) {

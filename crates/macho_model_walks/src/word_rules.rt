@@ -1,11 +1,13 @@
 //! Whether the words of the chains fit: the loader's last rule, asked of each word that a page's start leads to.
 ghost use Rattle.std.specs.Prelude.{◌≡◌, ◌≤◌, ◌<◌, ◌+◌, ◌*◌, ℕ, true, false, length, Some, None};
 ghost use Rattle.std.specs.List.{list_all};
+ghost use Rattle.macho_records.specs.declared.constants.TheConstants.{LC_SEGMENT_64};
 ghost use Rattle.macho_model.specs.LoadRules.{file_part_inside};
 ghost use Rattle.macho_model.specs.Images.{tables_of};
 ghost use Rattle.macho_model.specs.Chain.{chain_segments};
-ghost use Rattle.macho_model.specs.Loader.{import_count, segment_commands, WordFails};
+ghost use Rattle.macho_model.specs.Loader.{import_count, WordFails};
 ghost use Rattle.macho_model.specs.Grammar.{EachCommand};
+ghost use Rattle.macho_model.specs.Commands.{numbered};
 ghost use Rattle.macho_memory_walks.specs.Readings.{command_at, IsNth, segment_there};
 ghost use Rattle.macho_model_walks.specs.Tests.{page_holds};
 ghost use Rattle.macho_memory_walks.specs.steps.Walks.{starts_of, chain_segment_at};
@@ -135,7 +137,7 @@ fn unfit_on_segment(bytes: &[u8], number: u32, place: u64) -> Option<u64>
 
 /// The same of the segment with a number.
 fn unfit_on_nth(bytes: &[u8], number: u32) -> Option<u64>
-    requires { EachCommand (segment_commands bytes.now) (file_part_inside bytes.now) }
+    requires { EachCommand (numbered LC_SEGMENT_64 bytes.now) (file_part_inside bytes.now) }
     ensures found { (x : ℕ) → result ≡ Some x → WordFails bytes.now x }
     ensures only { result ≡ None → FitOnNth bytes.now number }
 {
@@ -147,7 +149,7 @@ fn unfit_on_nth(bytes: &[u8], number: u32) -> Option<u64>
 
 /// The file offset of the first chain word that does not fit.
 pub(crate) fn first_unfit_word(bytes: &[u8]) -> Option<u64>
-    requires { EachCommand (segment_commands bytes.now) (file_part_inside bytes.now) }
+    requires { EachCommand (numbered LC_SEGMENT_64 bytes.now) (file_part_inside bytes.now) }
     ensures found { (x : ℕ) → result ≡ Some x → WordFails bytes.now x }
     ensures only { result ≡ None → EachWordFits bytes.now }
 {

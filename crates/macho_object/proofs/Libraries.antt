@@ -5,11 +5,12 @@ use Rattle.macho_bytes.specs.Layouts.{reading}
 use Rattle.macho_bytes.specs.Texts.{name_of}
 use Rattle.macho_records.specs.Layouts.{load_command}
 use Rattle.macho_structs.specs.Layouts.{dylib_command}
-use Rattle.macho_model.specs.Commands.{numbered, command_fits}
-use Rattle.macho_model.specs.Objects.{install_name_of, first_path, num_symbols}
+use Rattle.macho_model.specs.Commands.{numbered, command_fits, path_of, Command}
+use Rattle.macho_model.specs.Objects.{install_name_of, num_symbols}
 use Rattle.macho_model.specs.ObjectRules.{path_ends, needed_in_dylib}
 use Rattle.macho_model.specs.Grammar.{IsDylib, DylibBreaks, AreWhole}
 use Rattle.macho_model.specs.declared.rules.ObjectRule.TheVariants.{O9}
+use Rattle.macho_model.specs.Lists.{of_first}
 use Rattle.macho_object.specs.declared.outline.Outline.{Outline}
 use Rattle.macho_object.specs.steps.Scans.{command_at}
 use Rattle.macho_object.specs.steps.Outlines.{IsOutlined, path_field_of}
@@ -23,7 +24,7 @@ same_size b at = refl
 -- the name is that in the one command
 pub install_name_is : (b : List ℕ) (main : ℕ) → numbered 13 b ≡ command_at b main ∷ [] → install_name_of b ≡ name_of (path_field_of b main)
 unfolding install_name_of
-install_name_is b main only = ap (first_path b) only
+install_name_is b main only = ap (of_first [] (λ (c : Command). path_of b c (reading dylib_command b c.at).name_offset)) only
 
 -- a path that does not end breaks the rule of names
 pub path_breaks : (b : List ℕ) (main : ℕ) → numbered 13 b ≡ command_at b main ∷ [] → path_ends b (command_at b main) ≡ false

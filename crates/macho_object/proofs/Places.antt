@@ -11,8 +11,8 @@ use Rattle.macho_bytes.specs.Layouts.{reading, size_of}
 use Rattle.macho_records.specs.Layouts.{mach_header, load_command, segment_command, symtab_command}
 use Rattle.macho_structs.specs.Layouts.{dylib_command}
 use Rattle.macho_records.specs.declared.constants.TheConstants.{LC_SYMTAB}
-use Rattle.macho_model.specs.Lists.{IsNumber}
-use Rattle.macho_model.specs.Commands.{Command, commands_of, commands_from, commands_end, numbered, header_of, command_fits, place_of, first_place}
+use Rattle.macho_model.specs.Lists.{IsNumber, of_first}
+use Rattle.macho_model.specs.Commands.{Command, commands_of, commands_from, commands_end, numbered, header_of, command_fits, place_of}
 use Rattle.macho_model.specs.Objects.{num_sections, segment_of, section_place}
 use Rattle.macho_model.specs.ObjectRules.{head_fits, tables_inside}
 use Rattle.macho_model.specs.Grammar.{Breaks}
@@ -132,7 +132,7 @@ pub sections_stand : (dyn : Bool) (b : List ℕ) (p : Places) (n k : ℕ) → Ha
     → SectionStands b p.main k
 unfolding num_sections segment_of section_place
 sections_stand false b p n k h is lt =
-    let place : place_of 25 b ≡ p.main = ap first_place h.main_only in
+    let place : place_of 25 b ≡ p.main = ap (of_first 0 (λ (c : Command). c.at)) h.main_only in
     let count : n ≡ (reading segment_command b p.main).nsects = is ∙ ap (λ (at : ℕ). (reading segment_command b at).nsects) place in
     record {
       one_segment = ap (λ cs. length cs == 1) h.main_only;
@@ -148,5 +148,5 @@ breaks_main true b t place s not = ((s.inside, s.each), inl (not_one (numbered 1
 
 -- where the symbols or the strings do not stand inside the file, their rule is broken
 pub breaks_tables : (dyn : Bool) (b : List ℕ) (p : Places) → HasCommands dyn b p → tables_inside b ≡ false → Breaks dyn b O4 p.symtab
-breaks_tables false b p h not = ((h.inside, h.each), (h.one_symtab, sym (ap first_place h.symtab_only), not))
-breaks_tables true b p h not = ((h.inside, h.each), (h.one_symtab, sym (ap first_place h.symtab_only), not))
+breaks_tables false b p h not = ((h.inside, h.each), (h.one_symtab, sym (ap (of_first 0 (λ (c : Command). c.at)) h.symtab_only), not))
+breaks_tables true b p h not = ((h.inside, h.each), (h.one_symtab, sym (ap (of_first 0 (λ (c : Command). c.at)) h.symtab_only), not))

@@ -11,7 +11,7 @@ use Rattle.macho_model.specs.declared.placed.Linkedit.{Linkedit}
 use Rattle.macho_model.specs.declared.placed.Range64.{Range64}
 use Rattle.macho_model.specs.Links.{Link}
 use Rattle.macho_model.specs.Placement.{Placed, Span, AreApart, section_span, common_span, slot_span, stub_span, range_span, head_span}
-use Rattle.macho_model.specs.Placement.{linkedit_span, linkedit_ranges, spans_of, spans_with}
+use Rattle.macho_model.specs.Placement.{linkedit_span, linkedit_ranges, spans_with}
 use Rattle.macho_layout.specs.Plans.{Planning, IsPlanOf}
 use Rattle.macho_layout.specs.Places.{row_pages}
 use Rattle.macho_layout.specs.Sums.{FitsLimits, base_of, head_size}
@@ -220,7 +220,7 @@ module _ (l : Link) (p : Planning) (counts : Counts) (q : Placed) (plan : IsPlan
       (All-cons R (range_span q.unwind) table_spans (one_home (range_span q.unwind) unwind_at)
       (All-weaker (AboveAll l p counts q plan fits h) R up table_spans above))
 
-  pub all_apart : AllPairs AreApart (spans_of l counts q)
+  pub all_apart : AllPairs AreApart (spans_with l counts q q.sections)
   unfolding spans_with
   all_apart =
       let with_slots : AllPairs AreApart (front ++ slot_spans)

@@ -17,8 +17,8 @@ use Rattle.macho_model.specs.Links.{Link}
 use Rattle.macho_model.specs.Segments.{TEXT, DATA_CONST, OutputKey, segment_rank}
 use Rattle.macho_model.specs.Placement.{Placed, is_segment_named, IsPaged}
 use Rattle.macho_model.specs.OutputSections.{OutputSection, Merged, InitOffsets, UnwindInfo, Stubs, Slots, Piece, is_zeros, flags_of_key}
-use Rattle.macho_model.specs.OutputSections.{flags_of_output, stub_size_of, key_of_output, file_offset_in, file_offset_of as model_offset}
-use Rattle.macho_model.specs.OutputSections.{output_header}
+use Rattle.macho_model.specs.OutputSections.{flags_of_output, stub_size_of, key_of_output, file_offset_of as model_offset, output_header}
+use Rattle.macho_model.specs.Lists.{of_first}
 use Rattle.macho_cells.specs.declared.place.Cell.{Cell}
 use Rattle.macho_cells.specs.declared.place.PlacedCell.{PlacedCell}
 use Rattle.macho_layout.specs.Plans.{Planning, IsPlanOf}
@@ -60,6 +60,10 @@ filter_one {X} t xs x apart (k, low, is) passes = go xs k apart low is
         = false_from_ne_true (t y) (λ yes_it. apart 0 (suc k) x (omega arith) low yes_it (ap t is ∙ passes)) in
         ap (λ (b : Bool). cond b (y ∷ filter t ys) (filter t ys)) other ∙ go ys k
         (pairs_tail (λ a b. t a ≡ true → t b ≡ true → ⊥) y ys apart) (omega arith) is
+
+-- the file offset of an address of the first of some segments
+abbrev file_offset_in : List PlacedSegment → ℕ → ℕ
+file_offset_in ss address = of_first 0 (λ (s : PlacedSegment). s.file_offset + (address - s.address)) ss
 
 -- file offsets grow no faster than addresses
 chain_low : (a o : ℕ) (ss : List PlacedSegment) (a' o' : ℕ) → Chain a o ss a' o' → All IsPaged ss → o ≤ a → All

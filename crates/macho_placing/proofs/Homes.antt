@@ -17,7 +17,8 @@ use Rattle.macho_model.specs.declared.placed.Range64.{Range64}
 use Rattle.macho_model.specs.Links.{Link, header_at}
 use Rattle.macho_model.specs.Resolution.{entry_at}
 use Rattle.macho_model.specs.Placement.{Placed, Span, AreApart, id_of, common_of, section_span, common_span, slot_span, stub_span}
-use Rattle.macho_model.specs.Placement.{range_span, linkedit_span, linkedit_start, linkedit_ranges}
+use Rattle.macho_model.specs.Placement.{range_span, linkedit_span, linkedit_ranges}
+use Rattle.macho_model.specs.Lists.{of_first}
 use Rattle.macho_cells.specs.declared.members.Member.{Member}
 use Rattle.macho_cells.specs.declared.members.PlacedMember.{PlacedMember}
 use Rattle.macho_cells.specs.declared.place.Cell.{Cell}
@@ -243,7 +244,8 @@ module _ (l : Link) (p : Planning) (counts : Counts) (q : Placed) (plan : IsPlan
 
   pub table_span_is : (r : Range64) → h.offset ≤ r.start → (linkedit_span q r).start ≡ h.address + (r.start - h.offset)
   table_span_is r low =
-      ap (λ (ss : List PlacedSegment). linkedit_start ss r.start) (last_alone l p counts q plan fits h) ∙ omega (arith, low)
+      ap (λ (ss : List PlacedSegment). of_first r.start (λ (s : PlacedSegment). s.address + r.start - s.file_offset) ss)
+      (last_alone l p counts q plan fits h) ∙ omega (arith, low)
 
   pub tables_above : All AboveAll (map (linkedit_span q) (linkedit_ranges q))
   tables_above =

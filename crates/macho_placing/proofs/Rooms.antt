@@ -14,13 +14,13 @@ use Rattle.macho_records.specs.Segments.{text_of}
 use Rattle.macho_model.specs.declared.placed.Counts.{Counts}
 use Rattle.macho_model.specs.declared.placed.Linkedit.{Linkedit}
 use Rattle.macho_model.specs.declared.placed.PlacedSegment.{PlacedSegment}
-use Rattle.macho_model.specs.Lists.{IsNumber, EachNext}
+use Rattle.macho_model.specs.Lists.{IsNumber, EachNext, of_first}
 use Rattle.macho_model.specs.Links.{Link}
 use Rattle.macho_model.specs.Segments.{DATA, DATA_CONST, SEGMENT_PAGE, may_hold_pointers, list_if}
 use Rattle.macho_model.specs.Placement.{Placed, linkedit_ranges}
 use Rattle.macho_model.specs.OutputSections.{Piece}
-use Rattle.macho_model.specs.Order.{first_offset, table_pieces, EndsBefore, BeginsLeast, pages_of, pointer_pages, fixup_room}
-use Rattle.macho_model.specs.Order.{signature_room, HaveRoom, LiesInFile, IsLow}
+use Rattle.macho_model.specs.Order.{table_pieces, EndsBefore, BeginsLeast, pages_of, pointer_pages, fixup_room, signature_room, HaveRoom}
+use Rattle.macho_model.specs.Order.{LiesInFile, IsLow}
 use Rattle.macho_cells.specs.Blocks.{StandLeast}
 use Rattle.macho_cells.proofs.Multiples.{rounded-multiple}
 use Rattle.macho_layout.specs.Plans.{Planning, IsPlanOf}
@@ -80,7 +80,8 @@ module _ (l : Link) (p : Planning) (counts : Counts) (q : Placed) (plan : IsPlan
   table_stack : StandLeast h.offset (map piece_block (table_pieces q)) q.linkedit.signature.end
   table_stack =
       let one : table_pieces q ≡ pieces_from h.offset q.linkedit
-      = ap (λ (ss : List PlacedSegment). pieces_from (first_offset ss) q.linkedit) (last_alone l p counts q plan fits h) in
+      = ap (λ (ss : List PlacedSegment). pieces_from (of_first 0 (λ (s : PlacedSegment). s.file_offset) ss) q.linkedit)
+      (last_alone l p counts q plan fits h) in
       subst (λ (cs : List Piece). StandLeast h.offset (map piece_block cs) q.linkedit.signature.end) (sym one)
       (subst (λ (t : Linkedit). StandLeast h.offset (map piece_block (pieces_from h.offset t)) t.signature.end) (sym h.from_them.linkedit)
       (tables_stack counts h.offset (row_pages h.segments) (keep l p counts q plan fits h).offset))

@@ -8,7 +8,7 @@ use Rattle.macho_bytes.specs.Numbers.{rounded_up}
 use Rattle.macho_model.specs.declared.placed.Counts.{Counts}
 use Rattle.macho_model.specs.declared.placed.Linkedit.{Linkedit}
 use Rattle.macho_model.specs.Segments.{SEGMENT_PAGE}
-use Rattle.macho_model.specs.Order.{fixup_room, table_piece, SIGNATURE_EXPONENT}
+use Rattle.macho_model.specs.Order.{fixup_room, table_piece}
 use Rattle.macho_model.specs.OutputSections.{Piece, POINTER_EXPONENT}
 use Rattle.macho_cells.specs.Blocks.{StandLeast}
 use Rattle.macho_cells.proofs.Multiples.{rounded-same, multiple-weaker}
@@ -20,7 +20,7 @@ abbrev pub pieces_from : ℕ → Linkedit → List Piece
 pieces_from offset t =
     record { start = offset; size = 0; exponent = 0 } ∷ table_piece POINTER_EXPONENT t.fixups ∷ table_piece 0 t.trie ∷ table_piece
     POINTER_EXPONENT t.symtab
-    ∷ table_piece 0 t.strtab ∷ table_piece SIGNATURE_EXPONENT t.signature ∷ []
+    ∷ table_piece 0 t.strtab ∷ table_piece 4 t.signature ∷ []
 
 one_up : (n m : ℕ) → n ≡ m → n ≡ rounded_up (2 ^ 0) m
 one_up n m e = omega (arith, e)

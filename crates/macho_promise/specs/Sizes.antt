@@ -45,12 +45,9 @@ commands_size l =
     own_commands_size l + size_of uuid_command + versions_size l.versions + sum_by (path_command_size (size_of dylib_command)) (libraries_needed l)
     + sum_by (path_command_size (size_of rpath_command)) l.rpaths + 3 * size_of linkedit_data_command + size_of symtab_command
 
--- the room for longer names that is asked for: so much for each path that names a library or is searched
-abbrev pub NAME_ROOM : ℕ
-NAME_ROOM = 1024
-
+-- the room for longer names that is asked for: 1024 bytes for each path that names a library or is searched
 abbrev pub padding_size : Link → ℕ
-padding_size l = if l.headerpad then NAME_ROOM * (length (libraries_needed l) + length l.rpaths + one_if (not l.executable)) else 0
+padding_size l = if l.headerpad then 1024 * (length (libraries_needed l) + length l.rpaths + one_if (not l.executable)) else 0
 
 -- an unwind entry before it has addresses; a personality is named by the number of its slot
 abbrev pub unwind_input : Link → EntryId → UnwindInput

@@ -17,7 +17,6 @@ trie_export (Reexport ordinal) = as_reexport REEXPORT ordinal []
 abbrev pub IsTrieText : List (List ℕ × Exported) → List ℕ → Type 0
 IsTrieText symbols bytes = ((symbols ≡ []) × (bytes ≡ [])) ⊎ ((1 ≤ length symbols) × IsExportsTrie symbols bytes)
 
--- the bytes of a table
 abbrev pub table_bytes : List ℕ → Table → List ℕ
 table_bytes b t = slice_range b t.at (t.at + t.size)
 

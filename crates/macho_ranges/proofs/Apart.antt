@@ -21,9 +21,10 @@ use Rattle.macho_model.specs.declared.placed.Range64.{Range64}
 use Rattle.macho_model.specs.Links.{Link, header_at}
 use Rattle.macho_model.specs.Segments.{TEXT, DATA_CONST, LINKEDIT}
 use Rattle.macho_model.specs.Placement.{Placed, Span, AreApart, IsPlaced, id_of, section_span, common_span, slot_span, stub_span}
-use Rattle.macho_model.specs.Placement.{range_span, head_span, head_size, linkedit_ranges, linkedit_span, linkedit_start, spans_of}
-use Rattle.macho_model.specs.Placement.{spans_with, LiesIn, LiesInNamed, SectionLies, RangeLies, TableLies, is_segment_named}
+use Rattle.macho_model.specs.Placement.{range_span, head_span, head_size, linkedit_ranges, linkedit_span, spans_with, LiesIn, LiesInNamed}
+use Rattle.macho_model.specs.Placement.{SectionLies, RangeLies, TableLies, is_segment_named}
 use Rattle.macho_model.specs.Zeros.{in_file, filled_sections}
+use Rattle.macho_model.specs.Lists.{of_first}
 use Rattle.macho_promise.specs.Promise.{IsLaidOut}
 use Rattle.macho_agreement.proofs.Room.{text_begins, text_holds_head, file_parts_end}
 use Rattle.macho_agreement.proofs.Entry.{one_named}
@@ -42,7 +43,7 @@ turned a b (inr (inl e)) = inl e
 turned a b (inr (inr (inl e))) = inr (inr (inr e))
 turned a b (inr (inr (inr e))) = inr (inr (inl e))
 
-memory_apart : (l : Link) (counts : Counts) (p : Placed) → AllPairs AreApart (spans_of l counts p)
+memory_apart : (l : Link) (counts : Counts) (p : Placed) → AllPairs AreApart (spans_with l counts p p.sections)
     → EachLater AreApart (memory_spans l counts p)
 unfolding spans_with
 memory_apart l counts p pairs =
@@ -52,7 +53,7 @@ memory_apart l counts p pairs =
     let G : List Span = map slot_span p.slots in
     let B : List Span = map stub_span p.stubs in
     let J : List Span = range_span p.init_offsets ∷ range_span p.unwind ∷ map (linkedit_span p) (linkedit_ranges p) in
-    let later = later_pairs AreApart (spans_of l counts p) pairs in
+    let later = later_pairs AreApart (spans_with l counts p p.sections) pairs in
     let filled : Sub F S = sub_filter (section_span l) (λ q. not (is_zerofill (header_at l (id_of q)))) p.sections in
     let first : Sub F (S ++ C) = subst (λ (xs : List Span). Sub xs (S ++ C)) (append-nil F) (sub_append F S [] C filled (sub_dropped C)) in
     let second : Sub (F ++ G) ((S ++ C) ++ G) = sub_append F (S ++ C) G G first (sub_same G) in
@@ -96,7 +97,8 @@ range_backed l counts p r placed (up, inr lies) = named_backed l counts p TEXT (
 
 -- a table of `__LINKEDIT`
 start_is : (p : Placed) (r : Range64) (ss : List PlacedSegment) (s : PlacedSegment) → Contains ss s
-    → (x : PlacedSegment) × Contains ss x × (linkedit_start ss r.start ≡ x.address + r.start - x.file_offset)
+    → (x : PlacedSegment) × Contains ss x
+    × (of_first r.start (λ (s : PlacedSegment). s.address + r.start - s.file_offset) ss ≡ x.address + r.start - x.file_offset)
 start_is p r [] s has = absurd (omega (arith, has.1))
 start_is p r (x ∷ ss) s has = (x, contains_first x ss, refl)
 

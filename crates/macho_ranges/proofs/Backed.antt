@@ -17,15 +17,16 @@ use Rattle.macho_lists.proofs.Orders.{EachLater}
 use Rattle.std.proofs.lemmas.List.Elements.{All-nil, All-cons}
 use Rattle.macho_model.specs.declared.placed.PlacedSegment.{PlacedSegment}
 use Rattle.macho_model.specs.Links.{Link}
-use Rattle.macho_model.specs.Placement.{Placed, Span, AreApart, IsInOrder, EachFollows}
+use Rattle.macho_model.specs.Placement.{Placed, Span, AreApart, IsInOrder, Follows}
 use Rattle.macho_model.specs.Addresses.{has_in_file, offset_in_file}
 use Rattle.macho_model.specs.Zeros.{in_file}
+use Rattle.macho_model.specs.Lists.{EachNext}
 use Rattle.macho_targets.proofs.Above.{next_follows}
 use Rattle.macho_targets.proofs.Places.{first_passes}
 use Rattle.macho_agreement.proofs.Room.{file_behind}
 
 -- a segment ends where a later one begins, or before
-ends_behind : (l : Link) (segments : List PlacedSegment) (d : PlacedSegment) → EachFollows l segments → (i n j : ℕ) → j ≡ i + n + 1
+ends_behind : (l : Link) (segments : List PlacedSegment) (d : PlacedSegment) → EachNext (Follows l) segments → (i n j : ℕ) → j ≡ i + n + 1
     → j < length segments
     → (get_or segments i d).address + (get_or segments i d).size ≤ (get_or segments j d).address
 ends_behind l segments d follow i zero j is lt =
@@ -44,7 +45,7 @@ pub record StandsBefore (s t : PlacedSegment) : Type 0 where
   pub file : s.file_offset + s.file_size ≤ t.file_offset
 
 -- of two segments one stands before the other, or they are one
-pub before_or_one : (l : Link) (segments : List PlacedSegment) (s t : PlacedSegment) → EachFollows l segments → Contains segments s
+pub before_or_one : (l : Link) (segments : List PlacedSegment) (s t : PlacedSegment) → EachNext (Follows l) segments → Contains segments s
     → Contains segments t
     → (s ≡ t) ⊎ StandsBefore s t ⊎ StandsBefore t s
 before_or_one l segments s t follow (i, low, at_i) (j, below, at_j) = by (nat_lt i j) (nat_lt j i) refl refl
@@ -114,7 +115,7 @@ apart_in p m n f g s a b (inr (inr (inl e))) = inr (inr (inl (omega (arith, a.st
 apart_in p m n f g s a b (inr (inr (inr e))) = inr (inr (inr (omega (arith, a.start, b.size, b.start, a.from, b.from, e))))
 
 -- THE ranges of the file are apart where the addresses are
-pub apart_in_file : (l : Link) (p : Placed) (m n f g : Span) → EachFollows l p.segments → IsBacked p m f → IsBacked p n g → AreApart m n
+pub apart_in_file : (l : Link) (p : Placed) (m n f g : Span) → EachNext (Follows l) p.segments → IsBacked p m f → IsBacked p n g → AreApart m n
     → AreApart f g
 apart_in_file l p m n f g follow (inl e) b apart = inl e
 apart_in_file l p m n f g follow (inr a) (inl e) apart = inr (inl e)
@@ -174,7 +175,7 @@ AreBacked p [] (f ∷ files) = ⊥
 AreBacked p (m ∷ memories) [] = ⊥
 AreBacked p (m ∷ memories) (f ∷ files) = IsBacked p m f × AreBacked p memories files
 
-each_apart : (l : Link) (p : Placed) (m f : Span) (memories files : List Span) → EachFollows l p.segments → IsBacked p m f
+each_apart : (l : Link) (p : Placed) (m f : Span) (memories files : List Span) → EachNext (Follows l) p.segments → IsBacked p m f
     → AreBacked p memories files
     → All (AreApart m) memories → All (AreApart f) files
 each_apart l p m f [] [] follow one backed apart = All-nil (AreApart f)
@@ -185,7 +186,7 @@ each_apart l p m f (n ∷ memories) (g ∷ files) follow one backed apart =
     (each_apart l p m f memories files follow one backed.1 (λ k d lt. apart (suc k) d (omega arith)))
 
 -- THE files of a list
-pub all_apart : (l : Link) (p : Placed) (memories files : List Span) → EachFollows l p.segments → AreBacked p memories files
+pub all_apart : (l : Link) (p : Placed) (memories files : List Span) → EachNext (Follows l) p.segments → AreBacked p memories files
     → EachLater AreApart memories
     → EachLater AreApart files
 all_apart l p [] [] follow backed later = tt

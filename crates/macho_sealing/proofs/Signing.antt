@@ -17,7 +17,7 @@ use Rattle.macho_model.specs.declared.placed.PlacedSegment.{PlacedSegment}
 use Rattle.macho_model.specs.Links.{Link}
 use Rattle.macho_model.specs.Segments.{TEXT}
 use Rattle.macho_model.specs.WrittenSum.{SIGNED_PAGE, DIGEST_SIZE, SIGNATURE_FIXED}
-use Rattle.macho_model.specs.Placement.{Placed, EachFollows, is_segment_named}
+use Rattle.macho_model.specs.Placement.{Placed, is_segment_named, Follows}
 use Rattle.macho_model.specs.Images.{segments_of, is_named, segments_named}
 use Rattle.macho_model.specs.Agreement.{SegmentPlace, place_by_command, place_told, SegmentsAgree}
 use Rattle.macho_model.specs.Signature.{Signed, identifier_text, signature_text, signed_of}
@@ -31,6 +31,7 @@ use Rattle.macho_signature.proofs.Texts.{length-signature, length-identifier}
 use Rattle.macho_commands.proofs.HeadRead.{head_read}
 use Rattle.macho_promise.specs.Sizes.{AreCounts, counts_with}
 use Rattle.macho_model.specs.Faults.{last_part}
+use Rattle.macho_model.specs.Lists.{EachNext}
 use Rattle.macho_agreement.proofs.Classes.{AllDiffer}
 use Rattle.macho_agreement.proofs.Headers.{all_differ}
 use Rattle.macho_agreement.proofs.Room.{text_begins}
@@ -102,7 +103,7 @@ one_text b t [] is e = cc
 one_text b t (c ∷ []) is e = record { text = c; one = is; place = ap (λ (ps : List SegmentPlace). get_or ps 0 (place_told t)) e }
 one_text b t (c ∷ d ∷ found) is e = cc
 
-text_told : (l : Link) (b : List ℕ) (p : Placed) (t : PlacedSegment) → EachFollows l p.segments → SegmentsAgree b p → Contains p.segments t
+text_told : (l : Link) (b : List ℕ) (p : Placed) (t : PlacedSegment) → EachNext (Follows l) p.segments → SegmentsAgree b p → Contains p.segments t
     → is_segment_named TEXT t ≡ true → OneText b t
 text_told l b p t follow agree has named =
     one_text b t (segments_named TEXT b) refl

@@ -12,7 +12,7 @@ use Rattle.macho_model.specs.declared.placed.PlacedSegment.{PlacedSegment}
 use Rattle.macho_model.specs.declared.targets.Limit.{Limit}
 use Rattle.macho_model.specs.declared.targets.Limit.TheVariants as limit
 use Rattle.macho_model.specs.Links.{Link}
-use Rattle.macho_model.specs.Limits.{PassesLimit, ImagePasses, GREATEST_PAGES}
+use Rattle.macho_model.specs.Limits.{PassesLimit, ImagePasses}
 use Rattle.macho_model.specs.Order.{pages_of}
 use Rattle.macho_model.specs.Placement.{Placed}
 use Rattle.macho_model.specs.Segments.{may_hold_pointers}
@@ -108,9 +108,9 @@ pub pages_told : (l : Link) (counts : Counts) (q : Placed) (number : ℕ) → Ha
     → PassesLimit l counts limit.Pages number (Some q)
 pages_told l counts q number many = many
 
-not_passed : (s : PlacedSegment) → passed_pages s ≡ None → may_hold_pointers (text_of s.name) ≡ true → GREATEST_PAGES < pages_of s → ⊥
+not_passed : (s : PlacedSegment) → passed_pages s ≡ None → may_hold_pointers (text_of s.name) ≡ true → 65535 < pages_of s → ⊥
 not_passed s none may past =
-    let test : nat_lt GREATEST_PAGES (pages_of s) ≡ true = lt-ltb GREATEST_PAGES (pages_of s) past in
+    let test : nat_lt 65535 (pages_of s) ≡ true = lt-ltb 65535 (pages_of s) past in
     let some : Some (pages_of s) ≡ passed_pages s = rw (may, test) refl in
     let both : Some (pages_of s) ≡ None = some ∙ none in
     cc

@@ -16,13 +16,14 @@ use Rattle.macho_bytes.specs.Texts.{name_of}
 use Rattle.macho_records.specs.Sections.{is_zerofill}
 use Rattle.macho_records.specs.Segments.{text_of}
 use Rattle.macho_records.specs.declared.header.SegmentCommand.{SegmentCommand}
+use Rattle.macho_records.specs.declared.constants.TheConstants.{LC_SEGMENT_64}
 use Rattle.macho_model.specs.declared.placed.Counts.{Counts}
 use Rattle.macho_model.specs.declared.placed.PlacedSegment.{PlacedSegment}
 use Rattle.macho_model.specs.declared.placed.Slot.{Slot}
 use Rattle.macho_model.specs.declared.targets.Target.{Target}
 use Rattle.macho_model.specs.declared.targets.Target.TheVariants as target
 use Rattle.macho_model.specs.Lists.{IsNumber}
-use Rattle.macho_model.specs.Commands.{Command}
+use Rattle.macho_model.specs.Commands.{Command, numbered}
 use Rattle.macho_model.specs.Links.{Link, header_at, carried_of}
 use Rattle.macho_model.specs.Targets.{is_import}
 use Rattle.macho_model.specs.Fields.{Field, fields_of}
@@ -31,7 +32,7 @@ use Rattle.macho_model.specs.Placement.{Placed, id_of, section_span, slot_span, 
 use Rattle.macho_model.specs.Images.{segments_of, Table, tables_of, fixups_header}
 use Rattle.macho_model.specs.Chain.{ChainSegment, WORD_SIZE, chain_segment, chain_segments, IsFileWord, OnPageChain}
 use Rattle.macho_model.specs.LoadRules.{segment_in, protections_fit, table_fits, import_fits}
-use Rattle.macho_model.specs.Loader.{is_bind, ordinal_of, is_writable, import_count, OnPageOf, WordFits, segment_commands}
+use Rattle.macho_model.specs.Loader.{is_bind, ordinal_of, is_writable, import_count, OnPageOf, WordFits}
 use Rattle.macho_model.specs.Fixups.{has_room, import_entries_of}
 use Rattle.macho_model.specs.Agreement.{SegmentPlace, place_by_command, place_told, SegmentsAgree}
 use Rattle.macho_model.specs.Values.{is_pointer, is_absolute_target}
@@ -115,14 +116,14 @@ placed_as b p number s agree is =
     }
 
 -- a segment has the protection of its name, and one of these names may be written to
-protected : (b : List ℕ) (number : ℕ) (s : SegmentCommand) → All (λ (c : Command). protections_fit b c ≡ true) (segment_commands b)
+protected : (b : List ℕ) (number : ℕ) (s : SegmentCommand) → All (λ (c : Command). protections_fit b c ≡ true) (numbered LC_SEGMENT_64 b)
     → IsNumber (segments_of b) number s → s.initprot ≡ loaded_protection_of (name_of s.segname)
 unfolding segments_of
 protected b number s all is =
     let none : Command = record { at = 0; number = 0; size = 0 } in
-    let lt : number < length (segment_commands b) = omega (arith, is.0, length-map (segment_commands b) (segment_in b)) in
-    let c : Command = get_or (segment_commands b) number none in
-    let same : segment_in b c ≡ s = sym (get_or-map (segment_in b) (segment_commands b) number none s lt) ∙ is.1 in
+    let lt : number < length (numbered LC_SEGMENT_64 b) = omega (arith, is.0, length-map (numbered LC_SEGMENT_64 b) (segment_in b)) in
+    let c : Command = get_or (numbered LC_SEGMENT_64 b) number none in
+    let same : segment_in b c ≡ s = sym (get_or-map (segment_in b) (numbered LC_SEGMENT_64 b) number none s lt) ∙ is.1 in
     let fits = eqb-true (segment_in b c).initprot (loaded_protection_of (name_of (segment_in b c).segname))
     (and_parts ((segment_in b c).maxprot == loaded_protection_of (name_of (segment_in b c).segname))
     ((segment_in b c).initprot == loaded_protection_of (name_of (segment_in b c).segname)) (all number none lt)).1 in
@@ -224,7 +225,7 @@ fixup_ordinal l counts uuid b p h _ (asked.IsFixupOf.pointer q f one field needs
 
 -- the tenth rule
 word_fits : ChainsAreTold → (l : Link) (counts : Counts) (uuid b : List ℕ) (p : Placed) → IsLed l counts uuid b p
-    → All (λ (c : Command). protections_fit b c ≡ true) (segment_commands b) → (number : ℕ) (s : SegmentCommand) (page a : ℕ)
+    → All (λ (c : Command). protections_fit b c ≡ true) (numbered LC_SEGMENT_64 b) → (number : ℕ) (s : SegmentCommand) (page a : ℕ)
     → IsNumber (segments_of b) number s → OnPageOf b number s page a → WordFits b s page a
 word_fits told l counts uuid b p h protections number s page a is on =
     record {

@@ -15,7 +15,7 @@ use Rattle.macho_model.specs.declared.placed.Stub.{Stub}
 use Rattle.macho_model.specs.Links.{Link, header_at, carried_of}
 use Rattle.macho_model.specs.Fields.{Field, fields_of}
 use Rattle.macho_model.specs.Placement.{Placed, Span, AreApart, id_of, head_span, section_span, common_span, slot_span, stub_span}
-use Rattle.macho_model.specs.Placement.{range_span, linkedit_span, linkedit_ranges, spans_with, spans_of, IsWholeList}
+use Rattle.macho_model.specs.Placement.{range_span, linkedit_span, linkedit_ranges, spans_with, IsWholeList}
 use Rattle.macho_model.specs.Values.{needs_fixup}
 use Rattle.macho_model.specs.Fixups.{IsFixupPlace, ChainIsWhole}
 use Rattle.macho_model.specs.Fixups as place
@@ -85,7 +85,7 @@ pub record PartsAreApart (l : Link) (counts : Counts) (p : Placed) : Type 0 wher
       → Contains (range_span p.init_offsets ∷ range_span p.unwind ∷ map (linkedit_span p) (linkedit_ranges p)) r
       → AreApart (common_span l c) r
 
-pub parts_apart : (l : Link) (counts : Counts) (p : Placed) → AllPairs AreApart (spans_of l counts p) → PartsAreApart l counts p
+pub parts_apart : (l : Link) (counts : Counts) (p : Placed) → AllPairs AreApart (spans_with l counts p p.sections) → PartsAreApart l counts p
 unfolding spans_with parts_0 parts_1 parts_2 parts_3 ranges
 parts_apart l counts p all =
     let three = pairs_left AreApart (parts_3 l counts p) (ranges p) all in

@@ -13,6 +13,7 @@ use Rattle.std.proofs.lemmas.Nat.{pow_pos}
 use Rattle.macho_bytes.specs.Numbers.{le_at}
 use Rattle.macho_bytes.proofs.Reading.{le_at-between}
 use Rattle.std.specs.Str.{bytes_eq}
+use Rattle.std.specs.FinMap.{empty}
 use Rattle.macho_records.specs.Segments.{text_of}
 use Rattle.macho_records.specs.Sections.{is_zerofill}
 use Rattle.macho_model.specs.declared.placed.Counts.{Counts}
@@ -32,7 +33,7 @@ use Rattle.macho_model.specs.Addresses.{offset_in_file}
 use Rattle.macho_model.specs.Memory.{Choice, BindsAll, Holds, HoldsNumber}
 use Rattle.macho_model.specs.HeldLaws.{IsFree}
 use Rattle.macho_model.specs.Stands.{IsOutsideField, kind_of, Says, seen_in, Denotes, SectionStands, CommonStands, StubStands}
-use Rattle.macho_model.specs.Values.{needs_fixup, no_choice}
+use Rattle.macho_model.specs.Values.{needs_fixup}
 use Rattle.macho_parts.specs.Filled.{FieldIsSet, bytes_in_file}
 use Rattle.macho_standing.specs.Composed.{SectionIsWritten, StubIsWritten}
 use Rattle.macho_standing.proofs.Segments.{is_mapped}
@@ -183,7 +184,7 @@ field_free l counts b p q f ready joined one field plain =
 
 plain_denotes : (rests : RestsOn) (l : Link) (counts : Counts) (b : List ℕ) (p : Placed) → IsReady l counts p → IsJoined l b p
     → (q : PlacedSection) (f : Field) → Contains p.sections q → SectionIsWritten l b p q → Contains (fields_of l (id_of q)) f
-    → needs_fixup l (id_of q) f ≡ false → is_zerofill (header_at l (id_of q)) ≡ false → Denotes l b p 0 no_choice q f
+    → needs_fixup l (id_of q) f ≡ false → is_zerofill (header_at l (id_of q)) ≡ false → Denotes l b p 0 empty q f
 plain_denotes rests l counts b p ready joined q f one written field plain some =
     let seg = has_segment l counts b p q ready joined one in
     let filled = written some in
@@ -199,10 +200,10 @@ plain_denotes rests l counts b p ready joined q f one written field plain some =
     le_at-between f.width off (off + (header_at l (id_of q)).size) f.offset b (omega (arith, inside)) ∙ ap (le_at f.width b) same in
     record {
       word = le_at f.width b at;
-      held = number_held rests.memory.numbers b seg.segment 0 no_choice (q.address + f.offset) f.width seg.back (omega (arith, seg.from))
+      held = number_held rests.memory.numbers b seg.segment 0 empty (q.address + f.offset) f.width seg.back (omega (arith, seg.from))
           (omega (arith, to, inside))
           (field_free l counts b p q f ready joined one field plain);
-      says = subst (λ (w : ℕ). Says l p 0 no_choice (id_of q) f (seen_in l 0 q f w) (kind_of f.type (is_some f.subtrahend))) word
+      says = subst (λ (w : ℕ). Says l p 0 empty (id_of q) f (seen_in l 0 q f w) (kind_of f.type (is_some f.subtrahend))) word
           (All-contains (FieldIsSet l p q (bytes_in_file b p q.address (header_at l (id_of q)).size))
           (fields_of l (id_of q)) f filled.set field plain);
     }
@@ -226,9 +227,9 @@ section_stands rests l counts b p ready joined zeros s choice whole binds q one 
         let at_zero = plain_denotes rests l counts b p ready joined q f one written field none some in
         let free = field_free l counts b p q f ready joined one field none in
         elim (field_fits_in l (id_of q) f ready.sound carried field) [
-          | inl pointer ↦ rests.slides.plain l b p s no_choice choice q f pointer.kind
+          | inl pointer ↦ rests.slides.plain l b p s empty choice q f pointer.kind
               (plain_pointer l (id_of q) f pointer none) free at_zero
-          | inr moves ↦ rests.slides.fields l b p s no_choice choice q f whole moves free at_zero
+          | inr moves ↦ rests.slides.fields l b p s empty choice q f whole moves free at_zero
         ]
 
     none_in : (f : Field) (fs : List Field) → fs ≡ [] → Contains fs f → ⊥

@@ -15,11 +15,11 @@ use Rattle.macho_records.specs.Segments.{text_of}
 use Rattle.macho_records.specs.declared.header.SegmentCommand.{SegmentCommand}
 use Rattle.macho_model.specs.declared.placed.Counts.{Counts}
 use Rattle.macho_model.specs.declared.placed.PlacedSegment.{PlacedSegment}
-use Rattle.macho_model.specs.Lists.{IsNumber}
+use Rattle.macho_model.specs.Lists.{IsNumber, of_first, EachNext}
 use Rattle.macho_model.specs.Links.{Link}
 use Rattle.macho_model.specs.Segments.{PAGEZERO, TEXT, segment_rank}
-use Rattle.macho_model.specs.Placement.{Placed, is_segment_named, EachFollows, IsPlaced}
-use Rattle.macho_model.specs.Images.{segments_of, mapped_segments, is_named, first_address, base_of}
+use Rattle.macho_model.specs.Placement.{Placed, is_segment_named, IsPlaced, Follows}
+use Rattle.macho_model.specs.Images.{segments_of, mapped_segments, is_named, base_of}
 use Rattle.macho_model.specs.Agreement.{SegmentPlace, place_by_command, place_told, SegmentsAgree}
 use Rattle.macho_fixups.specs.declared.run.FixupSegment.{FixupSegment}
 use Rattle.macho_fixups.specs.Readings.{AreSegmentsOf}
@@ -95,7 +95,7 @@ segments_agree b p agree =
 
 -- ranks rise
 
-ranks_rise : (l : Link) (segments : List PlacedSegment) → EachFollows l segments → (i j : ℕ) (e : PlacedSegment) → i < j
+ranks_rise : (l : Link) (segments : List PlacedSegment) → EachNext (Follows l) segments → (i j : ℕ) (e : PlacedSegment) → i < j
     → j < length segments
     → segment_rank l (text_of (get_or segments i e).name) < segment_rank l (text_of (get_or segments j e).name)
 ranks_rise l segments h i zero e before within = absurd (omega (arith, before))
@@ -117,7 +117,7 @@ ranks_rise l segments h i (suc m) e before within =
     ]
 
 -- so two segments of one name are one
-pub one_of_name : (l : Link) (segments : List PlacedSegment) (name : List ℕ) (s t : PlacedSegment) → EachFollows l segments
+pub one_of_name : (l : Link) (segments : List PlacedSegment) (name : List ℕ) (s t : PlacedSegment) → EachNext (Follows l) segments
     → Contains segments s
     → Contains segments t → is_segment_named name s ≡ true → is_segment_named name t ≡ true → s ≡ t
 one_of_name l segments name s t h (i, lt_i, at_i) (j, lt_j, at_j) named_s named_t =
@@ -153,7 +153,7 @@ first_placed [] = 0
 first_placed (s ∷ segments) = s.address
 
 first_named : (name : List ℕ) (cs : List SegmentCommand) (ss : List PlacedSegment) → map place_by_command cs ≡ map place_told ss
-    → first_address (filter (is_named name) cs) ≡ first_placed (filter (is_segment_named name) ss)
+    → of_first 0 (λ (s : SegmentCommand). s.vmaddr) (filter (is_named name) cs) ≡ first_placed (filter (is_segment_named name) ss)
 unfolding first_placed
 first_named name [] [] agree = refl
 first_named name [] (s ∷ ss) agree = absurd (cc)
@@ -175,9 +175,9 @@ first_named name (c ∷ cs) (s ∷ ss) agree =
     test_same : is_named name c ≡ is_segment_named name s
     test_same = ap (λ (x : SegmentPlace). bytes_eq x.name name) same
 
-    by : first_address (filter (is_named name) cs) ≡ first_placed (filter (is_segment_named name) ss) → (t : Bool)
+    by : of_first 0 (λ (s : SegmentCommand). s.vmaddr) (filter (is_named name) cs) ≡ first_placed (filter (is_segment_named name) ss) → (t : Bool)
         → is_segment_named name s ≡ t
-        → first_address (cond (is_named name c) (c ∷ filter (is_named name) cs) (filter (is_named name) cs))
+        → of_first 0 (λ (s : SegmentCommand). s.vmaddr) (cond (is_named name c) (c ∷ filter (is_named name) cs) (filter (is_named name) cs))
         ≡ first_placed (cond (is_segment_named name s) (s ∷ filter (is_segment_named name) ss) (filter (is_segment_named name) ss))
     by again true is = rw (test_same, is) (ap (λ (x : SegmentPlace). x.address) same)
     by again false is = rw (test_same, is) again

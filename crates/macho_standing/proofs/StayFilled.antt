@@ -9,6 +9,7 @@ use Rattle.std.proofs.lemmas.Bool.{true≢false, ne_eqb}
 use Rattle.std.proofs.lemmas.List.{length-take, length-drop}
 use Rattle.std.proofs.lemmas.List.Edits.{get_or-between}
 use Rattle.std.proofs.lemmas.List.Elements.{All-contains, All-contains_itself}
+use Rattle.std.specs.FinMap.{empty}
 use Rattle.macho_bytes.specs.Numbers.{le_at}
 use Rattle.macho_bytes.proofs.Reading.{little_is_local}
 use Rattle.macho_records.specs.Sections.{is_zerofill}
@@ -26,7 +27,7 @@ use Rattle.macho_model.specs.Chain.{WORD_SIZE}
 use Rattle.macho_model.specs.Fixups.{IsFixupPlace}
 use Rattle.macho_model.specs.Meaning.{GoesThrough}
 use Rattle.macho_model.specs.Stands.{IsOutsideField, Says, seen_in, kind_of}
-use Rattle.macho_model.specs.Values.{needs_fixup, no_choice}
+use Rattle.macho_model.specs.Values.{needs_fixup}
 use Rattle.macho_fixups.specs.declared.run.Fixup.{Fixup}
 use Rattle.macho_fixups.specs.Laws.{BytesStay}
 use Rattle.macho_promise.specs.FixupsSay.{fixup_segment, fixup_segments}
@@ -158,7 +159,7 @@ sections_stay_filled stay l counts p fixups before now q link w one some filled 
         little_is_local.alike f.width (bytes_in_file before p q.address (header_at l (id_of q)).size)
         (bytes_in_file now p q.address (header_at l (id_of q)).size)
         f.offset f.offset (λ k within. sym (field_byte f field plain k within)) in
-        subst (λ (word : ℕ). Says l p 0 no_choice (id_of q) f (seen_in l 0 q f word) (kind_of f.type (is_some f.subtrahend))) same
+        subst (λ (word : ℕ). Says l p 0 empty (id_of q) f (seen_in l 0 q f word) (kind_of f.type (is_some f.subtrahend))) same
         (was plain)
 
 -- THE stub stays set.

@@ -9,6 +9,7 @@ use Rattle.std.specs.List.{flat_map, filter_map}
 use Rattle.std.proofs.lemmas.Bool.{cases_Bool, true≢false, and_parts}
 use Rattle.std.proofs.lemmas.List.{get_or-map, length-map}
 use Rattle.std.proofs.lemmas.List.Elements.{All-contains}
+use Rattle.std.specs.FinMap.{empty}
 use Rattle.macho_model.specs.declared.placed.Counts.{Counts}
 use Rattle.macho_model.specs.declared.placed.PlacedSection.{PlacedSection}
 use Rattle.macho_model.specs.declared.placed.Slot.{Slot}
@@ -25,7 +26,7 @@ use Rattle.macho_model.specs.Addresses.{address_of}
 use Rattle.macho_model.specs.Memory.{Choice, BindsAll}
 use Rattle.macho_model.specs.Fixups.{EntryOfImport, same_entry, has_room, own_entry, own_entries}
 use Rattle.macho_model.specs.Stands.{Pointer, Denotes, SlotStands, kind_of, is_template_offset}
-use Rattle.macho_model.specs.Values.{is_pointer, is_absolute_target, needs_fixup, no_choice, IsNotEncodable}
+use Rattle.macho_model.specs.Values.{is_pointer, is_absolute_target, needs_fixup, IsNotEncodable}
 use Rattle.macho_promise.specs.FixupsSay.{kind_for}
 use Rattle.macho_promise.specs.FixupsSay as asked
 use Rattle.macho_standing.specs.Leads.{HasPlace}
@@ -98,7 +99,7 @@ slot_stands rests l counts b p ready joined s choice binds slot one =
     moved moves =
         let has = slot_has_place l counts p slot ready one in
         let x : ℕ = address_of p slot.target in
-        let at = is_at l p no_choice slot.target ready.placed.whole_list has moves in
+        let at = is_at l p empty slot.target ready.placed.whole_list has moves in
         let n = slot_number_of l p slot ready.placed.whole_list.slots one in
         let encoded : IsNotEncodable p x → ⊥ = λ bad. joined.fixups.encoded (site.Slot n.0) (slot.target, x, n.1, moves, at, bad) in
         let above = address_above l p x ready.placed.base (address_fits l counts p slot.target ready.placed ready.ends has) encoded in
@@ -106,7 +107,7 @@ slot_stands rests l counts b p ready joined s choice binds slot one =
         let m = moves_at b (record { address = slot.address; kind = kind_for l p slot.target 0 }) (slot_word rests l b p slot joined one)
         (x + 0) p.base
         (kind_moves l p slot.target 0 moves) (omega (arith, above)) (one_base l counts b p ready.placed joined.agree) in
-        rests.slides.slots l b p no_choice slot (slot_word rests l b p slot joined one).word x m.0
+        rests.slides.slots l b p empty slot (slot_word rests l b p slot joined one).word x m.0
         (defined_place l slot.target has moves) at
         (m.1 ∙ ap (λ (v : ℕ). v % 2 ^ 64) plus) s choice
 
@@ -176,12 +177,12 @@ pointer_stands rests l counts b p ready joined s choice binds q f one field need
     moved : is_import f.target ≡ false → Denotes l b p s choice q f
     moved moves =
         let x : ℕ = address_of p f.target in
-        let at = is_at l p no_choice f.target ready.placed.whole_list has moves in
+        let at = is_at l p empty f.target ready.placed.whole_list has moves in
         let encoded : IsNotEncodable p ((x + f.addend) % 2 ^ 64) → ⊥ = λ bad.
         joined.fixups.encoded (site.Field q.file q.section f.relocation) (f, x, (carried, field, refl), needs, moves, at, bad) in
         let above = not_below p ((x + f.addend) % 2 ^ 64) encoded in
         let m = moves_at b (record { address = q.address + f.offset; kind = kind_for l p f.target f.addend })
         (field_word rests l b p q f joined one field needs)
         (x + f.addend) p.base (kind_moves l p f.target f.addend moves) above (one_base l counts b p ready.placed joined.agree) in
-        rests.slides.pointers l b p no_choice q f (field_word rests l b p q f joined one field needs).word x m.0 fixed.0 fixed.1 fixed.2
+        rests.slides.pointers l b p empty q f (field_word rests l b p q f joined one field needs).word x m.0 fixed.0 fixed.1 fixed.2
         (defined_place l f.target has moves) at m.1 s choice

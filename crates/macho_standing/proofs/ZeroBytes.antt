@@ -20,12 +20,13 @@ use Rattle.macho_model.specs.Commands.{commands_end}
 use Rattle.macho_model.specs.Links.{Link, header_at}
 use Rattle.macho_model.specs.Segments.{TEXT, DATA_CONST, LINKEDIT}
 use Rattle.macho_model.specs.Placement.{Placed, Span, AreApart, id_of, head_size, head_span, section_span, common_span, slot_span}
-use Rattle.macho_model.specs.Placement.{stub_span, range_span, linkedit_start, linkedit_span, linkedit_ranges, is_segment_named, LiesIn}
+use Rattle.macho_model.specs.Placement.{stub_span, range_span, linkedit_span, linkedit_ranges, is_segment_named, LiesIn}
 use Rattle.macho_model.specs.Placement.{LiesInNamed, SectionLies, TableLies, RangeLies, IsPlaced}
 use Rattle.macho_model.specs.Addresses.{offset_in_file}
 use Rattle.macho_model.specs.Images.{Table, tables_of, tries_of, symbol_tables_of, string_tables_of, signatures_of, fixups_header}
 use Rattle.macho_model.specs.ImportTable.{names_text}
 use Rattle.macho_model.specs.Zeros.{in_file, filled_sections, fixups_content, whole_table, contents_of, IsOutsideSpan, IsZeroElsewhere}
+use Rattle.macho_model.specs.Lists.{of_first}
 use Rattle.macho_fixups.specs.Runs.{AreSegments}
 use Rattle.macho_promise.specs.FixupsSay.{fixup_segments}
 use Rattle.macho_standing.proofs.Members.{one_or_pair, of_filter, at_front, at_rest, in_filter, in_map, in_none}
@@ -111,7 +112,7 @@ outside_head l counts b p unwind s a part lie byte from to apart =
 -- nor in a table
 linkedit_at : (segment : PlacedSegment) (offset : ℕ) (ys : List PlacedSegment) → Contains ys segment
     → ((y : PlacedSegment) → Contains ys y → y ≡ segment)
-    → linkedit_start ys offset ≡ segment.address + offset - segment.file_offset
+    → of_first offset (λ (s : PlacedSegment). s.address + offset - s.file_offset) ys ≡ segment.address + offset - segment.file_offset
 linkedit_at segment offset [] one only = absurd (in_none segment one)
 linkedit_at segment offset (y ∷ ys) one only = ap (λ (x : PlacedSegment). x.address + offset - x.file_offset) (only y (at_front y ys))
 

@@ -5,8 +5,8 @@ use Rattle.macho_model.specs.declared.placed.Range64.{Range64}
 use Rattle.macho_model.specs.declared.placed.PlacedSection.{PlacedSection}
 use Rattle.macho_model.specs.Links.{Link, header_at}
 use Rattle.macho_model.specs.Placement.{Placed, id_of, template_sections, IsPlaced}
-use Rattle.macho_model.specs.Agreement.{HeadersAgree}
 use Rattle.macho_model.specs.Made.{TemplateHeaders}
+use Rattle.macho_model.specs.Agreement.{section_headers_of}
 use Rattle.macho_promise.specs.Promise.{IsLaidOut}
 use Rattle.macho_standing.specs.Leads.{ObjectsAreRead}
 
@@ -25,4 +25,4 @@ TemplateIsTight l p (Some r) = IsTight l p r
 abbrev pub HeadersTellTemplate : Type 0
 HeadersTellTemplate =
     (l : Link) (counts : Counts) (b : List ℕ) (p : Placed) → ObjectsAreRead l → IsPlaced l counts p → IsLaidOut l counts p
-    → HeadersAgree b p → TemplateIsTight l p p.template → TemplateHeaders b p
+    → section_headers_of b ≡ p.output_sections → TemplateIsTight l p p.template → TemplateHeaders b p

@@ -8,6 +8,7 @@ use Rattle.std.specs.Prelude.{Contains, pos, codes, ◌++◌}
 use Rattle.std.specs.List.{AllByRecursion}
 use Rattle.std.proofs.lemmas.Bool.{true≢false}
 use Rattle.std.proofs.lemmas.List.Elements.{All-nil, All-cons, All-from_recursion}
+use Rattle.std.specs.FinMap.{empty}
 use Rattle.macho_bytes.specs.Texts.{Stands}
 use Rattle.macho_bytes.specs.Layouts.{ReadsBack, spelling}
 use Rattle.macho_bytes.proofs.Layouts.{reads_back}
@@ -21,7 +22,7 @@ use Rattle.macho_model.specs.declared.targets.Site.TheVariants as site
 use Rattle.macho_model.specs.declared.targets.Target.TheVariants as target
 use Rattle.macho_model.specs.Targets.{is_import}
 use Rattle.macho_model.specs.Placement.{id_of}
-use Rattle.macho_model.specs.Values.{section_id, needs_fixup, no_choice, IsNotEncodable, BadRebase}
+use Rattle.macho_model.specs.Values.{section_id, needs_fixup, IsNotEncodable, BadRebase}
 use Rattle.macho_model.specs.Stands.{IsAt}
 use Rattle.macho_model.specs.Chain.{WORD_SIZE, STRIDE}
 use Rattle.macho_model.specs.Fixups.{own_entries, import_entries_of, entries_have_addends}
@@ -208,7 +209,7 @@ needing s f carried field needs = by (carried_is s carried)
         one_of pointer_field f (subst (λ (fs : List Field). Contains fs f) data_fields.0 here)
 
 -- it leads to the code, which is 0x398 behind the base;
-code_is_at : (x : ℕ) → IsAt calling placed_call 0 no_choice (target.Section 0 0 0) x → x ≡ 0x100000398
+code_is_at : (x : ℕ) → IsAt calling placed_call 0 empty (target.Section 0 0 0) x → x ≡ 0x100000398
 code_is_at x (address, (q, (zero, within, is), file, number, at), sum) =
     let place : 0x100000398 ≡ address = ap (λ (r : PlacedSection). r.address) is ∙ at in omega (arith, place, sum)
 code_is_at x (address, (q, (suc zero, within, is), file, number, at), sum) =
@@ -223,8 +224,8 @@ has_room_for (inr high) = omega (arith, high)
 none_bad : (at : Site) → BadRebase calling placed_call at → ⊥
 none_bad (site.Field file number relocation) (f, x, (carried, field, is), needs, moves, at, bad) =
     let same = needing (section_id file number) f carried field needs in
-    let leads : IsAt calling placed_call 0 no_choice (target.Section 0 0 0) x =
-    subst (λ (g : Field). IsAt calling placed_call 0 no_choice g.target x) (sym same) at in
+    let leads : IsAt calling placed_call 0 empty (target.Section 0 0 0) x =
+    subst (λ (g : Field). IsAt calling placed_call 0 empty g.target x) (sym same) at in
     let none : IsNotEncodable placed_call ((x + 0) % 2 ^ 64) =
     subst (λ (g : Field). IsNotEncodable placed_call ((x + g.addend) % 2 ^ 64)) (sym same) bad in
     has_room_for (subst (λ (y : ℕ). IsNotEncodable placed_call ((y + 0) % 2 ^ 64)) (code_is_at x leads) none)

@@ -15,9 +15,9 @@ use Rattle.macho_model.specs.declared.placed.Slot.{Slot}
 use Rattle.macho_model.specs.declared.placed.Stub.{Stub}
 use Rattle.macho_model.specs.declared.targets.Target.TheVariants as target
 use Rattle.macho_model.specs.Segments.{DATA_CONST}
-use Rattle.macho_model.specs.Placement.{Span, AreApart, spans_with, spans_of, id_of, slot_span, stub_span, SectionLies, LiesInNamed}
-use Rattle.macho_model.specs.Placement.{TableLies, linkedit_ranges, IsWholeList, IsAligned, IsInSegment, IsPaged, Follows, EachFollows}
-use Rattle.macho_model.specs.Placement.{IsInOrder, TextBegins, TemplateHolds, IsPlaced}
+use Rattle.macho_model.specs.Placement.{Span, AreApart, spans_with, id_of, slot_span, stub_span, SectionLies, LiesInNamed, TableLies}
+use Rattle.macho_model.specs.Placement.{linkedit_ranges, IsWholeList, IsAligned, IsInSegment, IsPaged, Follows, IsInOrder, TextBegins}
+use Rattle.macho_model.specs.Placement.{TemplateHolds, IsPlaced}
 use Rattle.macho_model.proofs.EachBelow.{all_pass}
 use Rattle.macho_bytes.specs.Numbers.{le_at, le_bytes, row_bytes}
 use Rattle.macho_bytes.specs.Layouts.{reading}
@@ -35,6 +35,7 @@ use Rattle.macho_model.specs.Rows.{is_supported}
 use Rattle.macho_model.specs.Consumed.{personality_targets, entries_of_link}
 use Rattle.macho_model.specs.Segments.{TEXT, other_segments, segment_rank, segment_names_of, output_keys_of, output_count}
 use Rattle.macho_model.specs.WrittenSum.{content_sum, command_sum, unsigned_sum, written_sum_of}
+use Rattle.macho_model.specs.Lists.{EachNext}
 use Rattle.macho_model_checks.proofs.Examples.{words8, words, halves, name16}
 use Rattle.macho_model_checks.proofs.ExampleLinks.{entry, section}
 use Rattle.macho_model_checks.proofs.ExampleCall.{calls_exit, calling, counts_of_call, code_placed, data_placed, slot_placed, stub_placed}
@@ -71,7 +72,7 @@ pairs_by_test R test sound (x ∷ xs) h =
     AllPairs-cons R x xs (All-weaker (λ y. test x y ≡ true) (R x) (λ y t. sound x y t) xs (all_pass (test x) xs both.0))
     (pairs_by_test R test sound xs both.1)
 
-pairs_pass : pairs_test apart_test (spans_of calling counts_of_call placed_call) ≡ true
+pairs_pass : pairs_test apart_test (spans_with calling counts_of_call placed_call placed_call.sections) ≡ true
 unfolding spans_with header_of commands_from commands_of commands_end segment_of num_sections section_place section_at section_bytes
     symtab_of num_symbols symbol_place symbol_at strings_of symbol_name relocation_place relocation_at sections_of carried_of
     template_exponent placed_exponent symbols_of strong_of weak_of commons_of greatest_of libraries_with definition_of chosen_commons
@@ -188,7 +189,7 @@ unfolding header_of commands_from commands_of commands_end segment_of num_sectio
     row_bytes reading words8 words halves name16 entry calls_exit
 follows_3 = record { rank = omega arith; address = refl; file_offset = refl }
 
-each_follows : EachFollows calling placed_call.segments
+each_follows : EachNext (Follows calling) placed_call.segments
 each_follows zero s t (before, at_s) (within, at_t) = rw (← at_s, ← at_t) follows_0
 each_follows (suc zero) s t (before, at_s) (within, at_t) = rw (← at_s, ← at_t) follows_1
 each_follows (suc (suc zero)) s t (before, at_s) (within, at_t) = rw (← at_s, ← at_t) follows_2
@@ -235,7 +236,7 @@ placed_is_placed = record {
   whole_list = whole_call;
   aligned = aligned_call;
   in_segment = inside_call;
-  apart = pairs_by_test AreApart apart_test apart_by_test (spans_of calling counts_of_call placed_call) pairs_pass;
+  apart = pairs_by_test AreApart apart_test apart_by_test (spans_with calling counts_of_call placed_call placed_call.sections) pairs_pass;
   in_order = order_call;
   template = template_call;
   within_sum = rw sum_call (All-from_recursion (λ (s : PlacedSegment). s.address + s.size ≤ 0x100000000 + 133505) placed_call.segments

@@ -1,6 +1,7 @@
 -- Where the targets of names are: look-ups tell the address, which is in the image and not below its base.
 use Rattle.std.proofs.Common.{◌≡◌, ℕ, ◌+◌, ◌%◌, ◌^◌, ◌<◌, ◌≤◌, true, refl, ap, subst, ◌∙◌, arith}
 use Rattle.std.specs.Prelude.{max}
+use Rattle.std.specs.FinMap.{empty}
 use Rattle.macho_model.specs.declared.placed.Counts.{Counts}
 use Rattle.macho_model.specs.declared.targets.Target.{Target}
 use Rattle.macho_model.specs.declared.targets.Target.TheVariants as target
@@ -8,7 +9,6 @@ use Rattle.macho_model.specs.Links.{Link}
 use Rattle.macho_model.specs.Targets.{is_defined}
 use Rattle.macho_model.specs.Placement.{Placed}
 use Rattle.macho_model.specs.Addresses.{address_of}
-use Rattle.macho_model.specs.Values.{no_choice}
 use Rattle.macho_model.specs.Stands.{IsAt}
 use Rattle.macho_placing.specs.Laws.{IsWhollyPlaced}
 use Rattle.macho_targets.specs.Laws.{ListsAll, IsOfLink}
@@ -33,9 +33,9 @@ told_address p look (target.Import id) tells low = refl
 told_address p look target.None tells low = refl
 
 -- a target of the link is where its address is
-pub stands_at : (l : Link) (p : Placed) (t : Target) → ListsAll l p → IsOfLink l t → IsAt l p 0 no_choice t (address_of p t)
+pub stands_at : (l : Link) (p : Placed) (t : Target) → ListsAll l p → IsOfLink l t → IsAt l p 0 empty t (address_of p t)
 stands_at l p t lists of =
-    subst (IsAt l p 0 no_choice t) zero_more (places_are_had l p 0 no_choice t lists of)
+    subst (IsAt l p 0 empty t) zero_more (places_are_had l p 0 empty t lists of)
   where
     zero_more : address_of p t + 0 ≡ address_of p t
     zero_more = omega arith

@@ -11,7 +11,7 @@ use Rattle.macho_model.specs.declared.targets.Target.TheVariants as target
 use Rattle.macho_model.specs.Links.{Link, object_of}
 use Rattle.macho_model.specs.Needs.{uses_of, name_used, is_imported, is_library, imports_of, import_number}
 use Rattle.macho_model.specs.Resolution.{Definition, Symbol, Library, ImageBase, definition_of}
-use Rattle.macho_model.specs.Targets.{own_target, target_of_name, target_of_definition, definition_target}
+use Rattle.macho_model.specs.Targets.{own_target, target_of_name, definition_target}
 use Rattle.macho_model.specs.Told.{ToldExport, IsToldExport, from_object, from_library}
 use Rattle.macho_lists.proofs.Members.{map_contains, filter_contains, all_contains, contains_all}
 use Rattle.macho_lists.proofs.Orders.{EachLater}
@@ -47,7 +47,7 @@ leads_on l name among =
     by (definition_of l name) (filter_contains (is_imported l) (filter_map (name_used l) (uses_of l)) name used).1
   where
     by : (d : Option Definition) → is_library d ≡ true
-        → target_of_definition l name d ≡ target.Import (import_number (imports_of l) name)
+        → definition_target l (imports_of l) name d ≡ target.Import (import_number (imports_of l) name)
     by None is = absurd (true≢false (sym is))
     by (Some (Symbol s)) is = absurd (true≢false (sym is))
     by (Some (Library file)) is = refl

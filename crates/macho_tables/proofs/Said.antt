@@ -7,6 +7,7 @@ use Rattle.std.proofs.Common.{◌≡◌, ℕ, ◌≤◌, inl, inr, Bool, true, f
 use Rattle.std.specs.Prelude.{max, Option, Some, None, if◌then◌else◌, nat_lt}
 use Rattle.std.proofs.lemmas.Bool.{lt-ltb, true≢false}
 use Rattle.std.proofs.lemmas.List.{get_or-map}
+use Rattle.std.specs.FinMap.{empty}
 use Rattle.macho_records.specs.Symbols.{is_weak_of}
 use Rattle.macho_model.specs.declared.placed.Counts.{Counts}
 use Rattle.macho_model.specs.declared.targets.Target.{Target}
@@ -17,7 +18,7 @@ use Rattle.macho_model.specs.Needs.{imports_of, import_library}
 use Rattle.macho_model.specs.Resolution.{SymbolId, entry_at}
 use Rattle.macho_model.specs.Rows.{is_none}
 use Rattle.macho_model.specs.Targets.{own_target, definition_target, target_of_name, is_defined}
-use Rattle.macho_model.specs.Values.{is_absolute_target, no_choice}
+use Rattle.macho_model.specs.Values.{is_absolute_target}
 use Rattle.macho_model.specs.Exports.{IsExported, library_number}
 use Rattle.macho_model.specs.Placement.{Placed}
 use Rattle.macho_model.specs.Addresses.{address_of}
@@ -110,7 +111,7 @@ absolute_found l p look name s value exported is =
     subst
     (λ (u : Target). IsFoundExport l p name (said_of (value_said u (is_weak_of (entry_at l s)) (is_thread_local l u) value p.base)))
     (sym is)
-    (values_are_found l p name s value exported (subst (λ (u : Target). IsAt l p 0 no_choice u value) is refl)
+    (values_are_found l p name s value exported (subst (λ (u : Target). IsAt l p 0 empty u value) is refl)
     (λ moving. absurd (true≢false (subst (λ (u : Target). is_absolute_target u ≡ false) (sym is) moving))))
 
 -- THE exported name.

@@ -2,7 +2,6 @@
 use Rattle.std.specs.Prelude.{◌≡◌, ◌<◌, ◌≤◌, ◌^◌, length, List, map}
 use Rattle.macho_model.specs.declared.placed.Counts.{Counts}
 use Rattle.macho_model.specs.Links.{Link}
-use Rattle.macho_model.specs.Limits.{GREATEST_SECTIONS}
 use Rattle.macho_model.specs.Placement.{Placed}
 use Rattle.macho_layout.specs.Plans.{Planning, IsPlanOf}
 use Rattle.macho_layout.specs.Sums.{FitsLimits}
@@ -33,7 +32,7 @@ KeptAreOne =
 abbrev pub SectionsAreFew : Type 0
 SectionsAreFew =
     (l : Link) (plan : Planning) (counts : Counts) (p : Placed) → IsPlanOf l plan → FitsLimits plan counts → IsLaidOut plan counts p
-    → length p.output_sections ≤ GREATEST_SECTIONS
+    → length p.output_sections ≤ 255
 
 -- and the strings of a symbol table lie in a file of fewer than 2 ^ 32 bytes
 abbrev pub StringsAreShort : Type 0

@@ -3,7 +3,6 @@ ghost use Rattle.std.specs.Prelude.{◌≡◌, ℕ, ◌<◌, ◌≤◌, ◌^◌,
 ghost use Rattle.std.specs.Option.{option_copied};
 ghost use Rattle.macho_model.specs.declared.placed.Counts.{Counts};
 ghost use Rattle.macho_model.specs.Links.{Link};
-ghost use Rattle.macho_model.specs.Limits.{GREATEST_SECTIONS};
 ghost use Rattle.macho_model.specs.Objects.{num_symbols};
 ghost use Rattle.macho_model.specs.Exports.{is_listed};
 ghost use Rattle.macho_model.specs.SymbolRows.{row_of, symbol_rows};
@@ -59,7 +58,7 @@ fn row_of<'a, P: Places>(
     index: u32,
     lists: Option<&ExportList>,
 ) -> TableRow<'a>
-    requires few { length placement.now.output_sections.items ≤ GREATEST_SECTIONS }
+    requires few { length placement.now.output_sections.items ≤ 255 }
     requires symbol { CanHaveRow object.now index }
     requires known { P.has_symbol places.now object.now.number index }
     ensures { (l : Link) (counts : Counts) → IsListed l counts (placed_of placement.now) (P.look places.now) object.now index
@@ -88,7 +87,7 @@ pub fn symbol_table<P: Places>(
     listed: &TableSymbols,
     lists: Option<&ExportList>,
 ) -> Result<SymbolTable, AllocError>
-    requires few { length placement.now.output_sections.items ≤ GREATEST_SECTIONS }
+    requires few { length placement.now.output_sections.items ≤ 255 }
     requires short { listed.now.strings < 2 ^ 32 }
     requires symbols { All (λ o. (k : ℕ) → k < num_symbols o.file.bytes → P.has_symbol places.now o.number k) objects.now }
     requires link { (l : Link) × (counts : Counts)

@@ -2,7 +2,6 @@
 ghost use Rattle.std.specs.Prelude.{◌≡◌, ◌<◌, ◌≤◌, nat_lt, ◌&&◌, false, length};
 ghost use Rattle.macho_bytes.specs.Texts.{name_of};
 ghost use Rattle.macho_records.specs.Symbols.{is_common_of};
-ghost use Rattle.macho_model.specs.Limits.{GREATEST_SECTIONS};
 ghost use Rattle.macho_model.specs.Objects.{num_symbols};
 ghost use Rattle.macho_model.specs.Segments.{key_of};
 ghost use Rattle.macho_layout.specs.Placements.{placed_of};
@@ -81,7 +80,7 @@ fn is_of(placement: &Placement, by: &MergedBy<'_>, header: &SectionHeader) -> bo
 /// The number of the output section that sections are merged into, from 1 in the order of section headers; 0 where there is none.
 #[tactic(auto, unfolding(crate::specs::steps::Sections::number_told))]
 fn section_number(placement: &Placement, by: &MergedBy<'_>) -> u8
-    requires { length placement.now.output_sections.items ≤ GREATEST_SECTIONS }
+    requires { length placement.now.output_sections.items ≤ 255 }
     ensures { result ≡ number_told (placed_of placement.now) (key_seen by.now) }
 {
     for (index, header) in placement.output_sections.iter().enumerate() {
@@ -111,7 +110,7 @@ fn is_common(symbol: SymtabEntry) -> bool
 
 /// The number of the output section that a symbol of an object stands in; 0 for a value of its own.
 pub(crate) fn section_of_symbol(placement: &Placement, object: &LinkedObject<'_>, index: u32) -> u8
-    requires few { length placement.now.output_sections.items ≤ GREATEST_SECTIONS }
+    requires few { length placement.now.output_sections.items ≤ 255 }
     requires among { index < num_symbols object.now.file.bytes }
     ensures { result ≡ section_told (placed_of placement.now) object.now.file index }
 {

@@ -15,7 +15,7 @@ use Rattle.std.proofs.lemmas.Slice.Eq.{bytes_eq-Decides}
 use Rattle.macho_records.specs.Segments.{text_of}
 use Rattle.macho_model.specs.declared.placed.Counts.{Counts}
 use Rattle.macho_model.specs.declared.placed.PlacedSegment.{PlacedSegment}
-use Rattle.macho_model.specs.Lists.{IsNumber}
+use Rattle.macho_model.specs.Lists.{IsNumber, EachNext}
 use Rattle.macho_records.specs.Segments.{is_name}
 use Rattle.macho_records.specs.Sections.{should_exclude_of, is_debug_of, is_indirect_type, type_of}
 use Rattle.macho_model.specs.declared.placed.PlacedSection.{PlacedSection}
@@ -27,11 +27,11 @@ use Rattle.macho_targets.specs.Laws.{section_id, TargetsStandAbove}
 use Rattle.macho_targets.proofs.Places.{section_place, common_place}
 use Rattle.macho_model.specs.Links.{Link, SectionId, header_at, is_carried, sections_of, carried_of}
 use Rattle.macho_model.specs.Segments.{PAGEZERO, TEXT, DATA_CONST, DATA, LINKEDIT, base_of_link, segment_rank, segment_name, other_segments}
-use Rattle.macho_model.specs.Placement.{Placed, IsPlaced, IsInOrder, Follows, EachFollows, is_segment_named, SectionLies, LiesInNamed}
-use Rattle.macho_model.specs.Placement.{common_span, id_of}
+use Rattle.macho_model.specs.Placement.{Placed, IsPlaced, IsInOrder, Follows, is_segment_named, SectionLies, LiesInNamed, common_span}
+use Rattle.macho_model.specs.Placement.{id_of}
 
 -- neighbours by their numbers
-pub next_follows : (l : Link) (segments : List PlacedSegment) (d : PlacedSegment) → EachFollows l segments → (k : ℕ)
+pub next_follows : (l : Link) (segments : List PlacedSegment) (d : PlacedSegment) → EachNext (Follows l) segments → (k : ℕ)
     → k + 1 < length segments
     → Follows l (get_or segments k d) (get_or segments (k + 1) d)
 next_follows l segments d follow k lt =
@@ -41,7 +41,7 @@ next_follows l segments d follow k lt =
     follow k one two (here, sym (get_or_default segments k d one here)) (lt, sym (get_or_default segments (k + 1) d two lt))
 
 -- a segment behind another one begins at its start or above, and has the greater rank
-behind : (l : Link) (segments : List PlacedSegment) (d : PlacedSegment) → EachFollows l segments → (i n j : ℕ) → j ≡ i + n
+behind : (l : Link) (segments : List PlacedSegment) (d : PlacedSegment) → EachNext (Follows l) segments → (i n j : ℕ) → j ≡ i + n
     → j < length segments
     → (get_or segments i d).address ≤ (get_or segments j d).address
 behind l segments d follow i zero j is lt =
@@ -55,7 +55,7 @@ behind l segments d follow i (suc n) j is lt =
     let number : i + n + 1 ≡ j = omega (arith, is) in
     omega (arith, before, step.address, ap (λ (k : ℕ). (get_or segments k d).address) number)
 
-pub rises : (l : Link) (segments : List PlacedSegment) (d : PlacedSegment) → EachFollows l segments → (i n j : ℕ) → j ≡ i + n + 1
+pub rises : (l : Link) (segments : List PlacedSegment) (d : PlacedSegment) → EachNext (Follows l) segments → (i n j : ℕ) → j ≡ i + n + 1
     → j < length segments
     → segment_rank l (text_of (get_or segments i d).name) < segment_rank l (text_of (get_or segments j d).name)
 rises l segments d follow i zero j is lt =

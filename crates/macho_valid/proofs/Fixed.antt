@@ -6,6 +6,7 @@ use Rattle.std.proofs.Common.{◌≡◌, ℕ, ◌+◌, ◌%◌, ◌^◌, ◌<◌
 use Rattle.std.specs.Prelude.{Contains}
 use Rattle.std.proofs.lemmas.Bool.{and_parts, eqb-true, leb-true, true≢false}
 use Rattle.std.proofs.lemmas.List.Elements.{All-contains}
+use Rattle.std.specs.FinMap.{empty}
 use Rattle.macho_records.specs.Symbols.{common_size_of}
 use Rattle.macho_model.specs.declared.placed.Counts.{Counts}
 use Rattle.macho_model.specs.declared.targets.Site.{Site}
@@ -19,7 +20,7 @@ use Rattle.macho_model.specs.Fields.{Field, fields_of}
 use Rattle.macho_model.specs.Placement.{Placed, id_of, common_of}
 use Rattle.macho_model.specs.Memory.{Choice}
 use Rattle.macho_model.specs.Stands.{SectionAt, IsAt}
-use Rattle.macho_model.specs.Values.{section_id, no_choice, needs_fixup, IsNotEncodable, BadRebase}
+use Rattle.macho_model.specs.Values.{section_id, needs_fixup, IsNotEncodable, BadRebase}
 use Rattle.macho_model.specs.Valid.{stays_inside}
 use Rattle.macho_standing.specs.Leads.{HasPlace, TargetsLead}
 use Rattle.macho_standing.proofs.Sounding.{valid_is_sound, pointer_keeps}
@@ -90,8 +91,8 @@ pub no_bad_rebase : (l : Link) (counts : Counts) (p : Placed) (at : Site) → Is
 no_bad_rebase l counts p (site.Field file section relocation) h (f, x, (one, field, is), needs, moves, at, bad) =
     let keeps = pointer_keeps l counts (section_id file section) f h.valid one field needs in
     let has = (leads_of l counts p h).pointers (section_id file section) f one field needs in
-    encodable p ((x + f.addend) % 2 ^ 64) (inside_near l counts p no_choice f.target x f.addend h has moves keeps.2 at) bad
+    encodable p ((x + f.addend) % 2 ^ 64) (inside_near l counts p empty f.target x f.addend h has moves keeps.2 at) bad
 no_bad_rebase l counts p (site.Slot index) h (t, x, number, moves, at, bad) =
     let has = All-contains (HasPlace l) (slots_of l) t (leads_of l counts p h).slots (index, number.0, number.1) in
-    encodable p x (target_near l counts p no_choice t x h has moves at) bad
+    encodable p x (target_near l counts p empty t x h has moves at) bad
 no_bad_rebase l counts p (site.Stub index) h bad = bad

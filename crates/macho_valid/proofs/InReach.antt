@@ -7,6 +7,7 @@ use Rattle.std.proofs.Common.{Option, Some, None}
 use Rattle.std.specs.Prelude.{Contains, is_some}
 use Rattle.std.proofs.lemmas.Bool.{and_parts, or_cases, or_left, eqb-true, true≢false}
 use Rattle.std.proofs.lemmas.List.Elements.{All-contains}
+use Rattle.std.specs.FinMap.{empty}
 use Rattle.macho_model.specs.declared.placed.Counts.{Counts}
 use Rattle.macho_model.specs.declared.placed.Stub.{Stub}
 use Rattle.macho_model.specs.declared.targets.Site.{Site}
@@ -22,7 +23,7 @@ use Rattle.macho_model.specs.Placement.{Placed, id_of}
 use Rattle.macho_model.specs.SlideLaws.{targets_move, subtrahend_moves}
 use Rattle.macho_model.specs.Stands.{Kind, Pointer, Difference, Branch, Page, Offset, SlotPage, SlotOffset, SlotDistance, NoKind, kind_of}
 use Rattle.macho_model.specs.Stands.{SectionAt, IsAt, CallIsAt, SubtrahendIsAt}
-use Rattle.macho_model.specs.Values.{section_id, no_choice, fits_signed, less, branch_reaches, page_reaches, offset_fits, DoesNotFit}
+use Rattle.macho_model.specs.Values.{section_id, fits_signed, less, branch_reaches, page_reaches, offset_fits, DoesNotFit}
 use Rattle.macho_model.specs.Values.{BadRange}
 use Rattle.macho_model.specs.Valid.{is_small, is_multiple, stands_at_multiple, field_fits}
 use Rattle.macho_standing.proofs.Fits.{field_fits_in}
@@ -99,26 +100,26 @@ or_import t h = or_left (is_defined t) (is_import t) h
 subtrahend_near : (l : Link) (counts : Counts) (p : Placed) (s : SectionId) (f : Field) (t : Option Target) (y : ℕ)
     → IsValidPlaced l counts p
     → Contains (carried_of l) s → Contains (fields_of l s) f → f.subtrahend ≡ t → subtrahend_moves t ≡ true
-    → SubtrahendIsAt l p 0 no_choice t y → IsNear p y
+    → SubtrahendIsAt l p 0 empty t y → IsNear p y
 subtrahend_near l counts p s f None y h one field is moves at = absurd at
 subtrahend_near l counts p s f (Some t) y h one field is moves at =
-    target_near l counts p no_choice t y h (subtrahend_has l s f t h.objects one field is moves) (defined_only t moves) at
+    target_near l counts p empty t y h (subtrahend_has l s f t h.objects one field is moves) (defined_only t moves) at
 
 -- a branch's target plus its addend is a multiple of four
 call_multiple : (l : Link) (counts : Counts) (p : Placed) (s : SectionId) (f : Field) (x : ℕ) → IsValidPlaced l counts p
     → Contains (carried_of l) s
     → Contains (fields_of l s) f → kind_of f.type (is_some f.subtrahend) ≡ Branch → (t : Target) → f.target ≡ t
     → is_multiple l 4 t f.addend ≡ true
-    → defined_or_import t ≡ true → CallIsAt l p 0 no_choice t x → (x + f.addend) % 4 ≡ 0
+    → defined_or_import t ≡ true → CallIsAt l p 0 empty t x → (x + f.addend) % 4 ≡ 0
 call_multiple l counts p s f x h one field kind (target.Import id) is test leads (stub, in_stubs, id_is, x_is) =
     let none = import_addend l s f h.valid.relocations one field kind (ap is_import is) in
     let four = All-contains (λ (t : Stub). t.address % 4 ≡ 0) p.stubs stub h.placed.aligned.stubs in_stubs in
     omega (arith, none, four, x_is)
 call_multiple l counts p s f x h one field kind (target.Section file section offset) is test leads at =
-    target_multiple l counts p no_choice (target.Section file section offset) x f.addend 2 h refl (omega arith) test at
+    target_multiple l counts p empty (target.Section file section offset) x f.addend 2 h refl (omega arith) test at
 call_multiple l counts p s f x h one field kind (target.Common id) is test leads at =
-    target_multiple l counts p no_choice (target.Common id) x f.addend 2 h refl (omega arith) test at
-call_multiple l counts p s f x h one field kind target.Base is test leads at = target_multiple l counts p no_choice target.Base x f.addend
+    target_multiple l counts p empty (target.Common id) x f.addend 2 h refl (omega arith) test at
+call_multiple l counts p s f x h one field kind target.Base is test leads at = target_multiple l counts p empty target.Base x f.addend
     2 h refl (omega arith) test at
 call_multiple l counts p s f x h one field kind (target.Absolute value) is test leads at = absurd (true≢false (sym leads))
 call_multiple l counts p s f x h one field kind target.None is test leads at = absurd (true≢false (sym leads))
@@ -126,9 +127,9 @@ call_multiple l counts p s f x h one field kind target.None is test leads at = a
 -- an offset's target plus its addend is a multiple of the scale
 offset_reaches : (l : Link) (counts : Counts) (p : Placed) (t : Target) (x addend input m : ℕ) → IsValidPlaced l counts p
     → is_defined t ≡ true → IsScale m
-    → m ≡ scale_of input → is_multiple l m t addend ≡ true → IsAt l p 0 no_choice t x → offset_fits input (x + addend) ≡ true
+    → m ≡ scale_of input → is_multiple l m t addend ≡ true → IsAt l p 0 empty t x → offset_fits input (x + addend) ≡ true
 offset_reaches l counts p t x addend input _ h moves (reach.IsScale.power j le) is test at =
-    offset_is_fit (x + addend) input j le is (target_multiple l counts p no_choice t x addend j h moves le test at)
+    offset_is_fit (x + addend) input j le is (target_multiple l counts p empty t x addend j h moves le test at)
 
 -- THE field reaches, by its kind
 no_misfit : (l : Link) (counts : Counts) (p : Placed) (s : SectionId) (f : Field) (address : ℕ) → IsValidPlaced l counts p
@@ -143,7 +144,7 @@ no_misfit l counts p s f address h bytes w Difference is fits (x, y, at_x, at_y,
       | inl eight ↦ absurd (omega (arith, eqb-true f.width 8 eight, wide))
       | inr small ↦ small
     ] in
-    let near_x = target_near l counts p no_choice f.target x h (field_has l s f h.objects w.one w.field (or_import f.target moves.0))
+    let near_x = target_near l counts p empty f.target x h (field_has l s f h.objects w.one w.field (or_import f.target moves.0))
     (defined_only f.target moves.0) at_x in
     let near_y = subtrahend_near l counts p s f f.subtrahend y h w.one w.field refl moves.1 at_y in
     clash (fits_signed 32 (less (x + f.addend) y))
@@ -155,7 +156,7 @@ no_misfit l counts p s f address h bytes w Branch is fits (x, at, bad) =
     let second = and_parts (is_small f.addend) (stands_at_multiple l s 4 f) first.0 in
     let place = and_parts (nat_le 4 (2 ^ placed_exponent l s)) (f.offset % 4 == 0) second.1 in
     let section = field_multiple l counts p s f address 2 h w.at place.0 in
-    let near_x = call_near l counts p no_choice f.target x h (field_has l s f h.objects w.one w.field leads) at in
+    let near_x = call_near l counts p empty f.target x h (field_has l s f h.objects w.one w.field leads) at in
     clash (branch_reaches (address + f.offset) (x + f.addend))
     (branch_fits p.base x (address + f.offset) f.addend
     (close l counts p x (address + f.offset) f.addend h near_x w.near second.0 (plain_addend l s f w.field (ap is_plain_kind is)))
@@ -163,7 +164,7 @@ no_misfit l counts p s f address h bytes w Branch is fits (x, at, bad) =
     (omega (arith, section, eqb-true (f.offset % 4) 0 place.1))) bad
 no_misfit l counts p s f address h bytes w Page is fits (x, at, bad) =
     let moves = moves_of l counts p s f Page h w.one w.field is (λ e. cc) in
-    let near_x = target_near l counts p no_choice f.target x h (field_has l s f h.objects w.one w.field (or_import f.target moves))
+    let near_x = target_near l counts p empty f.target x h (field_has l s f h.objects w.one w.field (or_import f.target moves))
     (defined_only f.target moves) at in
     clash (page_reaches (address + f.offset) (x + f.addend))
     (page_fits p.base x (address + f.offset) f.addend
@@ -176,7 +177,7 @@ no_misfit l counts p s f address h bytes w Offset is fits (x, at, bad) =
     (is_scale (content_of l s f.relocation)) refl both.1 at) bad
 no_misfit l counts p s f address h bytes w SlotPage is fits (x, at, bad) =
     let leads = moves_of l counts p s f SlotPage h w.one w.field is (λ e. cc) in
-    let near_x = load_near l counts p no_choice f.target x h (field_has l s f h.objects w.one w.field leads) at in
+    let near_x = load_near l counts p empty f.target x h (field_has l s f h.objects w.one w.field leads) at in
     clash (page_reaches (address + f.offset) x)
     (page_close p.base x (address + f.offset) (no_more l counts p x (address + f.offset) h near_x w.near)) bad
 no_misfit l counts p s f address h bytes w SlotOffset is fits bad = bad

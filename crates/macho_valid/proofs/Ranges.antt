@@ -19,13 +19,13 @@ use Rattle.macho_model.specs.declared.placed.PlacedSection.{PlacedSection}
 use Rattle.macho_model.specs.declared.placed.PlacedCommon.{PlacedCommon}
 use Rattle.macho_model.specs.declared.placed.Slot.{Slot}
 use Rattle.macho_model.specs.declared.placed.Stub.{Stub}
-use Rattle.macho_model.specs.Lists.{IsNumber}
+use Rattle.macho_model.specs.Lists.{IsNumber, EachNext}
 use Rattle.macho_model.specs.Links.{Link, header_at}
 use Rattle.macho_model.specs.Resolution.{entry_at}
 use Rattle.macho_model.specs.Segments.{PAGEZERO, TEXT, DATA_CONST, DATA, LINKEDIT, other_segments, segment_rank}
 use Rattle.macho_model.specs.WrittenSum.{written_sum_of}
 use Rattle.macho_model.specs.Placement.{Placed, id_of, common_of, section_span, common_span, slot_span, stub_span, is_segment_named}
-use Rattle.macho_model.specs.Placement.{EachFollows, Follows, IsPaged, LiesInNamed, SectionLies, IsPlaced}
+use Rattle.macho_model.specs.Placement.{Follows, IsPaged, LiesInNamed, SectionLies, IsPlaced}
 use Rattle.macho_model.specs.Order.{least_file_size}
 use Rattle.macho_model.specs.Valid.{VALID_SUM, IsValid}
 use Rattle.macho_promise.specs.Promise.{IsLaidOut}
@@ -43,7 +43,7 @@ pub record IsValidPlaced (l : Link) (counts : Counts) (p : Placed) : Type 0 wher
   pub laid : IsLaidOut l counts p
 
 -- each segment follows the one before it
-pub follow_at : (l : Link) (segments : List PlacedSegment) → EachFollows l segments → (k : ℕ) (e : PlacedSegment) → suc k < length segments
+pub follow_at : (l : Link) (segments : List PlacedSegment) → EachNext (Follows l) segments → (k : ℕ) (e : PlacedSegment) → suc k < length segments
     → Follows l (get_or segments k e) (get_or segments (suc k) e)
 follow_at l segments h k e within =
     let at_k : IsNumber segments k (get_or segments k e) =
@@ -61,7 +61,7 @@ pub record GoesOn (l : Link) (s t : PlacedSegment) : Type 0 where
   pub file : s.file_offset + s.file_size ≤ t.file_offset
   pub slower : t.file_offset + s.address ≤ t.address + s.file_offset
 
-goes_on : (l : Link) (segments : List PlacedSegment) → EachFollows l segments → All IsPaged segments → (i j : ℕ) (e : PlacedSegment) → i < j
+goes_on : (l : Link) (segments : List PlacedSegment) → EachNext (Follows l) segments → All IsPaged segments → (i j : ℕ) (e : PlacedSegment) → i < j
     → j < length segments → GoesOn l (get_or segments i e) (get_or segments j e)
 goes_on l segments h paged i zero e before within = absurd (omega (arith, before))
 goes_on l segments h paged i (suc m) e before within =

@@ -12,6 +12,7 @@ use Rattle.std.proofs.lemmas.Bool.{cases_Bool, and_parts, or_cases, eqb-true, eq
 use Rattle.std.proofs.lemmas.Nat.{pow_pos}
 use Rattle.std.proofs.lemmas.List.Elements.{All-contains, Contains-append_left, Contains-append_right}
 use Rattle.std.proofs.lemmas.List.FromFn.{length-range_with_len, get_or-range_with_len}
+use Rattle.std.specs.FinMap.{empty}
 use Rattle.macho_records.specs.Segments.{text_of}
 use Rattle.macho_records.specs.declared.constants.TheConstants.{ARM64_RELOC_ADDEND, ARM64_RELOC_UNSIGNED, S_MOD_INIT_FUNC_POINTERS}
 use Rattle.macho_records.specs.Sections.{type_of}
@@ -39,8 +40,8 @@ use Rattle.macho_model.specs.Consumed.{START_PLACE, LSDA_PLACE, holds_functions,
 use Rattle.macho_model.specs.Placement.{Placed, id_of, is_segment_named, linkedit_ranges}
 use Rattle.macho_model.specs.Order.{least_file_size, LiesInFile}
 use Rattle.macho_model.specs.Stands.{SectionAt, IsAt}
-use Rattle.macho_model.specs.Values.{no_choice, is_absolute_target}
-use Rattle.macho_model.specs.Limits.{PassesLimit, IsTooLarge, ImagePasses, RangePasses, IsWritten32, LIMIT_32}
+use Rattle.macho_model.specs.Values.{is_absolute_target}
+use Rattle.macho_model.specs.Limits.{PassesLimit, IsTooLarge, ImagePasses, IsWritten32, LIMIT_32}
 use Rattle.macho_model.specs.Limits as written
 use Rattle.macho_model.specs.Valid.{VALID_SUM}
 use Rattle.macho_standing.proofs.Members.{in_map, of_map, in_filter, of_filter, in_flat_map, of_flat_map}
@@ -154,7 +155,7 @@ section_target target.None h = absurd (true≢false (sym h))
 
 initializer_near : (l : Link) (counts : Counts) (p : Placed) (s : SectionId) (r x : ℕ) → IsValidPlaced l counts p
     → Contains (initializer_sections l) s
-    → r < (header_at l s).nreloc → IsAt l p 0 no_choice (target_of_relocation l s r) x → IsNear p x
+    → r < (header_at l s).nreloc → IsAt l p 0 empty (target_of_relocation l s r) x → IsNear p x
 initializer_near l counts p s r x h one within at =
     let file = section_of_file l s h.objects (initializer_section l s one) in
     let inside = leb-true ((relocation_in l s r).r_address + 2 ^ (relocation_in l s r).r_length) (header_at l s).size
@@ -186,7 +187,7 @@ initializer_near l counts p s r x h one within at =
     let has = relocation_has l s r (ByInitializer s r) h.objects file within
     (initializer_use l s r slot one (omega (arith, end)) there) refl
     (ap (λ (k : ℕ). k == ARM64_RELOC_ADDEND) type) t.0 t.1 in
-    target_near l counts p no_choice (target_of_relocation l s r) x h has t.2 at
+    target_near l counts p empty (target_of_relocation l s r) x h has t.2 at
 
 -- entries of unwind information
 entry_of : (l : Link) (d : EntryId) → Contains (entries_of_link l) d → Contains (unwind_sections l) d.of_section

@@ -1,6 +1,7 @@
 -- A section of a link while it is filled, relocation by relocation.
 use Rattle.std.specs.Prelude.{◌≡◌, ℕ, ◌+◌, ◌%◌, ◌^◌, ◌<◌, ◌≤◌, ◌==◌, not, Bool, true, false, List, ◌++◌, length, map, filter, slice_index, Some, is_some, Contains}
 use Rattle.std.specs.List.{range_with_len}
+use Rattle.std.specs.FinMap.{empty}
 use Rattle.macho_model.specs.declared.placed.PlacedSection.{PlacedSection}
 use Rattle.macho_model.specs.Objects.{section_bytes}
 use Rattle.macho_records.specs.Sections.{type_of}
@@ -11,7 +12,7 @@ use Rattle.macho_model.specs.Needs.{relocation_in}
 use Rattle.macho_model.specs.Targets.{is_import}
 use Rattle.macho_model.specs.Fields.{Field, field_of, is_prefix_type, content_of}
 use Rattle.macho_model.specs.Stands.{IsOutsideField, IsAt, kind_of}
-use Rattle.macho_model.specs.Values.{needs_fixup, no_choice, IsNotEncodable, DoesNotFit}
+use Rattle.macho_model.specs.Values.{needs_fixup, IsNotEncodable, DoesNotFit}
 use Rattle.macho_model.specs.Faults.{BadPlace}
 use Rattle.macho_model.specs.Placement.{Placed, id_of}
 use Rattle.macho_fixups.specs.declared.run.Fixup.{Fixup}
@@ -35,7 +36,7 @@ pub record FieldIsFine (l : Link) (p : Placed) (q : PlacedSection) (f : Field) :
   pub fits : DoesNotFit l p (id_of q) f (q.address + f.offset) (content_of l (id_of q) f.relocation)
       (kind_of f.type (is_some f.subtrahend)) → ⊥
   pub place : needs_fixup l (id_of q) f ≡ true → BadPlace l (id_of q) f (Some p) → ⊥
-  pub value : needs_fixup l (id_of q) f ≡ true → is_import f.target ≡ false → (x : ℕ) → IsAt l p 0 no_choice f.target x
+  pub value : needs_fixup l (id_of q) f ≡ true → is_import f.target ≡ false → (x : ℕ) → IsAt l p 0 empty f.target x
       → IsNotEncodable p ((x + f.addend) % 2 ^ 64) → ⊥
 
 -- The first fields of a section are filled, and what these ask of the loader stands behind what was asked before.

@@ -4,7 +4,7 @@ use Rattle.macho_model_walks.specs.declared.loader_rules.Asked.{Asked}
 use Rattle.macho_model_walks.specs.declared.loader_rules.Asked.TheVariants as asked
 use Rattle.macho_memory_walks.specs.declared.walk.Listed.{Listed}
 use Rattle.macho_memory_walks.specs.declared.walk.Listed.TheVariants as list
-use Rattle.macho_model.specs.Commands.{Command, commands_of, command_fits}
+use Rattle.macho_model.specs.Commands.{Command, commands_of, command_fits, numbered}
 use Rattle.macho_model.specs.Images.{segments_of, Table, table_of_command, tables_of, fixups_header, import_place, segments_named}
 use Rattle.macho_model.specs.LoadRules.{image_head_fits, needed_in_image, segment_in, protections_fit, file_part_inside, segment_is_paged, segment_ends, begins_behind, text_holds_commands, table_fits, import_fits}
 use Rattle.macho_model.specs.declared.rules.LoadRule.{LoadRule}
@@ -13,8 +13,9 @@ use Rattle.macho_model.specs.ObjectRules.{commands_inside}
 use Rattle.macho_model.specs.Grammar.{EachCommand, CommandFails}
 use Rattle.macho_model.specs.Segments.{TEXT}
 use Rattle.macho_records.specs.declared.header.SegmentCommand.{SegmentCommand}
-use Rattle.macho_model.specs.Lists.{IsNumber}
-use Rattle.macho_model.specs.Loader.{OnPageOf, WordFits, EachNeighbour, NeighbourFails, segment_commands}
+use Rattle.macho_records.specs.declared.constants.TheConstants.{LC_SEGMENT_64}
+use Rattle.macho_model.specs.Lists.{IsNumber, EachNext}
+use Rattle.macho_model.specs.Loader.{OnPageOf, WordFits, NeighbourFails}
 use Rattle.macho_memory_walks.specs.Readings.{command_at, listed, IsNth, table_there}
 use Rattle.macho_model_walks.specs.Tests.{list_of, test_of}
 
@@ -27,7 +28,7 @@ abbrev pub AskedFails : List ℕ → Asked → ℕ → Type 0
 AskedFails b what place = CommandFails (listed (list_of what) b) place (test_of what b)
 
 abbrev pub BeginsBefore : List ℕ → ℕ → Type 0
-BeginsBefore b place = NeighbourFails (segment_commands b) place (begins_behind b)
+BeginsBefore b place = NeighbourFails (numbered LC_SEGMENT_64 b) place (begins_behind b)
 
 -- the segments with a number and the next one, if there are both, stand in order
 abbrev pub NeighbourPasses : List ℕ → ℕ → Type 0
@@ -56,10 +57,10 @@ EachImportFits b = (t : Table) (k : ℕ) → Contains (tables_of b) t → k < (f
 abbrev pub LoadKeeps : List ℕ → LoadRule → Type 0
 LoadKeeps b L1 = image_head_fits b ≡ true
 LoadKeeps b L2 = (commands_inside b ≡ true) × EachCommand (commands_of b) (command_fits (needed_in_image b) b)
-LoadKeeps b L3 = EachCommand (segment_commands b) (protections_fit b)
-LoadKeeps b L4 = EachCommand (segment_commands b) (file_part_inside b)
-LoadKeeps b L5 = EachCommand (segment_commands b) (segment_is_paged b)
-LoadKeeps b L6 = EachCommand (segment_commands b) (segment_ends b) × EachNeighbour (segment_commands b) (begins_behind b)
+LoadKeeps b L3 = EachCommand (numbered LC_SEGMENT_64 b) (protections_fit b)
+LoadKeeps b L4 = EachCommand (numbered LC_SEGMENT_64 b) (file_part_inside b)
+LoadKeeps b L5 = EachCommand (numbered LC_SEGMENT_64 b) (segment_is_paged b)
+LoadKeeps b L6 = EachCommand (numbered LC_SEGMENT_64 b) (segment_ends b) × EachNext (λ c d. begins_behind b c d ≡ true) (numbered LC_SEGMENT_64 b)
 LoadKeeps b L7 = (length (segments_named TEXT b) ≡ 1) × All (λ s. text_holds_commands b s ≡ true) (segments_named TEXT b)
 LoadKeeps b L8 = (length (tables_of b) ≤ 1) × All (λ t. table_fits b t ≡ true) (tables_of b)
 LoadKeeps b L9 = (t : Table) (k : ℕ) → Contains (tables_of b) t → k < (fixups_header b t).imports_count → import_fits b t k ≡ true

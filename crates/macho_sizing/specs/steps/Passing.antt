@@ -1,5 +1,5 @@
 -- Numbers that the format limits, and which of them passes its limit.
-use Rattle.std.specs.Prelude.{◌≡◌, ℕ, ◌+◌, ◌<◌, ◌≤◌, List, length, sum_by, Option, Some, None}
+use Rattle.std.specs.Prelude.{◌≡◌, ℕ, ◌+◌, ◌<◌, ◌≤◌, List, length, sum_by, Option, Some, None, ◌^◌, ◌-◌}
 use Rattle.macho_model.specs.declared.placed.Counts.{Counts}
 use Rattle.macho_model.specs.declared.targets.Limit.{Limit}
 use Rattle.macho_model.specs.declared.targets.Limit.TheVariants as limit
@@ -10,7 +10,6 @@ use Rattle.macho_model.specs.Resolution.{symbols_of}
 use Rattle.macho_model.specs.Needs.{imports_of, libraries_needed}
 use Rattle.macho_model.specs.Consumed.{personality_targets}
 use Rattle.macho_model.specs.Fixups.{import_entries_of}
-use Rattle.macho_model.specs.Limits.{GREATEST_LIBRARIES, GREATEST_PERSONALITIES, GREATEST_IMPORTS, GREATEST_NAME_BYTES, GREATEST_SYMBOLS}
 use Rattle.macho_exports.specs.Entries.{ListEntries}
 use Rattle.macho_symbols.specs.declared.solved.Import.{Import}
 use Rattle.macho_promise.specs.Sizes.{text_size}
@@ -44,19 +43,19 @@ pub record AreSymbols (l : Link) (n : Numbers) : Type 0 where
 
 -- no number passes its limit
 pub record AreWithin (n : Numbers) : Type 0 where
-  pub libraries : n.libraries ≤ GREATEST_LIBRARIES
-  pub personalities : n.personalities ≤ GREATEST_PERSONALITIES
-  pub imports : n.imports ≤ GREATEST_IMPORTS
-  pub names : n.name_bytes ≤ GREATEST_NAME_BYTES
-  pub symbols : n.symbols ≤ GREATEST_SYMBOLS
+  pub libraries : n.libraries ≤ 240
+  pub personalities : n.personalities ≤ 3
+  pub imports : n.imports ≤ 2 ^ 24
+  pub names : n.name_bytes ≤ 2 ^ 23
+  pub symbols : n.symbols ≤ 2 ^ 32 - 2
 
 -- a number passes its limit, and is told
 abbrev pub Passes : Numbers → Limit → ℕ → Type 0
-Passes n limit.Libraries number = (number ≡ n.libraries) × (GREATEST_LIBRARIES < number)
-Passes n limit.Personalities number = (number ≡ n.personalities) × (GREATEST_PERSONALITIES < number)
-Passes n limit.Imports number = (number ≡ n.imports) × (GREATEST_IMPORTS < number)
-Passes n limit.NameBytes number = (number ≡ n.name_bytes) × (GREATEST_NAME_BYTES < number)
-Passes n limit.Symbols number = (number ≡ n.symbols) × (GREATEST_SYMBOLS < number)
+Passes n limit.Libraries number = (number ≡ n.libraries) × (240 < number)
+Passes n limit.Personalities number = (number ≡ n.personalities) × (3 < number)
+Passes n limit.Imports number = (number ≡ n.imports) × (2 ^ 24 < number)
+Passes n limit.NameBytes number = (number ≡ n.name_bytes) × (2 ^ 23 < number)
+Passes n limit.Symbols number = (number ≡ n.symbols) × (2 ^ 32 - 2 < number)
 Passes n what number = ⊥
 
 abbrev pub IsPassed : Numbers → Passed → Type 0

@@ -5,7 +5,7 @@ use Rattle.macho_model.specs.declared.placed.Counts.{Counts}
 use Rattle.macho_model.specs.declared.placed.PlacedSegment.{PlacedSegment}
 use Rattle.macho_model.specs.declared.targets.Limit.TheVariants as limit
 use Rattle.macho_model.specs.Links.{Link}
-use Rattle.macho_model.specs.Limits.{PassesLimit, GREATEST_PAGES}
+use Rattle.macho_model.specs.Limits.{PassesLimit}
 use Rattle.macho_model.specs.Order.{pages_of}
 use Rattle.macho_model.specs.Placement.{Placed}
 use Rattle.macho_model.specs.Segments.{may_hold_pointers}
@@ -35,13 +35,13 @@ pub record IsAnswered (l : Link) (counts : Counts) (p : Placed) : Type 0 where
 
 -- the pages of a segment that the loader writes pointers in, where they are too many
 abbrev pub passed_pages : PlacedSegment → Option ℕ
-passed_pages s = if may_hold_pointers (text_of s.name) && nat_lt GREATEST_PAGES (pages_of s) then Some (pages_of s) else None
+passed_pages s = if may_hold_pointers (text_of s.name) && nat_lt 65535 (pages_of s) then Some (pages_of s) else None
 
 -- some segment, and none
 abbrev pub HasMany : List PlacedSegment → ℕ → Type 0
 HasMany segments number =
     (s : PlacedSegment) × Contains segments s × (may_hold_pointers (text_of s.name) ≡ true) × (number ≡ pages_of s) ×
-    (GREATEST_PAGES < number)
+    (65535 < number)
 
 abbrev pub HasFew : List PlacedSegment → Type 0
 HasFew segments = All (λ s. passed_pages s ≡ None) segments

@@ -1,8 +1,10 @@
 -- The two segments are those whose commands were found.
 use Rattle.std.proofs.Common.{◌≡◌, ◌+◌, true, refl, sym, subst, ◌∙◌}
 use Rattle.macho_memory_walks.specs.declared.walk.Listed.TheVariants as list
-use Rattle.macho_model.specs.Loader.{segment_commands, NeighbourFails}
+use Rattle.macho_records.specs.declared.constants.TheConstants.{LC_SEGMENT_64}
+use Rattle.macho_model.specs.Loader.{NeighbourFails}
 use Rattle.macho_model.specs.LoadRules.{begins_behind}
+use Rattle.macho_model.specs.Commands.{numbered}
 use Rattle.macho_memory_walks.specs.Readings.{command_at}
 use Rattle.macho_model_walks.proofs.RuleWalk.{neighbour_fails}
 use Rattle.macho_memory_walks.proofs.WordWalk.{nth_one, some_is}
@@ -20,6 +22,6 @@ returns-then-follows-clause-only c _ place next first second =
 
 pub returns-else-follows-clause-found : goal.returns-else-follows-clause-found
 returns-else-follows-clause-found c place is =
-    subst (λ p. NeighbourFails (segment_commands c.args.bytes.now) p (begins_behind c.args.bytes.now)) (some_is c.in-Some-nth.next place is)
+    subst (λ p. NeighbourFails (numbered LC_SEGMENT_64 c.args.bytes.now) p (begins_behind c.args.bytes.now)) (some_is c.in-Some-nth.next place is)
     (neighbour_fails c.args.bytes.now c.args.number c.in-Some.place c.in-Some-nth.next (c.in-Some.ensures.found c.in-Some.place refl)
     (c.in-Some-nth.ensures.found c.in-Some-nth.next refl) (sym c.follows.ensures ∙ c.if-follows.false))
