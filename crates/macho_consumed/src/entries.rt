@@ -13,7 +13,6 @@ ghost use Rattle.macho_consumed.specs.declared.fault.ConsumedFault.TheVariants a
 ghost use Rattle.macho_consumed.specs.declared.places.PlaceFault.TheVariants as PlaceFault;
 ghost use Rattle.macho_consumed.specs.steps.Places.{IsTable, IsPlaceFault};
 ghost use Rattle.std.specs.Option.{option_map};
-ghost use Rattle.macho_model.specs.Links.{is_carried};
 ghost use Rattle.macho_model.specs.Objects.{num_sections, section_at, relocation_at};
 ghost use Rattle.macho_model.specs.Consumed.{holds_functions};
 ghost use Rattle.macho_consumed.specs.steps.Alone.{alone, own};
@@ -24,7 +23,7 @@ use crate::places::PlaceFault;
 use crate::rows::{PersonalityUse, SectionPlace, UnwindEntry};
 use crate::section::{Section, section_of};
 use macho_model::UnwindRule;
-use macho_object::File;
+use macho_object::{File, is_carried};
 use macho_records::{RelocationInfo, SectionHeader, UnwindInfoEntry, name_bytes};
 use std::alloc::Global;
 
@@ -41,16 +40,6 @@ fn offset_in(header: SectionHeader, address: u64, size: u64) -> Option<u64>
         return None;
     }
     Some(offset)
-}
-
-/// Whether a section is one that the image carries.
-fn is_carried(header: SectionHeader) -> bool
-    ensures { result ≡ is_carried header }
-{
-    let name = name_bytes(&header.sectname);
-    !header.should_exclude()
-        && name != b"__mod_init_func".as_slice()
-        && name != b"__compact_unwind".as_slice()
 }
 
 /// Whether a section is one that functions stand in: with instructions and bytes, in `__TEXT`.

@@ -9,7 +9,7 @@ ghost use Rattle.macho_model.specs.SymbolRows.{row_of};
 ghost use Rattle.macho_linkedit.specs.Symbols.{row_seen};
 ghost use Rattle.macho_model.specs.Symbols.{is_global, is_absolute};
 ghost use Rattle.macho_model.specs.Objects.{num_symbols, strings_of, symbol_at, symbol_name};
-ghost use Rattle.macho_model.specs.Links.{Link, object_of, is_carried};
+ghost use Rattle.macho_model.specs.Links.{Link, object_of};
 ghost use Rattle.macho_model.specs.SymbolTable.{is_in_table};
 ghost use Rattle.macho_names.specs.Kept.{in_carried};
 ghost use Rattle.macho_symbols.specs.Kept.{IsResolved, HasSymbol, symbol_id};
@@ -20,8 +20,8 @@ ghost use Rattle.macho_linkedit.specs.steps.Listing.{placed_type_of, placed_desc
 
 use crate::names::Names;
 use crate::symbols::TableRow;
-use macho_object::File;
-use macho_records::{N_EXT, N_PEXT, N_SECT, N_STAB, SectionHeader, SymtabEntry, name_bytes};
+use macho_object::{File, is_carried};
+use macho_records::{N_EXT, N_PEXT, N_SECT, N_STAB, SymtabEntry};
 use macho_symbols::Resolved;
 use std::alloc::{AllocError, Global};
 
@@ -50,16 +50,6 @@ pub struct TableSymbols {
     pub symbols: Vec<TableSymbol>,
     /// The bytes of the string table.
     pub strings: u64,
-}
-
-/// Whether a section goes into the image as it is.
-fn is_carried(header: SectionHeader) -> bool
-    ensures { result ≡ is_carried header }
-{
-    let name = name_bytes(&header.sectname);
-    !header.should_exclude()
-        && name != b"__mod_init_func".as_slice()
-        && name != b"__compact_unwind".as_slice()
 }
 
 /// Whether a symbol stands in a carried section.

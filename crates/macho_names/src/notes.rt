@@ -7,15 +7,14 @@
 ghost use Rattle.std.specs.Prelude.{◌≡◌, ◌^◌, ◌<◌, ◌≤◌, true, false, ◌==◌, length, if◌then◌else◌};
 ghost use Rattle.macho_records.specs.Symbols.{is_common_of, common_of, common_size_of, common_exponent_of};
 ghost use Rattle.macho_model.specs.Symbols.{is_global, is_absolute, is_in_section};
-ghost use Rattle.macho_model.specs.Links.{is_carried};
 ghost use Rattle.macho_model.specs.Objects.{num_symbols, strings_of, symbol_at};
 ghost use Rattle.macho_names.specs.Kept.{in_carried, sort_of, number_of, value_of, row_of_symbol};
 ghost use Rattle.macho_names.specs.steps.Events.{strength_of, size_of_common};
 ghost use Rattle.macho_names.specs.steps.Notes.{row_in, AreEnds, IsString, CommonFits};
 
 use crate::ends::string_end;
-use macho_object::File;
-use macho_records::{CommonSymbol, N_SECT, N_STAB, N_TYPE, SectionHeader, SymtabEntry, name_bytes};
+use macho_object::{File, is_carried};
+use macho_records::{CommonSymbol, N_SECT, N_STAB, N_TYPE, SymtabEntry};
 
 /// Where a symbol leads by itself.
 #[derive(Clone, Copy)]
@@ -76,16 +75,6 @@ pub(crate) fn name_at(strings: &[u8], ends: &[u32], at: u32) -> Name
         at,
         length: (string_end(strings, ends, start) - start) as u32,
     }
-}
-
-/// Whether a section goes into the image as it is.
-fn is_carried(header: SectionHeader) -> bool
-    ensures { result ≡ is_carried header }
-{
-    let name = name_bytes(&header.sectname);
-    !header.should_exclude()
-        && name != b"__mod_init_func".as_slice()
-        && name != b"__compact_unwind".as_slice()
 }
 
 /// Whether a symbol of an object stands in a carried section.

@@ -13,5 +13,5 @@ mod tables;
 
 pub use keys::{OwnEntry, SlotKey};
 pub use laws::{names_are_noted, needs_are_whole};
-pub use needs::{Needs, is_carried};
+pub use needs::Needs;
 pub use tables::Tables;

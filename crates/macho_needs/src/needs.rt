@@ -3,7 +3,7 @@ ghost use Rattle.std.specs.Prelude.{◌≡◌, ℕ, ◌-◌, ◌<◌, ◌++◌, 
 ghost use Rattle.macho_records.specs.declared.constants.TheConstants.{ARM64_RELOC_ADDEND};
 ghost use Rattle.macho_model.specs.declared.placed.Counts.{Counts};
 ghost use Rattle.macho_model.specs.Objects.{num_sections, section_at};
-ghost use Rattle.macho_model.specs.Links.{Input, Link, SectionId, is_carried};
+ghost use Rattle.macho_model.specs.Links.{Input, Link, SectionId};
 ghost use Rattle.macho_model.specs.Needs.{Use, ByRelocation, ByInitializer, ByPersonality, uses_of, relocation_in};
 ghost use Rattle.macho_model.specs.Targets.{target_with, target_of_relocation};
 ghost use Rattle.macho_names.specs.Kept.{Keeps};
@@ -17,8 +17,8 @@ ghost use Rattle.macho_needs.specs.steps.Leads.{carried_start, noting_by, lead_b
 use crate::tables::Tables;
 use macho_faults::LinkError;
 use macho_model::Target;
-use macho_object::File;
-use macho_records::{ARM64_RELOC_ADDEND, RelocationInfo, SectionHeader, name_bytes};
+use macho_object::{File, is_carried};
+use macho_records::{ARM64_RELOC_ADDEND, RelocationInfo};
 use macho_symbols::Resolved;
 use std::alloc::{AllocError, Global};
 
@@ -29,16 +29,6 @@ pub struct Needs {
     pub resolved: Resolved,
     /// Slots, stubs and import entries of their own.
     pub tables: Tables,
-}
-
-/// Whether a section goes into the image as it is.
-pub fn is_carried(header: SectionHeader) -> bool
-    ensures { result ≡ is_carried header }
-{
-    let name = name_bytes(&header.sectname);
-    !header.should_exclude()
-        && name != b"__mod_init_func".as_slice()
-        && name != b"__compact_unwind".as_slice()
 }
 
 /// The start of a section of an object that is named by its number, from 1; nothing where it isn't carried.

@@ -28,3 +28,4 @@ pub use fault::ObjectFault;
 pub use file::File;
 pub use macho_model::ObjectRule;
 pub use relocations::RelocationList;
+pub use sections::is_carried;

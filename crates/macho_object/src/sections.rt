@@ -3,6 +3,7 @@ ghost use Rattle.std.specs.Prelude.{◌≡◌, ℕ, ◌+◌, ◌<◌, ◌≤◌,
 ghost use Rattle.macho_model.specs.Objects.{section_at, section_bytes, section_place};
 ghost use Rattle.macho_model.specs.ObjectRules.{is_thread_local};
 ghost use Rattle.macho_model.specs.Grammar.{ObjectBreaks};
+ghost use Rattle.macho_model.specs.Links.{is_carried};
 ghost use Rattle.macho_model.specs.Symbols.{is_in_segment};
 ghost use Rattle.macho_records.specs.Sections.{is_zerofill, type_of};
 ghost use Rattle.macho_object.specs.steps.Outlines.{IsOutlined};
@@ -18,6 +19,16 @@ use macho_records::{
 
 /// The greatest alignment that is taken, as an exponent of 2: a page of 16 KiB.
 pub(crate) const GREATEST_EXPONENT: u32 = 14;
+
+/// Whether a section goes into the image as it is.
+pub fn is_carried(header: SectionHeader) -> bool
+    ensures { result ≡ is_carried header }
+{
+    let name = name_bytes(&header.sectname);
+    !header.should_exclude()
+        && name != b"__mod_init_func".as_slice()
+        && name != b"__compact_unwind".as_slice()
+}
 
 impl<'data> Outline<'data> {
     /// The place of a section's header.

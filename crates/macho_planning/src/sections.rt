@@ -8,19 +8,9 @@ ghost use Rattle.macho_parts.specs.Views.{ViewsObject};
 ghost use Rattle.macho_planning.specs.Sections.{spec_for, KeepsRules, specs_below, specs_of_view, specs_of_views};
 
 use macho_layout::{Plan, SectionSpec};
-use macho_object::File;
-use macho_records::{SectionHeader, SegmentName, name_bytes};
+use macho_object::{File, is_carried};
+use macho_records::{SectionHeader, SegmentName};
 use std::alloc::AllocError;
-
-/// Whether a section goes into the image as it is.
-fn is_carried(header: &SectionHeader) -> bool
-    ensures { result ≡ is_carried header.now }
-{
-    let name = name_bytes(&header.sectname);
-    !header.should_exclude()
-        && name != b"__mod_init_func".as_slice()
-        && name != b"__compact_unwind".as_slice()
-}
 
 /// What a plan has of a section.
 fn spec_for(file: u32, section: u32, header: &SectionHeader) -> SectionSpec
@@ -48,7 +38,7 @@ fn add_section(
     requires { KeepsRules header.now }
     ensures { OnOk result (plan.new ≡ record plan.old { sections = plan.old.sections ++ list_if (is_carried header.now) (spec_for file section header.now ∷ []) }) }
 {
-    if is_carried(header) {
+    if is_carried(*header) {
         plan.add_section(spec_for(file, section, header))?;
     }
     Ok(())

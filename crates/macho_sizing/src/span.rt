@@ -7,8 +7,7 @@ ghost use Rattle.macho_parts.specs.Views.{ViewsObject};
 ghost use Rattle.macho_layout.specs.Sums.{fitting, section_cost};
 ghost use Rattle.macho_sizing.specs.steps.Spans.{holds_text, span_of, span_below, span_of_view, span_of_views};
 
-use macho_needs::is_carried;
-use macho_object::File;
+use macho_object::{File, is_carried};
 use macho_records::{SectionHeader, name_bytes};
 
 /// Whether a section is carried, and stands in `__TEXT` with bytes in the file.

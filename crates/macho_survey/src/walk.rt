@@ -20,8 +20,8 @@ ghost use Rattle.macho_survey.specs.steps.Sections.{HasRows, HasObject, carried_
 use crate::findings::Findings;
 use crate::section::{Section, survey_section};
 use macho_faults::LinkError;
-use macho_needs::{Needs, is_carried};
-use macho_object::File;
+use macho_needs::Needs;
+use macho_object::{File, is_carried};
 use macho_records::{SectionHeader, name_bytes};
 use std::alloc::Global;
 
