@@ -7,10 +7,10 @@ ghost use Rattle.macho_consumed.specs.steps.Gathered.{all_of, initializers_at, F
 
 use crate::entries::add_entries;
 use crate::fault::ConsumedFault;
-use crate::listing::{Kind, object, sections};
+use crate::listing::{Kind, sections};
 use crate::rows::{Initializer, UnwindEntry};
 use crate::slots::add_initializers;
-use macho_object::File;
+use macho_object::{File, view_of};
 use std::alloc::Global;
 
 /// The initializers of all sections, by file, section and slot.
@@ -27,7 +27,7 @@ pub(crate) fn gather_initializers(
     let mut rows = Vec::new(alloc);
     let refs = sections(alloc, files, Kind::Initializers)?;
     for at in &refs {
-        let Some(file) = object(files, at.file) else {
+        let Some(file) = view_of(files, at.file) else {
             unreachable!()
         };
         match add_initializers(alloc, file, at.file, at.section, &mut rows) {
@@ -52,7 +52,7 @@ pub(crate) fn gather_entries(
     let mut rows = Vec::new(alloc);
     let refs = sections(alloc, files, Kind::Entries)?;
     for at in &refs {
-        let Some(file) = object(files, at.file) else {
+        let Some(file) = view_of(files, at.file) else {
             unreachable!()
         };
         match add_entries(alloc, file, at.file, at.section, &mut rows) {

@@ -1,10 +1,10 @@
 //! The consumed sections of a link, in order.
-ghost use Rattle.std.specs.Prelude.{◌≡◌, ℕ, ◌^◌, ◌<◌, ◌++◌, false, length, get_or, None, Some, IfOk, OnOk, option_copied};
+ghost use Rattle.std.specs.Prelude.{◌≡◌, ℕ, ◌^◌, ◌<◌, ◌++◌, false, length, get_or, None, Some, IfOk, OnOk};
 ghost use Rattle.macho_object.specs.Views.{FileBytes};
 ghost use Rattle.macho_model.specs.Objects.{num_sections};
 ghost use Rattle.macho_consumed.specs.steps.Listed.{is_of_kind, refs_in, refs_of};
 
-use macho_object::File;
+use macho_object::{File, view_of};
 use macho_records::{SectionHeader, name_bytes};
 use std::alloc::{AllocError, Global};
 
@@ -33,20 +33,6 @@ fn is_of_kind(kind: Kind, header: SectionHeader) -> bool
     match kind {
         Kind::Initializers => consumed && initializers,
         Kind::Entries => consumed && entries,
-    }
-}
-
-/// The view of an object, None of another file.
-pub(crate) fn object<'view, 'data>(
-    files: &'view [Option<File<'data>>],
-    number: u32,
-) -> Option<&'view File<'data>>
-    requires { number < length files.now }
-    ensures { option_copied result ≡ get_or files.now number None }
-{
-    match &files[number as usize] {
-        Some(file) => Some(file),
-        None => None,
     }
 }
 
@@ -87,7 +73,7 @@ pub(crate) fn sections(
 {
     let mut refs = Vec::new(alloc);
     for number in 0..files.len() as u32 {
-        match object(files, number) {
+        match view_of(files, number) {
             Some(file) => add_sections(kind, number, file, &mut refs)?,
             None => {}
         }

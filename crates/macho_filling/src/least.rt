@@ -7,10 +7,9 @@ ghost use Rattle.macho_fields.specs.Faults.{FillStands};
 ghost use Rattle.macho_filling.specs.Fitting.{AreKnown, AreToFill};
 ghost use Rattle.macho_filling.specs.steps.Sections.{IsSeen};
 
-use crate::sections::view_of;
 use macho_fields::{FillFault, Places, section_fault};
 use macho_layout::{PlacedSection, Placement};
-use macho_object::File;
+use macho_object::{File, view_of};
 
 /// The fault that is told of a placed section and another one.
 fn least_in<P: Places>(

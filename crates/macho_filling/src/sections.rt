@@ -1,5 +1,5 @@
 //! Sections: each into its range of the file.
-ghost use Rattle.std.specs.Prelude.{◌≡◌, ℕ, ◌^◌, ◌<◌, ◌≤◌, ◌⊎◌, ◌++◌, false, length, get_or, None, All, Contains, OnOk, IfErr, option_copied};
+ghost use Rattle.std.specs.Prelude.{◌≡◌, ℕ, ◌^◌, ◌<◌, ◌≤◌, ◌⊎◌, ◌++◌, false, length, All, Contains, OnOk, IfErr};
 ghost use Rattle.std.specs.List.{flat_map};
 ghost use Rattle.macho_records.specs.Sections.{is_zerofill};
 ghost use Rattle.macho_model.specs.Objects.{num_sections, num_symbols, section_at};
@@ -16,22 +16,8 @@ ghost use Rattle.macho_filling.specs.steps.Sections.{IsPut, IsDone};
 use macho_fields::{FillFault, Places, fill_section};
 use macho_fixups::Fixup;
 use macho_layout::{PlacedSection, Placement};
-use macho_object::File;
+use macho_object::{File, view_of};
 use macho_places::file_offset;
-
-/// The view of an object, None of another file.
-pub(crate) fn view_of<'view, 'data>(
-    views: &'view [Option<File<'data>>],
-    number: u32,
-) -> Option<&'view File<'data>>
-    ensures { option_copied result ≡ get_or views.now number None }
-{
-    match views.get(number as usize) {
-        Some(Some(file)) => Some(file),
-        Some(None) => None,
-        None => None,
-    }
-}
 
 /// Where a section of so many bytes begins in the file. An empty one is written nowhere.
 fn place_in_file(placement: &Placement, address: u64, size: usize) -> usize

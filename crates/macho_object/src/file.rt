@@ -1,5 +1,5 @@
 //! A view of an object or of a dynamic library. It holds no list: each accessor decodes in place.
-ghost use Rattle.std.specs.Prelude.{◌≡◌, ◌^◌, IfOk, IfErr, OnOk, OnErr, option_copied};
+ghost use Rattle.std.specs.Prelude.{◌≡◌, ◌^◌, IfOk, IfErr, OnOk, OnErr, None, get_or, option_copied};
 ghost use Rattle.macho_model.specs.Objects.{num_symbols, section_at, section_bytes, strings_of};
 ghost use Rattle.macho_model.specs.Grammar.{IsFile, Breaks};
 ghost use Rattle.macho_object.specs.Views.{FileBytes, RelocationBytes, section_count, of_section, symbol_of, symbol_name_of, of_symbol_section, section_index_of, symbol_offset_of, IsFirstNamed, install_name_in};
@@ -195,5 +195,19 @@ impl<'data> File<'data> {
             return None;
         }
         self.outline.path()
+    }
+}
+
+/// The view of an object by the number of its file, None of another file.
+pub fn view_of<'view, 'data>(
+    views: &'view [Option<File<'data>>],
+    number: u32,
+) -> Option<&'view File<'data>>
+    ensures { option_copied result ≡ get_or views.now number None }
+{
+    match views.get(number as usize) {
+        Some(Some(file)) => Some(file),
+        Some(None) => None,
+        None => None,
     }
 }

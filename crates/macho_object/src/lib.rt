@@ -25,7 +25,7 @@ mod symbol_rules;
 mod symbols;
 
 pub use fault::ObjectFault;
-pub use file::File;
+pub use file::{File, view_of};
 pub use macho_model::ObjectRule;
 pub use relocations::RelocationList;
 pub use sections::is_carried;

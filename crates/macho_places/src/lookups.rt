@@ -1,5 +1,5 @@
 //! The look-ups of a link, over its placement, its needs and the views of its objects.
-ghost use Rattle.std.specs.Prelude.{◌≡◌, ℕ, ◌+◌, ◌^◌, ◌<◌, List, length, get_or, map, Some, None, IfOk, option_copied};
+ghost use Rattle.std.specs.Prelude.{◌≡◌, ℕ, ◌+◌, ◌^◌, ◌<◌, List, length, map, Some, IfOk};
 ghost use Rattle.macho_model.specs.declared.placed.Counts.{Counts};
 ghost use Rattle.macho_model.specs.Links.{Link, is_template};
 ghost use Rattle.macho_layout.specs.Placements.{placed_of};
@@ -13,7 +13,7 @@ use macho_fields::Places;
 use macho_layout::{Placement, Slot, Stub};
 use macho_model::{Range64, Target};
 use macho_needs::{Needs, OwnEntry, Tables};
-use macho_object::{File, is_carried};
+use macho_object::{File, is_carried, view_of};
 use macho_records::{S_THREAD_LOCAL_REGULAR, S_THREAD_LOCAL_ZEROFILL, SectionFlags, SectionHeader};
 use std::alloc::{AllocError, Global};
 use std::marker::Model;
@@ -125,20 +125,6 @@ fn template_in(file: &File<'_>, section: u32) -> bool
     match file.section(section) {
         Some(header) => is_template(header),
         None => false,
-    }
-}
-
-/// The view of an object, None of another file.
-fn view_of<'view, 'data>(
-    views: &'view [Option<File<'data>>],
-    number: u32,
-) -> Option<&'view File<'data>>
-    ensures { option_copied result ≡ get_or views.now number None }
-{
-    match views.get(number as usize) {
-        Some(Some(file)) => Some(file),
-        Some(None) => None,
-        None => None,
     }
 }
 

@@ -3,9 +3,6 @@ use Rattle.macho_consumed.specs.declared.listing.Kind.TheVariants.{Entries}
 use Rattle.macho_consumed.proofs.InAll.{next_at, no_view, view_section, bad_entries, more_entries, more_keep}
 use Rattle.macho_consumed.proofs.gathering.gather_entries.Goals as goal
 
-pub object-requires : goal.object-requires
-object-requires c = (next_at Entries _ _ _ (c.deref-at-items.ensures.value ∙ c.in_ok-refs.ensures) c.loop-at-test.true).0.listed.file
-
 pub unreachable-requires : goal.unreachable-requires
 unreachable-requires c =
     no_view Entries _ _ (next_at Entries _ _ _ (c.deref-at-items.ensures.value

@@ -3,9 +3,6 @@ use Rattle.macho_consumed.specs.declared.listing.Kind.TheVariants.{Initializers}
 use Rattle.macho_consumed.proofs.InAll.{next_at, no_view, view_section, bad_initializers, more_initializers, more_fit}
 use Rattle.macho_consumed.proofs.gathering.gather_initializers.Goals as goal
 
-pub object-requires : goal.object-requires
-object-requires c = (next_at Initializers _ _ _ (c.deref-at-items.ensures.value ∙ c.in_ok-refs.ensures) c.loop-at-test.true).0.listed.file
-
 pub unreachable-requires : goal.unreachable-requires
 unreachable-requires c =
     no_view Initializers _ _ (next_at Initializers _ _ _ (c.deref-at-items.ensures.value

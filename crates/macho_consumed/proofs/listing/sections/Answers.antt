@@ -9,7 +9,7 @@ pub loop-number-init : goal.loop-number-init
 loop-number-init c = c.new-refs.ensures.items ∙ files_none _ _
 
 pub loop-number-preserved : goal.loop-number-preserved
-loop-number-preserved c = elim c.match-object.branch [
+loop-number-preserved c = elim c.match-view_of.branch [
   | in-Some+in_ok-add_sections-in-Some w ↦
       (let more = files_more c.args.kind c.args.files.now c.loop-number.number _ (sym w.in-Some.ensures) in
       ap (λ (v : Vec SectionRef Global). v.items) w.refs-is ∙ w.in_ok-add_sections-in-Some.ensures
