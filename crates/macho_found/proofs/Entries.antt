@@ -31,8 +31,9 @@ use Rattle.macho_standing.specs.Leads.{HasPlace, TargetsLead}
 use Rattle.macho_standing.proofs.Distinct.{of_distinct}
 use Rattle.macho_standing.proofs.Leading.{link_leads}
 use Rattle.macho_standing.proofs.Members.{of_flat_map, of_filter_map}
-use Rattle.macho_linkedit.specs.declared.imports.OwnEntry.{OwnEntry}
-use Rattle.macho_linkedit.specs.Imports.{entry_of, name_bytes}
+use Rattle.macho_symbols.specs.declared.solved.OwnEntry.{OwnEntry}
+use Rattle.macho_linkedit.specs.Imports.{name_bytes}
+use Rattle.macho_symbols.specs.Entries.{entry_of}
 use Rattle.macho_linkedit.proofs.LinkEntries.{named, entries_long}
 use Rattle.macho_found.specs.Entries.{OwnEntriesFit, NumbersHold, EntriesFit, EntriesAreOfLink}
 use Rattle.macho_found.proofs.TableRooms.{imports_counted, names_counted}

@@ -14,8 +14,9 @@ use Rattle.macho_promise.specs.Sizes.{AreCounts}
 use Rattle.macho_parts.specs.Sound.{IsSound}
 use Rattle.macho_targets.specs.Laws.{ObjectsAreRead}
 use Rattle.macho_standing.specs.Leads.{PersonalitiesFit}
-use Rattle.macho_linkedit.specs.declared.imports.OwnEntry.{OwnEntry}
-use Rattle.macho_linkedit.specs.Imports.{entry_of, texts, FitTable, AreOfLink}
+use Rattle.macho_symbols.specs.declared.solved.OwnEntry.{OwnEntry}
+use Rattle.macho_linkedit.specs.Imports.{texts, FitTable, AreOfLink}
+use Rattle.macho_symbols.specs.Entries.{entry_of}
 
 -- an entry of a pointer's own is one of an import, with an addend of 32 bits
 abbrev pub OwnEntriesFit : Type 0

@@ -15,7 +15,7 @@ use Rattle.macho_bytes.specs.Numbers.{signed}
 use Rattle.macho_bytes.proofs.Tables.{flat_map-more}
 use Rattle.macho_symbols.specs.declared.solved.Import.{Import}
 use Rattle.macho_fixups.specs.declared.imports.ImportEntry.{ImportEntry}
-use Rattle.macho_linkedit.specs.declared.imports.OwnEntry.{OwnEntry}
+use Rattle.macho_symbols.specs.declared.solved.OwnEntry.{OwnEntry}
 use Rattle.macho_linkedit.specs.Imports.{name_bytes}
 use Rattle.macho_linkedit.specs.steps.Entries.{name_text, names_of, plain_entry, plain_at, HavePlain, IsOwnOf, HaveOwn}
 

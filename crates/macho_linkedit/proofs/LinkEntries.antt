@@ -25,8 +25,9 @@ use Rattle.macho_symbols.specs.Told.{ImportsAre, IsImportOf}
 use Rattle.macho_fixups.specs.declared.imports.ImportEntry.{ImportEntry}
 use Rattle.macho_fixups.specs.Calls.{AreEntries}
 use Rattle.macho_promise.specs.FixupsSay.{import_format}
-use Rattle.macho_linkedit.specs.declared.imports.OwnEntry.{OwnEntry}
-use Rattle.macho_linkedit.specs.Imports.{FitTable, AreOfLink, IsEntryFor, AreEntriesOf, IsImportTable, entry_of, texts}
+use Rattle.macho_symbols.specs.declared.solved.OwnEntry.{OwnEntry}
+use Rattle.macho_linkedit.specs.Imports.{FitTable, AreOfLink, IsEntryFor, AreEntriesOf, IsImportTable, texts}
+use Rattle.macho_symbols.specs.Entries.{entry_of}
 use Rattle.macho_linkedit.specs.steps.Entries.{names_of, plain_at}
 use Rattle.macho_linkedit.proofs.Entries.{AreMade, entries_many, plain_there, some_import, IsOwnEntry, own_there, names_left}
 

@@ -18,14 +18,12 @@ use Rattle.macho_fixups.specs.Tables.{table_text, names_place}
 use Rattle.macho_fixups.specs.Readings.{TableReadsBack}
 use Rattle.macho_symbols.specs.declared.solved.Import.{Import}
 use Rattle.macho_symbols.specs.Told.{ImportsAre}
+use Rattle.macho_symbols.specs.Entries.{entry_of}
 use Rattle.macho_fixups.specs.declared.imports.ImportEntry.{ImportEntry}
 use Rattle.macho_promise.specs.FixupsSay.{import_format}
-use Rattle.macho_linkedit.specs.declared.imports.OwnEntry.{OwnEntry}
+use Rattle.macho_symbols.specs.declared.solved.OwnEntry.{OwnEntry}
 
--- an entry of a pointer's own, as the model has it; borrowed texts by their bytes
-abbrev pub entry_of : OwnEntry → EntryOfImport
-entry_of o = record { import = o.import; addend = o.addend }
-
+-- borrowed texts by their bytes
 abbrev pub texts : List (Bor (List ℕ)) → List (List ℕ)
 texts names = map (λ name. name.now) names
 

@@ -18,7 +18,7 @@ ghost use Rattle.macho_linkedit.specs.steps.Entries.{name_text, plain_entry, Hav
 use crate::libraries::{number, places};
 use indexmap::IndexMap;
 use macho_fixups::ImportEntry;
-use macho_symbols::Import;
+use macho_symbols::{Import, OwnEntry};
 use std::alloc::{AllocError, Global};
 
 /// `DYLD_CHAINED_IMPORT`: an entry is a word.
@@ -26,15 +26,6 @@ const IMPORT_FORMAT: u32 = 1;
 
 /// `DYLD_CHAINED_IMPORT_ADDEND`: an entry is a word and an addend.
 const IMPORT_ADDEND_FORMAT: u32 = 2;
-
-/// An entry that a pointer needs of its own, since a chain word has no room for the addend.
-#[derive(Clone, Copy)]
-pub struct OwnEntry {
-    /// The number of the import.
-    pub import: u32,
-    /// The addend, modulo 2^64.
-    pub addend: u64,
-}
 
 /// The import table of a link.
 #[derive(Drop)]

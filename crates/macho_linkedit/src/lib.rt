@@ -14,7 +14,7 @@ mod symbols;
 
 pub use counting::{SizesAsked, count};
 pub use exports::{ExportSays, NamedExport, ReservedTrie, reserve_trie, value_says};
-pub use imports::{ImportTable, OwnEntry, import_table};
+pub use imports::{ImportTable, import_table};
 pub use laws::{
     exports_are_found, exports_are_said, fixups_are_said, resolved_can_be_listed, sorted_is_run,
     symbols_are_said,

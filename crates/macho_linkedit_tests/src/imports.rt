@@ -4,8 +4,8 @@ ghost use Rattle.macho_model.specs.Values.{fits_signed};
 ghost use Rattle.macho_linkedit.specs.Imports.{name_bytes};
 
 use macho_fixups::ImportEntry;
-use macho_linkedit::{ImportTable, OwnEntry, import_table};
-use macho_symbols::Import;
+use macho_linkedit::{ImportTable, import_table};
+use macho_symbols::{Import, OwnEntry};
 use std::alloc::{AllocError, Global};
 use std::test::Fail;
 

@@ -10,8 +10,9 @@ use Rattle.macho_fixups.specs.Calls.{AreEntries}
 use Rattle.macho_symbols.specs.declared.solved.Import.{Import}
 use Rattle.macho_symbols.specs.Told.{ImportsAre}
 use Rattle.macho_linkedit.specs.declared.imports.ImportTable.{ImportTable}
-use Rattle.macho_linkedit.specs.declared.imports.OwnEntry.{OwnEntry}
-use Rattle.macho_linkedit.specs.Imports.{entry_of, texts, FitTable, AreOfLink, IsImportTable, AreTellable}
+use Rattle.macho_symbols.specs.declared.solved.OwnEntry.{OwnEntry}
+use Rattle.macho_linkedit.specs.Imports.{texts, FitTable, AreOfLink, IsImportTable, AreTellable}
+use Rattle.macho_symbols.specs.Entries.{entry_of}
 use Rattle.macho_linkedit.specs.Runs.{IsRunOf}
 use Rattle.macho_chaining.specs.Writing.{FitsRange, TableIsPut, text_of_range}
 use Rattle.macho_found.specs.Entries.{AreOfSoundLink}

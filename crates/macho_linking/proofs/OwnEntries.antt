@@ -4,8 +4,8 @@ use Rattle.std.specs.List.{slice_get}
 use Rattle.std.proofs.lemmas.List.{take_more, map-append}
 use Rattle.std.proofs.lemmas.Option.{slice_get_within, slice_get-get_or, get_or_from_slice_get}
 use Rattle.macho_model.specs.Fixups.{EntryOfImport}
-use Rattle.macho_linkedit.specs.declared.imports.OwnEntry.{OwnEntry}
-use Rattle.macho_linkedit.specs.Imports.{entry_of}
+use Rattle.macho_symbols.specs.declared.solved.OwnEntry.{OwnEntry}
+use Rattle.macho_symbols.specs.Entries.{entry_of}
 
 -- one more
 pub own_more : (own next : List OwnEntry) (e : OwnEntry) (all : List EntryOfImport) (k : ℕ) → map entry_of own ≡ take k all

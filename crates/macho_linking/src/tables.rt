@@ -1,7 +1,7 @@
 //! The tables of `__LINKEDIT`: fixups and imports, the exports trie, symbols.
 ghost use Rattle.std.specs.Prelude.{◌≡◌, map, length, IfOk, OnOk};
 ghost use Rattle.macho_model.specs.Links.{Link};
-ghost use Rattle.macho_linkedit.specs.Imports.{entry_of};
+ghost use Rattle.macho_symbols.specs.Entries.{entry_of};
 ghost use Rattle.macho_linkedit.specs.Runs.{IsRunOf};
 ghost use Rattle.macho_linking.specs.steps.Planned.{IsPlanned, IsLooked, KnowsAll, placement_of, counts_of};
 ghost use Rattle.macho_linking.specs.steps.Written.{FixupsArePut, TrieIsPut, SymbolsArePut};
@@ -11,8 +11,9 @@ use crate::planned::Planned;
 use macho_chaining::write_fixup_table;
 use macho_fields::Places;
 use macho_fixups::Fixup;
-use macho_linkedit::{OwnEntry, import_table};
+use macho_linkedit::import_table;
 use macho_needs::Tables;
+use macho_symbols::OwnEntry;
 use macho_tables::{said_exports, symbol_table};
 use std::alloc::{AllocError, Global};
 
@@ -23,10 +24,7 @@ fn own_entries(alloc: Global, tables: &Tables) -> Result<Vec<OwnEntry>, AllocErr
     let mut own = Vec::new(alloc);
     for number in 0..tables.num_own() {
         if let Some(entry) = tables.own_entry(number) {
-            own.push(OwnEntry {
-                import: entry.import,
-                addend: entry.addend,
-            })?;
+            own.push(entry)?;
         }
     }
     Ok(own)

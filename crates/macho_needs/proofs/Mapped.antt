@@ -9,10 +9,11 @@ use Rattle.macho_model.specs.Targets.{same_target}
 use Rattle.macho_model.specs.Fixups.{same_entry}
 use Rattle.macho_needs.specs.declared.keys.SlotKey.{SlotKey}
 use Rattle.macho_needs.specs.declared.keys.SlotKey.TheVariants.{Section, Common, Import, Base, Absolute, Nothing}
-use Rattle.macho_needs.specs.declared.keys.OwnEntry.{OwnEntry}
-use Rattle.macho_needs.specs.Tables.{target_of, entry_of}
+use Rattle.macho_symbols.specs.declared.solved.OwnEntry.{OwnEntry}
+use Rattle.macho_needs.specs.Tables.{target_of}
+use Rattle.macho_symbols.specs.Entries.{entry_of}
 use Rattle.macho_needs.specs.contracts.keys.SlotKeyPartialEq.TheImpl as slot_keys
-use Rattle.macho_needs.specs.contracts.keys.OwnEntryPartialEq.TheImpl as own_entries
+use Rattle.macho_symbols.specs.contracts.solved.OwnEntryPartialEq.TheImpl as own_entries
 
 any_mapped : {K X : Type 0} (p : K → Bool) (q : X → Bool) (f : K → X) → ((k : K) → p k ≡ q (f k)) → (ks : List K) → list_any p ks ≡ list_any q (map f ks)
 any_mapped p q f same [] = refl

@@ -6,7 +6,6 @@ use Rattle.macho_model.specs.declared.targets.Target.TheVariants as target
 use Rattle.macho_model.specs.Fixups.{EntryOfImport, own_entry}
 use Rattle.macho_needs.specs.declared.keys.SlotKey.{SlotKey}
 use Rattle.macho_needs.specs.declared.keys.SlotKey.TheVariants.{Section, Common, Import, Base, Absolute, Nothing}
-use Rattle.macho_needs.specs.declared.keys.OwnEntry.{OwnEntry}
 
 -- What is numbered beside imports, each by its place.
 pub record Numbered : Type 0 where
@@ -28,9 +27,6 @@ target_of (Import id) = target.Import id
 target_of Base = target.Base
 target_of (Absolute value) = target.Absolute value
 target_of Nothing = target.None
-
-abbrev pub entry_of : OwnEntry → EntryOfImport
-entry_of e = record { import = e.import; addend = e.addend }
 
 -- a list with an element put last that it lacks, if there is one
 abbrev pub with_some : {X : Type 0} → (X → X → Bool) → List X → Option X → List X

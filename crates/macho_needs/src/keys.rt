@@ -1,4 +1,4 @@
-//! The keys of the tables of needs: a slot is found by its target, an entry of the import table by import and addend.
+//! The keys of the table of slots: a slot is found by its target.
 ghost use Rattle.std.specs.Prelude.{◌≡◌};
 ghost use Rattle.macho_needs.specs.Tables.{target_of};
 
@@ -19,15 +19,6 @@ pub enum SlotKey {
     Absolute(u64),
     /// No target.
     Nothing,
-}
-
-/// An entry of the import table that a pointer needs of its own.
-#[derive(Clone, Copy, PartialEq, Eq, Hash)]
-pub struct OwnEntry {
-    /// The number of the import.
-    pub import: u32,
-    /// The addend, modulo 2^64.
-    pub addend: u64,
 }
 
 /// The key of a target.

@@ -3,15 +3,17 @@ ghost use Rattle.std.specs.Prelude.{◌≡◌, ◌||◌, ◌==◌, true, length,
 ghost use Rattle.macho_model.specs.declared.targets.Target.TheVariants as target;
 ghost use Rattle.macho_model.specs.Targets.{same_target, slot_of_relocation, stub_of_relocation, is_import, goes_by_slot};
 ghost use Rattle.macho_model.specs.Fixups.{same_entry, own_entry};
-ghost use Rattle.macho_needs.specs.Tables.{no_tables, with_some, number_of, own_of_pointer, entry_of};
+ghost use Rattle.macho_needs.specs.Tables.{no_tables, with_some, number_of, own_of_pointer};
+ghost use Rattle.macho_symbols.specs.Entries.{entry_of};
 
-use crate::keys::{OwnEntry, SlotKey, key, target};
+use crate::keys::{SlotKey, key, target};
 use indexmap::IndexSet;
 use macho_model::Target;
 use macho_records::{
     ARM64_RELOC_BRANCH26, ARM64_RELOC_GOT_LOAD_PAGE21, ARM64_RELOC_GOT_LOAD_PAGEOFF12,
     ARM64_RELOC_POINTER_TO_GOT, ARM64_RELOC_TLVP_LOAD_PAGE21, ARM64_RELOC_TLVP_LOAD_PAGEOFF12,
 };
+use macho_symbols::OwnEntry;
 use std::alloc::{AllocError, Global};
 use std::marker::Model;
 
@@ -26,7 +28,8 @@ pub struct Tables {
 impl Model for Tables {
     ghost use Rattle.std.specs.Prelude.{map};
     ghost use Rattle.macho_model.specs.declared.targets.Target.TheVariants as target;
-    ghost use Rattle.macho_needs.specs.Tables.{Numbered, target_of, entry_of};
+    ghost use Rattle.macho_needs.specs.Tables.{Numbered, target_of};
+    ghost use Rattle.macho_symbols.specs.Entries.{entry_of};
 
     ghost Value = { Numbered };
 

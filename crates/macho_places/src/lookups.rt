@@ -12,9 +12,10 @@ use macho_addresses::Addresses;
 use macho_fields::Places;
 use macho_layout::{Placement, Slot, Stub};
 use macho_model::{Range64, Target};
-use macho_needs::{Needs, OwnEntry, Tables};
+use macho_needs::{Needs, Tables};
 use macho_object::{File, is_carried, view_of};
 use macho_records::{S_THREAD_LOCAL_REGULAR, S_THREAD_LOCAL_ZEROFILL, SectionFlags, SectionHeader};
+use macho_symbols::OwnEntry;
 use std::alloc::{AllocError, Global};
 use std::marker::Model;
 

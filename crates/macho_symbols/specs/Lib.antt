@@ -1,3 +1,4 @@
+pub mod Entries
 pub mod Exported
 pub mod Kept
 pub mod Told

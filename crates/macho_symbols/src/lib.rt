@@ -14,4 +14,4 @@ pub use macho_model::Target;
 pub use macho_names::SymbolFault;
 pub use resolved::Resolved;
 pub use resolver::Resolver;
-pub use solved::{Common, Import};
+pub use solved::{Common, Import, OwnEntry};

@@ -23,6 +23,15 @@ pub struct Import {
     pub name: Vec<u8>,
 }
 
+/// An entry of the import table that a pointer needs of its own, since a chain word has no room for the addend.
+#[derive(Clone, Copy, PartialEq, Eq, Hash)]
+pub struct OwnEntry {
+    /// The number of the import.
+    pub import: u32,
+    /// The addend, modulo 2^64.
+    pub addend: u64,
+}
+
 /// A common that was chosen as the definition of its name.
 #[derive(Clone, Copy)]
 pub struct Common {

@@ -6,7 +6,7 @@ use Rattle.std.specs.Str.{bytes_eq}
 use Rattle.macho_bytes.specs.Numbers.{signed}
 use Rattle.macho_symbols.specs.declared.solved.Import.{Import}
 use Rattle.macho_fixups.specs.declared.imports.ImportEntry.{ImportEntry}
-use Rattle.macho_linkedit.specs.declared.imports.OwnEntry.{OwnEntry}
+use Rattle.macho_symbols.specs.declared.solved.OwnEntry.{OwnEntry}
 
 -- the name of an import with its NUL, and those of several
 abbrev pub name_text : Import → List ℕ

@@ -5,7 +5,7 @@ use Rattle.std.proofs.lemmas.Int.{of_z-to_z}
 use Rattle.std.proofs.lemmas.List.{get_or_default}
 use Rattle.macho_bytes.specs.Numbers.{signed}
 use Rattle.macho_fixups.specs.declared.imports.ImportEntry.{ImportEntry}
-use Rattle.macho_linkedit.specs.declared.imports.OwnEntry.{OwnEntry}
+use Rattle.macho_symbols.specs.declared.solved.OwnEntry.{OwnEntry}
 use Rattle.macho_linkedit.proofs.Entries.{own_more, among_plain}
 use Rattle.macho_linkedit.proofs.imports.add_own.Goals as goal
 

@@ -1,6 +1,6 @@
 use Rattle.std.proofs.Common.{sym, ap, ◌∙◌, arith}
 use Rattle.std.specs.Option.{option_map}
-use Rattle.macho_needs.specs.Tables.{entry_of}
+use Rattle.macho_symbols.specs.Entries.{entry_of}
 use Rattle.macho_linking.proofs.OwnEntries.{own_more, none_lacks}
 use Rattle.macho_linking.proofs.tables.own_entries.Goals as goal
 use Rattle.macho_linking.proofs.tables.own_entries.Goals.{in-Some+in_ok-push, in_default}
@@ -12,7 +12,7 @@ loop-number-preserved c =
           own_more
           c.loop-number.own.items
           c.match-own_entry.own.items
-          (record { import = w.in-Some.entry.import; addend = w.in-Some.entry.addend })
+          w.in-Some.entry
           c.args.tables.now.own
           c.loop-number.number
           c.loop-number.invariant

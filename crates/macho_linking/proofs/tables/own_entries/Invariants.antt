@@ -1,6 +1,6 @@
 use Rattle.std.proofs.Common.{◌≡◌, take}
 use Rattle.std.specs.Prelude.{map}
-use Rattle.macho_linkedit.specs.Imports.{entry_of}
+use Rattle.macho_symbols.specs.Entries.{entry_of}
 use Rattle.macho_linking.proofs.tables.own_entries.Given as goal
 
 -- the entries so far

@@ -1,7 +1,8 @@
 use Rattle.std.proofs.Common.{ℕ, map, sym, ap, subst, ◌∙◌}
 use Rattle.std.proofs.lemmas.Result.{on_ok_weaker}
 use Rattle.macho_model.specs.Needs.{imports_of}
-use Rattle.macho_linkedit.specs.Imports.{entry_of, texts}
+use Rattle.macho_linkedit.specs.Imports.{texts}
+use Rattle.macho_symbols.specs.Entries.{entry_of}
 use Rattle.macho_chaining.specs.Writing.{FitsRange}
 use Rattle.macho_linking.specs.steps.Planned.{placement_of}
 use Rattle.macho_linking.proofs.FixupsPut.{AreListed, fit_table, are_of_link, are_tellable, fits_range, fixups_put}

@@ -2,7 +2,8 @@ use Rattle.std.proofs.Common.{◌∙◌, ap, map}
 use Rattle.indexmap.specs.IndexSet.{insert_key}
 use Rattle.macho_model.specs.declared.targets.Target.TheVariants as target
 use Rattle.macho_model.specs.Targets.{same_target}
-use Rattle.macho_needs.specs.Tables.{Numbered, target_of, entry_of}
+use Rattle.macho_needs.specs.Tables.{Numbered, target_of}
+use Rattle.macho_symbols.specs.Entries.{entry_of}
 use Rattle.macho_needs.proofs.Mapped.{slot_put}
 use Rattle.macho_needs.proofs.tables.Tables.add_slot.Goals as goal
 

@@ -4,7 +4,8 @@ use Rattle.indexmap.specs.IndexSet.{insert_key}
 use Rattle.macho_model.specs.declared.targets.Target.{Target}
 use Rattle.macho_model.specs.declared.targets.Target.TheVariants as target
 use Rattle.macho_model.specs.Fixups.{EntryOfImport, same_entry, own_entry}
-use Rattle.macho_needs.specs.Tables.{Numbered, target_of, entry_of, with_some}
+use Rattle.macho_needs.specs.Tables.{Numbered, target_of, with_some}
+use Rattle.macho_symbols.specs.Entries.{entry_of}
 use Rattle.macho_needs.proofs.Mapped.{own_put}
 use Rattle.macho_needs.proofs.tables.Tables.note_own.Goals as goal
 

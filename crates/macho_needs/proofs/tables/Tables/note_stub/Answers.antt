@@ -4,7 +4,8 @@ use Rattle.macho_records.specs.declared.constants.TheConstants.{ARM64_RELOC_BRAN
 use Rattle.macho_model.specs.declared.targets.Target.{Target}
 use Rattle.macho_model.specs.declared.targets.Target.TheVariants as target
 use Rattle.macho_model.specs.Targets.{same_target, stub_of_relocation}
-use Rattle.macho_needs.specs.Tables.{Numbered, target_of, entry_of, with_some}
+use Rattle.macho_needs.specs.Tables.{Numbered, target_of, with_some}
+use Rattle.macho_symbols.specs.Entries.{entry_of}
 use Rattle.macho_needs.proofs.Mapped.{stub_put}
 use Rattle.macho_needs.proofs.tables.Tables.note_stub.Goals as goal
 

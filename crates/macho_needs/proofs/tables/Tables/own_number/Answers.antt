@@ -1,6 +1,7 @@
 use Rattle.std.proofs.Common.{◌∙◌, ap, position}
 use Rattle.macho_model.specs.Fixups.{same_entry}
-use Rattle.macho_needs.specs.Tables.{Numbered, entry_of}
+use Rattle.macho_needs.specs.Tables.{Numbered}
+use Rattle.macho_symbols.specs.Entries.{entry_of}
 use Rattle.macho_needs.proofs.Mapped.{own_found}
 use Rattle.macho_needs.proofs.tables.Tables.own_number.Goals as goal
 
