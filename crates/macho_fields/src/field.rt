@@ -2,18 +2,15 @@
 ghost use Rattle.std.specs.Prelude.{◌≡◌, ◌+◌, ◌-◌, ◌^◌, ◌<◌, ◌≤◌, ◌⊎◌, true, false, IfSome, length};
 ghost use Rattle.macho_bytes.specs.Numbers.{le_at, signed};
 ghost use Rattle.macho_model.specs.Objects.{num_sections, section_at, relocation_at};
-ghost use Rattle.macho_model.specs.Fields.{is_difference, is_with_addend};
 ghost use Rattle.macho_structs.specs.Relocations.{BitsFit};
 ghost use Rattle.macho_fields.specs.steps.Fields.{before, subtractor_in, addend_before, target_in, subtrahend_in, addend_in, small_addend_in, IsNear, IsRead};
 
 use crate::places::Places;
+use macho_arm64::{is_difference, is_with_addend};
 use macho_model::Target;
 use macho_numbers::Number;
 use macho_object::{File, RelocationList};
-use macho_records::{
-    ARM64_RELOC_ADDEND, ARM64_RELOC_BRANCH26, ARM64_RELOC_PAGE21, ARM64_RELOC_PAGEOFF12,
-    ARM64_RELOC_SUBTRACTOR, ARM64_RELOC_UNSIGNED, RelocationInfo,
-};
+use macho_records::{ARM64_RELOC_UNSIGNED, RelocationInfo};
 
 /// A field of a section.
 #[derive(Clone, Copy)]
@@ -34,26 +31,6 @@ pub(crate) struct Field {
     pub addend: u64,
 }
 
-/// Whether a relocation is the subtrahend of the pointer behind it.
-fn is_difference(q: &RelocationInfo, r: &RelocationInfo) -> bool
-    ensures { result ≡ is_difference q.now r.now }
-{
-    q.r_type == ARM64_RELOC_SUBTRACTOR
-        && r.r_type == ARM64_RELOC_UNSIGNED
-        && q.r_address == r.r_address
-        && q.r_length == r.r_length
-}
-
-/// Whether a relocation is the addend of the one behind it.
-fn is_with_addend(q: &RelocationInfo, r: &RelocationInfo) -> bool
-    ensures { result ≡ is_with_addend q.now r.now }
-{
-    let takes = r.r_type == ARM64_RELOC_BRANCH26
-        || r.r_type == ARM64_RELOC_PAGE21
-        || r.r_type == ARM64_RELOC_PAGEOFF12;
-    q.r_type == ARM64_RELOC_ADDEND && takes && q.r_address == r.r_address
-}
-
 /// The subtrahend in front of a relocation.
 fn subtractor(
     previous: Option<RelocationInfo>,
@@ -63,7 +40,7 @@ fn subtractor(
 {
     match previous {
         Some(q) => {
-            if is_difference(&q, &relocation) {
+            if is_difference(q, relocation) {
                 Some(q)
             } else {
                 None
@@ -82,7 +59,7 @@ fn addend_before(
 {
     match previous {
         Some(q) => {
-            if is_with_addend(&q, &relocation) {
+            if is_with_addend(q, relocation) {
                 Some(q)
             } else {
                 None

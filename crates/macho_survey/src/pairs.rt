@@ -1,20 +1,13 @@
 //! A relocation beside its neighbours in the table: which two are one field.
-//!
-//!     SUBTRACTOR _start   place 8, 8 bytes     the difference _end - _start
-//!     UNSIGNED   _end     place 8, 8 bytes
-//!     ADDEND     0x10     place 32             a branch to _f + 16
-//!     BRANCH26   _f       place 32
 ghost use Rattle.std.specs.Prelude.{◌≡◌, ◌+◌, ◌-◌, ◌<◌, nat_le, nat_lt, if◌then◌else◌, Some, None};
 ghost use Rattle.macho_structs.specs.Relocations.{BitsFit};
 ghost use Rattle.macho_model.specs.Objects.{section_at, relocation_at};
-ghost use Rattle.macho_model.specs.Fields.{takes_addend, is_difference, is_with_addend, is_pair};
+ghost use Rattle.macho_model.specs.Fields.{is_pair};
 ghost use Rattle.macho_survey.specs.steps.Windows.{window_in, subtracted, with_addend, begins, ends};
 
+use macho_arm64::{is_difference, is_with_addend};
 use macho_object::RelocationList;
-use macho_records::{
-    ARM64_RELOC_ADDEND, ARM64_RELOC_BRANCH26, ARM64_RELOC_PAGE21, ARM64_RELOC_PAGEOFF12,
-    ARM64_RELOC_SUBTRACTOR, ARM64_RELOC_UNSIGNED, RelocationInfo,
-};
+use macho_records::RelocationInfo;
 
 /// A relocation, and those before and behind it in the table.
 #[derive(Clone, Copy)]
@@ -25,32 +18,6 @@ pub(crate) struct Seen {
     pub(crate) this: RelocationInfo,
     /// The one behind it.
     pub(crate) next: Option<RelocationInfo>,
-}
-
-/// Whether an addend may stand before a relocation of a type.
-fn takes_addend(kind: u8) -> bool
-    ensures { result ≡ takes_addend kind }
-{
-    kind == ARM64_RELOC_BRANCH26 || kind == ARM64_RELOC_PAGE21 || kind == ARM64_RELOC_PAGEOFF12
-}
-
-/// Whether two relocations are a subtrahend and its pointer.
-fn is_difference(first: RelocationInfo, second: RelocationInfo) -> bool
-    ensures { result ≡ is_difference first second }
-{
-    first.r_type == ARM64_RELOC_SUBTRACTOR
-        && second.r_type == ARM64_RELOC_UNSIGNED
-        && first.r_address == second.r_address
-        && first.r_length == second.r_length
-}
-
-/// Whether two relocations are an addend and what takes it.
-fn is_with_addend(first: RelocationInfo, second: RelocationInfo) -> bool
-    ensures { result ≡ is_with_addend first second }
-{
-    first.r_type == ARM64_RELOC_ADDEND
-        && takes_addend(second.r_type)
-        && first.r_address == second.r_address
 }
 
 /// Whether two relocations are one field.
