@@ -21,8 +21,8 @@ pub enum SlotKey {
     Nothing,
 }
 
-/// The key of a target.
-pub(crate) fn key(target: Target) -> SlotKey
+/// The key of a target, by which it is told apart from others.
+pub fn key(target: Target) -> SlotKey
     ensures { target_of result ≡ target }
 {
     match target {

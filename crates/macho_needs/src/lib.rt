@@ -11,7 +11,7 @@ mod laws;
 mod needs;
 mod tables;
 
-pub use keys::SlotKey;
+pub use keys::{SlotKey, key};
 pub use laws::{names_are_noted, needs_are_whole};
 pub use needs::Needs;
 pub use tables::Tables;

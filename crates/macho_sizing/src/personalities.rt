@@ -11,27 +11,8 @@ ghost use Rattle.macho_sizing.specs.steps.Personalities.{personality_of};
 
 use indexmap::IndexSet;
 use macho_consumed::UnwindEntry;
-use macho_model::Target;
-use macho_needs::{Needs, SlotKey};
+use macho_needs::{Needs, SlotKey, key};
 use std::alloc::{AllocError, Global};
-
-/// The key by which a target is told apart from others.
-fn key(target: Target) -> SlotKey
-    ensures { target_of result ≡ target }
-{
-    match target {
-        Target::Section {
-            file,
-            section,
-            offset,
-        } => SlotKey::Section(file, section, offset),
-        Target::Common { id } => SlotKey::Common(id),
-        Target::Import { id } => SlotKey::Import(id),
-        Target::Base => SlotKey::Base,
-        Target::Absolute { value } => SlotKey::Absolute(value),
-        Target::None => SlotKey::Nothing,
-    }
-}
 
 /// Notes the personality function of an entry, if it has one.
 fn note(needs: &Needs, entry: UnwindEntry, seen: &mut IndexSet<SlotKey>) -> Result<(), AllocError>
