@@ -30,3 +30,4 @@ pub use places::Places;
 pub use section::fill_section;
 pub use slots::slot_fixups;
 pub use stubs::fill_stubs;
+pub use values::address_of;

@@ -1,8 +1,11 @@
 //! The value of a field, by its kind.
 ghost use Rattle.std.specs.Prelude.{◌≡◌, ◌+◌, ◌%◌, ◌^◌, ◌<◌};
 ghost use Rattle.macho_bytes.specs.Numbers.{page, low};
+ghost use Rattle.macho_model.specs.Placement.{Placed};
+ghost use Rattle.macho_model.specs.Addresses.{address_of};
 ghost use Rattle.macho_model.specs.Values.{less};
-ghost use Rattle.macho_fields.specs.steps.Fields.{address_in, call_in, load_in, minus_in, goes_straight, relaxes, value_in, write_in, meaning, seen, kind_in};
+ghost use Rattle.macho_fields.specs.Looks.{TellsAddresses};
+ghost use Rattle.macho_fields.specs.steps.Fields.{address_in, wrapped_in, call_in, load_in, minus_in, goes_straight, relaxes, value_in, write_in, meaning, seen, kind_in};
 
 use crate::field::Field;
 use crate::kinds::{FieldKind, kind_of, size_of};
@@ -27,9 +30,12 @@ fn page(address: u64) -> u64
     address - address % PAGE_SIZE
 }
 
-/// The address of a target that is in the image, or its value, modulo 2^64.
-pub(crate) fn address_of<P: Places>(places: &P, target: Target) -> u64
-    ensures { result ≡ address_in (P.look places.now) target % 2 ^ 64 }
+/// The address of a target that is in the image, or its value, modulo 2^64; 0 for an import, which is elsewhere.
+pub fn address_of<P: Places>(places: &P, target: Target) -> u64
+    ensures wrapped { result ≡ wrapped_in (P.look places.now) target }
+    ensures modulo { result ≡ address_in (P.look places.now) target % 2 ^ 64 }
+    ensures is { (p : Placed) → TellsAddresses p (P.look places.now) → result ≡ address_of p target % 2 ^ 64 }
+    ensures low { (p : Placed) → TellsAddresses p (P.look places.now) → address_of p target < 2 ^ 64 → result ≡ address_of p target }
 {
     match target {
         Target::Section {

@@ -12,10 +12,9 @@ ghost use Rattle.macho_linking.specs.steps.Sealing.{IsTextSize, entry_said};
 
 use crate::paths::last_part;
 use crate::planned::Planned;
-use macho_fields::Places;
+use macho_fields::{Places, address_of};
 use macho_layout::PlacedSegment;
 use macho_model::Target;
-use macho_places::address_of;
 use macho_records::name_bytes;
 use macho_sealing::{HeadParts, write_image_head};
 use macho_signature::{Signer, sign_file, stamped_uuid};

@@ -9,4 +9,4 @@ mod lookups;
 mod offsets;
 
 pub use lookups::LinkPlaces;
-pub use offsets::{address_of, file_offset};
+pub use offsets::file_offset;

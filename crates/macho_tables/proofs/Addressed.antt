@@ -15,7 +15,7 @@ use Rattle.macho_targets.specs.Laws.{ListsAll, IsOfLink}
 use Rattle.macho_targets.proofs.Above.{targets_above}
 use Rattle.macho_targets.proofs.Places.{places_are_had}
 use Rattle.macho_fields.specs.Looks.{Look, TellsAddresses}
-use Rattle.macho_tables.specs.steps.Says.{address_in}
+use Rattle.macho_fields.specs.steps.Fields.{wrapped_in}
 
 pub lists_all : (l : Link) (counts : Counts) (p : Placed) → IsWhollyPlaced l counts p → ListsAll l p
 lists_all l counts p placed =
@@ -23,7 +23,7 @@ lists_all l counts p placed =
 
 -- what the look-ups tell of a target
 pub told_address : (p : Placed) (look : Look) (t : Target) → TellsAddresses p look → (is_defined t ≡ true → address_of p t < 2 ^ 64)
-    → address_in look t ≡ address_of p t
+    → wrapped_in look t ≡ address_of p t
 told_address p look (target.Section file section offset) tells low =
     ap (λ (n : ℕ). (n + offset) % 2 ^ 64) (tells.sections file section) ∙ omega (arith, low refl)
 told_address p look (target.Common id) tells low = tells.commons id
@@ -44,7 +44,7 @@ stands_at l p t lists of =
 pub base_below : (l : Link) (counts : Counts) (p : Placed) (look : Look) (t : Target) → IsWhollyPlaced l counts p → TellsAddresses p look
     → IsOfLink l t
     → address_of p t < 2 ^ 64
-    → (max look.base (address_in look t) ≡ address_of p t) × (p.base ≤ address_of p t)
+    → (max look.base (wrapped_in look t) ≡ address_of p t) × (p.base ≤ address_of p t)
 base_below l counts p look t placed tells of low =
     let above = targets_above l counts p t placed.placed (lists_all l counts p placed) of in
     let told = told_address p look t tells (λ moves. low) in

@@ -15,7 +15,7 @@ use Rattle.macho_symbols.specs.Kept.{symbol_id}
 use Rattle.macho_fields.specs.Looks.{Look}
 use Rattle.macho_linkedit.specs.declared.listing.LinkedObject.{LinkedObject}
 use Rattle.macho_tables.specs.Placed.{IsToTable}
-use Rattle.macho_tables.specs.steps.Says.{address_in}
+use Rattle.macho_fields.specs.steps.Fields.{wrapped_in}
 use Rattle.macho_tables.specs.steps.Sections.{section_told}
 use Rattle.macho_tables.proofs.Addressed.{told_address}
 use Rattle.macho_tables.proofs.TableRows.{IsInTable, own_is, section_is}
@@ -50,9 +50,9 @@ section_seen l counts p look o index to bytes kind in_it =
 pub address_seen : (l : Link) (counts : Counts) (p : Placed) (look : Look) (file index : ℕ) → IsToTable l counts p look
     → index < num_symbols (object_of l file)
     → IsInTable l (symbol_id file index)
-    → address_in look (look.target file index) ≡ address_of p (own_target l (symbol_id file index))
+    → wrapped_in look (look.target file index) ≡ address_of p (own_target l (symbol_id file index))
 address_seen l counts p look file index to lt in_it =
-    ap (address_in look) (to.tells.targets file index lt)
+    ap (wrapped_in look) (to.tells.targets file index lt)
     ∙ told_address p look (target_of l (symbol_id file index)) to.tells.addresses
     (λ moves. to.fit.symbols (symbol_id file index) in_it.there moves)
     ∙ ap (address_of p) (own_is l (symbol_id file index) in_it)

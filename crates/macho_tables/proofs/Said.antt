@@ -41,7 +41,8 @@ use Rattle.macho_linkedit.proofs.Exporting.{values_are_found, reexports_are_foun
 use Rattle.macho_linkedit.proofs.Numbering.{not_own}
 use Rattle.macho_tables.specs.Placed.{IsToTable}
 use Rattle.macho_tables.specs.Exports.{exports_told, AreExportsOf}
-use Rattle.macho_tables.specs.steps.Says.{number_in, library_at, says_kept, address_in, is_local_header, header_in, is_local_in, value_in}
+use Rattle.macho_fields.specs.steps.Fields.{wrapped_in}
+use Rattle.macho_tables.specs.steps.Says.{number_in, library_at, says_kept, is_local_header, header_in, is_local_in, value_in}
 use Rattle.macho_tables.specs.steps.Says.{says_said, seen, all_said}
 use Rattle.macho_tables.proofs.Exported.{IsExportedName, names_are, exports_are_told, export_imported}
 use Rattle.macho_tables.proofs.Kept.{names_seen}
@@ -91,7 +92,7 @@ value_found l counts p look name s t to exported is moves =
     of : IsOfLink l named
     of = name_of_link l (imports_of l) name to.objects defined
 
-    far : (max look.base (address_in look named) ≡ address_of p named) × (p.base ≤ address_of p named)
+    far : (max look.base (wrapped_in look named) ≡ address_of p named) × (p.base ≤ address_of p named)
     far = base_below l counts p look named to.placed to.tells.addresses of (to.fit.names name defined)
 
     weak : Bool
@@ -99,7 +100,7 @@ value_found l counts p look name s t to exported is moves =
 
     same : value_in look (views_of l) weak named ≡ value_said named weak (is_thread_local l named) (address_of p named) p.base
     same =
-        ap (λ (b : Bool). value_said named weak b (max look.base (address_in look named)) look.base) (local_is l named of)
+        ap (λ (b : Bool). value_said named weak b (max look.base (wrapped_in look named)) look.base) (local_is l named of)
         ∙ ap (λ (n : ℕ). value_said named weak (is_thread_local l named) n look.base) far.0
         ∙ ap (λ (n : ℕ). value_said named weak (is_thread_local l named) (address_of p named) n) to.tells.addresses.base
 

@@ -12,9 +12,8 @@ ghost use Rattle.macho_tables.specs.Placed.{IsToTable};
 ghost use Rattle.macho_tables.specs.Exports.{AreExportsOf, ImportsArePlain, CanBeTrie, exports_told};
 
 use crate::libraries::{number, places as library_places};
-use crate::places::address_of;
 use indexmap::IndexMap;
-use macho_fields::Places;
+use macho_fields::{Places, address_of};
 use macho_linkedit::{ExportSays, NamedExport, value_says};
 use macho_model::Target;
 use macho_object::File;

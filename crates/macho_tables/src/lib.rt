@@ -10,7 +10,6 @@
 mod exports;
 mod laws;
 mod libraries;
-mod places;
 mod rows;
 mod sections;
 mod told;

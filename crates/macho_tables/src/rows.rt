@@ -13,10 +13,9 @@ ghost use Rattle.macho_linkedit.specs.Symbols.{row_seen, HasRows};
 ghost use Rattle.macho_tables.specs.steps.Rows.{NumbersRise, HasNumber, IsObjectAt, CanHaveRow, IsListed};
 ghost use Rattle.macho_tables.specs.Rows.{AreToList};
 
-use crate::places::address_of;
 use crate::sections::section_of_symbol;
 use macho_exports::ExportList;
-use macho_fields::Places;
+use macho_fields::{Places, address_of};
 use macho_layout::Placement;
 use macho_linkedit::{LinkedObject, SymbolTable, TableRow, TableSymbols, table_row};
 use std::alloc::{AllocError, Global};

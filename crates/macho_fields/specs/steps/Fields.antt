@@ -94,6 +94,15 @@ address_in look (target.Absolute value) = value
 address_in look (target.Import id) = 0
 address_in look target.None = 0
 
+-- the same as look-ups tell it: a sum alone is taken modulo 2 ^ 64
+abbrev pub wrapped_in : Look → Target → ℕ
+wrapped_in look (target.Section file section offset) = (look.section file section + offset) % 2 ^ 64
+wrapped_in look (target.Common id) = look.common id
+wrapped_in look target.Base = look.base
+wrapped_in look (target.Absolute value) = value
+wrapped_in look (target.Import id) = 0
+wrapped_in look target.None = 0
+
 abbrev pub call_in : Look → Target → ℕ
 call_in look (target.Import id) = look.stub id
 call_in look t = address_in look t

@@ -12,6 +12,7 @@ use Rattle.macho_object.specs.Views.{FileBytes, of_section}
 use Rattle.macho_symbols.specs.declared.exports.ExportName.{ExportName}
 use Rattle.macho_symbols.specs.declared.solved.Import.{Import}
 use Rattle.macho_fields.specs.Looks.{Look}
+use Rattle.macho_fields.specs.steps.Fields.{wrapped_in}
 use Rattle.macho_linkedit.specs.declared.exports.ExportSays.{ExportSays}
 use Rattle.macho_linkedit.specs.declared.exports.ExportSays.TheVariants.{Value, Reexport}
 use Rattle.macho_linkedit.specs.declared.exports.NamedExport.{NamedExport}
@@ -44,15 +45,6 @@ says_kept imports libraries target.Base = Value 0 0
 says_kept imports libraries (target.Absolute value) = Value 0 0
 says_kept imports libraries target.None = Value 0 0
 
--- the address of a target that look-ups tell, modulo 2 ^ 64
-abbrev pub address_in : Look → Target → ℕ
-address_in look (target.Section file section offset) = (look.section file section + offset) % 2 ^ 64
-address_in look (target.Common id) = look.common id
-address_in look target.Base = look.base
-address_in look (target.Absolute value) = value
-address_in look (target.Import id) = 0
-address_in look target.None = 0
-
 -- the section of a target describes thread-local variables, as its object's view shows it
 abbrev pub is_local_header : Option SectionHeader → Bool
 is_local_header None = false
@@ -72,7 +64,7 @@ is_local_in views target.None = false
 
 -- what a target that is no import says: no address is below the base
 abbrev pub value_in : Look → List (Option FileBytes) → Bool → Target → ExportSays
-value_in look views weak t = value_said t weak (is_local_in views t) (max look.base (address_in look t)) look.base
+value_in look views weak t = value_said t weak (is_local_in views t) (max look.base (wrapped_in look t)) look.base
 
 -- what a target says
 abbrev pub says_said : Look → List (Option FileBytes) → List Import → List (List ℕ) → Bool → Target → ExportSays

@@ -4,7 +4,7 @@ use Rattle.macho_model.specs.Objects.{num_symbols}
 use Rattle.macho_model.specs.Exports.{is_listed}
 use Rattle.macho_layout.specs.Placements.{placed_of}
 use Rattle.macho_symbols.specs.Kept.{symbol_id}
-use Rattle.macho_tables.specs.steps.Says.{address_in}
+use Rattle.macho_fields.specs.steps.Fields.{wrapped_in}
 use Rattle.macho_tables.proofs.TableRows.{in_table}
 use Rattle.macho_tables.proofs.RowParts.{name_seen, section_seen, address_seen}
 use Rattle.macho_tables.proofs.rows.row_of.Goals as goal
@@ -23,7 +23,7 @@ returns g c l counts is =
           ∙ ap (is_listed l) (name_seen o.file c.args.index c.in-Some.name.now can.among can.plain c.in-Some.ensures);
       section_is = c.section_of_symbol-section.ensures ∙ section_seen l counts p look o c.args.index is.link is.bytes_are can.kind in_it;
       address_is =
-          c.address_of-address.ensures ∙ ap (address_in look) c.target.ensures
+          c.address_of-address.ensures.wrapped ∙ ap (wrapped_in look) c.target.ensures
           ∙ address_seen l counts p look o.number c.args.index is.link
           (subst (λ (b : List ℕ). c.args.index < num_symbols b) (sym is.bytes_are) can.among) in_it;
     })
