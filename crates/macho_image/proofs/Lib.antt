@@ -1,2 +1,1 @@
-pub mod LastPart
 pub mod Taking
