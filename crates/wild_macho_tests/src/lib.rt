@@ -1,5 +1,18 @@
-//! Tests of a run over devices of several kinds.
+//! Tests over the whole linker: runs over each kind of files, what the loader accepts of their images, large links, and a linker
+//! without files.
 #![tactic(auto)]
 
 #[cfg(test)]
+mod accepted;
+#[cfg(test)]
+mod again;
+#[cfg(test)]
+mod instance;
+#[cfg(test)]
+mod large;
+#[cfg(test)]
+mod real;
+#[cfg(test)]
 mod runs;
+#[cfg(test)]
+mod told;
