@@ -15,33 +15,33 @@ use std::alloc::{AllocError, Global};
 use std::test::Fail;
 
 /// Segments by their names.
-pub const TEXT: [u8; 16] = *b"__TEXT\0\0\0\0\0\0\0\0\0\0";
+pub(crate) const TEXT: [u8; 16] = *b"__TEXT\0\0\0\0\0\0\0\0\0\0";
 
-pub const DATA_CONST: [u8; 16] = *b"__DATA_CONST\0\0\0\0";
+pub(crate) const DATA_CONST: [u8; 16] = *b"__DATA_CONST\0\0\0\0";
 
-pub const DATA: [u8; 16] = *b"__DATA\0\0\0\0\0\0\0\0\0\0";
+pub(crate) const DATA: [u8; 16] = *b"__DATA\0\0\0\0\0\0\0\0\0\0";
 
-pub const A: [u8; 16] = *b"__A\0\0\0\0\0\0\0\0\0\0\0\0\0";
+pub(crate) const A: [u8; 16] = *b"__A\0\0\0\0\0\0\0\0\0\0\0\0\0";
 
-pub const B: [u8; 16] = *b"__B\0\0\0\0\0\0\0\0\0\0\0\0\0";
+pub(crate) const B: [u8; 16] = *b"__B\0\0\0\0\0\0\0\0\0\0\0\0\0";
 
 /// A carried section: its segment, its name, its type and attributes, its alignment as an exponent of 2, its bytes.
-pub type Row = ([u8; 16], [u8; 16], u32, u8, u64);
+pub(crate) type Row = ([u8; 16], [u8; 16], u32, u8, u64);
 
 /// What is placed: sections of one file, commons by size and alignment, slots, stubs, and what is counted beside.
 #[derive(Clone, Copy)]
-pub struct Case<'a> {
-    pub executable: bool,
-    pub sections: &'a [Row],
-    pub commons: &'a [(u64, u8)],
-    pub slots: u32,
-    pub stubs: u32,
-    pub counts: Counts,
+pub(crate) struct Case<'a> {
+    pub(crate) executable: bool,
+    pub(crate) sections: &'a [Row],
+    pub(crate) commons: &'a [(u64, u8)],
+    pub(crate) slots: u32,
+    pub(crate) stubs: u32,
+    pub(crate) counts: Counts,
 }
 
 /// Nothing beside the commands of an executable without libraries: entry, dynamic linker, fixups, trie, symbols, UUID and
 /// signature have 152 bytes. A trie that needs 22, one symbol with 7 bytes of names, an identifier of 16.
-pub const COUNTS: Counts = Counts {
+pub(crate) const COUNTS: Counts = Counts {
     commands: 152,
     padding: 0,
     initializers: 0,
@@ -145,7 +145,7 @@ fn add_stubs(plan: &mut Plan, stubs: u32) -> Result<(), AllocError> {
 }
 
 /// The plan of a case.
-pub fn plan_of(alloc: Global, case: &Case<'_>) -> Result<Plan, Fail> {
+pub(crate) fn plan_of(alloc: Global, case: &Case<'_>) -> Result<Plan, Fail> {
     let mut plan = Plan::new(alloc, case.executable);
     add_sections(&mut plan, case.sections)?;
     add_commons(&mut plan, case.commons)?;
@@ -155,7 +155,10 @@ pub fn plan_of(alloc: Global, case: &Case<'_>) -> Result<Plan, Fail> {
 }
 
 /// What a plan is placed to.
-pub fn outcome(alloc: Global, case: &Case<'_>) -> Result<Result<Placement, LayoutFault>, Fail> {
+pub(crate) fn outcome(
+    alloc: Global,
+    case: &Case<'_>,
+) -> Result<Result<Placement, LayoutFault>, Fail> {
     if case.counts.import_size > 8 {
         return Err(Fail::from("entries that are too long"));
     }
@@ -164,7 +167,7 @@ pub fn outcome(alloc: Global, case: &Case<'_>) -> Result<Result<Placement, Layou
 }
 
 /// The placement of a case that has one.
-pub fn placement(alloc: Global, case: &Case<'_>) -> Result<Placement, Fail> {
+pub(crate) fn placement(alloc: Global, case: &Case<'_>) -> Result<Placement, Fail> {
     match outcome(alloc, case)? {
         Ok(placement) => Ok(placement),
         Err(_) => Err(Fail::from("no placement")),
@@ -172,7 +175,7 @@ pub fn placement(alloc: Global, case: &Case<'_>) -> Result<Placement, Fail> {
 }
 
 /// Of each segment its address, its size, its file offset, its file size.
-pub fn segments(alloc: Global, placement: &Placement) -> Result<Vec<[u64; 4]>, AllocError> {
+pub(crate) fn segments(alloc: Global, placement: &Placement) -> Result<Vec<[u64; 4]>, AllocError> {
     let mut list = Vec::new(alloc);
     for one in &placement.segments {
         list.push([one.address, one.size, one.file_offset, one.file_size])?;
@@ -181,7 +184,7 @@ pub fn segments(alloc: Global, placement: &Placement) -> Result<Vec<[u64; 4]>, A
 }
 
 /// Of each output section its address, its size, its file offset, its alignment.
-pub fn headers(alloc: Global, placement: &Placement) -> Result<Vec<[u64; 4]>, AllocError> {
+pub(crate) fn headers(alloc: Global, placement: &Placement) -> Result<Vec<[u64; 4]>, AllocError> {
     let mut list = Vec::new(alloc);
     for one in &placement.output_sections {
         list.push([
@@ -223,7 +226,7 @@ fn push_stubs(list: &mut Vec<u64>, placement: &Placement) -> Result<(), AllocErr
 }
 
 /// The addresses of sections, commons, slots and stubs, in this order.
-pub fn places(alloc: Global, placement: &Placement) -> Result<Vec<u64>, AllocError> {
+pub(crate) fn places(alloc: Global, placement: &Placement) -> Result<Vec<u64>, AllocError> {
     let mut list = Vec::new(alloc);
     push_sections(&mut list, placement)?;
     push_commons(&mut list, placement)?;
@@ -233,7 +236,7 @@ pub fn places(alloc: Global, placement: &Placement) -> Result<Vec<u64>, AllocErr
 }
 
 /// Where each table of `__LINKEDIT` begins and ends.
-pub fn tables(placement: &Placement) -> [[u64; 2]; 5] {
+pub(crate) fn tables(placement: &Placement) -> [[u64; 2]; 5] {
     let tables = &placement.linkedit;
     [
         [tables.fixups.start, tables.fixups.end],

@@ -7,7 +7,7 @@ use std::test::Fail;
 
 /// A part with its output section: that section's place in the order, with the tens by segment, and its number.
 #[derive(Clone, Copy)]
-pub struct Member {
+pub(crate) struct Member {
     rank: u64,
     output: u64,
     align: u8,

@@ -5,7 +5,8 @@
 mod judge;
 #[cfg(test)]
 mod lists;
-pub mod objects;
+#[cfg(test)]
+mod objects;
 #[cfg(test)]
 mod resolution;
 #[cfg(test)]

@@ -10,7 +10,13 @@ use std::alloc::{AllocError, Global};
 
 /// A symbol: its name, type, section from 1, description and value.
 #[derive(Clone, Copy)]
-pub struct Symbol(pub &'static [u8], pub u8, pub u8, pub u16, pub u64);
+pub(crate) struct Symbol(
+    pub(crate) &'static [u8],
+    pub(crate) u8,
+    pub(crate) u8,
+    pub(crate) u16,
+    pub(crate) u64,
+);
 
 /// The header of an object with three commands of 200 bytes, a segment with the section `__text` of 8 bytes at 232, and a
 /// build version.
@@ -71,7 +77,11 @@ fn put(bytes: &mut Vec<u8>, at: usize, number: usize) {
 }
 
 /// Adds a symbol whose name stands at a place of the string table.
-pub fn push_entry(entries: &mut Vec<u8>, at: usize, symbol: Symbol) -> Result<(), AllocError> {
+pub(crate) fn push_entry(
+    entries: &mut Vec<u8>,
+    at: usize,
+    symbol: Symbol,
+) -> Result<(), AllocError> {
     entries.extend_from_slice(&four(at))?;
     entries.push(symbol.1)?;
     entries.push(symbol.2)?;
@@ -99,12 +109,20 @@ fn file(
 }
 
 /// An object with symbols and a string table.
-pub fn object_of(alloc: Global, entries: &[u8], names: &[u8]) -> Result<Vec<u8>, AllocError> {
+pub(crate) fn object_of(
+    alloc: Global,
+    entries: &[u8],
+    names: &[u8],
+) -> Result<Vec<u8>, AllocError> {
     file(alloc, (&HEAD, OBJECT_SYMTAB), entries, names)
 }
 
 /// An object, or a dynamic library, with some symbols.
-pub fn file_with(alloc: Global, dynamic: bool, symbols: &[Symbol]) -> Result<Vec<u8>, AllocError> {
+pub(crate) fn file_with(
+    alloc: Global,
+    dynamic: bool,
+    symbols: &[Symbol],
+) -> Result<Vec<u8>, AllocError> {
     let mut entries = Vec::new(alloc);
     let mut names = vec![in alloc; 0u8; 1]?;
     for symbol in symbols {
@@ -121,12 +139,12 @@ pub fn file_with(alloc: Global, dynamic: bool, symbols: &[Symbol]) -> Result<Vec
 }
 
 /// An object with some symbols.
-pub fn object(alloc: Global, symbols: &[Symbol]) -> Result<Vec<u8>, AllocError> {
+pub(crate) fn object(alloc: Global, symbols: &[Symbol]) -> Result<Vec<u8>, AllocError> {
     file_with(alloc, false, symbols)
 }
 
 /// A text stub's library with some names.
-pub fn library<'a>(
+pub(crate) fn library<'a>(
     alloc: Global,
     name: &'a str,
     symbols: &[&'a str],
@@ -140,7 +158,7 @@ pub fn library<'a>(
 }
 
 /// The symbols of an object, of others behind it, and of libraries behind these, resolved.
-pub fn resolve(
+pub(crate) fn resolve(
     alloc: Global,
     first: &File<'_>,
     others: &[File<'_>],
@@ -167,7 +185,7 @@ pub fn resolve(
 }
 
 /// What a symbol of the first object leads to, and whether it defines its name; None of a number that no symbol has.
-pub fn target(resolved: &Resolved, first: &File<'_>, symbol: u32) -> Option<(Target, bool)>
+pub(crate) fn target(resolved: &Resolved, first: &File<'_>, symbol: u32) -> Option<(Target, bool)>
     requires { IsFirst first.now.bytes resolved.now }
 {
     if symbol >= first.num_symbols() {
@@ -177,7 +195,7 @@ pub fn target(resolved: &Resolved, first: &File<'_>, symbol: u32) -> Option<(Tar
 }
 
 /// Notes a use of a symbol of the first object; None of a number that no symbol has.
-pub fn note(
+pub(crate) fn note(
     resolved: &mut Resolved,
     first: &File<'_>,
     symbol: u32,
@@ -193,17 +211,17 @@ pub fn note(
 
 /// What is told of a symbol, and then of a use of it.
 #[derive(Drop)]
-pub struct Told {
+pub(crate) struct Told {
     /// Where it leads.
-    pub leads: Target,
+    pub(crate) leads: Target,
     /// Whether it defines its name.
-    pub defines: bool,
+    pub(crate) defines: bool,
     /// What noting the use tells.
-    pub noted: Result<Target, SymbolFault>,
+    pub(crate) noted: Result<Target, SymbolFault>,
 }
 
 /// What is told of each symbol of the first object, and then of a use of it, one symbol after another.
-pub fn note_each(
+pub(crate) fn note_each(
     alloc: Global,
     resolved: &mut Resolved,
     first: &File<'_>,
