@@ -9,7 +9,7 @@ use macho_stub_lines::bytes::has_barred;
 use macho_stub_lines::laws::{lines_are_trees, lines_hold_no_nul};
 
 /// Whether a line may stand in a text: then it holds no NUL.
-pub fn may_stand(line: &[u8]) -> bool
+fn may_stand(line: &[u8]) -> bool
     ensures is { result ≡ true → has_barred line.now ≡ false }
     ensures plain { result ≡ true → All (λ b. b ≢ 0) line.now }
 {
@@ -18,7 +18,7 @@ pub fn may_stand(line: &[u8]) -> bool
 }
 
 /// A value that is read as a scalar is spelled as one, with that text.
-pub fn scalar_is_spelled(line: usize, at: usize, value: &[u8], text: &[u8])
+fn scalar_is_spelled(line: usize, at: usize, value: &[u8], text: &[u8])
     requires { scalar_value line value.now ≡ Ok text.now }
     ensures { (says : Slice) × IsScalarValue at value.now says × (says.text ≡ text.now) }
 {

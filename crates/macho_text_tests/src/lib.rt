@@ -1,7 +1,8 @@
 //! Tests of the crates that read text: command lines and text stubs.
 #![tactic(auto)]
 
-pub mod laws;
+#[cfg(test)]
+mod laws;
 #[cfg(test)]
 mod stubs;
 #[cfg(test)]
