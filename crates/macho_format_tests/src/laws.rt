@@ -5,9 +5,6 @@ ghost use Rattle.macho_bytes.specs.Numbers.{low, page};
 ghost use Rattle.macho_model.specs.Segments.{SEGMENT_PAGE};
 ghost use Rattle.macho_model.specs.Images.{CHAIN_PAGE, tables_of};
 ghost use Rattle.macho_model.specs.Chain.{WORD_SIZE, OnChainOf};
-ghost use Rattle.macho_model.specs.Meaning.{Same, BranchesTo};
-ghost use Rattle.macho_model.specs.Values.{less, branch_reaches};
-ghost use Rattle.macho_model.specs.Words.{is_branch};
 ghost use Rattle.macho_fixups.specs.Runs.{AreSegments, Holds, pages_of};
 ghost use Rattle.macho_fixups.specs.Chains.{place_of, AllStand, IsAddressOf, ChainIsRun};
 ghost use Rattle.macho_fixups.specs.Tables.{names_place, table_room};
@@ -20,22 +17,17 @@ ghost use Rattle.macho_unwind_pages.specs.Laws.{Names};
 ghost use Rattle.macho_unwind.specs.Entries.{HasFarPage};
 ghost use Rattle.macho_trie.specs.Symbols.{names_of, symbols_of};
 ghost use Rattle.macho_trie.specs.Tries.{IsSizeOf};
-ghost use Rattle.macho_arm64.specs.declared.kinds.FieldSize.TheVariants.{JumpCall};
-ghost use Rattle.macho_arm64.specs.Kinds.{info_of};
-ghost use Rattle.macho_arm64.specs.Fields.{Holds as HoldsValue, can_hold};
 
-use macho_arm64::{RelocationKindInfo, fields_denote, kinds_agree, reaches_agree};
 use macho_fixups::{
     Fixup, FixupSegment, ImportEntry, bytes_beside_words_stay, chains_are_told, names_are_read,
     no_fixup_no_pages, pages_are_bounded, places_are_in_segments, room_grows,
 };
-use macho_records::RelocationInfo;
 use macho_trie::{Symbols, Trie, sizes_are_one};
 use macho_unwind::{ResolvedUnwindInfo, UnwindInput, far_page_needs_room, ids_are_named};
 use macho_unwind_pages::{plans_are_one, plans_are_short};
 
 /// A segment that begins with a page has at most as many pages with chains as its file part has.
-pub fn pages_of_a_segment(segment: FixupSegment, fixups: &[Fixup])
+fn pages_of_a_segment(segment: FixupSegment, fixups: &[Fixup])
     requires { segment.address % CHAIN_PAGE ≡ 0 }
     ensures { pages_of segment fixups.now ≤ (segment.file_size + (CHAIN_PAGE - 1)) / CHAIN_PAGE }
 {
@@ -43,21 +35,21 @@ pub fn pages_of_a_segment(segment: FixupSegment, fixups: &[Fixup])
 }
 
 /// A table with an entry, a name and a page more needs no less room.
-pub fn room_of_one_more(size: usize, entries: usize, names: usize, name: &[u8], pages: usize)
+fn room_of_one_more(size: usize, entries: usize, names: usize, name: &[u8], pages: usize)
     ensures { table_room entries size names pages ≤ table_room (entries + 1) size (names + length name.now) (pages + 1) }
 {
     room_grows();
 }
 
 /// A segment of an image without fixups has no pages with chains.
-pub fn segment_without_fixups(segment: FixupSegment)
+fn segment_without_fixups(segment: FixupSegment)
     ensures { pages_of segment [] ≡ 0 }
 {
     no_fixup_no_pages();
 }
 
 /// A word's place is counted from its segment's.
-pub fn place_in_its_segment(segments: &[FixupSegment], segment: FixupSegment, address: u64)
+fn place_in_its_segment(segments: &[FixupSegment], segment: FixupSegment, address: u64)
     requires order { AreSegments segments.now }
     requires one { Contains segments.now segment }
     requires holds { Holds segment address }
@@ -67,7 +59,7 @@ pub fn place_in_its_segment(segments: &[FixupSegment], segment: FixupSegment, ad
 }
 
 /// The chain of a file with one table is the run that was written.
-pub fn chain_of_a_file(
+fn chain_of_a_file(
     file: &[u8],
     at: u64,
     size: u64,
@@ -88,7 +80,7 @@ pub fn chain_of_a_file(
 }
 
 /// The name of an import is read.
-pub fn name_of_an_import(
+fn name_of_an_import(
     file: &[u8],
     at: u64,
     size: u64,
@@ -110,7 +102,7 @@ pub fn name_of_an_import(
 }
 
 /// A byte that no word covers stays.
-pub fn byte_beside_words(
+fn byte_beside_words(
     segments: &[FixupSegment],
     fixups: &[Fixup],
     before: &[u8],
@@ -129,7 +121,7 @@ pub fn byte_beside_words(
 }
 
 /// Entries whose last page would be far have a bound of 4 GiB or more.
-pub fn bound_of_far_entries(text: u64, span: u64, entries: &[ResolvedUnwindInfo])
+fn bound_of_far_entries(text: u64, span: u64, entries: &[ResolvedUnwindInfo])
     requires entries { AreEntries text entries.now }
     requires far { HasFarPage text entries.now }
     requires spans { SpansAtMost span entries.now }
@@ -139,7 +131,7 @@ pub fn bound_of_far_entries(text: u64, span: u64, entries: &[ResolvedUnwindInfo]
 }
 
 /// Entries that name the numbers below a count have these ids.
-pub fn ids_by_number(entries: &[UnwindInput], count: usize)
+fn ids_by_number(entries: &[UnwindInput], count: usize)
     requires { (id : ℕ) → (id < count) ↔ Names entries.now id }
     ensures { ids_of entries.now ≡ range_with_len 0 count }
 {
@@ -147,7 +139,7 @@ pub fn ids_by_number(entries: &[UnwindInput], count: usize)
 }
 
 /// Entries have one plan at most.
-pub fn plan_of_entries(text: u64, entries: &[ResolvedUnwindInfo])
+fn plan_of_entries(text: u64, entries: &[ResolvedUnwindInfo])
     requires { 0 < length entries.now }
     ensures { (plan other : PlanList) → IsPlanOf text entries.now plan → IsPlanOf text entries.now other → plan ≡ other }
 {
@@ -155,7 +147,7 @@ pub fn plan_of_entries(text: u64, entries: &[ResolvedUnwindInfo])
 }
 
 /// Every plan of entries has no more bytes than their bound.
-pub fn plans_of_entries(text: u64, span: u64, entries: &[ResolvedUnwindInfo])
+fn plans_of_entries(text: u64, span: u64, entries: &[ResolvedUnwindInfo])
     requires some { 0 < length entries.now }
     requires entries { AreEntries text entries.now }
     requires spans { SpansAtMost span entries.now }
@@ -165,34 +157,9 @@ pub fn plans_of_entries(text: u64, span: u64, entries: &[ResolvedUnwindInfo])
 }
 
 /// A size that a trie has is its only one.
-pub fn size_of_a_trie(trie: &Trie, symbols: &Symbols, size: usize)
+fn size_of_a_trie(trie: &Trie, symbols: &Symbols, size: usize)
     requires { IsSizeOf trie.now (names_of symbols.now) (symbols_of symbols.now) size }
     ensures { (n : ℕ) → IsSizeOf trie.now (names_of symbols.now) (symbols_of symbols.now) n → n ≡ size }
 {
     sizes_are_one();
-}
-
-/// A branch that holds the distance to a function leads to it at every slide.
-pub fn branch_at_a_slide(input: u32, word: u32, value: u64, place: u64, target: u64, slide: u64)
-    requires holds { HoldsValue JumpCall input word value }
-    requires leads { Same (value + place) target }
-    ensures { BranchesTo (place + slide) word input (target + slide) }
-{
-    fields_denote();
-}
-
-/// A branch can hold the distance to a function where it reaches it.
-pub fn branch_in_reach(word: u32, place: u64, target: u64)
-    ensures { can_hold JumpCall word (less target place) ≡ branch_reaches place target }
-{
-    reaches_agree();
-}
-
-/// What is known of a branch is that it is written to a branch's immediate.
-pub fn field_of_a_branch(relocation: RelocationInfo, info: RelocationKindInfo)
-    requires known { info_of relocation ≡ Some info }
-    requires branch { relocation.r_type ≡ 2 }
-    ensures { info.size ≡ JumpCall }
-{
-    kinds_agree();
 }

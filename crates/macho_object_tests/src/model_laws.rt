@@ -28,7 +28,7 @@ use macho_model::{
 use macho_records::SegmentCommand;
 
 /// A file without fixup tables has no word on a chain.
-pub fn file_without_tables(file: &[u8], address: u64)
+fn file_without_tables(file: &[u8], address: u64)
     requires { tables_of file.now ≡ [] }
     ensures { OnChainOf file.now address → ⊥ }
 {
@@ -36,7 +36,7 @@ pub fn file_without_tables(file: &[u8], address: u64)
 }
 
 /// A byte that no chain word covers moves by the slide.
-pub fn byte_at_a_slide(file: &[u8], slide: u64, address: u64, value: u8)
+fn byte_at_a_slide(file: &[u8], slide: u64, address: u64, value: u8)
     requires { (word_at : ℕ) → Covers file.now word_at address → ⊥ }
     ensures { (c d : Choice) → Holds file.now 0 c address value → Holds file.now slide d (address + slide) value }
 {
@@ -44,12 +44,7 @@ pub fn byte_at_a_slide(file: &[u8], slide: u64, address: u64, value: u8)
 }
 
 /// An address of an accepted image is in one segment at most.
-pub fn segment_of_an_address(
-    file: &[u8],
-    segment: SegmentCommand,
-    other: SegmentCommand,
-    address: u64,
-)
+fn segment_of_an_address(file: &[u8], segment: SegmentCommand, other: SegmentCommand, address: u64)
     requires accepted { IsAccepted file.now }
     requires one { Contains (mapped_segments file.now) segment }
     requires holds { (segment.vmaddr ≤ address) × (address < segment.vmaddr + segment.vmsize) }
@@ -61,7 +56,7 @@ pub fn segment_of_an_address(
 }
 
 /// A text of a segment's file part that no chain word covers is in memory, as many bytes higher as the slide says.
-pub fn text_in_memory(file: &[u8], slide: u64, segment: SegmentCommand, place: u64, text: &[u8])
+fn text_in_memory(file: &[u8], slide: u64, segment: SegmentCommand, place: u64, text: &[u8])
     requires free { IsFree file.now (segment.vmaddr + place) (length text.now) }
     requires one { Contains (mapped_segments file.now) segment }
     requires inside { place + length text.now ≤ segment.filesize }
@@ -73,7 +68,7 @@ pub fn text_in_memory(file: &[u8], slide: u64, segment: SegmentCommand, place: u
 }
 
 /// A field of a section whose targets move denotes them at a slide too.
-pub fn field_at_a_slide(file: &[u8], section: PlacedSection, slide: u64)
+fn field_at_a_slide(file: &[u8], section: PlacedSection, slide: u64)
     requires { slide % SEGMENT_PAGE ≡ 0 }
     ensures { (l : Link) (p : Placed) (c d : Choice) (f : Field) → targets_move f (kind_of f.type (is_some f.subtrahend)) ≡ true → IsFree file.now (section.address + f.offset) f.width → Denotes l file.now p 0 c section f → Denotes l file.now p slide d section f }
 {
@@ -81,7 +76,7 @@ pub fn field_at_a_slide(file: &[u8], section: PlacedSection, slide: u64)
 }
 
 /// A slot whose chain word moves with the image stands at a slide too.
-pub fn slot_at_a_slide(file: &[u8], slot: Slot, slide: u64)
+fn slot_at_a_slide(file: &[u8], slot: Slot, slide: u64)
     requires { is_defined slot.target ≡ true }
     ensures { (l : Link) (p : Placed) (c choice : Choice) (word x : ℕ) → MovesAt file.now slot.address word → IsAt l p 0 c slot.target x → Same (rebase_target word + rebase_high word * 2 ^ 56 + base_of file.now) x → SlotStands l file.now p slide choice slot }
 {
@@ -89,35 +84,35 @@ pub fn slot_at_a_slide(file: &[u8], slot: Slot, slide: u64)
 }
 
 /// A pointer of a section that is an offset from the template, or absolute, is the same at a slide.
-pub fn plain_pointer_at_a_slide(file: &[u8], section: PlacedSection, slide: u64)
+fn plain_pointer_at_a_slide(file: &[u8], section: PlacedSection, slide: u64)
     ensures { (l : Link) (p : Placed) (c d : Choice) (f : Field) → kind_of f.type (is_some f.subtrahend) ≡ Pointer → (is_template_offset l (id_of section) f || is_absolute_target f.target) ≡ true → IsFree file.now (section.address + f.offset) f.width → Denotes l file.now p 0 c section f → Denotes l file.now p slide d section f }
 {
     plain_pointers_stay();
 }
 
 /// A name has one definition in two links with the same inputs.
-pub fn definition_of_a_name(name: &[u8])
+fn definition_of_a_name(name: &[u8])
     ensures { (l m : Link) → l.inputs ≡ m.inputs → definition_of l name.now ≡ definition_of m name.now }
 {
     equal_inputs_have_equal_definitions();
 }
 
 /// Two links with the same inputs and export lists have as many slots.
-pub fn as_many_slots()
+fn as_many_slots()
     ensures { (l m : Link) → l.inputs ≡ m.inputs → l.export_lists ≡ m.export_lists → length (slots_of l) ≡ length (slots_of m) }
 {
     equal_lists_have_equal_needs();
 }
 
 /// A link with one input more has that input's symbols more.
-pub fn symbols_of_one_more()
+fn symbols_of_one_more()
     ensures { (l : Link) (x : Input) → length (symbols_of (with_input l x)) ≡ length (symbols_of l) + length (symbols_of_file (length l.inputs) x) }
 {
     one_input_more_adds_its_own();
 }
 
 /// The first symbol of a link, where it is a chosen common, is common 0.
-pub fn first_common()
+fn first_common()
     ensures { (l : Link) (after : List SymbolId) (s : SymbolId) → symbols_of l ≡ s ∷ after → is_chosen l s ≡ true → position_or_len (same_symbol s) (chosen_commons l) ≡ 0 }
 {
     chosen_commons_are_counted();

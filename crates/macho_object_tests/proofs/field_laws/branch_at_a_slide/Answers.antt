@@ -1,5 +1,5 @@
 use Rattle.std.proofs.Common.{◌+◌, refl}
-use Rattle.macho_format_tests.proofs.laws.branch_at_a_slide.Goals as goal
+use Rattle.macho_object_tests.proofs.field_laws.branch_at_a_slide.Goals as goal
 
 pub returns : goal.returns
 returns c =

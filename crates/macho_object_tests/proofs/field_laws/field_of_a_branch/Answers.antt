@@ -1,7 +1,7 @@
 use Rattle.std.proofs.Common.{ℕ, ◌^◌, false, ap, ◌∙◌}
 use Rattle.macho_model.specs.Stands as stands
 use Rattle.macho_arm64.specs.Laws.{size_for}
-use Rattle.macho_format_tests.proofs.laws.field_of_a_branch.Goals as goal
+use Rattle.macho_object_tests.proofs.field_laws.field_of_a_branch.Goals as goal
 
 pub returns : goal.returns
 returns c =

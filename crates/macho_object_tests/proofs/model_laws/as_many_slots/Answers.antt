@@ -1,6 +1,6 @@
 use Rattle.std.proofs.Common.{List, length, ap}
 use Rattle.macho_model.specs.declared.targets.Target.{Target}
-use Rattle.macho_format_tests.proofs.model_laws.as_many_slots.Goals as goal
+use Rattle.macho_object_tests.proofs.model_laws.as_many_slots.Goals as goal
 
 pub returns : goal.returns
 returns c l m inputs lists =

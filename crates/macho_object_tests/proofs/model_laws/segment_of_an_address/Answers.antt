@@ -1,4 +1,4 @@
-use Rattle.macho_format_tests.proofs.model_laws.segment_of_an_address.Goals as goal
+use Rattle.macho_object_tests.proofs.model_laws.segment_of_an_address.Goals as goal
 
 pub returns : goal.returns
 returns c =

@@ -1,4 +1,4 @@
-use Rattle.macho_format_tests.proofs.model_laws.slot_at_a_slide.Goals as goal
+use Rattle.macho_object_tests.proofs.model_laws.slot_at_a_slide.Goals as goal
 
 pub returns : goal.returns
 returns c l p first choice word x moves at same =

@@ -1,7 +1,7 @@
 use Rattle.std.proofs.Common.{List, length, ap, ◌∙◌}
 use Rattle.std.proofs.lemmas.List.{length-append}
 use Rattle.macho_model.specs.Resolution.{SymbolId, symbols_of, symbols_of_file}
-use Rattle.macho_format_tests.proofs.model_laws.symbols_of_one_more.Goals as goal
+use Rattle.macho_object_tests.proofs.model_laws.symbols_of_one_more.Goals as goal
 
 pub returns : goal.returns
 returns c l x =

@@ -1,4 +1,4 @@
-use Rattle.macho_format_tests.proofs.model_laws.text_in_memory.Goals as goal
+use Rattle.macho_object_tests.proofs.model_laws.text_in_memory.Goals as goal
 
 pub returns : goal.returns
 returns c choice =
