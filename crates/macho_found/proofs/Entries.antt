@@ -3,7 +3,7 @@
 -- Each is that of a pointer of a carried section that leads to an import: the loader writes it, so the import is one of the link's,
 -- and by soundness its addend has 32 bits. As many entries and bytes of names were counted as the table has.
 use Rattle.std.proofs.Common.{◌≡◌, ℕ, ◌+◌, ◌<◌, ◌≤◌, inl, inr, ◌&&◌, ◌==◌, not, Bool, true, false, List, [], ◌∷◌, map, length, Option, Some}
-use Rattle.std.proofs.Common.{None, refl, sym, ap, subst, ◌∙◌, arith, Bor}
+use Rattle.std.proofs.Common.{None, refl, sym, ap, subst, ◌∙◌, arith, Vec, Global}
 use Rattle.std.specs.Prelude.{Contains, sum_by}
 use Rattle.std.specs.List.{flat_map, filter_map}
 use Rattle.std.proofs.lemmas.Bool.{cases_lt}
@@ -131,7 +131,7 @@ entries_fit l counts imports own libraries of =
         arith,
         within l counts limit.Libraries of.numbers,
         ap length of.libraries_are,
-        length-map libraries (λ (name : Bor (List ℕ)). name.now),
+        length-map libraries (λ (name : Vec ℕ Global). name.items),
       );
       entries_few = omega (
         arith,

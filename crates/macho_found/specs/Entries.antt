@@ -1,6 +1,7 @@
 -- The entries that pointers need of their own, and the import table that they stand in.
 use Rattle.std.specs.Prelude.{◌≡◌, ℕ, ◌<◌, true, List, length, map, None, All}
-use Rattle.std.specs.Borrow.{Bor}
+use Rattle.std.specs.declared.vec.Vec.{Vec}
+use Rattle.std.specs.declared.alloc.Global.{Global}
 use Rattle.macho_model.specs.declared.placed.Counts.{Counts}
 use Rattle.macho_model.specs.declared.targets.Limit.{Limit}
 use Rattle.macho_model.specs.Links.{Link}
@@ -29,7 +30,7 @@ abbrev pub NumbersHold : Link → Counts → Type 0
 NumbersHold l counts = (what : Limit) (number : ℕ) → PassesLimit l counts what number None → ⊥
 
 -- These are the imports of a sound link, its own entries and its libraries, and no number passes its limit.
-pub record AreOfSoundLink (l : Link) (counts : Counts) (imports : List Import) (own : List OwnEntry) (libraries : List (Bor (List ℕ)))
+pub record AreOfSoundLink (l : Link) (counts : Counts) (imports : List Import) (own : List OwnEntry) (libraries : List (Vec ℕ Global))
     : Type 0 where
   pub objects : ObjectsAreRead l
   pub sound : IsSound l
@@ -43,10 +44,10 @@ pub record AreOfSoundLink (l : Link) (counts : Counts) (imports : List Import) (
 -- then they make a table
 abbrev pub EntriesFit : Type 0
 EntriesFit =
-    (l : Link) (counts : Counts) (imports : List Import) (own : List OwnEntry) (libraries : List (Bor (List ℕ)))
+    (l : Link) (counts : Counts) (imports : List Import) (own : List OwnEntry) (libraries : List (Vec ℕ Global))
     → AreOfSoundLink l counts imports own libraries → FitTable imports own libraries
 
 abbrev pub EntriesAreOfLink : Type 0
 EntriesAreOfLink =
-    (l : Link) (counts : Counts) (imports : List Import) (own : List OwnEntry) (libraries : List (Bor (List ℕ)))
+    (l : Link) (counts : Counts) (imports : List Import) (own : List OwnEntry) (libraries : List (Vec ℕ Global))
     → AreOfSoundLink l counts imports own libraries → AreOfLink l imports own libraries

@@ -1,7 +1,7 @@
 -- The sizes that are counted are those of the link.
 --
 -- Each is a sum over the same things: commands over libraries and paths, names over imports, entries over imports and own ones.
-use Rattle.std.proofs.Common.{◌≡◌, ℕ, ◌+◌, ◌-◌, ◌*◌, ◌==◌, not, if◌then◌else◌, Bool, true, false, List, [], ◌∷◌, map, length, refl, ap, ◌∙◌, arith, Option, Some, None, is_some, Bor, replicate}
+use Rattle.std.proofs.Common.{◌≡◌, ℕ, ◌+◌, ◌-◌, ◌*◌, ◌==◌, not, if◌then◌else◌, Bool, true, false, List, [], ◌∷◌, map, length, refl, ap, ◌∙◌, arith, Option, Some, None, is_some, Vec, Global, replicate}
 use Rattle.std.specs.Prelude.{sum_by}
 use Rattle.std.proofs.lemmas.List.{length-map, length-append, length-replicate}
 use Rattle.std.proofs.lemmas.List.Sums.{sum_by-cons}
@@ -22,10 +22,10 @@ use Rattle.macho_linkedit.specs.Counting.{AreAskedHere, AreAsked}
 use Rattle.macho_linkedit.specs.steps.Counting.{own_asked, versions_asked, commands_asked, padding_asked}
 use Rattle.macho_linkedit.proofs.LinkEntries.{entries_long, named}
 
--- sums over borrowed texts, and over texts
-sum_texts : (f : List ℕ → ℕ) (xs : List (Bor (List ℕ))) → sum_by (λ x. f x.now) xs ≡ sum_by f (texts xs)
+-- sums over texts, and over their bytes
+sum_texts : (f : List ℕ → ℕ) (xs : List (Vec ℕ Global)) → sum_by (λ x. f x.items) xs ≡ sum_by f (texts xs)
 sum_texts f [] = refl
-sum_texts f (x ∷ xs) = omega (arith, sum_by-cons (λ (y : Bor (List ℕ)). f y.now) x xs, sum_by-cons f x.now (texts xs), sum_texts f xs)
+sum_texts f (x ∷ xs) = omega (arith, sum_by-cons (λ (y : Vec ℕ Global). f y.items) x xs, sum_by-cons f x.items (texts xs), sum_texts f xs)
 
 sum_names : (xs : List Import) → name_bytes xs ≡ sum_by text_size (map (λ i. i.name.items) xs)
 sum_names [] = refl
@@ -66,10 +66,10 @@ padding_is l a here = ap (λ (b : Bool). if b then inner a.executable else 0) he
     inner b = if b then 1024 * (length a.libraries.now + length a.rpaths.now) else 1024 * (length a.libraries.now + length a.rpaths.now + 1)
 
     libraries : length a.libraries.now ≡ length (libraries_needed l)
-    libraries = omega (arith, length-map a.libraries.now (λ (x : Bor (List ℕ)). x.now), ap length here.libraries)
+    libraries = omega (arith, length-map a.libraries.now (λ (x : Vec ℕ Global). x.items), ap length here.libraries)
 
     rpaths : length a.rpaths.now ≡ length l.rpaths
-    rpaths = omega (arith, length-map a.rpaths.now (λ (x : Bor (List ℕ)). x.now), ap length here.rpaths)
+    rpaths = omega (arith, length-map a.rpaths.now (λ (x : Vec ℕ Global). x.items), ap length here.rpaths)
 
     by : (b c : Bool) → (if b then inner c else 0) ≡
         (if b then 1024 * (length (libraries_needed l) + length l.rpaths + one_if (not c)) else 0)

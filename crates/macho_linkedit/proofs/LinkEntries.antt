@@ -3,7 +3,7 @@
 -- The names are those of the link's imports, place by place, so the bytes in front of a name are the same; the first place of
 -- a library's name among the libraries that the link needs is the library's number less 1. Entries of imports come first, as
 -- they do in the link's list; the own ones stand behind them in the link's order.
-use Rattle.std.proofs.Common.{◌≡◌, ℕ, ◌+◌, ◌-◌, ◌^◌, ◌<◌, ◌==◌, if◌then◌else◌, Bool, true, false, List, [], ◌∷◌, ◌++◌, map, take, length, get_or, refl, sym, ap, subst, ◌∙◌, arith, inl, inr, ◌⊎◌, Option, Bor, pos}
+use Rattle.std.proofs.Common.{◌≡◌, ℕ, ◌+◌, ◌-◌, ◌^◌, ◌<◌, ◌==◌, if◌then◌else◌, Bool, true, false, List, [], ◌∷◌, ◌++◌, map, take, length, get_or, refl, sym, ap, subst, ◌∙◌, arith, inl, inr, ◌⊎◌, Option, Vec, Global, pos}
 use Rattle.std.specs.Prelude.{All, sum_by}
 use Rattle.std.specs.Str.{bytes_eq}
 use Rattle.std.specs.List.{flat_map, position_or_len, range_with_len}
@@ -73,7 +73,7 @@ places_are l imports k are =
         )
 
 -- the number of an import's library
-number_is : (l : Link) (imports : List Import) (own : List OwnEntry) (libraries : List (Bor (List ℕ))) (k : ℕ) (i : Import)
+number_is : (l : Link) (imports : List Import) (own : List OwnEntry) (libraries : List (Vec ℕ Global)) (k : ℕ) (i : Import)
     → AreOfLink l imports own libraries → k < length imports
     → position_or_len (bytes_eq (get_or imports k i).library.items) (texts libraries) + 1 ≡ library_number l
     (import_library l (get_or (imports_of l) k []))
@@ -120,7 +120,7 @@ entries_long l =
     e id = record { import = id; addend = 0 }
 
 -- THE entries.
-pub entries_are : (l : Link) (imports : List Import) (own : List OwnEntry) (libraries : List (Bor (List ℕ))) (entries : List ImportEntry)
+pub entries_are : (l : Link) (imports : List Import) (own : List OwnEntry) (libraries : List (Vec ℕ Global)) (entries : List ImportEntry)
     (names : List ℕ)
     → FitTable imports own libraries → AreOfLink l imports own libraries → AreMade (texts libraries) imports own entries names
     → AreEntriesOf l entries
@@ -203,7 +203,7 @@ format_is l own b format are is picked = picked ∙ by b is
         (arith, nat_tests) in rw some refl
 
 -- THE table.
-pub table_is : (l : Link) (imports : List Import) (own : List OwnEntry) (libraries : List (Bor (List ℕ))) (entries : List ImportEntry)
+pub table_is : (l : Link) (imports : List Import) (own : List OwnEntry) (libraries : List (Vec ℕ Global)) (entries : List ImportEntry)
     (names : List ℕ)
     (b : Bool) (format : ℕ) → FitTable imports own libraries → AreMade (texts libraries) imports own entries names → b ≡ (length own == 0)
     → format ≡ format_for b → AreOfLink l imports own libraries → IsImportTable l format entries names
@@ -214,7 +214,7 @@ table_is l imports own libraries entries names b format fit made empty picked ar
 }
 
 -- what the writer of a table asks of the entries
-pub table_fits : (imports : List Import) (own : List OwnEntry) (libraries : List (Bor (List ℕ))) (entries : List ImportEntry)
+pub table_fits : (imports : List Import) (own : List OwnEntry) (libraries : List (Vec ℕ Global)) (entries : List ImportEntry)
     (names : List ℕ)
     (b : Bool) (format : ℕ) → FitTable imports own libraries → AreMade (texts libraries) imports own entries names → b ≡ (length own == 0)
     → format ≡ format_for b → AreEntries format entries

@@ -3,7 +3,7 @@
 -- The first place of what passes a test stays where there is one. Else it is the place of the new element where that passes,
 -- and there is none where it doesn't. A table that finds the first places of a list is so that of the list with a name more:
 -- as it is where it has the name, else with the name at the place behind the others.
-use Rattle.std.proofs.Common.{◌≡◌, ℕ, ◌+◌, ◌<◌, ◌≤◌, ◌==◌, nat_lt, Bool, true, false, cond, List, [], ◌∷◌, ◌++◌, take, length, get_or, refl, sym, ap, ◌∙◌, arith, inl, inr, Option, Some, None, Bor, is_some}
+use Rattle.std.proofs.Common.{◌≡◌, ℕ, ◌+◌, ◌<◌, ◌≤◌, ◌==◌, nat_lt, Bool, true, false, cond, List, [], ◌∷◌, ◌++◌, take, length, get_or, refl, sym, ap, ◌∙◌, arith, inl, inr, Option, Some, None, Bor, Vec, Global, is_some}
 use Rattle.std.specs.Str.{bytes_eq}
 use Rattle.std.specs.List.{position, position_or_len}
 use Rattle.std.proofs.lemmas.Bool.{cases_lt}
@@ -123,10 +123,10 @@ places_more xs old new name n known fresh is update = record {
         differ x y = cc
 
 -- the texts of one element more
-pub texts_more : (xs : List (Bor (List ℕ))) (i : ℕ) (x : Bor (List ℕ)) → i < length xs → x ≡ get_or xs i x → texts
-    (take (i + 1) xs) ≡ texts (take i xs) ++ x.now ∷ []
+pub texts_more : (xs : List (Vec ℕ Global)) (i : ℕ) (x : Vec ℕ Global) → i < length xs → x ≡ get_or xs i x → texts
+    (take (i + 1) xs) ≡ texts (take i xs) ++ x.items ∷ []
 texts_more xs i x lt is =
-    ap texts (take_more xs i x lt ∙ ap (λ (y : Bor (List ℕ)). take i xs ++ y ∷ []) (sym is)) ∙ map-append (λ (y : Bor (List ℕ)). y.now)
+    ap texts (take_more xs i x lt ∙ ap (λ (y : Vec ℕ Global). take i xs ++ y ∷ []) (sym is)) ∙ map-append (λ (y : Vec ℕ Global). y.items)
     (take i xs) (x ∷ [])
 
 -- what a look-up that found something says, and one that found nothing

@@ -1,6 +1,7 @@
 -- What the sizes of a link depend on, as they are counted before addresses are known.
 use Rattle.std.specs.Prelude.{◌≡◌, ℕ, ◌+◌, ◌<◌, ◌^◌, List, length, sum_by, All, is_some}
-use Rattle.std.specs.Borrow.{Bor}
+use Rattle.std.specs.declared.vec.Vec.{Vec}
+use Rattle.std.specs.declared.alloc.Global.{Global}
 use Rattle.macho_model.specs.Links.{Link}
 use Rattle.macho_model.specs.Needs.{imports_of, libraries_needed}
 use Rattle.macho_model.specs.Faults.{last_part}
@@ -14,12 +15,12 @@ use Rattle.macho_linkedit.specs.Imports.{texts, name_bytes}
 use Rattle.macho_linkedit.specs.declared.counting.SizesAsked.{SizesAsked}
 
 -- a path that a command can tell
-abbrev pub IsPath : Bor (List ℕ) → Type 0
-IsPath path = length path.now < 2 ^ 32
+abbrev pub IsPath : Vec ℕ Global → Type 0
+IsPath path = length path.items < 2 ^ 32
 
 -- The numbers can be summed up in 64 bits. With more or longer paths the load commands alone pass 2 ^ 32 bytes.
 pub record FitCounts (a : SizesAsked) : Type 0 where
-  pub own_name : IsPath a.install_name
+  pub own_name : length a.install_name.now < 2 ^ 32
   pub libraries : All IsPath a.libraries.now
   pub rpaths : All IsPath a.rpaths.now
   pub libraries_few : length a.libraries.now < 2 ^ 28

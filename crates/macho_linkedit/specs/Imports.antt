@@ -1,7 +1,8 @@
 -- The import table of a link, before it stands in a file: an entry for each import by its number, then those that pointers need
 -- of their own, and the names of the imports (`mach-o/fixup-chains.h`).
 use Rattle.std.specs.Prelude.{◌≡◌, ℕ, ◌+◌, ◌<◌, ◌≤◌, true, ◌≢◌, List, [], ◌∷◌, length, map, get_or, sum_by, All, ◌^◌}
-use Rattle.std.specs.Borrow.{Bor}
+use Rattle.std.specs.declared.vec.Vec.{Vec}
+use Rattle.std.specs.declared.alloc.Global.{Global}
 use Rattle.std.specs.Int.{w32, cast_unsigned}
 use Rattle.macho_bytes.specs.Numbers.{signed}
 use Rattle.macho_model.specs.Links.{Link}
@@ -23,16 +24,16 @@ use Rattle.macho_fixups.specs.declared.imports.ImportEntry.{ImportEntry}
 use Rattle.macho_promise.specs.FixupsSay.{import_format}
 use Rattle.macho_symbols.specs.declared.solved.OwnEntry.{OwnEntry}
 
--- borrowed texts by their bytes
-abbrev pub texts : List (Bor (List ℕ)) → List (List ℕ)
-texts names = map (λ name. name.now) names
+-- texts by their bytes
+abbrev pub texts : List (Vec ℕ Global) → List (List ℕ)
+texts names = map (λ name. name.items) names
 
 -- the bytes of the names with their NULs
 abbrev pub name_bytes : List Import → ℕ
 name_bytes imports = sum_by (λ i. length i.name.items + 1) imports
 
 -- The numbers are within the limits of the format, and an own entry is one of an import, with an addend of 32 bits.
-pub record FitTable (imports : List Import) (own : List OwnEntry) (libraries : List (Bor (List ℕ))) : Type 0 where
+pub record FitTable (imports : List Import) (own : List OwnEntry) (libraries : List (Vec ℕ Global)) : Type 0 where
   pub libraries_few : length libraries ≤ 240
   pub entries_few : length imports + length own ≤ 2 ^ 24
   pub names_short : name_bytes imports ≤ 2 ^ 23
@@ -40,7 +41,7 @@ pub record FitTable (imports : List Import) (own : List OwnEntry) (libraries : L
   pub addends : All (λ o. fits_signed 32 o.addend ≡ true) own
 
 -- These are the imports of a link, its own entries, and the libraries that it needs.
-pub record AreOfLink (l : Link) (imports : List Import) (own : List OwnEntry) (libraries : List (Bor (List ℕ))) : Type 0 where
+pub record AreOfLink (l : Link) (imports : List Import) (own : List OwnEntry) (libraries : List (Vec ℕ Global)) : Type 0 where
   pub imports_are : ImportsAre l (imports_of l) imports
   pub own_are : map entry_of own ≡ own_entries l
   pub libraries_are : texts libraries ≡ libraries_needed l

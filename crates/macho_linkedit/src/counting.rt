@@ -25,9 +25,9 @@ pub struct SizesAsked<'a> {
     /// Whether versions of the system were given.
     pub has_versions: bool,
     /// The libraries that the image needs.
-    pub libraries: &'a [&'a [u8]],
+    pub libraries: &'a [Vec<u8>],
     /// The paths that libraries are searched in.
-    pub rpaths: &'a [&'a [u8]],
+    pub rpaths: &'a [Vec<u8>],
     /// Whether room for longer names is asked for.
     pub headerpad: bool,
     /// The imports.
@@ -133,11 +133,11 @@ fn entry_size(own_entries: u64) -> u64
 }
 
 /// The bytes of commands of one kind, each a record of `front` bytes with a path behind it.
-fn paths_size(front: usize, paths: &[&[u8]]) -> u64
+fn paths_size(front: usize, paths: &[Vec<u8>]) -> u64
     requires front { front ≤ 24 }
     requires short { All IsPath paths.now }
     requires few { length paths.now < 2 ^ 28 }
-    ensures is { result ≡ sum_by (λ p. path_command_size front p.now) paths.now }
+    ensures is { result ≡ sum_by (λ p. path_command_size front p.items) paths.now }
     ensures small { result < 2 ^ 62 }
 {
     let mut size = 0;

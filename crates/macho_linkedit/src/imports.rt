@@ -15,7 +15,7 @@ ghost use Rattle.macho_linkedit.specs.Imports.{FitTable, AreOfLink, IsImportTabl
 ghost use Rattle.macho_linkedit.specs.steps.Libraries.{same_text, FindsPlaces};
 ghost use Rattle.macho_linkedit.specs.steps.Entries.{name_text, plain_entry, HavePlain, HaveOwn};
 
-use crate::libraries::{number, places};
+use crate::libraries::{library_number, library_places};
 use indexmap::IndexMap;
 use macho_fixups::ImportEntry;
 use macho_symbols::{Import, OwnEntry};
@@ -48,14 +48,14 @@ pub fn import_table(
     alloc: Global,
     imports: &[Import],
     own: &[OwnEntry],
-    libraries: &[&[u8]],
+    libraries: &[Vec<u8>],
 ) -> Result<ImportTable, AllocError>
     requires { FitTable imports.now own.now libraries.now }
     ensures fits { IfOk result (λ t. AreEntries t.format t.entries.items) }
     ensures done { (l : Link) → AreOfLink l imports.now own.now libraries.now
         → IfOk result (λ t. IsImportTable l t.format t.entries.items t.names.items) }
 {
-    let places = places(alloc, libraries)?;
+    let places = library_places(alloc, libraries)?;
     let mut entries = Vec::with_capacity(alloc, imports.len() + own.len())?;
     let names = add_imports(imports, libraries, &places, &mut entries)?;
     add_own(own, &mut entries)?;
@@ -74,7 +74,7 @@ pub fn import_table(
 /// Adds an entry for each import, and makes the names.
 fn add_imports(
     imports: &[Import],
-    libraries: &[&[u8]],
+    libraries: &[Vec<u8>],
     places: &IndexMap<&[u8], u32>,
     entries: &mut Vec<ImportEntry>,
 ) -> Result<Vec<u8>, AllocError>
@@ -87,7 +87,7 @@ fn add_imports(
     let mut names = Vec::new(*entries.allocator());
     for import in imports {
         entries.push(ImportEntry {
-            library: number(libraries, places, &import.library) as u8,
+            library: library_number(libraries, places, &import.library) as u8,
             name_offset: names.len() as u32,
             addend: 0,
         })?;

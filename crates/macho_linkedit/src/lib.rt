@@ -19,6 +19,7 @@ pub use laws::{
     exports_are_found, exports_are_said, fixups_are_said, resolved_can_be_listed, sorted_is_run,
     symbols_are_said,
 };
+pub use libraries::{library_number, library_places};
 pub use listing::{LinkedObject, TableSymbol, TableSymbols, table_row, table_symbols};
 pub use run::sort_run;
 pub use symbols::{SymbolTable, TableRow};

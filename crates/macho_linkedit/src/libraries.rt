@@ -10,24 +10,33 @@ use indexmap::IndexMap;
 use std::alloc::{AllocError, Global};
 
 /// The first place of each library, by its install name.
-pub(crate) fn places<'a>(
+///
+/// # Errors
+///
+/// There is not enough memory.
+pub fn library_places<'a>(
     alloc: Global,
-    libraries: &[&'a [u8]],
+    libraries: &'a [Vec<u8>],
 ) -> Result<IndexMap<&'a [u8], u32>, AllocError>
     requires { length libraries.now < 2 ^ 32 }
     ensures { IfOk result (λ m. FindsPlaces (texts libraries.now) (get same_text m)) }
 {
     let mut places: IndexMap<&[u8], u32> = IndexMap::new(alloc);
     for (place, library) in libraries.iter().enumerate() {
-        if !places.contains_key(library) {
-            places.insert(library, place as u32)?;
+        let name = library.as_slice();
+        if !places.contains_key(&name) {
+            places.insert(name, place as u32)?;
         }
     }
     Ok(places)
 }
 
 /// The number of a library from 1; one that isn't among them gets the number behind theirs.
-pub(crate) fn number(libraries: &[&[u8]], places: &IndexMap<&[u8], u32>, library: &[u8]) -> u32
+pub fn library_number(
+    libraries: &[Vec<u8>],
+    places: &IndexMap<&[u8], u32>,
+    library: &[u8],
+) -> u32
     requires few { length libraries.now + 1 < 2 ^ 32 }
     requires known { FindsPlaces (texts libraries.now) (get same_text places.now) }
     ensures is { result ≡ position_or_len (bytes_eq library.now) (texts libraries.now) + 1 }

@@ -43,6 +43,15 @@ fn is_near(addend: u64) -> bool
     addend < 0x8000_0000 || addend >= 0xffff_ffff_8000_0000
 }
 
+/// Texts of their own.
+fn owned(alloc: Global, names: &[&[u8]]) -> Result<Vec<Vec<u8>>, AllocError> {
+    let mut texts = Vec::new(alloc);
+    for name in names {
+        texts.push(Vec::from_slice(alloc, name)?)?;
+    }
+    Ok(texts)
+}
+
 /// The table of a few imports, and of an entry that a pointer needs of its own, if one does.
 fn table(
     alloc: Global,
@@ -50,16 +59,17 @@ fn table(
     own: Option<OwnEntry>,
     libraries: &[&[u8]],
 ) -> Result<ImportTable, Fail> {
+    let libraries = owned(alloc, libraries)?;
     if libraries.len() > 9 || imports.len() > 9 || short_names(imports).is_none() {
         return Err(Fail::from(AllocError));
     }
     let Some(entry) = own else {
-        return Ok(import_table(alloc, imports, &[], libraries)?);
+        return Ok(import_table(alloc, imports, &[], &libraries)?);
     };
     if entry.import as usize >= imports.len() || !is_near(entry.addend) {
         return Err(Fail::from(AllocError));
     }
-    Ok(import_table(alloc, imports, &[entry], libraries)?)
+    Ok(import_table(alloc, imports, &[entry], &libraries)?)
 }
 
 fn entry(library: u8, name_offset: u32, addend: i32) -> ImportEntry {

@@ -1,14 +1,17 @@
 //! The sizes of a link. The bytes of commands are those of worked images less their segments' commands: 736 - 528, 448 - 296 and
 //! 352 - 224.
 use macho_linkedit::{SizesAsked, count};
+use std::alloc::AllocError;
 
 #[test]
-fn an_executable_with_one_library(rt: HostRuntime) {
+fn an_executable_with_one_library(rt: HostRuntime) -> Result<(), AllocError> {
+    let alloc = rt.alloc();
+    let libraries = Vec::from_array(alloc, [Vec::from_slice(alloc, b"/usr/lib/libSystem.B.dylib")?])?;
     let counts = count(&SizesAsked {
         executable: true,
         install_name: b"out",
         has_versions: false,
-        libraries: &[b"/usr/lib/libSystem.B.dylib"],
+        libraries: &libraries,
         rpaths: &[],
         headerpad: false,
         imports: &[],
@@ -26,6 +29,7 @@ fn an_executable_with_one_library(rt: HostRuntime) {
     assert!(rt; counts.import_size == 8);
     assert!(rt; counts.name_bytes == 0);
     assert!(rt; counts.identifier == 16);
+    Ok(())
 }
 
 #[test]

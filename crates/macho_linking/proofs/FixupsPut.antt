@@ -1,6 +1,6 @@
 -- The fixup table of a planned link: its imports, own entries and libraries are those of a sound link, so they make a table, and the range
 -- that is kept for the table has room.
-use Rattle.std.proofs.Common.{◌≡◌, ℕ, List, map, length, refl, ap, ◌∙◌, arith, Bor}
+use Rattle.std.proofs.Common.{◌≡◌, ℕ, List, map, length, refl, ap, ◌∙◌, arith, Vec, Global}
 use Rattle.std.proofs.lemmas.List.{length-map}
 use Rattle.macho_model.specs.declared.targets.Limit.TheVariants as limit
 use Rattle.macho_model.specs.Links.{Link}
@@ -28,12 +28,12 @@ use Rattle.macho_linking.specs.steps.Written.{FixupsArePut}
 use Rattle.macho_linking.proofs.Ready.{planned_soundly}
 
 -- What was listed for the table of a planned link.
-pub record AreListed (l : Link) (b : Planned) (imports : List Import) (own : List OwnEntry) (libraries : List (Bor (List ℕ))) : Type 0 where
+pub record AreListed (l : Link) (b : Planned) (imports : List Import) (own : List OwnEntry) (libraries : List (Vec ℕ Global)) : Type 0 where
   pub imports_are : ImportsAre l (imports_of l) imports
   pub own_are : map entry_of own ≡ b.read.now.needs.tables.own
   pub libraries_are : texts libraries ≡ map (λ text. text.items) b.libraries.now
 
-of_sound_link : (l : Link) (b : Planned) (imports : List Import) (own : List OwnEntry) (libraries : List (Bor (List ℕ))) → IsPlanned l b
+of_sound_link : (l : Link) (b : Planned) (imports : List Import) (own : List OwnEntry) (libraries : List (Vec ℕ Global)) → IsPlanned l b
     → AreListed l b imports own libraries → AreOfSoundLink l (counts_of b) imports own libraries
 of_sound_link l b imports own libraries h listed = record {
   objects = h.inputs.rules.0;
@@ -46,23 +46,23 @@ of_sound_link l b imports own libraries h listed = record {
   libraries_are = listed.libraries_are ∙ h.inputs.libraries;
 }
 
-pub fit_table : (l : Link) (b : Planned) (imports : List Import) (own : List OwnEntry) (libraries : List (Bor (List ℕ))) → IsPlanned l b
+pub fit_table : (l : Link) (b : Planned) (imports : List Import) (own : List OwnEntry) (libraries : List (Vec ℕ Global)) → IsPlanned l b
     → AreListed l b imports own libraries → FitTable imports own libraries
 fit_table l b imports own libraries h listed =
     entries_fit l (counts_of b) imports own libraries (of_sound_link l b imports own libraries h listed)
 
-pub are_of_link : (l : Link) (b : Planned) (imports : List Import) (own : List OwnEntry) (libraries : List (Bor (List ℕ))) → IsPlanned l b
+pub are_of_link : (l : Link) (b : Planned) (imports : List Import) (own : List OwnEntry) (libraries : List (Vec ℕ Global)) → IsPlanned l b
     → AreListed l b imports own libraries → AreOfLink l imports own libraries
 are_of_link l b imports own libraries h listed =
     entries_of_link l (counts_of b) imports own libraries (of_sound_link l b imports own libraries h listed)
 
 -- there are few enough libraries that the imports can be told
-pub are_tellable : (l : Link) (b : Planned) (imports : List Import) (own : List OwnEntry) (libraries : List (Bor (List ℕ))) → IsPlanned l b
+pub are_tellable : (l : Link) (b : Planned) (imports : List Import) (own : List OwnEntry) (libraries : List (Vec ℕ Global)) → IsPlanned l b
     → AreListed l b imports own libraries → AreTellable l
 are_tellable l b imports own libraries h listed =
     let few = (fit_table l b imports own libraries h listed).libraries_few in
     let same = ap length (listed.libraries_are ∙ h.inputs.libraries) in
-    imports_tellable l h.inputs.rules.1 (omega (arith, few, same, length-map libraries (λ (text : Bor (List ℕ)). text.now)))
+    imports_tellable l h.inputs.rules.1 (omega (arith, few, same, length-map libraries (λ (text : Vec ℕ Global). text.items)))
 
 -- the table has room in its range, and the range lies in the file
 pub fits_range : (l : Link) (b : Planned) (run : List Fixup) (t : ImportTable) → IsPlanned l b → IsRunOf l (placement_of b) run

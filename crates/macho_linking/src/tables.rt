@@ -30,17 +30,6 @@ fn own_entries(alloc: Global, tables: &Tables) -> Result<Vec<OwnEntry>, AllocErr
     Ok(own)
 }
 
-/// Texts as slices.
-fn slices(alloc: Global, texts: &[Vec<u8>]) -> Result<Vec<&[u8]>, AllocError>
-    ensures { IfOk result (λ v. map (λ text. text.now) v.items ≡ map (λ text. text.items) texts.now) }
-{
-    let mut list: Vec<&[u8]> = Vec::new(alloc);
-    for text in texts {
-        list.push(text)?;
-    }
-    Ok(list)
-}
-
 /// Writes the fixup table of a run.
 pub(crate) fn write_imports(
     alloc: Global,
@@ -55,8 +44,8 @@ pub(crate) fn write_imports(
         → OnOk result (FixupsArePut l (placement_of b.now) run.now out.old out.new) }
 {
     let own = own_entries(alloc, &b.read.needs.tables)?;
-    let libraries = slices(alloc, b.libraries)?;
-    let table = import_table(alloc, b.read.needs.resolved.imports(), &own, &libraries)?;
+    let imports = b.read.needs.resolved.imports();
+    let table = import_table(alloc, imports, &own, b.libraries)?;
     write_fixup_table(alloc, &b.sized.placement, run, &table, out)
 }
 

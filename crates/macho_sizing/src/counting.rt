@@ -1,11 +1,10 @@
 //! The counts of a link, from what was counted, listed and reserved of it.
-ghost use Rattle.std.specs.Prelude.{◌≡◌, ◌<◌, ◌^◌, true, length, map, All, IfOk, OnOk};
+ghost use Rattle.std.specs.Prelude.{◌≡◌, ◌<◌, ◌^◌, true, length, All, IfOk, OnOk};
 ghost use Rattle.macho_model.specs.Links.{Link};
 ghost use Rattle.macho_model.specs.Needs.{imports_of};
 ghost use Rattle.macho_promise.specs.Sizes.{counts_with, unwind_size};
 ghost use Rattle.macho_symbols.specs.Told.{ImportsAre};
 ghost use Rattle.macho_linkedit.specs.Counting.{IsPath};
-ghost use Rattle.macho_linkedit.specs.Imports.{texts};
 ghost use Rattle.macho_linkedit.specs.Listing.{AreListed};
 ghost use Rattle.macho_sizing.specs.Asked.{AreOf};
 ghost use Rattle.macho_sizing.specs.steps.Passing.{AreCounted, AreWithin};
@@ -15,7 +14,7 @@ use crate::numbers::Numbers;
 use macho_linkedit::{SizesAsked, TableSymbol, TableSymbols, count};
 use macho_model::Counts;
 use macho_symbols::Import;
-use std::alloc::{AllocError, Global};
+use std::alloc::AllocError;
 
 /// Paths are shorter than this in bytes: the size of a load command has 32 bits.
 const PATH_LIMIT: usize = 1 << 32;
@@ -24,19 +23,8 @@ const PATHS_LIMIT: usize = 1 << 28;
 /// The name of the output file is shorter than this in bytes.
 const NAME_LIMIT: usize = 1 << 63;
 
-/// Texts, each as a slice.
-fn slices<'a>(alloc: Global, names: &'a [Vec<u8>]) -> Result<Vec<&'a [u8]>, AllocError>
-    ensures { IfOk result (λ v. texts v.items ≡ map (λ t. t.items) names.now) }
-{
-    let mut slices: Vec<&[u8]> = Vec::with_capacity(alloc, names.len())?;
-    for name in names {
-        slices.push(name.as_slice())?;
-    }
-    Ok(slices)
-}
-
 /// Refuses paths that load commands can't tell, as want of memory: there is no room for commands of 4 GiB.
-fn check_paths(paths: &[&[u8]]) -> Result<(), AllocError>
+fn check_paths(paths: &[Vec<u8>]) -> Result<(), AllocError>
     ensures short { OnOk result (All IsPath paths.now) }
     ensures few { OnOk result (length paths.now < 2 ^ 28) }
 {
@@ -64,7 +52,6 @@ fn check_names(install_name: &[u8], name: &[u8]) -> Result<(), AllocError>
 
 /// The counts of a link. `unwind` and `trie` are the most bytes of unwind information and of the exports trie.
 pub(crate) fn count_sizes(
-    alloc: Global,
     asked: &SizesOf<'_>,
     imports: &[Import],
     numbers: &Numbers,
@@ -77,18 +64,16 @@ pub(crate) fn count_sizes(
     ensures { (l : Link) → AreOf l asked.now → ImportsAre l (imports_of l) imports.now → unwind ≡ unwind_size l → AreListed l symbols.now
         → IfOk result (λ c. c ≡ counts_with l trie) }
 {
-    let libraries = slices(alloc, asked.libraries)?;
-    let rpaths = slices(alloc, asked.rpaths)?;
-    check_paths(&libraries)?;
-    check_paths(&rpaths)?;
+    check_paths(asked.libraries)?;
+    check_paths(asked.rpaths)?;
     check_names(asked.install_name, asked.name)?;
     let listed: &[TableSymbol] = &symbols.symbols;
     Ok(count(&SizesAsked {
         executable: asked.executable,
         install_name: asked.install_name,
         has_versions: asked.has_versions,
-        libraries: &libraries,
-        rpaths: &rpaths,
+        libraries: asked.libraries,
+        rpaths: asked.rpaths,
         headerpad: asked.headerpad,
         imports,
         own_entries: asked.needs.tables.num_own() as u64,

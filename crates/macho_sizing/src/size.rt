@@ -47,7 +47,7 @@ fn size_within(
     let symbols = table_symbols(alloc, asked.objects, &asked.needs.resolved)?;
     let trie = reserve_trie(alloc, asked.exports)?;
     let size = trie.size as u64;
-    let counts = count_sizes(alloc, asked, imports, numbers, unwind, size, &symbols)?;
+    let counts = count_sizes(asked, imports, numbers, unwind, size, &symbols)?;
     let placement = match place(alloc, plan, &counts) {
         Ok(placement) => placement,
         Err(error) => return Err(error),

@@ -11,10 +11,9 @@ ghost use Rattle.macho_tables.specs.steps.Says.{IsAmong, says_kept, value_in, sa
 ghost use Rattle.macho_tables.specs.Placed.{IsToTable};
 ghost use Rattle.macho_tables.specs.Exports.{AreExportsOf, ImportsArePlain, CanBeTrie, exports_told};
 
-use crate::libraries::{number, places as library_places};
 use indexmap::IndexMap;
 use macho_fields::{Places, address_of};
-use macho_linkedit::{ExportSays, NamedExport, value_says};
+use macho_linkedit::{ExportSays, NamedExport, library_number, library_places, value_says};
 use macho_model::Target;
 use macho_object::File;
 use macho_records::{S_THREAD_LOCAL_VARIABLES, SectionFlags, SectionHeader};
@@ -35,7 +34,7 @@ fn kept_says(
 {
     match target {
         Target::Import { id } => ExportSays::Reexport {
-            library: number(libraries, places, &imports[id as usize].library),
+            library: library_number(libraries, places, &imports[id as usize].library),
         },
         _ => ExportSays::Value { flags: 0, value: 0 },
     }

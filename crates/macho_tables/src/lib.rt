@@ -9,7 +9,6 @@
 
 mod exports;
 mod laws;
-mod libraries;
 mod rows;
 mod sections;
 mod told;

@@ -6,8 +6,8 @@ ghost use Rattle.macho_model.specs.Told.{imports_told};
 ghost use Rattle.macho_symbols.specs.Told.{ImportsAre};
 ghost use Rattle.macho_linked.specs.Linked.{import_of};
 
-use crate::libraries::{number, places};
 use macho_linked::ImportName;
+use macho_linkedit::{library_number, library_places};
 use macho_symbols::Import;
 use std::alloc::{AllocError, Global};
 
@@ -25,11 +25,11 @@ pub fn told_imports(
     ensures { (l : Link) → ImportsAre l (imports_of l) imports.now → map (λ n. n.items) libraries.now ≡ libraries_needed l
         → IfOk result (λ v. map import_of v.items ≡ imports_told l) }
 {
-    let numbers = places(alloc, libraries)?;
+    let numbers = library_places(alloc, libraries)?;
     let mut told = Vec::with_capacity(alloc, imports.len())?;
     for import in imports {
         told.push(ImportName {
-            library: number(libraries, &numbers, &import.library),
+            library: library_number(libraries, &numbers, &import.library),
             name: Vec::from_slice(alloc, &import.name)?,
         })?;
     }

@@ -11,8 +11,8 @@ versions_asked a = if a.has_versions then 24 + 8 else 0
 
 abbrev pub commands_asked : SizesAsked → ℕ
 commands_asked a =
-    own_asked a + 24 + versions_asked a + sum_by (λ p. path_command_size 24 p.now) a.libraries.now + sum_by
-    (λ p. path_command_size 12 p.now) a.rpaths.now
+    own_asked a + 24 + versions_asked a + sum_by (λ p. path_command_size 24 p.items) a.libraries.now + sum_by
+    (λ p. path_command_size 12 p.items) a.rpaths.now
     + 3 * 16 + 24
 
 abbrev pub padding_asked : SizesAsked → ℕ

@@ -15,7 +15,7 @@ overflow_cast-len c =
 pub loop-import-preserved : goal.loop-import-preserved
 loop-import-preserved c =
     let long : c.len.result ≡ length c.loop-import.names.items = omega (arith, c.len.ensures) in
-    let library = c.number.ensures.is ∙ ap
+    let library = c.library_number.ensures.is ∙ ap
     (λ (x : List ℕ). position_or_len (bytes_eq x) (texts c.args.libraries.now) + 1) c.deref.ensures.value in
     plain_more (texts c.args.libraries.now) c.args.imports.now c.loop-import.import-index c.loop-import.entries.items c.push.new.self.items
     c.loop-import.names.items c.push-in-loop-import.new.self.items c.import-item.result _ c.loop-import.invariant c.loop-import-test.true c.import-item.is

@@ -1,7 +1,6 @@
-use Rattle.std.proofs.Common.{ℕ, map, sym, ap, subst, ◌∙◌}
+use Rattle.std.proofs.Common.{ℕ, map, refl, sym, ap, subst, ◌∙◌}
 use Rattle.std.proofs.lemmas.Result.{on_ok_weaker}
 use Rattle.macho_model.specs.Needs.{imports_of}
-use Rattle.macho_linkedit.specs.Imports.{texts}
 use Rattle.macho_symbols.specs.Entries.{entry_of}
 use Rattle.macho_chaining.specs.Writing.{FitsRange}
 use Rattle.macho_linking.specs.steps.Planned.{placement_of}
@@ -12,22 +11,22 @@ pub import_table-requires : goal.import_table-requires
 import_table-requires c =
     let l = c.requires.link.0 in
     let planned = c.requires.link.1 in
-    fit_table l c.args.b.now c.imports.result.now c.deref.result.now c.deref-2.result.now planned
+    fit_table l c.args.b.now c.imports.result.now c.deref.result.now c.args.b.now.libraries.now planned
     (record {
       imports_are = c.imports.ensures l (imports_of l) planned.read.resolved;
       own_are = ap (map entry_of) c.deref.ensures.value ∙ c.in_ok-own.ensures;
-      libraries_are = ap texts c.deref-2.ensures.value ∙ c.in_ok-libraries.ensures;
+      libraries_are = refl;
     })
 
 pub write_fixup_table-requires : goal.write_fixup_table-requires
 write_fixup_table-requires c =
     let l = c.requires.link.0 in
     let planned = c.requires.link.1 in
-    let of_link = are_of_link l c.args.b.now c.imports.result.now c.deref.result.now c.deref-2.result.now planned
+    let of_link = are_of_link l c.args.b.now c.imports.result.now c.deref.result.now c.args.b.now.libraries.now planned
     (record {
       imports_are = c.imports.ensures l (imports_of l) planned.read.resolved;
       own_are = ap (map entry_of) c.deref.ensures.value ∙ c.in_ok-own.ensures;
-      libraries_are = ap texts c.deref-2.ensures.value ∙ c.in_ok-libraries.ensures;
+      libraries_are = refl;
     }) in
     record {
       fits = subst (λ (n : ℕ). FitsRange (placement_of c.args.b.now) c.args.run.now c.in_ok-table.table n) (sym c.requires.long)
@@ -37,14 +36,14 @@ write_fixup_table-requires c =
 
 pub returns-clause-done : goal.returns-clause-done
 returns-clause-done c l planned run_is =
-    let listed : AreListed l c.args.b.now c.imports.result.now c.deref.result.now c.deref-2.result.now = record {
+    let listed : AreListed l c.args.b.now c.imports.result.now c.deref.result.now c.args.b.now.libraries.now = record {
       imports_are = c.imports.ensures l (imports_of l) planned.read.resolved;
       own_are = ap (map entry_of) c.deref.ensures.value ∙ c.in_ok-own.ensures;
-      libraries_are = ap texts c.deref-2.ensures.value ∙ c.in_ok-libraries.ensures;
+      libraries_are = refl;
     } in
-    let of_link = are_of_link l c.args.b.now c.imports.result.now c.deref.result.now c.deref-2.result.now planned listed in
+    let of_link = are_of_link l c.args.b.now c.imports.result.now c.deref.result.now c.args.b.now.libraries.now planned listed in
     on_ok_weaker c.write_fixup_table.result
     (fixups_put l c.args.b.now c.args.run.now c.in_ok-table.table c.args.out.now c.write_fixup_table.new.out
     (c.in_ok-table.ensures.done l of_link) c.in_ok-table.ensures.fits
-    (are_tellable l c.args.b.now c.imports.result.now c.deref.result.now c.deref-2.result.now planned listed))
+    (are_tellable l c.args.b.now c.imports.result.now c.deref.result.now c.args.b.now.libraries.now planned listed))
     c.write_fixup_table.ensures.done

@@ -16,5 +16,5 @@ returns-in-Import c =
     let library : library_at imports c.in-Import.id ≡ c.deref.result.now =
     get_or-map (λ (i : Import). i.library.items) imports c.in-Import.id c.index-imports-id.result [] below
     ∙ sym c.deref.ensures.value in
-    subst (λ (t : Target). Reexport c.number.result ≡ says_kept imports names t) (sym c.in-Import.is)
-    (ap Reexport (c.number.ensures ∙ ap (number_in names) (sym library)))
+    subst (λ (t : Target). Reexport c.library_number.result ≡ says_kept imports names t) (sym c.in-Import.is)
+    (ap Reexport (c.library_number.ensures.is ∙ ap (number_in names) (sym library)))
