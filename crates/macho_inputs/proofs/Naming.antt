@@ -6,21 +6,19 @@
 use Rattle.std.proofs.Common.{◌≡◌, ℕ, ◌+◌, ◌<◌, Bool, true, false, cond, not, ◌||◌, List, [], ◌∷◌, ◌++◌, length, get_or, take, map, filter, sym, ap, ◌∙◌, refl, suc, arith, Bor, Option}
 use Rattle.std.specs.List.{filter_map, list_any}
 use Rattle.std.specs.Str.{bytes_eq}
-use Rattle.std.proofs.lemmas.List.{map-append}
+use Rattle.std.proofs.lemmas.List.{take_more, map-append}
 use Rattle.std.proofs.lemmas.List.Elements.{filter_agree}
 use Rattle.std.proofs.lemmas.Slice.Eq.{bytes_eq-Decides}
 use Rattle.indexmap.specs.IndexSet.{insert_key}
 use Rattle.macho_layout.proofs.Distinct.{distinct_push}
 use Rattle.macho_layout.proofs.Named.{any_agree, any_distinct, any_map}
-use Rattle.macho_linkedit.proofs.Places.{texts_more}
 use Rattle.macho_linkedit.specs.steps.Libraries.{same_text}
-use Rattle.macho_linkedit.specs.Imports.{texts}
 use Rattle.macho_model.specs.Links.{Link, Input}
 use Rattle.macho_model.specs.Needs.{distinct, import_library, imports_of, is_needed, libraries_needed, library_file, library_of_input}
 use Rattle.macho_model.specs.Resolution.{Definition, library_name}
 use Rattle.macho_symbols.specs.declared.solved.Import.{Import}
 use Rattle.macho_symbols.specs.Told.{ImportsAre, IsImportOf}
-use Rattle.macho_inputs.specs.steps.Libraries.{asked_of, is_kept}
+use Rattle.macho_inputs.specs.steps.Libraries.{texts, asked_of, is_kept}
 
 -- the names of a set that a name was put into
 texts_put : (names : List (Bor (List ℕ))) (x : Bor (List ℕ)) → texts (insert_key same_text names x) ≡ insert_key bytes_eq (texts names) x.now
@@ -36,6 +34,13 @@ texts_put names x = by (list_any (same_text x) names) refl
     by false is =
         ap (λ (c : Bool). texts (cond c names (names ++ x ∷ []))) is ∙ map-append (λ (y : Bor (List ℕ)). y.now) names (x ∷ [])
         ∙ sym (ap (λ (c : Bool). cond c (texts names) (texts names ++ x.now ∷ [])) (same ∙ is))
+
+-- the names of one element more
+texts_more : (xs : List (Bor (List ℕ))) (i : ℕ) (x : Bor (List ℕ)) → i < length xs → x ≡ get_or xs i x
+    → texts (take (i + 1) xs) ≡ texts (take i xs) ++ x.now ∷ []
+texts_more xs i x lt is =
+    ap texts (take_more xs i x lt ∙ ap (λ (y : Bor (List ℕ)). take i xs ++ y ∷ []) (sym is))
+    ∙ map-append (λ (y : Bor (List ℕ)). y.now) (take i xs) (x ∷ [])
 
 -- one name more
 pub distinct_more : (names : List (Bor (List ℕ))) (i : ℕ) (x : Bor (List ℕ)) (old new : List (Bor (List ℕ))) → i < length names

@@ -7,7 +7,7 @@ ghost use Rattle.std.specs.Str.{bytes_eq};
 ghost use Rattle.macho_promise.specs.Inputs.{IsInput};
 ghost use Rattle.macho_symbols.specs.Told.{ImportsAre};
 ghost use Rattle.macho_inputs.specs.steps.Owned.{input_of};
-ghost use Rattle.macho_linkedit.specs.Imports.{texts};
+ghost use Rattle.macho_inputs.specs.steps.Libraries.{texts};
 ghost use Rattle.macho_inputs.specs.steps.Libraries.{asked_of, is_kept};
 
 use crate::owned::OwnedInput;

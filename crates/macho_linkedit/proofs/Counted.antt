@@ -18,7 +18,7 @@ use Rattle.macho_symbols.specs.declared.solved.Import.{Import}
 use Rattle.macho_promise.specs.Sizes.{commands_size, own_commands_size, versions_size, padding_size, import_size, text_size, counts_with}
 use Rattle.macho_linkedit.specs.declared.counting.SizesAsked.{SizesAsked}
 use Rattle.macho_linkedit.specs.Imports.{texts, name_bytes}
-use Rattle.macho_linkedit.specs.Counting.{AreAskedHere, AreAsked}
+use Rattle.macho_linkedit.specs.Counting.{AreArguments, AreAsked}
 use Rattle.macho_linkedit.specs.steps.Counting.{own_asked, versions_asked, commands_asked, padding_asked}
 use Rattle.macho_linkedit.proofs.LinkEntries.{entries_long, named}
 
@@ -38,38 +38,38 @@ sum_names (x ∷ xs) =
       sum_names xs,
     )
 
-own_is : (l : Link) (a : SizesAsked) → AreAskedHere l a → own_asked a ≡ own_commands_size l
+own_is : (l : Link) (a : SizesAsked) → AreArguments l a.arguments → own_asked a ≡ own_commands_size l
 own_is l a here =
-    ap (λ (b : Bool). if b then 24 + path_command_size 12 DYLINKER else path_command_size 24 a.install_name.now) here.executable
+    ap (λ (b : Bool). if b then 24 + path_command_size 12 DYLINKER else path_command_size 24 a.arguments.install_name.now) here.executable
     ∙ ap (λ (n : List ℕ). if l.executable then 24 + path_command_size 12 DYLINKER else path_command_size 24 n) here.install_name
 
-versions_is : (l : Link) (a : SizesAsked) → AreAskedHere l a → versions_asked a ≡ versions_size l.versions
+versions_is : (l : Link) (a : SizesAsked) → AreArguments l a.arguments → versions_asked a ≡ versions_size l.versions
 versions_is l a here = ap (λ (b : Bool). if b then 24 + 8 else 0) here.versions ∙ by l.versions
   where
     by : (o : Option (ℕ × ℕ)) → (if is_some o then 24 + 8 else 0) ≡ versions_size o
     by None = refl
     by (Some v) = refl
 
-commands_is : (l : Link) (a : SizesAsked) → AreAskedHere l a → commands_asked a ≡ commands_size l
+commands_is : (l : Link) (a : SizesAsked) → AreAsked l a → commands_asked a ≡ commands_size l
 unfolding commands_size
-commands_is l a here =
-    let libraries = sum_texts (path_command_size 24) a.libraries.now ∙ ap (sum_by (path_command_size 24)) here.libraries in
-    let rpaths = sum_texts (path_command_size 12) a.rpaths.now ∙ ap (sum_by (path_command_size 12)) here.rpaths in
-    omega (arith, own_is l a here, versions_is l a here, libraries, rpaths)
+commands_is l a are =
+    let libraries = sum_texts (path_command_size 24) a.libraries.now ∙ ap (sum_by (path_command_size 24)) are.libraries in
+    let rpaths = sum_texts (path_command_size 12) a.arguments.rpaths.now ∙ ap (sum_by (path_command_size 12)) are.arguments.rpaths in
+    omega (arith, own_is l a are.arguments, versions_is l a are.arguments, libraries, rpaths)
 
-padding_is : (l : Link) (a : SizesAsked) → AreAskedHere l a → padding_asked a ≡ padding_size l
-padding_is l a here = ap (λ (b : Bool). if b then inner a.executable else 0) here.headerpad ∙ ap
-    (λ (b : Bool). if l.headerpad then inner b else 0) here.executable
+padding_is : (l : Link) (a : SizesAsked) → AreAsked l a → padding_asked a ≡ padding_size l
+padding_is l a are = ap (λ (b : Bool). if b then inner a.arguments.executable else 0) are.arguments.headerpad ∙ ap
+    (λ (b : Bool). if l.headerpad then inner b else 0) are.arguments.executable
     ∙ by l.headerpad l.executable
   where
     inner : Bool → ℕ
-    inner b = if b then 1024 * (length a.libraries.now + length a.rpaths.now) else 1024 * (length a.libraries.now + length a.rpaths.now + 1)
+    inner b = if b then 1024 * (length a.libraries.now + length a.arguments.rpaths.now) else 1024 * (length a.libraries.now + length a.arguments.rpaths.now + 1)
 
     libraries : length a.libraries.now ≡ length (libraries_needed l)
-    libraries = omega (arith, length-map a.libraries.now (λ (x : Vec ℕ Global). x.items), ap length here.libraries)
+    libraries = omega (arith, length-map a.libraries.now (λ (x : Vec ℕ Global). x.items), ap length are.libraries)
 
-    rpaths : length a.rpaths.now ≡ length l.rpaths
-    rpaths = omega (arith, length-map a.rpaths.now (λ (x : Vec ℕ Global). x.items), ap length here.rpaths)
+    rpaths : length a.arguments.rpaths.now ≡ length l.rpaths
+    rpaths = omega (arith, length-map a.arguments.rpaths.now (λ (x : Vec ℕ Global). x.items), ap length are.arguments.rpaths)
 
     by : (b c : Bool) → (if b then inner c else 0) ≡
         (if b then 1024 * (length (libraries_needed l) + length l.rpaths + one_if (not c)) else 0)
@@ -101,7 +101,7 @@ identifier_is name =
 -- THE sizes.
 pub counted : (l : Link) (a : SizesAsked) (commands padding entry names identifier : ℕ) → AreAsked l a → commands ≡ commands_asked a
     → padding ≡ padding_asked a
-    → entry ≡ entry_bytes a.own_entries → names ≡ name_bytes a.imports.now → identifier ≡ rounded_up 16 (length a.name.now + 1)
+    → entry ≡ entry_bytes a.own_entries → names ≡ name_bytes a.imports.now → identifier ≡ rounded_up 16 (length a.arguments.name.now + 1)
     → (let c : Counts = record {
       commands = commands;
       padding = padding;
@@ -117,8 +117,8 @@ pub counted : (l : Link) (a : SizesAsked) (commands padding entry names identifi
     } in c) ≡ counts_with l a.trie
 unfolding counts_with
 counted l a commands padding entry names identifier are c_is p_is e_is n_is i_is =
-    let e1 = c_is ∙ commands_is l a are.here in
-    let e2 = p_is ∙ padding_is l a are.here in
+    let e1 = c_is ∙ commands_is l a are in
+    let e2 = p_is ∙ padding_is l a are in
     let e3 = are.consumed.0 in
     let e4 = are.consumed.1 in
     let e5 : length a.imports.now + a.own_entries ≡ length (import_entries_of l) = omega
@@ -127,5 +127,5 @@ counted l a commands padding entry names identifier are c_is p_is e_is n_is i_is
     let e7 = n_is ∙ sum_names a.imports.now ∙ ap (sum_by text_size) (named l a.imports.now are.imports) in
     let e8 = are.symbols.0 in
     let e9 = are.symbols.1 in
-    let e10 = i_is ∙ ap (λ (n : List ℕ). rounded_up 16 (length n + 1)) are.name ∙ identifier_is (last_part l.output) in
+    let e10 = i_is ∙ ap (λ (n : List ℕ). rounded_up 16 (length n + 1)) are.arguments.name ∙ identifier_is (last_part l.output) in
     cc (e1, e2, e3, e4, e5, e6, e7, e8, e9, e10)

@@ -15,27 +15,34 @@ use macho_records::{
 };
 use macho_symbols::Import;
 
-/// What the sizes of a link depend on.
+/// The arguments of a link that its sizes depend on.
 #[derive(Clone, Copy)]
-pub struct SizesAsked<'a> {
+pub struct SizeArguments<'a> {
     /// An executable, else a dynamic library.
     pub executable: bool,
     /// The library's own name.
     pub install_name: &'a [u8],
     /// Whether versions of the system were given.
     pub has_versions: bool,
-    /// The libraries that the image needs.
-    pub libraries: &'a [Vec<u8>],
     /// The paths that libraries are searched in.
     pub rpaths: &'a [Vec<u8>],
     /// Whether room for longer names is asked for.
     pub headerpad: bool,
+    /// The name of the output file: the last part of its path.
+    pub name: &'a [u8],
+}
+
+/// What the sizes of a link depend on.
+#[derive(Clone, Copy)]
+pub struct SizesAsked<'a> {
+    /// The arguments.
+    pub arguments: SizeArguments<'a>,
+    /// The libraries that the image needs.
+    pub libraries: &'a [Vec<u8>],
     /// The imports.
     pub imports: &'a [Import],
     /// How many entries of the import table pointers need of their own.
     pub own_entries: u64,
-    /// The name of the output file.
-    pub name: &'a [u8],
     /// How many initializers there are.
     pub initializers: u64,
     /// The most bytes that unwind information may have.
@@ -68,7 +75,7 @@ pub fn count(asked: &SizesAsked<'_>) -> Counts
         trie: asked.trie,
         symbols: asked.symbols,
         strings: asked.strings,
-        identifier: (asked.name.len() as u64 + 1).next_multiple_of(16),
+        identifier: (asked.arguments.name.len() as u64 + 1).next_multiple_of(16),
     }
 }
 
@@ -77,10 +84,10 @@ fn commands_size(asked: &SizesAsked<'_>) -> u64
     requires { FitCounts asked.now }
     ensures { result ≡ commands_asked asked.now }
 {
-    let fixed = own_size(asked) + UuidCommand::SIZE + versions_size(asked.has_versions);
+    let fixed = own_size(asked) + UuidCommand::SIZE + versions_size(asked.arguments.has_versions);
     fixed as u64
         + paths_size(DylibCommand::SIZE, asked.libraries)
-        + paths_size(RpathCommand::SIZE, asked.rpaths)
+        + paths_size(RpathCommand::SIZE, asked.arguments.rpaths)
         + (3 * LinkeditDataCommand::SIZE + SymtabCommand::SIZE) as u64
 }
 
@@ -90,10 +97,10 @@ fn own_size(asked: &SizesAsked<'_>) -> usize
     ensures is { result ≡ own_asked asked.now }
     ensures small { result < 2 ^ 34 }
 {
-    if asked.executable {
+    if asked.arguments.executable {
         EntryPointCommand::SIZE + path_command_size(DylinkerCommand::SIZE, DYLINKER_PATH.len())
     } else {
-        path_command_size(DylibCommand::SIZE, asked.install_name.len())
+        path_command_size(DylibCommand::SIZE, asked.arguments.install_name.len())
     }
 }
 
@@ -114,11 +121,11 @@ fn padding_size(asked: &SizesAsked<'_>) -> u64
     requires { FitCounts asked.now }
     ensures { result ≡ padding_asked asked.now }
 {
-    if !asked.headerpad {
+    if !asked.arguments.headerpad {
         return 0;
     }
-    let paths = asked.libraries.len() as u64 + asked.rpaths.len() as u64;
-    if asked.executable {
+    let paths = asked.libraries.len() as u64 + asked.arguments.rpaths.len() as u64;
+    if asked.arguments.executable {
         NAME_ROOM * paths
     } else {
         NAME_ROOM * (paths + 1)

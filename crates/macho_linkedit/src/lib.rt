@@ -12,7 +12,7 @@ mod names;
 mod run;
 mod symbols;
 
-pub use counting::{SizesAsked, count};
+pub use counting::{SizeArguments, SizesAsked, count};
 pub use exports::{ExportSays, NamedExport, ReservedTrie, reserve_trie, value_says};
 pub use imports::{ImportTable, import_table};
 pub use laws::{

@@ -32,11 +32,7 @@ pub fn library_places<'a>(
 }
 
 /// The number of a library from 1; one that isn't among them gets the number behind theirs.
-pub fn library_number(
-    libraries: &[Vec<u8>],
-    places: &IndexMap<&[u8], u32>,
-    library: &[u8],
-) -> u32
+pub fn library_number(libraries: &[Vec<u8>], places: &IndexMap<&[u8], u32>, library: &[u8]) -> u32
     requires few { length libraries.now + 1 < 2 ^ 32 }
     requires known { FindsPlaces (texts libraries.now) (get same_text places.now) }
     ensures is { result ≡ position_or_len (bytes_eq library.now) (texts libraries.now) + 1 }

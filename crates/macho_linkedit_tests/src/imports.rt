@@ -57,19 +57,18 @@ fn table(
     alloc: Global,
     imports: &[Import],
     own: Option<OwnEntry>,
-    libraries: &[&[u8]],
+    libraries: &[Vec<u8>],
 ) -> Result<ImportTable, Fail> {
-    let libraries = owned(alloc, libraries)?;
     if libraries.len() > 9 || imports.len() > 9 || short_names(imports).is_none() {
         return Err(Fail::from(AllocError));
     }
     let Some(entry) = own else {
-        return Ok(import_table(alloc, imports, &[], &libraries)?);
+        return Ok(import_table(alloc, imports, &[], libraries)?);
     };
     if entry.import as usize >= imports.len() || !is_near(entry.addend) {
         return Err(Fail::from(AllocError));
     }
-    Ok(import_table(alloc, imports, &[entry], &libraries)?)
+    Ok(import_table(alloc, imports, &[entry], libraries)?)
 }
 
 fn entry(library: u8, name_offset: u32, addend: i32) -> ImportEntry {
@@ -89,7 +88,8 @@ fn an_addend_below_zero_has_an_entry_of_its_own(rt: HostRuntime) -> Result<(), F
         import: 0,
         addend: 0xffff_ffff_ffff_fff8,
     };
-    let table = table(alloc, &imports, Some(own), &[&SYSTEM])?;
+    let libraries = owned(alloc, &[&SYSTEM])?;
+    let table = table(alloc, &imports, Some(own), &libraries)?;
     assert!(rt; table.format == 2);
     assert_eq!(rt;
         table.entries.as_slice(),
@@ -104,7 +104,8 @@ fn an_import_without_addends_is_a_word(rt: HostRuntime) -> Result<(), Fail> {
     let alloc = rt.alloc();
     let mut imports = Vec::new(alloc);
     imports.push(import(alloc, &SYSTEM, b"_exit")?)?;
-    let table = table(alloc, &imports, None, &[&SYSTEM])?;
+    let libraries = owned(alloc, &[&SYSTEM])?;
+    let table = table(alloc, &imports, None, &libraries)?;
     assert!(rt; table.format == 1);
     assert_eq!(rt; table.entries.as_slice(), [entry(1, 0, 0)].as_slice());
     assert_eq!(rt; table.names.as_slice(), b"_exit\0".as_slice());
@@ -118,7 +119,8 @@ fn imports_of_two_libraries(rt: HostRuntime) -> Result<(), Fail> {
     imports.push(import(alloc, &OTHER, b"_crc32")?)?;
     imports.push(import(alloc, &SYSTEM, b"_exit")?)?;
     imports.push(import(alloc, &OTHER, b"_adler32")?)?;
-    let table = table(alloc, &imports, None, &[&SYSTEM, &OTHER])?;
+    let libraries = owned(alloc, &[&SYSTEM, &OTHER])?;
+    let table = table(alloc, &imports, None, &libraries)?;
     assert!(rt; table.format == 1);
     assert_eq!(rt;
         table.entries.as_slice(),

@@ -1,22 +1,24 @@
 //! The sizes of a link. The bytes of commands are those of worked images less their segments' commands: 736 - 528, 448 - 296 and
 //! 352 - 224.
-use macho_linkedit::{SizesAsked, count};
+use macho_linkedit::{SizeArguments, SizesAsked, count};
 use std::alloc::AllocError;
 
 #[test]
 fn an_executable_with_one_library(rt: HostRuntime) -> Result<(), AllocError> {
     let alloc = rt.alloc();
-    let libraries = Vec::from_array(alloc, [Vec::from_slice(alloc, b"/usr/lib/libSystem.B.dylib")?])?;
+    let libraries = [Vec::from_slice(alloc, b"/usr/lib/libSystem.B.dylib")?];
     let counts = count(&SizesAsked {
-        executable: true,
-        install_name: b"out",
-        has_versions: false,
+        arguments: SizeArguments {
+            executable: true,
+            install_name: b"out",
+            has_versions: false,
+            rpaths: &[],
+            headerpad: false,
+            name: b"out",
+        },
         libraries: &libraries,
-        rpaths: &[],
-        headerpad: false,
         imports: &[],
         own_entries: 1,
-        name: b"out",
         initializers: 0,
         unwind: 0,
         trie: 36,
@@ -35,15 +37,17 @@ fn an_executable_with_one_library(rt: HostRuntime) -> Result<(), AllocError> {
 #[test]
 fn a_library_has_its_own_name_and_room_for_a_longer_one(rt: HostRuntime) {
     let alone = SizesAsked {
-        executable: true,
-        install_name: b"out",
-        has_versions: false,
+        arguments: SizeArguments {
+            executable: true,
+            install_name: b"out",
+            has_versions: false,
+            rpaths: &[],
+            headerpad: false,
+            name: b"out",
+        },
         libraries: &[],
-        rpaths: &[],
-        headerpad: false,
         imports: &[],
         own_entries: 0,
-        name: b"out",
         initializers: 0,
         unwind: 0,
         trie: 22,
@@ -53,8 +57,11 @@ fn a_library_has_its_own_name_and_room_for_a_longer_one(rt: HostRuntime) {
     assert!(rt; count(&alone).commands == 152);
     assert!(rt; count(&alone).import_size == 4);
     let library = SizesAsked {
-        executable: false,
-        headerpad: true,
+        arguments: SizeArguments {
+            executable: false,
+            headerpad: true,
+            ..alone.arguments
+        },
         ..alone
     };
     assert!(rt; count(&library).commands == 128);

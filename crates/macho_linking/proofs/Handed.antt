@@ -7,6 +7,7 @@ use Rattle.macho_exports.specs.Entries.{ListEntries}
 use Rattle.macho_parts.specs.Views.{ViewsObject}
 use Rattle.macho_linkedit.specs.declared.exports.NamedExport.{NamedExport}
 use Rattle.macho_linkedit.specs.declared.listing.LinkedObject.{LinkedObject}
+use Rattle.macho_linkedit.specs.Counting.{AreArguments}
 use Rattle.macho_linkedit.specs.Listing.{AreObjects}
 use Rattle.macho_linkedit.specs.Tries.{AreKept}
 use Rattle.macho_tables.specs.Exports.{exports_told, CanBeTrie}
@@ -14,13 +15,13 @@ use Rattle.macho_reading.specs.declared.link.ReadLink.{ReadLink}
 use Rattle.macho_sizing.specs.declared.asked.SizesOf.{SizesOf}
 use Rattle.macho_sizing.specs.declared.asked.SizedLink.{SizedLink}
 use Rattle.macho_sizing.specs.Sized.{IsSizedOf}
-use Rattle.macho_sizing.specs.Asked.{AreArguments, AreOf, CanBeSized, IsKnownIn}
+use Rattle.macho_sizing.specs.Asked.{AreOf, CanBeSized, IsKnownIn}
 use Rattle.macho_linking.specs.steps.Imaged.{IsToSize, HasSizes}
 
 -- The parts that are handed on are those that were read.
 pub record Handed (l : Link) (a : SizesOf) (views : List (Option FileBytes)) (objects : List LinkedObject) (read : ReadLink)
     (libraries : List (List ℕ)) : Type 0 where
-  pub arguments : AreArguments l a
+  pub arguments : AreArguments l a.arguments
   pub given : (a.views.now ≡ views) × (a.objects.now ≡ objects) × (map (λ n. n.items) a.libraries.now ≡ libraries)
   pub needs : a.needs.now ≡ read.needs
   pub rows : (a.initializers.now ≡ read.initializers.items) × (a.entries.now ≡ read.entries.items)

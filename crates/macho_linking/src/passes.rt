@@ -21,7 +21,7 @@ use macho_exports::ExportList;
 use macho_faults::LinkError;
 use macho_inputs::{list_objects, needed_libraries, resolve_inputs, view_inputs};
 use macho_linked::LinkedImage;
-use macho_linkedit::LinkedObject;
+use macho_linkedit::{LinkedObject, SizeArguments};
 use macho_model::Limit;
 use macho_object::File;
 use macho_reading::{ReadLink, read_link};
@@ -87,12 +87,14 @@ fn size_inputs<'a>(
         libraries,
     )?;
     let sizes = SizesOf {
-        executable: asked.executable,
-        install_name: asked.install_name,
-        has_versions: asked.versions.is_some(),
-        rpaths: asked.rpaths,
-        headerpad: asked.headerpad,
-        name: last_part(asked.output),
+        arguments: SizeArguments {
+            executable: asked.executable,
+            install_name: asked.install_name,
+            has_versions: asked.versions.is_some(),
+            rpaths: asked.rpaths,
+            headerpad: asked.headerpad,
+            name: last_part(asked.output),
+        },
         libraries,
         views,
         objects,

@@ -1,8 +1,7 @@
 -- What the sizes and the placement of a link are made from.
-use Rattle.std.specs.Prelude.{◌≡◌, ◌^◌, ◌<◌, false, List, map, length, All, is_some}
+use Rattle.std.specs.Prelude.{◌≡◌, ◌^◌, ◌<◌, false, List, map, length, All}
 use Rattle.macho_model.specs.Links.{Link}
 use Rattle.macho_model.specs.Needs.{imports_of, libraries_needed}
-use Rattle.macho_model.specs.Faults.{last_part}
 use Rattle.macho_model.specs.Told.{ToldExport}
 use Rattle.macho_parts.specs.Noted.{AreNeeds}
 use Rattle.macho_parts.specs.Views.{views_of, ViewsObject}
@@ -14,18 +13,10 @@ use Rattle.macho_consumed.specs.Rows.{initializer_rows, entry_rows}
 use Rattle.macho_consumed.specs.Symbols.{HasPersonality}
 use Rattle.macho_consumed.specs.Told.{EntriesKeepRules}
 use Rattle.macho_trie.specs.Sorting.{AreDistinct, HaveNoNul}
+use Rattle.macho_linkedit.specs.Counting.{AreArguments}
 use Rattle.macho_linkedit.specs.Listing.{AreObjects}
 use Rattle.macho_linkedit.specs.Tries.{AreKept, names_in}
 use Rattle.macho_sizing.specs.declared.asked.SizesOf.{SizesOf}
-
--- The arguments are those of a link.
-pub record AreArguments (l : Link) (a : SizesOf) : Type 0 where
-  pub executable : a.executable ≡ l.executable
-  pub install_name : a.install_name.now ≡ l.install_name
-  pub versions : a.has_versions ≡ is_some l.versions
-  pub rpaths : map (λ p. p.items) a.rpaths.now ≡ l.rpaths
-  pub headerpad : a.headerpad ≡ l.headerpad
-  pub name : a.name.now ≡ last_part l.output
 
 -- The inputs are those of a link, and so are the libraries that it needs.
 pub record AreInputs (l : Link) (a : SizesOf) : Type 0 where
@@ -44,7 +35,7 @@ pub record IsRead (l : Link) (a : SizesOf) : Type 0 where
 
 -- THE link whose sizes are asked for.
 pub record AreOf (l : Link) (a : SizesOf) : Type 0 where
-  pub arguments : AreArguments l a
+  pub arguments : AreArguments l a.arguments
   pub inputs : AreInputs l a
   pub read : IsRead l a
 

@@ -2,25 +2,15 @@
 
 use macho_consumed::{Initializer, UnwindEntry};
 use macho_layout::{Counts, Placement};
-use macho_linkedit::{LinkedObject, NamedExport, ReservedTrie, TableSymbols};
+use macho_linkedit::{LinkedObject, NamedExport, ReservedTrie, SizeArguments, TableSymbols};
 use macho_needs::Needs;
 use macho_object::File;
 
 /// What the sizes and the placement of a link are made from.
 #[derive(Clone, Copy)]
 pub struct SizesOf<'a> {
-    /// An executable, else a dynamic library.
-    pub executable: bool,
-    /// The library's own name.
-    pub install_name: &'a [u8],
-    /// Whether versions of the system were given.
-    pub has_versions: bool,
-    /// The paths that libraries are searched in.
-    pub rpaths: &'a [Vec<u8>],
-    /// Whether room for longer names is asked for.
-    pub headerpad: bool,
-    /// The name of the output file: the last part of its path.
-    pub name: &'a [u8],
+    /// The arguments.
+    pub arguments: SizeArguments<'a>,
     /// The libraries that the image needs.
     pub libraries: &'a [Vec<u8>],
     /// The views of the objects by the numbers of their files, None of another input.

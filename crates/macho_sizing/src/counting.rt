@@ -65,19 +65,14 @@ pub(crate) fn count_sizes(
         → IfOk result (λ c. c ≡ counts_with l trie) }
 {
     check_paths(asked.libraries)?;
-    check_paths(asked.rpaths)?;
-    check_names(asked.install_name, asked.name)?;
+    check_paths(asked.arguments.rpaths)?;
+    check_names(asked.arguments.install_name, asked.arguments.name)?;
     let listed: &[TableSymbol] = &symbols.symbols;
     Ok(count(&SizesAsked {
-        executable: asked.executable,
-        install_name: asked.install_name,
-        has_versions: asked.has_versions,
+        arguments: asked.arguments,
         libraries: asked.libraries,
-        rpaths: asked.rpaths,
-        headerpad: asked.headerpad,
         imports,
         own_entries: asked.needs.tables.num_own() as u64,
-        name: asked.name,
         initializers: asked.initializers.len() as u64,
         unwind,
         trie,

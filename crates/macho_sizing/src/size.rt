@@ -79,7 +79,7 @@ pub fn size_link(
     ensures why { (l : Link) (counts : LinkCounts) → AreOf l asked.now → AreLists l (option_copied list.entry) → AreCounts l counts
         → IfErr result (Stands l counts) }
 {
-    let plan = make_plan(alloc, asked.executable, asked.views, asked.needs)?;
+    let plan = make_plan(alloc, asked.arguments.executable, asked.views, asked.needs)?;
     let imports = asked.needs.resolved.imports();
     let numbers = count_numbers(alloc, asked, imports, list)?;
     match check_limits(alloc, asked, &plan, &numbers) {

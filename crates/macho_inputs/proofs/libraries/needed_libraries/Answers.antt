@@ -2,7 +2,7 @@
 use Rattle.std.proofs.Common.{◌≡◌, ℕ, List, filter, map, ap, subst, ◌∙◌, Bor, IfOk}
 use Rattle.std.specs.Str.{bytes_eq}
 use Rattle.macho_model.specs.Needs.{distinct}
-use Rattle.macho_linkedit.specs.Imports.{texts}
+use Rattle.macho_inputs.specs.steps.Libraries.{texts}
 use Rattle.macho_inputs.specs.steps.Owned.{input_of}
 use Rattle.macho_inputs.specs.steps.Libraries.{is_kept}
 use Rattle.macho_inputs.proofs.Naming.{needed_are}

@@ -23,17 +23,10 @@ count-requires c = record {
 pub returns : goal.returns
 returns c l of_link imports unwind listed =
     c.count.ensures l (record {
-      here = record {
-        executable = of_link.arguments.executable;
-        install_name = of_link.arguments.install_name;
-        versions = of_link.arguments.versions;
-        libraries = of_link.inputs.libraries;
-        rpaths = of_link.arguments.rpaths;
-        headerpad = of_link.arguments.headerpad;
-      };
+      arguments = of_link.arguments;
+      libraries = of_link.inputs.libraries;
       imports = imports;
       own = c.num_own.ensures ∙ ap (λ (es : List EntryOfImport). length es) of_link.read.needs.own;
-      name = of_link.arguments.name;
       consumed = (
         ap length of_link.read.initializers ∙ sym (are_many l),
         unwind,
