@@ -4,11 +4,11 @@
 -- each. So what was found is what is told.
 use Rattle.std.proofs.Common.{◌≡◌, ℕ, Bool, true, false, refl, sym, ap, ◌∙◌, List, [], ◌∷◌, map, Option, Some, None, Bor, String}
 use Rattle.std.specs.Prelude.{◌==◌, find, if◌then◌else◌}
-use Rattle.std.specs.Option.{option_copied, option_map}
+use Rattle.std.specs.Option.{option_copied, option_map, option_map_or}
 use Rattle.std.specs.String.{string_bytes}
 use Rattle.macho_args.specs.Settings.{Input, input_of, word_of}
 use Rattle.macho_args.specs.declared.fields.InputSpec.{InputSpec}
-use Rattle.macho_report.specs.Lines.{name_of_input, word_name, input_name, list_name}
+use Rattle.macho_report.specs.Lines.{name_of_input, word_name}
 
 -- the first that passes, as it is seen
 find-map : {X Y : Type 0} (f : X → Y) (test : Y → Bool) (xs : List X) → find test (map f xs) ≡ option_map f (find (λ x. test (f x)) xs)
@@ -33,6 +33,10 @@ lists-found : {A : Type 0} (lists : List (ℕ × String A)) (word : ℕ) (o : Op
     → find (λ list. list.0 == word) (map plain lists) ≡ option_map plain (option_copied o)
 lists-found lists word o is = find-map plain (λ list. list.0 == word) lists ∙ ap (option_map plain) (sym is)
 
+-- what is told of an input, else of a list
+abbrev told_of : Option Input → Option (ℕ × List ℕ) → List ℕ
+told_of input list = option_map_or name_of_input input (option_map_or (λ l. l.1) list [])
+
 -- an input stands in the word
 pub input-told : {A : Type 0} (inputs : List InputSpec) (lists : List (ℕ × String A)) (word : ℕ) (o : Option (Bor InputSpec))
     (spec : Bor InputSpec) (name : List ℕ)
@@ -40,7 +44,7 @@ pub input-told : {A : Type 0} (inputs : List InputSpec) (lists : List (ℕ × St
     → name ≡ word_name (map input_of inputs) (map (λ list. (list.0, string_bytes list.1)) lists) word
 input-told inputs lists word o spec name found some is =
     let told = inputs-found inputs word o found ∙ ap (λ (p : Option (Bor InputSpec)). option_map input_of (option_copied p)) some in
-    is ∙ sym (ap (λ (i : Option Input). input_name i (list_name (find (λ list. list.0 == word) (map plain lists)))) told)
+    is ∙ sym (ap (λ (i : Option Input). told_of i (find (λ list. list.0 == word) (map plain lists))) told)
 
 -- a list does
 pub list-told : {A : Type 0} (inputs : List InputSpec) (lists : List (ℕ × String A)) (word : ℕ) (o : Option (Bor InputSpec))
@@ -51,8 +55,7 @@ pub list-told : {A : Type 0} (inputs : List InputSpec) (lists : List (ℕ × Str
 list-told {A} inputs lists word o p list name found none listed some is =
     let told = inputs-found inputs word o found ∙ ap (λ (q : Option (Bor InputSpec)). option_map input_of (option_copied q)) none in
     let there = lists-found lists word p listed ∙ ap (λ (q : Option (Bor (ℕ × String A))). option_map plain (option_copied q)) some in
-    is ∙ sym (ap (λ (i : Option Input). input_name i (list_name (find (λ list. list.0 == word) (map plain lists)))) told
-    ∙ ap list_name there)
+    is ∙ sym (ap (λ (i : Option Input). told_of i (find (λ list. list.0 == word) (map plain lists))) told ∙ ap (told_of None) there)
 
 -- nothing does
 pub none-told : {A : Type 0} (inputs : List InputSpec) (lists : List (ℕ × String A)) (word : ℕ) (o : Option (Bor InputSpec))
@@ -63,4 +66,4 @@ pub none-told : {A : Type 0} (inputs : List InputSpec) (lists : List (ℕ × Str
 none-told {A} inputs lists word o p found none listed empty =
     let told = inputs-found inputs word o found ∙ ap (λ (q : Option (Bor InputSpec)). option_map input_of (option_copied q)) none in
     let there = lists-found lists word p listed ∙ ap (λ (q : Option (Bor (ℕ × String A))). option_map plain (option_copied q)) empty in
-    sym (ap (λ (i : Option Input). input_name i (list_name (find (λ list. list.0 == word) (map plain lists)))) told ∙ ap list_name there)
+    sym (ap (λ (i : Option Input). told_of i (find (λ list. list.0 == word) (map plain lists))) told ∙ ap (told_of None) there)

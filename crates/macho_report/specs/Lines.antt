@@ -1,5 +1,6 @@
 -- What a run prints: the line of a fault, the lines of `-map`, and those of `-generate`.
 use Rattle.std.specs.Prelude.{ℕ, ◌==◌, if◌then◌else◌, List, [], ◌∷◌, ◌++◌, codes, length, decimal, Option, None, Some, find}
+use Rattle.std.specs.Option.{option_map_or}
 use Rattle.std.specs.List.{flat_map}
 use Rattle.hex.specs.Hex.{encode_lower}
 use Rattle.sha2.specs.Sha256.{sha256}
@@ -25,7 +26,6 @@ use Rattle.macho_model.specs.Links.{Link, header_at}
 use Rattle.macho_model.specs.Placement.{id_of}
 use Rattle.macho_faults.specs.declared.fault.LinkError.{LinkError}
 use Rattle.macho_faults.specs.declared.fault.LinkError.TheVariants as error
-use Rattle.macho_faults.specs.declared.fault.InputFault.{InputFault}
 use Rattle.macho_faults.specs.declared.fault.InputFault.TheVariants as input
 use Rattle.macho_faults.specs.Errors.{fault_of}
 use Rattle.macho_linked.specs.declared.image.LinkedImage.{LinkedImage}
@@ -33,52 +33,29 @@ use Rattle.macho_job.specs.Names.{file_name, last_name}
 use Rattle.macho_job.specs.declared.fault.Fault.{Fault}
 use Rattle.macho_job.specs.declared.fault.Fault.TheVariants.{MissingFile, UnknownKind, Input as InputRefused, Link as LinkRefused, Words, Read, Write, Print, OutOfMemory}
 
--- a line feed
-abbrev pub LINE_FEED : ℕ
-LINE_FEED = 10
-
 -- what is told of an input's word: the file, or the name of a library or framework
 abbrev pub name_of_input : Input → List ℕ
 name_of_input (file word path) = path
 name_of_input (library word name) = name
 name_of_input (framework word name) = name
 
--- of a list's word: the list's path
-abbrev pub list_name : Option (ℕ × List ℕ) → List ℕ
-list_name None = []
-list_name (Some list) = list.1
-
-abbrev pub input_name : Option Input → List ℕ → List ℕ
-input_name None other = other
-input_name (Some input) other = name_of_input input
-
--- what is told of a word: of the input that stands in it, else of the list
+-- what is told of a word: of the input that stands in it, else the path of the list that does
 abbrev pub word_name : List Input → List (ℕ × List ℕ) → ℕ → List ℕ
 word_name inputs lists word =
-    input_name (find (λ input. word_of input == word) inputs) (list_name (find (λ list. list.0 == word) lists))
+    option_map_or name_of_input (find (λ input. word_of input == word) inputs)
+    (option_map_or (λ list. list.1) (find (λ list. list.0 == word) lists) [])
 
--- the word of a word's fault, and the name of the fault
-abbrev pub fault_word : ArgsFault → ℕ
-fault_word (words.MissingValue word) = word
-fault_word (words.Unknown word) = word
-fault_word (words.Unsupported word) = word
-fault_word (words.BadVersion word) = word
-fault_word (words.BadPlatform word) = word
-fault_word (words.BadArch word) = word
-fault_word (words.BadUuid word) = word
-fault_word (words.BadNumber word) = word
-fault_word words.OutOfMemory = 0
-
-abbrev pub fault_kind : ArgsFault → List ℕ
-fault_kind (words.MissingValue word) = codes "MissingValue"
-fault_kind (words.Unknown word) = codes "Unknown"
-fault_kind (words.Unsupported word) = codes "Unsupported"
-fault_kind (words.BadVersion word) = codes "BadVersion"
-fault_kind (words.BadPlatform word) = codes "BadPlatform"
-fault_kind (words.BadArch word) = codes "BadArch"
-fault_kind (words.BadUuid word) = codes "BadUuid"
-fault_kind (words.BadNumber word) = codes "BadNumber"
-fault_kind words.OutOfMemory = codes "OutOfMemory"
+-- a word that breaks its row: its index, and how
+abbrev pub broken_word : ArgsFault → ℕ × List ℕ
+broken_word (words.MissingValue word) = (word, codes "MissingValue")
+broken_word (words.Unknown word) = (word, codes "Unknown")
+broken_word (words.Unsupported word) = (word, codes "Unsupported")
+broken_word (words.BadVersion word) = (word, codes "BadVersion")
+broken_word (words.BadPlatform word) = (word, codes "BadPlatform")
+broken_word (words.BadArch word) = (word, codes "BadArch")
+broken_word (words.BadUuid word) = (word, codes "BadUuid")
+broken_word (words.BadNumber word) = (word, codes "BadNumber")
+broken_word words.OutOfMemory = (0, codes "OutOfMemory")
 
 -- the names of the rules
 abbrev pub object_rule : ObjectRule → List ℕ
@@ -129,15 +106,10 @@ limit_name limit.NameBytes = codes "name bytes"
 limit_name limit.Symbols = codes "symbols"
 limit_name limit.Pages = codes "pages"
 
--- Texts are told by their pieces, one behind the other.
--- `FILE: section S, relocation N: ` and what is wrong there
-abbrev pub place_text : List ℕ → ℕ → ℕ → List ℕ → List (List ℕ)
-place_text name section relocation text =
-    name ∷ codes ": section " ∷ decimal section ∷ codes ", relocation " ∷ decimal relocation ∷ codes ": " ∷ text ∷ []
-
--- the same of a file by its number
+-- Texts are told by their pieces, one behind the other: `FILE: section S, relocation N: `, by the file's number, and what is wrong there.
 abbrev pub relocation_text : List (List ℕ) → ℕ → ℕ → ℕ → List ℕ → List (List ℕ)
-relocation_text paths number section relocation text = place_text (file_name paths number) section relocation text
+relocation_text paths number section relocation text =
+    file_name paths number ∷ codes ": section " ∷ decimal section ∷ codes ", relocation " ∷ decimal relocation ∷ codes ": " ∷ text ∷ []
 
 -- a place of the image and what is wrong there
 abbrev pub site_text : List (List ℕ) → Site → List ℕ → List (List ℕ)
@@ -167,28 +139,18 @@ link_text paths (refusal.RebaseTarget at placement) = site_text paths at (codes 
 link_text paths (refusal.RelocationRange at placement) = site_text paths at (codes "out of range")
 link_text paths refusal.BadName = codes "bad name" ∷ []
 
--- the rule that an input breaks, told by the path of the last file that was read
-abbrev pub broken_text : List (List ℕ) → InputFault → List (List ℕ)
-broken_text paths (input.Object fault) = last_name paths ∷ codes ": rule " ∷ object_rule fault.rule ∷ codes " at " ∷ decimal fault.place ∷ []
-broken_text paths (input.Stub line rule) = last_name paths ∷ codes ": rule " ∷ stub_rule rule ∷ codes " at " ∷ decimal line ∷ []
-
--- what is told of a link; want of memory tells nothing of it
-abbrev pub told_text : List (List ℕ) → Option LinkFault → List (List ℕ)
-told_text paths None = codes "out of memory" ∷ []
-told_text paths (Some fault) = link_text paths fault
-
--- the refusal of a linker: of an input, or of the link
+-- The refusal of a linker: the rule that an input breaks, told by the path of the last file that was read; or that of the link, of
+-- which want of memory tells nothing.
 abbrev pub error_text : List (List ℕ) → LinkError → List (List ℕ)
-error_text paths (error.BadInput fault) = broken_text paths fault
-error_text paths refused = told_text paths (fault_of refused)
-
--- a word that breaks its row: its index, and how
-abbrev pub word_text : ArgsFault → List (List ℕ)
-word_text fault = codes "bad word " ∷ decimal (fault_word fault) ∷ codes ": " ∷ fault_kind fault ∷ []
+error_text paths (error.BadInput (input.Object fault)) =
+    last_name paths ∷ codes ": rule " ∷ object_rule fault.rule ∷ codes " at " ∷ decimal fault.place ∷ []
+error_text paths (error.BadInput (input.Stub line rule)) =
+    last_name paths ∷ codes ": rule " ∷ stub_rule rule ∷ codes " at " ∷ decimal line ∷ []
+error_text paths refused = option_map_or (link_text paths) (fault_of refused) (codes "out of memory" ∷ [])
 
 -- THE texts of the faults, a row for each, with the inputs and lists that were asked for and the paths of the files
 abbrev pub fault_text : List Input → List (ℕ × List ℕ) → List (List ℕ) → Fault → List (List ℕ)
-fault_text inputs lists paths (Words fault) = word_text fault
+fault_text inputs lists paths (Words fault) = codes "bad word " ∷ decimal (broken_word fault).0 ∷ codes ": " ∷ (broken_word fault).1 ∷ []
 fault_text inputs lists paths (MissingFile word) = codes "cannot find " ∷ word_name inputs lists word ∷ []
 fault_text inputs lists paths (Read word) = codes "cannot read " ∷ word_name inputs lists word ∷ []
 fault_text inputs lists paths (UnknownKind word kind) = word_name inputs lists word ∷ codes ": not an arm64 object, dynamic library or stub" ∷ []
@@ -200,7 +162,7 @@ fault_text inputs lists paths OutOfMemory = codes "out of memory" ∷ []
 
 -- THE line of a text: the program's name before it, and a line feed behind it
 abbrev pub line_of : List (List ℕ) → List ℕ
-line_of text = flat_map (λ piece. piece) (codes "wild_macho: " ∷ (text ++ (LINE_FEED ∷ []) ∷ []))
+line_of text = flat_map (λ piece. piece) (codes "wild_macho: " ∷ (text ++ codes "\n" ∷ []))
 
 -- THE line of a fault, with the inputs and lists that were asked for and the paths of the files
 abbrev pub fault_line : List Input → List (ℕ × List ℕ) → List (List ℕ) → Fault → List ℕ
@@ -210,31 +172,22 @@ fault_line inputs lists paths fault = line_of (fault_text inputs lists paths fau
 abbrev pub hex_text : ℕ → List ℕ
 hex_text n = codes "0x" ++ encode_lower (big_bytes 8 n)
 
--- a row of the map: address, size, segment and name, and a path
-abbrev pub map_row : (address size : ℕ) → (segment name path : List ℕ) → List ℕ
-map_row address size segment name path =
-    hex_text address ++ (codes " " ++ (hex_text size ++ (codes " " ++ (segment ++ (codes "," ++ (name ++ (codes " " ++ (path ++ LINE_FEED ∷ []))))))))
-
--- the line of a placed section: its place, the size, segment and name of its header, and the path of its file
+-- THE line of a placed section in the map: its address, the size, segment and name of its header, and the path of its file
 abbrev pub map_line : Link → List (List ℕ) → PlacedSection → List ℕ
 map_line l paths q =
-    let h = header_at l (id_of q) in map_row q.address h.size (name_of h.segname) (name_of h.sectname) (file_name paths q.file)
+    let h = header_at l (id_of q) in
+    flat_map (λ piece. piece) (hex_text q.address ∷ codes " " ∷ hex_text h.size ∷ codes " " ∷ name_of h.segname ∷ codes ","
+    ∷ name_of h.sectname ∷ codes " " ∷ file_name paths q.file ∷ codes "\n" ∷ [])
 
--- THE lines of `-map`: one for each placed section
-abbrev pub map_lines : Link → List (List ℕ) → List PlacedSection → List ℕ
-map_lines l paths sections = flat_map (map_line l paths) sections
-
--- THE lines of `-generate`: how many objects, how many words the loader fixes up, how many bytes, and their digest (FIPS 180-4)
-abbrev pub generate_lines : ℕ → ℕ → List ℕ → List ℕ
-generate_lines count fixups bytes =
-    codes "objects " ++ (decimal count ++ (LINE_FEED ∷ (codes "fixups " ++ (decimal fixups ++ (LINE_FEED ∷ (codes "length " ++ (decimal (length bytes)
-    ++ (LINE_FEED ∷ (codes "sha256 " ++ (encode_lower (sha256 bytes) ++ LINE_FEED ∷ []))))))))))
-
--- the lines of `-generate`, where it was given
+-- THE lines of `-generate`, where it was given: how many objects, how many words the loader fixes up, how many bytes, and their
+-- digest (FIPS 180-4)
 abbrev pub totals : Option ℕ → LinkedImage → List ℕ
 totals None image = []
-totals (Some count) image = generate_lines count image.fixups image.bytes.items
+totals (Some count) image =
+    flat_map (λ piece. piece) (codes "objects " ∷ decimal count ∷ codes "\nfixups " ∷ decimal image.fixups
+    ∷ codes "\nlength " ∷ decimal (length image.bytes.items) ∷ codes "\nsha256 " ∷ encode_lower (sha256 image.bytes.items) ∷ codes "\n" ∷ [])
 
--- THE text of a run: the lines of `-map`, where it was given, and then those of `-generate`
+-- THE text of a run: the lines of `-map`, where it was given, one for each placed section, and then those of `-generate`
 abbrev pub run_lines : Settings → Link → List (List ℕ) → LinkedImage → List ℕ
-run_lines s l paths image = (if s.map_lines then map_lines l paths image.placement.sections.items else []) ++ totals s.generate image
+run_lines s l paths image =
+    (if s.map_lines then flat_map (map_line l paths) image.placement.sections.items else []) ++ totals s.generate image

@@ -1,11 +1,12 @@
 //! All that a run prints besides a fault.
 
 ghost use Rattle.std.specs.Prelude.{◌≡◌, map, [], if◌then◌else◌, false, None, IsOk};
+ghost use Rattle.std.specs.List.{flat_map};
 ghost use Rattle.macho_args.specs.Settings.{settings_of};
 ghost use Rattle.macho_model.specs.Links.{carried_of};
 ghost use Rattle.macho_model.specs.Placement.{id_of};
 ghost use Rattle.macho_job.specs.Names.{names_of};
-ghost use Rattle.macho_report.specs.Lines.{map_lines, run_lines};
+ghost use Rattle.macho_report.specs.Lines.{map_line, run_lines};
 ghost use Rattle.macho_report.specs.Printing.{IsPrinted};
 
 use crate::map::print_map;
@@ -49,7 +50,7 @@ fn print_wanted<O: Sink>(
 ) -> Result<(), SinkFault>
     requires { map id_of sections.now ≡ carried_of linker.now }
     ensures printed { IsPrinted (O.taken out.old) (O.taken out.new) (O.faults out.old) (O.faults out.new)
-        (if wanted then map_lines linker.now (names_of names.now) sections.now else []) result }
+        (if wanted then flat_map (map_line linker.now (names_of names.now)) sections.now else []) result }
     ensures silent { wanted ≡ false → IsOk result × (out.new ≡ out.old) }
 {
     if wanted {

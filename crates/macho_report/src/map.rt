@@ -3,11 +3,12 @@
 //! A line tells a placed section: its address, its size, segment and name, and the path of its file, as in
 //! `0x0000000100000160 0x0000000000000010 __TEXT,__text main.o`.
 
-ghost use Rattle.std.specs.Prelude.{◌≡◌, map};
+ghost use Rattle.std.specs.Prelude.{◌≡◌, [], ◌∷◌, codes, map};
+ghost use Rattle.std.specs.List.{flat_map};
 ghost use Rattle.macho_model.specs.Links.{header_at, carried_of};
 ghost use Rattle.macho_model.specs.Placement.{id_of};
 ghost use Rattle.macho_job.specs.Names.{names_of};
-ghost use Rattle.macho_report.specs.Lines.{map_row, map_line, map_lines};
+ghost use Rattle.macho_report.specs.Lines.{hex_text, map_line};
 ghost use Rattle.macho_report.specs.Printing.{IsPrinted};
 ghost use Rattle.macho_report.specs.steps.Sections.{HasSection};
 
@@ -27,7 +28,7 @@ pub(crate) fn print_map<O: Sink>(
 ) -> Result<(), SinkFault>
     requires { map id_of sections.now ≡ carried_of linker.now }
     ensures { IsPrinted (O.taken out.old) (O.taken out.new) (O.faults out.old) (O.faults out.new)
-        (map_lines linker.now (names_of names.now) sections.now) result }
+        (flat_map (map_line linker.now (names_of names.now)) sections.now) result }
 {
     for index in 0..sections.len() {
         let section = &sections[index];
@@ -64,7 +65,8 @@ fn print_row<'a, O: Sink>(
     path: &'a [u8],
 ) -> Result<(), SinkFault>
     ensures { IsPrinted (O.taken out.old) (O.taken out.new) (O.faults out.old) (O.faults out.new)
-        (map_row address size segment.now name.now path.now) result }
+        (flat_map (λ piece. piece) (hex_text address ∷ codes " " ∷ hex_text size ∷ codes " " ∷ segment.now ∷ codes "," ∷ name.now
+        ∷ codes " " ∷ path.now ∷ codes "\n" ∷ [])) result }
 {
     let pieces = [
         Piece::Address(address),

@@ -6,9 +6,9 @@ ghost use Rattle.std.specs.Prelude.{◌≡◌, ◌++◌, ◌==◌, true, [], ◌
 ghost use Rattle.std.specs.Option.{option_copied};
 ghost use Rattle.std.specs.String.{string_bytes};
 ghost use Rattle.macho_args.specs.Settings.{input_of, word_of};
+ghost use Rattle.macho_faults.specs.declared.fault.LinkError.TheVariants.{BadInput};
 ghost use Rattle.macho_job.specs.Names.{names_of};
-ghost use Rattle.macho_report.specs.Lines.{line_of, fault_line, word_text, fault_word, fault_kind};
-ghost use Rattle.macho_report.specs.Lines.{error_text, broken_text, place_text, site_text};
+ghost use Rattle.macho_report.specs.Lines.{line_of, fault_line, broken_word, error_text, site_text};
 ghost use Rattle.macho_report.specs.Lines.{object_rule, stub_rule, unwind_rule, limit_name, name_of_input, word_name};
 ghost use Rattle.macho_report.specs.Printing.{IsPrinted, IsLineTold};
 ghost use Rattle.macho_report.specs.steps.Groups.{is_of_name, is_of_section, is_of_relocation};
@@ -146,8 +146,8 @@ fn print_named<E: Sink>(
 
 // The word of a word's fault, and the name of the fault.
 fn kind_of_word(fault: ArgsFault) -> (u32, &'static [u8])
-    ensures word { result.0 ≡ fault_word fault }
-    ensures kind { result.1.now ≡ fault_kind fault }
+    ensures word { result.0 ≡ (broken_word fault).0 }
+    ensures kind { result.1.now ≡ (broken_word fault).1 }
 {
     match fault {
         ArgsFault::MissingValue { word } => (word, b"MissingValue"),
@@ -163,7 +163,8 @@ fn kind_of_word(fault: ArgsFault) -> (u32, &'static [u8])
 }
 
 fn print_bad_word<E: Sink>(err: &mut E, fault: ArgsFault) -> Result<(), SinkFault>
-    ensures { IsPrinted (E.taken err.old) (E.taken err.new) (E.faults err.old) (E.faults err.new) (line_of (word_text fault)) result }
+    ensures { IsPrinted (E.taken err.old) (E.taken err.new) (E.faults err.old) (E.faults err.new)
+        (line_of (codes "bad word " ∷ decimal (broken_word fault).0 ∷ codes ": " ∷ (broken_word fault).1 ∷ [])) result }
 {
     let (word, kind) = kind_of_word(fault);
     print_numbered(err, b"bad word ", u64::from(word), b": ", kind)
@@ -455,7 +456,7 @@ fn print_broken<E: Sink>(
     fault: &InputFault,
 ) -> Result<(), SinkFault>
     ensures { IsPrinted (E.taken err.old) (E.taken err.new) (E.faults err.old) (E.faults err.new)
-        (line_of (broken_text (names_of names.now) fault.now)) result }
+        (line_of (error_text (names_of names.now) (BadInput fault.now))) result }
 {
     match fault {
         InputFault::Object(fault) => {
@@ -495,7 +496,8 @@ fn print_relocation<E: Sink>(
     text: &'static [u8],
 ) -> Result<(), SinkFault>
     ensures { IsPrinted (E.taken err.old) (E.taken err.new) (E.faults err.old) (E.faults err.new)
-        (line_of (place_text file.now section relocation text.now)) result }
+        (line_of (file.now ∷ codes ": section " ∷ decimal section ∷ codes ", relocation " ∷ decimal relocation ∷ codes ": " ∷ text.now
+        ∷ [])) result }
 {
     let pieces = [
         Piece::Text(b"wild_macho: "),

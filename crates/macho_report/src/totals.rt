@@ -1,9 +1,9 @@
 //! The lines of `-generate`: how many objects were made, how many words the loader fixes up, how many bytes the image has, and
 //! their digest.
 
-ghost use Rattle.std.specs.Prelude.{◌≡◌, None, IsOk};
+ghost use Rattle.std.specs.Prelude.{◌≡◌, Some, None, IsOk};
 ghost use Rattle.sha2.specs.Sha256.{sha256};
-ghost use Rattle.macho_report.specs.Lines.{totals, generate_lines};
+ghost use Rattle.macho_report.specs.Lines.{totals};
 ghost use Rattle.macho_report.specs.Printing.{IsPrinted};
 
 use crate::pieces::{Piece, print_pieces};
@@ -21,26 +21,22 @@ pub(crate) fn print_totals<O: Sink>(
     ensures silent { count ≡ None → IsOk result × (out.new ≡ out.old) }
 {
     match count {
-        Some(count) => print_numbers(out, count, image.fixups, image.bytes.as_slice()),
+        Some(count) => print_numbers(out, count, image),
         None => Ok(()),
     }
 }
 
-fn print_numbers<O: Sink>(
-    out: &mut O,
-    count: u32,
-    fixups: u64,
-    bytes: &[u8],
-) -> Result<(), SinkFault>
+fn print_numbers<O: Sink>(out: &mut O, count: u32, image: &LinkedImage) -> Result<(), SinkFault>
     ensures { IsPrinted (O.taken out.old) (O.taken out.new) (O.faults out.old) (O.faults out.new)
-        (generate_lines count fixups bytes.now) result }
+        (totals (Some count) image.now) result }
 {
+    let bytes = image.bytes.as_slice();
     let digest = digest_of(bytes);
     let pieces = [
         Piece::Text(b"objects "),
         Piece::Number(u64::from(count)),
         Piece::Text(b"\nfixups "),
-        Piece::Number(fixups),
+        Piece::Number(image.fixups),
         Piece::Text(b"\nlength "),
         Piece::Number(bytes.len() as u64),
         Piece::Text(b"\nsha256 "),
