@@ -1,13 +1,9 @@
 -- What a linker holds: the arguments that matter to it, and its inputs in order.
 use Rattle.std.specs.Prelude.{◌≡◌, ℕ, List, not, [], ◌∷◌, ◌++◌}
 use Rattle.std.specs.Option.{option_map}
-use Rattle.macho_args.specs.Settings.{Settings, Platform, install_name_of}
+use Rattle.macho_args.specs.Settings.{Settings, install_name_of}
 use Rattle.macho_model.specs.Links.{Link, Input, Object, Dylib, Stub, StubReading}
 use Rattle.macho_promise.specs.Inputs.{IsStubInput}
-
--- the versions that are written: the least one of the system, and that of the SDK
-abbrev pub versions_of : Platform → ℕ × ℕ
-versions_of p = (p.minimum_version, p.sdk_version)
 
 -- what is linked by arguments, before an input is added
 abbrev pub link_of : Settings → Link
@@ -17,7 +13,7 @@ link_of s = record {
   entry = s.entry;
   install_name = install_name_of s;
   rpaths = s.rpaths;
-  versions = option_map versions_of s.platform_version;
+  versions = option_map (λ p. (p.minimum_version, p.sdk_version)) s.platform_version;
   dead_strip_dylibs = s.dead_strip_dylibs;
   headerpad = s.headerpad_max_install_names;
   inputs = [];

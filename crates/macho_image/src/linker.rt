@@ -7,7 +7,7 @@ ghost use Rattle.macho_args.specs.Settings.{settings_of, platform_of};
 ghost use Rattle.macho_model.specs.Links.{Object, Dylib};
 ghost use Rattle.macho_model.specs.Grammar.{IsObject, IsDylib};
 ghost use Rattle.macho_model.specs.Faults.{bad_name, has_zero};
-ghost use Rattle.macho_image.specs.Linkers.{link_of, versions_of, with_input, with_export_list, TakesStub};
+ghost use Rattle.macho_image.specs.Linkers.{link_of, with_input, with_export_list, TakesStub};
 ghost use Rattle.macho_promise.specs.Inputs.{IsInput, IsStubInput};
 ghost use Rattle.macho_inputs.specs.steps.Owned.{input_of, says_of};
 ghost use Rattle.macho_faults.specs.declared.fault.LinkError.TheVariants.{OutOfMemory};
@@ -94,7 +94,7 @@ fn bytes_of(alloc: Global, paths: &[String]) -> Result<Vec<Vec<u8>>, AllocError>
 
 /// The least version of the system, and that of the SDK.
 fn versions_in(platform: &Option<PlatformVersion>) -> Option<(u32, u32)>
-    ensures { result ≡ option_map versions_of (option_map platform_of platform.now) }
+    ensures { result ≡ option_map (λ p. (p.minimum_version, p.sdk_version)) (option_map platform_of platform.now) }
 {
     match platform {
         Some(version) => Some((version.minimum_version.get(), version.sdk_version.get())),

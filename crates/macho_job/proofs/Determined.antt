@@ -19,7 +19,8 @@ use Rattle.macho_job.specs.declared.heads.Head.{Head}
 use Rattle.macho_job.specs.declared.heads.Head.TheVariants as head
 use Rattle.macho_job.specs.Heads.{head_of}
 use Rattle.macho_job.specs.Search.{candidates_of, IsMissing, IsFirstHeld}
-use Rattle.macho_job.specs.Job.{SourceFile, IsReadAs, IsTaken, AreFiles, IsListed, linking, Links}
+use Rattle.macho_job.specs.Job.{SourceFile, IsReadAs, IsTaken, AreFiles, IsListed, Links}
+use Rattle.macho_job.specs.steps.Gathering.{linking}
 
 -- a path holds one text
 pub one-text : (files : Store) (path a b : List ℕ) → get files path ≡ Some a → get files path ≡ Some b → a ≡ b

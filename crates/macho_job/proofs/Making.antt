@@ -10,19 +10,22 @@ use Rattle.std.proofs.lemmas.Simd.{map-map}
 use Rattle.macho_args.specs.Settings.{Settings}
 use Rattle.macho_args.specs.Store.{Store}
 use Rattle.std.proofs.lemmas.Bool.{cases_lt}
-use Rattle.macho_image.specs.Refusals.{ObjectRefused}
 use Rattle.macho_model.specs.Grammar.{IsObject}
 use Rattle.macho_model.specs.Links.{Link, Input, Object}
 use Rattle.macho_image.specs.Linkers.{link_of, with_input}
 use Rattle.macho_job.specs.declared.fault.Fault.{Fault}
 use Rattle.macho_job.specs.declared.fault.Fault.TheVariants as fault
-use Rattle.macho_job.specs.Causes.{Failures, JobFails}
+use Rattle.macho_job.specs.declared.heads.Head.TheVariants as head
+use Rattle.macho_job.specs.Causes.{Failures, BytesRefused, JobFails}
 use Rattle.macho_job.specs.steps.Gathering.{HaveLists}
 use Rattle.macho_job.specs.Generator.{generated_object, generated_path}
-use Rattle.macho_job.specs.Job.{SourceFile, AreFiles, generated_file, generated_files}
+use Rattle.macho_job.specs.Job.{SourceFile, AreFiles, generated_files}
 use Rattle.macho_job.specs.steps.Parts.{TakesMade, MadeFails}
 
--- the made objects as inputs
+-- the made objects as files, and as inputs
+abbrev made_file : ℕ → ℕ → SourceFile
+made_file n i = record { path = generated_path i; input = Object (generated_object i n) }
+
 abbrev pub made_input : ℕ → ℕ → Input
 made_input n k = Object (generated_object k n)
 
@@ -68,17 +71,17 @@ all-made told s n i paths start l asked empty low high linked objects named =
       texts = [];
       listed = tt;
       named = named ∙ (ap (λ (j : ℕ). map generated_path (range_with_len 0 j)) same
-          ∙ sym (map-map (λ (f : SourceFile). f.path) (generated_file n) ks));
+          ∙ sym (map-map (λ (f : SourceFile). f.path) (made_file n) ks));
       linked = linked ∙ (ap (λ (j : ℕ). made_link start n j) same ∙ (ap (λ (k : Link). made_link k n n) empty
           ∙ ap (λ (is : List Input). let k : Link = record (link_of s) { inputs = is } in k)
-          (sym (map-map (λ (f : SourceFile). f.input) (generated_file n) ks))));
+          (sym (map-map (λ (f : SourceFile). f.input) (made_file n) ks))));
     }
 
 pub made-fails : (told : Option Store) (s : Settings) (n i : ℕ) (paths : List (List ℕ)) (old new : Failures) (f : Fault)
     → s.generate ≡ Some n → i < n
     → ((k : ℕ) → k < i → IsObject (generated_object k n)) → paths ≡ map generated_path (range_with_len 0 (i + 1)) → MadeFails i n f
     → JobFails told s paths old new f
-made-fails told s n i paths old new (fault.Input at refusal) asked below objects named (is, refused, kept) =
+made-fails told s n i paths old new (fault.Input at refusal) asked below objects named (is, refused) =
     inr (record {
       count = n;
       asked = asked;
@@ -89,8 +92,7 @@ made-fails told s n i paths old new (fault.Input at refusal) asked below objects
         split = named ∙ (map-range_with_len_more generated_path 0 i i (omega arith)
             ∙ ap (λ (j : ℕ). map generated_path (range_with_len 0 i) ++ generated_path j ∷ []) (sym is));
       };
-      refused = subst (λ (j : ℕ). ObjectRefused (generated_object j n) refusal) (sym is) refused;
-      no_memory = kept;
+      refused = subst (λ (j : ℕ). BytesRefused head.Object (generated_object j n) refusal) (sym is) refused;
     })
 made-fails told s n i paths old new (fault.MissingFile word) asked below objects named none = absurd none
 made-fails told s n i paths old new (fault.UnknownKind word kind) asked below objects named none = absurd none

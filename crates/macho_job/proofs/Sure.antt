@@ -18,7 +18,7 @@ use Rattle.macho_faults.specs.declared.fault.LinkError.{LinkError}
 use Rattle.macho_faults.specs.declared.fault.LinkError.TheVariants as error
 use Rattle.macho_faults.specs.declared.fault.InputFault.TheVariants as broken
 use Rattle.macho_image.specs.Linkers.{link_of}
-use Rattle.macho_image.specs.Refusals.{ObjectRefused, DylibRefused, StubRefused, RefusalStands}
+use Rattle.macho_image.specs.Refusals.{RefusalStands}
 use Rattle.macho_devices.specs.Faults.{last_count}
 use Rattle.macho_job.specs.declared.fault.Fault.{Fault}
 use Rattle.macho_job.specs.declared.fault.Fault.TheVariants as fault
@@ -29,7 +29,7 @@ use Rattle.macho_job.specs.Heads.{head_of}
 use Rattle.macho_job.specs.Search.{candidates_of, IsMissing, IsFirstHeld}
 use Rattle.macho_job.specs.Generator.{generated_object}
 use Rattle.macho_job.specs.Job.{SourceFile, IsReadAs, IsTaken, IsListed, AreFiles, Links, head_of_kind}
-use Rattle.macho_job.specs.Causes.{Failures, NoneFailed, IsAsked, IsNoText, BytesRefused, InputRefused, MadeRefused, IsUnknown, IsClear}
+use Rattle.macho_job.specs.Causes.{Failures, NoneFailed, IsAsked, BytesRefused, InputRefused, MadeRefused, IsUnknown, IsClear}
 use Rattle.macho_job.specs.Causes.{LinkRefused, JobFails}
 use Rattle.macho_job.proofs.Determined.{one-held, not-missing, linked-once}
 
@@ -64,91 +64,24 @@ held-among files paths path bytes first missing =
     stands [] path behind = (0, omega arith, refl)
     stands (x ∷ before) path behind = let c = stands before path behind in (suc c.0, omega (arith, c.1), c.2)
 
--- an object that keeps the rules is refused for want of memory alone
-object-refused : (bytes : List ℕ) (refusal : LinkError) → IsObject bytes → ObjectRefused bytes refusal → refusal ≡ error.OutOfMemory
-object-refused bytes (error.BadInput (broken.Object f)) object why = absurd (why.1 object)
-object-refused bytes (error.BadInput (broken.Stub line rule)) object why = absurd why
-object-refused bytes error.OutOfMemory object why = refl
-object-refused bytes (error.DuplicateSymbol name m n) object why = absurd why
-object-refused bytes (error.UndefinedSymbol name n) object why = absurd why
-object-refused bytes (error.EntryNotDefined name) object why = absurd why
-object-refused bytes (error.ExportListMissing name) object why = absurd why
-object-refused bytes (error.BadInitializer n k o) object why = absurd why
-object-refused bytes (error.BadUnwind n k i rule) object why = absurd why
-object-refused bytes (error.UnsupportedRelocation n k r) object why = absurd why
-object-refused bytes (error.OverlappingFields n k q r) object why = absurd why
-object-refused bytes (error.BindAddend n k r a) object why = absurd why
-object-refused bytes (error.FixupPlace n k r p) object why = absurd why
-object-refused bytes (error.TooMany what n p) object why = absurd why
-object-refused bytes (error.ImageTooLarge p) object why = absurd why
-object-refused bytes (error.RebaseTarget at p) object why = absurd why
-object-refused bytes (error.RelocationRange at p) object why = absurd why
-object-refused bytes error.BadName object why = absurd why
+-- an object that keeps the rules isn't refused
+object-refused : (bytes : List ℕ) (refusal : LinkError) → IsObject bytes → BytesRefused head.Object bytes refusal → ⊥
+object-refused bytes (error.BadInput (broken.Object f)) object why = why.1 object
+object-refused bytes refusal object why = why
 
-dylib-refused : (bytes : List ℕ) (refusal : LinkError) → IsDylib bytes → DylibRefused bytes refusal → refusal ≡ error.OutOfMemory
-dylib-refused bytes (error.BadInput (broken.Object f)) dylib why = absurd (why.1 dylib)
-dylib-refused bytes (error.BadInput (broken.Stub line rule)) dylib why = absurd why
-dylib-refused bytes error.OutOfMemory dylib why = refl
-dylib-refused bytes (error.DuplicateSymbol name m n) dylib why = absurd why
-dylib-refused bytes (error.UndefinedSymbol name n) dylib why = absurd why
-dylib-refused bytes (error.EntryNotDefined name) dylib why = absurd why
-dylib-refused bytes (error.ExportListMissing name) dylib why = absurd why
-dylib-refused bytes (error.BadInitializer n k o) dylib why = absurd why
-dylib-refused bytes (error.BadUnwind n k i rule) dylib why = absurd why
-dylib-refused bytes (error.UnsupportedRelocation n k r) dylib why = absurd why
-dylib-refused bytes (error.OverlappingFields n k q r) dylib why = absurd why
-dylib-refused bytes (error.BindAddend n k r a) dylib why = absurd why
-dylib-refused bytes (error.FixupPlace n k r p) dylib why = absurd why
-dylib-refused bytes (error.TooMany what n p) dylib why = absurd why
-dylib-refused bytes (error.ImageTooLarge p) dylib why = absurd why
-dylib-refused bytes (error.RebaseTarget at p) dylib why = absurd why
-dylib-refused bytes (error.RelocationRange at p) dylib why = absurd why
-dylib-refused bytes error.BadName dylib why = absurd why
+dylib-refused : (bytes : List ℕ) (refusal : LinkError) → IsDylib bytes → BytesRefused head.Dylib bytes refusal → ⊥
+dylib-refused bytes (error.BadInput (broken.Object f)) dylib why = why.1 dylib
+dylib-refused bytes refusal dylib why = why
 
-stub-refused : (bytes : List ℕ) (says : StubReading) (refusal : LinkError) → IsStubInput bytes says → StubRefused bytes refusal
-    ⊎ IsNoText bytes refusal
-    → refusal ≡ error.OutOfMemory
-stub-refused bytes says (error.BadInput (broken.Object f)) stub (inl why) = absurd why
-stub-refused bytes says (error.BadInput (broken.Stub line rule)) stub (inl why) = absurd (why.1 says stub)
-stub-refused bytes says error.OutOfMemory stub (inl why) = refl
-stub-refused bytes says (error.DuplicateSymbol name m n) stub (inl why) = absurd why
-stub-refused bytes says (error.UndefinedSymbol name n) stub (inl why) = absurd why
-stub-refused bytes says (error.EntryNotDefined name) stub (inl why) = absurd why
-stub-refused bytes says (error.ExportListMissing name) stub (inl why) = absurd why
-stub-refused bytes says (error.BadInitializer n k o) stub (inl why) = absurd why
-stub-refused bytes says (error.BadUnwind n k i rule) stub (inl why) = absurd why
-stub-refused bytes says (error.UnsupportedRelocation n k r) stub (inl why) = absurd why
-stub-refused bytes says (error.OverlappingFields n k q r) stub (inl why) = absurd why
-stub-refused bytes says (error.BindAddend n k r a) stub (inl why) = absurd why
-stub-refused bytes says (error.FixupPlace n k r p) stub (inl why) = absurd why
-stub-refused bytes says (error.TooMany what n p) stub (inl why) = absurd why
-stub-refused bytes says (error.ImageTooLarge p) stub (inl why) = absurd why
-stub-refused bytes says (error.RebaseTarget at p) stub (inl why) = absurd why
-stub-refused bytes says (error.RelocationRange at p) stub (inl why) = absurd why
-stub-refused bytes says error.BadName stub (inl why) = absurd why
-stub-refused bytes says (error.BadInput (broken.Object f)) stub (inr why) = absurd why
-stub-refused bytes says (error.BadInput (broken.Stub line rule)) stub (inr why) = absurd (why.0 stub.utf8)
-stub-refused bytes says error.OutOfMemory stub (inr why) = absurd why
-stub-refused bytes says (error.DuplicateSymbol name m n) stub (inr why) = absurd why
-stub-refused bytes says (error.UndefinedSymbol name n) stub (inr why) = absurd why
-stub-refused bytes says (error.EntryNotDefined name) stub (inr why) = absurd why
-stub-refused bytes says (error.ExportListMissing name) stub (inr why) = absurd why
-stub-refused bytes says (error.BadInitializer n k o) stub (inr why) = absurd why
-stub-refused bytes says (error.BadUnwind n k i rule) stub (inr why) = absurd why
-stub-refused bytes says (error.UnsupportedRelocation n k r) stub (inr why) = absurd why
-stub-refused bytes says (error.OverlappingFields n k q r) stub (inr why) = absurd why
-stub-refused bytes says (error.BindAddend n k r a) stub (inr why) = absurd why
-stub-refused bytes says (error.FixupPlace n k r p) stub (inr why) = absurd why
-stub-refused bytes says (error.TooMany what n p) stub (inr why) = absurd why
-stub-refused bytes says (error.ImageTooLarge p) stub (inr why) = absurd why
-stub-refused bytes says (error.RebaseTarget at p) stub (inr why) = absurd why
-stub-refused bytes says (error.RelocationRange at p) stub (inr why) = absurd why
-stub-refused bytes says error.BadName stub (inr why) = absurd why
+stub-refused : (bytes : List ℕ) (says : StubReading) (refusal : LinkError) → IsStubInput bytes says → BytesRefused head.Stub bytes refusal
+    → ⊥
+stub-refused bytes says (error.BadInput (broken.Stub line rule)) stub (inl why) = why.1 says stub
+stub-refused bytes says (error.BadInput (broken.Stub line rule)) stub (inr why) = why.0 stub.utf8
+stub-refused bytes says refusal stub why = why
 
--- bytes that are read as an input are refused for want of memory alone
+-- bytes that are read as an input aren't refused
 read-refused : (bytes : List ℕ) (input : Input) (refusal : LinkError) → IsReadAs bytes input
-    → BytesRefused (head_of_kind input) bytes refusal
-    → refusal ≡ error.OutOfMemory
+    → BytesRefused (head_of_kind input) bytes refusal → ⊥
 read-refused bytes (Object b) refusal read why = object-refused bytes refusal (subst IsObject read.same read.sound) why
 read-refused bytes (Dylib b) refusal read why = dylib-refused bytes refusal (subst IsDylib read.same read.sound) why
 read-refused bytes (Stub t says) refusal read why =
@@ -174,15 +107,14 @@ taken-refused : (files : Store) (s : Settings) (paths : List (List ℕ)) (asked 
 taken-refused files s paths asked f refusal taken refused =
     let same = one-held files (candidates_of s asked) f.path refused.path taken.bytes refused.bytes taken.found refused.found in
     let read : IsReadAs refused.bytes f.input = subst (λ (b : List ℕ). IsReadAs b f.input) same.bytes taken.is in
-    refused.no_memory (read-refused refused.bytes f.input refusal read
-    (subst (λ (h : Head). BytesRefused h refused.bytes refusal) read.head refused.refused))
+    read-refused refused.bytes f.input refusal read (subst (λ (h : Head). BytesRefused h refused.bytes refusal) read.head refused.refused)
 
 -- a made object isn't refused
 made-refused : (files : Store) (s : Settings) (paths : List (List ℕ)) (i : ℕ) (refusal : LinkError) (fs : List SourceFile)
     → AreFiles (Some files) s s.generate fs → MadeRefused s paths i refusal → ⊥
 made-refused files s paths i refusal fs are refused =
     let objects = subst (λ (o : Option ℕ). AreFiles (Some files) s o fs) refused.asked are in
-    refused.no_memory (object-refused (generated_object i refused.count) refusal (objects.1 i refused.below) refused.refused)
+    object-refused (generated_object i refused.count) refusal (objects.1 i refused.below) refused.refused
 
 is-memory : LinkError → Bool
 is-memory error.OutOfMemory = true
@@ -210,7 +142,7 @@ link-refused : (files : Store) (s : Settings) (paths : List (List ℕ)) (refusal
     → LinkRefused (Some files) s paths refusal → ⊥
 unfolding is-memory
 link-refused files s paths error.BadName safe why = let no : true ≡ false = sym why ∙ safe.named in cc
-link-refused files s paths (error.BadInput f) safe why = why
+link-refused files s paths (error.BadInput f) safe why = why.2
 link-refused files s paths error.OutOfMemory safe why = why
 link-refused files s paths (error.DuplicateSymbol name m n) safe why = safe.never (error.DuplicateSymbol name m n) refl why
 link-refused files s paths (error.UndefinedSymbol name n) safe why = safe.never (error.UndefinedSymbol name n) refl why

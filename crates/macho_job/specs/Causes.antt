@@ -5,15 +5,18 @@ use Rattle.macho_args.specs.Settings as args
 use Rattle.macho_args.specs.Settings.{Settings, word_of}
 use Rattle.macho_args.specs.Store.{Store}
 use Rattle.macho_args.specs.SearchPaths.{IsRefused}
-use Rattle.macho_model.specs.Links.{Link}
+use Rattle.macho_model.specs.Links.{Link, StubReading}
 use Rattle.macho_model.specs.Faults.{bad_name}
-use Rattle.macho_model.specs.Grammar.{IsObject}
+use Rattle.macho_model.specs.Grammar.{IsObject, IsDylib, ObjectBreaks, DylibBreaks}
+use Rattle.macho_promise.specs.Inputs.{IsStubInput}
+use Rattle.macho_stub.specs.Answer.{IsToldOfText}
+use Rattle.macho_stub_lines.specs.declared.fault.StubFault.TheVariants.{Rule}
 use Rattle.macho_faults.specs.declared.fault.LinkError.{LinkError}
 use Rattle.macho_faults.specs.declared.fault.LinkError.TheVariants as error
 use Rattle.macho_faults.specs.declared.fault.InputFault.TheVariants as input
 use Rattle.macho_stub_lines.specs.declared.fault.StubRule.TheVariants.{S1}
 use Rattle.macho_image.specs.Linkers.{link_of}
-use Rattle.macho_image.specs.Refusals.{ObjectRefused, DylibRefused, StubRefused, RefusalStands}
+use Rattle.macho_image.specs.Refusals.{RefusalStands}
 use Rattle.macho_devices.specs.Faults.{CountRose, last_count}
 use Rattle.macho_job.specs.declared.fault.Fault.{Fault}
 use Rattle.macho_job.specs.declared.fault.Fault.TheVariants.{MissingFile, UnknownKind, Input, Link as LinkFault, Words, Read, Write, Print, OutOfMemory}
@@ -24,18 +27,15 @@ use Rattle.macho_job.specs.Search.{candidates_of, IsMissing, IsFirstHeld}
 use Rattle.macho_job.specs.Generator.{generated_object, generated_path}
 use Rattle.macho_job.specs.Job.{SourceFile, IsTaken, AreFiles, IsListed, Links}
 
--- the status that a run ends with
+-- the status that a run ends with: 1 where an input or the link is refused
 abbrev pub status_of : Option Fault → ℕ
 status_of None = 0
-status_of (Some (MissingFile word)) = 1
-status_of (Some (UnknownKind word kind)) = 1
-status_of (Some (Input word error)) = 1
-status_of (Some (LinkFault error)) = 1
 status_of (Some (Words fault)) = 2
 status_of (Some (Read word)) = 3
 status_of (Some Write) = 4
 status_of (Some Print) = 4
 status_of (Some OutOfMemory) = 5
+status_of (Some refusal) = 1
 
 -- How often the devices of a run have failed: reads and writes of its files, and pieces that it printed.
 pub record Failures : Type 0 where
@@ -57,33 +57,28 @@ pub record NoneFailed (old new : Failures) : Type 0 where
 abbrev pub reading : ℕ → Failures
 reading reads = failures reads 0 0
 
--- bytes that are no text break the first rule of stubs, at line 1
-abbrev pub IsNoText : List ℕ → LinkError → Type 0
-IsNoText bytes (error.BadInput (input.Stub line rule)) = (IsUtf8 bytes → ⊥) × (line ≡ 1) × (rule ≡ S1)
-IsNoText bytes refusal = ⊥
-
--- Bytes are refused, by their head: they break the rule that is told, at the place that is told; and are no such input. Bytes that
+-- Bytes are refused, by their head: they break the rule that is told, at the place that is told, and are no such input. Bytes that
 -- begin as a stub and aren't UTF-8 break the first rule of stubs at line 1.
 abbrev pub BytesRefused : Head → List ℕ → LinkError → Type 0
-BytesRefused head.Object bytes refusal = ObjectRefused bytes refusal
-BytesRefused head.Dylib bytes refusal = DylibRefused bytes refusal
-BytesRefused head.Stub bytes refusal = StubRefused bytes refusal ⊎ IsNoText bytes refusal
-BytesRefused (head.Unknown kind) bytes refusal = ⊥
+BytesRefused head.Object bytes (error.BadInput (input.Object fault)) = ObjectBreaks bytes fault.rule fault.place × (IsObject bytes → ⊥)
+BytesRefused head.Dylib bytes (error.BadInput (input.Object fault)) = DylibBreaks bytes fault.rule fault.place × (IsDylib bytes → ⊥)
+BytesRefused head.Stub bytes (error.BadInput (input.Stub line rule)) =
+    (IsToldOfText bytes (Rule line rule) × ((says : StubReading) → IsStubInput bytes says → ⊥))
+    ⊎ ((IsUtf8 bytes → ⊥) × (line ≡ 1) × (rule ≡ S1))
+BytesRefused begins bytes refusal = ⊥
 
 -- the last of the files that were read has this path
 pub record EndsWith (paths : List (List ℕ)) (path : List ℕ) : Type 0 where
   pub before : List (List ℕ)
   pub split : paths ≡ before ++ path ∷ []
 
--- An input's bytes are refused: those of the first of its paths that holds a file, the last that was read. Want of memory is no
--- such refusal.
+-- an input's bytes are refused: those of the first of its paths that holds a file, the last that was read
 pub record InputRefused (told : Option Store) (s : Settings) (paths : List (List ℕ)) (asked : args.Input) (refusal : LinkError) : Type 0 where
   pub path : List ℕ
   pub bytes : List ℕ
   pub found : IsFirstHeld told (candidates_of s asked) path bytes
   pub last : EndsWith paths path
   pub refused : BytesRefused (head_of bytes) bytes refusal
-  pub no_memory : refusal ≡ error.OutOfMemory → ⊥
 
 -- a made object is refused, told by its number; those before it are objects
 pub record MadeRefused (s : Settings) (paths : List (List ℕ)) (i : ℕ) (refusal : LinkError) : Type 0 where
@@ -92,13 +87,11 @@ pub record MadeRefused (s : Settings) (paths : List (List ℕ)) (i : ℕ) (refus
   pub below : i < count
   pub before : (k : ℕ) → k < i → IsObject (generated_object k count)
   pub last : EndsWith paths (generated_path i)
-  pub refused : ObjectRefused (generated_object i count) refusal
-  pub no_memory : refusal ≡ error.OutOfMemory → ⊥
+  pub refused : BytesRefused head.Object (generated_object i count) refusal
 
 -- A link is refused: its paths can't be written, which is found before an input is read; or what is told of it stands.
 abbrev pub LinkRefused : Option Store → Settings → List (List ℕ) → LinkError → Type 0
 LinkRefused told s paths error.BadName = bad_name (link_of s) ≡ true
-LinkRefused told s paths (error.BadInput fault) = ⊥
 LinkRefused told s paths error.OutOfMemory = ⊥
 LinkRefused told s paths refusal = (l : Link) × Links told s paths l × RefusalStands l refusal
 

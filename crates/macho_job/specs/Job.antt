@@ -45,12 +45,9 @@ pub record IsTaken (told : Option Store) (s : Settings) (asked : args.Input) (f 
   pub found : IsFirstHeld told (candidates_of s asked) f.path bytes
   pub is : IsReadAs bytes f.input
 
--- the made objects
-abbrev pub generated_file : ℕ → ℕ → SourceFile
-generated_file n i = record { path = generated_path i; input = Object (generated_object i n) }
-
+-- the made objects, each under the path that it is told by
 abbrev pub generated_files : ℕ → List SourceFile
-generated_files n = map (generated_file n) (range_with_len 0 n)
+generated_files n = map (λ i. record { path = generated_path i; input = Object (generated_object i n) }) (range_with_len 0 n)
 
 -- The files of a link: the inputs that were asked for, in the order of the words; beside a number the objects that are made.
 abbrev pub AreFiles : Option Store → Settings → Option ℕ → List SourceFile → Type 0
@@ -61,10 +58,6 @@ AreFiles told s (Some n) files = (files ≡ generated_files n) × ((i : ℕ) →
 abbrev pub IsListed : Option Store → ℕ × List ℕ → List ℕ → Type 0
 IsListed told asked text = HeldAt told asked.1 text
 
--- a link by settings, of these files and lists
-abbrev pub linking : Settings → List SourceFile → List (List ℕ) → Link
-linking s files lists = record (link_of s) { inputs = map (λ f. f.input) files; export_lists = lists }
-
 -- What settings link, and the paths of its files.
 pub record Links (told : Option Store) (s : Settings) (paths : List (List ℕ)) (l : Link) : Type 0 where
   pub files : List SourceFile
@@ -72,7 +65,7 @@ pub record Links (told : Option Store) (s : Settings) (paths : List (List ℕ)) 
   pub lists : List (List ℕ)
   pub listed : AllZip (IsListed told) s.export_list_paths lists
   pub named : paths ≡ map (λ f. f.path) files
-  pub linked : l ≡ linking s files lists
+  pub linked : l ≡ record (link_of s) { inputs = map (λ f. f.input) files; export_lists = lists }
 
 -- The identifier of an image: the one that was given, else the first 16 bytes of the digest (FIPS 180-4) of the inputs joined.
 abbrev pub uuid_of : Settings → List Input → List ℕ

@@ -4,14 +4,13 @@ ghost use Rattle.std.specs.Prelude.{◌≡◌, ℕ, ◌+◌, ◌-◌, ◌^◌, �
 ghost use Rattle.macho_args.specs.Settings.{settings_of, input_of, word_of};
 ghost use Rattle.macho_args.specs.Store.{Store};
 ghost use Rattle.macho_image.specs.Linkers.{link_of, TakesStub};
-ghost use Rattle.macho_job.specs.declared.heads.Head.TheVariants.{Stub};
 ghost use Rattle.macho_devices.specs.Devices.{OnlyReads};
 ghost use Rattle.macho_devices.specs.Faults.{CountsOn};
 ghost use Rattle.macho_job.specs.Search.{candidates_of};
 ghost use Rattle.macho_job.specs.steps.Found.{IsSearched, FailedSince};
 ghost use Rattle.macho_job.specs.Names.{names_of};
-ghost use Rattle.macho_job.specs.Causes.{JobFails, BytesRefused, reading};
-ghost use Rattle.macho_job.specs.steps.Gathering.{TakesFile, TakesBytesOf, BytesFail, InputFails, HaveInputs};
+ghost use Rattle.macho_job.specs.Causes.{JobFails, reading};
+ghost use Rattle.macho_job.specs.steps.Gathering.{TakesFile, TakesBytesOf, TextRefused, BytesFail, InputFails, HaveInputs};
 
 use crate::fault::Fault;
 use crate::heads::{Head, head_of};
@@ -119,7 +118,7 @@ fn take_input(linker: &mut Linker, word: u32, bytes: Vec<u8>) -> Result<(), Faul
 fn add_text(linker: &mut Linker, bytes: Vec<u8>) -> Result<u32, LinkError>
     requires few { length linker.old.inputs < 2 ^ 32 - 1 }
     ensures added { OnOk result (TakesStub linker.old linker.new bytes.items) }
-    ensures why { IfErr result (BytesRefused Stub bytes.items) }
+    ensures why { IfErr result (TextRefused bytes.items) }
 {
     match String::from_utf8(bytes) {
         Ok(text) => linker.add_stub(text),

@@ -1,19 +1,23 @@
 -- What is known while the files of a link are gathered.
-use Rattle.std.specs.Prelude.{◌≡◌, ℕ, List, [], ◌∷◌, ◌++◌, map, Option, All}
+use Rattle.std.specs.Prelude.{◌≡◌, ◌⊎◌, ℕ, List, [], ◌∷◌, ◌++◌, map, Option, All, IsUtf8}
 use Rattle.std.specs.List.{AllZip}
 use Rattle.macho_args.specs.Settings as args
 use Rattle.macho_args.specs.Settings.{Settings, word_of}
 use Rattle.macho_args.specs.Store.{Store}
 use Rattle.macho_model.specs.Links.{Link, Input}
-use Rattle.macho_image.specs.Linkers.{with_input}
+use Rattle.macho_image.specs.Linkers.{link_of, with_input}
+use Rattle.macho_faults.specs.declared.fault.LinkError.{LinkError}
 use Rattle.macho_faults.specs.declared.fault.LinkError.TheVariants as error
+use Rattle.macho_faults.specs.declared.fault.InputFault.TheVariants as input
+use Rattle.macho_stub_lines.specs.declared.fault.StubRule.TheVariants.{S1}
+use Rattle.macho_image.specs.Refusals.{StubRefused}
 use Rattle.macho_devices.specs.Faults.{CountRose}
 use Rattle.macho_job.specs.declared.fault.Fault.{Fault}
 use Rattle.macho_job.specs.declared.fault.Fault.TheVariants.{MissingFile, UnknownKind, Input as InputFault, Read, OutOfMemory}
 use Rattle.macho_job.specs.declared.heads.Head.TheVariants as head
 use Rattle.macho_job.specs.Heads.{head_of}
 use Rattle.macho_job.specs.Search.{candidates_of, IsMissing}
-use Rattle.macho_job.specs.Job.{SourceFile, IsReadAs, IsTaken, IsListed, AreFiles, linking}
+use Rattle.macho_job.specs.Job.{SourceFile, IsReadAs, IsTaken, IsListed, AreFiles}
 use Rattle.macho_job.specs.Causes.{BytesRefused, InputRefused, IsUnknown}
 
 -- An input that was asked for is found and added.
@@ -29,10 +33,19 @@ pub record TakesBytesOf (bytes : List ℕ) (old new : Link) : Type 0 where
   pub is : IsReadAs bytes input
   pub added : new ≡ with_input old input
 
+-- bytes that are no text break the first rule of stubs, at line 1
+abbrev pub IsNoText : List ℕ → LinkError → Type 0
+IsNoText bytes (error.BadInput (input.Stub line rule)) = (IsUtf8 bytes → ⊥) × (line ≡ 1) × (rule ≡ S1)
+IsNoText bytes refusal = ⊥
+
+-- bytes that begin as a stub are refused, or memory ran out
+abbrev pub TextRefused : List ℕ → LinkError → Type 0
+TextRefused bytes refusal = StubRefused bytes refusal ⊎ IsNoText bytes refusal
+
 -- why bytes aren't added
 abbrev pub BytesFail : ℕ → List ℕ → Fault → Type 0
 BytesFail word bytes (UnknownKind at kind) = (at ≡ word) × (head_of bytes ≡ head.Unknown kind)
-BytesFail word bytes (InputFault at refusal) = (at ≡ word) × BytesRefused (head_of bytes) bytes refusal × (refusal ≡ error.OutOfMemory → ⊥)
+BytesFail word bytes (InputFault at refusal) = (at ≡ word) × BytesRefused (head_of bytes) bytes refusal
 BytesFail word bytes OutOfMemory = Unit {0}
 BytesFail word bytes fault = ⊥
 
@@ -51,6 +64,10 @@ ListFails told word path old new (MissingFile at) = (at ≡ word) × IsMissing t
 ListFails told word path old new (Read at) = (at ≡ word) × CountRose old new
 ListFails told word path old new OutOfMemory = Unit {0}
 ListFails told word path old new fault = ⊥
+
+-- a link by settings, of these files and lists
+abbrev pub linking : Settings → List SourceFile → List (List ℕ) → Link
+linking s files lists = record (link_of s) { inputs = map (λ f. f.input) files; export_lists = lists }
 
 -- The files so far: they are such, these lists are added, and the link is of both.
 pub record Gathered (told : Option Store) (s : Settings) (AreSuch : List SourceFile → Type 0) (lists : List (ℕ × List ℕ))

@@ -5,12 +5,12 @@ use Rattle.macho_bytes.specs.Numbers.{le_bytes}
 use Rattle.macho_model.specs.Grammar.{IsObject}
 use Rattle.macho_model.specs.Links.{Link, Object}
 use Rattle.macho_image.specs.Linkers.{with_input}
-use Rattle.macho_faults.specs.declared.fault.LinkError.TheVariants as error
-use Rattle.macho_image.specs.Refusals.{ObjectRefused}
 use Rattle.macho_job.specs.declared.fault.Fault.{Fault}
 use Rattle.macho_job.specs.declared.fault.Fault.TheVariants.{Input as InputFault, OutOfMemory}
 use Rattle.macho_job.specs.declared.made.Part.{Part}
 use Rattle.macho_job.specs.declared.made.Part.TheVariants.{Words, Longs, Text}
+use Rattle.macho_job.specs.declared.heads.Head.TheVariants as head
+use Rattle.macho_job.specs.Causes.{BytesRefused}
 use Rattle.macho_job.specs.Generator.{generated_object}
 
 abbrev pub part_bytes : Part → List ℕ
@@ -25,6 +25,6 @@ pub record TakesMade (index count : ℕ) (old new : Link) : Type 0 where
 
 -- why it isn't
 abbrev pub MadeFails : ℕ → ℕ → Fault → Type 0
-MadeFails index count (InputFault at refusal) = (at ≡ index) × ObjectRefused (generated_object index count) refusal × (refusal ≡ error.OutOfMemory → ⊥)
+MadeFails index count (InputFault at refusal) = (at ≡ index) × BytesRefused head.Object (generated_object index count) refusal
 MadeFails index count OutOfMemory = Unit {0}
 MadeFails index count fault = ⊥
