@@ -14,11 +14,11 @@ use Rattle.macho_faults.specs.declared.fault.LinkError.TheVariants as error
 use Rattle.macho_image.specs.Refusals.{RefusalStands}
 use Rattle.macho_job.specs.declared.fault.Fault.{Fault}
 use Rattle.macho_job.specs.declared.fault.Fault.TheVariants as fault
-use Rattle.macho_job.specs.Causes.{NoneFailed, status_of, JobFails, WordsFail}
+use Rattle.macho_job.specs.Causes.{NoneFailed, status_of, IsClear, JobFails, WordsFail}
 use Rattle.macho_job.specs.Job.{Outside}
 use Rattle.macho_job.proofs.Sure.{sure-fault}
 use Rattle.wild_macho.specs.declared.passes.Ran.{Ran}
-use Rattle.wild_macho.specs.Runs.{Devices, Teller, outside, HasCauseIn, Says, IsRun, refused, runs, IsSure, IsOwed, IsAnsweredJob}
+use Rattle.wild_macho.specs.Runs.{Devices, Teller, outside, HasCauseIn, Says, IsRun, refused, runs, SayJob, IsOwed}
 
 -- words that say settings aren't refused
 said-not-refused : (words : List (List ℕ)) (files : Outside) (s : Settings) (f : ArgsFault) → Says words files s → IsRefused words f → ⊥
@@ -44,7 +44,7 @@ status-is status (Some f) is memory = inr (is ∙ ap (λ (g : Fault). status_of 
 
 by-settings : (words : List (List ℕ)) (d : Option Directories) (c : Option CanonicalPaths) (files : Store) (old new : Devices)
     (before after : Teller) (s : Settings) (f : Option Fault)
-    → old.outside ≡ outside d c (Some files) → IsSure words (outside d c (Some files)) → NoneFailed old.failures new.failures
+    → old.outside ≡ outside d c (Some files) → SayJob words (outside d c (Some files)) IsClear → NoneFailed old.failures new.failures
     → Says words (outside d c (Some files)) s
     → IfSome f (HasCauseIn s old new before after) → IfSome f (λ g. g ≡ fault.OutOfMemory)
 by-settings words d c files old new before after s None same sure calm says why = tt
@@ -56,7 +56,8 @@ by-settings words d c files old new before after s (Some f) same sure calm says 
 -- THE answer of a run whose job has nothing against it
 pub sure-status : (words : List (List ℕ)) (d : Option Directories) (c : Option CanonicalPaths) (told : Option Store) (files : Store)
     (old new : Devices) (before after : Teller) (ran : Ran)
-    → old.outside ≡ outside d c told → told ≡ Some files → IsRun words old new before after ran → IsSure words (outside d c (Some files))
+    → old.outside ≡ outside d c told → told ≡ Some files → IsRun words old new before after ran
+    → SayJob words (outside d c (Some files)) IsClear
     → NoneFailed old.failures new.failures
     → (ran.status ≡ 0) ⊎ (ran.status ≡ 5)
 sure-status words d c told files old new before after ran from tells (refused r) sure calm =
@@ -87,11 +88,11 @@ only_memory l (error.BadInput f) owed stands = absurd stands
 only_memory l error.OutOfMemory owed stands = refl
 
 -- nothing stands against a job that is answered
-pub sure_of : (words : List (List ℕ)) (files : Outside) → IsAnsweredJob words files → IsSure words files
+pub sure_of : (words : List (List ℕ)) (files : Outside) → SayJob words files IsOwed → SayJob words files IsClear
 sure_of words files answered = record {
   said = answered.said;
   says = answered.says;
   each = λ s says.
       let job = answered.each s says in
-      (job.0, job.1, record { named = job.2; nothing_stands = λ refusal stands. only_memory job.0.link refusal job.3 stands });
+      (job.0, job.1, record { named = job.2.named; nothing_stands = λ refusal stands. only_memory job.0.link refusal job.2 stands });
 }

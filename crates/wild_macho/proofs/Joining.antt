@@ -31,9 +31,10 @@ use Rattle.macho_report.specs.Lines.{run_lines, fault_line}
 use Rattle.macho_report.specs.Printing.{IsLineTold}
 use Rattle.wild_macho.specs.declared.passes.Ran.{Ran}
 use Rattle.wild_macho.specs.declared.passes.Made.{Made}
+use Rattle.wild_macho.specs.steps.Made.{LeavesAll, IsBadName}
 use Rattle.wild_macho.specs.steps.Made.{IsMade, IsLinkFault, Ends, EndsWith, EndsBare, EndFails, PrintFails, Prints, Finishes, Answers}
-use Rattle.wild_macho.specs.Runs.{Devices, devices, outside, Teller, LeavesImage, LeavesLines, LeavesAll, LeavesNothing}
-use Rattle.wild_macho.specs.Runs.{HasImage, HasCauseIn, IsBadName, RunsBy}
+use Rattle.wild_macho.specs.Runs.{Devices, devices, outside, Teller, LeavesImage, LeavesLines, LeavesNothing}
+use Rattle.wild_macho.specs.Runs.{HasImage, HasCauseIn, RunsBy}
 
 -- a refusal of the link that is kept is one of the job
 link-kept : (l : Link) (e : LinkError) → RefusalStands l e → (e ≡ error.OutOfMemory → ⊥) → IsLinkFault l (fault.Link e)
@@ -111,7 +112,7 @@ answers-refused s paths files later a b writes after prints printed f ran status
       image =
           let P : Option LinkedImage → Type 0 = λ i. MatchOption i (LeavesNothing ran.fault old new) (HasImage s old new ran.fault) in
           subst P (sym none) (subst (λ (g : Option Fault). LeavesNothing g old new) (sym is)
-          (early-leaves files.store s paths a b f old new (record { files = same; lines = refl }) why));
+          (early-leaves files.store s paths a b f old new (same, refl) why));
       why =
           let Q : Option Fault → Type 0 = λ g. IfSome g (JobFails files.store s paths old.failures new.failures) in
           subst Q (sym is) (early-fails files.store s paths a b writes after prints prints f why);
@@ -145,7 +146,7 @@ ended : (s : Settings) (paths : List (List ℕ)) (old new : Devices) (made : Mad
     (λ i. (i ≡ made.image) × LeavesImage f old.outside.store new.outside.store s.output i.bytes.items
     × LeavesLines f old.printed new.printed (run_lines s made.linker paths i))
 ended s paths old new made e f None is1 is2 is3 is4 end =
-    bare-leaves old new f end.memory (record { files = sym is2 ∙ (end.same_store ∙ is1); lines = sym is4 ∙ (end.same_printed ∙ is3) })
+    bare-leaves old new f end.memory (sym is2 ∙ (end.same_store ∙ is1), sym is4 ∙ (end.same_printed ∙ is3))
 ended s paths old new made e f (Some i) is1 is2 is3 is4 end = (
   end.same,
   subst (λ (o : Option Store). LeavesImage f o new.outside.store s.output i.bytes.items) is1

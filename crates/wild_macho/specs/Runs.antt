@@ -16,7 +16,7 @@ use Rattle.macho_devices.specs.Devices.{WritesFile, TornWrite, TakesBytes, Takes
 use Rattle.macho_job.specs.declared.fault.Fault.{Fault}
 use Rattle.macho_job.specs.declared.fault.Fault.TheVariants.{Link as LinkFault, Write, Print, OutOfMemory}
 use Rattle.macho_job.specs.Job.{Outside, Job, IsJob}
-use Rattle.macho_job.specs.Causes.{Failures, failures, status_of, IsClear, JobFails, WordsFail}
+use Rattle.macho_job.specs.Causes.{Failures, failures, status_of, JobFails, WordsFail}
 use Rattle.macho_report.specs.Lines.{fault_line, run_lines}
 use Rattle.macho_report.specs.Printing.{IsLineTold}
 use Rattle.wild_macho.specs.declared.passes.Ran.{Ran}
@@ -57,17 +57,13 @@ LeavesLines (Some Write) old new text = new ≡ old
 LeavesLines (Some Print) old new text = TakesPrefix old new text
 LeavesLines (Some fault) old new text = ⊥
 
--- the files are as they were, and nothing is printed
-pub record LeavesAll (old new : Devices) : Type 0 where
-  pub files : new.outside.store ≡ old.outside.store
-  pub lines : new.printed ≡ old.printed
-
--- Without an image there is a fault, that of no write and no print, and nothing is left behind.
+-- Without an image there is a fault, that of no write and no print, and nothing is left behind: the files are as they were, and
+-- nothing is printed.
 abbrev pub LeavesNothing : Option Fault → Devices → Devices → Type 0
 LeavesNothing None old new = ⊥
 LeavesNothing (Some Write) old new = ⊥
 LeavesNothing (Some Print) old new = ⊥
-LeavesNothing (Some fault) old new = LeavesAll old new
+LeavesNothing (Some fault) old new = (new.outside.store ≡ old.outside.store) × (new.printed ≡ old.printed)
 
 -- THE image of a run by settings: that of their job; what stands under the paths after it, and what was printed.
 pub record HasImage (s : Settings) (old new : Devices) (fault : Option Fault) (image : LinkedImage) : Type 0 where
@@ -83,10 +79,6 @@ pub record HasCauseIn (s : Settings) (old new : Devices) (before after : Teller)
   pub why : JobFails old.outside.store s paths old.failures new.failures fault
   pub line : IsLineTold before.taken after.taken before.faults after.faults (fault_line s.inputs s.export_list_paths paths fault)
 
--- the refusal of paths that can't be written, or want of memory
-abbrev pub IsBadName : Option Fault → Type 0
-IsBadName fault = (fault ≡ Some (LinkFault BadName)) ⊎ (fault ≡ Some OutOfMemory)
-
 -- A run by settings.
 pub record RunsBy (s : Settings) (old new : Devices) (before after : Teller) (ran : Ran) : Type 0 where
   -- the status is that of the fault, 0 exactly where there is none
@@ -95,8 +87,8 @@ pub record RunsBy (s : Settings) (old new : Devices) (before after : Teller) (ra
   pub image : MatchOption ran.image (LeavesNothing ran.fault old new) (HasImage s old new ran.fault)
   -- a fault has its cause, and is told
   pub fault : IfSome ran.fault (HasCauseIn s old new before after)
-  -- paths that can't be written are told before an input is read
-  pub named : bad_name (link_of s) ≡ true → IsBadName ran.fault
+  -- paths that can't be written are told before an input is read, where there is memory
+  pub named : bad_name (link_of s) ≡ true → (ran.fault ≡ Some (LinkFault BadName)) ⊎ (ran.fault ≡ Some OutOfMemory)
 
 -- A run whose words are refused: the fault is that of the first which breaks its row, or want of memory; it is told, and nothing changes.
 pub record RefusesWords (words : List (List ℕ)) (old new : Devices) (before after : Teller) (ran : Ran) : Type 0 where
@@ -126,21 +118,16 @@ pub record KeepsPaths {D : Type 0} (directories : D → Option Directories) (can
 abbrev pub AskForNoLines : List (List ℕ) → Outside → Type 0
 AskForNoLines words files = (s : Settings) → Says words files s → (s.map_lines ≡ false) × (s.generate ≡ None)
 
--- Words that say a job against which nothing stands. Where all is told outside, words say one thing; where directories or canonical
--- paths aren't told, it is whatever they may say.
-pub record IsSure (words : List (List ℕ)) (files : Outside) : Type 0 where
+-- Words that say a job whose link is such. Where all is told outside, words say one thing; where directories or canonical paths
+-- aren't told, it is whatever they may say.
+pub record SayJob (words : List (List ℕ)) (files : Outside) (IsSuch : Link → Type 0) : Type 0 where
   pub said : Settings
   pub says : Says words files said
-  pub each : (s : Settings) → Says words files s → (job : Job) × IsJob files.store s job × IsClear job.link
+  pub each : (s : Settings) → Says words files s → (job : Job) × IsJob files.store s job × IsSuch job.link
 
--- A link that is owed an image wherever there is memory: it is valid, by its sizes.
+-- A link that is owed an image wherever there is memory: its paths can be written, and it is valid, by its sizes.
 pub record IsOwed (l : Link) : Type 0 where
+  pub named : bad_name l ≡ false
   pub counts : Counts
   pub counted : AreCounts l counts
   pub valid : IsValid l counts
-
--- Words that say a job that is answered wherever there is memory: its paths can be written, and its link is owed an image.
-pub record IsAnsweredJob (words : List (List ℕ)) (files : Outside) : Type 0 where
-  pub said : Settings
-  pub says : Says words files said
-  pub each : (s : Settings) → Says words files s → (job : Job) × IsJob files.store s job × (bad_name job.link ≡ false) × IsOwed job.link

@@ -18,11 +18,10 @@ ghost use Rattle.macho_linked.specs.Linked.{IsImageOf};
 ghost use Rattle.macho_job.specs.Job.{uuid_of};
 ghost use Rattle.macho_devices.specs.Devices.{OnlyReads, OnlyWrites};
 ghost use Rattle.macho_devices.specs.Faults.{CountsOn};
-ghost use Rattle.macho_job.specs.Causes.{Failures, NoneFailed, failures, status_of, reading, JobFails, WordsFail};
+ghost use Rattle.macho_job.specs.Causes.{Failures, NoneFailed, failures, status_of, reading, IsClear, JobFails, WordsFail};
 ghost use Rattle.macho_job.specs.Names.{names_of};
-ghost use Rattle.wild_macho.specs.Runs.{outside, devices, teller, IsRun, RunsBy, IsBadName};
-ghost use Rattle.wild_macho.specs.Runs.{KeepsPaths, AskForNoLines, IsSure, IsAnsweredJob};
-ghost use Rattle.wild_macho.specs.steps.Made.{IsMade, IsLinkFault, ends, EndFails, Prints, Finishes, Answers};
+ghost use Rattle.wild_macho.specs.Runs.{outside, devices, teller, IsRun, RunsBy, KeepsPaths, AskForNoLines, SayJob, IsOwed};
+ghost use Rattle.wild_macho.specs.steps.Made.{IsBadName, IsMade, IsLinkFault, ends, EndFails, Prints, Finishes, Answers};
 
 use macho_args::MachOArgs;
 use macho_devices::{FileFault, Files, Sink};
@@ -78,14 +77,14 @@ pub fn run<F: Files, O: Sink, E: Sink>(
 
     // Where a job has nothing against it and no device fails, it is done; or memory ran out.
     ensures complete { (m : Store) → F.holds files.old ≡ Some m
-        → IsSure (texts_of words.now) (outside (F.directories files.old) (F.canonical_paths files.old) (Some m))
+        → SayJob (texts_of words.now) (outside (F.directories files.old) (F.canonical_paths files.old) (Some m)) IsClear
         → NoneFailed (failures (F.faults files.old) (F.write_faults files.old) (O.faults out.old))
         (failures (F.faults files.new) (F.write_faults files.new) (O.faults out.new))
         → (result.status ≡ 0) ⊎ (result.status ≡ 5) }
 
-    // The same holds of a job whose link is valid.
+    // The same holds of a job whose link is owed an image.
     ensures answered { (m : Store) → F.holds files.old ≡ Some m
-        → IsAnsweredJob (texts_of words.now) (outside (F.directories files.old) (F.canonical_paths files.old) (Some m))
+        → SayJob (texts_of words.now) (outside (F.directories files.old) (F.canonical_paths files.old) (Some m)) IsOwed
         → NoneFailed (failures (F.faults files.old) (F.write_faults files.old) (O.faults out.old))
         (failures (F.faults files.new) (F.write_faults files.new) (O.faults out.new))
         → (result.status ≡ 0) ⊎ (result.status ≡ 5) }

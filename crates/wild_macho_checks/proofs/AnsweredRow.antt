@@ -18,7 +18,7 @@ use Rattle.macho_job.specs.Heads.{head_of}
 use Rattle.macho_job.specs.Search.{IsMissing}
 use Rattle.macho_job.specs.Job.{Job, IsJob, uuid_of}
 use Rattle.wild_macho_checks.proofs.RowsAnswered.{calls, calls_is_object, begins_as_file, is_object_type, calling, calling_is_owed}
-use Rattle.wild_macho.specs.Runs.{outside, Says, IsAnsweredJob}
+use Rattle.wild_macho.specs.Runs.{outside, Says, SayJob, IsOwed}
 
 abbrev path : List ℕ
 path = codes "calls.o"
@@ -90,9 +90,9 @@ is_job = record {
 }
 
 -- THE job is answered wherever there is memory.
-pub job_is_answered : (d : Option Directories) (c : Option CanonicalPaths) → IsAnsweredJob (path ∷ []) (outside d c (Some held))
+pub job_is_answered : (d : Option Directories) (c : Option CanonicalPaths) → SayJob (path ∷ []) (outside d c (Some held)) IsOwed
 job_is_answered d c = record {
   said = asked;
   says = says_asked d c;
-  each = λ s says. (job, subst (λ (t : Settings). IsJob (Some held) t job) (sym (says_one d c s says)) is_job, refl, calling_is_owed);
+  each = λ s says. (job, subst (λ (t : Settings). IsJob (Some held) t job) (sym (says_one d c s says)) is_job, calling_is_owed);
 }

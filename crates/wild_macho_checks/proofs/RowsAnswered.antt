@@ -149,4 +149,4 @@ each_part = refl
 
 -- THE link is owed an image.
 pub calling_is_owed : IsOwed calling
-calling_is_owed = record { counts = sizes; counted = are_sizes; valid = is_valid_by_tests calling sizes each_part }
+calling_is_owed = record { named = refl; counts = sizes; counted = are_sizes; valid = is_valid_by_tests calling sizes each_part }

@@ -1,19 +1,28 @@
 -- What is known of a run between its passes.
-use Rattle.std.specs.Prelude.{◌≡◌, ℕ, List, Option, None, Some, MatchOption, IfSome}
+use Rattle.std.specs.Prelude.{◌≡◌, ◌⊎◌, ℕ, List, Option, None, Some, MatchOption, IfSome}
 use Rattle.macho_args.specs.Settings.{Settings}
 use Rattle.macho_args.specs.Store.{Store}
 use Rattle.macho_model.specs.Links.{Link}
 use Rattle.macho_linked.specs.Linked.{IsImageOf}
 use Rattle.macho_linked.specs.declared.image.LinkedImage.{LinkedImage}
 use Rattle.macho_devices.specs.Faults.{CountRose}
+use Rattle.macho_faults.specs.declared.fault.LinkError.TheVariants.{BadName}
 use Rattle.macho_job.specs.declared.fault.Fault.{Fault}
-use Rattle.macho_job.specs.declared.fault.Fault.TheVariants.{Write, Print, OutOfMemory}
+use Rattle.macho_job.specs.declared.fault.Fault.TheVariants.{Link as LinkFault, Write, Print, OutOfMemory}
 use Rattle.macho_job.specs.Causes.{Failures, status_of, JobFails}
 use Rattle.macho_job.specs.Job.{Links, uuid_of}
 use Rattle.macho_report.specs.Lines.{run_lines}
 use Rattle.wild_macho.specs.declared.passes.Made.{Made}
 use Rattle.wild_macho.specs.declared.passes.Ran.{Ran}
 use Rattle.wild_macho.specs.Runs.{Devices, LeavesImage, LeavesLines, LeavesNothing, HasImage}
+
+-- the files are as they were, and nothing is printed
+abbrev pub LeavesAll : Devices → Devices → Type 0
+LeavesAll old new = (new.outside.store ≡ old.outside.store) × (new.printed ≡ old.printed)
+
+-- the refusal of paths that can't be written, or want of memory
+abbrev pub IsBadName : Option Fault → Type 0
+IsBadName fault = (fault ≡ Some (LinkFault BadName)) ⊎ (fault ≡ Some OutOfMemory)
 
 -- the link of settings, and its image
 pub record IsMade (told : Option Store) (s : Settings) (paths : List (List ℕ)) (made : Made) : Type 0 where
