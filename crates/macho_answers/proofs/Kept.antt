@@ -3,14 +3,15 @@
 -- The unwind information lies in the file part of `__TEXT`, which is below 4 GiB where no file size passes 32 bits. So nothing of the
 -- sizes is cut. A link has one list of sizes, so what stands for one stands for any.
 use Rattle.std.proofs.Common.{◌≡◌, ◌^◌, ◌≤◌, inl, inr, Some, None, sym, subst, arith}
-use Rattle.std.specs.Prelude.{Option}
+use Rattle.std.specs.Prelude.{Option, IfSome}
 use Rattle.macho_model.specs.declared.placed.Counts.{Counts}
 use Rattle.macho_model.specs.Links.{Link}
 use Rattle.macho_model.specs.Placement.{Placed}
 use Rattle.macho_model.specs.Faults.{LinkFault, FaultStands, kept_placement}
 use Rattle.macho_promise.specs.Sizes.{AreCounts}
 use Rattle.macho_placing.specs.Laws.{IsWhollyPlaced, NonePasses}
-use Rattle.macho_faults.specs.Standing.{KeepsPlaced, IsStanding}
+use Rattle.macho_promise.specs.Promise.{IsKept}
+use Rattle.macho_faults.specs.Standing.{IsStanding}
 use Rattle.macho_sizes.proofs.One.{sizes_one}
 use Rattle.macho_found.proofs.Found.{laid_out}
 use Rattle.macho_answers.specs.Kept.{PlacedIsKept, EarlyIsStanding, LateIsStanding}
@@ -31,11 +32,11 @@ placed_is_kept l counts p whole within are = record {
   laid_out = laid_out l counts p whole;
 }
 
-standing : (l : Link) (counts : Counts) (f : LinkFault) (o : Option Placed) → AreCounts l counts → kept_placement f ≡ o → KeepsPlaced l o
+standing : (l : Link) (counts : Counts) (f : LinkFault) (o : Option Placed) → AreCounts l counts → kept_placement f ≡ o → IfSome o (IsKept l)
     → FaultStands l counts f → (others : Counts) → AreCounts l others → IsStanding l others f
 standing l counts f o are kept keeps stands others other = record {
   stands = subst (λ (c : Counts). FaultStands l c f) (sizes_one l counts others are other) stands;
-  kept = subst (KeepsPlaced l) (sym kept) keeps;
+  kept = subst (λ (x : Option Placed). IfSome x (IsKept l)) (sym kept) keeps;
 }
 
 pub early_is_standing : EarlyIsStanding

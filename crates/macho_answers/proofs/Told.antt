@@ -4,7 +4,8 @@
 -- the sizes of the link, with unwind information cut at 4 GiB; the written sum of a valid link is far below, so nothing is cut, and of
 -- such a placement no refusal stands either.
 use Rattle.std.proofs.Common.{◌≡◌, ℕ, ◌^◌, ◌≤◌, min, Some, None, refl, sym, ap, subst, ◌∙◌, arith, false}
-use Rattle.std.specs.Prelude.{Option}
+use Rattle.std.specs.Prelude.{Option, IfSome}
+use Rattle.std.specs.Option.{option_map}
 use Rattle.std.proofs.lemmas.Bool.{true≢false}
 use Rattle.macho_model.specs.declared.placed.Counts.{Counts}
 use Rattle.macho_model.specs.Links.{Link}
@@ -21,8 +22,7 @@ use Rattle.macho_faults.specs.declared.fault.LinkError.TheVariants.{BadInitializ
 use Rattle.macho_faults.specs.declared.fault.LinkError.TheVariants.{BindAddend, FixupPlace, TooMany, ImageTooLarge, RebaseTarget}
 use Rattle.macho_faults.specs.declared.fault.LinkError.TheVariants.{RelocationRange, BadName, BadInput, OutOfMemory}
 use Rattle.macho_layout.specs.Placements.{placed_of}
-use Rattle.macho_faults.specs.Errors.{placed_if}
-use Rattle.macho_faults.specs.Standing.{Stands, KeepsPlaced, IsStanding}
+use Rattle.macho_faults.specs.Standing.{Stands, IsStanding}
 use Rattle.macho_targets.specs.Laws.{ObjectsAreRead}
 use Rattle.macho_valid.specs.Laws.{ObjectsAreBytes}
 use Rattle.macho_answers.specs.Refusals.{StandingIsTold}
@@ -56,7 +56,7 @@ not_standing l counts f objects bytes name are valid stands = by (kept_placement
         let is : f ≡ model.BadName = link_is_not_refused l counts f valid none stands.stands in
         true≢false (sym (subst (FaultStands l counts) is stands.stands) ∙ name)
 
-    by : (o : Option Placed) → kept_placement f ≡ o → KeepsPlaced l o → ⊥
+    by : (o : Option Placed) → kept_placement f ≡ o → IfSome o (IsKept l) → ⊥
     by None none kept = alone none
     by (Some p) some kept =
         let same : kept.counts ≡ counts = kept_counts l p counts are valid kept in
@@ -78,9 +78,9 @@ spared l counts (OverlappingFields file section first second) never stands =
 spared l counts (BindAddend file section relocation addend) never stands =
     absurd (never (model.BindAddend file section relocation addend) stands)
 spared l counts (FixupPlace file section relocation placement) never stands =
-    absurd (never (model.FixupPlace file section relocation (placed_if placement)) stands)
-spared l counts (TooMany what number placement) never stands = absurd (never (model.TooMany what number (placed_if placement)) stands)
-spared l counts (ImageTooLarge placement) never stands = absurd (never (model.ImageTooLarge (placed_if placement)) stands)
+    absurd (never (model.FixupPlace file section relocation (option_map placed_of placement)) stands)
+spared l counts (TooMany what number placement) never stands = absurd (never (model.TooMany what number (option_map placed_of placement)) stands)
+spared l counts (ImageTooLarge placement) never stands = absurd (never (model.ImageTooLarge (option_map placed_of placement)) stands)
 spared l counts (RebaseTarget at placement) never stands = absurd (never (model.RebaseTarget at (placed_of placement)) stands)
 spared l counts (RelocationRange at placement) never stands = absurd (never (model.RelocationRange at (placed_of placement)) stands)
 spared l counts BadName never stands = absurd (never model.BadName stands)
