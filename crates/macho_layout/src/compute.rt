@@ -3,7 +3,7 @@ ghost use Rattle.std.specs.Prelude.{◌≡◌, ◌+◌, ◌*◌, ◌<◌, ◌≤
 ghost use Rattle.macho_layout.specs.Placements.{placed_of};
 ghost use Rattle.macho_layout.specs.Sums.{members_cost, head_size, base_of, FitsLimits};
 ghost use Rattle.macho_model.specs.Segments.{list_if};
-ghost use Rattle.macho_layout.specs.Laid.{FaultIs, IsLaidOut, FaultStands, IsSmall, is_small_segment, is_small_tables, zero_page};
+ghost use Rattle.macho_layout.specs.Laid.{FaultIs, IsLaidOut, FaultStands, IsSmall, is_small_segment, is_small_tables, zero_page, tables_segment};
 ghost use Rattle.std.specs.List.{list_all};
 ghost use Rattle.macho_cells.specs.Stacks.{AreStacked};
 ghost use Rattle.macho_layout.specs.Names.{mapped_names, merged_count};
@@ -19,7 +19,7 @@ use crate::places::{
     template_range,
 };
 use crate::plan::Plan;
-use macho_cells::{Stacked, stack, starts};
+use macho_cells::{PlacedMember, Stacked, stack, starts};
 use macho_model::{Counts, Limit, Linkedit, PlacedSegment};
 use macho_records::SegmentName;
 use macho_rows::{Rows, SEGMENT_PAGE, place_rows, tables};
@@ -131,36 +131,18 @@ impl Plan {
         let merged = stacked.extents.len();
         let starts = starts(alloc, merged + 4, &rows.placed)?;
         let linkedit = tables(counts, rows.offset, pointer_pages(&rows.segments));
-        let size = linkedit.signature.end - rows.offset;
-        let last = PlacedSegment {
-            name: SegmentName::LINKEDIT,
-            address: rows.address,
-            size: size.next_multiple_of(SEGMENT_PAGE),
-            file_offset: rows.offset,
-            file_size: size,
-        };
+        let last = tables_segment(rows.address, rows.offset, &linkedit);
         let before = u32::from(self.executable);
+        let count = self.sections.len();
+        let members: &[PlacedMember] = &stacked.placed;
         let init_offsets = start_of(&starts, merged + MADE_INIT_OFFSETS as usize);
         let unwind = start_of(&starts, merged + MADE_UNWIND_INFO as usize);
         let stubs = start_of(&starts, merged + MADE_STUBS as usize);
         let slots = start_of(&starts, merged + MADE_SLOTS as usize);
         Ok(Placement {
             base: self.base(),
-            sections: placed_sections(
-                alloc,
-                &self.sections,
-                before,
-                names,
-                &stacked.placed,
-                &starts,
-            )?,
-            commons: placed_commons(
-                alloc,
-                &self.commons,
-                self.sections.len(),
-                &stacked.placed,
-                &starts,
-            )?,
+            sections: placed_sections(alloc, &self.sections, before, names, members, &starts)?,
+            commons: placed_commons(alloc, &self.commons, count, members, &starts)?,
             slots: placed_slots(alloc, &self.slots, slots)?,
             stubs: placed_stubs(alloc, &self.stubs, stubs)?,
             output_sections: self.headers(alloc, &stacked.extents, &rows.segments, &rows.placed)?,
@@ -197,6 +179,22 @@ impl Plan {
                 placement: Some(placement),
             })
         }
+    }
+}
+
+/// The segment of the tables, from an address and a file offset on.
+fn tables_segment(address: u64, offset: u64, tables: &Linkedit) -> PlacedSegment
+    requires ordered { offset ≤ tables.now.signature.end }
+    requires room { tables.now.signature.end + 2 ^ 14 ≤ 2 ^ 64 }
+    ensures { result ≡ tables_segment address offset tables.now }
+{
+    let size = tables.signature.end - offset;
+    PlacedSegment {
+        name: SegmentName::LINKEDIT,
+        address,
+        size: size.next_multiple_of(SEGMENT_PAGE),
+        file_offset: offset,
+        file_size: size,
     }
 }
 

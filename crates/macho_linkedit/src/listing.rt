@@ -2,12 +2,11 @@
 //! it is the definition of its name, a local one where it is no assembler's label.
 ghost use Rattle.std.specs.Prelude.{◌≡◌, ℕ, ◌+◌, ◌*◌, ◌<◌, ◌≤◌, ◌^◌, List, ◌++◌, length, map, filter, false, IfOk, IfSome, OnOk};
 ghost use Rattle.std.specs.List.{range_with_len};
-ghost use Rattle.macho_records.specs.Symbols.{is_common_of, is_stab_of};
+ghost use Rattle.macho_records.specs.Symbols.{is_stab_of};
 ghost use Rattle.macho_model.specs.declared.placed.Counts.{Counts};
 ghost use Rattle.macho_model.specs.Placement.{Placed};
 ghost use Rattle.macho_model.specs.SymbolRows.{row_of};
 ghost use Rattle.macho_linkedit.specs.Symbols.{row_seen};
-ghost use Rattle.macho_model.specs.Symbols.{is_global, is_absolute};
 ghost use Rattle.macho_model.specs.Objects.{num_symbols, strings_of, symbol_at, symbol_name};
 ghost use Rattle.macho_model.specs.Links.{Link, object_of};
 ghost use Rattle.macho_model.specs.SymbolTable.{is_in_table};
@@ -20,8 +19,9 @@ ghost use Rattle.macho_linkedit.specs.steps.Listing.{placed_type_of, placed_desc
 
 use crate::names::Names;
 use crate::symbols::TableRow;
+use macho_names::{is_absolute, is_common, is_global};
 use macho_object::{File, is_carried};
-use macho_records::{N_EXT, N_PEXT, N_SECT, N_STAB, SymtabEntry};
+use macho_records::{N_EXT, N_PEXT, N_SECT, SymtabEntry};
 use macho_symbols::Resolved;
 use std::alloc::{AllocError, Global};
 
@@ -67,27 +67,6 @@ fn stands_in_carried(file: &File<'_>, index: u32) -> bool
         Some(header) => is_carried(header),
         None => unreachable!(),
     }
-}
-
-/// Whether a symbol is a common: its size is not looked at.
-fn is_common(symbol: SymtabEntry) -> bool
-    ensures { result ≡ is_common_of symbol }
-{
-    symbol.is_undefined() && !symbol.is_local() && symbol.n_value != 0
-}
-
-/// Whether a symbol has a value of its own.
-fn is_absolute(symbol: SymtabEntry) -> bool
-    ensures { result ≡ is_absolute symbol }
-{
-    symbol.n_type & N_STAB == 0 && symbol.is_absolute()
-}
-
-/// Whether other files see a symbol.
-fn is_global(symbol: SymtabEntry) -> bool
-    ensures { result ≡ is_global symbol }
-{
-    symbol.n_type & N_STAB == 0 && !symbol.is_local()
 }
 
 /// Whether a symbol has a name and is defined.

@@ -1,6 +1,5 @@
 //! The contents of segments: sections and stubs with the words of the loader, and what is made of consumed sections.
-ghost use Rattle.std.specs.Prelude.{◌≡◌, ◌+◌, ◌≤◌, length, IfOk, OnOk, IfErr};
-ghost use Rattle.macho_bytes.specs.Texts.{put};
+ghost use Rattle.std.specs.Prelude.{◌≡◌, length, IfOk, OnOk, IfErr};
 ghost use Rattle.macho_bytes.specs.Images.{zeros};
 ghost use Rattle.macho_model.specs.Links.{Link};
 ghost use Rattle.macho_filling.specs.Filled.{NoneIsBad};
@@ -16,16 +15,9 @@ use macho_fields::Places;
 use macho_filling::fill_contents;
 use macho_fixups::Fixup;
 use macho_made::{unwind_text, write_initializers};
+use macho_numbers::put_text;
 use macho_places::file_offset;
 use std::alloc::Global;
-
-/// Copies a text to a place; the other bytes stay.
-pub(crate) fn put_text(text: &[u8], out: &mut [u8], at: usize)
-    requires { at + length text.now ≤ length out.old }
-    ensures { out.new ≡ put at text.now out.old }
-{
-    out[at..at + text.len()].copy_from_slice(text);
-}
 
 /// Fills sections and stubs, and writes the words of the loader over them. The words are answered, by their addresses.
 pub(crate) fn write_contents<P: Places>(
@@ -87,6 +79,6 @@ pub(crate) fn write_unwind<P: Places>(
     let placement = &b.sized.placement;
     let at = file_offset(&placement.segments, placement.unwind.start) as usize;
     let text = unwind_text(alloc, places, &b.read.needs.tables, &b.read.entries)?;
-    put_text(&text, out, at);
+    put_text(out, at, &text);
     Ok(())
 }

@@ -6,13 +6,13 @@ ghost use Rattle.macho_linkedit.specs.Runs.{IsRunOf};
 ghost use Rattle.macho_linking.specs.steps.Planned.{IsPlanned, IsLooked, KnowsAll, placement_of, counts_of};
 ghost use Rattle.macho_linking.specs.steps.Written.{FixupsArePut, TrieIsPut, SymbolsArePut};
 
-use crate::contents::put_text;
 use crate::planned::Planned;
 use macho_chaining::write_fixup_table;
 use macho_fields::Places;
 use macho_fixups::Fixup;
 use macho_linkedit::import_table;
 use macho_needs::Tables;
+use macho_numbers::put_text;
 use macho_symbols::OwnEntry;
 use macho_tables::{said_exports, symbol_table};
 use std::alloc::{AllocError, Global};
@@ -72,7 +72,7 @@ pub(crate) fn write_trie<P: Places>(
         b.libraries,
     )?;
     let text = b.sized.trie.encode(alloc, &exports)?;
-    put_text(&text, out, b.sized.placement.linkedit.trie.start as usize);
+    put_text(out, b.sized.placement.linkedit.trie.start as usize, &text);
     Ok(text.len())
 }
 

@@ -11,7 +11,8 @@ ghost use Rattle.macho_names.specs.steps.Events.{library_text};
 ghost use Rattle.macho_names.specs.steps.Notes.{AreNoted, AreEnds, IsString, CommonFits, row_in, named_row};
 
 use crate::ends::block_ends;
-use crate::notes::{Name, Note, Sort, is_absolute, is_in_section, name_at, note_of};
+use crate::kinds::{is_absolute, is_in_section};
+use crate::notes::{Name, Note, Sort, name_at, note_of};
 use macho_object::File;
 use macho_records::SymtabEntry;
 use macho_stub::DefinedStubLibrary;

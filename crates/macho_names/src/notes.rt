@@ -6,15 +6,16 @@
 //!     name 1, 5 bytes   sort Section   number 0   value 16   global, not weak, not hidden
 ghost use Rattle.std.specs.Prelude.{◌≡◌, ◌^◌, ◌<◌, ◌≤◌, true, false, ◌==◌, length, if◌then◌else◌};
 ghost use Rattle.macho_records.specs.Symbols.{is_common_of, common_of, common_size_of, common_exponent_of};
-ghost use Rattle.macho_model.specs.Symbols.{is_global, is_absolute, is_in_section};
+ghost use Rattle.macho_model.specs.Symbols.{is_global};
 ghost use Rattle.macho_model.specs.Objects.{num_symbols, strings_of, symbol_at};
 ghost use Rattle.macho_names.specs.Kept.{in_carried, sort_of, number_of, value_of, row_of_symbol};
 ghost use Rattle.macho_names.specs.steps.Events.{strength_of, size_of_common};
 ghost use Rattle.macho_names.specs.steps.Notes.{row_in, AreEnds, IsString, CommonFits};
 
 use crate::ends::string_end;
+use crate::kinds::{is_absolute, is_global};
 use macho_object::{File, is_carried};
-use macho_records::{CommonSymbol, N_SECT, N_STAB, N_TYPE, SymtabEntry};
+use macho_records::{CommonSymbol, SymtabEntry};
 
 /// Where a symbol leads by itself.
 #[derive(Clone, Copy)]
@@ -94,27 +95,6 @@ fn in_carried(file: &File<'_>, index: u32) -> bool
     }
 }
 
-/// Whether other files see a symbol.
-pub(crate) fn is_global(symbol: SymtabEntry) -> bool
-    ensures { result ≡ is_global symbol }
-{
-    symbol.n_type & N_STAB == 0 && !symbol.is_local()
-}
-
-/// Whether a symbol is defined in a section.
-pub(crate) fn is_in_section(symbol: SymtabEntry) -> bool
-    ensures { result ≡ is_in_section symbol }
-{
-    symbol.n_type & N_STAB == 0 && symbol.n_type & N_TYPE == N_SECT
-}
-
-/// Whether a symbol has a value of its own.
-pub(crate) fn is_absolute(symbol: SymtabEntry) -> bool
-    ensures { result ≡ is_absolute symbol }
-{
-    symbol.n_type & N_STAB == 0 && symbol.is_absolute()
-}
-
 /// A symbol of an object as a common, if it is one.
 #[tactic(auto, using(crate::proofs::Entries::commons_are_small))]
 fn as_common(file: &File<'_>, index: u32, symbol: SymtabEntry) -> Option<CommonSymbol>
@@ -137,6 +117,19 @@ struct Lead {
     value: u64,
 }
 
+impl Lead {
+    /// A lead of a sort, with its number and value.
+    fn new(sort: Sort, number: u8, value: u64) -> Lead
+        ensures { result ≡ record { sort = sort; number = number; value = value } }
+    {
+        Lead {
+            sort,
+            number,
+            value,
+        }
+    }
+}
+
 /// Where a symbol of an object leads by itself.
 fn lead_of(file: &File<'_>, index: u32, symbol: SymtabEntry) -> Lead
     requires object { file.now.is_dynamic ≡ false }
@@ -148,35 +141,18 @@ fn lead_of(file: &File<'_>, index: u32, symbol: SymtabEntry) -> Lead
     ensures small { CommonFits result.sort result.number result.value }
 {
     let _object = file.is_dynamic();
-    let value = symbol.n_value;
     if in_carried(file, index) {
         let Some(offset) = file.symbol_offset_in_section(index) else {
             unreachable!()
         };
-        return Lead {
-            sort: Sort::Section,
-            number: symbol.n_sect.saturating_sub(1),
-            value: offset,
-        };
+        return Lead::new(Sort::Section, symbol.n_sect.saturating_sub(1), offset);
     }
     if is_absolute(symbol) {
-        return Lead {
-            sort: Sort::Absolute,
-            number: 0,
-            value,
-        };
+        return Lead::new(Sort::Absolute, 0, symbol.n_value);
     }
     match as_common(file, index, symbol) {
-        Some(common) => Lead {
-            sort: Sort::Common,
-            number: common.align,
-            value,
-        },
-        None => Lead {
-            sort: Sort::Nowhere,
-            number: 0,
-            value: 0,
-        },
+        Some(common) => Lead::new(Sort::Common, common.align, symbol.n_value),
+        None => Lead::new(Sort::Nowhere, 0, 0),
     }
 }
 

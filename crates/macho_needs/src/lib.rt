@@ -14,4 +14,4 @@ mod tables;
 pub use keys::{SlotKey, key};
 pub use laws::{names_are_noted, needs_are_whole};
 pub use needs::Needs;
-pub use tables::Tables;
+pub use tables::{Tables, is_import};

@@ -120,7 +120,7 @@ impl Tables {
 }
 
 /// Whether a target is an import.
-fn is_import(target: Target) -> bool
+pub fn is_import(target: Target) -> bool
     ensures { result ≡ is_import target }
 {
     match target {

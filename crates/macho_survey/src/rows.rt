@@ -1,6 +1,6 @@
 //! Which relocations are supported: by form, pair, instruction and target (`mach-o/arm64/reloc.h`).
 ghost use Rattle.std.specs.Prelude.{◌≡◌, true, false};
-ghost use Rattle.macho_model.specs.Targets.{is_import, is_defined};
+ghost use Rattle.macho_model.specs.Targets.{is_defined};
 ghost use Rattle.macho_model.specs.Rows.{has_form, is_none, defined_or_import, takes_offset, load_fits};
 ghost use Rattle.macho_model.specs.Words.{is_add, is_load_store};
 ghost use Rattle.macho_survey.specs.steps.Supported.{difference_in, addend_in, pointer_in, called_in, page_load};
@@ -9,6 +9,7 @@ ghost use Rattle.macho_survey.specs.steps.Supported.{offset_load, slot_reference
 use crate::pairs::Seen;
 use macho_arm64::{FieldSize, fits_instruction, is_ldr};
 use macho_model::Target;
+use macho_needs::is_import;
 use macho_records::{
     ARM64_RELOC_ADDEND, ARM64_RELOC_BRANCH26, ARM64_RELOC_GOT_LOAD_PAGE21,
     ARM64_RELOC_GOT_LOAD_PAGEOFF12, ARM64_RELOC_PAGE21, ARM64_RELOC_PAGEOFF12,
@@ -22,16 +23,6 @@ pub(crate) fn is_defined(target: Target) -> bool
 {
     match target {
         Target::Section { .. } | Target::Common { .. } | Target::Base => true,
-        _ => false,
-    }
-}
-
-/// Whether a target is an import.
-pub(crate) fn is_import(target: Target) -> bool
-    ensures { result ≡ is_import target }
-{
-    match target {
-        Target::Import { .. } => true,
         _ => false,
     }
 }

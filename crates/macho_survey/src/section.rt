@@ -21,10 +21,10 @@ ghost use Rattle.macho_survey.specs.steps.Sections.{bad_addend, misplaced, judge
 use crate::findings::{Addend, Findings, Pair, Place};
 use crate::overlap::first_overlap;
 use crate::pairs::Seen;
-use crate::rows::{is_import, is_supported};
+use crate::rows::is_supported;
 use macho_faults::LinkError;
 use macho_model::Target;
-use macho_needs::Needs;
+use macho_needs::{Needs, is_import};
 use macho_numbers::Number;
 use macho_object::{File, RelocationList};
 use macho_records::{ARM64_RELOC_UNSIGNED, RelocationInfo};

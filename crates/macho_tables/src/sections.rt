@@ -1,7 +1,6 @@
 //! The numbers of output sections, by which symbols tell where they stand. There are at most 255.
 ghost use Rattle.std.specs.Prelude.{◌≡◌, ◌<◌, ◌≤◌, nat_lt, ◌&&◌, false, length};
 ghost use Rattle.macho_bytes.specs.Texts.{name_of};
-ghost use Rattle.macho_records.specs.Symbols.{is_common_of};
 ghost use Rattle.macho_model.specs.Objects.{num_symbols};
 ghost use Rattle.macho_model.specs.Segments.{key_of};
 ghost use Rattle.macho_layout.specs.Placements.{placed_of};
@@ -11,7 +10,8 @@ ghost use Rattle.macho_tables.specs.steps.Sections.{is_of, number_told, symbol_h
 use macho_layout::Placement;
 use macho_linkedit::LinkedObject;
 use macho_model::{Range64, Slot};
-use macho_records::{S_ZEROFILL, SectionFlags, SectionHeader, SymtabEntry, name_bytes};
+use macho_names::is_common;
+use macho_records::{S_ZEROFILL, SectionFlags, SectionHeader, name_bytes};
 
 /// What sections are merged by: those of one segment, name and type become one output section.
 #[derive(Clone, Copy)]
@@ -99,13 +99,6 @@ fn header_of_symbol(object: &LinkedObject<'_>, index: u32) -> Option<SectionHead
         Some(section) => object.file.section(section),
         None => None,
     }
-}
-
-/// Whether a symbol is a common.
-fn is_common(symbol: SymtabEntry) -> bool
-    ensures { result ≡ is_common_of symbol }
-{
-    symbol.is_undefined() && !symbol.is_local() && symbol.n_value != 0
 }
 
 /// The number of the output section that a symbol of an object stands in; 0 for a value of its own.

@@ -52,8 +52,14 @@ tables-linkedit-requires c =
     ∙ ap row_pages c.deref-2.ensures.value in
     subst (λ (n : ℕ). tables_cost c.args.counts.now c.args.rows.offset n < 2 ^ 64) (sym pages) (omega (arith, room))
 
-pub next_multiple_of-requires-clause-fits : goal.next_multiple_of-requires-clause-fits
-next_multiple_of-requires-clause-fits c =
+pub tables_segment-last-requires-clause-ordered : goal.tables_segment-last-requires-clause-ordered
+tables_segment-last-requires-clause-ordered c =
+    let end : c.tables-linkedit.result.signature.end ≡ (tables_at c.args.counts.now c.args.rows.offset c.pointer_pages.result).signature.end
+    = ap (λ (t : Linkedit). t.signature.end) c.tables-linkedit.ensures in
+    omega (arith, end, (tables_end_low c.args.counts.now c.args.rows.offset c.pointer_pages.result).0)
+
+pub tables_segment-last-requires-clause-room : goal.tables_segment-last-requires-clause-room
+tables_segment-last-requires-clause-room c =
     let room = tables_room c.args.self.now c.args.counts.now c.args.stacked.now.extents.items c.args.rows.segments.items
     c.args.rows.placed.items c.args.rows.address c.args.rows.offset
     c.requires.fits (omega (arith, c.requires.stacked.within, members-cost-is c.args.self.now)) c.requires.rows in
@@ -63,16 +69,7 @@ next_multiple_of-requires-clause-fits c =
     = ap (λ (t : Linkedit). t.signature.end) c.tables-linkedit.ensures in
     let low = tables_end_low c.args.counts.now c.args.rows.offset c.pointer_pages.result in
     let cost = ap (λ (n : ℕ). tables_cost c.args.counts.now c.args.rows.offset n) pages in
-    omega (
-      arith,
-      room,
-      end,
-      low.1,
-      cost,
-      paged (c.tables-linkedit.result.signature.end - c.args.rows.offset),
-      paged-near
-          (c.tables-linkedit.result.signature.end - c.args.rows.offset),
-    )
+    omega (arith, room, end, low.1, cost)
 
 pub returns : goal.returns
 returns c =
@@ -82,9 +79,9 @@ returns c =
     let executable : c.self.inside.executable ≡ (c.args.self.now).executable = ap (λ (p : Planning). p.executable) c.self.view_is in
     let before : c.from-before.result ≡ one_if (c.args.self.now).executable = c.from-before.ensures ∙ one_is c.self.inside.executable ∙ ap
     (λ (b : Bool). one_if b) executable in
-    let inside : c.len.result ≡ length (specs_of c.self.inside.sections.items)
-    = omega (arith, c.len.ensures, c.self.inside.sections.ok.0, length-map c.self.inside.sections.items (λ (s : Planned). s.spec)) in
-    let many : c.len.result ≡ length (c.args.self.now).sections = inside ∙ ap (λ (p : Planning). length p.sections) c.self.view_is in
+    let inside : c.len-count.result ≡ length (specs_of c.self.inside.sections.items)
+    = omega (arith, c.len-count.ensures, c.self.inside.sections.ok.0, length-map c.self.inside.sections.items (λ (s : Planned). s.spec)) in
+    let many : c.len-count.result ≡ length (c.args.self.now).sections = inside ∙ ap (λ (p : Planning). length p.sections) c.self.view_is in
     let first : c.start_of-init_offsets.result ≡ made_start c.args.stacked.now.extents.items c.in_ok-starts.starts.items 0
     = c.start_of-init_offsets.ensures ∙ ap (λ (xs : List ℕ). number_at xs (c.len-merged.result + 0)) c.deref-3.ensures.value
     ∙ ap (λ (n : ℕ). number_at c.in_ok-starts.starts.items (n + 0)) merged in
@@ -101,8 +98,9 @@ returns c =
     ∙ ap row_pages c.deref-2.ensures.value in
     let tables : c.tables-linkedit.result ≡ tables_at c.args.counts.now c.args.rows.offset (row_pages c.args.rows.segments.items)
     = c.tables-linkedit.ensures ∙ ap (λ (n : ℕ). tables_at c.args.counts.now c.args.rows.offset n) pages in
-    let size : c.next_multiple_of.result ≡ rounded_up SEGMENT_PAGE (c.tables-linkedit.result.signature.end - c.args.rows.offset)
-    = c.next_multiple_of.ensures.value ∙ paged (c.tables-linkedit.result.signature.end - c.args.rows.offset) in
+    let last : c.tables_segment-last.result ≡ tables_segment c.args.rows.address c.args.rows.offset
+    (tables_at c.args.counts.now c.args.rows.offset (row_pages c.args.rows.segments.items))
+    = c.tables_segment-last.ensures ∙ ap (λ (t : Linkedit). tables_segment c.args.rows.address c.args.rows.offset t) tables in
     record {
       planned = c.self.inside.sections.items;
       extents = c.args.stacked.now.extents.items;
@@ -121,57 +119,33 @@ returns c =
       from_them = record {
         base = c.base.ensures;
         segments = c.in_ok-all_segments.ensures
-            ∙ ap (λ (b : Bool). list_if b (zero_page ∷ []) ++ c.deref-19.result.now
-            ++ record {
-              name = padded LINKEDIT;
-              address = c.args.rows.address;
-              size = c.next_multiple_of.result;
-              file_offset =
-                  c.args.rows.offset;
-              file_size = c.tables-linkedit.result.signature.end - c.args.rows.offset;
-            } ∷ []) executable
+            ∙ ap (λ (b : Bool). list_if b (zero_page ∷ []) ++ c.deref-17.result.now ++ c.tables_segment-last.result ∷ []) executable
             ∙ ap (λ (ss : List PlacedSegment). list_if (c.args.self.now).executable (zero_page ∷ []) ++ ss
-            ++ record {
-              name = padded LINKEDIT;
-              address = c.args.rows.address;
-              size = c.next_multiple_of.result;
-              file_offset =
-                  c.args.rows.offset;
-              file_size = c.tables-linkedit.result.signature.end - c.args.rows.offset;
-            } ∷ []) c.deref-19.ensures.value
-            ∙ ap (λ (n : ℕ). list_if (c.args.self.now).executable (zero_page ∷ []) ++ c.args.rows.segments.items
-            ++ record {
-              name = padded LINKEDIT;
-              address = c.args.rows.address;
-              size = n;
-              file_offset = c.args.rows.offset;
-              file_size =
-                  c.tables-linkedit.result.signature.end - c.args.rows.offset;
-            } ∷ []) size
-            ∙ ap (λ (t : Linkedit). list_if (c.args.self.now).executable (zero_page ∷ []) ++ c.args.rows.segments.items
-            ++ tables_segment c.args.rows.address c.args.rows.offset t ∷ []) tables;
+            ++ c.tables_segment-last.result ∷ []) c.deref-17.ensures.value
+            ∙ ap (λ (t : PlacedSegment). list_if (c.args.self.now).executable (zero_page ∷ []) ++ c.args.rows.segments.items
+            ++ t ∷ []) last;
         sections = rw (
           c.in_ok-placed_sections.ensures,
           c.deref-7.ensures.value,
+          c.deref-members.ensures.value,
           c.deref-8.ensures.value,
-          c.deref-9.ensures.value,
           c.requires.names,
           before,
         ) refl;
-        commons = rw (c.in_ok-placed_commons.ensures, c.deref-10.ensures.value, c.deref-11.ensures.value, c.deref-12.ensures.value) (
+        commons = rw (c.in_ok-placed_commons.ensures, c.deref-9.ensures.value, c.deref-members.ensures.value, c.deref-10.ensures.value) (
             ap (λ (n : ℕ). placed_commons n c.args.stacked.now.placed.items c.in_ok-starts.starts.items c.self.inside.commons.items) many
             ∙ ap (λ (cs : List CommonSpec). placed_commons (length (c.args.self.now).sections) c.args.stacked.now.placed.items
             c.in_ok-starts.starts.items cs) (ap (λ (p : Planning). p.commons) c.self.view_is));
-        slots = rw (c.in_ok-placed_slots.ensures, c.deref-13.ensures.value) (ap (λ (n : ℕ). placed_slots n c.self.inside.slots.items) fourth
+        slots = rw (c.in_ok-placed_slots.ensures, c.deref-11.ensures.value) (ap (λ (n : ℕ). placed_slots n c.self.inside.slots.items) fourth
             ∙ ap (λ (p : Planning). placed_slots (made_start c.args.stacked.now.extents.items c.in_ok-starts.starts.items 3) p.slots)
             c.self.view_is);
-        stubs = rw (c.in_ok-placed_stubs.ensures, c.deref-14.ensures.value) (ap (λ (n : ℕ). placed_stubs n c.self.inside.stubs.items) third
+        stubs = rw (c.in_ok-placed_stubs.ensures, c.deref-12.ensures.value) (ap (λ (n : ℕ). placed_stubs n c.self.inside.stubs.items) third
             ∙ ap (λ (p : Planning). placed_stubs (made_start c.args.stacked.now.extents.items c.in_ok-starts.starts.items 2) p.stubs)
             c.self.view_is);
-        output_sections = rw (c.in_ok-headers.ensures, c.deref-15.ensures.value, c.deref-16.ensures.value, c.deref-17.ensures.value) refl;
+        output_sections = rw (c.in_ok-headers.ensures, c.deref-13.ensures.value, c.deref-14.ensures.value, c.deref-15.ensures.value) refl;
         init_offsets = c.range_at.ensures ∙ ap (λ (n : ℕ). range_at n (4 * c.args.counts.now.initializers)) first;
         unwind = c.range_at-2.ensures ∙ ap (λ (n : ℕ). range_at n c.args.counts.now.unwind) second;
-        template = c.template_range.ensures ∙ ap template_range c.deref-18.ensures.value;
+        template = c.template_range.ensures ∙ ap template_range c.deref-16.ensures.value;
         linkedit = tables;
       };
       places = subst (λ (p : Planning). All MayStand p.sections) c.self.view_is c.self.invariant.1.places;
