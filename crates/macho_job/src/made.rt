@@ -9,8 +9,9 @@ ghost use Rattle.macho_args.specs.Store.{Store};
 ghost use Rattle.macho_image.specs.Linkers.{link_of};
 ghost use Rattle.macho_job.specs.Causes.{JobFails, Failures};
 ghost use Rattle.macho_job.specs.steps.Gathering.{HaveLists};
-ghost use Rattle.macho_job.specs.Generator.{generated_object, generated_path, joined_all, OBJECT_HEAD, CALLING_SECTIONS, LAST_SECTIONS};
-ghost use Rattle.macho_job.specs.Generator.{calling_parts, last_parts, calling_object, last_object, function_name, pointer_name};
+ghost use Rattle.macho_job.specs.Generator.{generated_object, generated_path, function_name, pointer_name};
+ghost use Rattle.macho_job.specs.steps.Objects.{joined_all, OBJECT_HEAD, CALLING_SECTIONS, LAST_SECTIONS};
+ghost use Rattle.macho_job.specs.steps.Objects.{calling_parts, last_parts, calling_object, last_object};
 ghost use Rattle.macho_job.specs.Names.{names_of};
 ghost use Rattle.macho_job.specs.steps.Parts.{part_bytes, TakesMade, MadeFails};
 
@@ -98,7 +99,7 @@ fn generated_object(alloc: Global, index: u32, count: u32) -> Result<Vec<u8>, Al
 }
 
 // The last object, behind its header.
-#[tactic(auto, unfolding(crate::specs::Generator::last_object))]
+#[tactic(auto, unfolding(crate::specs::steps::Objects::last_object))]
 fn push_last(bytes: &mut Vec<u8>, alloc: Global, index: u32) -> Result<(), AllocError>
     ensures { OnOk result (bytes.new.items ≡ last_object bytes.old.items (function_name index) (pointer_name index)) }
 {
@@ -110,7 +111,7 @@ fn push_last(bytes: &mut Vec<u8>, alloc: Global, index: u32) -> Result<(), Alloc
 }
 
 // An object whose function calls the next one, behind its header.
-#[tactic(auto, unfolding(crate::specs::Generator::calling_object))]
+#[tactic(auto, unfolding(crate::specs::steps::Objects::calling_object))]
 fn push_calling(bytes: &mut Vec<u8>, alloc: Global, index: u32) -> Result<(), AllocError>
     requires { index + 1 < 2 ^ 32 }
     ensures { OnOk result (bytes.new.items ≡ calling_object bytes.old.items (function_name index) (pointer_name index)
@@ -159,7 +160,7 @@ fn push_head(bytes: &mut Vec<u8>) -> Result<(), AllocError>
 }
 
 // The parts of an object whose function calls the next one, up to its first string.
-#[tactic(auto, unfolding(crate::specs::Generator::calling_parts))]
+#[tactic(auto, unfolding(crate::specs::steps::Objects::calling_parts))]
 fn push_calling_parts(
     bytes: &mut Vec<u8>,
     name: u32,
@@ -210,7 +211,7 @@ fn push_calling_sections(bytes: &mut Vec<u8>) -> Result<(), AllocError>
 }
 
 // The parts of the last object, up to its first string.
-#[tactic(auto, unfolding(crate::specs::Generator::last_parts))]
+#[tactic(auto, unfolding(crate::specs::steps::Objects::last_parts))]
 fn push_last_parts(bytes: &mut Vec<u8>, name: u32, pointer: u32) -> Result<(), AllocError>
     ensures { OnOk result (bytes.new.items ≡ last_parts bytes.old.items name pointer) }
 {
