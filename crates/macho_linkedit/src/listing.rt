@@ -10,7 +10,6 @@ ghost use Rattle.macho_linkedit.specs.Symbols.{row_seen};
 ghost use Rattle.macho_model.specs.Objects.{num_symbols, strings_of, symbol_at, symbol_name};
 ghost use Rattle.macho_model.specs.Links.{Link, object_of};
 ghost use Rattle.macho_model.specs.SymbolTable.{is_in_table};
-ghost use Rattle.macho_names.specs.Kept.{in_carried};
 ghost use Rattle.macho_symbols.specs.Kept.{IsResolved, HasSymbol, symbol_id};
 ghost use Rattle.macho_linkedit.specs.Listing.{AreObjects, CanBeListed, AreListed, IsRowOf};
 ghost use Rattle.macho_linkedit.specs.steps.Names.{AreNames};
@@ -19,8 +18,8 @@ ghost use Rattle.macho_linkedit.specs.steps.Listing.{placed_type_of, placed_desc
 
 use crate::names::Names;
 use crate::symbols::TableRow;
-use macho_names::{is_absolute, is_common, is_global};
-use macho_object::{File, is_carried};
+use macho_names::{in_carried, is_absolute, is_common, is_global};
+use macho_object::File;
 use macho_records::{N_EXT, N_PEXT, N_SECT, SymtabEntry};
 use macho_symbols::Resolved;
 use std::alloc::{AllocError, Global};
@@ -52,23 +51,6 @@ pub struct TableSymbols {
     pub strings: u64,
 }
 
-/// Whether a symbol stands in a carried section.
-#[tactic(auto, using(macho_names::proofs::Entries::stands_in_carried))]
-fn stands_in_carried(file: &File<'_>, index: u32) -> bool
-    requires object { file.now.is_dynamic ≡ false }
-    requires among { index < num_symbols file.now.bytes }
-    ensures { result ≡ in_carried file.now.bytes (symbol_at file.now.bytes index) }
-{
-    let _object = file.is_dynamic();
-    let Some(section) = file.symbol_section(index) else {
-        return false;
-    };
-    match file.section(section) {
-        Some(header) => is_carried(header),
-        None => unreachable!(),
-    }
-}
-
 /// Whether a symbol has a name and is defined.
 fn is_defined_symbol(file: &File<'_>, index: u32, symbol: SymtabEntry) -> bool
     requires object { file.now.is_dynamic ≡ false }
@@ -76,8 +58,7 @@ fn is_defined_symbol(file: &File<'_>, index: u32, symbol: SymtabEntry) -> bool
     requires entry { symbol ≡ symbol_at file.now.bytes index }
     ensures { result ≡ is_defined_symbol file.now.bytes index }
 {
-    symbol.n_strx != 0
-        && (stands_in_carried(file, index) || is_absolute(symbol) || is_common(symbol))
+    symbol.n_strx != 0 && (in_carried(file, index) || is_absolute(symbol) || is_common(symbol))
 }
 
 /// The bytes of a symbol's name, where the symbol stands in the table.

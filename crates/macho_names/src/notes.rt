@@ -80,7 +80,7 @@ pub(crate) fn name_at(strings: &[u8], ends: &[u32], at: u32) -> Name
 
 /// Whether a symbol of an object stands in a carried section.
 #[tactic(auto, using(crate::proofs::Entries::stands_in_carried))]
-fn in_carried(file: &File<'_>, index: u32) -> bool
+pub fn in_carried(file: &File<'_>, index: u32) -> bool
     requires object { file.now.is_dynamic ≡ false }
     requires among { index < num_symbols file.now.bytes }
     ensures { result ≡ in_carried file.now.bytes (symbol_at file.now.bytes index) }
