@@ -27,7 +27,9 @@ mod starts;
 
 pub use fault::ConsumedFault;
 pub use laws::{initializers_are_rows, rows_are_used};
+pub use listing::{Kind, is_of_kind};
 pub use macho_model::UnwindRule;
+pub use places::is_plain_pointer;
 pub use reading::{read_entries, read_initializers};
 pub use room::{RoomFault, unwind_room};
 pub use rows::{Initializer, PersonalityUse, SectionPlace, UnwindEntry};

@@ -17,13 +17,15 @@ pub(crate) struct SectionRef {
 
 /// What a consumed section holds.
 #[derive(Clone, Copy)]
-pub(crate) enum Kind {
+pub enum Kind {
+    /// Pointers to functions, in `__mod_init_func`.
     Initializers,
+    /// Entries of `__compact_unwind`, some with a personality function.
     Entries,
 }
 
 /// Whether a section is consumed, and holds this.
-fn is_of_kind(kind: Kind, header: SectionHeader) -> bool
+pub fn is_of_kind(kind: Kind, header: SectionHeader) -> bool
     ensures { result ≡ is_of_kind kind header }
 {
     let name = name_bytes(&header.sectname);

@@ -32,7 +32,7 @@ impl From<AllocError> for PlaceFault {
 }
 
 /// Whether a relocation is a pointer of 8 bytes.
-pub(crate) fn is_plain_pointer(relocation: RelocationInfo) -> bool
+pub fn is_plain_pointer(relocation: RelocationInfo) -> bool
     ensures { result ≡ is_plain_pointer relocation }
 {
     relocation.r_type == ARM64_RELOC_UNSIGNED && relocation.r_length == 3 && !relocation.r_pcrel

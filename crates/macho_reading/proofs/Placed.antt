@@ -29,10 +29,11 @@ use Rattle.macho_survey.proofs.Within.{has_referent}
 use Rattle.macho_standing.proofs.Inputs.{section_listed}
 use Rattle.macho_consumed.proofs.Members.{to_filter, to_map, to_joined, to_range}
 use Rattle.macho_consumed.proofs.Tests.{left_of, right_of, both}
-use Rattle.macho_reading.specs.declared.undefined.Kind.{Kind}
-use Rattle.macho_reading.specs.declared.undefined.Kind.TheVariants.{Initializers, Entries}
+use Rattle.macho_consumed.specs.declared.listing.Kind.{Kind}
+use Rattle.macho_consumed.specs.declared.listing.Kind.TheVariants.{Initializers, Entries}
 use Rattle.macho_reading.specs.steps.Rows.{IsSymbolPointer}
-use Rattle.macho_reading.specs.steps.Uses.{is_of_kind, is_placed, is_use, use_of, IsSection}
+use Rattle.macho_consumed.specs.steps.Listed.{is_of_kind}
+use Rattle.macho_reading.specs.steps.Uses.{is_placed, is_use, use_of, IsSection}
 
 -- a link of which rows of symbols are kept is resolved, with what is noted
 pub still_resolved : (l : Link) (r : ResolvedRows) → Keeps l.inputs r.files → IsResolved l r.noted r

@@ -8,41 +8,18 @@ ghost use Rattle.macho_model.specs.declared.placed.Counts.{Counts};
 ghost use Rattle.macho_model.specs.Objects.{num_sections};
 ghost use Rattle.macho_model.specs.Links.{Input, Link, SectionId};
 ghost use Rattle.macho_model.specs.Needs.{uses_of, relocation_in};
-ghost use Rattle.macho_model.specs.Consumed.{is_plain_pointer};
 ghost use Rattle.macho_names.specs.Kept.{Keeps};
 ghost use Rattle.macho_faults.specs.Standing.{Stands};
 ghost use Rattle.macho_survey.specs.Surveys.{AreOfInputs, views_of};
 ghost use Rattle.macho_survey.specs.steps.Sections.{HasRows, HasObject};
 ghost use Rattle.macho_reading.specs.steps.Rows.{IsSymbolPointer};
-ghost use Rattle.macho_reading.specs.steps.Uses.{is_of_kind, is_placed, is_use, use_of, IsSection};
+ghost use Rattle.macho_reading.specs.steps.Uses.{is_placed, is_use, use_of, IsSection};
 
+use macho_consumed::{Kind, is_of_kind, is_plain_pointer};
 use macho_faults::LinkError;
 use macho_needs::Needs;
 use macho_object::{File, RelocationList};
-use macho_records::{ARM64_RELOC_UNSIGNED, RelocationInfo, SectionHeader, name_bytes};
-
-/// What a consumed section holds.
-#[derive(Clone, Copy)]
-pub(crate) enum Kind {
-    /// Pointers to functions.
-    Initializers,
-    /// Entries of compact unwind information, some with a personality function.
-    Entries,
-}
-
-/// Whether a section is consumed, and holds this.
-fn is_of_kind(kind: Kind, header: SectionHeader) -> bool
-    ensures { result ≡ is_of_kind kind header }
-{
-    let name = name_bytes(&header.sectname);
-    let initializers = name == b"__mod_init_func".as_slice();
-    let entries = name == b"__compact_unwind".as_slice();
-    let consumed = !header.should_exclude() && (initializers || entries);
-    match kind {
-        Kind::Initializers => consumed && initializers,
-        Kind::Entries => consumed && entries,
-    }
-}
+use macho_records::RelocationInfo;
 
 /// Whether a place in a section of so many bytes is that of an initializer, or of an entry's personality function.
 fn is_placed(kind: Kind, size: u64, place: u64) -> bool
@@ -52,13 +29,6 @@ fn is_placed(kind: Kind, size: u64, place: u64) -> bool
         Kind::Initializers => place % 8 == 0 && place / 8 < size / 8,
         Kind::Entries => place % 32 == 16 && place / 32 < size / 32,
     }
-}
-
-/// Whether a relocation is a pointer of 8 bytes.
-fn is_plain_pointer(relocation: RelocationInfo) -> bool
-    ensures { result ≡ is_plain_pointer relocation }
-{
-    relocation.r_type == ARM64_RELOC_UNSIGNED && relocation.r_length == 3 && !relocation.r_pcrel
 }
 
 /// Whether a relocation of a section of so many bytes names an initializer or a personality function.

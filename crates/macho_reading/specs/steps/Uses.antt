@@ -1,22 +1,17 @@
 -- Uses by relocations of consumed sections, whether these keep their rules or not.
 use Rattle.std.specs.Prelude.{◌≡◌, ℕ, ◌/◌, ◌%◌, ◌<◌, ◌==◌, nat_lt, ◌&&◌, Bool, true, List}
 use Rattle.macho_structs.specs.declared.relocations.RelocationInfo.{RelocationInfo}
-use Rattle.macho_records.specs.declared.header.SectionHeader.{SectionHeader}
 use Rattle.macho_object.specs.Views.{RelocationBytes}
 use Rattle.macho_model.specs.Objects.{num_sections, section_at}
 use Rattle.macho_model.specs.Grammar.{IsObject}
-use Rattle.macho_model.specs.Links.{SectionId, is_consumed, is_initializers, is_unwind_entries}
+use Rattle.macho_model.specs.Links.{SectionId}
 use Rattle.macho_model.specs.Needs.{Use, ByInitializer, ByPersonality, POINTER_SIZE, UNWIND_ENTRY_SIZE, PERSONALITY_PLACE}
 use Rattle.macho_model.specs.Consumed.{is_plain_pointer}
 use Rattle.macho_names.specs.Kept.{FileRows}
 use Rattle.macho_survey.specs.steps.Sections.{HasRows}
-use Rattle.macho_reading.specs.declared.undefined.Kind.{Kind}
-use Rattle.macho_reading.specs.declared.undefined.Kind.TheVariants.{Initializers, Entries}
-
--- a section is of a kind
-abbrev pub is_of_kind : Kind → SectionHeader → Bool
-is_of_kind Initializers h = is_consumed h && is_initializers h
-is_of_kind Entries h = is_consumed h && is_unwind_entries h
+use Rattle.macho_consumed.specs.declared.listing.Kind.{Kind}
+use Rattle.macho_consumed.specs.declared.listing.Kind.TheVariants.{Initializers, Entries}
+use Rattle.macho_consumed.specs.steps.Listed.{is_of_kind}
 
 -- a place in a section of so many bytes is that of an initializer, or of an entry's personality function
 abbrev pub is_placed : Kind → ℕ → ℕ → Bool
