@@ -6,7 +6,10 @@
 mod lines;
 mod map;
 mod pieces;
+mod refusals;
 mod report;
+mod rules;
+mod shapes;
 mod totals;
 
 pub use crate::lines::print_lines;

@@ -1,5 +1,5 @@
 -- The text of each refusal is that of its row.
-use Rattle.macho_report.proofs.report.print_of_name.Goals as goal
+use Rattle.macho_report.proofs.refusals.print_of_name.Goals as goal
 
 pub returns-in-DuplicateSymbol : goal.returns-in-DuplicateSymbol
 returns-in-DuplicateSymbol g c =

@@ -1,5 +1,5 @@
 -- The text of each place is that of its row.
-use Rattle.macho_report.proofs.report.print_site.Goals as goal
+use Rattle.macho_report.proofs.refusals.print_site.Goals as goal
 
 pub returns-in-Field : goal.returns-in-Field
 returns-in-Field g c = rw c.in-Field.is (rw c.path.ensures at c.print_relocation.ensures)

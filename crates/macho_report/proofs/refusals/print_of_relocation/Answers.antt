@@ -1,5 +1,5 @@
 -- The text of each refusal is that of its row.
-use Rattle.macho_report.proofs.report.print_of_relocation.Goals as goal
+use Rattle.macho_report.proofs.refusals.print_of_relocation.Goals as goal
 
 pub returns-in-UnsupportedRelocation : goal.returns-in-UnsupportedRelocation
 returns-in-UnsupportedRelocation g c = rw c.in-UnsupportedRelocation.is (rw c.path.ensures at c.print_relocation.ensures)

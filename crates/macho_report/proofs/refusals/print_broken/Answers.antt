@@ -1,5 +1,5 @@
 -- The text of each rule is that of its row.
-use Rattle.macho_report.proofs.report.print_broken.Goals as goal
+use Rattle.macho_report.proofs.refusals.print_broken.Goals as goal
 
 pub returns-in-Object : goal.returns-in-Object
 returns-in-Object g c = rw c.in-Object.is (rw (c.last.ensures, c.object_rule.ensures) at c.print_rule.ensures)

@@ -1,5 +1,5 @@
 -- Numbers are printed as they are.
-use Rattle.macho_report.proofs.report.print_unwind.Goals as goal
+use Rattle.macho_report.proofs.shapes.print_unwind.Goals as goal
 
 pub returns : goal.returns
 returns g c = rw c.from.ensures at c.print_pieces.ensures

@@ -1,5 +1,5 @@
 -- Numbers are printed as they are.
-use Rattle.macho_report.proofs.report.print_relocation.Goals as goal
+use Rattle.macho_report.proofs.shapes.print_relocation.Goals as goal
 
 pub returns : goal.returns
 returns g c = rw (c.from.ensures, c.from-2.ensures) at c.print_pieces.ensures

@@ -1,5 +1,5 @@
 -- The text of each refusal is that of its row.
-use Rattle.macho_report.proofs.report.print_of_section.Goals as goal
+use Rattle.macho_report.proofs.refusals.print_of_section.Goals as goal
 
 pub returns-in-BadInitializer : goal.returns-in-BadInitializer
 returns-in-BadInitializer g c = rw c.in-BadInitializer.is (rw c.path.ensures at c.print_initializer.ensures)

@@ -1,5 +1,5 @@
 -- The text of each refusal is that of its row.
-use Rattle.macho_report.proofs.report.print_error.Goals as goal
+use Rattle.macho_report.proofs.refusals.print_error.Goals as goal
 
 pub returns-in-TooMany : goal.returns-in-TooMany
 returns-in-TooMany g c = rw c.in-TooMany.is (rw c.limit_name.ensures at c.print_many.ensures)
