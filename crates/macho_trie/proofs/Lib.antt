@@ -14,6 +14,7 @@ pub mod Cursor
 pub mod Sizes
 pub mod Widths
 pub mod Raising
+pub mod Listing
 pub mod Looks
 pub mod Spells
 pub mod Readback
