@@ -1,5 +1,6 @@
 //! Tests of records, of objects and of relocated fields, a module for each; and callers of the laws of relocated fields and of the
-//! model.
+//! model. Bytes and tables of rows are given out by functions without clauses, so that a proof of a test knows nothing of them and
+//! stays short.
 #![tactic(auto)]
 
 #[cfg(test)]

@@ -4,172 +4,173 @@ use macho_object::{File, ObjectFault, ObjectRule};
 use std::test::Fail;
 
 /// A function `_main` of two instructions, the first of which has a relocation.
-const OBJECT: [u8; 271] = [
-    // 0: header: object, 3 commands of 200 bytes
-    0xcf, 0xfa, 0xed, 0xfe, 0x0c, 0, 0, 1, 0, 0, 0, 0, 1, 0, 0, 0, //
-    3, 0, 0, 0, 200, 0, 0, 0, 0, 0x20, 0, 0, 0, 0, 0, 0, //
-    // 32: LC_SEGMENT_64 of 152 bytes, 8 bytes at 232, one section
-    0x19, 0, 0, 0, 152, 0, 0, 0, 0, 0, 0, 0, 0, 0, 0, 0, //
-    0, 0, 0, 0, 0, 0, 0, 0, 0, 0, 0, 0, 0, 0, 0, 0, //
-    8, 0, 0, 0, 0, 0, 0, 0, 232, 0, 0, 0, 0, 0, 0, 0, //
-    8, 0, 0, 0, 0, 0, 0, 0, 7, 0, 0, 0, 7, 0, 0, 0, //
-    1, 0, 0, 0, 0, 0, 0, 0, //
-    // 104: `__text` of `__TEXT`: 8 bytes at 232, exponent 2, one relocation at 240, flags 0x80000400
-    0x5f, 0x5f, 0x74, 0x65, 0x78, 0x74, 0, 0, 0, 0, 0, 0, 0, 0, 0, 0, //
-    0x5f, 0x5f, 0x54, 0x45, 0x58, 0x54, 0, 0, 0, 0, 0, 0, 0, 0, 0, 0, //
-    0, 0, 0, 0, 0, 0, 0, 0, 8, 0, 0, 0, 0, 0, 0, 0, //
-    232, 0, 0, 0, 2, 0, 0, 0, 240, 0, 0, 0, 1, 0, 0, 0, //
-    0, 4, 0, 0x80, 0, 0, 0, 0, 0, 0, 0, 0, 0, 0, 0, 0, //
-    // 184: LC_SYMTAB: one symbol at 248, 7 bytes of names at 264
-    2, 0, 0, 0, 24, 0, 0, 0, 248, 0, 0, 0, 1, 0, 0, 0, 8, 1, 0, 0, 7, 0, 0, 0, //
-    // 208: LC_BUILD_VERSION: macOS 14
-    0x32, 0, 0, 0, 24, 0, 0, 0, 1, 0, 0, 0, 0, 0, 14, 0, 0, 0, 14, 0, 0, 0, 0, 0, //
-    // 232: mov w0, #0; ret
-    0, 0, 0x80, 0x52, 0xc0, 3, 0x5f, 0xd6, //
-    // 240: a branch to symbol 0
-    0, 0, 0, 0, 0, 0, 0, 0x2d, //
-    // 248: `_main`, global, at 0 in section 1
-    1, 0, 0, 0, 0x0f, 1, 0, 0, 0, 0, 0, 0, 0, 0, 0, 0, //
-    // 264: the names
-    0, 0x5f, 0x6d, 0x61, 0x69, 0x6e, 0,
-];
+fn object() -> [u8; 271] {
+    [
+        // 0: header: object, 3 commands of 200 bytes
+        0xcf, 0xfa, 0xed, 0xfe, 0x0c, 0, 0, 1, 0, 0, 0, 0, 1, 0, 0, 0, //
+        3, 0, 0, 0, 200, 0, 0, 0, 0, 0x20, 0, 0, 0, 0, 0, 0, //
+        // 32: LC_SEGMENT_64 of 152 bytes, 8 bytes at 232, one section
+        0x19, 0, 0, 0, 152, 0, 0, 0, 0, 0, 0, 0, 0, 0, 0, 0, //
+        0, 0, 0, 0, 0, 0, 0, 0, 0, 0, 0, 0, 0, 0, 0, 0, //
+        8, 0, 0, 0, 0, 0, 0, 0, 232, 0, 0, 0, 0, 0, 0, 0, //
+        8, 0, 0, 0, 0, 0, 0, 0, 7, 0, 0, 0, 7, 0, 0, 0, //
+        1, 0, 0, 0, 0, 0, 0, 0, //
+        // 104: `__text` of `__TEXT`: 8 bytes at 232, exponent 2, one relocation at 240, flags 0x80000400
+        0x5f, 0x5f, 0x74, 0x65, 0x78, 0x74, 0, 0, 0, 0, 0, 0, 0, 0, 0, 0, //
+        0x5f, 0x5f, 0x54, 0x45, 0x58, 0x54, 0, 0, 0, 0, 0, 0, 0, 0, 0, 0, //
+        0, 0, 0, 0, 0, 0, 0, 0, 8, 0, 0, 0, 0, 0, 0, 0, //
+        232, 0, 0, 0, 2, 0, 0, 0, 240, 0, 0, 0, 1, 0, 0, 0, //
+        0, 4, 0, 0x80, 0, 0, 0, 0, 0, 0, 0, 0, 0, 0, 0, 0, //
+        // 184: LC_SYMTAB: one symbol at 248, 7 bytes of names at 264
+        2, 0, 0, 0, 24, 0, 0, 0, 248, 0, 0, 0, 1, 0, 0, 0, 8, 1, 0, 0, 7, 0, 0, 0, //
+        // 208: LC_BUILD_VERSION: macOS 14
+        0x32, 0, 0, 0, 24, 0, 0, 0, 1, 0, 0, 0, 0, 0, 14, 0, 0, 0, 14, 0, 0, 0, 0, 0, //
+        // 232: mov w0, #0; ret
+        0, 0, 0x80, 0x52, 0xc0, 3, 0x5f, 0xd6, //
+        // 240: a branch to symbol 0
+        0, 0, 0, 0, 0, 0, 0, 0x2d, //
+        // 248: `_main`, global, at 0 in section 1
+        1, 0, 0, 0, 0x0f, 1, 0, 0, 0, 0, 0, 0, 0, 0, 0, 0, //
+        // 264: the names
+        0, 0x5f, 0x6d, 0x61, 0x69, 0x6e, 0,
+    ]
+}
 
 /// Each byte that breaks a rule of the object: its place, the byte, the rule, the place of the record that breaks it.
-const BREAKS: [(usize, u8, ObjectRule, u64); 18] = [
-    (0, 0xce, O1, 0),
-    (7, 0, O1, 0),
-    (12, 6, O1, 0),
-    (22, 1, O2, 0),
-    (20, 192, O2, 208),
-    (188, 16, O2, 184),
-    (208, 2, O3, 208),
-    (208, 0x19, O2, 208),
-    (184, 0x32, O3, 0),
-    (204, 8, O4, 184),
-    (253, 2, O5, 248),
-    (244, 1, O5, 240),
-    (144, 0xff, O6, 104),
-    (156, 15, O7, 104),
-    (256, 9, O8, 248),
-    (270, 0x78, O9, 248),
-    (240, 5, O10, 240),
-    (164, 5, O10, 104),
-];
+fn breaks() -> [(usize, u8, ObjectRule, u64); 21] {
+    [
+        (0, 0xce, O1, 0),
+        (7, 0, O1, 0),
+        (12, 6, O1, 0),
+        (22, 1, O2, 0),
+        (20, 192, O2, 208),
+        (188, 16, O2, 184),
+        (208, 2, O3, 208),
+        (208, 0x19, O2, 208),
+        (184, 0x32, O3, 0),
+        (204, 8, O4, 184),
+        (253, 2, O5, 248),
+        (244, 1, O5, 240),
+        (144, 0xff, O6, 104),
+        (156, 15, O7, 104),
+        (256, 9, O8, 248),
+        (270, 0x78, O9, 248),
+        (240, 5, O10, 240),
+        (164, 5, O10, 104),
+        (168, 0x11, O11, 104), // a thread-local section
+        (168, 1, O12, 104), // zerofill
+        (248, 0, O13, 248), // a symbol without a name
+    ]
+}
 
-/// More of them: thread-local sections, zerofill, symbols without a name.
-const MORE_BREAKS: [(usize, u8, ObjectRule, u64); 3] = [
-    (168, 0x11, O11, 104),
-    (168, 1, O12, 104),
-    (248, 0, O13, 248),
-];
+/// Whether bytes break a rule at a place.
+fn is_refused(bytes: &[u8], is_dynamic: bool, rule: ObjectRule, place: u64) -> bool {
+    File::parse_bytes(bytes, is_dynamic).err() == Some(ObjectFault { place, rule })
+}
 
-/// What is told of the object with one byte changed.
-fn fault_with(at: usize, byte: u8) -> Option<ObjectFault> {
-    let mut bytes = OBJECT;
-    if let Some(changed) = bytes.get_mut(at) {
-        *changed = byte;
+/// The object with some bytes changed.
+fn object_with(changes: &[(usize, u8)]) -> [u8; 271] {
+    let mut bytes = object();
+    for (at, byte) in changes {
+        if let Some(changed) = bytes.get_mut(*at) {
+            *changed = *byte;
+        }
     }
-    File::parse_bytes(&bytes, false).err()
+    bytes
 }
 
 #[test]
 fn each_rule_is_told_at_the_record_that_breaks_it(rt: HostRuntime) {
-    for (at, byte, rule, place) in BREAKS {
-        assert_eq!(rt;
-            fault_with(at, byte),
-            Some(ObjectFault { place, rule }),
-            "byte {at}"
-        );
+    for (at, byte, rule, place) in breaks() {
+        let bytes = object_with(&[(at, byte)]);
+        assert!(rt; is_refused(&bytes, false, rule, place), "byte {at}");
     }
-    for (at, byte, rule, place) in MORE_BREAKS {
-        assert_eq!(rt;
-            fault_with(at, byte),
-            Some(ObjectFault { place, rule }),
-            "byte {at}"
-        );
-    }
+}
+
+/// The first bytes, at most so many.
+fn front(bytes: &[u8], count: usize) -> &[u8] {
+    &bytes[..count.min(bytes.len())]
 }
 
 #[test]
 fn a_cut_header_a_long_field_and_a_wide_common(rt: HostRuntime) {
-    let fault = File::parse_bytes(&OBJECT[..31], false).err();
-    assert_eq!(rt; fault, Some(ObjectFault { place: 0, rule: O1 }));
-    let mut long_field = OBJECT;
-    long_field[240] = 4;
-    long_field[247] = 0x2f;
-    let fault = File::parse_bytes(&long_field, false).err();
-    assert_eq!(rt;
-        fault,
-        Some(ObjectFault {
-            place: 240,
-            rule: O10
-        })
-    );
-    let mut common = OBJECT;
-    common[252] = 1;
-    common[253] = 0;
-    common[255] = 15;
-    common[256] = 8;
-    let fault = File::parse_bytes(&common, false).err();
-    assert_eq!(rt;
-        fault,
-        Some(ObjectFault {
-            place: 248,
-            rule: O14
-        })
-    );
+    let bytes = object();
+    assert!(rt; is_refused(front(&bytes, 31), false, O1, 0));
+    let long_field = object_with(&[(240, 4), (247, 0x2f)]);
+    assert!(rt; is_refused(&long_field, false, O10, 240));
+    let common = object_with(&[(252, 1), (253, 0), (255, 15), (256, 8)]);
+    assert!(rt; is_refused(&common, false, O14, 248));
+}
+
+/// Whether a file is of this kind and has so many sections and symbols.
+fn has_counts(file: &File<'_>, is_dynamic: bool, sections: u32, symbols: u32) -> bool {
+    file.is_dynamic() == is_dynamic
+        && file.num_sections() == sections
+        && file.num_symbols() == symbols
+}
+
+/// Whether the object's one section is found by its name, and has its header and its bytes.
+fn has_text(file: &File<'_>) -> bool {
+    let (Some(header), Some(code)) = (file.section(0), file.section_bytes(0)) else {
+        return false;
+    };
+    header.size == 8
+        && header.align == 2
+        && header.flags == 0x8000_0400
+        && code == [0, 0, 0x80, 0x52, 0xc0, 3, 0x5f, 0xd6].as_slice()
+        && file.section_alignment(0) == Some(4)
+        && file.section_by_name(b"__text") == Some(0)
+        && file.section_by_name(b"__tex").is_none()
+        && file.section(1).is_none()
+}
+
+/// Whether the object's one symbol has its name and stands at the front of its section.
+fn has_main(file: &File<'_>) -> bool {
+    let (Some(symbol), Some(name)) = (file.symbol(0), file.symbol_name(0)) else {
+        return false;
+    };
+    symbol.n_type == 0x0f
+        && symbol.n_sect == 1
+        && symbol.n_value == 0
+        && name == b"_main".as_slice()
+        && file.symbol_section(0) == Some(0)
+        && file.symbol_offset_in_section(0) == Some(0)
+        && file.symbol(1).is_none()
+}
+
+/// Whether the section's one relocation is a branch to the symbol.
+fn has_branch(file: &File<'_>) -> bool {
+    let Some(relocations) = file.relocations(0) else {
+        return false;
+    };
+    let Some(branch) = relocations.get(0) else {
+        return false;
+    };
+    relocations.num_relocations() == 1
+        && relocations.get(1).is_none()
+        && branch.r_type == 2
+        && branch.r_length == 2
+        && branch.r_symbolnum == 0
+        && branch.r_pcrel
+        && branch.r_extern
 }
 
 #[test]
 fn an_object_is_read_in_place(rt: HostRuntime) -> Result<(), Fail> {
-    let file = File::parse_bytes(&OBJECT, false)?;
-    assert_eq!(rt;
-        (file.is_dynamic(), file.num_sections(), file.num_symbols()),
-        (false, 1, 1)
-    );
-    let header = file.section(0).ok_or("a section")?;
-    assert_eq!(rt;
-        (header.size, header.align, header.flags),
-        (8, 2, 0x8000_0400)
-    );
-    let symbol = file.symbol(0).ok_or("a symbol")?;
-    assert_eq!(rt;
-        (symbol.n_type, symbol.n_sect, symbol.n_value),
-        (0x0f, 1, 0)
-    );
-    assert_eq!(rt; file.symbol_name(0).ok_or("a name")?, b"_main".as_slice());
-    assert_eq!(rt; file.section_by_name(b"__text"), Some(0));
-    assert_eq!(rt; file.section_by_name(b"__tex"), None);
-    assert_eq!(rt;
-        file.section_bytes(0).ok_or("bytes")?,
-        [0, 0, 0x80, 0x52, 0xc0, 3, 0x5f, 0xd6].as_slice()
-    );
-    let relocations = file.relocations(0).ok_or("relocations")?;
-    assert_eq!(rt; relocations.num_relocations(), 1);
-    let branch = relocations.get(0).ok_or("a relocation")?;
-    assert_eq!(rt;
-        (branch.r_type, branch.r_length, branch.r_symbolnum),
-        (2, 2, 0)
-    );
-    assert_eq!(rt; (branch.r_pcrel, branch.r_extern), (true, true));
-    assert_eq!(rt; file.symbol_section(0), Some(0));
-    assert_eq!(rt; file.symbol_offset_in_section(0), Some(0));
-    assert_eq!(rt; file.section_alignment(0), Some(4));
+    let bytes = object();
+    let file = File::parse_bytes(&bytes, false)?;
+    assert!(rt; has_counts(&file, false, 1, 1));
+    assert!(rt; has_text(&file));
+    assert!(rt; has_main(&file));
+    assert!(rt; has_branch(&file));
     assert!(rt; file.install_name().is_none());
-    assert_eq!(rt; File::of_valid(&OBJECT, false).num_sections(), 1);
-    assert!(rt;
-        file.symbol(1).is_none() && file.section(1).is_none() && relocations.get(1).is_none()
-    );
+    assert!(rt; File::of_valid(&bytes, false).num_sections() == 1);
     Ok(())
 }
 
 #[test]
 fn an_object_without_names_or_relocations_is_taken(rt: HostRuntime) -> Result<(), Fail> {
-    let mut bytes = OBJECT;
-    bytes[164] = 0;
-    bytes[204] = 0;
-    bytes[248] = 0;
-    bytes[252] = 0x0e;
+    let bytes = object_with(&[(164, 0), (204, 0), (248, 0), (252, 0x0e)]);
     let file = File::parse_bytes(&bytes, false)?;
     assert_eq!(rt; file.symbol_name(0).ok_or("a symbol")?.len(), 0);
     assert_eq!(rt;
@@ -180,36 +181,33 @@ fn an_object_without_names_or_relocations_is_taken(rt: HostRuntime) -> Result<()
 }
 
 /// A library `/a` without symbols and names.
-const LIBRARY: [u8; 88] = [
-    // 0: header: dynamic library, 2 commands of 56 bytes
-    0xcf, 0xfa, 0xed, 0xfe, 0x0c, 0, 0, 1, 0, 0, 0, 0, 6, 0, 0, 0, //
-    2, 0, 0, 0, 56, 0, 0, 0, 0, 0, 0, 0, 0, 0, 0, 0, //
-    // 32: LC_ID_DYLIB of 32 bytes, its path at 24
-    0x0d, 0, 0, 0, 32, 0, 0, 0, 24, 0, 0, 0, 2, 0, 0, 0, //
-    0, 0, 1, 0, 0, 0, 1, 0, 0x2f, 0x61, 0, 0, 0, 0, 0, 0, //
-    // 64: LC_SYMTAB: nothing
-    2, 0, 0, 0, 24, 0, 0, 0, 88, 0, 0, 0, 0, 0, 0, 0, 88, 0, 0, 0, 0, 0, 0, 0,
-];
+fn library() -> [u8; 88] {
+    [
+        // 0: header: dynamic library, 2 commands of 56 bytes
+        0xcf, 0xfa, 0xed, 0xfe, 0x0c, 0, 0, 1, 0, 0, 0, 0, 6, 0, 0, 0, //
+        2, 0, 0, 0, 56, 0, 0, 0, 0, 0, 0, 0, 0, 0, 0, 0, //
+        // 32: LC_ID_DYLIB of 32 bytes, its path at 24
+        0x0d, 0, 0, 0, 32, 0, 0, 0, 24, 0, 0, 0, 2, 0, 0, 0, //
+        0, 0, 1, 0, 0, 0, 1, 0, 0x2f, 0x61, 0, 0, 0, 0, 0, 0, //
+        // 64: LC_SYMTAB: nothing
+        2, 0, 0, 0, 24, 0, 0, 0, 88, 0, 0, 0, 0, 0, 0, 0, 88, 0, 0, 0, 0, 0, 0, 0,
+    ]
+}
+
+/// The library, whose path begins at the end of its command.
+fn without_path() -> [u8; 88] {
+    let mut bytes = library();
+    bytes[40] = 32;
+    bytes
+}
 
 #[test]
 fn a_library_is_its_install_name_and_symbols(rt: HostRuntime) -> Result<(), Fail> {
-    let file = File::parse_bytes(&LIBRARY, true)?;
+    let bytes = library();
+    let file = File::parse_bytes(&bytes, true)?;
     assert_eq!(rt; file.install_name().ok_or("a name")?, b"/a".as_slice());
-    assert_eq!(rt;
-        (file.is_dynamic(), file.num_sections(), file.num_symbols()),
-        (true, 0, 0)
-    );
-    let fault = File::parse_bytes(&LIBRARY, false).err();
-    assert_eq!(rt; fault, Some(ObjectFault { place: 0, rule: O1 }));
-    let mut behind = LIBRARY;
-    behind[40] = 32;
-    let fault = File::parse_bytes(&behind, true).err();
-    assert_eq!(rt;
-        fault,
-        Some(ObjectFault {
-            place: 32,
-            rule: O9
-        })
-    );
+    assert!(rt; has_counts(&file, true, 0, 0));
+    assert!(rt; is_refused(&bytes, false, O1, 0));
+    assert!(rt; is_refused(&without_path(), true, O9, 32));
     Ok(())
 }

@@ -15,18 +15,24 @@ fn is_framed(out: &[u8], bytes: &[u8]) -> bool {
     }
 }
 
+/// The same bytes, by a function without clauses: a proof of a row knows nothing of them.
+fn given<const N: usize>(bytes: [u8; N]) -> [u8; N] {
+    bytes
+}
+
 /// Whether a record is read at the start alone, has this field, and is written as the bytes.
 macro_rules! is_row {
     ($record:ident, $bytes:expr, $framed:expr, $field:ident, $value:expr) => {{
-        let Some(record) = $record::read(&$bytes, 0) else {
+        let bytes = given($bytes);
+        let Some(record) = $record::read(&bytes, 0) else {
             return false;
         };
         let mut out = [0xee; $framed];
         record.write(&mut out, 1);
         record.$field == $value
-            && is_framed(&out, &$bytes)
-            && $record::read(&$bytes, 1).is_none()
-            && $record::read(&$bytes, usize::MAX).is_none()
+            && is_framed(&out, &bytes)
+            && $record::read(&bytes, 1).is_none()
+            && $record::read(&bytes, usize::MAX).is_none()
     }};
 }
 

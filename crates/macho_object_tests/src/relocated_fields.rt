@@ -1,4 +1,4 @@
-ghost use Rattle.std.specs.Prelude.{◌≡◌, IsTrue};
+ghost use Rattle.std.specs.Prelude.{◌≡◌, ◌%◌, IsTrue};
 ghost use Rattle.macho_arm64.specs.Fields.{is_field, width_of};
 
 use macho_arm64::*;
@@ -68,74 +68,80 @@ fn written(rt: &impl Abort, size: FieldSize, word: u32, value: u64) -> Option<u3
 
 /// Loads and stores of each size, without an offset, an offset, and the word with it: as clang 14 wrote them for
 /// arm64-apple-macos14 and llvm-objdump 14 lists them.
-const LOADS: [(u32, u64, u32); 23] = [
-    (0x39400041, 0x123, 0x39448c41), // ldrb w1, [x2, #291]
-    (0x39000041, 0x123, 0x39048c41), // strb w1, [x2, #291]
-    (0x39800041, 0x123, 0x39848c41), // ldrsb x1, [x2, #291]
-    (0x79400041, 0x122, 0x79424441), // ldrh w1, [x2, #290]
-    (0x79000041, 0x122, 0x79024441), // strh w1, [x2, #290]
-    (0x79c00041, 0x122, 0x79c24441), // ldrsh w1, [x2, #290]
-    (0xb9400041, 0x124, 0xb9412441), // ldr w1, [x2, #292]
-    (0xb9000041, 0x124, 0xb9012441), // str w1, [x2, #292]
-    (0xb9800041, 0x124, 0xb9812441), // ldrsw x1, [x2, #292]
-    (0xf9400041, 0x128, 0xf9409441), // ldr x1, [x2, #296]
-    (0xf9000041, 0x128, 0xf9009441), // str x1, [x2, #296]
-    (0xf9800040, 0x128, 0xf9809440), // prfm pldl1keep, [x2, #296]
-    (0x3d400041, 0x123, 0x3d448c41), // ldr b1, [x2, #291]
-    (0x3d000041, 0x123, 0x3d048c41), // str b1, [x2, #291]
-    (0x7d400041, 0x122, 0x7d424441), // ldr h1, [x2, #290]
-    (0x7d000041, 0x122, 0x7d024441), // str h1, [x2, #290]
-    (0xbd400041, 0x124, 0xbd412441), // ldr s1, [x2, #292]
-    (0xbd000041, 0x124, 0xbd012441), // str s1, [x2, #292]
-    (0xfd400041, 0x128, 0xfd409441), // ldr d1, [x2, #296]
-    (0xfd000041, 0x128, 0xfd009441), // str d1, [x2, #296]
-    (0x3dc00041, 0x120, 0x3dc04841), // ldr q1, [x2, #288]
-    (0x3d800041, 0x120, 0x3d804841), // str q1, [x2, #288]
-    (0x91000041, 0x123, 0x91048c41), // add x1, x2, #291
-];
-
-#[test]
-fn offsets_as_an_assembler_writes_them(rt: HostRuntime) {
-    for (word, offset, want) in LOADS {
-        assert_eq!(rt;
-            written(&rt, FieldSize::Low12, word, offset),
-            Some(want),
-            "{want:x}"
-        );
-    }
-    assert_eq!(rt; written(&rt, FieldSize::Low12, 0xf9400000, 4), None);
-    assert_eq!(rt; written(&rt, FieldSize::Low12, 0x39400000, 0x1000), None);
+fn loads() -> [(u32, u64, u32); 23] {
+    [
+        (0x39400041, 0x123, 0x39448c41), // ldrb w1, [x2, #291]
+        (0x39000041, 0x123, 0x39048c41), // strb w1, [x2, #291]
+        (0x39800041, 0x123, 0x39848c41), // ldrsb x1, [x2, #291]
+        (0x79400041, 0x122, 0x79424441), // ldrh w1, [x2, #290]
+        (0x79000041, 0x122, 0x79024441), // strh w1, [x2, #290]
+        (0x79c00041, 0x122, 0x79c24441), // ldrsh w1, [x2, #290]
+        (0xb9400041, 0x124, 0xb9412441), // ldr w1, [x2, #292]
+        (0xb9000041, 0x124, 0xb9012441), // str w1, [x2, #292]
+        (0xb9800041, 0x124, 0xb9812441), // ldrsw x1, [x2, #292]
+        (0xf9400041, 0x128, 0xf9409441), // ldr x1, [x2, #296]
+        (0xf9000041, 0x128, 0xf9009441), // str x1, [x2, #296]
+        (0xf9800040, 0x128, 0xf9809440), // prfm pldl1keep, [x2, #296]
+        (0x3d400041, 0x123, 0x3d448c41), // ldr b1, [x2, #291]
+        (0x3d000041, 0x123, 0x3d048c41), // str b1, [x2, #291]
+        (0x7d400041, 0x122, 0x7d424441), // ldr h1, [x2, #290]
+        (0x7d000041, 0x122, 0x7d024441), // str h1, [x2, #290]
+        (0xbd400041, 0x124, 0xbd412441), // ldr s1, [x2, #292]
+        (0xbd000041, 0x124, 0xbd012441), // str s1, [x2, #292]
+        (0xfd400041, 0x128, 0xfd409441), // ldr d1, [x2, #296]
+        (0xfd000041, 0x128, 0xfd009441), // str d1, [x2, #296]
+        (0x3dc00041, 0x120, 0x3dc04841), // ldr q1, [x2, #288]
+        (0x3d800041, 0x120, 0x3d804841), // str q1, [x2, #288]
+        (0x91000041, 0x123, 0x91048c41), // add x1, x2, #291
+    ]
 }
 
 #[test]
-fn branches_pages_and_distances(rt: HostRuntime) {
-    for (distance, want) in [
+fn offsets_as_an_assembler_writes_them(rt: HostRuntime) {
+    for (word, offset, want) in loads() {
+        assert!(rt;
+            written(&rt, FieldSize::Low12, word, offset) == Some(want),
+            "{want:x}"
+        );
+    }
+    assert!(rt; written(&rt, FieldSize::Low12, 0xf9400000, 4).is_none());
+    assert!(rt; written(&rt, FieldSize::Low12, 0x39400000, 0x1000).is_none());
+}
+
+/// Distances, and a branch over each of them.
+fn branches() -> [(u64, Option<u32>); 6] {
+    [
         (0x10, Some(0x94000004)),
         (0x7fffffc, Some(0x95ffffff)),
         (0x8000000, None),
         (0xffff_ffff_f800_0000, Some(0x96000000)),
         (0xffff_ffff_f7ff_fffc, None),
         (2, None),
-    ] {
-        assert_eq!(rt;
-            written(&rt, FieldSize::JumpCall, 0x94000000, distance),
-            want
-        );
-    }
-    for (distance, want) in [
+    ]
+}
+
+/// Distances of pages, and an ADRP of each of them.
+fn pages() -> [(u64, Option<u32>); 5] {
+    [
         (0x1000, Some(0xb0000000)),
         (0xfffff000, Some(0xf07fffe0)),
         (0x100000000, None),
         (0xffff_ffff_0000_0000, Some(0x90800000)),
         (0x800, None),
-    ] {
-        assert_eq!(rt; written(&rt, FieldSize::Adr, 0x90000000, distance), want);
+    ]
+}
+
+#[test]
+fn branches_pages_and_distances(rt: HostRuntime) {
+    for (distance, want) in branches() {
+        assert!(rt; written(&rt, FieldSize::JumpCall, 0x94000000, distance) == want);
     }
-    assert_eq!(rt;
-        written(&rt, FieldSize::Bytes(4), 0, 0xffff_ffff_8000_0000),
-        Some(0x80000000)
-    );
-    assert_eq!(rt; written(&rt, FieldSize::Bytes(4), 0, 0x80000000), None);
+    for (distance, want) in pages() {
+        assert!(rt; written(&rt, FieldSize::Adr, 0x90000000, distance) == want);
+    }
+    let distance = written(&rt, FieldSize::Bytes(4), 0, 0xffff_ffff_8000_0000);
+    assert!(rt; distance == Some(0x80000000));
+    assert!(rt; written(&rt, FieldSize::Bytes(4), 0, 0x80000000).is_none());
 }
 
 #[test]
@@ -171,25 +177,24 @@ fn loads_of_slots_become_adds(rt: HostRuntime) -> Result<(), Fail> {
     Ok(())
 }
 
+/// The stub at an address that leads through a slot.
+fn stub(slot: u64, place: u64) -> Result<[u8; 12], PltFault>
+    requires { slot % 8 ≡ 0 }
+{
+    let mut stub = [0; 12];
+    write_plt_entry(&mut stub, slot, place)?;
+    Ok(stub)
+}
+
 #[test]
 fn a_stub_goes_through_its_slot(rt: HostRuntime) {
-    let mut stub = [0; 12];
-    assert!(rt; write_plt_entry(&mut stub, 0x100008010, 0x100004000).is_ok());
-    assert_eq!(rt;
-        stub,
-        [
-            0x30, 0x00, 0x00, 0x90, 0x10, 0x0a, 0x40, 0xf9, 0x00, 0x02, 0x1f, 0xd6
-        ]
-    );
-    assert!(rt; write_plt_entry(&mut stub, 0x100003ff8, 0x4ff4).is_ok());
-    assert_eq!(rt;
-        write_plt_entry(&mut stub, 0x4000, 0x4000),
-        Err(PltFault::StubAfterSlot)
-    );
-    assert_eq!(rt;
-        write_plt_entry(&mut stub, 0x100004000, 0x4ff4),
-        Err(PltFault::StubTooFar)
-    );
+    let wanted = [
+        0x30, 0x00, 0x00, 0x90, 0x10, 0x0a, 0x40, 0xf9, 0x00, 0x02, 0x1f, 0xd6,
+    ];
+    assert!(rt; stub(0x100008010, 0x100004000) == Ok(wanted));
+    assert!(rt; stub(0x100003ff8, 0x4ff4).is_ok());
+    assert!(rt; stub(0x4000, 0x4000) == Err(PltFault::StubAfterSlot));
+    assert!(rt; stub(0x100004000, 0x4ff4) == Err(PltFault::StubTooFar));
     assert_eq!(rt; start_memory_address(true), 0x100000000);
     assert_eq!(rt; start_memory_address(false), 0);
 }
