@@ -1,4 +1,5 @@
--- The steps of the code: tables by place, and what each pass keeps so far. No clause of a public function cites them.
+-- The steps of the code: tables by place, and what each pass keeps so far. Of public functions only
+-- `is_of_kind` cites one, which is handed to the code of `macho_reading`.
 pub mod Alone
 pub mod Places
 pub mod Slots
