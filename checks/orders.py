@@ -19,49 +19,19 @@ from recipes import FAR, ONCE, RECIPES, SLOTS
 
 # Where the linker looks for a family of faults: behind others of its number, or of a greater one.
 LATER = {
-    "initializer's target": (6, 1),
-    "personality's target": (7, 1),
-    "second of two starts": (7, 2),
-    "first of two starts": (7, 3),
+    "second of two starts": (7, 1),
+    "first of two starts": (7, 2),
     "pages": (13, 1),
     "file": (13, 2),
     "place by address": (13, 3),
     "offset": (13, 4),
 }
-# Families that it looks for behind those of their section.
-BEHIND = ("slot", "entry before a cut", "entry before another's relocation")
 # Faults that are told in place of the first by the order: recipes, the family of the first and of the one that is told, and why.
 KNOWN = [
-    (
-        ["initializer: empty slot before a pointer between slots"],
-        ("slot", "initializer"),
-        "of a section of initializers places of pointers are looked at before slots",
-    ),
-    (["entry: in a cut section"], ("entry before a cut", "unwind entry"), "whether a section is cut is looked at before its entries"),
-    (
-        ["entry: before another's relocation"],
-        ("entry before another's relocation", "unwind entry"),
-        "of a section of entries places of relocations are looked at before each entry",
-    ),
-    (
-        ["initializer: empty slot", "initializer: in a library"],
-        ("initializer's target", "initializer"),
-        "where initializers lead is looked at behind the form of all their sections",
-    ),
-    (
-        ["entry: long function", "entry: absolute personality"],
-        ("personality's target", "unwind entry"),
-        "where personalities lead is looked at behind all else of each entry",
-    ),
     (["entries: one start"], ("first of two starts", "second of two starts"), "of two entries with one start the second is told"),
     (
         ["entry: long function", "entries: one start"],
         ("first of two starts", "unwind entry"),
-        "starts are compared when all entries are read",
-    ),
-    (
-        ["entry: absolute personality", "entries: one start"],
-        ("first of two starts", "personality's target"),
         "starts are compared when all entries are read",
     ),
     (
@@ -89,7 +59,7 @@ def order_of_linker(link, fault):
     phase, file, section, *at = fault.place_in(link)
     if fault.family in ("two definitions", "overlap"):
         at = [at[1], at[0], *at[2:]] if fault.family == "overlap" else [at[1], at[2], at[0]]
-    return *LATER.get(fault.family, (fault.number, 0)), phase, file, section, fault.family in BEHIND, *at
+    return *LATER.get(fault.family, (fault.number, 0)), phase, file, section, *at
 
 
 class Run:

@@ -123,14 +123,14 @@ def undefined_twice(is_personality):
 # consumed sections
 
 
-def initializer(breaks, family="initializer"):
+def initializer(breaks):
     """One broken slot, or a broken section; `breaks` gives the offset that is told."""
 
     def plant(m):
         unit, count = m.unit(), m.random.randint(2, 4)
         part, slot = m.initializers(unit, count), m.random.randrange(count - 1)
         offset = breaks(m, unit, part, slot)
-        return [Fault(family, 6, "{file}: bad initializer at %d in section {section}" % offset, unit, part, (offset,))]
+        return [Fault("initializer", 6, "{file}: bad initializer at %d in section {section}" % offset, unit, part, (offset,))]
 
     return plant
 
@@ -178,21 +178,21 @@ def empty_before_misplaced(m):
     del part.asked[0]
     part.ask(12, POINTER, unit.here)
     line = "{file}: bad initializer at %d in section {section}"
-    return [Fault(family, 6, line % at, unit, part, (at,)) for family, at in (("slot", 0), ("initializer", 12))]
+    return [Fault("initializer", 6, line % at, unit, part, (at,)) for at in (0, 12)]
 
 
 def bad_entry(unit, part, entry, rule, family="unwind entry"):
     return Fault(family, 7, "{file}: unwind entry %d breaks rule U%d" % (entry, rule), unit, part, (entry, rule))
 
 
-def entry(rule, breaks, family="unwind entry"):
+def entry(rule, breaks):
     """One entry that breaks a rule."""
 
     def plant(m):
         unit, count = m.unit(), m.random.randint(2, 4)
         part, number = m.unwind(unit, count), m.random.randrange(count)
         breaks(m, unit, part, number)
-        return [bad_entry(unit, part, number, rule, family)]
+        return [bad_entry(unit, part, number, rule)]
 
     return plant
 
@@ -259,7 +259,7 @@ def entry_of_cut_section(m):
     part = m.unwind(unit, 2)
     part.put(15, 0x12)
     part.grow(bytes(8))
-    return [bad_entry(unit, part, 0, 8, "entry before a cut"), bad_entry(unit, part, 2, 1)]
+    return [bad_entry(unit, part, 0, 8), bad_entry(unit, part, 2, 1)]
 
 
 def entry_before_misplaced(m):
@@ -268,7 +268,7 @@ def entry_before_misplaced(m):
     part = m.unwind(unit, 2)
     part.put(15, 0x12)
     part.ask(36, POINTER, unit.here)
-    return [bad_entry(unit, part, 0, 8, "entry before another's relocation"), bad_entry(unit, part, 1, 2)]
+    return [bad_entry(unit, part, 0, 8), bad_entry(unit, part, 1, 2)]
 
 
 def some_data():

@@ -1,15 +1,14 @@
--- Rows that are checked one after the other: none of those before has the next one's start.
+-- Starts of rows, from the last row to the first.
 --
--- The keys that are held are the starts of the rows so far. One that is found among them is the start of an earlier row; one that
--- isn't differs from all of them, so the rows with it are apart as those before were.
-use Rattle.std.proofs.Common.{◌≡◌, ◌≢◌, ℕ, ◌+◌, ◌<◌, ◌≤◌, Bool, true, false, cond, not, ◌==◌, List, [], ◌∷◌, ◌++◌, length, map, get_or}
-use Rattle.std.proofs.Common.{take, None, refl, sym, ap, ◌∙◌, subst, arith, length-take-le}
+-- The keys that are held are the starts of the rows behind a place. Where the start of the row before is among them, a later row has
+-- it too; where it isn't, it differs from all of them, so the rows with it are apart as those behind were.
+use Rattle.std.proofs.Common.{◌≡◌, ◌≢◌, ℕ, ◌+◌, ◌-◌, ◌<◌, ◌≤◌, Bool, true, false, cond, not, ◌==◌, ◌||◌, List, [], ◌∷◌, ◌++◌, length}
+use Rattle.std.proofs.Common.{get_or, inl, inr, Option, Some, None, refl, sym, ap, ◌∙◌, subst, arith}
 use Rattle.std.proofs.lemmas.Bool.Decides.{Decides-eqb}
-use Rattle.std.proofs.lemmas.List.{take_more, take_all, get_or_default, get_or-map, get_or-take, length-map, map-append}
-use Rattle.std.proofs.lemmas.List.Quantifiers.{all_pairs_push}
-use Rattle.std.proofs.lemmas.List.Folds.{list_any_at}
-use Rattle.indexmap.proofs.CallerLemmas.{Contains-list_any}
-use Rattle.std.specs.List.{All, AllPairs, list_any}
+use Rattle.std.proofs.lemmas.Bool.{cases_lt}
+use Rattle.std.proofs.lemmas.List.{get_or_default}
+use Rattle.std.proofs.lemmas.List.Folds.{list_any-append}
+use Rattle.std.specs.List.{AllPairs, list_any}
 use Rattle.macho_model.specs.declared.rules.UnwindRule.TheVariants.{U6}
 use Rattle.macho_consumed.specs.declared.rows.UnwindEntry.{UnwindEntry}
 use Rattle.macho_consumed.specs.declared.starts.StartKey.{StartKey}
@@ -19,18 +18,11 @@ use Rattle.macho_consumed.specs.contracts.starts.StartKeyPartialEq.TheImpl as st
 use Rattle.macho_consumed.specs.steps.Checked.{start_key, IsAgain}
 use Rattle.macho_consumed.proofs.Tests.{left_of, right_of, both}
 
--- a list that is checked to its end
-pub checked_all : {X : Type 0} (P : X → Type 0) (xs : List X) (i : ℕ) → length xs ≤ i → All P (take i xs) → All P xs
-checked_all {X = X} P xs i past all = subst (λ (ys : List X). All P ys) (take_all i xs past) all
-
-pub pairs_all : {X : Type 0} (R : X → X → Type 0) (xs : List X) (i : ℕ) → length xs ≤ i → AllPairs R (take i xs) → AllPairs R xs
-pairs_all {X = X} R xs i past all = subst (λ (ys : List X). AllPairs R ys) (take_all i xs past) all
-
 -- the test of keys
 abbrev pub key_eq : StartKey → StartKey → Bool
 key_eq a b = start_keys.eq-value.it a b
 
-pub key_same : (a b : StartKey) → key_eq a b ≡ true → a ≡ b
+key_same : (a b : StartKey) → key_eq a b ≡ true → a ≡ b
 key_same a b e =
     let file : a.file ≡ b.file = (Decides-eqb a.file b.file).0 (left_of _ _ e) in
     let rest = right_of (a.file == b.file) _ e in
@@ -42,55 +34,163 @@ key_self : (a : StartKey) → key_eq a a ≡ true
 key_self a = both _ _ ((Decides-eqb a.file a.file).1 refl) (both _ _ ((Decides-eqb a.section a.section).1 refl)
     ((Decides-eqb a.offset a.offset).1 refl))
 
--- a start that is held is that of an earlier row
-pub again : (rows : List UnwindEntry) (i : ℕ) (row : UnwindEntry) (keys : List StartKey) (fault : ConsumedFault)
-    → keys ≡ map start_key (take i rows) → i < length rows
-    → get_or rows i row ≡ row → list_any (key_eq (start_key row)) keys ≡ true → fault ≡ BadUnwind row.file row.section row.entry U6
-    → IsAgain rows fault
-again rows i row keys fault are lt is held told =
-    let found = Contains-list_any key_eq key_same keys (start_key row) held in
-    let long : length keys ≡ i = ap length are ∙ length-map (take i rows) start_key ∙ length-take-le i rows (omega arith) in
-    let below : found.0 < i = omega (arith, found.1, long) in
-    let there : found.0 < length (take i rows) = omega (arith, found.1, ap length are, length-map (take i rows) start_key) in
+-- what is held, and what is put
+abbrev pub is_held : List StartKey → StartKey → Bool
+is_held keys k = list_any (key_eq k) keys
+
+abbrev pub put : List StartKey → StartKey → List StartKey
+put keys k = cond (is_held keys k) keys (keys ++ k ∷ [])
+
+one_more : (keys : List StartKey) (q k : StartKey) → is_held (keys ++ q ∷ []) k ≡ (is_held keys k || (key_eq k q || false))
+one_more keys q k = list_any-append (key_eq k) keys (q ∷ [])
+
+held_still : (keys : List StartKey) (q k : StartKey) → is_held keys k ≡ true → is_held (put keys q) k ≡ true
+held_still keys q k held = by (is_held keys q)
+  where
+    by : (t : Bool) → is_held (cond t keys (keys ++ q ∷ [])) k ≡ true
+    by true = held
+    by false = one_more keys q k ∙ ap (λ (t : Bool). t || (key_eq k q || false)) held
+
+held_now : (keys : List StartKey) (q : StartKey) → is_held (put keys q) q ≡ true
+held_now keys q = by (is_held keys q) refl
+  where
+    or_true : (t : Bool) → (t || true) ≡ true
+    or_true true = refl
+    or_true false = refl
+
+    by : (t : Bool) → is_held keys q ≡ t → is_held (cond t keys (keys ++ q ∷ [])) q ≡ true
+    by true held = held
+    by false new = one_more keys q q ∙ ap (λ (t : Bool). is_held keys q || (t || false)) (key_self q) ∙ or_true (is_held keys q)
+
+-- one that is held was held before, or is the new one
+held_before : (G : Type 0) (keys : List StartKey) (q k : StartKey) → is_held (put keys q) k ≡ true → (is_held keys k ≡ true → G)
+    → (k ≡ q → G) → G
+held_before G keys q k held old new = by (is_held keys q) held
+  where
+    or_of : (t u : Bool) → is_held keys k ≡ t → key_eq k q ≡ u → (t || (u || false)) ≡ true → G
+    or_of true u was is all = old was
+    or_of false true was is all = new (key_same k q is)
+    or_of false false was is all = cc
+
+    by : (t : Bool) → is_held (cond t keys (keys ++ q ∷ [])) k ≡ true → G
+    by true now = old now
+    by false now = or_of (is_held keys k) (key_eq k q) refl refl (sym (one_more keys q k) ∙ now)
+
+-- The keys are the starts of the rows from a place on.
+pub record AreHeld (rows : List UnwindEntry) (from : ℕ) (keys : List StartKey) : Type 0 where
+  pub each : (j : ℕ) (d : UnwindEntry) → from ≤ j → j < length rows → is_held keys (start_key (get_or rows j d)) ≡ true
+  pub come : (k : StartKey) → is_held keys k ≡ true
+      → (j : ℕ) × (from ≤ j) × (j < length rows) × ((d : UnwindEntry) → start_key (get_or rows j d) ≡ k)
+
+pub held_none : (rows : List UnwindEntry) (from : ℕ) → length rows ≤ from → AreHeld rows from []
+held_none rows from past = record { each = λ j d le lt. absurd (omega (arith, past, le, lt)); come = λ k held. cc }
+
+-- the row at a place, whatever stands for a missing one
+at_place : (rows : List UnwindEntry) (p : ℕ) (row d : UnwindEntry) → row ≡ get_or rows p row → p < length rows → get_or rows p d ≡ row
+at_place rows p row d is lt = get_or_default rows p d row lt ∙ sym is
+
+pub held_more : (rows : List UnwindEntry) (p : ℕ) (row : UnwindEntry) (k : StartKey) (keys next : List StartKey) → AreHeld rows (p + 1) keys
+    → p < length rows → row ≡ get_or rows p row → k ≡ start_key row → next ≡ put keys k → AreHeld rows p next
+held_more rows p row k keys next held lt is key put_is = record {
+  each = λ j d le below. subst (λ (ks : List StartKey). is_held ks (start_key (get_or rows j d)) ≡ true) (sym put_is)
+      (elim (cases_lt p j) [
+        | inl more ↦ held_still keys k (start_key (get_or rows j d)) (held.each j d (omega (arith, more)) below)
+        | inr least ↦ (let same : j ≡ p = omega (arith, le, least) in
+            let here : start_key (get_or rows j d) ≡ k = ap (λ (m : ℕ). start_key (get_or rows m d)) same
+            ∙ ap start_key (at_place rows p row d is lt) ∙ sym key in
+            subst (λ (q : StartKey). is_held (put keys k) q ≡ true) (sym here) (held_now keys k))
+      ]);
+  come = λ q now. held_before ((j : ℕ) × (p ≤ j) × (j < length rows) × ((d : UnwindEntry) → start_key (get_or rows j d) ≡ q)) keys k q
+      (subst (λ (ks : List StartKey). is_held ks q ≡ true) put_is now)
+      (λ was. let old = held.come q was in (old.0, omega (arith, old.1), old.2, old.3))
+      (λ new. (p, omega arith, lt, λ d. ap start_key (at_place rows p row d is lt) ∙ sym key ∙ sym new));
+}
+
+-- No two rows from a place on have one start, as long as none is told.
+abbrev pub AreApart : List UnwindEntry → ℕ → Option UnwindEntry → Type 0
+AreApart rows from (Some row) = Unit {0}
+AreApart rows from None = (i j : ℕ) (d : UnwindEntry) → from ≤ i → i < j → j < length rows
+    → start_key (get_or rows i d) ≢ start_key (get_or rows j d)
+
+pub apart_none : (rows : List UnwindEntry) (from : ℕ) → length rows ≤ from → AreApart rows from None
+apart_none rows from past = λ i j d le lt below. absurd (omega (arith, past, le, lt, below))
+
+pub apart_more : (rows : List UnwindEntry) (p : ℕ) (row : UnwindEntry) (k : StartKey) (keys : List StartKey) (added : Bool)
+    (again : Option UnwindEntry) → AreHeld rows (p + 1) keys → AreApart rows (p + 1) again → p < length rows → row ≡ get_or rows p row
+    → k ≡ start_key row → added ≡ not (is_held keys k) → added ≡ true → AreApart rows p again
+apart_more rows p row k keys added (Some told) held apart lt is key says new = tt
+apart_more rows p row k keys added None held apart lt is key says new = λ i j d le less below same.
+    elim (cases_lt p i) [
+      | inl more ↦ apart i j d (omega (arith, more)) less below same
+      | inr least ↦ (let first : i ≡ p = omega (arith, le, least) in
+          let here : start_key (get_or rows j d) ≡ k = sym same ∙ ap (λ (m : ℕ). start_key (get_or rows m d)) first
+          ∙ ap start_key (at_place rows p row d is lt) ∙ sym key in
+          let was : is_held keys k ≡ true = subst (λ (q : StartKey). is_held keys q ≡ true) here
+          (held.each j d (omega (arith, less, first)) below) in
+          let clash : true ≡ false = sym new ∙ says ∙ ap not was in
+          cc)
+    ]
+
+-- A row that is told has the start of a later one.
+pub record IsShared (rows : List UnwindEntry) (row : UnwindEntry) : Type 0 where
+  pub place : ℕ
+  pub later : ℕ
+  pub before : place < later
+  pub there : later < length rows
+  pub is : get_or rows place row ≡ row
+  pub same : start_key (get_or rows later row) ≡ start_key row
+
+abbrev pub AreShared : List UnwindEntry → Option UnwindEntry → Type 0
+AreShared rows None = Unit {0}
+AreShared rows (Some row) = IsShared rows row
+
+pub shared_at : (rows : List UnwindEntry) (p : ℕ) (row : UnwindEntry) (k : StartKey) (keys : List StartKey) (added : Bool)
+    → AreHeld rows (p + 1) keys → p < length rows → row ≡ get_or rows p row → k ≡ start_key row → added ≡ not (is_held keys k)
+    → added ≡ false → IsShared rows row
+shared_at rows p row k keys added held lt is key says no_more =
+    let other = held.come k (by (is_held keys k) (sym says ∙ no_more)) in
     record {
-      first = found.0;
-      place = i;
-      before = below;
-      row = row;
-      there = lt;
-      is = is;
-      same = ap start_key (sym (get_or-take i rows found.0 row below))
-          ∙ sym (get_or-map start_key (take i rows) found.0 row (start_key row) there)
-          ∙ ap (λ (ks : List StartKey). get_or ks found.0 (start_key row)) (sym are) ∙ found.2;
-      told = told;
+      place = p;
+      later = other.0;
+      before = omega (arith, other.1);
+      there = other.2;
+      is = sym is;
+      same = other.3 row ∙ key;
     }
+  where
+    by : (t : Bool) → not t ≡ false → t ≡ true
+    by true e = refl
+    by false e = cc
 
--- one that isn't is apart from all of them
-pub keys_more : (rows : List UnwindEntry) (i : ℕ) (row : UnwindEntry) (keys : List StartKey) → keys ≡ map start_key (take i rows)
-    → i < length rows → get_or rows i row ≡ row
-    → keys ++ start_key row ∷ [] ≡ map start_key (take (i + 1) rows)
-keys_more rows i row keys are lt is =
-    ap (λ (ks : List StartKey). ks ++ start_key row ∷ []) are ∙ sym (map-append start_key (take i rows) (row ∷ []))
-    ∙ ap (map start_key) (sym (take_more rows i row lt ∙ ap (λ (e : UnwindEntry). take i rows ++ e ∷ []) is))
+-- the same by the number of rows that were looked at
+before_that : (n i : ℕ) → i < n → n - i ≡ n - (i + 1) + 1
+before_that n i lt = omega arith
 
-pub apart_more : (rows : List UnwindEntry) (i : ℕ) (row : UnwindEntry) (keys : List StartKey) → keys ≡ map start_key (take i rows)
-    → i < length rows → get_or rows i row ≡ row
-    → list_any (key_eq (start_key row)) keys ≡ false → AllPairs (λ d e. start_key d ≢ start_key e) (take i rows)
-    → AllPairs (λ d e. start_key d ≢ start_key e) (take (i + 1) rows)
-apart_more rows i row keys are lt is new apart =
-    subst (λ (xs : List UnwindEntry). AllPairs (λ d e. start_key d ≢ start_key e) xs)
-    (sym (take_more rows i row lt ∙ ap (λ (e : UnwindEntry). take i rows ++ e ∷ []) is))
-    (all_pairs_push (λ d e. start_key d ≢ start_key e) (take i rows) row apart
-    (λ k d below same.
-    let held : list_any (key_eq (start_key row)) (map start_key (take i rows)) ≡ true =
-    list_any_at (key_eq (start_key row)) (map start_key (take i rows)) k (start_key row) (omega (
-      arith,
-      below,
-      length-map
-          (take i rows) start_key,
-    ))
-    (ap (key_eq (start_key row)) (get_or-map start_key (take i rows) k d (start_key row) below ∙ same) ∙ key_self (start_key row)) in
-    let clash : true ≡ false = sym held ∙ ap (list_any (key_eq (start_key row))) (sym are) ∙ new in cc))
+pub held_step : (rows : List UnwindEntry) (i : ℕ) (row : UnwindEntry) (k : StartKey) (keys next : List StartKey)
+    → AreHeld rows (length rows - i) keys → i < length rows → row ≡ get_or rows (length rows - 1 - i) row → k ≡ start_key row
+    → next ≡ put keys k → AreHeld rows (length rows - (i + 1)) next
+held_step rows i row k keys next held lt is key put_is =
+    let place : length rows - 1 - i ≡ length rows - (i + 1) = omega arith in
+    held_more rows (length rows - (i + 1)) row k keys next (subst (λ (m : ℕ). AreHeld rows m keys) (before_that (length rows) i lt) held)
+    (omega (arith, lt)) (is ∙ ap (λ (m : ℕ). get_or rows m row) place) key put_is
+
+pub apart_step : (rows : List UnwindEntry) (i : ℕ) (row : UnwindEntry) (k : StartKey) (keys : List StartKey) (added : Bool)
+    (again : Option UnwindEntry) → AreHeld rows (length rows - i) keys → AreApart rows (length rows - i) again → i < length rows
+    → row ≡ get_or rows (length rows - 1 - i) row → k ≡ start_key row → added ≡ not (is_held keys k) → added ≡ true
+    → AreApart rows (length rows - (i + 1)) again
+apart_step rows i row k keys added again held apart lt is key says new =
+    let place : length rows - 1 - i ≡ length rows - (i + 1) = omega arith in
+    let here = before_that (length rows) i lt in
+    apart_more rows (length rows - (i + 1)) row k keys added again (subst (λ (m : ℕ). AreHeld rows m keys) here held)
+    (subst (λ (m : ℕ). AreApart rows m again) here apart) (omega (arith, lt)) (is ∙ ap (λ (m : ℕ). get_or rows m row) place) key says new
+
+pub shared_step : (rows : List UnwindEntry) (i : ℕ) (row : UnwindEntry) (k : StartKey) (keys : List StartKey) (added : Bool)
+    → AreHeld rows (length rows - i) keys → i < length rows → row ≡ get_or rows (length rows - 1 - i) row → k ≡ start_key row
+    → added ≡ not (is_held keys k) → added ≡ false → IsShared rows row
+shared_step rows i row k keys added held lt is key says no_more =
+    let place : length rows - 1 - i ≡ length rows - (i + 1) = omega arith in
+    shared_at rows (length rows - (i + 1)) row k keys added (subst (λ (m : ℕ). AreHeld rows m keys) (before_that (length rows) i lt) held)
+    (omega (arith, lt)) (is ∙ ap (λ (m : ℕ). get_or rows m row) place) key says no_more
 
 abbrev pub no_row : UnwindEntry
 no_row = record {
@@ -104,34 +204,30 @@ no_row = record {
   lsda = None;
 }
 
--- what the set answers
-pub held_of : (row : UnwindEntry) (k : StartKey) (keys : List StartKey) (added : Bool) → k ≡ start_key row
-    → added ≡ not (list_any (key_eq k) keys) → added ≡ false
-    → list_any (key_eq (start_key row)) keys ≡ true
-held_of row k keys added is says no_more = subst (λ (q : StartKey). list_any (key_eq q) keys ≡ true) is (by (list_any (key_eq k) keys)
-    (sym says ∙ no_more))
-  where
-    by : (t : Bool) → not t ≡ false → t ≡ true
-    by true e = refl
-    by false e = cc
-
-pub new_of : (row : UnwindEntry) (k : StartKey) (keys : List StartKey) (added : Bool) → k ≡ start_key row
-    → added ≡ not (list_any (key_eq k) keys) → added ≡ true
-    → list_any (key_eq (start_key row)) keys ≡ false
-new_of row k keys added is says more = subst (λ (q : StartKey). list_any (key_eq q) keys ≡ false) is (by (list_any (key_eq k) keys)
-    (sym says ∙ more))
-  where
-    by : (t : Bool) → not t ≡ true → t ≡ false
-    by true e = cc
-    by false e = refl
-
-pub put_new : (row : UnwindEntry) (k : StartKey) (keys next : List StartKey) → k ≡ start_key row
-    → next ≡ cond (list_any (key_eq k) keys) keys (keys ++ k ∷ [])
-    → list_any (key_eq (start_key row)) keys ≡ false → next ≡ keys ++ start_key row ∷ []
-put_new row k keys next is put new =
-    put ∙ ap (λ (q : StartKey). cond (list_any (key_eq q) keys) keys (keys ++ q ∷ [])) is
-    ∙ ap (λ (t : Bool). cond t keys (keys ++ start_key row ∷ [])) new
-
 -- the row that a loop is at
-pub row_here : (rows : List UnwindEntry) (i : ℕ) → i < length rows → get_or rows i (get_or rows i no_row) ≡ get_or rows i no_row
-row_here rows i lt = get_or_default rows i (get_or rows i no_row) no_row lt
+pub row_here : (rows : List UnwindEntry) (i : ℕ) → i < length rows
+    → get_or rows (length rows - 1 - i) no_row ≡ get_or rows (length rows - 1 - i) (get_or rows (length rows - 1 - i) no_row)
+row_here rows i lt = get_or_default rows (length rows - 1 - i) no_row (get_or rows (length rows - 1 - i) no_row) (omega (arith, lt))
+
+-- at the first row
+pub all_apart : (rows : List UnwindEntry) (from : ℕ) (again : Option UnwindEntry) → AreApart rows from again → from ≡ 0 → again ≡ None
+    → AllPairs (λ d e. start_key d ≢ start_key e) rows
+all_apart rows from (Some row) apart zero none = cc
+all_apart rows from None apart zero none = λ i j d less below. apart i j d (omega (arith, zero)) less below
+
+pub one_again : (rows : List UnwindEntry) (again : Option UnwindEntry) (row : UnwindEntry) (fault : ConsumedFault) → AreShared rows again
+    → again ≡ Some row → fault ≡ BadUnwind row.file row.section row.entry U6 → IsAgain rows fault
+one_again rows None row fault shared is told = cc
+one_again rows (Some r) row fault shared is told =
+    let same : r ≡ row = cc in
+    let s = subst (IsShared rows) same shared in
+    record {
+      place = s.place;
+      later = s.later;
+      before = s.before;
+      there = s.there;
+      row = row;
+      is = s.is;
+      same = s.same;
+      told = told;
+    }

@@ -30,11 +30,11 @@ use Rattle.macho_consumed.specs.Told.{IsStanding, EntriesKeepRules}
 use Rattle.macho_consumed.specs.steps.Entries.{at_place, read_entry, data_fits, EntryFits, row_in}
 use Rattle.macho_consumed.specs.steps.Listed.{id_of_ref, bytes_in}
 use Rattle.macho_consumed.specs.steps.Gathered.{all_of, entries_at, KeepsAt}
-use Rattle.macho_consumed.specs.steps.Checked.{start_key, IsAgain, IsAgainOrMemory, LeadSomewhere, leads_somewhere}
+use Rattle.macho_consumed.specs.steps.Checked.{start_key, IsAgain, IsAgainOrMemory, leads_somewhere}
 use Rattle.macho_consumed.proofs.Tests.{left_of, right_of, both, all_pass, one_fails, not_true}
 use Rattle.macho_consumed.proofs.Members.{in_map, all_there, to_map, to_joined, to_range}
 use Rattle.macho_consumed.proofs.InAll.{IsOne, all_listed}
-use Rattle.macho_consumed.proofs.Transfer.{object_is, entry_row_is, entry_test}
+use Rattle.macho_consumed.proofs.Transfer.{object_is, entry_test}
 use Rattle.macho_consumed.proofs.Sectioned.{unwind_are}
 use Rattle.macho_consumed.proofs.Pairs.{Pairs, at_pairs}
 use Rattle.macho_consumed.proofs.EntryStarts.{AreOthers, rows_differ}
@@ -81,37 +81,37 @@ alone_test : (l : Link) (d e : EntryId) → (same_start l d e ≡ true)
     → (not (same_start l d e) || (same_section d.of_section e.of_section && (d.entry == e.entry))) ≡ false
 alone_test l d e same differ = rw (same, differ) refl
 
-again_of : (l : Link) (files : List (Option FileBytes)) (rows : List UnwindEntry) (fault : ConsumedFault) → AreViews l files
-    → All (KeepsAt files) (all_of Entries files)
+again_of : (l : Link) (files : List (Option FileBytes)) (r : ResolvedRows) (rows : List UnwindEntry) (fault : ConsumedFault) → AreViews l files
+    → All (KeepsAt r files) (all_of Entries files)
     → rows ≡ flat_map (entries_at files) (all_of Entries files) → IsAgain rows fault → IsStanding l fault
-again_of l files rows fault views keep are again =
+again_of l files r rows fault views keep are again =
     let all = rows_are l files rows views are in
-    let before : again.first < length rows = omega (arith, again.before, again.there) in
-    let d : EntryId = get_or (entries_of_link l) again.first no_entry in
+    let before : again.place < length rows = omega (arith, again.before, again.there) in
+    let d : EntryId = get_or (entries_of_link l) again.later no_entry in
     let e : EntryId = get_or (entries_of_link l) again.place no_entry in
-    let first = row_at l rows again.first again.row all before in
-    let second = sym again.is ∙ row_at l rows again.place again.row all again.there in
-    let known_d = known l files d views (entry_there l rows again.first all before) in
-    let known_e = known l files e views (entry_there l rows again.place all again.there) in
-    let sd = known_starts l files d views keep known_d in
-    let se = known_starts l files e views keep known_e in
-    let same = keys_meet l d e sd.0 se.0 sd.1 se.1 (ap start_key (sym first) ∙ again.same ∙ ap start_key second) in
-    let others = at_pairs AreOthers rows again.first again.place again.row again.row (subst (λ
+    let other = row_at l rows again.later again.row all again.there in
+    let this = sym again.is ∙ row_at l rows again.place again.row all before in
+    let known_d = known l files d views (entry_there l rows again.later all again.there) in
+    let known_e = known l files e views (entry_there l rows again.place all before) in
+    let sd = known_starts l files r d views keep known_d in
+    let se = known_starts l files r e views keep known_e in
+    let same = keys_meet l d e sd.0 se.0 sd.1 se.1 (ap start_key (sym other) ∙ again.same ∙ ap start_key this) in
+    let others = at_pairs AreOthers rows again.place again.later again.row again.row (subst (λ
     (xs : List UnwindEntry). Pairs AreOthers xs) (sym are) (rows_differ files)) again.before again.there in
     let differ : (same_section d.of_section e.of_section && (d.entry == e.entry)) ≡ false =
     not_true _ (λ alike.
     let section = left_of _ _ alike in
     others.apart
-    (ap (λ (x : UnwindEntry). x.file) first ∙ row_file l d ∙ eqb-true _ _ (left_of _ _ section) ∙ sym (row_file l e)
-    ∙ sym (ap (λ (x : UnwindEntry). x.file) (again.is ∙ second)))
-    (ap (λ (x : UnwindEntry). x.section) first ∙ row_section l d
+    (sym (ap (λ (x : UnwindEntry). x.file) other ∙ row_file l d ∙ eqb-true _ _ (left_of _ _ section) ∙ sym (row_file l e)
+    ∙ sym (ap (λ (x : UnwindEntry). x.file) (again.is ∙ this))))
+    (sym (ap (λ (x : UnwindEntry). x.section) other ∙ row_section l d
     ∙ eqb-true _ _ (right_of (d.of_section.file == e.of_section.file) _ section) ∙ sym (row_section l e)
-    ∙ sym (ap (λ (x : UnwindEntry). x.section) (again.is ∙ second)))
-    (ap (λ (x : UnwindEntry). x.entry) first ∙ row_entry l d ∙ eqb-true _ _ (right_of (same_section d.of_section e.of_section) _ alike)
-    ∙ sym (row_entry l e) ∙ sym (ap (λ (x : UnwindEntry). x.entry) (again.is ∙ second)))) in
+    ∙ sym (ap (λ (x : UnwindEntry). x.section) (again.is ∙ this))))
+    (sym (ap (λ (x : UnwindEntry). x.entry) other ∙ row_entry l d ∙ eqb-true _ _ (right_of (same_section d.of_section e.of_section) _ alike)
+    ∙ sym (row_entry l e) ∙ sym (ap (λ (x : UnwindEntry). x.entry) (again.is ∙ this))))) in
     let fails : start_alone l e.of_section e.entry ≡ false =
     one_fails (λ x. not (same_start l x e) || (same_section x.of_section e.of_section && (x.entry == e.entry))) (entries_of_link l) d
-    (entry_there l rows again.first all before)
+    (entry_there l rows again.later all again.there)
     (alone_test l d e same differ) in
     let there : Contains (unwind_sections l) e.of_section =
     subst (λ (s : SectionId). Contains (unwind_sections l) s) (sym known_e.section)
@@ -120,25 +120,25 @@ again_of l files rows fault views keep are again =
     let within : e.entry < entry_count l e.of_section = subst (λ (s : SectionId). e.entry < entry_count l s)
     (sym known_e.section) known_e.within in
     let stands : IsStanding l (BadUnwind e.of_section.file e.of_section.section e.entry U6) = (there, (within, fails)) in
-    subst (IsStanding l) (sym (again.told ∙ ap (λ (x : UnwindEntry). BadUnwind x.file x.section x.entry U6) second
+    subst (IsStanding l) (sym (again.told ∙ ap (λ (x : UnwindEntry). BadUnwind x.file x.section x.entry U6) this
     ∙ ap (λ (f : ℕ). BadUnwind f (entry_row l e).section (entry_row l e).entry U6) (row_file l e)
     ∙ ap (λ (s : ℕ). BadUnwind e.of_section.file s (entry_row l e).entry U6) (row_section l e)
     ∙ ap (λ (n : ℕ). BadUnwind e.of_section.file e.of_section.section n U6) (row_entry l e))) stands
 
-pub again_stands : (l : Link) (files : List (Option FileBytes)) (rows : List UnwindEntry) (fault : ConsumedFault) → AreViews l files
-    → All (KeepsAt files) (all_of Entries files)
+pub again_stands : (l : Link) (files : List (Option FileBytes)) (r : ResolvedRows) (rows : List UnwindEntry) (fault : ConsumedFault) → AreViews l files
+    → All (KeepsAt r files) (all_of Entries files)
     → rows ≡ flat_map (entries_at files) (all_of Entries files) → IsAgainOrMemory rows fault → IsStanding l fault
-again_stands l files rows (BadInitializer f s offset) views keep are again = again_of l files rows
+again_stands l files r rows (BadInitializer f s offset) views keep are again = again_of l files r rows
     (BadInitializer f s offset) views keep are again
-again_stands l files rows (BadUnwind f s e rule) views keep are again = again_of l files rows (BadUnwind f s e rule) views keep are again
-again_stands l files rows OutOfMemory views keep are again = tt
+again_stands l files r rows (BadUnwind f s e rule) views keep are again = again_of l files r rows (BadUnwind f s e rule) views keep are again
+again_stands l files r rows OutOfMemory views keep are again = tt
 
 -- where no two have one start, each is alone
-alone_kept : (l : Link) (files : List (Option FileBytes)) (rows : List UnwindEntry) (e : EntryId) → AreViews l files
-    → All (KeepsAt files) (all_of Entries files)
+alone_kept : (l : Link) (files : List (Option FileBytes)) (r : ResolvedRows) (rows : List UnwindEntry) (e : EntryId) → AreViews l files
+    → All (KeepsAt r files) (all_of Entries files)
     → rows ≡ map (entry_row l) (entries_of_link l) → AllPairs (λ d e. start_key d ≢ start_key e) rows → Contains (entries_of_link l) e
     → start_alone l e.of_section e.entry ≡ true
-alone_kept l files rows e views keep are apart there =
+alone_kept l files r rows e views keep are apart there =
     all_pass (λ d. not (same_start l d e) || (same_section d.of_section e.of_section && (d.entry == e.entry))) (entries_of_link l)
     (λ d c. by d c (same_start l d e) refl)
   where
@@ -170,8 +170,8 @@ alone_kept l files rows e views keep are apart there =
         → (not (same_start l d e) || (same_section d.of_section e.of_section && (d.entry == e.entry))) ≡ true
     by d c false is = rw is refl
     by d c true is =
-        let sd = known_starts l files d views keep (known l files d views c) in
-        let se = known_starts l files e views keep (known l files e views there) in
+        let sd = known_starts l files r d views keep (known l files d views c) in
+        let se = known_starts l files r e views keep (known l files e views there) in
         let same : d ≡ e = one d c.0 there.0 c.1 there.1 c.2 there.2 (meet_keys l d e sd.0 se.0 sd.1 se.1 is) in
         let equal : (same_section d.of_section e.of_section && (d.entry == e.entry)) ≡ true =
         both _ _ (both _ _ (eq-eqb _ _ (ap (λ (x : EntryId). x.of_section.file) same)) (eq-eqb _ _ (ap (λ
@@ -219,16 +219,15 @@ links_kept l noted file b k e is fits leads =
 -- all rules
 pub rules_kept : (l : Link) (noted : List (List ℕ)) (files : List (Option FileBytes)) (r : ResolvedRows) (rows : List UnwindEntry)
     → AreViews l files
-    → IsResolved l noted r → All (KeepsAt files) (all_of Entries files) → rows ≡ flat_map (entries_at files) (all_of Entries files)
-    → LeadSomewhere r rows
+    → IsResolved l noted r → All (KeepsAt r files) (all_of Entries files) → rows ≡ flat_map (entries_at files) (all_of Entries files)
     → AllPairs (λ d e. start_key d ≢ start_key e) rows → EntriesKeepRules l
 unfolding entry_row entries_of_link
-rules_kept l noted files r rows views resolved keep are lead apart = record {
+rules_kept l noted files r rows views resolved keep are apart = record {
   whole = subst (λ (xs : List SectionId). All (λ s. whole_entries l s ≡ true) xs) (unwind_are l files views)
       (All-map (λ s. whole_entries l s ≡ true) id_of_ref (all_of Entries files)
       (all_there (λ s. whole_entries l (id_of_ref s) ≡ true) (all_of Entries files) (λ s c.
       (entry_test l s.file (bytes_in files s.file) s.section 0 (object_is l files s.file views (listed s c))).5
-      ∙ (All-contains (KeepsAt files) (all_of Entries files) s keep c).whole)));
+      ∙ (All-contains (KeepsAt r files) (all_of Entries files) s keep c).whole)));
   unwind = λ s e rule c lt.
       let m = in_map id_of_ref (all_of Entries files) s (subst (λ (xs : List SectionId). Contains xs s) (sym
       (unwind_are l files views)) c) in
@@ -246,19 +245,14 @@ rules_kept l noted files r rows views resolved keep are lead apart = record {
     all : rows ≡ map (entry_row l) (entries_of_link l)
     all = rows_are l files rows views are
 
-    row_leads : (d : EntryId) → Contains (entries_of_link l) d
-        → leads_somewhere l noted (entry_row l d).file (entry_row l d).personality ≡ true
-    row_leads d c =
-        All-contains (λ x. leads_somewhere l noted x.file x.personality ≡ true) rows (entry_row l d) (lead l noted resolved)
-        (subst (λ (xs : List UnwindEntry). Contains xs (entry_row l d)) (sym all) (to_map (entry_row l) (entries_of_link l) d c))
-
     kept : (at : SectionRef) → Contains (all_of Entries files) at → (e : ℕ) → e < entry_count l (id_of_ref at) → (rule : UnwindRule)
         → Contains (entries_of_link l) (record { of_section = id_of_ref at; entry = e }) → keeps l (id_of_ref at) e rule ≡ true
     kept at c e lt rule there =
         let b = bytes_in files at.file in
         let is = object_is l files at.file views (listed at c) in
-        let keeps_all = All-contains (KeepsAt files) (all_of Entries files) at keep c in
-        let fits = keeps_all.entries.entries e (subst (λ (x : List ℕ). e < (section_at x at.section).size / 32) is lt) in
+        let keeps_all = All-contains (KeepsAt r files) (all_of Entries files) at keep c in
+        let within = subst (λ (x : List ℕ). e < (section_at x at.section).size / 32) is lt in
+        let fits = keeps_all.entries.entries e within in
         let test = entry_test l at.file b at.section e is in
         elim rule as (λ x. keeps l (id_of_ref at) e x ≡ true) [
           | U1 ↦ test.5 ∙ keeps_all.whole
@@ -266,9 +260,7 @@ rules_kept l noted files r rows views resolved keep are lead apart = record {
           | U3 ↦ test.1 ∙ fits.single
           | U4 ↦ test.2 ∙ fits.start
           | U5 ↦ test.3 ∙ fits.inside
-          | U6 ↦ alone_kept l files rows (record { of_section = id_of_ref at; entry = e }) views keep all apart there
-          | U7 ↦ links_kept l noted at.file b at.section e is fits
-              (ap (λ (x : UnwindEntry). leads_somewhere l noted at.file x.personality) (sym (entry_row_is l at.file b at.section e is))
-              ∙ row_leads (record { of_section = id_of_ref at; entry = e }) there)
+          | U6 ↦ alone_kept l files r rows (record { of_section = id_of_ref at; entry = e }) views keep all apart there
+          | U7 ↦ links_kept l noted at.file b at.section e is fits (keeps_all.lead e within l noted resolved)
           | U8 ↦ test.4 ∙ fits.clear
         ]

@@ -10,6 +10,7 @@ use Rattle.std.proofs.lemmas.Grind.{flat_map-append}
 use Rattle.std.specs.List.{range_with_len, flat_map, All, Contains}
 use Rattle.macho_object.specs.Views.{FileBytes}
 use Rattle.macho_model.specs.Objects.{num_sections, section_at}
+use Rattle.macho_symbols.specs.Kept.{ResolvedRows}
 use Rattle.macho_consumed.specs.declared.listing.Kind.{Kind}
 use Rattle.macho_consumed.specs.declared.listing.SectionRef.{SectionRef}
 use Rattle.macho_consumed.specs.steps.Listed.{is_of_kind, ref, refs_in, refs_of_file, refs_of, bytes_in, bytes_viewed}
@@ -100,17 +101,17 @@ pub next_at : (kind : Kind) (files : List (Option FileBytes)) (refs : List Secti
 next_at kind files refs i are lt = next_listed kind files refs i (at refs i) are lt (is_at refs i lt)
 
 -- initializers of the section that a loop is at
-pub bad_initializers : (files : List (Option FileBytes)) (s : SectionRef) (f : FileBytes) (fault : ConsumedFault)
+pub bad_initializers : (r : ResolvedRows) (files : List (Option FileBytes)) (s : SectionRef) (f : FileBytes) (fault : ConsumedFault)
     → Contains (all_of Initializers files) s
-    → Some f ≡ get_or files s.file None → IsBadSection f.bytes s.file s.section fault → IsBadAt files fault
-bad_initializers files s f (BadInitializer file section offset) there is bad = (
+    → Some f ≡ get_or files s.file None → IsBadSection r f.bytes s.file s.section fault → IsBadAt r files fault
+bad_initializers r files s f (BadInitializer file section offset) there is bad = (
   s,
   there,
-  subst (λ (b : List ℕ). IsBadSection b s.file s.section (BadInitializer file section offset)) (sym
+  subst (λ (b : List ℕ). IsBadSection r b s.file s.section (BadInitializer file section offset)) (sym
       (view_bytes Initializers files s f is)) bad,
 )
-bad_initializers files s f (BadUnwind file section e rule) there is bad = bad
-bad_initializers files s f OutOfMemory there is bad = tt
+bad_initializers r files s f (BadUnwind file section e rule) there is bad = bad
+bad_initializers r files s f OutOfMemory there is bad = tt
 
 pub more_initializers : (files : List (Option FileBytes)) (refs : List SectionRef) (i : ℕ) (f : FileBytes)
     (rows next : List Initializer) → i < length refs
@@ -122,25 +123,26 @@ more_initializers files refs i f rows next lt is so_far added =
     (sym (view_bytes Initializers files (at refs i) f is))
     ∙ joined_more (initializers_at files) refs i (at refs i) rows lt (is_at refs i lt) so_far
 
-pub more_fit : (files : List (Option FileBytes)) (refs : List SectionRef) (i : ℕ) (f : FileBytes) → i < length refs
-    → Some f ≡ get_or files (at refs i).file None → All (FitsAt files) (take i refs) → SectionFits f.bytes (at refs i).section
-    → All (FitsAt files) (take (i + 1) refs)
-more_fit files refs i f lt is so_far fits =
-    all_more (FitsAt files) refs i (at refs i) lt (is_at refs i lt) so_far
-    (subst (λ (b : List ℕ). SectionFits b (at refs i).section) (sym (view_bytes Initializers files (at refs i) f is)) fits)
+pub more_fit : (r : ResolvedRows) (files : List (Option FileBytes)) (refs : List SectionRef) (i : ℕ) (f : FileBytes) → i < length refs
+    → Some f ≡ get_or files (at refs i).file None → All (FitsAt r files) (take i refs)
+    → SectionFits r f.bytes (at refs i).file (at refs i).section
+    → All (FitsAt r files) (take (i + 1) refs)
+more_fit r files refs i f lt is so_far fits =
+    all_more (FitsAt r files) refs i (at refs i) lt (is_at refs i lt) so_far
+    (subst (λ (b : List ℕ). SectionFits r b (at refs i).file (at refs i).section) (sym (view_bytes Initializers files (at refs i) f is)) fits)
 
 -- and its entries
-pub bad_entries : (files : List (Option FileBytes)) (s : SectionRef) (f : FileBytes) (fault : ConsumedFault)
+pub bad_entries : (r : ResolvedRows) (files : List (Option FileBytes)) (s : SectionRef) (f : FileBytes) (fault : ConsumedFault)
     → Contains (all_of Entries files) s
-    → Some f ≡ get_or files s.file None → IsBadUnwind f.bytes s.file s.section fault → IsBadRuleAt files fault
-bad_entries files s f (BadInitializer file section offset) there is bad = bad
-bad_entries files s f (BadUnwind file section e rule) there is bad = (
+    → Some f ≡ get_or files s.file None → IsBadUnwind r f.bytes s.file s.section fault → IsBadRuleAt r files fault
+bad_entries r files s f (BadInitializer file section offset) there is bad = bad
+bad_entries r files s f (BadUnwind file section e rule) there is bad = (
   s,
   there,
-  subst (λ (b : List ℕ). IsBadUnwind b s.file s.section (BadUnwind file section e rule)) (sym
+  subst (λ (b : List ℕ). IsBadUnwind r b s.file s.section (BadUnwind file section e rule)) (sym
       (view_bytes Entries files s f is)) bad,
 )
-bad_entries files s f OutOfMemory there is bad = tt
+bad_entries r files s f OutOfMemory there is bad = tt
 
 pub more_entries : (files : List (Option FileBytes)) (refs : List SectionRef) (i : ℕ) (f : FileBytes) (rows next : List UnwindEntry)
     → i < length refs
@@ -152,9 +154,10 @@ more_entries files refs i f rows next lt is so_far added =
     (sym (view_bytes Entries files (at refs i) f is))
     ∙ joined_more (entries_at files) refs i (at refs i) rows lt (is_at refs i lt) so_far
 
-pub more_keep : (files : List (Option FileBytes)) (refs : List SectionRef) (i : ℕ) (f : FileBytes) → i < length refs
-    → Some f ≡ get_or files (at refs i).file None → All (KeepsAt files) (take i refs) → SectionKeeps f.bytes (at refs i).section
-    → All (KeepsAt files) (take (i + 1) refs)
-more_keep files refs i f lt is so_far fits =
-    all_more (KeepsAt files) refs i (at refs i) lt (is_at refs i lt) so_far
-    (subst (λ (b : List ℕ). SectionKeeps b (at refs i).section) (sym (view_bytes Entries files (at refs i) f is)) fits)
+pub more_keep : (r : ResolvedRows) (files : List (Option FileBytes)) (refs : List SectionRef) (i : ℕ) (f : FileBytes) → i < length refs
+    → Some f ≡ get_or files (at refs i).file None → All (KeepsAt r files) (take i refs)
+    → SectionKeeps r f.bytes (at refs i).file (at refs i).section
+    → All (KeepsAt r files) (take (i + 1) refs)
+more_keep r files refs i f lt is so_far fits =
+    all_more (KeepsAt r files) refs i (at refs i) lt (is_at refs i lt) so_far
+    (subst (λ (b : List ℕ). SectionKeeps r b (at refs i).file (at refs i).section) (sym (view_bytes Entries files (at refs i) f is)) fits)

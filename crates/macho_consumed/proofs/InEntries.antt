@@ -1,14 +1,15 @@
 -- An entry of compact unwind information, by its cells.
 --
--- The table tells the relocations of each of an entry's four places: none or one. What the code found of the one, the tests of
--- the rules say of the list of one: so each rule holds, or is the one that is told. No relocation stands at 8, so one that stands
--- at a multiple of 8 stands at one of the three addresses.
+-- The table tells the relocations of each of an entry's four places. At each of the three addresses stands a plain pointer or none,
+-- else a rule is broken. What the code found of the one, the tests of the rules say of the list of one: so each rule holds, or is the
+-- one that is told. No relocation stands at 8 nor between places, so each stands at one of the three addresses.
 use Rattle.std.proofs.Common.{◌≡◌, ◌≢◌, ℕ, ◌+◌, ◌*◌, ◌/◌, ◌%◌, ◌<◌, ◌≤◌, inl, inr, eqb, eq-eqb, Bool, true, false, nat_lt, ◌==◌}
 use Rattle.std.proofs.Common.{if◌then◌else◌, ◌&&◌, ◌||◌, List, [], ◌∷◌, ◌++◌, length, map, filter, get_or, Option, Some, None, option_map}
 use Rattle.std.proofs.Common.{option_to_list, is_some, nat_le, refl, sym, ap, ◌∙◌, subst, arith, below_more, append_assoc}
 use Rattle.std.proofs.lemmas.Bool.Decides.{nat_tests}
+use Rattle.std.proofs.lemmas.Bool.{eqb-true}
 use Rattle.std.specs.List.{range_with_len, list_all, Contains}
-use Rattle.std.proofs.lemmas.List.{append-nil}
+use Rattle.std.proofs.lemmas.List.{append-nil, get_or_default}
 use Rattle.std.proofs.lemmas.List.FromFn.{map-range_with_len_more}
 use Rattle.macho_bytes.specs.Numbers.{bits}
 use Rattle.macho_structs.specs.declared.relocations.RelocationInfo.{RelocationInfo}
@@ -25,10 +26,14 @@ use Rattle.macho_consumed.specs.declared.rows.PersonalityUse.{PersonalityUse}
 use Rattle.macho_consumed.specs.declared.rows.UnwindEntry.{UnwindEntry}
 use Rattle.macho_consumed.specs.Rows.{start_place, place_named, personality_use, entry_row}
 use Rattle.macho_consumed.specs.steps.Alone.{alone, own}
-use Rattle.macho_consumed.specs.steps.Places.{found, IsTable}
+use Rattle.macho_symbols.specs.Kept.{ResolvedRows}
+use Rattle.macho_consumed.specs.declared.places.Cell.{Cell}
+use Rattle.macho_consumed.specs.declared.places.Cell.TheVariants.{Empty, One, Several}
+use Rattle.macho_consumed.specs.steps.Places.{found, CellTells, IsTable, NoneBelow}
 use Rattle.macho_consumed.specs.steps.Entries.{NamesSection, StartFound, StartBreaks, DataFound, DataBreaks, PersonalityFound}
-use Rattle.macho_consumed.specs.steps.Entries.{PersonalityBreaks, EntryBreaks, is_clear, at_place, read_entry, data_fits, EntryFits}
-use Rattle.macho_consumed.specs.steps.Entries.{EntriesFit, HasCells, IsCell, row_in, rows_in}
+use Rattle.macho_consumed.specs.steps.Entries.{PersonalityBreaks, PointersBreak, EntryBreaks, is_clear, at_place, read_entry, data_fits, EntryFits}
+use Rattle.macho_consumed.specs.steps.Entries.{EntriesFit, EntriesLead, HasPointers, IsPointer, IsAddress, row_in, rows_in}
+use Rattle.macho_consumed.specs.steps.Checked.{LeadsSomewhere}
 use Rattle.macho_consumed.proofs.Members.{here, in_filter, to_filter, in_range}
 use Rattle.macho_consumed.proofs.Tests.{both, all_pass, one_fails}
 use Rattle.macho_consumed.proofs.InSlots.{in_cell}
@@ -48,35 +53,27 @@ pub names_section : (b : List ℕ) (k r : ℕ) → IsObject b → k < num_sectio
 names_section b k r object among lt plain = plain_names (relocation_at b k r) _ (num_sections b) (object.o5.1 k r among lt) plain
 
 -- the cells of an entry
-cell_fits : (b : List ℕ) (k place : ℕ) (cells : List (Option ℕ)) (cell : Option ℕ) → IsTable b k (section_at b k).nreloc cells
-    → place < length cells
-    → get_or cells place None ≡ cell → IsCell b k cell
-cell_fits b k place cells None table lt is = tt
-cell_fits b k place cells (Some r) table lt is =
-    let below = in_cell b k (section_at b k).nreloc (8 * place) r (get_or cells place None) (table.cell place lt) is in
-    (below, table.fit r below)
-
-found_at : (b : List ℕ) (k e place at : ℕ) (cells : List (Option ℕ)) → IsTable b k (section_at b k).nreloc cells → at < length cells
-    → 8 * at ≡ 32 * e + place → at_place b k e place ≡ option_to_list (get_or cells at None)
+cell_at : (b : List ℕ) (k e place at : ℕ) (cells : List Cell) → IsTable b k (section_at b k).nreloc cells → at < length cells
+    → 8 * at ≡ 32 * e + place → CellTells (at_place b k e place) (get_or cells at Empty)
 unfolding found
-found_at b k e place at cells table lt same =
-    subst (λ (a : ℕ). found b k (section_at b k).nreloc a ≡ option_to_list (get_or cells at None)) same (table.cell at lt)
+cell_at b k e place at cells table lt same =
+    subst (λ (a : ℕ). CellTells (found b k (section_at b k).nreloc a) (get_or cells at Empty)) same (table.cell at lt)
 
-pub has_cells : (b : List ℕ) (k e : ℕ) (cells : List (Option ℕ)) → IsTable b k (section_at b k).nreloc cells → 4 * e + 4 ≤ length cells
-    → HasCells b k e (get_or cells (4 * e) None) (get_or cells (4 * e + 1) None) (get_or cells (4 * e + 2) None) (get_or cells
-    (4 * e + 3) None)
-has_cells b k e cells table lt = record {
-  start_at = found_at b k e 0 (4 * e) cells table (omega arith) (omega arith);
-  between_at = found_at b k e 8 (4 * e + 1) cells table (omega arith) (omega arith);
-  personality_at = found_at b k e 16 (4 * e + 2) cells table (omega arith) (omega arith);
-  lsda_at = found_at b k e 24 (4 * e + 3) cells table (omega arith) (omega arith);
-  fit = (
-    cell_fits b k (4 * e) cells _ table (omega arith) refl,
-    cell_fits b k (4 * e + 2) cells _ table (omega arith) refl,
-    cell_fits b k (4 * e + 3) cells _ table (omega arith) refl,
-  );
-  all = λ r below. (table.fit r below, table.placed r below);
-}
+pub small_address : (at : ℕ) → IsAddress (8 * at) → at < 4
+small_address at (inl is) = omega (arith, is)
+small_address at (inr (inl is)) = omega (arith, is)
+small_address at (inr (inr is)) = omega (arith, is)
+
+-- what a cell tells of an address
+pub cell_tells : (b : List ℕ) (k e at : ℕ) (cells : List Cell) (cell : Cell) → IsTable b k (section_at b k).nreloc cells
+    → 4 * e + 4 ≤ length cells → at < 4 → get_or cells (4 * e + at) Empty ≡ cell → CellTells (at_place b k e (8 * at)) cell
+cell_tells b k e at cells cell table lt small is =
+    subst (CellTells (at_place b k e (8 * at))) is (cell_at b k e (8 * at) (4 * e + at) cells table (omega arith) (omega arith))
+
+pub cell_inside : (b : List ℕ) (k e at r : ℕ) (cells : List Cell) → IsTable b k (section_at b k).nreloc cells
+    → 4 * e + 4 ≤ length cells → at < 4 → get_or cells (4 * e + at) Empty ≡ One r → r < (section_at b k).nreloc
+cell_inside b k e at r cells table lt small is = in_cell b k (section_at b k).nreloc (8 * (4 * e + at)) r (get_or cells (4 * e + at) Empty)
+    (table.cell (4 * e + at) (omega arith)) is
 
 -- a relocation at 8 of an entry
 pub between_of : (b : List ℕ) (k e r : ℕ) → Contains (at_place b k e 8) r → each_relocation_in (alone b) (own k) e ≡ false
@@ -90,57 +87,66 @@ between_of b k e r at =
     (to_filter (λ q. eqb ((relocation_at b k q).r_address / 32) e) (range_with_len 0 (section_at b k).nreloc) r hit.1 mine)
     (grind (arith, nat_tests, place))
 
-pub between_breaks : (b : List ℕ) (k e r : ℕ) → at_place b k e 8 ≡ r ∷ [] → each_relocation_in (alone b) (own k) e ≡ false
-between_breaks b k e r is = between_of b k e r (subst (λ (xs : List ℕ). Contains xs r) (sym is) (here r []))
+-- a pointer of an address is plain
+plain_at : (b : List ℕ) (k r : ℕ) (xs : List ℕ) (c : Option ℕ) → xs ≡ option_to_list c → IsPointer b k c → Contains xs r
+    → is_plain_pointer (relocation_at b k r) ≡ true
+plain_at b k r xs None is pointer (i, lt, at) = absurd (omega (arith, lt, ap length is))
+plain_at b k r xs (Some q) is pointer (i, lt, at) =
+    let one : length xs ≡ 1 = ap length is in
+    let first : i ≡ 0 = omega (arith, lt, one) in
+    let same : q ≡ r = sym (ap (λ (ys : List ℕ). get_or ys 0 r) is) ∙ ap (λ (m : ℕ). get_or xs m r) (sym first) ∙ at in
+    subst (λ (m : ℕ). is_plain_pointer (relocation_at b k m) ≡ true) same pointer.1
 
-pub one_of : (a : ℕ) (t : Bool) → eqb (a % 32) 0 ≡ t → (u : Bool) → eqb (a % 32) 16 ≡ u → (v : Bool) → eqb (a % 32) 24 ≡ v → a % 8 ≡ 0
-    → a % 32 ≢ 8
-    → ((a % 32 == 0) || (a % 32 == 16) || (a % 32 == 24)) ≡ true
-one_of a true p u q v r eight apart = rw p refl
-one_of a false p true q v r eight apart = rw (p, q) refl
-one_of a false p false q true r eight apart = rw (p, q, r) refl
-one_of a false p false q false r eight apart =
-    let x : a % 32 ≢ 0 = grind (arith, nat_tests, p) in
-    let y : a % 32 ≢ 16 = grind (arith, nat_tests, q) in
-    let z : a % 32 ≢ 24 = grind (arith, nat_tests, r) in
-    absurd (omega (arith, x, y, z, eight, apart))
+no_relocation : (xs : List ℕ) (r : ℕ) → xs ≡ [] → Contains xs r → ⊥
+no_relocation xs r is (i, lt, at) = absurd (omega (arith, lt, ap length is))
 
--- none there: each relocation of the entry is at one of the addresses
-pub all_placed : (b : List ℕ) (k e : ℕ) (c0 c2 c3 : Option ℕ) → HasCells b k e c0 None c2 c3 → each_relocation_in (alone b) (own k) e ≡ true
-all_placed b k e c0 c2 c3 cells =
+-- each relocation of the entry is at one of the addresses
+pub all_placed : (b : List ℕ) (k e : ℕ) (c0 c2 c3 : Option ℕ) → HasPointers b k e c0 c2 c3
+    → NoneBelow b k (section_at b k).nreloc (32 * e + 32) → each_relocation_in (alone b) (own k) e ≡ true
+all_placed b k e c0 c2 c3 has aligned =
     all_pass (unwind_relocation_fits (alone b) (own k)) (filter (λ q. eqb ((relocation_at b k q).r_address / 32) e) (range_with_len 0
     (section_at b k).nreloc))
     (λ r c.
     let hit = in_filter (λ q. eqb ((relocation_at b k q).r_address / 32) e) (range_with_len 0 (section_at b k).nreloc) r c in
-    let below = in_range (section_at b k).nreloc r hit.1 in
     let entry : (relocation_at b k r).r_address / 32 ≡ e = grind (arith, nat_tests, hit.0) in
-    let fit = cells.all r below in
-    let eight : (relocation_at b k r).r_address % 8 ≡ 0 = grind (arith, nat_tests, fit.1) in
-    let apart : (relocation_at b k r).r_address ≢ 32 * e + 8 =
-    λ same. none_there (at_place b k e 8) r cells.between_at
-    (to_filter (λ q. eqb (relocation_at b k q).r_address (32 * e + 8)) (range_with_len 0 (section_at b k).nreloc) r hit.1
-    (eq-eqb _ _ same)) in
-    at_one (relocation_at b k r) e fit.0 entry eight apart)
+    let below = in_range (section_at b k).nreloc r hit.1 in
+    let zero = aligned r below (omega (arith, entry)) in
+    let eight : (relocation_at b k r).r_address % 8 ≡ 0 = grind (arith, nat_tests, zero) in
+    by r hit.1 entry eight (eqb ((relocation_at b k r).r_address % 32) 0) refl (eqb ((relocation_at b k r).r_address % 32) 16) refl (eqb
+    ((relocation_at b k r).r_address % 32) 24) refl)
   where
-    none_there : (xs : List ℕ) (r : ℕ) → xs ≡ [] → Contains xs r → ⊥
-    none_there [] r e (i, lt, is) = omega arith
-    none_there (x ∷ xs) r e c = cc
+    at_place_of : (r place : ℕ) → Contains (range_with_len 0 (section_at b k).nreloc) r → (relocation_at b k r).r_address ≡ 32 * e + place
+        → Contains (at_place b k e place) r
+    at_place_of r place there is =
+        to_filter (λ q. eqb (relocation_at b k q).r_address (32 * e + place)) (range_with_len 0 (section_at b k).nreloc) r there
+        (eq-eqb _ _ is)
 
-    at_one : (r : RelocationInfo) (e : ℕ) → is_plain_pointer r ≡ true → r.r_address / 32 ≡ e → r.r_address % 8 ≡ 0
-        → r.r_address ≢ 32 * e + 8
-        → (is_plain_pointer r && ((r.r_address % 32 == 0) || (r.r_address % 32 == 16) || (r.r_address % 32 == 24))) ≡ true
-    at_one r e plain entry eight apart =
-        both _ _ plain (one_of r.r_address (eqb (r.r_address % 32) 0) refl (eqb (r.r_address % 32) 16) refl (eqb
-        (r.r_address % 32) 24) refl eight (omega (arith, entry, apart)))
+    by : (r : ℕ) → Contains (range_with_len 0 (section_at b k).nreloc) r → (relocation_at b k r).r_address / 32 ≡ e
+        → (relocation_at b k r).r_address % 8 ≡ 0 → (t : Bool) → eqb ((relocation_at b k r).r_address % 32) 0 ≡ t
+        → (u : Bool) → eqb ((relocation_at b k r).r_address % 32) 16 ≡ u → (v : Bool) → eqb ((relocation_at b k r).r_address % 32) 24 ≡ v
+        → unwind_relocation_fits (alone b) (own k) r ≡ true
+    by r there entry eight true p u q v s =
+        let z : (relocation_at b k r).r_address % 32 ≡ 0 = eqb-true _ _ p in
+        both _ _ (plain_at b k r _ c0 has.start_at.list has.start_at.pointer (at_place_of r 0 there (omega (arith, z, entry)))) (rw p refl)
+    by r there entry eight false p true q v s =
+        let z : (relocation_at b k r).r_address % 32 ≡ 16 = eqb-true _ _ q in
+        both _ _ (plain_at b k r _ c2 has.personality_at.list has.personality_at.pointer (at_place_of r 16 there (omega (arith, z, entry)))) (rw (p, q) refl)
+    by r there entry eight false p false q true s =
+        let z : (relocation_at b k r).r_address % 32 ≡ 24 = eqb-true _ _ s in
+        both _ _ (plain_at b k r _ c3 has.lsda_at.list has.lsda_at.pointer (at_place_of r 24 there (omega (arith, z, entry)))) (rw (p, q, s) refl)
+    by r there entry eight false p false q false s =
+        let x : (relocation_at b k r).r_address % 32 ≢ 0 = grind (arith, nat_tests, p) in
+        let y : (relocation_at b k r).r_address % 32 ≢ 16 = grind (arith, nat_tests, q) in
+        let z : (relocation_at b k r).r_address % 32 ≢ 24 = grind (arith, nat_tests, s) in
+        absurd (no_relocation _ r has.between_at (at_place_of r 8 there (omega (arith, x, y, z, eight, entry))))
 
 few : (c : Option ℕ) → nat_le (length (option_to_list c)) 1 ≡ true
 few None = refl
 few (Some r) = refl
 
-pub all_single : (b : List ℕ) (k e : ℕ) (c0 c1 c2 c3 : Option ℕ) → HasCells b k e c0 c1 c2 c3
-    → single_relocations (alone b) (own k) e ≡ true
-all_single b k e c0 c1 c2 c3 cells =
-    rw (cells.start_at, cells.personality_at, cells.lsda_at) (both _ _ (both _ _ (few c0) (few c2)) (few c3))
+pub all_single : (b : List ℕ) (k e : ℕ) (c0 c2 c3 : Option ℕ) → HasPointers b k e c0 c2 c3 → single_relocations (alone b) (own k) e ≡ true
+all_single b k e c0 c2 c3 has =
+    rw (has.start_at.list, has.personality_at.list, has.lsda_at.list) (both _ _ (both _ _ (few c0) (few c2)) (few c3))
 
 -- the start of a function
 pub record StartKept (b : List ℕ) (k e : ℕ) (place : SectionPlace) : Type 0 where
@@ -207,11 +213,12 @@ clear_is b k e place p d start personality lsda = rw (start.there, personality.t
 
 -- the whole entry
 pub entry_fits : (b : List ℕ) (k e : ℕ) (c0 c2 c3 : Option ℕ) (place : SectionPlace) (p : Option PersonalityUse) (d : Option SectionPlace)
-    → HasCells b k e c0 None c2 c3 → StartKept b k e place → PersonalityKept b k e p → DataKept b k e d
+    → HasPointers b k e c0 c2 c3 → NoneBelow b k (section_at b k).nreloc (32 * e + 32) → StartKept b k e place → PersonalityKept b k e p
+    → DataKept b k e d
     → is_clear (read_entry b k e) (is_some p) (is_some d) ≡ true → EntryFits b k e
-entry_fits b k e c0 c2 c3 place p d cells start personality lsda clear = record {
-  placed = all_placed b k e c0 c2 c3 cells;
-  single = all_single b k e c0 None c2 c3 cells;
+entry_fits b k e c0 c2 c3 place p d has aligned start personality lsda clear = record {
+  placed = all_placed b k e c0 c2 c3 has aligned;
+  single = all_single b k e c0 c2 c3 has;
   start = start.fits;
   inside = start.inside;
   links = both _ _ personality.fits lsda.fits;
@@ -226,11 +233,18 @@ unfolding entry_row
 row_is b file k e place p d words start personality lsda is = rw (start.is, personality.is, lsda.is, is) refl
 
 -- where an entry breaks a rule
-pub start_breaks : (b : List ℕ) (k e : ℕ) (c : Option ℕ) (rule : UnwindRule) → at_place b k e START_PLACE ≡ option_to_list c
-    → StartBreaks b (read_entry b k e) (option_map (relocation_at b k) c) rule → EntryBreaks b k e rule
-start_breaks b k e None rule is breaks = subst (EntryBreaks b k e) (sym breaks) (rw is refl)
-start_breaks b k e (Some r) rule is (inl breaks) = subst (EntryBreaks b k e) (sym breaks.0) (rw is (rw breaks.1 refl))
-start_breaks b k e (Some r) rule is (inr breaks) = subst (EntryBreaks b k e) (sym breaks.0) (rw is (rw breaks.1 (rw breaks.2 refl)))
+pub pointers_break : (r : ResolvedRows) (b : List ℕ) (file k e : ℕ) (rule : UnwindRule) → PointersBreak b k e rule
+    → EntryBreaks r b file k e rule
+pointers_break r b file k e rule (inl (second, bad)) = subst (EntryBreaks r b file k e) (sym second) bad
+pointers_break r b file k e rule (inr (third, bad)) = subst (EntryBreaks r b file k e) (sym third) bad
+
+pub start_breaks : (r : ResolvedRows) (b : List ℕ) (file k e : ℕ) (c : Option ℕ) (rule : UnwindRule)
+    → at_place b k e START_PLACE ≡ option_to_list c
+    → StartBreaks b (read_entry b k e) (option_map (relocation_at b k) c) rule → EntryBreaks r b file k e rule
+start_breaks r b file k e None rule is breaks = subst (EntryBreaks r b file k e) (sym breaks) (rw is refl)
+start_breaks r b file k e (Some q) rule is (inl breaks) = subst (EntryBreaks r b file k e) (sym breaks.0) (rw is (rw breaks.1 refl))
+start_breaks r b file k e (Some q) rule is (inr breaks) = subst (EntryBreaks r b file k e) (sym breaks.0) (rw is (rw breaks.1
+    (rw breaks.2 refl)))
 
 pub and_left_false : (t u : Bool) → t ≡ false → (t && u) ≡ false
 and_left_false t u e = rw e refl
@@ -239,61 +253,62 @@ pub and_false : (t u : Bool) → u ≡ false → (t && u) ≡ false
 and_false true u e = e
 and_false false u e = refl
 
-pub personality_breaks : (b : List ℕ) (k e : ℕ) (c : Option ℕ) (rule : UnwindRule) → at_place b k e PERSONALITY_PLACE ≡ option_to_list c
-    → PersonalityBreaks b k c rule → EntryBreaks b k e rule
-personality_breaks b k e None rule is breaks = absurd breaks
-personality_breaks b k e (Some r) rule is breaks = subst (EntryBreaks b k e) (sym breaks.0) (rw is (rw breaks.1 refl))
+pub personality_breaks : (r : ResolvedRows) (b : List ℕ) (file k e : ℕ) (c : Option ℕ) (rule : UnwindRule)
+    → at_place b k e PERSONALITY_PLACE ≡ option_to_list c → IsPointer b k c
+    → PersonalityBreaks r b file k c rule → EntryBreaks r b file k e rule
+personality_breaks r b file k e None rule is pointer breaks = absurd breaks
+personality_breaks r b file k e (Some q) rule is pointer (seventh, inl by_number) =
+    subst (EntryBreaks r b file k e) (sym seventh) (inl (rw is (rw by_number refl)))
+personality_breaks r b file k e (Some q) rule is pointer (seventh, inr lost) =
+    subst (EntryBreaks r b file k e) (sym seventh) (inr (record {
+      number = q;
+      there = subst (λ (xs : List ℕ). Contains xs q) (sym is) (here q []);
+      plain = pointer.1;
+      extern = lost.0;
+      leads = lost.1;
+    }))
 
-pub data_breaks : (b : List ℕ) (k e : ℕ) (c : Option ℕ) (rule : UnwindRule) → at_place b k e LSDA_PLACE ≡ option_to_list c
-    → DataBreaks b (read_entry b k e).lsda (option_map (relocation_at b k) c) rule → EntryBreaks b k e rule
-data_breaks b k e None rule is breaks = absurd breaks
-data_breaks b k e (Some r) rule is breaks = subst (EntryBreaks b k e) (sym breaks.0) (and_false (list_all (λ q.
-    (relocation_at b k q).r_extern) (at_place b k e PERSONALITY_PLACE))
-    (list_all (λ q. data_fits b (read_entry b k e).lsda (relocation_at b k q)) (at_place b k e LSDA_PLACE)) (rw is (rw breaks.1 refl)))
-
--- the cell at 8
-pub some_between : (b : List ℕ) (k e : ℕ) (c : Option ℕ) → at_place b k e 8 ≡ option_to_list c → true ≡ is_some c
-    → each_relocation_in (alone b) (own k) e ≡ false
-some_between b k e None is some = cc
-some_between b k e (Some r) is some = between_breaks b k e r is
-
-none_between : (b : List ℕ) (k e : ℕ) (c0 c1 c2 c3 : Option ℕ) → HasCells b k e c0 c1 c2 c3 → false ≡ is_some c1
-    → HasCells b k e c0 None c2 c3
-none_between b k e c0 None c2 c3 cells none = cells
-none_between b k e c0 (Some r) c2 c3 cells none = cc
+pub data_breaks : (r : ResolvedRows) (b : List ℕ) (file k e : ℕ) (c : Option ℕ) (rule : UnwindRule)
+    → at_place b k e LSDA_PLACE ≡ option_to_list c
+    → DataBreaks b (read_entry b k e).lsda (option_map (relocation_at b k) c) rule → EntryBreaks r b file k e rule
+data_breaks r b file k e None rule is breaks = absurd breaks
+data_breaks r b file k e (Some q) rule is breaks = subst (EntryBreaks r b file k e) (sym breaks.0) (inl (and_false (list_all (λ m.
+    (relocation_at b k m).r_extern) (at_place b k e PERSONALITY_PLACE))
+    (list_all (λ m. data_fits b (read_entry b k e).lsda (relocation_at b k m)) (at_place b k e LSDA_PLACE)) (rw is (rw breaks.1 refl))))
 
 -- What was found of an entry: its words, its three relocations, and where they lead.
 pub record IsGathered (b : List ℕ) (k e : ℕ) (words : UnwindInfoEntry) (place : SectionPlace) (p : Option PersonalityUse)
     (d : Option SectionPlace) : Type 0 where
   pub read : words ≡ read_entry b k e
-  pub cells : (c0 : Option ℕ) × (c2 : Option ℕ) × (c3 : Option ℕ) × HasCells b k e c0 None c2 c3
+  pub pointers : (c0 : Option ℕ) × (c2 : Option ℕ) × (c3 : Option ℕ) × HasPointers b k e c0 c2 c3
   pub start : StartKept b k e place
   pub personality : PersonalityKept b k e p
   pub lsda : DataKept b k e d
 
-pub gathered : (b : List ℕ) (k e : ℕ) (c0 c1 c2 c3 : Option ℕ) (words : UnwindInfoEntry) (r0 r3 : Option RelocationInfo)
+pub gathered : (b : List ℕ) (k e : ℕ) (c0 c2 c3 : Option ℕ) (words : UnwindInfoEntry) (r0 r3 : Option RelocationInfo)
     (place : SectionPlace) (p : Option PersonalityUse)
-    (d : Option SectionPlace) → HasCells b k e c0 c1 c2 c3 → false ≡ is_some c1 → words ≡ read_entry b k e
+    (d : Option SectionPlace) → HasPointers b k e c0 c2 c3 → words ≡ read_entry b k e
     → r0 ≡ option_map (relocation_at b k) c0
     → r3 ≡ option_map (relocation_at b k) c3 → StartFound b words r0 place → PersonalityFound b k c2 p → DataFound b words.lsda r3 d
     → IsGathered b k e words place p d
-gathered b k e c0 c1 c2 c3 words r0 r3 place p d cells none read is0 is3 start personality lsda = record {
+gathered b k e c0 c2 c3 words r0 r3 place p d has read is0 is3 start personality lsda = record {
   read = read;
-  cells = (c0, c2, c3, none_between b k e c0 c1 c2 c3 cells none);
-  start = start_kept b k e c0 place cells.start_at
+  pointers = (c0, c2, c3, has);
+  start = start_kept b k e c0 place has.start_at.list
       (subst (λ (w : UnwindInfoEntry). StartFound b w (option_map (relocation_at b k) c0) place) read (subst (λ
       (r : Option RelocationInfo). StartFound b words r place) is0 start));
-  personality = personality_kept b k e c2 p cells.personality_at personality;
-  lsda = data_kept b k e c3 d cells.lsda_at
+  personality = personality_kept b k e c2 p has.personality_at.list personality;
+  lsda = data_kept b k e c3 d has.lsda_at.list
       (subst (λ (w : UnwindInfoEntry). DataFound b w.lsda (option_map (relocation_at b k) c3) d) read (subst (λ
       (r : Option RelocationInfo). DataFound b words.lsda r d) is3 lsda));
 }
 
 pub gathered_fits : (b : List ℕ) (k e : ℕ) (words : UnwindInfoEntry) (place : SectionPlace) (p : Option PersonalityUse)
     (d : Option SectionPlace)
-    → IsGathered b k e words place p d → true ≡ is_clear words (is_some p) (is_some d) → EntryFits b k e
-gathered_fits b k e words place p d g clear =
-    entry_fits b k e g.cells.0 g.cells.1 g.cells.2 place p d g.cells.3 g.start g.personality g.lsda
+    → IsGathered b k e words place p d → NoneBelow b k (section_at b k).nreloc (32 * e + 32)
+    → true ≡ is_clear words (is_some p) (is_some d) → EntryFits b k e
+gathered_fits b k e words place p d g aligned clear =
+    entry_fits b k e g.pointers.0 g.pointers.1 g.pointers.2 place p d g.pointers.3 aligned g.start g.personality g.lsda
     (sym (clear ∙ ap (λ (w : UnwindInfoEntry). is_clear w (is_some p) (is_some d)) g.read))
 
 pub gathered_row : (b : List ℕ) (file number k e : ℕ) (words : UnwindInfoEntry) (place : SectionPlace) (p : Option PersonalityUse)
@@ -319,6 +334,15 @@ entries_none b k = record { entries = λ e lt. absurd (omega arith) }
 
 pub entries_more : (b : List ℕ) (k n : ℕ) → EntriesFit b k n → EntryFits b k n → EntriesFit b k (n + 1)
 entries_more b k n fit one = record { entries = below_more _ n fit.entries one }
+
+pub lead_none : (r : ResolvedRows) (b : List ℕ) (file k : ℕ) → EntriesLead r b file k 0
+lead_none r b file k = λ e lt. absurd (omega arith)
+
+pub lead_more : (r : ResolvedRows) (b : List ℕ) (file k n : ℕ) (row : UnwindEntry) → EntriesLead r b file k n
+    → row ≡ row_in b file k n → LeadsSomewhere r file row.personality true → EntriesLead r b file k (n + 1)
+lead_more r b file k n row so_far is next =
+    below_more (λ e. LeadsSomewhere r file (row_in b file k e).personality true) n so_far
+    (subst (λ (x : UnwindEntry). LeadsSomewhere r file x.personality true) is next)
 
 pub entry_rows_none : (b : List ℕ) (file k : ℕ) (rows : List UnwindEntry) → rows ≡ rows ++ rows_in b file k 0
 unfolding rows_in

@@ -1,13 +1,14 @@
 -- The slots of a section of initializers.
 --
--- A cell of the table tells the relocations of its slot: none, or one. Where there is none, or it is no pointer to a symbol,
--- or the slot isn't empty, the slot breaks the rules; else it fits. Slot by slot the rows are those of the relocations found.
-use Rattle.std.proofs.Common.{◌≡◌, ℕ, ◌+◌, ◌*◌, ◌/◌, ◌%◌, ◌<◌, ◌≤◌, inl, inr, eqb, eq-eqb, true, false, List, [], ◌∷◌, ◌++◌, length, map}
-use Rattle.std.proofs.Common.{Option, Some, None, option_to_list, refl, sym, ap, ◌∙◌, subst, arith, below_more, append_assoc, slice_range}
-use Rattle.std.proofs.Common.{length-take, length-drop, nat_le, ◌≢◌}
+-- A cell of the table tells the relocations of its slot: none, one, or several. Where there isn't one, or it is no pointer to a
+-- symbol, or the slot isn't empty, the slot breaks the rules; else it fits. Slot by slot the rows are those of the relocations
+-- found, their pointers lead into carried sections, and none stands between two slots so far: at the end none does at all.
+use Rattle.std.proofs.Common.{◌≡◌, ℕ, ◌+◌, ◌*◌, ◌/◌, ◌%◌, ◌<◌, ◌≤◌, ◌⊎◌, inl, inr, eqb, Bool, true, false, List, [], ◌∷◌, ◌++◌, length, map}
+use Rattle.std.proofs.Common.{get_or, None, refl, sym, ap, ◌∙◌, subst, arith, below_more, append_assoc, slice_range, length-take, length-drop}
+use Rattle.std.proofs.Common.{nat_le, ◌≢◌}
 use Rattle.std.proofs.lemmas.Bool.Decides.{nat_tests}
 use Rattle.std.proofs.lemmas.Bool.{eqb-true}
-use Rattle.std.proofs.lemmas.List.{append-nil}
+use Rattle.std.proofs.lemmas.List.{append-nil, get_or_default}
 use Rattle.std.specs.List.{range_with_len, flat_map, Contains}
 use Rattle.macho_bytes.specs.Numbers.{le_at}
 use Rattle.macho_bytes.specs.Layouts.{read_of}
@@ -15,19 +16,23 @@ use Rattle.macho_structs.specs.Layouts.{unwind_info_entry}
 use Rattle.macho_records.specs.Sections.{is_zerofill}
 use Rattle.macho_structs.specs.declared.relocations.RelocationInfo.{RelocationInfo}
 use Rattle.macho_object.specs.Views.{RelocationBytes}
+use Rattle.macho_model.specs.Links.{Link}
 use Rattle.macho_model.specs.Grammar.{IsObject}
 use Rattle.macho_model.specs.Objects.{num_sections, section_at, section_bytes, relocation_at}
 use Rattle.macho_model.specs.Consumed.{is_plain_pointer, initializer_section_fits}
+use Rattle.macho_symbols.specs.Kept.{ResolvedRows, IsResolved, HasSymbol}
 use Rattle.macho_consumed.specs.declared.rows.Initializer.{Initializer}
 use Rattle.macho_consumed.specs.declared.fault.ConsumedFault.{ConsumedFault}
 use Rattle.macho_consumed.specs.declared.fault.ConsumedFault.TheVariants.{BadInitializer}
-use Rattle.macho_consumed.specs.declared.places.PlaceFault.{PlaceFault}
-use Rattle.macho_consumed.specs.declared.places.PlaceFault.TheVariants.{Between, Unfit, Twice}
+use Rattle.macho_consumed.specs.declared.places.Cell.{Cell}
+use Rattle.macho_consumed.specs.declared.places.Cell.TheVariants.{Empty, One, Several}
 use Rattle.macho_consumed.specs.steps.Alone.{alone, own}
-use Rattle.macho_consumed.specs.steps.Places.{found, IsTable, IsPlaceFault}
-use Rattle.macho_consumed.specs.steps.Slots.{in_slot, is_symbol_pointer, SlotIs, SlotBreaks, SlotsFit, ExternsExist, SectionFits}
-use Rattle.macho_consumed.specs.steps.Slots.{SectionBreaks, IsBadSection, slot_rows, row_at}
-use Rattle.macho_consumed.proofs.Members.{here, in_filter, to_filter, in_range, to_range}
+use Rattle.macho_consumed.specs.steps.Places.{found, CellTells, IsTable, IsBetween, NoneBelow}
+use Rattle.macho_consumed.specs.steps.Checked.{AreNamed, leads_into, LeadsInto}
+use Rattle.macho_consumed.specs.steps.Slots.{in_slot, is_symbol_pointer, SlotIs, SlotFits, SlotBreaks, SlotsFit, SlotsLead, SlotStrays}
+use Rattle.macho_consumed.specs.steps.Slots.{ExternsExist, AreInside, SectionFits, IsBadSection, slot_rows, row_at}
+use Rattle.macho_consumed.proofs.Members.{here, in_filter, in_range}
+use Rattle.macho_consumed.proofs.Tests.{right_of}
 use Rattle.macho_consumed.proofs.Ranges.{flat_map_range_more}
 
 cut : (at n : ℕ) (b : List ℕ) → at + n ≤ length b → length (slice_range b at (at + n)) ≡ n
@@ -47,44 +52,15 @@ pub found_below : (b : List ℕ) (k n place r : ℕ) → Contains (found b k n p
 unfolding found
 found_below b k n place r c = in_range n r (in_filter (λ q. eqb (relocation_at b k q).r_address place) (range_with_len 0 n) r c).1
 
-pub in_cell : (b : List ℕ) (k n place r : ℕ) (cell : Option ℕ) → found b k n place ≡ option_to_list cell → cell ≡ Some r → r < n
-in_cell b k n place r cell is some =
-    found_below b k n place r (subst (λ (xs : List ℕ). Contains xs r) (sym (is ∙ ap option_to_list some)) (here r []))
+pub in_cell : (b : List ℕ) (k n place r : ℕ) (cell : Cell) → CellTells (found b k n place) cell → cell ≡ One r → r < n
+in_cell b k n place r cell tells one =
+    let is : found b k n place ≡ r ∷ [] = subst (CellTells (found b k n place)) one tells in
+    found_below b k n place r (subst (λ (xs : List ℕ). Contains xs r) (sym is) (here r []))
 
 -- a section of whole slots has a type with bytes
 pub slots_have_bytes : (b : List ℕ) (k : ℕ) → initializer_section_fits (alone b) (own k) ≡ true
     → (is_zerofill (section_at b k) ≡ false) × ((section_at b k).size % 8 ≡ 0)
 slots_have_bytes b k fits = (grind (arith, nat_tests, fits), grind (arith, nat_tests, fits))
-
--- where a relocation's place breaks the section
-pub between_breaks : (b : List ℕ) (k address : ℕ) → IsPlaceFault b k (Between address) → SectionBreaks b k address
-between_breaks b k address (r, lt, at, within, off) = inr (inr (r, lt, at, off))
-
-unfit_pointer : (r : RelocationInfo) → is_plain_pointer r ≡ false → is_symbol_pointer r ≡ false
-unfit_pointer r unfit = rw unfit refl
-
-found_self : (b : List ℕ) (k n r : ℕ) → r < n → Contains (found b k n (relocation_at b k r).r_address) r
-unfolding found
-found_self b k n r lt =
-    to_filter (λ q. eqb (relocation_at b k q).r_address (relocation_at b k r).r_address) (range_with_len 0 n) r (to_range n r lt)
-    (eq-eqb (relocation_at b k r).r_address (relocation_at b k r).r_address refl)
-
-slot_number : (address : ℕ) → eqb (address % 8) 0 ≡ true → 8 * (address / 8) ≡ address
-slot_number address zero = let none : address % 8 ≡ 0 = grind (arith, nat_tests, zero) in omega (arith, none)
-
-pub unfit_breaks : (b : List ℕ) (k address : ℕ) → (section_at b k).size % 8 ≡ 0 → IsPlaceFault b k (Unfit address)
-    → SectionBreaks b k address
-unfit_breaks b k address whole (r, lt, at, within, zero, unfit) =
-    let slot = slot_number address zero in
-    let is_in : Contains (in_slot b k (address / 8)) r =
-    subst (λ (a : ℕ). Contains (found b k (section_at b k).nreloc a) r) (sym (slot ∙ at)) (found_self b k (section_at b k).nreloc r lt) in
-    inr (inl (address / 8, omega (arith, whole, within, slot), sym slot, inr (inl (r, is_in, unfit_pointer (relocation_at b k r) unfit))))
-
-pub twice_breaks : (b : List ℕ) (k address : ℕ) → IsPlaceFault b k (Twice address) → SectionBreaks b k address
-twice_breaks b k address (place, at, within, two) =
-    let many : eqb (length (in_slot b k place)) 1 ≡ false =
-    grind (arith, nat_tests, subst (λ (a : ℕ). 2 ≤ length (found b k (section_at b k).nreloc a)) at two) in
-    inr (inl (place, within, at, inl many))
 
 -- slots so far
 pub slots_none : (b : List ℕ) (k : ℕ) → SlotsFit b k 0
@@ -110,9 +86,58 @@ rows_more b file k n told rows is =
     ∙ ap (λ (xs : List Initializer). rows ++ xs) (sym (flat_map_range_more f n
     ∙ ap (λ (xs : List Initializer). flat_map f (range_with_len 0 n) ++ xs) (last ∙ ap (λ (x : Initializer). x ∷ []) same)))
 
+-- a slot's cell
+pub slot_cell : (b : List ℕ) (k slot : ℕ) (cells : List Cell) (cell : Cell) → IsTable b k (section_at b k).nreloc cells
+    → slot < length cells → cell ≡ get_or cells slot cell → CellTells (in_slot b k slot) cell
+slot_cell b k slot cells cell table lt is =
+    subst (CellTells (in_slot b k slot)) (get_or_default cells slot Empty cell lt ∙ sym is) (table.cell slot lt)
+
+pub none_at_start : (b : List ℕ) (k : ℕ) → NoneBelow b k (section_at b k).nreloc (8 * 0)
+none_at_start b k = λ r lt below. absurd (omega (arith, below))
+
+-- the slots so far lead into carried sections, and so does the next
+pub leads_none : (r : ResolvedRows) (b : List ℕ) (file k : ℕ) → SlotsLead r b file k 0
+leads_none r b file k = λ slot lt. absurd (omega arith)
+
+pub leads_more : (r : ResolvedRows) (b : List ℕ) (file k n : ℕ) (told : ℕ × RelocationInfo) (into : Bool) → SlotsLead r b file k n
+    → SlotIs b k n told
+    → ((l : Link) (noted : List (List ℕ)) → IsResolved l noted r → into ≡ leads_into l noted
+    (record { file = file; section = k; number = told.0; relocation = told.1 })) → into ≡ true → SlotsLead r b file k (n + 1)
+leads_more r b file k n told into so_far is leads hits =
+    below_more (λ slot. (q : ℕ) → SlotFits b k slot q → LeadsInto r (row_at b file k q) true) n so_far
+    (λ q fits l noted resolved.
+    let same : q ∷ [] ≡ told.0 ∷ [] = sym fits.one ∙ is.0.one in
+    let number : q ≡ told.0 = cc in
+    ap (λ (m : ℕ). leads_into l noted (row_at b file k m)) number
+    ∙ ap (λ (x : RelocationInfo). leads_into l noted (record { file = file; section = k; number = told.0; relocation = x })) (sym is.1)
+    ∙ sym (leads l noted resolved) ∙ hits)
+
+-- or the next one strays
+pub strays : (r : ResolvedRows) (b : List ℕ) (file k n : ℕ) (told : ℕ × RelocationInfo) (into : Bool) → SlotIs b k n told
+    → ((l : Link) (noted : List (List ℕ)) → IsResolved l noted r → into ≡ leads_into l noted
+    (record { file = file; section = k; number = told.0; relocation = told.1 })) → into ≡ false → SlotStrays r b file k n
+strays r b file k n told into is leads misses = record {
+  number = told.0;
+  fits = is.0;
+  leads = λ l noted resolved. ap (λ (x : RelocationInfo). leads_into l noted
+      (record { file = file; section = k; number = told.0; relocation = x })) (sym is.1) ∙ sym (leads l noted resolved) ∙ misses;
+}
+
+-- its symbol is there
+pub pointer_named : (r : ResolvedRows) (b : List ℕ) (file k n : ℕ) (told : ℕ × RelocationInfo) → SlotIs b k n told → ExternsExist b k
+    → AreNamed r file b → HasSymbol r file told.1.r_symbolnum
+pointer_named r b file k n told is externs named =
+    let below = found_below b k (section_at b k).nreloc (8 * n) told.0 (subst (λ (xs : List ℕ). Contains xs told.0) (sym is.0.one)
+    (here told.0 [])) in
+    let extern = right_of (is_plain_pointer (relocation_at b k told.0)) _ is.0.pointer in
+    subst (λ (x : RelocationInfo). HasSymbol r file x.r_symbolnum) (sym is.1)
+    (named (relocation_at b k told.0).r_symbolnum (externs told.0 below extern))
+
 -- what breaks a slot
-pub no_cell : (b : List ℕ) (k slot : ℕ) → in_slot b k slot ≡ [] → SlotBreaks b k slot
-no_cell b k slot none = inl (rw none refl)
+pub no_one : (b : List ℕ) (k slot : ℕ) (cell : Cell) → CellTells (in_slot b k slot) cell → ((r : ℕ) → cell ≡ One r → ⊥) → SlotBreaks b k slot
+no_one b k slot Empty none other = inl (rw none refl)
+no_one b k slot (One r) one other = absurd (other r refl)
+no_one b k slot Several many other = inl (grind (arith, nat_tests, many))
 
 pub bad_pointer : (b : List ℕ) (k slot r : ℕ) → in_slot b k slot ≡ r ∷ [] → false ≡ is_symbol_pointer (relocation_at b k r)
     → SlotBreaks b k slot
@@ -122,37 +147,28 @@ pub with_content : (b : List ℕ) (k slot n : ℕ) → n ≡ le_at 8 (section_by
 with_content b k slot n is some = inr (inr (grind (arith, nat_tests, is, some)))
 
 -- what is told of it
-pub refused_between : (b : List ℕ) (file k address : ℕ) (fault : PlaceFault) (said : ConsumedFault) → fault ≡ Between address
-    → said ≡ BadInitializer file k address → IsPlaceFault b k fault → IsBadSection b file k said
-refused_between b file k address fault said is told breaks =
-    subst (IsBadSection b file k) (sym told) (refl, refl, between_breaks b k address (subst (IsPlaceFault b k) is breaks))
+pub bad_slot : (r : ResolvedRows) (b : List ℕ) (file k slot : ℕ) (said : ConsumedFault) → 8 * slot + 8 ≤ (section_at b k).size
+    → SlotBreaks b k slot ⊎ SlotStrays r b file k slot → said ≡ BadInitializer file k (8 * slot) → IsBadSection r b file k said
+bad_slot r b file k slot said within breaks told =
+    subst (IsBadSection r b file k) (sym told) (refl, refl, inr (inl (slot, within, refl, breaks)))
 
-pub refused_unfit : (b : List ℕ) (file k address : ℕ) (fault : PlaceFault) (said : ConsumedFault) → (section_at b k).size % 8 ≡ 0
-    → fault ≡ Unfit address → said ≡ BadInitializer file k address → IsPlaceFault b k fault → IsBadSection b file k said
-refused_unfit b file k address fault said whole is told breaks =
-    subst (IsBadSection b file k) (sym told) (refl, refl, unfit_breaks b k address whole (subst (IsPlaceFault b k) is breaks))
-
-pub refused_twice : (b : List ℕ) (file k address : ℕ) (fault : PlaceFault) (said : ConsumedFault) → fault ≡ Twice address
-    → said ≡ BadInitializer file k address → IsPlaceFault b k fault → IsBadSection b file k said
-refused_twice b file k address fault said is told breaks =
-    subst (IsBadSection b file k) (sym told) (refl, refl, twice_breaks b k address (subst (IsPlaceFault b k) is breaks))
-
-pub bad_slot : (b : List ℕ) (file k slot : ℕ) (said : ConsumedFault) → 8 * slot + 8 ≤ (section_at b k).size → SlotBreaks b k slot
-    → said ≡ BadInitializer file k (8 * slot) → IsBadSection b file k said
-bad_slot b file k slot said within breaks told =
-    subst (IsBadSection b file k) (sym told) (refl, refl, inr (inl (slot, within, refl, breaks)))
+pub bad_between : (r : ResolvedRows) (b : List ℕ) (file k address : ℕ) (said : ConsumedFault) → IsBetween b k (section_at b k).nreloc address
+    → said ≡ BadInitializer file k address → IsBadSection r b file k said
+bad_between r b file k address said between told =
+    subst (IsBadSection r b file k) (sym told) (refl, refl, inr (inr between))
 
 -- the whole section fits
-pub section_fits : (b : List ℕ) (k n : ℕ) (cells : List (Option ℕ)) → initializer_section_fits (alone b) (own k) ≡ true
-    → IsTable b k (section_at b k).nreloc cells → SlotsFit b k n → ExternsExist b k → length cells ≤ n → SectionFits b k
-section_fits b k n cells fits table slots externs all = record {
+pub section_fits : (r : ResolvedRows) (b : List ℕ) (file k n : ℕ) (cells : List Cell) → initializer_section_fits (alone b) (own k) ≡ true
+    → IsTable b k (section_at b k).nreloc cells → SlotsFit b k n → SlotsLead r b file k n → NoneBelow b k (section_at b k).nreloc (8 * n)
+    → AreInside b k → length cells ≤ n → SectionFits r b file k
+section_fits r b file k n cells fits table slots lead none inside all = record {
   section = fits;
-  placed = table.placed;
+  placed = λ q lt. none q lt (omega (arith, inside q lt, all, table.long, (slots_have_bytes b k fits).1));
   slots = record { slots = λ slot lt. slots.slots slot (omega (arith, lt, all, table.long)) };
-  symbols = externs;
+  lead = λ slot lt. lead slot (omega (arith, lt, all, table.long));
 }
 
-pub slot_within : (b : List ℕ) (k n slot : ℕ) (cells : List (Option ℕ)) → IsTable b k n cells → slot < length cells
+pub slot_within : (b : List ℕ) (k n slot : ℕ) (cells : List Cell) → IsTable b k n cells → slot < length cells
     → 8 * slot + 8 ≤ (section_at b k).size
 slot_within b k n slot cells table lt = omega (arith, lt, table.long)
 
@@ -182,10 +198,3 @@ entry_bytes s t entry bytes same object among content plain within =
 
 pub entry_is_read : (bytes : List ℕ) (at : ℕ) → at + 32 ≤ length bytes → None ≡ read_of unwind_info_entry bytes at → ⊥
 entry_is_read bytes at within none = let there : nat_le (at + 32) (length bytes) ≡ true = grind (arith, nat_tests, within) in cc
-
--- the address of a relocation that is found
-pub found_address : (b : List ℕ) (k n place r : ℕ) → Contains (found b k n place) r → (relocation_at b k r).r_address ≡ place
-unfolding found
-found_address b k n place r c =
-    let hit = in_filter (λ q. eqb (relocation_at b k q).r_address place) (range_with_len 0 n) r c in
-    eqb-true _ _ hit.0

@@ -1,9 +1,8 @@
 -- Ranges of numbers, and what a filter keeps of them.
 --
 -- A range of one number more is the range with that number behind it. So a filter of it is the filter of the range, and the
--- number where it passes; and the filter of a shorter range begins that of a longer one.
-use Rattle.std.proofs.Common.{◌≡◌, ℕ, ◌+◌, ◌-◌, ◌≤◌, zero, suc, Bool, true, false, cond, List, [], ◌∷◌, ◌++◌, length, filter, map, refl}
-use Rattle.std.proofs.Common.{sym, ap, ◌∙◌, subst, arith, add-zero, length-append}
+-- number where it passes.
+use Rattle.std.proofs.Common.{◌≡◌, ℕ, ◌+◌, Bool, true, false, cond, List, [], ◌∷◌, ◌++◌, filter, map, refl, sym, ap, ◌∙◌, arith}
 use Rattle.std.specs.List.{range_with_len, flat_map}
 use Rattle.std.proofs.lemmas.List.FromFn.{map-range_with_len_more}
 use Rattle.std.proofs.lemmas.List.Elements.{filter-append}
@@ -32,21 +31,6 @@ pub filter_range_more : (p : ℕ → Bool) (n : ℕ) → filter p (range_with_le
 filter_range_more p n =
     ap (filter p) (range_more n) ∙ filter-append p (range_with_len 0 n) (n ∷ [])
     ∙ ap (λ xs. filter p (range_with_len 0 n) ++ xs) (filter_one p n (p n) refl)
-
--- a longer range keeps as many
-grown : (p : ℕ → Bool) (n m : ℕ) → length (filter p (range_with_len 0 n)) ≤ length (filter p (range_with_len 0 (n + m)))
-grown p n zero = rw (add-zero n) (omega arith)
-grown p n (suc m) =
-    let ih = grown p n m in
-    let more = ap length (filter_range_more p (n + m)) ∙ length-append (filter p (range_with_len 0 (n + m))) (kept_one p (n + m)) in
-    let same : n + suc m ≡ n + m + 1 = omega arith in
-    rw same (omega (arith, ih, more))
-
-pub filter_range_grows : (p : ℕ → Bool) (n m : ℕ) → n ≤ m → length (filter p (range_with_len 0 n)) ≤ length (filter p (range_with_len 0 m))
-filter_range_grows p n m le =
-    let whole : n + (m - n) ≡ m = omega arith in
-    let Q : ℕ → Type 0 = λ k. length (filter p (range_with_len 0 n)) ≤ length (filter p (range_with_len 0 k)) in
-    subst Q whole (grown p n (m - n))
 
 -- texts of a range, one more
 pub flat_map_range_more : {X : Type 0} (f : ℕ → List X) (n : ℕ)

@@ -1,16 +1,16 @@
 -- The unwind entries that are read are the link's, and so are their rules.
 --
--- A row is that of an entry of a listed section. All rules but two are kept by the section's bytes; where a personality leads and
--- that starts are distinct is what the rows are checked for. Where a section breaks a rule by its bytes, it breaks it in the link.
-use Rattle.std.proofs.Common.{◌≡◌, ℕ, ◌+◌, ◌*◌, ◌/◌, ◌<◌, eqb, eq-eqb, Bool, true, false, ◌&&◌, ◌||◌, List, [], ◌∷◌, length, map, filter}
-use Rattle.std.proofs.Common.{get_or, Option, Some, None, refl, sym, ap, ◌∙◌, subst, arith}
+-- A row is that of an entry of a listed section. All rules but one are kept by the section's bytes and by where its personalities
+-- lead; that starts are distinct is what the rows are checked for. Where a section breaks a rule so, it breaks it in the link.
+use Rattle.std.proofs.Common.{◌≡◌, ℕ, ◌+◌, ◌*◌, ◌/◌, ◌<◌, inl, inr, eqb, eq-eqb, Bool, true, false, ◌&&◌, ◌||◌, List, [], ◌∷◌, map}
+use Rattle.std.proofs.Common.{filter, Option, Some, None, refl, sym, ap, ◌∙◌, subst, arith}
 use Rattle.std.proofs.lemmas.Bool.{eqb-true}
-use Rattle.std.proofs.lemmas.List.Elements.{All-contains, All-map, All-weaker}
-use Rattle.std.specs.List.{range_with_len, flat_map, list_all, Contains, All}
+use Rattle.std.proofs.lemmas.List.Elements.{All-contains}
+use Rattle.std.specs.List.{range_with_len, flat_map, list_all, Contains}
 use Rattle.macho_object.specs.Views.{FileBytes}
 use Rattle.macho_model.specs.declared.rules.UnwindRule.{UnwindRule}
 use Rattle.macho_model.specs.declared.rules.UnwindRule.TheVariants.{U1, U2, U3, U4, U5, U6, U7, U8}
-use Rattle.macho_model.specs.Objects.{num_symbols, section_at, relocation_at}
+use Rattle.macho_model.specs.Objects.{section_at, relocation_at}
 use Rattle.macho_model.specs.Links.{Link, SectionId, object_of}
 use Rattle.macho_model.specs.Needs.{relocation_in, unwind_sections, PERSONALITY_PLACE}
 use Rattle.macho_model.specs.declared.targets.Target.{Target}
@@ -24,22 +24,21 @@ use Rattle.macho_consumed.specs.declared.listing.SectionRef.{SectionRef}
 use Rattle.macho_consumed.specs.declared.rows.UnwindEntry.{UnwindEntry}
 use Rattle.macho_consumed.specs.declared.fault.ConsumedFault.{ConsumedFault}
 use Rattle.macho_consumed.specs.declared.fault.ConsumedFault.TheVariants.{BadInitializer, BadUnwind, OutOfMemory}
-use Rattle.macho_consumed.specs.Views.{AreViews, AreKept}
+use Rattle.macho_consumed.specs.Views.{AreViews}
 use Rattle.macho_consumed.specs.Rows.{entry_row, entry_rows}
 use Rattle.macho_consumed.specs.Told.{IsStanding}
 use Rattle.macho_consumed.specs.steps.Alone.{alone, own}
-use Rattle.macho_consumed.specs.steps.Entries.{at_place, links_fit, data_fits, read_entry, EntryFits, SectionBreaksRule, rows_in, row_in}
-use Rattle.macho_consumed.specs.steps.Listed.{id_of_ref, bytes_in, bytes_viewed}
-use Rattle.macho_consumed.specs.steps.Gathered.{all_of, entries_at, KeepsAt, IsBadRuleAt}
-use Rattle.macho_consumed.specs.Symbols.{HasPersonality}
-use Rattle.macho_consumed.specs.steps.Checked.{leads_somewhere, IsLost}
+use Rattle.macho_consumed.specs.steps.Entries.{at_place, links_fit, data_fits, read_entry, EntryFits, SectionBreaksRule, EntryIsLost}
+use Rattle.macho_consumed.specs.steps.Entries.{rows_in, row_in}
+use Rattle.macho_consumed.specs.steps.Listed.{id_of_ref, bytes_in}
+use Rattle.macho_consumed.specs.steps.Gathered.{all_of, entries_at, IsBadRuleAt}
+use Rattle.macho_consumed.specs.steps.Checked.{leads_somewhere}
 use Rattle.macho_consumed.proofs.Tests.{both, left_of, right_of, one_fails, not_true, and_fails, and_fails_left, passes, all_pass}
-use Rattle.macho_consumed.proofs.Members.{here, to_filter, to_map, all_there, all_joined, in_range, in_filter}
+use Rattle.macho_consumed.proofs.Members.{here, to_filter, to_map, in_range, in_filter}
 use Rattle.macho_consumed.proofs.Joined.{joined_map, joined_agree, map_joined, mapped_agree}
 use Rattle.macho_consumed.proofs.InAll.{IsOne, all_listed}
 use Rattle.macho_consumed.proofs.Sectioned.{unwind_are}
 use Rattle.macho_consumed.proofs.Transfer.{object_is, entry_row_is, entry_test}
-use Rattle.macho_consumed.proofs.ReadInitializers.{has_symbol}
 use Rattle.macho_consumed.proofs.Leading.{IsBlind, pointer_tells}
 
 one_listed : (files : List (Option FileBytes)) (s : SectionRef) → Contains (all_of Entries files) s → IsOne Entries files s
@@ -95,78 +94,6 @@ links_break l file b k e is bad =
     let clash : true ≡ false = sym whole ∙ bad in
     cc)
 
-entry_breaks : (l : Link) (file : ℕ) (b : List ℕ) (k e : ℕ) (rule : UnwindRule) → object_of l file ≡ b → SectionBreaksRule b k e rule
-    → IsBadEntry l (record { file = file; section = k }) e rule
-entry_breaks l file b k e U1 is (at, bad) = (
-  at ∙ ap (λ (x : List ℕ). (section_at x k).size / 32) (sym is),
-  (entry_test l file b k e is).5 ∙ bad,
-)
-entry_breaks l file b k e U2 is (lt, bad) = (
-  subst (λ (x : List ℕ). e < (section_at x k).size / 32) (sym is) lt,
-  (entry_test l file b k e is).0 ∙ bad,
-)
-entry_breaks l file b k e U3 is (lt, bad) = (
-  subst (λ (x : List ℕ). e < (section_at x k).size / 32) (sym is) lt,
-  (entry_test l file b k e is).1 ∙ bad,
-)
-entry_breaks l file b k e U4 is (lt, bad) = (
-  subst (λ (x : List ℕ). e < (section_at x k).size / 32) (sym is) lt,
-  (entry_test l file b k e is).2 ∙ bad,
-)
-entry_breaks l file b k e U5 is (lt, bad) = (
-  subst (λ (x : List ℕ). e < (section_at x k).size / 32) (sym is) lt,
-  (entry_test l file b k e is).3 ∙ bad,
-)
-entry_breaks l file b k e U6 is (lt, bad) = absurd bad
-entry_breaks l file b k e U7 is (lt, bad) = (
-  subst (λ (x : List ℕ). e < (section_at x k).size / 32)
-      (sym is) lt,
-  links_break l file b k e is bad,
-)
-entry_breaks l file b k e U8 is (lt, bad) = (
-  subst (λ (x : List ℕ). e < (section_at x k).size / 32) (sym is) lt,
-  (entry_test l file b k e is).4 ∙ bad,
-)
-
-listed_there : (l : Link) (files : List (Option FileBytes)) (s : SectionRef) → AreViews l files → Contains (all_of Entries files) s
-    → Contains (unwind_sections l) (id_of_ref s)
-listed_there l files s views c =
-    subst (λ (xs : List SectionId). Contains xs (id_of_ref s)) (unwind_are l files views) (to_map id_of_ref (all_of Entries files) s c)
-
-told_at : (l : Link) (f s file k e : ℕ) (rule : UnwindRule) → f ≡ file → s ≡ k
-    → Contains (unwind_sections l) (record { file = file; section = k })
-    → IsBadEntry l (record { file = file; section = k }) e rule → IsStanding l (BadUnwind f s e rule)
-told_at l f s file k e rule is_file is_section there bad =
-    subst (λ (x : ℕ). IsStanding l (BadUnwind x s e rule)) (sym is_file) (subst (λ (x : ℕ). IsStanding l (BadUnwind file x e rule))
-    (sym is_section) (there, bad))
-
-pub bad_stands : (l : Link) (files : List (Option FileBytes)) (fault : ConsumedFault) → AreViews l files → IsBadRuleAt files fault
-    → IsStanding l fault
-bad_stands l files (BadInitializer f s offset) views bad = absurd bad
-bad_stands l files (BadUnwind f s e rule) views (at, c, bad) =
-    told_at l f s at.file at.section e rule bad.0 bad.1 (listed_there l files at views c)
-    (entry_breaks l at.file (bytes_in files at.file) at.section e rule (object_is l files at.file views
-    (one_listed files at c).listed.file) bad.2)
-bad_stands l files OutOfMemory views bad = tt
-
--- A row is that of an entry of a listed section.
-pub record IsRow (files : List (Option FileBytes)) (row : UnwindEntry) : Type 0 where
-  pub at : SectionRef
-  pub there : Contains (all_of Entries files) at
-  pub number : ℕ
-  pub within : number < (section_at (bytes_in files at.file) at.section).size / 32
-  pub is : row ≡ row_in (bytes_in files at.file) at.file at.section number
-
-pub are_rows : (files : List (Option FileBytes)) → All (IsRow files) (flat_map (entries_at files) (all_of Entries files))
-unfolding rows_in
-are_rows files =
-    all_joined (IsRow files) (entries_at files) (all_of Entries files) (λ s c.
-    let b = bytes_in files s.file in
-    let n = (section_at b s.section).size / 32 in
-    All-map (IsRow files) (row_in b s.file s.section) (range_with_len 0 n)
-    (all_there (λ e. IsRow files (row_in b s.file s.section e)) (range_with_len 0 n)
-    (λ e d. record { at = s; there = c; number = e; within = in_range n e d; is = refl })))
-
 -- the personality of a row, if it has one
 pub data HasPerson (b : List ℕ) (file k e : ℕ) : Type 0 where
   nobody : (row_in b file k e).personality ≡ None → at_place b k e PERSONALITY_PLACE ≡ [] → HasPerson b file k e
@@ -200,41 +127,6 @@ is_person b k e r fits c =
       extern = passes (λ q. (relocation_at b k q).r_extern) (at_place b k e PERSONALITY_PLACE) r (left_of _ _ fits.links) c;
     }
 
-entry_of_row : (files : List (Option FileBytes)) (row : UnwindEntry) → All (KeepsAt files) (all_of Entries files) → (it : IsRow files row)
-    → EntryFits (bytes_in files it.at.file) it.at.section it.number
-entry_of_row files row keep it = (All-contains (KeepsAt files)
-    (all_of Entries files) it.at keep it.there).entries.entries it.number it.within
-
-pub personalities_there : (files : List (Option FileBytes)) (r : ResolvedRows) (rows : List UnwindEntry) → AreKept files r.files
-    → All (KeepsAt files) (all_of Entries files)
-    → rows ≡ flat_map (entries_at files) (all_of Entries files) → All (λ e. HasPersonality r e.file e.personality) rows
-unfolding entry_row
-personalities_there files r rows kept keep are =
-    subst (λ (xs : List UnwindEntry). All (λ e. HasPersonality r e.file e.personality) xs) (sym are)
-    (All-weaker (IsRow files) (λ e. HasPersonality r e.file e.personality) (λ row it. one_there row it) (flat_map (entries_at files)
-    (all_of Entries files)) (are_rows files))
-  where
-    of_person : (it_file k e : ℕ) (b : List ℕ) (listed : it_file < length files) (view : FileBytes)
-        → get_or files it_file None ≡ Some view → b ≡ view.bytes
-        → ((q : ℕ) → q < (section_at b k).nreloc → (relocation_at b k q).r_extern ≡ true
-        → (relocation_at b k q).r_symbolnum < num_symbols b) → EntryFits b k e
-        → HasPerson b it_file k e → HasPersonality r it_file (row_in b it_file k e).personality
-    of_person file k e b listed view is same symbols fits (nobody none empty) = subst (HasPersonality r file) (sym none) tt
-    of_person file k e b listed view is same symbols fits (someone q some c) =
-        let p = is_person b k e q fits c in
-        subst (HasPersonality r file) (sym some)
-        (has_symbol files r file (relocation_at b k q).r_symbolnum kept listed view is
-        (subst (λ (x : List ℕ). (relocation_at b k q).r_symbolnum < num_symbols x) same (symbols q p.below p.extern)))
-
-    one_there : (row : UnwindEntry) → IsRow files row → HasPersonality r row.file row.personality
-    one_there row it =
-        let b = bytes_in files it.at.file in
-        let listed = (one_listed files it.at it.there).listed in
-        let keeps_all = All-contains (KeepsAt files) (all_of Entries files) it.at keep it.there in
-        subst (λ (x : UnwindEntry). HasPersonality r x.file x.personality) (sym it.is)
-        (of_person it.at.file it.at.section it.number b listed.file listed.view listed.is (ap bytes_viewed listed.is) keeps_all.symbols
-        (keeps_all.entries.entries it.number it.within) (person b it.at.file it.at.section it.number))
-
 -- where a personality leads
 abbrev pub is_somewhere : Target → Bool
 is_somewhere t = is_defined t || is_import t
@@ -242,59 +134,88 @@ is_somewhere t = is_defined t || is_import t
 somewhere_is_blind : IsBlind is_somewhere
 somewhere_is_blind = record { imports = λ i j. refl }
 
+pointer_told : (l : Link) (noted : List (List ℕ)) (file : ℕ) (b : List ℕ) (k r : ℕ) → object_of l file ≡ b
+    → is_plain_pointer (relocation_at b k r) ≡ true → (relocation_at b k r).r_extern ≡ true
+    → is_somewhere (target_of_relocation l (record { file = file; section = k }) r) ≡ leads_somewhere l noted file (Some
+    (record { number = r; relocation = relocation_at b k r }))
+pointer_told l noted file b k r e plain extern =
+    let s : SectionId = record { file = file; section = k } in
+    pointer_tells is_somewhere somewhere_is_blind l noted s r (subst (λ (x : List ℕ). is_plain_pointer (relocation_at x k r) ≡ true)
+    (sym e) plain)
+    (subst (λ (x : List ℕ). (relocation_at x k r).r_extern ≡ true) (sym e) extern)
+    ∙ ap (λ (x : List ℕ). is_somewhere (target_with l noted (symbol_id file (relocation_at x k r).r_symbolnum))) e
+
 pub person_told : (l : Link) (noted : List (List ℕ)) (file : ℕ) (b : List ℕ) (k r : ℕ) → object_of l file ≡ b → IsPerson b k r
     → is_somewhere (target_of_relocation l (record { file = file; section = k }) r) ≡ leads_somewhere l noted file (Some
     (record { number = r; relocation = relocation_at b k r }))
-person_told l noted file b k r e p =
-    let s : SectionId = record { file = file; section = k } in
-    pointer_tells is_somewhere somewhere_is_blind l noted s r (subst (λ (x : List ℕ). is_plain_pointer (relocation_at x k r) ≡ true)
-    (sym e) p.plain)
-    (subst (λ (x : List ℕ). (relocation_at x k r).r_extern ≡ true) (sym e) p.extern)
-    ∙ ap (λ (x : List ℕ). is_somewhere (target_with l noted (symbol_id file (relocation_at x k r).r_symbolnum))) e
+person_told l noted file b k r e p = pointer_told l noted file b k r e p.plain p.extern
 
-lost_breaks : (l : Link) (noted : List (List ℕ)) (file : ℕ) (b : List ℕ) (k e : ℕ) → object_of l file ≡ b → EntryFits b k e
-    → HasPerson b file k e
-    → leads_somewhere l noted file (row_in b file k e).personality ≡ false
-    → personality_fits l (record { file = file; section = k }) e ≡ false
-lost_breaks l noted file b k e is fits (nobody none empty) lost = let clash : true ≡ false = sym (ap
-    (leads_somewhere l noted file) none) ∙ lost in cc
-lost_breaks l noted file b k e is fits (someone r some c) lost =
+lost_breaks : (l : Link) (noted : List (List ℕ)) (r : ResolvedRows) (file : ℕ) (b : List ℕ) (k e : ℕ) → object_of l file ≡ b
+    → IsResolved l noted r → EntryIsLost r b file k e → personality_fits l (record { file = file; section = k }) e ≡ false
+lost_breaks l noted r file b k e is resolved it =
     let s : SectionId = record { file = file; section = k } in
-    let wrong : is_somewhere (target_of_relocation l s r) ≡ false =
-    person_told l noted file b k r is (is_person b k e r fits c) ∙ ap (leads_somewhere l noted file) (sym some) ∙ lost in
+    let wrong : is_somewhere (target_of_relocation l s it.number) ≡ false =
+    pointer_told l noted file b k it.number is it.plain it.extern ∙ it.leads l noted resolved in
     and_fails_left _ _
     (one_fails (λ q. (relocation_in l s q).r_extern && is_somewhere (target_of_relocation l s q))
-    (relocations_in_entry l s e PERSONALITY_PLACE) r
-    (subst (λ (x : List ℕ). Contains (at_place x k e PERSONALITY_PLACE) r) (sym is) c) (and_fails (relocation_in l s r).r_extern _ wrong))
+    (relocations_in_entry l s e PERSONALITY_PLACE) it.number
+    (subst (λ (x : List ℕ). Contains (at_place x k e PERSONALITY_PLACE) it.number) (sym is) it.there) (and_fails (relocation_in l s
+    it.number).r_extern _ wrong))
 
-row_stands : (l : Link) (files : List (Option FileBytes)) (row : UnwindEntry) (rule : UnwindRule) → AreViews l files
-    → (it : IsRow files row)
-    → (it.number < entry_count l (id_of_ref it.at) → IsBadEntry l (id_of_ref it.at) it.number rule)
-    → IsStanding l (BadUnwind row.file row.section row.entry rule)
-unfolding entry_row
-row_stands l files row rule views it bad =
-    let e = object_is l files it.at.file views (one_listed files it.at it.there).listed.file in
-    subst (λ (x : UnwindEntry). IsStanding l (BadUnwind x.file x.section x.entry rule)) (sym it.is) (
-      listed_there l files it.at views it.there,
-      bad (subst (λ (x : List ℕ). it.number < (section_at x it.at.section).size / 32)
-          (sym e) it.within),
-    )
+entry_breaks : (l : Link) (noted : List (List ℕ)) (r : ResolvedRows) (file : ℕ) (b : List ℕ) (k e : ℕ) (rule : UnwindRule)
+    → object_of l file ≡ b → IsResolved l noted r → SectionBreaksRule r b file k e rule
+    → IsBadEntry l (record { file = file; section = k }) e rule
+entry_breaks l noted r file b k e U1 is resolved (at, bad) = (
+  at ∙ ap (λ (x : List ℕ). (section_at x k).size / 32) (sym is),
+  (entry_test l file b k e is).5 ∙ bad,
+)
+entry_breaks l noted r file b k e U2 is resolved (lt, bad) = (
+  subst (λ (x : List ℕ). e < (section_at x k).size / 32) (sym is) lt,
+  (entry_test l file b k e is).0 ∙ bad,
+)
+entry_breaks l noted r file b k e U3 is resolved (lt, bad) = (
+  subst (λ (x : List ℕ). e < (section_at x k).size / 32) (sym is) lt,
+  (entry_test l file b k e is).1 ∙ bad,
+)
+entry_breaks l noted r file b k e U4 is resolved (lt, bad) = (
+  subst (λ (x : List ℕ). e < (section_at x k).size / 32) (sym is) lt,
+  (entry_test l file b k e is).2 ∙ bad,
+)
+entry_breaks l noted r file b k e U5 is resolved (lt, bad) = (
+  subst (λ (x : List ℕ). e < (section_at x k).size / 32) (sym is) lt,
+  (entry_test l file b k e is).3 ∙ bad,
+)
+entry_breaks l noted r file b k e U6 is resolved (lt, bad) = absurd bad
+entry_breaks l noted r file b k e U7 is resolved (lt, inl bad) = (
+  subst (λ (x : List ℕ). e < (section_at x k).size / 32) (sym is) lt,
+  links_break l file b k e is bad,
+)
+entry_breaks l noted r file b k e U7 is resolved (lt, inr lost) = (
+  subst (λ (x : List ℕ). e < (section_at x k).size / 32) (sym is) lt,
+  lost_breaks l noted r file b k e is resolved lost,
+)
+entry_breaks l noted r file b k e U8 is resolved (lt, bad) = (
+  subst (λ (x : List ℕ). e < (section_at x k).size / 32) (sym is) lt,
+  (entry_test l file b k e is).4 ∙ bad,
+)
 
-pub lost_stands : (l : Link) (noted : List (List ℕ)) (files : List (Option FileBytes)) (r : ResolvedRows) (rows : List UnwindEntry)
-    (fault : ConsumedFault) → AreViews l files
-    → IsResolved l noted r → All (KeepsAt files) (all_of Entries files) → rows ≡ flat_map (entries_at files) (all_of Entries files)
-    → IsLost r rows fault → IsStanding l fault
-unfolding entry_row
-lost_stands l noted files r rows fault views resolved keep are lost =
-    let it = All-contains (IsRow files) rows lost.row (subst (λ (xs : List UnwindEntry). All (IsRow files) xs) (sym are)
-    (are_rows files)) (lost.place, lost.there, lost.is) in
-    let b = bytes_in files it.at.file in
-    let e = object_is l files it.at.file views (one_listed files it.at it.there).listed.file in
-    let wrong : leads_somewhere l noted it.at.file (row_in b it.at.file it.at.section it.number).personality ≡ false =
-    ap (λ (x : UnwindEntry). leads_somewhere l noted x.file x.personality) (sym it.is) ∙ lost.leads l noted resolved in
-    subst (IsStanding l) (sym lost.told)
-    (row_stands l files lost.row U7 views it (λ lt. (
-      lt,
-      lost_breaks l noted it.at.file b it.at.section it.number e (entry_of_row files lost.row keep it)
-          (person b it.at.file it.at.section it.number) wrong,
-    )))
+listed_there : (l : Link) (files : List (Option FileBytes)) (s : SectionRef) → AreViews l files → Contains (all_of Entries files) s
+    → Contains (unwind_sections l) (id_of_ref s)
+listed_there l files s views c =
+    subst (λ (xs : List SectionId). Contains xs (id_of_ref s)) (unwind_are l files views) (to_map id_of_ref (all_of Entries files) s c)
+
+told_at : (l : Link) (f s file k e : ℕ) (rule : UnwindRule) → f ≡ file → s ≡ k
+    → Contains (unwind_sections l) (record { file = file; section = k })
+    → IsBadEntry l (record { file = file; section = k }) e rule → IsStanding l (BadUnwind f s e rule)
+told_at l f s file k e rule is_file is_section there bad =
+    subst (λ (x : ℕ). IsStanding l (BadUnwind x s e rule)) (sym is_file) (subst (λ (x : ℕ). IsStanding l (BadUnwind file x e rule))
+    (sym is_section) (there, bad))
+
+pub bad_stands : (l : Link) (noted : List (List ℕ)) (files : List (Option FileBytes)) (r : ResolvedRows) (fault : ConsumedFault)
+    → AreViews l files → IsResolved l noted r → IsBadRuleAt r files fault → IsStanding l fault
+bad_stands l noted files r (BadInitializer f s offset) views resolved bad = absurd bad
+bad_stands l noted files r (BadUnwind f s e rule) views resolved (at, c, bad) =
+    told_at l f s at.file at.section e rule bad.0 bad.1 (listed_there l files at views c)
+    (entry_breaks l noted r at.file (bytes_in files at.file) at.section e rule (object_is l files at.file views
+    (one_listed files at c).listed.file) resolved bad.2)
+bad_stands l noted files r OutOfMemory views resolved bad = tt

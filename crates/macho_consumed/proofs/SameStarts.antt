@@ -21,6 +21,7 @@ use Rattle.macho_consumed.specs.Views.{AreViews}
 use Rattle.macho_consumed.specs.Rows.{entry_row}
 use Rattle.macho_consumed.specs.steps.Entries.{named, at_place, read_entry, EntryFits}
 use Rattle.macho_consumed.specs.steps.Listed.{id_of_ref, bytes_in}
+use Rattle.macho_symbols.specs.Kept.{ResolvedRows}
 use Rattle.macho_consumed.specs.steps.Gathered.{all_of, KeepsAt}
 use Rattle.macho_consumed.specs.steps.Checked.{start_key}
 use Rattle.macho_consumed.proofs.Tests.{left_of, right_of, both}
@@ -141,13 +142,13 @@ known l files d views c =
           within = subst (λ (x : SectionId). e < entry_count l x) m.is (in_range (entry_count l s) e d);
         }))
 
-pub known_starts : (l : Link) (files : List (Option FileBytes)) (d : EntryId) → AreViews l files
-    → All (KeepsAt files) (all_of Entries files) → IsKnown l files d
+pub known_starts : (l : Link) (files : List (Option FileBytes)) (r : ResolvedRows) (d : EntryId) → AreViews l files
+    → All (KeepsAt r files) (all_of Entries files) → IsKnown l files d
     → (q : ℕ) × StartsAt l d q
-known_starts l files d views keep it =
+known_starts l files r d views keep it =
     let e = object_is l files it.at.file views (All-contains (IsOne Entries files) (all_of Entries files) it.at
     (all_listed Entries files) it.there).listed.file in
-    let fits = (All-contains (KeepsAt files) (all_of Entries files) it.at keep it.there).entries.entries d.entry (subst (λ
+    let fits = (All-contains (KeepsAt r files) (all_of Entries files) it.at keep it.there).entries.entries d.entry (subst (λ
     (x : List ℕ). d.entry < (section_at x it.at.section).size / 32) e it.within) in
     subst (λ (s : SectionId). (q : ℕ) × StartsAt l (record { of_section = s; entry = d.entry }) q) (sym it.section)
     (starts_at l it.at.file (bytes_in files it.at.file) it.at.section d.entry e fits)

@@ -1,40 +1,37 @@
 -- A table of relocations by place, relocation by relocation.
 --
--- So far each cell of the table holds the relocations at its place, at most one. The next relocation has a place of its own:
--- in its cell nothing stood, and now it stands there; at another place nothing changes, since its address is another. Where
--- its cell is taken, its place has two relocations, and no later one takes one away.
-use Rattle.std.proofs.Common.{◌≡◌, ◌≢◌, ℕ, ◌+◌, ◌*◌, ◌/◌, ◌%◌, ◌<◌, ◌≤◌, eqb, Bool, true, false, cond, List, [], ◌∷◌, ◌++◌, length, get_or}
-use Rattle.std.proofs.Common.{set, nat_lt, if◌then◌else◌, is_some, ◌^◌, Option, Some, None, option_to_list, replicate, refl, sym, ap, ◌∙◌}
-use Rattle.std.proofs.Common.{subst, arith, below_more, length-set, get_or-set_other, get_or-set_same}
+-- So far each cell of the table tells the relocations at its place. Where the next relocation stands at a multiple of 8 within the
+-- table, it is the last one at that place, and its cell has one more; at another place nothing changes, since its address is another.
+-- Beside it the least address that is no multiple of 8 is the lesser of the one so far and the next.
+use Rattle.std.proofs.Common.{◌≡◌, ◌≢◌, ℕ, ◌+◌, ◌*◌, ◌/◌, ◌%◌, ◌<◌, ◌≤◌, ◌==◌, eqb, Bool, true, false, cond, List, [], ◌∷◌, ◌++◌, length, get_or}
+use Rattle.std.proofs.Common.{set, nat_lt, if◌then◌else◌, Option, Some, None, replicate, refl, sym, ap, ◌∙◌, subst, arith, below_more}
+use Rattle.std.proofs.Common.{length-set, get_or-set_other, get_or-set_same}
 use Rattle.std.proofs.lemmas.Bool.Decides.{nat_tests}
 use Rattle.std.proofs.lemmas.List.{append-nil, get_or_default, length-replicate, get_or-replicate}
 use Rattle.macho_structs.specs.declared.relocations.RelocationInfo.{RelocationInfo}
 use Rattle.macho_model.specs.Objects.{section_at, relocation_at}
-use Rattle.macho_model.specs.ObjectRules.{field_inside}
-use Rattle.macho_model.specs.Consumed.{is_plain_pointer}
-use Rattle.macho_consumed.specs.steps.Places.{found, IsTable, HasPlace}
-use Rattle.macho_consumed.proofs.Ranges.{kept_one, filter_range_more, filter_range_grows}
+use Rattle.macho_consumed.specs.declared.places.Cell.{Cell}
+use Rattle.macho_consumed.specs.declared.places.Cell.TheVariants.{Empty, One, Several}
+use Rattle.macho_consumed.specs.steps.Places.{found, CellTells, IsTable, IsBetween, NoneBelow, IsLeast}
+use Rattle.macho_consumed.proofs.Ranges.{kept_one, filter_range_more}
 
 -- nothing is found among no relocations
-pub table_none : (b : List ℕ) (k n : ℕ) (cells : List (Option ℕ)) → n ≡ (section_at b k).size / 8 → cells ≡ replicate n None
-    → IsTable b k 0 cells
+pub table_none : (b : List ℕ) (k n : ℕ) (cells : List Cell) → n ≡ (section_at b k).size / 8 → cells ≡ replicate n Empty → IsTable b k 0 cells
 unfolding found
 table_none b k n cells size is = record {
-  long = rw is (length-replicate n None ∙ size);
-  cell = λ i lt. let bound : i < n = omega (arith, lt, ap length is, length-replicate {A = Option ℕ} n None) in rw is (ap option_to_list
-      (sym (get_or-replicate {A = Option ℕ} n i None None bound)));
-  fit = λ r lt. absurd (omega arith);
-  placed = λ r lt. absurd (omega arith);
+  long = rw is (length-replicate n Empty ∙ size);
+  cell = λ i lt. let bound : i < n = omega (arith, lt, ap length is, length-replicate {A = Cell} n Empty) in subst (CellTells []) (sym
+      (ap (λ (cs : List Cell). get_or cs i Empty) is ∙ get_or-replicate {A = Cell} n i Empty Empty bound)) refl;
 }
 
+pub least_none : (b : List ℕ) (k : ℕ) → IsLeast b k 0 None
+least_none b k = λ bound r lt. absurd (omega arith)
+
+-- one relocation more
 pub found_more : (b : List ℕ) (k n place : ℕ) → found b k (n + 1) place ≡ found b k n place ++ kept_one (λ r. eqb
     (relocation_at b k r).r_address place) n
 unfolding found
 found_more b k n place = filter_range_more (λ r. eqb (relocation_at b k r).r_address place) n
-
-pub found_grows : (b : List ℕ) (k n m place : ℕ) → n ≤ m → length (found b k n place) ≤ length (found b k m place)
-unfolding found
-found_grows b k n m place le = filter_range_grows (λ r. eqb (relocation_at b k r).r_address place) n m le
 
 found_here : (b : List ℕ) (k n place : ℕ) → (relocation_at b k n).r_address ≡ place → found b k (n + 1) place ≡ found b k n place ++ n ∷ []
 found_here b k n place at =
@@ -46,49 +43,98 @@ found_elsewhere b k n place at =
     let miss : eqb (relocation_at b k n).r_address place ≡ false = grind (arith, nat_tests, at) in
     found_more b k n place ∙ ap (λ (t : Bool). found b k n place ++ cond t (n ∷ []) []) miss ∙ append-nil (found b k n place)
 
-cell_more : (b : List ℕ) (k n place i : ℕ) (cells : List (Option ℕ)) (t : Bool) → eqb i place ≡ t → IsTable b k n cells
-    → HasPlace (relocation_at b k n) place
-    → place < length cells → get_or cells place None ≡ None → i < length cells
-    → found b k (n + 1) (8 * i) ≡ option_to_list (get_or (set cells place (Some n)) i None)
-cell_more b k n place i cells true e table has lt none within =
-    let same : i ≡ place = grind (arith, nat_tests, e) in
-    let here = found_here b k n (8 * place) has.at in
-    let empty = table.cell place lt ∙ ap option_to_list none in
-    subst (λ j. found b k (n + 1) (8 * j) ≡ option_to_list (get_or (set cells place (Some n)) j None)) (sym same)
-    (rw (get_or-set_same) (here ∙ ap (λ (xs : List ℕ). xs ++ n ∷ []) empty))
-cell_more b k n place i cells false e table has lt none within =
-    let other : i ≢ place = grind (arith, nat_tests, e) in
-    let apart : (relocation_at b k n).r_address ≢ 8 * i = λ same. other (omega (arith, same, has.at)) in
-    rw (get_or-set_other) (found_elsewhere b k n (8 * i) apart ∙ table.cell i within)
+-- its cell has one more
+abbrev pub HasMore : ℕ → Cell → Cell → Type 0
+HasMore n old new = (xs : List ℕ) → CellTells xs old → CellTells (xs ++ n ∷ []) new
 
-pub table_more : (b : List ℕ) (k n place : ℕ) (cells : List (Option ℕ)) → IsTable b k n cells → HasPlace (relocation_at b k n) place
-    → place < length cells → get_or cells place None ≡ None → IsTable b k (n + 1) (set cells place (Some n))
-table_more b k n place cells table has lt none = record {
-  long = length-set cells place (Some n) ∙ table.long;
-  cell = λ i within. cell_more b k n place i cells (eqb i place) refl table has lt none (omega (
-    arith,
-    within,
-    length-set cells place
-        (Some n),
-  ));
-  fit = below_more _ n table.fit has.fit;
-  placed = below_more _ n table.placed (let zero : (relocation_at b k n).r_address % 8 ≡ 0 = omega (arith, has.at) in grind
-      (arith, nat_tests, zero));
+pub more_of : (n : ℕ) (new : Cell) (place : ℕ) (cells : List Cell) (old : Cell) → place < length cells → old ≡ get_or cells place old
+    → HasMore n old new → HasMore n (get_or cells place Empty) new
+more_of n new place cells old lt is more = subst (λ (c : Cell). HasMore n c new) (is ∙ sym (get_or_default cells place Empty old lt)) more
+
+cell_more : (b : List ℕ) (k n place i : ℕ) (cells : List Cell) (new : Cell) (t : Bool) → eqb i place ≡ t → IsTable b k n cells
+    → (relocation_at b k n).r_address ≡ 8 * place → place < length cells → HasMore n (get_or cells place Empty) new → i < length cells
+    → CellTells (found b k (n + 1) (8 * i)) (get_or (set cells place new) i Empty)
+cell_more b k n place i cells new true e table at lt more within =
+    let same : i ≡ place = grind (arith, nat_tests, e) in
+    subst (λ j. CellTells (found b k (n + 1) (8 * j)) (get_or (set cells place new) j Empty)) (sym same)
+    (rw (get_or-set_same, found_here b k n (8 * place) at) (more (found b k n (8 * place)) (table.cell place lt)))
+cell_more b k n place i cells new false e table at lt more within =
+    let other : i ≢ place = grind (arith, nat_tests, e) in
+    let apart : (relocation_at b k n).r_address ≢ 8 * i = λ same. other (omega (arith, same, at)) in
+    rw (get_or-set_other, found_elsewhere b k n (8 * i) apart) (table.cell i within)
+
+pub table_more : (b : List ℕ) (k n place : ℕ) (cells : List Cell) (new : Cell) → IsTable b k n cells
+    → (relocation_at b k n).r_address ≡ 8 * place → place < length cells → HasMore n (get_or cells place Empty) new
+    → IsTable b k (n + 1) (set cells place new)
+table_more b k n place cells new table at lt more = record {
+  long = length-set cells place new ∙ table.long;
+  cell = λ i within. cell_more b k n place i cells new (eqb i place) refl table at lt more (omega (arith, within, length-set cells place new));
 }
 
--- a second relocation at a place
-pub twice_found : (b : List ℕ) (k n m place q : ℕ) (cells : List (Option ℕ)) → IsTable b k n cells → HasPlace (relocation_at b k n) place
-    → place < length cells → get_or cells place None ≡ Some q → n < m → 2 ≤ length (found b k m (relocation_at b k n).r_address)
-twice_found b k n m place q cells table has lt some below =
-    let here = found_here b k n (8 * place) has.at in
-    let one = table.cell place lt ∙ ap option_to_list some in
-    let two : length (found b k (n + 1) (8 * place)) ≡ 2 = ap length (here ∙ ap (λ (xs : List ℕ). xs ++ n ∷ []) one) in
-    rw has.at (omega (arith, two, found_grows b k (n + 1) m (8 * place) (omega arith)))
+-- or it has no place in the table
+pub table_same : (b : List ℕ) (k n : ℕ) (cells : List Cell) → IsTable b k n cells
+    → ((i : ℕ) → i < length cells → (relocation_at b k n).r_address ≢ 8 * i) → IsTable b k (n + 1) cells
+table_same b k n cells table apart = record {
+  long = table.long;
+  cell = λ i within. subst (λ (xs : List ℕ). CellTells xs (get_or cells i Empty)) (sym (found_elsewhere b k n (8 * i) (apart i within)))
+      (table.cell i within);
+}
 
--- what is got of a relocation, and of a cell
-plain_length : (r : RelocationInfo) → is_plain_pointer r ≡ true → r.r_length ≡ 3
-plain_length r fit = grind (arith, nat_tests, fit)
+-- the least address between places
+pub none_more : (b : List ℕ) (k n bound : ℕ) → NoneBelow b k n bound
+    → ((relocation_at b k n).r_address < bound → ((relocation_at b k n).r_address % 8 == 0) ≡ true) → NoneBelow b k (n + 1) bound
+none_more b k n bound none last = below_more (λ r. (relocation_at b k r).r_address < bound → ((relocation_at b k r).r_address % 8 == 0) ≡ true) n none last
 
+between_later : (b : List ℕ) (k n address : ℕ) → IsBetween b k n address → IsBetween b k (n + 1) address
+between_later b k n address (r, lt, at, off) = (r, omega arith, at, off)
+
+pub least_same : (b : List ℕ) (k n : ℕ) (between : Option ℕ) → IsLeast b k n between
+    → ((relocation_at b k n).r_address % 8 == 0) ≡ true → IsLeast b k (n + 1) between
+least_same b k n None least zero = λ bound. none_more b k n bound (least bound) (λ lt. zero)
+least_same b k n (Some address) least zero = (
+  between_later b k n address least.0,
+  none_more b k n address least.1 (λ lt. zero),
+)
+
+pub least_kept : (b : List ℕ) (k n before : ℕ) → IsLeast b k n (Some before) → before ≤ (relocation_at b k n).r_address
+    → IsLeast b k (n + 1) (Some before)
+least_kept b k n before least le = (
+  between_later b k n before least.0,
+  none_more b k n before least.1 (λ lt. absurd (omega (arith, le, lt))),
+)
+
+none_lower : (b : List ℕ) (k n high low : ℕ) → low ≤ high → NoneBelow b k n high → NoneBelow b k n low
+none_lower b k n high low le none = λ r lt below. none r lt (omega (arith, le, below))
+
+pub least_new : (b : List ℕ) (k n address : ℕ) (between : Option ℕ) → IsLeast b k n between → address ≡ (relocation_at b k n).r_address
+    → ((address % 8 == 0) ≡ false) → ((before : ℕ) → between ≡ Some before → address ≤ before) → IsLeast b k (n + 1) (Some address)
+least_new b k n address None least is off lesser = (
+  (n, omega arith, is, off),
+  none_more b k n address (least address) (λ lt. absurd (omega (arith, is, lt))),
+)
+least_new b k n address (Some before) least is off lesser = (
+  (n, omega arith, is, off),
+  none_more b k n address (none_lower b k n before address (lesser before refl) least.1) (λ lt. absurd (omega (arith, is, lt))),
+)
+
+-- below a bound
+pub none_at_all : (b : List ℕ) (k n bound : ℕ) (between : Option ℕ) → IsLeast b k n between → between ≡ None → NoneBelow b k n bound
+none_at_all b k n bound None least is = least bound
+none_at_all b k n bound (Some address) least is = cc
+
+pub none_so_low : (b : List ℕ) (k n bound address : ℕ) (between : Option ℕ) → IsLeast b k n between → between ≡ Some address
+    → bound ≤ address → NoneBelow b k n bound
+none_so_low b k n bound address None least is le = cc
+none_so_low b k n bound address (Some a) least is le =
+    let same : a ≡ address = cc in
+    none_lower b k n a bound (omega (arith, le, same)) least.1
+
+pub one_so_low : (b : List ℕ) (k n address : ℕ) (between : Option ℕ) → IsLeast b k n between → between ≡ Some address
+    → IsBetween b k n address
+one_so_low b k n address None least is = cc
+one_so_low b k n address (Some a) least is = let same : a ≡ address = cc in subst (IsBetween b k n) same least.0
+
+-- what is got of a relocation
 pub told : (b : List ℕ) (k r n : ℕ) (x : RelocationInfo) → Some x ≡ (if nat_lt r n then Some (relocation_at b k r) else None)
     → x ≡ relocation_at b k r
 told b k r n x e = by (nat_lt r n) e
@@ -96,23 +142,3 @@ told b k r n x e = by (nat_lt r n) e
     by : (t : Bool) → Some x ≡ (if t then Some (relocation_at b k r) else None) → x ≡ relocation_at b k r
     by true e = cc
     by false e = cc
-
-pub taken : (cells : List (Option ℕ)) (i : ℕ) (now : Option ℕ) → i < length cells → now ≡ get_or cells i now → true ≡ is_some now
-    → (q : ℕ) × (get_or cells i None ≡ Some q)
-taken cells i None lt at some = cc
-taken cells i (Some q) lt at some = (q, get_or_default cells i None (Some q) lt ∙ sym at)
-
-pub untaken : (cells : List (Option ℕ)) (i : ℕ) (now : Option ℕ) → i < length cells → now ≡ get_or cells i now → false ≡ is_some now
-    → get_or cells i None ≡ None
-untaken cells i None lt at some = sym at
-untaken cells i (Some q) lt at some = cc
-
--- a relocation of the section lies in the table
-pub within_cells : (b : List ℕ) (k r n place : ℕ) (cells : List (Option ℕ)) → IsTable b k n cells → HasPlace (relocation_at b k r) place
-    → field_inside b k r ≡ true → (8 * place + 8 ≤ (section_at b k).size) × (place < length cells)
-within_cells b k r n place cells table has inside =
-    let eight : (relocation_at b k r).r_length ≡ 3 = plain_length (relocation_at b k r) has.fit in
-    let le : (relocation_at b k r).r_address + 2 ^ (relocation_at b k r).r_length ≤ (section_at b k).size = grind
-    (arith, nat_tests, inside) in
-    let power : 2 ^ (relocation_at b k r).r_length ≡ 8 = ap (λ n. 2 ^ n) eight in
-    (omega (arith, le, power, has.at), omega (arith, le, power, has.at, table.long))

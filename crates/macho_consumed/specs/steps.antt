@@ -2,10 +2,10 @@
 -- `is_of_kind` cites one, which is handed to the code of `macho_reading`.
 pub mod Alone
 pub mod Places
+pub mod Checked
 pub mod Slots
 pub mod Sections
 pub mod Entries
 pub mod Listed
 pub mod Gathered
-pub mod Checked
 pub mod Inputs

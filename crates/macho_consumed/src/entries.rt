@@ -7,24 +7,29 @@
 //! 16   personality   a pointer to a symbol
 //! 24   lsda          a pointer to language data, by the number of its section
 //! ```
-ghost use Rattle.std.specs.Prelude.{◌≡◌, ℕ, List, ◌+◌, ◌-◌, ◌*◌, ◌/◌, ◌%◌, ◌^◌, ◌<◌, ◌≤◌, ◌++◌, true, false, if◌then◌else◌, Some, None, length, MatchOption, IfOk, IfErr, OnOk, option_to_list};
+ghost use Rattle.std.specs.Prelude.{◌≡◌, ℕ, List, ◌+◌, ◌-◌, ◌*◌, ◌/◌, ◌%◌, ◌^◌, ◌<◌, ◌≤◌, ◌++◌, true, false, not, if◌then◌else◌, Some, None, length, IfOk, IfErr, OnOk};
 ghost use Rattle.macho_records.specs.Sections.{is_zerofill};
 ghost use Rattle.macho_consumed.specs.declared.fault.ConsumedFault.TheVariants as ConsumedFault;
-ghost use Rattle.macho_consumed.specs.declared.places.PlaceFault.TheVariants as PlaceFault;
-ghost use Rattle.macho_consumed.specs.steps.Places.{IsTable, IsPlaceFault};
+ghost use Rattle.macho_model.specs.declared.rules.UnwindRule.TheVariants as UnwindRule;
+ghost use Rattle.macho_consumed.specs.steps.Places.{IsTable, NoneBelow};
 ghost use Rattle.std.specs.Option.{option_map};
 ghost use Rattle.macho_model.specs.Objects.{num_sections, section_at, relocation_at};
-ghost use Rattle.macho_model.specs.Consumed.{holds_functions};
+ghost use Rattle.macho_model.specs.Consumed.{holds_functions, whole_entries};
 ghost use Rattle.macho_consumed.specs.steps.Alone.{alone, own};
-ghost use Rattle.macho_consumed.specs.steps.Entries.{IsCell, HasCells, EntryFits, EntryBreaks, PersonalityFound, PersonalityBreaks, read_entry, row_in, rows_in, IsReadable, SectionKeeps, SectionBreaksRule, IsBadUnwind, lies_from, named, NamesSection, MayName, StartFound, StartBreaks, DataFound, DataBreaks, is_clear};
+ghost use Rattle.macho_symbols.specs.Kept.{ResolvedRows};
+ghost use Rattle.macho_consumed.specs.steps.Checked.{AreNamed, LeadsSomewhere};
+ghost use Rattle.macho_consumed.specs.steps.Slots.{ExternsExist};
+ghost use Rattle.macho_consumed.specs.steps.Entries.{IsPointer, IsAddress, IsPointerAt, PointersBreak, HasPointers, EntryFits, EntryBreaks, PersonalityFound, PersonalityBreaks, read_entry, row_in, rows_in, IsReadable, SectionKeeps, SectionBreaksRule, IsBadUnwind, lies_from, named, NamesSection, MayName, StartFound, StartBreaks, DataFound, DataBreaks, is_clear};
 
 use crate::fault::ConsumedFault;
-use crate::places::PlaceFault;
+use crate::places::{Cell, is_plain_pointer};
 use crate::rows::{PersonalityUse, SectionPlace, UnwindEntry};
 use crate::section::{Section, section_of};
+use crate::targets::leads_somewhere;
 use macho_model::UnwindRule;
 use macho_object::{File, is_carried};
 use macho_records::{RelocationInfo, SectionHeader, UnwindInfoEntry, name_bytes};
+use macho_symbols::Resolved;
 use std::alloc::Global;
 
 /// How far an address of the input lies behind the start of a section that holds it, with so many bytes from it on.
@@ -135,32 +140,44 @@ impl Section<'_, '_> {
 }
 
 impl Section<'_, '_> {
-    /// The relocation that a cell tells.
-    fn relocation_in(&self, cell: Option<u32>) -> Option<RelocationInfo>
-        requires { IsCell self.now.bytes self.now.section cell }
-        ensures is { result ≡ option_map (relocation_at self.now.bytes self.now.section) cell }
+    /// The relocation with a number, if there is one.
+    fn relocation_in(&self, number: Option<u32>) -> Option<RelocationInfo>
+        requires { IsPointer self.now.bytes self.now.section number }
+        ensures is { result ≡ option_map (relocation_at self.now.bytes self.now.section) number }
         ensures names { MayName self.now.bytes result }
     {
-        match cell {
+        match number {
             Some(number) => Some(self.relocation(number)),
             None => None,
         }
     }
 
-    /// The personality function of an entry, by the relocation of that address.
-    fn personality(&self, cell: Option<u32>) -> Result<Option<PersonalityUse>, UnwindRule>
-        requires { IsCell self.now.bytes self.now.section cell }
-        ensures done { IfOk result (PersonalityFound self.now.bytes self.now.section cell) }
-        ensures why { IfErr result (PersonalityBreaks self.now.bytes self.now.section cell) }
+    /// The personality function of an entry, by the number of that address's relocation.
+    fn personality(
+        &self,
+        symbols: &Resolved,
+        file: u32,
+        number: Option<u32>,
+    ) -> Result<Option<PersonalityUse>, UnwindRule>
+        requires pointer { IsPointer self.now.bytes self.now.section number }
+        requires exist { ExternsExist self.now.bytes self.now.section }
+        requires named { AreNamed symbols.now file self.now.bytes }
+        ensures done { IfOk result (PersonalityFound self.now.bytes self.now.section number) }
+        ensures leads { IfOk result (λ told. LeadsSomewhere symbols.now file told true) }
+        ensures why { IfErr result (PersonalityBreaks symbols.now self.now.bytes file self.now.section number) }
     {
-        let Some(number) = cell else {
+        let Some(number) = number else {
             return Ok(None);
         };
         let relocation = self.relocation(number);
         if !relocation.r_extern {
             return Err(UnwindRule::U7);
         }
-        Ok(Some(PersonalityUse { number, relocation }))
+        let used = PersonalityUse { number, relocation };
+        if !leads_somewhere(symbols, file, used) {
+            return Err(UnwindRule::U7);
+        }
+        Ok(Some(used))
     }
 
     /// The words of an entry.
@@ -176,46 +193,76 @@ impl Section<'_, '_> {
     }
 }
 
-/// The four cells of an entry in the table of places.
+/// The relocations of the three addresses of an entry, by their numbers.
 #[derive(Clone, Copy)]
-struct Cells {
+pub(crate) struct Pointers {
     start: Option<u32>,
-    between: Option<u32>,
     personality: Option<u32>,
     lsda: Option<u32>,
 }
 
-/// The cells of an entry.
-fn cells_of(places: &[Option<u32>], entry: u32) -> Cells
-    requires { 4 * entry + 4 ≤ length places.now }
-    ensures { (b : List ℕ) (k : ℕ) → IsTable b k (section_at b k).nreloc places.now → HasCells b k entry result.start result.between result.personality result.lsda }
-{
-    let at = 4 * entry as usize;
-    Cells {
-        start: places[at],
-        between: places[at + 1],
-        personality: places[at + 2],
-        lsda: places[at + 3],
-    }
-}
-
 impl Section<'_, '_> {
-    /// An entry, by the words and the relocations that it has.
-    fn entry(&self, file: u32, entry: u32, cells: Cells) -> Result<UnwindEntry, UnwindRule>
-        requires bytes { is_zerofill (section_at self.now.bytes self.now.section) ≡ false }
-        requires within { 32 * entry + 32 ≤ (section_at self.now.bytes self.now.section).size }
-        requires cells { HasCells self.now.bytes self.now.section entry cells.start cells.between cells.personality cells.lsda }
-        ensures done { IfOk result (λ row. row ≡ row_in self.now.bytes file self.now.section entry) }
-        ensures found { OnOk result (EntryFits self.now.bytes self.now.section entry) }
-        ensures why { IfErr result (EntryBreaks self.now.bytes self.now.section entry) }
+    /// The relocation of an address of an entry, in units of 8 bytes: a plain pointer, or none.
+    fn pointer(&self, places: &[Cell], entry: u32, at: usize) -> Result<Option<u32>, UnwindRule>
+        requires table { IsTable self.now.bytes self.now.section (section_at self.now.bytes self.now.section).nreloc places.now }
+        requires within { 4 * entry + 4 ≤ length places.now }
+        requires address { IsAddress (8 * at) }
+        ensures done { IfOk result (IsPointerAt self.now.bytes self.now.section entry (8 * at)) }
+        ensures why { IfErr result (PointersBreak self.now.bytes self.now.section entry) }
     {
-        if cells.between.is_some() {
+        match places[4 * entry as usize + at] {
+            Cell::Empty => Ok(None),
+            Cell::One(number) => {
+                if !is_plain_pointer(self.relocation(number)) {
+                    return Err(UnwindRule::U2);
+                }
+                Ok(Some(number))
+            }
+            Cell::Several => Err(UnwindRule::U3),
+        }
+    }
+
+    /// The relocations of an entry, of which none stands elsewhere than at the three addresses.
+    fn pointers(&self, places: &[Cell], entry: u32) -> Result<Pointers, UnwindRule>
+        requires table { IsTable self.now.bytes self.now.section (section_at self.now.bytes self.now.section).nreloc places.now }
+        requires within { 4 * entry + 4 ≤ length places.now }
+        ensures done { IfOk result (λ p. HasPointers self.now.bytes self.now.section entry p.start p.personality p.lsda) }
+        ensures why { IfErr result (PointersBreak self.now.bytes self.now.section entry) }
+    {
+        if !places[4 * entry as usize + 1].is_empty() {
             return Err(UnwindRule::U2);
         }
+        Ok(Pointers {
+            start: self.pointer(places, entry, 0)?,
+            personality: self.pointer(places, entry, 2)?,
+            lsda: self.pointer(places, entry, 3)?,
+        })
+    }
+
+    /// An entry, by the words and the relocations that it has.
+    fn entry(
+        &self,
+        symbols: &Resolved,
+        file: u32,
+        entry: u32,
+        places: &[Cell],
+    ) -> Result<UnwindEntry, UnwindRule>
+        requires bytes { is_zerofill (section_at self.now.bytes self.now.section) ≡ false }
+        requires within { 32 * entry + 32 ≤ (section_at self.now.bytes self.now.section).size }
+        requires table { IsTable self.now.bytes self.now.section (section_at self.now.bytes self.now.section).nreloc places.now }
+        requires aligned { NoneBelow self.now.bytes self.now.section (section_at self.now.bytes self.now.section).nreloc (32 * entry + 32) }
+        requires exist { ExternsExist self.now.bytes self.now.section }
+        requires named { AreNamed symbols.now file self.now.bytes }
+        ensures done { IfOk result (λ row. row ≡ row_in self.now.bytes file self.now.section entry) }
+        ensures found { OnOk result (EntryFits self.now.bytes self.now.section entry) }
+        ensures leads { IfOk result (λ row. LeadsSomewhere symbols.now file row.personality true) }
+        ensures why { IfErr result (EntryBreaks symbols.now self.now.bytes file self.now.section entry) }
+    {
+        let pointers = self.pointers(places, entry)?;
         let words = self.words(entry);
-        let start = self.start_place(words, self.relocation_in(cells.start))?;
-        let personality = self.personality(cells.personality)?;
-        let lsda = self.data_place(words.lsda, self.relocation_in(cells.lsda))?;
+        let start = self.start_place(words, self.relocation_in(pointers.start))?;
+        let personality = self.personality(symbols, file, pointers.personality)?;
+        let lsda = self.data_place(words.lsda, self.relocation_in(pointers.lsda))?;
         if !is_clear(words, personality.is_some(), lsda.is_some()) {
             return Err(UnwindRule::U8);
         }
@@ -229,6 +276,29 @@ impl Section<'_, '_> {
             personality,
             lsda,
         })
+    }
+
+    /// Whether it has entries, and no bytes.
+    fn lacks_bytes(&self) -> bool
+        ensures none { (r : ResolvedRows) (file : ℕ) → result ≡ true → SectionBreaksRule r self.now.bytes file self.now.section 0 UnwindRule.U4 }
+        ensures some { result ≡ false → IsReadable self.now.bytes self.now.section }
+    {
+        self.header.is_no_bits() && self.header.size >= 32
+    }
+
+    /// How many whole entries it has.
+    fn num_entries(&self) -> u32
+        requires { IsReadable self.now.bytes self.now.section }
+        ensures { result ≡ (section_at self.now.bytes self.now.section).size / 32 }
+    {
+        (self.header.size / 32) as u32
+    }
+
+    /// Whether an entry is cut at its end.
+    fn is_cut(&self) -> bool
+        ensures { result ≡ not (whole_entries (alone self.now.bytes) (own self.now.section)) }
+    {
+        self.header.size % 32 != 0
     }
 }
 
@@ -244,54 +314,11 @@ fn bad_unwind(file: u32, section: u32, entry: u32, rule: UnwindRule) -> Consumed
     }
 }
 
-/// An entry with a relocation that has no place of its own.
-fn refused(file: u32, section: u32, fault: PlaceFault) -> ConsumedFault
-    ensures { (b : List ℕ) → (section_at b section).size % 32 ≡ 0 → IsPlaceFault b section fault → IsBadUnwind b file section result }
-{
-    match fault {
-        PlaceFault::Between { address } => bad_unwind(file, section, address / 32, UnwindRule::U2),
-        PlaceFault::Unfit { address } => bad_unwind(file, section, address / 32, UnwindRule::U2),
-        PlaceFault::Twice { address } => refused_twice(file, section, address),
-        PlaceFault::OutOfMemory => ConsumedFault::OutOfMemory,
-    }
-}
-
-/// An entry with two relocations at one place: at 8 no relocation may stand.
-fn refused_twice(file: u32, section: u32, address: u32) -> ConsumedFault
-    ensures { (b : List ℕ) → (section_at b section).size % 32 ≡ 0 → IsPlaceFault b section (PlaceFault.Twice address) → IsBadUnwind b file section result }
-{
-    if address % 32 == 8 {
-        return bad_unwind(file, section, address / 32, UnwindRule::U2);
-    }
-    bad_unwind(file, section, address / 32, UnwindRule::U3)
-}
-
-impl Section<'_, '_> {
-    /// Why it can't be read entry by entry: it is cut, or has no bytes.
-    fn broken(&self) -> Option<(u32, UnwindRule)>
-        ensures { MatchOption result (IsReadable self.now.bytes self.now.section) (λ x. SectionBreaksRule self.now.bytes self.now.section x.0 x.1) }
-    {
-        if self.header.is_no_bits() && self.header.size >= 32 {
-            return Some((0, UnwindRule::U4));
-        }
-        if self.header.size % 32 != 0 {
-            return Some(((self.header.size / 32) as u32, UnwindRule::U1));
-        }
-        None
-    }
-
-    /// How many entries it has.
-    fn num_entries(&self) -> u32
-        requires { IsReadable self.now.bytes self.now.section }
-        ensures { result ≡ (section_at self.now.bytes self.now.section).size / 32 }
-    {
-        (self.header.size / 32) as u32
-    }
-}
-
-/// Adds the entries of a section.
+/// Adds the entries of a section, entry by entry: whether a relocation stands between places, then what the entry says. Whether the
+/// last one is cut is looked at behind them.
 pub(crate) fn add_entries(
     alloc: Global,
+    symbols: &Resolved,
     file: &File<'_>,
     number: u32,
     section: u32,
@@ -299,24 +326,27 @@ pub(crate) fn add_entries(
 ) -> Result<(), ConsumedFault>
     requires kind { file.now.is_dynamic ≡ false }
     requires among { section < num_sections file.now.bytes }
+    requires named { AreNamed symbols.now number file.now.bytes }
     ensures added { OnOk result (rows.new.items ≡ rows.old.items ++ rows_in file.now.bytes number section ((section_at file.now.bytes section).size / 32)) }
-    ensures found { OnOk result (SectionKeeps file.now.bytes section) }
-    ensures why { IfErr result (IsBadUnwind file.now.bytes number section) }
+    ensures found { OnOk result (SectionKeeps symbols.now file.now.bytes number section) }
+    ensures why { IfErr result (IsBadUnwind symbols.now file.now.bytes number section) }
 {
     let source = section_of(file, section);
-    if let Some((entry, rule)) = source.broken() {
-        return Err(bad_unwind(number, section, entry, rule));
+    if source.lacks_bytes() {
+        return Err(bad_unwind(number, section, 0, UnwindRule::U4));
     }
-    let places = match source.places(alloc) {
-        Ok(places) => places,
-        Err(fault) => return Err(refused(number, section, fault)),
-    };
+    let places = source.places(alloc)?;
     for entry in 0..source.num_entries() {
-        let cells = cells_of(&places, entry);
-        match source.entry(number, entry, cells) {
+        if let Some(address) = places.between_below(32 * (u64::from(entry) + 1)) {
+            return Err(bad_unwind(number, section, address / 32, UnwindRule::U2));
+        }
+        match source.entry(symbols, number, entry, &places.cells) {
             Ok(row) => rows.push(row)?,
             Err(rule) => return Err(bad_unwind(number, section, entry, rule)),
         }
+    }
+    if source.is_cut() {
+        return Err(bad_unwind(number, section, source.num_entries(), UnwindRule::U1));
     }
     Ok(())
 }

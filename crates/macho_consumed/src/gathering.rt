@@ -1,7 +1,7 @@
 //! Initializers and unwind entries of all objects.
-ghost use Rattle.std.specs.Prelude.{◌≡◌, ℕ, ◌^◌, ◌<◌, false, length, get_or, None, Some, All, IfOk, IfErr, OnOk};
+ghost use Rattle.std.specs.Prelude.{◌≡◌, All, IfOk, IfErr, OnOk};
 ghost use Rattle.std.specs.List.{flat_map};
-ghost use Rattle.macho_object.specs.Views.{FileBytes};
+ghost use Rattle.macho_consumed.specs.Views.{AreKept};
 ghost use Rattle.macho_consumed.specs.declared.listing.Kind.TheVariants as Kind;
 ghost use Rattle.macho_consumed.specs.steps.Gathered.{all_of, initializers_at, FitsAt, IsBadAt, entries_at, KeepsAt, IsBadRuleAt};
 
@@ -11,18 +11,19 @@ use crate::listing::{Kind, sections};
 use crate::rows::{Initializer, UnwindEntry};
 use crate::slots::add_initializers;
 use macho_object::{File, view_of};
+use macho_symbols::Resolved;
 use std::alloc::Global;
 
 /// The initializers of all sections, by file, section and slot.
 pub(crate) fn gather_initializers(
     alloc: Global,
     files: &[Option<File<'_>>],
+    symbols: &Resolved,
 ) -> Result<Vec<Initializer>, ConsumedFault>
-    requires few { length files.now < 2 ^ 32 }
-    requires objects { (k : ℕ) (f : FileBytes) → k < length files.now → get_or files.now k None ≡ Some f → f.is_dynamic ≡ false }
+    requires { AreKept files.now symbols.now.files }
     ensures rows { IfOk result (λ v. v.items ≡ flat_map (initializers_at files.now) (all_of Kind.Initializers files.now)) }
-    ensures found { OnOk result (All (FitsAt files.now) (all_of Kind.Initializers files.now)) }
-    ensures why { IfErr result (IsBadAt files.now) }
+    ensures found { OnOk result (All (FitsAt symbols.now files.now) (all_of Kind.Initializers files.now)) }
+    ensures why { IfErr result (IsBadAt symbols.now files.now) }
 {
     let mut rows = Vec::new(alloc);
     let refs = sections(alloc, files, Kind::Initializers)?;
@@ -30,7 +31,7 @@ pub(crate) fn gather_initializers(
         let Some(file) = view_of(files, at.file) else {
             unreachable!()
         };
-        match add_initializers(alloc, file, at.file, at.section, &mut rows) {
+        match add_initializers(alloc, symbols, file, at.file, at.section, &mut rows) {
             Ok(()) => {}
             Err(fault) => return Err(fault),
         }
@@ -42,12 +43,12 @@ pub(crate) fn gather_initializers(
 pub(crate) fn gather_entries(
     alloc: Global,
     files: &[Option<File<'_>>],
+    symbols: &Resolved,
 ) -> Result<Vec<UnwindEntry>, ConsumedFault>
-    requires few { length files.now < 2 ^ 32 }
-    requires objects { (k : ℕ) (f : FileBytes) → k < length files.now → get_or files.now k None ≡ Some f → f.is_dynamic ≡ false }
+    requires { AreKept files.now symbols.now.files }
     ensures rows { IfOk result (λ v. v.items ≡ flat_map (entries_at files.now) (all_of Kind.Entries files.now)) }
-    ensures found { OnOk result (All (KeepsAt files.now) (all_of Kind.Entries files.now)) }
-    ensures why { IfErr result (IsBadRuleAt files.now) }
+    ensures found { OnOk result (All (KeepsAt symbols.now files.now) (all_of Kind.Entries files.now)) }
+    ensures why { IfErr result (IsBadRuleAt symbols.now files.now) }
 {
     let mut rows = Vec::new(alloc);
     let refs = sections(alloc, files, Kind::Entries)?;
@@ -55,7 +56,7 @@ pub(crate) fn gather_entries(
         let Some(file) = view_of(files, at.file) else {
             unreachable!()
         };
-        match add_entries(alloc, file, at.file, at.section, &mut rows) {
+        match add_entries(alloc, symbols, file, at.file, at.section, &mut rows) {
             Ok(()) => {}
             Err(fault) => return Err(fault),
         }

@@ -11,7 +11,6 @@
 //! ```
 #![tactic(auto)]
 
-mod checks;
 mod entries;
 mod fault;
 mod gathering;
@@ -24,6 +23,7 @@ mod rows;
 mod section;
 mod slots;
 mod starts;
+mod targets;
 
 pub use fault::ConsumedFault;
 pub use laws::{initializers_are_rows, rows_are_used};

@@ -1,33 +1,59 @@
 //! The relocations of a consumed section, by place. Each is a plain pointer of 8 bytes at a multiple of 8 with a place of its own.
-ghost use Rattle.std.specs.Prelude.{◌≡◌, ℕ, ◌+◌, ◌/◌, ◌<◌, true, None, replicate, IfOk, IfErr};
-ghost use Rattle.macho_model.specs.Objects.{section_at};
-ghost use Rattle.macho_model.specs.ObjectRules.{field_inside};
+//!
+//! The table can be made of any section, so that whoever goes through it tells the first place that is broken.
+ghost use Rattle.std.specs.Prelude.{◌≡◌, ◌≢◌, true, false, ℕ, List, ◌+◌, ◌/◌, ◌<◌, ◌++◌, ◌∷◌, [], replicate, MatchOption, IfOk};
+ghost use Rattle.macho_model.specs.Objects.{section_at, relocation_at};
 ghost use Rattle.macho_model.specs.Consumed.{is_plain_pointer};
-ghost use Rattle.macho_consumed.specs.declared.places.PlaceFault.TheVariants.{OutOfMemory};
-ghost use Rattle.macho_consumed.specs.steps.Places.{IsTable, IsPlaceFault, HasPlace, IsUnplaced};
+ghost use Rattle.macho_consumed.specs.declared.places.Cell.TheVariants as Cell;
+ghost use Rattle.macho_consumed.specs.steps.Places.{CellTells, IsTable, IsLeast, IsBetween, NoneBelow, ArePlaces};
 
 use macho_object::RelocationList;
 use macho_records::{ARM64_RELOC_UNSIGNED, RelocationInfo};
 use std::alloc::{AllocError, Global};
 
-/// Why relocations have no places of their own. Each is told by its offset in the section.
-#[derive(Clone, Copy, Drop)]
-pub(crate) enum PlaceFault {
-    /// One stands at no multiple of 8.
-    Between { address: u32 },
-    /// One at a multiple of 8 is no plain pointer.
-    Unfit { address: u32 },
-    /// Two stand at one place.
-    Twice { address: u32 },
-    /// There is not enough memory.
-    OutOfMemory,
+/// What stands at a place.
+#[derive(Clone, Copy)]
+pub(crate) enum Cell {
+    /// Nothing.
+    Empty,
+    /// One relocation, by its number.
+    One(u32),
+    /// Several.
+    Several,
 }
 
-impl From<AllocError> for PlaceFault {
-    ghost from_gives = { λ _ fault. fault ≡ OutOfMemory };
+impl Cell {
+    /// Whether nothing stands there.
+    pub(crate) fn is_empty(self) -> bool
+        ensures empty { result ≡ true → self ≡ Cell.Empty }
+        ensures some { result ≡ false → self ≢ Cell.Empty }
+    {
+        match self {
+            Cell::Empty => true,
+            Cell::One(_) | Cell::Several => false,
+        }
+    }
+}
 
-    fn from(_error: AllocError) -> PlaceFault {
-        PlaceFault::OutOfMemory
+/// The relocations of a section, by place.
+#[derive(Drop)]
+pub(crate) struct Places {
+    /// What stands at each multiple of 8, in units of 8 bytes.
+    pub(crate) cells: Vec<Cell>,
+    /// The least address of one that stands at no multiple of 8.
+    pub(crate) between: Option<u32>,
+}
+
+impl Places {
+    /// The least address of a relocation that stands at no multiple of 8, if it is below a bound.
+    pub(crate) fn between_below(&self, bound: u64) -> Option<u32>
+        ensures { (b : List ℕ) (k : ℕ) → ArePlaces b k self.now
+            → MatchOption result (NoneBelow b k (section_at b k).nreloc bound) (λ a. IsBetween b k (section_at b k).nreloc a × (a < bound)) }
+    {
+        match self.between {
+            Some(address) if u64::from(address) < bound => Some(address),
+            Some(_) | None => None,
+        }
     }
 }
 
@@ -38,56 +64,72 @@ pub fn is_plain_pointer(relocation: RelocationInfo) -> bool
     relocation.r_type == ARM64_RELOC_UNSIGNED && relocation.r_length == 3 && !relocation.r_pcrel
 }
 
-/// The place of a relocation, in units of 8 bytes.
-fn place_of(relocation: RelocationInfo) -> Result<usize, PlaceFault>
-    ensures done { IfOk result (HasPlace relocation) }
-    ensures why { IfErr result (IsUnplaced relocation) }
+/// A cell with a relocation more.
+fn with(cell: Cell, number: u32) -> Cell
+    ensures { (xs : List ℕ) → CellTells xs cell → CellTells (xs ++ number ∷ []) result }
 {
-    let address = relocation.r_address;
+    match cell {
+        Cell::Empty => Cell::One(number),
+        Cell::One(_) | Cell::Several => Cell::Several,
+    }
+}
+
+/// The least address that is no multiple of 8, with an address more.
+fn least(between: Option<u32>, address: u32) -> Option<u32>
+    ensures { (b : List ℕ) (k n : ℕ) → IsLeast b k n between → address ≡ (relocation_at b k n).r_address → IsLeast b k (n + 1) result }
+{
+    if address % 8 == 0 {
+        return between;
+    }
+    match between {
+        Some(before) if before <= address => Some(before),
+        Some(_) | None => Some(address),
+    }
+}
+
+/// Notes a relocation at its place, if it has one.
+fn note(cells: &mut Vec<Cell>, address: u32, number: u32)
+    ensures { (b : List ℕ) (k : ℕ) → IsTable b k number cells.old.items → address ≡ (relocation_at b k number).r_address
+        → IsTable b k (number + 1) cells.new.items }
+{
     if address % 8 != 0 {
-        return Err(PlaceFault::Between { address });
+        return;
     }
-    if !is_plain_pointer(relocation) {
-        return Err(PlaceFault::Unfit { address });
+    let place = address as usize / 8;
+    if place >= cells.len() {
+        return;
     }
-    Ok(address as usize / 8)
+    cells[place] = with(cells[place], number);
 }
 
 /// So many places without a relocation.
-fn empty_places(alloc: Global, count: usize) -> Result<Vec<Option<u32>>, AllocError>
-    ensures { IfOk result (λ v. v.items ≡ replicate count None) }
+fn empty_places(alloc: Global, count: usize) -> Result<Vec<Cell>, AllocError>
+    ensures { IfOk result (λ v. v.items ≡ replicate count Cell.Empty) }
 {
     let mut cells = Vec::with_capacity(alloc, count)?;
     for place in 0..count {
-        cells.push(None)?;
+        cells.push(Cell::Empty)?;
     }
     Ok(cells)
 }
 
-/// The number of the relocation at each place, in units of 8 bytes.
+/// The relocations of a section of so many bytes.
 pub(crate) fn by_place(
     alloc: Global,
     relocations: &RelocationList<'_>,
     size: u64,
-) -> Result<Vec<Option<u32>>, PlaceFault>
+) -> Result<Places, AllocError>
     requires size { size ≡ (section_at relocations.now.bytes relocations.now.section).size }
-    requires inside { (r : ℕ) → r < (section_at relocations.now.bytes relocations.now.section).nreloc
-        → field_inside relocations.now.bytes relocations.now.section r ≡ true }
-    ensures done { IfOk result (λ v. IsTable relocations.now.bytes relocations.now.section (section_at relocations.now.bytes relocations.now.section).nreloc v.items) }
-    ensures why { IfErr result (IsPlaceFault relocations.now.bytes relocations.now.section) }
+    ensures { IfOk result (ArePlaces relocations.now.bytes relocations.now.section) }
 {
     let mut cells = empty_places(alloc, (size / 8) as usize)?;
+    let mut between = None;
     for index in 0..relocations.num_relocations() {
         let Some(relocation) = relocations.get(index) else {
             unreachable!()
         };
-        let place = place_of(relocation)?;
-        if cells[place].is_some() {
-            return Err(PlaceFault::Twice {
-                address: relocation.r_address,
-            });
-        }
-        cells[place] = Some(index);
+        note(&mut cells, relocation.r_address, index);
+        between = least(between, relocation.r_address);
     }
-    Ok(cells)
+    Ok(Places { cells, between })
 }

@@ -6,7 +6,6 @@ ghost use Rattle.macho_consumed.specs.Views.{AreViews, AreKept};
 ghost use Rattle.macho_consumed.specs.Rows.{initializer_rows, entry_rows};
 ghost use Rattle.macho_consumed.specs.Told.{IsStanding, InitializersKeepRules, EntriesKeepRules};
 
-use crate::checks::{check_initializers, check_personalities};
 use crate::fault::ConsumedFault;
 use crate::gathering::{gather_entries, gather_initializers};
 use crate::rows::{Initializer, UnwindEntry};
@@ -31,12 +30,8 @@ pub fn read_initializers(
     ensures keeps { (l : Link) (noted : List (List ℕ)) → AreViews l files.now → IsResolved l noted symbols.now → OnOk result (InitializersKeepRules l) }
     ensures why { (l : Link) (noted : List (List ℕ)) → AreViews l files.now → IsResolved l noted symbols.now → IfErr result (IsStanding l) }
 {
-    let rows = match gather_initializers(alloc, files) {
-        Ok(rows) => rows,
-        Err(fault) => return Err(fault),
-    };
-    match check_initializers(symbols, &rows) {
-        Ok(()) => Ok(rows),
+    match gather_initializers(alloc, files, symbols) {
+        Ok(rows) => Ok(rows),
         Err(fault) => Err(fault),
     }
 }
@@ -57,14 +52,10 @@ pub fn read_entries(
     ensures keeps { (l : Link) (noted : List (List ℕ)) → AreViews l files.now → IsResolved l noted symbols.now → OnOk result (EntriesKeepRules l) }
     ensures why { (l : Link) (noted : List (List ℕ)) → AreViews l files.now → IsResolved l noted symbols.now → IfErr result (IsStanding l) }
 {
-    let rows = match gather_entries(alloc, files) {
+    let rows = match gather_entries(alloc, files, symbols) {
         Ok(rows) => rows,
         Err(fault) => return Err(fault),
     };
-    match check_personalities(symbols, &rows) {
-        Ok(()) => {}
-        Err(fault) => return Err(fault),
-    }
     match check_starts(alloc, &rows) {
         Ok(()) => Ok(rows),
         Err(fault) => Err(fault),

@@ -1,15 +1,15 @@
 //! A section of an object, with what is read of it.
-ghost use Rattle.std.specs.Prelude.{◌≡◌, ℕ, ◌<◌, true, false, IfOk, IfErr};
+ghost use Rattle.std.specs.Prelude.{◌≡◌, ℕ, ◌<◌, true, false, IfOk};
 ghost use Rattle.macho_model.specs.Objects.{num_sections, section_at, relocation_at};
 ghost use Rattle.macho_model.specs.Consumed.{is_plain_pointer};
-ghost use Rattle.macho_consumed.specs.steps.Places.{IsTable, IsPlaceFault};
+ghost use Rattle.macho_consumed.specs.steps.Places.{ArePlaces};
 ghost use Rattle.macho_consumed.specs.steps.Entries.{NamesSection};
-ghost use Rattle.macho_consumed.specs.steps.Slots.{ExternsExist};
+ghost use Rattle.macho_consumed.specs.steps.Slots.{ExternsExist, AreInside};
 
-use crate::places::{PlaceFault, by_place};
+use crate::places::{Places, by_place};
 use macho_object::{File, RelocationList};
 use macho_records::{RelocationInfo, SectionHeader};
-use std::alloc::Global;
+use std::alloc::{AllocError, Global};
 use std::marker::Model;
 
 /// A section of an object.
@@ -35,10 +35,9 @@ impl<'view, 'data> Model for Section<'view, 'data> {
 }
 
 impl Section<'_, '_> {
-    /// The number of the relocation at each place, in units of 8 bytes.
-    pub(crate) fn places(&self, alloc: Global) -> Result<Vec<Option<u32>>, PlaceFault>
-        ensures done { IfOk result (λ v. IsTable self.now.bytes self.now.section (section_at self.now.bytes self.now.section).nreloc v.items) }
-        ensures why { IfErr result (IsPlaceFault self.now.bytes self.now.section) }
+    /// Its relocations, by place.
+    pub(crate) fn places(&self, alloc: Global) -> Result<Places, AllocError>
+        ensures { IfOk result (ArePlaces self.now.bytes self.now.section) }
     {
         by_place(alloc, &self.relocations, self.header.size)
     }
@@ -65,6 +64,7 @@ pub(crate) fn section_of<'view, 'data>(
     requires among { index < num_sections file.now.bytes }
     ensures is { result ≡ record { bytes = file.now.bytes; section = index } }
     ensures symbols { ExternsExist file.now.bytes index }
+    ensures inside { AreInside file.now.bytes index }
 {
     let _whole = file.is_dynamic();
     let Some(header) = file.section(index) else {

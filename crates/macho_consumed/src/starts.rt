@@ -31,21 +31,27 @@ fn start_key(entry: UnwindEntry) -> StartKey
     }
 }
 
-/// Whether each entry has a start of its own. Starts are found by a hash.
+/// Whether each entry has a start of its own; of those that haven't the first is told. Starts are found by a hash, from the last
+/// entry to the first.
 pub(crate) fn check_starts(alloc: Global, entries: &[UnwindEntry]) -> Result<(), ConsumedFault>
     ensures found { OnOk result (AllPairs (λ d e. start_key d ≢ start_key e) entries.now) }
     ensures why { IfErr result (IsAgainOrMemory entries.now) }
 {
     let mut starts = IndexSet::new(alloc);
-    for entry in entries {
-        if !starts.insert(start_key(*entry))? {
-            return Err(ConsumedFault::BadUnwind {
-                file: entry.file,
-                section: entry.section,
-                entry: entry.entry,
-                rule: UnwindRule::U6,
-            });
+    let mut again = None;
+    for index in 0..entries.len() {
+        let entry = entries[entries.len() - 1 - index];
+        if !starts.insert(start_key(entry))? {
+            again = Some(entry);
         }
     }
-    Ok(())
+    match again {
+        None => Ok(()),
+        Some(entry) => Err(ConsumedFault::BadUnwind {
+            file: entry.file,
+            section: entry.section,
+            entry: entry.entry,
+            rule: UnwindRule::U6,
+        }),
+    }
 }

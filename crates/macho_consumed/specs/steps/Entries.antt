@@ -1,6 +1,6 @@
--- The entries of a section of compact unwind information, by the bytes of its object: all that the rules ask of one entry but
--- where the symbol of its personality leads.
-use Rattle.std.specs.Prelude.{◌≡◌, ℕ, ◌+◌, ◌-◌, ◌/◌, ◌%◌, ◌^◌, ◌<◌, ◌≤◌, ◌⊎◌, ◌==◌, ◌&&◌, ◌||◌, not, nat_le, nat_lt, Bool, true, false, List, map, Option, Some, None, option_to_list}
+-- The entries of a section of compact unwind information, by the bytes of its object: what the rules ask of one entry alone, and
+-- where its personality leads.
+use Rattle.std.specs.Prelude.{◌≡◌, ℕ, ◌+◌, ◌-◌, ◌/◌, ◌%◌, ◌^◌, ◌<◌, ◌≤◌, ◌⊎◌, ◌==◌, ◌&&◌, ◌||◌, not, nat_le, nat_lt, Bool, true, false, List, [], map, Option, Some, None, Contains, option_to_list}
 use Rattle.std.specs.List.{range_with_len, list_all}
 use Rattle.macho_bytes.specs.Numbers.{bits}
 use Rattle.macho_records.specs.Sections.{is_zerofill}
@@ -19,7 +19,8 @@ use Rattle.macho_consumed.specs.declared.rows.UnwindEntry.{UnwindEntry}
 use Rattle.macho_consumed.specs.declared.fault.ConsumedFault.{ConsumedFault}
 use Rattle.macho_consumed.specs.declared.fault.ConsumedFault.TheVariants.{BadInitializer, BadUnwind, OutOfMemory}
 use Rattle.macho_consumed.specs.steps.Alone.{alone, own}
-use Rattle.macho_consumed.specs.steps.Slots.{ExternsExist}
+use Rattle.macho_symbols.specs.Kept.{ResolvedRows}
+use Rattle.macho_consumed.specs.steps.Checked.{LeadsSomewhere}
 use Rattle.macho_consumed.specs.Rows.{entry_row}
 
 -- the section that a relocation names
@@ -88,9 +89,12 @@ PersonalityFound b k None told = told ≡ None
 PersonalityFound b k (Some r) told =
     ((relocation_at b k r).r_extern ≡ true) × (told ≡ Some (record { number = r; relocation = relocation_at b k r }))
 
-abbrev pub PersonalityBreaks : List ℕ → ℕ → Option ℕ → UnwindRule → Type 0
-PersonalityBreaks b k None rule = ⊥
-PersonalityBreaks b k (Some r) rule = (rule ≡ U7) × ((relocation_at b k r).r_extern ≡ false)
+-- or it is named by a section, or leads nowhere
+abbrev pub PersonalityBreaks : ResolvedRows → List ℕ → ℕ → ℕ → Option ℕ → UnwindRule → Type 0
+PersonalityBreaks r b file k None rule = ⊥
+PersonalityBreaks r b file k (Some q) rule =
+    (rule ≡ U7) × (((relocation_at b k q).r_extern ≡ false)
+    ⊎ (((relocation_at b k q).r_extern ≡ true) × LeadsSomewhere r file (Some (record { number = q; relocation = relocation_at b k q })) false))
 
 -- what the rule of personalities and language data asks of the bytes
 abbrev pub links_fit : List ℕ → ℕ → ℕ → Bool
@@ -107,59 +111,82 @@ pub record EntryFits (b : List ℕ) (k e : ℕ) : Type 0 where
   pub links : links_fit b k e ≡ true
   pub clear : entry_is_clear (alone b) (own k) e ≡ true
 
+-- an entry's personality leads nowhere
+pub record EntryIsLost (r : ResolvedRows) (b : List ℕ) (file k e : ℕ) : Type 0 where
+  pub number : ℕ
+  pub there : Contains (at_place b k e PERSONALITY_PLACE) number
+  pub plain : is_plain_pointer (relocation_at b k number) ≡ true
+  pub extern : (relocation_at b k number).r_extern ≡ true
+  pub leads : LeadsSomewhere r file (Some (record { number = number; relocation = relocation_at b k number })) false
+
 -- or breaks one
-abbrev pub EntryBreaks : List ℕ → ℕ → ℕ → UnwindRule → Type 0
-EntryBreaks b k e U1 = ⊥
-EntryBreaks b k e U2 = each_relocation_in (alone b) (own k) e ≡ false
-EntryBreaks b k e U3 = single_relocations (alone b) (own k) e ≡ false
-EntryBreaks b k e U4 = start_fits (alone b) (own k) e ≡ false
-EntryBreaks b k e U5 = function_inside (alone b) (own k) e ≡ false
-EntryBreaks b k e U6 = ⊥
-EntryBreaks b k e U7 = links_fit b k e ≡ false
-EntryBreaks b k e U8 = entry_is_clear (alone b) (own k) e ≡ false
+abbrev pub EntryBreaks : ResolvedRows → List ℕ → ℕ → ℕ → ℕ → UnwindRule → Type 0
+EntryBreaks r b file k e U1 = ⊥
+EntryBreaks r b file k e U2 = each_relocation_in (alone b) (own k) e ≡ false
+EntryBreaks r b file k e U3 = single_relocations (alone b) (own k) e ≡ false
+EntryBreaks r b file k e U4 = start_fits (alone b) (own k) e ≡ false
+EntryBreaks r b file k e U5 = function_inside (alone b) (own k) e ≡ false
+EntryBreaks r b file k e U6 = ⊥
+EntryBreaks r b file k e U7 = (links_fit b k e ≡ false) ⊎ EntryIsLost r b file k e
+EntryBreaks r b file k e U8 = entry_is_clear (alone b) (own k) e ≡ false
 
 -- the row of an entry of a file
 abbrev pub row_in : List ℕ → ℕ → ℕ → ℕ → UnwindEntry
 row_in b file k e = record (entry_row (alone b) (record { of_section = own k; entry = e })) { file = file }
 
--- A cell of the table of places of a section: it tells a plain pointer.
-abbrev pub IsCell : List ℕ → ℕ → Option ℕ → Type 0
-IsCell b k None = Unit {0}
-IsCell b k (Some r) = (r < (section_at b k).nreloc) × (is_plain_pointer (relocation_at b k r) ≡ true)
+-- the number of a plain pointer of the section, if there is one
+abbrev pub IsPointer : List ℕ → ℕ → Option ℕ → Type 0
+IsPointer b k None = Unit {0}
+IsPointer b k (Some r) = (r < (section_at b k).nreloc) × (is_plain_pointer (relocation_at b k r) ≡ true)
 
--- The four cells of an entry.
-pub record HasCells (b : List ℕ) (k e : ℕ) (start between personality lsda : Option ℕ) : Type 0 where
-  pub start_at : at_place b k e START_PLACE ≡ option_to_list start
-  pub between_at : at_place b k e 8 ≡ option_to_list between
-  pub personality_at : at_place b k e PERSONALITY_PLACE ≡ option_to_list personality
-  pub lsda_at : at_place b k e LSDA_PLACE ≡ option_to_list lsda
-  pub fit : IsCell b k start × IsCell b k personality × IsCell b k lsda
-  pub all : (r : ℕ) → r < (section_at b k).nreloc → (is_plain_pointer (relocation_at b k r) ≡ true) × (((relocation_at b k r).r_address % 8 == 0) ≡ true)
+-- the three addresses of an entry
+abbrev pub IsAddress : ℕ → Type 0
+IsAddress place = (place ≡ START_PLACE) ⊎ (place ≡ PERSONALITY_PLACE) ⊎ (place ≡ LSDA_PLACE)
+
+-- At one stands a plain pointer, or none.
+pub record IsPointerAt (b : List ℕ) (k e place : ℕ) (found : Option ℕ) : Type 0 where
+  pub list : at_place b k e place ≡ option_to_list found
+  pub pointer : IsPointer b k found
+
+-- The three pointers of an entry.
+pub record HasPointers (b : List ℕ) (k e : ℕ) (start personality lsda : Option ℕ) : Type 0 where
+  pub start_at : IsPointerAt b k e START_PLACE start
+  pub between_at : at_place b k e 8 ≡ []
+  pub personality_at : IsPointerAt b k e PERSONALITY_PLACE personality
+  pub lsda_at : IsPointerAt b k e LSDA_PLACE lsda
+
+-- or a relocation stands where it may not, or too many do
+abbrev pub PointersBreak : List ℕ → ℕ → ℕ → UnwindRule → Type 0
+PointersBreak b k e rule =
+    ((rule ≡ U2) × (each_relocation_in (alone b) (own k) e ≡ false)) ⊎ ((rule ≡ U3) × (single_relocations (alone b) (own k) e ≡ false))
 
 -- What is told of a whole section.
 pub record EntriesFit (b : List ℕ) (k n : ℕ) : Type 0 where
   pub entries : (e : ℕ) → e < n → EntryFits b k e
 
-pub record SectionKeeps (b : List ℕ) (k : ℕ) : Type 0 where
+-- their personalities lead somewhere
+abbrev pub EntriesLead : ResolvedRows → List ℕ → ℕ → ℕ → ℕ → Type 0
+EntriesLead r b file k n = (e : ℕ) → e < n → LeadsSomewhere r file (row_in b file k e).personality true
+
+pub record SectionKeeps (r : ResolvedRows) (b : List ℕ) (file k : ℕ) : Type 0 where
   pub whole : whole_entries (alone b) (own k) ≡ true
   pub entries : EntriesFit b k ((section_at b k).size / 32)
-  pub symbols : ExternsExist b k
+  pub lead : EntriesLead r b file k ((section_at b k).size / 32)
 
 -- a section breaks a rule at an entry: a cut section at the entry that is cut
-abbrev pub SectionBreaksRule : List ℕ → ℕ → ℕ → UnwindRule → Type 0
-SectionBreaksRule b k e U1 = (e ≡ (section_at b k).size / 32) × (whole_entries (alone b) (own k) ≡ false)
-SectionBreaksRule b k e rule = (e < (section_at b k).size / 32) × EntryBreaks b k e rule
+abbrev pub SectionBreaksRule : ResolvedRows → List ℕ → ℕ → ℕ → ℕ → UnwindRule → Type 0
+SectionBreaksRule r b file k e U1 = (e ≡ (section_at b k).size / 32) × (whole_entries (alone b) (own k) ≡ false)
+SectionBreaksRule r b file k e rule = (e < (section_at b k).size / 32) × EntryBreaks r b file k e rule
 
-abbrev pub IsBadUnwind : List ℕ → ℕ → ℕ → ConsumedFault → Type 0
-IsBadUnwind b file k (BadInitializer f s offset) = ⊥
-IsBadUnwind b file k (BadUnwind f s e rule) = (f ≡ file) × (s ≡ k) × SectionBreaksRule b k e rule
-IsBadUnwind b file k OutOfMemory = Unit {0}
+abbrev pub IsBadUnwind : ResolvedRows → List ℕ → ℕ → ℕ → ConsumedFault → Type 0
+IsBadUnwind r b file k (BadInitializer f s offset) = ⊥
+IsBadUnwind r b file k (BadUnwind f s e rule) = (f ≡ file) × (s ≡ k) × SectionBreaksRule r b file k e rule
+IsBadUnwind r b file k OutOfMemory = Unit {0}
 
 unfoldable pub rows_in : List ℕ → ℕ → ℕ → ℕ → List UnwindEntry
 rows_in b file k n = map (row_in b file k) (range_with_len 0 n)
 
--- A section can be read entry by entry: it is made of whole entries, and has bytes where it has entries.
+-- A section can be read entry by entry: it has bytes where it has entries.
 pub record IsReadable (b : List ℕ) (k : ℕ) : Type 0 where
-  pub whole : (section_at b k).size % 32 ≡ 0
-  pub bytes : ((section_at b k).size ≡ 0) ⊎ (is_zerofill (section_at b k) ≡ false)
+  pub bytes : ((section_at b k).size < 32) ⊎ (is_zerofill (section_at b k) ≡ false)
   pub small : (section_at b k).size < 2 ^ 32

@@ -2,6 +2,7 @@
 use Rattle.std.specs.Prelude.{◌≡◌, ℕ, ◌/◌, ◌<◌, List, length, Contains, Option, Some, None, get_or}
 use Rattle.macho_object.specs.Views.{FileBytes}
 use Rattle.macho_model.specs.Objects.{num_sections, section_at}
+use Rattle.macho_symbols.specs.Kept.{ResolvedRows}
 use Rattle.macho_consumed.specs.declared.listing.Kind.{Kind}
 use Rattle.macho_consumed.specs.declared.listing.Kind.TheVariants.{Initializers, Entries}
 use Rattle.macho_consumed.specs.declared.listing.SectionRef.{SectionRef}
@@ -28,28 +29,28 @@ pub record IsListed (files : List (Option FileBytes)) (s : SectionRef) : Type 0 
 abbrev pub initializers_at : List (Option FileBytes) → SectionRef → List Initializer
 initializers_at files s = slot_rows (bytes_in files s.file) s.file s.section ((section_at (bytes_in files s.file) s.section).size / 8)
 
-abbrev pub FitsAt : List (Option FileBytes) → SectionRef → Type 0
-FitsAt files s = SectionFits (bytes_in files s.file) s.section
+abbrev pub FitsAt : ResolvedRows → List (Option FileBytes) → SectionRef → Type 0
+FitsAt r files s = SectionFits r (bytes_in files s.file) s.file s.section
 
-abbrev pub BreaksAt : List (Option FileBytes) → ConsumedFault → Type 0
-BreaksAt files fault = (s : SectionRef) × Contains (all_of Initializers files) s × IsBadSection (bytes_in files s.file) s.file s.section fault
+abbrev pub BreaksAt : ResolvedRows → List (Option FileBytes) → ConsumedFault → Type 0
+BreaksAt r files fault = (s : SectionRef) × Contains (all_of Initializers files) s × IsBadSection r (bytes_in files s.file) s.file s.section fault
 
-abbrev pub IsBadAt : List (Option FileBytes) → ConsumedFault → Type 0
-IsBadAt files (BadInitializer f s offset) = BreaksAt files (BadInitializer f s offset)
-IsBadAt files (BadUnwind f s e rule) = ⊥
-IsBadAt files OutOfMemory = Unit {0}
+abbrev pub IsBadAt : ResolvedRows → List (Option FileBytes) → ConsumedFault → Type 0
+IsBadAt r files (BadInitializer f s offset) = BreaksAt r files (BadInitializer f s offset)
+IsBadAt r files (BadUnwind f s e rule) = ⊥
+IsBadAt r files OutOfMemory = Unit {0}
 
 -- unwind entries
 abbrev pub entries_at : List (Option FileBytes) → SectionRef → List UnwindEntry
 entries_at files s = rows_in (bytes_in files s.file) s.file s.section ((section_at (bytes_in files s.file) s.section).size / 32)
 
-abbrev pub KeepsAt : List (Option FileBytes) → SectionRef → Type 0
-KeepsAt files s = SectionKeeps (bytes_in files s.file) s.section
+abbrev pub KeepsAt : ResolvedRows → List (Option FileBytes) → SectionRef → Type 0
+KeepsAt r files s = SectionKeeps r (bytes_in files s.file) s.file s.section
 
-abbrev pub BreaksRuleAt : List (Option FileBytes) → ConsumedFault → Type 0
-BreaksRuleAt files fault = (s : SectionRef) × Contains (all_of Entries files) s × IsBadUnwind (bytes_in files s.file) s.file s.section fault
+abbrev pub BreaksRuleAt : ResolvedRows → List (Option FileBytes) → ConsumedFault → Type 0
+BreaksRuleAt r files fault = (s : SectionRef) × Contains (all_of Entries files) s × IsBadUnwind r (bytes_in files s.file) s.file s.section fault
 
-abbrev pub IsBadRuleAt : List (Option FileBytes) → ConsumedFault → Type 0
-IsBadRuleAt files (BadInitializer f s offset) = ⊥
-IsBadRuleAt files (BadUnwind f s e rule) = BreaksRuleAt files (BadUnwind f s e rule)
-IsBadRuleAt files OutOfMemory = Unit {0}
+abbrev pub IsBadRuleAt : ResolvedRows → List (Option FileBytes) → ConsumedFault → Type 0
+IsBadRuleAt r files (BadInitializer f s offset) = ⊥
+IsBadRuleAt r files (BadUnwind f s e rule) = BreaksRuleAt r files (BadUnwind f s e rule)
+IsBadRuleAt r files OutOfMemory = Unit {0}

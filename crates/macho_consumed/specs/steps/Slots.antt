@@ -1,4 +1,4 @@
--- The slots of a section of initializers, by the bytes of its object: all that its rules ask but where the symbols lead.
+-- The slots of a section of initializers, by the bytes of its object, and where their pointers lead.
 use Rattle.std.specs.Prelude.{◌≡◌, ℕ, ◌+◌, ◌*◌, ◌/◌, ◌%◌, ◌<◌, ◌≤◌, ◌⊎◌, ◌==◌, ◌&&◌, Bool, true, false, List, [], ◌∷◌, length, map, Contains}
 use Rattle.std.specs.List.{flat_map, range_with_len}
 use Rattle.macho_bytes.specs.Numbers.{le_at}
@@ -9,7 +9,9 @@ use Rattle.macho_consumed.specs.declared.rows.Initializer.{Initializer}
 use Rattle.macho_consumed.specs.declared.fault.ConsumedFault.{ConsumedFault}
 use Rattle.macho_consumed.specs.declared.fault.ConsumedFault.TheVariants.{BadInitializer, BadUnwind, OutOfMemory}
 use Rattle.macho_consumed.specs.steps.Alone.{alone, own}
-use Rattle.macho_consumed.specs.steps.Places.{found}
+use Rattle.macho_symbols.specs.Kept.{ResolvedRows}
+use Rattle.macho_consumed.specs.steps.Places.{found, IsBetween}
+use Rattle.macho_consumed.specs.steps.Checked.{LeadsInto}
 
 -- the relocations of a slot
 abbrev pub in_slot : List ℕ → ℕ → ℕ → List ℕ
@@ -46,28 +48,43 @@ pub record SlotsFit (b : List ℕ) (k n : ℕ) : Type 0 where
 abbrev pub ExternsExist : List ℕ → ℕ → Type 0
 ExternsExist b k = (r : ℕ) → r < (section_at b k).nreloc → (relocation_at b k r).r_extern ≡ true → (relocation_at b k r).r_symbolnum < num_symbols b
 
--- A section fits.
-pub record SectionFits (b : List ℕ) (k : ℕ) : Type 0 where
-  pub section : initializer_section_fits (alone b) (own k) ≡ true
-  pub placed : (r : ℕ) → r < (section_at b k).nreloc → ((relocation_at b k r).r_address % 8 == 0) ≡ true
-  pub slots : SlotsFit b k ((section_at b k).size / 8)
-  pub symbols : ExternsExist b k
+-- and each relocation begins in the section
+abbrev pub AreInside : List ℕ → ℕ → Type 0
+AreInside b k = (r : ℕ) → r < (section_at b k).nreloc → (relocation_at b k r).r_address < (section_at b k).size
 
--- Or it is broken at an offset.
-abbrev pub SectionBreaks : List ℕ → ℕ → ℕ → Type 0
-SectionBreaks b k offset =
-    ((initializer_section_fits (alone b) (own k) ≡ false) × (offset ≡ 0))
-    ⊎ ((slot : ℕ) × (8 * slot + 8 ≤ (section_at b k).size) × (offset ≡ 8 * slot) × SlotBreaks b k slot)
-    ⊎ ((r : ℕ) × (r < (section_at b k).nreloc) × (offset ≡ (relocation_at b k r).r_address) × ((offset % 8 == 0) ≡ false))
-
-abbrev pub IsBadSection : List ℕ → ℕ → ℕ → ConsumedFault → Type 0
-IsBadSection b file k (BadInitializer f s offset) = (f ≡ file) × (s ≡ k) × SectionBreaks b k offset
-IsBadSection b file k (BadUnwind f s entry rule) = ⊥
-IsBadSection b file k OutOfMemory = Unit {0}
-
--- the rows of the slots before a number
+-- the row of a pointer of a slot
 abbrev pub row_at : List ℕ → ℕ → ℕ → ℕ → Initializer
 row_at b file k r = record { file = file; section = k; number = r; relocation = relocation_at b k r }
 
+-- The pointers of the slots before a number lead into carried sections.
+abbrev pub SlotsLead : ResolvedRows → List ℕ → ℕ → ℕ → ℕ → Type 0
+SlotsLead r b file k n = (slot : ℕ) → slot < n → (q : ℕ) → SlotFits b k slot q → LeadsInto r (row_at b file k q) true
+
+-- A section fits.
+pub record SectionFits (r : ResolvedRows) (b : List ℕ) (file k : ℕ) : Type 0 where
+  pub section : initializer_section_fits (alone b) (own k) ≡ true
+  pub placed : (q : ℕ) → q < (section_at b k).nreloc → ((relocation_at b k q).r_address % 8 == 0) ≡ true
+  pub slots : SlotsFit b k ((section_at b k).size / 8)
+  pub lead : SlotsLead r b file k ((section_at b k).size / 8)
+
+-- a slot's pointer leads elsewhere
+pub record SlotStrays (r : ResolvedRows) (b : List ℕ) (file k slot : ℕ) : Type 0 where
+  pub number : ℕ
+  pub fits : SlotFits b k slot number
+  pub leads : LeadsInto r (row_at b file k number) false
+
+-- Or it is broken at an offset.
+abbrev pub SectionBreaks : ResolvedRows → List ℕ → ℕ → ℕ → ℕ → Type 0
+SectionBreaks r b file k offset =
+    ((initializer_section_fits (alone b) (own k) ≡ false) × (offset ≡ 0))
+    ⊎ ((slot : ℕ) × (8 * slot + 8 ≤ (section_at b k).size) × (offset ≡ 8 * slot) × (SlotBreaks b k slot ⊎ SlotStrays r b file k slot))
+    ⊎ IsBetween b k (section_at b k).nreloc offset
+
+abbrev pub IsBadSection : ResolvedRows → List ℕ → ℕ → ℕ → ConsumedFault → Type 0
+IsBadSection r b file k (BadInitializer f s offset) = (f ≡ file) × (s ≡ k) × SectionBreaks r b file k offset
+IsBadSection r b file k (BadUnwind f s entry rule) = ⊥
+IsBadSection r b file k OutOfMemory = Unit {0}
+
+-- the rows of the slots before a number
 unfoldable pub slot_rows : List ℕ → ℕ → ℕ → ℕ → List Initializer
 slot_rows b file k n = flat_map (λ slot. map (row_at b file k) (in_slot b k slot)) (range_with_len 0 n)

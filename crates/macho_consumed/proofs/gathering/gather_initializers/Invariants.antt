@@ -6,5 +6,5 @@ use Rattle.macho_consumed.proofs.gathering.gather_initializers.Given as goal
 abbrev pub invariant-loop-at : goal.invariant-loop-at
 invariant-loop-at l = record {
   rows : l.rows.items ≡ flat_map (initializers_at l.files) (take l.at-index l.at-items);
-  fit : All (FitsAt l.files) (take l.at-index l.at-items);
+  fit : All (FitsAt l.symbols l.files) (take l.at-index l.at-items);
 }

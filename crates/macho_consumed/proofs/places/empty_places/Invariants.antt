@@ -1,5 +1,6 @@
-use Rattle.std.proofs.Common.{◌≡◌, None, replicate}
+use Rattle.std.proofs.Common.{◌≡◌, replicate}
+use Rattle.macho_consumed.specs.declared.places.Cell.TheVariants.{Empty}
 use Rattle.macho_consumed.proofs.places.empty_places.Given as goal
 
 abbrev pub invariant-loop-place : goal.invariant-loop-place
-invariant-loop-place l = l.cells.items ≡ replicate l.place None
+invariant-loop-place l = l.cells.items ≡ replicate l.place Empty

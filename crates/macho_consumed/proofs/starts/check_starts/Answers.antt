@@ -1,24 +1,28 @@
-use Rattle.std.proofs.Common.{◌∙◌, refl, get_or}
+use Rattle.std.proofs.Common.{◌≡◌, ◌+◌, ◌-◌, length, get_or, Some, sym, subst}
 use Rattle.macho_consumed.specs.declared.rows.UnwindEntry.{UnwindEntry}
-use Rattle.macho_consumed.proofs.Distinct.{again, keys_more, apart_more, held_of, new_of, put_new, row_here, no_row}
+use Rattle.macho_consumed.proofs.Distinct.{AreApart, AreShared, held_step, apart_step, shared_step, row_here, no_row}
+use Rattle.macho_consumed.proofs.starts.check_starts.Goals.{then-not-branch, else-not-branch}
 use Rattle.macho_consumed.proofs.starts.check_starts.Goals as goal
 
-pub returns-then-not-branch-clause-why : goal.returns-then-not-branch-clause-why
-returns-then-not-branch-clause-why c =
-    let row : UnwindEntry = get_or c.args.entries.now c.loop-entry.entry-index no_row in
-    again c.args.entries.now c.loop-entry.entry-index row c.loop-entry.starts.keys _ c.loop-entry.invariant.keys c.loop-entry-test.true
-    (row_here c.args.entries.now c.loop-entry.entry-index c.loop-entry-test.true)
-    (held_of row _ _ _ c.start_key.ensures c.in_ok-insert.ensures.added c.if-not-branch.true) refl
-
-pub loop-entry-preserved : goal.loop-entry-preserved
-loop-entry-preserved c =
-    let row : UnwindEntry = get_or c.args.entries.now c.loop-entry.entry-index no_row in
-    let new = new_of row _ _ _ c.start_key.ensures c.in_ok-insert.ensures.added c.if-not-branch.false in
-    let here = row_here c.args.entries.now c.loop-entry.entry-index c.loop-entry-test.true in
+pub loop-index-preserved : goal.loop-index-preserved
+loop-index-preserved c =
+    let rows = c.args.entries.now in
+    let i = c.loop-index.index in
+    let row : UnwindEntry = get_or rows (length rows - 1 - i) no_row in
+    let is = row_here rows i c.loop-index-test.true in
+    let held = c.loop-index.invariant.held in
+    let says = c.in_ok-insert.ensures.added in
     record {
-      keys = put_new row _ _ _ c.start_key.ensures c.in_ok-insert.ensures.keys new
-          ∙ keys_more c.args.entries.now c.loop-entry.entry-index row c.loop-entry.starts.keys c.loop-entry.invariant.keys
-          c.loop-entry-test.true here;
-      apart = apart_more c.args.entries.now c.loop-entry.entry-index row c.loop-entry.starts.keys c.loop-entry.invariant.keys
-          c.loop-entry-test.true here new c.loop-entry.invariant.apart;
+      held = held_step rows i row _ _ _ held c.loop-index-test.true is c.start_key.ensures c.in_ok-insert.ensures.keys;
+      apart = elim c.if-not-branch.branch [
+        | then-not-branch w ↦ subst (AreApart rows (length rows - (i + 1))) (sym w.again-is) tt
+        | else-not-branch w ↦ subst (AreApart rows (length rows - (i + 1))) (sym w.again-is)
+            (apart_step rows i row _ _ _ _ held c.loop-index.invariant.apart c.loop-index-test.true is c.start_key.ensures says
+            w.if-not-branch.false)
+      ];
+      shared = elim c.if-not-branch.branch [
+        | then-not-branch w ↦ subst (AreShared rows) (sym w.again-is)
+            (shared_step rows i row _ _ _ held c.loop-index-test.true is c.start_key.ensures says w.if-not-branch.true)
+        | else-not-branch w ↦ subst (AreShared rows) (sym w.again-is) c.loop-index.invariant.shared
+      ];
     }

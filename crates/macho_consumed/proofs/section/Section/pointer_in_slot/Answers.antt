@@ -1,10 +1,11 @@
-use Rattle.std.proofs.Common.{◌≡◌, ap, ◌∙◌, option_to_list}
+use Rattle.std.proofs.Common.{◌≡◌, ap, ◌∙◌, subst}
+use Rattle.macho_consumed.specs.steps.Places.{CellTells}
+use Rattle.macho_consumed.specs.steps.Slots.{in_slot, is_symbol_pointer}
 use Rattle.macho_consumed.proofs.InSlots.{in_cell, slots_have_bytes, bad_pointer, slot_bytes}
-use Rattle.macho_consumed.specs.steps.Slots.{is_symbol_pointer}
 use Rattle.macho_consumed.proofs.section.Section.pointer_in_slot.Goals as goal
 
 pub relocation-relocation-requires : goal.relocation-relocation-requires
-relocation-relocation-requires c = in_cell _ _ _ _ _ _ c.requires.cell c.in_ok-number.was
+relocation-relocation-requires c = in_cell _ _ _ _ _ _ c.requires.cell c.in-One.is
 
 pub little_at-content-requires : goal.little_at-content-requires
 little_at-content-requires c =
@@ -12,8 +13,3 @@ little_at-content-requires c =
     let inv = c.self.invariant in
     let plain = (slots_have_bytes _ _ c.requires.whole).0 in
     slot_bytes _ _ _ _ v inv.object inv.among inv.content plain c.requires.within
-
-pub returns-then-not-is_symbol_pointer : goal.returns-then-not-is_symbol_pointer
-returns-then-not-is_symbol_pointer c =
-    bad_pointer _ _ _ c.in_ok-number.number (c.requires.cell ∙ ap option_to_list c.in_ok-number.was)
-    (c.if-not-is_symbol_pointer.ensures ∙ ap is_symbol_pointer c.relocation-relocation.ensures.is)
