@@ -1,8 +1,7 @@
 //! How a run differs from what its case wants.
 
-use crate::reader::{Case, GivenFile};
-use crate::runs::{Seen, bytes_of_file, run_case};
-use crate::wanted::{Extent, Held, Part, Wanted};
+use crate::runs::{Seen, run_case};
+use macho_case_files::{Case, Extent, GivenFile, Held, Part, Wanted, bytes_of_file};
 use macho_image::{LinkError, LinkedImage};
 use macho_loader::Loaded;
 use sha2::{Digest, Sha256};

@@ -1,21 +1,15 @@
 //! Cases of whole runs, read from files: each says which files and words a run has and what it must answer, print and leave.
 //!
-//! The arguments name files of cases, whose form `reader` shows. Of each file one line tells how many cases it has; a case that is
-//! not as wanted is told with what was wanted and what came. The program ends with 0 where all is as wanted, with 1 where a case
-//! isn't, and with 2 where a file can't be read or has a line that says nothing.
+//! The arguments name files of cases, whose form the module `reader` of `macho_case_files` shows. Of each file one line tells how many
+//! cases it has; a case that is not as wanted is told with what was wanted and what came. The program ends with 0 where all is as
+//! wanted, with 1 where a case isn't, and with 2 where a file can't be read or has a line that says nothing.
 #![tactic(auto)]
 
 mod checks;
-mod given;
-mod lines;
-mod reader;
 mod runs;
-mod values;
-mod wanted;
 
 use crate::checks::differences;
-use crate::reader::{Case, cases_of};
-use crate::values::Unread;
+use macho_case_files::{Case, Unread, cases_of};
 use std::process::ExitCode;
 use std::{env, fs, io};
 

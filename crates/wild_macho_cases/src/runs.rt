@@ -1,7 +1,6 @@
 //! The run of a case over files in memory.
 
-use crate::given::bytes_of;
-use crate::reader::{Case, Failing, GivenFile};
+use macho_case_files::{Case, Failing, GivenFile, bytes_of_file, words_of_case};
 use std::alloc::{AllocError, Global};
 use wild_macho::{MemoryFiles, MemorySink, Ran, run};
 
@@ -18,20 +17,6 @@ pub(crate) struct Seen {
     pub(crate) printed: Vec<u8>,
     pub(crate) lines: Vec<u8>,
     pub(crate) files: MemoryFiles,
-}
-
-/// The bytes of a file, cut and changed.
-pub(crate) fn bytes_of_file(alloc: Global, file: &GivenFile) -> Result<Vec<u8>, AllocError> {
-    let mut bytes = bytes_of(alloc, &file.given)?;
-    if let Some(count) = file.cut {
-        bytes.truncate(count);
-    }
-    for (place, byte) in &file.changes {
-        if let Some(one) = bytes.get_mut(*place) {
-            *one = *byte;
-        }
-    }
-    Ok(bytes)
 }
 
 // The files in memory.
@@ -62,24 +47,6 @@ fn sink_of(alloc: Global, failing: Option<u64>) -> Result<MemorySink, AllocError
     Ok(sink)
 }
 
-// The words of a case: its own, or the paths of its files.
-fn words_of(alloc: Global, case: &Case) -> Result<Vec<String>, AllocError> {
-    let mut words = Vec::new(alloc);
-    match &case.words {
-        Some(own) => {
-            for word in own {
-                words.push(word.clone()?)?;
-            }
-        }
-        None => {
-            for file in &case.files {
-                words.push(file.path.clone()?)?;
-            }
-        }
-    }
-    Ok(words)
-}
-
 // The one call of the linker.
 fn ran(
     alloc: Global,
@@ -97,7 +64,7 @@ pub(crate) fn run_case(alloc: Global, case: &Case) -> Result<Seen, AllocError> {
     let mut files = files_of(alloc, &case.files, &case.failing)?;
     let mut out = sink_of(alloc, case.failing.print)?;
     let mut err = sink_of(alloc, case.failing.line)?;
-    let words = words_of(alloc, case)?;
+    let words = words_of_case(alloc, case)?;
     let ran = ran(alloc, words, &mut files, &mut out, &mut err);
     let printed = Vec::from_slice(alloc, out.bytes())?;
     let lines = Vec::from_slice(alloc, err.bytes())?;

@@ -6,6 +6,16 @@ use macho_samples::{
 };
 use std::alloc::{AllocError, Global};
 
+/// A file of a case, or one that cases share.
+#[derive(Clone, Drop)]
+pub struct GivenFile {
+    /// The path under which the run finds it.
+    pub path: String,
+    pub(crate) given: Given,
+    pub(crate) cut: Option<usize>,
+    pub(crate) changes: Vec<(usize, u8)>,
+}
+
 /// What a file is made of.
 #[derive(Clone, Drop)]
 pub(crate) enum Given {
@@ -229,11 +239,25 @@ fn bytes_of_library(alloc: Global, given: &GivenLibrary) -> Result<Vec<u8>, Allo
     }
 }
 
-/// The bytes of a file.
-pub(crate) fn bytes_of(alloc: Global, given: &Given) -> Result<Vec<u8>, AllocError> {
+// The bytes of a file as it is made.
+fn bytes_of(alloc: Global, given: &Given) -> Result<Vec<u8>, AllocError> {
     match given {
         Given::Object(object) => bytes_of_object(alloc, object),
         Given::Library(library) => bytes_of_library(alloc, library),
         Given::Bytes(bytes) => Vec::from_slice(alloc, bytes),
     }
+}
+
+/// The bytes of a file, cut and changed.
+pub fn bytes_of_file(alloc: Global, file: &GivenFile) -> Result<Vec<u8>, AllocError> {
+    let mut bytes = bytes_of(alloc, &file.given)?;
+    if let Some(count) = file.cut {
+        bytes.truncate(count);
+    }
+    for (place, byte) in &file.changes {
+        if let Some(one) = bytes.get_mut(*place) {
+            *one = *byte;
+        }
+    }
+    Ok(bytes)
 }

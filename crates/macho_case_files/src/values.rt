@@ -5,9 +5,15 @@ use std::alloc::{AllocError, AllocFailed, Global};
 
 /// Why a case file is not read.
 #[derive(Clone, Copy)]
-pub(crate) enum Unread {
-    /// The line of that number, counted from 1; what is wrong with it.
-    Line { number: u64, what: &'static str },
+pub enum Unread {
+    /// A line says nothing.
+    Line {
+        /// The number of the line, counted from 1.
+        number: u64,
+        /// What is wrong with it.
+        what: &'static str,
+    },
+    /// Memory ran out.
     OutOfMemory,
 }
 

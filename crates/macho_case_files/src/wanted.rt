@@ -6,7 +6,7 @@ use std::alloc::{AllocError, Global};
 
 /// How much of a text is wanted.
 #[derive(Clone, Copy, PartialEq, Eq)]
-pub(crate) enum Extent {
+pub enum Extent {
     /// All of it, and no more.
     Whole,
     /// All of it, and there may be more.
@@ -17,7 +17,7 @@ pub(crate) enum Extent {
 
 /// What a path holds behind the run.
 #[derive(Drop)]
-pub(crate) enum Held {
+pub enum Held {
     /// Nothing.
     Nothing,
     /// The first bytes of the image, so many or all.
@@ -28,26 +28,40 @@ pub(crate) enum Held {
 
 /// Bytes at a place of the image.
 #[derive(Drop)]
-pub(crate) struct Part {
-    pub(crate) place: usize,
-    pub(crate) bytes: Vec<u8>,
+pub struct Part {
+    /// The place.
+    pub place: usize,
+    /// The bytes from there on.
+    pub bytes: Vec<u8>,
 }
 
 /// What is wanted. Where a text is empty or a value is `None`, nothing is wanted of it; but all that is printed is wanted.
 #[derive(Drop)]
-pub(crate) struct Wanted {
-    pub(crate) status: Option<u8>,
-    pub(crate) line: Vec<u8>,
-    pub(crate) line_extent: Extent,
-    pub(crate) printed: Vec<u8>,
-    pub(crate) printed_extent: Extent,
-    pub(crate) length: Option<usize>,
-    pub(crate) parts: Vec<Part>,
-    pub(crate) told: Vec<u8>,
-    pub(crate) digest: Option<String>,
-    pub(crate) held: Vec<(String, Held)>,
-    pub(crate) given: Vec<(String, Vec<u8>)>,
-    pub(crate) kept: Option<String>,
+pub struct Wanted {
+    /// The status; each case tells one.
+    pub status: Option<u8>,
+    /// What stands on standard error.
+    pub line: Vec<u8>,
+    /// How much of it.
+    pub line_extent: Extent,
+    /// What is printed on standard output.
+    pub printed: Vec<u8>,
+    /// How much of it.
+    pub printed_extent: Extent,
+    /// How long the image is.
+    pub length: Option<usize>,
+    /// Bytes of the image.
+    pub parts: Vec<Part>,
+    /// What is told of the image, in lines.
+    pub told: Vec<u8>,
+    /// The image's digest by SHA-256, in digits of base 16.
+    pub digest: Option<String>,
+    /// Paths, and what each holds behind the run.
+    pub held: Vec<(String, Held)>,
+    /// Paths of files that are given, and the bytes of each.
+    pub given: Vec<(String, Vec<u8>)>,
+    /// What the fault keeps beside its line.
+    pub kept: Option<String>,
 }
 
 // The bytes that words say.

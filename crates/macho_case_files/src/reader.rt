@@ -46,40 +46,41 @@
 //!         ends 2 bad word 1: $3
 //!     row an unknown word | -x | Unknown
 
-use crate::given::{Given, GivenLibrary, GivenObject, add_relocations, section_of, symbol_of};
+use crate::given::{
+    Given, GivenFile, GivenLibrary, GivenObject, add_relocations, section_of, symbol_of,
+};
 use crate::lines::{Line, lines_of};
 use crate::values::{TOO_GREAT, Unread, add_bytes, byte, number, size, wrong};
 use crate::wanted::Wanted;
 use std::alloc::{AllocError, Global};
 
-/// A file of a case, or one that cases share.
-#[derive(Clone, Drop)]
-pub(crate) struct GivenFile {
-    pub(crate) path: String,
-    pub(crate) given: Given,
-    pub(crate) cut: Option<usize>,
-    pub(crate) changes: Vec<(usize, u8)>,
-}
-
-/// What fails in a run: the read of a number, the first write behind so many bytes, the print of a number, the piece of a line of a
-/// number.
+/// What fails in a run. Where a field is `None`, nothing of its kind fails.
 #[derive(Clone, Copy)]
-pub(crate) struct Failing {
-    pub(crate) read: Option<u64>,
-    pub(crate) write: Option<u64>,
-    pub(crate) print: Option<u64>,
-    pub(crate) line: Option<u64>,
+pub struct Failing {
+    /// The read of that number.
+    pub read: Option<u64>,
+    /// The first write, behind so many bytes.
+    pub write: Option<u64>,
+    /// The print of that number, on standard output.
+    pub print: Option<u64>,
+    /// The piece of that number of the line on standard error.
+    pub line: Option<u64>,
 }
 
 /// A case: files, words, what fails, and what is wanted.
 #[derive(Drop)]
-pub(crate) struct Case {
-    pub(crate) name: String,
-    pub(crate) line: u64,
-    pub(crate) files: Vec<GivenFile>,
-    pub(crate) words: Option<Vec<String>>,
-    pub(crate) failing: Failing,
-    pub(crate) wanted: Wanted,
+pub struct Case {
+    /// What the case shows.
+    pub name: String,
+    /// The line of the file that its name is in, counted from 1.
+    pub line: u64,
+    /// The files that the run has.
+    pub files: Vec<GivenFile>,
+    words: Option<Vec<String>>,
+    /// What fails in the run.
+    pub failing: Failing,
+    /// What is wanted of the run.
+    pub wanted: Wanted,
 }
 
 /// The words of a text.
@@ -404,8 +405,26 @@ fn read_line(
     }
 }
 
-/// The cases of a file.
-pub(crate) fn cases_of(alloc: Global, text: &str) -> Result<Vec<Case>, Unread> {
+/// The words of a case's run: its own, or the paths of its files.
+pub fn words_of_case(alloc: Global, case: &Case) -> Result<Vec<String>, AllocError> {
+    let mut words = Vec::new(alloc);
+    match &case.words {
+        Some(own) => {
+            for word in own {
+                words.push(word.clone()?)?;
+            }
+        }
+        None => {
+            for file in &case.files {
+                words.push(file.path.clone()?)?;
+            }
+        }
+    }
+    Ok(words)
+}
+
+/// The cases of a file, or the first line that says nothing.
+pub fn cases_of(alloc: Global, text: &str) -> Result<Vec<Case>, Unread> {
     let mut definitions = Vec::new(alloc);
     let mut cases = Vec::new(alloc);
     for line in &lines_of(alloc, text)? {
