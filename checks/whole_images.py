@@ -10,9 +10,10 @@ import subprocess
 import sys
 
 from plain_linker import Library, Object, Options, Section, Symbol, link, object_bytes
-from random_links import BRANCH, INSTRUCTIONS, POINTER, random_link
+from random_links import BRANCH, INSTRUCTIONS, POINTER, SECTION_POINTER, random_link
 
 UUID = bytes.fromhex("00112233445566778899aabbccddeeff")
+COUNTED = bytes(range(16))
 MAIN, CALL, RETURN, FORWARD = (bytes.fromhex(text) for text in ("00008052c0035fd6", "00000094c0035fd6", "c0035fd6", "00000014c0035fd6"))
 SYSTEM = Library(b"/usr/lib/libSystem.B.dylib", [b"_exit", b"_write"])
 STUB = b"""--- !tapi-tbd
@@ -34,6 +35,16 @@ def code(data, relocations=()):
     return Section(b"__TEXT", b"__text", 2, INSTRUCTIONS, data, len(data), 0, list(relocations))
 
 
+def pointer_to(symbol):
+    return Section(b"__DATA", b"__data", 3, 0, bytes(8), 8, 8, [(0, symbol | POINTER << 24)])
+
+
+def entry_of(section):
+    """An unwind entry of the 8 bytes at 0 of a section: no frame, no personality function, no language data."""
+    data = bytes(8) + bytes.fromhex("0800000000000002") + bytes(16)
+    return Section(b"__LD", b"__compact_unwind", 3, 0x02000000, data, 32, 8, [(0, section | SECTION_POINTER << 24)])
+
+
 def uuid_of(files):
     return hashlib.sha256(b"".join(files)).digest()[:16]
 
@@ -42,10 +53,9 @@ def made(number, count):
     """An object of `-generate`: a function that goes on to the next one, and a pointer to it."""
     name, is_last = b"_f%d" % number if number else b"_main", number == count - 1
     branch = [] if is_last else [(0, 2 | BRANCH << 24)]
-    pointer = Section(b"__DATA", b"__data", 3, 0, bytes(8), 8, 8, [(0, POINTER << 24)])
     symbols = [Symbol(name, 0x0F, 1, 0, 0), Symbol(b"_p%d" % number, 0x0F, 2, 0, 8)]
     symbols += [] if is_last else [Symbol(b"_f%d" % (number + 1), 0x01, 0, 0, 0)]
-    return Object([code(MAIN if is_last else FORWARD, branch), pointer], symbols)
+    return Object([code(MAIN if is_last else FORWARD, branch), pointer_to(0)], symbols)
 
 
 def known_links():
@@ -54,7 +64,8 @@ def known_links():
     alone = Object([code(MAIN)], [start])
     words = ["-o", "out", "in.o", "-uuid", UUID.hex()]
     yield "alone", {"in.o": object_bytes(alone)}, words, link([alone], Options(b"out", UUID))
-    caller = Object([code(CALL, [(0, 1 | BRANCH << 24)])], [start, Symbol(b"_exit", 1, 0, 0, 0)])
+    start_and_exit = [start, Symbol(b"_exit", 1, 0, 0, 0)]
+    caller = Object([code(CALL, [(0, 1 | BRANCH << 24)])], start_and_exit)
     files = {"in.o": object_bytes(caller), "s.tbd": STUB}
     options = Options(b"out", uuid_of(files.values()))
     yield "through a stub", files, ["-o", "out", "in.o", "s.tbd"], link([caller, SYSTEM], options)
@@ -62,6 +73,12 @@ def known_links():
     files = {"in.o": object_bytes(bare)}
     options = Options(b"out", uuid_of(files.values()), True)
     yield "a library", files, ["-dylib", "-o", "out", "in.o"], link([bare], options)
+    pointing = Object([code(CALL, [(0, 1 | BRANCH << 24)]), pointer_to(0)], start_and_exit)
+    unwound = Object([code(MAIN), entry_of(1)], [start])
+    words = ["-o", "out", "in.o", "-uuid", COUNTED.hex()]
+    options = Options(b"out", COUNTED)
+    yield "a call and a pointer", {"in.o": object_bytes(pointing), "s.tbd": STUB}, words + ["s.tbd"], link([pointing, SYSTEM], options)
+    yield "an unwind entry", {"in.o": object_bytes(unwound)}, words, link([unwound], options)
     for count in (1, 2, 100, 500):
         objects = [made(number, count) for number in range(count)]
         options = Options(b"a.out", uuid_of(object_bytes(one, 0x2000, 1) for one in objects))

@@ -7,8 +7,6 @@ mod accepted;
 #[cfg(test)]
 mod again;
 #[cfg(test)]
-mod instance;
-#[cfg(test)]
 mod large;
 #[cfg(test)]
 mod real;
