@@ -79,7 +79,7 @@ def known_links():
     options = Options(b"out", COUNTED)
     yield "a call and a pointer", {"in.o": object_bytes(pointing), "s.tbd": STUB}, words + ["s.tbd"], link([pointing, SYSTEM], options)
     yield "an unwind entry", {"in.o": object_bytes(unwound)}, words, link([unwound], options)
-    for count in (1, 2, 100, 500):
+    for count in (1, 2, 100, 500, 10_000):
         objects = [made(number, count) for number in range(count)]
         options = Options(b"a.out", uuid_of(object_bytes(one, 0x2000, 1) for one in objects))
         yield "made objects, %d" % count, {}, ["-generate", str(count)], link(objects, options)
