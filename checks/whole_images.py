@@ -9,12 +9,13 @@ import os
 import subprocess
 import sys
 
-from plain_linker import Library, Object, Options, Section, Symbol, link, object_bytes
+from plain_linker import Library, Object, Options, Section, Symbol, link, object_bytes, stub_bytes
 from random_links import BRANCH, INSTRUCTIONS, POINTER, SECTION_POINTER, random_link
 
 UUID = bytes.fromhex("00112233445566778899aabbccddeeff")
 COUNTED = bytes(range(16))
 MAIN, CALL, RETURN, FORWARD = (bytes.fromhex(text) for text in ("00008052c0035fd6", "00000094c0035fd6", "c0035fd6", "00000014c0035fd6"))
+F, F_OUT = Symbol(b"_f", 0x0F, 1, 0, 8), Symbol(b"_f", 1, 0, 0, 0)
 SYSTEM = Library(b"/usr/lib/libSystem.B.dylib", [b"_exit", b"_write"])
 STUB = b"""--- !tapi-tbd
 tbd-version:     4
@@ -79,6 +80,15 @@ def known_links():
     options = Options(b"out", COUNTED)
     yield "a call and a pointer", {"in.o": object_bytes(pointing), "s.tbd": STUB}, words + ["s.tbd"], link([pointing, SYSTEM], options)
     yield "an unwind entry", {"in.o": object_bytes(unwound)}, words, link([unwound], options)
+    library = Library(b"/usr/lib/libf.dylib", [b"_f"])
+    calls, calls_out = (Object([code(CALL + RETURN, [(0, 1 | BRANCH << 24)])], [start, other]) for other in (F, F_OUT))
+    files = {"calls.o": object_bytes(calls)}
+    yield "a call", files, ["calls.o"], link([calls], Options(b"a.out", uuid_of(files.values())))
+    options = Options(b"libcalls.dylib", uuid_of(files.values()), True)
+    yield "a call in a library", files, ["-dylib", "-o", "libcalls.dylib", "calls.o"], link([calls], options)
+    files = {"out.o": object_bytes(calls_out), "libf.tbd": stub_bytes(library)}
+    options = Options(b"a.out", uuid_of(files.values()))
+    yield "a call out", files, ["out.o", "libf.tbd"], link([calls_out, library], options)
     for count in (1, 2, 100, 500, 10_000):
         objects = [made(number, count) for number in range(count)]
         options = Options(b"a.out", uuid_of(object_bytes(one, 0x2000, 1) for one in objects))
@@ -93,7 +103,8 @@ def ran(program, folder, files, words):
     run = subprocess.run([program, *words], cwd=folder, capture_output=True, text=True)
     if run.returncode:
         return None, run.stderr
-    with open(os.path.join(folder, "out" if "-o" in words else "a.out"), "rb") as file:
+    output = words[words.index("-o") + 1] if "-o" in words else "a.out"
+    with open(os.path.join(folder, output), "rb") as file:
         return file.read(), run.stdout
 
 

@@ -1,8 +1,6 @@
-//! Tests over the whole linker: runs over each kind of files, what the loader accepts of their images, and a linker without files.
+//! Tests over the whole linker: runs over each kind of files, and a linker without files.
 #![tactic(auto)]
 
-#[cfg(test)]
-mod accepted;
 #[cfg(test)]
 mod again;
 #[cfg(test)]
