@@ -77,6 +77,7 @@ for mode in 644 600 444; do
 done
 nothing_beside .
 [ "$(cat other)" = other ] || fail "another file is changed"
+cmp -s in.o "$top/examples/hello/hello.o" || fail "an input is changed"
 
 # An output may be an input of the same link, which is read before it.
 cp in.o both

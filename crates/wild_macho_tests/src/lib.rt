@@ -1,11 +1,8 @@
-//! Tests over the whole linker: runs over each kind of files, and a linker without files.
+//! Tests over the whole linker of what no case reaches: a run over files that never fail, and a linker without files that is used
+//! again.
 #![tactic(auto)]
 
 #[cfg(test)]
 mod again;
 #[cfg(test)]
-mod real;
-#[cfg(test)]
 mod runs;
-#[cfg(test)]
-mod told;

@@ -1,12 +1,9 @@
-//! One run over each kind of files: held in memory, which may fail; held, which never fail; those of the system.
+//! A run over files that never fail.
 
 use macho_samples::{MAIN_CODE, MAIN_OBJECT, object_bytes};
 use std::alloc::Global;
 use std::test::Fail;
-use std::{env, fs, process};
-use wild_macho::{
-    Fault, Files, MemoryFiles, MemorySink, Ran, RealFiles, SteadyFiles, SteadySink, run,
-};
+use wild_macho::{Files, MemorySink, Ran, SteadyFiles, SteadySink, run};
 
 /// Where the code of `_main` alone stands in its image, and how long that is.
 const CODE: usize = 0x1e0;
@@ -57,29 +54,10 @@ fn links<F: Files>(alloc: Global, files: &mut F) -> Result<bool, Fail> {
 }
 
 #[test]
-fn an_object_is_linked_over_files_that_are_held(rt: HostRuntime) -> Result<(), Fail> {
+fn an_object_is_linked_over_files_that_never_fail(rt: HostRuntime) -> Result<(), Fail> {
     let object = object_bytes(rt.alloc(), &MAIN_OBJECT)?;
     let mut steady = SteadyFiles::new(rt.alloc());
-    steady.add_file("in.o", object.clone()?)?;
+    steady.add_file("in.o", object)?;
     assert!(rt; links(rt.alloc(), &mut steady)?);
-    let mut files = MemoryFiles::new(rt.alloc());
-    files.add_file("in.o", object)?;
-    assert!(rt; links(rt.alloc(), &mut files)?);
-    Ok(())
-}
-
-#[test]
-fn an_output_path_that_is_a_folder_is_a_failed_write(rt: HostRuntime) -> Result<(), Fail> {
-    let folder = env::temp_dir(&rt)?;
-    let id = process::id(rt.process());
-    let path = format!(in rt.alloc(); "{}/wild_macho_runs_{id}.o", folder.as_str())?;
-    let mut files = RealFiles::new(&rt, rt.alloc());
-    files.write(path.as_str(), &object_bytes(rt.alloc(), &MAIN_OBJECT)?)?;
-    let words = ["-o", folder.as_str(), path.as_str()];
-    let (answer, _) = ran(rt.alloc(), &words, &mut files)?;
-    fs::remove_file(&rt, path)?;
-    assert_eq!(rt; answer.status, 4);
-    assert!(rt; matches!(answer.fault, Some(Fault::Write)));
-    assert!(rt; answer.image.is_some());
     Ok(())
 }
