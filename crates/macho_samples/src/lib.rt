@@ -3,7 +3,7 @@
 //! [`object_bytes`] writes a relocatable object, [`dylib_bytes`] a dynamic library, [`stub_bytes`] a text stub. They follow the headers
 //! `mach-o/loader.h`, `mach-o/nlist.h` and `mach-o/reloc.h` and share nothing with the linker, so that what a test expects of
 //! the linker doesn't come from the linker. Nothing is checked: a table may say what no linker takes.
-//! These three are public since tests of other crates, and the program of cases, call them.
+//! These three are public since tests of other crates, and the files of cases, call them.
 #![tactic(auto)]
 
 mod known;
@@ -12,9 +12,7 @@ mod numbers;
 mod object;
 mod tables;
 
-pub use crate::known::{
-    CONST, DATA, EXIT, GLOBAL, LOCAL, MAIN, MAIN_CODE, MAIN_OBJECT, SYSTEM, TEXT, UNDEFINED,
-};
+pub use crate::known::{GLOBAL, LOCAL, MAIN, MAIN_CODE, MAIN_OBJECT, UNDEFINED};
 pub use crate::library::{Library, dylib_bytes, stub_bytes};
 pub use crate::object::object_bytes;
 pub use crate::tables::{Content, Object, Relocation, Section, Symbol, kinds};

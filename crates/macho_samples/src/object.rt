@@ -90,7 +90,6 @@ pub(crate) fn put_symtab(
 fn sizes(section: &Section<'_>) -> (u64, u64) {
     match section.content {
         Content::Bytes(bytes) => (length(bytes), length(bytes)),
-        Content::Zeros(count) => (count, count),
         Content::Room(count) => (count, 0),
     }
 }
@@ -101,10 +100,6 @@ fn contents(alloc: Global, sections: &[Section<'_>]) -> Result<Vec<u8>, AllocErr
     for section in sections {
         match section.content {
             Content::Bytes(bytes) => out.extend_from_slice(bytes)?,
-            Content::Zeros(count) => {
-                let zeros = vec![in alloc; 0u8; count as usize]?;
-                out.extend_from_slice(&zeros)?;
-            }
             Content::Room(_) => {}
         }
     }

@@ -33,8 +33,6 @@ pub struct Section<'a> {
 pub enum Content<'a> {
     /// These bytes.
     Bytes(&'a [u8]),
-    /// So many zero bytes, which stand in the file.
-    Zeros(u64),
     /// So many bytes, none of which stands in the file.
     Room(u64),
 }
