@@ -19,8 +19,8 @@ from recipes import FAR, ONCE, RECIPES, SLOTS
 
 # Where the linker looks for a family of faults: behind others of its number, or of a greater one.
 LATER = {
+    "first of two starts": (7, 1),
     "second of two starts": (7, 1),
-    "first of two starts": (7, 2),
     "pages": (13, 1),
     "file": (13, 2),
     "place by address": (13, 3),
@@ -28,7 +28,6 @@ LATER = {
 }
 # Faults that are told in place of the first by the order: recipes, the family of the first and of the one that is told, and why.
 KNOWN = [
-    (["entries: one start"], ("first of two starts", "second of two starts"), "of two entries with one start the second is told"),
     (
         ["entry: long function", "entries: one start"],
         ("first of two starts", "unwind entry"),
