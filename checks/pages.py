@@ -1,7 +1,7 @@
 """Compares pages of docs/ with the sources that they list.
 
 docs/USAGE.md has each option and each rule on inputs; docs/ARCHITECTURE.md has each crate once, and no other; each page that README.md
-names is there, and each file of docs/ is named there.
+names is there, and each file of docs/ is named there; crates.txt names for a crate the libraries that its files name, and no other.
 """
 import os
 import re
@@ -57,6 +57,22 @@ def wrong_crates():
     return wrong + [f"docs/ARCHITECTURE.md: '{name}' is no crate, or stands twice" for name in odd]
 
 
+def text_of(crate):
+    """All sources, definitions and proofs of a crate."""
+    folders = (os.walk(os.path.join(TOP, "crates", crate, part)) for part in ("src", "specs", "proofs"))
+    return "".join(read(at, name) for folder in folders for at, _, names in folder for name in names)
+
+
+def wrong_libraries():
+    wrong = []
+    for line in read("crates.txt").split("\n"):
+        crate, _, libraries = line.split("#")[0].partition(":")
+        text = text_of(crate.split()[0]) if libraries else ""
+        unnamed = [name for name in libraries.split() if not re.search(rf"\b{name}::|Rattle\.{name}\b", text)]
+        wrong += [f"crates.txt: {crate} names nothing of {name}" for name in unnamed]
+    return wrong
+
+
 def wrong_pages():
     told = set(re.findall(r"^\| `docs/(\w+\.md)` \|", read("README.md"), re.M))
     there = {name for name in os.listdir(os.path.join(TOP, "docs")) if name.endswith(".md")}
@@ -64,7 +80,7 @@ def wrong_pages():
 
 
 if __name__ == "__main__":
-    wrong = wrong_usage() + wrong_crates() + wrong_pages()
+    wrong = wrong_usage() + wrong_crates() + wrong_libraries() + wrong_pages()
     for line in wrong:
         print(f"pages: {line}", file=sys.stderr)
     if not wrong:
