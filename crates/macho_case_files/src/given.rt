@@ -249,6 +249,10 @@ fn bytes_of(alloc: Global, given: &Given) -> Result<Vec<u8>, AllocError> {
 }
 
 /// The bytes of a file, cut and changed.
+///
+/// # Errors
+///
+/// There is not enough memory.
 pub fn bytes_of_file(alloc: Global, file: &GivenFile) -> Result<Vec<u8>, AllocError> {
     let mut bytes = bytes_of(alloc, &file.given)?;
     if let Some(count) = file.cut {

@@ -1,6 +1,6 @@
 //! The form of a file of cases, and its reader.
 //!
-//!     # What the cases show. Blank lines and lines that begin with `#` say nothing, nor does the space before a line.
+//!     # What the cases show. Blank lines, lines that begin with `#` and the space before a line are passed over.
 //!     define main object                            a file that cases share, under a name: an object has the sections and symbols
 //!       section __TEXT,__text exponent=2            behind it, in their order; address, exponent and flags are 0 where none is told
 //!         hex 00008052 c0035fd6 "text"              bytes, also `zeros 8`, or `room 8` for bytes that don't stand in the file
@@ -13,12 +13,13 @@
 //!       > _main
 //!
 //!     case a call through a stub                    what the case shows
-//!       file in.o as main                           a file under its path: as one of that name, or made as behind `define`
+//!       file in.o as main                           a file under its path: as `main` was defined, or made as behind `define`
 //!         cut 239                                   its first bytes alone
 //!         change 211 0x14                           a byte of it
 //!       file lib.tbd as system
 //!       words in.o lib.tbd -map                     without such a line the paths of all files
-//!       fails write 8192                            the first write fails behind so many bytes; read N, print N, line N: that one
+//!       fails write 8192                            the first write fails behind so many bytes; `read N`, `print N`, `line N`: that
+//!                                                   one fails, counted from 0
 //!
 //! What is wanted, of which a case has one of the first two:
 //!
@@ -26,7 +27,7 @@
 //!       ends 1 cannot find in.o       the status and the line of standard error; nothing printed, and no image unless the status is 4
 //!       line_is "wild_macho: "        all of standard error
 //!       line_cut                      of the line some first bytes, and not all
-//!       prints objects 1              a line of standard output; prints_part "objects": not to its end
+//!       prints objects 1              a line of standard output; prints_part "objects": a text without the end of its line
 //!       prints_more                   behind those lines there is more
 //!       prints_cut                    of those lines some first bytes, and not all
 //!       at 0x4000 00000000 "_exit"    bytes of the image at a place
@@ -406,6 +407,10 @@ fn read_line(
 }
 
 /// The words of a case's run: its own, or the paths of its files.
+///
+/// # Errors
+///
+/// There is not enough memory.
 pub fn words_of_case(alloc: Global, case: &Case) -> Result<Vec<String>, AllocError> {
     let mut words = Vec::new(alloc);
     match &case.words {
@@ -423,7 +428,11 @@ pub fn words_of_case(alloc: Global, case: &Case) -> Result<Vec<String>, AllocErr
     Ok(words)
 }
 
-/// The cases of a file, or the first line that says nothing.
+/// The cases of a file, by its text.
+///
+/// # Errors
+///
+/// The first line that isn't of the form, or there is not enough memory.
 pub fn cases_of(alloc: Global, text: &str) -> Result<Vec<Case>, Unread> {
     let mut definitions = Vec::new(alloc);
     let mut cases = Vec::new(alloc);

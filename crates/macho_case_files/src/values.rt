@@ -6,7 +6,7 @@ use std::alloc::{AllocError, AllocFailed, Global};
 /// Why a case file is not read.
 #[derive(Clone, Copy)]
 pub enum Unread {
-    /// A line says nothing.
+    /// A line isn't of the form.
     Line {
         /// The number of the line, counted from 1.
         number: u64,

@@ -24,7 +24,7 @@ use Rattle.macho_consumed.specs.declared.listing.SectionRef.{SectionRef}
 use Rattle.macho_consumed.specs.declared.rows.UnwindEntry.{UnwindEntry}
 use Rattle.macho_consumed.specs.declared.fault.ConsumedFault.{ConsumedFault}
 use Rattle.macho_consumed.specs.declared.fault.ConsumedFault.TheVariants.{BadInitializer, BadUnwind, OutOfMemory}
-use Rattle.macho_consumed.specs.Views.{AreViews}
+use Rattle.macho_parts.specs.Views.{views_of}
 use Rattle.macho_consumed.specs.Rows.{entry_row, entry_rows}
 use Rattle.macho_consumed.specs.Told.{IsStanding, EntriesKeepRules}
 use Rattle.macho_consumed.specs.steps.Entries.{at_place, read_entry, data_fits, EntryFits, row_in}
@@ -70,7 +70,7 @@ row_entry : (l : Link) (d : EntryId) → (entry_row l d).entry ≡ d.entry
 unfolding entry_row
 row_entry l d = refl
 
-rows_are : (l : Link) (files : List (Option FileBytes)) (rows : List UnwindEntry) → AreViews l files
+rows_are : (l : Link) (files : List (Option FileBytes)) (rows : List UnwindEntry) → files ≡ views_of l
     → rows ≡ flat_map (entries_at files) (all_of Entries files)
     → rows ≡ map (entry_row l) (entries_of_link l)
 unfolding entry_rows
@@ -81,7 +81,7 @@ alone_test : (l : Link) (d e : EntryId) → (same_start l d e ≡ true)
     → (not (same_start l d e) || (same_section d.of_section e.of_section && (d.entry == e.entry))) ≡ false
 alone_test l d e same differ = rw (same, differ) refl
 
-again_of : (l : Link) (files : List (Option FileBytes)) (r : ResolvedRows) (rows : List UnwindEntry) (fault : ConsumedFault) → AreViews l files
+again_of : (l : Link) (files : List (Option FileBytes)) (r : ResolvedRows) (rows : List UnwindEntry) (fault : ConsumedFault) → files ≡ views_of l
     → All (KeepsAt r files) (all_of Entries files)
     → rows ≡ flat_map (entries_at files) (all_of Entries files) → IsAgain rows fault → IsStanding l fault
 again_of l files r rows fault views keep are again =
@@ -125,7 +125,7 @@ again_of l files r rows fault views keep are again =
     ∙ ap (λ (s : ℕ). BadUnwind e.of_section.file s (entry_row l e).entry U6) (row_section l e)
     ∙ ap (λ (n : ℕ). BadUnwind e.of_section.file e.of_section.section n U6) (row_entry l e))) stands
 
-pub again_stands : (l : Link) (files : List (Option FileBytes)) (r : ResolvedRows) (rows : List UnwindEntry) (fault : ConsumedFault) → AreViews l files
+pub again_stands : (l : Link) (files : List (Option FileBytes)) (r : ResolvedRows) (rows : List UnwindEntry) (fault : ConsumedFault) → files ≡ views_of l
     → All (KeepsAt r files) (all_of Entries files)
     → rows ≡ flat_map (entries_at files) (all_of Entries files) → IsAgainOrMemory rows fault → IsStanding l fault
 again_stands l files r rows (BadInitializer f s offset) views keep are again = again_of l files r rows
@@ -134,7 +134,7 @@ again_stands l files r rows (BadUnwind f s e rule) views keep are again = again_
 again_stands l files r rows OutOfMemory views keep are again = tt
 
 -- where no two have one start, each is alone
-alone_kept : (l : Link) (files : List (Option FileBytes)) (r : ResolvedRows) (rows : List UnwindEntry) (e : EntryId) → AreViews l files
+alone_kept : (l : Link) (files : List (Option FileBytes)) (r : ResolvedRows) (rows : List UnwindEntry) (e : EntryId) → files ≡ views_of l
     → All (KeepsAt r files) (all_of Entries files)
     → rows ≡ map (entry_row l) (entries_of_link l) → AllPairs (λ d e. start_key d ≢ start_key e) rows → Contains (entries_of_link l) e
     → start_alone l e.of_section e.entry ≡ true
@@ -218,7 +218,7 @@ links_kept l noted file b k e is fits leads =
 
 -- all rules
 pub rules_kept : (l : Link) (noted : List (List ℕ)) (files : List (Option FileBytes)) (r : ResolvedRows) (rows : List UnwindEntry)
-    → AreViews l files
+    → files ≡ views_of l
     → IsResolved l noted r → All (KeepsAt r files) (all_of Entries files) → rows ≡ flat_map (entries_at files) (all_of Entries files)
     → AllPairs (λ d e. start_key d ≢ start_key e) rows → EntriesKeepRules l
 unfolding entry_row entries_of_link

@@ -9,7 +9,7 @@ use Rattle.std.proofs.Common.{option_to_list, is_some, nat_le, refl, sym, ap, â—
 use Rattle.std.proofs.lemmas.Bool.Decides.{nat_tests}
 use Rattle.std.proofs.lemmas.Bool.{eqb-true}
 use Rattle.std.specs.List.{range_with_len, list_all, Contains}
-use Rattle.std.proofs.lemmas.List.{append-nil, get_or_default}
+use Rattle.std.proofs.lemmas.List.{append-nil}
 use Rattle.std.proofs.lemmas.List.FromFn.{map-range_with_len_more}
 use Rattle.macho_bytes.specs.Numbers.{bits}
 use Rattle.macho_structs.specs.declared.relocations.RelocationInfo.{RelocationInfo}
@@ -28,7 +28,7 @@ use Rattle.macho_consumed.specs.Rows.{start_place, place_named, personality_use,
 use Rattle.macho_consumed.specs.steps.Alone.{alone, own}
 use Rattle.macho_symbols.specs.Kept.{ResolvedRows}
 use Rattle.macho_consumed.specs.declared.places.Cell.{Cell}
-use Rattle.macho_consumed.specs.declared.places.Cell.TheVariants.{Empty, One, Several}
+use Rattle.macho_consumed.specs.declared.places.Cell.TheVariants.{Empty, One}
 use Rattle.macho_consumed.specs.steps.Places.{found, CellTells, IsTable, NoneBelow}
 use Rattle.macho_consumed.specs.steps.Entries.{NamesSection, StartFound, StartBreaks, DataFound, DataBreaks, PersonalityFound}
 use Rattle.macho_consumed.specs.steps.Entries.{PersonalityBreaks, PointersBreak, EntryBreaks, is_clear, at_place, read_entry, data_fits, EntryFits}

@@ -3,11 +3,10 @@
 -- A cell of the table tells the relocations of its slot: none, one, or several. Where there isn't one, or it is no pointer to a
 -- symbol, or the slot isn't empty, the slot breaks the rules; else it fits. Slot by slot the rows are those of the relocations
 -- found, their pointers lead into carried sections, and none stands between two slots so far: at the end none does at all.
-use Rattle.std.proofs.Common.{◌≡◌, ℕ, ◌+◌, ◌*◌, ◌/◌, ◌%◌, ◌<◌, ◌≤◌, ◌⊎◌, inl, inr, eqb, Bool, true, false, List, [], ◌∷◌, ◌++◌, length, map}
+use Rattle.std.proofs.Common.{◌≡◌, ℕ, ◌+◌, ◌*◌, ◌%◌, ◌<◌, ◌≤◌, ◌⊎◌, inl, inr, eqb, Bool, true, false, List, [], ◌∷◌, ◌++◌, length, map}
 use Rattle.std.proofs.Common.{get_or, None, refl, sym, ap, ◌∙◌, subst, arith, below_more, append_assoc, slice_range, length-take, length-drop}
 use Rattle.std.proofs.Common.{nat_le, ◌≢◌}
 use Rattle.std.proofs.lemmas.Bool.Decides.{nat_tests}
-use Rattle.std.proofs.lemmas.Bool.{eqb-true}
 use Rattle.std.proofs.lemmas.List.{append-nil, get_or_default}
 use Rattle.std.specs.List.{range_with_len, flat_map, Contains}
 use Rattle.macho_bytes.specs.Numbers.{le_at}

@@ -24,7 +24,7 @@ use Rattle.macho_consumed.specs.declared.listing.SectionRef.{SectionRef}
 use Rattle.macho_consumed.specs.declared.rows.UnwindEntry.{UnwindEntry}
 use Rattle.macho_consumed.specs.declared.fault.ConsumedFault.{ConsumedFault}
 use Rattle.macho_consumed.specs.declared.fault.ConsumedFault.TheVariants.{BadInitializer, BadUnwind, OutOfMemory}
-use Rattle.macho_consumed.specs.Views.{AreViews}
+use Rattle.macho_parts.specs.Views.{views_of}
 use Rattle.macho_consumed.specs.Rows.{entry_row, entry_rows}
 use Rattle.macho_consumed.specs.Told.{IsStanding}
 use Rattle.macho_consumed.specs.steps.Alone.{alone, own}
@@ -65,7 +65,7 @@ section_rows l file b k e =
         (record { of_section = record { file = file; section = k }; entry = i }) ∷ xs) (twice es)
 
 -- all rows
-pub rows_read : (l : Link) (files : List (Option FileBytes)) → AreViews l files
+pub rows_read : (l : Link) (files : List (Option FileBytes)) → files ≡ views_of l
     → flat_map (entries_at files) (all_of Entries files) ≡ entry_rows l
 unfolding entry_rows entries_of_link
 rows_read l files views =
@@ -199,7 +199,7 @@ entry_breaks l noted r file b k e U8 is resolved (lt, bad) = (
   (entry_test l file b k e is).4 ∙ bad,
 )
 
-listed_there : (l : Link) (files : List (Option FileBytes)) (s : SectionRef) → AreViews l files → Contains (all_of Entries files) s
+listed_there : (l : Link) (files : List (Option FileBytes)) (s : SectionRef) → files ≡ views_of l → Contains (all_of Entries files) s
     → Contains (unwind_sections l) (id_of_ref s)
 listed_there l files s views c =
     subst (λ (xs : List SectionId). Contains xs (id_of_ref s)) (unwind_are l files views) (to_map id_of_ref (all_of Entries files) s c)
@@ -212,7 +212,7 @@ told_at l f s file k e rule is_file is_section there bad =
     (sym is_section) (there, bad))
 
 pub bad_stands : (l : Link) (noted : List (List ℕ)) (files : List (Option FileBytes)) (r : ResolvedRows) (fault : ConsumedFault)
-    → AreViews l files → IsResolved l noted r → IsBadRuleAt r files fault → IsStanding l fault
+    → files ≡ views_of l → IsResolved l noted r → IsBadRuleAt r files fault → IsStanding l fault
 bad_stands l noted files r (BadInitializer f s offset) views resolved bad = absurd bad
 bad_stands l noted files r (BadUnwind f s e rule) views resolved (at, c, bad) =
     told_at l f s at.file at.section e rule bad.0 bad.1 (listed_there l files at views c)

@@ -3,7 +3,7 @@
 -- A row is that of a relocation of a slot of a listed section. By the section's bytes the slot has this one plain pointer, and is
 -- empty; by the symbols that are resolved it leads into a carried section. Where a section is broken by either, it is broken in the
 -- link.
-use Rattle.std.proofs.Common.{◌≡◌, ℕ, ◌+◌, ◌*◌, ◌/◌, ◌%◌, ◌<◌, ◌≤◌, inl, inr, true, false, ◌&&◌, ◌==◌, List, [], ◌∷◌, length, get_or}
+use Rattle.std.proofs.Common.{◌≡◌, ℕ, ◌+◌, ◌*◌, ◌/◌, ◌%◌, ◌<◌, ◌≤◌, inl, inr, true, false, ◌&&◌, ◌==◌, List, [], length, get_or}
 use Rattle.std.proofs.Common.{Option, Some, None, is_none, refl, sym, ap, ◌∙◌, subst, arith}
 use Rattle.std.proofs.lemmas.List.FromFn.{length-map-range_with_len}
 use Rattle.std.proofs.lemmas.List.Elements.{All-contains, All-map}
@@ -23,7 +23,8 @@ use Rattle.macho_consumed.specs.declared.listing.Kind.TheVariants.{Initializers}
 use Rattle.macho_consumed.specs.declared.listing.SectionRef.{SectionRef}
 use Rattle.macho_consumed.specs.declared.fault.ConsumedFault.{ConsumedFault}
 use Rattle.macho_consumed.specs.declared.fault.ConsumedFault.TheVariants.{BadInitializer, BadUnwind, OutOfMemory}
-use Rattle.macho_consumed.specs.Views.{AreViews, AreKept}
+use Rattle.macho_parts.specs.Views.{views_of}
+use Rattle.macho_consumed.specs.Views.{AreKept}
 use Rattle.macho_consumed.specs.Rows.{initializer_rows_in, initializer_rows}
 use Rattle.macho_consumed.specs.Told.{IsStanding, InitializersKeepRules}
 use Rattle.macho_consumed.specs.steps.Slots.{is_symbol_pointer, is_empty_slot, SlotFits, SlotBreaks, SlotStrays, SectionBreaks, row_at}
@@ -42,7 +43,7 @@ one_listed : (files : List (Option FileBytes)) (s : SectionRef) → Contains (al
 one_listed files s c = All-contains (IsOne Initializers files) (all_of Initializers files) s (all_listed Initializers files) c
 
 -- the rows
-pub rows_read : (l : Link) (files : List (Option FileBytes)) → AreViews l files
+pub rows_read : (l : Link) (files : List (Option FileBytes)) → files ≡ views_of l
     → flat_map (initializers_at files) (all_of Initializers files) ≡ initializer_rows l
 unfolding initializer_rows
 rows_read l files views =
@@ -151,7 +152,7 @@ section_breaks l noted r file b k offset e resolved (inr (inr (q, lt, at, off)))
       off,
     ))
 
-listed_there : (l : Link) (files : List (Option FileBytes)) (s : SectionRef) → AreViews l files
+listed_there : (l : Link) (files : List (Option FileBytes)) (s : SectionRef) → files ≡ views_of l
     → Contains (all_of Initializers files) s → Contains (initializer_sections l) (id_of_ref s)
 listed_there l files s views c =
     subst (λ (xs : List SectionId). Contains xs (id_of_ref s)) (initializers_are l files views) (to_map id_of_ref
@@ -164,7 +165,7 @@ told_at l f s file k offset is_file is_section there bad =
     (BadInitializer file x offset)) (sym is_section) (there, bad))
 
 pub bad_stands : (l : Link) (noted : List (List ℕ)) (files : List (Option FileBytes)) (r : ResolvedRows) (fault : ConsumedFault)
-    → AreViews l files → IsResolved l noted r → IsBadAt r files fault → IsStanding l fault
+    → files ≡ views_of l → IsResolved l noted r → IsBadAt r files fault → IsStanding l fault
 bad_stands l noted files r (BadInitializer f s offset) views resolved (at, c, bad) =
     told_at l f s at.file at.section offset bad.0 bad.1 (listed_there l files at views c)
     (section_breaks l noted r at.file (bytes_in files at.file) at.section offset (object_is l files at.file views
@@ -184,12 +185,12 @@ slot_keeps l noted file b k slot r e fits leads =
     both ((length (relocations_at l s (8 * slot)) == 1) && list_all (initializer_relocation_fits l s) (relocations_at l s (8 * slot))) _
     (rw one (both _ _ good refl)) (subst (λ (x : List ℕ). is_empty_slot x k slot ≡ true) (sym e) fits.empty)
 
-section_of : (l : Link) (files : List (Option FileBytes)) (s : SectionId) → AreViews l files → Contains (initializer_sections l) s
+section_of : (l : Link) (files : List (Option FileBytes)) (s : SectionId) → files ≡ views_of l → Contains (initializer_sections l) s
     → IsFrom id_of_ref (all_of Initializers files) s
 section_of l files s views c =
     in_map id_of_ref (all_of Initializers files) s (subst (λ (xs : List SectionId). Contains xs s) (sym (initializers_are l files views)) c)
 
-pub rules_kept : (l : Link) (noted : List (List ℕ)) (files : List (Option FileBytes)) (r : ResolvedRows) → AreViews l files
+pub rules_kept : (l : Link) (noted : List (List ℕ)) (files : List (Option FileBytes)) (r : ResolvedRows) → files ≡ views_of l
     → IsResolved l noted r → All (FitsAt r files) (all_of Initializers files) → InitializersKeepRules l
 rules_kept l noted files r views resolved fit = record {
   initializers = subst (λ (xs : List SectionId). All (λ s. initializer_section_fits l s ≡ true) xs) (initializers_are l files views)

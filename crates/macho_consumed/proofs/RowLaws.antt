@@ -18,7 +18,7 @@ use Rattle.macho_parts.specs.Noted.{uses_of_initializers, uses_of_personalities}
 use Rattle.macho_consumed.specs.declared.rows.Initializer.{Initializer}
 use Rattle.macho_consumed.specs.Rows.{initializer_row, initializer_rows_in, initializer_rows, entry_row, entry_rows}
 use Rattle.macho_consumed.specs.Told.{EntriesKeepRules}
-use Rattle.macho_consumed.specs.Laws.{target_of_initializer, use_of_initializer, uses_of_entry, InitializersAreRows, InitializersAreMany}
+use Rattle.macho_consumed.specs.Laws.{target_of_initializer, use_of_initializer, uses_of_entry, InitializersAreRows}
 use Rattle.macho_consumed.specs.Laws.{InitializersAreUsed, PersonalitiesAreUsed}
 use Rattle.macho_consumed.proofs.Tests.{left_of, right_of}
 use Rattle.macho_consumed.proofs.Members.{in_range}
@@ -51,7 +51,8 @@ pub are_rows : InitializersAreRows
 unfolding initializers_of
 are_rows l = made_of_rows l (target_of_initializer l) (target_of_relocation l) (λ s r. refl)
 
-pub are_many : InitializersAreMany
+-- and as many
+pub are_many : (l : Link) → length (initializers_of l) ≡ length (initializer_rows l)
 are_many l = ap length (are_rows l) ∙ length-map (initializer_rows l) (target_of_initializer l)
 
 pub are_used : InitializersAreUsed

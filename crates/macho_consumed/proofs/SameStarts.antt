@@ -17,7 +17,7 @@ use Rattle.macho_model.specs.Consumed.{START_PLACE}
 use Rattle.macho_consumed.specs.declared.listing.Kind.TheVariants.{Entries}
 use Rattle.macho_consumed.specs.declared.listing.SectionRef.{SectionRef}
 use Rattle.macho_consumed.specs.declared.starts.StartKey.{StartKey}
-use Rattle.macho_consumed.specs.Views.{AreViews}
+use Rattle.macho_parts.specs.Views.{views_of}
 use Rattle.macho_consumed.specs.Rows.{entry_row}
 use Rattle.macho_consumed.specs.steps.Entries.{named, at_place, read_entry, EntryFits}
 use Rattle.macho_consumed.specs.steps.Listed.{id_of_ref, bytes_in}
@@ -120,7 +120,7 @@ pub record IsKnown (l : Link) (files : List (Option FileBytes)) (d : EntryId) : 
   pub section : d.of_section ≡ id_of_ref at
   pub within : d.entry < entry_count l (id_of_ref at)
 
-pub known : (l : Link) (files : List (Option FileBytes)) (d : EntryId) → AreViews l files → Contains (entries_of_link l) d
+pub known : (l : Link) (files : List (Option FileBytes)) (d : EntryId) → files ≡ views_of l → Contains (entries_of_link l) d
     → IsKnown l files d
 unfolding entries_of_link
 known l files d views c =
@@ -142,7 +142,7 @@ known l files d views c =
           within = subst (λ (x : SectionId). e < entry_count l x) m.is (in_range (entry_count l s) e d);
         }))
 
-pub known_starts : (l : Link) (files : List (Option FileBytes)) (r : ResolvedRows) (d : EntryId) → AreViews l files
+pub known_starts : (l : Link) (files : List (Option FileBytes)) (r : ResolvedRows) (d : EntryId) → files ≡ views_of l
     → All (KeepsAt r files) (all_of Entries files) → IsKnown l files d
     → (q : ℕ) × StartsAt l d q
 known_starts l files r d views keep it =

@@ -12,7 +12,7 @@ use Rattle.macho_model.specs.Links.{sections_of_file, sections_of}
 use Rattle.macho_model.specs.Needs.{initializer_sections, unwind_sections}
 use Rattle.macho_consumed.specs.declared.listing.Kind.{Kind}
 use Rattle.macho_consumed.specs.declared.listing.Kind.TheVariants.{Initializers, Entries}
-use Rattle.macho_consumed.specs.Views.{view_of, AreViews}
+use Rattle.macho_parts.specs.Views.{object_view, views_of}
 use Rattle.macho_consumed.specs.steps.Listed.{is_of_kind, ref, id_of_ref, refs_in, refs_of_file, refs_of}
 use Rattle.macho_consumed.specs.steps.Gathered.{all_of}
 use Rattle.macho_consumed.proofs.Members.{in_range}
@@ -22,7 +22,7 @@ abbrev pub is_here : Link → Kind → SectionId → Bool
 is_here l kind s = is_of_kind kind (header_at l s)
 
 of_input : (l : Link) (kind : Kind) (i : ℕ) (input : Input) → object_of l i ≡ object_bytes input
-    → map id_of_ref (refs_of_file kind i (view_of input)) ≡ filter (is_here l kind) (sections_of_file i input)
+    → map id_of_ref (refs_of_file kind i (object_view input)) ≡ filter (is_here l kind) (sections_of_file i input)
 unfolding refs_in
 of_input l kind i (Object b) is =
     let g : ℕ → SectionId = λ k. record { file = i; section = k } in
@@ -38,11 +38,11 @@ of_input l kind i (Object b) is =
 of_input l kind i (Dylib b) is = refl
 of_input l kind i (Stub text says) is = refl
 
-pub all_are : (l : Link) (files : List (Option FileBytes)) (kind : Kind) → AreViews l files
+pub all_are : (l : Link) (files : List (Option FileBytes)) (kind : Kind) → files ≡ views_of l
     → map id_of_ref (all_of kind files) ≡ filter (is_here l kind) (sections_of l)
 unfolding refs_of sections_of
 all_are l files kind views =
-    let many : length files ≡ length l.inputs = ap length views.are ∙ length-map l.inputs view_of in
+    let many : length files ≡ length l.inputs = ap length views ∙ length-map l.inputs object_view in
     let inputs : ℕ → Input = λ i. get_or l.inputs i no_input in
     map_joined id_of_ref (λ i. refs_of_file kind i (get_or files i None)) (range_with_len 0 (length files))
     ∙ joined_agree (λ i. map id_of_ref (refs_of_file kind i (get_or files i None))) (λ i. filter (is_here l kind) (sections_of_file i
@@ -50,7 +50,7 @@ all_are l files kind views =
     (λ i c.
     let lt : i < length l.inputs = omega (arith, in_range (length files) i c, many) in
     ap (λ (f : Option FileBytes). map id_of_ref (refs_of_file kind i f))
-    (ap (λ (fs : List (Option FileBytes)). get_or fs i None) views.are ∙ get_or-map view_of l.inputs i no_input None lt)
+    (ap (λ (fs : List (Option FileBytes)). get_or fs i None) views ∙ get_or-map object_view l.inputs i no_input None lt)
     ∙ of_input l kind i (inputs i) refl)
     ∙ ap (λ (n : ℕ). flat_map (λ i. filter (is_here l kind) (sections_of_file i (inputs i))) (range_with_len 0 n)) many
     ∙ sym (joined_map (λ (p : ℕ × Input). filter (is_here l kind) (sections_of_file p.0 p.1)) (λ i. (i, inputs i)) (range_with_len 0
@@ -58,11 +58,11 @@ all_are l files kind views =
     ∙ ap (flat_map (λ (p : ℕ × Input). filter (is_here l kind) (sections_of_file p.0 p.1))) (sym (numbered l.inputs no_input))
     ∙ sym (filter_joined (is_here l kind) (λ (p : ℕ × Input). sections_of_file p.0 p.1) (enumerate_from 0 l.inputs))
 
-pub initializers_are : (l : Link) (files : List (Option FileBytes)) → AreViews l files
+pub initializers_are : (l : Link) (files : List (Option FileBytes)) → files ≡ views_of l
     → map id_of_ref (all_of Initializers files) ≡ initializer_sections l
 unfolding initializer_sections
 initializers_are l files views = all_are l files Initializers views
 
-pub unwind_are : (l : Link) (files : List (Option FileBytes)) → AreViews l files → map id_of_ref (all_of Entries files) ≡ unwind_sections l
+pub unwind_are : (l : Link) (files : List (Option FileBytes)) → files ≡ views_of l → map id_of_ref (all_of Entries files) ≡ unwind_sections l
 unfolding unwind_sections
 unwind_are l files views = all_are l files Entries views

@@ -11,7 +11,7 @@ use Rattle.std.proofs.lemmas.List.{append-nil, get_or_default, length-replicate,
 use Rattle.macho_structs.specs.declared.relocations.RelocationInfo.{RelocationInfo}
 use Rattle.macho_model.specs.Objects.{section_at, relocation_at}
 use Rattle.macho_consumed.specs.declared.places.Cell.{Cell}
-use Rattle.macho_consumed.specs.declared.places.Cell.TheVariants.{Empty, One, Several}
+use Rattle.macho_consumed.specs.declared.places.Cell.TheVariants.{Empty}
 use Rattle.macho_consumed.specs.steps.Places.{found, CellTells, IsTable, IsBetween, NoneBelow, IsLeast}
 use Rattle.macho_consumed.proofs.Ranges.{kept_one, filter_range_more}
 

@@ -10,7 +10,7 @@ use Rattle.macho_model.specs.Links.{Input, Object, Dylib, Stub, Link, object_byt
 use Rattle.macho_model.specs.Needs.{relocations_at}
 use Rattle.macho_model.specs.Consumed.{initializer_section_fits, whole_entries, each_relocation_in, single_relocations, start_fits}
 use Rattle.macho_model.specs.Consumed.{function_inside, entry_is_clear}
-use Rattle.macho_consumed.specs.Views.{view_of, AreViews}
+use Rattle.macho_parts.specs.Views.{object_view, views_of}
 use Rattle.macho_consumed.specs.Rows.{initializer_rows_in, entry_row}
 use Rattle.macho_consumed.specs.steps.Alone.{alone, own}
 use Rattle.macho_consumed.specs.steps.Places.{found}
@@ -19,17 +19,17 @@ use Rattle.macho_consumed.specs.steps.Entries.{row_in}
 use Rattle.macho_consumed.specs.steps.Listed.{bytes_in, bytes_viewed}
 
 -- the bytes of a file of the link
-bytes_of_view : (i : Input) → bytes_viewed (view_of i) ≡ object_bytes i
+bytes_of_view : (i : Input) → bytes_viewed (object_view i) ≡ object_bytes i
 bytes_of_view (Object b) = refl
 bytes_of_view (Dylib b) = refl
 bytes_of_view (Stub text says) = refl
 
-pub object_is : (l : Link) (files : List (Option FileBytes)) (i : ℕ) → AreViews l files → i < length files
+pub object_is : (l : Link) (files : List (Option FileBytes)) (i : ℕ) → files ≡ views_of l → i < length files
     → object_of l i ≡ bytes_in files i
 object_is l files i views lt =
-    let within : i < length l.inputs = omega (arith, lt, ap length views.are, length-map l.inputs view_of) in
-    sym (ap bytes_viewed (ap (λ (fs : List (Option FileBytes)). get_or fs i None) views.are
-    ∙ get_or-map view_of l.inputs i no_input None within) ∙ bytes_of_view (get_or l.inputs i no_input))
+    let within : i < length l.inputs = omega (arith, lt, ap length views, length-map l.inputs object_view) in
+    sym (ap bytes_viewed (ap (λ (fs : List (Option FileBytes)). get_or fs i None) views
+    ∙ get_or-map object_view l.inputs i no_input None within) ∙ bytes_of_view (get_or l.inputs i no_input))
 
 -- words of initializers
 pub slot_is : (l : Link) (file : ℕ) (b : List ℕ) (k place : ℕ) → object_of l file ≡ b

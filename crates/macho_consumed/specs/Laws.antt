@@ -1,5 +1,5 @@
 -- Laws: what the rows of a link say of its initializers, and of what it uses.
-use Rattle.std.specs.Prelude.{◌≡◌, List, length, map, option_map, option_to_list}
+use Rattle.std.specs.Prelude.{◌≡◌, List, map, option_map, option_to_list}
 use Rattle.std.specs.List.{flat_map}
 use Rattle.macho_model.specs.declared.targets.Target.{Target}
 use Rattle.macho_model.specs.Links.{Link, SectionId}
@@ -33,10 +33,6 @@ uses_of_entry e = option_to_list (option_map (use_of_personality e) e.personalit
 -- the initializers are the targets of the rows, in order
 abbrev pub InitializersAreRows : Type 0
 InitializersAreRows = (l : Link) → initializers_of l ≡ map (target_of_initializer l) (initializer_rows l)
-
--- there are as many
-abbrev pub InitializersAreMany : Type 0
-InitializersAreMany = (l : Link) → length (initializers_of l) ≡ length (initializer_rows l)
 
 -- the walk over initializers uses what the rows use, in order
 abbrev pub InitializersAreUsed : Type 0

@@ -1,10 +1,9 @@
 //! Laws of rows: each is the contract of a function that does nothing.
-ghost use Rattle.macho_consumed.specs.Laws.{InitializersAreRows, InitializersAreMany, InitializersAreUsed, PersonalitiesAreUsed};
+ghost use Rattle.macho_consumed.specs.Laws.{InitializersAreRows, InitializersAreUsed, PersonalitiesAreUsed};
 
-/// The initializers of a link are what its rows lead to, in order, and as many.
+/// The initializers of a link are what its rows lead to, in order.
 pub fn initializers_are_rows()
     ensures rows { InitializersAreRows }
-    ensures many { InitializersAreMany }
 {}
 
 /// What the walk over consumed sections uses, the rows use, in order.

@@ -12,6 +12,7 @@
 #![tactic(auto)]
 
 mod entries;
+mod entry;
 mod fault;
 mod gathering;
 mod laws;
@@ -28,7 +29,6 @@ mod targets;
 pub use fault::ConsumedFault;
 pub use laws::{initializers_are_rows, rows_are_used};
 pub use listing::{Kind, is_of_kind};
-pub use macho_model::UnwindRule;
 pub use places::is_plain_pointer;
 pub use reading::{read_entries, read_initializers};
 pub use room::{RoomFault, unwind_room};

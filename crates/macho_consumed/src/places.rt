@@ -1,4 +1,5 @@
-//! The relocations of a consumed section, by place. Each is a plain pointer of 8 bytes at a multiple of 8 with a place of its own.
+//! The relocations of a consumed section, by place: none, one or several at each multiple of 8, and the least address of one that
+//! stands elsewhere.
 //!
 //! The table can be made of any section, so that whoever goes through it tells the first place that is broken.
 ghost use Rattle.std.specs.Prelude.{◌≡◌, ◌≢◌, true, false, ℕ, List, ◌+◌, ◌/◌, ◌<◌, ◌++◌, ◌∷◌, [], replicate, MatchOption, IfOk};

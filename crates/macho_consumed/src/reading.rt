@@ -2,7 +2,8 @@
 ghost use Rattle.std.specs.Prelude.{◌≡◌, ℕ, List, IfOk, IfErr, OnOk};
 ghost use Rattle.macho_model.specs.Links.{Link};
 ghost use Rattle.macho_symbols.specs.Kept.{IsResolved};
-ghost use Rattle.macho_consumed.specs.Views.{AreViews, AreKept};
+ghost use Rattle.macho_parts.specs.Views.{views_of};
+ghost use Rattle.macho_consumed.specs.Views.{AreKept};
 ghost use Rattle.macho_consumed.specs.Rows.{initializer_rows, entry_rows};
 ghost use Rattle.macho_consumed.specs.Told.{IsStanding, InitializersKeepRules, EntriesKeepRules};
 
@@ -26,14 +27,11 @@ pub fn read_initializers(
     symbols: &Resolved,
 ) -> Result<Vec<Initializer>, ConsumedFault>
     requires { AreKept files.now symbols.now.files }
-    ensures rows { (l : Link) → AreViews l files.now → IfOk result (λ v. v.items ≡ initializer_rows l) }
-    ensures keeps { (l : Link) (noted : List (List ℕ)) → AreViews l files.now → IsResolved l noted symbols.now → OnOk result (InitializersKeepRules l) }
-    ensures why { (l : Link) (noted : List (List ℕ)) → AreViews l files.now → IsResolved l noted symbols.now → IfErr result (IsStanding l) }
+    ensures rows { (l : Link) → files.now ≡ views_of l → IfOk result (λ v. v.items ≡ initializer_rows l) }
+    ensures keeps { (l : Link) (noted : List (List ℕ)) → files.now ≡ views_of l → IsResolved l noted symbols.now → OnOk result (InitializersKeepRules l) }
+    ensures why { (l : Link) (noted : List (List ℕ)) → files.now ≡ views_of l → IsResolved l noted symbols.now → IfErr result (IsStanding l) }
 {
-    match gather_initializers(alloc, files, symbols) {
-        Ok(rows) => Ok(rows),
-        Err(fault) => Err(fault),
-    }
+    gather_initializers(alloc, files, symbols)
 }
 
 /// The entries of compact unwind information of a link, by file, section and number. `files` are views as for
@@ -48,9 +46,9 @@ pub fn read_entries(
     symbols: &Resolved,
 ) -> Result<Vec<UnwindEntry>, ConsumedFault>
     requires { AreKept files.now symbols.now.files }
-    ensures rows { (l : Link) → AreViews l files.now → IfOk result (λ v. v.items ≡ entry_rows l) }
-    ensures keeps { (l : Link) (noted : List (List ℕ)) → AreViews l files.now → IsResolved l noted symbols.now → OnOk result (EntriesKeepRules l) }
-    ensures why { (l : Link) (noted : List (List ℕ)) → AreViews l files.now → IsResolved l noted symbols.now → IfErr result (IsStanding l) }
+    ensures rows { (l : Link) → files.now ≡ views_of l → IfOk result (λ v. v.items ≡ entry_rows l) }
+    ensures keeps { (l : Link) (noted : List (List ℕ)) → files.now ≡ views_of l → IsResolved l noted symbols.now → OnOk result (EntriesKeepRules l) }
+    ensures why { (l : Link) (noted : List (List ℕ)) → files.now ≡ views_of l → IsResolved l noted symbols.now → IfErr result (IsStanding l) }
 {
     let rows = match gather_entries(alloc, files, symbols) {
         Ok(rows) => rows,

@@ -45,7 +45,7 @@ impl<T: Drop> From<AllocFailed<T>> for RoomFault {
 
 /// The number of the slot of an entry's personality function, if it has one.
 fn slot_of(needs: &Needs, entry: UnwindEntry) -> Option<usize>
-    requires { HasPersonality needs.now.resolved entry.file entry.personality }
+    requires { HasPersonality needs.now.resolved entry }
     ensures { (l : Link) → AreNoted l needs.now → result ≡ number_of_target l entry.file entry.personality }
 {
     let used = entry.personality?;
@@ -60,7 +60,7 @@ fn slot_of(needs: &Needs, entry: UnwindEntry) -> Option<usize>
 
 /// An entry, as the bound asks for it. A number of 2^32 or more would take more memory than there is.
 fn input(needs: &Needs, entry: UnwindEntry) -> Result<UnwindInput, AllocError>
-    requires { HasPersonality needs.now.resolved entry.file entry.personality }
+    requires { HasPersonality needs.now.resolved entry }
     ensures { (l : Link) → AreNoted l needs.now → IfOk result (λ i. i ≡ input_by l entry) }
 {
     let personality = match slot_of(needs, entry) {
@@ -81,7 +81,7 @@ fn inputs(
     needs: &Needs,
     entries: &[UnwindEntry],
 ) -> Result<Vec<UnwindInput>, AllocError>
-    requires { All (λ e. HasPersonality needs.now.resolved e.file e.personality) entries.now }
+    requires { All (HasPersonality needs.now.resolved) entries.now }
     ensures { (l : Link) → AreNoted l needs.now → IfOk result (λ v. v.items ≡ map (input_by l) entries.now) }
 {
     let mut inputs = Vec::with_capacity(alloc, entries.len())?;
@@ -107,7 +107,7 @@ pub fn unwind_room(
     entries: &[UnwindEntry],
     span: u64,
 ) -> Result<u64, RoomFault>
-    requires { All (λ e. HasPersonality needs.now.resolved e.file e.personality) entries.now }
+    requires { All (HasPersonality needs.now.resolved) entries.now }
     ensures done { (l : Link) → AreNoted l needs.now → EntriesKeepRules l → entries.now ≡ entry_rows l → span ≡ text_span l → IfOk result (λ n. n ≡ unwind_size l) }
     ensures few { (l : Link) → AreNoted l needs.now → EntriesKeepRules l → entries.now ≡ entry_rows l
         → OnOk result (length (ids_of (map (unwind_input l) (entries_of_link l))) ≤ MOST_PERSONALITIES) }

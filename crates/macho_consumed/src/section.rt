@@ -66,6 +66,7 @@ pub(crate) fn section_of<'view, 'data>(
     ensures symbols { ExternsExist file.now.bytes index }
     ensures inside { AreInside file.now.bytes index }
 {
+    // (the contract of this call says that the file keeps the rules of objects)
     let _whole = file.is_dynamic();
     let Some(header) = file.section(index) else {
         unreachable!()

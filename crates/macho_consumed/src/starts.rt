@@ -11,13 +11,13 @@ use std::alloc::Global;
 
 /// Where a function starts.
 #[derive(Clone, Copy, PartialEq, Eq, Hash)]
-pub struct StartKey {
+pub(crate) struct StartKey {
     /// The number of the file.
-    pub file: u32,
+    file: u32,
     /// The number of the section in it.
-    pub section: u32,
+    section: u32,
     /// Bytes from the section's start.
-    pub offset: u64,
+    offset: u64,
 }
 
 /// Where an entry's function starts.

@@ -4,7 +4,6 @@ use Rattle.std.specs.List.{AllZip, flat_map, range_with_len}
 use Rattle.sha2.specs.Sha256.{sha256}
 use Rattle.macho_args.specs.Settings as args
 use Rattle.macho_args.specs.Settings.{Settings}
-use Rattle.macho_args.specs.SearchPaths.{IsParsed}
 use Rattle.macho_args.specs.Store.{Store, Directories, CanonicalPaths}
 use Rattle.macho_model.specs.Links.{Link, Input, Object, Dylib, Stub}
 use Rattle.macho_model.specs.Grammar.{IsObject}
@@ -67,7 +66,8 @@ pub record Links (told : Option Store) (s : Settings) (paths : List (List ℕ)) 
   pub named : paths ≡ map (λ f. f.path) files
   pub linked : l ≡ record (link_of s) { inputs = map (λ f. f.input) files; export_lists = lists }
 
--- The identifier of an image: the one that was given, else the first 16 bytes of the digest (FIPS 180-4) of the inputs joined.
+-- The 16 bytes that an image's identifier is made of: those that were given, else the first 16 of the digest (FIPS 180-4) of the inputs
+-- joined. Version and variant are put in where the image is written.
 abbrev pub uuid_of : Settings → List Input → List ℕ
 uuid_of s inputs = unwrap_or s.uuid (take 16 (sha256 (flat_map bytes_of inputs)))
 
@@ -83,9 +83,3 @@ pub record IsJob (told : Option Store) (s : Settings) (job : Job) : Type 0 where
   pub links : Links told s job.paths job.link
   pub uuid : job.uuid ≡ uuid_of s job.link.inputs
   pub output : job.output ≡ s.output
-
--- THE job of words and of what is told outside.
-pub record JobOf (words : List (List ℕ)) (outside : Outside) (job : Job) : Type 0 where
-  pub settings : Settings
-  pub said : IsParsed outside.directories outside.canonical_paths words settings
-  pub is : IsJob outside.store settings job

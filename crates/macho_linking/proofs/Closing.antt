@@ -3,17 +3,14 @@
 -- A refusal that stands for the sizes of the link is the link's. What was read, sized and placed is what an image is written from; and what
 -- is
 -- written then is as promised, with nothing that stands against it.
-use Rattle.std.proofs.Common.{◌≡◌, ℕ, ◌+◌, ◌<◌, ◌≤◌, ◌⊎◌, inl, inr, ◌^◌, false, List, map, length, refl, sym, ap, subst, ◌∙◌, arith, All}
-use Rattle.std.specs.Prelude.{Option, Some, None, Result, Ok, Err, IfOk, OnOk, IfErr, IsErrAnd}
+use Rattle.std.proofs.Common.{◌≡◌, ℕ, ◌<◌, ◌≤◌, ◌⊎◌, inl, inr, false, List, map, length, refl, sym, subst, All}
+use Rattle.std.specs.Prelude.{Some, Result, Ok, Err, IfErr, IsErrAnd}
 use Rattle.std.proofs.lemmas.Bool.{cases_lt}
-use Rattle.std.proofs.lemmas.List.{length-map}
-use Rattle.macho_layout.specs.declared.placement.Placement.{Placement}
 use Rattle.macho_layout.specs.Placements.{placed_of}
 use Rattle.macho_model.specs.declared.placed.Counts.{Counts}
 use Rattle.macho_model.specs.declared.targets.Limit.TheVariants as limit
 use Rattle.macho_model.specs.Links.{Link}
-use Rattle.macho_model.specs.Needs.{libraries_needed, imports_of}
-use Rattle.macho_model.specs.Placement.{Placed}
+use Rattle.macho_model.specs.Needs.{libraries_needed}
 use Rattle.macho_model.specs.Faults.{LinkFault, FixupPlace, ImageTooLarge, RebaseTarget, RelocationRange, FaultStands, kept_placement}
 use Rattle.macho_model.specs.Faults.{bad_name}
 use Rattle.macho_model.specs.Told.{imports_told}
@@ -21,7 +18,7 @@ use Rattle.macho_placing.specs.Laws.{NonePasses}
 use Rattle.macho_promise.specs.Sizes.{AreCounts}
 use Rattle.macho_faults.specs.declared.fault.LinkError.{LinkError}
 use Rattle.macho_faults.specs.declared.fault.LinkError.TheVariants as error
-use Rattle.macho_faults.specs.Standing.{Stands, IsStanding}
+use Rattle.macho_faults.specs.Standing.{IsStanding}
 use Rattle.macho_linkedit.specs.declared.exports.NamedExport.{NamedExport}
 use Rattle.macho_sizing.specs.Sized.{IsSizedOf}
 use Rattle.macho_fields.specs.declared.fault.FillFault.TheVariants as fill
@@ -33,11 +30,9 @@ use Rattle.macho_answers.proofs.Inputs.{inputs_are_read, inputs_are_bytes}
 use Rattle.macho_answers.proofs.Told.{standing_is_told}
 use Rattle.macho_answers.proofs.Kept.{late_is_standing}
 use Rattle.macho_answers.proofs.Clear.{clear_is_unrefused}
-use Rattle.macho_tables.specs.Exports.{exports_told}
 use Rattle.macho_tables.proofs.Exported.{exports_are_told}
-use Rattle.macho_symbols.specs.declared.exports.ExportName.{ExportName}
 use Rattle.macho_linked.specs.declared.image.ImportName.{ImportName}
-use Rattle.macho_linked.specs.Linked.{import_of, export_of, IsImageOf, IsRefused}
+use Rattle.macho_linked.specs.Linked.{import_of, IsImageOf, IsRefused}
 use Rattle.macho_linked.specs.declared.image.LinkedImage.{LinkedImage}
 use Rattle.macho_reading.specs.declared.link.ReadLink.{ReadLink}
 use Rattle.macho_reading.specs.Read.{IsReadOf, AreKnown}

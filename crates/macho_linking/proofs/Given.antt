@@ -1,22 +1,20 @@
 -- What is given to a link, as the passes ask for it; and answers of a link by those of its passes.
-use Rattle.std.proofs.Common.{◌≡◌, ℕ, ◌+◌, ◌<◌, ◌≤◌, ◌^◌, ◌==◌, not, true, List, [], ◌∷◌, map, length, refl, sym, ap, subst, ◌∙◌, arith}
+use Rattle.std.proofs.Common.{◌≡◌, ℕ, ◌<◌, ◌^◌, ◌==◌, not, true, List, [], ◌∷◌, map, length, refl, ap, arith}
 use Rattle.std.proofs.Common.{All}
-use Rattle.std.specs.Prelude.{Option, Some, None, Result, Ok, Err, IfOk, OnOk, IfErr}
+use Rattle.std.specs.Prelude.{Option, Some, None, Result, Ok, Err, OnOk, IfErr}
 use Rattle.std.proofs.lemmas.Bool.{ne_eqb}
 use Rattle.std.proofs.lemmas.List.{length-map}
 use Rattle.std.proofs.lemmas.List.Elements.{All-map}
-use Rattle.macho_layout.specs.declared.placement.Placement.{Placement}
-use Rattle.macho_layout.specs.Placements.{placed_of}
 use Rattle.macho_model.specs.declared.placed.Counts.{Counts}
 use Rattle.macho_model.specs.declared.targets.Limit.TheVariants as limit
-use Rattle.macho_model.specs.Links.{Input, Object, Dylib, Stub, Link}
+use Rattle.macho_model.specs.Links.{Link}
 use Rattle.macho_model.specs.Needs.{libraries_needed}
 use Rattle.macho_object.specs.Views.{FileBytes}
 use Rattle.macho_exports.specs.Entries.{ListEntries}
 use Rattle.macho_symbols.specs.Kept.{ResolvedRows, IsResolved}
 use Rattle.macho_symbols.specs.Exported.{AreLists}
-use Rattle.macho_parts.specs.Views as parts
-use Rattle.macho_survey.specs.Surveys as survey
+use Rattle.macho_parts.specs.Views.{object_view, views_of}
+use Rattle.macho_survey.specs.Surveys.{AreOfInputs}
 use Rattle.macho_promise.specs.Inputs.{IsInput}
 use Rattle.macho_promise.specs.Sizes.{AreCounts}
 use Rattle.macho_faults.specs.declared.fault.LinkError.{LinkError}
@@ -29,25 +27,15 @@ use Rattle.macho_linking.specs.steps.Linking.{link_asked, IsGiven}
 use Rattle.macho_linking.specs.steps.Lists.{AreListsOf}
 use Rattle.macho_linking.specs.steps.Imaged.{StandsAlways}
 
--- an input is viewed alike by both names of it
-view_same : (x : Input) → parts.object_view x ≡ survey.object_view x
-view_same (Object bytes) = refl
-view_same (Dylib bytes) = refl
-view_same (Stub text says) = refl
-
-views_same : (xs : List Input) → map parts.object_view xs ≡ map survey.object_view xs
-views_same [] = refl
-views_same (x ∷ xs) = rw (view_same x, views_same xs) refl
-
-pub same_inputs : (l : Link) (views : List (Option FileBytes)) (r : ResolvedRows) → views ≡ parts.views_of l → IsResolved l [] r
-    → survey.AreOfInputs views r.files
+pub same_inputs : (l : Link) (views : List (Option FileBytes)) (r : ResolvedRows) → views ≡ views_of l → IsResolved l [] r
+    → AreOfInputs views r.files
 same_inputs l views r is resolved =
-    record { inputs = l.inputs; keeps = record { are = resolved.keeps }; are = is ∙ views_same l.inputs }
+    record { inputs = l.inputs; keeps = record { are = resolved.keeps }; are = is }
 
 pub link_handed : (l : Link) (views : List (Option FileBytes)) (r : ResolvedRows) (entry : Option (List ℕ)) (list : Option ListEntries)
-    → views ≡ parts.views_of l → IsResolved l [] r → entry ≡ entry_of l → AreLists l list → IsLinkOf l views r entry list
+    → views ≡ views_of l → IsResolved l [] r → entry ≡ entry_of l → AreLists l list → IsLinkOf l views r entry list
 link_handed l views r entry list is resolved named lists =
-    record { views_are = is ∙ views_same l.inputs; resolved = resolved; entry_is = named; lists = lists }
+    record { views_are = is; resolved = resolved; entry_is = named; lists = lists }
 
 -- the lists of a link, read as one
 pub lists_are : (l : Link) (list : Option ListEntries) → AreListsOf l.export_lists list → AreLists l list
@@ -84,8 +72,8 @@ pub inputs_given : (a : LinkAsked) → IsGiven a → All IsInput (link_asked a).
 inputs_given a given = All-map IsInput input_of a.inputs.now given.inputs
 
 -- views are as few as inputs
-pub views_few : (a : LinkAsked) (views : List (Option FileBytes)) → IsGiven a → views ≡ parts.views_of (link_asked a)
+pub views_few : (a : LinkAsked) (views : List (Option FileBytes)) → IsGiven a → views ≡ views_of (link_asked a)
     → length views < 2 ^ 32
 views_few a views given is =
-    let long : length views ≡ length (map parts.object_view (map input_of a.inputs.now)) = ap length is in
-    omega (arith, long, length-map (map input_of a.inputs.now) parts.object_view, length-map a.inputs.now input_of, given.few)
+    let long : length views ≡ length (map object_view (map input_of a.inputs.now)) = ap length is in
+    omega (arith, long, length-map (map input_of a.inputs.now) object_view, length-map a.inputs.now input_of, given.few)

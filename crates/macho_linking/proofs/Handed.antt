@@ -1,5 +1,5 @@
 -- What is handed on to be sized is what was read of the link.
-use Rattle.std.proofs.Common.{◌≡◌, ℕ, ◌<◌, ◌^◌, false, List, map, length, refl, sym, ap, subst, ◌∙◌, All}
+use Rattle.std.proofs.Common.{◌≡◌, ℕ, ◌<◌, ◌^◌, false, List, map, length, sym, subst, ◌∙◌, All}
 use Rattle.std.specs.Prelude.{Option, Result, Ok, Err, IfOk}
 use Rattle.macho_model.specs.Links.{Link}
 use Rattle.macho_object.specs.Views.{FileBytes}
@@ -15,7 +15,8 @@ use Rattle.macho_reading.specs.declared.link.ReadLink.{ReadLink}
 use Rattle.macho_sizing.specs.declared.asked.SizesOf.{SizesOf}
 use Rattle.macho_sizing.specs.declared.asked.SizedLink.{SizedLink}
 use Rattle.macho_sizing.specs.Sized.{IsSizedOf}
-use Rattle.macho_sizing.specs.Asked.{AreOf, CanBeSized, IsKnownIn}
+use Rattle.macho_consumed.specs.Symbols.{HasPersonality}
+use Rattle.macho_sizing.specs.Asked.{AreOf, CanBeSized}
 use Rattle.macho_linking.specs.steps.Imaged.{IsToSize, HasSizes}
 
 -- The parts that are handed on are those that were read.
@@ -55,7 +56,7 @@ can_be_sized l a views objects lists read libraries h handed = record {
   few = subst (λ (vs : List (Option FileBytes)). length vs < 2 ^ 32) (sym handed.given.0) h.views_are.2;
   rules = subst (All ViewsObject) (sym handed.given.0) h.views_are.1;
   kinds = subst (All (λ (o : LinkedObject). o.file.is_dynamic ≡ false)) (sym handed.given.1) h.objects_are.1;
-  known = rw handed.needs (subst (All (IsKnownIn read.needs)) (sym handed.rows.1) h.read_is.1.entries);
+  known = rw handed.needs (subst (All (HasPersonality read.needs.resolved)) (sym handed.rows.1) h.read_is.1.entries);
   names = (handed.trie.distinct, handed.trie.plain);
   link = l;
   of_link = are_of l a views objects lists read libraries h handed;

@@ -12,7 +12,6 @@ use Rattle.macho_model.specs.Addresses.{offset_in_file}
 use Rattle.macho_model.specs.WrittenSum.{INITIALIZER_SIZE}
 use Rattle.macho_symbols.specs.Kept.{ResolvedRows, HasSymbol}
 use Rattle.macho_consumed.specs.declared.rows.PersonalityUse.{PersonalityUse}
-use Rattle.macho_consumed.specs.Symbols.{HasPersonality}
 use Rattle.macho_fields.specs.Looks.{Look}
 use Rattle.macho_made.specs.Entries.{resolved_row, MayBeBuilt, KnowsPersonality}
 use Rattle.macho_made.specs.Made.{IsOffsetsText, IsUnwindMade}
@@ -34,7 +33,7 @@ rows_fill l b h = omega (arith, ap (λ (rows : _). length rows) h.read.initializ
 
 -- the symbol of an entry's personality is known
 personality_known : (resolved : ResolvedRows) (has_symbol : ℕ → ℕ → Type 0) (file : ℕ) (used : Option PersonalityUse)
-    → ((f s : ℕ) → HasSymbol resolved f s → has_symbol f s) → HasPersonality resolved file used
+    → ((f s : ℕ) → HasSymbol resolved f s → has_symbol f s) → IfSome used (λ u. HasSymbol resolved file u.relocation.r_symbolnum)
     → IfSome used (λ u. has_symbol file u.relocation.r_symbolnum)
 personality_known resolved has_symbol file None knows here = tt
 personality_known resolved has_symbol file (Some u) knows here = knows file u.relocation.r_symbolnum here

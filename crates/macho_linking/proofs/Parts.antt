@@ -2,7 +2,7 @@
 --
 -- Contents come first, then each text into its range. What all writes made is one file into which contents and texts were written, and that
 -- is an image as promised.
-use Rattle.std.proofs.Common.{◌≡◌, ℕ, ◌+◌, ◌-◌, ◌^◌, ◌<◌, ◌≤◌, List, [], ◌∷◌, length, refl, sym, ap, subst, ◌∙◌, arith}
+use Rattle.std.proofs.Common.{◌≡◌, ℕ, ◌^◌, ◌<◌, List, length, refl, sym, ap, subst, ◌∙◌, arith}
 use Rattle.macho_bytes.specs.Texts.{put}
 use Rattle.macho_model.specs.declared.placed.Counts.{Counts}
 use Rattle.macho_model.specs.Links.{Link}
@@ -11,11 +11,10 @@ use Rattle.macho_model.specs.Addresses.{offset_in_file}
 use Rattle.macho_model.specs.Limits.{LIMIT_32}
 use Rattle.macho_fixups.specs.declared.run.Fixup.{Fixup}
 use Rattle.macho_filling.specs.Filled.{NoneIsBad}
-use Rattle.macho_made.specs.Made.{IsToMake}
 use Rattle.macho_made.proofs.Nothing.{nothing_passes}
 use Rattle.macho_ranges.specs.Parts.{written}
 use Rattle.macho_composed.specs.Written.{AreContents, Texts, text_parts}
-use Rattle.macho_composed.specs.Meaning.{IsWritten, WrittenIsLinked, HeadMeans}
+use Rattle.macho_composed.specs.Meaning.{WrittenIsLinked, HeadMeans}
 use Rattle.macho_linking.specs.declared.planned.Planned.{Planned}
 use Rattle.macho_linking.specs.steps.Planned.{IsPlanned, placement_of, counts_of}
 use Rattle.macho_linking.specs.steps.Written.{OffsetsArePut, UnwindIsPut, FixupsArePut, TrieIsPut, SymbolsArePut, HeadIsWritten}

@@ -10,27 +10,20 @@
 -- planned_chained       its words can be written where nothing stands against them
 -- planned_ready         an image of it can be whole
 -- planned_to_fill, planned_sections, planned_stubs, planned_symbols      its sections and stubs can be filled
-use Rattle.std.proofs.Common.{◌≡◌, ℕ, ◌+◌, ◌-◌, ◌*◌, ◌<◌, ◌≤◌, ◌⊎◌, inl, inr, List, map, length, refl, sym, ap, subst, ◌∙◌, arith, All}
-use Rattle.std.proofs.Common.{Contains, get_or, Option, Some, None}
+use Rattle.std.proofs.Common.{◌≡◌, ℕ, ◌<◌, ◌≤◌, ◌⊎◌, inl, inr, List, length, refl, sym, ap, subst}
+use Rattle.std.proofs.Common.{get_or, Option, Some, None}
 use Rattle.std.proofs.lemmas.Bool.{cases_lt}
 use Rattle.std.specs.Prelude.{◌^◌}
-use Rattle.macho_layout.specs.Placements.{placed_of}
 use Rattle.macho_model.specs.declared.placed.Counts.{Counts}
-use Rattle.macho_model.specs.declared.placed.PlacedSection.{PlacedSection}
 use Rattle.macho_model.specs.declared.targets.Limit.TheVariants as limit
 use Rattle.macho_model.specs.Links.{Link}
 use Rattle.macho_model.specs.Needs.{imports_of}
 use Rattle.macho_model.specs.Targets.{target_of}
 use Rattle.macho_model.specs.Fixups.{import_entries_of}
-use Rattle.macho_model.specs.Placement.{Placed, section_span, id_of}
-use Rattle.macho_model.specs.Addresses.{offset_in_file}
-use Rattle.macho_model.specs.Zeros.{filled_sections}
 use Rattle.macho_placing.specs.Laws.{NonePasses}
 use Rattle.macho_object.specs.Views.{FileBytes}
-use Rattle.macho_parts.specs.Views.{views_of}
 use Rattle.macho_promise.specs.Sizes.{counts_with}
-use Rattle.macho_symbols.specs.Kept.{HasSymbol}
-use Rattle.macho_fields.specs.Looks.{Look, Tells}
+use Rattle.macho_fields.specs.Looks.{Look}
 use Rattle.macho_standing.proofs.Whole.{links_lead}
 use Rattle.macho_reading.proofs.Refusals.{personalities_are_fit}
 use Rattle.macho_found.specs.Premises.{IsSoundlyPlaced}

@@ -2,7 +2,7 @@
 --
 -- The signer is the link's: the first `__TEXT` is the only one. The signature's range has just the room that its text takes. What is
 -- signed stands in front of the range, so the file has the same signature before and after it is put.
-use Rattle.std.proofs.Common.{◌≡◌, ℕ, ◌+◌, ◌-◌, ◌<◌, ◌≤◌, ◌^◌, List, length, get_or, refl, sym, ap, subst, ◌∙◌, arith, rules, Bor}
+use Rattle.std.proofs.Common.{◌≡◌, ℕ, ◌+◌, ◌<◌, ◌≤◌, ◌^◌, List, length, get_or, refl, sym, ap, subst, ◌∙◌, arith, rules, Bor}
 use Rattle.macho_bytes.specs.Texts.{put}
 use Rattle.macho_bytes.proofs.Puts.{length-put, get_or-put_below}
 use Rattle.macho_bytes.proofs.Layouts.{length-spelling}

@@ -19,6 +19,9 @@ use macho_numbers::put_text;
 use macho_places::file_offset;
 use std::alloc::Global;
 
+/// The bytes of an initializer's offset.
+const INIT_OFFSET_SIZE: usize = 4;
+
 /// Fills sections and stubs, and writes the words of the loader over them. The words are answered, by their addresses.
 pub(crate) fn write_contents<P: Places>(
     alloc: Global,
@@ -58,7 +61,11 @@ pub(crate) fn write_offsets<P: Places>(
     let placement = &b.sized.placement;
     let rows = &b.read.initializers;
     let at = file_offset(&placement.segments, placement.init_offsets.start) as usize;
-    write_initializers(places, rows, &mut out[at..at + 4 * rows.len()])?;
+    write_initializers(
+        places,
+        rows,
+        &mut out[at..at + INIT_OFFSET_SIZE * rows.len()],
+    )?;
     Ok(())
 }
 

@@ -4,6 +4,7 @@ ghost use Rattle.std.specs.Option.{option_copied};
 ghost use Rattle.macho_model.specs.Links.{Link};
 ghost use Rattle.macho_parts.specs.Views.{views_of};
 ghost use Rattle.macho_symbols.specs.Exported.{AreLists};
+ghost use Rattle.macho_linkedit.specs.Counting.{AreArguments};
 ghost use Rattle.macho_faults.specs.declared.fault.LinkError.TheVariants.{OutOfMemory};
 ghost use Rattle.macho_reading.specs.Read.{IsReadOf, AreKnown, entry_of};
 ghost use Rattle.macho_linked.specs.Linked.{IsImageOf, IsRefused};
@@ -59,6 +60,20 @@ fn read_inputs(
     read_link(alloc, resolved, views, entry_name(asked), list)
 }
 
+/// The arguments that sizes depend on.
+fn size_arguments<'a>(asked: &'a LinkAsked<'a>) -> SizeArguments<'a>
+    ensures { AreArguments (link_asked asked.now) result }
+{
+    SizeArguments {
+        executable: asked.executable,
+        install_name: asked.install_name,
+        has_versions: asked.versions.is_some(),
+        rpaths: asked.rpaths,
+        headerpad: asked.headerpad,
+        name: last_part(asked.output),
+    }
+}
+
 /// Sizes and places what was read.
 fn size_inputs<'a>(
     alloc: Global,
@@ -87,14 +102,7 @@ fn size_inputs<'a>(
         libraries,
     )?;
     let sizes = SizesOf {
-        arguments: SizeArguments {
-            executable: asked.executable,
-            install_name: asked.install_name,
-            has_versions: asked.versions.is_some(),
-            rpaths: asked.rpaths,
-            headerpad: asked.headerpad,
-            name: last_part(asked.output),
-        },
+        arguments: size_arguments(asked),
         libraries,
         views,
         objects,

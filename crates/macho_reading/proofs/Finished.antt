@@ -1,5 +1,5 @@
 -- A link that is read: all its uses are noted, so its needs are whole and its names are found; and what its rows name is kept.
-use Rattle.std.proofs.Common.{◌≡◌, ℕ, List, Option, Some, None, sym, ap, ◌∙◌, subst}
+use Rattle.std.proofs.Common.{◌≡◌, ℕ, List, Option, Some, None, IfSome, sym, ap, ◌∙◌, subst}
 use Rattle.std.proofs.lemmas.List.Elements.{All-weaker}
 use Rattle.macho_object.specs.Views.{FileBytes}
 use Rattle.macho_model.specs.ExportLists.{plain_entries}
@@ -8,7 +8,7 @@ use Rattle.macho_model.specs.Needs.{uses_of, imports_of}
 use Rattle.macho_exports.specs.Entries.{ListEntries}
 use Rattle.macho_symbols.specs.Exported.{AreExports}
 use Rattle.macho_names.specs.Kept.{FileRows}
-use Rattle.macho_symbols.specs.Kept.{ResolvedRows, IsResolved}
+use Rattle.macho_symbols.specs.Kept.{ResolvedRows, IsResolved, HasSymbol}
 use Rattle.macho_symbols.specs.Told.{AreDefined}
 use Rattle.macho_parts.specs.Noted.{imports_in, uses_of_carried}
 use Rattle.macho_parts.specs.Sound.{IsSound}
@@ -51,7 +51,8 @@ is_read l r rows same with_rows sound listed exports = record {
 }
 
 -- what is usable is known
-has_personality : (symbols : ResolvedRows) (file : ℕ) (o : Option PersonalityUse) → IsUsableIf symbols file o → HasPersonality symbols file o
+has_personality : (symbols : ResolvedRows) (file : ℕ) (o : Option PersonalityUse) → IsUsableIf symbols file o
+    → IfSome o (λ p. HasSymbol symbols file p.relocation.r_symbolnum)
 has_personality symbols file None usable = tt
 has_personality symbols file (Some p) usable = usable.symbol
 
@@ -63,7 +64,7 @@ are_known views r rows same of usable =
     record {
       same = of;
       initializers = All-weaker (IsUsable symbols) (HasPointer symbols) (λ row it. it.symbol) r.initializers.items here.initializers;
-      entries = All-weaker (IsUsableEntry symbols) (λ e. HasPersonality symbols e.file e.personality)
+      entries = All-weaker (IsUsableEntry symbols) (HasPersonality symbols)
           (λ e it. has_personality symbols e.file e.personality it) r.entries.items here.entries;
     }
 

@@ -22,24 +22,16 @@ use Rattle.macho_symbols.specs.Kept.{ResolvedRows, IsResolved}
 use Rattle.macho_needs.proofs.Using.{link_with}
 use Rattle.macho_promise.specs.UnwindSays.{relocation_of}
 use Rattle.macho_standing.specs.Leads.{ObjectsAreRead}
-use Rattle.macho_survey.specs.Surveys.{object_view, views_of, AreOfInputs}
+use Rattle.macho_parts.specs.Views.{object_view, views_of}
+use Rattle.macho_survey.specs.Surveys.{AreOfInputs}
 use Rattle.macho_survey.proofs.Viewing.{view_says, file_inside}
-use Rattle.macho_consumed.specs.Views.{view_of, AreViews, AreKept}
+use Rattle.macho_consumed.specs.Views.{AreKept}
 use Rattle.macho_consumed.specs.Rows.{initializer_row, initializer_rows_in, initializer_rows, personality_use, entry_row, entry_rows}
 use Rattle.macho_consumed.specs.Told.{InitializersKeepRules, EntriesKeepRules}
-use Rattle.macho_consumed.proofs.Joined.{mapped_agree}
 use Rattle.macho_consumed.proofs.Members.{here, in_filter, to_filter, in_range, all_joined, all_there}
 use Rattle.macho_consumed.proofs.Tests.{left_of, right_of, passes}
 use Rattle.macho_standing.proofs.Inputs.{section_of_file}
 use Rattle.macho_reading.specs.steps.Rows.{IsWhole, IsSymbolPointer, IsUsable, IsUsableIf, IsUsableEntry}
-
--- views, in the words of consumed sections
-view_same : (x : Input) → object_view x ≡ view_of x
-view_same (Object bytes) = refl
-view_same x = refl
-
-pub are_views : (l : Link) (views : List (Option FileBytes)) → views ≡ views_of l → AreViews l views
-are_views l views are = record { are = are ∙ mapped_agree object_view view_of l.inputs (λ x c. view_same x) }
 
 -- a view that is got is of an object
 object_got : (views : List (Option FileBytes)) (inputs : List Input) (k : ℕ) (f : FileBytes) → views ≡ map object_view inputs
@@ -65,9 +57,9 @@ pub is_resolved : (r : ResolvedRows) (inputs : List Input) → Keeps inputs r.fi
 unfolding link_with
 is_resolved r inputs keeps = record { keeps = keeps.are; notes = refl }
 
-pub are_views_of : (views : List (Option FileBytes)) (inputs : List Input) → views ≡ map object_view inputs → AreViews (link_with inputs) views
+pub are_views_of : (views : List (Option FileBytes)) (inputs : List Input) → views ≡ map object_view inputs → views ≡ views_of (link_with inputs)
 unfolding link_with
-are_views_of views inputs are = are_views (link_with inputs) views are
+are_views_of views inputs are = are
 
 -- files that are viewed are objects
 pub objects_read : (views : List (Option FileBytes)) (inputs : List Input) → views ≡ map object_view inputs → All IsWhole views

@@ -12,7 +12,8 @@ use Rattle.macho_symbols.specs.Told.{AreDefined}
 use Rattle.macho_parts.specs.Noted.{AreNeeds}
 use Rattle.macho_parts.specs.Sound.{NamesAreFound, IsSound}
 use Rattle.macho_needs.specs.Noted.{needed_of}
-use Rattle.macho_survey.specs.Surveys.{views_of, AreOfInputs}
+use Rattle.macho_parts.specs.Views.{views_of}
+use Rattle.macho_survey.specs.Surveys.{AreOfInputs}
 use Rattle.macho_consumed.specs.Rows.{initializer_rows, entry_rows}
 use Rattle.macho_consumed.specs.Symbols.{HasPointer, HasPersonality}
 use Rattle.macho_consumed.specs.Told.{InitializersKeepRules, EntriesKeepRules}
@@ -22,8 +23,8 @@ use Rattle.macho_reading.specs.declared.link.ReadLink.{ReadLink}
 abbrev pub entry_of : Link → Option (List ℕ)
 entry_of l = if l.executable then Some l.entry else None
 
--- The link of which these are handed in: views of its objects, its symbols with no import noted, the name of its entry and the entries
--- of its export lists.
+-- These are the link's: views of its objects, its symbols with no import noted, the name of its entry and the entries of its export
+-- lists.
 pub record IsLinkOf (l : Link) (views : List (Option FileBytes)) (symbols : ResolvedRows) (entry : Option (List ℕ)) (list : Option ListEntries) : Type 0 where
   pub views_are : views ≡ views_of l
   pub resolved : IsResolved l [] symbols
@@ -57,4 +58,4 @@ pub record IsReadOf (l : Link) (r : ReadLink) : Type 0 where
 pub record AreKnown (views : List (Option FileBytes)) (r : ReadLink) : Type 0 where
   pub same : AreOfInputs views r.needs.resolved.files
   pub initializers : All (HasPointer r.needs.resolved) r.initializers.items
-  pub entries : All (λ e. HasPersonality r.needs.resolved e.file e.personality) r.entries.items
+  pub entries : All (HasPersonality r.needs.resolved) r.entries.items

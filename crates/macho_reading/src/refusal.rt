@@ -7,7 +7,8 @@ ghost use Rattle.macho_names.specs.Kept.{Keeps};
 ghost use Rattle.macho_symbols.specs.Kept.{IsResolved};
 ghost use Rattle.macho_symbols.specs.Exported.{AreLists};
 ghost use Rattle.macho_faults.specs.Standing.{Stands};
-ghost use Rattle.macho_survey.specs.Surveys.{AreOfInputs, views_of};
+ghost use Rattle.macho_parts.specs.Views.{views_of};
+ghost use Rattle.macho_survey.specs.Surveys.{AreOfInputs};
 ghost use Rattle.macho_consumed.specs.Told.{IsStanding};
 ghost use Rattle.macho_reading.specs.Read.{entry_of};
 

@@ -106,7 +106,7 @@ limit_name limit.NameBytes = codes "name bytes"
 limit_name limit.Symbols = codes "symbols"
 limit_name limit.Pages = codes "pages"
 
--- Texts are told by their pieces, one behind the other: `FILE: section S, relocation N: `, by the file's number, and what is wrong there.
+-- A text is a list of pieces. Of a relocation, with its file by number: `FILE: section S, relocation N: `, then what is wrong there.
 abbrev pub relocation_text : List (List ℕ) → ℕ → ℕ → ℕ → List ℕ → List (List ℕ)
 relocation_text paths number section relocation text =
     file_name paths number ∷ codes ": section " ∷ decimal section ∷ codes ", relocation " ∷ decimal relocation ∷ codes ": " ∷ text ∷ []

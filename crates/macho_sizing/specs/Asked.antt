@@ -6,9 +6,7 @@ use Rattle.macho_model.specs.Told.{ToldExport}
 use Rattle.macho_parts.specs.Noted.{AreNeeds}
 use Rattle.macho_parts.specs.Views.{views_of, ViewsObject}
 use Rattle.macho_symbols.specs.Kept.{IsResolved}
-use Rattle.macho_needs.specs.declared.needs.Needs.{Needs}
 use Rattle.macho_needs.specs.Noted.{needed_of}
-use Rattle.macho_consumed.specs.declared.rows.UnwindEntry.{UnwindEntry}
 use Rattle.macho_consumed.specs.Rows.{initializer_rows, entry_rows}
 use Rattle.macho_consumed.specs.Symbols.{HasPersonality}
 use Rattle.macho_consumed.specs.Told.{EntriesKeepRules}
@@ -39,17 +37,13 @@ pub record AreOf (l : Link) (a : SizesOf) : Type 0 where
   pub inputs : AreInputs l a
   pub read : IsRead l a
 
--- a row's personality function is a symbol that is resolved
-abbrev pub IsKnownIn : Needs → UnwindEntry → Type 0
-IsKnownIn needs e = HasPersonality needs.resolved e.file e.personality
-
 -- What a caller owes: views of objects that keep their rules, symbols of rows that are known, names that a trie takes; all
 -- of some link.
 pub record CanBeSized (a : SizesOf) : Type 0 where
   pub few : length a.views.now < 2 ^ 32
   pub rules : All ViewsObject a.views.now
   pub kinds : All (λ o. o.file.is_dynamic ≡ false) a.objects.now
-  pub known : All (IsKnownIn a.needs.now) a.entries.now
+  pub known : All (HasPersonality a.needs.now.resolved) a.entries.now
   pub names : AreDistinct (names_in a.exports.now) × HaveNoNul (names_in a.exports.now)
   pub link : Link
   pub of_link : AreOf link a

@@ -8,7 +8,8 @@ ghost use Rattle.macho_symbols.specs.Told.{ImportsAre};
 ghost use Rattle.macho_model.specs.Needs.{imports_of};
 ghost use Rattle.macho_layout.specs.Sums.{fitting};
 ghost use Rattle.macho_linkedit.specs.Imports.{name_bytes};
-ghost use Rattle.macho_sizing.specs.Asked.{AreOf, IsKnownIn};
+ghost use Rattle.macho_consumed.specs.Symbols.{HasPersonality};
+ghost use Rattle.macho_sizing.specs.Asked.{AreOf};
 ghost use Rattle.macho_sizing.specs.steps.Passing.{plain_of, AreNumbers, AreSymbols, AreCounted, AreWithin, IsPassed};
 
 use crate::asked::SizesOf;
@@ -92,7 +93,7 @@ pub(crate) fn count_numbers(
     imports: &[Import],
     list: Option<&ExportList>,
 ) -> Result<Numbers, AllocError>
-    requires { All (IsKnownIn asked.now.needs.now) asked.now.entries.now }
+    requires { All (HasPersonality asked.now.needs.now.resolved) asked.now.entries.now }
     ensures counted { IfOk result (AreCounted asked.now imports.now) }
     ensures done { (l : Link) → AreOf l asked.now → ImportsAre l (imports_of l) imports.now → IfOk result (AreNumbers l) }
     ensures symbols { (l : Link) → AreOf l asked.now → AreLists l (option_copied list.entry) → IfOk result (AreSymbols l) }

@@ -6,7 +6,7 @@ ghost use Rattle.macho_model.specs.Needs.{imports_of, distinct};
 ghost use Rattle.macho_model.specs.Targets.{same_target};
 ghost use Rattle.macho_symbols.specs.Kept.{IsResolved};
 ghost use Rattle.macho_needs.specs.Tables.{target_of, with_some};
-ghost use Rattle.macho_sizing.specs.Asked.{IsKnownIn};
+ghost use Rattle.macho_consumed.specs.Symbols.{HasPersonality};
 ghost use Rattle.macho_sizing.specs.steps.Personalities.{personality_of};
 
 use indexmap::IndexSet;
@@ -16,7 +16,7 @@ use std::alloc::{AllocError, Global};
 
 /// Notes the personality function of an entry, if it has one.
 fn note(needs: &Needs, entry: UnwindEntry, seen: &mut IndexSet<SlotKey>) -> Result<(), AllocError>
-    requires { IsKnownIn needs.now entry }
+    requires { HasPersonality needs.now.resolved entry }
     ensures { (l : Link) → IsResolved l (imports_of l) needs.now.resolved
         → OnOk result (map target_of seen.new.keys ≡ with_some same_target (map target_of seen.old.keys) (personality_of l entry)) }
 {
@@ -35,7 +35,7 @@ pub(crate) fn count_personalities(
     needs: &Needs,
     entries: &[UnwindEntry],
 ) -> Result<usize, AllocError>
-    requires { All (IsKnownIn needs.now) entries.now }
+    requires { All (HasPersonality needs.now.resolved) entries.now }
     ensures { (l : Link) → IsResolved l (imports_of l) needs.now.resolved
         → IfOk result (λ n. n ≡ length (distinct same_target (filter_map (personality_of l) entries.now))) }
 {

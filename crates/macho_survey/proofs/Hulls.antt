@@ -1,11 +1,11 @@
 -- Fields that rise or fall. What all fields so far lie between is known; one more that stands before or behind that shares no
 -- byte with any. The second of a pair is held against what those before its partner lie between.
-use Rattle.std.proofs.Common.{◌≡◌, ℕ, ◌+◌, ◌-◌, ◌*◌, ◌<◌, ◌≤◌, ◌⊎◌, inl, inr, Bool, true, false, ◌&&◌, ◌||◌, nat_le, nat_lt, ◌==◌, min, max}
-use Rattle.std.proofs.Common.{List, Option, Some, None, refl, sym, ap, ◌∙◌, subst, arith, if◌then◌else◌}
+use Rattle.std.proofs.Common.{◌≡◌, ℕ, ◌+◌, ◌-◌, ◌<◌, ◌≤◌, ◌⊎◌, inl, inr, Bool, true, false, ◌&&◌, ◌||◌, nat_le, nat_lt, ◌==◌}
+use Rattle.std.proofs.Common.{List, Some, None, refl, sym, ap, ◌∙◌, subst, arith, if◌then◌else◌}
 use Rattle.std.proofs.lemmas.Bool.Decides.{nat_tests}
 use Rattle.std.proofs.lemmas.Bool.{cases_lt, eq-eqb}
 use Rattle.macho_structs.specs.declared.relocations.RelocationInfo.{RelocationInfo}
-use Rattle.macho_model.specs.Objects.{section_at, relocation_at}
+use Rattle.macho_model.specs.Objects.{relocation_at}
 use Rattle.macho_model.specs.Fields.{is_pair}
 use Rattle.macho_survey.specs.declared.overlap.Hull.{Hull}
 use Rattle.macho_survey.specs.steps.Windows.{window_in, ends, tests_before}

@@ -1,36 +1,36 @@
 -- One relocation more. Its use is noted; what stands against it by itself is found, unless another of its kind was before; and
 -- where nothing is found, it is fine.
-use Rattle.std.proofs.Common.{◌≡◌, ℕ, ◌+◌, ◌<◌, Bool, true, false, ◌&&◌, ◌||◌, not, ◌==◌, List, [], ◌∷◌, ◌++◌, Option, Some, None, IfSome}
-use Rattle.std.proofs.Common.{All, Contains, is_some, map, filter, codes, refl, sym, ap, ◌∙◌, subst, if◌then◌else◌}
+use Rattle.std.proofs.Common.{◌≡◌, ℕ, ◌<◌, Bool, true, false, ◌&&◌, ◌||◌, not, ◌==◌, List, [], ◌∷◌, ◌++◌, Option, Some, None, IfSome}
+use Rattle.std.proofs.Common.{Contains, filter, refl, sym, ap, ◌∙◌, if◌then◌else◌}
 use Rattle.std.specs.Str.{bytes_eq}
 use Rattle.std.proofs.lemmas.List.Elements.{All-push}
 use Rattle.macho_bytes.specs.Texts.{name_of}
 use Rattle.macho_records.specs.declared.header.SectionHeader.{SectionHeader}
-use Rattle.macho_records.specs.declared.constants.TheConstants.{ARM64_RELOC_ADDEND, ARM64_RELOC_SUBTRACTOR, S_THREAD_LOCAL_REGULAR}
+use Rattle.macho_records.specs.declared.constants.TheConstants.{S_THREAD_LOCAL_REGULAR}
 use Rattle.macho_records.specs.declared.constants.TheConstants.{S_THREAD_LOCAL_VARIABLES, S_THREAD_LOCAL_ZEROFILL}
 use Rattle.macho_records.specs.Sections.{type_of}
 use Rattle.macho_model.specs.declared.targets.Target.{Target}
 use Rattle.macho_model.specs.Symbols.{is_in_segment}
-use Rattle.macho_model.specs.ObjectRules.{is_thread_local, thread_local_in_data}
-use Rattle.macho_model.specs.Objects.{num_sections, section_at}
+use Rattle.macho_model.specs.ObjectRules.{is_thread_local}
+use Rattle.macho_model.specs.Objects.{num_sections}
 use Rattle.macho_model.specs.Grammar.{IsObject}
 use Rattle.macho_model.specs.Links.{Link, SectionId, object_of, header_at, carried_of}
 use Rattle.macho_model.specs.Needs.{Use, ByRelocation, relocation_in, relocations_of}
 use Rattle.macho_model.specs.Targets.{target_of_relocation, is_import}
-use Rattle.macho_model.specs.Fields.{Field, field_of, content_of, fields_of, is_prefix_type, addend_of}
+use Rattle.macho_model.specs.Fields.{field_of, content_of, fields_of, is_prefix_type, addend_of}
 use Rattle.macho_model.specs.Segments.{segment_name, may_hold_pointers, DATA, DATA_CONST}
 use Rattle.macho_model.specs.Stands.{is_template_offset}
 use Rattle.macho_model.specs.Rows.{is_supported}
-use Rattle.macho_model.specs.Values.{section_id, FieldOf, fits_signed, is_pointer, is_absolute_target, needs_fixup}
+use Rattle.macho_model.specs.Values.{FieldOf, fits_signed, is_pointer, is_absolute_target, needs_fixup}
 use Rattle.macho_needs.specs.declared.needs.Needs.{Needs}
 use Rattle.macho_needs.specs.Noted.{IsNoted, referent, pointer_of}
 use Rattle.macho_survey.specs.declared.findings.Place.{Place}
 use Rattle.macho_survey.specs.declared.findings.Addend.{Addend}
 use Rattle.macho_survey.specs.declared.findings.Findings.{Findings}
-use Rattle.macho_survey.specs.Surveys.{IsFine, IsFineRelocation, IsApart}
-use Rattle.macho_survey.specs.steps.Found.{first_if, first_of, IsUnsupported, IsBadAddend, IsBadPlace, AreStanding, IsClean, IsSurveyed}
+use Rattle.macho_survey.specs.Surveys.{IsFine, IsFineRelocation}
+use Rattle.macho_survey.specs.steps.Found.{first_if, first_of, IsUnsupported, IsBadAddend, IsBadPlace, IsClean, IsSurveyed}
 use Rattle.macho_survey.specs.steps.Supported.{supported_in}
-use Rattle.macho_survey.specs.steps.Sections.{bad_addend, is_pointer_to, misplaced, judged}
+use Rattle.macho_survey.specs.steps.Sections.{bad_addend, misplaced, judged}
 use Rattle.macho_survey.proofs.Listed.{in_map, in_filter, in_range}
 use Rattle.macho_survey.proofs.Supporting.{window_of, supported_is}
 use Rattle.macho_survey.proofs.Pointed.{IsPlain, plain_is, plain_says, plain_leads}

@@ -1,14 +1,12 @@
 -- A relocation of an object, as one of a link. What was read of it by the object's bytes is what the link says of it, since the
 -- object is that of the link's file.
-use Rattle.std.proofs.Common.{◌≡◌, ℕ, ◌+◌, ◌^◌, ◌<◌, true, List, Option, Some, None, Contains, refl, sym, ap, ◌∙◌, subst, arith}
+use Rattle.std.proofs.Common.{◌≡◌, ℕ, ◌^◌, ◌<◌, List, Option, Some, None, Contains, sym, ap, ◌∙◌, subst, arith}
 use Rattle.std.proofs.Common.{if◌then◌else◌}
 use Rattle.macho_bytes.specs.Numbers.{le_at}
-use Rattle.macho_bytes.specs.Texts.{name_of}
 use Rattle.macho_structs.specs.Relocations.{BitsFit}
-use Rattle.macho_structs.specs.declared.relocations.RelocationInfo.{RelocationInfo}
 use Rattle.macho_model.specs.Objects.{num_sections, section_at, section_bytes, relocation_at}
 use Rattle.macho_model.specs.Grammar.{IsObject}
-use Rattle.macho_model.specs.Links.{Link, SectionId, object_of, header_at, carried_of}
+use Rattle.macho_model.specs.Links.{Link, SectionId, object_of, carried_of}
 use Rattle.macho_model.specs.Needs.{relocation_in}
 use Rattle.macho_model.specs.Fields.{content_of}
 use Rattle.macho_object.specs.Views.{FileBytes}

@@ -1,18 +1,16 @@
 -- One section more: two relocations that overlap in it are found, or all are apart.
-use Rattle.std.proofs.Common.{◌≡◌, ℕ, ◌<◌, ◌⊎◌, true, false, List, [], ◌∷◌, ◌++◌, Option, Some, None, IfSome, Contains, refl, sym, ap, ◌∙◌}
+use Rattle.std.proofs.Common.{◌≡◌, ℕ, ◌<◌, true, List, [], ◌∷◌, ◌++◌, Option, Some, None, IfSome, Contains, sym}
 use Rattle.std.proofs.Common.{subst}
 use Rattle.std.proofs.lemmas.List.Elements.{All-push}
 use Rattle.macho_model.specs.Objects.{num_sections, section_at}
-use Rattle.macho_model.specs.Links.{Link, SectionId, object_of, header_at, is_carried, carried_of}
+use Rattle.macho_model.specs.Links.{Link, SectionId, object_of, is_carried, carried_of}
 use Rattle.macho_model.specs.Needs.{Use}
-use Rattle.macho_model.specs.Rows.{share_byte, are_pair}
 use Rattle.macho_needs.specs.declared.needs.Needs.{Needs}
-use Rattle.macho_survey.specs.declared.findings.Pair.{Pair}
 use Rattle.macho_survey.specs.declared.findings.Findings.{Findings}
 use Rattle.macho_survey.specs.declared.section.Section.{Section}
 use Rattle.macho_survey.specs.Surveys.{IsApart}
 use Rattle.macho_survey.specs.steps.Found.{first_of, IsOverlap, IsClean, IsSurveyed}
-use Rattle.macho_survey.specs.steps.Overlaps.{AreApart, Overlaps, IsFoundIn}
+use Rattle.macho_survey.specs.steps.Overlaps.{IsFoundIn}
 use Rattle.macho_survey.specs.steps.Sections.{id_of, pair_of, HasObject}
 use Rattle.macho_survey.proofs.Judging.{if_first_of, none_first_of}
 use Rattle.macho_survey.proofs.Walking.{carried_there, same_object}

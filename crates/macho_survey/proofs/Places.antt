@@ -2,14 +2,14 @@
 -- byte with an earlier one exactly where the table has an entry at one of its bytes; and that is its partner, or the two overlap.
 use Rattle.std.proofs.Common.{◌≡◌, ℕ, ◌+◌, ◌-◌, ◌<◌, ◌≤◌, ◌⊎◌, inl, inr, Bool, true, false, ◌&&◌, nat_le, nat_lt, ◌==◌, max, List, Option}
 use Rattle.std.proofs.Common.{Some, None, refl, sym, ap, ◌∙◌, subst, arith, pow_pos, if◌then◌else◌}
-use Rattle.std.proofs.lemmas.Bool.{cases_lt, eq-eqb, eqb-true}
+use Rattle.std.proofs.lemmas.Bool.{cases_lt, eqb-true}
 use Rattle.std.proofs.lemmas.Bool.Decides.{nat_tests}
 use Rattle.macho_structs.specs.declared.relocations.RelocationInfo.{RelocationInfo}
 use Rattle.macho_model.specs.Objects.{section_at, relocation_at}
 use Rattle.macho_model.specs.Fields.{is_pair}
 use Rattle.macho_survey.specs.declared.pairs.Seen.{Seen}
 use Rattle.macho_survey.specs.steps.Windows.{window_in, ends, tests_before}
-use Rattle.macho_survey.specs.steps.Overlaps.{field_end, shares, are_one, GoTogether, AreApart, Overlaps, IsFoundIn, or_new, IsPartner}
+use Rattle.macho_survey.specs.steps.Overlaps.{field_end, shares, are_one, GoTogether, AreApart, Overlaps, or_new, IsPartner}
 use Rattle.macho_survey.specs.steps.Overlaps.{IsPut, IsTaken, IsTable, PutsOrTaken}
 use Rattle.macho_survey.proofs.Hulls.{partner}
 

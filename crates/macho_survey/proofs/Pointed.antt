@@ -1,28 +1,25 @@
 -- A relocation is a pointer of 8 bytes where it is of the plain type, has the length of 8 bytes and no subtrahend. Its addend is
 -- then its content, or that less the address of the section that it names by number.
-use Rattle.std.proofs.Common.{◌≡◌, ℕ, ◌+◌, ◌-◌, ◌*◌, ◌%◌, ◌^◌, ◌<◌, ◌≤◌, ◌⊎◌, inl, inr, Bool, true, false, ◌&&◌, ◌||◌, not, ◌==◌, List}
-use Rattle.std.proofs.Common.{Option, Some, None, is_some, refl, sym, ap, ◌∙◌, subst, arith, if◌then◌else◌}
+use Rattle.std.proofs.Common.{◌≡◌, ℕ, ◌-◌, ◌*◌, ◌^◌, ◌<◌, ◌≤◌, ◌⊎◌, inl, inr, Bool, true, false, ◌&&◌, ◌||◌, not, ◌==◌}
+use Rattle.std.proofs.Common.{Some, None, is_some, refl, sym, ap, ◌∙◌, subst, arith, if◌then◌else◌}
 use Rattle.std.proofs.lemmas.Bool.{eqb-true, cases_lt}
 use Rattle.macho_bytes.specs.Numbers.{le_at, signed}
-use Rattle.macho_structs.specs.declared.relocations.RelocationInfo.{RelocationInfo}
-use Rattle.macho_records.specs.declared.constants.TheConstants.{ARM64_RELOC_ADDEND, ARM64_RELOC_BRANCH26, ARM64_RELOC_GOT_LOAD_PAGE21}
+use Rattle.macho_records.specs.declared.constants.TheConstants.{ARM64_RELOC_BRANCH26, ARM64_RELOC_GOT_LOAD_PAGE21}
 use Rattle.macho_records.specs.declared.constants.TheConstants.{ARM64_RELOC_GOT_LOAD_PAGEOFF12, ARM64_RELOC_PAGE21, ARM64_RELOC_PAGEOFF12}
-use Rattle.macho_records.specs.declared.constants.TheConstants.{ARM64_RELOC_POINTER_TO_GOT, ARM64_RELOC_SUBTRACTOR}
+use Rattle.macho_records.specs.declared.constants.TheConstants.{ARM64_RELOC_POINTER_TO_GOT}
 use Rattle.macho_records.specs.declared.constants.TheConstants.{ARM64_RELOC_TLVP_LOAD_PAGE21, ARM64_RELOC_TLVP_LOAD_PAGEOFF12}
 use Rattle.macho_records.specs.declared.constants.TheConstants.{ARM64_RELOC_UNSIGNED}
-use Rattle.macho_model.specs.declared.targets.Target.{Target}
-use Rattle.macho_model.specs.Objects.{section_bytes, relocation_at}
+use Rattle.macho_model.specs.Objects.{section_bytes}
 use Rattle.macho_model.specs.Links.{Link, SectionId, object_of}
 use Rattle.macho_model.specs.Needs.{relocation_in}
 use Rattle.macho_model.specs.Targets.{target_of_relocation}
 use Rattle.macho_model.specs.Fields.{Field, field_of, width_of, content_of, has_subtrahend, has_addend, subtrahend_of, addend_of}
-use Rattle.macho_model.specs.Fields.{pointer_addend, is_prefix_type}
+use Rattle.macho_model.specs.Fields.{pointer_addend}
 use Rattle.macho_model.specs.Stands.{Kind, Pointer, Difference, Branch, Page, Offset, SlotPage, SlotOffset, SlotDistance, NoKind, kind_of}
 use Rattle.macho_model.specs.Values.{is_pointer}
 use Rattle.macho_needs.specs.Noted.{pointer_of, referent}
-use Rattle.macho_survey.specs.declared.pairs.Seen.{Seen}
-use Rattle.macho_survey.specs.steps.Windows.{window_in, subtracted}
-use Rattle.macho_survey.specs.steps.Sections.{is_plain, pointer_at, addend_by, counted_from}
+use Rattle.macho_survey.specs.steps.Windows.{subtracted}
+use Rattle.macho_survey.specs.steps.Sections.{is_plain, pointer_at, addend_by}
 use Rattle.macho_survey.proofs.Supporting.{window_of, subtracted_is}
 
 is_ptr : Kind → Bool

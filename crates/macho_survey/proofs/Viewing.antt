@@ -1,6 +1,6 @@
 -- Views of the files of a link, and what the whole walk gives. A view is there where the file is an object, and has its bytes; any
 -- other file has no sections. Once all files were looked at, all uses by carried relocations were, and all carried sections.
-use Rattle.std.proofs.Common.{◌≡◌, ℕ, ◌+◌, ◌<◌, ◌≤◌, true, false, not, List, [], ◌∷◌, ◌++◌, length, take, map, get_or, Option, Some, None}
+use Rattle.std.proofs.Common.{◌≡◌, ℕ, ◌<◌, ◌≤◌, false, not, List, [], ◌∷◌, ◌++◌, length, take, map, get_or, Option, Some, None}
 use Rattle.std.proofs.Common.{All, Contains, refl, sym, ap, ◌∙◌, subst, arith, append-nil, append_assoc, filter, IfNone}
 use Rattle.std.specs.List.{flat_map, enumerate_from}
 use Rattle.std.proofs.lemmas.List.{length-map, get_or-map}
@@ -21,8 +21,9 @@ use Rattle.macho_parts.specs.Sound.{IsSound}
 use Rattle.macho_needs.specs.declared.needs.Needs.{Needs}
 use Rattle.macho_needs.specs.Noted.{IsNoted}
 use Rattle.macho_survey.specs.declared.findings.Findings.{Findings}
-use Rattle.macho_survey.specs.Surveys.{object_view, views_of, AreOfInputs, IsFine, IsFineRelocation, IsApart}
-use Rattle.macho_survey.specs.steps.Found.{AreStanding, IsClean, IsSurveyed}
+use Rattle.macho_parts.specs.Views.{object_view, views_of}
+use Rattle.macho_survey.specs.Surveys.{AreOfInputs, IsFine, IsFineRelocation, IsApart}
+use Rattle.macho_survey.specs.steps.Found.{IsClean, IsSurveyed}
 use Rattle.macho_survey.specs.steps.Sections.{HasRows, HasObject, carried_among, uses_among, carried_in, uses_in, input_at}
 use Rattle.macho_survey.proofs.Listed.{in_map, of_map, of_filter, in_range, of_range}
 use Rattle.macho_survey.proofs.Walking.{in_flat_map, walked_all}

@@ -1,7 +1,7 @@
 -- Walks over lists. What is told of a list is told of its elements one after the other: the first i of them, then one more. A
 -- telling of two lists that are joined joins what it tells of each.
 use Rattle.std.proofs.Common.{◌≡◌, ℕ, ◌+◌, ◌<◌, ◌≤◌, ◌⊎◌, inl, inr, Bool, true, false, List, [], ◌∷◌, ◌++◌, length, take, drop, get_or}
-use Rattle.std.proofs.Common.{if◌then◌else◌, Option, Some, None, map, filter, Contains, refl, sym, ap, ◌∙◌, subst, arith, append-nil}
+use Rattle.std.proofs.Common.{if◌then◌else◌, Some, None, Contains, refl, sym, ap, ◌∙◌, subst, arith, append-nil}
 use Rattle.std.proofs.Common.{append_assoc}
 use Rattle.std.specs.List.{flat_map, range_with_len, enumerate_from}
 use Rattle.std.proofs.lemmas.List.{take_more, take-append-drop, length-map, get_or_default, take_all}

@@ -1,6 +1,6 @@
 -- What the rules of an object give: a relocation's field is inside its section's bytes, and what it names is there.
 use Rattle.std.proofs.Common.{◌≡◌, ℕ, ◌+◌, ◌-◌, ◌^◌, ◌<◌, ◌≤◌, Bool, true, false, ◌&&◌, ◌||◌, not, ◌==◌, nat_le, nat_lt, List, [], length}
-use Rattle.std.proofs.Common.{slice_range, get_or, Option, Some, is_none, map, refl, sym, ap, ◌∙◌, subst, arith, min, if◌then◌else◌}
+use Rattle.std.proofs.Common.{slice_range, get_or, is_none, refl, sym, ap, ◌∙◌, subst, arith, if◌then◌else◌}
 use Rattle.std.proofs.lemmas.Bool.Decides.{nat_tests}
 use Rattle.std.proofs.lemmas.Bool.{eqb-true}
 use Rattle.std.proofs.lemmas.List.{length-map, get_or-map, length-take, length-drop}
@@ -10,9 +10,9 @@ use Rattle.macho_records.specs.declared.constants.TheConstants.{ARM64_RELOC_ADDE
 use Rattle.macho_records.specs.Sections.{is_zerofill}
 use Rattle.macho_model.specs.Objects.{num_sections, num_symbols, section_at, section_bytes, relocation_at}
 use Rattle.macho_model.specs.Grammar.{IsObject}
-use Rattle.macho_model.specs.Links.{Input, Object, no_input}
-use Rattle.macho_names.specs.Kept.{FileRows, Keeps, kept_of, kept_object, row_of_symbol, rows_of_object, no_file}
-use Rattle.macho_symbols.specs.Kept.{ResolvedRows, HasSymbol}
+use Rattle.macho_model.specs.Links.{no_input}
+use Rattle.macho_names.specs.Kept.{FileRows, kept_of, kept_object, row_of_symbol, rows_of_object, no_file}
+use Rattle.macho_symbols.specs.Kept.{ResolvedRows}
 use Rattle.macho_needs.specs.Noted.{HasReferent, names_symbol}
 use Rattle.macho_survey.specs.declared.pairs.Seen.{Seen}
 use Rattle.macho_survey.specs.steps.Windows.{window_in}

@@ -1,6 +1,6 @@
 -- What the walk over the carried relocations is given, and what it finds.
-use Rattle.std.specs.Prelude.{◌≡◌, ℕ, ◌<◌, ◌⊎◌, true, false, List, length, map, get_or, Option, Some, None, All, Contains}
-use Rattle.macho_model.specs.Links.{Input, Object, Dylib, Stub, Link, SectionId, no_input, header_at, carried_of}
+use Rattle.std.specs.Prelude.{◌≡◌, ℕ, ◌<◌, ◌⊎◌, true, false, List, map, Option}
+use Rattle.macho_model.specs.Links.{Input, Link, SectionId, header_at}
 use Rattle.macho_model.specs.Fields.{field_of}
 use Rattle.macho_model.specs.Needs.{Use, ByRelocation, ByInitializer, ByPersonality, ByName}
 use Rattle.macho_model.specs.Targets.{is_import}
@@ -9,16 +9,7 @@ use Rattle.macho_model.specs.Segments.{segment_name, may_hold_pointers}
 use Rattle.macho_model.specs.Values.{fits_signed, is_pointer, needs_fixup}
 use Rattle.macho_object.specs.Views.{FileBytes}
 use Rattle.macho_names.specs.Kept.{FileRows, Keeps}
-
--- an input that is an object, as it is viewed
-abbrev pub object_view : Input → Option FileBytes
-object_view (Object bytes) = Some (record { bytes = bytes; is_dynamic = false })
-object_view (Dylib bytes) = None
-object_view (Stub text says) = None
-
--- the views of a link's objects, by the numbers of their files
-abbrev pub views_of : Link → List (Option FileBytes)
-views_of l = map object_view l.inputs
+use Rattle.macho_parts.specs.Views.{object_view}
 
 -- Views and rows of symbols are of the same inputs.
 pub record AreOfInputs (views : List (Option FileBytes)) (files : List FileRows) : Type 0 where

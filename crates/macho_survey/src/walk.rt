@@ -13,7 +13,8 @@ ghost use Rattle.macho_faults.specs.Standing.{Stands};
 ghost use Rattle.macho_parts.specs.Noted.{BeginsWith, uses_of_carried};
 ghost use Rattle.macho_parts.specs.Sound.{IsSound};
 ghost use Rattle.macho_needs.specs.Noted.{IsNoted};
-ghost use Rattle.macho_survey.specs.Surveys.{AreOfInputs, views_of, object_view};
+ghost use Rattle.macho_parts.specs.Views.{views_of, object_view};
+ghost use Rattle.macho_survey.specs.Surveys.{AreOfInputs};
 ghost use Rattle.macho_survey.specs.steps.Found.{IsSurveyed};
 ghost use Rattle.macho_survey.specs.steps.Sections.{HasRows, HasObject, carried_among, uses_among, carried_in, uses_in, input_at};
 

@@ -18,7 +18,7 @@ use Rattle.macho_job.specs.Causes.{NoneFailed, status_of, IsClear, JobFails, Wor
 use Rattle.macho_job.specs.Job.{Outside}
 use Rattle.macho_job.proofs.Sure.{sure-fault}
 use Rattle.wild_macho.specs.declared.passes.Ran.{Ran}
-use Rattle.wild_macho.specs.Runs.{Devices, Teller, outside, HasCauseIn, Says, IsRun, refused, runs, SayJob, IsOwed}
+use Rattle.wild_macho.specs.Runs.{Devices, ErrorSink, outside, HasCauseIn, Says, IsRun, refused, runs, SayJob, IsOwed}
 
 -- words that say settings aren't refused
 said-not-refused : (words : List (List ℕ)) (files : Outside) (s : Settings) (f : ArgsFault) → Says words files s → IsRefused words f → ⊥
@@ -43,7 +43,7 @@ status-is status None is memory = inl is
 status-is status (Some f) is memory = inr (is ∙ ap (λ (g : Fault). status_of (Some g)) memory)
 
 by-settings : (words : List (List ℕ)) (d : Option Directories) (c : Option CanonicalPaths) (files : Store) (old new : Devices)
-    (before after : Teller) (s : Settings) (f : Option Fault)
+    (before after : ErrorSink) (s : Settings) (f : Option Fault)
     → old.outside ≡ outside d c (Some files) → SayJob words (outside d c (Some files)) IsClear → NoneFailed old.failures new.failures
     → Says words (outside d c (Some files)) s
     → IfSome f (HasCauseIn s old new before after) → IfSome f (λ g. g ≡ fault.OutOfMemory)
@@ -55,7 +55,7 @@ by-settings words d c files old new before after s (Some f) same sure calm says 
 
 -- THE answer of a run whose job has nothing against it
 pub sure-status : (words : List (List ℕ)) (d : Option Directories) (c : Option CanonicalPaths) (told : Option Store) (files : Store)
-    (old new : Devices) (before after : Teller) (ran : Ran)
+    (old new : Devices) (before after : ErrorSink) (ran : Ran)
     → old.outside ≡ outside d c told → told ≡ Some files → IsRun words old new before after ran
     → SayJob words (outside d c (Some files)) IsClear
     → NoneFailed old.failures new.failures

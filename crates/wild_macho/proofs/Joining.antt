@@ -33,7 +33,7 @@ use Rattle.wild_macho.specs.declared.passes.Ran.{Ran}
 use Rattle.wild_macho.specs.declared.passes.Made.{Made}
 use Rattle.wild_macho.specs.steps.Made.{LeavesAll, IsBadName}
 use Rattle.wild_macho.specs.steps.Made.{IsMade, IsLinkFault, Ends, EndsWith, EndsBare, EndFails, PrintFails, Prints, Finishes, Answers}
-use Rattle.wild_macho.specs.Runs.{Devices, devices, outside, Teller, LeavesImage, LeavesLines, LeavesNothing}
+use Rattle.wild_macho.specs.Runs.{Devices, devices, outside, ErrorSink, LeavesImage, LeavesLines, LeavesNothing}
 use Rattle.wild_macho.specs.Runs.{HasImage, HasCauseIn, RunsBy}
 
 -- a refusal of the link that is kept is one of the job
@@ -228,7 +228,7 @@ lines-cause writes later prints after (Some (fault.Words refusal)) why = absurd 
 lines-cause writes later prints after (Some (fault.Read word)) why = absurd why
 
 -- a run that was answered, and whose fault was told
-pub told-run : (s : Settings) (paths : List (List ℕ)) (old new : Devices) (before after : Teller) (ran : Ran) (f : Fault)
+pub told-run : (s : Settings) (paths : List (List ℕ)) (old new : Devices) (before after : ErrorSink) (ran : Ran) (f : Fault)
     → ran.fault ≡ Some f → Answers s paths old new ran
     → (bad_name (link_of s) ≡ true → IsBadName ran.fault)
     → IsLineTold before.taken after.taken before.faults after.faults (fault_line s.inputs s.export_list_paths paths f)
@@ -244,7 +244,7 @@ told-run s paths old new before after ran f is answers named line = record {
 }
 
 -- a run without a fault
-pub quiet-run : (s : Settings) (paths : List (List ℕ)) (old new : Devices) (before after : Teller) (ran : Ran) → ran.fault ≡ None
+pub quiet-run : (s : Settings) (paths : List (List ℕ)) (old new : Devices) (before after : ErrorSink) (ran : Ran) → ran.fault ≡ None
     → Answers s paths old new ran
     → (bad_name (link_of s) ≡ true → IsBadName ran.fault) → RunsBy s old new before after ran
 quiet-run s paths old new before after ran is answers named = record {
@@ -263,7 +263,7 @@ same-devices d e c k h m r q w v p t is1 is2 is3 is4 is5 = rw (is1, is2, is3, is
 -- a run from devices that tell the same
 pub runs-from : (s : Settings) (d e : Option Directories) (c k : Option CanonicalPaths) (h m : Option Store) (r q w v p : ℕ)
     (t : Option (List ℕ)) (new : Devices)
-    (before after : Teller) (ran : Ran) → e ≡ d → k ≡ c → m ≡ h → q ≡ r → v ≡ w
+    (before after : ErrorSink) (ran : Ran) → e ≡ d → k ≡ c → m ≡ h → q ≡ r → v ≡ w
     → RunsBy s (devices (outside e k m) q v p t) new before after ran
     → RunsBy s (devices (outside d c h) r w p t) new before after ran
 runs-from s d e c k h m r q w v p t new before after ran is1 is2 is3 is4 is5 runs =

@@ -34,13 +34,13 @@ pub record Devices : Type 0 where
 abbrev pub devices : Outside → (reads writes prints : ℕ) → Option (List ℕ) → Devices
 devices files reads writes prints printed = record { outside = files; failures = failures reads writes prints; printed = printed }
 
--- What the device tells that takes the line of a fault: what it took, and how often it failed.
-pub record Teller : Type 0 where
+-- What the sink of a fault's line tells: what it took, and how often it failed.
+pub record ErrorSink : Type 0 where
   pub taken : Option (List ℕ)
   pub faults : ℕ
 
-abbrev pub teller : Option (List ℕ) → ℕ → Teller
-teller taken faults = record { taken = taken; faults = faults }
+abbrev pub error_sink : Option (List ℕ) → ℕ → ErrorSink
+error_sink taken faults = record { taken = taken; faults = faults }
 
 -- What the output path holds where there is an image, by the fault that came: the image's bytes, or after a write that
 -- failed the first of them, or what it held. Every other path holds what it held. No other fault comes beside an image.
@@ -74,13 +74,13 @@ pub record HasImage (s : Settings) (old new : Devices) (fault : Option Fault) (i
   pub lines : LeavesLines fault old.printed new.printed (run_lines s job.link job.paths image)
 
 -- A fault of settings has its cause, by the files that were read, and its line is told.
-pub record HasCauseIn (s : Settings) (old new : Devices) (before after : Teller) (fault : Fault) : Type 0 where
+pub record HasCauseIn (s : Settings) (old new : Devices) (before after : ErrorSink) (fault : Fault) : Type 0 where
   pub paths : List (List ℕ)
   pub why : JobFails old.outside.store s paths old.failures new.failures fault
   pub line : IsLineTold before.taken after.taken before.faults after.faults (fault_line s.inputs s.export_list_paths paths fault)
 
 -- A run by settings.
-pub record RunsBy (s : Settings) (old new : Devices) (before after : Teller) (ran : Ran) : Type 0 where
+pub record RunsBy (s : Settings) (old new : Devices) (before after : ErrorSink) (ran : Ran) : Type 0 where
   -- the status is that of the fault, 0 exactly where there is none
   pub status : ran.status ≡ status_of ran.fault
   -- an image is that of the job; without one nothing is left behind
@@ -91,7 +91,7 @@ pub record RunsBy (s : Settings) (old new : Devices) (before after : Teller) (ra
   pub named : bad_name (link_of s) ≡ true → (ran.fault ≡ Some (LinkFault BadName)) ⊎ (ran.fault ≡ Some OutOfMemory)
 
 -- A run whose words are refused: the fault is that of the first which breaks its row, or want of memory; it is told, and nothing changes.
-pub record RefusesWords (words : List (List ℕ)) (old new : Devices) (before after : Teller) (ran : Ran) : Type 0 where
+pub record RefusesWords (words : List (List ℕ)) (old new : Devices) (before after : ErrorSink) (ran : Ran) : Type 0 where
   pub fault : Fault
   pub is : ran.fault ≡ Some fault
   pub status : ran.status ≡ status_of (Some fault)
@@ -105,7 +105,7 @@ abbrev pub Says : List (List ℕ) → Outside → Settings → Type 0
 Says words files s = IsParsed files.directories files.canonical_paths words s
 
 -- THE promise of a run: its words are refused, or they say settings by which it runs.
-pub data IsRun (words : List (List ℕ)) (old new : Devices) (before after : Teller) (ran : Ran) : Type 0 where
+pub data IsRun (words : List (List ℕ)) (old new : Devices) (before after : ErrorSink) (ran : Ran) : Type 0 where
   refused : RefusesWords words old new before after ran → IsRun words old new before after ran
   runs : (s : Settings) → Says words old.outside s → RunsBy s old new before after ran → IsRun words old new before after ran
 
@@ -118,8 +118,8 @@ pub record KeepsPaths {D : Type 0} (directories : D → Option Directories) (can
 abbrev pub AskForNoLines : List (List ℕ) → Outside → Type 0
 AskForNoLines words files = (s : Settings) → Says words files s → (s.map_lines ≡ false) × (s.generate ≡ None)
 
--- Words that say a job whose link is such. Where all is told outside, words say one thing; where directories or canonical paths
--- aren't told, it is whatever they may say.
+-- Words that say a job whose link has the property `IsSuch`. Where all is told outside, words say one thing; where directories or
+-- canonical paths aren't told, it is whatever they may say.
 pub record SayJob (words : List (List ℕ)) (files : Outside) (IsSuch : Link → Type 0) : Type 0 where
   pub said : Settings
   pub says : Says words files said

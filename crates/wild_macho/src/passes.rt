@@ -20,7 +20,7 @@ ghost use Rattle.macho_devices.specs.Devices.{OnlyReads, OnlyWrites};
 ghost use Rattle.macho_devices.specs.Faults.{CountsOn};
 ghost use Rattle.macho_job.specs.Causes.{Failures, NoneFailed, failures, status_of, reading, IsClear, JobFails, WordsFail};
 ghost use Rattle.macho_job.specs.Names.{names_of};
-ghost use Rattle.wild_macho.specs.Runs.{outside, devices, teller, IsRun, RunsBy, KeepsPaths, AskForNoLines, SayJob, IsOwed};
+ghost use Rattle.wild_macho.specs.Runs.{outside, devices, error_sink, IsRun, RunsBy, KeepsPaths, AskForNoLines, SayJob, IsOwed};
 ghost use Rattle.wild_macho.specs.steps.Made.{IsBadName, IsMade, IsLinkFault, ends, EndFails, Prints, Finishes, Answers};
 
 use macho_args::MachOArgs;
@@ -61,7 +61,7 @@ pub fn run<F: Files, O: Sink, E: Sink>(
         (F.write_faults files.old) (O.faults out.old) (O.taken out.old))
         (devices (outside (F.directories files.new) (F.canonical_paths files.new) (F.holds files.new)) (F.faults files.new)
         (F.write_faults files.new) (O.faults out.new) (O.taken out.new))
-        (teller (E.taken err.old) (E.faults err.old)) (teller (E.taken err.new) (E.faults err.new)) result }
+        (error_sink (E.taken err.old) (E.faults err.old)) (error_sink (E.taken err.new) (E.faults err.new)) result }
 
     // Directories and canonical paths stay, no count falls. Nothing is printed without an image, where no lines are asked for, and
     // to `err` without a fault.
@@ -126,7 +126,7 @@ fn run_args<F: Files, O: Sink, E: Sink>(
         (F.write_faults files.old) (O.faults out.old) (O.taken out.old))
         (devices (outside (F.directories files.new) (F.canonical_paths files.new) (F.holds files.new)) (F.faults files.new)
         (F.write_faults files.new) (O.faults out.new) (O.taken out.new))
-        (teller (E.taken err.old) (E.faults err.old)) (teller (E.taken err.new) (E.faults err.new)) result }
+        (error_sink (E.taken err.old) (E.faults err.old)) (error_sink (E.taken err.new) (E.faults err.new)) result }
     ensures paths { KeepsPaths F.directories F.canonical_paths files.old files.new }
     ensures reads { CountsOn (F.faults files.old) (F.faults files.new) }
     ensures writes { CountsOn (F.write_faults files.old) (F.write_faults files.new) }

@@ -8,6 +8,19 @@ use sha2::{Digest, Sha256};
 use std::alloc::{AllocError, Global};
 use wild_macho::{Fault, Files, InputKind, MemoryFiles};
 
+// Notes what was wanted and what came.
+fn note_difference(
+    alloc: Global,
+    found: &mut Vec<String>,
+    what: &str,
+    want: &str,
+    came: &str,
+) -> Result<(), AllocError> {
+    let text = format!(in alloc; "{what}: wanted {want}, came {came}")?;
+    found.push(text)?;
+    Ok(())
+}
+
 // Notes a difference, of texts.
 fn note(
     alloc: Global,
@@ -16,11 +29,10 @@ fn note(
     want: &str,
     came: &str,
 ) -> Result<(), AllocError> {
-    if want != came {
-        let text = format!(in alloc; "{what}: wanted {want}, came {came}")?;
-        found.push(text)?;
+    if want == came {
+        return Ok(());
     }
-    Ok(())
+    note_difference(alloc, found, what, want, came)
 }
 
 // Bytes as they are shown: the first of them, and how many there are.
@@ -49,9 +61,7 @@ fn note_bytes(
     }
     let want = shown_bytes(alloc, want)?;
     let came = shown_bytes(alloc, came)?;
-    let text = format!(in alloc; "{what}: wanted {want}, came {came}")?;
-    found.push(text)?;
-    Ok(())
+    note_difference(alloc, found, what, want.as_str(), came.as_str())
 }
 
 // A text as it is shown: on one line, or as bytes.
@@ -84,9 +94,7 @@ fn note_text(
     }
     let want = shown(alloc, want)?;
     let came = shown(alloc, came)?;
-    let text = format!(in alloc; "{what}: wanted {want}, came {came}")?;
-    found.push(text)?;
-    Ok(())
+    note_difference(alloc, found, what, want.as_str(), came.as_str())
 }
 
 // The name of what a file begins as.
@@ -111,10 +119,7 @@ fn placement_text(is_kept: bool) -> &'static str {
 fn kept_of_link(alloc: Global, error: &LinkError) -> Result<String, AllocError> {
     match error {
         LinkError::BadUnwind { section, .. } => format!(in alloc; "section {section}"),
-        LinkError::FixupPlace { placement, .. } => {
-            String::from_str(alloc, placement_text(placement.is_some()))
-        }
-        LinkError::ImageTooLarge { placement } => {
+        LinkError::FixupPlace { placement, .. } | LinkError::ImageTooLarge { placement } => {
             String::from_str(alloc, placement_text(placement.is_some()))
         }
         _ => Ok(String::new(alloc)),

@@ -2,7 +2,7 @@
 //!
 //! The arguments name files of cases, whose form the module `reader` of `macho_case_files` shows. Of each file one line tells how many
 //! cases it has; a case that is not as wanted is told with what was wanted and what came. The program ends with 0 where all is as
-//! wanted, with 1 where a case isn't, and with 2 where a file can't be read or has a line that says nothing.
+//! wanted, with 1 where a case isn't, and with 2 where a file can't be read or has a line that isn't of the form.
 #![tactic(auto)]
 
 mod checks;

@@ -1,6 +1,6 @@
 -- The entries of a section of compact unwind information, by the bytes of its object: what the rules ask of one entry alone, and
 -- where its personality leads.
-use Rattle.std.specs.Prelude.{◌≡◌, ℕ, ◌+◌, ◌-◌, ◌/◌, ◌%◌, ◌^◌, ◌<◌, ◌≤◌, ◌⊎◌, ◌==◌, ◌&&◌, ◌||◌, not, nat_le, nat_lt, Bool, true, false, List, [], map, Option, Some, None, Contains, option_to_list}
+use Rattle.std.specs.Prelude.{◌≡◌, ℕ, ◌+◌, ◌-◌, ◌/◌, ◌^◌, ◌<◌, ◌≤◌, ◌⊎◌, ◌==◌, ◌&&◌, ◌||◌, not, nat_le, nat_lt, Bool, true, false, List, [], map, Option, Some, None, Contains, option_to_list}
 use Rattle.std.specs.List.{range_with_len, list_all}
 use Rattle.macho_bytes.specs.Numbers.{bits}
 use Rattle.macho_records.specs.Sections.{is_zerofill}

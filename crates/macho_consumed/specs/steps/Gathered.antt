@@ -1,5 +1,5 @@
 -- What is read of all consumed sections, by the views of the files.
-use Rattle.std.specs.Prelude.{◌≡◌, ℕ, ◌/◌, ◌<◌, List, length, Contains, Option, Some, None, get_or}
+use Rattle.std.specs.Prelude.{◌≡◌, ◌/◌, ◌<◌, List, length, Contains, Option, Some, None, get_or}
 use Rattle.macho_object.specs.Views.{FileBytes}
 use Rattle.macho_model.specs.Objects.{num_sections, section_at}
 use Rattle.macho_symbols.specs.Kept.{ResolvedRows}

@@ -1,5 +1,5 @@
 -- The relocations of a section by place, as far as a loop has come.
-use Rattle.std.specs.Prelude.{◌≡◌, ℕ, ◌+◌, ◌*◌, ◌/◌, ◌%◌, ◌<◌, ◌≤◌, ◌==◌, true, false, List, [], ◌∷◌, length, filter, Option, Some, None, get_or}
+use Rattle.std.specs.Prelude.{◌≡◌, ℕ, ◌*◌, ◌/◌, ◌%◌, ◌<◌, ◌≤◌, ◌==◌, true, false, List, [], ◌∷◌, length, filter, Option, Some, None, get_or}
 use Rattle.std.specs.List.{range_with_len}
 use Rattle.macho_model.specs.Objects.{section_at, relocation_at}
 use Rattle.macho_consumed.specs.declared.places.Cell.{Cell}

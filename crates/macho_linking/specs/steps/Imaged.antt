@@ -1,11 +1,11 @@
 -- The image of a planned link, and a link while it is read, sized and answered.
-use Rattle.std.specs.Prelude.{◌≡◌, ℕ, ◌+◌, ◌<◌, ◌^◌, false, List, length, map, Option, All}
+use Rattle.std.specs.Prelude.{◌≡◌, ℕ, ◌+◌, ◌<◌, ◌^◌, false, List, length, Option, All}
 use Rattle.macho_layout.specs.Placements.{placed_of}
 use Rattle.macho_model.specs.declared.placed.Counts.{Counts}
 use Rattle.macho_model.specs.Links.{Link}
 use Rattle.macho_model.specs.Placement.{Placed}
 use Rattle.macho_model.specs.Limits.{IsWritten32, LIMIT_32}
-use Rattle.macho_model.specs.Needs.{libraries_needed, imports_of}
+use Rattle.macho_model.specs.Needs.{libraries_needed}
 use Rattle.macho_model.specs.Faults.{IsDuplicate, bad_name}
 use Rattle.macho_model.specs.ImportTable.{fixup_count}
 use Rattle.macho_object.specs.Views.{FileBytes}
@@ -28,9 +28,7 @@ use Rattle.macho_reading.specs.declared.link.ReadLink.{ReadLink}
 use Rattle.macho_reading.specs.Read.{IsReadOf, AreKnown}
 use Rattle.macho_sizing.specs.declared.asked.SizedLink.{SizedLink}
 use Rattle.macho_sizing.specs.Sized.{IsSizedOf}
-use Rattle.macho_linking.specs.declared.planned.Planned.{Planned}
 use Rattle.macho_linking.specs.declared.write.Written.{Written}
-use Rattle.macho_linking.specs.steps.Planned.{placement_of, counts_of}
 
 -- Bytes are the image of a planned link, and nothing that placing shows stands against it.
 pub record IsImaged (l : Link) (counts : Counts) (p : Placed) (uuid bytes : List ℕ) (fixups : ℕ) : Type 0 where

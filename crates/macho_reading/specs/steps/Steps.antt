@@ -9,7 +9,7 @@ use Rattle.macho_symbols.specs.Exported.{AreLists}
 use Rattle.macho_parts.specs.Noted.{uses_of_carried, uses_of_initializers, uses_of_personalities}
 use Rattle.macho_needs.specs.declared.needs.Needs.{Needs}
 use Rattle.macho_needs.specs.Noted.{IsNoted}
-use Rattle.macho_survey.specs.Surveys.{views_of}
+use Rattle.macho_parts.specs.Views.{views_of}
 use Rattle.macho_consumed.specs.Told.{EntriesKeepRules}
 use Rattle.macho_reading.specs.declared.rows.Rows.{Rows}
 use Rattle.macho_reading.specs.Read.{entry_of}

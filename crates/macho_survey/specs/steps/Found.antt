@@ -1,8 +1,7 @@
 -- What was found so far: the first of each kind.
-use Rattle.std.specs.Prelude.{◌≡◌, ℕ, ◌<◌, Bool, true, false, List, Option, Some, None, IfSome, All, Contains, if◌then◌else◌}
+use Rattle.std.specs.Prelude.{◌≡◌, ◌<◌, Bool, true, false, List, Option, Some, None, IfSome, All, Contains}
 use Rattle.macho_model.specs.Links.{Link, SectionId, header_at, carried_of}
 use Rattle.macho_model.specs.Needs.{Use}
-use Rattle.macho_model.specs.Fields.{field_of}
 use Rattle.macho_model.specs.Targets.{is_import}
 use Rattle.macho_model.specs.Rows.{is_supported, share_byte, are_pair}
 use Rattle.macho_model.specs.Segments.{segment_name, may_hold_pointers}

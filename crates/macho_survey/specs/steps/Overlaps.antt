@@ -1,5 +1,5 @@
 -- Fields of a section that share bytes.
-use Rattle.std.specs.Prelude.{◌≡◌, ℕ, ◌+◌, ◌^◌, ◌<◌, ◌≤◌, ◌⊎◌, ◌==◌, nat_le, nat_lt, ◌&&◌, ◌||◌, not, if◌then◌else◌, Bool, true, false, List, Option, Some, None, min, max}
+use Rattle.std.specs.Prelude.{◌≡◌, ℕ, ◌+◌, ◌^◌, ◌<◌, ◌≤◌, ◌⊎◌, ◌==◌, nat_le, nat_lt, ◌&&◌, ◌||◌, Bool, true, false, List, Option, Some, None, min, max}
 use Rattle.macho_structs.specs.declared.relocations.RelocationInfo.{RelocationInfo}
 use Rattle.macho_model.specs.Objects.{section_at, relocation_at}
 use Rattle.macho_model.specs.Fields.{is_pair}

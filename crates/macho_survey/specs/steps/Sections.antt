@@ -1,6 +1,6 @@
 -- A carried section whose relocations are looked at, by its object's bytes: what its relocations are pointers with, and whether it may
 -- hold what the loader writes.
-use Rattle.std.specs.Prelude.{◌≡◌, ℕ, ◌+◌, ◌-◌, ◌%◌, ◌^◌, ◌<◌, ◌==◌, ◌&&◌, not, if◌then◌else◌, Bool, true, false, List, [], ◌∷◌, length, get_or, filter, Option, Some, None}
+use Rattle.std.specs.Prelude.{◌≡◌, ℕ, ◌+◌, ◌-◌, ◌%◌, ◌^◌, ◌<◌, ◌==◌, ◌&&◌, not, if◌then◌else◌, Bool, true, false, List, length, get_or, filter, Option, Some, None}
 use Rattle.std.specs.List.{flat_map}
 use Rattle.macho_bytes.specs.Numbers.{le_at}
 use Rattle.macho_bytes.specs.Texts.{name_of}
@@ -8,8 +8,8 @@ use Rattle.macho_structs.specs.declared.relocations.RelocationInfo.{RelocationIn
 use Rattle.macho_records.specs.declared.constants.TheConstants.{ARM64_RELOC_UNSIGNED}
 use Rattle.macho_model.specs.declared.targets.Target.{Target}
 use Rattle.macho_model.specs.Objects.{num_sections, section_at, section_bytes, relocation_at}
-use Rattle.macho_model.specs.Links.{Input, Object, Link, SectionId, no_input, object_of, header_at, is_carried, carried_of, sections_of_file}
-use Rattle.macho_model.specs.Needs.{Use, uses_of, carried_uses}
+use Rattle.macho_model.specs.Links.{Input, Object, Link, SectionId, no_input, header_at, is_carried, sections_of_file}
+use Rattle.macho_model.specs.Needs.{Use, carried_uses}
 use Rattle.macho_model.specs.Targets.{is_import}
 use Rattle.macho_model.specs.Segments.{may_hold_pointers}
 use Rattle.macho_model.specs.Values.{section_id, fits_signed, is_absolute_target}

@@ -1,13 +1,13 @@
-use Rattle.std.proofs.Common.{◌≡◌, ◌+◌, ◌*◌, ◌/◌, ◌<◌, ap, ◌∙◌, sym, subst, arith, List, ◌++◌, ◌∷◌, []}
+use Rattle.std.proofs.Common.{◌≡◌, ◌/◌, ap, ◌∙◌, sym, subst, arith, List, ◌++◌, ◌∷◌, []}
 use Rattle.macho_object.specs.Views.{RelocationBytes}
 use Rattle.macho_model.specs.declared.rules.UnwindRule.TheVariants.{U4}
 use Rattle.macho_model.specs.Objects.{section_at}
 use Rattle.macho_consumed.specs.declared.rows.UnwindEntry.{UnwindEntry}
 use Rattle.macho_consumed.specs.steps.Places.{ArePlaces}
 use Rattle.macho_consumed.specs.steps.Checked.{AreNamed}
-use Rattle.macho_consumed.specs.steps.Entries.{EntryFits, EntryBreaks, SectionBreaksRule, row_in}
+use Rattle.macho_consumed.specs.steps.Entries.{EntryFits, SectionBreaksRule, row_in}
 use Rattle.macho_consumed.proofs.InEntries.{entries_none, entries_more, entry_rows_none, entry_rows_more, lead_none, lead_more}
-use Rattle.macho_consumed.proofs.UnfitEntries.{bad_at, between_breaks, rule_at}
+use Rattle.macho_consumed.proofs.UnfitEntries.{bad_at, between_breaks}
 use Rattle.macho_consumed.proofs.entries.add_entries.Goals as goal
 
 pub returns-then-lacks_bytes-clause-why : goal.returns-then-lacks_bytes-clause-why

@@ -1,5 +1,4 @@
-use Rattle.std.proofs.Common.{◌≡◌, ◌*◌, ◌/◌, ◌%◌, ◌<◌, length, sym, arith}
-use Rattle.macho_model.specs.Objects.{relocation_at}
+use Rattle.std.proofs.Common.{◌/◌, ◌<◌, length, arith}
 use Rattle.macho_consumed.proofs.Tables.{table_same, table_more, more_of}
 use Rattle.macho_consumed.proofs.places.note.Goals as goal
 

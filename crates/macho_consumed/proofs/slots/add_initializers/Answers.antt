@@ -1,6 +1,5 @@
-use Rattle.std.proofs.Common.{◌≡◌, ◌*◌, ◌+◌, ℕ, inl, inr, true, false, ap, ◌∙◌, sym, subst, arith, List, ◌++◌, ◌∷◌, []}
+use Rattle.std.proofs.Common.{◌≡◌, inl, inr, true, ap, ◌∙◌, sym, subst, arith, List, ◌++◌, ◌∷◌, []}
 use Rattle.macho_object.specs.Views.{RelocationBytes}
-use Rattle.macho_model.specs.Objects.{section_at}
 use Rattle.macho_consumed.specs.declared.rows.Initializer.{Initializer}
 use Rattle.macho_model.specs.Consumed.{initializer_section_fits}
 use Rattle.macho_consumed.specs.declared.fault.ConsumedFault.TheVariants.{BadInitializer}

@@ -1,4 +1,4 @@
-use Rattle.std.proofs.Common.{◌≡◌, ◌+◌, ◌-◌, length, get_or, Some, sym, subst}
+use Rattle.std.proofs.Common.{◌+◌, ◌-◌, length, get_or, sym, subst}
 use Rattle.macho_consumed.specs.declared.rows.UnwindEntry.{UnwindEntry}
 use Rattle.macho_consumed.proofs.Distinct.{AreApart, AreShared, held_step, apart_step, shared_step, row_here, no_row}
 use Rattle.macho_consumed.proofs.starts.check_starts.Goals.{then-not-branch, else-not-branch}

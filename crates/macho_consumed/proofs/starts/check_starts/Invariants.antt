@@ -1,4 +1,4 @@
-use Rattle.std.proofs.Common.{◌-◌, ◌≤◌, length}
+use Rattle.std.proofs.Common.{◌-◌, length}
 use Rattle.macho_consumed.proofs.Distinct.{AreHeld, AreApart, AreShared}
 use Rattle.macho_consumed.proofs.starts.check_starts.Given as goal
 

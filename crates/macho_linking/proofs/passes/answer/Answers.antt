@@ -1,6 +1,5 @@
 -- All that is told is the link's.
-use Rattle.std.proofs.Common.{refl, sym, ap, ◌∙◌, map}
-use Rattle.macho_linked.specs.Linked.{import_of}
+use Rattle.std.proofs.Common.{refl, ap, ◌∙◌, map}
 use Rattle.macho_linking.proofs.Closing.{answered}
 use Rattle.macho_linking.proofs.passes.answer.Goals as goal
 

@@ -1,11 +1,11 @@
 -- Each pass answers what the next one asks for, and its refusal is the link's.
-use Rattle.std.proofs.Common.{◌≡◌, ℕ, refl, sym, ap, subst, ◌∙◌, map, length, List, All, false, arith}
+use Rattle.std.proofs.Common.{◌≡◌, refl, sym, ap, subst, ◌∙◌, map, length, List, All, false, arith}
 use Rattle.std.specs.Prelude.{Option}
 use Rattle.std.proofs.lemmas.List.{length-map}
 use Rattle.macho_model.specs.Needs.{imports_of, libraries_needed}
 use Rattle.macho_object.specs.Views.{FileBytes}
 use Rattle.macho_faults.specs.declared.fault.LinkError.TheVariants as error
-use Rattle.macho_parts.specs.Views.{views_of, ViewsObject}
+use Rattle.macho_parts.specs.Views.{ViewsObject}
 use Rattle.macho_symbols.specs.Exported.{AreLists}
 use Rattle.macho_linkedit.specs.declared.listing.LinkedObject.{LinkedObject}
 use Rattle.macho_linkedit.specs.Listing.{AreObjects}

@@ -1,5 +1,5 @@
 -- What was read is handed on, and what is answered of it is the link's.
-use Rattle.std.proofs.Common.{◌≡◌, refl, sym, ap, subst, ◌∙◌, map, List}
+use Rattle.std.proofs.Common.{refl, sym, subst, map, List}
 use Rattle.std.specs.Option.{option_copied}
 use Rattle.macho_model.specs.Needs.{imports_of}
 use Rattle.macho_symbols.specs.Exported.{AreExports}
@@ -9,7 +9,7 @@ use Rattle.macho_tables.specs.Exports.{CanBeTrie, exports_told}
 use Rattle.macho_found.proofs.Plain.{imports_plain}
 use Rattle.macho_linking.specs.steps.Linking.{link_asked}
 use Rattle.macho_linking.proofs.Given.{stands_counted}
-use Rattle.macho_linking.proofs.Handed.{Handed, are_of, can_be_sized, has_sizes}
+use Rattle.macho_linking.proofs.Handed.{are_of, can_be_sized, has_sizes}
 use Rattle.macho_linking.proofs.passes.size_inputs.Goals as goal
 
 pub kept_exports-requires-clause-link : goal.kept_exports-requires-clause-link
@@ -30,14 +30,7 @@ size_link-requires c =
     can_be_sized l _ c.args.views.now c.args.objects.now (option_copied c.args.list) c.args.read.now
     (map (λ n. n.items) c.args.libraries.now) c.requires
     (record {
-      arguments = record {
-        executable = refl;
-        install_name = refl;
-        versions = c.is_some.ensures;
-        rpaths = refl;
-        headerpad = refl;
-        name = c.last_part.ensures;
-      };
+      arguments = c.size_arguments.ensures;
       given = (refl, refl, refl);
       needs = refl;
       rows = (c.deref-2.ensures.value, c.deref-3.ensures.value);
@@ -63,14 +56,7 @@ returns-clause-done c =
     let of_link = are_of l _ c.args.views.now c.args.objects.now (option_copied c.args.list) c.args.read.now
     (map (λ n. n.items) c.args.libraries.now)
     c.requires (record {
-      arguments = record {
-        executable = refl;
-        install_name = refl;
-        versions = c.is_some.ensures;
-        rpaths = refl;
-        headerpad = refl;
-        name = c.last_part.ensures;
-      };
+      arguments = c.size_arguments.ensures;
       given = (refl, refl, refl);
       needs = refl;
       rows = (c.deref-2.ensures.value, c.deref-3.ensures.value);
@@ -105,14 +91,7 @@ returns-clause-why c =
     let of_link = are_of l _ c.args.views.now c.args.objects.now (option_copied c.args.list) c.args.read.now
     (map (λ n. n.items) c.args.libraries.now)
     c.requires (record {
-      arguments = record {
-        executable = refl;
-        install_name = refl;
-        versions = c.is_some.ensures;
-        rpaths = refl;
-        headerpad = refl;
-        name = c.last_part.ensures;
-      };
+      arguments = c.size_arguments.ensures;
       given = (refl, refl, refl);
       needs = refl;
       rows = (c.deref-2.ensures.value, c.deref-3.ensures.value);

@@ -1,10 +1,9 @@
 -- Each pass writes its part, and all of them are the image.
-use Rattle.std.proofs.Common.{◌≡◌, length, refl, sym, ap, subst, ◌∙◌, arith, List}
-use Rattle.macho_model.specs.Links.{Link}
+use Rattle.std.proofs.Common.{sym, subst, ◌∙◌, List}
 use Rattle.macho_fixups.specs.declared.run.Fixup.{Fixup}
 use Rattle.macho_linkedit.specs.Runs.{IsRunOf}
 use Rattle.macho_composed.specs.Written.{AreContents}
-use Rattle.macho_linking.specs.steps.Planned.{placement_of, counts_of}
+use Rattle.macho_linking.specs.steps.Planned.{placement_of}
 use Rattle.macho_linking.specs.steps.Unwritten.{UnwrittenStands}
 use Rattle.macho_linking.proofs.Answering.{err_with}
 use Rattle.macho_linking.proofs.Parts.{parts_written, trie_small}

@@ -5,14 +5,14 @@ use Rattle.macho_needs.proofs.Using.{link_with}
 use Rattle.macho_consumed.specs.declared.rows.Initializer.{Initializer}
 use Rattle.macho_consumed.specs.declared.rows.UnwindEntry.{UnwindEntry}
 use Rattle.macho_reading.specs.steps.Rows.{IsUsable, IsUsableEntry}
-use Rattle.macho_reading.proofs.Usable.{are_views, are_kept, is_resolved, are_views_of, objects_read, initializers_usable, entries_usable}
+use Rattle.macho_reading.proofs.Usable.{are_kept, is_resolved, are_views_of, objects_read, initializers_usable, entries_usable}
 use Rattle.macho_reading.proofs.rows.read_rows.Goals as goal
 
 pub read_initializers-requires : goal.read_initializers-requires
 read_initializers-requires c = are_kept c.args.views.now c.args.symbols.now.files c.requires.few c.requires.same
 
 pub returns-in-Err-clause-why : goal.returns-in-Err-clause-why
-returns-in-Err-clause-why c l noted views resolved = c.in-Err.ensures.why l noted (are_views l c.args.views.now views) resolved
+returns-in-Err-clause-why c l noted views resolved = c.in-Err.ensures.why l noted views resolved
 
 pub read_entries-requires : goal.read_entries-requires
 read_entries-requires c = are_kept c.args.views.now c.args.symbols.now.files c.requires.few c.requires.same
@@ -34,4 +34,4 @@ returns-in-Ok-read_entries-clause-usable c =
 
 pub returns-in-Err-read_entries-clause-why : goal.returns-in-Err-read_entries-clause-why
 returns-in-Err-read_entries-clause-why c l noted views resolved =
-    c.in-Err-read_entries.ensures.why l noted (are_views l c.args.views.now views) resolved
+    c.in-Err-read_entries.ensures.why l noted views resolved

@@ -1,6 +1,5 @@
-use Rattle.std.proofs.Common.{◌≡◌, ℕ, true, sym, ap, ◌∙◌, subst, ◌+◌, arith, if◌then◌else◌}
+use Rattle.std.proofs.Common.{◌≡◌, true, sym, ap, ◌∙◌, subst, ◌+◌, arith, if◌then◌else◌}
 use Rattle.macho_model.specs.Objects.{relocation_at}
-use Rattle.macho_survey.specs.declared.overlap.Hull.{Hull}
 use Rattle.macho_survey.specs.declared.pairs.Seen.{Seen}
 use Rattle.macho_survey.specs.steps.Windows.{window_in, ends}
 use Rattle.macho_survey.specs.steps.Overlaps.{excludes, hull_with, Holds}

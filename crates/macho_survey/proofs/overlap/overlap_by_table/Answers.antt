@@ -1,6 +1,6 @@
-use Rattle.std.proofs.Common.{◌≡◌, ℕ, ◌<◌, arith}
+use Rattle.std.proofs.Common.{◌<◌, arith}
 use Rattle.macho_model.specs.Objects.{section_at}
-use Rattle.macho_survey.proofs.Places.{seen_taken, seen_more, none_left, no_table}
+use Rattle.macho_survey.proofs.Places.{seen_taken, seen_more, none_left}
 use Rattle.macho_survey.proofs.overlap.overlap_by_table.Goals as goal
 
 pub returns-in-Some : goal.returns-in-Some

@@ -1,4 +1,4 @@
-use Rattle.std.proofs.Common.{ℕ, nat_eq}
+use Rattle.std.proofs.Common.{nat_eq}
 use Rattle.indexmap.specs.IndexMap.{get}
 use Rattle.macho_survey.specs.steps.Overlaps.{IsTable, AreApart}
 use Rattle.macho_survey.proofs.overlap.overlap_by_table.Given as goal

@@ -1,4 +1,4 @@
-use Rattle.std.proofs.Common.{ℕ, nat_eq}
+use Rattle.std.proofs.Common.{nat_eq}
 use Rattle.indexmap.specs.IndexMap.{get}
 use Rattle.macho_survey.specs.steps.Overlaps.{IsPut}
 use Rattle.macho_survey.proofs.overlap.put_field.Given as goal

@@ -1,7 +1,7 @@
 -- One relocation: its field is inside the section, so its bytes can be read; and what it names is there. As one of a link it is seen
 -- with its neighbours, and its addend is that of the model's field.
-use Rattle.std.proofs.Common.{◌≡◌, ℕ, ◌<◌, List, [], ◌∷◌, ◌++◌, false, refl, sym, ap, ◌∙◌, subst}
-use Rattle.macho_model.specs.Objects.{section_at, section_bytes, relocation_at}
+use Rattle.std.proofs.Common.{◌≡◌, ◌<◌, [], ◌∷◌, ◌++◌, refl, sym, ap, ◌∙◌, subst}
+use Rattle.macho_model.specs.Objects.{section_at, relocation_at}
 use Rattle.macho_model.specs.Grammar.{IsFile, IsObject}
 use Rattle.macho_model.specs.Needs.{ByRelocation}
 use Rattle.macho_object.specs.Views.{RelocationBytes}

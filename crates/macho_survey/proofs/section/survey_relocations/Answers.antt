@@ -1,7 +1,7 @@
 -- The relocations so far are the first ones of the table; each that comes is the next one in the walk.
-use Rattle.std.proofs.Common.{◌≡◌, ℕ, ◌+◌, ◌<◌, ◌≤◌, List, ◌++◌, take, length, sym, ap, ◌∙◌, subst, append-nil, arith}
+use Rattle.std.proofs.Common.{◌<◌, ◌≤◌, List, ◌++◌, take, sym, subst, append-nil, arith}
 use Rattle.macho_model.specs.Objects.{section_at}
-use Rattle.macho_model.specs.Links.{Link, header_at, object_of}
+use Rattle.macho_model.specs.Links.{header_at}
 use Rattle.macho_model.specs.Needs.{ByRelocation, carried_uses, Use}
 use Rattle.macho_object.specs.Views.{RelocationBytes}
 use Rattle.macho_parts.specs.Noted.{imports_in}

@@ -1,4 +1,4 @@
-use Rattle.std.proofs.Common.{◌≡◌, ℕ, List, ◌++◌, take, Contains}
+use Rattle.std.proofs.Common.{◌≡◌, List, ◌++◌, take, Contains}
 use Rattle.macho_model.specs.Links.{Input, Link, SectionId, object_of, carried_of}
 use Rattle.macho_model.specs.Needs.{Use, carried_uses}
 use Rattle.macho_names.specs.Kept.{Keeps}

@@ -1,12 +1,10 @@
 -- The section is looked at as a whole, then relocation by relocation.
-use Rattle.std.proofs.Common.{◌≡◌, ℕ, List, [], ◌∷◌, ◌++◌, nat_lt, sym, ap, ◌∙◌, subst}
-use Rattle.macho_model.specs.Objects.{num_sections}
+use Rattle.std.proofs.Common.{◌≡◌, [], ◌∷◌, ◌++◌, nat_lt, sym, ap, ◌∙◌, subst}
 use Rattle.macho_object.specs.Views.{RelocationBytes, section_count}
 use Rattle.macho_survey.specs.declared.findings.Findings.{Findings}
-use Rattle.macho_survey.specs.declared.findings.Pair.{Pair}
 use Rattle.macho_survey.specs.steps.Found.{first_of, IsSurveyed}
 use Rattle.macho_survey.specs.steps.Overlaps.{IsFoundIn}
-use Rattle.macho_survey.specs.steps.Sections.{id_of, pair_of}
+use Rattle.macho_survey.specs.steps.Sections.{id_of}
 use Rattle.macho_survey.proofs.Overlapping.{overlap_more}
 use Rattle.macho_survey.proofs.Walking.{carried_there, same_object, some_section}
 use Rattle.macho_survey.proofs.section.survey_section.Goals as goal

@@ -1,5 +1,5 @@
 -- The files so far are the first inputs of the link.
-use Rattle.std.proofs.Common.{◌≡◌, ℕ, ◌<◌, ◌≤◌, List, [], length, take, get_or, refl, arith}
+use Rattle.std.proofs.Common.{◌<◌, ◌≤◌, [], length, take, get_or, refl, arith}
 use Rattle.std.specs.List.{enumerate_from}
 use Rattle.macho_model.specs.Links.{no_input}
 use Rattle.macho_survey.specs.steps.Sections.{carried_in, uses_in, input_at}

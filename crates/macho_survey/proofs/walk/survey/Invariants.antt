@@ -1,9 +1,9 @@
-use Rattle.std.proofs.Common.{◌≡◌, ℕ, List, [], take}
+use Rattle.std.proofs.Common.{◌≡◌, List, [], take}
 use Rattle.std.specs.List.{enumerate_from}
 use Rattle.macho_model.specs.Links.{Input, Link}
 use Rattle.macho_names.specs.Kept.{Keeps}
 use Rattle.macho_needs.specs.Noted.{IsNoted}
-use Rattle.macho_survey.specs.Surveys.{views_of}
+use Rattle.macho_parts.specs.Views.{views_of}
 use Rattle.macho_survey.specs.steps.Found.{IsSurveyed}
 use Rattle.macho_survey.specs.steps.Sections.{carried_in, uses_in}
 use Rattle.macho_survey.proofs.walk.survey.Given as goal

@@ -1,5 +1,5 @@
 -- A file that is no object has no sections.
-use Rattle.std.proofs.Common.{◌≡◌, ℕ, List, [], ◌∷◌, ◌++◌, None, Some, sym, ap, ◌∙◌}
+use Rattle.std.proofs.Common.{None, Some}
 use Rattle.macho_model.specs.Links.{Object}
 use Rattle.macho_needs.proofs.Pointers.{on_ok}
 use Rattle.macho_survey.proofs.Viewing.{view_says, view_at, has_rows, has_object, file_more, file_begins, file_none}

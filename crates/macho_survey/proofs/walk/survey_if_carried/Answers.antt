@@ -1,13 +1,13 @@
 -- A section that isn't carried adds nothing.
-use Rattle.std.proofs.Common.{◌≡◌, ℕ, List, [], ◌∷◌, ◌++◌, nat_lt, sym, ap, ◌∙◌, subst}
+use Rattle.std.proofs.Common.{List, ◌++◌, nat_lt, sym, ap, ◌∙◌, subst}
 use Rattle.macho_model.specs.Objects.{section_at}
-use Rattle.macho_model.specs.Links.{is_carried, header_at}
+use Rattle.macho_model.specs.Links.{is_carried}
 use Rattle.macho_model.specs.Values.{section_id}
-use Rattle.macho_model.specs.Needs.{Use, carried_uses}
+use Rattle.macho_model.specs.Needs.{Use}
 use Rattle.macho_parts.specs.Noted.{BeginsWith}
 use Rattle.macho_object.specs.Views.{section_count}
 use Rattle.macho_needs.proofs.Pointers.{on_ok}
-use Rattle.macho_survey.proofs.Walking.{same_object, some_section, not_carried, is_carried_one, one_uses}
+use Rattle.macho_survey.proofs.Walking.{same_object, some_section, is_carried_one, one_uses}
 use Rattle.macho_survey.proofs.walk.survey_if_carried.Goals as goal
 
 pub returns-clause-why : goal.returns-clause-why

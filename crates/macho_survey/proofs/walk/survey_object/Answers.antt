@@ -1,5 +1,5 @@
 -- The sections so far are the first ones of the object.
-use Rattle.std.proofs.Common.{◌≡◌, ℕ, ◌+◌, ◌<◌, ◌≤◌, List, [], ◌∷◌, ◌++◌, take, length, sym, ap, ◌∙◌, subst, arith, if◌then◌else◌}
+use Rattle.std.proofs.Common.{◌≡◌, ◌<◌, ◌≤◌, ◌++◌, take, length, ap, ◌∙◌, arith, if◌then◌else◌}
 use Rattle.macho_model.specs.Objects.{num_sections}
 use Rattle.macho_model.specs.Links.{Object, sections_of_file}
 use Rattle.macho_model.specs.Values.{section_id}

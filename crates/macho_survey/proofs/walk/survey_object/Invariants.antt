@@ -1,4 +1,4 @@
-use Rattle.std.proofs.Common.{◌≡◌, ℕ, List, ◌++◌, take}
+use Rattle.std.proofs.Common.{List, ◌++◌, take}
 use Rattle.macho_model.specs.Links.{Input, Object, Link, SectionId, sections_of_file}
 use Rattle.macho_model.specs.Needs.{Use}
 use Rattle.macho_names.specs.Kept.{Keeps}

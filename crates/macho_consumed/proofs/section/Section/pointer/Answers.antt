@@ -1,4 +1,4 @@
-use Rattle.std.proofs.Common.{◌≡◌, ◌+◌, ◌*◌, ◌∙◌, sym, ap, Some, None, option_to_list, arith, refl}
+use Rattle.std.proofs.Common.{◌*◌, ◌∙◌, sym, ap, arith}
 use Rattle.macho_model.specs.Consumed.{is_plain_pointer}
 use Rattle.macho_consumed.specs.declared.places.Cell.TheVariants.{Empty, One, Several}
 use Rattle.macho_consumed.proofs.InEntries.{small_address, cell_tells, cell_inside}

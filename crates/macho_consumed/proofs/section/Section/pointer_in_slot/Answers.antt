@@ -1,7 +1,5 @@
-use Rattle.std.proofs.Common.{◌≡◌, ap, ◌∙◌, subst}
-use Rattle.macho_consumed.specs.steps.Places.{CellTells}
-use Rattle.macho_consumed.specs.steps.Slots.{in_slot, is_symbol_pointer}
-use Rattle.macho_consumed.proofs.InSlots.{in_cell, slots_have_bytes, bad_pointer, slot_bytes}
+use Rattle.std.proofs.Common.{◌≡◌}
+use Rattle.macho_consumed.proofs.InSlots.{in_cell, slots_have_bytes, slot_bytes}
 use Rattle.macho_consumed.proofs.section.Section.pointer_in_slot.Goals as goal
 
 pub relocation-relocation-requires : goal.relocation-relocation-requires

@@ -1,4 +1,4 @@
-use Rattle.std.proofs.Common.{◌≡◌, ◌+◌, ◌*◌, arith, refl}
+use Rattle.std.proofs.Common.{arith, refl}
 use Rattle.macho_consumed.specs.declared.places.Cell.TheVariants.{Empty}
 use Rattle.macho_consumed.proofs.InEntries.{cell_tells}
 use Rattle.macho_consumed.proofs.UnfitEntries.{some_at_eight}
