@@ -81,8 +81,8 @@ pub(crate) fn add_entries(
     }
     let places = source.places(alloc)?;
     for entry in 0..source.num_entries() {
-        if let Some(address) = places.between_below(32 * (u64::from(entry) + 1)) {
-            return Err(bad_unwind(number, section, address / 32, UnwindRule::U2));
+        if let Some(address) = places.between_below(ENTRY_SIZE * (u64::from(entry) + 1)) {
+            return Err(bad_unwind(number, section, address / ENTRY_SIZE as u32, UnwindRule::U2));
         }
         match source.entry(symbols, number, entry, &places.cells) {
             Ok(row) => rows.push(row)?,

@@ -31,10 +31,7 @@ pub(crate) fn gather_initializers(
         let Some(file) = view_of(files, at.file) else {
             unreachable!()
         };
-        match add_initializers(alloc, symbols, file, at.file, at.section, &mut rows) {
-            Ok(()) => {}
-            Err(fault) => return Err(fault),
-        }
+        add_initializers(alloc, symbols, file, at.file, at.section, &mut rows)?;
     }
     Ok(rows)
 }
@@ -56,10 +53,7 @@ pub(crate) fn gather_entries(
         let Some(file) = view_of(files, at.file) else {
             unreachable!()
         };
-        match add_entries(alloc, symbols, file, at.file, at.section, &mut rows) {
-            Ok(()) => {}
-            Err(fault) => return Err(fault),
-        }
+        add_entries(alloc, symbols, file, at.file, at.section, &mut rows)?;
     }
     Ok(rows)
 }

@@ -50,12 +50,7 @@ pub fn read_entries(
     ensures keeps { (l : Link) (noted : List (List ℕ)) → files.now ≡ views_of l → IsResolved l noted symbols.now → OnOk result (EntriesKeepRules l) }
     ensures why { (l : Link) (noted : List (List ℕ)) → files.now ≡ views_of l → IsResolved l noted symbols.now → IfErr result (IsStanding l) }
 {
-    let rows = match gather_entries(alloc, files, symbols) {
-        Ok(rows) => rows,
-        Err(fault) => return Err(fault),
-    };
-    match check_starts(alloc, &rows) {
-        Ok(()) => Ok(rows),
-        Err(fault) => Err(fault),
-    }
+    let rows = gather_entries(alloc, files, symbols)?;
+    check_starts(alloc, &rows)?;
+    Ok(rows)
 }

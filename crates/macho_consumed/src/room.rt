@@ -86,11 +86,7 @@ fn inputs(
 {
     let mut inputs = Vec::with_capacity(alloc, entries.len())?;
     for entry in entries {
-        let one = match input(needs, *entry) {
-            Ok(one) => one,
-            Err(error) => return Err(error),
-        };
-        inputs.push(one)?;
+        inputs.push(input(needs, *entry)?)?;
     }
     Ok(inputs)
 }

@@ -16,7 +16,8 @@ use sha2::{Digest, Sha256};
 /// How many bytes an identifier has.
 const UUID_SIZE: usize = 16;
 
-/// The identifier of the image: the one that was given, else the first 16 bytes of the SHA-256 of all inputs, joined in order.
+/// The bytes that the image's identifier is made of: those that were given, else the first 16 of the SHA-256 of all inputs, joined in
+/// order. Version and variant are put in where the image is written.
 pub fn uuid_of(args: &MachOArgs, linker: &Linker) -> [u8; 16]
     ensures { result ≡ uuid_of (settings_of args.now) linker.now.inputs }
 {

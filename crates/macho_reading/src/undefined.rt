@@ -108,6 +108,7 @@ fn use_section(
         → IfErr result (Stands l counts) }
     ensures kept { (inputs : List Input) → Keeps inputs needs.old.resolved.files → Keeps inputs needs.new.resolved.files }
 {
+    // (the contract of this call says that the file keeps the rules of objects)
     let _whole = object.is_dynamic();
     let Some(header) = object.section(section) else {
         unreachable!()

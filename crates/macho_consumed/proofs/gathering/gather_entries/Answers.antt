@@ -1,5 +1,7 @@
 use Rattle.std.proofs.Common.{◌∙◌}
 use Rattle.macho_consumed.specs.declared.listing.Kind.TheVariants.{Entries}
+use Rattle.macho_unwind_pages.proofs.Planned.{err_is}
+use Rattle.macho_consumed.specs.steps.Gathered.{IsBadRuleAt}
 use Rattle.macho_consumed.proofs.InAll.{next_at, no_view, view_section, bad_entries, more_entries, more_keep}
 use Rattle.macho_consumed.proofs.ReadInitializers.{all_named}
 use Rattle.macho_consumed.proofs.gathering.gather_entries.Goals as goal
@@ -19,13 +21,15 @@ add_entries-requires-clause-named c =
     all_named c.args.files.now c.args.symbols.now _ _ c.requires (next_at Entries _ _ _ (c.deref-at-items.ensures.value
     ∙ c.in_ok-refs.ensures) c.loop-at-test.true).0.listed.file c.in-Some.ensures
 
-pub returns-in-Err-clause-why : goal.returns-in-Err-clause-why
-returns-in-Err-clause-why c =
-    bad_entries _ _ _ _ _ (next_at Entries _ _ _ (c.deref-at-items.ensures.value
-    ∙ c.in_ok-refs.ensures) c.loop-at-test.true).1 c.in-Some.ensures c.in-Err.ensures.why
+pub returns-in_err-add_entries-clause-why : goal.returns-in_err-add_entries-clause-why
+returns-in_err-add_entries-clause-why c =
+    err_is c.from_residual-in_err-add_entries.result (IsBadRuleAt c.args.symbols.now c.args.files.now) c.in_err-add_entries.field-0.0
+    c.from_residual-in_err-add_entries.ensures.1
+    (bad_entries _ _ _ _ _ (next_at Entries _ _ _ (c.deref-at-items.ensures.value
+    ∙ c.in_ok-refs.ensures) c.loop-at-test.true).1 c.in-Some.ensures c.in_err-add_entries.ensures.why)
 
 pub loop-at-preserved : goal.loop-at-preserved
 loop-at-preserved c = record {
-  rows = more_entries _ _ _ _ _ _ c.loop-at-test.true c.in-Some.ensures c.loop-at.invariant.rows c.in-Ok.ensures.added;
-  fit = more_keep _ _ _ _ _ c.loop-at-test.true c.in-Some.ensures c.loop-at.invariant.fit c.in-Ok.ensures.found;
+  rows = more_entries _ _ _ _ _ _ c.loop-at-test.true c.in-Some.ensures c.loop-at.invariant.rows c.in_ok-add_entries.ensures.added;
+  fit = more_keep _ _ _ _ _ c.loop-at-test.true c.in-Some.ensures c.loop-at.invariant.fit c.in_ok-add_entries.ensures.found;
 }

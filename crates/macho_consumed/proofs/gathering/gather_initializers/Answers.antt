@@ -1,5 +1,7 @@
 use Rattle.std.proofs.Common.{◌∙◌}
 use Rattle.macho_consumed.specs.declared.listing.Kind.TheVariants.{Initializers}
+use Rattle.macho_unwind_pages.proofs.Planned.{err_is}
+use Rattle.macho_consumed.specs.steps.Gathered.{IsBadAt}
 use Rattle.macho_consumed.proofs.InAll.{next_at, no_view, view_section, bad_initializers, more_initializers, more_fit}
 use Rattle.macho_consumed.proofs.ReadInitializers.{all_named}
 use Rattle.macho_consumed.proofs.gathering.gather_initializers.Goals as goal
@@ -19,13 +21,15 @@ add_initializers-requires-clause-named c =
     all_named c.args.files.now c.args.symbols.now _ _ c.requires (next_at Initializers _ _ _ (c.deref-at-items.ensures.value
     ∙ c.in_ok-refs.ensures) c.loop-at-test.true).0.listed.file c.in-Some.ensures
 
-pub returns-in-Err-clause-why : goal.returns-in-Err-clause-why
-returns-in-Err-clause-why c =
-    bad_initializers _ _ _ _ _ (next_at Initializers _ _ _ (c.deref-at-items.ensures.value
-    ∙ c.in_ok-refs.ensures) c.loop-at-test.true).1 c.in-Some.ensures c.in-Err.ensures.why
+pub returns-in_err-add_initializers-clause-why : goal.returns-in_err-add_initializers-clause-why
+returns-in_err-add_initializers-clause-why c =
+    err_is c.from_residual-in_err-add_initializers.result (IsBadAt c.args.symbols.now c.args.files.now) c.in_err-add_initializers.field-0.0
+    c.from_residual-in_err-add_initializers.ensures.1
+    (bad_initializers _ _ _ _ _ (next_at Initializers _ _ _ (c.deref-at-items.ensures.value
+    ∙ c.in_ok-refs.ensures) c.loop-at-test.true).1 c.in-Some.ensures c.in_err-add_initializers.ensures.why)
 
 pub loop-at-preserved : goal.loop-at-preserved
 loop-at-preserved c = record {
-  rows = more_initializers _ _ _ _ _ _ c.loop-at-test.true c.in-Some.ensures c.loop-at.invariant.rows c.in-Ok.ensures.added;
-  fit = more_fit _ _ _ _ _ c.loop-at-test.true c.in-Some.ensures c.loop-at.invariant.fit c.in-Ok.ensures.found;
+  rows = more_initializers _ _ _ _ _ _ c.loop-at-test.true c.in-Some.ensures c.loop-at.invariant.rows c.in_ok-add_initializers.ensures.added;
+  fit = more_fit _ _ _ _ _ c.loop-at-test.true c.in-Some.ensures c.loop-at.invariant.fit c.in_ok-add_initializers.ensures.found;
 }

@@ -2,23 +2,29 @@ use Rattle.std.proofs.Common.{◌≢◌, ◌∙◌, subst, List}
 use Rattle.std.specs.List.{AllPairs}
 use Rattle.macho_consumed.specs.declared.rows.UnwindEntry.{UnwindEntry}
 use Rattle.macho_consumed.specs.steps.Checked.{start_key}
+use Rattle.macho_unwind_pages.proofs.Planned.{err_is}
+use Rattle.macho_consumed.specs.Told.{IsStanding}
 use Rattle.macho_consumed.proofs.EntryRules.{again_stands, rules_kept}
 use Rattle.macho_consumed.proofs.ReadEntries.{rows_read, bad_stands}
 use Rattle.macho_consumed.proofs.reading.read_entries.Goals as goal
 
-pub returns-in-Err-clause-why : goal.returns-in-Err-clause-why
-returns-in-Err-clause-why c = λ l noted views resolved. bad_stands l noted _ _ _ views resolved c.in-Err.ensures.why
+pub returns-in_err-rows-clause-why : goal.returns-in_err-rows-clause-why
+returns-in_err-rows-clause-why c = λ l noted views resolved.
+    err_is c.from_residual.result (IsStanding l) c.in_err-rows.field-0.0 c.from_residual.ensures.1
+    (bad_stands l noted _ _ _ views resolved c.in_err-rows.ensures.why)
 
-pub returns-in-Ok-check_starts-clause-rows : goal.returns-in-Ok-check_starts-clause-rows
-returns-in-Ok-check_starts-clause-rows c = λ l views. c.in-Ok.ensures.rows ∙ rows_read l _ views
+pub returns-clause-rows : goal.returns-clause-rows
+returns-clause-rows c = λ l views. c.in_ok-rows.ensures.rows ∙ rows_read l _ views
 
-pub returns-in-Err-check_starts-clause-why : goal.returns-in-Err-check_starts-clause-why
-returns-in-Err-check_starts-clause-why c = λ l noted views resolved.
-    again_stands l c.args.files.now c.args.symbols.now _ _ views c.in-Ok.ensures.found (c.deref.ensures.value
-    ∙ c.in-Ok.ensures.rows) c.in-Err-check_starts.ensures.why
+pub returns-in_err-check_starts-clause-why : goal.returns-in_err-check_starts-clause-why
+returns-in_err-check_starts-clause-why c = λ l noted views resolved.
+    err_is c.from_residual-in_err-check_starts.result (IsStanding l) c.in_err-check_starts.field-0.0
+    c.from_residual-in_err-check_starts.ensures.1
+    (again_stands l c.args.files.now c.args.symbols.now _ _ views c.in_ok-rows.ensures.found (c.deref.ensures.value
+    ∙ c.in_ok-rows.ensures.rows) c.in_err-check_starts.ensures.why)
 
-pub returns-in-Ok-check_starts-clause-keeps : goal.returns-in-Ok-check_starts-clause-keeps
-returns-in-Ok-check_starts-clause-keeps c = λ l noted views resolved.
-    rules_kept l noted c.args.files.now c.args.symbols.now c.in-Ok.rows.items views resolved c.in-Ok.ensures.found c.in-Ok.ensures.rows
+pub returns-clause-keeps : goal.returns-clause-keeps
+returns-clause-keeps c = λ l noted views resolved.
+    rules_kept l noted c.args.files.now c.args.symbols.now c.in_ok-rows.rows.items views resolved c.in_ok-rows.ensures.found c.in_ok-rows.ensures.rows
     (subst (λ (xs : List UnwindEntry). AllPairs
-    (λ d e. start_key d ≢ start_key e) xs) c.deref.ensures.value c.in-Ok-check_starts.ensures.found)
+    (λ d e. start_key d ≢ start_key e) xs) c.deref.ensures.value c.in_ok-check_starts.ensures.found)
