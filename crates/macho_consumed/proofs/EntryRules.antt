@@ -81,7 +81,8 @@ alone_test : (l : Link) (d e : EntryId) → (same_start l d e ≡ true)
     → (not (same_start l d e) || (same_section d.of_section e.of_section && (d.entry == e.entry))) ≡ false
 alone_test l d e same differ = rw (same, differ) refl
 
-again_of : (l : Link) (files : List (Option FileBytes)) (r : ResolvedRows) (rows : List UnwindEntry) (fault : ConsumedFault) → files ≡ views_of l
+again_of : (l : Link) (files : List (Option FileBytes)) (r : ResolvedRows) (rows : List UnwindEntry) (fault : ConsumedFault)
+    → files ≡ views_of l
     → All (KeepsAt r files) (all_of Entries files)
     → rows ≡ flat_map (entries_at files) (all_of Entries files) → IsAgain rows fault → IsStanding l fault
 again_of l files r rows fault views keep are again =
@@ -125,7 +126,8 @@ again_of l files r rows fault views keep are again =
     ∙ ap (λ (s : ℕ). BadUnwind e.of_section.file s (entry_row l e).entry U6) (row_section l e)
     ∙ ap (λ (n : ℕ). BadUnwind e.of_section.file e.of_section.section n U6) (row_entry l e))) stands
 
-pub again_stands : (l : Link) (files : List (Option FileBytes)) (r : ResolvedRows) (rows : List UnwindEntry) (fault : ConsumedFault) → files ≡ views_of l
+pub again_stands : (l : Link) (files : List (Option FileBytes)) (r : ResolvedRows) (rows : List UnwindEntry) (fault : ConsumedFault)
+    → files ≡ views_of l
     → All (KeepsAt r files) (all_of Entries files)
     → rows ≡ flat_map (entries_at files) (all_of Entries files) → IsAgainOrMemory rows fault → IsStanding l fault
 again_stands l files r rows (BadInitializer f s offset) views keep are again = again_of l files r rows

@@ -4,13 +4,11 @@
 -- else a rule is broken. What the code found of the one, the tests of the rules say of the list of one: so each rule holds, or is the
 -- one that is told. No relocation stands at 8 nor between places, so each stands at one of the three addresses.
 use Rattle.std.proofs.Common.{◌≡◌, ◌≢◌, ℕ, ◌+◌, ◌*◌, ◌/◌, ◌%◌, ◌<◌, ◌≤◌, inl, inr, eqb, eq-eqb, Bool, true, false, nat_lt, ◌==◌}
-use Rattle.std.proofs.Common.{if◌then◌else◌, ◌&&◌, ◌||◌, List, [], ◌∷◌, ◌++◌, length, map, filter, get_or, Option, Some, None, option_map}
-use Rattle.std.proofs.Common.{option_to_list, is_some, nat_le, refl, sym, ap, ◌∙◌, subst, arith, below_more, append_assoc}
+use Rattle.std.proofs.Common.{if◌then◌else◌, ◌&&◌, ◌||◌, List, [], length, filter, get_or, Option, Some, None, option_map}
+use Rattle.std.proofs.Common.{option_to_list, is_some, nat_le, refl, sym, ap, ◌∙◌, subst, arith}
 use Rattle.std.proofs.lemmas.Bool.Decides.{nat_tests}
 use Rattle.std.proofs.lemmas.Bool.{eqb-true}
 use Rattle.std.specs.List.{range_with_len, list_all, Contains}
-use Rattle.std.proofs.lemmas.List.{append-nil}
-use Rattle.std.proofs.lemmas.List.FromFn.{map-range_with_len_more}
 use Rattle.macho_bytes.specs.Numbers.{bits}
 use Rattle.macho_structs.specs.declared.relocations.RelocationInfo.{RelocationInfo}
 use Rattle.macho_structs.specs.declared.unwind.UnwindInfoEntry.{UnwindInfoEntry}
@@ -23,7 +21,6 @@ use Rattle.macho_model.specs.Needs.{PERSONALITY_PLACE}
 use Rattle.macho_promise.specs.UnwindSays.{relocation_of}
 use Rattle.macho_consumed.specs.declared.rows.SectionPlace.{SectionPlace}
 use Rattle.macho_consumed.specs.declared.rows.PersonalityUse.{PersonalityUse}
-use Rattle.macho_consumed.specs.declared.rows.UnwindEntry.{UnwindEntry}
 use Rattle.macho_consumed.specs.Rows.{start_place, place_named, personality_use, entry_row}
 use Rattle.macho_consumed.specs.steps.Alone.{alone, own}
 use Rattle.macho_symbols.specs.Kept.{ResolvedRows}
@@ -31,9 +28,9 @@ use Rattle.macho_consumed.specs.declared.places.Cell.{Cell}
 use Rattle.macho_consumed.specs.declared.places.Cell.TheVariants.{Empty, One}
 use Rattle.macho_consumed.specs.steps.Places.{found, CellTells, IsTable, NoneBelow}
 use Rattle.macho_consumed.specs.steps.Entries.{NamesSection, StartFound, StartBreaks, DataFound, DataBreaks, PersonalityFound}
-use Rattle.macho_consumed.specs.steps.Entries.{PersonalityBreaks, PointersBreak, EntryBreaks, is_clear, at_place, read_entry, data_fits, EntryFits}
-use Rattle.macho_consumed.specs.steps.Entries.{EntriesFit, EntriesLead, HasPointers, IsPointer, IsAddress, row_in, rows_in}
-use Rattle.macho_consumed.specs.steps.Checked.{LeadsSomewhere}
+use Rattle.macho_consumed.specs.steps.Entries.{PersonalityBreaks, PointersBreak, EntryBreaks, is_clear, at_place, read_entry, data_fits}
+use Rattle.macho_consumed.specs.steps.Entries.{EntryFits}
+use Rattle.macho_consumed.specs.steps.Entries.{HasPointers, IsPointer, IsAddress, row_in}
 use Rattle.macho_consumed.proofs.Members.{here, in_filter, to_filter, in_range}
 use Rattle.macho_consumed.proofs.Tests.{both, all_pass, one_fails}
 use Rattle.macho_consumed.proofs.InSlots.{in_cell}
@@ -327,31 +324,3 @@ gathered_row b file number k e words place p d g same =
       lsda = d;
     } ≡ row_in b file k e)
     (sym same) (row_is b file k e place p d words g.start g.personality g.lsda g.read)
-
--- entries so far
-pub entries_none : (b : List ℕ) (k : ℕ) → EntriesFit b k 0
-entries_none b k = record { entries = λ e lt. absurd (omega arith) }
-
-pub entries_more : (b : List ℕ) (k n : ℕ) → EntriesFit b k n → EntryFits b k n → EntriesFit b k (n + 1)
-entries_more b k n fit one = record { entries = below_more _ n fit.entries one }
-
-pub lead_none : (r : ResolvedRows) (b : List ℕ) (file k : ℕ) → EntriesLead r b file k 0
-lead_none r b file k = λ e lt. absurd (omega arith)
-
-pub lead_more : (r : ResolvedRows) (b : List ℕ) (file k n : ℕ) (row : UnwindEntry) → EntriesLead r b file k n
-    → row ≡ row_in b file k n → LeadsSomewhere r file row.personality true → EntriesLead r b file k (n + 1)
-lead_more r b file k n row so_far is next =
-    below_more (λ e. LeadsSomewhere r file (row_in b file k e).personality true) n so_far
-    (subst (λ (x : UnwindEntry). LeadsSomewhere r file x.personality true) is next)
-
-pub entry_rows_none : (b : List ℕ) (file k : ℕ) (rows : List UnwindEntry) → rows ≡ rows ++ rows_in b file k 0
-unfolding rows_in
-entry_rows_none b file k rows = sym (append-nil rows)
-
-pub entry_rows_more : (b : List ℕ) (file k n : ℕ) (rows : List UnwindEntry) (row : UnwindEntry) → row ≡ row_in b file k n
-    → (rows ++ rows_in b file k n) ++ row ∷ [] ≡ rows ++ rows_in b file k (n + 1)
-unfolding rows_in
-entry_rows_more b file k n rows row is =
-    append_assoc rows (map (row_in b file k) (range_with_len 0 n)) (row ∷ [])
-    ∙ ap (λ (xs : List UnwindEntry). rows ++ (map (row_in b file k) (range_with_len 0 n) ++ xs)) (ap (λ (x : UnwindEntry). x ∷ []) is)
-    ∙ ap (λ (xs : List UnwindEntry). rows ++ xs) (sym (map-range_with_len_more (row_in b file k) 0 n n (omega arith)))

@@ -4,7 +4,8 @@
 -- symbol, or the slot isn't empty, the slot breaks the rules; else it fits. Slot by slot the rows are those of the relocations
 -- found, their pointers lead into carried sections, and none stands between two slots so far: at the end none does at all.
 use Rattle.std.proofs.Common.{◌≡◌, ℕ, ◌+◌, ◌*◌, ◌%◌, ◌<◌, ◌≤◌, ◌⊎◌, inl, inr, eqb, Bool, true, false, List, [], ◌∷◌, ◌++◌, length, map}
-use Rattle.std.proofs.Common.{get_or, None, refl, sym, ap, ◌∙◌, subst, arith, below_more, append_assoc, slice_range, length-take, length-drop}
+use Rattle.std.proofs.Common.{get_or, None, refl, sym, ap, ◌∙◌, subst, arith, below_more, append_assoc, slice_range, length-take}
+use Rattle.std.proofs.Common.{length-drop}
 use Rattle.std.proofs.Common.{nat_le, ◌≢◌}
 use Rattle.std.proofs.lemmas.Bool.Decides.{nat_tests}
 use Rattle.std.proofs.lemmas.List.{append-nil, get_or_default}
@@ -133,7 +134,8 @@ pointer_named r b file k n told is externs named =
     (named (relocation_at b k told.0).r_symbolnum (externs told.0 below extern))
 
 -- what breaks a slot
-pub no_one : (b : List ℕ) (k slot : ℕ) (cell : Cell) → CellTells (in_slot b k slot) cell → ((r : ℕ) → cell ≡ One r → ⊥) → SlotBreaks b k slot
+pub no_one : (b : List ℕ) (k slot : ℕ) (cell : Cell) → CellTells (in_slot b k slot) cell → ((r : ℕ) → cell ≡ One r → ⊥)
+    → SlotBreaks b k slot
 no_one b k slot Empty none other = inl (rw none refl)
 no_one b k slot (One r) one other = absurd (other r refl)
 no_one b k slot Several many other = inl (grind (arith, nat_tests, many))
@@ -151,7 +153,8 @@ pub bad_slot : (r : ResolvedRows) (b : List ℕ) (file k slot : ℕ) (said : Con
 bad_slot r b file k slot said within breaks told =
     subst (IsBadSection r b file k) (sym told) (refl, refl, inr (inl (slot, within, refl, breaks)))
 
-pub bad_between : (r : ResolvedRows) (b : List ℕ) (file k address : ℕ) (said : ConsumedFault) → IsBetween b k (section_at b k).nreloc address
+pub bad_between : (r : ResolvedRows) (b : List ℕ) (file k address : ℕ) (said : ConsumedFault)
+    → IsBetween b k (section_at b k).nreloc address
     → said ≡ BadInitializer file k address → IsBadSection r b file k said
 bad_between r b file k address said between told =
     subst (IsBadSection r b file k) (sym told) (refl, refl, inr (inr between))

@@ -19,4 +19,5 @@ pub mod RowLaws
 pub mod BoundInputs
 pub mod InSlots
 pub mod InEntries
+pub mod EntriesSoFar
 pub mod UnfitEntries

@@ -63,6 +63,7 @@ pub initializers_are : (l : Link) (files : List (Option FileBytes)) → files �
 unfolding initializer_sections
 initializers_are l files views = all_are l files Initializers views
 
-pub unwind_are : (l : Link) (files : List (Option FileBytes)) → files ≡ views_of l → map id_of_ref (all_of Entries files) ≡ unwind_sections l
+pub unwind_are : (l : Link) (files : List (Option FileBytes)) → files ≡ views_of l
+    → map id_of_ref (all_of Entries files) ≡ unwind_sections l
 unfolding unwind_sections
 unwind_are l files views = all_are l files Entries views

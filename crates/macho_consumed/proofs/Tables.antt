@@ -3,7 +3,8 @@
 -- So far each cell of the table tells the relocations at its place. Where the next relocation stands at a multiple of 8 within the
 -- table, it is the last one at that place, and its cell has one more; at another place nothing changes, since its address is another.
 -- Beside it the least address that is no multiple of 8 is the lesser of the one so far and the next.
-use Rattle.std.proofs.Common.{◌≡◌, ◌≢◌, ℕ, ◌+◌, ◌*◌, ◌/◌, ◌%◌, ◌<◌, ◌≤◌, ◌==◌, eqb, Bool, true, false, cond, List, [], ◌∷◌, ◌++◌, length, get_or}
+use Rattle.std.proofs.Common.{◌≡◌, ◌≢◌, ℕ, ◌+◌, ◌*◌, ◌/◌, ◌%◌, ◌<◌, ◌≤◌, ◌==◌, eqb, Bool, true, false, cond, List, [], ◌∷◌, ◌++◌, length}
+use Rattle.std.proofs.Common.{get_or}
 use Rattle.std.proofs.Common.{set, nat_lt, if◌then◌else◌, Option, Some, None, replicate, refl, sym, ap, ◌∙◌, subst, arith, below_more}
 use Rattle.std.proofs.Common.{length-set, get_or-set_other, get_or-set_same}
 use Rattle.std.proofs.lemmas.Bool.Decides.{nat_tests}
@@ -16,7 +17,8 @@ use Rattle.macho_consumed.specs.steps.Places.{found, CellTells, IsTable, IsBetwe
 use Rattle.macho_consumed.proofs.Ranges.{kept_one, filter_range_more}
 
 -- nothing is found among no relocations
-pub table_none : (b : List ℕ) (k n : ℕ) (cells : List Cell) → n ≡ (section_at b k).size / 8 → cells ≡ replicate n Empty → IsTable b k 0 cells
+pub table_none : (b : List ℕ) (k n : ℕ) (cells : List Cell) → n ≡ (section_at b k).size / 8 → cells ≡ replicate n Empty
+    → IsTable b k 0 cells
 unfolding found
 table_none b k n cells size is = record {
   long = rw is (length-replicate n Empty ∙ size);

@@ -2,7 +2,8 @@
 --
 -- That it is such a pointer is a rule of its section. By the rules of objects the symbol's number is one of the object, and of each
 -- symbol of an object a row is kept. The link that is spoken of here has the inputs of which views and rows of symbols are.
-use Rattle.std.proofs.Common.{◌≡◌, ℕ, ◌+◌, ◌*◌, ◌/◌, ◌^◌, ◌<◌, ◌≤◌, nat_le, nat_lt, ◌&&◌, ◌||◌, ◌==◌, Bool, true, false, List, [], ◌∷◌, length, map, get_or, Option, Some, None, is_none, refl, sym, ap, ◌∙◌, subst, arith, All, if◌then◌else◌}
+use Rattle.std.proofs.Common.{◌≡◌, ℕ, ◌+◌, ◌*◌, ◌/◌, ◌^◌, ◌<◌, ◌≤◌, nat_le, nat_lt, ◌&&◌, ◌||◌, ◌==◌, Bool, true, false, List, [], ◌∷◌}
+use Rattle.std.proofs.Common.{length, map, get_or, Option, Some, None, is_none, refl, sym, ap, ◌∙◌, subst, arith, All, if◌then◌else◌}
 use Rattle.std.specs.Prelude.{Contains, option_map}
 use Rattle.std.specs.List.{range_with_len, slice_get}
 use Rattle.std.proofs.lemmas.Bool.Decides.{nat_tests, Decides-eqb}
@@ -14,9 +15,11 @@ use Rattle.macho_model.specs.declared.rules.UnwindRule.TheVariants.{U2, U7}
 use Rattle.macho_model.specs.Objects.{num_sections, num_symbols, relocation_at}
 use Rattle.macho_model.specs.ObjectRules.{relocation_number_exists}
 use Rattle.macho_records.specs.declared.constants.TheConstants.{ARM64_RELOC_ADDEND}
-use Rattle.macho_model.specs.Links.{Input, Object, Link, SectionId, no_input, object_bytes, object_of, header_at, is_consumed, is_initializers, is_unwind_entries, sections_of}
+use Rattle.macho_model.specs.Links.{Input, Object, Link, SectionId, no_input, object_bytes, object_of, header_at, is_consumed}
+use Rattle.macho_model.specs.Links.{is_initializers, is_unwind_entries, sections_of}
 use Rattle.macho_model.specs.Needs.{relocation_in, relocations_of, relocations_at, initializer_sections, unwind_sections, PERSONALITY_PLACE}
-use Rattle.macho_model.specs.Consumed.{entry_count, entries_of_link, is_plain_pointer, initializer_relocation_fits, relocations_in_entry, unwind_relocation_fits}
+use Rattle.macho_model.specs.Consumed.{entry_count, entries_of_link, is_plain_pointer, initializer_relocation_fits, relocations_in_entry}
+use Rattle.macho_model.specs.Consumed.{unwind_relocation_fits}
 use Rattle.macho_names.specs.Kept.{FileRows, Keeps, no_file, kept_of, row_of_symbol, rows_of_object}
 use Rattle.macho_symbols.specs.Kept.{ResolvedRows, IsResolved}
 use Rattle.macho_needs.proofs.Using.{link_with}
@@ -41,7 +44,8 @@ object_got views inputs k f are below is =
     view_says (get_or inputs k no_input) f
     (sym (get_or-map object_view inputs k no_input None within) ∙ ap (λ (vs : List (Option FileBytes)). get_or vs k None) (sym are) ∙ is)
 
-pub are_kept : (views : List (Option FileBytes)) (files : List FileRows) → length views < 2 ^ 32 → AreOfInputs views files → AreKept views files
+pub are_kept : (views : List (Option FileBytes)) (files : List FileRows) → length views < 2 ^ 32 → AreOfInputs views files
+    → AreKept views files
 are_kept views files few of = record {
   few = few;
   long = omega (arith, ap length of.keeps.are, length-map of.inputs kept_of, ap length of.are, length-map of.inputs object_view);
@@ -57,7 +61,8 @@ pub is_resolved : (r : ResolvedRows) (inputs : List Input) → Keeps inputs r.fi
 unfolding link_with
 is_resolved r inputs keeps = record { keeps = keeps.are; notes = refl }
 
-pub are_views_of : (views : List (Option FileBytes)) (inputs : List Input) → views ≡ map object_view inputs → views ≡ views_of (link_with inputs)
+pub are_views_of : (views : List (Option FileBytes)) (inputs : List Input) → views ≡ map object_view inputs
+    → views ≡ views_of (link_with inputs)
 unfolding link_with
 are_views_of views inputs are = are
 

@@ -6,7 +6,7 @@ use Rattle.macho_consumed.specs.declared.rows.UnwindEntry.{UnwindEntry}
 use Rattle.macho_consumed.specs.steps.Places.{ArePlaces}
 use Rattle.macho_consumed.specs.steps.Checked.{AreNamed}
 use Rattle.macho_consumed.specs.steps.Entries.{EntryFits, SectionBreaksRule, row_in}
-use Rattle.macho_consumed.proofs.InEntries.{entries_none, entries_more, entry_rows_none, entry_rows_more, lead_none, lead_more}
+use Rattle.macho_consumed.proofs.EntriesSoFar.{entries_none, entries_more, entry_rows_none, entry_rows_more, lead_none, lead_more}
 use Rattle.macho_consumed.proofs.UnfitEntries.{bad_at, between_breaks}
 use Rattle.macho_consumed.proofs.entries.add_entries.Goals as goal
 

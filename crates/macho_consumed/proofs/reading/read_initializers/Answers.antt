@@ -1,20 +1,15 @@
 use Rattle.std.proofs.Common.{◌∙◌}
-use Rattle.std.specs.Prelude.{Result, Ok, Err, OnOk}
 use Rattle.std.proofs.lemmas.Result.{IfErr-weaker}
-use Rattle.macho_needs.proofs.Pointers.{if_ok}
+use Rattle.macho_needs.proofs.Pointers.{if_ok, on_ok}
 use Rattle.macho_consumed.proofs.ReadInitializers.{rows_read, bad_stands, rules_kept}
 use Rattle.macho_consumed.proofs.reading.read_initializers.Goals as goal
-
-on_ok : {X E : Type 0} (r : Result X E) (P Q : Type 0) → (P → Q) → OnOk r P → OnOk r Q
-on_ok (Ok x) P Q more p = more p
-on_ok (Err e) P Q more p = tt
 
 pub returns-clause-rows : goal.returns-clause-rows
 returns-clause-rows c = λ l views. if_ok _ _ c.gather_initializers.result (λ v rows. rows ∙ rows_read l _ views) c.gather_initializers.ensures.rows
 
 pub returns-clause-keeps : goal.returns-clause-keeps
 returns-clause-keeps c = λ l noted views resolved.
-    on_ok c.gather_initializers.result _ _ (rules_kept l noted c.args.files.now c.args.symbols.now views resolved)
+    on_ok c.gather_initializers.result (rules_kept l noted c.args.files.now c.args.symbols.now views resolved)
     c.gather_initializers.ensures.found
 
 pub returns-clause-why : goal.returns-clause-why
