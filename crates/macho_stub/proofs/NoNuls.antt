@@ -3,14 +3,13 @@
 -- No line of a text in the grammar has a byte that is barred, and NUL is one. The lines are the parts between line feeds,
 -- but for a carriage return at their ends, so no part holds a NUL, and the whole text is the parts and the line feeds. What
 -- the documents say are slices of the text, so no slice holds one; and what the library has are texts of these slices.
-use Rattle.std.proofs.Common.{◌≡◌, ◌≢◌, ℕ, zero, suc, ◌+◌, ◌-◌, ◌<◌, ◌==◌, ◌||◌, Bool, true, false, List, [], ◌∷◌, length, take, drop, slice_range, slice_index, get_or, refl, sym, ap, subst, ◌∙◌, arith, inl, inr, if◌then◌else◌, Result, Ok, Err}
+use Rattle.std.proofs.Common.{◌≡◌, ◌≢◌, ℕ, zero, suc, ◌+◌, ◌-◌, ◌<◌, ◌==◌, Bool, true, false, List, [], ◌∷◌, length, take, drop, slice_range, slice_index, get_or, sym, ap, subst, ◌∙◌, arith, inl, inr, if◌then◌else◌, Result, Ok, Err}
 use Rattle.std.specs.Prelude.{IfOk}
 use Rattle.std.specs.List.{All, AllByRecursion, flat_map, slice_split, onto_first}
 use Rattle.std.specs.Str.Lines.{strip_carriage_return}
 use Rattle.std.proofs.lemmas.Bool.{cases_Bool, cases_lt, eqb-true}
-use Rattle.std.proofs.lemmas.Bool.Decides.{nat_tests}
 use Rattle.std.proofs.lemmas.List.{get_or-take, get_or-drop, get_or_default, length-take, length-drop}
-use Rattle.macho_stub_lines.specs.Bytes.{line_feed, tab, is_barred, has_barred}
+use Rattle.macho_stub_lines.specs.Bytes.{line_feed, has_barred}
 use Rattle.macho_stub_lines.specs.Slices.{Slice, StandsIn, texts_of, Line, lines_of_parts}
 use Rattle.macho_stub_lines.proofs.Runs.{all_append}
 use Rattle.macho_stub_lines.proofs.NoNuls.{plain_cons, unbarred}

@@ -3,13 +3,13 @@
 -- to what stands between (`Spread`). Behind that stands, where a scalar stood before, a comma with the rest of the
 -- list, or the closing bracket; and otherwise scalars and the closing bracket. A scalar in front of remains takes what
 -- stands between up to the comma or the bracket, and the rest is a tree by then.
-use Rattle.std.proofs.Common.{◌≡◌, ℕ, zero, suc, Bool, true, false, List, [], ◌∷◌, replicate, Option, None, Some, refl, ap, sym, ◌∙◌, ◌⊎◌, inl, inr}
+use Rattle.std.proofs.Common.{◌≡◌, ℕ, zero, suc, Bool, true, false, List, [], ◌∷◌, replicate, Option, None, Some, IfSome, refl, ap, sym, ◌∙◌, ◌⊎◌, inl, inr}
 use Rattle.std.specs.List.{AllByRecursion}
 use Rattle.macho_stub_lines.specs.Bytes.{space, comma, close_bracket, is_tail}
 use Rattle.macho_stub_lines.specs.Slices.{texts_of}
 use Rattle.macho_stub_lines.specs.steps.Spelling.{text_of}
 use Rattle.macho_stub_lines.specs.Spelling.{scalar_bytes}
-use Rattle.macho_stub_lines.specs.FlowLists.{Block, bytes_then, turn_then, Between, Spaces, Turn, Followed, Final, ListTree, between_then, followed_then, final_then, IsBetween, IsFollowed, IsFinalIfAny, IsListTree, slices_from}
+use Rattle.macho_stub_lines.specs.FlowLists.{Block, bytes_then, turn_then, Between, Spaces, Turn, Followed, Final, ListTree, between_then, followed_then, final_then, IsBetween, IsFollowed, IsFinal, IsListTree, slices_from}
 use Rattle.macho_stub_lines.proofs.ScalarTrees.{slice_text}
 use Rattle.macho_stub_lines.proofs.ListTreesTails.{tail_spaced}
 use Rattle.macho_stub_lines.proofs.ListTreesRemains.{Remains, Gap, Turned, Comma, Name, Close, ending}
@@ -49,14 +49,14 @@ between_remains (Spaces count) named rest names sound left = spaces_remain count
 between_remains (Turn tail number at between) named rest names sound left =
     Turned named tail number at (between_then between rest) names sound.0 (between_remains between named rest names sound.1 left)
 
-final_remains : (final : Option Final) (tail : List ℕ) → IsFinalIfAny final → is_tail tail ≡ true
+final_remains : (final : Option Final) (tail : List ℕ) → IfSome final IsFinal → is_tail tail ≡ true
     → Remains false (final_then final (closing tail)) (final_texts final)
 final_remains None tail sound ends = Close false tail ends
 final_remains (Some one) tail sound ends = Name one.scalar (between_then one.behind (closing tail)) [] sound.scalar
     (between_remains one.behind true (closing tail) [] sound.behind (Close true tail ends))
 
 followed_remains : (followed : List Followed) (final : Option Final) (tail : List ℕ) → AllByRecursion IsFollowed followed
-    → IsFinalIfAny final → is_tail tail ≡ true
+    → IfSome final IsFinal → is_tail tail ≡ true
     → Remains false (followed_then followed (final_then final (closing tail))) (texts_in followed final)
 followed_remains [] final tail sound last ends = final_remains final tail last ends
 followed_remains (one ∷ others) final tail sound last ends =
@@ -84,7 +84,7 @@ pub record Scalars (block : Block) (names : List (List ℕ)) : Type 0 where
   pub tail : List ℕ
   pub spelled : block ≡ followed_then followed (final_then final (closing tail))
   pub sound : AllByRecursion IsFollowed followed
-  pub last : IsFinalIfAny final
+  pub last : IfSome final IsFinal
   pub ends : is_tail tail ≡ true
   pub say : texts_in followed final ≡ names
 

@@ -1,10 +1,10 @@
 -- Bytes of which none is barred hold no NUL.
 --
 -- NUL is one of the two bytes that are barred, so where no byte passes that test none is NUL.
-use Rattle.std.proofs.Common.{◌≡◌, ◌≢◌, ℕ, zero, suc, ◌+◌, ◌<◌, ◌==◌, ◌||◌, Bool, true, false, List, [], ◌∷◌, length, refl, arith}
+use Rattle.std.proofs.Common.{◌≡◌, ◌≢◌, ℕ, zero, suc, ◌==◌, ◌||◌, Bool, true, false, List, [], ◌∷◌, refl, arith}
 use Rattle.std.specs.List.{All}
 use Rattle.std.proofs.lemmas.Bool.Decides.{nat_tests}
-use Rattle.macho_stub_lines.specs.Bytes.{tab, is_barred, has_barred}
+use Rattle.macho_stub_lines.specs.Bytes.{is_barred, has_barred}
 use Rattle.macho_stub_lines.specs.Laws.{UnbarredIsPlain}
 
 -- one byte more without a NUL
@@ -27,4 +27,4 @@ unbarred (b ∷ bytes) h = plain_cons b bytes (not_nul b (first (is_barred b) (h
     rest false y e = e
 
     not_nul : (b : ℕ) → is_barred b ≡ false → b ≢ 0
-    not_nul b e is = let test : (b == 0) ≡ false = first (b == 0) (b == tab) e in grind (arith, nat_tests)
+    not_nul b e is = let test : (b == 0) ≡ false = first (b == 0) (b == 9) e in grind (arith, nat_tests)

@@ -4,9 +4,6 @@ use Rattle.std.specs.Prelude.{nat_lt}
 use Rattle.std.specs.List.{prefix_len, list_any}
 use Rattle.std.specs.Char.{is_ascii_alphanumeric}
 
-abbrev pub tab : ℕ
-tab = 9
-
 abbrev pub line_feed : ℕ
 line_feed = 10
 
@@ -43,16 +40,6 @@ backslash = 92
 abbrev pub close_bracket : ℕ
 close_bracket = 93
 
-abbrev pub open_brace : ℕ
-open_brace = 123
-
-abbrev pub close_brace : ℕ
-close_brace = 125
-
--- the control character DEL
-abbrev pub delete : ℕ
-delete = 127
-
 abbrev pub is_space : ℕ → Bool
 is_space b = b == space
 
@@ -60,15 +47,16 @@ is_space b = b == space
 unfoldable pub is_key_byte : ℕ → Bool
 is_key_byte b = is_ascii_alphanumeric b || b == dash
 
--- a byte that has a meaning of its own outside quotes
+-- A byte that has a meaning of its own outside quotes. The last two are braces.
 unfoldable pub is_mark : ℕ → Bool
 is_mark b =
     b == comma || b == single_quote || b == double_quote || b == number_sign
-    || b == open_bracket || b == close_bracket || b == open_brace || b == close_brace
+    || b == open_bracket || b == close_bracket || b == 123 || b == 125
 
--- A byte of a plain scalar: no space, no control character of ASCII, no comma, quote, number sign, bracket or brace.
+-- A byte of a plain scalar: no space, no control character of ASCII (127 is one too), no comma, quote, number sign,
+-- bracket or brace.
 unfoldable pub is_plain_byte : ℕ → Bool
-is_plain_byte b = nat_lt space b && not (b == delete) && not (is_mark b)
+is_plain_byte b = nat_lt space b && not (b == 127) && not (is_mark b)
 
 -- Behind the byte `last`, the bytes have a control character past ASCII, U+0080 to U+009F: in UTF-8 it is 0xC2 and
 -- a byte below 0xA0.
@@ -102,9 +90,9 @@ unfoldable pub is_tail : List ℕ → Bool
 is_tail [] = true
 is_tail (b ∷ bytes) = b == space && is_passed bytes
 
--- a byte that may stand nowhere in a text: NUL or a tab
+-- a byte that may stand nowhere in a text: NUL (0) or a tab (9)
 abbrev pub is_barred : ℕ → Bool
-is_barred b = b == 0 || b == tab
+is_barred b = b == 0 || b == 9
 
 -- one of the bytes is NUL or a tab
 unfoldable pub has_barred : List ℕ → Bool

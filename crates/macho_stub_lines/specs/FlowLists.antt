@@ -1,5 +1,5 @@
 -- Flow lists as trees: scalars in brackets, parted by commas, that may go on over lines.
-use Rattle.std.specs.Prelude.{◌≡◌, ◌≢◌, ℕ, ◌+◌, true, List, [], ◌∷◌, ◌++◌, length, replicate, Option, None, Some}
+use Rattle.std.specs.Prelude.{◌≡◌, ◌≢◌, ℕ, ◌+◌, true, List, [], ◌∷◌, ◌++◌, length, replicate, Option, None, Some, IfSome}
 use Rattle.std.specs.List.{AllByRecursion}
 use Rattle.macho_stub_lines.specs.Bytes.{space, comma, open_bracket, close_bracket, end, is_tail}
 use Rattle.macho_stub_lines.specs.Slices.{Slice, Line}
@@ -80,14 +80,10 @@ pub record IsFinal (one : Final) : Type 0 where
   pub scalar : IsScalar one.scalar
   pub behind : IsBetween one.behind
 
-abbrev pub IsFinalIfAny : Option Final → Type 0
-IsFinalIfAny None = Unit {0}
-IsFinalIfAny (Some one) = IsFinal one
-
 pub record IsListTree (tree : ListTree) : Type 0 where
   pub opening : IsBetween tree.opening
   pub followed : AllByRecursion IsFollowed tree.followed
-  pub final : IsFinalIfAny tree.final
+  pub final : IfSome tree.final IsFinal
 
 -- ---- what it says
 

@@ -73,14 +73,12 @@ top_key key =
 -- the names that an item of a list has: libraries, or symbols
 abbrev pub names_key : ItemKind → List ℕ
 names_key Libraries = codes "libraries"
-names_key Exports = codes "symbols"
-names_key Reexports = codes "symbols"
+names_key kind = codes "symbols"
 
 -- items of symbols may have weak ones
 abbrev pub has_weak : ItemKind → Bool
 has_weak Libraries = false
-has_weak Exports = true
-has_weak Reexports = true
+has_weak kind = true
 
 -- the keys of an item that are read
 unfoldable pub item_key : ItemKind → List ℕ → ItemKey

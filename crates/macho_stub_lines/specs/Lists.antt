@@ -46,18 +46,13 @@ token_front line (b ∷ bytes) =
 -- nothing behind the closing bracket.
 unfoldable pub behind : ℕ → Expect → TokenKind → Reading Expect
 behind line expect Gap = Ok expect
-behind line AfterOpen Comma = outside line
 behind line AfterOpen Close = Ok Closed
 behind line AfterOpen Name = Ok AfterName
-behind line AfterComma Comma = outside line
 behind line AfterComma Close = Ok Closed
 behind line AfterComma Name = Ok AfterName
 behind line AfterName Comma = Ok AfterComma
 behind line AfterName Close = Ok Closed
-behind line AfterName Name = outside line
-behind line Closed Comma = outside line
-behind line Closed Close = outside line
-behind line Closed Name = outside line
+behind line expect kind = outside line
 
 -- the scalars of a line of a list, and what may come next
 pub record ListPart : Type 0 where
@@ -66,9 +61,7 @@ pub record ListPart : Type 0 where
 
 abbrev pub names_for : TokenKind → List ℕ → List (List ℕ)
 names_for Name text = text ∷ []
-names_for Gap text = []
-names_for Comma text = []
-names_for Close text = []
+names_for kind text = []
 
 -- what was read of a list, without where it lies in memory
 abbrev pub part_of : OpenList → ListPart
