@@ -196,7 +196,8 @@ line_stands first more line other m = record {
   text = m.text;
   more = more ++ other ∷ m.more;
   says = m.says;
-  begins = m.begins ∙ append_assoc first (line ∷ more) (other ∷ m.more);
+  begins = m.begins ∙ append_assoc (first ++ line ∷ more) (other ∷ []) m.more ∙ append_assoc first (line ∷ more) (other ∷ m.more)
+      ∙ sym (append_assoc first (line ∷ []) (more ++ other ∷ m.more));
   in_grammar = m.in_grammar;
 }
 

@@ -7,7 +7,7 @@ use Rattle.std.proofs.Common.{◌≡◌, ◌≢◌, ℕ, ◌+◌, List, [], ◌�
 use Rattle.std.specs.List.{AllByRecursion}
 use Rattle.std.specs.Str.Lines.{lines}
 use Rattle.macho_stub_lines.specs.declared.fault.StubRule.{StubRule}
-use Rattle.macho_stub_lines.specs.declared.fault.StubRule.TheVariants.{S1, S2, S3, S4, S5, S6, S7, S8, S9}
+use Rattle.macho_stub_lines.specs.declared.fault.StubRule.TheVariants.{S1, S2, S3}
 use Rattle.macho_stub_lines.specs.Bytes.{indent, unspaced, is_passed, is_blank_or_comment, is_key_byte, head, end}
 use Rattle.macho_stub_lines.specs.Keys.{Entry, entry_at}
 use Rattle.macho_stub.specs.Order.{MayBegin, MayStand, EndsWithout, StandsTwice, IsLastHead, IsWhy, StopsAt, StopsAtEnd, BreaksOff, unread_key, in_column}
@@ -55,7 +55,8 @@ stands_before all first rest line e g = record {
   text = g.text;
   more = rest ++ g.more;
   says = g.says;
-  begins = g.begins ∙ ap (λ (l : List (List ℕ)). l ++ g.more) e ∙ append_assoc first (line ∷ rest) g.more;
+  begins = g.begins ∙ ap (λ (l : List (List ℕ)). l ++ g.more) e ∙ append_assoc first (line ∷ rest) g.more
+      ∙ sym (append_assoc first (line ∷ []) (rest ++ g.more));
   in_grammar = g.in_grammar;
 }
 
@@ -108,12 +109,7 @@ why_of : (rule : StubRule) (number : ℕ) (first : List (List ℕ)) (line : List
 why_of S1 number first line w = Out refl w.0 w.1 w.2
 why_of S2 number first line w = Lacking refl w.0 w.1
 why_of S3 number first line w = Again refl w.0 w.1
-why_of S4 number first line w = absurd w
-why_of S5 number first line w = absurd w
-why_of S6 number first line w = absurd w
-why_of S7 number first line w = absurd w
-why_of S8 number first line w = absurd w
-why_of S9 number first line w = absurd w
+why_of rule number first line w = absurd w
 
 one_why : (r s : StubRule) (l m : ℕ) (first : List (List ℕ)) (line : List ℕ) → Why r l first line → Why s m first line → (l ≡ m) × (r ≡ s)
 one_why r s l m first line (Out a b c d) (Out e f g h) = (b ∙ sym f, a ∙ sym e)
@@ -144,5 +140,5 @@ no_stop_and_end text l m r s a b = a.stuck (stands_before (lines text) a.first a
 
 -- a text that breaks off isn't in the grammar
 pub no_break : (text : List ℕ) (l : ℕ) (r : StubRule) → BreaksOff text l r → (says : List (DocumentOf Slice)) → IsStubText text says → ⊥
-no_break text l r (inl a) says is = a.stuck (record { text = text; more = a.rest; says = says; begins = a.parts; in_grammar = is })
+no_break text l r (inl a) says is = a.stuck (record { text = text; more = a.rest; says = says; begins = a.parts ∙ sym (append_assoc a.first (a.line ∷ []) a.rest); in_grammar = is })
 no_break text l r (inr a) says is = a.stuck says is

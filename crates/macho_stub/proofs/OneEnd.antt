@@ -11,7 +11,7 @@ use Rattle.std.proofs.lemmas.List.{append-nil}
 use Rattle.macho_stub_lines.specs.declared.list.Expect.{Expect}
 use Rattle.macho_stub_lines.specs.declared.list.Expect.TheVariants.{AfterOpen, AfterComma, AfterName, Closed}
 use Rattle.macho_stub_lines.specs.declared.fault.StubRule.{StubRule}
-use Rattle.macho_stub_lines.specs.declared.fault.StubRule.TheVariants.{S1, S2, S3, S4, S5, S6, S7, S8, S9}
+use Rattle.macho_stub_lines.specs.declared.fault.StubRule.TheVariants.{S1, S2}
 use Rattle.macho_stub_lines.specs.Bytes.{indent, unspaced, is_passed, has_barred, is_blank_or_comment, is_mark, is_plain_byte, has_late_control_after}
 use Rattle.macho_stub_lines.specs.Scalars.{scalar_front, plain_front}
 use Rattle.macho_stub_lines.specs.Faults.{outside}
@@ -151,13 +151,7 @@ outside_why number texts (inr b) = Bare refl b
 why_of : (rule : StubRule) (number : ℕ) (texts : List (List ℕ)) → IsWhyAtEnd rule number texts → Why rule number texts
 why_of S1 number texts w = outside_why number texts w
 why_of S2 number texts w = Lacks refl w.0 w.1
-why_of S3 number texts w = absurd w
-why_of S4 number texts w = absurd w
-why_of S5 number texts w = absurd w
-why_of S6 number texts w = absurd w
-why_of S7 number texts w = absurd w
-why_of S8 number texts w = absurd w
-why_of S9 number texts w = absurd w
+why_of rule number texts w = absurd w
 
 bracket : (number : ℕ) (texts : List (List ℕ)) → IsCutList number texts → MayStand texts closing_bracket
 bracket number texts c =

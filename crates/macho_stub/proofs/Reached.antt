@@ -85,7 +85,7 @@ may_stand first state next text r l e =
       text = joined (first ++ text ∷ f.more);
       more = f.more;
       says = t.0;
-      begins = lines_joined (first ++ text ∷ f.more) are;
+      begins = lines_joined (first ++ text ∷ f.more) are ∙ sym (append_assoc first (text ∷ []) f.more);
       in_grammar = t.1;
     }
 
@@ -95,7 +95,8 @@ pub stands : (first : List (List ℕ)) (state : StateFields) (text : List ℕ) �
 unfolding lines_from
 stands first state text r m =
     let says = documents_texts m.says in
-    let is : lines_from start 1 (first ++ text ∷ m.more) ≡ Ok says = ap (lines_from start 1) (sym m.begins)
+    let is : lines_from start 1 (first ++ text ∷ m.more) ≡ Ok says = ap (lines_from start 1)
+    (sym (append_assoc first (text ∷ []) m.more) ∙ sym m.begins)
     ∙ lines_read (lines m.text) says (to_read m.text m.says m.in_grammar) in
     let b = bind_ok (line_step state (length first + 1) text) (λ s. lines_from s (length first + 1 + 1) m.more) says
     (sym (r.leads (text ∷ m.more)) ∙ is) in

@@ -6,7 +6,7 @@ use Rattle.std.specs.Prelude.{◌≡◌, ◌≢◌, ℕ, ◌+◌, ◌⊎◌, tru
 use Rattle.std.specs.List.{AllByRecursion}
 use Rattle.std.specs.Str.Lines.{lines}
 use Rattle.macho_stub_lines.specs.declared.fault.StubRule.{StubRule}
-use Rattle.macho_stub_lines.specs.declared.fault.StubRule.TheVariants.{S1, S2, S3, S4, S5, S6, S7, S8, S9}
+use Rattle.macho_stub_lines.specs.declared.fault.StubRule.TheVariants.{S1, S2, S3}
 use Rattle.macho_stub_lines.specs.Bytes.{space, colon, indent, unspaced, is_passed, has_barred, head, end, has_dash}
 use Rattle.macho_stub_lines.specs.Spelling.{EntryTree, IsEntry, entry_bytes}
 use Rattle.macho_stub_lines.specs.Slices.{Slice}
@@ -22,12 +22,8 @@ pub record MayBegin (first : List (List ℕ)) : Type 0 where
   pub in_grammar : IsStubText text says
 
 -- A text in the grammar begins with these lines and then this one.
-pub record MayStand (first : List (List ℕ)) (line : List ℕ) : Type 0 where
-  pub text : List ℕ
-  pub more : List (List ℕ)
-  pub says : List (DocumentOf Slice)
-  pub begins : lines text ≡ first ++ line ∷ more
-  pub in_grammar : IsStubText text says
+abbrev pub MayStand : List (List ℕ) → List ℕ → Type 0
+MayStand first line = MayBegin (first ++ line ∷ [])
 
 -- the text, with its first byte in this column
 abbrev pub in_column : ℕ → List ℕ → List ℕ
@@ -107,12 +103,7 @@ abbrev pub IsWhy : StubRule → ℕ → List (List ℕ) → List ℕ → Type 0
 IsWhy S1 number first line = (number ≡ length first + 1) × (EndsWithout first line → ⊥) × (StandsTwice first line → ⊥)
 IsWhy S2 number first line = IsLastHead number first × EndsWithout first line
 IsWhy S3 number first line = (number ≡ length first + 1) × StandsTwice first line
-IsWhy S4 number first line = ⊥
-IsWhy S5 number first line = ⊥
-IsWhy S6 number first line = ⊥
-IsWhy S7 number first line = ⊥
-IsWhy S8 number first line = ⊥
-IsWhy S9 number first line = ⊥
+IsWhy rule number first line = ⊥
 
 -- The first line that may not stand behind those before it, and why.
 pub record StopsAt (texts : List (List ℕ)) (number : ℕ) (rule : StubRule) : Type 0 where
@@ -156,13 +147,7 @@ pub record IsBareKey (number : ℕ) (texts : List (List ℕ)) : Type 0 where
 abbrev pub IsWhyAtEnd : StubRule → ℕ → List (List ℕ) → Type 0
 IsWhyAtEnd S1 number texts = IsCutList number texts ⊎ IsBareKey number texts
 IsWhyAtEnd S2 number texts = IsLastHead number texts × (LacksInItem texts ⊎ LacksInDocument texts)
-IsWhyAtEnd S3 number texts = ⊥
-IsWhyAtEnd S4 number texts = ⊥
-IsWhyAtEnd S5 number texts = ⊥
-IsWhyAtEnd S6 number texts = ⊥
-IsWhyAtEnd S7 number texts = ⊥
-IsWhyAtEnd S8 number texts = ⊥
-IsWhyAtEnd S9 number texts = ⊥
+IsWhyAtEnd rule number texts = ⊥
 
 -- All lines may stand, but the text may not end behind them.
 pub record StopsAtEnd (text : List ℕ) (number : ℕ) (rule : StubRule) : Type 0 where
