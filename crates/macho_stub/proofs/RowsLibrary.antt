@@ -24,7 +24,7 @@ small_is_stub = record {
     main = small_says;
     others = [];
     first = refl;
-    sound = record { for_target = inl refl; versioned = λ e. absurd cc; one_group = omega arith; group = tt };
+    sound = record { for_target = refl; versioned = λ e. absurd cc; one_group = omega arith; group = tt };
     each = (record { version = refl; belongs = inl refl }, tt);
     install_name = refl;
     current_version = refl;

@@ -3,14 +3,15 @@
 -- among them, and the other way round. Two documents say the same where each of their parts is the same, and lists are
 -- the same where they are as long and the same place by place (`all_same_is`); so the test on documents is a row of
 -- tests that are right one by one (`document_same`, `document_test`).
-use Rattle.std.proofs.Common.{◌≡◌, ℕ, ◌&&◌, ◌||◌, Bool, true, false, List, [], ◌∷◌, refl, ap, ◌∙◌, ◌⊎◌, inl, inr}
+use Rattle.std.proofs.Common.{◌≡◌, ℕ, ◌&&◌, Bool, true, false, List, [], ◌∷◌, Contains, slice_index_or, refl, ap, ◌∙◌, subst}
 use Rattle.std.proofs.lemmas.Bool.{and_parts}
+use Rattle.std.proofs.lemmas.List.Elements.{Contains-get_or}
+use Rattle.std.proofs.lemmas.List.Folds.{Any-from_list_any, list_any-from_Any, list_any_at}
 use Rattle.std.specs.List.{list_any}
 use Rattle.std.specs.Str.{bytes_eq}
 use Rattle.macho_stub.specs.Documents.{ItemFields, DocumentFields}
-use Rattle.macho_stub.specs.Library.{target, has_target}
 use Rattle.macho_stub.specs.steps.Checks.{all_same, same_names, same_item, same_items, same_document, is_listed}
-use Rattle.macho_stub.specs.Rules.{Among, IsListed, SaySame}
+use Rattle.macho_stub.specs.Rules.{IsListed, SaySame}
 use Rattle.macho_stub_lines.proofs.Bind.{same_bytes, bytes_same}
 
 -- ---- tests
@@ -18,55 +19,33 @@ use Rattle.macho_stub_lines.proofs.Bind.{same_bytes, bytes_same}
 both_true : (a b : Bool) → a ≡ true → b ≡ true → (a && b) ≡ true
 both_true a b h k = ap (λ x. x && b) h ∙ k
 
-or_right : (b : Bool) {r : Bool} → r ≡ true → (b || r) ≡ true
-or_right true h = refl
-or_right false h = h
-
 -- a test doesn't answer both
 pub clash : (b : Bool) → b ≡ true → b ≡ false → ⊥
 clash b h k = cc
 
-pub among : (name : List ℕ) (names : List (List ℕ)) → list_any (λ other. bytes_eq other name) names ≡ true → Among name names
-among name [] h = absurd cc
-among name (other ∷ names) h = by_first (bytes_eq other name) refl (λ k. among name names k) h
-  where
-    by_first : (b : Bool) → bytes_eq other name ≡ b → (list_any (λ o. bytes_eq o name) names ≡ true → Among name names)
-        → (b || list_any (λ o. bytes_eq o name) names) ≡ true → (other ≡ name) ⊎ Among name names
-    by_first true e ih k = inl (same_bytes other name e)
-    by_first false e ih k = inr (ih k)
+-- a name that is found is contained
+contained : (name : List ℕ) (names : List (List ℕ)) → list_any (λ other. bytes_eq other name) names ≡ true → Contains names name
+contained name names h =
+    let r = Any-from_list_any (λ other. bytes_eq other name) names h in
+    subst (Contains names) (r.3 ∙ same_bytes r.1 name r.4) (Contains-get_or names r.0 r.1 r.2)
 
-pub among_back : (name : List ℕ) (names : List (List ℕ)) → Among name names → list_any (λ other. bytes_eq other name) names ≡ true
-among_back name [] h = absurd h
-among_back name (other ∷ names) (inl e) = ap (λ b. b || list_any (λ o. bytes_eq o name) names) (bytes_same other name e)
-among_back name (other ∷ names) (inr h) = or_right (bytes_eq other name) (among_back name names h)
-
--- targets that pass the test have the target
-pub target_held : (targets : List (List ℕ)) → has_target targets ≡ true → Among target targets
-unfolding has_target
-target_held targets h = among target targets h
-
--- and targets that have it pass
-pub target_test : (targets : List (List ℕ)) → Among target targets → has_target targets ≡ true
-unfolding has_target
-target_test targets h = among_back target targets h
+contained_back : (name : List ℕ) (names : List (List ℕ)) → Contains names name → list_any (λ other. bytes_eq other name) names ≡ true
+contained_back name names c =
+    list_any_at (λ other. bytes_eq other name) names c.0 name c.1 (bytes_same (slice_index_or names c.0 name) name c.2)
 
 -- a name that passes the test is listed
 pub listed : (name : List ℕ) (items : List ItemFields) → is_listed name items ≡ true → IsListed name items
 unfolding is_listed
-listed name [] h = absurd cc
-listed name (item ∷ items) h = by_first (list_any (λ o. bytes_eq o name) item.names) refl (λ k. listed name items k) h
-  where
-    by_first : (b : Bool) → list_any (λ o. bytes_eq o name) item.names ≡ b → (is_listed name items ≡ true → IsListed name items)
-        → (b || is_listed name items) ≡ true → Among name item.names ⊎ IsListed name items
-    by_first true e ih k = inl (among name item.names e)
-    by_first false e ih k = inr (ih k)
+listed name items h =
+    let r = Any-from_list_any (λ (item : ItemFields). list_any (λ other. bytes_eq other name) item.names) items h in
+    (r.0, r.1, r.2, r.3, contained name r.1.names r.4)
 
 -- and a listed name passes
 pub listed_back : (name : List ℕ) (items : List ItemFields) → IsListed name items → is_listed name items ≡ true
 unfolding is_listed
-listed_back name [] h = absurd h
-listed_back name (item ∷ items) (inl a) = ap (λ b. b || is_listed name items) (among_back name item.names a)
-listed_back name (item ∷ items) (inr h) = or_right (list_any (λ o. bytes_eq o name) item.names) (listed_back name items h)
+listed_back name items l =
+    list_any-from_Any (λ (item : ItemFields). list_any (λ other. bytes_eq other name) item.names) items
+    (l.0, l.1, l.2, l.3, contained_back name l.1.names l.4)
 
 -- ---- what is the same
 

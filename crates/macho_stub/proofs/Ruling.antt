@@ -14,12 +14,12 @@ use Rattle.macho_stub_lines.specs.declared.fault.StubRule.{StubRule}
 use Rattle.macho_stub_lines.specs.declared.fault.StubRule.TheVariants.{S2, S4, S5, S6, S7, S8, S9}
 use Rattle.macho_stub_lines.specs.Faults.{Fault, Reading, ◌>>=◌, broken}
 use Rattle.macho_stub.specs.Documents.{ItemFields, DocumentFields}
-use Rattle.macho_stub.specs.Library.{target, has_target, LibraryFields}
+use Rattle.macho_stub.specs.Library.{has_target, LibraryFields}
 use Rattle.macho_stub.specs.steps.Checks.{same_document, is_listed, gathered_texts, checked_libraries, checked_main, checked_document, checked_documents, library_of}
-use Rattle.macho_stub.specs.Rules.{Among, IsSoundMain, IsSoundDocument}
+use Rattle.macho_stub.specs.Rules.{IsSoundMain, IsSoundDocument}
 use Rattle.macho_stub.proofs.TextRules.{MakesOfTexts}
 use Rattle.macho_stub_lines.proofs.Bind.{bind_ok, chosen, not_broken, same_ok, no_ok, same_bytes, bytes_same, eq_at, ne_at, eq_false}
-use Rattle.macho_stub.proofs.Ruled.{clash, target_held, target_test, listed, listed_back, document_same, document_test}
+use Rattle.macho_stub.proofs.Ruled.{listed, listed_back, document_same, document_test}
 
 -- ---- readings that failed
 
@@ -67,34 +67,34 @@ some_length xs ne = λ e. ne (nil_from_length xs e)
 -- ---- the main library
 
 libraries_ok : (line : ℕ) (items : List ItemFields) (u : Unit {0}) → checked_libraries line items ≡ Ok u → (length items ≤ 1)
-    × AllByRecursion (λ (item : ItemFields). Among target item.targets) items
+    × AllByRecursion (λ (item : ItemFields). has_target item.targets ≡ true) items
 libraries_ok line [] u e = (omega arith, tt)
 libraries_ok line (item ∷ []) u e =
     elim (chosen (has_target item.targets) (Ok tt) (broken line S8) (Ok u) e) [
-      | inl b ↦ (omega arith, (target_held item.targets b.0, tt))
+      | inl b ↦ (omega arith, (b.0, tt))
       | inr b ↦ absurd (no_ok line S8 u b.1)
     ]
 libraries_ok line (item ∷ other ∷ items) u e = absurd (no_ok line S7 u e)
 
 libraries_back : (line : ℕ) (items : List ItemFields) → length items ≤ 1
-    → AllByRecursion (λ (item : ItemFields). Among target item.targets) items → checked_libraries line items ≡ Ok tt
+    → AllByRecursion (λ (item : ItemFields). has_target item.targets ≡ true) items → checked_libraries line items ≡ Ok tt
 libraries_back line [] few all = refl
-libraries_back line (item ∷ []) few all = ap (λ b. cond b (Ok tt) (broken line S8)) (target_test item.targets all.0)
+libraries_back line (item ∷ []) few all = ap (λ b. cond b (Ok tt) (broken line S8)) all.0
 libraries_back line (item ∷ other ∷ items) few all = absurd (omega arith)
 
 -- the first part of the main library's test
 pub main_steps : (main : DocumentFields) (r : Reading (Unit {0})) → checked_main main ≡ r
-    → ((r ≡ broken main.line S5) × (Among target main.targets → ⊥))
-    ⊎ (Among target main.targets ×
+    → ((r ≡ broken main.line S5) × (has_target main.targets ≡ false))
+    ⊎ ((has_target main.targets ≡ true) ×
     (((r ≡ broken main.line S6) × (main.current_version ≡ []))
     ⊎ ((main.current_version ≢ []) × (checked_libraries main.line main.libraries ≡ r))))
 unfolding checked_main
 main_steps main r e =
     elim (chosen (not (has_target main.targets)) (broken main.line S5)
     (cond (eqb (length main.current_version) 0) (broken main.line S6) (checked_libraries main.line main.libraries)) r e) [
-      | inl b ↦ inl (sym b.1, λ a. clash (has_target main.targets) (target_test main.targets a) (not-true (has_target main.targets) b.0))
+      | inl b ↦ inl (sym b.1, not-true (has_target main.targets) b.0)
       | inr b ↦ inr (
-        target_held main.targets (not-false (has_target main.targets) b.0),
+        not-false (has_target main.targets) b.0,
         elim (chosen (eqb (length main.current_version) 0) (broken main.line S6) (checked_libraries main.line main.libraries) r b.1) [
           | inl d ↦ inl (sym d.1, nil_from_length main.current_version (eq_at _ _ d.0))
           | inr d ↦ inr (empty_length main.current_version (ne_at _ _ d.0), d.1)
@@ -120,7 +120,7 @@ unfolding checked_main
 main_back main s =
     ap (λ b. cond (not b) (broken main.line S5)
     (cond (eqb (length main.current_version) 0) (broken main.line S6) (checked_libraries main.line main.libraries)))
-    (target_test main.targets s.for_target)
+    s.for_target
     ∙ ap (λ b. cond b (broken main.line S6) (checked_libraries main.line main.libraries))
     (eq_false _ _ (some_length main.current_version s.versioned))
     ∙ libraries_back main.line main.libraries s.one_group s.group

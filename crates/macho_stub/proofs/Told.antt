@@ -3,7 +3,7 @@
 -- So where a test fails, what is told has the tests before it on its side, and that this one doesn't hold (`main_told`,
 -- `document_told`). The documents are judged one after the other: where one is refused, those before it are sound, so it is
 -- the first that isn't (`documents_told`). A fault has one line and one rule, so the rule that is told is that test's.
-use Rattle.std.proofs.Common.{◌≡◌, ◌≢◌, ℕ, ◌<◌, ◌||◌, not, cond, List, [], ◌∷◌, length, Ok, refl, sym, ap, arith, ◌⊎◌, inl, inr, subst}
+use Rattle.std.proofs.Common.{◌≡◌, ◌≢◌, ℕ, ◌<◌, ◌||◌, false, not, cond, List, [], ◌∷◌, length, Ok, refl, sym, ap, arith, ◌⊎◌, inl, inr, subst}
 use Rattle.std.proofs.lemmas.Bool.{not-true, not-false, or_parts}
 use Rattle.std.specs.Str.{bytes_eq}
 use Rattle.std.specs.Prelude.{codes}
@@ -11,24 +11,24 @@ use Rattle.macho_stub_lines.specs.declared.fault.StubRule.{StubRule}
 use Rattle.macho_stub_lines.specs.declared.fault.StubRule.TheVariants.{S2, S4, S5, S6, S7, S8, S9}
 use Rattle.macho_stub_lines.specs.Faults.{◌>>=◌, broken}
 use Rattle.macho_stub.specs.Documents.{ItemFields, DocumentFields}
-use Rattle.macho_stub.specs.Library.{target, has_target}
+use Rattle.macho_stub.specs.Library.{has_target}
 use Rattle.macho_stub.specs.steps.Checks.{same_document, is_listed, checked_libraries, checked_main, checked_document, checked_documents, library_of}
-use Rattle.macho_stub.specs.Rules.{Among, IsListed, SaySame, StandsBehindSound, IsToldOf, IsTold}
+use Rattle.macho_stub.specs.Rules.{IsListed, SaySame, StandsBehindSound, IsToldOf, IsTold}
 use Rattle.macho_stub_lines.proofs.Bind.{chosen, same_bytes, bytes_same}
-use Rattle.macho_stub.proofs.Ruled.{clash, target_test, listed_back, document_test}
+use Rattle.macho_stub.proofs.Ruled.{clash, listed_back, document_test}
 use Rattle.macho_stub.proofs.Ruling.{bind_err, made, main_steps, main_sound, document_sound, same_told, ok_not_told}
 
 -- ---- the main library
 
 libraries_told : (at : ℕ) (items : List ItemFields) (line : ℕ) (rule : StubRule) → checked_libraries at items ≡ broken line rule
     → ((line ≡ at) × (rule ≡ S7) × (1 < length items))
-    ⊎ ((line ≡ at) × (rule ≡ S8) × (item : ItemFields) × (items ≡ item ∷ []) × (Among target item.targets → ⊥))
+    ⊎ ((line ≡ at) × (rule ≡ S8) × (item : ItemFields) × (items ≡ item ∷ []) × (has_target item.targets ≡ false))
 libraries_told at [] line rule e = absurd (ok_not_told tt line rule e)
 libraries_told at (item ∷ []) line rule e =
     elim (chosen (has_target item.targets) (Ok tt) (broken at S8) (broken line rule) e) [
       | inl b ↦ absurd (ok_not_told tt line rule b.1)
       | inr b ↦ let t = same_told at line S8 rule b.1 in inr
-          (sym t.0, sym t.1, item, refl, λ a. clash (has_target item.targets) (target_test item.targets a) b.0)
+          (sym t.0, sym t.1, item, refl, b.0)
     ]
 libraries_told at (item ∷ other ∷ items) line rule e = let t = same_told at line S7 rule e in inl (sym t.0, sym t.1, omega arith)
 

@@ -9,20 +9,17 @@ use Rattle.std.specs.Str.{bytes_eq}
 use Rattle.std.specs.Prelude.{codes}
 use Rattle.std.specs.List.{AllByRecursion}
 use Rattle.macho_stub_lines.specs.declared.fault.StubRule.{StubRule}
-use Rattle.macho_stub_lines.specs.declared.fault.StubRule.TheVariants.{S1, S2, S3, S4, S5, S6, S7, S8, S9}
+use Rattle.macho_stub_lines.specs.declared.fault.StubRule.TheVariants.{S2, S4, S5, S6, S7, S8, S9}
 use Rattle.macho_stub_lines.specs.Faults.{Reading, ◌>>=◌, broken}
 use Rattle.macho_stub.specs.Documents.{ItemFields, DocumentFields}
-use Rattle.macho_stub.specs.Library.{target, has_target, LibraryFields}
+use Rattle.macho_stub.specs.Library.{has_target, LibraryFields}
 use Rattle.macho_stub.specs.steps.Checks.{same_document, is_listed, checked_libraries, checked_main, checked_document, checked_documents, library_of}
-use Rattle.macho_stub.specs.Rules.{Among, IsListed, SaySame, IsSoundMain, IsSoundDocument, StandsBehindSound, IsToldOf, IsTold}
+use Rattle.macho_stub.specs.Rules.{IsListed, SaySame, IsSoundMain, IsSoundDocument, StandsBehindSound, IsToldOf, IsTold}
 use Rattle.macho_stub_lines.proofs.Bind.{eq_false, same_bytes, bytes_same}
-use Rattle.macho_stub.proofs.Ruled.{target_held, target_test, listed, document_same}
+use Rattle.macho_stub.proofs.Ruled.{listed, document_same}
 use Rattle.macho_stub.proofs.Ruling.{main_back, document_back, some_length, made}
 
 -- ---- the main library
-
-no_target : (targets : List (List ℕ)) → (Among target targets → ⊥) → has_target targets ≡ false
-no_target targets n = false_from_ne_true (has_target targets) (λ h. n (target_held targets h))
 
 at_line : {A : Type 0} (line at : ℕ) (rule : StubRule) → line ≡ at → broken {A = A} at rule ≡ broken line rule
 at_line line at rule e = ap (λ n. broken n rule) (sym e)
@@ -32,24 +29,24 @@ many_libraries line [] h = absurd (omega arith)
 many_libraries line (item ∷ []) h = absurd (omega arith)
 many_libraries line (item ∷ other ∷ items) h = refl
 
-other_target : (line : ℕ) (item : ItemFields) (items : List ItemFields) → items ≡ item ∷ [] → (Among target item.targets → ⊥)
+other_target : (line : ℕ) (item : ItemFields) (items : List ItemFields) → items ≡ item ∷ [] → has_target item.targets ≡ false
     → checked_libraries line items ≡ broken line S8
 other_target line item items e n = ap (checked_libraries line) e
-    ∙ ap (λ b. cond b (Ok tt) (broken line S8)) (no_target item.targets n)
+    ∙ ap (λ b. cond b (Ok tt) (broken line S8)) n
 
 -- what is left of the tests of the main library, where it has the target and a version
-main_libraries : (main : DocumentFields) → Among target main.targets → main.current_version ≢ []
+main_libraries : (main : DocumentFields) → has_target main.targets ≡ true → main.current_version ≢ []
     → checked_main main ≡ checked_libraries main.line main.libraries
 unfolding checked_main
-main_libraries main t v = rw (target_test main.targets t, eq_false _ _ (some_length main.current_version v)) refl
+main_libraries main t v = rw (t, eq_false _ _ (some_length main.current_version v)) refl
 
-main_without : (main : DocumentFields) → (Among target main.targets → ⊥) → checked_main main ≡ broken main.line S5
+main_without : (main : DocumentFields) → has_target main.targets ≡ false → checked_main main ≡ broken main.line S5
 unfolding checked_main
-main_without main n = rw (no_target main.targets n) refl
+main_without main n = rw n refl
 
-main_no_version : (main : DocumentFields) → Among target main.targets → main.current_version ≡ [] → checked_main main ≡ broken main.line S6
+main_no_version : (main : DocumentFields) → has_target main.targets ≡ true → main.current_version ≡ [] → checked_main main ≡ broken main.line S6
 unfolding checked_main
-main_no_version main t v = rw (target_test main.targets t, v) refl
+main_no_version main t v = rw (t, v) refl
 
 -- a main library that is refused
 by_main : (main : DocumentFields) (others : List DocumentFields) (line : ℕ) (rule : StubRule) → line ≡ main.line
@@ -101,9 +98,6 @@ not_listed main document v s l =
 
 told_of : (rule : StubRule) (line : ℕ) (main : DocumentFields) (others : List DocumentFields) → IsToldOf rule line main (main ∷ others)
     → library_of (main ∷ others) ≡ broken line rule
-told_of S1 line main others t = absurd t
-told_of S2 line main others t = absurd t
-told_of S3 line main others t = absurd t
 told_of S4 line main others t = by_document main others t.1 line S4 t.0 t.2 t.3 (other_version main t.1 t.4)
 told_of S5 line main others t = by_main main others line S5 t.0 (main_without main t.1)
 told_of S6 line main others t = by_main main others line S6 t.0 (main_no_version main t.1 t.2)
@@ -111,6 +105,7 @@ told_of S7 line main others t = by_main main others line S7 t.0 (main_libraries 
 told_of S8 line main others t = by_main main others line S8 t.0
     (main_libraries main t.1 t.2 ∙ other_target main.line t.3 main.libraries t.4 t.5)
 told_of S9 line main others t = by_document main others t.1 line S9 t.0 t.2 t.3 (not_listed main t.1 t.4 t.5 t.6)
+told_of rule line main others t = absurd t
 
 -- The rule that is told of documents is computed.
 pub told_back : (documents : List DocumentFields) (rule : StubRule) (line : ℕ) → IsTold rule line documents

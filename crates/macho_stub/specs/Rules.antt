@@ -1,21 +1,15 @@
 -- The rules on what the documents of a stub text say, which fault of several is told, and the library that they make.
 use Rattle.std.specs.Prelude.{◌≡◌, ◌≢◌, ℕ, ◌<◌, ◌≤◌, ◌⊎◌, true, false, List, [], ◌∷◌, ◌++◌, length, codes}
-use Rattle.std.specs.List.{AllByRecursion}
+use Rattle.std.specs.List.{AllByRecursion, Any, Contains}
 use Rattle.macho_stub_lines.specs.declared.fault.StubRule.{StubRule}
-use Rattle.macho_stub_lines.specs.declared.fault.StubRule.TheVariants.{S1, S2, S3, S4, S5, S6, S7, S8, S9}
+use Rattle.macho_stub_lines.specs.declared.fault.StubRule.TheVariants.{S2, S4, S5, S6, S7, S8, S9}
 use Rattle.macho_stub_lines.specs.Slices.{Slice, texts_of}
 use Rattle.macho_stub.specs.Documents.{ItemFields, DocumentOf, DocumentFields, document_texts, documents_texts}
-use Rattle.macho_stub.specs.Library.{target, LibraryFields, gathered}
+use Rattle.macho_stub.specs.Library.{has_target, LibraryFields, gathered}
 
--- the name is one of the names
-abbrev pub Among : List ℕ → List (List ℕ) → Type 0
-Among name [] = ⊥
-Among name (other ∷ names) = (other ≡ name) ⊎ Among name names
-
--- an item lists the library
+-- the library is among the names of one of the items
 abbrev pub IsListed : List ℕ → List ItemFields → Type 0
-IsListed name [] = ⊥
-IsListed name (item ∷ items) = Among name item.names ⊎ IsListed name items
+IsListed name items = Any (λ (item : ItemFields). Contains item.names name) items
 
 -- The documents say the same: they differ at most in where they stand.
 abbrev pub SaySame : DocumentFields → DocumentFields → Type 0
@@ -24,10 +18,10 @@ SaySame a b = a ≡ record b { line = a.line }
 -- The main library is for the target, has a current version, and has at most one group of reexported libraries,
 -- which is for the target.
 pub record IsSoundMain (main : DocumentFields) : Type 0 where
-  pub for_target : Among target main.targets
+  pub for_target : has_target main.targets ≡ true
   pub versioned : main.current_version ≢ []
   pub one_group : length main.libraries ≤ 1
-  pub group : AllByRecursion (λ (item : ItemFields). Among target item.targets) main.libraries
+  pub group : AllByRecursion (λ (item : ItemFields). has_target item.targets ≡ true) main.libraries
 
 -- A document has version 4, and says what the main one says or is one of its reexported libraries.
 pub record IsSoundDocument (main document : DocumentFields) : Type 0 where
@@ -57,13 +51,14 @@ pub record StandsBehindSound (main document : DocumentFields) (documents : List 
 -- The rule that is told of a main library and all the documents, at the line: of the main library's rules the
 -- first, and then of the first document that isn't sound the version first.
 abbrev pub IsToldOf : StubRule → ℕ → DocumentFields → List DocumentFields → Type 0
-IsToldOf S5 line main documents = (line ≡ main.line) × (Among target main.targets → ⊥)
-IsToldOf S6 line main documents = (line ≡ main.line) × Among target main.targets × (main.current_version ≡ [])
-IsToldOf S7 line main documents = (line ≡ main.line) × Among target main.targets × (main.current_version ≢ [])
-    × (1 < length main.libraries)
+IsToldOf S5 line main documents = (line ≡ main.line) × (has_target main.targets ≡ false)
+IsToldOf S6 line main documents =
+    (line ≡ main.line) × (has_target main.targets ≡ true) × (main.current_version ≡ [])
+IsToldOf S7 line main documents =
+    (line ≡ main.line) × (has_target main.targets ≡ true) × (main.current_version ≢ []) × (1 < length main.libraries)
 IsToldOf S8 line main documents =
-    (line ≡ main.line) × Among target main.targets × (main.current_version ≢ []) × (item : ItemFields)
-    × (main.libraries ≡ item ∷ []) × (Among target item.targets → ⊥)
+    (line ≡ main.line) × (has_target main.targets ≡ true) × (main.current_version ≢ []) × (item : ItemFields)
+    × (main.libraries ≡ item ∷ []) × (has_target item.targets ≡ false)
 IsToldOf S4 line main documents =
     IsSoundMain main × (document : DocumentFields) × StandsBehindSound main document documents × (line ≡ document.line)
     × (document.version ≢ codes "4")
@@ -71,9 +66,7 @@ IsToldOf S9 line main documents =
     IsSoundMain main × (document : DocumentFields) × StandsBehindSound main document documents × (line ≡ document.line)
     × (document.version ≡ codes "4")
     × (SaySame document main → ⊥) × (IsListed document.install_name main.libraries → ⊥)
-IsToldOf S1 line main documents = ⊥
-IsToldOf S2 line main documents = ⊥
-IsToldOf S3 line main documents = ⊥
+IsToldOf rule line main documents = ⊥
 
 -- The rule that is told of the documents, at the line: that there is one, or one on what they say.
 abbrev pub IsTold : StubRule → ℕ → List DocumentFields → Type 0
