@@ -5,7 +5,7 @@
 -- are found again. Items under a key are items of the grammar by `MappingsItems`.
 use Rattle.std.proofs.Common.{◌≡◌, ◌⊎◌, ℕ, List, [], ◌∷◌, Option, Some, None, refl, sym, ap, ◌∙◌, inl, inr, subst}
 use Rattle.std.specs.Prelude.{is_some}
-use Rattle.std.specs.List.{AllByRecursion}
+use Rattle.std.specs.List.{AllByRecursion, AllZip}
 use Rattle.macho_stub_lines.specs.declared.keys.ItemKind.{ItemKind}
 use Rattle.macho_stub_lines.specs.declared.keys.ItemKind.TheVariants.{Libraries, Exports, Reexports}
 use Rattle.macho_stub_lines.specs.declared.keys.TopKey.{TopKey}
@@ -15,7 +15,7 @@ use Rattle.macho_stub_lines.specs.Spelling.{value_of, value_at}
 use Rattle.macho_stub_lines.specs.Keys.{top_key}
 use Rattle.macho_stub.specs.Documents.{ItemOf, DocumentOf}
 use Rattle.macho_stub.specs.steps.Opened.{OpenDocumentOf, head_at, with_items}
-use Rattle.macho_stub.specs.Grammar.{Under, Lines, Listed, IsSkippedUnder, AreItemsUnder, TopEntry, SaysNumber, SaysScalar, SaysList, SaysItems, IsTopValue, IsTopEntry, DocumentTree, no_text, IsDocument, AreDocuments}
+use Rattle.macho_stub.specs.Grammar.{Under, Lines, Listed, IsSkippedUnder, AreItemsUnder, TopEntry, SaysNumber, SaysScalar, SaysList, SaysItems, IsTopValue, IsTopEntry, DocumentTree, no_text, IsDocument}
 use Rattle.macho_stub.proofs.Folded as folded
 use Rattle.macho_stub.proofs.MappingsFields.{Mapping, HasKey, Step, Steps, Agree, none_of, gives, gives_or, once, steps_keep, known, known_given, known_or, known_keep, agree, agree_or, steps}
 use Rattle.macho_stub.proofs.MappingsItems.{items_fold, items_unfold}
@@ -254,7 +254,7 @@ document_fold tree says d =
     empty line key = refl
 
 -- what is in the grammar is read entry by entry
-pub documents_fold : (trees : List DocumentTree) (says : List (DocumentOf Slice)) → AreDocuments trees says
+pub documents_fold : (trees : List DocumentTree) (says : List (DocumentOf Slice)) → AllZip IsDocument trees says
     → folded.AreDocuments trees says
 documents_fold [] [] a = tt
 documents_fold [] (one ∷ says) a = a
@@ -263,7 +263,7 @@ documents_fold (tree ∷ trees) (one ∷ says) a = (document_fold tree one a.0, 
 
 -- and what is read so is in the grammar
 pub documents_unfold : (trees : List DocumentTree) (says : List (DocumentOf Slice)) → folded.AreDocuments trees says
-    → AreDocuments trees says
+    → AllZip IsDocument trees says
 documents_unfold [] [] a = tt
 documents_unfold [] (one ∷ says) a = a
 documents_unfold (tree ∷ trees) [] a = a

@@ -6,7 +6,7 @@
 -- them is a case of the kind of list.
 use Rattle.std.proofs.Common.{◌≡◌, ◌⊎◌, ℕ, List, [], ◌∷◌, Option, Some, None, refl, ap, inl, inr, subst}
 use Rattle.std.specs.Prelude.{is_some}
-use Rattle.std.specs.List.{AllByRecursion}
+use Rattle.std.specs.List.{AllByRecursion, AllZip}
 use Rattle.macho_stub_lines.specs.declared.keys.ItemKind.{ItemKind}
 use Rattle.macho_stub_lines.specs.declared.keys.ItemKind.TheVariants.{Libraries}
 use Rattle.macho_stub_lines.specs.declared.keys.ItemKey.{ItemKey}
@@ -16,7 +16,7 @@ use Rattle.macho_stub_lines.specs.Spelling.{value_of}
 use Rattle.macho_stub_lines.specs.Keys.{item_key}
 use Rattle.macho_stub.specs.Documents.{ItemOf}
 use Rattle.macho_stub.specs.steps.Opened.{OpenItemOf, no_item, with_key}
-use Rattle.macho_stub.specs.Grammar.{NoneTwice, IsSkipped, ItemEntry, item_value_at, is_deeper, SaysNames, IsItemValue, IsItemEntry, ItemTree, column_of, entries_of, AreNames, IsItem, AreItems}
+use Rattle.macho_stub.specs.Grammar.{NoneTwice, IsSkipped, ItemEntry, item_value_at, is_deeper, SaysNames, IsItemValue, IsItemEntry, ItemTree, column_of, entries_of, AreNames, IsItem}
 use Rattle.macho_stub.proofs.Folded as folded
 use Rattle.macho_stub.proofs.MappingsFields.{Mapping, HasKey, Step, Steps, Agree, none_of, gives, gives_or, once, known, known_given, known_or, agree, agree_or, steps}
 use Rattle.macho_stub_lines.proofs.Runs.{all_weaker}
@@ -208,7 +208,7 @@ item_fold kind dash_column tree says i =
 
 -- items of the grammar are read entry by entry
 pub items_fold : (kind : ItemKind) (dash_column : ℕ) (trees : List ItemTree) (says : List (ItemOf Slice))
-    → AreItems kind dash_column trees says → folded.AreItems kind dash_column trees says
+    → AllZip (IsItem kind dash_column) trees says → folded.AreItems kind dash_column trees says
 items_fold kind dash_column [] [] a = tt
 items_fold kind dash_column [] (one ∷ says) a = a
 items_fold kind dash_column (tree ∷ trees) [] a = a
@@ -219,7 +219,7 @@ items_fold kind dash_column (tree ∷ trees) (one ∷ says) a = (
 
 -- and what is read so are items of the grammar
 pub items_unfold : (kind : ItemKind) (dash_column : ℕ) (trees : List ItemTree) (says : List (ItemOf Slice))
-    → folded.AreItems kind dash_column trees says → AreItems kind dash_column trees says
+    → folded.AreItems kind dash_column trees says → AllZip (IsItem kind dash_column) trees says
 items_unfold kind dash_column [] [] a = tt
 items_unfold kind dash_column [] (one ∷ says) a = a
 items_unfold kind dash_column (tree ∷ trees) [] a = a

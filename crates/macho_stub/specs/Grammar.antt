@@ -2,7 +2,7 @@
 -- spelled in front of the lines that follow it, and what it says are slices of the input.
 use Rattle.std.specs.Prelude.{◌≡◌, ◌≢◌, ℕ, ◌+◌, ◌<◌, ◌⊎◌, Bool, true, false, List, [], ◌∷◌, ◌++◌, replicate, Option}
 use Rattle.std.specs.Prelude.{Some, None, nat_lt, slice_index}
-use Rattle.std.specs.List.{AllByRecursion}
+use Rattle.std.specs.List.{AllByRecursion, AllZip}
 use Rattle.macho_stub_lines.specs.declared.keys.ItemKind.{ItemKind}
 use Rattle.macho_stub_lines.specs.declared.keys.ItemKind.TheVariants.{Libraries, Exports, Reexports}
 use Rattle.macho_stub_lines.specs.declared.keys.ItemKey.{ItemKey}
@@ -83,9 +83,7 @@ SaysNames column one names = IsFlowList (item_value_at column one) (value_of one
 abbrev pub IsItemValue : ℕ → ItemKey → ItemEntry → Type 0
 IsItemValue column item.Unread one =
     IsSkipped (is_deeper column) (item_value_at column one) (value_of one.entry) one.more
-IsItemValue column item.Targets one = (names : List Slice) × SaysNames column one names
-IsItemValue column item.Names one = (names : List Slice) × SaysNames column one names
-IsItemValue column item.WeakNames one = (names : List Slice) × SaysNames column one names
+IsItemValue column key one = (names : List Slice) × SaysNames column one names
 
 -- an entry of an item
 pub record IsItemEntry (kind : ItemKind) (column : ℕ) (one : ItemEntry) : Type 0 where
@@ -119,8 +117,7 @@ items_then dash_column (tree ∷ trees) rest = item_then dash_column tree (items
 -- The names of an item: an item of libraries must have them, an item of symbols may lack them.
 abbrev pub AreNames : ItemKind → ℕ → List ItemEntry → List Slice → Type 0
 AreNames Libraries column entries names = Given (HasKey Libraries item.Names) (SaysNames column) entries names
-AreNames Exports column entries names = GivenOr [] (HasKey Exports item.Names) (SaysNames column) entries names
-AreNames Reexports column entries names = GivenOr [] (HasKey Reexports item.Names) (SaysNames column) entries names
+AreNames kind column entries names = GivenOr [] (HasKey kind item.Names) (SaysNames column) entries names
 
 abbrev pub entries_of : ItemTree → List ItemEntry
 entries_of tree = tree.first ∷ tree.others
@@ -134,13 +131,6 @@ pub record IsItem (kind : ItemKind) (dash_column : ℕ) (tree : ItemTree) (says 
   pub names : AreNames kind (column_of dash_column tree) (entries_of tree) says.names
   pub weak_names : GivenOr [] (HasKey kind item.WeakNames) (SaysNames (column_of dash_column tree)) (entries_of tree)
       says.weak_names
-
-abbrev pub AreItems : ItemKind → ℕ → List ItemTree → List (ItemOf Slice) → Type 0
-AreItems kind dash_column [] [] = Unit {0}
-AreItems kind dash_column [] (one ∷ says) = ⊥
-AreItems kind dash_column (tree ∷ trees) [] = ⊥
-AreItems kind dash_column (tree ∷ trees) (one ∷ says) =
-    IsItem kind dash_column tree one × AreItems kind dash_column trees says
 
 -- ---- documents
 
@@ -176,9 +166,8 @@ IsListUnder at value (Listed dash_column trees) names = ⊥
 
 -- a key with items, one or more
 abbrev pub AreItemsUnder : ItemKind → Under → List (ItemOf Slice) → Type 0
-AreItemsUnder kind (Lines more) says = ⊥
-AreItemsUnder kind (Listed dash_column []) says = ⊥
-AreItemsUnder kind (Listed dash_column (tree ∷ trees)) says = AreItems kind dash_column (tree ∷ trees) says
+AreItemsUnder kind (Listed dash_column (tree ∷ trees)) says = AllZip (IsItem kind dash_column) (tree ∷ trees) says
+AreItemsUnder kind under says = ⊥
 
 -- the key of an entry, among those that are read of documents
 abbrev pub HasTopKey : TopKey → TopEntry → Type 0
@@ -246,12 +235,6 @@ pub record IsDocument (tree : DocumentTree) (says : DocumentOf Slice) : Type 0 w
   pub exports : GivenOr [] (HasTopKey (top.Items Exports)) (SaysItems Exports) tree.entries says.exports
   pub reexports : GivenOr [] (HasTopKey (top.Items Reexports)) (SaysItems Reexports) tree.entries says.reexports
 
-abbrev pub AreDocuments : List DocumentTree → List (DocumentOf Slice) → Type 0
-AreDocuments [] [] = Unit {0}
-AreDocuments [] (one ∷ says) = ⊥
-AreDocuments (tree ∷ trees) [] = ⊥
-AreDocuments (tree ∷ trees) (one ∷ says) = IsDocument tree one × AreDocuments trees says
-
 -- The text is documents that say this, and passed-over lines: no line has a byte that may stand nowhere, and the lines
 -- with content are those of the documents. No key is lacking that must stand, and none that is read stands twice. (That
 -- the bytes are UTF-8 is said by the type of the input.)
@@ -259,4 +242,4 @@ pub record IsStubText (text : List ℕ) (says : List (DocumentOf Slice)) : Type 
   pub clean : AllByRecursion (λ line. has_barred line.text ≡ false) (lines_of text)
   pub trees : List DocumentTree
   pub lines : content_of (lines_of text) ≡ documents_then trees
-  pub documents : AreDocuments trees says
+  pub documents : AllZip IsDocument trees says
