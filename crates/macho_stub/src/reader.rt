@@ -15,7 +15,7 @@ ghost use Rattle.macho_stub_lines.specs.Faults.{Gives};
 ghost use Rattle.macho_stub_lines.specs.Lists.{texts, part_of};
 ghost use Rattle.macho_stub.specs.steps.Opened.{items_of, item_of, document_of, open_document_of, open_item_of, no_item, head_at};
 ghost use Rattle.macho_stub.specs.steps.Whole.{whole_item, whole_document};
-ghost use Rattle.macho_stub.specs.steps.Reader.{Keys, Within, item_list_of, name_list_of, mode_of, inside_of, place_of, state_of, stays, with_names, behind_part, names_line, opened, names_value, skipped_value, once, item_entry, item_key_line, key_column, first_line, top_entry, within, with_whole, top_line, items_with_last, item_line, key_line, belongs, inside_line, content_line, line_step, ended_document, ended_inside, ended, lines_from, start, documents_of};
+ghost use Rattle.macho_stub.specs.steps.Reader.{Keys, Skipped, Within, item_list_of, name_list_of, mode_of, inside_of, place_of, state_of, stays, with_names, behind_part, names_line, opened, names_value, skipped_value, once, item_entry, item_key_line, key_column, first_line, top_entry, within, with_whole, top_line, items_with_last, item_line, key_line, belongs, inside_line, content_line, line_step, ended_document, ended_inside, ended, lines_from, start, documents_of};
 
 use crate::document::{Document, Item, OpenDocument, head_at, no_item};
 use crate::state::{Inside, ItemList, Mode, NameList, Place, State};
@@ -540,6 +540,31 @@ fn belongs<'data>(list: &Option<ItemList<'data>>, text: &str) -> bool
     }
 }
 
+/// Reads a line under a skipped value: it belongs to the value, or a key may stand there.
+fn skipped_line<'data>(
+    alloc: Global,
+    documents: Vec<Document<'data>>,
+    document: OpenDocument<'data>,
+    list: Option<ItemList<'data>>,
+    line: u64,
+    text: &'data str,
+) -> Result<State<'data>, StubFault>
+    ensures { Gives state_of result
+        (inside_line (map document_of documents.entry.items) (open_document_of document.entry)
+        (option_map item_list_of list.entry) Skipped line text.now) }
+{
+    if belongs(&list, text) {
+        let mode = Mode::Skipped;
+        let inside = Inside {
+            document,
+            list,
+            mode,
+        };
+        return Ok(within(documents, inside));
+    }
+    key_line(alloc, documents, document, list, line, text)
+}
+
 /// Reads a line inside a document.
 fn inside_line<'data>(
     alloc: Global,
@@ -558,18 +583,7 @@ fn inside_line<'data>(
     } = inside;
     match mode {
         Mode::Keys => key_line(alloc, documents, document, list, line, text),
-        Mode::Skipped => {
-            if belongs(&list, text) {
-                let mode = Mode::Skipped;
-                let inside = Inside {
-                    document,
-                    list,
-                    mode,
-                };
-                return Ok(within(documents, inside));
-            }
-            key_line(alloc, documents, document, list, line, text)
-        }
+        Mode::Skipped => skipped_line(alloc, documents, document, list, line, text),
         Mode::Names(names) => {
             if text == END {
                 return Err(outside(line));
