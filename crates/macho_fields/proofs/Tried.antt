@@ -2,7 +2,7 @@
 --
 -- Whether a field can be written, and whether it can hold the value, rests on the first four bytes of it alone. So a refusal of the
 -- copy is one of the field where it stands. Where the load is made an ADD first, any bytes with that word at the place show it.
-use Rattle.std.proofs.Common.{◌≡◌, ℕ, ◌+◌, ◌≤◌, true, false, List, ◌++◌, length, drop, replicate, refl, sym, ap, subst, ◌∙◌, arith, inl, inr}
+use Rattle.std.proofs.Common.{◌≡◌, ℕ, ◌≤◌, true, false, List, ◌++◌, length, drop, replicate, refl, sym, ap, subst, ◌∙◌, arith, inl, inr}
 use Rattle.std.proofs.lemmas.Bool.{cases_Bool, true≢false}
 use Rattle.std.proofs.lemmas.List.{length-replicate}
 use Rattle.std.proofs.Math.Seq.{drop-append_seam}
@@ -12,7 +12,7 @@ use Rattle.macho_arm64.specs.Relaxations.{is_relaxable, IsMadeAdd}
 use Rattle.macho_fields.specs.declared.write.FieldWrite.{FieldWrite}
 use Rattle.macho_fields.specs.declared.write.WriteFault.{WriteFault}
 use Rattle.macho_fields.specs.declared.write.WriteFault.TheVariants.{NoWord, Range}
-use Rattle.macho_fields.specs.steps.Writes.{at_start, HasField, DoesNotHold, CannotPut}
+use Rattle.macho_fields.specs.steps.Writes.{at_start, DoesNotHold, CannotPut}
 
 -- a word behind so many bytes
 word_behind : (at : ℕ) (text : List ℕ) → le_at 4 (replicate at 0 ++ text) at ≡ le_at 4 text 0

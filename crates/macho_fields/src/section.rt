@@ -52,13 +52,8 @@ fn ask<P: Places>(
     ensures done { OnOk result (IsAsked (P.look places.now) place (seen field.now) run.old.items run.new.items) }
     ensures why { IfErr result (CannotAsk (P.look places.now) place (seen field.now)) }
 {
-    match word_of(places, place, field) {
-        Ok(word) => {
-            run.push(word)?;
-            Ok(())
-        }
-        Err(fault) => Err(fault),
-    }
+    run.push(word_of(places, place, field)?)?;
+    Ok(())
 }
 
 /// Writes the value of a field.
@@ -145,9 +140,7 @@ fn fill_fields<P: Places>(
         → IfErr result (FillStands l p) }
 {
     for index in 0..source.list.num_relocations() {
-        if let Err(fault) = fill_one(places, source, index, run, out) {
-            return Err(fault);
-        }
+        fill_one(places, source, index, run, out)?;
     }
     Ok(())
 }

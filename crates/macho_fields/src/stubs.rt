@@ -43,10 +43,8 @@ fn put_stubs<P: Places>(places: &P, stubs: &[Stub], out: &mut [u8]) -> Result<()
     ensures why { IfErr result (IsSomeStub (P.look places.now) stubs.now) }
 {
     for index in 0..stubs.len() {
-        match stub_text(places, stubs[index], index as u32) {
-            Ok(text) => put_text(out, STUB_BYTES * index, &text),
-            Err(fault) => return Err(fault),
-        }
+        let text = stub_text(places, stubs[index], index as u32)?;
+        put_text(out, STUB_BYTES * index, &text);
     }
     Ok(())
 }

@@ -1,8 +1,8 @@
 -- The objects of a link whose symbols are resolved can be listed.
 --
 -- An object of the list is the link's input of its number, and what is kept of that input is a row for each of its symbols.
-use Rattle.std.proofs.Common.{◌≡◌, ℕ, ◌+◌, ◌<◌, ◌^◌, true, false, List, map, length, get_or, sym, ap, subst, ◌∙◌, arith, Option, Some, None}
-use Rattle.std.specs.Prelude.{All, Contains, sum_by, is_none}
+use Rattle.std.proofs.Common.{◌≡◌, ℕ, ◌+◌, ◌<◌, List, length, get_or, sym, ap, subst, ◌∙◌, arith, Some}
+use Rattle.std.specs.Prelude.{Contains, is_none}
 use Rattle.std.specs.List.{filter_map, enumerate_from}
 use Rattle.std.proofs.lemmas.List.{get_or_default, get_or-map, length-map}
 use Rattle.std.proofs.lemmas.List.FromFn.{get_or-enumerate_from, length-enumerate_from, length-map-range_with_len}
@@ -11,7 +11,7 @@ use Rattle.macho_model.specs.Links.{Input, Object, Dylib, Stub, Link, no_input}
 use Rattle.macho_names.specs.Kept.{FileRows, kept_of, kept_object, no_file, row_of_symbol, rows_of_object}
 use Rattle.macho_symbols.specs.Kept.{ResolvedRows, IsResolved, HasSymbol}
 use Rattle.macho_linkedit.specs.declared.listing.LinkedObject.{LinkedObject}
-use Rattle.macho_linkedit.specs.Listing.{object_in, seen_object, AreObjects, CanBeListed}
+use Rattle.macho_linkedit.specs.Listing.{object_in, seen_object, AreObjects}
 use Rattle.macho_linkedit.specs.Laws.{ResolvedCanBeListed}
 use Rattle.macho_linkedit.proofs.Members.{in_map, from_filter_map, all_in}
 

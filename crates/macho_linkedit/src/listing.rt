@@ -2,7 +2,6 @@
 //! it is the definition of its name, a local one where it is no assembler's label.
 ghost use Rattle.std.specs.Prelude.{◌≡◌, ℕ, ◌+◌, ◌*◌, ◌<◌, ◌≤◌, ◌^◌, List, ◌++◌, length, map, filter, false, IfOk, IfSome, OnOk};
 ghost use Rattle.std.specs.List.{range_with_len};
-ghost use Rattle.macho_records.specs.Symbols.{is_stab_of};
 ghost use Rattle.macho_model.specs.declared.placed.Counts.{Counts};
 ghost use Rattle.macho_model.specs.Placement.{Placed};
 ghost use Rattle.macho_model.specs.SymbolRows.{row_of};
@@ -145,24 +144,24 @@ pub fn table_symbols(
     Ok(table)
 }
 
-/// The row of a symbol of an object: its name and type as the object has them, at its place in the image.
+/// The row of a symbol of an object, which has this name: its type as the object has it, at its place in the image.
 ///
 /// A global symbol that isn't listed for export is hidden, and a common has become a symbol of a section.
 pub fn table_row<'a>(
-    object: &LinkedObject<'a>,
+    object: &LinkedObject<'_>,
     index: u32,
+    name: &'a [u8],
     is_listed: bool,
     section: u8,
     address: u64,
 ) -> TableRow<'a>
     requires object { object.now.file.is_dynamic ≡ false }
     requires among { index < num_symbols object.now.file.bytes }
-    requires plain { is_stab_of (symbol_at object.now.file.bytes index) ≡ false }
+    requires named { name.now ≡ symbol_name object.now.file.bytes index }
     ensures { (l : Link) (counts : Counts) (p : Placed) → IsRowOf l counts p object.now index is_listed section address
         → row_seen result ≡ row_of l counts p (symbol_id object.now.number index) }
 {
-    let (Some(entry), Some(name)) = (object.file.symbol(index), object.file.symbol_name(index))
-    else {
+    let Some(entry) = object.file.symbol(index) else {
         unreachable!()
     };
     TableRow {

@@ -127,7 +127,7 @@ fn row_of<'a>(object: &LinkedObject<'a>, row: Row) -> Result<TableRow<'a>, Fail>
         return Err("a symbol".into());
     }
     match object.file.symbol_name(row.0) {
-        Some(_name) => Ok(table_row(object, row.0, row.1, row.2, row.3)),
+        Some(name) => Ok(table_row(object, row.0, name, row.1, row.2, row.3)),
         None => Err("a symbol with a name".into()),
     }
 }

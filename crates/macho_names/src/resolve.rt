@@ -37,9 +37,7 @@ impl Table {
         ensures why { IfErr result (Refuses files.now self.old.heads.items self.old.entries.items (events_of_file files.now file (row_count files.now file))) }
     {
         for row in 0..rows_in(files, file) {
-            if let Err(fault) = self.take_row(files, file, row) {
-                return Err(fault);
-            }
+            self.take_row(files, file, row)?;
         }
         Ok(())
     }
@@ -56,9 +54,7 @@ impl Table {
         ensures why { IfErr result (IsClash (events files.now)) }
     {
         for file in 0..files.len() {
-            if let Err(fault) = self.take_file(files, file as u32) {
-                return Err(fault);
-            }
+            self.take_file(files, file as u32)?;
         }
         Ok(())
     }

@@ -134,13 +134,11 @@ impl Needs {
             return Ok(Target::None);
         }
         let _object = object.is_dynamic();
-        let target = match self.lead(object, file, relocation) {
-            Ok(target) => target,
-            Err(error) => return Err(error),
-        };
+        let target = self.lead(object, file, relocation)?;
         self.tables.note(relocation.r_type, target, pointer)?;
         Ok(target)
     }
+
     /// Notes the use of an initializer's relocation, a plain pointer to a symbol, and tells what it leads to.
     ///
     /// # Errors
@@ -187,10 +185,7 @@ impl Needs {
             → Contains (uses_of l) (ByPersonality s r) → relocation ≡ relocation_in l s r → s.file ≡ file → IfErr result (Stands l counts) }
         ensures kept { (inputs : List Input) → Keeps inputs self.old.resolved.files → Keeps inputs self.new.resolved.files }
     {
-        let target = match self.use_symbol(file, relocation) {
-            Ok(target) => target,
-            Err(error) => return Err(error),
-        };
+        let target = self.use_symbol(file, relocation)?;
         self.tables.add_slot(target)?;
         Ok(target)
     }

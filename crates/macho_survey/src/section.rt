@@ -182,10 +182,7 @@ fn survey_relocation(
     let _object = object.is_dynamic();
     let seen = Seen::of(list, index);
     let pointer = pointer(object, bytes, seen);
-    let target = match needs.use_relocation(object, at.file, seen.this, pointer) {
-        Ok(target) => target,
-        Err(error) => return Err(error),
-    };
+    let target = needs.use_relocation(object, at.file, seen.this, pointer)?;
     let word = word_at(bytes, seen.this);
     *findings = judged(*findings, at, index, seen, target, word, pointer);
     Ok(())
@@ -212,10 +209,7 @@ fn survey_relocations(
     ensures kept { (inputs : List Input) → Keeps inputs needs.old.resolved.files → Keeps inputs needs.new.resolved.files }
 {
     for index in 0..list.num_relocations() {
-        match survey_relocation(needs, findings, object, list, bytes, at, index) {
-            Ok(()) => {}
-            Err(error) => return Err(error),
-        }
+        survey_relocation(needs, findings, object, list, bytes, at, index)?;
     }
     Ok(())
 }

@@ -89,10 +89,7 @@ fn survey_object(
     ensures kept { (inputs : List Input) → Keeps inputs needs.old.resolved.files → Keeps inputs needs.new.resolved.files }
 {
     for section in 0..object.num_sections() {
-        match survey_if_carried(alloc, needs, findings, object, file, section) {
-            Ok(()) => {}
-            Err(error) => return Err(error),
-        }
+        survey_if_carried(alloc, needs, findings, object, file, section)?;
     }
     Ok(())
 }
@@ -149,10 +146,7 @@ pub fn survey(
 {
     let mut findings = Findings::new();
     for file in 0..views.len() as u32 {
-        match survey_file(alloc, needs, &mut findings, views, file) {
-            Ok(()) => {}
-            Err(error) => return Err(error),
-        }
+        survey_file(alloc, needs, &mut findings, views, file)?;
     }
     Ok(findings.least())
 }

@@ -1,5 +1,5 @@
 -- What resolved symbols keep: the rows of the files, and the imports that are noted.
-use Rattle.std.specs.Prelude.{◌≡◌, ℕ, ◌-◌, ◌<◌, if◌then◌else◌, true, List, length, map, is_none, get_or}
+use Rattle.std.specs.Prelude.{◌≡◌, ℕ, ◌<◌, if◌then◌else◌, true, List, length, map, is_none, get_or}
 use Rattle.std.specs.List.{sum_by}
 use Rattle.macho_model.specs.Links.{Link}
 use Rattle.macho_model.specs.Resolution.{SymbolId}

@@ -24,9 +24,7 @@ impl Solved {
         if !is_import(target, self.imports.len()) {
             return Ok(());
         }
-        if let Err(fault) = self.note(Vec::from_slice(alloc, name)?) {
-            return Err(fault);
-        }
+        self.note(Vec::from_slice(alloc, name)?)?;
         Ok(())
     }
 
@@ -38,9 +36,7 @@ impl Solved {
         ensures why { IfErr result (IsMissingIn self.old.files.items (texts_of names.now)) }
     {
         for name in names {
-            if let Err(fault) = self.note_name(name) {
-                return Err(fault);
-            }
+            self.note_name(name)?;
         }
         Ok(())
     }

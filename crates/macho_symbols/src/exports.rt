@@ -201,12 +201,8 @@ impl Solved {
         ensures found { OnOk result (All (λ name. is_missing_in self.now.files.items name ≡ false) (required_in (option_copied list.entry))) }
         ensures why { IfErr result (IsMissingIn self.now.files.items (required_in (option_copied list.entry))) }
     {
-        if let Err(fault) = self.find_required(alloc, list) {
-            return Err(fault);
-        }
-        match self.exported_names(alloc, list) {
-            Ok(names) => self.told_exports(alloc, &names),
-            Err(fault) => Err(fault),
-        }
+        self.find_required(alloc, list)?;
+        let names = self.exported_names(alloc, list)?;
+        self.told_exports(alloc, &names)
     }
 }

@@ -119,9 +119,7 @@ impl Resolver {
         let alloc = self.alloc;
         let files = self.files;
         let mut table = Table::new(alloc, named_rows(&files))?;
-        if let Err(fault) = table.take_files(&files) {
-            return Err(fault);
-        }
+        table.take_files(&files)?;
         let commons = chosen_commons(alloc, &files, &table)?;
         let found = found_entries(alloc, &files, &table)?;
         let numbers = vec![in alloc; UNNUMBERED; table.entries.len()]?;

@@ -332,9 +332,7 @@ impl Solved {
         }
         let alloc = *self.imports.allocator();
         let name = Vec::from_slice(alloc, name_in(&self.files, file, row))?;
-        if let Err(fault) = self.note(name) {
-            return Err(fault);
-        }
+        self.note(name)?;
         Ok(target)
     }
 }

@@ -69,7 +69,14 @@ fn row_of<'a, P: Places>(
     };
     let section = section_of_symbol(placement, object, index);
     let address = address_of(places, places.target(object.number, index));
-    table_row(object, index, is_listed(lists, name), section, address)
+    table_row(
+        object,
+        index,
+        name,
+        is_listed(lists, name),
+        section,
+        address,
+    )
 }
 
 /// The symbol table of a placed link, with a row for each listed symbol, in order. `listed` are the symbols that were counted before

@@ -1,5 +1,5 @@
 -- The section comes from its object.
-use Rattle.std.proofs.Common.{◌≡◌, ℕ, ◌==◌, length, sym, ap, ◌∙◌, arith}
+use Rattle.std.proofs.Common.{ℕ, ◌==◌, length, ap, ◌∙◌, arith}
 use Rattle.macho_records.specs.Sections.{type_of}
 use Rattle.macho_object.proofs.Options.{some_if}
 use Rattle.macho_fields.proofs.Nexts.{section_long, object_kept}

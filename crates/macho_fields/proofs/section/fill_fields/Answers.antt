@@ -1,4 +1,5 @@
 use Rattle.std.proofs.Common.{subst, ℕ}
+use Rattle.std.proofs.lemmas.Result.{err_from_is_err_and}
 use Rattle.macho_fields.specs.steps.Sections.{IsFilledTo}
 use Rattle.macho_fields.proofs.Nexts.{copied, count_is}
 use Rattle.macho_fields.proofs.section.fill_fields.Goals as goal
@@ -8,11 +9,13 @@ loop-index-init g c =
     λ l p fill. copied l p (g.P.Places.look c.args.places.now) c.args.source.now c.args.out.now c.args.run.now.items c.requires.source
     fill c.requires.copied
 
-pub returns-in-Err-clause-why : goal.returns-in-Err-clause-why
-returns-in-Err-clause-why g c = λ l p fill. c.in-Err.ensures.why l p c.args.run.now.items fill (c.loop-index.invariant l p fill)
+pub returns-in_err-fill_one-clause-why : goal.returns-in_err-fill_one-clause-why
+returns-in_err-fill_one-clause-why g c l p fill =
+    let e = err_from_is_err_and c.from_residual.result c.from_residual.ensures.1 in
+    rw (e.1, e.2) (c.in_err-fill_one.ensures.why l p c.args.run.now.items fill (c.loop-index.invariant l p fill))
 
 pub loop-index-preserved : goal.loop-index-preserved
-loop-index-preserved g c = λ l p fill. c.in_default.ensures.done l p c.args.run.now.items fill (c.loop-index.invariant l p fill)
+loop-index-preserved g c = λ l p fill. c.in_ok-fill_one.ensures.done l p c.args.run.now.items fill (c.loop-index.invariant l p fill)
 
 pub returns-clause-done : goal.returns-clause-done
 returns-clause-done g c =

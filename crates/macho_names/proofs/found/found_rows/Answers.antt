@@ -1,4 +1,4 @@
-use Rattle.macho_names.proofs.FoundRows.{no_row_found, row_found}
+use Rattle.macho_names.proofs.FoundRows.{row_found}
 use Rattle.macho_names.proofs.found.found_rows.Goals as goal
 
 pub loop-row-preserved : goal.loop-row-preserved

@@ -1,6 +1,7 @@
 -- One relocation: its field is inside the section, so its bytes can be read; and what it names is there. As one of a link it is seen
 -- with its neighbours, and its addend is that of the model's field.
 use Rattle.std.proofs.Common.{◌≡◌, ◌<◌, [], ◌∷◌, ◌++◌, refl, sym, ap, ◌∙◌, subst}
+use Rattle.std.proofs.lemmas.Result.{err_from_is_err_and}
 use Rattle.macho_model.specs.Objects.{section_at, relocation_at}
 use Rattle.macho_model.specs.Grammar.{IsFile, IsObject}
 use Rattle.macho_model.specs.Needs.{ByRelocation}
@@ -55,11 +56,13 @@ pub of-seen-requires : goal.of-seen-requires
 of-seen-requires c = subst (λ (n : RelocationBytes). c.args.index < (section_at n.bytes n.section).nreloc)
     (sym c.requires.section.list_is) c.requires.index
 
-pub returns-in-Err-clause-why : goal.returns-in-Err-clause-why
-returns-in-Err-clause-why c l counts noted object there is =
+pub returns-in_err-target-clause-why : goal.returns-in_err-target-clause-why
+returns-in_err-target-clause-why c l counts noted object there is =
     let seen = c.of-seen.ensures.seen ∙ ap (λ (n : RelocationBytes). window_in n.bytes n.section c.args.index) c.requires.section.list_is in
-    c.in-Err.ensures.why l counts noted (id_of c.args.at) c.args.index is there
-    (ap (λ (s : Seen). s.this) seen ∙ ap (λ b. relocation_at b c.args.at.section c.args.index) (sym object)) refl
+    let e = err_from_is_err_and c.from_residual.result c.from_residual.ensures.1 in
+    rw (e.1, e.2)
+    (c.in_err-target.ensures.why l counts noted (id_of c.args.at) c.args.index is there
+    (ap (λ (s : Seen). s.this) seen ∙ ap (λ b. relocation_at b c.args.at.section c.args.index) (sym object)) refl)
 
 pub returns-clause-surveyed : goal.returns-clause-surveyed
 returns-clause-surveyed c l ss us object carried next before =
@@ -72,21 +75,21 @@ returns-clause-surveyed c l ss us object carried next before =
     let pointer = pointer_told l s c.args.index c.args.object.now c.args.bytes.now c.of-seen.result object c.requires.section.bytes_are
     seen c.of-seen.ensures.bits
     c.pointer-pointer.result c.pointer-pointer.ensures in
-    let noted = c.in-Ok.ensures.noted l us s c.args.index before.noted next of refl pointer in
-    let leads = c.in-Ok.ensures.leads l us s c.args.index before.noted next of refl in
+    let noted = c.in_ok-target.ensures.noted l us s c.args.index before.noted next of refl pointer in
+    let leads = c.in_ok-target.ensures.leads l us s c.args.index before.noted next of refl in
     let judged_here = is_judged l s c.args.index c.args.object.now c.args.bytes.now c.of-seen.result object c.requires.section.bytes_are
     seen c.of-seen.ensures.bits whole c.requires.section.there carried
     c.requires.index c.word_at-word.result c.word_at-word.ensures in
     let held : c.args.at.holds_pointers ≡ may_hold_pointers (segment_name l s)
     = c.requires.section.holds ∙ ap (λ b. may_hold_pointers (name_of (section_at b c.args.at.section).segname)) (sym object) in
     let more = judged_more l ss us c.args.needs.now c.use_relocation.new.self c.args.findings.now s c.args.index c.word_at-word.result
-    c.in-Ok.target c.args.at.holds_pointers judged_here
+    c.in_ok-target.target c.args.at.holds_pointers judged_here
     before noted leads held in
     let place : Place = record { file = c.args.at.file; section = c.args.at.section; relocation = c.args.index } in
     let same = c.judged.ensures
-    ∙ ap (λ w. judged c.args.findings.now c.args.at.holds_pointers place w c.in-Ok.target c.word_at-word.result c.pointer-pointer.result)
+    ∙ ap (λ w. judged c.args.findings.now c.args.at.holds_pointers place w c.in_ok-target.target c.word_at-word.result c.pointer-pointer.result)
     (seen_of l s c.args.index c.args.object.now c.args.bytes.now c.of-seen.result object c.requires.section.bytes_are seen
     c.of-seen.ensures.bits)
-    ∙ ap (judged c.args.findings.now c.args.at.holds_pointers place (window_of l s c.args.index) c.in-Ok.target c.word_at-word.result)
+    ∙ ap (judged c.args.findings.now c.args.at.holds_pointers place (window_of l s c.args.index) c.in_ok-target.target c.word_at-word.result)
     pointer in
     subst (λ (f : Findings). IsSurveyed l ss (us ++ ByRelocation s c.args.index ∷ []) c.use_relocation.new.self f) (sym same) more

@@ -1,5 +1,6 @@
 -- The relocations so far are the first ones of the table; each that comes is the next one in the walk.
 use Rattle.std.proofs.Common.{◌<◌, ◌≤◌, List, ◌++◌, take, sym, subst, append-nil, arith}
+use Rattle.std.proofs.lemmas.Result.{err_from_is_err_and}
 use Rattle.macho_model.specs.Objects.{section_at}
 use Rattle.macho_model.specs.Links.{header_at}
 use Rattle.macho_model.specs.Needs.{ByRelocation, carried_uses, Use}
@@ -35,25 +36,27 @@ loop-index-preserved c = record {
       let below : c.loop-index.index < (header_at l s).nreloc
       = subst (λ b. c.loop-index.index < (section_at b c.args.at.section).nreloc) (sym object)
       (subst (λ (n : RelocationBytes). c.loop-index.index < (section_at n.bytes n.section).nreloc) c.requires.section.list_is there) in
-      let more = c.in-Ok.ensures.surveyed l ss (us ++ take c.loop-index.index (carried_uses l s)) object carried
+      let more = c.in_ok-survey_relocation.ensures.surveyed l ss (us ++ take c.loop-index.index (carried_uses l s)) object carried
       (next_is l us s c.loop-index.index below begins)
       (c.loop-index.invariant.surveyed l ss us object carried begins is) in
       subst (λ (ws : List Use). IsSurveyed l ss ws c.survey_relocation.new.needs c.survey_relocation.new.findings)
       (uses_more l us s c.loop-index.index below) more;
-  kept = λ inputs keeps. c.in-Ok.ensures.kept inputs (c.loop-index.invariant.kept inputs keeps);
+  kept = λ inputs keeps. c.in_ok-survey_relocation.ensures.kept inputs (c.loop-index.invariant.kept inputs keeps);
 }
 
-pub returns-in-Err-clause-why : goal.returns-in-Err-clause-why
-returns-in-Err-clause-why c l counts ss us object carried begins is =
+pub returns-in_err-survey_relocation-clause-why : goal.returns-in_err-survey_relocation-clause-why
+returns-in_err-survey_relocation-clause-why c l counts ss us object carried begins is =
     let s = id_of c.args.at in
     let there : c.loop-index.index < (section_at c.args.list.now.bytes c.args.list.now.section).nreloc = omega arith in
     let below : c.loop-index.index < (header_at l s).nreloc
     = subst (λ b. c.loop-index.index < (section_at b c.args.at.section).nreloc) (sym object)
     (subst (λ (n : RelocationBytes). c.loop-index.index < (section_at n.bytes n.section).nreloc) c.requires.section.list_is there) in
-    c.in-Err.ensures.why l counts (imports_in l (us ++ take c.loop-index.index (carried_uses l s))) object
+    let e = err_from_is_err_and c.from_residual.result c.from_residual.ensures.1 in
+    rw (e.1, e.2)
+    (c.in_err-survey_relocation.ensures.why l counts (imports_in l (us ++ take c.loop-index.index (carried_uses l s))) object
     (next_there l (us ++ take c.loop-index.index (carried_uses l s)) (ByRelocation s c.loop-index.index)
     (next_is l us s c.loop-index.index below begins))
-    (c.loop-index.invariant.surveyed l ss us object carried begins is).noted.imports
+    (c.loop-index.invariant.surveyed l ss us object carried begins is).noted.imports)
 
 pub returns-clause-surveyed : goal.returns-clause-surveyed
 returns-clause-surveyed c l ss us object carried begins is =

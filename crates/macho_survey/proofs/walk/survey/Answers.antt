@@ -1,6 +1,7 @@
 -- The files so far are the first inputs of the link.
 use Rattle.std.proofs.Common.{◌<◌, ◌≤◌, [], length, take, get_or, refl, arith}
 use Rattle.std.specs.List.{enumerate_from}
+use Rattle.std.proofs.lemmas.Result.{err_from_is_err_and}
 use Rattle.macho_model.specs.Links.{no_input}
 use Rattle.macho_survey.specs.steps.Sections.{carried_in, uses_in, input_at}
 use Rattle.macho_survey.proofs.Walking.{walked_more, walk_begins, inputs_join, uses_in_join, numbered_at}
@@ -30,22 +31,24 @@ loop-file-preserved c =
           let at = numbered_at l i (get_or l.inputs i no_input) (file_inside c.args.views.now l.inputs i are below) refl (input_at l i) in
           walked_more l (carried_in l) (uses_in l) (inputs_join l) (uses_in_join l) [] [] xs i (input_at l i) c.survey_file.new.needs
           c.survey_file.new.findings within at
-          (c.in-Ok.ensures.surveyed l (carried_in l (take i xs)) (uses_in l (take i xs)) are
+          (c.in_ok-survey_file.ensures.surveyed l (carried_in l (take i xs)) (uses_in l (take i xs)) are
           (walk_begins l (uses_in l) (uses_in_join l) [] xs i (input_at l i) within at (whole_begins l))
           (c.loop-file.invariant.surveyed l are noted));
-      kept = λ inputs keeps. c.in-Ok.ensures.kept inputs (c.loop-file.invariant.kept inputs keeps);
+      kept = λ inputs keeps. c.in_ok-survey_file.ensures.kept inputs (c.loop-file.invariant.kept inputs keeps);
     }
 
-pub returns-in-Err-clause-why : goal.returns-in-Err-clause-why
-returns-in-Err-clause-why c l counts are noted =
+pub returns-in_err-survey_file-clause-why : goal.returns-in_err-survey_file-clause-why
+returns-in_err-survey_file-clause-why c l counts are noted =
     let i = c.loop-file.file in
     let below : i < length c.args.views.now = omega arith in
     let xs = enumerate_from 0 l.inputs in
     let within = input_more l c.args.views.now i are below in
     let at = numbered_at l i (get_or l.inputs i no_input) (file_inside c.args.views.now l.inputs i are below) refl (input_at l i) in
-    c.in-Err.ensures.why l counts (carried_in l (take i xs)) (uses_in l (take i xs)) are
+    let e = err_from_is_err_and c.from_residual.result c.from_residual.ensures.1 in
+    rw (e.1, e.2)
+    (c.in_err-survey_file.ensures.why l counts (carried_in l (take i xs)) (uses_in l (take i xs)) are
     (walk_begins l (uses_in l) (uses_in_join l) [] xs i (input_at l i) within at (whole_begins l))
-    (c.loop-file.invariant.surveyed l are noted)
+    (c.loop-file.invariant.surveyed l are noted))
 
 pub returns-clause-noted : goal.returns-clause-noted
 returns-clause-noted c l are noted =

@@ -6,17 +6,20 @@ use Rattle.macho_names.specs.steps.Tables.{IsClash, IsKnown}
 use Rattle.macho_symbols.specs.declared.solved.TheConstants.{UNNUMBERED}
 use Rattle.macho_symbols.specs.steps.Solved.{IsNumbered, IsImportIn}
 use Rattle.std.proofs.lemmas.List.Elements.{All-nil}
+use Rattle.std.proofs.lemmas.Result.{err_from_is_err_and}
 use Rattle.macho_symbols.proofs.Targeted.{clash_is, single_is}
 use Rattle.macho_symbols.proofs.resolver.Resolver.resolve.Goals as goal
 
 pub take_files-requires-clause-known : goal.take_files-requires-clause-known
 take_files-requires-clause-known c = c.in_ok-table.ensures.knows _
 
-pub returns-in-Err-clause-why : goal.returns-in-Err-clause-why
-returns-in-Err-clause-why c l keeps =
-    clash_is l _
-    (subst (λ (fs : List FileRows). IsClash (events fs) c.in-Err.fault) (c.deref-2.ensures.value ∙ c.self.view_is
-    ∙ keeps.are) c.in-Err.ensures.why)
+pub returns-in_err-take_files-clause-why : goal.returns-in_err-take_files-clause-why
+returns-in_err-take_files-clause-why c l keeps =
+    let p = err_from_is_err_and c.from_residual-in_err-take_files.result c.from_residual-in_err-take_files.ensures.1 in
+    rw (p.1, p.2)
+    (clash_is l _
+    (subst (λ (fs : List FileRows). IsClash (events fs) c.in_err-take_files.field-0.0) (c.deref-2.ensures.value ∙ c.self.view_is
+    ∙ keeps.are) c.in_err-take_files.ensures.why))
 
 vec_len_is : {X A : Type 0} (v : Vec X A) → vec_len v ≡ length v.items
 vec_len_is v = omega arith
@@ -32,7 +35,7 @@ unnumbered numbers n name j is within =
 
 pub invariant_of-result : goal.invariant_of-result
 invariant_of-result c = record {
-  known = rw (← c.deref-2.ensures.value) c.in_default.ensures.done;
+  known = rw (← c.deref-2.ensures.value) c.in_ok-take_files.ensures.done;
   found = rw (← c.deref-4.ensures.value) c.in_ok-found.ensures;
   commons = rw (← c.deref-3.ensures.value) c.in_ok-commons.ensures.commons;
   few_commons = c.in_ok-commons.ensures.few;
@@ -47,7 +50,7 @@ invariant_of-result c = record {
 pub returns-clause-single : goal.returns-clause-single
 returns-clause-single c l keeps name =
     let known : IsKnown c.deref-2.result.now c.take_files.new.self.heads.items c.take_files.new.self.entries.items
-    (events c.deref-2.result.now) = c.in_default.ensures.done in
+    (events c.deref-2.result.now) = c.in_ok-take_files.ensures.done in
     single_is l name
     (subst (λ (fs : List FileRows). length (filter (is_strong_of name) (events fs)) ≤ 1) (c.deref-2.ensures.value ∙ c.self.view_is
     ∙ keeps.are) (known.knows.single name))

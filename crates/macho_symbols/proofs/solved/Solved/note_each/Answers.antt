@@ -1,5 +1,6 @@
 use Rattle.std.proofs.Common.{◌≡◌, subst, take, arith}
 use Rattle.std.proofs.lemmas.List.{length-map, take_all}
+use Rattle.std.proofs.lemmas.Result.{err_from_is_err_and}
 use Rattle.macho_exports.specs.steps.Lists.{texts_of}
 use Rattle.macho_symbols.specs.steps.Solved.{HaveNoted}
 use Rattle.macho_symbols.proofs.AskedFor.{none_noted_yet, next_name, missing_among, grown_more, unchanged_grown}
@@ -15,18 +16,22 @@ pub loop-name-preserved : goal.loop-name-preserved
 loop-name-preserved c =
     next_name c.args.self.now c.loop-name.self c.note_name.new.self c.args.names.now c.loop-name.name-index c.name-item.result
     c.deref.result.now
-    c.loop-name-test.true c.name-item.is c.deref.ensures.value c.loop-name.invariant c.in_default.ensures.noted
+    c.loop-name-test.true c.name-item.is c.deref.ensures.value c.loop-name.invariant c.in_ok-note_name.ensures.noted
 
-pub returns-in-Err-clause-grown : goal.returns-in-Err-clause-grown
-returns-in-Err-clause-grown c =
-    grown_more c.args.self.now c.loop-name.self c.note_name.new.self c.loop-name.invariant.grown
-    (unchanged_grown c.loop-name.self c.note_name.new.self c.in-Err.ensures.kept)
+pub returns-in_err-note_name-clause-grown : goal.returns-in_err-note_name-clause-grown
+returns-in_err-note_name-clause-grown c =
+    let p = err_from_is_err_and c.from_residual.result c.from_residual.ensures.1 in
+    rw p.1
+    (grown_more c.args.self.now c.loop-name.self c.note_name.new.self c.loop-name.invariant.grown
+    (unchanged_grown c.loop-name.self c.note_name.new.self c.in_err-note_name.ensures.kept))
 
-pub returns-in-Err-clause-why : goal.returns-in-Err-clause-why
-returns-in-Err-clause-why c =
-    missing_among c.args.self.now.files.items c.loop-name.self.files.items c.args.names.now c.loop-name.name-index c.name-item.result
-    c.deref.result.now
-    c.in-Err.fault c.loop-name-test.true c.name-item.is c.deref.ensures.value c.loop-name.invariant.grown.files c.in-Err.ensures.why
+pub returns-in_err-note_name-clause-why : goal.returns-in_err-note_name-clause-why
+returns-in_err-note_name-clause-why c =
+    let p = err_from_is_err_and c.from_residual.result c.from_residual.ensures.1 in
+    rw (p.1, p.2)
+    (missing_among c.args.self.now.files.items c.loop-name.self.files.items c.args.names.now c.loop-name.name-index c.name-item.result
+    c.deref.result.now _ c.loop-name-test.true c.name-item.is c.deref.ensures.value c.loop-name.invariant.grown.files
+    c.in_err-note_name.ensures.why)
 
 pub returns-clause-noted : goal.returns-clause-noted
 returns-clause-noted c =

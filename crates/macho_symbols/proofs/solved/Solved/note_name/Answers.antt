@@ -39,5 +39,5 @@ returns-clause-noted c =
     ap (is_next (length (noted_of s.imports.items))) (sym c.named-target.ensures)
     ∙ ap (λ n. is_next n c.named-target.result) (sym (count_is s c.len.result c.len.ensures))
     ∙ sym c.is_import.ensures ∙ c.if-not-is_import.false in
-    one_new s c.note.new.self c.args.name.now c.in_default.ensures.solved c.in_default.ensures.grown something new
-    (c.in_default.ensures.noted ∙ ap (λ n. noted_of s.imports.items ++ n ∷ []) c.in_ok-from_slice-2.ensures.items)
+    one_new s c.note.new.self c.args.name.now c.in_ok-note.ensures.solved c.in_ok-note.ensures.grown something new
+    (c.in_ok-note.ensures.noted ∙ ap (λ n. noted_of s.imports.items ++ n ∷ []) c.in_ok-from_slice-2.ensures.items)
