@@ -120,17 +120,8 @@ pub fn fill_sections<P: Places>(
         → IfErr result (FillStands l (placed_of placement.now)) }
 {
     for index in 0..placement.sections.len() {
-        match fill_one(
-            places,
-            views,
-            placement,
-            placement.sections[index],
-            run,
-            out,
-        ) {
-            Ok(()) => {}
-            Err(fault) => return Err(fault),
-        }
+        let section = placement.sections[index];
+        fill_one(places, views, placement, section, run, out)?;
     }
     Ok(())
 }

@@ -87,10 +87,7 @@ fn resolve<P: Places>(
     requires data { IfSome entry.lsda (λ place. address_at (P.look places.now) entry.file place < 2 ^ 64) }
     ensures { IfOk result (λ e. e ≡ resolved_row (P.look places.now) tables.now.slots entry) }
 {
-    let personality = match personality_of(places, tables, entry) {
-        Ok(personality) => personality,
-        Err(error) => return Err(error),
-    };
+    let personality = personality_of(places, tables, entry)?;
     Ok(ResolvedUnwindInfo {
         start: address(places, entry.file, entry.start),
         length: entry.length,
@@ -114,11 +111,7 @@ fn resolve_all<P: Places>(
 {
     let mut resolved = Vec::with_capacity(alloc, entries.len())?;
     for entry in entries {
-        let one = match resolve(places, tables, *entry) {
-            Ok(one) => one,
-            Err(error) => return Err(error),
-        };
-        resolved.push(one)?;
+        resolved.push(resolve(places, tables, *entry)?)?;
     }
     Ok(resolved)
 }

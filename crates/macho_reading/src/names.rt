@@ -69,8 +69,6 @@ pub(crate) fn note_list(needs: &mut Needs, list: Option<&ExportList>) -> Result<
     let Some(list) = list else {
         return Ok(());
     };
-    match needs.resolved.note_exports(list) {
-        Ok(()) => Ok(()),
-        Err(fault) => Err(LinkError::from(fault)),
-    }
+    needs.resolved.note_exports(list)?;
+    Ok(())
 }

@@ -43,10 +43,7 @@ fn use_initializers(needs: &mut Needs, rows: &[Initializer]) -> Result<(), LinkE
     ensures kept { (inputs : List Input) → Keeps inputs needs.old.resolved.files → Keeps inputs needs.new.resolved.files }
 {
     for row in rows {
-        match needs.use_initializer(row.file, row.relocation) {
-            Ok(_) => {}
-            Err(error) => return Err(error),
-        }
+        needs.use_initializer(row.file, row.relocation)?;
     }
     Ok(())
 }
@@ -63,10 +60,8 @@ fn use_entry(needs: &mut Needs, entry: UnwindEntry) -> Result<(), LinkError>
     let Some(used) = entry.personality else {
         return Ok(());
     };
-    match needs.use_personality(entry.file, used.relocation) {
-        Ok(_) => Ok(()),
-        Err(error) => Err(error),
-    }
+    needs.use_personality(entry.file, used.relocation)?;
+    Ok(())
 }
 
 /// Notes the personality functions of entries, in order.
@@ -80,10 +75,7 @@ fn use_entries(needs: &mut Needs, entries: &[UnwindEntry]) -> Result<(), LinkErr
     ensures kept { (inputs : List Input) → Keeps inputs needs.old.resolved.files → Keeps inputs needs.new.resolved.files }
 {
     for entry in entries {
-        match use_entry(needs, *entry) {
-            Ok(()) => {}
-            Err(error) => return Err(error),
-        }
+        use_entry(needs, *entry)?;
     }
     Ok(())
 }
@@ -98,9 +90,6 @@ pub(crate) fn use_rows(needs: &mut Needs, rows: &Rows) -> Result<(), LinkError>
         → IfErr result (Stands l counts) }
     ensures kept { (inputs : List Input) → Keeps inputs needs.old.resolved.files → Keeps inputs needs.new.resolved.files }
 {
-    match use_initializers(needs, &rows.initializers) {
-        Ok(()) => {}
-        Err(error) => return Err(error),
-    }
+    use_initializers(needs, &rows.initializers)?;
     use_entries(needs, &rows.entries)
 }

@@ -47,14 +47,8 @@ fn note_rest(
         → IfErr result (Stands l counts) }
     ensures kept { (inputs : List Input) → Keeps inputs needs.old.resolved.files → Keeps inputs needs.new.resolved.files }
 {
-    match use_rows(needs, rows) {
-        Ok(()) => {}
-        Err(error) => return Err(error),
-    }
-    match find_entry(alloc, &needs.resolved, entry) {
-        Ok(()) => {}
-        Err(error) => return Err(error),
-    }
+    use_rows(needs, rows)?;
+    find_entry(alloc, &needs.resolved, entry)?;
     note_list(needs, list)
 }
 
@@ -79,10 +73,8 @@ fn read_behind(
         Ok(rows) => rows,
         Err(fault) => return Err(refusal(alloc, needs, views, entry, list, fault)),
     };
-    match note_rest(alloc, needs, &rows, entry, list) {
-        Ok(()) => Ok(rows),
-        Err(error) => Err(error),
-    }
+    note_rest(alloc, needs, &rows, entry, list)?;
+    Ok(rows)
 }
 
 /// The rows, where nothing stands against the link. A refusal that they were read with goes before one that is told of carried
@@ -91,12 +83,10 @@ fn unless_told(read: Result<Rows, LinkError>, told: Option<LinkError>) -> Result
     ensures ok { IfOk result (λ rows. (read ≡ Ok rows) × (told ≡ None)) }
     ensures why { IfErr result (λ error. (read ≡ Err error) ⊎ (told ≡ Some error)) }
 {
-    match read {
-        Ok(rows) => match told {
-            Some(error) => Err(error),
-            None => Ok(rows),
-        },
-        Err(error) => Err(error),
+    let rows = read?;
+    match told {
+        Some(error) => Err(error),
+        None => Ok(rows),
     }
 }
 
@@ -113,15 +103,13 @@ fn with_exports(
     ensures why { (l : Link) (counts : Counts) → IsNotedWith l needs rows → AreLists l (option_copied list.entry)
         → IfErr result (Stands l counts) }
 {
-    match needs.resolved.exports(alloc, list) {
-        Ok(exports) => Ok(ReadLink {
-            needs,
-            initializers: rows.initializers,
-            entries: rows.entries,
-            exports,
-        }),
-        Err(fault) => Err(LinkError::from(fault)),
-    }
+    let exports = needs.resolved.exports(alloc, list)?;
+    Ok(ReadLink {
+        needs,
+        initializers: rows.initializers,
+        entries: rows.entries,
+        exports,
+    })
 }
 
 /// Reads all that the objects of a link ask for. `views` are views of its objects by the numbers of their files, None for another
@@ -153,13 +141,8 @@ pub fn read_link(
         → IfErr result (Stands l counts) }
 {
     let mut needs = begun(alloc, resolved);
-    let told = match survey(alloc, &mut needs, views) {
-        Ok(told) => told,
-        Err(error) => return Err(error),
-    };
+    let told = survey(alloc, &mut needs, views)?;
     let read = read_behind(alloc, &mut needs, views, entry, list);
-    match unless_told(read, told) {
-        Ok(rows) => with_exports(alloc, needs, rows, list),
-        Err(error) => Err(error),
-    }
+    let rows = unless_told(read, told)?;
+    with_exports(alloc, needs, rows, list)
 }

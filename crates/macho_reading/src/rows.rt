@@ -53,15 +53,10 @@ pub(crate) fn read_rows(
     ensures why { (l : Link) (noted : List (List ℕ)) → views.now ≡ views_of l → IsResolved l noted symbols.now → IfErr result (IsStanding l) }
 {
     are_whole(views);
-    let initializers = match read_initializers(alloc, views, symbols) {
-        Ok(rows) => rows,
-        Err(fault) => return Err(fault),
-    };
-    match read_entries(alloc, views, symbols) {
-        Ok(entries) => Ok(Rows {
-            initializers,
-            entries,
-        }),
-        Err(fault) => Err(fault),
-    }
+    let initializers = read_initializers(alloc, views, symbols)?;
+    let entries = read_entries(alloc, views, symbols)?;
+    Ok(Rows {
+        initializers,
+        entries,
+    })
 }

@@ -54,15 +54,10 @@ fn use_symbol(
     ensures kept { (inputs : List Input) → Keeps inputs needs.old.resolved.files → Keeps inputs needs.new.resolved.files }
 {
     match kind {
-        Kind::Initializers => match needs.use_initializer(file, relocation) {
-            Ok(_) => Ok(()),
-            Err(error) => Err(error),
-        },
-        Kind::Entries => match needs.use_personality(file, relocation) {
-            Ok(_) => Ok(()),
-            Err(error) => Err(error),
-        },
-    }
+        Kind::Initializers => needs.use_initializer(file, relocation)?,
+        Kind::Entries => needs.use_personality(file, relocation)?,
+    };
+    Ok(())
 }
 
 /// Notes what a section of a kind and of so many bytes uses, in the order of its relocations.
@@ -85,10 +80,7 @@ fn use_relocations(
         if !is_use(kind, size, relocation) {
             continue;
         }
-        match use_symbol(needs, kind, file, relocation) {
-            Ok(()) => {}
-            Err(error) => return Err(error),
-        }
+        use_symbol(needs, kind, file, relocation)?;
     }
     Ok(())
 }
@@ -131,10 +123,7 @@ fn use_object(needs: &mut Needs, object: &File<'_>, kind: Kind, file: u32) -> Re
     ensures kept { (inputs : List Input) → Keeps inputs needs.old.resolved.files → Keeps inputs needs.new.resolved.files }
 {
     for section in 0..object.num_sections() {
-        match use_section(needs, object, kind, file, section) {
-            Ok(()) => {}
-            Err(error) => return Err(error),
-        }
+        use_section(needs, object, kind, file, section)?;
     }
     Ok(())
 }
@@ -167,10 +156,7 @@ fn use_kind(needs: &mut Needs, views: &[Option<File<'_>>], kind: Kind) -> Result
     ensures kept { (inputs : List Input) → Keeps inputs needs.old.resolved.files → Keeps inputs needs.new.resolved.files }
 {
     for file in 0..views.len() as u32 {
-        match use_file(needs, views, kind, file) {
-            Ok(()) => {}
-            Err(error) => return Err(error),
-        }
+        use_file(needs, views, kind, file)?;
     }
     Ok(())
 }
@@ -184,9 +170,6 @@ pub(crate) fn find_undefined(needs: &mut Needs, views: &[Option<File<'_>>]) -> R
         → IfErr result (Stands l counts) }
     ensures kept { (inputs : List Input) → Keeps inputs needs.old.resolved.files → Keeps inputs needs.new.resolved.files }
 {
-    match use_kind(needs, views, Kind::Initializers) {
-        Ok(()) => {}
-        Err(error) => return Err(error),
-    }
+    use_kind(needs, views, Kind::Initializers)?;
     use_kind(needs, views, Kind::Entries)
 }

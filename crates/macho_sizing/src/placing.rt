@@ -131,10 +131,7 @@ pub(crate) fn place(alloc: Global, plan: &Plan, counts: &Counts) -> Result<Place
     ensures done { (l : Link) → IsPlanOf l plan.now → AreCounts l counts.now → IfOk result (λ q. IsAnswered l counts.now (placed_of q)) }
     ensures why { (l : Link) → IsPlanOf l plan.now → AreCounts l counts.now → IfErr result (Stands l counts.now) }
 {
-    let placement = match place_kept(alloc, plan, counts) {
-        Ok(placement) => placement,
-        Err(error) => return Err(error),
-    };
+    let placement = place_kept(alloc, plan, counts)?;
     if counts.unwind >= LIMIT_32 {
         return Err(too_large(placement));
     }

@@ -48,10 +48,7 @@ fn size_within(
     let trie = reserve_trie(alloc, asked.exports)?;
     let size = trie.size as u64;
     let counts = count_sizes(asked, imports, numbers, unwind, size, &symbols)?;
-    let placement = match place(alloc, plan, &counts) {
-        Ok(placement) => placement,
-        Err(error) => return Err(error),
-    };
+    let placement = place(alloc, plan, &counts)?;
     Ok(SizedLink {
         counts,
         placement,
@@ -82,10 +79,7 @@ pub fn size_link(
     let plan = make_plan(alloc, asked.arguments.executable, asked.views, asked.needs)?;
     let imports = asked.needs.resolved.imports();
     let numbers = count_numbers(alloc, asked, imports, list)?;
-    match check_limits(alloc, asked, &plan, &numbers) {
-        Ok(()) => {}
-        Err(error) => return Err(error),
-    }
+    check_limits(alloc, asked, &plan, &numbers)?;
     match unwind_bytes(alloc, asked)? {
         Some(unwind) => size_within(alloc, asked, &plan, imports, &numbers, unwind),
         None => Err(too_large(alloc, asked, &plan)),

@@ -1,5 +1,5 @@
 -- A section that is filled, seen through the view of its object.
-use Rattle.std.proofs.Common.{ap, sym, false, ◌∙◌}
+use Rattle.std.proofs.Common.{ap, sym, ◌∙◌}
 use Rattle.std.specs.Prelude.{option_copied}
 use Rattle.macho_filling.proofs.Viewing.{one_to_fill}
 use Rattle.macho_filling.proofs.least.least_in.Goals as goal

@@ -12,14 +12,14 @@ loop-index-init g c l all = none_done l (placed_of c.args.placement.now) c.args.
 pub loop-index-preserved : goal.loop-index-preserved
 loop-index-preserved g c l all =
     let p = placed_of c.args.placement.now in
-    let q = c.index.result.now in
+    let q = c.index-section.result.now in
     let lt : c.loop-index.index < length c.args.placement.now.sections.items = omega
     (arith, c.loop-index-test.true, c.len-index-end.ensures) in
-    let here : Contains c.args.placement.now.sections.items q = (c.loop-index.index, lt, sym c.index.ensures) in
+    let here : Contains c.args.placement.now.sections.items q = (c.loop-index.index, lt, sym c.index-section.ensures) in
     one_more_done l p c.loop-index.index q c.args.out.now c.loop-index.out c.fill_one.new.out c.args.run.now.items c.loop-index.run.items
     c.fill_one.new.run.items lt (c.loop-index.invariant l all)
-    (subst (λ x. IsDone l p x c.loop-index.out c.fill_one.new.out c.loop-index.run.items c.fill_one.new.run.items) c.index.ensures
-    (c.in-Ok.ensures.done l all here))
+    (subst (λ x. IsDone l p x c.loop-index.out c.fill_one.new.out c.loop-index.run.items c.fill_one.new.run.items) c.index-section.ensures
+    (c.in_ok-fill_one.ensures.done l all here))
 
 pub returns-clause-done : goal.returns-clause-done
 returns-clause-done g c l all =

@@ -13,13 +13,13 @@ returns-in_default-clause-noted c l noted lists =
     none_noted l c.args.needs.now
     (subst (λ (o : Option ListEntries). AreLists l o) (ap option_copied c.in_default.is) lists) noted
 
-pub returns-in-Ok-clause-noted : goal.returns-in-Ok-clause-noted
-returns-in-Ok-clause-noted c l noted lists =
+pub returns-clause-noted : goal.returns-clause-noted
+returns-clause-noted c l noted lists =
     let of = subst (λ (o : Option ListEntries). AreLists l o) (ap option_copied c.in-Some.is) lists in
     list_noted l c.in-Some.list.now.plain c.args.needs.now (record { resolved = c.note_exports.new.self; tables = c.args.needs.now.tables })
-    of.1.plain refl noted (c.in-Ok.ensures.noted l (imports_in l (uses_before_names l)) noted.imports)
+    of.1.plain refl noted (c.in_ok-note_exports.ensures.noted l (imports_in l (uses_before_names l)) noted.imports)
 
-pub returns-in-Ok-clause-kept : goal.returns-in-Ok-clause-kept
-returns-in-Ok-clause-kept c inputs keeps =
+pub returns-clause-kept : goal.returns-clause-kept
+returns-clause-kept c inputs keeps =
     files_stay c.note_exports.result inputs c.args.needs.now.resolved c.note_exports.new.self (λ l noted. noting_names l noted c.in-Some.list.now.plain)
     keeps c.note_exports.ensures.noted c.note_exports.ensures.kept

@@ -1,6 +1,7 @@
 -- The rows are the link's. What they use can be noted, since they are rows of the link of the inputs that are viewed, and these are
 -- objects.
 use Rattle.std.proofs.Common.{List, sym, subst, All}
+use Rattle.std.proofs.lemmas.Result.{err_from_is_err_and}
 use Rattle.macho_needs.proofs.Using.{link_with}
 use Rattle.macho_consumed.specs.declared.rows.Initializer.{Initializer}
 use Rattle.macho_consumed.specs.declared.rows.UnwindEntry.{UnwindEntry}
@@ -11,14 +12,16 @@ use Rattle.macho_reading.proofs.rows.read_rows.Goals as goal
 pub read_initializers-requires : goal.read_initializers-requires
 read_initializers-requires c = are_kept c.args.views.now c.args.symbols.now.files c.requires.few c.requires.same
 
-pub returns-in-Err-clause-why : goal.returns-in-Err-clause-why
-returns-in-Err-clause-why c l noted views resolved = c.in-Err.ensures.why l noted views resolved
+pub returns-in_err-initializers-clause-why : goal.returns-in_err-initializers-clause-why
+returns-in_err-initializers-clause-why c l noted views resolved =
+    let e = err_from_is_err_and c.from_residual.result c.from_residual.ensures.1 in
+    rw (e.1, e.2) (c.in_err-initializers.ensures.why l noted views resolved)
 
 pub read_entries-requires : goal.read_entries-requires
 read_entries-requires c = are_kept c.args.views.now c.args.symbols.now.files c.requires.few c.requires.same
 
-pub returns-in-Ok-read_entries-clause-usable : goal.returns-in-Ok-read_entries-clause-usable
-returns-in-Ok-read_entries-clause-usable c =
+pub returns-clause-usable : goal.returns-clause-usable
+returns-clause-usable c =
     let same = c.requires.same in
     let l = link_with same.inputs in
     let views = are_views_of c.args.views.now same.inputs same.are in
@@ -26,12 +29,13 @@ returns-in-Ok-read_entries-clause-usable c =
     let read = objects_read c.args.views.now same.inputs same.are c.are_whole.ensures in
     let keeps = resolved.keeps in
     record {
-      initializers = subst (λ (xs : List Initializer). All (IsUsable c.args.symbols.now) xs) (sym (c.in-Ok.ensures.rows l views))
-          (initializers_usable l c.args.symbols.now read keeps (c.in-Ok.ensures.keeps l c.args.symbols.now.noted views resolved));
-      entries = subst (λ (xs : List UnwindEntry). All (IsUsableEntry c.args.symbols.now) xs) (sym (c.in-Ok-read_entries.ensures.rows l views))
-          (entries_usable l c.args.symbols.now read keeps (c.in-Ok-read_entries.ensures.keeps l c.args.symbols.now.noted views resolved));
+      initializers = subst (λ (xs : List Initializer). All (IsUsable c.args.symbols.now) xs) (sym (c.in_ok-initializers.ensures.rows l views))
+          (initializers_usable l c.args.symbols.now read keeps (c.in_ok-initializers.ensures.keeps l c.args.symbols.now.noted views resolved));
+      entries = subst (λ (xs : List UnwindEntry). All (IsUsableEntry c.args.symbols.now) xs) (sym (c.in_ok-entries.ensures.rows l views))
+          (entries_usable l c.args.symbols.now read keeps (c.in_ok-entries.ensures.keeps l c.args.symbols.now.noted views resolved));
     }
 
-pub returns-in-Err-read_entries-clause-why : goal.returns-in-Err-read_entries-clause-why
-returns-in-Err-read_entries-clause-why c l noted views resolved =
-    c.in-Err-read_entries.ensures.why l noted views resolved
+pub returns-in_err-entries-clause-why : goal.returns-in_err-entries-clause-why
+returns-in_err-entries-clause-why c l noted views resolved =
+    let e = err_from_is_err_and c.from_residual-in_err-entries.result c.from_residual-in_err-entries.ensures.1 in
+    rw (e.1, e.2) (c.in_err-entries.ensures.why l noted views resolved)

@@ -1,5 +1,6 @@
 -- Rows of symbols stay those of the inputs, section by section.
 use Rattle.std.proofs.Common.{◌≡◌, ap, ◌∙◌, arith, if◌then◌else◌}
+use Rattle.std.proofs.lemmas.Result.{err_from_is_err_and}
 use Rattle.macho_model.specs.Objects.{num_sections}
 use Rattle.macho_survey.proofs.Walking.{rows_kept}
 use Rattle.macho_reading.proofs.undefined.use_object.Goals as goal
@@ -19,7 +20,10 @@ use_section-requires-clause-rows c =
     c.loop-section.invariant
 
 pub loop-section-preserved : goal.loop-section-preserved
-loop-section-preserved c inputs keeps = c.in-Ok.ensures.kept inputs (c.loop-section.invariant inputs keeps)
+loop-section-preserved c inputs keeps = c.in_ok-use_section.ensures.kept inputs (c.loop-section.invariant inputs keeps)
 
-pub returns-in-Err-clause-why : goal.returns-in-Err-clause-why
-returns-in-Err-clause-why c l counts has keeps = c.in-Err.ensures.why l counts has (c.loop-section.invariant l.inputs keeps)
+pub returns-in_err-use_section-clause-why : goal.returns-in_err-use_section-clause-why
+returns-in_err-use_section-clause-why c l counts has keeps =
+    let e = err_from_is_err_and c.from_residual.result c.from_residual.ensures.1 in
+    rw (e.1, e.2)
+    (c.in_err-use_section.ensures.why l counts has (c.loop-section.invariant l.inputs keeps))

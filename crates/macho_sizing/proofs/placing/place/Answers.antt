@@ -9,20 +9,20 @@ use Rattle.macho_sizing.proofs.placing.place.Goals as goal
 pub returns-then-counts-ge-LIMIT_32-clause-why : goal.returns-then-counts-ge-LIMIT_32-clause-why
 returns-then-counts-ge-LIMIT_32-clause-why c l plan are =
     let counts = c.args.counts.now in
-    let q = placed_of c.in-Ok.placement in
-    let laid = c.in-Ok.ensures.done l plan in
+    let q = placed_of c.in_ok-placement.placement in
+    let laid = c.in_ok-placement.ensures.done l plan in
     c.too_large.ensures l counts (unwind_passes l counts q laid.placed c.if-counts-ge-LIMIT_32.true) (is_kept l counts q are laid.placed)
 
 pub returns-in-Some-clause-why : goal.returns-in-Some-clause-why
 returns-in-Some-clause-why c l plan are =
-    let laid = c.in-Ok.ensures.done l plan in
-    record { stands = c.in-Some.ensures.many; kept = is_kept l c.args.counts.now (placed_of c.in-Ok.placement) are laid.placed }
+    let laid = c.in_ok-placement.ensures.done l plan in
+    record { stands = c.in-Some.ensures.many; kept = is_kept l c.args.counts.now (placed_of c.in_ok-placement.placement) are laid.placed }
 
 pub returns-in-None-clause-done : goal.returns-in-None-clause-done
 returns-in-None-clause-done c l plan are =
     let counts = c.args.counts.now in
-    let q = placed_of c.in-Ok.placement in
+    let q = placed_of c.in_ok-placement.placement in
     record {
-      laid = subst (λ (n : Counts). IsLaid l n q) (kept_same counts c.if-counts-ge-LIMIT_32.false) (c.in-Ok.ensures.done l plan);
+      laid = subst (λ (n : Counts). IsLaid l n q) (kept_same counts c.if-counts-ge-LIMIT_32.false) (c.in_ok-placement.ensures.done l plan);
       pages = pages_few l counts q (c.in-None.ensures.few refl);
     }

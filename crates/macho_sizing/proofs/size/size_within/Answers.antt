@@ -1,5 +1,6 @@
 -- What was counted are the sizes of the link, and the placement is one of the link.
 use Rattle.std.proofs.Common.{sym, subst, arith}
+use Rattle.std.proofs.lemmas.Result.{err_from_is_err_and}
 use Rattle.macho_model.specs.declared.placed.Counts.{Counts}
 use Rattle.macho_model.specs.Needs.{imports_of}
 use Rattle.macho_layout.specs.Placements.{placed_of}
@@ -24,14 +25,16 @@ place-requires c =
     let listed = c.in_ok-symbols.ensures l (imports_of l) of_link.read.resolved of_link.inputs.objects in
     entry_small l c.in_ok-trie.trie.size c.in_ok-counts.counts (c.in_ok-counts.ensures l of_link c.requires.link.2 c.requires.link.3 listed)
 
-pub returns-in-Err-clause-why : goal.returns-in-Err-clause-why
-returns-in-Err-clause-why c l counts of_link plan imports unwind are =
+pub returns-in_err-placement-clause-why : goal.returns-in_err-placement-clause-why
+returns-in_err-placement-clause-why c l counts of_link plan imports unwind are =
     let listed = c.in_ok-symbols.ensures l (imports_of l) of_link.read.resolved of_link.inputs.objects in
     let exact = c.in_ok-trie.ensures.exact in
     let counted = counted_are l of_link.read.told c.args.asked.now.exports.now exact.0 c.in_ok-trie.trie.size c.in_ok-counts.counts
     of_link.read.exports exact.1 exact.2 (c.in_ok-counts.ensures l of_link imports unwind listed) in
-    subst (λ (n : Counts). Stands l n c.in-Err.error) (sizes_one l c.in_ok-counts.counts counts counted are)
-    (c.in-Err.ensures.why l plan counted)
+    let e = err_from_is_err_and c.from_residual-in_err-placement.result c.from_residual-in_err-placement.ensures.1 in
+    rw (e.1, e.2)
+    (subst (λ (n : Counts). Stands l n c.in_err-placement.field-0.0) (sizes_one l c.in_ok-counts.counts counts counted are)
+    (c.in_err-placement.ensures.why l plan counted))
 
 pub returns-clause-done : goal.returns-clause-done
 returns-clause-done c l of_link plan imports numbers symbols unwind =
@@ -39,13 +42,13 @@ returns-clause-done c l of_link plan imports numbers symbols unwind =
     let exact = c.in_ok-trie.ensures.exact in
     let counted = counted_are l of_link.read.told c.args.asked.now.exports.now exact.0 c.in_ok-trie.trie.size c.in_ok-counts.counts
     of_link.read.exports exact.1 exact.2 (c.in_ok-counts.ensures l of_link imports unwind listed) in
-    let answered = c.in-Ok.ensures.done l plan counted in
+    let answered = c.in_ok-placement.ensures.done l plan counted in
     record {
       counted = counted;
       placed = answered.laid.placed;
       planned = answered.laid.planned;
       limits = limits_hold l c.in_ok-counts.counts c.args.numbers.now
-          (placed_of c.in-Ok.placement) numbers symbols c.requires.within counted
+          (placed_of c.in_ok-placement.placement) numbers symbols c.requires.within counted
           answered;
       listed = listed;
       reserved = c.in_ok-trie.ensures.reserved;
