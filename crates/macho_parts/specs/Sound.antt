@@ -1,4 +1,4 @@
--- When a link is sound: nothing stands against it that shows before anything has an address.
+-- When the carried relocations of a link are sound, before anything has an address; and when each name that is used is defined.
 use Rattle.std.specs.Prelude.{◌≡◌, ℕ, true, List, Contains}
 use Rattle.macho_model.specs.Links.{Link, SectionId, carried_of}
 use Rattle.macho_model.specs.Fields.{Field, fields_of}

@@ -1,16 +1,8 @@
 -- What resolved symbols keep: the rows of the files, and the imports that are noted.
-use Rattle.std.specs.Prelude.{◌≡◌, ℕ, ◌<◌, if◌then◌else◌, true, List, length, map, is_none, get_or}
-use Rattle.std.specs.List.{sum_by}
+use Rattle.std.specs.Prelude.{◌≡◌, ℕ, ◌<◌, true, List, length, map, is_none, get_or}
 use Rattle.macho_model.specs.Links.{Link}
 use Rattle.macho_model.specs.Resolution.{SymbolId}
 use Rattle.macho_names.specs.Kept.{FileRows, kept_of, no_file}
-
--- how many symbols the objects have
-abbrev pub symbols_in : FileRows → ℕ
-symbols_in f = if is_none f.library then length f.rows else 0
-
-unfoldable pub symbol_count : List FileRows → ℕ
-symbol_count files = sum_by symbols_in files
 
 -- What resolved symbols keep: the rows of the files, and the names of the imports noted so far.
 pub record ResolvedRows : Type 0 where

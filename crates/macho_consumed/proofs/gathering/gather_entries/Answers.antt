@@ -1,7 +1,6 @@
 use Rattle.std.proofs.Common.{◌∙◌}
+use Rattle.std.proofs.lemmas.Result.{err_from_is_err_and}
 use Rattle.macho_consumed.specs.declared.listing.Kind.TheVariants.{Entries}
-use Rattle.macho_unwind_pages.proofs.Planned.{err_is}
-use Rattle.macho_consumed.specs.steps.Gathered.{IsBadRuleAt}
 use Rattle.macho_consumed.proofs.InAll.{next_at, no_view, view_section, bad_entries, more_entries, more_keep}
 use Rattle.macho_consumed.proofs.ReadInitializers.{all_named}
 use Rattle.macho_consumed.proofs.gathering.gather_entries.Goals as goal
@@ -23,8 +22,8 @@ add_entries-requires-clause-named c =
 
 pub returns-in_err-add_entries-clause-why : goal.returns-in_err-add_entries-clause-why
 returns-in_err-add_entries-clause-why c =
-    err_is c.from_residual-in_err-add_entries.result (IsBadRuleAt c.args.symbols.now c.args.files.now) c.in_err-add_entries.field-0.0
-    c.from_residual-in_err-add_entries.ensures.1
+    let e = err_from_is_err_and c.from_residual-in_err-add_entries.result c.from_residual-in_err-add_entries.ensures.1 in
+    rw (e.1, e.2)
     (bad_entries _ _ _ _ _ (next_at Entries _ _ _ (c.deref-at-items.ensures.value
     ∙ c.in_ok-refs.ensures) c.loop-at-test.true).1 c.in-Some.ensures c.in_err-add_entries.ensures.why)
 

@@ -1,7 +1,6 @@
 use Rattle.std.proofs.Common.{◌∙◌}
+use Rattle.std.proofs.lemmas.Result.{err_from_is_err_and}
 use Rattle.macho_consumed.specs.declared.listing.Kind.TheVariants.{Initializers}
-use Rattle.macho_unwind_pages.proofs.Planned.{err_is}
-use Rattle.macho_consumed.specs.steps.Gathered.{IsBadAt}
 use Rattle.macho_consumed.proofs.InAll.{next_at, no_view, view_section, bad_initializers, more_initializers, more_fit}
 use Rattle.macho_consumed.proofs.ReadInitializers.{all_named}
 use Rattle.macho_consumed.proofs.gathering.gather_initializers.Goals as goal
@@ -23,8 +22,8 @@ add_initializers-requires-clause-named c =
 
 pub returns-in_err-add_initializers-clause-why : goal.returns-in_err-add_initializers-clause-why
 returns-in_err-add_initializers-clause-why c =
-    err_is c.from_residual-in_err-add_initializers.result (IsBadAt c.args.symbols.now c.args.files.now) c.in_err-add_initializers.field-0.0
-    c.from_residual-in_err-add_initializers.ensures.1
+    let e = err_from_is_err_and c.from_residual-in_err-add_initializers.result c.from_residual-in_err-add_initializers.ensures.1 in
+    rw (e.1, e.2)
     (bad_initializers _ _ _ _ _ (next_at Initializers _ _ _ (c.deref-at-items.ensures.value
     ∙ c.in_ok-refs.ensures) c.loop-at-test.true).1 c.in-Some.ensures c.in_err-add_initializers.ensures.why)
 

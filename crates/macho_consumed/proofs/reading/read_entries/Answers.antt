@@ -1,16 +1,16 @@
 use Rattle.std.proofs.Common.{◌≢◌, ◌∙◌, subst, List}
 use Rattle.std.specs.List.{AllPairs}
+use Rattle.std.proofs.lemmas.Result.{err_from_is_err_and}
 use Rattle.macho_consumed.specs.declared.rows.UnwindEntry.{UnwindEntry}
 use Rattle.macho_consumed.specs.steps.Checked.{start_key}
-use Rattle.macho_unwind_pages.proofs.Planned.{err_is}
-use Rattle.macho_consumed.specs.Told.{IsStanding}
 use Rattle.macho_consumed.proofs.EntryRules.{again_stands, rules_kept}
 use Rattle.macho_consumed.proofs.ReadEntries.{rows_read, bad_stands}
 use Rattle.macho_consumed.proofs.reading.read_entries.Goals as goal
 
 pub returns-in_err-rows-clause-why : goal.returns-in_err-rows-clause-why
 returns-in_err-rows-clause-why c = λ l noted views resolved.
-    err_is c.from_residual.result (IsStanding l) c.in_err-rows.field-0.0 c.from_residual.ensures.1
+    let e = err_from_is_err_and c.from_residual.result c.from_residual.ensures.1 in
+    rw (e.1, e.2)
     (bad_stands l noted _ _ _ views resolved c.in_err-rows.ensures.why)
 
 pub returns-clause-rows : goal.returns-clause-rows
@@ -18,8 +18,8 @@ returns-clause-rows c = λ l views. c.in_ok-rows.ensures.rows ∙ rows_read l _ 
 
 pub returns-in_err-check_starts-clause-why : goal.returns-in_err-check_starts-clause-why
 returns-in_err-check_starts-clause-why c = λ l noted views resolved.
-    err_is c.from_residual-in_err-check_starts.result (IsStanding l) c.in_err-check_starts.field-0.0
-    c.from_residual-in_err-check_starts.ensures.1
+    let e = err_from_is_err_and c.from_residual-in_err-check_starts.result c.from_residual-in_err-check_starts.ensures.1 in
+    rw (e.1, e.2)
     (again_stands l c.args.files.now c.args.symbols.now _ _ views c.in_ok-rows.ensures.found (c.deref.ensures.value
     ∙ c.in_ok-rows.ensures.rows) c.in_err-check_starts.ensures.why)
 

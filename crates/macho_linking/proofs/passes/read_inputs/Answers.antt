@@ -1,15 +1,16 @@
 -- The inputs are those of the link that is asked for, so their symbols are its, and what is read of them is its reading.
 use Rattle.std.proofs.Common.{refl}
+use Rattle.std.proofs.lemmas.Result.{err_from_is_err_and}
 use Rattle.macho_linking.specs.steps.Linking.{link_asked}
 use Rattle.macho_linking.specs.steps.Imaged.{StandsAlways, IsSingle}
-use Rattle.macho_linking.proofs.Answering.{err_with}
 use Rattle.macho_linking.proofs.Given.{same_inputs, link_handed, on_ok, stands_always}
 use Rattle.macho_linking.proofs.passes.read_inputs.Goals as goal
 
 pub returns-in_err-resolved-clause-why : goal.returns-in_err-resolved-clause-why
 returns-in_err-resolved-clause-why c =
     let l = link_asked c.args.asked.now in
-    err_with c.from_residual.result c.in_err-resolved.field-0.0 (StandsAlways l) c.from_residual.ensures.1
+    let e = err_from_is_err_and c.from_residual.result c.from_residual.ensures.1 in
+    rw (e.1, e.2)
     (λ counts are. c.in_err-resolved.ensures.why l counts refl)
 
 pub read_link-requires-clause-same : goal.read_link-requires-clause-same

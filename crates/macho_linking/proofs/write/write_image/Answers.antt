@@ -1,21 +1,23 @@
 -- The look-ups tell of the link, so the parts are written, and the buffer is what they were written into.
 use Rattle.std.proofs.Common.{subst, sym, refl, arith}
+use Rattle.std.proofs.lemmas.Result.{err_from_is_err_and}
 use Rattle.macho_linking.specs.declared.fault.Unwritten.TheVariants.{OutOfMemory}
 use Rattle.macho_linking.specs.steps.Planned.{placement_of, counts_of}
 use Rattle.macho_linking.specs.steps.Unwritten.{UnwrittenStands}
 use Rattle.macho_linking.specs.steps.Imaged.{IsImaged}
 use Rattle.macho_linking.proofs.Ready.{planned_of_link}
-use Rattle.macho_linking.proofs.Answering.{err_with, whole_buffer}
+use Rattle.macho_linking.proofs.Answering.{whole_buffer}
 use Rattle.macho_linking.proofs.write.write_image.Goals as goal
 
 pub returns-in_err-places-clause-why : goal.returns-in_err-places-clause-why
 returns-in_err-places-clause-why c l h =
-    err_with c.from_residual.result OutOfMemory (UnwrittenStands l (placement_of c.args.b.now)) c.from_residual.ensures.1 tt
+    let e = err_from_is_err_and c.from_residual.result c.from_residual.ensures.1 in
+    rw (e.1, e.2) tt
 
 pub returns-in_err-bytes-clause-why : goal.returns-in_err-bytes-clause-why
 returns-in_err-bytes-clause-why c l h =
-    err_with c.from_residual-in_err-bytes.result OutOfMemory (UnwrittenStands l (placement_of c.args.b.now))
-    c.from_residual-in_err-bytes.ensures.1 tt
+    let e = err_from_is_err_and c.from_residual-in_err-bytes.result c.from_residual-in_err-bytes.ensures.1 in
+    rw (e.1, e.2) tt
 
 pub write_parts-requires-clause-known : goal.write_parts-requires-clause-known
 write_parts-requires-clause-known c =
@@ -32,8 +34,8 @@ write_parts-requires-clause-link c = (
 
 pub returns-in_err-fixups-clause-why : goal.returns-in_err-fixups-clause-why
 returns-in_err-fixups-clause-why c l h =
-    err_with c.from_residual-in_err-fixups.result c.in_err-fixups.field-0.0 (UnwrittenStands l (placement_of c.args.b.now))
-    c.from_residual-in_err-fixups.ensures.1
+    let e = err_from_is_err_and c.from_residual-in_err-fixups.result c.from_residual-in_err-fixups.ensures.1 in
+    rw (e.1, e.2)
     (c.in_err-fixups.ensures.why l (record {
       planned = h;
       tells = c.in_ok-places.ensures.tells l (counts_of c.args.b.now)

@@ -1,28 +1,31 @@
 -- Each pass writes its part, and all of them are the image.
 use Rattle.std.proofs.Common.{sym, subst, ◌∙◌, List}
+use Rattle.std.proofs.lemmas.Result.{err_from_is_err_and}
 use Rattle.macho_fixups.specs.declared.run.Fixup.{Fixup}
 use Rattle.macho_linkedit.specs.Runs.{IsRunOf}
 use Rattle.macho_composed.specs.Written.{AreContents}
 use Rattle.macho_linking.specs.steps.Planned.{placement_of}
 use Rattle.macho_linking.specs.steps.Unwritten.{UnwrittenStands}
-use Rattle.macho_linking.proofs.Answering.{err_with}
 use Rattle.macho_linking.proofs.Parts.{parts_written, trie_small}
 use Rattle.macho_linking.proofs.write.write_parts.Goals as goal
 
 pub returns-in_err-run-clause-why : goal.returns-in_err-run-clause-why
 returns-in_err-run-clause-why g c l h =
-    err_with c.from_residual.result c.in_err-run.field-0.0 (UnwrittenStands l (placement_of c.args.b.now)) c.from_residual.ensures.1
+    let e = err_from_is_err_and c.from_residual.result c.from_residual.ensures.1 in
+    rw (e.1, e.2)
     (c.in_err-run.ensures.why l h)
 
 pub returns-in_err-write_offsets-clause-why : goal.returns-in_err-write_offsets-clause-why
 returns-in_err-write_offsets-clause-why g c l h =
-    err_with c.from_residual-in_err-write_offsets.result c.in_err-write_offsets.field-0.0 (UnwrittenStands l (placement_of c.args.b.now))
-    c.from_residual-in_err-write_offsets.ensures.1 (c.in_err-write_offsets.ensures.why l h)
+    let e = err_from_is_err_and c.from_residual-in_err-write_offsets.result c.from_residual-in_err-write_offsets.ensures.1 in
+    rw (e.1, e.2)
+    (c.in_err-write_offsets.ensures.why l h)
 
 pub returns-in_err-write_unwind-clause-why : goal.returns-in_err-write_unwind-clause-why
 returns-in_err-write_unwind-clause-why g c l h =
-    err_with c.from_residual-in_err-write_unwind.result c.in_err-write_unwind.field-0.0 (UnwrittenStands l (placement_of c.args.b.now))
-    c.from_residual-in_err-write_unwind.ensures.1 (c.in_err-write_unwind.ensures.why l h)
+    let e = err_from_is_err_and c.from_residual-in_err-write_unwind.result c.from_residual-in_err-write_unwind.ensures.1 in
+    rw (e.1, e.2)
+    (c.in_err-write_unwind.ensures.why l h)
 
 pub write_imports-requires-clause-link : goal.write_imports-requires-clause-link
 write_imports-requires-clause-link g c =
