@@ -6,41 +6,9 @@ use macho_fixups::{
     write_chains,
 };
 use macho_model_walks::{first_broken_rule, is_on_chain, memory_byte};
+use macho_samples::chained_image;
 use std::alloc::{AllocError, Global};
 use std::test::Fail;
-
-/// The header and the commands of an image: `__PAGEZERO`, `__TEXT` of a page, `__DATA` of three pages, one library, and a
-/// fixup table of 224 bytes at 320.
-const HEAD: [u8; 320] = [
-    // 0: header: executable, 5 commands of 288 bytes
-    0xcf, 0xfa, 0xed, 0xfe, 0x0c, 0, 0, 1, 0, 0, 0, 0, 2, 0, 0, 0, //
-    5, 0, 0, 0, 32, 1, 0, 0, 0x85, 0, 0x20, 0, 0, 0, 0, 0, //
-    // 32: `__PAGEZERO`
-    0x19, 0, 0, 0, 72, 0, 0, 0, 0x5f, 0x5f, 0x50, 0x41, 0x47, 0x45, 0x5a, 0x45, //
-    0x52, 0x4f, 0, 0, 0, 0, 0, 0, 0, 0, 0, 0, 0, 0, 0, 0, //
-    0, 0, 0, 0, 1, 0, 0, 0, 0, 0, 0, 0, 0, 0, 0, 0, //
-    0, 0, 0, 0, 0, 0, 0, 0, 0, 0, 0, 0, 0, 0, 0, 0, //
-    0, 0, 0, 0, 0, 0, 0, 0, //
-    // 104: `__TEXT`: a page at 0x100000000
-    0x19, 0, 0, 0, 72, 0, 0, 0, 0x5f, 0x5f, 0x54, 0x45, 0x58, 0x54, 0, 0, //
-    0, 0, 0, 0, 0, 0, 0, 0, 0, 0, 0, 0, 1, 0, 0, 0, //
-    0, 0x40, 0, 0, 0, 0, 0, 0, 0, 0, 0, 0, 0, 0, 0, 0, //
-    0, 0x40, 0, 0, 0, 0, 0, 0, 5, 0, 0, 0, 5, 0, 0, 0, //
-    0, 0, 0, 0, 0, 0, 0, 0, //
-    // 176: `__DATA`: three pages at 0x100004000, of the file 0x8010 bytes from 0x4000 on
-    0x19, 0, 0, 0, 72, 0, 0, 0, 0x5f, 0x5f, 0x44, 0x41, 0x54, 0x41, 0, 0, //
-    0, 0, 0, 0, 0, 0, 0, 0, 0, 0x40, 0, 0, 1, 0, 0, 0, //
-    0, 0xc0, 0, 0, 0, 0, 0, 0, 0, 0x40, 0, 0, 0, 0, 0, 0, //
-    0x10, 0x80, 0, 0, 0, 0, 0, 0, 3, 0, 0, 0, 3, 0, 0, 0, //
-    0, 0, 0, 0, 0, 0, 0, 0, //
-    // 248: the library /usr/lib/libSystem.B.dylib
-    0x0c, 0, 0, 0, 56, 0, 0, 0, 24, 0, 0, 0, 2, 0, 0, 0, //
-    0, 0, 0x4c, 5, 0, 0, 1, 0, 0x2f, 0x75, 0x73, 0x72, 0x2f, 0x6c, 0x69, 0x62, //
-    0x2f, 0x6c, 0x69, 0x62, 0x53, 0x79, 0x73, 0x74, 0x65, 0x6d, 0x2e, 0x42, //
-    0x2e, 0x64, 0x79, 0x6c, 0x69, 0x62, 0, 0, 0, 0, 0, 0, //
-    // 304: the fixup table
-    0x34, 0, 0, 0x80, 16, 0, 0, 0, 0x40, 1, 0, 0, 0xe0, 0, 0, 0,
-];
 
 const SEGMENTS: [FixupSegment; 3] = [
     FixupSegment {
@@ -113,12 +81,16 @@ const IMPORTS: [ImportEntry; 2] = [
     },
 ];
 
-/// The header and the commands, and zeros.
+/// The header and the commands of the chained image, with a page more of `__DATA` and a fixup table of 224 bytes at 320; and zeros.
 fn head(alloc: Global) -> Result<Vec<u8>, AllocError>
     ensures { IfOk result (λ image. vec_len image ≡ 0xc010) }
 {
     let mut image = vec![in alloc; 0u8; 0xc010]?;
-    image[..HEAD.len()].copy_from_slice(&HEAD);
+    image[..320].copy_from_slice(&chained_image()[..320]);
+    // `__DATA` has 0xc000 bytes in memory and 0x8010 in the file
+    image[209] = 0xc0;
+    image[225] = 0x80;
+    image[316] = 224;
     Ok(image)
 }
 

@@ -1,8 +1,7 @@
 -- What a link answers: an image as it is promised, or a refusal that stands.
 use Rattle.std.specs.Prelude.{◌≡◌, ℕ, List, map}
 use Rattle.macho_model.specs.declared.placed.Counts.{Counts}
-use Rattle.macho_model.specs.Links.{Link, carried_of}
-use Rattle.macho_model.specs.Placement.{id_of}
+use Rattle.macho_model.specs.Links.{Link}
 use Rattle.macho_model.specs.Told.{ToldImport, ToldExport}
 use Rattle.macho_model.specs.Valid.{IsValid}
 use Rattle.macho_layout.specs.Placements.{placed_of}
@@ -29,8 +28,6 @@ pub record IsImageOf (l : Link) (uuid : List ℕ) (image : LinkedImage) : Type 0
   -- the bytes and the placement are as promised, what is told beside them is the link's, and nothing stands that it is refused for
   pub answer : IsAnswer l counts uuid image.bytes.items (placed_of image.placement) (map (λ library. library.items) image.libraries.items)
       (map import_of image.imports.items) image.fixups (map export_of image.exports.items)
-  -- the sections of the placement stand by file, then section
-  pub sections : map id_of (placed_of image.placement).sections ≡ carried_of l
 
 -- THE refusal of a link.
 pub record IsRefused (l : Link) (e : LinkError) : Type 0 where

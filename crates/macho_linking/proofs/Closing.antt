@@ -161,5 +161,4 @@ answered l uuid written sized read libraries imports h told image bytes placemen
       name = h.name;
     });
   });
-  sections = rw placement h.sizes.sizes.placed.order.sections;
 }

@@ -1,17 +1,19 @@
-//! Inputs of a link for tests, written out from tables.
+//! Inputs of a link for tests, written out from tables, and an image.
 //!
 //! [`object_bytes`] writes a relocatable object, [`dylib_bytes`] a dynamic library, [`stub_bytes`] a text stub. They follow the headers
 //! `mach-o/loader.h`, `mach-o/nlist.h` and `mach-o/reloc.h` and share nothing with the linker, so that what a test expects of
 //! the linker doesn't come from the linker. Nothing is checked: a table may say what no linker takes.
-//! These three are public since tests of other crates, and the files of cases, call them.
+//! [`chained_image`] is a finished image. These four are public since tests of other crates, and the files of cases, call them.
 #![tactic(auto)]
 
+mod images;
 mod known;
 mod library;
 mod numbers;
 mod object;
 mod tables;
 
+pub use crate::images::chained_image;
 pub use crate::known::{GLOBAL, LOCAL, MAIN, MAIN_CODE, MAIN_OBJECT, UNDEFINED};
 pub use crate::library::{Library, dylib_bytes, stub_bytes};
 pub use crate::object::object_bytes;

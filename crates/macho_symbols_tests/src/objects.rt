@@ -1,7 +1,6 @@
 //! Small objects and libraries, written out by `mach-o/loader.h` and `mach-o/nlist.h`, and links of them.
 ghost use Rattle.std.specs.Prelude.{◌≡◌, IfOk, ℕ, List};
 ghost use Rattle.macho_symbols_tests.specs.Linked.{IsFirst};
-ghost use Rattle.macho_symbols.specs.Kept.{symbols_in};
 
 use macho_object::File;
 use macho_stub::DefinedStubLibrary;

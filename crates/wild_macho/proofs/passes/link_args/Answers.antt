@@ -5,6 +5,9 @@ use Rattle.wild_macho.specs.Runs.{outside}
 use Rattle.wild_macho.proofs.Joining.{answers-written}
 use Rattle.wild_macho.proofs.passes.link_args.Goals as goal
 
+pub write_image-requires : goal.write_image-requires
+write_image-requires g c = c.in-Ok.ensures.made.is_image.answer.linked.laid_out.order.sections
+
 pub returns-in-Ok-clause-done : goal.returns-in-Ok-clause-done
 returns-in-Ok-clause-done g c =
     answers-written (settings_of c.args.args.now) (names_of c.make_image.new.names)
