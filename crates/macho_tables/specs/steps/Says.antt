@@ -1,5 +1,5 @@
 -- What an exported name says, by plain lists: imports, libraries, views of objects, look-ups.
-use Rattle.std.specs.Prelude.{ℕ, ◌+◌, ◌%◌, ◌^◌, ◌<◌, ◌==◌, Bool, false, List, [], map, get_or, max, Option, Some, None}
+use Rattle.std.specs.Prelude.{ℕ, ◌+◌, ◌<◌, ◌==◌, Bool, false, List, [], map, get_or, max, Option, Some, None}
 use Rattle.std.specs.List.{position_or_len}
 use Rattle.std.specs.Str.{bytes_eq}
 use Rattle.macho_records.specs.Sections.{type_of}

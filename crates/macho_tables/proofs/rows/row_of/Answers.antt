@@ -9,6 +9,11 @@ use Rattle.macho_tables.proofs.TableRows.{in_table}
 use Rattle.macho_tables.proofs.RowParts.{name_seen, section_seen, address_seen}
 use Rattle.macho_tables.proofs.rows.row_of.Goals as goal
 
+pub table_row-requires-clause-named : goal.table_row-requires-clause-named
+table_row-requires-clause-named g c =
+    let can = c.requires.symbol in
+    name_seen c.args.object.now.file c.args.index c.in-Some.name.now can.among can.plain c.in-Some.ensures
+
 pub returns : goal.returns
 returns g c l counts is =
     let p = placed_of c.args.placement.now in
