@@ -46,6 +46,6 @@ fn a_linker_links_again_after_a_refusal(rt: HostRuntime) -> Result<(), Fail> {
     let again = again.ok_or("no second image")?;
     assert_eq!(rt; first.bytes.len(), LENGTH);
     assert!(rt; first.bytes == again.bytes);
-    assert!(rt; first.bytes[CODE..CODE + 8] == MAIN_CODE);
+    assert!(rt; first.bytes[CODE..CODE + 8] == MAIN_CODE[..]);
     Ok(())
 }
