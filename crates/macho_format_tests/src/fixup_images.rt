@@ -81,16 +81,28 @@ const IMPORTS: [ImportEntry; 2] = [
     },
 ];
 
-/// The header and the commands of the chained image, with a page more of `__DATA` and a fixup table of 224 bytes at 320; and zeros.
+/// Writes the header and the commands of the chained image, with a page more of `__DATA` and a fixup table of 224 bytes at 320.
+fn put_head(image: &mut [u8]) {
+    let chained = chained_image();
+    for at in 0..320usize {
+        if let (Some(slot), Some(byte)) = (image.get_mut(at), chained.get(at)) {
+            *slot = *byte;
+        }
+    }
+    // `__DATA` has 0xc000 bytes in memory and 0x8010 in the file
+    for (at, byte) in [(209usize, 0xc0), (225, 0x80), (316, 224)] {
+        if let Some(slot) = image.get_mut(at) {
+            *slot = byte;
+        }
+    }
+}
+
+/// The header and the commands, and zeros.
 fn head(alloc: Global) -> Result<Vec<u8>, AllocError>
     ensures { IfOk result (λ image. vec_len image ≡ 0xc010) }
 {
     let mut image = vec![in alloc; 0u8; 0xc010]?;
-    image[..320].copy_from_slice(&chained_image()[..320]);
-    // `__DATA` has 0xc000 bytes in memory and 0x8010 in the file
-    image[209] = 0xc0;
-    image[225] = 0x80;
-    image[316] = 224;
+    put_head(&mut image);
     Ok(image)
 }
 

@@ -55,11 +55,20 @@ fn set(image: &mut [u8], at: usize, bytes: &[u8]) {
     }
 }
 
+/// Sets so many bytes at a place to those of another image.
+fn copy(image: &mut [u8], at: usize, from: &[u8], begin: usize, count: usize) {
+    for k in 0..count {
+        if let Some(byte) = from.get(begin.wrapping_add(k)) {
+            set(image, at.wrapping_add(k), &[*byte]);
+        }
+    }
+}
+
 /// The header and `__TEXT` of the chained image, the one segment, with 8 MiB, and so many commands of an unknown number.
 fn compose(image: &mut [u8]) {
     let chained = chained_image();
-    set(image, 0, &chained[..32]);
-    set(image, 32, &chained[104..176]);
+    copy(image, 0, &chained, 0, 32);
+    copy(image, 32, &chained, 104, 72);
     set(image, 16, &(COMMANDS + 1).to_le_bytes());
     set(image, 20, &(0x80_0000u32 - 32).to_le_bytes());
     set(image, 64, &0x80_0000u64.to_le_bytes());

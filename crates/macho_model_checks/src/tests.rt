@@ -95,7 +95,7 @@ fn each_rule_is_told_at_what_breaks_it(rt: HostRuntime) {
         );
     }
     assert_eq!(rt;
-        first_broken_rule(&chained_image()[..31]).err(),
+        first_broken_rule(&SMALLEST[..31]).err(),
         Some(LoadFault { rule: L1, place: 0 })
     );
 }
