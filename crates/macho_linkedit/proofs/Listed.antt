@@ -57,6 +57,21 @@ name_is l file k b listed is defined chosen =
     ∙ sym chosen)
     ∙ ap (λ (x : List ℕ). if listed then Some (length (symbol_name x k)) else None) is
 
+-- the same of a global symbol, and of a local one
+pub global_is : (l : Link) (file k : ℕ) (b : List ℕ) (listed : Bool) → object_of l file ≡ b → is_defined_symbol b k ≡ true
+    → is_global (symbol_at b k) ≡ true → listed ≡ defines l (symbol_id file k)
+    → name_length l (symbol_id file k) ≡ (if listed then Some (length (symbol_name b k)) else None)
+global_is l file k b listed is defined global chosen =
+    name_is l file k b listed is defined (chosen ∙ ap (λ (t : Bool). if t then defines l (symbol_id file k) else not
+    (is_default_strippable_of (symbol_at b k) (symbol_name b k))) (sym global))
+
+pub local_is : (l : Link) (file k : ℕ) (b : List ℕ) (listed : Bool) → object_of l file ≡ b → is_defined_symbol b k ≡ true
+    → is_global (symbol_at b k) ≡ false → listed ≡ not (is_default_strippable_of (symbol_at b k) (symbol_name b k))
+    → name_length l (symbol_id file k) ≡ (if listed then Some (length (symbol_name b k)) else None)
+local_is l file k b listed is defined global chosen =
+    name_is l file k b listed is defined (chosen ∙ ap (λ (t : Bool). if t then defines l (symbol_id file k) else not
+    (is_default_strippable_of (symbol_at b k) (symbol_name b k))) (sym global))
+
 pub none_is : (l : Link) (file k : ℕ) (b : List ℕ) → object_of l file ≡ b → is_defined_symbol b k ≡ false → name_length l
     (symbol_id file k) ≡ None
 none_is l file k b is undefined =

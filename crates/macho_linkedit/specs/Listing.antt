@@ -44,11 +44,12 @@ pub record AreListed (l : Link) (t : TableSymbols) : Type 0 where
   pub symbols_are : map id_of_symbol t.symbols.items ≡ table_symbols l
   pub strings_are : t.strings ≡ 1 + sum_by (λ s. text_size (name_at l s)) (table_symbols l)
 
--- What the row of a symbol is made of, besides its entry: whether the export lists contain its name, the number of its output
--- section, and its address or value.
-pub record IsRowOf (l : Link) (counts : Counts) (p : Placed) (o : LinkedObject) (index : ℕ) (listed : Bool)
+-- What the row of a symbol is made of, besides its entry: its name, whether the export lists contain it, the number of its
+-- output section, and its address or value.
+pub record IsRowOf (l : Link) (counts : Counts) (p : Placed) (o : LinkedObject) (index : ℕ) (name : List ℕ) (listed : Bool)
     (section address : ℕ) : Type 0 where
   pub bytes_are : object_of l o.number ≡ o.file.bytes
+  pub name_is : name ≡ symbol_name o.file.bytes index
   pub listed_is : listed ≡ is_listed l (symbol_name o.file.bytes index)
   pub section_is : section ≡ section_of_row l counts (symbol_id o.number index)
   pub address_is : address ≡ address_of p (own_target l (symbol_id o.number index))

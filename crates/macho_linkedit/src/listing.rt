@@ -6,7 +6,7 @@ ghost use Rattle.macho_model.specs.declared.placed.Counts.{Counts};
 ghost use Rattle.macho_model.specs.Placement.{Placed};
 ghost use Rattle.macho_model.specs.SymbolRows.{row_of};
 ghost use Rattle.macho_linkedit.specs.Symbols.{row_seen};
-ghost use Rattle.macho_model.specs.Objects.{num_symbols, strings_of, symbol_at, symbol_name};
+ghost use Rattle.macho_model.specs.Objects.{num_symbols, strings_of, symbol_at};
 ghost use Rattle.macho_model.specs.Links.{Link, object_of};
 ghost use Rattle.macho_model.specs.SymbolTable.{is_in_table};
 ghost use Rattle.macho_symbols.specs.Kept.{IsResolved, HasSymbol, symbol_id};
@@ -60,13 +60,13 @@ fn is_defined_symbol(file: &File<'_>, index: u32, symbol: SymtabEntry) -> bool
     symbol.n_strx != 0 && (in_carried(file, index) || is_absolute(symbol) || is_common(symbol))
 }
 
-/// The bytes of a symbol's name, where the symbol stands in the table.
+/// The bytes of a symbol's name, where the symbol stands in the table. Only the name of a local symbol is read.
 fn listed_name(
     object: &LinkedObject<'_>,
     names: &Names<'_>,
     index: u32,
     resolved: &Resolved,
-) -> Option<usize>
+) -> Option<u32>
     requires object { object.now.file.is_dynamic ≡ false }
     requires names { AreNames (strings_of object.now.file.bytes) names.now }
     requires among { index < num_symbols object.now.file.bytes }
@@ -74,7 +74,6 @@ fn listed_name(
     ensures is { (l : Link) (noted : List (List ℕ)) → IsResolved l noted resolved.now
         → object_of l object.now.number ≡ object.now.file.bytes
         → result ≡ name_length l (symbol_id object.now.number index) }
-    ensures small { IfSome result (λ n. n + 1 < 2 ^ 32) }
 {
     let _object = object.file.is_dynamic();
     let Some(symbol) = object.file.symbol(index) else {
@@ -83,13 +82,17 @@ fn listed_name(
     if !is_defined_symbol(&object.file, index, symbol) {
         return None;
     }
+    if is_global(symbol) {
+        if !resolved.defines(object.number, index) {
+            return None;
+        }
+        return Some(resolved.name_length(object.number, index));
+    }
     let name = names.name(symbol.n_strx);
-    let listed = if is_global(symbol) {
-        resolved.defines(object.number, index)
-    } else {
-        !symbol.is_default_strippable(name)
-    };
-    if listed { Some(name.len()) } else { None }
+    if symbol.is_default_strippable(name) {
+        return None;
+    }
+    Some(name.len() as u32)
 }
 
 /// Lists the symbols of an object behind the others.
@@ -115,7 +118,7 @@ fn list_object(
                 file: object.number,
                 symbol,
             })?;
-            table.strings += length as u64 + 1;
+            table.strings += u64::from(length) + 1;
         }
     }
     Ok(())
@@ -144,7 +147,7 @@ pub fn table_symbols(
     Ok(table)
 }
 
-/// The row of a symbol of an object, which has this name: its type as the object has it, at its place in the image.
+/// The row of a symbol of an object under its name: its type as the object has it, at its place in the image.
 ///
 /// A global symbol that isn't listed for export is hidden, and a common has become a symbol of a section.
 pub fn table_row<'a>(
@@ -157,8 +160,7 @@ pub fn table_row<'a>(
 ) -> TableRow<'a>
     requires object { object.now.file.is_dynamic ≡ false }
     requires among { index < num_symbols object.now.file.bytes }
-    requires named { name.now ≡ symbol_name object.now.file.bytes index }
-    ensures { (l : Link) (counts : Counts) (p : Placed) → IsRowOf l counts p object.now index is_listed section address
+    ensures { (l : Link) (counts : Counts) (p : Placed) → IsRowOf l counts p object.now index name.now is_listed section address
         → row_seen result ≡ row_of l counts p (symbol_id object.now.number index) }
 {
     let Some(entry) = object.file.symbol(index) else {

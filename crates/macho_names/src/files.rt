@@ -235,6 +235,14 @@ impl FileNames {
         &self.text[at..at + name.length as usize]
     }
 
+    /// How many bytes the name of a row has.
+    pub fn name_length(&self, row: usize) -> u32
+        requires { row < length self.now.rows }
+        ensures { result ≡ length (get_or self.now.rows row no_row).name }
+    {
+        self.notes[row].name.length
+    }
+
     /// Whether two rows have one name, standing in one place.
     pub(crate) fn is_same_place(&self, row: usize, other: usize) -> bool
         requires row { row < length self.now.rows }

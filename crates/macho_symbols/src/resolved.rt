@@ -1,7 +1,8 @@
 //! Resolved symbols, as callers see them: what each name and each symbol leads to, and what was noted.
-ghost use Rattle.std.specs.Prelude.{◌≡◌, ℕ, List, IfOk, IfErr, OnOk, OnErr};
+ghost use Rattle.std.specs.Prelude.{◌≡◌, ℕ, List, true, length, IfOk, IfErr, OnOk, OnErr};
+ghost use Rattle.macho_model.specs.Symbols.{is_global};
 ghost use Rattle.macho_model.specs.Links.{Link};
-ghost use Rattle.macho_model.specs.Resolution.{definition_of, defines};
+ghost use Rattle.macho_model.specs.Resolution.{definition_of, defines, entry_at, name_at};
 ghost use Rattle.macho_model.specs.Targets.{target_with, definition_target};
 ghost use Rattle.macho_model.specs.ExportLists.{plain_entries};
 ghost use Rattle.std.specs.Option.{option_copied};
@@ -58,6 +59,16 @@ impl Resolved {
         ensures { (l : Link) (noted : List (List ℕ)) → IsResolved l noted self.now → result ≡ defines l (symbol_id file symbol) }
     {
         self.solved.defines(file, symbol as usize)
+    }
+
+    /// How many bytes the name of a global symbol of an object has. It is known since the symbols were resolved, so nothing of
+    /// the name is read.
+    pub fn name_length(&self, file: u32, symbol: u32) -> u32
+        requires { HasSymbol self.now file symbol }
+        ensures { (l : Link) (noted : List (List ℕ)) → IsResolved l noted self.now
+            → is_global (entry_at l (symbol_id file symbol)) ≡ true → result ≡ length (name_at l (symbol_id file symbol)) }
+    {
+        self.solved.files[file as usize].name_length(symbol as usize)
     }
 
     /// The commons that were chosen, in order of their numbers: by file, then symbol.

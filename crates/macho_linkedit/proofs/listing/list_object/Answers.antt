@@ -24,9 +24,9 @@ loop-symbol-preserved c =
             lists_add l c.args.object.now.number c.loop-symbol.symbol w.in-Some.length c.args.object.now.file.bytes c.args.table.now c.loop-symbol.table
             c.match-listed_name.table (c.loop-symbol.invariant.done l noted resolved is) (w.in-Some.ensures.is l noted resolved is)
             (ap (λ (t : TableSymbols). t.symbols.items) w.table-is ∙ w.in_ok-push.ensures.items)
-            (ap (λ (t : TableSymbols). t.strings) w.table-is);
+            (omega (arith, ap (λ (t : TableSymbols). t.strings) w.table-is, w.from.ensures));
         room =
-            omega (arith, ap (λ (t : TableSymbols). t.strings) w.table-is, c.loop-symbol.invariant.room, w.in-Some.ensures.small);
+            omega (arith, ap (λ (t : TableSymbols). t.strings) w.table-is, w.from.ensures, c.loop-symbol.invariant.room);
       }
       | in_default w ↦ record {
         done = λ l noted resolved is.

@@ -9,11 +9,6 @@ use Rattle.macho_tables.proofs.TableRows.{in_table}
 use Rattle.macho_tables.proofs.RowParts.{name_seen, section_seen, address_seen}
 use Rattle.macho_tables.proofs.rows.row_of.Goals as goal
 
-pub table_row-requires-clause-named : goal.table_row-requires-clause-named
-table_row-requires-clause-named g c =
-    let can = c.requires.symbol in
-    name_seen c.args.object.now.file c.args.index c.in-Some.name.now can.among can.plain c.in-Some.ensures
-
 pub returns : goal.returns
 returns g c l counts is =
     let p = placed_of c.args.placement.now in
@@ -21,11 +16,11 @@ returns g c l counts is =
     let o = c.args.object.now in
     let can = c.requires.symbol in
     let in_it = in_table l (symbol_id o.number c.args.index) is.listed in
+    let name = name_seen o.file c.args.index c.in-Some.name.now can.among can.plain c.in-Some.ensures in
     c.table_row.ensures l counts p (record {
       bytes_are = is.bytes_are;
-      listed_is =
-          c.is_listed.ensures l is.lists_are
-          ∙ ap (is_listed l) (name_seen o.file c.args.index c.in-Some.name.now can.among can.plain c.in-Some.ensures);
+      name_is = name;
+      listed_is = c.is_listed.ensures l is.lists_are ∙ ap (is_listed l) name;
       section_is = c.section_of_symbol-section.ensures ∙ section_seen l counts p look o c.args.index is.link is.bytes_are can.kind in_it;
       address_is =
           c.address_of-address.ensures.wrapped ∙ ap (wrapped_in look) c.target.ensures
