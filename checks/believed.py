@@ -143,8 +143,8 @@ class World:
                     inner = os.path.relpath(path, folder)[: -len(".antt")].replace(os.sep, ".")
                     module = f"Rattle.{crate}.specs.{inner}"
                     if inner == "Lib":
-                        for use in re.findall(r"^pub use (Rattle\.\S+)$", read(path), re.M):
-                            self.handed[f"Rattle.{crate}.specs.{use.split('.specs.', 1)[1]}"] = use
+                        for use, alias in re.findall(r"^pub use (Rattle\.\S+)(?: as (\w+))?$", read(path), re.M):
+                            self.handed[f"Rattle.{crate}.specs.{alias or use.rsplit('.', 1)[1]}"] = use
                         continue
                     self.files[module] = Specs(module, path)
 

@@ -1,7 +1,8 @@
 """Compares pages of docs/ with the sources that they list.
 
 docs/USAGE.md has each option and each rule on inputs; docs/ARCHITECTURE.md has each crate once, and no other; each page that README.md
-names is there, and each file of docs/ is named there; crates.txt names for a crate the libraries that its files name, and no other.
+names is there, and each file of docs/ is named there; crates.txt names for a crate the libraries that its files name, and no other, and the
+paths down from its crates are few.
 """
 import os
 import re
@@ -73,6 +74,29 @@ def wrong_libraries():
     return wrong
 
 
+# More paths than these make the gate slow: `rt ci` reads the files of a crate once for each path from a crate above it.
+MOST_PATHS = 450_000
+
+
+def paths():
+    """How many paths lead from the crates down to crates below them, each crate itself counted as one."""
+    lines = (line.split("#")[0].partition(":") for line in read("crates.txt").split("\n"))
+    below = {crate.split()[0]: libraries.split() for crate, _, libraries in lines if crate.strip()}
+    count = {}
+
+    def of(crate):
+        if crate not in count:
+            count[crate] = 1 + sum(of(library) for library in below[crate] if library in below)
+        return count[crate]
+
+    return sum(of(crate) for crate in below)
+
+
+def wrong_paths():
+    found = paths()
+    return [f"crates.txt: {found:,} paths lead down from crates, more than {MOST_PATHS:,}"] if found > MOST_PATHS else []
+
+
 def wrong_pages():
     told = set(re.findall(r"^\| `docs/(\w+\.md)` \|", read("README.md"), re.M))
     there = {name for name in os.listdir(os.path.join(TOP, "docs")) if name.endswith(".md")}
@@ -80,7 +104,7 @@ def wrong_pages():
 
 
 if __name__ == "__main__":
-    wrong = wrong_usage() + wrong_crates() + wrong_libraries() + wrong_pages()
+    wrong = wrong_usage() + wrong_crates() + wrong_libraries() + wrong_paths() + wrong_pages()
     for line in wrong:
         print(f"pages: {line}", file=sys.stderr)
     if not wrong:

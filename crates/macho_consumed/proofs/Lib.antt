@@ -1,5 +1,5 @@
 pub mod Ranges
-pub mod Tables
+pub mod PlaceTables
 pub mod Members
 pub mod Tests
 pub mod InFiles

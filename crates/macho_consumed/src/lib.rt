@@ -29,6 +29,7 @@ mod targets;
 pub use fault::ConsumedFault;
 pub use laws::{initializers_are_rows, rows_are_used};
 pub use listing::{Kind, is_of_kind};
+pub use macho_needs::Tables;
 pub use places::is_plain_pointer;
 pub use reading::{read_entries, read_initializers};
 pub use room::{RoomFault, unwind_room};

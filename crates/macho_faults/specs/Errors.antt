@@ -3,8 +3,8 @@ use Rattle.std.specs.Prelude.{Option, Some, None}
 use Rattle.std.specs.Option.{option_map}
 use Rattle.macho_layout.specs.Placements.{placed_of}
 use Rattle.macho_model.specs.Faults as model
-use Rattle.macho_names.specs.declared.fault.SymbolFault.{SymbolFault}
-use Rattle.macho_names.specs.declared.fault.SymbolFault.TheVariants as symbol
+use Rattle.macho_symbols.specs.SymbolFault.{SymbolFault}
+use Rattle.macho_symbols.specs.SymbolFault.TheVariants as symbol
 use Rattle.macho_faults.specs.declared.fault.LinkError.{LinkError}
 use Rattle.macho_faults.specs.declared.fault.LinkError.TheVariants.{DuplicateSymbol, UndefinedSymbol, EntryNotDefined, ExportListMissing, BadInitializer, BadUnwind, UnsupportedRelocation, OverlappingFields, BindAddend, FixupPlace, TooMany, ImageTooLarge, RebaseTarget, RelocationRange, BadName, OutOfMemory}
 

@@ -24,7 +24,7 @@ use Rattle.macho_model.specs.Values.{is_pointer, is_absolute_target, needs_fixup
 use Rattle.macho_model.specs.Fixups.{has_room}
 use Rattle.macho_model.proofs.EachBelow.{true_or_false, and_left, and_right}
 use Rattle.macho_fixups.specs.declared.words.FixupKind.TheVariants.{Rebase, Bind}
-use Rattle.macho_promise.specs.FixupsSay.{kind_for}
+use Rattle.macho_parts.specs.FixupsSay.{kind_for}
 use Rattle.macho_fields.specs.Looks.{Look, TellsAddresses, Tells, IsThere, IsFound}
 use Rattle.macho_fields.specs.steps.Fields.{kind_in, in_template, is_pointer_kind, is_absolute, asks, fixup_value, is_encodable, kind_asked, may_stand, start_of}
 use Rattle.macho_fields.proofs.Placing.{address_told}

@@ -15,7 +15,7 @@ use Rattle.macho_model.specs.Needs.{relocation_in}
 use Rattle.macho_model.specs.Targets.{target_of, target_of_relocation, slot_of_relocation, stub_of_relocation}
 use Rattle.macho_model.specs.Placement.{Placed, id_of}
 use Rattle.macho_model.specs.Addresses.{first_number, section_address, common_address, slot_address}
-use Rattle.macho_promise.specs.FixupsSay.{own_number}
+use Rattle.macho_parts.specs.FixupsSay.{own_number}
 
 -- What is looked up, as plain functions.
 pub record Look : Type 0 where

@@ -13,4 +13,5 @@ mod sections;
 
 pub use contents::fill_contents;
 pub use laws::{parts_lie_in_their_ranges, parts_that_stand_are_filled, placed_links_fit};
+pub use macho_places::{LinkPlaces, file_offset};
 pub use sections::fill_sections;

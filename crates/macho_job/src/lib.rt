@@ -19,3 +19,4 @@ pub use crate::heads::Head;
 pub use crate::names::FileNames;
 pub use crate::sources::gather;
 pub use crate::uuid::uuid_of;
+pub use macho_image::{InputFault, InputView, LinkError, LinkedImage, Linker};

@@ -14,7 +14,7 @@ use Rattle.macho_exports.specs.Entries.{ListEntries}
 use Rattle.macho_symbols.specs.Kept.{ResolvedRows, IsResolved}
 use Rattle.macho_symbols.specs.Exported.{AreLists}
 use Rattle.macho_parts.specs.Views.{object_view, views_of}
-use Rattle.macho_survey.specs.Surveys.{AreOfInputs}
+use Rattle.macho_reading.specs.Surveys.{AreOfInputs}
 use Rattle.macho_promise.specs.Inputs.{IsInput}
 use Rattle.macho_promise.specs.Sizes.{AreCounts}
 use Rattle.macho_faults.specs.declared.fault.LinkError.{LinkError}

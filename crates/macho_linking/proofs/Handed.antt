@@ -15,7 +15,7 @@ use Rattle.macho_reading.specs.declared.link.ReadLink.{ReadLink}
 use Rattle.macho_sizing.specs.declared.asked.SizesOf.{SizesOf}
 use Rattle.macho_sizing.specs.declared.asked.SizedLink.{SizedLink}
 use Rattle.macho_sizing.specs.Sized.{IsSizedOf}
-use Rattle.macho_consumed.specs.Symbols.{HasPersonality}
+use Rattle.macho_made.specs.Symbols.{HasPersonality}
 use Rattle.macho_sizing.specs.Asked.{AreOf, CanBeSized}
 use Rattle.macho_linking.specs.steps.Imaged.{IsToSize, HasSizes}
 

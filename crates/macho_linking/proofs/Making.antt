@@ -11,7 +11,7 @@ use Rattle.macho_model.specs.Links.{Link}
 use Rattle.macho_model.specs.Addresses.{offset_in_file}
 use Rattle.macho_model.specs.WrittenSum.{INITIALIZER_SIZE}
 use Rattle.macho_symbols.specs.Kept.{ResolvedRows, HasSymbol}
-use Rattle.macho_consumed.specs.declared.rows.PersonalityUse.{PersonalityUse}
+use Rattle.macho_made.specs.PersonalityUse.{PersonalityUse}
 use Rattle.macho_fields.specs.Looks.{Look}
 use Rattle.macho_made.specs.Entries.{resolved_row, MayBeBuilt, KnowsPersonality}
 use Rattle.macho_made.specs.Made.{IsOffsetsText, IsUnwindMade}

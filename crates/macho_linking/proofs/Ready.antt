@@ -38,7 +38,7 @@ use Rattle.macho_found.proofs.Stubs.{stubs_stand}
 use Rattle.macho_found.proofs.Rows.{stubs_follow}
 use Rattle.macho_found.proofs.Files.{parts_stand}
 use Rattle.macho_made.specs.Made.{IsToMake}
-use Rattle.macho_places.specs.Places.{AreOfLink}
+use Rattle.macho_filling.specs.Places.{AreOfLink}
 use Rattle.macho_chaining.specs.Chaining.{CanBeChained}
 use Rattle.macho_filling.specs.Filled.{NoneIsBad}
 use Rattle.macho_filling.specs.Fitting as fitting

@@ -12,11 +12,10 @@ use crate::fault::Unwritten;
 use crate::planned::Planned;
 use macho_chaining::write_words;
 use macho_fields::Places;
-use macho_filling::fill_contents;
+use macho_filling::{file_offset, fill_contents};
 use macho_fixups::Fixup;
 use macho_made::{unwind_text, write_initializers};
 use macho_numbers::put_text;
-use macho_places::file_offset;
 use std::alloc::Global;
 
 /// The bytes of an initializer's offset.

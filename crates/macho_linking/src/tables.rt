@@ -11,7 +11,7 @@ use macho_chaining::write_fixup_table;
 use macho_fields::Places;
 use macho_fixups::Fixup;
 use macho_linkedit::import_table;
-use macho_needs::Tables;
+use macho_made::Tables;
 use macho_numbers::put_text;
 use macho_symbols::OwnEntry;
 use macho_tables::{said_exports, symbol_table};

@@ -14,7 +14,7 @@ use crate::sealing::{sign, write_head};
 use crate::tables::{write_imports, write_symbols, write_trie};
 use macho_composed::written_files_are_linked;
 use macho_fields::Places;
-use macho_places::LinkPlaces;
+use macho_filling::LinkPlaces;
 use std::alloc::Global;
 
 /// The bytes of an image, and how many words the loader writes.

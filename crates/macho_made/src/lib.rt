@@ -20,4 +20,5 @@ pub use initializers::write_initializers;
 pub use laws::{
     entries_may_be_built, nothing_written_passes, texts_are_said, texts_fit_their_ranges,
 };
+pub use macho_consumed::Tables;
 pub use unwind::unwind_text;

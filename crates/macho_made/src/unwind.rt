@@ -12,9 +12,8 @@ ghost use Rattle.macho_made.specs.Made.{IsToMake, IsUnwindMade, IsRefused};
 ghost use Rattle.macho_made.specs.steps.Built.{IsBuilt, HasFarEnd, IsNotBuilt};
 
 use crate::fault::MadeFault;
-use macho_consumed::{PersonalityUse, SectionPlace, UnwindEntry};
+use macho_consumed::{PersonalityUse, SectionPlace, Tables, UnwindEntry};
 use macho_fields::Places;
-use macho_needs::Tables;
 use macho_unwind::{Personality, ResolvedUnwindInfo, UnwindFault, build};
 use std::alloc::{AllocError, Global};
 

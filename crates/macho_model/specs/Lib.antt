@@ -46,3 +46,7 @@ pub mod Laws
 pub mod SlideLaws
 pub mod HeldLaws
 pub mod LinkLaws
+-- the layouts of the records, and the tests on section headers, of the crates below
+pub use Rattle.macho_structs.specs.Layouts as CommandLayouts
+pub use Rattle.macho_records.specs.Layouts as HeaderLayouts
+pub use Rattle.macho_records.specs.Sections

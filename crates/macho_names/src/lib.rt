@@ -15,5 +15,7 @@ pub use fault::SymbolFault;
 pub use files::FileNames;
 pub use found::{NO_ENTRY, found_entries};
 pub use kinds::{is_absolute, is_common, is_global};
+pub use macho_object::File;
+pub use macho_stub::DefinedStubLibrary;
 pub use notes::{Name, Note, Sort, in_carried};
 pub use table::{Entry, Table, hash, name_in, note_in, rows_in};

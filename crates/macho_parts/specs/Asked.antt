@@ -7,7 +7,7 @@ use Rattle.macho_model.specs.Links.{Link}
 use Rattle.macho_model.specs.Fields.{Field, fields_of}
 use Rattle.macho_model.specs.Values.{needs_fixup}
 use Rattle.macho_model.specs.Placement.{Placed, id_of}
-use Rattle.macho_fixups.specs.declared.run.Fixup.{Fixup}
+use Rattle.macho_promise.specs.Fixup.{Fixup}
 use Rattle.macho_promise.specs.FixupsSay.{kind_for}
 
 abbrev pub slot_fixup : Link → Placed → Slot → Fixup

@@ -3,3 +3,5 @@ pub mod Noted
 pub mod Sound
 pub mod Filled
 pub mod Asked
+-- what a fixup is of, in the crate below
+pub use Rattle.macho_promise.specs.FixupsSay

@@ -2,9 +2,9 @@
 -- tables of `__LINKEDIT`. Each is what the link asks for, so that the room that is kept is never passed.
 use Rattle.std.specs.Prelude.{◌≡◌, ℕ, ◌+◌, ◌*◌, ◌-◌, ◌^◌, ◌==◌, ◌&&◌, not, if◌then◌else◌, List, [], length, map, filter, sum_by, Option, Some, None, slice_get, option_map}
 use Rattle.macho_bytes.specs.Layouts.{size_of}
-use Rattle.macho_records.specs.Layouts.{symtab_command}
-use Rattle.macho_structs.specs.Layouts.{entry_point_command, uuid_command, build_version_command, build_tool_version, dylinker_command, dylib_command, rpath_command, linkedit_data_command}
-use Rattle.macho_records.specs.Sections.{is_zerofill}
+use Rattle.macho_model.specs.HeaderLayouts.{symtab_command}
+use Rattle.macho_model.specs.CommandLayouts.{entry_point_command, uuid_command, build_version_command, build_tool_version, dylinker_command, dylib_command, rpath_command, linkedit_data_command}
+use Rattle.macho_model.specs.Sections.{is_zerofill}
 use Rattle.macho_model.specs.declared.placed.Counts.{Counts}
 use Rattle.macho_model.specs.declared.targets.Target.{Target}
 use Rattle.macho_model.specs.declared.targets.Target.TheVariants as target

@@ -25,7 +25,7 @@ use Rattle.macho_model.specs.Placement.{range_span, head_span, head_size, linked
 use Rattle.macho_model.specs.Placement.{SectionLies, RangeLies, TableLies, is_segment_named}
 use Rattle.macho_model.specs.Zeros.{in_file, filled_sections}
 use Rattle.macho_model.specs.Lists.{of_first}
-use Rattle.macho_promise.specs.Promise.{IsLaidOut}
+use Rattle.macho_agreement.specs.Promise.{IsLaidOut}
 use Rattle.macho_agreement.proofs.Room.{text_begins, text_holds_head, file_parts_end}
 use Rattle.macho_agreement.proofs.Entry.{one_named}
 use Rattle.macho_ranges.specs.Ranges.{table_span, head_range, file_ranges, RangesAreApart, EndsInFile, RangesEnd}

@@ -5,7 +5,7 @@ use Rattle.macho_model.specs.declared.placed.Range64.{Range64}
 use Rattle.macho_model.specs.Links.{Link}
 use Rattle.macho_model.specs.Placement.{Placed, Span, AreApart, IsPlaced, section_span, slot_span, stub_span, range_span, head_size, linkedit_ranges}
 use Rattle.macho_model.specs.Zeros.{in_file, filled_sections}
-use Rattle.macho_promise.specs.Promise.{IsLaidOut}
+use Rattle.macho_agreement.specs.Promise.{IsLaidOut}
 
 -- a table of `__LINKEDIT` is told as a range of the file
 abbrev pub table_span : Range64 → Span

@@ -10,7 +10,7 @@ ghost use Rattle.macho_bytes.specs.Texts.{put};
 ghost use Rattle.macho_bytes.specs.Layouts.{read_of, size_of, spelling, ReadsBack};
 ghost use Rattle.macho_records.specs.Layouts.{mach_header, load_command, segment_command, section_header};
 
-use macho_numbers::{little_at, put_littles, put_text, text_at};
+use macho_structs::{little_at, put_littles, put_text, text_at};
 
 /// `struct mach_header_64` of mach-o/loader.h: the head of every 64-bit Mach-O file.
 #[derive(Clone, Copy)]

@@ -15,7 +15,7 @@ ghost use Rattle.macho_records.specs.Layouts.{symtab_command, symtab_entry};
 ghost use Rattle.macho_records.specs.Symbols.{is_stab_of, is_undefined_of, is_absolute_of, is_external_of, is_local_of, is_hidden_of, is_weak_of, visibility_of, is_common_of, common_exponent_of, common_size_of, common_of, is_default_strippable_of, with_hidden_of};
 
 use crate::constants::{N_ABS, N_EXT, N_PEXT, N_STAB, N_TYPE, N_UNDF, N_WEAK_DEF};
-use macho_numbers::{little_at, put_littles};
+use macho_structs::{little_at, put_littles};
 
 /// `struct symtab_command` of mach-o/loader.h: where symbols and their names stand.
 #[derive(Clone, Copy)]

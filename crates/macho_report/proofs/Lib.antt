@@ -1,3 +1,4 @@
 pub mod Prints
 pub mod Words
 pub mod Listed
+pub use Rattle.macho_job.proofs.Sure

@@ -1,3 +1,14 @@
 pub mod Lines
 pub mod Printing
 pub mod steps
+-- the job of a run, of the crate below
+pub use Rattle.macho_job.specs.Job
+pub use Rattle.macho_job.specs.Causes
+pub use Rattle.macho_job.specs.Names
+pub use Rattle.macho_job.specs.Refused
+pub use Rattle.macho_job.specs.Linkers
+pub use Rattle.macho_job.specs.Refusals
+pub use Rattle.macho_job.specs.declared.fault.Fault
+pub use Rattle.macho_job.specs.Heads
+pub use Rattle.macho_job.specs.Search
+pub use Rattle.macho_job.specs.declared.heads.Head

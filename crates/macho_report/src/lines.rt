@@ -13,8 +13,7 @@ use crate::map::print_map;
 use crate::totals::print_totals;
 use macho_args::MachOArgs;
 use macho_devices::{Sink, SinkFault};
-use macho_image::{LinkedImage, Linker};
-use macho_job::FileNames;
+use macho_job::{FileNames, LinkedImage, Linker};
 use macho_layout::PlacedSection;
 
 /// Prints the lines of `-map`, where it was given, and then those of `-generate`. Where the sink fails, nothing more is printed.

@@ -14,8 +14,7 @@ ghost use Rattle.macho_report.specs.steps.Sections.{HasSection};
 
 use crate::pieces::{Piece, print_pieces};
 use macho_devices::{Sink, SinkFault};
-use macho_image::{InputView, Linker};
-use macho_job::FileNames;
+use macho_job::{FileNames, InputView, Linker};
 use macho_layout::PlacedSection;
 use macho_records::{SectionHeader, name_bytes};
 

@@ -13,8 +13,7 @@ use crate::shapes::{
     print_relocation, print_rule, print_text, print_undefined, print_unwind,
 };
 use macho_devices::{Sink, SinkFault};
-use macho_image::{InputFault, LinkError};
-use macho_job::FileNames;
+use macho_job::{FileNames, InputFault, LinkError};
 use macho_model::Site;
 
 /// The refusal of a linker, by what it is of.

@@ -8,7 +8,7 @@ ghost use Rattle.macho_report.specs.Printing.{IsPrinted};
 
 use crate::pieces::{Piece, print_pieces};
 use macho_devices::{Sink, SinkFault};
-use macho_image::LinkedImage;
+use macho_job::LinkedImage;
 use sha2::{Digest, Sha256};
 
 /// Prints the lines of `-generate`, where that was given with a `count`. Where the sink fails, nothing more is printed.

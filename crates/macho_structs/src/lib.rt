@@ -19,6 +19,9 @@ pub use commands::{
     LinkeditDataCommand, RpathCommand, UuidCommand,
 };
 pub use fixups::{ChainedFixupsHeader, ChainedStartsInSegment};
+pub use macho_numbers::{
+    little_at, put_littles, put_text, read_uleb, text_at, uleb_size, write_uleb,
+};
 pub use relocations::RelocationInfo;
 pub use signature::CodeDirectory;
 pub use unwind::UnwindInfoEntry;

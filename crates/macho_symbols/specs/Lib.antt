@@ -3,3 +3,5 @@ pub mod Exported
 pub mod Kept
 pub mod Told
 pub mod steps
+-- why symbols are refused, of the crate below
+pub use Rattle.macho_names.specs.declared.fault.SymbolFault

@@ -9,9 +9,7 @@ ghost use Rattle.macho_symbols.specs.Kept.{IsResolved};
 use crate::choosing::chosen_commons;
 use crate::resolved::Resolved;
 use crate::solved::{Solved, UNNUMBERED};
-use macho_names::{FileNames, SymbolFault, Table, found_entries};
-use macho_object::File;
-use macho_stub::DefinedStubLibrary;
+use macho_names::{DefinedStubLibrary, File, FileNames, SymbolFault, Table, found_entries};
 use std::alloc::{AllocError, Global};
 use std::marker::Model;
 

@@ -11,12 +11,12 @@ use Rattle.macho_args.specs.declared.fault.ArgsFault.{ArgsFault}
 use Rattle.macho_model.specs.Links.{Link}
 use Rattle.macho_faults.specs.declared.fault.LinkError.{LinkError}
 use Rattle.macho_faults.specs.declared.fault.LinkError.TheVariants as error
-use Rattle.macho_image.specs.Refusals.{RefusalStands}
-use Rattle.macho_job.specs.declared.fault.Fault.{Fault}
-use Rattle.macho_job.specs.declared.fault.Fault.TheVariants as fault
-use Rattle.macho_job.specs.Causes.{NoneFailed, status_of, IsClear, JobFails, WordsFail}
-use Rattle.macho_job.specs.Job.{Outside}
-use Rattle.macho_job.proofs.Sure.{sure-fault}
+use Rattle.macho_report.specs.Refusals.{RefusalStands}
+use Rattle.macho_report.specs.Fault.{Fault}
+use Rattle.macho_report.specs.Fault.TheVariants as fault
+use Rattle.macho_report.specs.Causes.{NoneFailed, status_of, IsClear, JobFails, WordsFail}
+use Rattle.macho_report.specs.Job.{Outside}
+use Rattle.macho_report.proofs.Sure.{sure-fault}
 use Rattle.wild_macho.specs.declared.passes.Ran.{Ran}
 use Rattle.wild_macho.specs.Runs.{Devices, ErrorSink, outside, HasCauseIn, Says, IsRun, refused, runs, SayJob, IsOwed}
 

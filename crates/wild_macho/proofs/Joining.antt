@@ -17,16 +17,16 @@ use Rattle.macho_model.specs.Faults.{bad_name}
 use Rattle.macho_faults.specs.declared.fault.LinkError.{LinkError}
 use Rattle.macho_faults.specs.declared.fault.LinkError.TheVariants as error
 use Rattle.macho_linked.specs.declared.image.LinkedImage.{LinkedImage}
-use Rattle.macho_image.specs.Linkers.{link_of}
-use Rattle.macho_image.specs.Refusals.{RefusalStands}
+use Rattle.macho_report.specs.Linkers.{link_of}
+use Rattle.macho_report.specs.Refusals.{RefusalStands}
 use Rattle.macho_linked.specs.Linked.{IsImageOf}
 use Rattle.macho_devices.specs.Devices.{WritesFile}
 use Rattle.macho_devices.specs.Faults.{last_count}
-use Rattle.macho_job.specs.declared.fault.Fault.{Fault}
-use Rattle.macho_job.specs.declared.fault.Fault.TheVariants as fault
-use Rattle.macho_job.specs.Causes.{failures, reading, status_of, JobFails, WordsFail}
-use Rattle.macho_job.specs.Job.{Outside, uuid_of}
-use Rattle.macho_job.specs.Refused.{Tells}
+use Rattle.macho_report.specs.Fault.{Fault}
+use Rattle.macho_report.specs.Fault.TheVariants as fault
+use Rattle.macho_report.specs.Causes.{failures, reading, status_of, JobFails, WordsFail}
+use Rattle.macho_report.specs.Job.{Outside, uuid_of}
+use Rattle.macho_report.specs.Refused.{Tells}
 use Rattle.macho_report.specs.Lines.{run_lines, fault_line}
 use Rattle.macho_report.specs.Printing.{IsLineTold}
 use Rattle.wild_macho.specs.declared.passes.Ran.{Ran}

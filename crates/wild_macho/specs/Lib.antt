@@ -1,2 +1,8 @@
 pub mod Runs
 pub mod steps
+-- the job of a run, of the crates below, which clauses of `run` cite
+pub use Rattle.macho_report.specs.Job
+pub use Rattle.macho_report.specs.Heads
+pub use Rattle.macho_report.specs.Search
+pub use Rattle.macho_report.specs.Linkers
+pub use Rattle.macho_report.specs.Head

@@ -9,14 +9,14 @@ use Rattle.macho_model.specs.Valid.{IsValid}
 use Rattle.macho_model.specs.declared.placed.Counts.{Counts}
 use Rattle.macho_promise.specs.Sizes.{AreCounts}
 use Rattle.macho_faults.specs.declared.fault.LinkError.TheVariants.{BadName}
-use Rattle.macho_image.specs.Linkers.{link_of}
+use Rattle.macho_report.specs.Linkers.{link_of}
 use Rattle.macho_linked.specs.declared.image.LinkedImage.{LinkedImage}
 use Rattle.macho_linked.specs.Linked.{IsImageOf}
 use Rattle.macho_devices.specs.Devices.{WritesFile, TornWrite, TakesBytes, TakesPrefix}
-use Rattle.macho_job.specs.declared.fault.Fault.{Fault}
-use Rattle.macho_job.specs.declared.fault.Fault.TheVariants.{Link as LinkFault, Write, Print, OutOfMemory}
-use Rattle.macho_job.specs.Job.{Outside, Job, IsJob}
-use Rattle.macho_job.specs.Causes.{Failures, failures, status_of, JobFails, WordsFail}
+use Rattle.macho_report.specs.Fault.{Fault}
+use Rattle.macho_report.specs.Fault.TheVariants.{Link as LinkFault, Write, Print, OutOfMemory}
+use Rattle.macho_report.specs.Job.{Outside, Job, IsJob}
+use Rattle.macho_report.specs.Causes.{Failures, failures, status_of, JobFails, WordsFail}
 use Rattle.macho_report.specs.Lines.{fault_line, run_lines}
 use Rattle.macho_report.specs.Printing.{IsLineTold}
 use Rattle.wild_macho.specs.declared.passes.Ran.{Ran}

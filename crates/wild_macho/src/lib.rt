@@ -1,7 +1,7 @@
 //! The linker's top call.
 //!
 //! [`run`] links what the words of a command line say, and answers the image and the status. The devices that it reads and
-//! prints to are handed on from `macho_devices`, and why it fails from `macho_job`.
+//! prints to are handed on from `macho_devices`; why it fails, and the linker without files, from the crates of the job.
 #![tactic(auto)]
 
 mod passes;
@@ -11,4 +11,4 @@ pub use macho_devices::{
     FileFault, Files, MemoryFiles, MemorySink, RealFiles, RealSink, Sink, SinkFault, SteadyFiles,
     SteadySink,
 };
-pub use macho_job::{Fault, InputKind};
+pub use macho_report::{Fault, InputKind, Linker};

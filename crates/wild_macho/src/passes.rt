@@ -13,21 +13,21 @@ ghost use Rattle.macho_args.specs.Words.{texts_of};
 ghost use Rattle.macho_model.specs.Links.{carried_of};
 ghost use Rattle.macho_model.specs.Faults.{bad_name};
 ghost use Rattle.macho_model.specs.Placement.{id_of};
-ghost use Rattle.macho_image.specs.Linkers.{link_of};
+ghost use Rattle.macho_report.specs.Linkers.{link_of};
 ghost use Rattle.macho_linked.specs.Linked.{IsImageOf};
-ghost use Rattle.macho_job.specs.Job.{uuid_of};
+ghost use Rattle.macho_report.specs.Job.{uuid_of};
 ghost use Rattle.macho_devices.specs.Devices.{OnlyReads, OnlyWrites};
 ghost use Rattle.macho_devices.specs.Faults.{CountsOn};
-ghost use Rattle.macho_job.specs.Causes.{Failures, NoneFailed, failures, status_of, reading, IsClear, JobFails, WordsFail};
-ghost use Rattle.macho_job.specs.Names.{names_of};
+ghost use Rattle.macho_report.specs.Causes.{Failures, NoneFailed, failures, status_of, reading, IsClear, JobFails, WordsFail};
+ghost use Rattle.macho_report.specs.Names.{names_of};
 ghost use Rattle.wild_macho.specs.Runs.{outside, devices, error_sink, IsRun, RunsBy, KeepsPaths, AskForNoLines, SayJob, IsOwed};
 ghost use Rattle.wild_macho.specs.steps.Made.{IsBadName, IsMade, IsLinkFault, ends, EndFails, Prints, Finishes, Answers};
 
 use macho_args::MachOArgs;
 use macho_devices::{FileFault, Files, Sink};
-use macho_image::{LinkedImage, Linker};
-use macho_job::{Fault, FileNames, gather, uuid_of};
-use macho_report::{print_fault, print_lines};
+use macho_report::{
+    Fault, FileNames, LinkedImage, Linker, gather, print_fault, print_lines, uuid_of,
+};
 use std::alloc::Global;
 
 /// What a run answers.

@@ -13,10 +13,10 @@ use Rattle.macho_args.specs.Options.{option_named, joined_option}
 use Rattle.macho_args.specs.Words.{args_of, read_all, read_from, read_word}
 use Rattle.macho_model.specs.Links.{Object}
 use Rattle.macho_devices.proofs.Lookups.{get_by_path}
-use Rattle.macho_job.specs.declared.heads.Head.TheVariants as head
-use Rattle.macho_job.specs.Heads.{head_of}
-use Rattle.macho_job.specs.Search.{IsMissing}
-use Rattle.macho_job.specs.Job.{Job, IsJob, uuid_of}
+use Rattle.wild_macho.specs.Head.TheVariants as head
+use Rattle.wild_macho.specs.Heads.{head_of}
+use Rattle.wild_macho.specs.Search.{IsMissing}
+use Rattle.wild_macho.specs.Job.{Job, IsJob, uuid_of}
 use Rattle.wild_macho_checks.proofs.RowsAnswered.{calls, calls_is_object, begins_as_file, is_object_type, calling, calling_is_owed}
 use Rattle.wild_macho.specs.Runs.{outside, Says, SayJob, IsOwed}
 

@@ -37,7 +37,7 @@ use Rattle.macho_model_checks.proofs.Examples.{words8, words, halves, name16}
 use Rattle.macho_model_checks.proofs.ExampleLinks.{entry, text_object, symbol}
 use Rattle.macho_model_checks.proofs.ObjectTests.{verdict, is_object}
 use Rattle.macho_model_checks.proofs.ValidTests.{valid_verdict, verdict_but, is_valid_by_tests}
-use Rattle.macho_image.specs.Linkers.{link_of}
+use Rattle.wild_macho.specs.Linkers.{link_of}
 use Rattle.wild_macho.specs.Runs.{IsOwed}
 
 -- `_main` at 0, a BL to `_f`; `_f` at 8; both are hidden (`mach-o/nlist.h`, `N_PEXT`)

@@ -2,10 +2,10 @@
 ghost use Rattle.std.specs.Prelude.{◌≡◌, ◌≤◌, length, IfOk};
 
 use macho_args::MachOArgs;
-use macho_image::Linker;
 use macho_samples::{MAIN_CODE, MAIN_OBJECT, object_bytes};
 use std::alloc::Global;
 use std::test::Fail;
+use wild_macho::Linker;
 
 /// How long the image of a function `_main` is, and where its code stands there.
 const LENGTH: usize = 16_908;

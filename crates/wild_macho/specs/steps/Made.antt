@@ -7,10 +7,10 @@ use Rattle.macho_linked.specs.Linked.{IsImageOf}
 use Rattle.macho_linked.specs.declared.image.LinkedImage.{LinkedImage}
 use Rattle.macho_devices.specs.Faults.{CountRose}
 use Rattle.macho_faults.specs.declared.fault.LinkError.TheVariants.{BadName}
-use Rattle.macho_job.specs.declared.fault.Fault.{Fault}
-use Rattle.macho_job.specs.declared.fault.Fault.TheVariants.{Link as LinkFault, Write, Print, OutOfMemory}
-use Rattle.macho_job.specs.Causes.{Failures, status_of, JobFails}
-use Rattle.macho_job.specs.Job.{Links, uuid_of}
+use Rattle.macho_report.specs.Fault.{Fault}
+use Rattle.macho_report.specs.Fault.TheVariants.{Link as LinkFault, Write, Print, OutOfMemory}
+use Rattle.macho_report.specs.Causes.{Failures, status_of, JobFails}
+use Rattle.macho_report.specs.Job.{Links, uuid_of}
 use Rattle.macho_report.specs.Lines.{run_lines}
 use Rattle.wild_macho.specs.declared.passes.Made.{Made}
 use Rattle.wild_macho.specs.declared.passes.Ran.{Ran}

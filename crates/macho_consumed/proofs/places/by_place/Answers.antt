@@ -1,5 +1,5 @@
 use Rattle.std.proofs.Common.{◌/◌, ap}
-use Rattle.macho_consumed.proofs.Tables.{table_none, least_none}
+use Rattle.macho_consumed.proofs.PlaceTables.{table_none, least_none}
 use Rattle.macho_consumed.proofs.places.by_place.Goals as goal
 
 pub loop-index-init : goal.loop-index-init

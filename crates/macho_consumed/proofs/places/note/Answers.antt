@@ -1,5 +1,5 @@
 use Rattle.std.proofs.Common.{◌/◌, ◌<◌, length, arith}
-use Rattle.macho_consumed.proofs.Tables.{table_same, table_more, more_of}
+use Rattle.macho_consumed.proofs.PlaceTables.{table_same, table_more, more_of}
 use Rattle.macho_consumed.proofs.places.note.Goals as goal
 
 pub returns-then-address-ne0 : goal.returns-then-address-ne0

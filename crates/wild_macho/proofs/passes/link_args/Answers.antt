@@ -1,6 +1,6 @@
 -- The image is written and printed by the settings.
 use Rattle.macho_args.specs.Settings.{settings_of}
-use Rattle.macho_job.specs.Names.{names_of}
+use Rattle.macho_report.specs.Names.{names_of}
 use Rattle.wild_macho.specs.Runs.{outside}
 use Rattle.wild_macho.proofs.Joining.{answers-written}
 use Rattle.wild_macho.proofs.passes.link_args.Goals as goal

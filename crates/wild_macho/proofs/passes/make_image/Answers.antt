@@ -1,7 +1,7 @@
 -- Each pass refuses for a cause of the job; what is gathered is what the settings link.
 use Rattle.std.proofs.lemmas.Result.{err_from_is_err_and}
 use Rattle.macho_args.specs.Settings.{settings_of}
-use Rattle.macho_job.specs.Names.{names_of}
+use Rattle.macho_report.specs.Names.{names_of}
 use Rattle.wild_macho.proofs.passes.make_image.Goals as goal
 
 pub returns-in_err-linker-clause-why : goal.returns-in_err-linker-clause-why

@@ -2,9 +2,9 @@
 use Rattle.std.proofs.Common.{◌≡◌, Option, Some, subst, refl, [], Global}
 use Rattle.macho_args.specs.Settings.{settings_of}
 use Rattle.macho_args.specs.Words.{texts_of}
-use Rattle.macho_job.specs.declared.fault.Fault.{Fault}
-use Rattle.macho_job.specs.Causes.{status_of}
-use Rattle.macho_job.specs.Names.{names_of}
+use Rattle.macho_report.specs.Fault.{Fault}
+use Rattle.macho_report.specs.Causes.{status_of}
+use Rattle.macho_report.specs.Names.{names_of}
 use Rattle.wild_macho.specs.Runs.{outside, runs, refused}
 use Rattle.wild_macho.proofs.Joining.{runs-from, same-devices, same-line}
 use Rattle.wild_macho.proofs.Complete.{sure-status, sure_of}

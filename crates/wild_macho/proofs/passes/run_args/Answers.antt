@@ -1,7 +1,7 @@
 -- A fault is told by its line; without one nothing is.
 use Rattle.std.proofs.Common.{refl}
 use Rattle.macho_args.specs.Settings.{settings_of}
-use Rattle.macho_job.specs.Names.{names_of}
+use Rattle.macho_report.specs.Names.{names_of}
 use Rattle.wild_macho.proofs.Joining.{told-run, quiet-run, same-line}
 use Rattle.wild_macho.proofs.passes.run_args.Goals as goal
 use Rattle.wild_macho.proofs.passes.run_args.Goals.{in-Some, in_default}
