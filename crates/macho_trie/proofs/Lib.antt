@@ -15,6 +15,7 @@ pub mod Sizes
 pub mod Widths
 pub mod Raising
 pub mod Listing
+pub mod Parents
 pub mod Looks
 pub mod Spells
 pub mod Readback

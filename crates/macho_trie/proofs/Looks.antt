@@ -10,9 +10,11 @@ use Rattle.std.specs.List.{All, range_with_len}
 use Rattle.macho_trie.specs.Trees.{node_count}
 use Rattle.macho_trie.specs.Encoding.{place_of}
 use Rattle.macho_trie.specs.steps.Layouts.{names_at, size_at, tree_at, ArePlaces, AreLaidOut, AreLow, AreLowWidths, AreListed, AreGrown}
+use Rattle.macho_trie.specs.steps.Layouts.{AreSizes, AreSums}
 use Rattle.macho_trie.specs.steps.Layouts.{IsNarrow, needed}
 use Rattle.macho_trie.specs.declared.layout.Layout.{Layout}
 use Rattle.macho_trie.proofs.Building.{node_count-rows}
+use Rattle.macho_trie.proofs.Parents.{sums_are_places}
 use Rattle.macho_trie.proofs.Widths.{least_at_end, sum_few, place_at, length-places}
 
 -- the widths of a look, which the code has in several slices
@@ -21,12 +23,14 @@ pub record AreSeen (l : Layout) (widths seen placed : List ℕ) (places : List �
   pub seen_is : seen ≡ widths
   pub under : ArePlaces l (slice_index widths) places
 
-pub seen_by : (l : Layout) (widths at seen placed places : List ℕ) → at ≡ widths → seen ≡ widths → placed ≡ places
-    → ArePlaces l (slice_index at) places
-    → AreSeen l widths seen placed places
-seen_by l widths at seen placed places at_is seen_is placed_is under =
-    let P : List ℕ → Type 0 = λ ws. ArePlaces l (slice_index ws) places in
-    record { placed_is = placed_is; seen_is = seen_is; under = subst P at_is under }
+pub seen_by : (l : Layout) (widths sizes at seen placed places : List ℕ) → at ≡ sizes → seen ≡ widths → placed ≡ places
+    → AreSizes l (slice_index widths) sizes → AreSums at places → AreSeen l widths seen placed places
+seen_by l widths sizes at seen placed places at_is seen_is placed_is under sums =
+    record {
+      placed_is = placed_is;
+      seen_is = seen_is;
+      under = sums_are_places l (slice_index widths) at places (at_is ∙ under) sums;
+    }
 
 pub seen_short : (l : Layout) (widths seen placed places : List ℕ) → AreSeen l widths seen placed places → length widths ≡ length l.rows.now
     → length seen ≤ length placed
@@ -120,6 +124,15 @@ moved_listed l now moved seen list to seen_is listed =
     = omega (arith, ap length seen_is, length-places (place_of (size_at l) (slice_index now) (tree_at l)) moved (length l.rows.now) to) in
     let L : ℕ → Type 0 = λ n. AreListed n list in
     subst L same listed
+
+-- places under some widths are as many as those under others
+pub moved_long : (l : Layout) (was now places moved seen moved_seen : List ℕ) → ArePlaces l (slice_index was) places
+    → ArePlaces l (slice_index now) moved → seen ≡ places → moved_seen ≡ moved → length seen ≡ length moved_seen
+moved_long l was now places moved seen moved_seen at to seen_is moved_is =
+    ap (λ (xs : List ℕ). length xs) seen_is
+    ∙ length-places (place_of (size_at l) (slice_index was) (tree_at l)) places (length l.rows.now) at
+    ∙ sym (length-places (place_of (size_at l) (slice_index now) (tree_at l)) moved (length l.rows.now) to)
+    ∙ ap (λ (xs : List ℕ). length xs) (sym moved_is)
 
 -- the list that a look has made
 pub record AreReady (l : Layout) (at places list : List ℕ) : Type 0 where

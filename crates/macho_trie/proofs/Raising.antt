@@ -23,8 +23,17 @@ pub record IsRaised (width wider : ℕ → ℕ) (c d : ℕ) : Type 0 where
   pub here : wider c ≡ width c + d
   pub other : (j : ℕ) → (j < c) ⊎ (c < j) → wider j ≡ width j
 
+-- one width of a list is set
+pub raised_set : (was now : List ℕ) (c d : ℕ) → c < length was → now ≡ set was c (slice_index was c + d)
+    → IsRaised (slice_index was) (slice_index now) c d
+raised_set was now c d within is = record {
+  here = ap (λ (ws : List ℕ). slice_index ws c) is ∙ get_or-set_same was c _ 0 within;
+  other = λ j away. ap (λ (ws : List ℕ). slice_index ws j) is
+      ∙ get_or-set_other was c j _ 0 (λ e. elim away [ inl low ↦ absurd (omega (arith, e)) | inr high ↦ absurd (omega (arith, e)) ]);
+}
+
 -- edges that lie apart from it have the sizes that they had
-edges_size-apart : (width wider : ℕ → ℕ) (c d i : ℕ) (es : Edges) → IsRaised width wider c d → (c < i) ⊎ (i + node_count es ≤ c)
+pub edges_size-apart : (width wider : ℕ → ℕ) (c d i : ℕ) (es : Edges) → IsRaised width wider c d → (c < i) ⊎ (i + node_count es ≤ c)
     → edges_size wider i es ≡ edges_size width i es
 edges_size-apart width wider c d i no_edge r apart = refl
 edges_size-apart width wider c d i (edge label symbol below rest) r apart =
@@ -196,15 +205,8 @@ widening_more size tree places list was now next i n place child growth more one
     within : child < length now
     within = omega (arith, child_is, l.child i 0 inside, w.long, long)
 
-    at : slice_index next child ≡ slice_index now child + more
-    at = ap (λ (ws : List ℕ). slice_index ws child) looked.only ∙ get_or-set_same now child _ 0 within
-
-    apart : (j : ℕ) → (j < child) ⊎ (child < j) → slice_index next j ≡ slice_index now j
-    apart j away = ap (λ (ws : List ℕ). slice_index ws j) looked.only
-        ∙ get_or-set_other now child j _ 0 (λ e. elim away [ inl low ↦ absurd (omega (arith, e)) | inr high ↦ absurd (omega (arith, e)) ])
-
     raised : IsRaised (slice_index now) (slice_index next) child more
-    raised = record { here = at; other = apart }
+    raised = raised_set now next child more within looked.only
 
     same : more ≡ 0 → next ≡ now
     same zero_more =
@@ -219,21 +221,21 @@ widening_more size tree places list was now next i n place child growth more one
         ⊎ ((slice_index now k ≤ slice_index next k) × (k ≡ child) × (slice_index next k ≡ length
         (uleb_of (place_of size (slice_index now) tree child))))
     changed need k = elim (cases_lt k child) [
-      | inl low ↦ inl (apart k (inl low))
+      | inl low ↦ inl (raised.other k (inl low))
       | inr high ↦
           elim (cases_lt child k) [
-            | inl above ↦ inl (apart k (inr above))
+            | inl above ↦ inl (raised.other k (inr above))
             | inr equal ↦
                 let is : k ≡ child = omega arith in
                 let value : slice_index next k ≡ slice_index now k + more
-                = subst (λ (m : ℕ). slice_index next m ≡ slice_index now m + more) (sym is) at in
+                = subst (λ (m : ℕ). slice_index next m ≡ slice_index now m + more) (sym is) raised.here in
                 inr (
                   omega (arith, value),
                   is,
                   omega (
                     arith,
                     ap (λ (m : ℕ). slice_index next m) is,
-                    at,
+                    raised.here,
                     need,
                     ap
                         (λ (p : ℕ). length (uleb_of p)) here,

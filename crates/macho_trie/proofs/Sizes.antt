@@ -2,10 +2,9 @@
 --
 -- A row's tree stands before the trees behind it, its children first. So the sizes of the nodes in preorder are those of
 -- the rows in order, and the edges of a row are those of its children's rows, one after the other.
-use Rattle.std.proofs.Common.{◌≡◌, ℕ, zero, suc, ◌+◌, ◌-◌, ◌<◌, ◌≤◌, List, [], ◌∷◌, ◌++◌, length, take, drop, sum, map, slice_index}
+use Rattle.std.proofs.Common.{◌≡◌, ℕ, zero, suc, ◌+◌, ◌-◌, ◌<◌, ◌≤◌, List, [], ◌∷◌, ◌++◌, length, drop, map, slice_index}
 use Rattle.std.proofs.Common.{get_or, Option, Some, true, refl, sym, ap, subst, append_assoc, ◌∙◌, arith}
 use Rattle.std.proofs.lemmas.List.{length-take, length-drop, length-append, get_or-drop, get_or-map}
-use Rattle.std.proofs.lemmas.List.Sums.{sum_by_more}
 use Rattle.macho_bytes.specs.Uleb.{uleb_of}
 use Rattle.macho_trie.specs.Exports.{Exported, as_value}
 use Rattle.macho_trie.specs.Says.{symbol_of, said_of}
@@ -13,9 +12,8 @@ use Rattle.macho_trie.specs.declared.symbols.Symbol.{Symbol}
 use Rattle.macho_trie.specs.Trees.{Edges, no_edge, edge, edge_count, node_count}
 use Rattle.macho_trie.specs.Tables.{first_edges, later_edges, label_of, symbol_at, trees_of, name_at, row_at, trees_from, children_at}
 use Rattle.macho_trie.specs.Tables.{IsRow, SpellTrees, AreRows}
-use Rattle.macho_trie.specs.Encoding.{edges_size, node_sizes, place_of, says_of, export_bytes, terminal_size}
+use Rattle.macho_trie.specs.Encoding.{edges_size, node_sizes, says_of, export_bytes, terminal_size}
 use Rattle.macho_trie.specs.declared.table.Row.{Row}
-use Rattle.macho_trie.proofs.Building.{node_count-rows}
 use Rattle.macho_trie.proofs.Cursor.{cursor, row_sound, trees_cons, IsCursor}
 
 pub label_length : (names : List (List ℕ)) (row : Row) (behind : Edges) → IsRow names row behind → length (label_of names row) ≡ row.length
@@ -154,26 +152,6 @@ length-node_sizes size width i (edge label symbol below rest) =
       length-node_sizes size width (i + 1) below,
       length-node_sizes size width (i + (node_count below + 1)) rest,
     )
-
--- the place after one node more
-pub place_more : (size : Option ℕ → ℕ) (width : ℕ → ℕ) (c : ℕ) (names : List (List ℕ)) (rows : List Row) → AreRows names rows
-    → c < length rows
-    → place_of size width (trees_of names rows) (c + 1)
-    ≡ place_of size width (trees_of names rows) c + (size (symbol_at (row_at rows c)) + 1 + edges_size width (c + 1) (children_at names
-    rows c))
-unfolding place_of
-place_more size width c names rows sound within =
-    sum_by_more (λ x. x) (node_sizes size width 0 (trees_of names rows)) c 0 (omega (
-      arith,
-      length-node_sizes size width 0 (trees_of
-          names rows),
-      node_count-rows names rows,
-    ))
-    ∙ ap (λ (n : ℕ). sum (take c (node_sizes size width 0 (trees_of names rows))) + n) (node_size_at size width c names rows sound within)
-
-pub place_first : (size : Option ℕ → ℕ) (width : ℕ → ℕ) (tree : Edges) → 0 ≡ place_of size width tree 0
-unfolding place_of
-place_first size width tree = refl
 
 -- what stands for a symbol, in the register
 pub says_is : (items : List Symbol) (s : ℕ) (d : Symbol) → s < length items → says_of (map symbol_of items) s ≡ said_of (get_or items s

@@ -28,7 +28,7 @@ at_most-append [] (y ∷ ys) us vs same a b = absurd (omega arith)
 at_most-append (x ∷ xs) [] us vs same a b = absurd a
 at_most-append (x ∷ xs) (y ∷ ys) us vs same a b = (a.0, at_most-append xs ys us vs (omega arith) a.1 b)
 
-sum_cons : (x : ℕ) (xs : List ℕ) → sum (x ∷ xs) ≡ x + sum xs
+pub sum_cons : (x : ℕ) (xs : List ℕ) → sum (x ∷ xs) ≡ x + sum xs
 sum_cons x xs = sum_by-cons (λ y. y) x xs
 
 sum_take-at_most : (k : ℕ) (xs ys : List ℕ) → AreAtMost xs ys → sum (take k xs) ≤ sum (take k ys)
@@ -44,7 +44,7 @@ sum_take-at_most (suc k) (x ∷ xs) (y ∷ ys) a = omega (
       (take k ys),
 )
 
-sum-at_most : (xs ys : List ℕ) → AreAtMost xs ys → sum xs ≤ sum ys
+pub sum-at_most : (xs ys : List ℕ) → AreAtMost xs ys → sum xs ≤ sum ys
 sum-at_most [] ys a = omega arith
 sum-at_most (x ∷ xs) [] a = absurd a
 sum-at_most (x ∷ xs) (y ∷ ys) a = omega (arith, a.0, sum-at_most xs ys a.1, sum_cons x xs, sum_cons y ys)

@@ -2,8 +2,9 @@
 ghost use Rattle.std.specs.Prelude.{◌≡◌, ℕ, ◌+◌, ◌<◌, ◌≤◌, ◌++◌, ◌-◌, List, [], OnOk, IfOk, length, slice_index, sum};
 ghost use Rattle.macho_trie.specs.Symbols.{names_of};
 ghost use Rattle.macho_trie.specs.Tables.{symbol_at};
-ghost use Rattle.macho_trie.specs.steps.Layouts.{names_at, size_at, children_of, IsLaid, AreTerminals, ArePlaces, AreLaidOut};
-ghost use Rattle.macho_trie.specs.steps.Layouts.{tree_at, IsNarrow, NoneNarrow, AreListed, AreLowWidths, AreGrown, FirstGrows, IsLookedAt};
+ghost use Rattle.macho_trie.specs.steps.Layouts.{names_at, size_at, children_of, IsLaid, AreSizes, AreParents, AreNamed, AreSums};
+ghost use Rattle.macho_trie.specs.steps.Layouts.{tree_at, ArePlaces, AreLaidOut, IsNarrow, NoneNarrow, AreListed, AreLowWidths};
+ghost use Rattle.macho_trie.specs.steps.Layouts.{AreGrown, FirstGrows, IsLookedAt};
 ghost use Rattle.macho_trie.specs.Encoding.{edges_size, export_bytes};
 ghost use Rattle.macho_trie.specs.steps.Trees.{IsOneTree};
 ghost use Rattle.macho_trie.specs.Says.{said_of};
@@ -30,12 +31,20 @@ fn added(first: usize, second: usize) -> Result<usize, AllocError>
 }
 
 impl<'a> Layout<'a> {
-    /// The bytes of a node's edges, where the places of children have these widths.
-    fn edges_size(&self, row: usize, widths: &[usize]) -> Result<usize, AllocError>
+    /// The bytes of a node's edges, where the places of children have these widths. The node is named as the parent of each
+    /// child.
+    fn edges_size(
+        &self,
+        row: usize,
+        widths: &[usize],
+        parents: &mut [usize],
+    ) -> Result<usize, AllocError>
         requires sound { IsLaid self.now }
         requires here { row < length self.now.rows.now }
         requires widths { length widths.now ≡ length self.now.rows.now }
-        ensures { IfOk result (λ n. n ≡ edges_size (slice_index widths.now) (row + 1) (children_of self.now row)) }
+        requires parents { length parents.old ≡ length self.now.rows.now }
+        ensures size { IfOk result (λ n. n ≡ edges_size (slice_index widths.now) (row + 1) (children_of self.now row)) }
+        ensures named { OnOk result (AreNamed self.now row parents.old parents.new) }
     {
         let mut size = 0;
         let mut child = row + 1;
@@ -43,6 +52,7 @@ impl<'a> Layout<'a> {
             let at = self.rows[child];
             let label = added(at.length, 1)?;
             size = added(size, added(label, widths[child])?)?;
+            parents[child] = row;
             child = at.after;
         }
         Ok(size)
@@ -60,59 +70,49 @@ impl<'a> Layout<'a> {
         added(uleb_size(part as u64), part)
     }
 
-    /// The same of all nodes.
-    fn terminals(&self, alloc: Global) -> Result<Vec<usize>, AllocError>
-        requires { IsLaid self.now }
-        ensures { IfOk result (λ v. AreTerminals self.now v.items) }
+    /// The bytes of all nodes. The parent of each child is named by its row.
+    fn sizes(
+        &self,
+        alloc: Global,
+        widths: &[usize],
+        parents: &mut [usize],
+    ) -> Result<Vec<usize>, AllocError>
+        requires sound { IsLaid self.now }
+        requires root { IsOneTree (tree_at self.now) }
+        requires widths { length widths.now ≡ length self.now.rows.now }
+        requires parents { length parents.old ≡ length self.now.rows.now }
+        ensures sizes { IfOk result (λ v. AreSizes self.now (slice_index widths.now) v.items) }
+        ensures parents { OnOk result (AreParents self.now parents.new) }
     {
         let mut sizes = Vec::new(alloc);
         for row in 0..self.rows.len() {
-            sizes.push(self.terminal_size(self.rows[row])?)?;
+            let front = added(self.terminal_size(self.rows[row])?, 1)?;
+            let edges = self.edges_size(row, widths, parents)?;
+            sizes.push(added(front, edges)?)?;
         }
         Ok(sizes)
-    }
-
-    /// The places of all nodes, and the place after the last one.
-    fn places(
-        &self,
-        alloc: Global,
-        terminals: &[usize],
-        widths: &[usize],
-    ) -> Result<Vec<usize>, AllocError>
-        requires sound { IsLaid self.now }
-        requires terminals { AreTerminals self.now terminals.now }
-        requires widths { length widths.now ≡ length self.now.rows.now }
-        ensures { IfOk result (λ v. ArePlaces self.now (slice_index widths.now) v.items) }
-    {
-        let mut places = Vec::new(alloc);
-        let mut place = 0;
-        for row in 0..self.rows.len() {
-            places.push(place)?;
-            let front = added(terminals[row], 1)?;
-            place = added(place, added(front, self.edges_size(row, widths)?)?)?;
-        }
-        places.push(place)?;
-        Ok(places)
     }
 
     /// The places of all nodes under the least widths, and the place after the last one.
     ///
     /// Each width begins at 1. One look goes over all edges. Those that it finds too narrow go on a list, which is worked off,
-    /// and another look follows, until one finds no edge.
+    /// and another look follows, until one finds no edge. The rows are read once: the sizes of the nodes are kept beside the
+    /// widths.
     pub(crate) fn lay_out(&self, alloc: Global) -> Result<Vec<usize>, AllocError>
         requires sound { IsLaid self.now }
         requires root { IsOneTree (tree_at self.now) }
         ensures { IfOk result (λ v. AreLaidOut self.now v.items) }
     {
-        let terminals = self.terminals(alloc)?;
         let mut widths = vec![in alloc; 1; self.rows.len()]?;
+        let mut parents = vec![in alloc; 0; self.rows.len()]?;
+        let mut sizes = self.sizes(alloc, &widths, &mut parents)?;
         'looks: loop {
-            let places = self.places(alloc, &terminals, &widths)?;
+            let places = places_of(alloc, &sizes)?;
             let list = narrow_edges(alloc, &places, &widths)?;
             if list.is_empty() {
                 return Ok(places);
             }
-            self.work_off(alloc, &terminals, places, list, &mut widths)?;
+            self.work_off(alloc, &parents, places, list, &mut sizes, &mut widths)?;
         }
     }
 
@@ -121,27 +121,30 @@ impl<'a> Layout<'a> {
     fn work_off(
         &self,
         alloc: Global,
-        terminals: &[usize],
+        parents: &[usize],
         before: Vec<usize>,
         narrow: Vec<usize>,
+        sizes: &mut [usize],
         widths: &mut [usize],
     ) -> Result<(), AllocError>
         requires sound { IsLaid self.now }
         requires root { IsOneTree (tree_at self.now) }
-        requires terminals { AreTerminals self.now terminals.now }
+        requires parents { AreParents self.now parents.now }
         requires places { ArePlaces self.now (slice_index widths.old) before.items }
+        requires sizes { AreSizes self.now (slice_index widths.old) sizes.old }
         requires low { AreLowWidths self.now widths.old }
         requires list { AreListed (length self.now.rows.now) narrow.items }
         requires some { IsNarrow before.items widths.old (slice_index narrow.items 0) }
         requires length { 1 ≤ length narrow.items }
+        ensures sizes { OnOk result (AreSizes self.now (slice_index widths.new) sizes.new) }
         ensures low { OnOk result (AreLowWidths self.now widths.new) }
         ensures grown { OnOk result (sum widths.old < sum widths.new) }
     {
         let mut places = before;
         let mut list = narrow;
         'list: while !list.is_empty() {
-            self.widen(widths, &places, &list)?;
-            let moved = self.places(alloc, terminals, widths)?;
+            self.widen(parents, &places, &list, sizes, widths)?;
+            let moved = places_of(alloc, sizes)?;
             list = moved_edges(alloc, &places, &moved)?;
             places = moved;
         }
@@ -149,17 +152,24 @@ impl<'a> Layout<'a> {
     }
 
     /// Looks at the edges of a list, from the first child on. One that is too narrow gets the width that the place of its
-    /// child needs under the present widths: as many bytes behind its former place as edges in front of it have grown.
+    /// child needs under the present widths: as many bytes behind its former place as edges in front of it have grown. The
+    /// node that it leaves grows with it.
     fn widen(
         &self,
-        widths: &mut [usize],
+        parents: &[usize],
         places: &[usize],
         list: &[usize],
+        sizes: &mut [usize],
+        widths: &mut [usize],
     ) -> Result<(), AllocError>
+        requires sound { IsLaid self.now }
         requires root { IsOneTree (tree_at self.now) }
+        requires parents { AreParents self.now parents.now }
         requires places { ArePlaces self.now (slice_index widths.old) places.now }
+        requires sizes { AreSizes self.now (slice_index widths.old) sizes.old }
         requires low { AreLowWidths self.now widths.old }
         requires list { AreListed (length self.now.rows.now) list.now }
+        ensures sizes { OnOk result (AreSizes self.now (slice_index widths.new) sizes.new) }
         ensures low { OnOk result (AreLowWidths self.now widths.new) }
         ensures grown { OnOk result (AreGrown widths.old widths.new) }
         ensures first { OnOk result (FirstGrows places.now list.now widths.old widths.new) }
@@ -167,10 +177,27 @@ impl<'a> Layout<'a> {
         let mut growth = 0;
         for child in list {
             let place = added(places[*child], growth)?;
-            growth = added(growth, widen_edge(widths, *child, place))?;
+            let more = widen_edge(widths, *child, place);
+            let parent = parents[*child];
+            sizes[parent] = added(sizes[parent], more)?;
+            growth = added(growth, more)?;
         }
         Ok(())
     }
+}
+
+/// The places of nodes of these sizes, one after the other, and the place after the last one.
+fn places_of(alloc: Global, sizes: &[usize]) -> Result<Vec<usize>, AllocError>
+    ensures { IfOk result (λ v. AreSums sizes.now v.items) }
+{
+    let mut places = Vec::new(alloc);
+    let mut place = 0;
+    for size in sizes {
+        places.push(place)?;
+        place = added(place, *size)?;
+    }
+    places.push(place)?;
+    Ok(places)
 }
 
 /// Looks at an edge whose child has a place. Where it is too narrow, it gets the width that the place needs.

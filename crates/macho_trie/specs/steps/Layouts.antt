@@ -1,12 +1,13 @@
--- A table with its symbols: the tree that it spells, the sizes of its terminal parts, and places of its nodes.
-use Rattle.std.specs.Prelude.{◌≡◌, ◌⊎◌, ℕ, ◌+◌, ◌<◌, ◌≤◌, List, length, map, sum, get_or, set, slice_index, Option}
+-- A table with its symbols: the tree that it spells, the sizes of its nodes, and their places.
+use Rattle.std.specs.Prelude.{◌≡◌, ◌⊎◌, ℕ, ◌+◌, ◌<◌, ◌≤◌, List, length, map, take, sum, get_or, set, slice_index, Option}
 use Rattle.std.specs.List.{range_with_len, AllPairs}
 use Rattle.macho_bytes.specs.Uleb.{uleb_of}
 use Rattle.macho_trie.specs.Exports.{Exported}
 use Rattle.macho_trie.specs.Symbols.{symbols_of, names_of}
 use Rattle.macho_trie.specs.Trees.{Edges, node_count}
-use Rattle.macho_trie.specs.Tables.{trees_of, row_at, symbol_at, AreRows, children_at}
-use Rattle.macho_trie.specs.Encoding.{says_of, terminal_size, place_of, AreWide, AreLeast}
+use Rattle.macho_trie.specs.steps.Trees.{HasChild}
+use Rattle.macho_trie.specs.Tables.{trees_of, AreRows, children_at}
+use Rattle.macho_trie.specs.Encoding.{says_of, terminal_size, node_sizes, place_of, AreWide, AreLeast}
 use Rattle.macho_trie.specs.declared.layout.Layout.{Layout}
 
 abbrev pub names_at : Layout → List (List ℕ)
@@ -29,9 +30,28 @@ IsLaid l = AreRows (names_at l) l.rows.now
 abbrev pub children_of : Layout → ℕ → Edges
 children_of l row = children_at (names_at l) l.rows.now row
 
--- the sizes of all terminal parts, in the order of the rows
-abbrev pub AreTerminals : Layout → List ℕ → Type 0
-AreTerminals l sizes = sizes ≡ map (λ k. size_at l (symbol_at (row_at l.rows.now k))) (range_with_len 0 (length l.rows.now))
+-- the sizes of all nodes under some widths
+abbrev pub AreSizes : Layout → (ℕ → ℕ) → List ℕ → Type 0
+AreSizes l width sizes = sizes ≡ node_sizes (size_at l) width 0 (tree_at l)
+
+-- a row is a child of another one
+abbrev pub IsChild : Layout → ℕ → ℕ → Type 0
+IsChild l row c = HasChild c (row + 1) (children_of l row)
+
+-- The children of a row are named with its number, and all else is as it was.
+pub record AreNamed (l : Layout) (row : ℕ) (was now : List ℕ) : Type 0 where
+  pub long : length now ≡ length was
+  pub each : (c : ℕ) → ((slice_index now c ≡ row) × IsChild l row c) ⊎ ((slice_index now c ≡ slice_index was c) × (IsChild l row c → ⊥))
+
+-- Each row but the first has a parent.
+pub record AreParents (l : Layout) (parents : List ℕ) : Type 0 where
+  pub long : length parents ≡ length l.rows.now
+  pub within : (c : ℕ) → 1 ≤ c → c < length l.rows.now → slice_index parents c < length l.rows.now
+  pub child : (c : ℕ) → 1 ≤ c → c < length l.rows.now → IsChild l (slice_index parents c) c
+
+-- the sums of the first sizes, from none of them to all
+abbrev pub AreSums : List ℕ → List ℕ → Type 0
+AreSums sizes sums = sums ≡ map (λ k. sum (take k sizes)) (range_with_len 0 (length sizes + 1))
 
 -- the places of all nodes under some widths, and the place after the last one
 abbrev pub ArePlaces : Layout → (ℕ → ℕ) → List ℕ → Type 0
