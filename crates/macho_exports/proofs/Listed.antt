@@ -1,17 +1,14 @@
 -- A list contains a name where it is a plain entry or matches a pattern. All entries are the plain ones and the patterns;
 -- a plain one matches itself alone.
-use Rattle.std.proofs.Common.{◌≡◌, ℕ, ◌+◌, ◌<◌, ◌==◌, ◌||◌, not, if◌then◌else◌, true, false, Bool, List, [], ◌∷◌, length, get_or, take}
-use Rattle.std.proofs.Common.{filter, refl, ap, sym, ◌∙◌, arith}
+use Rattle.std.proofs.Common.{◌≡◌, ℕ, ◌==◌, ◌||◌, not, if◌then◌else◌, true, false, Bool, List, [], ◌∷◌, get_or}
+use Rattle.std.proofs.Common.{filter, refl, ap, sym, ◌∙◌}
 use Rattle.std.proofs.lemmas.Bool.{both_ways, false_from_ne_true}
 use Rattle.std.proofs.lemmas.Cmp.{nat_list_eq_equiv}
-use Rattle.std.proofs.lemmas.List.{get_or-map, length-map}
-use Rattle.std.proofs.lemmas.List.Folds.{list_any_at, list_any_more}
+use Rattle.std.proofs.lemmas.List.Folds.{list_any_at}
 use Rattle.std.specs.List.{list_any}
 use Rattle.std.specs.Str.{bytes_eq}
-use Rattle.std.specs.declared.vec.Vec.{Vec}
 use Rattle.macho_model.specs.ExportLists.{STAR, is_pattern, matches, listed, all_entries, plain_entries}
 use Rattle.macho_exports.specs.Entries.{ListEntries, IsListOf}
-use Rattle.macho_exports.specs.steps.Lists.{texts_of}
 use Rattle.macho_exports.proofs.Matching.{IsPlain, plain_entry}
 
 -- an entry that is no pattern has no star
@@ -67,19 +64,3 @@ listed_is texts e name list =
     ap (λ es. list_any (bytes_eq name) es || list_any (λ p. matches p name) e.patterns) list.plain
     ∙ ap (λ es. list_any (bytes_eq name) (plain_entries texts) || list_any (λ p. matches p name) es) list.patterns
     ∙ parts (all_entries texts) name
-
--- one pattern of a list of them
-pub pattern_at : {A : Type 0} (ps : List (Vec ℕ A)) (name : List ℕ) (i : ℕ) (v : Vec ℕ A) → i < length ps → v ≡ get_or ps i v
-    → matches v.items name ≡ true
-    → list_any (λ e. matches e name) (texts_of ps) ≡ true
-pattern_at ps name i v within here is =
-    list_any_at (λ e. matches e name) (texts_of ps) i v.items (omega (arith, within, length-map ps (λ w. w.items)))
-    (ap (λ e. matches e name) (get_or-map (λ w. w.items) ps i v v.items within ∙ ap (λ w. w.items) (sym here)) ∙ is)
-
-pub no_pattern_at : {A : Type 0} (ps : List (Vec ℕ A)) (name : List ℕ) (i : ℕ) (v : Vec ℕ A) → i < length ps → v ≡ get_or ps i v
-    → matches v.items name ≡ false
-    → list_any (λ e. matches e name) (take i (texts_of ps)) ≡ false → list_any (λ e. matches e name) (take (i + 1) (texts_of ps)) ≡ false
-no_pattern_at ps name i v within here is before =
-    list_any_more (λ e. matches e name) (texts_of ps) i v.items (omega (arith, within, length-map ps (λ w. w.items)))
-    ∙ ap (λ t. t || matches (get_or (texts_of ps) i v.items) name) before
-    ∙ ap (λ e. matches e name) (get_or-map (λ w. w.items) ps i v v.items within ∙ ap (λ w. w.items) (sym here)) ∙ is

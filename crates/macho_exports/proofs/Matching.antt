@@ -43,11 +43,11 @@ and_assoc true b c = refl
 and_assoc false b c = refl
 
 -- one plain byte of an entry
-one_byte : (c : ℕ) (entry : List ℕ) (y : ℕ) (name : List ℕ) → (c == STAR) ≡ false
+pub one_byte : (c : ℕ) (entry : List ℕ) (y : ℕ) (name : List ℕ) → (c == STAR) ≡ false
     → matches (c ∷ entry) (y ∷ name) ≡ ((c == y) && matches entry name)
 one_byte c entry y name plain = rw plain (and_true (y == c) (matches entry name) ∙ ap (λ t. t && matches entry name) (flip_eq y c))
 
-no_byte : (c : ℕ) (entry : List ℕ) → (c == STAR) ≡ false → matches (c ∷ entry) [] ≡ false
+pub no_byte : (c : ℕ) (entry : List ℕ) → (c == STAR) ≡ false → matches (c ∷ entry) [] ≡ false
 no_byte c entry plain = rw plain refl
 
 -- a plain entry matches itself alone

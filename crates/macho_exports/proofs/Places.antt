@@ -18,7 +18,7 @@ use Rattle.std.specs.declared.vec.Vec.{Vec}
 use Rattle.macho_exports.specs.steps.Lists.{ArePlaces}
 
 -- what is among elements stands first at one of their places
-any_place : {X : Type 0} (p : X → Bool) (xs : List X) (d : X) → list_any p xs ≡ true → position_or_len p xs < length xs
+pub any_place : {X : Type 0} (p : X → Bool) (xs : List X) (d : X) → list_any p xs ≡ true → position_or_len p xs < length xs
 any_place p xs d some = elim (cases_lt (position_or_len p xs) (length xs)) [
   | inl within ↦ within
   | inr past ↦
@@ -27,7 +27,7 @@ any_place p xs d some = elim (cases_lt (position_or_len p xs) (length xs)) [
 ]
 
 -- and stays there where others are added behind
-place_stays : {X : Type 0} (p : X → Bool) (xs ys : List X) (d : X) → list_any p xs ≡ true
+pub place_stays : {X : Type 0} (p : X → Bool) (xs ys : List X) (d : X) → list_any p xs ≡ true
     → position_or_len p (xs ++ ys) ≡ position_or_len p xs
 place_stays p xs ys d some =
     let within = any_place p xs d some in
@@ -36,7 +36,7 @@ place_stays p xs ys d some =
     (λ h. ap p (get_or_append_left xs ys d (position_or_len p xs) within) ∙ passes_at_first p xs d within)
 
 -- what is new stands behind all
-place_last : {X : Type 0} (p : X → Bool) (xs : List X) (y : X) → list_any p xs ≡ false → p y ≡ true
+pub place_last : {X : Type 0} (p : X → Bool) (xs : List X) (y : X) → list_any p xs ≡ false → p y ≡ true
     → position_or_len p (xs ++ y ∷ []) ≡ length xs
 place_last p xs y none passes =
     position_or_len_is p (xs ++ y ∷ []) (length xs) y (omega (arith, length-append xs (y ∷ [])))
@@ -44,7 +44,7 @@ place_last p xs y none passes =
     ∙ false_from_ne_true (p (get_or xs k y)) (λ is. both_ways _ none (list_any_at p xs k y h is)))
     (λ h. ap p (get_or_push xs y y (length xs) refl) ∙ passes)
 
-same : (xs ys : List ℕ) → bytes_eq xs ys ≡ true → xs ≡ ys
+pub same : (xs ys : List ℕ) → bytes_eq xs ys ≡ true → xs ≡ ys
 same xs ys is = (bytes_eq-Decides xs ys).0 is
 
 -- a name is among entries where its place is that of its name
@@ -86,30 +86,32 @@ places_front plain more places are = record {
       ∙ ap (λ n. Some n) (place_stays (bytes_eq q) plain more [] is);
 }
 
+pub still_among : (plain : List (List ℕ)) (name q : List ℕ) → list_any (bytes_eq name) plain ≡ true
+    → list_any (bytes_eq q) (plain ++ name ∷ []) ≡ true → list_any (bytes_eq q) plain ≡ true
+still_among plain name q there is = elim (or_cases _ _ (sym (list_any-append (bytes_eq q) plain (name ∷ [])) ∙ is)) [
+  | inl old ↦ old
+  | inr new ↦ elim (or_cases _ _ new) [
+    | inl here ↦ subst (λ n. list_any (bytes_eq n) plain ≡ true) (sym (same q name here)) there
+    | inr none ↦ absurd cc
+  ]
+]
+
 pub places_again : {A S : Type 0} (plain : List (List ℕ)) (name : List ℕ) (places : HashMap (Vec ℕ A) ℕ S) → ArePlaces plain places
     → list_any (bytes_eq name) plain ≡ true
     → ArePlaces (plain ++ name ∷ []) places
 places_again plain name places are there = record {
-  found = λ q is. are.found q (before q is) ∙ ap (λ n. Some n) (sym (place_stays (bytes_eq q) plain (name ∷ []) [] (before q is)));
+  found = λ q is. let before = still_among plain name q there is in
+      are.found q before ∙ ap (λ n. Some n) (sym (place_stays (bytes_eq q) plain (name ∷ []) [] before));
 }
-  where
-    before : (q : List ℕ) → list_any (bytes_eq q) (plain ++ name ∷ []) ≡ true → list_any (bytes_eq q) plain ≡ true
-    before q is = elim (or_cases _ _ (sym (list_any-append (bytes_eq q) plain (name ∷ [])) ∙ is)) [
-      | inl old ↦ old
-      | inr new ↦ elim (or_cases _ _ new) [
-        | inl here ↦ subst (λ n. list_any (bytes_eq n) plain ≡ true) (sym (same q name here)) there
-        | inr none ↦ absurd cc
-      ]
-    ]
 
 -- a name that is noted for the first time
-abbrev same_items : {A : Type 0} → Vec ℕ A → Vec ℕ A → Bool
+abbrev pub same_items : {A : Type 0} → Vec ℕ A → Vec ℕ A → Bool
 same_items x y = pointwise nat_eq x.items y.items
 
 apart : (bs cs ks : List ℕ) → bytes_eq bs cs ≡ false → bytes_eq bs ks ≡ true → bytes_eq cs ks ≡ false
 apart bs cs ks n y = nat_list_eq_equiv.symm cs ks ∙ sym (nat_list_eq_equiv.congr bs ks cs y) ∙ n
 
-other_found : {A S : Type 0} (m n : HashMap (Vec ℕ A) ℕ S) (key : Vec ℕ A) (w : Option ℕ) (q : List ℕ)
+pub other_found : {A S : Type 0} (m n : HashMap (Vec ℕ A) ℕ S) (key : Vec ℕ A) (w : Option ℕ) (q : List ℕ)
     → UpdatesBy same_items (same_items key) m n w
     → bytes_eq key.items q ≡ false → get_by (λ k. bytes_eq q k.items) n ≡ get_by (λ k. bytes_eq q k.items) m
 unfolding KeepsOthers

@@ -1,4 +1,6 @@
 -- How export lists are read and kept.
+pub mod Indexed
 pub mod Lines
 pub mod Lists
 pub mod Matching
+pub mod Tables

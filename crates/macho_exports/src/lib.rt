@@ -10,6 +10,8 @@
 
 mod entries;
 mod list;
+mod names;
 mod patterns;
+mod table;
 
 pub use list::ExportList;

@@ -5,10 +5,12 @@ ghost use Rattle.std.specs.Str.{bytes_eq};
 ghost use Rattle.macho_model.specs.ExportLists.{listed, entries_of, plain_entries, matches};
 ghost use Rattle.macho_exports.specs.Entries.{IsListOf, is_within};
 ghost use Rattle.macho_exports.specs.steps.Lines.{entry_in};
-ghost use Rattle.macho_exports.specs.steps.Lists.{Adds, IsLonger, no_entries, texts_of, ArePlaces};
+ghost use Rattle.macho_exports.specs.steps.Lists.{Adds, IsLonger, no_entries};
 
 use crate::entries::{entry_of, is_pattern};
-use crate::patterns::{behind, matches};
+use crate::names::{is_among, note_place};
+use crate::patterns::behind;
+use crate::table::PatternTable;
 use memchr::memchr;
 use std::alloc::{AllocError, Global};
 use std::collections::HashMap;
@@ -24,6 +26,8 @@ pub struct ExportList {
     pub(crate) patterns: Vec<Vec<u8>>,
     /// Where each plain entry stands first. Names that were taken back may have places of others, or none.
     pub(crate) places: HashMap<Vec<u8>, usize>,
+    /// Where the patterns are found by their first parts.
+    pub(crate) table: PatternTable,
 }
 
 impl Model for ExportList {
@@ -32,52 +36,11 @@ impl Model for ExportList {
     ghost Value = { ListEntries };
 
     ghost use Rattle.macho_exports.specs.steps.Lists.{texts_of, ArePlaces};
+    ghost use Rattle.macho_exports.specs.steps.Indexed.{IsIndexed};
 
     ghost view = { λ l. record { plain = texts_of l.plain.items; patterns = texts_of l.patterns.items } };
 
-    ghost invariant = { λ l. ArePlaces (texts_of l.plain.items) l.places };
-}
-
-/// Whether a name is among entries whose places are known.
-fn is_among(entries: &[Vec<u8>], places: &HashMap<Vec<u8>, usize>, name: &[u8]) -> bool
-    requires { ArePlaces (texts_of entries.now) places.now }
-    ensures { result ≡ list_any (bytes_eq name.now) (texts_of entries.now) }
-{
-    match places.get(name) {
-        Some(place) => *place < entries.len() && entries[*place].as_slice() == name,
-        None => false,
-    }
-}
-
-/// Whether a name matches one of some patterns.
-fn has_match(patterns: &[Vec<u8>], name: &[u8]) -> bool
-    ensures { result ≡ list_any (λ e. matches e name.now) (texts_of patterns.now) }
-{
-    for pattern in patterns {
-        if matches(pattern, name) {
-            return true;
-        }
-    }
-    false
-}
-
-/// Notes the place that a name gets behind entries, unless it stands among them.
-fn note_place(
-    alloc: Global,
-    entries: &[Vec<u8>],
-    places: &mut HashMap<Vec<u8>, usize>,
-    name: &[u8],
-) -> Result<(), AllocError>
-    requires { ArePlaces (texts_of entries.now) places.old }
-    ensures noted { OnOk result (ArePlaces (texts_of entries.now ++ name.now ∷ []) places.new) }
-    ensures kept { ArePlaces (texts_of entries.now) places.new }
-{
-    if is_among(entries, places, name) {
-        return Ok(());
-    }
-    let key = Vec::from_slice(alloc, name)?;
-    places.insert(key, entries.len())?;
-    Ok(())
+    ghost invariant = { λ l. ArePlaces (texts_of l.plain.items) l.places × IsIndexed (texts_of l.patterns.items) l.table };
 }
 
 impl ExportList {
@@ -90,6 +53,7 @@ impl ExportList {
             plain: Vec::new(alloc),
             patterns: Vec::new(alloc),
             places: HashMap::new(alloc),
+            table: PatternTable::new(alloc),
         }
     }
 }
@@ -111,7 +75,9 @@ impl ExportList {
         ensures added { OnOk result (self.new ≡ record self.old { patterns = self.old.patterns ++ entry.now ∷ [] }) }
         ensures kept { OnErr result (self.new ≡ self.old) }
     {
-        self.patterns.push(Vec::from_slice(self.alloc, entry)?)?;
+        let pattern = Vec::from_slice(self.alloc, entry)?;
+        self.table.note(self.alloc, &self.patterns, entry)?;
+        self.patterns.push(pattern)?;
         Ok(())
     }
 
@@ -180,11 +146,14 @@ impl ExportList {
 
 impl ExportList {
     /// Whether the list contains a name: it is an entry, or matches one with stars. It takes no memory.
+    ///
+    /// Of the patterns those are tried whose first part, what stands in front of the first star, the name begins with:
+    /// each of those that begin with a star, but few of many with different first parts.
     pub fn contains(&self, name: &[u8]) -> bool
         ensures within { result ≡ is_within self.now name.now }
         ensures listed { (texts : List (List ℕ)) → IsListOf texts self.now → result ≡ listed texts name.now }
     {
-        is_among(&self.plain, &self.places, name) || has_match(&self.patterns, name)
+        is_among(&self.plain, &self.places, name) || self.table.has_match(&self.patterns, name)
     }
 
     /// The entries without a star, in order: names that have to be defined.

@@ -1,19 +1,31 @@
 use Rattle.std.proofs.Common.{◌≡◌, ap, sym, subst, ◌∙◌, List, ℕ}
 use Rattle.macho_exports.specs.Entries.{ListEntries}
+use Rattle.macho_exports.specs.steps.Indexed.{IsIndexed}
 use Rattle.macho_exports.specs.steps.Lists.{texts_of, ArePlaces}
 use Rattle.macho_exports.proofs.Adding.{text_more, taken_off, count_of, same_entries}
+use Rattle.macho_exports.proofs.Fronts.{indexed_front}
 use Rattle.macho_exports.proofs.Places.{places_front}
 use Rattle.macho_exports.proofs.list.ExportList.add.Goals as goal
 
 pub invariant_of-self : goal.invariant_of-self
 invariant_of-self c =
-    let old : texts_of c.self.inside.plain.items ≡ c.args.self.now.plain = ap (λ (e : ListEntries). e.plain) c.self.view_is in
+    let plain : texts_of c.self.inside.plain.items ≡ c.args.self.now.plain = ap (λ (e : ListEntries). e.plain) c.self.view_is in
+    let patterns : texts_of c.self.inside.patterns.items ≡ c.args.self.now.patterns = ap (λ (e : ListEntries). e.patterns) c.self.view_is in
     let now = ap (λ (e : ListEntries). e.plain) c.self-2.view_is ∙ c.in-Err.ensures.longer.adds.plain in
-    let long = count_of c.self.inside.plain c.args.self.now.plain c.len-plain.result c.len-plain.ensures old in
-    subst (λ (vs : List (List ℕ)). ArePlaces vs c.self-2.inside.places)
-    (sym (ap texts_of c.truncate.ensures.items ∙ taken_off c.self-2.inside.plain.items c.args.self.now.plain _ c.len-plain.result now long))
-    (places_front c.args.self.now.plain _ c.self-2.inside.places
-    (subst (λ (vs : List (List ℕ)). ArePlaces vs c.self-2.inside.places) now c.self-2.invariant))
+    let there = ap (λ (e : ListEntries). e.patterns) c.self-2.view_is ∙ c.in-Err.ensures.longer.adds.patterns in
+    let first = count_of c.self.inside.plain c.args.self.now.plain c.len-plain.result c.len-plain.ensures plain in
+    let second = count_of c.self.inside.patterns c.args.self.now.patterns c.len-patterns.result c.len-patterns.ensures patterns in
+    let names = ap texts_of c.truncate.ensures.items
+    ∙ taken_off c.self-2.inside.plain.items c.args.self.now.plain _ c.len-plain.result now first in
+    let stars = ap texts_of c.truncate-in-Err.ensures.items
+    ∙ taken_off c.self-2.inside.patterns.items c.args.self.now.patterns _ c.len-patterns.result there second in
+    let places = subst (λ (vs : List (List ℕ)). ArePlaces vs c.self-2.inside.places) now c.self-2.invariant.0 in
+    let indexed = subst (λ (vs : List (List ℕ)). IsIndexed vs c.self-2.inside.table) there c.self-2.invariant.1 in (
+      subst (λ (vs : List (List ℕ)). ArePlaces vs c.self-2.inside.places) (sym names)
+          (places_front c.args.self.now.plain _ c.self-2.inside.places places),
+      subst (λ (vs : List (List ℕ)). IsIndexed vs c.self-2.inside.table) (sym stars)
+          (indexed_front c.args.self.now.patterns _ c.self-2.inside.table indexed),
+    )
 
 pub returns-in-Err-clause-kept : goal.returns-in-Err-clause-kept
 returns-in-Err-clause-kept c =

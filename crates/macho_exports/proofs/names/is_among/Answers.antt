@@ -4,7 +4,7 @@ use Rattle.std.proofs.lemmas.Bool.{le-ltb}
 use Rattle.std.proofs.lemmas.List.{get_or-map, length-map}
 use Rattle.macho_exports.specs.steps.Lists.{texts_of}
 use Rattle.macho_exports.proofs.Places.{among, among_past}
-use Rattle.macho_exports.proofs.list.is_among.Goals as goal
+use Rattle.macho_exports.proofs.names.is_among.Goals as goal
 
 pub returns-then-place-entries : goal.returns-then-place-entries
 returns-then-place-entries c =

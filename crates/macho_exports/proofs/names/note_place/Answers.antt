@@ -4,7 +4,7 @@ use Rattle.std.specs.Str.{bytes_eq}
 use Rattle.std.proofs.lemmas.List.{length-map}
 use Rattle.macho_exports.specs.steps.Lists.{texts_of, ArePlaces}
 use Rattle.macho_exports.proofs.Places.{places_again, places_kept, places_more}
-use Rattle.macho_exports.proofs.list.note_place.Goals as goal
+use Rattle.macho_exports.proofs.names.note_place.Goals as goal
 
 pub returns-then-is_among-clause-noted : goal.returns-then-is_among-clause-noted
 returns-then-is_among-clause-noted c =

@@ -1,0 +1,10 @@
+use Rattle.std.proofs.Common.{◌≡◌, false, take}
+use Rattle.std.specs.List.{list_any}
+use Rattle.macho_exports.specs.steps.Lists.{texts_of}
+use Rattle.macho_exports.specs.steps.Tables.{is_match_under}
+use Rattle.macho_exports.proofs.table.PatternTable.has_match.Given as goal
+
+abbrev pub invariant-loop-length : goal.invariant-loop-length
+invariant-loop-length l =
+    list_any (is_match_under l.self.fronts l.self.groups.items (texts_of l.patterns) l.name) (take l.length-index l.self.lengths.items)
+    ≡ false
