@@ -7,7 +7,7 @@ use Rattle.std.specs.List.{enumerate_from}
 use Rattle.std.proofs.lemmas.Bool.Decides.{nat_tests}
 use Rattle.std.proofs.lemmas.List.{ext_get_or, get_or-map, length-map}
 use Rattle.std.proofs.lemmas.List.FromFn.{length-enumerate_from, get_or-enumerate_from}
-use Rattle.macho_records.specs.declared.header.SegmentCommand.{SegmentCommand}
+use Rattle.macho_model.specs.SegmentCommand.{SegmentCommand}
 use Rattle.macho_model.specs.Images.{Table, tables_of, segments_of, starts_count, page_starts}
 use Rattle.macho_model.specs.Chain.{ChainSegment, starts_in_tables, chain_segment, chain_segments}
 use Rattle.macho_fixups.specs.declared.run.FixupSegment.{FixupSegment}

@@ -14,7 +14,7 @@ use Rattle.std.proofs.lemmas.List.FromFn.{length-range_with_len, get_or-range_wi
 use Rattle.macho_bytes.specs.Texts.{Stands}
 use Rattle.macho_structs.specs.declared.fixups.ChainedFixupsHeader.{ChainedFixupsHeader}
 use Rattle.macho_structs.specs.declared.fixups.ChainedStartsInSegment.{ChainedStartsInSegment}
-use Rattle.macho_records.specs.declared.header.SegmentCommand.{SegmentCommand}
+use Rattle.macho_model.specs.SegmentCommand.{SegmentCommand}
 use Rattle.macho_model.specs.Images.{Table, IMPORT_FORMAT, IMPORT_ADDEND_FORMAT, CHAIN_PAGE, fixups_header, import_entry_size}
 use Rattle.macho_model.specs.Images.{starts_place, starts_count, starts_offset, segment_starts, segments_of, base_of}
 use Rattle.macho_model.specs.LoadRules.{starts_fit, starts_all_fit, header_known, parts_inside, table_fits}

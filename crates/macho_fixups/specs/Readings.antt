@@ -4,7 +4,7 @@ use Rattle.std.specs.List.{enumerate_from}
 use Rattle.macho_bytes.specs.Texts.{Stands}
 use Rattle.std.specs.Int.{w32, cast_unsigned}
 use Rattle.macho_bytes.specs.Numbers.{signed}
-use Rattle.macho_records.specs.declared.header.SegmentCommand.{SegmentCommand}
+use Rattle.macho_model.specs.SegmentCommand.{SegmentCommand}
 use Rattle.macho_model.specs.Images.{Table, fixups_header, starts_count, page_starts, import_entry, segments_of, base_of}
 use Rattle.macho_model.specs.Images as images
 use Rattle.macho_model.specs.Chain.{ChainSegment, OnChain}

@@ -9,7 +9,7 @@ ghost use Rattle.macho_fixups.specs.Tables.{page_starts_text, starts_size, start
 
 use crate::run::{CHAIN_PAGE, Fixup, FixupSegment, SegmentRun, has_next, skip_below};
 use macho_numbers::put_little;
-use macho_records::ChainedStartsInSegment;
+use macho_structs::ChainedStartsInSegment;
 
 /// A page without a chain (`DYLD_CHAINED_PTR_START_NONE`).
 const NO_START: u16 = 0xffff;

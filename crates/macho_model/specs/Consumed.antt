@@ -4,9 +4,9 @@ use Rattle.std.specs.Prelude.{ℕ, ◌+◌, ◌*◌, ◌-◌, ◌/◌, ◌%◌, 
 use Rattle.std.specs.List.{list_any, list_all, flat_map, range_with_len}
 use Rattle.macho_bytes.specs.Numbers.{le_at, bits}
 use Rattle.macho_bytes.specs.Layouts.{reading}
-use Rattle.macho_structs.specs.Layouts.{unwind_info_entry}
-use Rattle.macho_structs.specs.declared.unwind.UnwindInfoEntry.{UnwindInfoEntry}
-use Rattle.macho_structs.specs.declared.relocations.RelocationInfo.{RelocationInfo}
+use Rattle.macho_records.specs.CommandLayouts.{unwind_info_entry}
+use Rattle.macho_records.specs.UnwindInfoEntry.{UnwindInfoEntry}
+use Rattle.macho_records.specs.RelocationInfo.{RelocationInfo}
 use Rattle.macho_model.specs.declared.rules.UnwindRule.{UnwindRule}
 use Rattle.macho_model.specs.declared.rules.UnwindRule.TheVariants.{U1, U2, U3, U4, U5, U6, U7, U8}
 use Rattle.macho_model.specs.declared.targets.Target.{Target}

@@ -7,19 +7,19 @@ use Rattle.macho_bytes.specs.Numbers.{rounded_up}
 use Rattle.macho_bytes.specs.Layouts.{reading, size_of}
 use Rattle.macho_bytes.specs.Texts.{name_of}
 use Rattle.macho_records.specs.Layouts.{segment_command, section_header, symtab_command}
-use Rattle.macho_structs.specs.Layouts.{entry_point_command, dylinker_command, dylib_command, rpath_command, linkedit_data_command, uuid_command, build_version_command, build_tool_version}
+use Rattle.macho_records.specs.CommandLayouts.{entry_point_command, dylinker_command, dylib_command, rpath_command, linkedit_data_command, uuid_command, build_version_command, build_tool_version}
 use Rattle.macho_records.specs.declared.header.MachHeader.{MachHeader}
 use Rattle.macho_records.specs.declared.header.SegmentCommand.{SegmentCommand}
 use Rattle.macho_records.specs.declared.header.SectionHeader.{SectionHeader}
 use Rattle.macho_records.specs.declared.symbols.SymtabCommand.{SymtabCommand}
-use Rattle.macho_structs.specs.declared.commands.EntryPointCommand.{EntryPointCommand}
-use Rattle.macho_structs.specs.declared.commands.DylinkerCommand.{DylinkerCommand}
-use Rattle.macho_structs.specs.declared.commands.DylibCommand.{DylibCommand}
-use Rattle.macho_structs.specs.declared.commands.RpathCommand.{RpathCommand}
-use Rattle.macho_structs.specs.declared.commands.LinkeditDataCommand.{LinkeditDataCommand}
-use Rattle.macho_structs.specs.declared.commands.UuidCommand.{UuidCommand}
-use Rattle.macho_structs.specs.declared.commands.BuildVersionCommand.{BuildVersionCommand}
-use Rattle.macho_structs.specs.declared.commands.BuildToolVersion.{BuildToolVersion}
+use Rattle.macho_records.specs.EntryPointCommand.{EntryPointCommand}
+use Rattle.macho_records.specs.DylinkerCommand.{DylinkerCommand}
+use Rattle.macho_records.specs.DylibCommand.{DylibCommand}
+use Rattle.macho_records.specs.RpathCommand.{RpathCommand}
+use Rattle.macho_records.specs.LinkeditDataCommand.{LinkeditDataCommand}
+use Rattle.macho_records.specs.UuidCommand.{UuidCommand}
+use Rattle.macho_records.specs.BuildVersionCommand.{BuildVersionCommand}
+use Rattle.macho_records.specs.BuildToolVersion.{BuildToolVersion}
 use Rattle.macho_records.specs.declared.constants.TheConstants.{CPU_SUBTYPE_ARM64_ALL, CPU_TYPE_ARM64, LC_BUILD_VERSION, LC_CODE_SIGNATURE, LC_DYLD_CHAINED_FIXUPS, LC_DYLD_EXPORTS_TRIE, LC_ID_DYLIB, LC_LOAD_DYLIB, LC_LOAD_DYLINKER, LC_MAIN, LC_RPATH, LC_SEGMENT_64, LC_SYMTAB, LC_UUID, MH_DYLDLINK, MH_DYLIB, MH_EXECUTE, MH_HAS_TLV_DESCRIPTORS, MH_MAGIC_64, MH_NOUNDEFS, MH_PIE, MH_TWOLEVEL, S_THREAD_LOCAL_VARIABLES}
 use Rattle.macho_records.specs.Sections.{type_of}
 use Rattle.macho_records.specs.Segments.{bytes_of, text_of, segment_flags_of}

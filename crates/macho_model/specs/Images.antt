@@ -7,10 +7,10 @@ use Rattle.macho_bytes.specs.Numbers.{le_at, bits, signed}
 use Rattle.macho_bytes.specs.Texts.{name_of}
 use Rattle.macho_bytes.specs.Layouts.{reading, size_of}
 use Rattle.macho_records.specs.Layouts.{segment_command, symtab_command, symtab_entry}
-use Rattle.macho_structs.specs.Layouts.{entry_point_command, dylib_command, linkedit_data_command, chained_fixups_header, chained_starts_in_segment}
+use Rattle.macho_records.specs.CommandLayouts.{entry_point_command, dylib_command, linkedit_data_command, chained_fixups_header, chained_starts_in_segment}
 use Rattle.macho_records.specs.declared.header.SegmentCommand.{SegmentCommand}
-use Rattle.macho_structs.specs.declared.fixups.ChainedFixupsHeader.{ChainedFixupsHeader}
-use Rattle.macho_structs.specs.declared.fixups.ChainedStartsInSegment.{ChainedStartsInSegment}
+use Rattle.macho_records.specs.ChainedFixupsHeader.{ChainedFixupsHeader}
+use Rattle.macho_records.specs.ChainedStartsInSegment.{ChainedStartsInSegment}
 use Rattle.macho_records.specs.declared.constants.TheConstants.{LC_CODE_SIGNATURE, LC_DYLD_CHAINED_FIXUPS, LC_DYLD_EXPORTS_TRIE, LC_LOAD_DYLIB, LC_MAIN, LC_SEGMENT_64, LC_SYMTAB}
 use Rattle.macho_model.specs.Commands.{Command, numbered, path_of}
 use Rattle.macho_model.specs.Segments.{PAGEZERO, TEXT}

@@ -47,6 +47,7 @@ pub mod SlideLaws
 pub mod HeldLaws
 pub mod LinkLaws
 -- the layouts of the records, and the tests on section headers, of the crates below
-pub use Rattle.macho_structs.specs.Layouts as CommandLayouts
+pub use Rattle.macho_records.specs.CommandLayouts
 pub use Rattle.macho_records.specs.Layouts as HeaderLayouts
 pub use Rattle.macho_records.specs.Sections
+pub use Rattle.macho_records.specs.declared.header.SegmentCommand

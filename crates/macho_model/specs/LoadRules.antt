@@ -4,7 +4,7 @@ use Rattle.std.specs.List.{list_all, range_with_len}
 use Rattle.macho_bytes.specs.Texts.{name_of}
 use Rattle.macho_bytes.specs.Layouts.{reading, size_of}
 use Rattle.macho_records.specs.Layouts.{mach_header, segment_command, symtab_command}
-use Rattle.macho_structs.specs.Layouts.{dylib_command, dylinker_command, rpath_command, uuid_command, build_version_command, linkedit_data_command, entry_point_command, chained_fixups_header, chained_starts_in_segment}
+use Rattle.macho_records.specs.CommandLayouts.{dylib_command, dylinker_command, rpath_command, uuid_command, build_version_command, linkedit_data_command, entry_point_command, chained_fixups_header, chained_starts_in_segment}
 use Rattle.macho_records.specs.declared.header.SegmentCommand.{SegmentCommand}
 use Rattle.macho_records.specs.declared.constants.TheConstants.{CPU_TYPE_ARM64, LC_BUILD_VERSION, LC_CODE_SIGNATURE, LC_DYLD_CHAINED_FIXUPS, LC_DYLD_EXPORTS_TRIE, LC_ID_DYLIB, LC_LOAD_DYLIB, LC_LOAD_DYLINKER, LC_MAIN, LC_RPATH, LC_SEGMENT_64, LC_SYMTAB, LC_UUID, MH_DYLIB, MH_EXECUTE, MH_MAGIC_64}
 use Rattle.macho_model.specs.Commands.{Command, header_of, commands_end, segment_size}

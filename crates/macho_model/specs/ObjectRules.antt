@@ -4,8 +4,8 @@ use Rattle.std.specs.Prelude.{ℕ, ◌+◌, ◌*◌, ◌-◌, ◌^◌, ◌==◌,
 use Rattle.macho_bytes.specs.Texts.{name_of}
 use Rattle.macho_bytes.specs.Layouts.{reading, size_of}
 use Rattle.macho_records.specs.Layouts.{mach_header, symtab_command, symtab_entry}
-use Rattle.macho_structs.specs.Layouts.{dylib_command}
-use Rattle.macho_structs.specs.Relocations.{relocation_info}
+use Rattle.macho_records.specs.CommandLayouts.{dylib_command}
+use Rattle.macho_records.specs.Relocations.{relocation_info}
 use Rattle.macho_records.specs.declared.constants.TheConstants.{ARM64_RELOC_ADDEND, CPU_TYPE_ARM64, LC_ID_DYLIB, LC_SEGMENT_64, LC_SYMTAB, MH_MAGIC_64, S_THREAD_LOCAL_REGULAR, S_THREAD_LOCAL_VARIABLES, S_THREAD_LOCAL_ZEROFILL}
 use Rattle.macho_records.specs.Symbols.{common_exponent_of, common_size_of, is_common_of, is_external_of, is_stab_of}
 use Rattle.macho_model.specs.Symbols.{is_in_section, is_in_segment}

@@ -5,10 +5,10 @@ use Rattle.std.specs.List.{flat_map, range_with_len}
 use Rattle.sha2.specs.Sha256.{sha256}
 use Rattle.macho_bytes.specs.Numbers.{big, row_bytes, rounded_up}
 use Rattle.macho_bytes.specs.Layouts.{reading, size_of, spelling}
-use Rattle.macho_structs.specs.Layouts.{uuid_command, code_directory}
+use Rattle.macho_records.specs.CommandLayouts.{uuid_command, code_directory}
 use Rattle.macho_records.specs.declared.constants.TheConstants.{LC_UUID}
 use Rattle.macho_records.specs.declared.header.SegmentCommand.{SegmentCommand}
-use Rattle.macho_structs.specs.declared.signature.CodeDirectory.{CodeDirectory}
+use Rattle.macho_records.specs.CodeDirectory.{CodeDirectory}
 use Rattle.macho_model.specs.Commands.{numbered}
 use Rattle.macho_model.specs.Links.{Link}
 use Rattle.macho_model.specs.Segments.{TEXT}
