@@ -16,4 +16,4 @@ pub use files::FileNames;
 pub use found::{NO_ENTRY, found_entries};
 pub use kinds::{is_absolute, is_common, is_global};
 pub use notes::{Name, Note, Sort, in_carried};
-pub use table::{Entry, Table, hash, name_in, note_in, rows_in};
+pub use table::{Entry, Table, hash_of_row, name_in, note_in, rows_in};
