@@ -8,11 +8,13 @@ ghost use Rattle.macho_model.specs.Symbols.{is_in_section, is_absolute};
 ghost use Rattle.macho_stub_lines.specs.Lists.{texts};
 ghost use Rattle.macho_names.specs.Kept.{Row, kept_object, kept_dylib, kept_stub, reading_of, rows_of_object, rows_of_dylib, offered_row, is_offered, no_row};
 ghost use Rattle.macho_names.specs.steps.Events.{library_text};
-ghost use Rattle.macho_names.specs.steps.Notes.{AreNoted, AreEnds, IsString, CommonFits, row_in, named_row};
+ghost use Rattle.macho_names.specs.steps.Notes.{AreNoted, AreEnds, IsString, IsHashOf, CommonFits, row_in, named_row};
+ghost use Rattle.macho_names.specs.steps.Tables.{hash_of};
 
 use crate::ends::block_ends;
 use crate::kinds::{is_absolute, is_in_section};
-use crate::notes::{Name, Note, Sort, name_at, note_of};
+use crate::notes::{Name, Note, Sort, hash_in, name_at, note_of};
+use crate::table::hash;
 use macho_object::File;
 use macho_records::SymtabEntry;
 use macho_stub::DefinedStubLibrary;
@@ -65,13 +67,15 @@ fn offered_note(file: &File<'_>, ends: &[u32], index: u32) -> Option<Note>
     ensures offered { is_some result ≡ is_offered file.now.bytes index }
     ensures row { IfSome result (λ n. row_in (strings_of file.now.bytes) n ≡ offered_row (symbol_name file.now.bytes index)) }
     ensures held { IfSome result (λ n. IsString (strings_of file.now.bytes) n.name × (n.sort ≡ Sort.Offered)) }
+    ensures hashed { IfSome result (λ n. IsHashOf (strings_of file.now.bytes) n.name n.hash) }
 {
     let symbol = file.symbol(index)?;
     let _whole = file.is_dynamic();
     if symbol.is_local() || symbol.is_hidden() || !is_defined(symbol) {
         return None;
     }
-    Some(offered(name_at(file.strings(), ends, symbol.n_strx)))
+    let name = name_at(file.strings(), ends, symbol.n_strx);
+    Some(offered(name, hash_in(file.strings(), name)))
 }
 
 /// Whether a symbol is defined: in a section, or as a value of its own.
@@ -81,14 +85,16 @@ fn is_defined(symbol: SymtabEntry) -> bool
     is_in_section(symbol) || is_absolute(symbol)
 }
 
-/// The note of a name that a library offers.
-fn offered(name: Name) -> Note
+/// The note of a name that a library offers, with its hash.
+fn offered(name: Name, hash: u64) -> Note
     ensures row { (text : List ℕ) → row_in text result ≡ offered_row (slice_range text name.at (name.at + name.length)) }
     ensures name { result.name ≡ name }
+    ensures hash { result.hash ≡ hash }
     ensures sort { result.sort ≡ Sort.Offered }
 {
     Note {
         name,
+        hash,
         value: 0,
         sort: Sort::Offered,
         number: 0,
@@ -127,10 +133,11 @@ fn offer_names(text: &mut Vec<u8>, notes: &mut Vec<Note>, names: &[&str]) -> Res
             return Err(AllocError);
         }
         text.extend_from_slice(bytes)?;
-        notes.push(offered(Name {
+        let name = Name {
             at: at as u32,
             length: length as u32,
-        }))?;
+        };
+        notes.push(offered(name, hash(bytes)))?;
     }
     Ok(())
 }
@@ -241,6 +248,14 @@ impl FileNames {
         ensures { result ≡ length (get_or self.now.rows row no_row).name }
     {
         self.notes[row].name.length
+    }
+
+    /// The hash of the name of a row.
+    pub(crate) fn hash(&self, row: usize) -> u64
+        requires { row < length self.now.rows }
+        ensures { result ≡ hash_of (get_or self.now.rows row no_row).name }
+    {
+        self.notes[row].hash
     }
 
     /// Whether two rows have one name, standing in one place.

@@ -10,7 +10,7 @@ ghost use Rattle.macho_names.specs.steps.Tables.{IsTable};
 ghost use Rattle.macho_names.specs.steps.Found.{IsFound, AreFoundIn, AreFound};
 
 use crate::files::FileNames;
-use crate::table::{Table, hash, name_in, note_in, rows_in};
+use crate::table::{Table, hash_of_row, note_in, rows_in};
 use std::alloc::{AllocError, Global};
 
 /// The number of no entry.
@@ -26,7 +26,7 @@ fn found_row(files: &[FileNames], table: &Table, file: u32, row: usize) -> Resul
     if !note_in(files, file, row).global {
         return Ok(NO_ENTRY);
     }
-    match table.find_row(files, file, row, hash(name_in(files, file, row))) {
+    match table.find_row(files, file, row, hash_of_row(files, file, row)) {
         // Objects have fewer symbols than that together.
         Some(number) if number >= NO_ENTRY as usize => Err(AllocError),
         Some(number) => Ok(number as u32),

@@ -18,4 +18,4 @@ pub use kinds::{is_absolute, is_common, is_global};
 pub use macho_object::File;
 pub use macho_stub::DefinedStubLibrary;
 pub use notes::{Name, Note, Sort, in_carried};
-pub use table::{Entry, Table, hash, name_in, note_in, rows_in};
+pub use table::{Entry, Table, hash_of_row, name_in, note_in, rows_in};

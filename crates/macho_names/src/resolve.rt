@@ -5,7 +5,7 @@ ghost use Rattle.macho_names.specs.steps.Tables.{IsTable, IsKnown, IsClash, Take
 
 use crate::fault::SymbolFault;
 use crate::files::FileNames;
-use crate::table::{Table, hash, name_in, note_in, rows_in};
+use crate::table::{Table, hash_of_row, note_in, rows_in};
 
 impl Table {
     /// Takes a row in: of a name that is new, or that is known.
@@ -20,7 +20,7 @@ impl Table {
         if !note_in(files, file, row).global {
             return Ok(());
         }
-        let hash = hash(name_in(files, file, row));
+        let hash = hash_of_row(files, file, row);
         let Some(number) = self.find_row(files, file, row, hash) else {
             self.add(files, file, row, hash)?;
             return Ok(());

@@ -92,6 +92,15 @@ pub fn name_in<'a>(files: &'a [FileNames], file: u32, row: usize) -> &'a [u8]
     files[file as usize].name(row)
 }
 
+/// The hash of the name of a row of some files.
+pub fn hash_of_row(files: &[FileNames], file: u32, row: usize) -> u64
+    requires file { file < length files.now }
+    requires row { row < row_count files.now file }
+    ensures { result ≡ hash_of (row_at files.now file row).name }
+{
+    files[file as usize].hash(row)
+}
+
 /// The note of a row of some files.
 pub fn note_in(files: &[FileNames], file: u32, row: usize) -> Note
     requires file { file < length files.now }

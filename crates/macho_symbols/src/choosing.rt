@@ -7,7 +7,7 @@ ghost use Rattle.macho_symbols.specs.steps.Targets.{defines_in, is_chosen_in, is
 ghost use Rattle.macho_symbols.specs.steps.Solved.{common_told};
 
 use crate::solved::Common;
-use macho_names::{FileNames, Sort, SymbolFault, Table, hash, name_in, note_in, rows_in};
+use macho_names::{FileNames, Sort, SymbolFault, Table, hash_of_row, note_in, rows_in};
 use macho_records::rounded_up;
 use std::alloc::Global;
 
@@ -52,7 +52,7 @@ pub(crate) fn defines(files: &[FileNames], table: &Table, file: u32, row: usize)
     if !note_in(files, file, row).global {
         return false;
     }
-    let hash = hash(name_in(files, file, row));
+    let hash = hash_of_row(files, file, row);
     let Some(number) = table.find_row(files, file, row, hash) else {
         return false;
     };

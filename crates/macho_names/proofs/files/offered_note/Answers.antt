@@ -5,6 +5,6 @@ use Rattle.macho_names.proofs.files.offered_note.Goals as goal
 
 pub returns-clause-row : goal.returns-clause-row
 returns-clause-row c =
-    let named = rw c.strings.ensures at c.name_at.ensures.is in
+    let named = rw c.strings.ensures at c.name_at-name.ensures.is in
     c.offered.ensures.row _
-    ∙ ap offered_row (offered_string _ _ c.in_ok-symbol.symbol _ (some_if _ _ _ c.in_ok-symbol.ensures).1 named c.name_at.ensures.at)
+    ∙ ap offered_row (offered_string _ _ c.in_ok-symbol.symbol _ (some_if _ _ _ c.in_ok-symbol.ensures).1 named c.name_at-name.ensures.at)
