@@ -1,19 +1,19 @@
 -- Tables of addresses, one section more.
 --
 -- What was put in answers at its key, and all others as before; that is what the first of the sections with a key is, with one more in front.
-use Rattle.std.proofs.Common.{◌≡◌, ℕ, ◌+◌, ◌<◌, ◌==◌, ◌&&◌, Bool, true, false, cond, List, [], ◌∷◌, map, filter, length, get_or, drop, Option, Some, None, refl, sym, ap, ◌∙◌, subst, arith}
+use Rattle.std.proofs.Common.{◌≡◌, ℕ, ◌+◌, ◌<◌, ◌==◌, ◌&&◌, Bool, true, false, cond, List, [], ◌∷◌, filter, length, get_or, drop, Option, Some, None, refl, sym, ap, ◌∙◌, subst, arith}
 use Rattle.std.proofs.lemmas.List.{drop_more}
 use Rattle.indexmap.specs.IndexMap.{IndexMap, get}
 use Rattle.macho_model.specs.declared.placed.PlacedSection.{PlacedSection}
-use Rattle.macho_model.specs.Addresses.{first_number}
+use Rattle.macho_model.specs.Lists.{of_first}
 use Rattle.macho_addresses.specs.declared.SectionKey.{SectionKey}
 use Rattle.macho_addresses.specs.Lookups.{same_section, first_address, HoldsSections}
 
-pub some_first : (ss : List PlacedSection) (a : ℕ) → Some a ≡ first_address ss → a ≡ first_number (map (λ q. q.address) ss)
+pub some_first : (ss : List PlacedSection) (a : ℕ) → Some a ≡ first_address ss → a ≡ of_first 0 (λ q. q.address) ss
 some_first [] a e = cc
 some_first (s ∷ ss) a e = cc
 
-pub none_first : (ss : List PlacedSection) → None ≡ first_address ss → 0 ≡ first_number (map (λ q. q.address) ss)
+pub none_first : (ss : List PlacedSection) → None ≡ first_address ss → 0 ≡ of_first 0 (λ q. q.address) ss
 none_first [] e = refl
 none_first (s ∷ ss) e = cc
 

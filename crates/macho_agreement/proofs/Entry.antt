@@ -28,7 +28,8 @@ use Rattle.macho_model.specs.Faults.{entry_is_defined}
 use Rattle.macho_model.specs.Agreement.{SegmentPlace, place_by_command, place_told, SegmentsAgree, EntryAgrees}
 use Rattle.macho_model.specs.Addresses.{address_of}
 use Rattle.macho_model.specs.Lists.{of_first, EachNext}
-use Rattle.macho_targets.specs.Laws.{ObjectsAreRead, ListsAll, IsOfLink}
+use Rattle.macho_targets.specs.Laws.{ListsAll, IsOfLink}
+use Rattle.macho_model.specs.Grammar.{ObjectsAreRead}
 use Rattle.macho_targets.proofs.Named.{name_of_link}
 use Rattle.macho_targets.proofs.Places.{places_are_had}
 use Rattle.macho_targets.proofs.Above.{targets_above}

@@ -12,7 +12,7 @@ use Rattle.macho_model.specs.ImportTable.{LibrariesSay}
 use Rattle.macho_commands.specs.Laws.{HasRoom}
 use Rattle.macho_promise.specs.Sizes.{AreCounts}
 use Rattle.macho_promise.specs.Promise.{IsLaidOut, Agrees}
-use Rattle.macho_targets.specs.Laws.{ObjectsAreRead}
+use Rattle.macho_model.specs.Grammar.{ObjectsAreRead}
 
 -- the exports trie that a head tells ends in its range
 abbrev pub TrieFits : Placed → ℕ → Type 0

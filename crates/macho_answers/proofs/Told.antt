@@ -23,7 +23,7 @@ use Rattle.macho_faults.specs.declared.fault.LinkError.TheVariants.{BindAddend, 
 use Rattle.macho_faults.specs.declared.fault.LinkError.TheVariants.{RelocationRange, BadName, BadInput, OutOfMemory}
 use Rattle.macho_layout.specs.Placements.{placed_of}
 use Rattle.macho_faults.specs.Standing.{Stands, IsStanding}
-use Rattle.macho_targets.specs.Laws.{ObjectsAreRead}
+use Rattle.macho_model.specs.Grammar.{ObjectsAreRead}
 use Rattle.macho_valid.specs.Laws.{ObjectsAreBytes}
 use Rattle.macho_answers.specs.Refusals.{StandingIsTold}
 use Rattle.macho_valid.proofs.LinkRefusals.{link_is_not_refused}

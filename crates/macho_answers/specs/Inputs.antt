@@ -2,7 +2,7 @@
 use Rattle.std.specs.Prelude.{◌<◌, All}
 use Rattle.macho_model.specs.Links.{Link, Input, Object, Dylib, Stub}
 use Rattle.macho_promise.specs.Inputs.{IsInput}
-use Rattle.macho_targets.specs.Laws.{ObjectsAreRead}
+use Rattle.macho_model.specs.Grammar.{ObjectsAreRead}
 use Rattle.macho_valid.specs.Laws.{ObjectsAreBytes}
 use Rattle.macho_found.specs.Names.{StubsArePlain}
 

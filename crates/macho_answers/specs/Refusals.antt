@@ -14,7 +14,7 @@ use Rattle.macho_promise.specs.Sizes.{AreCounts}
 use Rattle.macho_faults.specs.declared.fault.LinkError.{LinkError}
 use Rattle.macho_faults.specs.Standing.{Stands}
 use Rattle.macho_fields.specs.Faults.{IsBadPlace}
-use Rattle.macho_targets.specs.Laws.{ObjectsAreRead}
+use Rattle.macho_model.specs.Grammar.{ObjectsAreRead}
 use Rattle.macho_valid.specs.Laws.{ObjectsAreBytes}
 use Rattle.macho_reading.specs.Read.{IsFit}
 use Rattle.macho_linked.specs.Linked.{IsRefused}

@@ -1,5 +1,5 @@
 -- What is known of the files outside: finite sets and maps whose keys are paths, as their bytes.
-use Rattle.std.specs.Prelude.{◌≡◌, ℕ, Bool, List, Option, Some, None}
+use Rattle.std.specs.Prelude.{◌≡◌, ℕ, Bool, List, Option, IfSome}
 use Rattle.std.specs.Ordering.{nat_cmp}
 use Rattle.std.specs.Cmp.Lexicographic.{slice_cmp}
 use Rattle.std.specs.FinMap.{FinMap, get}
@@ -19,13 +19,11 @@ CanonicalPaths = FinMap (slice_cmp nat_cmp) (List ℕ)
 
 -- What may be answered to whether a path is a directory. Where directories aren't told, that is open.
 abbrev pub IsToldDirectory : Option Directories → List ℕ → Bool → Type 0
-IsToldDirectory (Some known) path answer = answer ≡ contains known path
-IsToldDirectory None path answer = Unit {0}
+IsToldDirectory told path answer = IfSome told (λ known. answer ≡ contains known path)
 
 -- What may be answered as the canonical path of a path. Where canonical paths aren't told, that is open.
 abbrev pub IsToldCanonical : Option CanonicalPaths → List ℕ → Option (List ℕ) → Type 0
-IsToldCanonical (Some known) path answer = answer ≡ get known path
-IsToldCanonical None path answer = Unit {0}
+IsToldCanonical told path answer = IfSome told (λ known. answer ≡ get known path)
 
 -- No question changes what is known outside: the directories, the canonical paths, the files that are
 -- held, and the numbers of failed reads and writes.

@@ -12,7 +12,7 @@ use Rattle.std.proofs.lemmas.List.{get_or-take, drop_all, length-take, length-dr
 use Rattle.std.proofs.Math.Seq.{take-append_seam, drop-cons, take-suc-set}
 use Rattle.std.proofs.lemmas.List.Sums.{position_or_len_is, fails_before_first, passes_at_first}
 use Rattle.macho_bytes.specs.Texts.{Stands}
-use Rattle.macho_bytes.specs.Uleb.{uleb_value, IsUleb, IsShortest, MOST_GROUPS, IsUlebAt, groups_of, uleb_of, is_last_group, groups_before_last, first_groups, has_last_group, uleb_at, UlebReadsBack}
+use Rattle.macho_bytes.specs.Uleb.{uleb_value, IsUleb, IsShortest, MOST_GROUPS, IsUlebAt, groups_of, uleb_of, groups_before_last, first_groups, has_last_group, uleb_at, UlebReadsBack}
 
 not_below : (a b : ℕ) → b ≤ a → nat_lt a b ≡ false
 not_below a b h = grind (arith, nat_tests)
@@ -111,15 +111,15 @@ groups-grow (suc others) m n le =
 -- where a form stands at the front, its end is the first last group
 first-form : (text rest : List ℕ) → IsUleb text → groups_before_last (text ++ rest) ≡ length text - 1
 first-form text rest u =
-    position_or_len_is is_last_group (text ++ rest) (length text - 1) 0 (omega (arith, length-append text rest)) before here
+    position_or_len_is (λ (b : ℕ). nat_lt b 128) (text ++ rest) (length text - 1) 0 (omega (arith, length-append text rest)) before here
   where
     same : (k : ℕ) → k < length text → get_or (text ++ rest) k 0 ≡ slice_index text k
     same k h = get_or_append_left text rest 0 k h
 
-    before : (k : ℕ) → k < length text - 1 → is_last_group (get_or (text ++ rest) k 0) ≡ false
+    before : (k : ℕ) → k < length text - 1 → nat_lt (get_or (text ++ rest) k 0) 128 ≡ false
     before k h = not_below (get_or (text ++ rest) k 0) 128 (omega (arith, same k (omega arith), u.goes_on k (omega arith)))
 
-    here : length text - 1 < length (text ++ rest) → is_last_group (get_or (text ++ rest) (length text - 1) 0) ≡ true
+    here : length text - 1 < length (text ++ rest) → nat_lt (get_or (text ++ rest) (length text - 1) 0) 128 ≡ true
     here h = lt-ltb (get_or (text ++ rest) (length text - 1) 0) 128 (omega (arith, same (length text - 1) (omega (arith, u.some)), u.ends))
 
 -- and it is what is cut off
@@ -214,13 +214,13 @@ is-cut xs within = (record { some = omega (arith, long); goes_on = each; ends = 
     each : (k : ℕ) → k + 1 < length (first_groups xs) → 128 ≤ slice_index (first_groups xs) k
     each k h =
         let goes : 128 ≤ slice_index xs k = not_false (slice_index xs k) 128
-        (fails_before_first is_last_group xs k 0 (omega (arith, long))) in
+        (fails_before_first (λ (b : ℕ). nat_lt b 128) xs k 0 (omega (arith, long))) in
         omega (arith, same k (omega (arith, long)))
 
     last : slice_index (first_groups xs) (length (first_groups xs) - 1) < 128
     last =
         let stops : slice_index xs (groups_before_last xs) < 128 = ltb-true (slice_index xs (groups_before_last xs)) 128
-        (passes_at_first is_last_group xs 0 within) in
+        (passes_at_first (λ (b : ℕ). nat_lt b 128) xs 0 within) in
         let there : length (first_groups xs) - 1 ≡ groups_before_last xs = omega (arith, long) in
         omega (arith, ap (λ (k : ℕ). slice_index (first_groups xs) k) there, same (groups_before_last xs) (omega arith))
 
@@ -304,7 +304,7 @@ no_last_group xs i far goes =
       | inr past ↦ rw (not_below (groups_before_last xs) (length xs) past) (and_false (nat_lt (groups_before_last xs) MOST_GROUPS))
       | inl within ↦
           let stops : slice_index xs (groups_before_last xs) < 128 = ltb-true (slice_index xs (groups_before_last xs)) 128
-          (passes_at_first is_last_group xs 0 within) in
+          (passes_at_first (λ (b : ℕ). nat_lt b 128) xs 0 within) in
           elim (cases_lt (groups_before_last xs) i) [
             | inl early ↦ absurd (omega (arith, goes (groups_before_last xs) early within))
             | inr late ↦ elim far [
@@ -329,7 +329,7 @@ has_last_group-at xs i few within goes stops = (
 )
   where
     here : groups_before_last xs ≡ i
-    here = position_or_len_is is_last_group xs i 0 (omega arith) (λ k h. not_below (get_or xs k 0) 128 (goes k h))
+    here = position_or_len_is (λ (b : ℕ). nat_lt b 128) xs i 0 (omega arith) (λ k h. not_below (get_or xs k 0) 128 (goes k h))
         (λ h. lt-ltb (get_or xs i 0) 128 stops)
 
     both : {a b : Bool} → a ≡ true → b ≡ true → (a && b) ≡ true

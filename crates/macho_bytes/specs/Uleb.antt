@@ -41,13 +41,9 @@ groups_of (suc others) n = if nat_lt n 128 then n ∷ [] else (128 + n % 128) �
 unfoldable pub uleb_of : ℕ → List ℕ
 uleb_of n = groups_of (MOST_GROUPS - 1) n
 
--- a byte is a last group
-abbrev pub is_last_group : ℕ → Bool
-is_last_group b = nat_lt b 128
-
--- how many groups that go on a list begins with
+-- how many groups that go on a list begins with: a byte below 128 is a last group
 abbrev pub groups_before_last : List ℕ → ℕ
-groups_before_last bytes = position_or_len is_last_group bytes
+groups_before_last bytes = position_or_len (λ b. nat_lt b 128) bytes
 
 -- the groups that a list begins with, up to the first last one
 abbrev pub first_groups : List ℕ → List ℕ

@@ -8,9 +8,6 @@ pub record Block : Type 0 where
   pub size : ℕ
   pub exponent : ℕ
 
-abbrev pub end_of_block : Block → ℕ
-end_of_block b = b.start + b.size
-
 -- from a place on, each block stands at the least multiple of its alignment behind the one before it; the last ends at `to`
 abbrev pub StandLeast : ℕ → List Block → ℕ → Type 0
 StandLeast n [] m = n ≡ m

@@ -11,7 +11,7 @@ use Rattle.macho_bytes.specs.Numbers.{le_bytes}
 use Rattle.macho_bytes.specs.Texts.{Part, Stands, IsOutside, end_of, put}
 use Rattle.macho_bytes.proofs.Numbers.{little_is_sound, stands-front}
 use Rattle.macho_bytes.proofs.Puts.{stands_by_bytes}
-use Rattle.macho_model.specs.Chain.{WORD_SIZE}
+use Rattle.macho_model.specs.Needs.{POINTER_SIZE}
 use Rattle.macho_model.specs.Links.{Link}
 use Rattle.macho_model.specs.Placement.{Placed, Span}
 use Rattle.macho_model.specs.Zeros.{IsOutsideSpan}
@@ -20,7 +20,8 @@ use Rattle.macho_fixups.specs.Words.{word_of}
 use Rattle.macho_fixups.specs.Chains.{place_of, step_of}
 use Rattle.macho_fixups.specs.Tables.{table_text}
 use Rattle.macho_fixups.specs.Readings.{TableReadsBack}
-use Rattle.macho_promise.specs.FixupsSay.{fixup_segments, import_format}
+use Rattle.macho_promise.specs.FixupsSay.{fixup_segments}
+use Rattle.macho_model.specs.Fixups.{import_format}
 use Rattle.macho_linkedit.specs.declared.imports.ImportTable.{ImportTable}
 use Rattle.macho_linkedit.proofs.TableSays.{table_is_said}
 use Rattle.macho_standing.proofs.TableLength.{table_long}
@@ -46,10 +47,10 @@ bytes_stay l counts p run before now i can w outside =
     w.written.outside i (λ k d lt. by (get_or run k d) (step_of run k) (words_lie l counts p (get_or run k d) can (w.each k d lt)))
   where
     by : (f : Fixup) (next : ℕ) → (s : Span) × Contains (word_ranges l p) s × WordLiesIn (place_of (fixup_segments p) f.address) s
-        → IsOutside i (record { at = place_of (fixup_segments p) f.address; text = le_bytes WORD_SIZE (word_of f.kind next) })
+        → IsOutside i (record { at = place_of (fixup_segments p) f.address; text = le_bytes POINTER_SIZE (word_of f.kind next) })
     by f next (s, one, lies) =
-        outside_word i (place_of (fixup_segments p) f.address) (le_bytes WORD_SIZE (word_of f.kind next)) s
-        (little_is_sound.long WORD_SIZE (word_of f.kind next)) lies.from lies.to
+        outside_word i (place_of (fixup_segments p) f.address) (le_bytes POINTER_SIZE (word_of f.kind next)) s
+        (little_is_sound.long POINTER_SIZE (word_of f.kind next)) lies.from lies.to
         (All-contains (IsOutsideSpan i) (word_ranges l p) s outside one)
 
 pub words_stay : WordsStay
@@ -60,11 +61,11 @@ words_stay l counts p run before now b can w long agree =
     }
   where
     by : (f : Fixup) (next : ℕ) → (s : Span) × Contains (word_ranges l p) s × WordLiesIn (place_of (fixup_segments p) f.address) s
-        → Stands now (record { at = place_of (fixup_segments p) f.address; text = le_bytes WORD_SIZE (word_of f.kind next) })
-        → Stands b (record { at = place_of (fixup_segments p) f.address; text = le_bytes WORD_SIZE (word_of f.kind next) })
+        → Stands now (record { at = place_of (fixup_segments p) f.address; text = le_bytes POINTER_SIZE (word_of f.kind next) })
+        → Stands b (record { at = place_of (fixup_segments p) f.address; text = le_bytes POINTER_SIZE (word_of f.kind next) })
     by f next (s, one, lies) stands =
-        let q : Part = record { at = place_of (fixup_segments p) f.address; text = le_bytes WORD_SIZE (word_of f.kind next) } in
-        let eight : length q.text ≡ 8 = little_is_sound.long WORD_SIZE (word_of f.kind next) in
+        let q : Part = record { at = place_of (fixup_segments p) f.address; text = le_bytes POINTER_SIZE (word_of f.kind next) } in
+        let eight : length q.text ≡ 8 = little_is_sound.long POINTER_SIZE (word_of f.kind next) in
         stands_by_bytes b q (omega (arith, stands.within, long))
         (λ i lt. All-contains (AgreeIn now b) (word_ranges l p) s agree one (q.at + i) (omega (arith, lies.from))
         (omega (arith, lies.to, lt, eight))

@@ -4,7 +4,7 @@ use Rattle.macho_bytes.specs.Texts.{Stands}
 use Rattle.macho_model.specs.declared.placed.Counts.{Counts}
 use Rattle.macho_model.specs.declared.targets.Site.{Site}
 use Rattle.macho_model.specs.Links.{Link}
-use Rattle.macho_model.specs.Chain.{WORD_SIZE}
+use Rattle.macho_model.specs.Needs.{POINTER_SIZE}
 use Rattle.macho_model.specs.Images.{tables_of}
 use Rattle.macho_model.specs.ImportTable.{ImportTableSays}
 use Rattle.macho_model.specs.Placement.{Placed, Span, section_span, slot_span}
@@ -30,7 +30,7 @@ word_ranges l p = map (λ q. in_file p (section_span l q)) (filled_sections l p)
 -- The eight bytes from a place on lie in a range.
 pub record WordLiesIn (place : ℕ) (s : Span) : Type 0 where
   pub from : s.start ≤ place
-  pub to : place + WORD_SIZE ≤ s.start + s.size
+  pub to : place + POINTER_SIZE ≤ s.start + s.size
 
 -- the word of a fixup of a link lies in one of them
 abbrev pub WordsLieInRanges : Type 0

@@ -8,7 +8,8 @@ use Rattle.macho_model.specs.declared.placed.PlacedSegment.{PlacedSegment}
 use Rattle.macho_model.specs.declared.placed.Range64.{Range64}
 use Rattle.macho_model.specs.Links.{Link}
 use Rattle.macho_model.specs.Placement.{Placed, Span, AreApart, range_span, linkedit_ranges}
-use Rattle.macho_model.specs.Addresses.{offset_in_file, has_in_file, first_number}
+use Rattle.macho_model.specs.Lists.{of_first}
+use Rattle.macho_model.specs.Addresses.{offset_in_file, has_in_file}
 use Rattle.macho_model.specs.Zeros.{in_file}
 use Rattle.macho_fixups.specs.declared.run.Fixup.{Fixup}
 use Rattle.macho_model.proofs.EachBelow.{and_right}
@@ -16,7 +17,7 @@ use Rattle.macho_lists.proofs.Members.{contains_first, filter_contains, all_cont
 use Rattle.macho_lists.proofs.Orders.{EachLater}
 use Rattle.macho_agreement.proofs.Room.{file_parts_end}
 use Rattle.macho_ranges.specs.Parts.{written, LiesInRange, LieInRanges, IsMadeOf, part_now}
-use Rattle.macho_ranges.specs.Ranges.{file_ranges, table_span, head_range, EndsInFile}
+use Rattle.macho_ranges.specs.Ranges.{file_ranges, head_range, EndsInFile}
 use Rattle.macho_ranges.proofs.Parts.{all_more}
 use Rattle.macho_composed.specs.Written.{AreContents, Texts, TextsFit, text_parts, content_ranges}
 use Rattle.macho_composed.proofs.Pieces.{swapped}
@@ -34,7 +35,7 @@ offset_low l counts p n a g = by (filter (has_in_file a) p.segments) refl
     ends = file_parts_end l counts p g.placed.in_order.follow g.laid_out
 
     by : (found : List PlacedSegment) → filter (has_in_file a) p.segments ≡ found
-        → first_number (map (λ s. s.file_offset + (a - s.address)) found) ≤ n
+        → of_first 0 (λ s. s.file_offset + (a - s.address)) found ≤ n
     by [] e = omega arith
     by (s ∷ found) e =
         let there = filter_contains (has_in_file a) p.segments s
@@ -47,25 +48,25 @@ offset_low l counts p n a g = by (filter (has_in_file a) p.segments) refl
 -- the ranges of the texts, in the order in which they are written
 abbrev pub text_ranges : Counts → Placed → List Span
 text_ranges counts p =
-    in_file p (range_span p.init_offsets) ∷ in_file p (range_span p.unwind) ∷ table_span p.linkedit.fixups ∷ table_span p.linkedit.trie
-    ∷ table_span p.linkedit.symtab ∷ table_span p.linkedit.strtab ∷ head_range counts p ∷ table_span p.linkedit.signature ∷ []
+    in_file p (range_span p.init_offsets) ∷ in_file p (range_span p.unwind) ∷ range_span p.linkedit.fixups ∷ range_span p.linkedit.trie
+    ∷ range_span p.linkedit.symtab ∷ range_span p.linkedit.strtab ∷ head_range counts p ∷ range_span p.linkedit.signature ∷ []
 
 -- those but the last two
 abbrev pub first_ranges : Placed → List Span
 first_ranges p =
-    in_file p (range_span p.init_offsets) ∷ in_file p (range_span p.unwind) ∷ table_span p.linkedit.fixups ∷ table_span p.linkedit.trie
-    ∷ table_span p.linkedit.symtab ∷ table_span p.linkedit.strtab ∷ []
+    in_file p (range_span p.init_offsets) ∷ in_file p (range_span p.unwind) ∷ range_span p.linkedit.fixups ∷ range_span p.linkedit.trie
+    ∷ range_span p.linkedit.symtab ∷ range_span p.linkedit.strtab ∷ []
 
 apart_behind : (l : Link) (counts : Counts) (p : Placed) (n : ℕ) → Grounds l counts p n
     → EachLater AreApart (content_ranges l p ++ text_ranges counts p)
 unfolding content_ranges file_ranges
 apart_behind l counts p n g =
-    let joined : EachLater AreApart (content_ranges l p ++ first_ranges p ++ table_span p.linkedit.signature ∷ head_range counts p ∷ []) =
-    subst (EachLater AreApart) (regroup (content_ranges l p) (first_ranges p) (table_span p.linkedit.signature) (head_range counts p))
+    let joined : EachLater AreApart (content_ranges l p ++ first_ranges p ++ range_span p.linkedit.signature ∷ head_range counts p ∷ []) =
+    subst (EachLater AreApart) (regroup (content_ranges l p) (first_ranges p) (range_span p.linkedit.signature) (head_range counts p))
     (all_ranges l counts p n g) in
     subst (EachLater AreApart) (append_assoc (content_ranges l p) (first_ranges p)
-    (head_range counts p ∷ table_span p.linkedit.signature ∷ []))
-    (swapped (content_ranges l p ++ first_ranges p) (table_span p.linkedit.signature) (head_range counts p) joined)
+    (head_range counts p ∷ range_span p.linkedit.signature ∷ []))
+    (swapped (content_ranges l p ++ first_ranges p) (range_span p.linkedit.signature) (head_range counts p) joined)
   where
     regroup : (xs ys : List Span) (a b : Span) → (xs ++ (ys ++ a ∷ [])) ++ b ∷ [] ≡ (xs ++ ys) ++ a ∷ b ∷ []
     regroup xs ys a b =
@@ -118,7 +119,7 @@ unfolding file_ranges
 texts_end l counts p n t g begin fit =
     let all = g.ends l counts p g.placed g.laid_out in
     let contents : List Span = (section_ranges l p ++ slot_ranges p) ++ stub_ranges p in
-    let others : List Span = in_file p (range_span p.init_offsets) ∷ in_file p (range_span p.unwind) ∷ map table_span (linkedit_ranges p) in
+    let others : List Span = in_file p (range_span p.init_offsets) ∷ in_file p (range_span p.unwind) ∷ map range_span (linkedit_ranges p) in
     let made : All (EndsInFile p) others =
     all_back (EndsInFile p) contents others (all_front (EndsInFile p) (contents ++ others) (head_range counts p ∷ []) all) in
     let head : All (EndsInFile p) (head_range counts p ∷ []) = all_back (EndsInFile p) (contents ++ others) (head_range counts p ∷ []) all

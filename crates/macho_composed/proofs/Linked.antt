@@ -12,11 +12,10 @@ use Rattle.macho_bytes.proofs.Numbers.{stands-front}
 use Rattle.macho_records.specs.Layouts.{symtab_entry}
 use Rattle.macho_model.specs.declared.placed.Counts.{Counts}
 use Rattle.macho_model.specs.Links.{Link}
-use Rattle.macho_model.specs.Placement.{Placed}
+use Rattle.macho_model.specs.Placement.{Placed, range_span}
 use Rattle.macho_model.specs.Images.{fixups_header}
 use Rattle.macho_model.specs.Head.{HeadSays}
-use Rattle.macho_model.specs.Order.{table_piece}
-use Rattle.macho_model.specs.OutputSections.{POINTER_EXPONENT}
+use Rattle.macho_model.specs.OutputSections.{POINTER_EXPONENT, piece}
 use Rattle.macho_model.specs.WrittenSum.{SYMBOL_SIZE}
 use Rattle.macho_model.specs.SymbolRows.{SymbolsSay}
 use Rattle.macho_model.specs.Zeros.{IsZeroElsewhere}
@@ -125,8 +124,8 @@ strings_behind : (l : Link) (counts : Counts) (p : Placed) → IsReady l counts 
 strings_behind l counts p ready =
     let least : p.linkedit.strtab.start
     ≡ ((p.linkedit.symtab.start + (p.linkedit.symtab.end - p.linkedit.symtab.start)) + (2 ^ 0 - 1)) / 2 ^ 0 * 2 ^ 0 =
-    ready.laid_out.least.tables 3 (table_piece POINTER_EXPONENT p.linkedit.symtab) (table_piece 0 p.linkedit.strtab) (omega arith, refl)
-    (omega arith, refl) in
+    ready.laid_out.least.tables 3 (piece POINTER_EXPONENT (range_span p.linkedit.symtab)) (piece 0 (range_span p.linkedit.strtab))
+    (omega arith, refl) (omega arith, refl) in
     let room : p.linkedit.symtab.end ≡ p.linkedit.symtab.start + SYMBOL_SIZE * counts.symbols = ready.laid_out.least.rooms.symbols in
     omega (arith, least, room)
 

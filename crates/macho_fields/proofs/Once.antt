@@ -22,7 +22,8 @@ use Rattle.macho_model.specs.Resolution.{chosen_commons}
 use Rattle.macho_model.specs.Needs.{distinct, uses_of}
 use Rattle.macho_model.specs.Targets.{same_target, slots_of, stubs_of, slot_of_use, stub_of_use}
 use Rattle.macho_model.specs.Placement.{Placed, IsPlaced, id_of}
-use Rattle.macho_model.specs.Addresses.{first_number, section_address, common_address, slot_address}
+use Rattle.macho_model.specs.Lists.{of_first}
+use Rattle.macho_model.specs.Addresses.{section_address, common_address, slot_address}
 use Rattle.macho_model.proofs.EachBelow.{true_or_false, and_left, and_right, is_equal, equal_is, unequal_is}
 use Rattle.macho_fields.specs.Looks.{stub_address, IsPlacedOnce}
 
@@ -56,21 +57,21 @@ counted test (y ∷ xs) x (suc k, lt, is) passes = omega (arith, counted test xs
 -- the first that passes, by whether the first element does
 first_at : {X : Type 0} (n : X → ℕ) (test : X → Bool) (y : X) (xs : List X) (x : X) (b : Bool) → test y ≡ b → 1 ≤ count test xs
     → count test (y ∷ xs) ≤ 1
-    → (count test xs ≤ 1 → first_number (map n (filter test xs)) ≡ n x)
-    → first_number (map n (cond (test y) (y ∷ filter test xs) (filter test xs))) ≡ n x
+    → (count test xs ≤ 1 → of_first 0 n (filter test xs) ≡ n x)
+    → of_first 0 n (cond (test y) (y ∷ filter test xs) (filter test xs)) ≡ n x
 first_at n test y xs x true here some few later =
     let own : one (test y) ≡ 1 = ap one here in absurd (omega (arith, own, some, few))
 first_at {X} n test y xs x false here some few later =
     let own : one (test y) ≡ 0 = ap one here in
-    ap (λ (b : Bool). first_number (map n (cond b (y ∷ filter test xs) (filter test xs)))) here ∙ later (omega (arith, own, few))
+    ap (λ (b : Bool). of_first 0 n (cond b (y ∷ filter test xs) (filter test xs))) here ∙ later (omega (arith, own, few))
 
 -- where at most one passes, it is the first that passes
 pub first_is : {X : Type 0} (n : X → ℕ) (test : X → Bool) (xs : List X) (x : X) → count test xs ≤ 1 → Contains xs x → test x ≡ true
-    → first_number (map n (filter test xs)) ≡ n x
+    → of_first 0 n (filter test xs) ≡ n x
 first_is n test [] x few h passes = absurd (omega (arith, h.1))
 first_is {X} n test (y ∷ xs) x few (zero, lt, is) passes =
     let here : test y ≡ true = ap test is ∙ passes in
-    ap (λ (b : Bool). first_number (map n (cond b (y ∷ filter test xs) (filter test xs)))) here ∙ ap n is
+    ap (λ (b : Bool). of_first 0 n (cond b (y ∷ filter test xs) (filter test xs))) here ∙ ap n is
 first_is {X} n test (y ∷ xs) x few (suc k, lt, is) passes =
     let rest : Contains xs x = (k, omega arith, is) in
     let some = counted test xs x rest passes in

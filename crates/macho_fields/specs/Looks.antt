@@ -1,6 +1,6 @@
 -- What filling a section looks up: what symbols lead to, and where things are. And what these look-ups have to tell of a
 -- link and a placement of it.
-use Rattle.std.specs.Prelude.{◌≡◌, ℕ, ◌<◌, ◌%◌, ◌==◌, true, false, Bool, map, filter, Option, Contains, IfSome, is_some}
+use Rattle.std.specs.Prelude.{◌≡◌, ℕ, ◌<◌, ◌%◌, ◌==◌, true, false, Bool, filter, Option, Contains, IfSome, is_some}
 use Rattle.macho_model.specs.declared.placed.PlacedSection.{PlacedSection}
 use Rattle.macho_model.specs.declared.placed.PlacedCommon.{PlacedCommon}
 use Rattle.macho_model.specs.declared.placed.Slot.{Slot}
@@ -14,7 +14,8 @@ use Rattle.macho_model.specs.Links.{Link, SectionId, object_of, header_at, carri
 use Rattle.macho_model.specs.Needs.{relocation_in}
 use Rattle.macho_model.specs.Targets.{target_of, target_of_relocation, slot_of_relocation, stub_of_relocation}
 use Rattle.macho_model.specs.Placement.{Placed, id_of}
-use Rattle.macho_model.specs.Addresses.{first_number, section_address, common_address, slot_address}
+use Rattle.macho_model.specs.Lists.{of_first}
+use Rattle.macho_model.specs.Addresses.{section_address, common_address, slot_address}
 use Rattle.macho_parts.specs.FixupsSay.{own_number}
 
 -- What is looked up, as plain functions.
@@ -36,7 +37,7 @@ pub record Look : Type 0 where
 
 -- the address of the stub of an import, 0 where it has none
 unfoldable pub stub_address : Placed → ℕ → ℕ
-stub_address p id = first_number (map (λ s. s.address) (filter (λ s. s.import == id) p.stubs))
+stub_address p id = of_first 0 (λ s. s.address) (filter (λ s. s.import == id) p.stubs)
 
 -- The look-ups tell the addresses of a placement.
 pub record TellsAddresses (p : Placed) (look : Look) : Type 0 where

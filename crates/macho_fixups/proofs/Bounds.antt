@@ -5,7 +5,7 @@
 use Rattle.std.proofs.Common.{◌≡◌, ◌+◌, ◌-◌, ◌*◌, ◌/◌, ◌≤◌, Bool, false, get_or, arith, ap, inl, inr, if◌then◌else◌}
 use Rattle.std.proofs.Math.Nat.{mul-le-mul_left}
 use Rattle.std.proofs.lemmas.Bool.{cases_lt}
-use Rattle.macho_model.specs.Images.{CHAIN_PAGE}
+use Rattle.macho_model.specs.Segments.{SEGMENT_PAGE}
 use Rattle.macho_fixups.specs.declared.run.Fixup.{Fixup}
 use Rattle.macho_fixups.specs.Runs.{pages_with, pages_of, is_in}
 use Rattle.macho_fixups.specs.Laws.{PagesAreBounded, RoomGrows, NoFixupNoPages}
@@ -14,9 +14,9 @@ use Rattle.macho_fixups.proofs.Cuts.{pages_of-below, pages_with-in, pages_with-o
 -- a segment's pages
 pub pages_bounded : PagesAreBounded
 pages_bounded s fixups whole =
-    pages_of-below s fixups ((s.file_size + (CHAIN_PAGE - 1)) / CHAIN_PAGE) (λ k d lt. of_one (get_or fixups k d))
+    pages_of-below s fixups ((s.file_size + (SEGMENT_PAGE - 1)) / SEGMENT_PAGE) (λ k d lt. of_one (get_or fixups k d))
   where
-    of_one : (f : Fixup) → pages_with s f ≤ (s.file_size + (CHAIN_PAGE - 1)) / CHAIN_PAGE
+    of_one : (f : Fixup) → pages_with s f ≤ (s.file_size + (SEGMENT_PAGE - 1)) / SEGMENT_PAGE
     of_one f = elim (cases_lt f.address s.address) [
       | inl low ↦ omega (arith, pages_with-out s f (inl low))
       | inr from ↦ elim (cases_lt f.address (s.address + s.file_size)) [
@@ -37,5 +37,6 @@ none_no_pages s fixups none =
   where
     of_none : (f : Fixup) → is_in s f.address ≡ false → pages_with s f ≤ 0
     of_none f out =
-        let is : pages_with s f ≡ 0 = ap (λ (t : Bool). if t then f.address / CHAIN_PAGE - s.address / CHAIN_PAGE + 1 else 0) out in omega
+        let is : pages_with s f ≡ 0 = ap (λ (t : Bool). if t then f.address / SEGMENT_PAGE - s.address / SEGMENT_PAGE + 1 else 0) out in
+        omega
         (arith, is)

@@ -14,7 +14,7 @@ use Rattle.macho_bytes.specs.Numbers.{le_bytes}
 use Rattle.macho_bytes.specs.Texts.{put, Part, end_of, Stands, IsOutside}
 use Rattle.macho_bytes.proofs.Numbers.{little_is_sound}
 use Rattle.macho_bytes.proofs.Puts.{length-put, put_stands, stands_beside, get_or-put_below, get_or-put_above}
-use Rattle.macho_model.specs.Chain.{WORD_SIZE}
+use Rattle.macho_model.specs.Needs.{POINTER_SIZE}
 use Rattle.macho_fixups.specs.declared.run.Fixup.{Fixup}
 use Rattle.macho_fixups.specs.declared.run.FixupSegment.{FixupSegment}
 use Rattle.macho_fixups.specs.Words.{has_word, word_of, IsWordOf}
@@ -50,7 +50,7 @@ words_begin segments fixups out =
 -- there is room for the next word
 pub word_room : (segments : List FixupSegment) (fixups : List Fixup) (d : Fixup) (i m n : ℕ) → i < length fixups
     → HaveRoom segments fixups n
-    → IsSegmentOf segments (get_or fixups i d).address m → place_of segments (get_or fixups i d).address + WORD_SIZE ≤ n
+    → IsSegmentOf segments (get_or fixups i d).address m → place_of segments (get_or fixups i d).address + POINTER_SIZE ≤ n
 word_room segments fixups d i m n lt room one =
     let holds = one.holds no_segment in
     let inside = room m no_segment one.within (get_or fixups i d) (All-contains_itself fixups i d lt) holds in
@@ -62,7 +62,7 @@ pub word_goes_on : (segments : List FixupSegment) (fixups : List Fixup) (d : Fix
     → WordsSoFar segments fixups old i before out → IsSegmentOf segments (get_or fixups i d).address m
     → place ≡ place_of segments (get_or fixups i d).address → has_word (get_or fixups i d).kind ≡ true
     → steps ≡ step_of fixups i → word ≡ word_of (get_or fixups i d).kind steps → IsWordOf (get_or fixups i d).kind steps word
-    → now ≡ put place (le_bytes WORD_SIZE word) out
+    → now ≡ put place (le_bytes POINTER_SIZE word) out
     → WordsSoFar segments fixups m (i + 1) before now
 word_goes_on segments fixups d i old m place steps word before out now lt run order room so_far one at has stepped as_steps as_said
     put_now =
@@ -81,11 +81,12 @@ word_goes_on segments fixups d i old m place steps word before out now lt run or
     part : Part
     part = word_part segments fixups i (get_or fixups i d)
 
-    long : length part.text ≡ WORD_SIZE
-    long = little_is_sound.long WORD_SIZE (word_of (get_or fixups i d).kind (step_of fixups i))
+    long : length part.text ≡ POINTER_SIZE
+    long = little_is_sound.long POINTER_SIZE (word_of (get_or fixups i d).kind (step_of fixups i))
 
     written : now ≡ put part.at part.text out
-    written = put_now ∙ ap (λ (p : ℕ). put p (le_bytes WORD_SIZE word) out) at ∙ ap (λ (w : ℕ). put part.at (le_bytes WORD_SIZE w) out) is
+    written = put_now ∙ ap (λ (p : ℕ). put p (le_bytes POINTER_SIZE word) out) at
+        ∙ ap (λ (w : ℕ). put part.at (le_bytes POINTER_SIZE w) out) is
 
     fits : part.at + length part.text ≤ length out
     fits = omega (arith, long, so_far.written.size, word_room segments fixups d i m (length before) lt room one)
@@ -121,9 +122,9 @@ word_goes_on segments fixups d i old m place steps word before out now lt run or
     apart : (k : ℕ) (e : Fixup) → k < i → (end_of (word_part segments fixups k (get_or fixups k e)) ≤ part.at)
         ⊎ (end_of part ≤ place_of segments (get_or fixups k e).address)
     apart k e early =
-        let far : (get_or fixups k e).address + WORD_SIZE ≤ (get_or fixups i d).address =
+        let far : (get_or fixups k e).address + POINTER_SIZE ≤ (get_or fixups i d).address =
         omega (arith, run.sorted k i e early lt, ap (λ (f : Fixup). f.address) (own e)) in
-        let size = little_is_sound.long WORD_SIZE (word_of (get_or fixups k e).kind (step_of fixups k)) in
+        let size = little_is_sound.long POINTER_SIZE (word_of (get_or fixups k e).kind (step_of fixups k)) in
         elim (places_apart segments (get_or fixups k e).address (get_or fixups i d).address order (run.in_segment k e (omega arith))
         (run.in_segment i d lt) far) [
           | inl before ↦ inl (omega (arith, size, before))

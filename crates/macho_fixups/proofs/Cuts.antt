@@ -10,7 +10,8 @@ use Rattle.std.proofs.Math.Nat.{le-max_left, le-max_right, max-le}
 use Rattle.std.proofs.lemmas.Bool.{cases_lt}
 use Rattle.std.proofs.lemmas.Bool.Decides.{nat_tests}
 use Rattle.std.proofs.lemmas.List.{get_or_default}
-use Rattle.macho_model.specs.Images.{NO_START, CHAIN_PAGE}
+use Rattle.macho_model.specs.Images.{NO_START}
+use Rattle.macho_model.specs.Segments.{SEGMENT_PAGE}
 use Rattle.macho_fixups.specs.declared.run.Fixup.{Fixup}
 use Rattle.macho_fixups.specs.declared.run.FixupSegment.{FixupSegment}
 use Rattle.macho_fixups.specs.Runs.{AreSorted, pages_with, pages_of, start_of, is_in}
@@ -60,25 +61,27 @@ below_cut fixups n bound far cut le = record { each = λ k d lt. omega (arith, c
 
 -- the start of a page whose first fixup is number k
 pub start_of-here : (fixups : List Fixup) (number k : ℕ) (d : Fixup) → k < length fixups
-    → ((j : ℕ) (e : Fixup) → j < k → (get_or fixups j e).address / CHAIN_PAGE < number) → (get_or fixups k d).address / CHAIN_PAGE ≡ number
-    → start_of fixups number ≡ (get_or fixups k d).address % CHAIN_PAGE
+    → ((j : ℕ) (e : Fixup) → j < k → (get_or fixups j e).address / SEGMENT_PAGE < number)
+    → (get_or fixups k d).address / SEGMENT_PAGE ≡ number
+    → start_of fixups number ≡ (get_or fixups k d).address % SEGMENT_PAGE
 unfolding start_of
 start_of-here [] number k d within before here = absurd (omega arith)
 start_of-here (f ∷ fixups) number zero d within before here =
-    let yes : (f.address / CHAIN_PAGE == number) ≡ true = grind (arith, nat_tests) in rw yes refl
+    let yes : (f.address / SEGMENT_PAGE == number) ≡ true = grind (arith, nat_tests) in rw yes refl
 start_of-here (f ∷ fixups) number (suc k) d within before here =
-    let below : f.address / CHAIN_PAGE < number = before 0 d (omega arith) in
-    let no : (f.address / CHAIN_PAGE == number) ≡ false = grind (arith, nat_tests) in
+    let below : f.address / SEGMENT_PAGE < number = before 0 d (omega arith) in
+    let no : (f.address / SEGMENT_PAGE == number) ≡ false = grind (arith, nat_tests) in
     rw no (start_of-here fixups number k d (omega arith) (λ j e lt. before (suc j) e (omega arith)) here)
 
 -- the start of a page without a fixup
 pub start_of-none : (fixups : List Fixup) (number : ℕ)
-    → ((j : ℕ) (e : Fixup) → j < length fixups → (get_or fixups j e).address / CHAIN_PAGE ≡ number → ⊥) → start_of fixups number ≡ NO_START
+    → ((j : ℕ) (e : Fixup) → j < length fixups → (get_or fixups j e).address / SEGMENT_PAGE ≡ number → ⊥)
+    → start_of fixups number ≡ NO_START
 unfolding start_of
 start_of-none [] number none = refl
 start_of-none (f ∷ fixups) number none =
-    let other : f.address / CHAIN_PAGE ≡ number → ⊥ = none 0 f (omega arith) in
-    let no : (f.address / CHAIN_PAGE == number) ≡ false = grind (arith, nat_tests) in
+    let other : f.address / SEGMENT_PAGE ≡ number → ⊥ = none 0 f (omega arith) in
+    let no : (f.address / SEGMENT_PAGE == number) ≡ false = grind (arith, nat_tests) in
     rw no (start_of-none fixups number (λ j e lt. none (suc j) e (omega arith)))
 
 -- no count of pages is above the whole
@@ -113,7 +116,7 @@ pages_with-out s f out =
 
 -- one inside counts those up to its own
 pub pages_with-in : (s : FixupSegment) (f : Fixup) → s.address ≤ f.address → f.address < s.address + s.file_size
-    → pages_with s f ≡ f.address / CHAIN_PAGE - s.address / CHAIN_PAGE + 1
+    → pages_with s f ≡ f.address / SEGMENT_PAGE - s.address / SEGMENT_PAGE + 1
 pages_with-in s f low high =
     let a : nat_le s.address f.address ≡ true = grind (arith, nat_tests) in
     let b : nat_lt f.address (s.address + s.file_size) ≡ true = grind (arith, nat_tests) in rw (a, b) refl

@@ -11,7 +11,8 @@ use Rattle.macho_bytes.specs.Numbers.{le_bytes}
 use Rattle.macho_bytes.specs.Texts.{put}
 use Rattle.macho_bytes.proofs.Numbers.{little_is_sound}
 use Rattle.macho_bytes.proofs.Sequences.{MoreTexts, texts_begin, texts_go_on, texts_end}
-use Rattle.macho_model.specs.Images.{NO_START, CHAIN_PAGE}
+use Rattle.macho_model.specs.Images.{NO_START}
+use Rattle.macho_model.specs.Segments.{SEGMENT_PAGE}
 use Rattle.macho_fixups.specs.declared.run.Fixup.{Fixup}
 use Rattle.macho_fixups.specs.Runs.{AreSorted, start_of}
 use Rattle.macho_fixups.specs.steps.Cuts.{IsCut}
@@ -20,24 +21,24 @@ use Rattle.macho_fixups.specs.Tables.{page_starts_text}
 use Rattle.macho_fixups.proofs.Cuts.{start_of-here, start_of-none, cut_of, below_cut}
 
 -- in front of the cut pages are lower
-lower : (fixups : List Fixup) (next number : ℕ) → IsCut fixups next (number * CHAIN_PAGE) → (j : ℕ) (e : Fixup) → j < next
-    → (get_or fixups j e).address / CHAIN_PAGE < number
+lower : (fixups : List Fixup) (next number : ℕ) → IsCut fixups next (number * SEGMENT_PAGE) → (j : ℕ) (e : Fixup) → j < next
+    → (get_or fixups j e).address / SEGMENT_PAGE < number
 lower fixups next number cut j e lt = omega (arith, cut.below j e lt)
 
 -- a run cut at its end has no fixup on the page
-pub no_start_at_end : (fixups : List Fixup) (next number : ℕ) → IsCut fixups next (number * CHAIN_PAGE) → next ≡ length fixups
+pub no_start_at_end : (fixups : List Fixup) (next number : ℕ) → IsCut fixups next (number * SEGMENT_PAGE) → next ≡ length fixups
     → NO_START ≡ start_of fixups number
 no_start_at_end fixups next number cut end =
     sym (start_of-none fixups number (λ j e lt is. omega (arith, lower fixups next number cut j e (omega arith))))
 
 -- nor has one whose next fixup is on another page
-pub no_start_behind : (fixups : List Fixup) (next number : ℕ) (d : Fixup) → AreSorted fixups → IsCut fixups next (number * CHAIN_PAGE)
+pub no_start_behind : (fixups : List Fixup) (next number : ℕ) (d : Fixup) → AreSorted fixups → IsCut fixups next (number * SEGMENT_PAGE)
     → next < length fixups
-    → ((get_or fixups next d).address / CHAIN_PAGE ≡ number → ⊥) → NO_START ≡ start_of fixups number
+    → ((get_or fixups next d).address / SEGMENT_PAGE ≡ number → ⊥) → NO_START ≡ start_of fixups number
 no_start_behind fixups next number d sorted cut within other =
     sym (start_of-none fixups number none)
   where
-    none : (j : ℕ) (e : Fixup) → j < length fixups → (get_or fixups j e).address / CHAIN_PAGE ≡ number → ⊥
+    none : (j : ℕ) (e : Fixup) → j < length fixups → (get_or fixups j e).address / SEGMENT_PAGE ≡ number → ⊥
     none j e lt is =
         let here = cut.above next d (omega arith) within in
         elim (cases_lt j next) [
@@ -56,8 +57,8 @@ no_start_behind fixups next number d sorted cut within other =
         ]
 
 -- the next fixup is the first of its page
-pub start_here : (fixups : List Fixup) (next number : ℕ) (d : Fixup) → IsCut fixups next (number * CHAIN_PAGE) → next < length fixups
-    → (get_or fixups next d).address / CHAIN_PAGE ≡ number → (get_or fixups next d).address % CHAIN_PAGE ≡ start_of fixups number
+pub start_here : (fixups : List Fixup) (next number : ℕ) (d : Fixup) → IsCut fixups next (number * SEGMENT_PAGE) → next < length fixups
+    → (get_or fixups next d).address / SEGMENT_PAGE ≡ number → (get_or fixups next d).address % SEGMENT_PAGE ≡ start_of fixups number
 start_here fixups next number d cut within here = sym (start_of-here fixups number next d within (lower fixups next number cut) here)
 
 -- the bytes of a page's start
@@ -99,10 +100,10 @@ pages_end fixups first pages at place i before now end so_far =
     (all.written, omega (arith, all.ends, so_far.here))
 
 -- the run is cut in front of the next page too
-pub next_cut : (fixups : List Fixup) (next number to : ℕ) → AreSorted fixups → IsCut fixups next (number * CHAIN_PAGE)
-    → IsSkip fixups next (number * CHAIN_PAGE + CHAIN_PAGE) to → IsCut fixups to ((number + 1) * CHAIN_PAGE)
+pub next_cut : (fixups : List Fixup) (next number to : ℕ) → AreSorted fixups → IsCut fixups next (number * SEGMENT_PAGE)
+    → IsSkip fixups next (number * SEGMENT_PAGE + SEGMENT_PAGE) to → IsCut fixups to ((number + 1) * SEGMENT_PAGE)
 next_cut fixups next number to sorted cut skip =
-    let bound : number * CHAIN_PAGE + CHAIN_PAGE ≡ (number + 1) * CHAIN_PAGE = omega arith in
+    let bound : number * SEGMENT_PAGE + SEGMENT_PAGE ≡ (number + 1) * SEGMENT_PAGE = omega arith in
     subst (λ (b : ℕ). IsCut fixups to b) bound
-    (cut_of fixups next (number * CHAIN_PAGE + CHAIN_PAGE) to sorted
-    (below_cut fixups next (number * CHAIN_PAGE) (number * CHAIN_PAGE + CHAIN_PAGE) cut (omega arith)) skip)
+    (cut_of fixups next (number * SEGMENT_PAGE + SEGMENT_PAGE) to sorted
+    (below_cut fixups next (number * SEGMENT_PAGE) (number * SEGMENT_PAGE + SEGMENT_PAGE) cut (omega arith)) skip)

@@ -6,7 +6,7 @@
 -- where the segment's file part ends, if that is in front of the page's end.
 use Rattle.std.proofs.Common.{◌≡◌, ℕ, ◌+◌, ◌*◌, ◌-◌, ◌/◌, ◌%◌, ◌<◌, ◌≤◌, min, List, length, get_or, arith, ap, subst, inl, inr}
 use Rattle.std.proofs.lemmas.Bool.{cases_lt}
-use Rattle.macho_model.specs.Images.{CHAIN_PAGE}
+use Rattle.macho_model.specs.Segments.{SEGMENT_PAGE}
 use Rattle.macho_fixups.specs.declared.run.Fixup.{Fixup}
 use Rattle.macho_fixups.specs.declared.run.FixupSegment.{FixupSegment}
 use Rattle.macho_fixups.specs.declared.words.FixupKind.TheVariants.{Rebase}
@@ -16,14 +16,14 @@ use Rattle.macho_fixups.proofs.Cuts.{cut_of, below_cut, pages_of-above, pages_of
 
 -- where the pages so far end, inside the file part
 abbrev pub passed_end : FixupSegment → ℕ → ℕ
-passed_end s pages = min ((s.address / CHAIN_PAGE + pages) * CHAIN_PAGE) (s.address + s.file_size)
+passed_end s pages = min ((s.address / SEGMENT_PAGE + pages) * SEGMENT_PAGE) (s.address + s.file_size)
 
 -- So many pages are passed: none is behind the last one with a fixup, and the run is cut where they end.
 pub record ArePassedPages (fixups : List Fixup) (s : FixupSegment) (next pages : ℕ) : Type 0 where
   pub few : pages ≤ pages_of s fixups
   pub cut : IsCut fixups next (passed_end s pages)
 
-pub pages_first : (fixups : List Fixup) (s : FixupSegment) (begin : ℕ) → s.address % CHAIN_PAGE ≡ 0 → IsCut fixups begin s.address
+pub pages_first : (fixups : List Fixup) (s : FixupSegment) (begin : ℕ) → s.address % SEGMENT_PAGE ≡ 0 → IsCut fixups begin s.address
     → ArePassedPages fixups s begin 0
 pages_first fixups s begin paged cut =
     let same : s.address ≡ passed_end s 0 = omega (arith, paged) in
@@ -32,12 +32,13 @@ pages_first fixups s begin paged cut =
 -- what is known of the next page where a fixup of the segment is left
 pub record IsNextPage (fixups : List Fixup) (s : FixupSegment) (next pages : ℕ) : Type 0 where
   pub more : pages + 1 ≤ pages_of s fixups
-  pub cut : IsCut fixups next ((s.address / CHAIN_PAGE + pages) * CHAIN_PAGE)
-  pub low : s.address ≤ (s.address / CHAIN_PAGE + pages) * CHAIN_PAGE
-  pub high : (d : Fixup) → (s.address / CHAIN_PAGE + pages) * CHAIN_PAGE ≤ (get_or fixups next d).address
-  pub left : (s.address / CHAIN_PAGE + pages) * CHAIN_PAGE < s.address + s.file_size
+  pub cut : IsCut fixups next ((s.address / SEGMENT_PAGE + pages) * SEGMENT_PAGE)
+  pub low : s.address ≤ (s.address / SEGMENT_PAGE + pages) * SEGMENT_PAGE
+  pub high : (d : Fixup) → (s.address / SEGMENT_PAGE + pages) * SEGMENT_PAGE ≤ (get_or fixups next d).address
+  pub left : (s.address / SEGMENT_PAGE + pages) * SEGMENT_PAGE < s.address + s.file_size
 
-pub next_page : (fixups : List Fixup) (s : FixupSegment) (next pages : ℕ) → s.address % CHAIN_PAGE ≡ 0 → ArePassedPages fixups s next pages
+pub next_page : (fixups : List Fixup) (s : FixupSegment) (next pages : ℕ) → s.address % SEGMENT_PAGE ≡ 0
+    → ArePassedPages fixups s next pages
     → IsNextBelow fixups next (s.address + s.file_size) → IsNextPage fixups s next pages
 next_page fixups s next pages paged p below =
     record {
@@ -57,21 +58,21 @@ next_page fixups s next pages paged p below =
     e : Fixup
     e = record { address = 0; kind = Rebase 0 }
 
-    low : s.address ≤ (s.address / CHAIN_PAGE + pages) * CHAIN_PAGE
+    low : s.address ≤ (s.address / SEGMENT_PAGE + pages) * SEGMENT_PAGE
     low = omega (arith, paged)
 
-    high : (d : Fixup) → (s.address / CHAIN_PAGE + pages) * CHAIN_PAGE ≤ (get_or fixups next d).address
+    high : (d : Fixup) → (s.address / SEGMENT_PAGE + pages) * SEGMENT_PAGE ≤ (get_or fixups next d).address
     high d = omega (arith, p.cut.above next d (omega arith) below.0, below.1 d)
 
 -- one page more is passed
 pub pages_more : (fixups : List Fixup) (s : FixupSegment) (next pages to page left size : ℕ) → AreSorted fixups
     → IsNextPage fixups s next pages
-    → page ≡ (s.address / CHAIN_PAGE + pages) * CHAIN_PAGE → left ≡ s.file_size - (page - s.address) → size ≡ min left CHAIN_PAGE
+    → page ≡ (s.address / SEGMENT_PAGE + pages) * SEGMENT_PAGE → left ≡ s.file_size - (page - s.address) → size ≡ min left SEGMENT_PAGE
     → IsSkip fixups next (page + size) to → ArePassedPages fixups s to (pages + 1)
 pages_more fixups s next pages to page left size sorted p page_is left_is size_is skip =
     let bound : page + size ≡ passed_end s (pages + 1) = omega (arith, page_is, left_is, size_is, p.low, p.left) in
     let before : AreBelow fixups next (page + size)
-    = below_cut fixups next ((s.address / CHAIN_PAGE + pages) * CHAIN_PAGE) (page + size) p.cut (omega (arith, page_is)) in
+    = below_cut fixups next ((s.address / SEGMENT_PAGE + pages) * SEGMENT_PAGE) (page + size) p.cut (omega (arith, page_is)) in
     record {
       few = omega (arith, p.more);
       cut = subst (λ (b : ℕ). IsCut fixups to b) bound (cut_of fixups next (page + size) to sorted before skip);

@@ -10,7 +10,7 @@ use Rattle.std.proofs.lemmas.Bool.{cases_lt}
 use Rattle.std.proofs.lemmas.Bool.Decides.{nat_tests}
 use Rattle.std.proofs.lemmas.List.{get_or_default}
 use Rattle.std.proofs.lemmas.List.Elements.{All-contains}
-use Rattle.macho_model.specs.Chain.{WORD_SIZE}
+use Rattle.macho_model.specs.Needs.{POINTER_SIZE}
 use Rattle.macho_fixups.specs.declared.run.FixupSegment.{FixupSegment}
 use Rattle.macho_fixups.specs.Runs.{AreSegments, Holds, is_in}
 use Rattle.macho_fixups.specs.Chains.{place_of}
@@ -148,15 +148,15 @@ one_passed segments m a d within passed behind =
 
 -- two words, one behind the other, stand apart in the file
 pub places_apart : (segments : List FixupSegment) (a b : ℕ) → AreSegments segments → ((s : FixupSegment) × Contains segments s × Holds s a)
-    → ((s : FixupSegment) × Contains segments s × Holds s b) → a + WORD_SIZE ≤ b
-    → (place_of segments a + WORD_SIZE ≤ place_of segments b) ⊎ (place_of segments b + WORD_SIZE ≤ place_of segments a)
+    → ((s : FixupSegment) × Contains segments s × Holds s b) → a + POINTER_SIZE ≤ b
+    → (place_of segments a + POINTER_SIZE ≤ place_of segments b) ⊎ (place_of segments b + POINTER_SIZE ≤ place_of segments a)
 places_apart segments a b order one two far =
     let m = segment_number segments a order one in
     let n = segment_number segments b order two in
     by_numbers m.0 n.0 m.1 n.1
   where
     by_numbers : (m n : ℕ) → IsSegmentOf segments a m → IsSegmentOf segments b n
-        → (place_of segments a + WORD_SIZE ≤ place_of segments b) ⊎ (place_of segments b + WORD_SIZE ≤ place_of segments a)
+        → (place_of segments a + POINTER_SIZE ≤ place_of segments b) ⊎ (place_of segments b + POINTER_SIZE ≤ place_of segments a)
     by_numbers m n of_a of_b =
         let at_a = place_of-at segments a m no_segment of_a in
         let at_b = place_of-at segments b n no_segment of_b in

@@ -14,8 +14,10 @@ use Rattle.std.proofs.lemmas.List.Elements.{All-contains, All-contains_itself}
 use Rattle.std.proofs.lemmas.List.FromFn.{length-range_with_len, get_or-range_with_len}
 use Rattle.macho_bytes.proofs.Numbers.{little_is_sound, number-stands}
 use Rattle.macho_bytes.specs.Numbers.{little, le_at}
-use Rattle.macho_model.specs.Images.{NO_START, CHAIN_PAGE}
-use Rattle.macho_model.specs.Chain.{ChainSegment, OnChain, IsFileWord, WORD_SIZE, STRIDE, next_of}
+use Rattle.macho_model.specs.Images.{NO_START}
+use Rattle.macho_model.specs.Segments.{SEGMENT_PAGE}
+use Rattle.macho_model.specs.Chain.{ChainSegment, OnChain, IsFileWord, STRIDE, next_of}
+use Rattle.macho_model.specs.Needs.{POINTER_SIZE}
 use Rattle.macho_model.specs.Chain as chain
 use Rattle.macho_fixups.specs.declared.run.Fixup.{Fixup}
 use Rattle.macho_fixups.specs.declared.run.FixupSegment.{FixupSegment}
@@ -49,16 +51,16 @@ step_of-last fixups k end = let no_more : nat_lt (k + 1) (length fixups) ≡ fal
 pub record HasFirst (fixups : List Fixup) (number : ℕ) (d : Fixup) : Type 0 where
   pub k : ℕ
   pub within : k < length fixups
-  pub on : (get_or fixups k d).address / CHAIN_PAGE ≡ number
-  pub at : (get_or fixups k d).address % CHAIN_PAGE ≡ start_of fixups number
+  pub on : (get_or fixups k d).address / SEGMENT_PAGE ≡ number
+  pub at : (get_or fixups k d).address % SEGMENT_PAGE ≡ start_of fixups number
 
 pub start_of-found : (fixups : List Fixup) (number : ℕ) (d : Fixup) → start_of fixups number ≢ NO_START → HasFirst fixups number d
 unfolding start_of
 start_of-found [] number d some = absurd (some refl)
 start_of-found (f ∷ fixups) number d some =
-    elim (f.address / CHAIN_PAGE == number)
-    as (λ b. (f.address / CHAIN_PAGE == number) ≡ b
-    → (if b then f.address % CHAIN_PAGE else start_of fixups number) ≢ NO_START → HasFirst (f ∷ fixups) number d) [
+    elim (f.address / SEGMENT_PAGE == number)
+    as (λ b. (f.address / SEGMENT_PAGE == number) ≡ b
+    → (if b then f.address % SEGMENT_PAGE else start_of fixups number) ≢ NO_START → HasFirst (f ∷ fixups) number d) [
       | true ↦ λ yes _. record { k = 0; within = omega arith; on = grind (arith, nat_tests); at = rw yes refl }
       | false ↦ λ other there.
           let rest = start_of-found fixups number d there in
@@ -101,9 +103,9 @@ place_in segments s a order one holds =
 standing : (segments : List FixupSegment) (fixups : List Fixup) (b : List ℕ) (k : ℕ) (d : Fixup) → AreWords fixups
     → AllStand segments fixups b
     → k < length fixups
-    → le_at WORD_SIZE b (place_of segments (get_or fixups k d).address) ≡ word_of (get_or fixups k d).kind (step_of fixups k)
+    → le_at POINTER_SIZE b (place_of segments (get_or fixups k d).address) ≡ word_of (get_or fixups k d).kind (step_of fixups k)
 standing segments fixups b k d words stand lt =
-    number-stands little little_is_sound WORD_SIZE (word_of (get_or fixups k d).kind (step_of fixups k)) b
+    number-stands little little_is_sound POINTER_SIZE (word_of (get_or fixups k d).kind (step_of fixups k)) b
     (place_of segments (get_or fixups k d).address) (words k d lt).fits (stand.each k d lt)
 
 -- a file's word at a fixup is that of the run
@@ -122,7 +124,7 @@ word_is segments fixups b k word d order words stand lt w =
       omega
           (arith, w.to, address, size),
     )) in
-    w.is ∙ ap (λ (p : ℕ). le_at WORD_SIZE b p) place ∙ standing segments fixups b k d words stand lt
+    w.is ∙ ap (λ (p : ℕ). le_at POINTER_SIZE b p) place ∙ standing segments fixups b k d words stand lt
 
 -- and it stands there
 word_there : (segments : List FixupSegment) (fixups : List Fixup) (b : List ℕ) (k : ℕ) (d : Fixup) → AreFixups segments fixups
@@ -136,14 +138,14 @@ word_there segments fixups b k d run order words stand lt =
       one = is_seen segments fixups one.0 one.1;
       from = one.2.0;
       to = one.2.1;
-      is = sym (ap (λ (p : ℕ). le_at WORD_SIZE b p) (sym (place_in segments one.0 (get_or fixups k d).address order one.1 one.2))
+      is = sym (ap (λ (p : ℕ). le_at POINTER_SIZE b p) (sym (place_in segments one.0 (get_or fixups k d).address order one.1 one.2))
           ∙ standing segments fixups b k d words stand lt);
     }
 
 -- steps on one page lead exactly to the next address
 exact : (a b steps : ℕ) → a ≤ b → a % STRIDE ≡ 0 → b % STRIDE ≡ 0 → 1 ≤ steps → steps ≡ step_between a b → a + STRIDE * steps ≡ b
 exact a b steps le four_a four_b some is =
-    elim (a / CHAIN_PAGE == b / CHAIN_PAGE) as (λ t. steps ≡ (if t then (b - a) / STRIDE else 0) → a + STRIDE * steps ≡ b) [
+    elim (a / SEGMENT_PAGE == b / SEGMENT_PAGE) as (λ t. steps ≡ (if t then (b - a) / STRIDE else 0) → a + STRIDE * steps ≡ b) [
       | true ↦ λ e. omega (arith, e, le, four_a, four_b)
       | false ↦ λ e. absurd (omega (arith, e, some))
     ] is
@@ -170,22 +172,22 @@ pub record IsNumbered (fixups : List Fixup) (a : ℕ) (d : Fixup) : Type 0 where
   pub is : (get_or fixups k d).address ≡ a
 
 -- page number by the segment's
-pub page_address : (s start number page a : ℕ) → s % CHAIN_PAGE ≡ 0 → number ≡ s / CHAIN_PAGE + page → a / CHAIN_PAGE ≡ number
-    → a % CHAIN_PAGE ≡ start
-    → a ≡ s + CHAIN_PAGE * page + start
+pub page_address : (s start number page a : ℕ) → s % SEGMENT_PAGE ≡ 0 → number ≡ s / SEGMENT_PAGE + page → a / SEGMENT_PAGE ≡ number
+    → a % SEGMENT_PAGE ≡ start
+    → a ≡ s + SEGMENT_PAGE * page + start
 page_address s start number page a whole is on at = omega (arith, whole, is, on, at)
 
 -- a page's start among the starts of its segment
 pub start_in : (fixups : List Fixup) (s : FixupSegment) (page : ℕ) → page < pages_of s fixups
-    → slice_index (starts_in fixups s) page ≡ start_of fixups (s.address / CHAIN_PAGE + page)
+    → slice_index (starts_in fixups s) page ≡ start_of fixups (s.address / SEGMENT_PAGE + page)
 start_in fixups s page lt =
-    get_or-map (λ (p : ℕ). start_of fixups (s.address / CHAIN_PAGE + p)) (range_with_len 0 (pages_of s fixups)) page 0 0
+    get_or-map (λ (p : ℕ). start_of fixups (s.address / SEGMENT_PAGE + p)) (range_with_len 0 (pages_of s fixups)) page 0 0
     (omega (arith, length-range_with_len 0 (pages_of s fixups)))
-    ∙ ap (λ (p : ℕ). start_of fixups (s.address / CHAIN_PAGE + p)) (get_or-range_with_len 0 (pages_of s fixups) page 0 lt ∙ omega arith)
+    ∙ ap (λ (p : ℕ). start_of fixups (s.address / SEGMENT_PAGE + p)) (get_or-range_with_len 0 (pages_of s fixups) page 0 lt ∙ omega arith)
 
 pub starts_long : (fixups : List Fixup) (s : FixupSegment) → length (starts_in fixups s) ≡ pages_of s fixups
 starts_long fixups s =
-    length-map (range_with_len 0 (pages_of s fixups)) (λ (p : ℕ). start_of fixups (s.address / CHAIN_PAGE + p))
+    length-map (range_with_len 0 (pages_of s fixups)) (λ (p : ℕ). start_of fixups (s.address / SEGMENT_PAGE + p))
     ∙ length-range_with_len 0 (pages_of s fixups)
 
 -- all of the chain are fixups
@@ -194,20 +196,20 @@ pub only : (segments : List FixupSegment) (fixups : List Fixup) (b : List ℕ) (
 only segments fixups b d run order words stand _ (chain.OnChain.first g page one within some) =
     let seen = seen_of segments fixups g one in
     subst (λ (h : ChainSegment). page < length h.starts → slice_index h.starts page ≢ NO_START
-    → IsNumbered fixups (h.address + CHAIN_PAGE * page + slice_index h.starts page) d) (sym seen.2) (at_start seen.0 seen.1) within some
+    → IsNumbered fixups (h.address + SEGMENT_PAGE * page + slice_index h.starts page) d) (sym seen.2) (at_start seen.0 seen.1) within some
   where
     at_start : (s : FixupSegment) → Contains segments s → page < length (starts_in fixups s)
         → slice_index (starts_in fixups s) page ≢ NO_START
-        → IsNumbered fixups (s.address + CHAIN_PAGE * page + slice_index (starts_in fixups s) page) d
+        → IsNumbered fixups (s.address + SEGMENT_PAGE * page + slice_index (starts_in fixups s) page) d
     at_start s one lt start =
         let here = start_in fixups s page (omega (arith, lt, starts_long fixups s)) in
-        let found = start_of-found fixups (s.address / CHAIN_PAGE + page) d (λ e. start (here ∙ e)) in
+        let found = start_of-found fixups (s.address / SEGMENT_PAGE + page) d (λ e. start (here ∙ e)) in
         record {
           k = found.k;
           within = found.within;
-          is = page_address s.address (slice_index (starts_in fixups s) page) (s.address / CHAIN_PAGE + page) page
+          is = page_address s.address (slice_index (starts_in fixups s) page) (s.address / SEGMENT_PAGE + page) page
               (get_or fixups found.k d).address
-              (All-contains (λ (t : FixupSegment). t.address % CHAIN_PAGE ≡ 0) segments s order.paged one) refl found.on
+              (All-contains (λ (t : FixupSegment). t.address % SEGMENT_PAGE ≡ 0) segments s order.paged one) refl found.on
               (found.at ∙ sym here);
         }
 only segments fixups b d run order words stand _ (chain.OnChain.next a word on stands goes) =
@@ -221,8 +223,8 @@ only segments fixups b d run order words stand _ (chain.OnChain.next a word on s
 -- the first fixup of a page is at the page's start
 first_on : (segments : List FixupSegment) (fixups : List Fixup) (b : List ℕ) (k : ℕ) (d : Fixup) → AreFixups segments fixups
     → AreSegments segments
-    → k < length fixups → ((j : ℕ) (e : Fixup) → j < k → (get_or fixups j e).address / CHAIN_PAGE < (get_or fixups k d).address /
-    CHAIN_PAGE)
+    → k < length fixups → ((j : ℕ) (e : Fixup) → j < k → (get_or fixups j e).address / SEGMENT_PAGE < (get_or fixups k d).address /
+    SEGMENT_PAGE)
     → OnChain (map (chain_seen fixups) segments) b (get_or fixups k d).address
 first_on segments fixups b k d run order lt before =
     let one = run.in_segment k d lt in at_page one.0 one.1 one.2
@@ -232,16 +234,16 @@ first_on segments fixups b k d run order lt before =
 
     at_page : (s : FixupSegment) → Contains segments s → Holds s a → OnChain (map (chain_seen fixups) segments) b a
     at_page s one holds =
-        let page : ℕ = a / CHAIN_PAGE - s.address / CHAIN_PAGE in
-        let whole : s.address % CHAIN_PAGE ≡ 0 = All-contains (λ (t : FixupSegment). t.address % CHAIN_PAGE ≡ 0) segments s order.paged
+        let page : ℕ = a / SEGMENT_PAGE - s.address / SEGMENT_PAGE in
+        let whole : s.address % SEGMENT_PAGE ≡ 0 = All-contains (λ (t : FixupSegment). t.address % SEGMENT_PAGE ≡ 0) segments s order.paged
         one in
         let counted = pages_with-in s (get_or fixups k d) holds.0 (omega (arith, holds.1)) in
         let few : page < pages_of s fixups = omega (arith, counted, pages_of-above s fixups k d lt) in
-        let number : s.address / CHAIN_PAGE + page ≡ a / CHAIN_PAGE = omega (arith, holds.0) in
-        let start : slice_index (starts_in fixups s) page ≡ a % CHAIN_PAGE =
-        start_in fixups s page few ∙ ap (start_of fixups) number ∙ start_of-here fixups (a / CHAIN_PAGE) k d lt before refl in
+        let number : s.address / SEGMENT_PAGE + page ≡ a / SEGMENT_PAGE = omega (arith, holds.0) in
+        let start : slice_index (starts_in fixups s) page ≡ a % SEGMENT_PAGE =
+        start_in fixups s page few ∙ ap (start_of fixups) number ∙ start_of-here fixups (a / SEGMENT_PAGE) k d lt before refl in
         let some : slice_index (starts_in fixups s) page ≢ NO_START = λ e. absurd (omega (arith, e, start)) in
-        let place : s.address + CHAIN_PAGE * page + slice_index (starts_in fixups s) page ≡ a = omega (arith, start, whole, number) in
+        let place : s.address + SEGMENT_PAGE * page + slice_index (starts_in fixups s) page ≡ a = omega (arith, start, whole, number) in
         subst (λ (x : ℕ). OnChain (map (chain_seen fixups) segments) b x) place
         (chain.OnChain.first (chain_seen fixups s) page (is_seen segments fixups s one) (omega (arith, few, starts_long fixups s)) some)
 
@@ -252,16 +254,17 @@ pub found : (segments : List FixupSegment) (fixups : List Fixup) (b : List ℕ) 
 found segments fixups b d run order words stand zero lt =
     first_on segments fixups b 0 d run order lt (λ j e none. absurd (omega arith))
 found segments fixups b d run order words stand (suc k) lt =
-    elim (cases_lt ((get_or fixups k d).address / CHAIN_PAGE) ((get_or fixups (suc k) d).address / CHAIN_PAGE)) [
+    elim (cases_lt ((get_or fixups k d).address / SEGMENT_PAGE) ((get_or fixups (suc k) d).address / SEGMENT_PAGE)) [
       | inl lower ↦ first_on segments fixups b (suc k) d run order lt (λ j e early. earlier j e early lower)
       | inr same ↦ led (found segments fixups b d run order words stand k (omega arith)) (omega (arith, same, ordered))
     ]
   where
-    ordered : (get_or fixups k d).address + WORD_SIZE ≤ (get_or fixups (suc k) d).address
+    ordered : (get_or fixups k d).address + POINTER_SIZE ≤ (get_or fixups (suc k) d).address
     ordered = run.sorted k (suc k) d (omega arith) lt
 
-    earlier : (j : ℕ) (e : Fixup) → j < suc k → (get_or fixups k d).address / CHAIN_PAGE < (get_or fixups (suc k) d).address / CHAIN_PAGE
-        → (get_or fixups j e).address / CHAIN_PAGE < (get_or fixups (suc k) d).address / CHAIN_PAGE
+    earlier : (j : ℕ) (e : Fixup) → j < suc k → (get_or fixups k d).address / SEGMENT_PAGE <
+        (get_or fixups (suc k) d).address / SEGMENT_PAGE
+        → (get_or fixups j e).address / SEGMENT_PAGE < (get_or fixups (suc k) d).address / SEGMENT_PAGE
     earlier j e early lower = elim (cases_lt j k) [
       | inl less ↦
           let own : (get_or fixups k e).address ≡ (get_or fixups k d).address =
@@ -275,13 +278,13 @@ found segments fixups b d run order words stand (suc k) lt =
     ]
 
     led : OnChain (map (chain_seen fixups) segments) b (get_or fixups k d).address
-        → (get_or fixups k d).address / CHAIN_PAGE ≡ (get_or fixups (suc k) d).address / CHAIN_PAGE
+        → (get_or fixups k d).address / SEGMENT_PAGE ≡ (get_or fixups (suc k) d).address / SEGMENT_PAGE
         → OnChain (map (chain_seen fixups) segments) b (get_or fixups (suc k) d).address
     led on same =
         let within : k < length fixups = omega arith in
         let next : k + 1 ≡ suc k = omega arith in
         let more : k + 1 < length fixups = omega arith in
-        let yes : ((get_or fixups k d).address / CHAIN_PAGE == (get_or fixups (suc k) d).address / CHAIN_PAGE) ≡ true = grind
+        let yes : ((get_or fixups k d).address / SEGMENT_PAGE == (get_or fixups (suc k) d).address / SEGMENT_PAGE) ≡ true = grind
         (arith, nat_tests) in
         let steps : step_of fixups k ≡ ((get_or fixups (suc k) d).address - (get_or fixups k d).address) / STRIDE =
         step_of-next fixups k d more ∙ ap (λ (n : ℕ). step_between (get_or fixups k d).address (get_or fixups n d).address) next
@@ -310,28 +313,28 @@ steps_lead segments fixups k d run lt = record {
     between : k + 1 < length fixups → step_of fixups k ≡ step_between (get_or fixups k d).address (get_or fixups (k + 1) d).address
     between more = step_of-next fixups k d more
 
-    other : k + 1 < length fixups → ((get_or fixups k d).address / CHAIN_PAGE ≡ (get_or fixups (k + 1) d).address / CHAIN_PAGE → ⊥)
+    other : k + 1 < length fixups → ((get_or fixups k d).address / SEGMENT_PAGE ≡ (get_or fixups (k + 1) d).address / SEGMENT_PAGE → ⊥)
         → step_of fixups k ≡ 0
     other more apart =
-        let no : ((get_or fixups k d).address / CHAIN_PAGE == (get_or fixups (k + 1) d).address / CHAIN_PAGE) ≡ false = grind
+        let no : ((get_or fixups k d).address / SEGMENT_PAGE == (get_or fixups (k + 1) d).address / SEGMENT_PAGE) ≡ false = grind
         (arith, nat_tests) in
         between more ∙ rw no refl
 
-    same_page : k + 1 < length fixups → 1 ≤ step_of fixups k → (get_or fixups (k + 1) d).address / CHAIN_PAGE ≡
-        (get_or fixups k d).address / CHAIN_PAGE
-    same_page more some = elim (cases_lt ((get_or fixups k d).address / CHAIN_PAGE) ((get_or fixups (k + 1) d).address / CHAIN_PAGE)) [
+    same_page : k + 1 < length fixups → 1 ≤ step_of fixups k → (get_or fixups (k + 1) d).address / SEGMENT_PAGE ≡
+        (get_or fixups k d).address / SEGMENT_PAGE
+    same_page more some = elim (cases_lt ((get_or fixups k d).address / SEGMENT_PAGE) ((get_or fixups (k + 1) d).address / SEGMENT_PAGE)) [
       | inl less ↦ absurd (omega (arith, some, other more (λ e. omega (arith, e, less))))
       | inr high ↦ omega (arith, high, run.sorted k (k + 1) d (omega arith) more)
     ]
 
-    other_page : k + 1 < length fixups → step_of fixups k ≡ 0 → (get_or fixups k d).address / CHAIN_PAGE <
-        (get_or fixups (k + 1) d).address / CHAIN_PAGE
-    other_page more none = elim (cases_lt ((get_or fixups k d).address / CHAIN_PAGE) ((get_or fixups (k + 1) d).address / CHAIN_PAGE)) [
+    other_page : k + 1 < length fixups → step_of fixups k ≡ 0 → (get_or fixups k d).address / SEGMENT_PAGE <
+        (get_or fixups (k + 1) d).address / SEGMENT_PAGE
+    other_page more none = elim (cases_lt ((get_or fixups k d).address / SEGMENT_PAGE) ((get_or fixups (k + 1) d).address / SEGMENT_PAGE)) [
       | inl less ↦ less
       | inr high ↦
           let ordered = run.sorted k (k + 1) d (omega arith) more in
-          let yes : ((get_or fixups k d).address / CHAIN_PAGE == (get_or fixups (k + 1) d).address / CHAIN_PAGE) ≡ true =
-          (let same : (get_or fixups k d).address / CHAIN_PAGE ≡ (get_or fixups (k + 1) d).address / CHAIN_PAGE = omega
+          let yes : ((get_or fixups k d).address / SEGMENT_PAGE == (get_or fixups (k + 1) d).address / SEGMENT_PAGE) ≡ true =
+          (let same : (get_or fixups k d).address / SEGMENT_PAGE ≡ (get_or fixups (k + 1) d).address / SEGMENT_PAGE = omega
           (arith, high, ordered) in
           grind (arith, nat_tests)) in
           let steps : step_of fixups k ≡ ((get_or fixups (k + 1) d).address - (get_or fixups k d).address) / STRIDE = between more

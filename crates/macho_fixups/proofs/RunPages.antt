@@ -9,8 +9,9 @@ use Rattle.std.proofs.Common.{subst, ◌∙◌, inl, inr}
 use Rattle.std.specs.Prelude.{Contains}
 use Rattle.std.proofs.lemmas.Bool.{cases_lt}
 use Rattle.std.proofs.lemmas.List.Elements.{All-contains, All-contains_itself}
-use Rattle.macho_model.specs.Images.{CHAIN_PAGE}
-use Rattle.macho_model.specs.Chain.{ChainSegment, OnChain, OnPageChain, IsFileWord, WORD_SIZE, STRIDE, next_of}
+use Rattle.macho_model.specs.Segments.{SEGMENT_PAGE}
+use Rattle.macho_model.specs.Chain.{ChainSegment, OnChain, OnPageChain, IsFileWord, STRIDE, next_of}
+use Rattle.macho_model.specs.Needs.{POINTER_SIZE}
 use Rattle.macho_model.specs.Chain as chain
 use Rattle.macho_fixups.specs.declared.words.FixupKind.TheVariants.{Rebase}
 use Rattle.macho_fixups.specs.declared.run.Fixup.{Fixup}
@@ -29,7 +30,7 @@ record IsFarOn (s : FixupSegment) (fixups : List Fixup) (page : ℕ) : Type 0 wh
   pub f : Fixup
   pub low : s.address ≤ f.address
   pub high : f.address < s.address + s.file_size
-  pub far : s.address / CHAIN_PAGE + page ≤ f.address / CHAIN_PAGE
+  pub far : s.address / SEGMENT_PAGE + page ≤ f.address / SEGMENT_PAGE
 
 -- one that counts more pages
 counts : (s : FixupSegment) (fixups : List Fixup) (f : Fixup) (page : ℕ) → page < pages_with s f → IsFarOn s fixups page
@@ -56,7 +57,7 @@ far_on s (f ∷ fixups) page lt =
 -- a fixup on a page that counts is held by the segment of the page
 held_by : (segments : List FixupSegment) (fixups : List Fixup) (s : FixupSegment) (page : ℕ) (f : Fixup) → AreSegments segments
     → Contains segments s → ((t : FixupSegment) × Contains segments t × Holds t f.address) → page < pages_of s fixups
-    → f.address / CHAIN_PAGE ≡ s.address / CHAIN_PAGE + page → f.address + WORD_SIZE ≤ s.address + s.file_size
+    → f.address / SEGMENT_PAGE ≡ s.address / SEGMENT_PAGE + page → f.address + POINTER_SIZE ≤ s.address + s.file_size
 held_by segments fixups s page f order one held few on =
     elim (cases_lt m.number n.number) [
       | inl before ↦ absurd (omega (
@@ -70,7 +71,7 @@ held_by segments fixups s page f order one held few on =
         held.2.1,
         held.2.0,
         on,
-        All-contains (λ (t : FixupSegment). t.address % CHAIN_PAGE ≡ 0) segments s order.paged one,
+        All-contains (λ (t : FixupSegment). t.address % SEGMENT_PAGE ≡ 0) segments s order.paged one,
       ))
       | inr from ↦ elim (cases_lt n.number m.number) [
         | inl after ↦ absurd (omega (
@@ -85,12 +86,12 @@ held_by segments fixups s page f order one held few on =
           far.high,
           held.2.0,
           on,
-          All-contains (λ (t : FixupSegment). t.address % CHAIN_PAGE ≡ 0) segments held.0 order.paged held.1,
+          All-contains (λ (t : FixupSegment). t.address % SEGMENT_PAGE ≡ 0) segments held.0 order.paged held.1,
         ))
         | inr same ↦
             let at : m.number ≡ n.number = omega arith in
             let is : held.0 ≡ s = sym (m.is no_segment) ∙ ap (λ (k : ℕ). get_or segments k no_segment) at ∙ n.is no_segment in
-            subst (λ (t : FixupSegment). f.address + WORD_SIZE ≤ t.address + t.file_size) is held.2.1
+            subst (λ (t : FixupSegment). f.address + POINTER_SIZE ≤ t.address + t.file_size) is held.2.1
       ]
     ]
   where
@@ -126,7 +127,7 @@ record IsOnPage (s : FixupSegment) (fixups : List Fixup) (page a : ℕ) (d : Fix
   pub k : ℕ
   pub within : k < length fixups
   pub is : (get_or fixups k d).address ≡ a
-  pub on : (get_or fixups k d).address / CHAIN_PAGE ≡ s.address / CHAIN_PAGE + page
+  pub on : (get_or fixups k d).address / SEGMENT_PAGE ≡ s.address / SEGMENT_PAGE + page
   pub few : page < pages_of s fixups
 
 -- all of a page's chain are fixups of the page
@@ -136,13 +137,14 @@ only_page : (segments : List FixupSegment) (fixups : List Fixup) (b : List ℕ) 
 only_page segments fixups b d run order words stand s page one _ (chain.OnPageChain.first within some) =
     let few : page < pages_of s fixups = omega (arith, within, starts_long fixups s) in
     let here = start_in fixups s page few in
-    let first = start_of-found fixups (s.address / CHAIN_PAGE + page) d (λ e. some (here ∙ e)) in
+    let first = start_of-found fixups (s.address / SEGMENT_PAGE + page) d (λ e. some (here ∙ e)) in
     record {
       k = first.k;
       within = first.within;
-      is = page_address s.address (slice_index (starts_in fixups s) page) (s.address / CHAIN_PAGE + page) page
+      is = page_address s.address (slice_index (starts_in fixups s) page) (s.address / SEGMENT_PAGE + page) page
           (get_or fixups first.k d).address
-          (All-contains (λ (t : FixupSegment). t.address % CHAIN_PAGE ≡ 0) segments s order.paged one) refl first.on (first.at ∙ sym here);
+          (All-contains (λ (t : FixupSegment). t.address % SEGMENT_PAGE ≡ 0) segments s order.paged one) refl first.on
+          (first.at ∙ sym here);
       on = first.on;
       few = few;
     }
@@ -174,7 +176,7 @@ page_word segments fixups b g page a d run order words stand one on =
         → IsPageWord fixups (chain_seen fixups s) page a
     of_segment s one on =
         let here = only_page segments fixups b d run order words stand s page one a on in
-        let whole : s.address % CHAIN_PAGE ≡ 0 = All-contains (λ (t : FixupSegment). t.address % CHAIN_PAGE ≡ 0) segments s order.paged
+        let whole : s.address % SEGMENT_PAGE ≡ 0 = All-contains (λ (t : FixupSegment). t.address % SEGMENT_PAGE ≡ 0) segments s order.paged
         one in
         let in_page = run.in_page here.k d here.within in
         record {

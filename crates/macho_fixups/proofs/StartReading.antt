@@ -20,7 +20,8 @@ use Rattle.macho_bytes.proofs.Layouts.{length-spelling, reads_back}
 use Rattle.macho_bytes.proofs.Tables.{EachLong, length-table, table-stands}
 use Rattle.macho_structs.specs.Layouts.{chained_starts_in_segment}
 use Rattle.macho_structs.specs.declared.fixups.ChainedStartsInSegment.{ChainedStartsInSegment}
-use Rattle.macho_model.specs.Images.{CHAIN_PAGE, Table, starts_place, starts_offset, segment_starts, segment_starts_place}
+use Rattle.macho_model.specs.Images.{Table, starts_place, starts_offset, segment_starts, segment_starts_place}
+use Rattle.macho_model.specs.Segments.{SEGMENT_PAGE}
 use Rattle.macho_fixups.specs.declared.run.Fixup.{Fixup}
 use Rattle.macho_fixups.specs.declared.run.FixupSegment.{FixupSegment}
 use Rattle.macho_fixups.specs.Runs.{pages_of, start_of}
@@ -49,7 +50,7 @@ record_long r = length-spelling chained_starts_in_segment r little_is_sound (ref
 -- a segment's text by its pages
 pub text_some : (base pages : ℕ) (fixups : List Fixup) (s : FixupSegment) → 0 < pages
     → starts_text base fixups s pages
-    ≡ spelling chained_starts_in_segment (starts_record base s pages) ++ page_starts_text fixups (s.address / CHAIN_PAGE) pages
+    ≡ spelling chained_starts_in_segment (starts_record base s pages) ++ page_starts_text fixups (s.address / SEGMENT_PAGE) pages
 unfolding starts_text
 text_some base pages fixups s some = let other : (pages == 0) ≡ false = grind (arith, nat_tests) in rw other refl
 
@@ -65,9 +66,9 @@ text_long base fixups s =
             size,
             ap length (text_some base (pages_of s fixups) fixups s some),
             length-append (spelling chained_starts_in_segment (starts_record base s (pages_of s fixups)))
-                (page_starts_text fixups (s.address / CHAIN_PAGE) (pages_of s fixups)),
+                (page_starts_text fixups (s.address / SEGMENT_PAGE) (pages_of s fixups)),
             record_long (starts_record base s (pages_of s fixups)),
-            length-page_starts fixups (s.address / CHAIN_PAGE) (pages_of s fixups),
+            length-page_starts fixups (s.address / SEGMENT_PAGE) (pages_of s fixups),
           )
       | inr none ↦ let yes : (pages_of s fixups == 0) ≡ true = grind (arith, nat_tests) in rw yes refl
     ]
@@ -78,7 +79,7 @@ unfolding start_of
 start_small [] number = omega arith
 start_small (f ∷ fixups) number =
     let rest = start_small fixups number in
-    elim (f.address / CHAIN_PAGE == number) as (λ t. (if t then f.address % CHAIN_PAGE else start_of fixups number) < 256 ^ 2) [
+    elim (f.address / SEGMENT_PAGE == number) as (λ t. (if t then f.address % SEGMENT_PAGE else start_of fixups number) < 256 ^ 2) [
       | true ↦ omega arith
       | false ↦ rest
     ]
@@ -182,7 +183,7 @@ pub record IsRecordRead (base : ℕ) (fixups : List Fixup) (segments : List Fixu
   pub is : segment_starts b t k ≡ starts_record base s (pages_of s fixups)
   pub behind : Stands b (record {
     at = segment_starts_place b t k + 22;
-    text = page_starts_text fixups (s.address / CHAIN_PAGE) (pages_of s fixups);
+    text = page_starts_text fixups (s.address / SEGMENT_PAGE) (pages_of s fixups);
   })
 
 pub record_read : (base at : ℕ) (fixups : List Fixup) (segments : List FixupSegment) (b : List ℕ) (t : Table) (k : ℕ) (d : FixupSegment)
@@ -198,7 +199,7 @@ record_read base at fixups segments b t k d fits place offsets texts lt some =
           (stands-front b (segment_starts_place b t k) (spelling chained_starts_in_segment (starts_record base s pages)) _ parts);
       behind = stands-back b (segment_starts_place b t k) (segment_starts_place b t k + 22)
           (spelling chained_starts_in_segment (starts_record base s pages))
-          (page_starts_text fixups (s.address / CHAIN_PAGE) pages) (omega (arith, record_long (starts_record base s pages))) parts;
+          (page_starts_text fixups (s.address / SEGMENT_PAGE) pages) (omega (arith, record_long (starts_record base s pages))) parts;
     }
   where
     s : FixupSegment
@@ -222,7 +223,7 @@ record_read base at fixups segments b t k d fits place offsets texts lt some =
     parts : Stands b (record {
       at = segment_starts_place b t k;
       text = spelling chained_starts_in_segment (starts_record base s pages)
-          ++ page_starts_text fixups (s.address / CHAIN_PAGE) pages;
+          ++ page_starts_text fixups (s.address / SEGMENT_PAGE) pages;
     })
     parts =
         subst (λ (x : List ℕ). Stands b (record { at = segment_starts_place b t k; text = x })) (text_some base pages fixups s some)

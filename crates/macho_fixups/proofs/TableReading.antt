@@ -19,7 +19,8 @@ use Rattle.macho_bytes.proofs.Numbers.{little_is_sound, number-stands, stands-fr
 use Rattle.macho_structs.specs.Layouts.{chained_fixups_header}
 use Rattle.macho_structs.specs.declared.fixups.ChainedStartsInSegment.{ChainedStartsInSegment}
 use Rattle.macho_structs.specs.declared.fixups.ChainedFixupsHeader.{ChainedFixupsHeader}
-use Rattle.macho_model.specs.Images.{CHAIN_PAGE, Table, fixups_header, starts_place, starts_offset, segment_starts, segment_starts_place}
+use Rattle.macho_model.specs.Images.{Table, fixups_header, starts_place, starts_offset, segment_starts, segment_starts_place}
+use Rattle.macho_model.specs.Segments.{SEGMENT_PAGE}
 use Rattle.macho_model.specs.Images.{page_start, page_starts}
 use Rattle.macho_fixups.specs.declared.run.Fixup.{Fixup}
 use Rattle.macho_fixups.specs.declared.run.FixupSegment.{FixupSegment}
@@ -80,7 +81,7 @@ starts_read base at fixups segments b t k d fits place offsets texts lt =
         let is : starts_offset b t k ≡ 0 = no_offset base at fixups segments b t k d fits place offsets lt zero_pages in
         let skip : (starts_offset b t k == 0) ≡ true = grind (arith, nat_tests) in
         ap (λ (e : Bool). if e then [] else map (page_start b t k) (range_with_len 0 (segment_starts b t k).page_count)) skip
-        ∙ ap (λ (n : ℕ). map (λ (p : ℕ). start_of fixups (s.address / CHAIN_PAGE + p)) (range_with_len 0 n)) (sym zero_pages)
+        ∙ ap (λ (n : ℕ). map (λ (p : ℕ). start_of fixups (s.address / SEGMENT_PAGE + p)) (range_with_len 0 n)) (sym zero_pages)
 
     with_pages : 0 < pages → page_starts b t k ≡ starts_in fixups s
     with_pages some =
@@ -88,8 +89,8 @@ starts_read base at fixups segments b t k d fits place offsets texts lt =
         let goes : (starts_offset b t k == 0) ≡ false = (let far : starts_offset b t k ≡ _ = told.offset in grind (arith, nat_tests)) in
         ap (λ (e : Bool). if e then [] else map (page_start b t k) (range_with_len 0 (segment_starts b t k).page_count)) goes
         ∙ ap (λ (r : ChainedStartsInSegment). map (page_start b t k) (range_with_len 0 r.page_count)) told.is
-        ∙ same_map (page_start b t k) (λ (p : ℕ). start_of fixups (s.address / CHAIN_PAGE + p)) pages
-        (λ page less. start_stands b fixups (segment_starts_place b t k + 22) (s.address / CHAIN_PAGE) pages page told.behind less)
+        ∙ same_map (page_start b t k) (λ (p : ℕ). start_of fixups (s.address / SEGMENT_PAGE + p)) pages
+        (λ page less. start_stands b fixups (segment_starts_place b t k + 22) (s.address / SEGMENT_PAGE) pages page told.behind less)
 
 -- segments with the starts that are told are those with the starts of the run
 told_are : (b : List ℕ) (t : Table) (fixups : List Fixup) (segments : List FixupSegment)

@@ -15,7 +15,8 @@ use Rattle.macho_bytes.specs.Texts.{Stands}
 use Rattle.macho_structs.specs.declared.fixups.ChainedFixupsHeader.{ChainedFixupsHeader}
 use Rattle.macho_structs.specs.declared.fixups.ChainedStartsInSegment.{ChainedStartsInSegment}
 use Rattle.macho_model.specs.SegmentCommand.{SegmentCommand}
-use Rattle.macho_model.specs.Images.{Table, IMPORT_FORMAT, IMPORT_ADDEND_FORMAT, CHAIN_PAGE, fixups_header, import_entry_size}
+use Rattle.macho_model.specs.Images.{Table, IMPORT_FORMAT, IMPORT_ADDEND_FORMAT, fixups_header, import_entry_size}
+use Rattle.macho_model.specs.Segments.{SEGMENT_PAGE}
 use Rattle.macho_model.specs.Images.{starts_place, starts_count, starts_offset, segment_starts, segments_of, base_of}
 use Rattle.macho_model.specs.LoadRules.{starts_fit, starts_all_fit, header_known, parts_inside, table_fits}
 use Rattle.macho_fixups.specs.declared.run.Fixup.{Fixup}
@@ -141,7 +142,7 @@ segment_taken base at fixups segments b t k h fits header begins is_at offsets t
         let listed : nat_le ((fixups_header b t).starts_offset + starts_offset b t k + 22 + 2 * (segment_starts b t k).page_count) t.size
         ≡ true =
         at_most _ _ (omega (arith, starts, told.offset, end, room, count)) in
-        let paged : ((segment_starts b t k).page_size == CHAIN_PAGE) ≡ true = same _ _
+        let paged : ((segment_starts b t k).page_size == SEGMENT_PAGE) ≡ true = same _ _
         (ap (λ (r : ChainedStartsInSegment). r.page_size) told.is) in
         let formatted : ((segment_starts b t k).pointer_format == 6) ≡ true =
         same _ _ (ap (λ (r : ChainedStartsInSegment). r.pointer_format) told.is) in

@@ -9,7 +9,7 @@ use Rattle.std.proofs.lemmas.Bool.{cases_lt}
 use Rattle.macho_bytes.specs.Texts.{Part, IsOutside}
 use Rattle.macho_bytes.proofs.Numbers.{little_is_sound}
 use Rattle.macho_bytes.proofs.Puts.{stands_by_bytes}
-use Rattle.macho_model.specs.Chain.{WORD_SIZE}
+use Rattle.macho_model.specs.Needs.{POINTER_SIZE}
 use Rattle.macho_fixups.specs.declared.run.Fixup.{Fixup}
 use Rattle.macho_fixups.specs.declared.run.FixupSegment.{FixupSegment}
 use Rattle.macho_fixups.specs.Words.{word_of}
@@ -23,9 +23,9 @@ use Rattle.macho_fixups.proofs.Puts.{byte_of}
 
 -- a place in one segment is beside a word of another, or beside it as the addresses are
 beside : (segments : List FixupSegment) (s t : FixupSegment) (a f : ℕ) → AreSegments segments → Contains segments s → Contains segments t
-    → s.address ≤ a → a < s.address + s.file_size → Holds t f → (a < f) ⊎ (f + WORD_SIZE ≤ a)
+    → s.address ≤ a → a < s.address + s.file_size → Holds t f → (a < f) ⊎ (f + POINTER_SIZE ≤ a)
     → (s.file_offset + (a - s.address) + 1 ≤ t.file_offset + (f - t.address))
-    ⊎ (t.file_offset + (f - t.address) + WORD_SIZE ≤ s.file_offset + (a - s.address))
+    ⊎ (t.file_offset + (f - t.address) + POINTER_SIZE ≤ s.file_offset + (a - s.address))
 beside segments s t a f order of_s of_t low high held apart =
     elim (cases_lt n.number m.number) [
       | inl before ↦ parts (order.apart n.number m.number no_segment before m.within)
@@ -58,7 +58,7 @@ beside segments s t a f order of_s of_t low high held apart =
         ⊎ ((get_or segments m.number no_segment).file_offset + (get_or segments m.number no_segment).file_size
         ≤ (get_or segments n.number no_segment).file_offset)
         → (s.file_offset + (a - s.address) + 1 ≤ t.file_offset + (f - t.address))
-        ⊎ (t.file_offset + (f - t.address) + WORD_SIZE ≤ s.file_offset + (a - s.address))
+        ⊎ (t.file_offset + (f - t.address) + POINTER_SIZE ≤ s.file_offset + (a - s.address))
     parts which =
         let from_s : (get_or segments n.number no_segment).file_offset ≡ s.file_offset = ap (λ (x : FixupSegment). x.file_offset)
         (n.is no_segment) in
@@ -82,7 +82,7 @@ bytes_stay segments fixups before now s a over one low high apart =
     out k d lt =
         let held = over.run.in_segment k d lt in
         let place = place_in segments held.0 (get_or fixups k d).address over.order held.1 held.2 in
-        let long = little_is_sound.long WORD_SIZE (word_of (get_or fixups k d).kind (step_of fixups k)) in
+        let long = little_is_sound.long POINTER_SIZE (word_of (get_or fixups k d).kind (step_of fixups k)) in
         elim (beside segments s held.0 a (get_or fixups k d).address over.order one held.1 low high held.2 (apart k d lt)) [
           | inl below ↦ inl (omega (arith, below, place))
           | inr above ↦ inr (omega (arith, above, place, long))

@@ -3,8 +3,9 @@ use Rattle.std.specs.Prelude.{◌≡◌, ℕ, ◌+◌, ◌-◌, ◌*◌, ◌/◌
 use Rattle.std.specs.List.{range_with_len}
 use Rattle.macho_bytes.specs.Numbers.{le_bytes}
 use Rattle.macho_bytes.specs.Texts.{Part, Stands, IsOutside}
-use Rattle.macho_model.specs.Images.{CHAIN_PAGE}
-use Rattle.macho_model.specs.Chain.{WORD_SIZE, STRIDE, ChainSegment, IsFileWord, next_of, OnChain, OnPageChain}
+use Rattle.macho_model.specs.Segments.{SEGMENT_PAGE}
+use Rattle.macho_model.specs.Chain.{STRIDE, ChainSegment, IsFileWord, next_of, OnChain, OnPageChain}
+use Rattle.macho_model.specs.Needs.{POINTER_SIZE}
 use Rattle.macho_fixups.specs.declared.run.Fixup.{Fixup}
 use Rattle.macho_fixups.specs.declared.run.FixupSegment.{FixupSegment}
 use Rattle.macho_fixups.specs.Words.{has_word, word_of, IsWordOf}
@@ -17,7 +18,7 @@ place_of (s ∷ segments) a = if is_in s a then s.file_offset + (a - s.address) 
 
 -- the steps from one address to another of the same page, 0 where the page is another one
 abbrev pub step_between : ℕ → ℕ → ℕ
-step_between a b = if a / CHAIN_PAGE == b / CHAIN_PAGE then (b - a) / STRIDE else 0
+step_between a b = if a / SEGMENT_PAGE == b / SEGMENT_PAGE then (b - a) / STRIDE else 0
 
 abbrev pub address_at : List Fixup → ℕ → ℕ
 address_at fixups k = slice_index (map (λ f. f.address) fixups) k
@@ -29,7 +30,7 @@ step_of fixups k = if nat_lt (k + 1) (length fixups) then step_between (address_
 -- the word of fixup k, at its place
 abbrev pub word_part : List FixupSegment → List Fixup → ℕ → Fixup → Part
 word_part segments fixups k f =
-    record { at = place_of segments f.address; text = le_bytes WORD_SIZE (word_of f.kind (step_of fixups k)) }
+    record { at = place_of segments f.address; text = le_bytes POINTER_SIZE (word_of f.kind (step_of fixups k)) }
 
 -- The words of the first n fixups are written: each says what is asked, each stands, and every byte outside them is as before.
 pub record AreWritten (segments : List FixupSegment) (fixups : List Fixup) (n : ℕ) (before now : List ℕ) : Type 0 where
@@ -60,7 +61,7 @@ pub record AllStand (segments : List FixupSegment) (fixups : List Fixup) (b : Li
 
 -- the starts of a segment's pages, up to the last one with a fixup
 abbrev pub starts_in : List Fixup → FixupSegment → List ℕ
-starts_in fixups s = map (λ page. start_of fixups (s.address / CHAIN_PAGE + page)) (range_with_len 0 (pages_of s fixups))
+starts_in fixups s = map (λ page. start_of fixups (s.address / SEGMENT_PAGE + page)) (range_with_len 0 (pages_of s fixups))
 
 -- a segment with these starts, as chains see it
 abbrev pub chain_seen : List Fixup → FixupSegment → ChainSegment
@@ -77,15 +78,15 @@ address_of fixups k d = (get_or fixups k d).address
 -- So many steps from a fixup: they lead to the next fixup, on the same page. There are none where the page has no further one.
 pub record IsStepOf (fixups : List Fixup) (k : ℕ) (d : Fixup) (steps : ℕ) : Type 0 where
   pub next : 1 ≤ steps → (k + 1 < length fixups) × (address_of fixups k d + STRIDE * steps ≡ address_of fixups (k + 1) d)
-  pub page : 1 ≤ steps → address_of fixups (k + 1) d / CHAIN_PAGE ≡ address_of fixups k d / CHAIN_PAGE
-  pub last : steps ≡ 0 → k + 1 < length fixups → address_of fixups k d / CHAIN_PAGE < address_of fixups (k + 1) d / CHAIN_PAGE
+  pub page : 1 ≤ steps → address_of fixups (k + 1) d / SEGMENT_PAGE ≡ address_of fixups k d / SEGMENT_PAGE
+  pub last : steps ≡ 0 → k + 1 < length fixups → address_of fixups k d / SEGMENT_PAGE < address_of fixups (k + 1) d / SEGMENT_PAGE
 
 -- A word of the chain of a segment's page is that of a fixup. It stands whole in that page, and in the segment's file part.
 pub record IsPageWord (fixups : List Fixup) (g : ChainSegment) (page a : ℕ) : Type 0 where
   pub one : IsAddressOf fixups a
-  pub page_from : g.address + CHAIN_PAGE * page ≤ a
-  pub page_to : a + WORD_SIZE ≤ g.address + CHAIN_PAGE * (page + 1)
-  pub inside : a + WORD_SIZE ≤ g.address + g.file_size
+  pub page_from : g.address + SEGMENT_PAGE * page ≤ a
+  pub page_to : a + POINTER_SIZE ≤ g.address + SEGMENT_PAGE * (page + 1)
+  pub inside : a + POINTER_SIZE ≤ g.address + g.file_size
 
 -- In every file in which the words stand, and whose page starts are those of the run, the chain is the run.
 pub record ChainIsRun (segments : List FixupSegment) (fixups : List Fixup) : Type 0 where

@@ -2,8 +2,10 @@
 use Rattle.std.specs.Prelude.{◌≡◌, ◌≢◌, ℕ, ◌+◌, ◌-◌, ◌/◌, ◌%◌, ◌<◌, ◌≤◌, ◌⊎◌, true, false, List, [], ◌∷◌, ◌++◌, length, drop, get_or, slice_index, All, Contains}
 use Rattle.macho_bytes.specs.Texts.{Stands}
 use Rattle.macho_model.specs.ObjectRules.{has_nul}
-use Rattle.macho_model.specs.Images.{CHAIN_PAGE, Table, tables_of, starts_count, import_entry, import_name, table_names}
-use Rattle.macho_model.specs.Chain.{WORD_SIZE, chain_segments}
+use Rattle.macho_model.specs.Images.{Table, tables_of, starts_count, import_entry, import_name, table_names}
+use Rattle.macho_model.specs.Segments.{SEGMENT_PAGE}
+use Rattle.macho_model.specs.Chain.{chain_segments}
+use Rattle.macho_model.specs.Needs.{POINTER_SIZE}
 use Rattle.macho_fixups.specs.declared.run.Fixup.{Fixup}
 use Rattle.macho_fixups.specs.declared.run.FixupSegment.{FixupSegment}
 use Rattle.macho_fixups.specs.declared.imports.ImportEntry.{ImportEntry}
@@ -15,7 +17,8 @@ use Rattle.macho_fixups.specs.Readings.{IsRead, AreSegmentsOf, told_segments}
 -- whatever the fixups, a segment has no more pages with chains than its file part has
 abbrev pub PagesAreBounded : Type 0
 PagesAreBounded =
-    (s : FixupSegment) (fixups : List Fixup) → s.address % CHAIN_PAGE ≡ 0 → pages_of s fixups ≤ (s.file_size + (CHAIN_PAGE - 1)) / CHAIN_PAGE
+    (s : FixupSegment) (fixups : List Fixup) → s.address % SEGMENT_PAGE ≡ 0
+    → pages_of s fixups ≤ (s.file_size + (SEGMENT_PAGE - 1)) / SEGMENT_PAGE
 
 -- a table of more needs no less room
 abbrev pub RoomGrows : Type 0
@@ -68,7 +71,7 @@ abbrev pub TextsStay : Type 0
 TextsStay =
     (segments : List FixupSegment) (fixups : List Fixup) (before now : List ℕ) (s : FixupSegment) (a : ℕ) (text : List ℕ)
     → IsRunOver segments fixups before now → Contains segments s → s.address ≤ a → a + length text ≤ s.address + s.file_size
-    → All (λ f. (a + length text ≤ f.address) ⊎ (f.address + WORD_SIZE ≤ a)) fixups
+    → All (λ f. (a + length text ≤ f.address) ⊎ (f.address + POINTER_SIZE ≤ a)) fixups
     → Stands before (record { at = s.file_offset + (a - s.address); text = text })
     → Stands now (record { at = s.file_offset + (a - s.address); text = text })
 
@@ -77,5 +80,5 @@ abbrev pub BytesStay : Type 0
 BytesStay =
     (segments : List FixupSegment) (fixups : List Fixup) (before now : List ℕ) (s : FixupSegment) (a : ℕ)
     → IsRunOver segments fixups before now → Contains segments s → s.address ≤ a → a < s.address + s.file_size
-    → All (λ f. (a < f.address) ⊎ (f.address + WORD_SIZE ≤ a)) fixups
+    → All (λ f. (a < f.address) ⊎ (f.address + POINTER_SIZE ≤ a)) fixups
     → slice_index now (s.file_offset + (a - s.address)) ≡ slice_index before (s.file_offset + (a - s.address))

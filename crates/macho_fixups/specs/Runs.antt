@@ -1,32 +1,34 @@
 -- What both writers ask of fixups and segments, and the pages that have a chain. Pages have 16 KiB.
 use Rattle.std.specs.Prelude.{◌≡◌, ℕ, ◌+◌, ◌-◌, ◌/◌, ◌%◌, ◌^◌, ◌≤◌, ◌⊎◌, ◌==◌, ◌&&◌, nat_le, nat_lt, max, if◌then◌else◌, Bool, List, [], ◌∷◌, All, Contains}
 use Rattle.std.specs.List.{AllPairs}
-use Rattle.macho_model.specs.Images.{NO_START, CHAIN_PAGE}
-use Rattle.macho_model.specs.Chain.{WORD_SIZE, STRIDE}
+use Rattle.macho_model.specs.Images.{NO_START}
+use Rattle.macho_model.specs.Segments.{SEGMENT_PAGE}
+use Rattle.macho_model.specs.Chain.{STRIDE}
+use Rattle.macho_model.specs.Needs.{POINTER_SIZE}
 use Rattle.macho_fixups.specs.declared.run.Fixup.{Fixup}
 use Rattle.macho_fixups.specs.declared.run.FixupSegment.{FixupSegment}
 use Rattle.macho_fixups.specs.Words.{FitsOrdinal}
 
 -- the fixups stand in order, and no word begins inside another
 abbrev pub AreSorted : List Fixup → Type 0
-AreSorted fixups = AllPairs (λ f g. f.address + WORD_SIZE ≤ g.address) fixups
+AreSorted fixups = AllPairs (λ f g. f.address + POINTER_SIZE ≤ g.address) fixups
 
 -- a word at an address stands whole in the file part of a segment
 abbrev pub Holds : FixupSegment → ℕ → Type 0
-Holds s a = (s.address ≤ a) × (a + WORD_SIZE ≤ s.address + s.file_size)
+Holds s a = (s.address ≤ a) × (a + POINTER_SIZE ≤ s.address + s.file_size)
 
 -- What both writers ask of the fixups.
 pub record AreFixups (segments : List FixupSegment) (fixups : List Fixup) : Type 0 where
   pub sorted : AreSorted fixups
   pub steps : All (λ f. f.address % STRIDE ≡ 0) fixups
-  pub in_page : All (λ f. f.address % CHAIN_PAGE + WORD_SIZE ≤ CHAIN_PAGE) fixups
+  pub in_page : All (λ f. f.address % SEGMENT_PAGE + POINTER_SIZE ≤ SEGMENT_PAGE) fixups
   pub in_segment : All (λ f. (s : FixupSegment) × Contains segments s × Holds s f.address) fixups
   pub ordinals : All (λ f. FitsOrdinal f.kind) fixups
 
 -- What both writers ask of the segments.
 pub record AreSegments (segments : List FixupSegment) : Type 0 where
   pub in_order : AllPairs (λ s t. s.address + s.size ≤ t.address) segments
-  pub paged : All (λ s. s.address % CHAIN_PAGE ≡ 0) segments
+  pub paged : All (λ s. s.address % SEGMENT_PAGE ≡ 0) segments
   pub apart : AllPairs (λ s t. (s.file_offset + s.file_size ≤ t.file_offset) ⊎ (t.file_offset + t.file_size ≤ s.file_offset)) segments
   pub sizes : All (λ s. s.file_size ≤ s.size) segments
   pub ends : All (λ s. (s.address + s.size ≤ 2 ^ 64) × (s.file_offset + s.file_size ≤ 2 ^ 64)) segments
@@ -37,7 +39,7 @@ is_in s a = nat_le s.address a && nat_lt a (s.address + s.file_size)
 
 -- the pages of a segment up to that of an address in it, none for another
 abbrev pub pages_with : FixupSegment → Fixup → ℕ
-pages_with s f = if is_in s f.address then f.address / CHAIN_PAGE - s.address / CHAIN_PAGE + 1 else 0
+pages_with s f = if is_in s f.address then f.address / SEGMENT_PAGE - s.address / SEGMENT_PAGE + 1 else 0
 
 -- the pages of a segment up to the last one with a fixup
 unfoldable pub pages_of : FixupSegment → List Fixup → ℕ
@@ -47,4 +49,4 @@ pages_of s (f ∷ fixups) = max (pages_with s f) (pages_of s fixups)
 -- the start of a page by its number: the offset of its first fixup, or that there is none
 unfoldable pub start_of : List Fixup → ℕ → ℕ
 start_of [] number = NO_START
-start_of (f ∷ fixups) number = if f.address / CHAIN_PAGE == number then f.address % CHAIN_PAGE else start_of fixups number
+start_of (f ∷ fixups) number = if f.address / SEGMENT_PAGE == number then f.address % SEGMENT_PAGE else start_of fixups number

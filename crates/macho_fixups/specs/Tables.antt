@@ -8,7 +8,8 @@ use Rattle.macho_bytes.specs.Layouts.{spelling}
 use Rattle.macho_structs.specs.Layouts.{chained_fixups_header, chained_starts_in_segment}
 use Rattle.macho_structs.specs.declared.fixups.ChainedFixupsHeader.{ChainedFixupsHeader}
 use Rattle.macho_structs.specs.declared.fixups.ChainedStartsInSegment.{ChainedStartsInSegment}
-use Rattle.macho_model.specs.Images.{CHAIN_PAGE, import_entry_size, IMPORT_ADDEND_FORMAT}
+use Rattle.macho_model.specs.Images.{import_entry_size, IMPORT_ADDEND_FORMAT}
+use Rattle.macho_model.specs.Segments.{SEGMENT_PAGE}
 use Rattle.macho_fixups.specs.declared.run.Fixup.{Fixup}
 use Rattle.macho_fixups.specs.declared.run.FixupSegment.{FixupSegment}
 use Rattle.macho_fixups.specs.declared.imports.ImportEntry.{ImportEntry}
@@ -22,16 +23,12 @@ page_starts_text fixups first pages = flat_map (λ page. le_bytes 2 (start_of fi
 abbrev pub starts_size : ℕ → ℕ
 starts_size pages = if pages == 0 then 0 else 22 + 2 * pages
 
--- pointer format 6 (`DYLD_CHAINED_PTR_64_OFFSET`)
-abbrev pub POINTER_FORMAT : ℕ
-POINTER_FORMAT = 6
-
--- the record of a segment with so many pages
+-- the record of a segment with so many pages, its pointers in format 6 (`DYLD_CHAINED_PTR_64_OFFSET`)
 abbrev pub starts_record : ℕ → FixupSegment → ℕ → ChainedStartsInSegment
 starts_record base s pages = record {
   size = 22 + 2 * pages;
-  page_size = CHAIN_PAGE;
-  pointer_format = POINTER_FORMAT;
+  page_size = SEGMENT_PAGE;
+  pointer_format = 6;
   segment_offset = s.address - base;
   max_valid_pointer = 0;
   page_count = pages;
@@ -40,7 +37,8 @@ starts_record base s pages = record {
 -- what is told of a segment with so many pages, nothing where it has none
 unfoldable pub starts_text : ℕ → List Fixup → FixupSegment → ℕ → List ℕ
 starts_text base fixups s pages =
-    if pages == 0 then [] else spelling chained_starts_in_segment (starts_record base s pages) ++ page_starts_text fixups (s.address / CHAIN_PAGE) pages
+    if pages == 0 then []
+    else spelling chained_starts_in_segment (starts_record base s pages) ++ page_starts_text fixups (s.address / SEGMENT_PAGE) pages
 
 unfoldable pub segment_text : ℕ → List Fixup → FixupSegment → List ℕ
 segment_text base fixups s = starts_text base fixups s (pages_of s fixups)

@@ -5,7 +5,7 @@
 ghost use Rattle.std.specs.Prelude.{◌≡◌, ◌+◌, ◌<◌, ◌≤◌, length, nat_le, true, false, Contains, All, OnOk, IfErr, IfSome, IfNone};
 ghost use Rattle.macho_bytes.specs.Numbers.{le_bytes};
 ghost use Rattle.macho_bytes.specs.Texts.{put};
-ghost use Rattle.macho_model.specs.Chain.{WORD_SIZE};
+ghost use Rattle.macho_model.specs.Needs.{POINTER_SIZE};
 ghost use Rattle.macho_fixups.specs.declared.run.FixupSegment.{FixupSegment};
 ghost use Rattle.macho_fixups.specs.Words.{has_word, FitsOrdinal, IsWordOf, word_of};
 ghost use Rattle.macho_fixups.specs.steps.Words.{STEPS};

@@ -2,7 +2,7 @@
 ghost use Rattle.std.specs.Prelude.{◌≡◌, ◌+◌, ◌*◌, ◌/◌, ◌%◌, ◌<◌, ◌≤◌, ◌^◌, ◌⊎◌, length, sum_by, All};
 ghost use Rattle.std.specs.List.{flat_map};
 ghost use Rattle.macho_bytes.specs.Texts.{put};
-ghost use Rattle.macho_model.specs.Images.{CHAIN_PAGE};
+ghost use Rattle.macho_model.specs.Segments.{SEGMENT_PAGE};
 ghost use Rattle.macho_fixups.specs.Runs.{AreSorted, AreSegments, pages_of, start_of};
 ghost use Rattle.macho_fixups.specs.steps.Cuts.{IsCut, AreBelow, IsRunOf};
 ghost use Rattle.macho_fixups.specs.Tables.{page_starts_text, starts_size, starts_text};
@@ -43,7 +43,7 @@ pub(crate) fn write_starts(
     requires sorted { AreSorted fixups.now }
     requires from { from ≤ length fixups.now }
     requires below { AreBelow fixups.now from segment.now.address }
-    requires paged { segment.now.address % CHAIN_PAGE ≡ 0 }
+    requires paged { segment.now.address % SEGMENT_PAGE ≡ 0 }
     requires ends { segment.now.address + segment.now.file_size ≤ 2 ^ 64 }
     requires pages { pages_of segment.now fixups.now ≤ 65535 }
     requires above { (pages_of segment.now fixups.now ≡ 0) ⊎ (base ≤ segment.now.address) }
@@ -84,12 +84,12 @@ fn write_page_starts(
 ) -> SegmentRun
     requires sorted { AreSorted fixups.now }
     requires begin { IsCut fixups.now begin segment.now.address }
-    requires paged { segment.now.address % CHAIN_PAGE ≡ 0 }
+    requires paged { segment.now.address % SEGMENT_PAGE ≡ 0 }
     requires ends { segment.now.address + segment.now.file_size ≤ 2 ^ 64 }
     requires room { at + 2 * pages_of segment.now fixups.now ≤ length out.old }
     ensures run { IsRunOf fixups.now segment.now result }
-    ensures written { out.new ≡ put at (page_starts_text fixups.now (segment.now.address / CHAIN_PAGE) result.pages) out.old }
-    ensures long { length (page_starts_text fixups.now (segment.now.address / CHAIN_PAGE) result.pages) ≡ 2 * result.pages }
+    ensures written { out.new ≡ put at (page_starts_text fixups.now (segment.now.address / SEGMENT_PAGE) result.pages) out.old }
+    ensures long { length (page_starts_text fixups.now (segment.now.address / SEGMENT_PAGE) result.pages) ≡ 2 * result.pages }
 {
     let mut next = begin;
     let mut place = at;
@@ -109,7 +109,7 @@ fn write_page_starts(
 /// The start of a page, with the number of the first fixup that isn't in front of it.
 fn start_from(fixups: &[Fixup], next: usize, number: u64) -> u16
     requires sorted { AreSorted fixups.now }
-    requires next { IsCut fixups.now next (number * CHAIN_PAGE) }
+    requires next { IsCut fixups.now next (number * SEGMENT_PAGE) }
     ensures { result ≡ start_of fixups.now number }
 {
     if next == fixups.len() {

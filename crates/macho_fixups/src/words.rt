@@ -10,7 +10,7 @@
 //! in front of the next word is `00 40 00 00 00 00 10 00`.
 ghost use Rattle.std.specs.Prelude.{◌≡◌, ◌<◌, ◌^◌, ◌%◌, ◌*◌, ◌+◌, ◌/◌, true, false, IfSome, IfNone, IfOk, IfErr, OnOk, OnErr};
 ghost use Rattle.macho_bytes.specs.Numbers.{le_at, le_bytes};
-ghost use Rattle.macho_model.specs.Chain.{WORD_SIZE};
+ghost use Rattle.macho_model.specs.Needs.{POINTER_SIZE};
 ghost use Rattle.macho_fixups.specs.declared.words.FixupKind.TheVariants.{Rebase, Bind};
 ghost use Rattle.macho_fixups.specs.Words.{has_word, FitsOrdinal, IsWordOf, word_of};
 ghost use Rattle.macho_fixups.specs.steps.Words.{STEPS};
@@ -45,8 +45,8 @@ pub fn write_rebase_encoding(target: u64, next: u64) -> Result<[u8; 8], NotEncod
     ensures found { OnOk result (has_word (Rebase target) ≡ true) }
     ensures why { OnErr result (has_word (Rebase target) ≡ false) }
     ensures told { IfErr result (λ e. e.index ≡ 0) }
-    ensures done { IfOk result (λ bytes. IsWordOf (Rebase target) next (le_at WORD_SIZE bytes 0)) }
-    ensures written { IfOk result (λ bytes. bytes ≡ le_bytes WORD_SIZE (word_of (Rebase target) next)) }
+    ensures done { IfOk result (λ bytes. IsWordOf (Rebase target) next (le_at POINTER_SIZE bytes 0)) }
+    ensures written { IfOk result (λ bytes. bytes ≡ le_bytes POINTER_SIZE (word_of (Rebase target) next)) }
 {
     match rebase_word(target, next) {
         Some(word) => Ok(word_bytes(word)),
@@ -61,8 +61,8 @@ pub fn write_bind_encoding(ordinal: u64, addend: u64, next: u64) -> Result<[u8; 
     ensures found { OnOk result (has_word (Bind ordinal addend) ≡ true) }
     ensures why { OnErr result (has_word (Bind ordinal addend) ≡ false) }
     ensures told { IfErr result (λ e. e.index ≡ 0) }
-    ensures done { IfOk result (λ bytes. IsWordOf (Bind ordinal addend) next (le_at WORD_SIZE bytes 0)) }
-    ensures written { IfOk result (λ bytes. bytes ≡ le_bytes WORD_SIZE (word_of (Bind ordinal addend) next)) }
+    ensures done { IfOk result (λ bytes. IsWordOf (Bind ordinal addend) next (le_at POINTER_SIZE bytes 0)) }
+    ensures written { IfOk result (λ bytes. bytes ≡ le_bytes POINTER_SIZE (word_of (Bind ordinal addend) next)) }
 {
     match bind_word(ordinal, addend, next) {
         Some(word) => Ok(word_bytes(word)),
@@ -103,8 +103,8 @@ pub(crate) fn bind_word(ordinal: u64, addend: u64, next: u64) -> Option<u64>
 
 #[tactic(auto, unfolding(macho_bytes::specs::Numbers::le_bytes, macho_bytes::specs::Numbers::le_at))]
 fn word_bytes(word: u64) -> [u8; 8]
-    ensures written { result ≡ le_bytes WORD_SIZE word }
-    ensures read { le_at WORD_SIZE result 0 ≡ word }
+    ensures written { result ≡ le_bytes POINTER_SIZE word }
+    ensures read { le_at POINTER_SIZE result 0 ≡ word }
 {
     word.to_le_bytes()
 }

@@ -2,8 +2,9 @@
 use Rattle.std.proofs.Common.{◌≡◌, ◌<◌, ◌≤◌, ◌⊎◌, ◌+◌, ◌%◌, ◌^◌, ℕ, pos, negsuc, refl, inr, List, [], ◌∷◌, arith, rules}
 use Rattle.std.specs.List.{Contains}
 use Rattle.std.proofs.lemmas.List.Elements.{All-contains_itself}
-use Rattle.macho_model.specs.Images.{CHAIN_PAGE}
-use Rattle.macho_model.specs.Chain.{WORD_SIZE, STRIDE}
+use Rattle.macho_model.specs.Segments.{SEGMENT_PAGE}
+use Rattle.macho_model.specs.Chain.{STRIDE}
+use Rattle.macho_model.specs.Needs.{POINTER_SIZE}
 use Rattle.macho_fixups.specs.Words.{FitsOrdinal}
 use Rattle.macho_fixups.specs.declared.words.FixupKind.TheVariants.{Rebase, Bind}
 use Rattle.macho_fixups.specs.declared.run.Fixup.{Fixup}
@@ -34,9 +35,9 @@ image_fixups =
 
 pub are_image_fixups : AreFixups image_segments image_fixups
 are_image_fixups = record {
-  sorted = all_pairs (λ (f : Fixup). λ (g : Fixup). f.address + WORD_SIZE ≤ g.address) image_fixups (search rules);
+  sorted = all_pairs (λ (f : Fixup). λ (g : Fixup). f.address + POINTER_SIZE ≤ g.address) image_fixups (search rules);
   steps = all (λ (f : Fixup). f.address % STRIDE ≡ 0) image_fixups (search rules);
-  in_page = all (λ (f : Fixup). f.address % CHAIN_PAGE + WORD_SIZE ≤ CHAIN_PAGE) image_fixups (search rules);
+  in_page = all (λ (f : Fixup). f.address % SEGMENT_PAGE + POINTER_SIZE ≤ SEGMENT_PAGE) image_fixups (search rules);
   in_segment = all (λ (f : Fixup). (s : FixupSegment) × Contains image_segments s × Holds s f.address) image_fixups
       ((last_segment, here, search rules), ((last_segment, here, search rules), ((last_segment, here, search rules), ((last_segment, here, search rules), tt))));
   ordinals = all (λ (f : Fixup). FitsOrdinal f.kind) image_fixups (search rules);
@@ -48,7 +49,7 @@ are_image_fixups = record {
 pub are_image_segments : AreSegments image_segments
 are_image_segments = record {
   in_order = all_pairs (λ (s : FixupSegment). λ (t : FixupSegment). s.address + s.size ≤ t.address) image_segments (search rules);
-  paged = all (λ (s : FixupSegment). s.address % CHAIN_PAGE ≡ 0) image_segments (search rules);
+  paged = all (λ (s : FixupSegment). s.address % SEGMENT_PAGE ≡ 0) image_segments (search rules);
   apart = all_pairs (λ (s : FixupSegment). λ (t : FixupSegment). (s.file_offset + s.file_size ≤ t.file_offset) ⊎ (t.file_offset + t.file_size ≤ s.file_offset))
       image_segments (search rules);
   sizes = all (λ (s : FixupSegment). s.file_size ≤ s.size) image_segments (search rules);

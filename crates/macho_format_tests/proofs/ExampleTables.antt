@@ -6,8 +6,9 @@ use Rattle.std.proofs.Common.{◌<◌, pos, negsuc, refl, inr, ℕ, ◌≡◌, �
 use Rattle.std.specs.List.{All, AllPairs, Contains}
 use Rattle.std.proofs.lemmas.List.Elements.{All-nil, All-cons, All-contains_itself}
 use Rattle.std.proofs.lemmas.List.Kept.{AllPairs-cons}
-use Rattle.macho_model.specs.Images.{CHAIN_PAGE}
-use Rattle.macho_model.specs.Chain.{WORD_SIZE, STRIDE}
+use Rattle.macho_model.specs.Segments.{SEGMENT_PAGE}
+use Rattle.macho_model.specs.Chain.{STRIDE}
+use Rattle.macho_model.specs.Needs.{POINTER_SIZE}
 use Rattle.macho_fixups.specs.Words.{FitsOrdinal}
 use Rattle.macho_fixups.specs.declared.words.FixupKind.TheVariants.{Rebase, Bind}
 use Rattle.macho_fixups.specs.declared.run.Fixup.{Fixup}
@@ -48,9 +49,9 @@ fixups = record { address = 0x100004000; kind = Rebase 0x278 } ∷ []
 
 are_fixups : AreFixups segments fixups
 are_fixups = record {
-  sorted = all_pairs (λ (f : Fixup). λ (g : Fixup). f.address + WORD_SIZE ≤ g.address) fixups (search rules);
+  sorted = all_pairs (λ (f : Fixup). λ (g : Fixup). f.address + POINTER_SIZE ≤ g.address) fixups (search rules);
   steps = all (λ (f : Fixup). f.address % STRIDE ≡ 0) fixups (search rules);
-  in_page = all (λ (f : Fixup). f.address % CHAIN_PAGE + WORD_SIZE ≤ CHAIN_PAGE) fixups (search rules);
+  in_page = all (λ (f : Fixup). f.address % SEGMENT_PAGE + POINTER_SIZE ≤ SEGMENT_PAGE) fixups (search rules);
   in_segment = all (λ (f : Fixup). (s : FixupSegment) × Contains segments s × Holds s f.address) fixups (
     (
       record { address = 0x100004000; size = 0x4000; file_offset = 0x4000; file_size = 0x4000 },
@@ -65,7 +66,7 @@ are_fixups = record {
 are_segments : AreSegments segments
 are_segments = record {
   in_order = all_pairs (λ (s : FixupSegment). λ (t : FixupSegment). s.address + s.size ≤ t.address) segments (search rules);
-  paged = all (λ (s : FixupSegment). s.address % CHAIN_PAGE ≡ 0) segments (search rules);
+  paged = all (λ (s : FixupSegment). s.address % SEGMENT_PAGE ≡ 0) segments (search rules);
   apart = all_pairs (λ (s : FixupSegment). λ (t : FixupSegment). (s.file_offset + s.file_size ≤ t.file_offset) ⊎ (t.file_offset + t.file_size ≤ s.file_offset)) segments (search rules);
   sizes = all (λ (s : FixupSegment). s.file_size ≤ s.size) segments (search rules);
   ends = all (λ (s : FixupSegment). (s.address + s.size ≤ 2 ^ 64) × (s.file_offset + s.file_size ≤ 2 ^ 64)) segments (search rules);
@@ -97,9 +98,9 @@ data_segments = data_segment ∷ []
 
 pub are_pointers : AreFixups data_segments pointers
 are_pointers = record {
-  sorted = all_pairs (λ (f : Fixup). λ (g : Fixup). f.address + WORD_SIZE ≤ g.address) pointers (search rules);
+  sorted = all_pairs (λ (f : Fixup). λ (g : Fixup). f.address + POINTER_SIZE ≤ g.address) pointers (search rules);
   steps = all (λ (f : Fixup). f.address % STRIDE ≡ 0) pointers (search rules);
-  in_page = all (λ (f : Fixup). f.address % CHAIN_PAGE + WORD_SIZE ≤ CHAIN_PAGE) pointers (search rules);
+  in_page = all (λ (f : Fixup). f.address % SEGMENT_PAGE + POINTER_SIZE ≤ SEGMENT_PAGE) pointers (search rules);
   in_segment = all (λ (f : Fixup). (s : FixupSegment) × Contains data_segments s × Holds s f.address) pointers
       ((data_segment, here, search rules), ((data_segment, here, search rules), ((data_segment, here, search rules), tt)));
   ordinals = all (λ (f : Fixup). FitsOrdinal f.kind) pointers (search rules);
@@ -111,7 +112,7 @@ are_pointers = record {
 pub is_data : AreSegments data_segments
 is_data = record {
   in_order = all_pairs (λ (s : FixupSegment). λ (t : FixupSegment). s.address + s.size ≤ t.address) data_segments (search rules);
-  paged = all (λ (s : FixupSegment). s.address % CHAIN_PAGE ≡ 0) data_segments (search rules);
+  paged = all (λ (s : FixupSegment). s.address % SEGMENT_PAGE ≡ 0) data_segments (search rules);
   apart = all_pairs (λ (s : FixupSegment). λ (t : FixupSegment). (s.file_offset + s.file_size ≤ t.file_offset) ⊎ (t.file_offset + t.file_size ≤ s.file_offset))
       data_segments (search rules);
   sizes = all (λ (s : FixupSegment). s.file_size ≤ s.size) data_segments (search rules);

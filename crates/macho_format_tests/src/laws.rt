@@ -3,8 +3,9 @@ ghost use Rattle.std.specs.Prelude.{◌≡◌, ℕ, ◌+◌, ◌-◌, ◌*◌, �
 ghost use Rattle.std.specs.List.{range_with_len};
 ghost use Rattle.macho_bytes.specs.Numbers.{low, page};
 ghost use Rattle.macho_model.specs.Segments.{SEGMENT_PAGE};
-ghost use Rattle.macho_model.specs.Images.{CHAIN_PAGE, tables_of};
-ghost use Rattle.macho_model.specs.Chain.{WORD_SIZE, OnChainOf};
+ghost use Rattle.macho_model.specs.Images.{tables_of};
+ghost use Rattle.macho_model.specs.Chain.{OnChainOf};
+ghost use Rattle.macho_model.specs.Needs.{POINTER_SIZE};
 ghost use Rattle.macho_fixups.specs.Runs.{AreSegments, Holds, pages_of};
 ghost use Rattle.macho_fixups.specs.Chains.{place_of, AllStand, IsAddressOf, ChainIsRun};
 ghost use Rattle.macho_fixups.specs.Tables.{names_place, table_room};
@@ -28,8 +29,8 @@ use macho_unwind_pages::{plans_are_one, plans_are_short};
 
 /// A segment that begins with a page has at most as many pages with chains as its file part has.
 fn pages_of_a_segment(segment: FixupSegment, fixups: &[Fixup])
-    requires { segment.address % CHAIN_PAGE ≡ 0 }
-    ensures { pages_of segment fixups.now ≤ (segment.file_size + (CHAIN_PAGE - 1)) / CHAIN_PAGE }
+    requires { segment.address % SEGMENT_PAGE ≡ 0 }
+    ensures { pages_of segment fixups.now ≤ (segment.file_size + (SEGMENT_PAGE - 1)) / SEGMENT_PAGE }
 {
     pages_are_bounded();
 }
@@ -114,7 +115,7 @@ fn byte_beside_words(
     requires one { Contains segments.now segment }
     requires low { segment.address ≤ address }
     requires high { address < segment.address + segment.file_size }
-    requires apart { All (λ f. (address < f.address) ⊎ (f.address + WORD_SIZE ≤ address)) fixups.now }
+    requires apart { All (λ f. (address < f.address) ⊎ (f.address + POINTER_SIZE ≤ address)) fixups.now }
     ensures { slice_index now.now (segment.file_offset + (address - segment.address)) ≡ slice_index before.now (segment.file_offset + (address - segment.address)) }
 {
     bytes_beside_words_stay();

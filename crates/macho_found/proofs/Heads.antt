@@ -14,9 +14,8 @@ use Rattle.macho_model.specs.declared.placed.Range64.{Range64}
 use Rattle.macho_model.specs.Links.{Link}
 use Rattle.macho_model.specs.Segments.{TEXT}
 use Rattle.macho_model.specs.Head.{headers_in, size_said}
-use Rattle.macho_model.specs.Placement.{Placed, head_size, is_segment_named}
-use Rattle.macho_model.specs.OutputSections.{POINTER_EXPONENT}
-use Rattle.macho_model.specs.Order.{table_piece}
+use Rattle.macho_model.specs.Placement.{Placed, head_size, is_segment_named, range_span}
+use Rattle.macho_model.specs.OutputSections.{POINTER_EXPONENT, piece}
 use Rattle.macho_promise.specs.Sizes.{AreCounts, counts_with, commands_size}
 use Rattle.macho_placing.specs.Laws.{IsWhollyPlaced, NonePasses}
 use Rattle.macho_agreement.proofs.Headers.{headers-are}
@@ -41,7 +40,7 @@ pub record TablesFollow (p : Placed) : Type 0 where
 pub tables_follow : (l : Link) (counts : Counts) (p : Placed) → IsWhollyPlaced l counts p → TablesFollow p
 tables_follow l counts p whole =
     let rooms = whole.least.rooms in
-    let d = table_piece POINTER_EXPONENT p.linkedit.fixups in
+    let d = piece POINTER_EXPONENT (range_span p.linkedit.fixups) in
     let order = whole.order.tables in
     record {
       fixups = (omega (arith, rooms.fixups), omega (arith, rooms.fixups, order 1 5 d (omega arith) (omega arith)));

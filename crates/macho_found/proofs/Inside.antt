@@ -20,7 +20,9 @@ use Rattle.macho_model.specs.Resolution.{stands_in_carried, section_of_symbol}
 use Rattle.macho_model.specs.Needs.{relocation_in, section_named, imports_of}
 use Rattle.macho_model.specs.Targets.{place_of_symbol, own_target, definition_target, target_with, target_of, target_of_section}
 use Rattle.macho_model.specs.Targets.{target_of_relocation}
-use Rattle.macho_targets.specs.Laws.{ObjectsAreRead, IsOfLink, section_id}
+use Rattle.macho_targets.specs.Laws.{IsOfLink}
+use Rattle.macho_model.specs.Grammar.{ObjectsAreRead}
+use Rattle.macho_model.specs.Values.{section_id}
 use Rattle.macho_targets.proofs.OfLink.{symbol_of, section_of, symbol_there, IsSectionOf}
 use Rattle.macho_targets.proofs.Named.{defined_by, name_of_link, symbol_of_link}
 use Rattle.macho_targets.proofs.Relocations.{relocation_of_link}

@@ -17,7 +17,8 @@ use Rattle.macho_model.specs.Targets.{is_import}
 use Rattle.macho_model.specs.Segments.{DATA}
 use Rattle.macho_model.specs.Placement.{Placed, IsPlaced, id_of, common_span, SectionLies, LiesInNamed}
 use Rattle.macho_placing.specs.Laws.{NonePasses}
-use Rattle.macho_targets.specs.Laws.{IsOfLink, section_id}
+use Rattle.macho_targets.specs.Laws.{IsOfLink}
+use Rattle.macho_model.specs.Values.{section_id}
 use Rattle.macho_targets.proofs.Places.{section_place, common_place}
 use Rattle.macho_targets.proofs.Above.{targets_above}
 use Rattle.macho_standing.specs.Leads.{HasPlace}

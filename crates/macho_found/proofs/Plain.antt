@@ -20,9 +20,9 @@ use Rattle.macho_model.specs.Lists.{IsNumber, of_first}
 use Rattle.macho_model.specs.Commands.{Command, numbered, path_of}
 use Rattle.macho_model.specs.Objects.{num_symbols, symbol_at, symbol_name, strings_of, install_name_of}
 use Rattle.macho_model.specs.Links.{Link, Input, Object, Dylib, Stub}
-use Rattle.macho_model.specs.Resolution.{SymbolId, Definition, Symbol, Library, ImageBase, strong_of, weak_of, greatest_of}
+use Rattle.macho_model.specs.Resolution.{SymbolId, Definition, Symbol, Library, ImageBase, strong_of, weak_of, greatest_of, library_of_input}
 use Rattle.macho_model.specs.Resolution.{is_offered_symbol, offers, libraries_with, first_or, definition_of, DSO_HANDLE}
-use Rattle.macho_model.specs.Needs.{is_library, is_imported, imports_of, name_used, uses_of, distinct, library_of_input, libraries_needed}
+use Rattle.macho_model.specs.Needs.{is_library, is_imported, imports_of, name_used, uses_of, distinct, libraries_needed}
 use Rattle.macho_model.specs.Needs.{is_needed}
 use Rattle.macho_agreement.proofs.Names.{name_of-name}
 use Rattle.macho_standing.proofs.Distinct.{of_distinct}

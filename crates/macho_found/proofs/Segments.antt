@@ -11,8 +11,7 @@ use Rattle.macho_lists.proofs.Orders.{each_later, later_all}
 use Rattle.macho_model.specs.declared.placed.Counts.{Counts}
 use Rattle.macho_model.specs.declared.placed.PlacedSegment.{PlacedSegment}
 use Rattle.macho_model.specs.Links.{Link}
-use Rattle.macho_model.specs.Images.{CHAIN_PAGE}
-use Rattle.macho_model.specs.Segments.{base_of_link, PAGEZERO_SIZE}
+use Rattle.macho_model.specs.Segments.{base_of_link, PAGEZERO_SIZE, SEGMENT_PAGE}
 use Rattle.macho_model.specs.WrittenSum.{written_sum_of}
 use Rattle.macho_model.specs.Placement.{Placed, IsPlaced, Follows}
 use Rattle.macho_model.specs.Lists.{EachNext}
@@ -76,7 +75,7 @@ segments_rise l counts p whole within =
     record {
       in_order = pairs_map (λ (s t : FixupSegment). s.address + s.size ≤ t.address) fixup_segment ss
           (λ i j d lt below. (order i j d lt below).0);
-      paged = All-map (λ (s : FixupSegment). s.address % CHAIN_PAGE ≡ 0) fixup_segment ss (λ k d lt. (paged k d lt).address);
+      paged = All-map (λ (s : FixupSegment). s.address % SEGMENT_PAGE ≡ 0) fixup_segment ss (λ k d lt. (paged k d lt).address);
       apart = pairs_map
           (λ (s t : FixupSegment). (s.file_offset + s.file_size ≤ t.file_offset) ⊎ (t.file_offset + t.file_size ≤ s.file_offset))
           fixup_segment ss (λ i j d lt below. inl (order i j d lt below).1);

@@ -25,9 +25,8 @@ use Rattle.macho_model.specs.SymbolTable.{table_symbols}
 use Rattle.macho_model.specs.SymbolRows.{SymbolRow, row_of, symbol_rows}
 use Rattle.macho_model.specs.ImportTable.{fixup_count}
 use Rattle.macho_model.specs.Values.{needs_fixup}
-use Rattle.macho_model.specs.Placement.{Placed, id_of}
-use Rattle.macho_model.specs.OutputSections.{POINTER_EXPONENT}
-use Rattle.macho_model.specs.Order.{table_piece}
+use Rattle.macho_model.specs.Placement.{Placed, id_of, range_span}
+use Rattle.macho_model.specs.OutputSections.{POINTER_EXPONENT, piece}
 use Rattle.macho_promise.specs.Sizes.{AreCounts, counts_with, unwind_size, text_size}
 use Rattle.macho_parts.specs.Asked.{field_fixup, slot_fixup, fixups_in, fixups_asked}
 use Rattle.macho_placing.specs.Laws.{IsWhollyPlaced}
@@ -60,7 +59,7 @@ identifier_counted l counts are = ap (λ (c : Counts). c.identifier) are.are
 -- strings begin where symbols end
 strings_behind : (l : Link) (counts : Counts) (p : Placed) → IsWhollyPlaced l counts p → p.linkedit.strtab.start ≡ p.linkedit.symtab.end
 strings_behind l counts p whole =
-    let next = whole.least.tables 3 (table_piece POINTER_EXPONENT p.linkedit.symtab) (table_piece 0 p.linkedit.strtab)
+    let next = whole.least.tables 3 (piece POINTER_EXPONENT (range_span p.linkedit.symtab)) (piece 0 (range_span p.linkedit.strtab))
     (omega arith, refl) (omega arith, refl) in
     omega (arith, next, whole.least.rooms.symbols)
 

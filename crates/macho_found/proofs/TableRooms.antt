@@ -1,5 +1,5 @@
 -- The table of a link's run has as many entries and bytes of names as were counted, and no more pages than room is kept for.
-use Rattle.std.proofs.Common.{◌≡◌, ℕ, Bool, true, false, List, [], ◌∷◌, ◌++◌, length, refl, sym, ap, ◌∙◌, arith}
+use Rattle.std.proofs.Common.{◌≡◌, ℕ, List, [], ◌∷◌, ◌++◌, length, refl, sym, ap, ◌∙◌, arith}
 use Rattle.std.specs.Prelude.{sum_by}
 use Rattle.std.proofs.lemmas.List.{length-append}
 use Rattle.std.proofs.lemmas.List.Concat.{length-flat_map}
@@ -8,14 +8,14 @@ use Rattle.macho_model.specs.declared.placed.Counts.{Counts}
 use Rattle.macho_model.specs.Links.{Link}
 use Rattle.macho_model.specs.Needs.{imports_of}
 use Rattle.macho_model.specs.Order.{fixup_room, pointer_pages}
-use Rattle.macho_model.specs.Fixups.{import_entries_of, entries_have_addends}
+use Rattle.macho_model.specs.Fixups.{import_entries_of, import_format}
 use Rattle.macho_model.specs.Images.{import_entry_size}
 use Rattle.macho_model.specs.ImportTable.{names_text}
 use Rattle.macho_fixups.specs.Tables.{table_room}
 use Rattle.macho_fixups.specs.Calls.{all_pages}
 use Rattle.macho_fixups.proofs.Bounds.{room_grows}
-use Rattle.macho_promise.specs.FixupsSay.{fixup_segments, import_format}
-use Rattle.macho_promise.specs.Sizes.{AreCounts, counts_with, import_size, text_size}
+use Rattle.macho_promise.specs.FixupsSay.{fixup_segments}
+use Rattle.macho_promise.specs.Sizes.{AreCounts, counts_with, text_size}
 use Rattle.macho_found.specs.Rooms.{TablesHaveRoom}
 use Rattle.macho_found.proofs.Tables.{pages_kept}
 
@@ -24,7 +24,7 @@ pub imports_counted : (l : Link) (counts : Counts) → AreCounts l counts → co
 unfolding counts_with
 imports_counted l counts are = ap (λ (c : Counts). c.imports) are.are
 
-size_counted : (l : Link) (counts : Counts) → AreCounts l counts → counts.import_size ≡ import_size l
+size_counted : (l : Link) (counts : Counts) → AreCounts l counts → counts.import_size ≡ import_entry_size (import_format l)
 unfolding counts_with
 size_counted l counts are = ap (λ (c : Counts). c.import_size) are.are
 
@@ -33,13 +33,6 @@ unfolding counts_with
 names_counted l counts are = ap (λ (c : Counts). c.name_bytes) are.are
 
 -- and those of the table
-size_is : (l : Link) → import_entry_size (import_format l) ≡ import_size l
-size_is l = by (entries_have_addends l) refl
-  where
-    by : (b : Bool) → entries_have_addends l ≡ b → import_entry_size (import_format l) ≡ import_size l
-    by true e = rw e refl
-    by false e = rw e refl
-
 sum_same : (names : List (List ℕ)) → sum_by (λ (name : List ℕ). length (name ++ 0 ∷ [])) names ≡ sum_by text_size names
 sum_same [] = refl
 sum_same (n ∷ names) =
@@ -62,7 +55,7 @@ tables_room l counts p fixups format entries names sound are run table =
     let many : length entries ≡ counts.imports = table.entries_are.long ∙ sym (imports_counted l counts are) in
     let bytes : length names ≡ counts.name_bytes = ap length table.names_are ∙ names_long l ∙ sym (names_counted l counts are) in
     let size : import_entry_size format ≡ counts.import_size =
-    ap import_entry_size table.format_is ∙ size_is l ∙ sym (size_counted l counts are) in
+    ap import_entry_size table.format_is ∙ sym (size_counted l counts are) in
     let grows = room_grows counts.import_size (length entries) counts.imports (length names) counts.name_bytes pages (pointer_pages p)
     (omega (arith, many)) (omega (arith, bytes)) few in
     let same : table_room (length entries) (import_entry_size format) (length names) pages

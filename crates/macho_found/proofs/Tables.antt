@@ -20,9 +20,8 @@ use Rattle.macho_model.specs.declared.placed.PlacedSegment.{PlacedSegment}
 use Rattle.macho_model.specs.declared.placed.Slot.{Slot}
 use Rattle.macho_records.specs.Sections.{is_zerofill}
 use Rattle.macho_model.specs.Links.{Link, header_at}
-use Rattle.macho_model.specs.Images.{CHAIN_PAGE}
 use Rattle.macho_model.specs.Fields.{Field, fields_of}
-use Rattle.macho_model.specs.Segments.{DATA_CONST, PAGEZERO, may_hold_pointers, segment_name, segment_names_of}
+use Rattle.macho_model.specs.Segments.{DATA_CONST, PAGEZERO, may_hold_pointers, segment_name, segment_names_of, SEGMENT_PAGE}
 use Rattle.macho_model.specs.Placement.{Placed, IsPlaced, id_of, is_segment_named, slot_span, LiesInNamed, SectionLies}
 use Rattle.macho_model.specs.Order.{pages_of, pointer_pages}
 use Rattle.macho_model.specs.Values.{needs_fixup}
@@ -129,7 +128,7 @@ elsewhere l counts p s f sound of has none = by (cases_Bool (is_in (fixup_segmen
         (before_or_one l p.segments s home.0 sound.placed.placed.in_order.follow has home.1.one))
 
 -- THE pages with chains: of a segment that may hold pointers no more than its file part has, of another none
-some_pages : (s : PlacedSegment) (fixups : List Fixup) → s.address % CHAIN_PAGE ≡ 0 → runs.pages_of (fixup_segment s) fixups ≤ pages_of s
+some_pages : (s : PlacedSegment) (fixups : List Fixup) → s.address % SEGMENT_PAGE ≡ 0 → runs.pages_of (fixup_segment s) fixups ≤ pages_of s
 some_pages s fixups paged = omega (arith, pages_bounded (fixup_segment s) fixups paged)
 
 no_pages : (l : Link) (counts : Counts) (p : Placed) (s : PlacedSegment) (fixups : List Fixup) → IsSoundlyPlaced l counts p
@@ -139,9 +138,9 @@ no_pages l counts p s fixups sound run has none =
     none_no_pages (fixup_segment s) fixups (λ k d lt. elsewhere l counts p s (get_or fixups k d) sound (run.each k d lt) has none)
 
 paged_at : (l : Link) (counts : Counts) (p : Placed) (s : PlacedSegment) → IsPlaced l counts p → Contains p.segments s
-    → s.address % CHAIN_PAGE ≡ 0
+    → s.address % SEGMENT_PAGE ≡ 0
 paged_at l counts p s placed has =
-    all_contains (λ (u : PlacedSegment). u.address % CHAIN_PAGE ≡ 0) p.segments s (λ k d lt. (placed.in_order.paged k d lt).address) has
+    all_contains (λ (u : PlacedSegment). u.address % SEGMENT_PAGE ≡ 0) p.segments s (λ k d lt. (placed.in_order.paged k d lt).address) has
 
 few_pages : (l : Link) (counts : Counts) (p : Placed) (s : PlacedSegment) (fixups : List Fixup) → IsSoundlyPlaced l counts p
     → PagesAreFew l counts p → IsRunOf l p fixups → Contains p.segments s → runs.pages_of (fixup_segment s) fixups ≤ 65535

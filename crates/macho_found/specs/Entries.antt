@@ -13,7 +13,7 @@ use Rattle.macho_symbols.specs.declared.solved.Import.{Import}
 use Rattle.macho_symbols.specs.Told.{ImportsAre}
 use Rattle.macho_promise.specs.Sizes.{AreCounts}
 use Rattle.macho_parts.specs.Sound.{IsSound}
-use Rattle.macho_targets.specs.Laws.{ObjectsAreRead}
+use Rattle.macho_model.specs.Grammar.{ObjectsAreRead}
 use Rattle.macho_standing.specs.Leads.{PersonalitiesFit}
 use Rattle.macho_symbols.specs.declared.solved.OwnEntry.{OwnEntry}
 use Rattle.macho_linkedit.specs.Imports.{texts, FitTable, AreOfLink}

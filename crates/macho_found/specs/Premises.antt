@@ -4,7 +4,7 @@ use Rattle.macho_model.specs.Links.{Link}
 use Rattle.macho_model.specs.Placement.{Placed}
 use Rattle.macho_parts.specs.Sound.{IsSound}
 use Rattle.macho_placing.specs.Laws.{IsWhollyPlaced, NonePasses}
-use Rattle.macho_targets.specs.Laws.{ObjectsAreRead}
+use Rattle.macho_model.specs.Grammar.{ObjectsAreRead}
 use Rattle.macho_standing.specs.Leads.{PersonalitiesFit}
 
 -- A sound link, whose objects are objects, is placed whole, and none of the numbers that a layout looks at is too great.

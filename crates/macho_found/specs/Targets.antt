@@ -10,7 +10,8 @@ use Rattle.macho_model.specs.Targets.{target_with, definition_target, target_of_
 use Rattle.macho_model.specs.Placement.{Placed}
 use Rattle.macho_model.specs.Addresses.{address_of}
 use Rattle.macho_placing.specs.Laws.{IsWhollyPlaced, NonePasses}
-use Rattle.macho_targets.specs.Laws.{ObjectsAreRead, IsOfLink}
+use Rattle.macho_targets.specs.Laws.{IsOfLink}
+use Rattle.macho_model.specs.Grammar.{ObjectsAreRead}
 use Rattle.macho_standing.specs.Leads.{HasPlace}
 
 -- what moves with the image and is named by a symbol, a name or a relocation lies in a part of the link, or at its end

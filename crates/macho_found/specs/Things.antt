@@ -4,7 +4,8 @@ use Rattle.macho_model.specs.Links.{Link}
 use Rattle.macho_model.specs.Placement.{Placed, IsPlaced}
 use Rattle.macho_promise.specs.Promise.{IsLaidOut}
 use Rattle.macho_placing.specs.Laws.{IsWhollyPlaced}
-use Rattle.macho_targets.specs.Laws.{ObjectsAreRead, ListsAll}
+use Rattle.macho_targets.specs.Laws.{ListsAll}
+use Rattle.macho_model.specs.Grammar.{ObjectsAreRead}
 use Rattle.macho_fields.specs.Looks.{IsFound}
 use Rattle.macho_standing.specs.Laws.{IsPlacedLink}
 use Rattle.macho_found.specs.Premises.{IsSoundlyPlaced}

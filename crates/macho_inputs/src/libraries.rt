@@ -2,7 +2,8 @@
 ghost use Rattle.std.specs.Prelude.{◌≡◌, map, filter, All, IfOk, option_copied};
 ghost use Rattle.std.specs.List.{filter_map};
 ghost use Rattle.macho_model.specs.Links.{Link};
-ghost use Rattle.macho_model.specs.Needs.{distinct, imports_of, libraries_needed, library_of_input};
+ghost use Rattle.macho_model.specs.Needs.{distinct, imports_of, libraries_needed};
+ghost use Rattle.macho_model.specs.Resolution.{library_of_input};
 ghost use Rattle.std.specs.Str.{bytes_eq};
 ghost use Rattle.macho_promise.specs.Inputs.{IsInput};
 ghost use Rattle.macho_symbols.specs.Told.{ImportsAre};

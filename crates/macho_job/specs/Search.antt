@@ -1,5 +1,5 @@
 -- Where an input is sought: the paths that are tried, in their order, and the first that holds a file.
-use Rattle.std.specs.Prelude.{◌≡◌, ℕ, List, [], ◌∷◌, ◌++◌, codes, Option, None, Some, All}
+use Rattle.std.specs.Prelude.{◌≡◌, ℕ, List, [], ◌∷◌, ◌++◌, codes, Option, Some, None, IfSome, All}
 use Rattle.std.specs.List.{flat_map}
 use Rattle.std.specs.FinMap.{get}
 use Rattle.macho_args.specs.Effects.{joined}
@@ -24,13 +24,11 @@ candidates_of s (framework word name) = flat_map (framework_files name) s.framew
 
 -- The bytes stand under the path. Where the store isn't told, that is open.
 abbrev pub HeldAt : Option Store → List ℕ → List ℕ → Type 0
-HeldAt None path bytes = Unit {0}
-HeldAt (Some files) path bytes = get files path ≡ Some bytes
+HeldAt told path bytes = IfSome told (λ files. get files path ≡ Some bytes)
 
 -- No file stands under the path. Where the store isn't told, that is open.
 abbrev pub IsMissing : Option Store → List ℕ → Type 0
-IsMissing None path = Unit {0}
-IsMissing (Some files) path = get files path ≡ None
+IsMissing told path = IfSome told (λ files. get files path ≡ None)
 
 -- Of some paths this one is the first that holds a file, and it holds these bytes.
 pub record IsFirstHeld (told : Option Store) (paths : List (List ℕ)) (path bytes : List ℕ) : Type 0 where

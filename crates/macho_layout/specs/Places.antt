@@ -63,9 +63,6 @@ segment_pages s = if is_pointer_segment s then s.file_size / SEGMENT_PAGE else 0
 abbrev pub row_pages : List PlacedSegment → ℕ
 row_pages segments = sum_by segment_pages segments
 
-abbrev pub no_spec : SectionSpec
-no_spec = record { file = 0; section = 0; segment = padded []; name = []; flags = 0; align = 0; size = 0 }
-
 abbrev pub placed_section : ℕ → List SegmentName → SectionSpec → ℕ → PlacedSection
 placed_section before names s address = record {
   file = s.file;

@@ -10,12 +10,13 @@ use Rattle.macho_model.specs.declared.placed.Counts.{Counts}
 use Rattle.macho_model.specs.Links.{Link}
 use Rattle.macho_model.specs.Needs.{libraries_needed}
 use Rattle.macho_model.specs.Faults.{last_part}
-use Rattle.macho_model.specs.Fixups.{own_entries, import_entries_of, entries_have_addends}
+use Rattle.macho_model.specs.Fixups.{own_entries, import_entries_of, entries_have_addends, import_format}
+use Rattle.macho_model.specs.Images.{import_entry_size}
 use Rattle.macho_model.specs.Signature.{identifier_text}
 use Rattle.macho_model.specs.Segments.{one_if}
 use Rattle.macho_model.specs.Head.{DYLINKER, path_command_size}
 use Rattle.macho_symbols.specs.declared.solved.Import.{Import}
-use Rattle.macho_promise.specs.Sizes.{commands_size, own_commands_size, versions_size, padding_size, import_size, text_size, counts_with}
+use Rattle.macho_promise.specs.Sizes.{commands_size, own_commands_size, versions_size, padding_size, text_size, counts_with}
 use Rattle.macho_linkedit.specs.declared.counting.SizesAsked.{SizesAsked}
 use Rattle.macho_linkedit.specs.Imports.{texts, name_bytes}
 use Rattle.macho_linkedit.specs.Counting.{AreArguments, AreAsked}
@@ -81,11 +82,11 @@ padding_is l a are = ap (λ (b : Bool). if b then inner a.arguments.executable e
 abbrev pub entry_bytes : ℕ → ℕ
 entry_bytes n = if n == 0 then 4 else 8
 
-entry_size_is : (l : Link) (n : ℕ) → n ≡ length (own_entries l) → entry_bytes n ≡ import_size l
+entry_size_is : (l : Link) (n : ℕ) → n ≡ length (own_entries l) → entry_bytes n ≡ import_entry_size (import_format l)
 unfolding entries_have_addends
 entry_size_is l n is = by (length (own_entries l) == 0) refl
   where
-    by : (b : Bool) → (length (own_entries l) == 0) ≡ b → entry_bytes n ≡ import_size l
+    by : (b : Bool) → (length (own_entries l) == 0) ≡ b → entry_bytes n ≡ import_entry_size (import_format l)
     by true e = let same : (n == 0) ≡ true = ap (λ (m : ℕ). m == 0) is ∙ e in rw (same, e) refl
     by false e = let same : (n == 0) ≡ false = ap (λ (m : ℕ). m == 0) is ∙ e in rw (same, e) refl
 

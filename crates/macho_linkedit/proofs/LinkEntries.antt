@@ -18,13 +18,12 @@ use Rattle.macho_model.specs.Links.{Link}
 use Rattle.macho_model.specs.Resolution.{Definition, library_name}
 use Rattle.macho_model.specs.Needs.{imports_of, import_library, library_file}
 use Rattle.macho_model.specs.Exports.{library_number}
-use Rattle.macho_model.specs.Fixups.{EntryOfImport, own_entries, import_entries_of, entries_have_addends}
+use Rattle.macho_model.specs.Fixups.{EntryOfImport, own_entries, import_entries_of, entries_have_addends, import_format}
 use Rattle.macho_model.specs.ImportTable.{names_text, name_place, entry_of_link, no_entry}
 use Rattle.macho_symbols.specs.declared.solved.Import.{Import}
 use Rattle.macho_symbols.specs.Told.{ImportsAre, IsImportOf}
 use Rattle.macho_fixups.specs.declared.imports.ImportEntry.{ImportEntry}
 use Rattle.macho_fixups.specs.Calls.{AreEntries}
-use Rattle.macho_promise.specs.FixupsSay.{import_format}
 use Rattle.macho_symbols.specs.declared.solved.OwnEntry.{OwnEntry}
 use Rattle.macho_linkedit.specs.Imports.{FitTable, AreOfLink, IsEntryFor, AreEntriesOf, IsImportTable, texts}
 use Rattle.macho_symbols.specs.Entries.{entry_of}

@@ -9,7 +9,7 @@ use Rattle.macho_model.specs.Links.{Link}
 use Rattle.macho_model.specs.Needs.{imports_of, import_library, libraries_needed}
 use Rattle.macho_model.specs.Exports.{library_number}
 use Rattle.macho_model.specs.Values.{fits_signed}
-use Rattle.macho_model.specs.Fixups.{EntryOfImport, own_entries, import_entries_of}
+use Rattle.macho_model.specs.Fixups.{EntryOfImport, own_entries, import_entries_of, import_format}
 use Rattle.macho_model.specs.ImportTable.{names_text, name_place, entry_of_link}
 use Rattle.macho_bytes.specs.Texts.{Stands}
 use Rattle.macho_model.specs.Images.{Table, tables_of}
@@ -21,7 +21,6 @@ use Rattle.macho_symbols.specs.declared.solved.Import.{Import}
 use Rattle.macho_symbols.specs.Told.{ImportsAre}
 use Rattle.macho_symbols.specs.Entries.{entry_of}
 use Rattle.macho_fixups.specs.declared.imports.ImportEntry.{ImportEntry}
-use Rattle.macho_promise.specs.FixupsSay.{import_format}
 use Rattle.macho_symbols.specs.declared.solved.OwnEntry.{OwnEntry}
 
 -- texts by their bytes

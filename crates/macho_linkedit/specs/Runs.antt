@@ -6,8 +6,9 @@ use Rattle.macho_model.specs.declared.placed.PlacedSection.{PlacedSection}
 use Rattle.macho_model.specs.Links.{Link, SectionId, header_at, carried_of}
 use Rattle.macho_model.specs.Fields.{Field, fields_of}
 use Rattle.macho_model.specs.Placement.{Placed, id_of}
-use Rattle.macho_model.specs.Images.{CHAIN_PAGE}
-use Rattle.macho_model.specs.Chain.{WORD_SIZE, STRIDE}
+use Rattle.macho_model.specs.Segments.{SEGMENT_PAGE}
+use Rattle.macho_model.specs.Chain.{STRIDE}
+use Rattle.macho_model.specs.Needs.{POINTER_SIZE}
 use Rattle.macho_model.specs.Values.{needs_fixup}
 use Rattle.macho_model.specs.Fixups.{import_entries_of}
 use Rattle.macho_fixups.specs.declared.run.Fixup.{Fixup}
@@ -27,17 +28,17 @@ pub record IsRunOf (l : Link) (p : Placed) (fixups : List Fixup) : Type 0 where
 
 -- a word may be on a chain: it stands at a multiple of a step, and whole in a page
 abbrev pub IsWordPlace : ℕ → Type 0
-IsWordPlace a = (a % STRIDE ≡ 0) × (a % CHAIN_PAGE + WORD_SIZE ≤ CHAIN_PAGE)
+IsWordPlace a = (a % STRIDE ≡ 0) × (a % SEGMENT_PAGE + POINTER_SIZE ≤ SEGMENT_PAGE)
 
 -- two fields of a section, of a word each, share no byte
 abbrev pub WordsApart : Field → Field → Type 0
-WordsApart f g = (f.offset + WORD_SIZE ≤ g.offset) ⊎ (g.offset + WORD_SIZE ≤ f.offset)
+WordsApart f g = (f.offset + POINTER_SIZE ≤ g.offset) ⊎ (g.offset + POINTER_SIZE ≤ f.offset)
 
 -- The pointers that the loader writes stand where a chain may reach them.
 pub record PointersFit (l : Link) (p : Placed) : Type 0 where
   -- each lies whole in its section, which has bytes in the file
   pub inside : (s : SectionId) (f : Field) → Contains (carried_of l) s → Contains (fields_of l s) f → needs_fixup l s f ≡ true
-      → (f.offset + WORD_SIZE ≤ (header_at l s).size) × (is_zerofill (header_at l s) ≡ false)
+      → (f.offset + POINTER_SIZE ≤ (header_at l s).size) × (is_zerofill (header_at l s) ≡ false)
   -- those of one section share no byte
   pub apart : (s : SectionId) → Contains (carried_of l) s → AllPairs WordsApart (filter (needs_fixup l s) (fields_of l s))
   -- each stands at a place for a word

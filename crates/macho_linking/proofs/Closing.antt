@@ -23,7 +23,7 @@ use Rattle.macho_linkedit.specs.declared.exports.NamedExport.{NamedExport}
 use Rattle.macho_sizing.specs.Sized.{IsSizedOf}
 use Rattle.macho_fields.specs.declared.fault.FillFault.TheVariants as fill
 use Rattle.macho_made.specs.declared.fault.MadeFault.TheVariants as made
-use Rattle.macho_targets.specs.Laws.{ObjectsAreRead}
+use Rattle.macho_model.specs.Grammar.{ObjectsAreRead}
 use Rattle.macho_valid.specs.Laws.{ObjectsAreBytes}
 use Rattle.macho_answers.specs.Inputs.{HasBytes}
 use Rattle.macho_answers.proofs.Inputs.{inputs_are_read, inputs_are_bytes}

@@ -2,7 +2,7 @@
 --
 -- What a filter keeps of a list is what it keeps of the rest where the first element fails, and begins with the first element where
 -- that passes. The segments of a link have different names, so the first one of a name is any one of it.
-use Rattle.std.proofs.Common.{◌≡◌, ℕ, ◌+◌, ◌<◌, ◌≤◌, cond, Bool, true, false, List, [], ◌∷◌, map, filter, length, get_or, drop, refl, sym}
+use Rattle.std.proofs.Common.{◌≡◌, ℕ, ◌+◌, ◌<◌, ◌≤◌, cond, Bool, true, false, List, [], ◌∷◌, filter, length, get_or, drop, refl, sym}
 use Rattle.std.proofs.Common.{ap, subst, ◌∙◌}
 use Rattle.std.specs.Prelude.{Contains}
 use Rattle.std.proofs.lemmas.List.{drop_more}
@@ -12,17 +12,16 @@ use Rattle.macho_model.specs.declared.placed.PlacedSegment.{PlacedSegment}
 use Rattle.macho_model.specs.Links.{Link}
 use Rattle.macho_model.specs.Segments.{TEXT}
 use Rattle.macho_model.specs.Placement.{is_segment_named, Follows}
-use Rattle.macho_model.specs.Addresses.{first_number}
-use Rattle.macho_model.specs.Lists.{EachNext}
+use Rattle.macho_model.specs.Lists.{EachNext, of_first}
 use Rattle.macho_agreement.proofs.Entry.{one_named}
 
 unfoldable pub first_size : List PlacedSegment → ℕ
-first_size segments = first_number (map (λ s. s.file_size) (filter (is_segment_named TEXT) segments))
+first_size segments = of_first 0 (λ s. s.file_size) (filter (is_segment_named TEXT) segments)
 
 -- the first of a list, by whether its front is named so
 abbrev size_by : PlacedSegment → List PlacedSegment → Bool → ℕ
 size_by s segments b =
-    first_number (map (λ t. t.file_size) (cond b (s ∷ filter (is_segment_named TEXT) segments) (filter (is_segment_named TEXT) segments)))
+    of_first 0 (λ t. t.file_size) (cond b (s ∷ filter (is_segment_named TEXT) segments) (filter (is_segment_named TEXT) segments))
 
 with_first : (s : PlacedSegment) (segments : List PlacedSegment) (b : Bool) → is_segment_named TEXT s ≡ b
     → first_size (s ∷ segments) ≡ size_by s segments b
@@ -60,7 +59,7 @@ size_of_text l segments s follow has named = by (filter (is_segment_named TEXT) 
     there = contains_filter (is_segment_named TEXT) segments s has named
 
     by : (found : List PlacedSegment) → filter (is_segment_named TEXT) segments ≡ found
-        → first_number (map (λ t. t.file_size) found) ≡ s.file_size
+        → of_first 0 (λ t. t.file_size) found ≡ s.file_size
     by [] e = absurd (nil_contains s (subst (λ (ss : List PlacedSegment). Contains ss s) e there))
     by (t ∷ found) e =
         let of = filter_contains (is_segment_named TEXT) segments t

@@ -8,8 +8,10 @@ use Rattle.std.proofs.Common.{inr}
 use Rattle.std.proofs.lemmas.Bool.{cases_lt}
 use Rattle.std.proofs.lemmas.List.{get_or_default}
 use Rattle.macho_bytes.specs.Numbers.{le_at}
-use Rattle.macho_model.specs.Images.{segments_of, fixups_header, CHAIN_PAGE, NO_START}
-use Rattle.macho_model.specs.Chain.{chain_segments, next_of, WORD_SIZE, STRIDE, OnChainOf, OnPageChain}
+use Rattle.macho_model.specs.Images.{segments_of, fixups_header, NO_START}
+use Rattle.macho_model.specs.Segments.{SEGMENT_PAGE}
+use Rattle.macho_model.specs.Chain.{chain_segments, next_of, STRIDE, OnChainOf, OnPageChain}
+use Rattle.macho_model.specs.Needs.{POINTER_SIZE}
 use Rattle.macho_model.specs.Loader.{IsAccepted, WordFits, is_bind, ordinal_of}
 use Rattle.macho_memory_walks.specs.declared.walk.Listed.TheVariants as list
 use Rattle.macho_memory_walks.specs.Readings.{IsNth, HasWord, listed, segment_there, table_there}
@@ -61,7 +63,8 @@ pub record Stands (b : List ℕ) (a : ℕ) : Type 0 where
   pub nth : IsNth list.Segments b number place
   pub on : OnPageChain (chain_segments b) b (chain_segment_at b number place) page a
   pub fits : WordFits b (segment_there b place) page a
-  pub has : HasWord b (segment_there b place) a (le_at WORD_SIZE b ((segment_there b place).fileoff + (a - (segment_there b place).vmaddr)))
+  pub has : HasWord b (segment_there b place) a (le_at POINTER_SIZE b ((segment_there b place).fileoff +
+      (a - (segment_there b place).vmaddr)))
 
 pub stands_on_page : (b : List ℕ) (a : ℕ) → IsAccepted b → OnChainOf b a → Stands b a
 stands_on_page b a accepted on =
@@ -86,7 +89,7 @@ pub on_its_page : (b : List ℕ) (number place page a word : ℕ) → IsAccepted
     → OnPageChain (chain_segments b) b (chain_segment_at b number place) page a
 on_its_page b number place page a word accepted nth has is on =
     let s = stands_on_page b a accepted on in
-    let w = le_at WORD_SIZE b ((segment_there b s.place).fileoff + (a - (segment_there b s.place).vmaddr)) in
+    let w = le_at POINTER_SIZE b ((segment_there b s.place).fileoff + (a - (segment_there b s.place).vmaddr)) in
     let same : s.number ≡ number = one_number b s.number s.place number place a w word (stand_apart b accepted) s.nth nth s.has has in
     let there : s.place ≡ place = nth_one list.Segments b number s.place place (subst (λ k. IsNth list.Segments b k s.place) same s.nth)
     nth in
@@ -170,14 +173,14 @@ pub led_from_start : (b : List ℕ) (number place page start a : ℕ) → page <
     → start ≡ slice_index (starts_of b number) page → (start ≡ NO_START → ⊥) → Leads b (address_in b place (16384 * page + start)) a
     → OnPageChain (chain_segments b) b (chain_segment_at b number place) page a
 led_from_start b number place page start a within is some leads =
-    let same : address_in b place (16384 * page + start) ≡ (segment_there b place).vmaddr + CHAIN_PAGE * page + start = omega arith in
+    let same : address_in b place (16384 * page + start) ≡ (segment_there b place).vmaddr + SEGMENT_PAGE * page + start = omega arith in
     page_chain_found b number place page a (segment_there b place).vmaddr start within is some refl (subst (λ x. Leads b x a) same leads)
 
 pub not_led_from_start : (b : List ℕ) (number place page start a : ℕ) → start ≡ slice_index (starts_of b number) page
     → (Leads b (address_in b place (16384 * page + start)) a → ⊥)
     → OnPageChain (chain_segments b) b (chain_segment_at b number place) page a → ⊥
 not_led_from_start b number place page start a is none on =
-    let same : (segment_there b place).vmaddr + CHAIN_PAGE * page + start ≡ address_in b place (16384 * page + start) = omega arith in
+    let same : (segment_there b place).vmaddr + SEGMENT_PAGE * page + start ≡ address_in b place (16384 * page + start) = omega arith in
     page_chain_only b number place page a (segment_there b place).vmaddr start is refl
     (λ leads. none (subst (λ x. Leads b x a) same leads)) on
 

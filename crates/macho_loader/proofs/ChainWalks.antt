@@ -13,8 +13,10 @@ use Rattle.macho_bytes.specs.Numbers.{le_at}
 use Rattle.macho_records.specs.declared.header.SegmentCommand.{SegmentCommand}
 use Rattle.macho_records.specs.declared.constants.TheConstants.{LC_SEGMENT_64}
 use Rattle.macho_model.specs.Commands.{Command, numbered}
-use Rattle.macho_model.specs.Images.{segments_of, tables_of, CHAIN_PAGE, fixups_header, page_start}
-use Rattle.macho_model.specs.Chain.{chain_segments, IsFileWord, next_of, WORD_SIZE, STRIDE}
+use Rattle.macho_model.specs.Images.{segments_of, tables_of, fixups_header, page_start}
+use Rattle.macho_model.specs.Segments.{SEGMENT_PAGE}
+use Rattle.macho_model.specs.Chain.{chain_segments, IsFileWord, next_of, STRIDE}
+use Rattle.macho_model.specs.Needs.{POINTER_SIZE}
 use Rattle.macho_model.specs.LoadRules.{segment_in, begins_behind}
 use Rattle.macho_model.specs.Loader.{WordFits, is_bind, ordinal_of, is_writable, import_count}
 use Rattle.macho_memory_walks.specs.declared.walk.Listed.TheVariants as list
@@ -89,24 +91,26 @@ pub file_word_is : (b : List ℕ) (number place a word v : ℕ) → StandApart b
 file_word_is b number place a word v apart nth has stands =
     let there = word_in_segment b a v stands in
     let same = one_segment b there.number there.place number place a v word apart there.nth nth there.has has in
-    there.has.is ∙ ap (λ (s : SegmentCommand). le_at WORD_SIZE b (s.fileoff + (a - s.vmaddr))) same ∙ sym has.is
+    there.has.is ∙ ap (λ (s : SegmentCommand). le_at POINTER_SIZE b (s.fileoff + (a - s.vmaddr))) same ∙ sym has.is
 
 -- a word that a page holds is one of the segment's
 pub page_word : (b : List ℕ) (place page a : ℕ) → page_holds (segment_there b place) page a ≡ true
-    → HasWord b (segment_there b place) a (le_at WORD_SIZE b ((segment_there b place).fileoff + (a - (segment_there b place).vmaddr)))
+    → HasWord b (segment_there b place) a (le_at POINTER_SIZE b ((segment_there b place).fileoff + (a - (segment_there b place).vmaddr)))
 page_word b place page a holds =
     let s = segment_there b place in
-    let from = leb-true (s.vmaddr + CHAIN_PAGE * page) a
-    (and_right (is_writable s) (nat_le (s.vmaddr + CHAIN_PAGE * page) a)
-    (and_left (is_writable s && nat_le (s.vmaddr + CHAIN_PAGE * page) a) (nat_le (a + WORD_SIZE) (s.vmaddr + CHAIN_PAGE * (page + 1)))
-    (and_left (is_writable s && nat_le (s.vmaddr + CHAIN_PAGE * page) a && nat_le (a + WORD_SIZE) (s.vmaddr + CHAIN_PAGE * (page + 1)))
-    (nat_le (a + WORD_SIZE) (s.vmaddr + s.filesize)) holds))) in
+    let from = leb-true (s.vmaddr + SEGMENT_PAGE * page) a
+    (and_right (is_writable s) (nat_le (s.vmaddr + SEGMENT_PAGE * page) a)
+    (and_left (is_writable s && nat_le (s.vmaddr + SEGMENT_PAGE * page) a) (nat_le (a + POINTER_SIZE)
+    (s.vmaddr + SEGMENT_PAGE * (page + 1)))
+    (and_left (is_writable s && nat_le (s.vmaddr + SEGMENT_PAGE * page) a && nat_le (a + POINTER_SIZE)
+    (s.vmaddr + SEGMENT_PAGE * (page + 1)))
+    (nat_le (a + POINTER_SIZE) (s.vmaddr + s.filesize)) holds))) in
     record {
       from = omega (arith, from);
-      to = leb-true (a + WORD_SIZE) (s.vmaddr + s.filesize)
-          (and_right (is_writable s && nat_le (s.vmaddr + CHAIN_PAGE * page) a && nat_le (a + WORD_SIZE)
-          (s.vmaddr + CHAIN_PAGE * (page + 1)))
-          (nat_le (a + WORD_SIZE) (s.vmaddr + s.filesize)) holds);
+      to = leb-true (a + POINTER_SIZE) (s.vmaddr + s.filesize)
+          (and_right (is_writable s && nat_le (s.vmaddr + SEGMENT_PAGE * page) a && nat_le (a + POINTER_SIZE)
+          (s.vmaddr + SEGMENT_PAGE * (page + 1)))
+          (nat_le (a + POINTER_SIZE) (s.vmaddr + s.filesize)) holds);
       is = refl;
     }
 
@@ -116,17 +120,17 @@ pub fits_here : (b : List ℕ) (number place page a word : ℕ) → StandApart b
     → (is_bind word ≡ true → ordinal_of word < import_count b (tables_of b)) → WordFits b (segment_there b place) page a
 fits_here b number place page a word apart nth holds has import =
     let s = segment_there b place in
-    let all = and_left (is_writable s && nat_le (s.vmaddr + CHAIN_PAGE * page) a && nat_le (a + WORD_SIZE)
-    (s.vmaddr + CHAIN_PAGE * (page + 1)))
-    (nat_le (a + WORD_SIZE) (s.vmaddr + s.filesize)) holds in
-    let both = and_left (is_writable s && nat_le (s.vmaddr + CHAIN_PAGE * page) a)
-    (nat_le (a + WORD_SIZE) (s.vmaddr + CHAIN_PAGE * (page + 1))) all in
+    let all = and_left (is_writable s && nat_le (s.vmaddr + SEGMENT_PAGE * page) a && nat_le (a + POINTER_SIZE)
+    (s.vmaddr + SEGMENT_PAGE * (page + 1)))
+    (nat_le (a + POINTER_SIZE) (s.vmaddr + s.filesize)) holds in
+    let both = and_left (is_writable s && nat_le (s.vmaddr + SEGMENT_PAGE * page) a)
+    (nat_le (a + POINTER_SIZE) (s.vmaddr + SEGMENT_PAGE * (page + 1))) all in
     record {
-      writable = and_left (is_writable s) (nat_le (s.vmaddr + CHAIN_PAGE * page) a) both;
-      page_from = leb-true (s.vmaddr + CHAIN_PAGE * page) a (and_right (is_writable s) (nat_le (s.vmaddr + CHAIN_PAGE * page) a) both);
-      page_to = leb-true (a + WORD_SIZE) (s.vmaddr + CHAIN_PAGE * (page + 1))
-          (and_right (is_writable s && nat_le (s.vmaddr + CHAIN_PAGE * page) a)
-          (nat_le (a + WORD_SIZE) (s.vmaddr + CHAIN_PAGE * (page + 1))) all);
+      writable = and_left (is_writable s) (nat_le (s.vmaddr + SEGMENT_PAGE * page) a) both;
+      page_from = leb-true (s.vmaddr + SEGMENT_PAGE * page) a (and_right (is_writable s) (nat_le (s.vmaddr + SEGMENT_PAGE * page) a) both);
+      page_to = leb-true (a + POINTER_SIZE) (s.vmaddr + SEGMENT_PAGE * (page + 1))
+          (and_right (is_writable s && nat_le (s.vmaddr + SEGMENT_PAGE * page) a)
+          (nat_le (a + POINTER_SIZE) (s.vmaddr + SEGMENT_PAGE * (page + 1))) all);
       to = has.to;
       import = λ v stands binds.
           let same = file_word_is b number place a word v apart nth has stands in
@@ -137,9 +141,9 @@ pub page_holds_fitting : (b : List ℕ) (s : SegmentCommand) (page a : ℕ) → 
 page_holds_fitting b s page a fits =
     rw (
       fits.writable,
-      le-leb (s.vmaddr + CHAIN_PAGE * page) a fits.page_from,
-      le-leb (a + WORD_SIZE) (s.vmaddr + CHAIN_PAGE * (page + 1)) fits.page_to,
-      le-leb (a + WORD_SIZE) (s.vmaddr + s.filesize) fits.to,
+      le-leb (s.vmaddr + SEGMENT_PAGE * page) a fits.page_from,
+      le-leb (a + POINTER_SIZE) (s.vmaddr + SEGMENT_PAGE * (page + 1)) fits.page_to,
+      le-leb (a + POINTER_SIZE) (s.vmaddr + s.filesize) fits.to,
     ) refl
 
 pub import_is_there : (b : List ℕ) (number place table page a word : ℕ) → IsNth list.Tables b 0 table → IsNth list.Segments b number place

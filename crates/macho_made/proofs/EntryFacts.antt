@@ -17,7 +17,7 @@ use Rattle.macho_model.specs.Consumed.{lies_in, unwind_relocation_fits, starts_i
 use Rattle.macho_consumed.specs.Told.{EntriesKeepRules}
 use Rattle.macho_consumed.proofs.Tests.{passes}
 use Rattle.macho_consumed.proofs.BoundInputs.{IsInSection, in_section}
-use Rattle.macho_targets.specs.Laws.{ObjectsAreRead}
+use Rattle.macho_model.specs.Grammar.{ObjectsAreRead}
 use Rattle.macho_made.proofs.Existing.{named_there}
 
 -- a section of entries is one of the link

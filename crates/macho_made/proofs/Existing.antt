@@ -15,7 +15,7 @@ use Rattle.macho_model.specs.Objects.{num_sections, num_symbols, section_at, rel
 use Rattle.macho_model.specs.Links.{Link, SectionId, object_of, header_at, is_carried, sections_of, carried_of}
 use Rattle.macho_model.specs.Needs.{relocation_in, section_named}
 use Rattle.macho_model.specs.Consumed.{is_plain_pointer}
-use Rattle.macho_targets.specs.Laws.{ObjectsAreRead}
+use Rattle.macho_model.specs.Grammar.{ObjectsAreRead}
 use Rattle.macho_targets.proofs.OfLink.{section_of, carried_there, IsSectionOf}
 
 pub not_addend : (q : RelocationInfo) → is_plain_pointer q ≡ true → (q.r_type == ARM64_RELOC_ADDEND) ≡ false

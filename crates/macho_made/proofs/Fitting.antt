@@ -2,7 +2,7 @@
 --
 -- The place of an address in the file is in a file part, or 0; file parts end in the file. A range that isn't empty lies in that of
 -- `__TEXT`.
-use Rattle.std.proofs.Common.{◌≡◌, ℕ, ◌+◌, ◌-◌, ◌<◌, ◌≤◌, ◌⊎◌, inl, inr, nat_le, nat_lt, Bool, true, false, cond, List, [], ◌∷◌, map}
+use Rattle.std.proofs.Common.{◌≡◌, ℕ, ◌+◌, ◌-◌, ◌<◌, ◌≤◌, ◌⊎◌, inl, inr, nat_le, nat_lt, Bool, true, false, cond, List, [], ◌∷◌}
 use Rattle.std.proofs.Common.{filter, refl, arith}
 use Rattle.std.specs.Prelude.{All}
 use Rattle.std.proofs.lemmas.Bool.{leb-true, ltb-true, cases_lt}
@@ -15,7 +15,8 @@ use Rattle.macho_model.specs.declared.placed.Range64.{Range64}
 use Rattle.macho_model.specs.Links.{Link}
 use Rattle.macho_model.specs.Segments.{TEXT}
 use Rattle.macho_model.specs.Placement.{Placed, RangeLies, LiesInNamed, range_span}
-use Rattle.macho_model.specs.Addresses.{first_number, has_in_file, offset_in_file}
+use Rattle.macho_model.specs.Lists.{of_first}
+use Rattle.macho_model.specs.Addresses.{has_in_file, offset_in_file}
 use Rattle.macho_promise.specs.Promise.{IsLaidOut}
 use Rattle.macho_consumed.proofs.RowLaws.{are_many}
 use Rattle.macho_agreement.proofs.Room.{file_parts_end}
@@ -27,14 +28,14 @@ use Rattle.macho_made.proofs.Said.{initializers_room}
 
 -- the first of some numbers that are all small
 first_small : {X : Type 0} (test : X → Bool) (f : X → ℕ) (xs : List X) (b : ℕ) → All (λ x. test x ≡ true → f x ≤ b) xs
-    → first_number (map f (filter test xs)) ≤ b
+    → of_first 0 f (filter test xs) ≤ b
 first_small test f [] b each = omega arith
 first_small {X = X} test f (x ∷ xs) b each =
     by (test x) (All-head (λ (y : X). test y ≡ true → f y ≤ b) x xs each)
     (first_small test f xs b (All-tail (λ (y : X). test y ≡ true → f y ≤ b) x xs each))
   where
-    by : (t : Bool) → (t ≡ true → f x ≤ b) → first_number (map f (filter test xs)) ≤ b
-        → first_number (map f (cond t (x ∷ filter test xs) (filter test xs))) ≤ b
+    by : (t : Bool) → (t ≡ true → f x ≤ b) → of_first 0 f (filter test xs) ≤ b
+        → of_first 0 f (cond t (x ∷ filter test xs) (filter test xs)) ≤ b
     by true low rest = low refl
     by false low rest = rest
 

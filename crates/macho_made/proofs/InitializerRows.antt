@@ -20,7 +20,8 @@ use Rattle.macho_consumed.specs.Told.{InitializersKeepRules}
 use Rattle.macho_consumed.specs.Laws.{section_of_initializer, target_of_initializer}
 use Rattle.macho_consumed.proofs.Tests.{passes}
 use Rattle.macho_consumed.proofs.Leading.{pointer_leads}
-use Rattle.macho_targets.specs.Laws.{ObjectsAreRead, IsOfLink}
+use Rattle.macho_targets.specs.Laws.{IsOfLink}
+use Rattle.macho_model.specs.Grammar.{ObjectsAreRead}
 use Rattle.macho_targets.proofs.Relocations.{relocation_of_link}
 use Rattle.macho_fields.specs.Looks.{Look, Tells}
 use Rattle.macho_made.specs.steps.Offsets.{target_in}

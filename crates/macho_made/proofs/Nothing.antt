@@ -31,7 +31,7 @@ use Rattle.macho_unwind_pages.specs.Plans.{IsFar, HasFarAddress}
 use Rattle.macho_promise.specs.UnwindSays.{moved, personality_of, resolved, resolved_entries}
 use Rattle.macho_consumed.specs.Told.{InitializersKeepRules}
 use Rattle.macho_consumed.proofs.BoundInputs.{in_section}
-use Rattle.macho_targets.specs.Laws.{ObjectsAreRead}
+use Rattle.macho_model.specs.Grammar.{ObjectsAreRead}
 use Rattle.macho_targets.proofs.Places.{places_are_one, slots_are_one}
 use Rattle.macho_standing.proofs.Distinct.{of_distinct}
 use Rattle.macho_made.specs.Made.{IsToMake, IsOffsetsText, IsUnwindMade}

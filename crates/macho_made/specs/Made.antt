@@ -15,7 +15,7 @@ use Rattle.macho_unwind.specs.Entries.{FindsEntries, FindsOnlyEntries}
 use Rattle.macho_promise.specs.Sizes.{AreCounts, unwind_size}
 use Rattle.macho_promise.specs.UnwindSays.{resolved_entries, IsUnwindText}
 use Rattle.macho_consumed.specs.Told.{InitializersKeepRules, EntriesKeepRules}
-use Rattle.macho_targets.specs.Laws.{ObjectsAreRead}
+use Rattle.macho_model.specs.Grammar.{ObjectsAreRead}
 use Rattle.macho_placing.specs.Laws.{IsWhollyPlaced}
 use Rattle.macho_made.specs.declared.fault.MadeFault.{MadeFault}
 use Rattle.macho_made.specs.declared.fault.MadeFault.TheVariants.{TooLarge, OutOfMemory}

@@ -8,8 +8,10 @@ use Rattle.std.proofs.Common.{slice_index, refl, sym, subst}
 use Rattle.std.specs.List.{list_all, list_any}
 use Rattle.std.proofs.lemmas.Bool.{le-leb}
 use Rattle.std.proofs.lemmas.List.Elements.{All-contains}
-use Rattle.macho_model.specs.Images.{NO_START, CHAIN_PAGE}
-use Rattle.macho_model.specs.Chain.{ChainSegment, WORD_SIZE, STRIDE, IsFileWord, next_of, OnChain, OnPageChain}
+use Rattle.macho_model.specs.Images.{NO_START}
+use Rattle.macho_model.specs.Segments.{SEGMENT_PAGE}
+use Rattle.macho_model.specs.Chain.{ChainSegment, STRIDE, IsFileWord, next_of, OnChain, OnPageChain}
+use Rattle.macho_model.specs.Needs.{POINTER_SIZE}
 use Rattle.macho_model.specs.Chain as chain
 use Rattle.macho_memory_walks.specs.steps.Walks.{word_in, stands_in}
 use Rattle.macho_model.proofs.EachBelow.{each_below, true_or_false, and_left, and_right, and_both, or_right, neither, not_true, is_equal}
@@ -22,7 +24,7 @@ is_among addresses a = list_any (λ y. y == a) addresses
 -- the list has the first word of each page
 abbrev pub has_start : List ℕ → ChainSegment → ℕ → Bool
 has_start addresses s page =
-    (slice_index s.starts page == NO_START) || is_among addresses (s.address + CHAIN_PAGE * page + slice_index s.starts page)
+    (slice_index s.starts page == NO_START) || is_among addresses (s.address + SEGMENT_PAGE * page + slice_index s.starts page)
 
 abbrev pub has_starts : List ℕ → ChainSegment → Bool
 has_starts addresses s = each_below (length s.starts) (has_start addresses s)
@@ -56,11 +58,11 @@ led_on segments b addresses all a word among stands goes =
     stands.one in
     led stands.segment stands.from stands.to stands.is here
   where
-    led : (s : ChainSegment) → s.address ≤ a → a + WORD_SIZE ≤ s.address + s.file_size → word ≡ word_in b s a
+    led : (s : ChainSegment) → s.address ≤ a → a + POINTER_SIZE ≤ s.address + s.file_size → word ≡ word_in b s a
         → leads_on b addresses a s ≡ true → is_among addresses (a + STRIDE * next_of word) ≡ true
     led s from to is here =
-        let whole : stands_in s a ≡ true = and_both (nat_le s.address a) (nat_le (a + WORD_SIZE) (s.address + s.file_size))
-        (le-leb s.address a from) (le-leb (a + WORD_SIZE) (s.address + s.file_size) to) in
+        let whole : stands_in s a ≡ true = and_both (nat_le s.address a) (nat_le (a + POINTER_SIZE) (s.address + s.file_size))
+        (le-leb s.address a from) (le-leb (a + POINTER_SIZE) (s.address + s.file_size) to) in
         let on : nat_le 1 (next_of (word_in b s a)) ≡ true = le-leb 1 (next_of (word_in b s a)) (subst (λ w. 1 ≤ next_of w) is goes) in
         subst (λ w. is_among addresses (a + STRIDE * next_of w) ≡ true) (sym is)
         (or_right (not (stands_in s a) || not (nat_le 1 (next_of (word_in b s a))))
@@ -75,7 +77,7 @@ chain_within segments b addresses closed _ (chain.OnChain.first s page one withi
     let all = and_left (list_all (has_starts addresses) segments) (list_all (λ x. list_all (leads_on b addresses x) segments) addresses)
     closed in
     let here = All-contains (λ x. has_starts addresses x ≡ true) segments s (all_pass (has_starts addresses) segments all) one in
-    or_right (slice_index s.starts page == NO_START) (is_among addresses (s.address + CHAIN_PAGE * page + slice_index s.starts page))
+    or_right (slice_index s.starts page == NO_START) (is_among addresses (s.address + SEGMENT_PAGE * page + slice_index s.starts page))
     (below_pass (length s.starts) (has_start addresses s) here page within) (unequal_is (slice_index s.starts page) NO_START starts)
 chain_within segments b addresses closed _ (chain.OnChain.next a word on stands goes) =
     let all = and_right (list_all (has_starts addresses) segments) (list_all (λ x. list_all (leads_on b addresses x) segments) addresses)
@@ -92,7 +94,7 @@ pub page_within : (segments : List ChainSegment) (b addresses : List ℕ) (s : C
     → is_page_closed segments b addresses s page ≡ true
     → (a : ℕ) → OnPageChain segments b s page a → is_among addresses a ≡ true
 page_within segments b addresses s page closed _ (chain.OnPageChain.first within starts) =
-    or_right (slice_index s.starts page == NO_START) (is_among addresses (s.address + CHAIN_PAGE * page + slice_index s.starts page))
+    or_right (slice_index s.starts page == NO_START) (is_among addresses (s.address + SEGMENT_PAGE * page + slice_index s.starts page))
     (and_left (has_start addresses s page) (list_all (λ x. list_all (leads_on b addresses x) segments) addresses) closed)
     (unequal_is (slice_index s.starts page) NO_START starts)
 page_within segments b addresses s page closed _ (chain.OnPageChain.next a word on stands goes) =

@@ -14,7 +14,7 @@ use Rattle.macho_memory_walks.specs.declared.walk.Listed.TheVariants as list
 use Rattle.macho_model.specs.Commands.{header_of}
 use Rattle.macho_model.specs.LoadRules.{segment_in}
 use Rattle.macho_model.specs.Images.{mapped_segments, table_of_command, tables_of}
-use Rattle.macho_model.specs.Chain.{WORD_SIZE}
+use Rattle.macho_model.specs.Needs.{POINTER_SIZE}
 use Rattle.macho_model.specs.Loader.{is_bind, ordinal_of}
 use Rattle.macho_model.specs.Memory.{Choice, IsBound, Becomes, Covers, IsFixed, IsSegmentByte, Holds}
 use Rattle.macho_memory_walks.specs.Readings.{command_at, listed, IsNth, HasWord, table_there}
@@ -151,12 +151,12 @@ word_byte_lacks b s x word_at v choice c lacks held =
     elim held.byte [
       | inl chained ↦ of chained.word_at chained.value (subst (λ a. Covers b chained.word_at a) here chained.covers)
           (λ other covers. chained.last other (subst (λ a. Covers b other a) (sym here) covers)) chained.fixed
-          (chained.is ∙ ap (λ a. slice_index (le_bytes WORD_SIZE chained.value) (a - chained.word_at)) here)
+          (chained.is ∙ ap (λ a. slice_index (le_bytes POINTER_SIZE chained.value) (a - chained.word_at)) here)
       | inr plain ↦ plain.0 word_at (subst (λ a. Covers b word_at a) (sym here) c.covers)
     ]
   where
     of : (at value : ℕ) → Covers b at (x - s) → ((other : ℕ) → Covers b other (x - s) → other ≤ at) → IsFixed b s choice at value
-        → v ≡ slice_index (le_bytes WORD_SIZE value) (x - s - at) → ⊥
+        → v ≡ slice_index (le_bytes POINTER_SIZE value) (x - s - at) → ⊥
     of at value covers last fixed is =
         let up = last word_at c.covers in
         let down = c.last at covers in

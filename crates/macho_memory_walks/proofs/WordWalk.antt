@@ -18,9 +18,11 @@ use Rattle.macho_memory_walks.specs.declared.walk.Listed.TheVariants as list
 use Rattle.macho_model.specs.Lists.{IsNumber}
 use Rattle.macho_model.specs.Commands.{Command, header_of, commands_of}
 use Rattle.macho_model.specs.Images.{segments_of, Table, table_of_command, starts_count, starts_offset, segment_starts, page_start}
-use Rattle.macho_model.specs.Images.{NO_START, CHAIN_PAGE}
+use Rattle.macho_model.specs.Images.{NO_START}
+use Rattle.macho_model.specs.Segments.{SEGMENT_PAGE}
 use Rattle.macho_model.specs.LoadRules.{segment_in}
-use Rattle.macho_model.specs.Chain.{ChainSegment, chain_segment, chain_segments, starts_in_tables, IsFileWord, next_of, WORD_SIZE, STRIDE}
+use Rattle.macho_model.specs.Chain.{ChainSegment, chain_segment, chain_segments, starts_in_tables, IsFileWord, next_of, STRIDE}
+use Rattle.macho_model.specs.Needs.{POINTER_SIZE}
 use Rattle.macho_model.specs.Chain.{OnChain, OnPageChain}
 use Rattle.macho_model.specs.Chain as chain
 use Rattle.macho_memory_walks.specs.Readings.{command_at, is_listed, listed, IsNth, HasWord, segment_there, table_there, starts_in}
@@ -129,12 +131,12 @@ pub record WordIn (b : List ℕ) (a word : ℕ) : Type 0 where
 pub word_in_segment : (b : List ℕ) (a word : ℕ) → IsFileWord (chain_segments b) b a word → WordIn b a word
 word_in_segment b a word stands = of stands.segment stands.from stands.to stands.is (numbered_segment b stands.segment stands.one)
   where
-    of : (s : ChainSegment) → s.address ≤ a → a + WORD_SIZE ≤ s.address + s.file_size
-        → word ≡ le_at WORD_SIZE b (s.file_offset + (a - s.address))
+    of : (s : ChainSegment) → s.address ≤ a → a + POINTER_SIZE ≤ s.address + s.file_size
+        → word ≡ le_at POINTER_SIZE b (s.file_offset + (a - s.address))
         → IsNumbered b s → WordIn b a word
     of s from to is n =
-        let whole = subst (λ (x : ChainSegment). (x.address ≤ a) × (a + WORD_SIZE ≤ x.address + x.file_size) ×
-        (word ≡ le_at WORD_SIZE b (x.file_offset + (a - x.address)))) n.is (from, to, is) in
+        let whole = subst (λ (x : ChainSegment). (x.address ≤ a) × (a + POINTER_SIZE ≤ x.address + x.file_size) ×
+        (word ≡ le_at POINTER_SIZE b (x.file_offset + (a - x.address)))) n.is (from, to, is) in
         record { number = n.number; place = n.place; nth = n.nth; has = record { from = whole.0; to = whole.1; is = whole.2 } }
 
 pub segment_has_word : (b : List ℕ) (number place a word : ℕ) → IsNth list.Segments b number place
@@ -213,7 +215,7 @@ leads_more b _ _ word (walks.Leads.on a first c at_a goes_a rest) stands goes =
 
 -- the first word of a page
 abbrev pub page_first : ChainSegment → ℕ → ℕ
-page_first s page = s.address + CHAIN_PAGE * page + slice_index s.starts page
+page_first s page = s.address + SEGMENT_PAGE * page + slice_index s.starts page
 
 -- a page's chain is what its start leads to
 pub record FromStart (b : List ℕ) (s : ChainSegment) (page a : ℕ) : Type 0 where
@@ -332,23 +334,23 @@ one_more_below {P = P} i before here k within =
 -- a page's chain, by the words that are read
 pub page_chain_found : (b : List ℕ) (number place page a address start : ℕ) → page < length (starts_of b number)
     → start ≡ slice_index (starts_of b number) page
-    → (start ≡ NO_START → ⊥) → address ≡ (segment_in b (command_at b place)).vmaddr → Leads b (address + CHAIN_PAGE * page + start) a
+    → (start ≡ NO_START → ⊥) → address ≡ (segment_in b (command_at b place)).vmaddr → Leads b (address + SEGMENT_PAGE * page + start) a
     → OnPageChain (chain_segments b) b (chain_segment_at b number place) page a
 page_chain_found b number place page a address start within is some at leads =
     on_page b (chain_segment_at b number place) page a (record {
       within = within;
       starts = λ none. some (is ∙ none);
-      leads = subst (λ n. Leads b ((segment_in b (command_at b place)).vmaddr + CHAIN_PAGE * page + n) a) is
-          (subst (λ n. Leads b (n + CHAIN_PAGE * page + start) a) at leads);
+      leads = subst (λ n. Leads b ((segment_in b (command_at b place)).vmaddr + SEGMENT_PAGE * page + n) a) is
+          (subst (λ n. Leads b (n + SEGMENT_PAGE * page + start) a) at leads);
     })
 
 pub page_chain_only : (b : List ℕ) (number place page a address start : ℕ) → start ≡ slice_index (starts_of b number) page
-    → address ≡ (segment_in b (command_at b place)).vmaddr → (Leads b (address + CHAIN_PAGE * page + start) a → ⊥)
+    → address ≡ (segment_in b (command_at b place)).vmaddr → (Leads b (address + SEGMENT_PAGE * page + start) a → ⊥)
     → OnPageChain (chain_segments b) b (chain_segment_at b number place) page a → ⊥
 page_chain_only b number place page a address start is at none on =
     let f = from_start b (chain_segment_at b number place) page a on in
-    none (subst (λ n. Leads b (n + CHAIN_PAGE * page + start) a) (sym at)
-    (subst (λ n. Leads b ((segment_in b (command_at b place)).vmaddr + CHAIN_PAGE * page + n) a) (sym is) f.leads))
+    none (subst (λ n. Leads b (n + SEGMENT_PAGE * page + start) a) (sym at)
+    (subst (λ n. Leads b ((segment_in b (command_at b place)).vmaddr + SEGMENT_PAGE * page + n) a) (sym is) f.leads))
 
 pub page_chain_none : (b : List ℕ) (number place page a start : ℕ) → start ≡ slice_index (starts_of b number) page → start ≡ NO_START
     → OnPageChain (chain_segments b) b (chain_segment_at b number place) page a → ⊥

@@ -7,9 +7,9 @@ use Rattle.macho_records.specs.declared.header.SegmentCommand.{SegmentCommand}
 use Rattle.macho_records.specs.declared.constants.TheConstants.{LC_DYLD_CHAINED_FIXUPS, LC_LOAD_DYLIB, LC_SEGMENT_64}
 use Rattle.macho_model.specs.Commands.{Command, commands_of, command_fits}
 use Rattle.macho_model.specs.Segments.{PAGEZERO, TEXT}
-use Rattle.macho_model.specs.Images.{is_named, Table, table_of_command, fixups_header, starts_count, page_starts, CHAIN_PAGE}
+use Rattle.macho_model.specs.Images.{is_named, Table, table_of_command, fixups_header, starts_count, page_starts}
 use Rattle.macho_model.specs.LoadRules.{needed_in_image, segment_in, protections_fit, file_part_inside, segment_is_paged, segment_ends, text_holds_commands, table_fits}
-use Rattle.macho_model.specs.Chain.{WORD_SIZE}
+use Rattle.macho_model.specs.Needs.{POINTER_SIZE}
 use Rattle.macho_model.specs.Loader.{is_writable}
 use Rattle.macho_memory_walks.specs.declared.segments.SegmentNumbers.{SegmentNumbers}
 use Rattle.macho_memory_walks.specs.declared.tables.FixupTable.{FixupTable}
@@ -70,8 +70,8 @@ pub record SaysTable (b : List ℕ) (t : Table) (r : FixupTable) : Type 0 where
 -- a segment has a word at an address, whole in its file part
 pub record HasWord (b : List ℕ) (s : SegmentCommand) (a word : ℕ) : Type 0 where
   pub from : s.vmaddr ≤ a
-  pub to : a + WORD_SIZE ≤ s.vmaddr + s.filesize
-  pub is : word ≡ le_at WORD_SIZE b (s.fileoff + (a - s.vmaddr))
+  pub to : a + POINTER_SIZE ≤ s.vmaddr + s.filesize
+  pub is : word ≡ le_at POINTER_SIZE b (s.fileoff + (a - s.vmaddr))
 
 -- the page starts of a segment in a table
 abbrev pub starts_in : List ℕ → Table → ℕ → List ℕ

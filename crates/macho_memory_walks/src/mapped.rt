@@ -5,7 +5,7 @@
 //! the word at the greater address.
 ghost use Rattle.std.specs.Prelude.{◌≡◌, ◌<◌, ℕ, Some, None, slice_index};
 ghost use Rattle.macho_bytes.specs.Numbers.{le_bytes};
-ghost use Rattle.macho_model.specs.Chain.{WORD_SIZE};
+ghost use Rattle.macho_model.specs.Needs.{POINTER_SIZE};
 ghost use Rattle.macho_model.specs.Memory.{IsSegmentByte};
 ghost use Rattle.macho_memory_walks.specs.Readings.{segment_there};
 ghost use Rattle.macho_memory_walks.specs.steps.Walks.{SegmentHas, NthLacksByte};
@@ -81,7 +81,7 @@ fn covering(bytes: &[u8], address: u64) -> Option<u64>
 #[tactic(auto, unfolding(macho_bytes::specs::Numbers::le_bytes))]
 fn byte_of(value: u64, at: u64) -> u8
     requires { at < 8 }
-    ensures { result ≡ slice_index (le_bytes WORD_SIZE value) at }
+    ensures { result ≡ slice_index (le_bytes POINTER_SIZE value) at }
 {
     value.to_le_bytes()[at as usize]
 }

@@ -7,12 +7,15 @@ use Rattle.std.proofs.Common.{◌≡◌, ℕ, ◌+◌, ◌-◌, ◌^◌, ◌<◌
 use Rattle.std.proofs.lemmas.List.{length-take, get_or-take}
 use Rattle.byteorder.specs.Numbers.{length-bytes_low_first, little_number-reads_back}
 use Rattle.macho_bytes.specs.Numbers.{le_at, le_bytes}
-use Rattle.macho_model.specs.Chain.{WORD_SIZE, OnChainOf}
+use Rattle.macho_model.specs.Chain.{OnChainOf}
+use Rattle.macho_model.specs.Needs.{POINTER_SIZE}
 use Rattle.macho_model.specs.Memory.{Choice, Covers, IsFixed, IsSegmentByte, Holds, HoldsText, HoldsNumber}
 
 -- a byte of the word at the greatest address of those that cover it
-pub fixed_byte_is_held : (b : List ℕ) (s : ℕ) (choice : Choice) (word_at value a : ℕ) → IsFixed b s choice word_at value → word_at ≤ a → a < word_at + WORD_SIZE
-    → ((other : ℕ) → Covers b other a → other ≤ word_at) → Holds b s choice (a + s) (slice_index (le_bytes WORD_SIZE value) (a - word_at))
+pub fixed_byte_is_held : (b : List ℕ) (s : ℕ) (choice : Choice) (word_at value a : ℕ) → IsFixed b s choice word_at value → word_at ≤ a
+    → a < word_at + POINTER_SIZE
+    → ((other : ℕ) → Covers b other a → other ≤ word_at) → Holds b s choice (a + s)
+    (slice_index (le_bytes POINTER_SIZE value) (a - word_at))
 fixed_byte_is_held b s choice word_at value a fixed from to last =
     record {
       a = a;
@@ -21,30 +24,32 @@ fixed_byte_is_held b s choice word_at value a fixed from to last =
     }
 
 -- the first n bytes of a word in which no greater one begins before
-pub fixed_text_is_held : (b : List ℕ) (s : ℕ) (choice : Choice) (a value n : ℕ) → IsFixed b s choice a value → n ≤ WORD_SIZE
-    → ((other : ℕ) → OnChainOf b other → (other ≤ a) ⊎ (a + n ≤ other)) → HoldsText b s choice (a + s) (take n (le_bytes WORD_SIZE value))
+pub fixed_text_is_held : (b : List ℕ) (s : ℕ) (choice : Choice) (a value n : ℕ) → IsFixed b s choice a value → n ≤ POINTER_SIZE
+    → ((other : ℕ) → OnChainOf b other → (other ≤ a) ⊎ (a + n ≤ other))
+    → HoldsText b s choice (a + s) (take n (le_bytes POINTER_SIZE value))
 unfolding le_bytes
 fixed_text_is_held b s choice a value n fixed short apart k within =
-    let long : length (take n (le_bytes WORD_SIZE value)) ≡ n = omega (arith, length-take n (le_bytes WORD_SIZE value), length-bytes_low_first 0 WORD_SIZE value) in
+    let long : length (take n (le_bytes POINTER_SIZE value)) ≡ n = omega (arith, length-take n
+    (le_bytes POINTER_SIZE value), length-bytes_low_first 0 POINTER_SIZE value) in
     let below : k < n = omega (arith, long) in
     let here : a + s + k ≡ a + k + s = omega arith in
     let place : a + k - a ≡ k = omega arith in
-    let byte : slice_index (take n (le_bytes WORD_SIZE value)) k ≡ slice_index (le_bytes WORD_SIZE value) (a + k - a) =
-    get_or-take n (le_bytes WORD_SIZE value) k 0 below ∙ ap (λ (j : ℕ). get_or (le_bytes WORD_SIZE value) j 0) (sym place) in
+    let byte : slice_index (take n (le_bytes POINTER_SIZE value)) k ≡ slice_index (le_bytes POINTER_SIZE value) (a + k - a) =
+    get_or-take n (le_bytes POINTER_SIZE value) k 0 below ∙ ap (λ (j : ℕ). get_or (le_bytes POINTER_SIZE value) j 0) (sym place) in
     rw (here, byte)
     (fixed_byte_is_held b s choice a value (a + k) fixed (omega arith) (omega arith)
     (λ other covers. elim (apart other covers.0) [ inl le ↦ le | inr behind ↦ absurd (omega (arith, covers.1, covers.2)) ]))
 
 -- THE whole word, where no other one begins inside it.
 pub fixed_word_is_held : (b : List ℕ) (s : ℕ) (choice : Choice) (a value : ℕ) → IsFixed b s choice a value → value < 2 ^ 64
-    → ((other : ℕ) → OnChainOf b other → (other ≤ a) ⊎ (a + WORD_SIZE ≤ other)) → HoldsNumber b s choice WORD_SIZE (a + s) value
+    → ((other : ℕ) → OnChainOf b other → (other ≤ a) ⊎ (a + POINTER_SIZE ≤ other)) → HoldsNumber b s choice POINTER_SIZE (a + s) value
 unfolding le_at le_bytes
 fixed_word_is_held b s choice a value fixed fits apart =
     record {
-      text = take WORD_SIZE (le_bytes WORD_SIZE value);
-      long = omega (arith, length-take WORD_SIZE (le_bytes WORD_SIZE value), length-bytes_low_first 0 WORD_SIZE value);
-      held = fixed_text_is_held b s choice a value WORD_SIZE fixed (omega arith) apart;
-      is = sym (little_number-reads_back WORD_SIZE value [] (omega arith));
+      text = take POINTER_SIZE (le_bytes POINTER_SIZE value);
+      long = omega (arith, length-take POINTER_SIZE (le_bytes POINTER_SIZE value), length-bytes_low_first 0 POINTER_SIZE value);
+      held = fixed_text_is_held b s choice a value POINTER_SIZE fixed (omega arith) apart;
+      is = sym (little_number-reads_back POINTER_SIZE value [] (omega arith));
     }
 
 -- a byte of a segment outside all chain words, at every slide and for every choice

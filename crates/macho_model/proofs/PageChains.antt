@@ -7,7 +7,6 @@ use Rattle.std.proofs.lemmas.List.FromFn.{get_or-enumerate_from, length-enumerat
 use Rattle.macho_records.specs.declared.header.SegmentCommand.{SegmentCommand}
 use Rattle.macho_model.specs.Lists.{IsNumber}
 use Rattle.macho_model.specs.Images.{segments_of, tables_of}
-use Rattle.macho_model.specs.Loader.{OnPageOf}
 use Rattle.macho_model.specs.Chain.{ChainSegment, OnChain, OnPageChain, chain_segment, chain_segments}
 use Rattle.macho_model.specs.Chain as chain
 use Rattle.macho_model.proofs.Unchained.{unchained}
@@ -47,5 +46,5 @@ number_in_chain b number s is =
 
 -- without fixup tables no page of a segment has a chain
 pub no_page_of : (b : List ℕ) → tables_of b ≡ [] → (number : ℕ) (s : SegmentCommand) (page a : ℕ) → IsNumber (segments_of b) number s
-    → OnPageOf b number s page a → ⊥
+    → OnPageChain (chain_segments b) b (chain_segment b (number, s)) page a → ⊥
 no_page_of b none number s page a is on = no_page_chain b none (chain_segment b (number, s)) page a (number_in_chain b number s is) on

@@ -10,13 +10,12 @@ use Rattle.macho_model.specs.declared.placed.PlacedSection.{PlacedSection}
 use Rattle.macho_model.specs.declared.placed.Slot.{Slot}
 use Rattle.macho_model.specs.declared.targets.Target.TheVariants as target
 use Rattle.macho_model.specs.Links.{Link}
-use Rattle.macho_model.specs.Needs.{imports_of, import_library}
+use Rattle.macho_model.specs.Needs.{imports_of, import_library, POINTER_SIZE}
 use Rattle.macho_model.specs.Targets.{is_defined}
 use Rattle.macho_model.specs.Fields.{Field}
 use Rattle.macho_model.specs.Images.{base_of}
 use Rattle.macho_model.specs.Meaning.{Same, PointsTo}
 use Rattle.macho_model.specs.Placement.{Placed, id_of}
-use Rattle.macho_model.specs.Chain.{WORD_SIZE}
 use Rattle.macho_model.specs.Memory.{Choice, chosen, rebase_target, rebase_high, HoldsNumber}
 use Rattle.macho_model.specs.Stands.{IsAt, Pointer, kind_of, is_template_offset, Denotes, SlotStands}
 use Rattle.macho_model.specs.SlideLaws.{MovesAt, BindsAt}
@@ -27,7 +26,8 @@ use Rattle.macho_model.proofs.FieldSlides.{defined_moves}
 abbrev pub moved_value : List ℕ → ℕ → ℕ → ℕ
 moved_value b word s = (rebase_target word + rebase_high word * 2 ^ 56 + base_of b + s) % 2 ^ 64
 
-pub moved_is_held : (b : List ℕ) (a word : ℕ) → MovesAt b a word → (s : ℕ) (choice : Choice) → HoldsNumber b s choice WORD_SIZE (a + s) (moved_value b word s)
+pub moved_is_held : (b : List ℕ) (a word : ℕ) → MovesAt b a word → (s : ℕ) (choice : Choice)
+    → HoldsNumber b s choice POINTER_SIZE (a + s) (moved_value b word s)
 moved_is_held b a word h s choice =
     fixed_word_is_held b s choice a (moved_value b word s)
     (record { on = h.on; word = word; stands = h.stands; becomes = rw h.rebases refl })
@@ -67,7 +67,7 @@ slot_denotes l b p c slot word x h moves at same s choice =
 -- and of one that binds an import
 pub bound_is_held : (l : Link) (b : List ℕ) (a id addend : ℕ) → BindsAt l b a id addend → (s : ℕ) (choice : Choice) (x : ℕ)
     → chosen choice (import_library l (get_or (imports_of l) id [])) (get_or (imports_of l) id []) ≡ Some x
-    → HoldsNumber b s choice WORD_SIZE (a + s) ((x + addend) % 2 ^ 64)
+    → HoldsNumber b s choice POINTER_SIZE (a + s) ((x + addend) % 2 ^ 64)
 bound_is_held l b a id addend h s choice x chooses =
     fixed_word_is_held b s choice a ((x + addend) % 2 ^ 64)
     (record { on = h.on; word = h.word; stands = h.stands; becomes = rw h.binds (h.bound choice x chooses) }) (mod-lt (x + addend) (omega arith)) h.alone

@@ -1,25 +1,21 @@
 -- Where the parts of a link are by a placement of them: addresses before any slide, and offsets in the file.
-use Rattle.std.specs.Prelude.{ℕ, ◌+◌, ◌-◌, ◌==◌, ◌&&◌, nat_le, nat_lt, Bool, List, [], ◌∷◌, map, filter}
+use Rattle.std.specs.Prelude.{ℕ, ◌+◌, ◌-◌, ◌==◌, ◌&&◌, nat_le, nat_lt, Bool, filter}
 use Rattle.macho_model.specs.declared.placed.PlacedSegment.{PlacedSegment}
 use Rattle.macho_model.specs.declared.targets.Target.{Target}
 use Rattle.macho_model.specs.declared.targets.Target.TheVariants as target
+use Rattle.macho_model.specs.Lists.{of_first}
 use Rattle.macho_model.specs.Targets.{same_target}
 use Rattle.macho_model.specs.Placement.{Placed}
 
--- the first of some numbers, 0 of none
-abbrev pub first_number : List ℕ → ℕ
-first_number [] = 0
-first_number (n ∷ ns) = n
-
 -- the address of a section, of a chosen common by its number, and of the slot of a target; 0 where it has no place
 unfoldable pub section_address : Placed → ℕ → ℕ → ℕ
-section_address p file section = first_number (map (λ q. q.address) (filter (λ q. (q.file == file) && (q.section == section)) p.sections))
+section_address p file section = of_first 0 (λ q. q.address) (filter (λ q. (q.file == file) && (q.section == section)) p.sections)
 
 unfoldable pub common_address : Placed → ℕ → ℕ
-common_address p id = first_number (map (λ c. c.address) (filter (λ c. c.id == id) p.commons))
+common_address p id = of_first 0 (λ c. c.address) (filter (λ c. c.id == id) p.commons)
 
 unfoldable pub slot_address : Placed → Target → ℕ
-slot_address p t = first_number (map (λ s. s.address) (filter (λ s. same_target s.target t) p.slots))
+slot_address p t = of_first 0 (λ s. s.address) (filter (λ s. same_target s.target t) p.slots)
 
 -- the address of a target that is in the image, or its value; 0 for an import, which is elsewhere
 abbrev pub address_of : Placed → Target → ℕ
@@ -35,4 +31,4 @@ has_in_file a s = nat_le s.address a && nat_lt a (s.address + s.file_size)
 
 -- the file offset of the byte at an address, 0 where no byte of the file is mapped there
 unfoldable pub offset_in_file : Placed → ℕ → ℕ
-offset_in_file p a = first_number (map (λ s. s.file_offset + (a - s.address)) (filter (has_in_file a) p.segments))
+offset_in_file p a = of_first 0 (λ s. s.file_offset + (a - s.address)) (filter (has_in_file a) p.segments)

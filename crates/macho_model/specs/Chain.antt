@@ -4,7 +4,9 @@ use Rattle.std.specs.Prelude.{◌≡◌, ◌≢◌, ℕ, ◌+◌, ◌*◌, ◌-�
 use Rattle.std.specs.List.{enumerate_from}
 use Rattle.macho_bytes.specs.Numbers.{le_at, bits}
 use Rattle.macho_records.specs.declared.header.SegmentCommand.{SegmentCommand}
-use Rattle.macho_model.specs.Images.{Table, segments_of, tables_of, starts_count, page_starts, NO_START, CHAIN_PAGE}
+use Rattle.macho_model.specs.Images.{Table, segments_of, tables_of, starts_count, page_starts, NO_START}
+use Rattle.macho_model.specs.Needs.{POINTER_SIZE}
+use Rattle.macho_model.specs.Segments.{SEGMENT_PAGE}
 use Rattle.macho_model.specs.Lists.{of_first}
 
 -- A segment as chains see it: its address, its file range and its page starts.
@@ -14,17 +16,13 @@ pub record ChainSegment : Type 0 where
   pub file_size : ℕ
   pub starts : List ℕ
 
--- the bytes of a word on a chain
-abbrev pub WORD_SIZE : ℕ
-WORD_SIZE = 8
-
 -- the eight file bytes of a word, as a number: it stands whole in the file part of a segment
 pub record IsFileWord (segments : List ChainSegment) (b : List ℕ) (a word : ℕ) : Type 0 where
   pub segment : ChainSegment
   pub one : Contains segments segment
   pub from : segment.address ≤ a
-  pub to : a + WORD_SIZE ≤ segment.address + segment.file_size
-  pub is : word ≡ le_at WORD_SIZE b (segment.file_offset + (a - segment.address))
+  pub to : a + POINTER_SIZE ≤ segment.address + segment.file_size
+  pub is : word ≡ le_at POINTER_SIZE b (segment.file_offset + (a - segment.address))
 
 -- the steps of four bytes to the next word of the page, 0 at the last: 12 bits above bit 50
 abbrev pub next_of : ℕ → ℕ
@@ -37,13 +35,13 @@ STRIDE = 4
 -- The set of addresses of chain words.
 pub data OnChain (segments : List ChainSegment) (b : List ℕ) : ℕ → Type 0 where
   first : (s : ChainSegment) (page : ℕ) → Contains segments s → page < length s.starts → slice_index s.starts page ≢ NO_START
-      → OnChain segments b (s.address + CHAIN_PAGE * page + slice_index s.starts page)
+      → OnChain segments b (s.address + SEGMENT_PAGE * page + slice_index s.starts page)
   next : (a word : ℕ) → OnChain segments b a → IsFileWord segments b a word → 1 ≤ next_of word → OnChain segments b (a + STRIDE * next_of word)
 
 -- The words of one page's chain: its start, and each word that a word of it leads to.
 pub data OnPageChain (segments : List ChainSegment) (b : List ℕ) (s : ChainSegment) (page : ℕ) : ℕ → Type 0 where
   first : page < length s.starts → slice_index s.starts page ≢ NO_START
-      → OnPageChain segments b s page (s.address + CHAIN_PAGE * page + slice_index s.starts page)
+      → OnPageChain segments b s page (s.address + SEGMENT_PAGE * page + slice_index s.starts page)
   next : (a word : ℕ) → OnPageChain segments b s page a → IsFileWord segments b a word → 1 ≤ next_of word
       → OnPageChain segments b s page (a + STRIDE * next_of word)
 

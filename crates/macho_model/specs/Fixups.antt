@@ -10,6 +10,7 @@ use Rattle.macho_model.specs.Links.{Link, carried_of}
 use Rattle.macho_model.specs.Needs.{imports_of, distinct}
 use Rattle.macho_model.specs.Fields.{Field, fields_of}
 use Rattle.macho_model.specs.Placement.{Placed, id_of}
+use Rattle.macho_model.specs.Images.{IMPORT_FORMAT, IMPORT_ADDEND_FORMAT}
 use Rattle.macho_model.specs.Chain.{OnChainOf}
 use Rattle.macho_model.specs.Values.{is_pointer, needs_fixup}
 
@@ -50,3 +51,6 @@ import_entries_of l = map (λ id. record { import = id; addend = 0 }) (range_wit
 
 unfoldable pub entries_have_addends : Link → Bool
 entries_have_addends l = not (length (own_entries l) == 0)
+
+abbrev pub import_format : Link → ℕ
+import_format l = if entries_have_addends l then IMPORT_ADDEND_FORMAT else IMPORT_FORMAT

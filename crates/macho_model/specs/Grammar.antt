@@ -6,6 +6,7 @@ use Rattle.macho_model.specs.declared.rules.ObjectRule.TheVariants.{O1, O2, O3, 
 use Rattle.macho_records.specs.declared.constants.TheConstants.{LC_ID_DYLIB, LC_SEGMENT_64, LC_SYMTAB, MH_DYLIB, MH_OBJECT}
 use Rattle.macho_model.specs.Lists.{IsNumber}
 use Rattle.macho_model.specs.Commands.{Command, commands_of, numbered, place_of, command_fits}
+use Rattle.macho_model.specs.Links.{Link, Object}
 use Rattle.macho_model.specs.Objects.{num_sections, section_place, section_at, num_symbols, symbol_place, relocation_place}
 use Rattle.macho_model.specs.ObjectRules.{head_fits, commands_inside, needed_in_object, needed_in_dylib, has_one, tables_inside, symbol_section_exists, relocation_number_exists, data_inside, exponent_fits, value_in_section, name_ends, path_ends, relocations_inside, field_inside, thread_local_in_data, zerofill_unrelocated, global_has_name, common_fits}
 
@@ -120,3 +121,7 @@ DylibBreaks b rule place = AreWhole b (command_fits needed_in_dylib b) × DylibR
 abbrev pub Breaks : Bool → List ℕ → ObjectRule → ℕ → Type 0
 Breaks false b rule place = ObjectBreaks b rule place
 Breaks true b rule place = DylibBreaks b rule place
+
+-- the objects of a link keep the rules of objects
+abbrev pub ObjectsAreRead : Link → Type 0
+ObjectsAreRead l = (file : ℕ) (b : List ℕ) → IsNumber l.inputs file (Object b) → IsObject b

@@ -105,10 +105,6 @@ page_start b t k page = le_at 2 b (segment_starts_place b t k + size_of chained_
 abbrev pub NO_START : ℕ
 NO_START = 0xffff
 
--- the bytes of a page of a chain
-abbrev pub CHAIN_PAGE : ℕ
-CHAIN_PAGE = 0x4000
-
 -- the page starts of segment k, none where it has no fixups
 abbrev pub page_starts : List ℕ → Table → ℕ → List ℕ
 page_starts b t k = if starts_offset b t k == 0 then [] else map (page_start b t k) (range_with_len 0 (segment_starts b t k).page_count)

@@ -7,9 +7,9 @@ use Rattle.macho_model.specs.Links.{Link, carried_of}
 use Rattle.macho_model.specs.Needs.{imports_of, import_library, libraries_needed}
 use Rattle.macho_model.specs.Targets.{slots_of}
 use Rattle.macho_model.specs.Fields.{fields_of}
-use Rattle.macho_model.specs.Images.{Table, tables_of, libraries_of, fixups_header, import_place, import_entry, import_name, IMPORT_FORMAT, IMPORT_ADDEND_FORMAT}
+use Rattle.macho_model.specs.Images.{Table, tables_of, libraries_of, fixups_header, import_place, import_entry, import_name}
 use Rattle.macho_model.specs.Values.{needs_fixup}
-use Rattle.macho_model.specs.Fixups.{EntryOfImport, import_entries_of, entries_have_addends}
+use Rattle.macho_model.specs.Fixups.{EntryOfImport, import_entries_of, import_format}
 use Rattle.macho_model.specs.Exports.{library_number}
 
 -- the words that the loader writes: a slot each, and a pointer each that needs a fixup
@@ -47,7 +47,7 @@ pub record EntrySays (l : Link) (b : List ℕ) (t : Table) (k : ℕ) : Type 0 wh
 pub record ImportTableSays (l : Link) (b : List ℕ) : Type 0 where
   pub table : Table
   pub one : tables_of b ≡ table ∷ []
-  pub format : (fixups_header b table).imports_format ≡ (if entries_have_addends l then IMPORT_ADDEND_FORMAT else IMPORT_FORMAT)
+  pub format : (fixups_header b table).imports_format ≡ import_format l
   pub count : (fixups_header b table).imports_count ≡ length (import_entries_of l)
   pub entries : (k : ℕ) → k < length (import_entries_of l) → EntrySays l b table k
   pub names : slice_range b (table.at + (fixups_header b table).symbols_offset) (table.at + (fixups_header b table).symbols_offset + length (names_text l))

@@ -1,5 +1,5 @@
 -- The greatest numbers that the format takes, and when a link or an image passes one.
-use Rattle.std.specs.Prelude.{◌≡◌, ℕ, ◌+◌, ◌-◌, ◌/◌, ◌^◌, ◌<◌, ◌≤◌, ◌⊎◌, length, Option, Some, None, Contains, true}
+use Rattle.std.specs.Prelude.{◌≡◌, ℕ, ◌+◌, ◌-◌, ◌/◌, ◌^◌, ◌<◌, ◌≤◌, ◌⊎◌, length, Option, Some, None, MatchOption, Contains, true}
 use Rattle.std.specs.FinMap.{empty}
 use Rattle.macho_records.specs.Segments.{text_of}
 use Rattle.macho_model.specs.declared.targets.Target.{Target}
@@ -64,5 +64,4 @@ ImagePasses l p =
     ⊎ ((x : ℕ) × IsWritten32 l p x × (p.base + LIMIT_32 ≤ x))
 
 abbrev pub IsTooLarge : Link → Counts → Option Placed → Type 0
-IsTooLarge l counts None = 2 ^ 64 ≤ written_sum_of l counts + LIMIT_32
-IsTooLarge l counts (Some p) = ImagePasses l p
+IsTooLarge l counts placement = MatchOption placement (2 ^ 64 ≤ written_sum_of l counts + LIMIT_32) (ImagePasses l)

@@ -10,9 +10,10 @@ use Rattle.macho_model.specs.Lists.{IsNumber, EachNext, of_first}
 use Rattle.macho_model.specs.Commands.{Command, commands_of, numbered, command_fits}
 use Rattle.macho_model.specs.ObjectRules.{commands_inside}
 use Rattle.macho_model.specs.Grammar.{EachCommand, CommandFails}
-use Rattle.macho_model.specs.Segments.{TEXT}
-use Rattle.macho_model.specs.Images.{segments_of, is_named, segments_named, Table, table_of_command, tables_of, fixups_header, import_place, CHAIN_PAGE}
-use Rattle.macho_model.specs.Chain.{chain_segment, chain_segments, IsFileWord, WORD_SIZE, OnPageChain}
+use Rattle.macho_model.specs.Segments.{TEXT, SEGMENT_PAGE}
+use Rattle.macho_model.specs.Images.{segments_of, is_named, segments_named, Table, table_of_command, tables_of, fixups_header, import_place}
+use Rattle.macho_model.specs.Chain.{chain_segment, chain_segments, IsFileWord, OnPageChain}
+use Rattle.macho_model.specs.Needs.{POINTER_SIZE}
 use Rattle.macho_model.specs.LoadRules.{image_head_fits, needed_in_image, segment_in, protections_fit, file_part_inside, segment_is_paged, segment_ends, begins_behind, text_holds_commands, table_fits, import_fits}
 
 -- a chain word binds an import, by number, or moves with the image (`mach-o/fixup-chains.h`)
@@ -28,17 +29,13 @@ is_writable s = bits 1 1 s.initprot == 1
 abbrev pub import_count : List ℕ → List Table → ℕ
 import_count b tables = of_first 0 (λ t. (fixups_header b t).imports_count) tables
 
--- an address is on the chain of a page of a segment, by the segment's number
-abbrev pub OnPageOf : List ℕ → ℕ → SegmentCommand → ℕ → ℕ → Type 0
-OnPageOf b number s page a = OnPageChain (chain_segments b) b (chain_segment b (number, s)) page a
-
 -- L10: a word of a page's chain stands whole in that page and in the file bytes of the page's segment, which may be written
 -- to; and its import exists
 pub record WordFits (b : List ℕ) (s : SegmentCommand) (page a : ℕ) : Type 0 where
   pub writable : is_writable s ≡ true
-  pub page_from : s.vmaddr + CHAIN_PAGE * page ≤ a
-  pub page_to : a + WORD_SIZE ≤ s.vmaddr + CHAIN_PAGE * (page + 1)
-  pub to : a + WORD_SIZE ≤ s.vmaddr + s.filesize
+  pub page_from : s.vmaddr + SEGMENT_PAGE * page ≤ a
+  pub page_to : a + POINTER_SIZE ≤ s.vmaddr + SEGMENT_PAGE * (page + 1)
+  pub to : a + POINTER_SIZE ≤ s.vmaddr + s.filesize
   pub import : (word : ℕ) → IsFileWord (chain_segments b) b a word → is_bind word ≡ true → ordinal_of word < import_count b (tables_of b)
 
 -- THE loader accepts an image: one field for each rule.
@@ -52,7 +49,8 @@ pub record IsAccepted (b : List ℕ) : Type 0 where
   pub l7 : (length (segments_named TEXT b) ≡ 1) × All (λ s. text_holds_commands b s ≡ true) (segments_named TEXT b)
   pub l8 : (length (tables_of b) ≤ 1) × All (λ t. table_fits b t ≡ true) (tables_of b)
   pub l9 : (t : Table) (k : ℕ) → Contains (tables_of b) t → k < (fixups_header b t).imports_count → import_fits b t k ≡ true
-  pub l10 : (number : ℕ) (s : SegmentCommand) (page a : ℕ) → IsNumber (segments_of b) number s → OnPageOf b number s page a → WordFits b s page a
+  pub l10 : (number : ℕ) (s : SegmentCommand) (page a : ℕ) → IsNumber (segments_of b) number s
+      → OnPageChain (chain_segments b) b (chain_segment b (number, s)) page a → WordFits b s page a
 
 -- some segment's command and the one behind it fail a test, told at the latter
 abbrev pub NeighbourFails : List Command → ℕ → (Command → Command → Bool) → Type 0
@@ -86,7 +84,8 @@ ImportFails b place =
 -- a chain word that does not fit, told at its file offset in the segment of its page
 abbrev pub WordFails : List ℕ → ℕ → Type 0
 WordFails b place =
-    (a : ℕ) × (number : ℕ) × (s : SegmentCommand) × (page : ℕ) × IsNumber (segments_of b) number s × OnPageOf b number s page a
+    (a : ℕ) × (number : ℕ) × (s : SegmentCommand) × (page : ℕ) × IsNumber (segments_of b) number s
+    × OnPageChain (chain_segments b) b (chain_segment b (number, s)) page a
     × (place ≡ s.fileoff + (a - s.vmaddr)) × (WordFits b s page a → ⊥)
 
 -- An image breaks a rule of the loader at a place.

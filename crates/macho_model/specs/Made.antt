@@ -1,6 +1,6 @@
 -- What the linker makes of consumed sections and of the thread-local template, as the file says it: offsets of initializers
 -- (`mach-o/loader.h`, `S_INIT_FUNC_OFFSETS`), and section headers of initial values.
-use Rattle.std.specs.Prelude.{◌≡◌, ℕ, ◌+◌, ◌*◌, ◌/◌, ◌≤◌, List, [], ◌∷◌, ◌++◌, length, map, filter, Option, Some, None, All}
+use Rattle.std.specs.Prelude.{◌≡◌, ℕ, ◌+◌, ◌*◌, ◌/◌, ◌≤◌, List, [], ◌∷◌, ◌++◌, length, map, filter, MatchOption, All}
 use Rattle.std.specs.List.{flat_map, range_with_len}
 use Rattle.macho_bytes.specs.Numbers.{le_at}
 use Rattle.macho_records.specs.Sections.{type_of, is_template_type}
@@ -46,10 +46,6 @@ pub record FillTemplate (headers : List SectionHeader) (r : Range64) : Type 0 wh
   pub before : List SectionHeader
   pub ends : (headers ≡ before ++ last ∷ []) × (last.addr + last.size ≡ r.end)
 
-abbrev pub TemplateIsFilled : List SectionHeader → Option Range64 → Type 0
-TemplateIsFilled headers None = headers ≡ []
-TemplateIsFilled headers (Some r) = FillTemplate headers r
-
 -- a loader finds the template by these headers, and pointers in descriptors count from the range that is told
 abbrev pub TemplateHeaders : List ℕ → Placed → Type 0
-TemplateHeaders b p = TemplateIsFilled (template_headers b) p.template
+TemplateHeaders b p = MatchOption p.template (template_headers b ≡ []) (FillTemplate (template_headers b))

@@ -8,7 +8,8 @@ use Rattle.std.specs.Cmp.Lexicographic.{slice_cmp}
 use Rattle.macho_bytes.specs.Numbers.{le_at, le_bytes, bits}
 use Rattle.macho_records.specs.declared.header.SegmentCommand.{SegmentCommand}
 use Rattle.macho_model.specs.Images.{mapped_segments, base_of, Table, tables_of, fixups_header, import_entry, import_name, import_library_name}
-use Rattle.macho_model.specs.Chain.{chain_segments, IsFileWord, WORD_SIZE, OnChainOf}
+use Rattle.macho_model.specs.Chain.{chain_segments, IsFileWord, OnChainOf}
+use Rattle.macho_model.specs.Needs.{POINTER_SIZE}
 use Rattle.macho_model.specs.Loader.{is_bind, ordinal_of}
 
 -- pairs of names, in order
@@ -68,7 +69,7 @@ pub record IsFixed (b : List ℕ) (s : ℕ) (choice : Choice) (a value : ℕ) : 
 
 -- a chain word has a byte at an address of the file's own
 abbrev pub Covers : List ℕ → ℕ → ℕ → Type 0
-Covers b word_at a = OnChainOf b word_at × (word_at ≤ a) × (a < word_at + WORD_SIZE)
+Covers b word_at a = OnChainOf b word_at × (word_at ≤ a) × (a < word_at + POINTER_SIZE)
 
 -- the byte of the chain word that covers an address; of two the one at the greater address
 pub record IsChainByte (b : List ℕ) (s : ℕ) (choice : Choice) (a v : ℕ) : Type 0 where
@@ -77,7 +78,7 @@ pub record IsChainByte (b : List ℕ) (s : ℕ) (choice : Choice) (a v : ℕ) : 
   pub last : (other : ℕ) → Covers b other a → other ≤ word_at
   pub value : ℕ
   pub fixed : IsFixed b s choice word_at value
-  pub is : v ≡ slice_index (le_bytes WORD_SIZE value) (a - word_at)
+  pub is : v ≡ slice_index (le_bytes POINTER_SIZE value) (a - word_at)
 
 -- a segment's byte: one of the file, or zero behind its file bytes
 pub record IsSegmentByte (b : List ℕ) (a v : ℕ) : Type 0 where

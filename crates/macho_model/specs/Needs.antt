@@ -5,13 +5,13 @@ use Rattle.std.specs.List.{flat_map, filter_map, range_with_len, list_any, posit
 use Rattle.std.specs.Str.{bytes_eq}
 use Rattle.macho_records.specs.RelocationInfo.{RelocationInfo}
 use Rattle.macho_records.specs.declared.constants.TheConstants.{ARM64_RELOC_ADDEND}
-use Rattle.macho_model.specs.Objects.{relocation_at, install_name_of}
+use Rattle.macho_model.specs.Objects.{relocation_at}
 use Rattle.macho_model.specs.ExportLists.{plain_entries}
-use Rattle.macho_model.specs.Links.{Input, Object, Dylib, Stub, Link, object_of, SectionId, header_at, is_consumed, is_initializers, is_unwind_entries, sections_of, carried_of}
+use Rattle.macho_model.specs.Links.{Link, object_of, SectionId, header_at, is_consumed, is_initializers, is_unwind_entries, sections_of, carried_of}
 use Rattle.macho_model.specs.Symbols.{is_global}
-use Rattle.macho_model.specs.Resolution.{SymbolId, Definition, Library, definition_of, entry_at, name_at, library_name}
+use Rattle.macho_model.specs.Resolution.{SymbolId, Definition, Library, definition_of, entry_at, name_at, library_name, library_of_input}
 
--- the bytes of a pointer or a slot and of a compact unwind entry, and the place of the personality in the latter
+-- the bytes of a pointer, a slot or a word on a chain and of a compact unwind entry, and the place of the personality in the latter
 -- (`mach-o/compact_unwind_encoding.h`)
 abbrev pub POINTER_SIZE : ℕ
 POINTER_SIZE = 8
@@ -121,12 +121,6 @@ library_file d = 0
 -- the install name of the library that an import is bound to
 abbrev pub import_library : Link → List ℕ → List ℕ
 import_library l name = library_name l (library_file (definition_of l name))
-
--- the install name of an input that is a library
-abbrev pub library_of_input : Input → Option (List ℕ)
-library_of_input (Object bytes) = None
-library_of_input (Dylib bytes) = Some (install_name_of bytes)
-library_of_input (Stub text says) = Some says.install_name
 
 -- some import is bound to the library
 abbrev pub is_needed : Link → List ℕ → Bool

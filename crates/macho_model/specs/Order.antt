@@ -13,8 +13,8 @@ use Rattle.macho_model.specs.Links.{Link, carried_of, greatest}
 use Rattle.macho_model.specs.Resolution.{chosen_commons}
 use Rattle.macho_model.specs.Segments.{PAGEZERO, TEXT, LINKEDIT, SEGMENT_PAGE, PAGEZERO_SIZE, may_hold_pointers, segment_names_of}
 use Rattle.macho_model.specs.WrittenSum.{INITIALIZER_SIZE, SYMBOL_SIZE, SIGNED_PAGE, DIGEST_SIZE, SIGNATURE_FIXED}
-use Rattle.macho_model.specs.Placement.{Placed, id_of, head_size, is_segment_named, linkedit_ranges}
-use Rattle.macho_model.specs.OutputSections.{OutputSection, output_sections_in, output_sections_of, is_zeros, key_of_output, Piece, end_of_piece, pieces_of, extent_of, POINTER_EXPONENT}
+use Rattle.macho_model.specs.Placement.{Placed, id_of, head_size, is_segment_named, range_span, linkedit_ranges}
+use Rattle.macho_model.specs.OutputSections.{OutputSection, output_sections_in, output_sections_of, is_zeros, key_of_output, Piece, piece, end_of_piece, pieces_of, extent_of, POINTER_EXPONENT}
 
 -- what stands first in a segment: header, commands and padding in `__TEXT`, nothing in any other
 abbrev pub front_of : Counts → Placed → PlacedSegment → Piece
@@ -31,16 +31,13 @@ filled_in l counts s = filter (λ o. not (is_zeros (key_of_output o))) (sections
 unfoldable pub row_of : Link → Counts → Placed → PlacedSegment → List OutputSection → List Piece
 row_of l counts p s sections = front_of counts p s ∷ map (extent_of l p) sections
 
--- a table of `__LINKEDIT`, in file offsets
-abbrev pub table_piece : ℕ → Range64 → Piece
-table_piece exponent r = record { start = r.start; size = r.end - r.start; exponent = exponent }
-
--- the file offset of `__LINKEDIT`, 0 where there is none, and its tables; a signature begins at a multiple of 16
+-- the file offset of `__LINKEDIT`, 0 where there is none, and its tables, in file offsets; a signature begins at a multiple of 16
 abbrev pub table_pieces : Placed → List Piece
 table_pieces p =
     record { start = of_first 0 (λ s. s.file_offset) (filter (is_segment_named LINKEDIT) p.segments); size = 0; exponent = 0 }
-    ∷ table_piece POINTER_EXPONENT p.linkedit.fixups ∷ table_piece 0 p.linkedit.trie ∷ table_piece POINTER_EXPONENT p.linkedit.symtab
-    ∷ table_piece 0 p.linkedit.strtab ∷ table_piece 4 p.linkedit.signature ∷ []
+    ∷ piece POINTER_EXPONENT (range_span p.linkedit.fixups) ∷ piece 0 (range_span p.linkedit.trie)
+    ∷ piece POINTER_EXPONENT (range_span p.linkedit.symtab) ∷ piece 0 (range_span p.linkedit.strtab)
+    ∷ piece 4 (range_span p.linkedit.signature) ∷ []
 
 abbrev pub EndsBefore : Piece → Piece → Type 0
 EndsBefore c d = end_of_piece c ≤ d.start

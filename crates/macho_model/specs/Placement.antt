@@ -1,5 +1,5 @@
 -- The placement relation: what any placement of a link's parts has to keep, whoever made it and however.
-use Rattle.std.specs.Prelude.{◌≡◌, ℕ, ◌+◌, ◌*◌, ◌-◌, ◌%◌, ◌^◌, ◌<◌, ◌≤◌, ◌⊎◌, ◌==◌, ◌&&◌, not, if◌then◌else◌, Bool, true, false, List, [], ◌∷◌, ◌++◌, length, map, filter, get_or, All, AllPairs, Contains, Option, Some, None, IsPermutation}
+use Rattle.std.specs.Prelude.{◌≡◌, ℕ, ◌+◌, ◌*◌, ◌-◌, ◌%◌, ◌^◌, ◌<◌, ◌≤◌, ◌⊎◌, ◌==◌, ◌&&◌, not, if◌then◌else◌, Bool, true, false, List, [], ◌∷◌, ◌++◌, length, map, filter, get_or, All, AllPairs, Contains, Option, MatchOption, IsPermutation}
 use Rattle.std.specs.Str.{bytes_eq}
 use Rattle.std.specs.List.{range_with_len}
 use Rattle.macho_bytes.specs.Layouts.{size_of}
@@ -56,11 +56,8 @@ abbrev pub section_span : Link → PlacedSection → Span
 section_span l p = record { start = p.address; size = (header_at l (id_of p)).size }
 
 -- the symbol of a chosen common by its number
-abbrev pub no_symbol : SymbolId
-no_symbol = record { file = 0; symbol = 0 }
-
 abbrev pub common_of : Link → ℕ → SymbolId
-common_of l id = get_or (chosen_commons l) id no_symbol
+common_of l id = get_or (chosen_commons l) id (record { file = 0; symbol = 0 })
 
 abbrev pub common_span : Link → PlacedCommon → Span
 common_span l c = record { start = c.address; size = common_size_of (entry_at l (common_of l c.id)) }
@@ -192,8 +189,7 @@ pub record HoldsTemplate (l : Link) (counts : Counts) (p : Placed) (r : Range64)
 
 -- the template is told exactly where it has sections
 abbrev pub TemplateHolds : Link → Counts → Placed → Option Range64 → Type 0
-TemplateHolds l counts p None = template_sections l p ≡ []
-TemplateHolds l counts p (Some r) = HoldsTemplate l counts p r
+TemplateHolds l counts p template = MatchOption template (template_sections l p ≡ []) (HoldsTemplate l counts p)
 
 -- THE placement relation.
 pub record IsPlaced (l : Link) (counts : Counts) (p : Placed) : Type 0 where

@@ -2,6 +2,7 @@
 -- common, else the first library that offers the name, else the image itself for the name of its own handle.
 use Rattle.std.specs.Prelude.{ℕ, ◌-◌, ◌==◌, nat_le, ◌&&◌, ◌||◌, not, if◌then◌else◌, Bool, false, List, [], ◌∷◌, map, filter, Option, Some, None, codes, get_or}
 use Rattle.std.specs.List.{flat_map, enumerate_from, range_with_len, list_any, list_all}
+use Rattle.std.specs.Option.{unwrap_or}
 use Rattle.std.specs.Str.{bytes_eq}
 use Rattle.macho_records.specs.declared.symbols.SymtabEntry.{SymtabEntry}
 use Rattle.macho_records.specs.Symbols.{is_common_of, is_external_of, is_hidden_of, is_weak_of}
@@ -120,10 +121,11 @@ is_chosen l s = is_common_of (entry_at l s) && defines l s
 unfoldable pub chosen_commons : Link → List SymbolId
 chosen_commons l = filter (is_chosen l) (symbols_of l)
 
-abbrev pub install_name_in : Input → List ℕ
-install_name_in (Object bytes) = []
-install_name_in (Dylib bytes) = install_name_of bytes
-install_name_in (Stub text says) = says.install_name
+-- the install name of an input that is a library
+abbrev pub library_of_input : Input → Option (List ℕ)
+library_of_input (Object bytes) = None
+library_of_input (Dylib bytes) = Some (install_name_of bytes)
+library_of_input (Stub text says) = Some says.install_name
 
 abbrev pub library_name : Link → ℕ → List ℕ
-library_name l file = install_name_in (get_or l.inputs file no_input)
+library_name l file = unwrap_or (library_of_input (get_or l.inputs file no_input)) []

@@ -36,7 +36,7 @@ COMMON = codes "__common"
 abbrev pub may_hold_pointers : List ℕ → Bool
 may_hold_pointers name = bytes_eq name DATA || bytes_eq name DATA_CONST
 
--- segments are mapped by pages of 16 KiB, and an executable's first 4 GiB are kept free
+-- segments are mapped by pages of 16 KiB, chains go by the same pages, and an executable's first 4 GiB are kept free
 abbrev pub SEGMENT_PAGE : ℕ
 SEGMENT_PAGE = 0x4000
 

@@ -51,10 +51,6 @@ pub record Signed : Type 0 where
   pub text_size : ℕ
   pub limit : ℕ
 
--- `CSMAGIC_EMBEDDED_SIGNATURE`
-abbrev pub SUPER_BLOB_MAGIC : ℕ
-SUPER_BLOB_MAGIC = 0xfade0cc0
-
 -- the super blob has a head of three words and one index of two: the code directory's type and place
 abbrev pub DIRECTORY_PLACE : ℕ
 DIRECTORY_PLACE = 20
@@ -90,10 +86,10 @@ directory_for s = record {
   exec_flags = if s.executable then 1 else 0;
 }
 
--- the bytes of a signature: the super blob with one code directory, the identifier, the digests
+-- the bytes of a signature: the super blob (`CSMAGIC_EMBEDDED_SIGNATURE`) with one code directory, the identifier, the digests
 unfoldable pub signature_text : Signed → List ℕ → List ℕ
 signature_text s b =
-    row_bytes big 4 (SUPER_BLOB_MAGIC ∷ (DIRECTORY_PLACE + directory_size s) ∷ 1 ∷ 0 ∷ DIRECTORY_PLACE ∷ [])
+    row_bytes big 4 (0xfade0cc0 ∷ (DIRECTORY_PLACE + directory_size s) ∷ 1 ∷ 0 ∷ DIRECTORY_PLACE ∷ [])
     ++ spelling code_directory (directory_for s) ++ identifier_text s.name ++ page_digests b s.limit
 
 -- what is signed of an image: all bytes in front of the signature, under the last part of the output's path

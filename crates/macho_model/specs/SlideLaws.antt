@@ -4,14 +4,14 @@ use Rattle.macho_model.specs.declared.placed.PlacedSection.{PlacedSection}
 use Rattle.macho_model.specs.declared.targets.Target.{Target}
 use Rattle.macho_model.specs.declared.targets.Target.TheVariants as target
 use Rattle.macho_model.specs.Links.{Link}
-use Rattle.macho_model.specs.Needs.{imports_of, import_library}
+use Rattle.macho_model.specs.Needs.{imports_of, import_library, POINTER_SIZE}
 use Rattle.macho_model.specs.Targets.{is_defined, is_import}
 use Rattle.macho_model.specs.Fields.{Field}
 use Rattle.macho_model.specs.Images.{base_of}
 use Rattle.macho_model.specs.Meaning.{Same}
 use Rattle.macho_model.specs.Segments.{SEGMENT_PAGE}
 use Rattle.macho_model.specs.Placement.{Placed, id_of}
-use Rattle.macho_model.specs.Chain.{WORD_SIZE, chain_segments, IsFileWord, OnChainOf}
+use Rattle.macho_model.specs.Chain.{chain_segments, IsFileWord, OnChainOf}
 use Rattle.macho_model.specs.Loader.{is_bind}
 use Rattle.macho_model.specs.Memory.{Choice, chosen, rebase_target, rebase_high, Covers, IsBound}
 use Rattle.macho_model.specs.Stands.{Kind, Pointer, Difference, Branch, Page, Offset, SlotPage, SlotOffset, SlotDistance, NoKind, kind_of, is_template_offset, IsAt, Denotes}
@@ -46,7 +46,7 @@ pub record MovesAt (b : List ℕ) (a word : ℕ) : Type 0 where
   pub on : OnChainOf b a
   pub stands : IsFileWord (chain_segments b) b a word
   pub rebases : is_bind word ≡ false
-  pub alone : (other : ℕ) → OnChainOf b other → (other ≤ a) ⊎ (a + WORD_SIZE ≤ other)
+  pub alone : (other : ℕ) → OnChainOf b other → (other ≤ a) ⊎ (a + POINTER_SIZE ≤ other)
 
 -- A pointer of 8 bytes to a target that moves denotes at every slide, where its chain word says the target at slide 0.
 abbrev pub PointersMove : Type 0
@@ -62,7 +62,7 @@ pub record BindsAt (l : Link) (b : List ℕ) (a id addend : ℕ) : Type 0 where
   pub word : ℕ
   pub stands : IsFileWord (chain_segments b) b a word
   pub binds : is_bind word ≡ true
-  pub alone : (other : ℕ) → OnChainOf b other → (other ≤ a) ⊎ (a + WORD_SIZE ≤ other)
+  pub alone : (other : ℕ) → OnChainOf b other → (other ≤ a) ⊎ (a + POINTER_SIZE ≤ other)
   pub bound : (choice : Choice) (x : ℕ) → chosen choice (import_library l (get_or (imports_of l) id [])) (get_or (imports_of l) id []) ≡ Some x
       → IsBound b choice word ((x + addend) % 2 ^ 64)
 

@@ -1,6 +1,6 @@
 -- When an image stands in memory: every carried section and chosen common whole at its place, every relocated field
 -- denoting its target and addend, every slot and stub leading to its target.
-use Rattle.std.specs.Prelude.{◌≡◌, ℕ, ◌+◌, ◌%◌, ◌<◌, ◌≤◌, ◌⊎◌, ◌==◌, ◌&&◌, ◌||◌, if◌then◌else◌, Bool, true, false, List, [], get_or, slice_index, Option, Some, None, All, Contains, is_some}
+use Rattle.std.specs.Prelude.{◌≡◌, ℕ, ◌+◌, ◌%◌, ◌<◌, ◌≤◌, ◌⊎◌, ◌==◌, ◌&&◌, ◌||◌, if◌then◌else◌, Bool, true, false, List, [], get_or, slice_index, Option, Some, None, MatchOption, All, Contains, is_some}
 use Rattle.macho_model.specs.declared.placed.Counts.{Counts}
 use Rattle.macho_model.specs.declared.placed.PlacedSection.{PlacedSection}
 use Rattle.macho_model.specs.declared.placed.PlacedCommon.{PlacedCommon}
@@ -102,8 +102,7 @@ LoadIsAt l p s choice t x = IsAt l p s choice t x
 
 -- where the subtrahend of a difference is
 abbrev pub SubtrahendIsAt : Link → Placed → ℕ → Choice → Option Target → ℕ → Type 0
-SubtrahendIsAt l p s choice None x = ⊥
-SubtrahendIsAt l p s choice (Some t) x = IsAt l p s choice t x
+SubtrahendIsAt l p s choice subtrahend x = MatchOption subtrahend ⊥ (λ t. IsAt l p s choice t x)
 
 -- What is seen of a field: its place in memory, the word that is there, and the one that the input has.
 pub record Seen : Type 0 where

@@ -20,9 +20,6 @@ filled_sections l p = filter (λ q. not (is_zerofill (header_at l (id_of q)))) p
 abbrev pub fixups_content : Link → List ℕ → Table → Span
 fixups_content l b t = record { start = t.at; size = (fixups_header b t).symbols_offset + length (names_text l) }
 
-abbrev pub whole_table : Table → Span
-whole_table t = record { start = t.at; size = t.size }
-
 -- the ranges of the file that have content: of the range of unwind information so many bytes
 unfoldable pub contents_of : Link → List ℕ → Placed → ℕ → List Span
 contents_of l b p unwind =
@@ -32,7 +29,7 @@ contents_of l b p unwind =
     ++ map (λ s. in_file p (stub_span s)) p.stubs
     ++ in_file p (range_span p.init_offsets) ∷ in_file p (record { start = p.unwind.start; size = unwind })
     ∷ map (fixups_content l b) (tables_of b)
-    ++ map whole_table (tries_of b ++ symbol_tables_of b ++ string_tables_of b ++ signatures_of b)
+    ++ map (λ t. record { start = t.at; size = t.size }) (tries_of b ++ symbol_tables_of b ++ string_tables_of b ++ signatures_of b)
 
 -- a place is in none of a range's bytes
 abbrev pub IsOutsideSpan : ℕ → Span → Type 0

@@ -16,8 +16,7 @@ use Rattle.macho_model.specs.declared.targets.Target.TheVariants as target
 use Rattle.macho_model.specs.Placement.{id_of}
 use Rattle.macho_model.specs.Fields.{Field}
 use Rattle.macho_model.specs.Values.{needs_fixup}
-use Rattle.macho_model.specs.Images.{CHAIN_PAGE}
-use Rattle.macho_model.specs.Chain.{WORD_SIZE, STRIDE}
+use Rattle.macho_model.specs.Chain.{STRIDE}
 use Rattle.macho_model.proofs.EachBelow.{true_or_false, not_true}
 use Rattle.macho_model.specs.Addresses.{section_address}
 use Rattle.macho_fixups.specs.declared.words.FixupKind.{FixupKind}
@@ -30,7 +29,7 @@ use Rattle.macho_fixups.specs.Runs.{AreFixups, Holds, pages_of, start_of}
 use Rattle.macho_fixups.specs.Chains.{word_part, place_of, step_of}
 use Rattle.macho_fixups.specs.Tables.{table_text, entry_text, image_starts_text, image_starts_size, offsets_text, segment_text}
 use Rattle.macho_fixups.specs.Tables.{segment_size, starts_text, page_starts_text}
-use Rattle.macho_promise.specs.FixupsSay.{IsFixupOf, kind_for, fixup_segments, import_format, FixupsSay}
+use Rattle.macho_promise.specs.FixupsSay.{IsFixupOf, kind_for, fixup_segments, FixupsSay}
 use Rattle.macho_promise.specs.FixupsSay as promised
 use Rattle.macho_model_checks.proofs.ExampleCall.{calls_exit, calling, code_placed, slot_placed, data_placed, placed_call, head_of_call}
 use Rattle.macho_model_checks.proofs.ExampleCall.{fixups_of_call, tables_of_call, big_words, signature_of_call, call_image}
@@ -44,13 +43,13 @@ use Rattle.macho_model.specs.ExportLists.{plain_entries, all_entries, entries_of
 use Rattle.macho_model.specs.Links.{sections_of, carried_of, template_exponent, placed_exponent}
 use Rattle.macho_model.specs.Resolution.{symbols_of, strong_of, weak_of, commons_of, greatest_of, libraries_with, definition_of}
 use Rattle.macho_model.specs.Resolution.{chosen_commons}
-use Rattle.macho_model.specs.Needs.{initializer_sections, unwind_sections, uses_of, imports_of, libraries_needed}
+use Rattle.macho_model.specs.Needs.{initializer_sections, unwind_sections, uses_of, imports_of, libraries_needed, POINTER_SIZE}
 use Rattle.macho_model.specs.Targets.{target_of, target_of_relocation, slots_of, stubs_of}
 use Rattle.macho_model.specs.Fields.{fields_of}
-use Rattle.macho_model.specs.Segments.{other_segments, segment_names_of, output_keys_of}
+use Rattle.macho_model.specs.Segments.{other_segments, segment_names_of, output_keys_of, SEGMENT_PAGE}
 use Rattle.macho_model.specs.Images.{segments_of, mapped_segments, base_of, libraries_of, tables_of, tries_of, signatures_of}
 use Rattle.macho_model.specs.Images.{symbol_tables_of, string_tables_of, entries_of_file}
-use Rattle.macho_model.specs.Fixups.{own_entries, import_entries_of, entries_have_addends}
+use Rattle.macho_model.specs.Fixups.{own_entries, import_entries_of, entries_have_addends, import_format}
 use Rattle.macho_model.specs.ImportTable.{fixup_count, names_text}
 use Rattle.macho_model_checks.proofs.Examples.{words8, words, halves, name16}
 use Rattle.macho_model_checks.proofs.ExampleLinks.{entry}
@@ -80,11 +79,11 @@ both P slot pointer = All-cons P fixup_of_slot (fixup_of_pointer ∷ []) slot (A
 
 pub run_of_call : AreFixups (fixup_segments placed_call) fixups_in_call
 run_of_call = record {
-  sorted = AllPairs-cons (λ (f g : Fixup). f.address + WORD_SIZE ≤ g.address) fixup_of_slot (fixup_of_pointer ∷ [])
-      (All-cons (λ (g : Fixup). 0x100004000 + WORD_SIZE ≤ g.address) fixup_of_pointer [] (omega arith) (All-nil _))
+  sorted = AllPairs-cons (λ (f g : Fixup). f.address + POINTER_SIZE ≤ g.address) fixup_of_slot (fixup_of_pointer ∷ [])
+      (All-cons (λ (g : Fixup). 0x100004000 + POINTER_SIZE ≤ g.address) fixup_of_pointer [] (omega arith) (All-nil _))
       (λ i j d before within. absurd (omega (arith, before, within)));
   steps = both (λ (f : Fixup). f.address % STRIDE ≡ 0) refl refl;
-  in_page = both (λ (f : Fixup). f.address % CHAIN_PAGE + WORD_SIZE ≤ CHAIN_PAGE) (omega arith) (omega arith);
+  in_page = both (λ (f : Fixup). f.address % SEGMENT_PAGE + POINTER_SIZE ≤ SEGMENT_PAGE) (omega arith) (omega arith);
   in_segment = both IsHeld (constants_part, (2, omega arith, refl), (omega arith, omega arith))
       (data_part, (3, omega arith, refl), (omega arith, omega arith));
   ordinals = both (λ (f : Fixup). FitsOrdinal f.kind) (omega arith) tt;

@@ -9,12 +9,13 @@ use Rattle.std.proofs.lemmas.Bool.{leb-true, cases_lt}
 use Rattle.macho_memory_walks.specs.declared.walk.Listed.TheVariants as list
 use Rattle.macho_model.specs.Commands.{header_of, numbered}
 use Rattle.macho_model.specs.Grammar.{EachCommand}
-use Rattle.macho_model.specs.Images.{NO_START, CHAIN_PAGE}
+use Rattle.macho_model.specs.Images.{NO_START}
+use Rattle.macho_model.specs.Segments.{SEGMENT_PAGE}
 use Rattle.macho_model.specs.LoadRules.{segment_in, file_part_inside}
 use Rattle.macho_records.specs.declared.header.SegmentCommand.{SegmentCommand}
 use Rattle.macho_records.specs.declared.constants.TheConstants.{LC_SEGMENT_64}
-use Rattle.macho_model.specs.Chain.{next_of, STRIDE}
-use Rattle.macho_model.specs.Loader.{OnPageOf, WordFits, WordFails}
+use Rattle.macho_model.specs.Chain.{next_of, STRIDE, OnPageChain, chain_segment, chain_segments}
+use Rattle.macho_model.specs.Loader.{WordFits, WordFails}
 use Rattle.macho_memory_walks.specs.Readings.{command_at, listed, IsNth, segment_there}
 use Rattle.macho_memory_walks.specs.steps.Walks.{StepIn, Leads, starts_of, chain_segment_at}
 use Rattle.macho_memory_walks.specs.steps.Walks as walks
@@ -80,7 +81,7 @@ fit_from b number place page offset passes rest a leads =
 
 -- of a page: its start, and what it leads to
 start_address : (b : List ℕ) (number place page start : ℕ) → start ≡ slice_index (starts_of b number) page
-    → address_in b place (16384 * page + start) ≡ (segment_in b (command_at b place)).vmaddr + CHAIN_PAGE * page + slice_index
+    → address_in b place (16384 * page + start) ≡ (segment_in b (command_at b place)).vmaddr + SEGMENT_PAGE * page + slice_index
     (starts_of b number) page
 start_address b number place page start is = omega (arith, is)
 
@@ -91,7 +92,7 @@ unfit_on_page b number place page start x within is some unfit =
     record {
       on = page_chain_found b number place page (address_in b place x) (segment_in b (command_at b place)).vmaddr start within is some refl
           (subst (λ a. Leads b a (address_in b place x)) (start_address b number place page start is ∙ sym
-          (ap (λ n. (segment_in b (command_at b place)).vmaddr + CHAIN_PAGE * page + n) is)) unfit.leads);
+          (ap (λ n. (segment_in b (command_at b place)).vmaddr + SEGMENT_PAGE * page + n) is)) unfit.leads);
       unfit = unfit.unfit;
       small = unfit.small;
     }
@@ -119,7 +120,7 @@ word_fails b number place page offset start x nth at is unfit =
 pub each_word : (b : List ℕ) → ((k : ℕ) → k < (header_of b).ncmds → FitOnNth b k) → EachWordFits b
 each_word b fit number s page a is on =
     let there = number_place b number s is in
-    subst (λ x. OnPageOf b number x page a → WordFits b x page a) there.2
+    subst (λ x. OnPageChain (chain_segments b) b (chain_segment b (number, x)) page a → WordFits b x page a) there.2
     (fit number (omega (arith, there.1.within, few_listed_of list.Segments b)) there.0 there.1 page a) on
 
 -- a rule that each segment's command keeps, of the one at a place

@@ -9,8 +9,10 @@ use Rattle.std.specs.List.{list_all, enumerate_from}
 use Rattle.std.proofs.lemmas.Bool.{leb-true, le-leb, ltb-true, lt-ltb}
 use Rattle.std.proofs.lemmas.List.Elements.{All-contains, Contains-get_or}
 use Rattle.macho_records.specs.declared.header.SegmentCommand.{SegmentCommand}
-use Rattle.macho_model.specs.Images.{segments_of, tables_of, CHAIN_PAGE}
-use Rattle.macho_model.specs.Chain.{ChainSegment, chain_segment, chain_segments, WORD_SIZE}
+use Rattle.macho_model.specs.Images.{segments_of, tables_of}
+use Rattle.macho_model.specs.Segments.{SEGMENT_PAGE}
+use Rattle.macho_model.specs.Chain.{ChainSegment, chain_segment, chain_segments}
+use Rattle.macho_model.specs.Needs.{POINTER_SIZE}
 use Rattle.macho_model.specs.Loader.{is_bind, ordinal_of, is_writable, import_count, WordFits}
 use Rattle.macho_model_walks.specs.Tests.{page_holds}
 use Rattle.macho_model_walks.specs.steps.WordTests.{import_exists, word_fits_test, EachWordFits}
@@ -29,11 +31,11 @@ holds_parts w f e t h =
 
 -- the import of a word exists, in the segment that has the word
 exists : (b : List ℕ) (a : ℕ) (x : ChainSegment) (word : ℕ) → import_exists b a x ≡ true → x.address ≤ a
-    → a + WORD_SIZE ≤ x.address + x.file_size
+    → a + POINTER_SIZE ≤ x.address + x.file_size
     → word ≡ word_in b x a → is_bind word ≡ true → ordinal_of word < import_count b (tables_of b)
 exists b a x word h from to is binds =
-    let whole : stands_in x a ≡ true = and_both (nat_le x.address a) (nat_le (a + WORD_SIZE) (x.address + x.file_size))
-    (le-leb x.address a from) (le-leb (a + WORD_SIZE) (x.address + x.file_size) to) in
+    let whole : stands_in x a ≡ true = and_both (nat_le x.address a) (nat_le (a + POINTER_SIZE) (x.address + x.file_size))
+    (le-leb x.address a from) (le-leb (a + POINTER_SIZE) (x.address + x.file_size) to) in
     let bound : is_bind (word_in b x a) ≡ true = subst (λ w. is_bind w ≡ true) is binds in
     subst (λ w. ordinal_of w < import_count b (tables_of b)) (sym is)
     (ltb-true (ordinal_of (word_in b x a)) (import_count b (tables_of b))
@@ -45,16 +47,16 @@ exists b a x word h from to is binds =
 -- a word that passes fits
 pub word_fits : (b : List ℕ) (s : SegmentCommand) (page a : ℕ) → word_fits_test b s page a ≡ true → WordFits b s page a
 word_fits b s page a h =
-    let held = holds_parts (is_writable s) (nat_le (s.vmaddr + CHAIN_PAGE * page) a)
-    (nat_le (a + WORD_SIZE) (s.vmaddr + CHAIN_PAGE * (page + 1))) (nat_le (a + WORD_SIZE) (s.vmaddr + s.filesize))
+    let held = holds_parts (is_writable s) (nat_le (s.vmaddr + SEGMENT_PAGE * page) a)
+    (nat_le (a + POINTER_SIZE) (s.vmaddr + SEGMENT_PAGE * (page + 1))) (nat_le (a + POINTER_SIZE) (s.vmaddr + s.filesize))
     (and_left (page_holds s page a) (list_all (import_exists b a) (chain_segments b)) h) in
     let imports = all_pass (import_exists b a) (chain_segments b)
     (and_right (page_holds s page a) (list_all (import_exists b a) (chain_segments b)) h) in
     record {
       writable = held.0;
-      page_from = leb-true (s.vmaddr + CHAIN_PAGE * page) a held.1;
-      page_to = leb-true (a + WORD_SIZE) (s.vmaddr + CHAIN_PAGE * (page + 1)) held.2;
-      to = leb-true (a + WORD_SIZE) (s.vmaddr + s.filesize) held.3;
+      page_from = leb-true (s.vmaddr + SEGMENT_PAGE * page) a held.1;
+      page_to = leb-true (a + POINTER_SIZE) (s.vmaddr + SEGMENT_PAGE * (page + 1)) held.2;
+      to = leb-true (a + POINTER_SIZE) (s.vmaddr + s.filesize) held.3;
       import = λ word stands binds. exists b a stands.segment word
           (All-contains (λ y. import_exists b a y ≡ true) (chain_segments b) stands.segment imports stands.one) stands.from stands.to
           stands.is binds;
@@ -71,9 +73,9 @@ fits_word b s page a fits =
     held =
         rw (
           fits.writable,
-          le-leb (s.vmaddr + CHAIN_PAGE * page) a fits.page_from,
-          le-leb (a + WORD_SIZE) (s.vmaddr + CHAIN_PAGE * (page + 1)) fits.page_to,
-          le-leb (a + WORD_SIZE) (s.vmaddr + s.filesize) fits.to,
+          le-leb (s.vmaddr + SEGMENT_PAGE * page) a fits.page_from,
+          le-leb (a + POINTER_SIZE) (s.vmaddr + SEGMENT_PAGE * (page + 1)) fits.page_to,
+          le-leb (a + POINTER_SIZE) (s.vmaddr + s.filesize) fits.to,
         ) refl
 
     each : (x : ChainSegment) → Contains (chain_segments b) x → import_exists b a x ≡ true
@@ -86,9 +88,9 @@ fits_word b s page a fits =
                 | true ↦ λ binds. lt-ltb (ordinal_of (word_in b x a)) (import_count b (tables_of b)) (fits.import (word_in b x a) (record {
                   segment = x;
                   one = one;
-                  from = leb-true x.address a (and_left (nat_le x.address a) (nat_le (a + WORD_SIZE) (x.address + x.file_size)) whole);
-                  to = leb-true (a + WORD_SIZE) (x.address + x.file_size)
-                      (and_right (nat_le x.address a) (nat_le (a + WORD_SIZE) (x.address + x.file_size)) whole);
+                  from = leb-true x.address a (and_left (nat_le x.address a) (nat_le (a + POINTER_SIZE) (x.address + x.file_size)) whole);
+                  to = leb-true (a + POINTER_SIZE) (x.address + x.file_size)
+                      (and_right (nat_le x.address a) (nat_le (a + POINTER_SIZE) (x.address + x.file_size)) whole);
                   is = refl;
                 }) binds)
                 | false ↦ λ _. refl

@@ -2,9 +2,10 @@
 use Rattle.std.specs.Prelude.{ℕ, ◌+◌, ◌*◌, nat_le, ◌&&◌, Bool, List}
 use Rattle.macho_records.specs.declared.header.SegmentCommand.{SegmentCommand}
 use Rattle.macho_model.specs.Commands.{Command, command_fits}
-use Rattle.macho_model.specs.Images.{table_of_command, CHAIN_PAGE}
+use Rattle.macho_model.specs.Images.{table_of_command}
+use Rattle.macho_model.specs.Segments.{SEGMENT_PAGE}
 use Rattle.macho_model.specs.LoadRules.{needed_in_image, segment_in, protections_fit, file_part_inside, segment_is_paged, segment_ends, text_holds_commands, table_fits}
-use Rattle.macho_model.specs.Chain.{WORD_SIZE}
+use Rattle.macho_model.specs.Needs.{POINTER_SIZE}
 use Rattle.macho_model.specs.Loader.{is_writable}
 use Rattle.macho_model_walks.specs.declared.loader_rules.Asked.{Asked}
 use Rattle.macho_model_walks.specs.declared.loader_rules.Asked.TheVariants as asked
@@ -14,8 +15,8 @@ use Rattle.macho_memory_walks.specs.declared.walk.Listed.TheVariants as list
 -- a segment's page holds a word: the segment may be written to, and the word stands in the page and in the file part
 abbrev pub page_holds : SegmentCommand → ℕ → ℕ → Bool
 page_holds s page a =
-    is_writable s && nat_le (s.vmaddr + CHAIN_PAGE * page) a && nat_le (a + WORD_SIZE) (s.vmaddr + CHAIN_PAGE * (page + 1))
-    && nat_le (a + WORD_SIZE) (s.vmaddr + s.filesize)
+    is_writable s && nat_le (s.vmaddr + SEGMENT_PAGE * page) a && nat_le (a + POINTER_SIZE) (s.vmaddr + SEGMENT_PAGE * (page + 1))
+    && nat_le (a + POINTER_SIZE) (s.vmaddr + s.filesize)
 
 -- the commands that are asked
 abbrev pub list_of : Asked → Listed

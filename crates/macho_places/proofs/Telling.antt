@@ -26,7 +26,8 @@ use Rattle.macho_model.specs.Links.{is_template, sections_of, carried_of, is_car
 use Rattle.macho_model.specs.Needs.{imports_of}
 use Rattle.macho_model.specs.Targets.{same_target, target_of}
 use Rattle.macho_model.specs.Placement.{Placed, id_of}
-use Rattle.macho_model.specs.Addresses.{first_number, slot_address}
+use Rattle.macho_model.specs.Lists.{of_first}
+use Rattle.macho_model.specs.Addresses.{slot_address}
 use Rattle.macho_model.specs.Fixups.{same_entry, import_entries_of}
 use Rattle.macho_object.specs.Views.{FileBytes}
 use Rattle.macho_lists.proofs.Members.{contains_map, filter_contains}
@@ -45,12 +46,12 @@ use Rattle.macho_places.proofs.Numbers.{numbered_is, entry_is, plain}
 
 -- the first number that a filter keeps stands where the test first passes
 first_kept : {X : Type 0} (f : X → ℕ) (t : X → Bool) (xs : List X)
-    → first_number (map f (filter t xs)) ≡ get_or (map f xs) (position_or_len t xs) 0
+    → of_first 0 f (filter t xs) ≡ get_or (map f xs) (position_or_len t xs) 0
 first_kept f t [] = refl
 first_kept {X} f t (x ∷ xs) = by (first_kept f t xs) (t x)
   where
-    by : first_number (map f (filter t xs)) ≡ get_or (map f xs) (position_or_len t xs) 0 → (b : Bool)
-        → first_number (map f (cond b (x ∷ filter t xs) (filter t xs))) ≡ get_or (f x ∷ map f xs) (cond (not b)
+    by : of_first 0 f (filter t xs) ≡ get_or (map f xs) (position_or_len t xs) 0 → (b : Bool)
+        → of_first 0 f (cond b (x ∷ filter t xs) (filter t xs)) ≡ get_or (f x ∷ map f xs) (cond (not b)
         (1 + position_or_len t xs) 0) 0
     by rest true = refl
     by rest false =

@@ -13,7 +13,8 @@ use Rattle.macho_model.specs.declared.placed.Slot.{Slot}
 use Rattle.macho_model.specs.declared.targets.Target.{Target}
 use Rattle.macho_model.specs.declared.targets.Target.TheVariants as target
 use Rattle.macho_model.specs.Targets.{same_target}
-use Rattle.macho_model.specs.Addresses.{first_number, common_address, slot_address}
+use Rattle.macho_model.specs.Lists.{of_first}
+use Rattle.macho_model.specs.Addresses.{common_address, slot_address}
 use Rattle.macho_placing.proofs.Places.{place_agree}
 use Rattle.macho_placing.specs.Laws.{CommonsByNumber, SlotsByNumber}
 
@@ -32,13 +33,13 @@ same_turn target.None target.None = refl
 same_turn t u = refl
 
 -- the first number that a filter keeps
-first_kept : {X : Type 0} (f : X → ℕ) (t : X → Bool) (xs : List X) → first_number (map f (filter t xs)) ≡ get_or (map f xs)
+first_kept : {X : Type 0} (f : X → ℕ) (t : X → Bool) (xs : List X) → of_first 0 f (filter t xs) ≡ get_or (map f xs)
     (position_or_len t xs) 0
 first_kept f t [] = refl
 first_kept {X} f t (x ∷ xs) = by (first_kept f t xs) (t x)
   where
-    by : first_number (map f (filter t xs)) ≡ get_or (map f xs) (position_or_len t xs) 0 → (b : Bool)
-        → first_number (map f (cond b (x ∷ filter t xs) (filter t xs))) ≡ get_or (f x ∷ map f xs)
+    by : of_first 0 f (filter t xs) ≡ get_or (map f xs) (position_or_len t xs) 0 → (b : Bool)
+        → of_first 0 f (cond b (x ∷ filter t xs) (filter t xs)) ≡ get_or (f x ∷ map f xs)
         (cond (not b) (1 + position_or_len t xs) 0) 0
     by rest true = refl
     by rest false = let e : suc (position_or_len t xs) ≡ 1 + position_or_len t xs = omega arith in rest ∙ ap
@@ -51,28 +52,28 @@ place_told t f (x ∷ xs) = ap (λ (n : ℕ). cond (not (t (f x))) (1 + n) 0) (p
 
 -- numbers from k on
 listed : (k n j : ℕ) (cs : List PlacedCommon) → map (λ c. c.id) cs ≡ range_with_len k n
-    → first_number (map (λ c. c.address) (filter (λ c. c.id == k + j) cs)) ≡ get_or (map (λ c. c.address) cs) j 0
+    → of_first 0 (λ c. c.address) (filter (λ c. c.id == k + j) cs) ≡ get_or (map (λ c. c.address) cs) j 0
 listed k n j [] is = refl
 listed k zero j (c ∷ cs) is = let e = ap length is in absurd (omega (arith, e))
 listed k (suc n) zero (c ∷ cs) is =
     let head : c.id ≡ k = ap (λ (ns : List ℕ). get_or ns 0 c.id) is in
     let here : (c.id == k + 0) ≡ true = eq-eqb c.id (k + 0) (omega (arith, head)) in
-    ap (λ (b : Bool). first_number (map (λ c. c.address) (cond b (c ∷ filter (λ c. c.id == k + 0) cs) (filter (λ c. c.id == k + 0) cs))))
+    ap (λ (b : Bool). of_first 0 (λ c. c.address) (cond b (c ∷ filter (λ c. c.id == k + 0) cs) (filter (λ c. c.id == k + 0) cs)))
     here
 listed k (suc n) (suc j) (c ∷ cs) is =
     let head : c.id ≡ k = ap (λ (ns : List ℕ). get_or ns 0 c.id) is in
     let tail : map (λ c. c.id) cs ≡ range_with_len (k + 1) n = ap (λ (ns : List ℕ). drop 1 ns) is in
     let other : (c.id == k + suc j) ≡ false = ne_eqb c.id (k + suc j) (λ e. omega (arith, e, head)) in
     let next : k + 1 + j ≡ k + suc j = omega arith in
-    ap (λ (b : Bool). first_number (map (λ c. c.address) (cond b (c ∷ filter (λ c. c.id == k + suc j) cs)
-    (filter (λ c. c.id == k + suc j) cs)))) other
-    ∙ ap (λ (m : ℕ). first_number (map (λ c. c.address) (filter (λ c. c.id == m) cs))) (sym next) ∙ listed (k + 1) n j cs tail
+    ap (λ (b : Bool). of_first 0 (λ c. c.address) (cond b (c ∷ filter (λ c. c.id == k + suc j) cs)
+    (filter (λ c. c.id == k + suc j) cs))) other
+    ∙ ap (λ (m : ℕ). of_first 0 (λ c. c.address) (filter (λ c. c.id == m) cs)) (sym next) ∙ listed (k + 1) n j cs tail
 
 pub commons_by_number : CommonsByNumber
 unfolding common_address
 commons_by_number l counts q h id =
     let zero_first : id ≡ 0 + id = omega arith in
-    ap (λ (m : ℕ). first_number (map (λ c. c.address) (filter (λ c. c.id == m) q.commons))) zero_first
+    ap (λ (m : ℕ). of_first 0 (λ c. c.address) (filter (λ c. c.id == m) q.commons)) zero_first
     ∙ listed 0 _ id q.commons h.order.commons
 
 pub slots_by_number : SlotsByNumber

@@ -17,7 +17,7 @@ use Rattle.macho_model.specs.declared.placed.Counts.{Counts}
 use Rattle.macho_model.specs.Links.{Link, SectionId, carried_of, greatest}
 use Rattle.macho_model.specs.Resolution.{SymbolId, chosen_commons}
 use Rattle.macho_model.specs.Segments.{one_if}
-use Rattle.macho_model.specs.Placement.{Placed, id_of, common_of, no_symbol}
+use Rattle.macho_model.specs.Placement.{Placed, id_of, common_of}
 use Rattle.macho_cells.specs.declared.members.Member.{Member}
 use Rattle.macho_cells.specs.declared.members.PlacedMember.{PlacedMember}
 use Rattle.macho_cells.specs.declared.members.Extent.{Extent}
@@ -167,7 +167,7 @@ module _ (l : Link) (p : Planning) (counts : Counts) (q : Placed) (plan : IsPlan
       let is : get_or (enumerate_from 0 (chosen_commons l)) k d ≡ (k, get_or (chosen_commons l) k d.1)
       = get_or-enumerate_from 0 (chosen_commons l) k d inside ∙ ap (λ (n : ℕ). (n, get_or (chosen_commons l) k d.1)) zero_first in
       subst (λ (c : ℕ × SymbolId). (c.0 < length (chosen_commons l)) × (common_of l c.0 ≡ c.1)) (sym is)
-      (inside, get_or_default (chosen_commons l) k no_symbol d.1 inside) in
+      (inside, get_or_default (chosen_commons l) k (record { file = 0; symbol = 0 }) d.1 inside) in
       let split : h.members ≡ section_members p h.members ++ (common_members p h.members ++ [])
       = sym (take-append-drop (length p.sections) h.members) ∙ ap (λ (ms : List PlacedMember). section_members p h.members ++ ms)
       (sym (append-nil (common_members p h.members))) in

@@ -8,8 +8,9 @@ use Rattle.macho_bytes.specs.Numbers.{rounded_up}
 use Rattle.macho_model.specs.declared.placed.Counts.{Counts}
 use Rattle.macho_model.specs.declared.placed.Linkedit.{Linkedit}
 use Rattle.macho_model.specs.Segments.{SEGMENT_PAGE}
-use Rattle.macho_model.specs.Order.{fixup_room, table_piece}
-use Rattle.macho_model.specs.OutputSections.{Piece, POINTER_EXPONENT}
+use Rattle.macho_model.specs.Order.{fixup_room}
+use Rattle.macho_model.specs.Placement.{range_span}
+use Rattle.macho_model.specs.OutputSections.{Piece, POINTER_EXPONENT, piece}
 use Rattle.macho_cells.specs.Blocks.{StandLeast}
 use Rattle.macho_cells.proofs.Multiples.{rounded-same, multiple-weaker}
 use Rattle.macho_rows.specs.Tables.{tables_at, symbols_start, signature_start}
@@ -18,9 +19,8 @@ use Rattle.macho_placing.proofs.Stacks.{piece_block}
 -- the pieces of tables from an offset on
 abbrev pub pieces_from : ℕ → Linkedit → List Piece
 pieces_from offset t =
-    record { start = offset; size = 0; exponent = 0 } ∷ table_piece POINTER_EXPONENT t.fixups ∷ table_piece 0 t.trie ∷ table_piece
-    POINTER_EXPONENT t.symtab
-    ∷ table_piece 0 t.strtab ∷ table_piece 4 t.signature ∷ []
+    record { start = offset; size = 0; exponent = 0 } ∷ piece POINTER_EXPONENT (range_span t.fixups) ∷ piece 0 (range_span t.trie)
+    ∷ piece POINTER_EXPONENT (range_span t.symtab) ∷ piece 0 (range_span t.strtab) ∷ piece 4 (range_span t.signature) ∷ []
 
 one_up : (n m : ℕ) → n ≡ m → n ≡ rounded_up (2 ^ 0) m
 one_up n m e = omega (arith, e)

@@ -13,8 +13,8 @@ use Rattle.macho_model.specs.Fields.{Field, fields_of}
 use Rattle.macho_model.specs.Values.{needs_fixup}
 use Rattle.macho_model.specs.Placement.{Placed, id_of}
 use Rattle.macho_model.specs.Addresses.{address_of}
-use Rattle.macho_model.specs.Images.{Table, tables_of, IMPORT_FORMAT, IMPORT_ADDEND_FORMAT}
-use Rattle.macho_model.specs.Fixups.{same_entry, has_room, import_entries_of, entries_have_addends}
+use Rattle.macho_model.specs.Images.{Table, tables_of}
+use Rattle.macho_model.specs.Fixups.{same_entry, has_room, import_entries_of, import_format}
 use Rattle.macho_model.specs.ImportTable.{names_text}
 use Rattle.macho_fixups.specs.declared.words.FixupKind.{FixupKind}
 use Rattle.macho_fixups.specs.declared.words.FixupKind.TheVariants.{Rebase, Bind}
@@ -47,9 +47,6 @@ fixup_segment s = record { address = s.address; size = s.size; file_offset = s.f
 
 abbrev pub fixup_segments : Placed → List FixupSegment
 fixup_segments p = map fixup_segment p.segments
-
-abbrev pub import_format : Link → ℕ
-import_format l = if entries_have_addends l then IMPORT_ADDEND_FORMAT else IMPORT_FORMAT
 
 -- THE fixup table of the file and the words of its chains.
 pub record FixupsSay (l : Link) (b : List ℕ) (p : Placed) : Type 0 where

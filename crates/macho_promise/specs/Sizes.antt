@@ -17,7 +17,8 @@ use Rattle.macho_model.specs.Consumed.{EntryId, entries_of_link, relocations_in_
 use Rattle.macho_model.specs.Segments.{TEXT, one_if}
 use Rattle.macho_model.specs.WrittenSum.{section_cost}
 use Rattle.macho_model.specs.Exports.{library_number}
-use Rattle.macho_model.specs.Fixups.{import_entries_of, entries_have_addends}
+use Rattle.macho_model.specs.Images.{import_entry_size}
+use Rattle.macho_model.specs.Fixups.{import_entries_of, import_format}
 use Rattle.macho_model.specs.Faults.{last_part}
 use Rattle.macho_model.specs.Made.{initializers_of}
 use Rattle.macho_model.specs.Signature.{identifier_text}
@@ -69,10 +70,6 @@ unwind_size l = if length (entries_of_link l) == 0 then 0 else unwind_bound_of (
 abbrev pub text_size : List ℕ → ℕ
 text_size text = length text + 1
 
--- an entry of the import table is a word, or a word and an addend
-abbrev pub import_size : Link → ℕ
-import_size l = if entries_have_addends l then 8 else 4
-
 -- The sizes of a link whose exports trie has a size. The strings of the symbol table begin with a NUL.
 unfoldable pub counts_with : Link → ℕ → Counts
 counts_with l trie = record {
@@ -81,7 +78,7 @@ counts_with l trie = record {
   initializers = length (initializers_of l);
   unwind = unwind_size l;
   imports = length (import_entries_of l);
-  import_size = import_size l;
+  import_size = import_entry_size (import_format l);
   name_bytes = sum_by text_size (imports_of l);
   trie = trie;
   symbols = length (table_symbols l);

@@ -1,5 +1,6 @@
 -- What the unwind information of an image says: look-up of an offset finds the entry of its function.
 use Rattle.std.specs.Prelude.{◌≡◌, ℕ, ◌+◌, ◌-◌, ◌≤◌, ◌⊎◌, List, [], length, map, slice_get, slice_range, Option, Some, None, option_map}
+use Rattle.macho_bytes.specs.Texts.{Stands}
 use Rattle.macho_model.specs.Links.{Link, header_at}
 use Rattle.macho_model.specs.Needs.{section_named, PERSONALITY_PLACE}
 use Rattle.macho_model.specs.Targets.{slot_number, target_of_relocation}
@@ -10,7 +11,7 @@ use Rattle.macho_unwind_pages.specs.declared.entries.Personality.{Personality}
 use Rattle.macho_unwind_pages.specs.declared.entries.ResolvedUnwindInfo.{ResolvedUnwindInfo}
 use Rattle.macho_unwind.specs.declared.lookup.Found.{Found}
 use Rattle.macho_unwind.specs.Lookup.{UnwindFinds}
-use Rattle.macho_unwind.specs.Entries.{found_for, IsEntryOf, IsFoundFor, BeginsWith, IsSectionOf}
+use Rattle.macho_unwind.specs.Entries.{found_for, IsEntryOf, IsFoundFor, IsSectionOf}
 
 -- the relocation of an address of an entry, where it has one
 abbrev pub relocation_of : Link → EntryId → ℕ → Option ℕ
@@ -55,7 +56,7 @@ pub record UnwindSays (l : Link) (b : List ℕ) (p : Placed) : Type 0 where
   -- what the range begins with; the room behind it is for zeros
   pub content : List ℕ
   pub exact : IsUnwindText p.base (resolved_entries l p) content
-  pub begins : BeginsWith (unwind_bytes b p) content
+  pub begins : Stands (unwind_bytes b p) (record { at = 0; text = content })
   -- the entry of an offset is found
   pub found : (offset : ℕ) (e : ResolvedUnwindInfo) → IsEntryOf p.base (resolved_entries l p) offset e
       → UnwindFinds (unwind_bytes b p) offset (found_for p.base e)

@@ -28,7 +28,7 @@ use Rattle.macho_model.specs.Lists.{of_first}
 use Rattle.macho_agreement.specs.Promise.{IsLaidOut}
 use Rattle.macho_agreement.proofs.Room.{text_begins, text_holds_head, file_parts_end}
 use Rattle.macho_agreement.proofs.Entry.{one_named}
-use Rattle.macho_ranges.specs.Ranges.{table_span, head_range, file_ranges, RangesAreApart, EndsInFile, RangesEnd}
+use Rattle.macho_ranges.specs.Ranges.{head_range, file_ranges, RangesAreApart, EndsInFile, RangesEnd}
 use Rattle.macho_ranges.proofs.Backed.{IsBacked, backed_in, AreBacked, backed_append, backed_map, all_apart}
 
 -- the parts by their addresses, in the order of the ranges
@@ -103,7 +103,7 @@ start_is p r [] s has = absurd (omega (arith, has.1))
 start_is p r (x ∷ ss) s has = (x, contains_first x ss, refl)
 
 table_backed : (l : Link) (counts : Counts) (p : Placed) (r : Range64) → IsPlaced l counts p → TableLies p r
-    → IsBacked p (linkedit_span p r) (table_span r)
+    → IsBacked p (linkedit_span p r) (range_span r)
 table_backed l counts p r placed (inl e) = inl (omega (arith, e))
 table_backed l counts p r placed (inr (s, has, named, from, up, to)) =
     let here : Contains (filter (is_segment_named LINKEDIT) p.segments) s =
@@ -156,11 +156,11 @@ all_backed l counts p placed laid =
     let stubs : AreBacked p (map stub_span p.stubs) (map (λ s. in_file p (stub_span s)) p.stubs) =
     backed_map p stub_span (λ s. in_file p (stub_span s)) p.stubs
     (λ k d lt. named_backed l counts p TEXT (stub_span (get_or p.stubs k d)) placed (placed.in_segment.stubs k d lt)) in
-    let tables : AreBacked p (map (linkedit_span p) (linkedit_ranges p)) (map table_span (linkedit_ranges p)) =
-    backed_map p (linkedit_span p) table_span (linkedit_ranges p)
+    let tables : AreBacked p (map (linkedit_span p) (linkedit_ranges p)) (map range_span (linkedit_ranges p)) =
+    backed_map p (linkedit_span p) range_span (linkedit_ranges p)
     (λ k d lt. table_backed l counts p (get_or (linkedit_ranges p) k d) placed (placed.in_segment.linkedit k d lt)) in
     let made : AreBacked p (range_span p.init_offsets ∷ range_span p.unwind ∷ map (linkedit_span p) (linkedit_ranges p))
-    (in_file p (range_span p.init_offsets) ∷ in_file p (range_span p.unwind) ∷ map table_span (linkedit_ranges p)) = (
+    (in_file p (range_span p.init_offsets) ∷ in_file p (range_span p.unwind) ∷ map range_span (linkedit_ranges p)) = (
       range_backed l counts p p.init_offsets placed placed.in_segment.init_offsets,
       (range_backed l counts p p.unwind placed placed.in_segment.unwind, tables),
     ) in

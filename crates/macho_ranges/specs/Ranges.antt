@@ -1,26 +1,22 @@
 -- The ranges of the file in which the parts of an image stand, by a placement: each part has one of its own.
-use Rattle.std.specs.Prelude.{◌≡◌, ◌+◌, ◌-◌, ◌≤◌, ◌⊎◌, List, [], ◌∷◌, ◌++◌, map, All, AllPairs}
+use Rattle.std.specs.Prelude.{◌≡◌, ◌+◌, ◌≤◌, ◌⊎◌, List, [], ◌∷◌, ◌++◌, map, All, AllPairs}
 use Rattle.macho_model.specs.declared.placed.Counts.{Counts}
-use Rattle.macho_model.specs.declared.placed.Range64.{Range64}
 use Rattle.macho_model.specs.Links.{Link}
 use Rattle.macho_model.specs.Placement.{Placed, Span, AreApart, IsPlaced, section_span, slot_span, stub_span, range_span, head_size, linkedit_ranges}
 use Rattle.macho_model.specs.Zeros.{in_file, filled_sections}
 use Rattle.macho_agreement.specs.Promise.{IsLaidOut}
 
--- a table of `__LINKEDIT` is told as a range of the file
-abbrev pub table_span : Range64 → Span
-table_span r = record { start = r.start; size = r.end - r.start }
-
 -- header, load commands and padding
 abbrev pub head_range : Counts → Placed → Span
 head_range counts p = record { start = 0; size = head_size counts p }
 
--- sections that have bytes, slots, stubs, offsets of initializers, unwind information, tables, and the head
+-- sections that have bytes, slots, stubs, offsets of initializers, unwind information, tables, which are told as ranges of the
+-- file, and the head
 unfoldable pub file_ranges : Link → Counts → Placed → List Span
 file_ranges l counts p =
     map (λ q. in_file p (section_span l q)) (filled_sections l p) ++ map (λ s. in_file p (slot_span s)) p.slots
     ++ map (λ s. in_file p (stub_span s)) p.stubs ++ in_file p (range_span p.init_offsets) ∷ in_file p (range_span p.unwind)
-    ∷ map table_span (linkedit_ranges p) ++ head_range counts p ∷ []
+    ∷ map range_span (linkedit_ranges p) ++ head_range counts p ∷ []
 
 -- no two of them share a byte
 abbrev pub RangesAreApart : Type 0

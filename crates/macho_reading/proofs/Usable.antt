@@ -24,7 +24,7 @@ use Rattle.macho_names.specs.Kept.{FileRows, Keeps, no_file, kept_of, row_of_sym
 use Rattle.macho_symbols.specs.Kept.{ResolvedRows, IsResolved}
 use Rattle.macho_needs.proofs.Using.{link_with}
 use Rattle.macho_promise.specs.UnwindSays.{relocation_of}
-use Rattle.macho_standing.specs.Leads.{ObjectsAreRead}
+use Rattle.macho_model.specs.Grammar.{ObjectsAreRead}
 use Rattle.macho_parts.specs.Views.{object_view, views_of}
 use Rattle.macho_survey.specs.Surveys.{AreOfInputs}
 use Rattle.macho_survey.proofs.Viewing.{view_says, file_inside}

@@ -11,7 +11,7 @@ use Rattle.macho_bytes.specs.Layouts.{spelling}
 use Rattle.macho_bytes.proofs.Numbers.{length-row_big}
 use Rattle.macho_bytes.proofs.Puts.{put-put, length-put}
 use Rattle.macho_structs.specs.Layouts.{code_directory}
-use Rattle.macho_model.specs.Signature.{Signed, SUPER_BLOB_MAGIC, DIRECTORY_PLACE, directory_size, directory_for, identifier_text}
+use Rattle.macho_model.specs.Signature.{Signed, DIRECTORY_PLACE, directory_size, directory_for, identifier_text}
 use Rattle.macho_model.specs.Signature.{page_count, page_digests, signature_text}
 use Rattle.macho_signature.specs.Sizes.{identifier_size, digests_offset, signature_size}
 use Rattle.macho_signature.proofs.Pages.{length-page_digests}
@@ -29,11 +29,11 @@ pub length-signature : (s : Signed) (b : List ℕ) → length (spelling code_dir
     → length (signature_text s b) ≡ signature_size (length s.name) s.limit
 unfolding signature_text
 length-signature s b directory =
-    let head : List ℕ = row_bytes big 4 (SUPER_BLOB_MAGIC ∷ (DIRECTORY_PLACE + directory_size s) ∷ 1 ∷ 0 ∷ DIRECTORY_PLACE ∷ []) in
+    let head : List ℕ = row_bytes big 4 (0xfade0cc0 ∷ (DIRECTORY_PLACE + directory_size s) ∷ 1 ∷ 0 ∷ DIRECTORY_PLACE ∷ []) in
     let front = head ++ spelling code_directory (directory_for s) in
     omega (
       arith,
-      length-row_big 4 (SUPER_BLOB_MAGIC ∷ (DIRECTORY_PLACE + directory_size s) ∷ 1 ∷ 0 ∷ DIRECTORY_PLACE ∷ []),
+      length-row_big 4 (0xfade0cc0 ∷ (DIRECTORY_PLACE + directory_size s) ∷ 1 ∷ 0 ∷ DIRECTORY_PLACE ∷ []),
       directory,
       length-identifier s.name,
       length-page_digests b s.limit,
@@ -47,7 +47,7 @@ pub signature_put : (s : Signed) (b : List ℕ) (size at : ℕ) (digests before 
     → length (spelling code_directory (directory_for s)) ≡ 88 → size ≡ signature_size (length s.name) s.limit
     → at ≡ digests_offset (length s.name)
     → size ≤ length before → digests ≡ page_digests b s.limit
-    → headed ≡ put 0 (row_bytes big 4 (SUPER_BLOB_MAGIC ∷ size ∷ 1 ∷ 0 ∷ DIRECTORY_PLACE ∷ [])) before
+    → headed ≡ put 0 (row_bytes big 4 (0xfade0cc0 ∷ size ∷ 1 ∷ 0 ∷ DIRECTORY_PLACE ∷ [])) before
     → directed ≡ put DIRECTORY_PLACE (spelling code_directory (directory_for s)) headed → named ≡ put 108 (identifier_text s.name) directed
     → now ≡ put at digests named → now ≡ put 0 (signature_text s b) before
 unfolding signature_text
@@ -57,11 +57,11 @@ signature_put s b size at digests before headed directed named now directory siz
     (omega (arith, offset, two_long, length-identifier s.name, three_long))
     (omega (arith, offset, sized, digests_long))
     ∙ ap (λ (t : List ℕ). put 0 (front ++ directory_text ++ identifier_text s.name ++ t) before) are
-    ∙ ap (λ (n : ℕ). put 0 (row_bytes big 4 (SUPER_BLOB_MAGIC ∷ n ∷ 1 ∷ 0 ∷ DIRECTORY_PLACE ∷ []) ++ directory_text
+    ∙ ap (λ (n : ℕ). put 0 (row_bytes big 4 (0xfade0cc0 ∷ n ∷ 1 ∷ 0 ∷ DIRECTORY_PLACE ∷ []) ++ directory_text
     ++ identifier_text s.name ++ page_digests b s.limit) before) whole
   where
     front : List ℕ
-    front = row_bytes big 4 (SUPER_BLOB_MAGIC ∷ size ∷ 1 ∷ 0 ∷ DIRECTORY_PLACE ∷ [])
+    front = row_bytes big 4 (0xfade0cc0 ∷ size ∷ 1 ∷ 0 ∷ DIRECTORY_PLACE ∷ [])
 
     directory_text : List ℕ
     directory_text = spelling code_directory (directory_for s)
@@ -70,7 +70,7 @@ signature_put s b size at digests before headed directed named now directory siz
     whole = omega (arith, sized, length-identifier s.name)
 
     front_long : length front ≡ 20
-    front_long = length-row_big 4 (SUPER_BLOB_MAGIC ∷ size ∷ 1 ∷ 0 ∷ DIRECTORY_PLACE ∷ [])
+    front_long = length-row_big 4 (0xfade0cc0 ∷ size ∷ 1 ∷ 0 ∷ DIRECTORY_PLACE ∷ [])
 
     digests_long : length digests ≡ 32 * page_count s.limit
     digests_long = ap length are ∙ length-page_digests b s.limit

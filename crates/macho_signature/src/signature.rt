@@ -4,7 +4,7 @@ ghost use Rattle.macho_bytes.specs.Numbers.{rounded_up, big, row_bytes};
 ghost use Rattle.macho_bytes.specs.Texts.{put, Stands};
 ghost use Rattle.macho_bytes.specs.Layouts.{ReadsBack};
 ghost use Rattle.macho_structs.specs.Layouts.{code_directory};
-ghost use Rattle.macho_model.specs.Signature.{SUPER_BLOB_MAGIC, DIRECTORY_PLACE, identifier_text, directory_for, signature_text};
+ghost use Rattle.macho_model.specs.Signature.{DIRECTORY_PLACE, identifier_text, directory_for, signature_text};
 ghost use Rattle.macho_signature.specs.Sizes.{identifier_size, digests_offset, signature_size, signed_by};
 
 use crate::digests::{DIGEST, page_count, sign_again};
@@ -69,7 +69,7 @@ pub fn signature_size(name: usize, signed: usize) -> usize
 /// Writes the super blob of a signature of so many bytes: one blob, the code directory.
 fn write_super_blob(size: u32, out: &mut [u8])
     requires { 20 ≤ length out.old }
-    ensures { out.new ≡ put 0 (row_bytes big 4 (SUPER_BLOB_MAGIC ∷ size ∷ 1 ∷ 0 ∷ DIRECTORY_PLACE ∷ [])) out.old }
+    ensures { out.new ≡ put 0 (row_bytes big 4 (0xfade0cc0 ∷ size ∷ 1 ∷ 0 ∷ DIRECTORY_PLACE ∷ [])) out.old }
 {
     let numbers = [MAGIC, size, 1, 0, SUPER_BLOB_SIZE as u32];
     BigEndian::write_u32_into(&numbers, &mut out[..SUPER_BLOB_SIZE]);

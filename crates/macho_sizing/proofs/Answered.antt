@@ -7,6 +7,7 @@ use Rattle.macho_model.specs.declared.targets.Limit.TheVariants as limit
 use Rattle.macho_model.specs.Links.{Link}
 use Rattle.macho_model.specs.Limits.{PassesLimit}
 use Rattle.macho_model.specs.Fixups.{entries_have_addends}
+use Rattle.macho_model.specs.Images.{IMPORT_FORMAT, IMPORT_ADDEND_FORMAT, import_entry_size}
 use Rattle.macho_model.specs.Placement.{Placed}
 use Rattle.macho_model.specs.Told.{ToldExport}
 use Rattle.macho_promise.specs.TrieSays.{IsTrieText}
@@ -77,7 +78,7 @@ pub entry_small : (l : Link) (size : ℕ) (counts : Counts) → counts ≡ count
 unfolding counts_with
 entry_small l size counts is = by (entries_have_addends l) (ap (λ (c : Counts). c.import_size) is)
   where
-    by : (b : Bool) → counts.import_size ≡ (if b then 8 else 4) → counts.import_size ≤ 8
+    by : (b : Bool) → counts.import_size ≡ import_entry_size (if b then IMPORT_ADDEND_FORMAT else IMPORT_FORMAT) → counts.import_size ≤ 8
     by true e = omega (arith, e)
     by false e = omega (arith, e)
 

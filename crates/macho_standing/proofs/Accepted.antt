@@ -30,9 +30,10 @@ use Rattle.macho_model.specs.Fields.{Field, fields_of}
 use Rattle.macho_model.specs.Segments.{DATA, DATA_CONST, segment_name, may_hold_pointers, loaded_protection_of}
 use Rattle.macho_model.specs.Placement.{Placed, id_of, section_span, slot_span, LiesIn, LiesInNamed, SectionLies}
 use Rattle.macho_model.specs.Images.{segments_of, Table, tables_of, fixups_header}
-use Rattle.macho_model.specs.Chain.{ChainSegment, WORD_SIZE, chain_segment, chain_segments, IsFileWord, OnPageChain}
+use Rattle.macho_model.specs.Chain.{ChainSegment, chain_segment, chain_segments, IsFileWord, OnPageChain}
+use Rattle.macho_model.specs.Needs.{POINTER_SIZE}
 use Rattle.macho_model.specs.LoadRules.{segment_in, protections_fit, table_fits, import_fits}
-use Rattle.macho_model.specs.Loader.{is_bind, ordinal_of, is_writable, import_count, OnPageOf, WordFits}
+use Rattle.macho_model.specs.Loader.{is_bind, ordinal_of, is_writable, import_count, WordFits}
 use Rattle.macho_model.specs.Fixups.{has_room, import_entries_of}
 use Rattle.macho_model.specs.Agreement.{SegmentPlace, place_by_command, place_told, SegmentsAgree}
 use Rattle.macho_model.specs.Values.{is_pointer, is_absolute_target}
@@ -141,7 +142,7 @@ pub record IsInWritten (p : Placed) (a : ℕ) : Type 0 where
   pub one : Contains p.segments segment
   pub named : (text_of segment.name ≡ DATA) ⊎ (text_of segment.name ≡ DATA_CONST)
   pub from : segment.address ≤ a
-  pub to : a + WORD_SIZE ≤ segment.address + segment.file_size
+  pub to : a + POINTER_SIZE ≤ segment.address + segment.file_size
 
 holds_pointers : (name : List ℕ) → may_hold_pointers name ≡ true → (name ≡ DATA) ⊎ (name ≡ DATA_CONST)
 holds_pointers name h = elim (or_cases (bytes_eq name DATA) (bytes_eq name DATA_CONST) h) [
@@ -178,7 +179,7 @@ in_written l counts uuid b p h _ (asked.IsFixupOf.pointer q f one field needs) =
     empty_list : (fs : List Field) → fs ≡ [] → Contains fs f → ⊥
     empty_list fs is here = omega (arith, here.1, ap (λ (xs : List Field). length xs) is)
 
-    filled : Contains (carried_of l) (id_of q) → f.offset + WORD_SIZE ≤ (header_at l (id_of q)).size
+    filled : Contains (carried_of l) (id_of q) → f.offset + POINTER_SIZE ≤ (header_at l (id_of q)).size
         → (not (is_zerofill (header_at l (id_of q))) && not ((header_at l (id_of q)).size == 0)) ≡ true
     filled carried inside =
         let size : ((header_at l (id_of q)).size == 0) ≡ false = ne_eqb (header_at l (id_of q)).size 0 (λ e. omega (arith, inside, e)) in
@@ -226,7 +227,7 @@ fixup_ordinal l counts uuid b p h _ (asked.IsFixupOf.pointer q f one field needs
 -- the tenth rule
 word_fits : ChainsAreTold → (l : Link) (counts : Counts) (uuid b : List ℕ) (p : Placed) → IsLed l counts uuid b p
     → All (λ (c : Command). protections_fit b c ≡ true) (numbered LC_SEGMENT_64 b) → (number : ℕ) (s : SegmentCommand) (page a : ℕ)
-    → IsNumber (segments_of b) number s → OnPageOf b number s page a → WordFits b s page a
+    → IsNumber (segments_of b) number s → OnPageChain (chain_segments b) b (chain_segment b (number, s)) page a → WordFits b s page a
 word_fits told l counts uuid b p h protections number s page a is on =
     record {
       writable = writable s (protected b number s protections is) (elim written.named [ inl x ↦ inl (name ∙ x) | inr x ↦ inr (name ∙ x) ]);

@@ -19,7 +19,7 @@ use Rattle.macho_model.specs.Placement.{range_span, linkedit_span, linkedit_rang
 use Rattle.macho_model.specs.Values.{needs_fixup}
 use Rattle.macho_model.specs.Fixups.{IsFixupPlace, ChainIsWhole}
 use Rattle.macho_model.specs.Fixups as place
-use Rattle.macho_model.specs.Chain.{WORD_SIZE}
+use Rattle.macho_model.specs.Needs.{POINTER_SIZE}
 use Rattle.macho_model.specs.HeldLaws.{IsFree}
 use Rattle.macho_standing.specs.Leads.{TargetsLead}
 use Rattle.macho_standing.proofs.Members.{in_map, at_front, at_rest, pairs_left, pairs_right, pairs_across, one_or_pair}
@@ -149,7 +149,7 @@ placed_is_carried l p q whole one = Contains-permutation (map id_of p.sections) 
 
 -- a pointer that the loader writes lies in its section
 pub pointer_inside : (l : Link) (p : Placed) (q : PlacedSection) (f : Field) → IsWholeList l p → TargetsLead l → Contains p.sections q
-    → Contains (fields_of l (id_of q)) f → needs_fixup l (id_of q) f ≡ true → f.offset + WORD_SIZE ≤ (header_at l (id_of q)).size
+    → Contains (fields_of l (id_of q)) f → needs_fixup l (id_of q) f ≡ true → f.offset + POINTER_SIZE ≤ (header_at l (id_of q)).size
 pointer_inside l p q f whole leads one field needs =
     omega (arith, leads.inside (id_of q) f (placed_is_carried l p q whole one) field, (fixed_pointer l (id_of q) f needs).0)
 
@@ -158,12 +158,14 @@ pub part_apart : (l : Link) (p : Placed) (a : Span) (x n : ℕ) → IsWholeList 
     → ((q : PlacedSection) → Contains p.sections q → AreApart (section_span l q) a)
     → ((s : Slot) → Contains p.slots s → AreApart (slot_span s) a)
     → a.start ≤ x → x + n ≤ a.start + a.size → 1 ≤ n → (word_at : ℕ) → IsFixupPlace l p word_at
-    → (x + n ≤ word_at) ⊎ (word_at + WORD_SIZE ≤ x)
+    → (x + n ≤ word_at) ⊎ (word_at + POINTER_SIZE ≤ x)
 part_apart l p a x n placed leads sections slots from to some _ (place.IsFixupPlace.slot s one) =
-    inside_apart a (slot_span s) x n s.address WORD_SIZE (apart_back (slot_span s) a (slots s one)) from to some (omega arith) (omega arith)
+    inside_apart a (slot_span s) x n s.address POINTER_SIZE (apart_back (slot_span s) a (slots s one)) from to some (omega arith)
+    (omega arith)
     (omega arith)
 part_apart l p a x n placed leads sections slots from to some _ (place.IsFixupPlace.pointer q f one field needs) =
-    inside_apart a (section_span l q) x n (q.address + f.offset) WORD_SIZE (apart_back (section_span l q) a (sections q one)) from to some
+    inside_apart a (section_span l q) x n (q.address + f.offset) POINTER_SIZE (apart_back (section_span l q) a
+    (sections q one)) from to some
     (omega arith)
     (omega (arith, pointer_inside l p q f placed leads one field needs)) (omega arith)
 
@@ -179,10 +181,10 @@ pub section_apart : (l : Link) (counts : Counts) (p : Placed) (q : PlacedSection
     → TargetsLead l
     → Contains p.sections q → i + n ≤ (header_at l (id_of q)).size → 1 ≤ n
     → ((f : Field) → Contains (fields_of l (id_of q)) f → needs_fixup l (id_of q) f ≡ true
-    → (i + n ≤ f.offset) ⊎ (f.offset + WORD_SIZE ≤ i))
-    → (word_at : ℕ) → IsFixupPlace l p word_at → (q.address + i + n ≤ word_at) ⊎ (word_at + WORD_SIZE ≤ q.address + i)
+    → (i + n ≤ f.offset) ⊎ (f.offset + POINTER_SIZE ≤ i))
+    → (word_at : ℕ) → IsFixupPlace l p word_at → (q.address + i + n ≤ word_at) ⊎ (word_at + POINTER_SIZE ≤ q.address + i)
 section_apart l counts p q i n placed apart leads one fits some own _ (place.IsFixupPlace.slot s slot) =
-    inside_apart (section_span l q) (slot_span s) (q.address + i) n s.address WORD_SIZE (apart.section_slot q s one slot) (omega arith)
+    inside_apart (section_span l q) (slot_span s) (q.address + i) n s.address POINTER_SIZE (apart.section_slot q s one slot) (omega arith)
     (omega (arith, fits))
     some (omega arith) (omega arith) (omega arith)
 section_apart l counts p q i n placed apart leads one fits some own _ (place.IsFixupPlace.pointer r f other field needs) =
@@ -199,7 +201,7 @@ section_apart l counts p q i n placed apart leads one fits some own _ (place.IsF
       | inr pair ↦
           let spans : AreApart (section_span l q) (section_span l r) = elim pair
           [ inl a ↦ a | inr a ↦ apart_back (section_span l r) (section_span l q) a ] in
-          inside_apart (section_span l q) (section_span l r) (q.address + i) n (r.address + f.offset) WORD_SIZE spans (omega arith)
+          inside_apart (section_span l q) (section_span l r) (q.address + i) n (r.address + f.offset) POINTER_SIZE spans (omega arith)
           (omega (arith, fits)) some
           (omega arith) (omega (arith, inside)) (omega arith)
     ]
@@ -208,7 +210,7 @@ pub section_free : (l : Link) (counts : Counts) (b : List ℕ) (p : Placed) (q :
     → PartsAreApart l counts p → TargetsLead l
     → ChainIsWhole l b p → Contains p.sections q → i + n ≤ (header_at l (id_of q)).size → 1 ≤ n
     → ((f : Field) → Contains (fields_of l (id_of q)) f → needs_fixup l (id_of q) f ≡ true
-    → (i + n ≤ f.offset) ⊎ (f.offset + WORD_SIZE ≤ i))
+    → (i + n ≤ f.offset) ⊎ (f.offset + POINTER_SIZE ≤ i))
     → IsFree b (q.address + i) n
 section_free l counts b p q i n placed apart leads whole one fits some own =
     free_apart l b p (q.address + i) n whole (section_apart l counts p q i n placed apart leads one fits some own)

@@ -8,11 +8,10 @@ use Rattle.std.specs.List.{enumerate_from, range_with_len}
 use Rattle.std.proofs.lemmas.List.{get_or_default}
 use Rattle.std.proofs.lemmas.List.FromFn.{length-enumerate_from, get_or-enumerate_from, length-range_with_len, get_or-range_with_len}
 use Rattle.macho_model.specs.Objects.{num_sections, num_symbols}
-use Rattle.macho_model.specs.Grammar.{IsObject}
+use Rattle.macho_model.specs.Grammar.{IsObject, ObjectsAreRead}
 use Rattle.macho_model.specs.Links.{Input, Object, Dylib, Stub, Link, no_input, object_bytes, object_of, SectionId, sections_of_file}
 use Rattle.macho_model.specs.Links.{sections_of}
 use Rattle.macho_model.specs.Resolution.{SymbolId, symbols_of_file, symbols_of}
-use Rattle.macho_standing.specs.Leads.{ObjectsAreRead}
 use Rattle.macho_standing.proofs.Members.{in_flat_map, of_flat_map, in_map, of_map, in_none}
 
 -- a number with an input, of a numbered list

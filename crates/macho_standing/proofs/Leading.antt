@@ -27,7 +27,8 @@ use Rattle.macho_model.specs.Consumed.{entry_count, relocations_in_entry}
 use Rattle.macho_model.specs.SlideLaws.{targets_move}
 use Rattle.macho_model.specs.Valid.{RelocationsAreSupported}
 use Rattle.macho_model.specs.Values.{is_absolute_target, needs_fixup}
-use Rattle.macho_standing.specs.Leads.{ObjectsAreRead, HasPlace, TargetsLead, PersonalitiesFit}
+use Rattle.macho_standing.specs.Leads.{HasPlace, TargetsLead, PersonalitiesFit}
+use Rattle.macho_model.specs.Grammar.{ObjectsAreRead}
 use Rattle.macho_standing.proofs.Members.{of_map, in_map, in_flat_map, of_flat_map, of_filter, of_filter_map, in_none, front_or_rest}
 use Rattle.macho_standing.proofs.Distinct.{of_distinct}
 use Rattle.macho_standing.proofs.Fits.{field_number, field_fits_in, fixed_pointer}

@@ -5,6 +5,7 @@
 use Rattle.std.proofs.Common.{◌≡◌, ℕ, ◌+◌, ◌-◌, ◌<◌, ◌≤◌, Bool, true, false, not, ◌||◌, if◌then◌else◌, List, [], ◌∷◌, length, get_or, map}
 use Rattle.std.proofs.Common.{filter, refl, sym, ap, subst, ◌∙◌, arith, inl, inr, Option, Some, None}
 use Rattle.std.specs.Prelude.{Contains}
+use Rattle.std.specs.Option.{unwrap_or}
 use Rattle.std.specs.List.{position_or_len, enumerate_from, filter_map, list_any}
 use Rattle.std.specs.Str.{bytes_eq}
 use Rattle.std.proofs.lemmas.Bool.{or_right, true≢false}
@@ -12,9 +13,9 @@ use Rattle.std.proofs.lemmas.List.FromFn.{length-enumerate_from, get_or-enumerat
 use Rattle.std.proofs.lemmas.List.{get_or_default}
 use Rattle.std.proofs.lemmas.Slice.Eq.{bytes_eq-Decides}
 use Rattle.macho_model.specs.Links.{Link, Input, Object, Dylib, Stub, no_input}
-use Rattle.macho_model.specs.Resolution.{Definition, Symbol, Library, ImageBase, first_or, strong_of, weak_of, greatest_of, libraries_with}
-use Rattle.macho_model.specs.Resolution.{offers, definition_of, DSO_HANDLE, install_name_in, library_name}
-use Rattle.macho_model.specs.Needs.{distinct, imports_of, is_imported, is_library, library_file, import_library, library_of_input}
+use Rattle.macho_model.specs.Resolution.{Definition, Symbol, Library, ImageBase, first_or, strong_of, weak_of, greatest_of, libraries_with, library_of_input}
+use Rattle.macho_model.specs.Resolution.{offers, definition_of, DSO_HANDLE, library_name}
+use Rattle.macho_model.specs.Needs.{distinct, imports_of, is_imported, is_library, library_file, import_library}
 use Rattle.macho_model.specs.Needs.{is_needed, libraries_needed, uses_of, name_used}
 use Rattle.macho_model.specs.Exports.{library_number}
 use Rattle.macho_standing.proofs.Members.{at_front, front_or_rest, in_none, in_filter, of_filter, of_map, in_filter_map}
@@ -65,7 +66,7 @@ library_offers l name file h =
     (past_symbols Symbol (strong_of l name) _ file (λ s e. cc) h)))
 
 -- which is an input with an install name
-has_install_name : (name : List ℕ) (x : Input) → offers name x ≡ true → library_of_input x ≡ Some (install_name_in x)
+has_install_name : (name : List ℕ) (x : Input) → offers name x ≡ true → library_of_input x ≡ Some (unwrap_or (library_of_input x) [])
 has_install_name name (Object bytes) h = absurd (true≢false (sym h))
 has_install_name name (Dylib bytes) h = refl
 has_install_name name (Stub text says) h = refl
@@ -126,7 +127,7 @@ library_is_needed l name one =
     among =
         let file : library_file (definition_of l name) ≡ defined.0 = ap library_file defined.1 in
         let there = in_filter_map library_of_input l.inputs (get_or l.inputs defined.0 no_input)
-        (install_name_in (get_or l.inputs defined.0 no_input)) input.0
+        (unwrap_or (library_of_input (get_or l.inputs defined.0 no_input)) []) input.0
         (has_install_name name (get_or l.inputs defined.0 no_input) input.1) in
         subst (λ (n : ℕ). Contains (filter_map library_of_input l.inputs) (library_name l n)) (sym file) there
 

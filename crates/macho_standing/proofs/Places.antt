@@ -25,7 +25,8 @@ use Rattle.macho_model.specs.Segments.{base_of_link}
 use Rattle.macho_model.specs.Placement.{Placed, Span, id_of, section_span, common_span, LiesIn, SectionLies, LiesInNamed, IsPaged}
 use Rattle.macho_model.specs.Placement.{IsWholeList, IsPlaced}
 use Rattle.macho_model.specs.Segments.{DATA}
-use Rattle.macho_model.specs.Addresses.{first_number, section_address, common_address, address_of}
+use Rattle.macho_model.specs.Lists.{of_first}
+use Rattle.macho_model.specs.Addresses.{section_address, common_address, address_of}
 use Rattle.macho_model.specs.Images.{base_of}
 use Rattle.macho_model.specs.Meaning.{Same}
 use Rattle.macho_model.specs.Memory.{Choice, rebase_target, rebase_high}
@@ -43,11 +44,11 @@ use Rattle.macho_standing.proofs.Run.{HasWord}
 
 -- the first of those that pass is one of them
 pub first_passing : {X : Type 0} (p : X → Bool) (f : X → ℕ) (xs : List X) (x : X) → Contains xs x → p x ≡ true
-    → (y : X) × Contains xs y × (p y ≡ true) × (first_number (map f (filter p xs)) ≡ f y)
+    → (y : X) × Contains xs y × (p y ≡ true) × (of_first 0 f (filter p xs) ≡ f y)
 first_passing {X} p f xs x one passes = by (filter p xs) (in_filter p xs x one passes) (λ y h. of_filter p xs y h)
   where
     by : (ys : List X) → Contains ys x → ((y : X) → Contains ys y → Contains xs y × (p y ≡ true))
-        → (y : X) × Contains xs y × (p y ≡ true) × (first_number (map f ys) ≡ f y)
+        → (y : X) × Contains xs y × (p y ≡ true) × (of_first 0 f ys ≡ f y)
     by [] there from = absurd (in_none x there)
     by (y ∷ ys) there from = let r = from y (at_front y ys) in (y, r.0, r.1, refl)
 

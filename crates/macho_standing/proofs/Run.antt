@@ -9,9 +9,10 @@ use Rattle.std.proofs.lemmas.List.Elements.{All-contains}
 use Rattle.macho_bytes.specs.Numbers.{le_at}
 use Rattle.macho_model.specs.Links.{Link}
 use Rattle.macho_model.specs.Placement.{Placed}
-use Rattle.macho_model.specs.Fixups.{IsFixupPlace, ChainIsWhole}
+use Rattle.macho_model.specs.Fixups.{IsFixupPlace, ChainIsWhole, import_format}
 use Rattle.macho_model.specs.Fixups as place
-use Rattle.macho_model.specs.Chain.{ChainSegment, WORD_SIZE, IsFileWord, OnChain, chain_segments, OnChainOf}
+use Rattle.macho_model.specs.Chain.{ChainSegment, IsFileWord, OnChain, chain_segments, OnChainOf}
+use Rattle.macho_model.specs.Needs.{POINTER_SIZE}
 use Rattle.macho_model.specs.HeldLaws.{IsFree}
 use Rattle.macho_model.specs.Agreement.{SegmentsAgree}
 use Rattle.macho_fixups.specs.declared.run.Fixup.{Fixup}
@@ -21,7 +22,7 @@ use Rattle.macho_fixups.specs.Runs.{Holds}
 use Rattle.macho_fixups.specs.Chains.{chain_seen, IsAddressOf}
 use Rattle.macho_fixups.specs.Readings.{IsRead}
 use Rattle.macho_fixups.specs.Laws.{ChainsAreTold}
-use Rattle.macho_promise.specs.FixupsSay.{IsFixupOf, fixup_segments, import_format}
+use Rattle.macho_promise.specs.FixupsSay.{IsFixupOf, fixup_segments}
 use Rattle.macho_promise.specs.FixupsSay as asked
 use Rattle.macho_model.specs.ImportTable.{names_text}
 use Rattle.macho_standing.specs.Composed.{FixupsAreWritten}
@@ -72,20 +73,21 @@ pub record HasWord (b : List ℕ) (f : Fixup) : Type 0 where
   pub word : ℕ
   pub stands : IsFileWord (chain_segments b) b f.address word
   pub says : Says f.kind word
-  pub alone : (other : ℕ) → OnChainOf b other → (other ≤ f.address) ⊎ (f.address + WORD_SIZE ≤ other)
+  pub alone : (other : ℕ) → OnChainOf b other → (other ≤ f.address) ⊎ (f.address + POINTER_SIZE ≤ other)
 
 -- sorted words are apart
-words_apart : (fixups : List Fixup) (f g : Fixup) → AllPairs (λ (x y : Fixup). x.address + WORD_SIZE ≤ y.address) fixups → Contains fixups f
-    → Contains fixups g → (g.address ≤ f.address) ⊎ (f.address + WORD_SIZE ≤ g.address)
+words_apart : (fixups : List Fixup) (f g : Fixup) → AllPairs (λ (x y : Fixup). x.address + POINTER_SIZE ≤ y.address) fixups
+    → Contains fixups f
+    → Contains fixups g → (g.address ≤ f.address) ⊎ (f.address + POINTER_SIZE ≤ g.address)
 words_apart fixups f g sorted in_f in_g =
-    elim (one_or_pair (λ (x y : Fixup). x.address + WORD_SIZE ≤ y.address) fixups f g sorted in_f in_g) [
+    elim (one_or_pair (λ (x y : Fixup). x.address + POINTER_SIZE ≤ y.address) fixups f g sorted in_f in_g) [
       | inl same ↦ let e : f.address ≡ g.address = ap (λ (x : Fixup). x.address) same in inl (omega (arith, e))
       | inr pair ↦ elim pair [ inl before ↦ inr before | inr behind ↦ inl (omega (arith, behind)) ]
     ]
 
 -- the number that stands in the file at an address of a segment
 file_number : List ℕ → FixupSegment → ℕ → ℕ
-file_number b s a = le_at WORD_SIZE b (s.file_offset + (a - s.address))
+file_number b s a = le_at POINTER_SIZE b (s.file_offset + (a - s.address))
 
 file_word : (b : List ℕ) (fixups : List Fixup) (segments : List FixupSegment) (s : FixupSegment) (a : ℕ) → Contains segments s → Holds s a
     → IsFileWord (map (chain_seen fixups) segments) b a (file_number b s a)
@@ -114,12 +116,12 @@ has_word told l b p w agree f one =
       says = subst (λ (g : Fixup). Says g.kind word) one.2 is.says;
       alone = λ other on.
           let at = (on_run told l b p w agree other).0 on in
-          subst (λ a. (a ≤ f.address) ⊎ (f.address + WORD_SIZE ≤ a)) at.2 (words_apart w.say.fixups f at.0 w.say.run.sorted one at.1);
+          subst (λ a. (a ≤ f.address) ⊎ (f.address + POINTER_SIZE ≤ a)) at.2 (words_apart w.say.fixups f at.0 w.say.run.sorted one at.1);
     }
 
 -- what is apart from all places of fixups, no chain word covers
 pub free_apart : (l : Link) (b : List ℕ) (p : Placed) (a n : ℕ) → ChainIsWhole l b p
-    → ((word_at : ℕ) → IsFixupPlace l p word_at → (a + n ≤ word_at) ⊎ (word_at + WORD_SIZE ≤ a)) → IsFree b a n
+    → ((word_at : ℕ) → IsFixupPlace l p word_at → (a + n ≤ word_at) ⊎ (word_at + POINTER_SIZE ≤ a)) → IsFree b a n
 free_apart l b p a n whole apart k within word_at covers =
     elim (apart word_at ((whole word_at).0 covers.0)) [
       | inl before ↦ omega (arith, before, within, covers.1)

@@ -23,7 +23,7 @@ use Rattle.macho_model.specs.Segments.{TEXT}
 use Rattle.macho_model.specs.WrittenSum.{STUB_SIZE}
 use Rattle.macho_model.specs.Placement.{Placed, id_of, section_span, stub_span, LiesIn, LiesInNamed, SectionLies}
 use Rattle.macho_model.specs.Addresses.{offset_in_file}
-use Rattle.macho_model.specs.Chain.{WORD_SIZE}
+use Rattle.macho_model.specs.Needs.{POINTER_SIZE}
 use Rattle.macho_model.specs.Fixups.{IsFixupPlace}
 use Rattle.macho_model.specs.Meaning.{GoesThrough}
 use Rattle.macho_model.specs.Stands.{IsOutsideField, Says, seen_in, kind_of}
@@ -64,7 +64,7 @@ section_part l counts p q link one filled some =
 byte_stays : BytesStay → (l : Link) (p : Placed) (fixups : List Fixup) (before now : List ℕ) (address size i : ℕ)
     → WordsAreWritten l p fixups before now
     → HasFilePart p address size → i < size
-    → ((word_at : ℕ) → IsFixupPlace l p word_at → (address + i + 1 ≤ word_at) ⊎ (word_at + WORD_SIZE ≤ address + i))
+    → ((word_at : ℕ) → IsFixupPlace l p word_at → (address + i + 1 ≤ word_at) ⊎ (word_at + POINTER_SIZE ≤ address + i))
     → slice_index (bytes_in_file now p address size) i ≡ slice_index (bytes_in_file before p address size) i
 byte_stays stay l p fixups before now address size i w h within apart =
     let s = h.segment in
@@ -100,7 +100,7 @@ same_length p before now address size same =
 field_beside : (l : Link) (counts : Counts) (p : Placed) (q : PlacedSection) (f g : Field) → IsPlacedLink l counts p → Contains p.sections q
     → Contains (fields_of l (id_of q)) f → needs_fixup l (id_of q) f ≡ false → Contains (fields_of l (id_of q)) g
     → needs_fixup l (id_of q) g ≡ true
-    → (f.offset + f.width ≤ g.offset) ⊎ (g.offset + WORD_SIZE ≤ f.offset)
+    → (f.offset + f.width ≤ g.offset) ⊎ (g.offset + POINTER_SIZE ≤ f.offset)
 field_beside l counts p q f g link one field plain other needs =
     let wide = (fixed_pointer l (id_of q) g needs).0 in
     elim (fields_apart l (id_of q) f g link.sound.relocations (placed_is_carried l p q link.placed.whole_list one) field other) [

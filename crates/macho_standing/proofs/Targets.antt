@@ -26,7 +26,8 @@ use Rattle.macho_model.specs.Targets.{place_of_symbol, own_target, definition_ta
 use Rattle.macho_model.specs.Targets.{target_of_section, target_of_relocation}
 use Rattle.macho_model.specs.Rows.{is_none}
 use Rattle.macho_model.specs.Values.{section_id, is_absolute_target}
-use Rattle.macho_standing.specs.Leads.{ObjectsAreRead, HasPlace}
+use Rattle.macho_standing.specs.Leads.{HasPlace}
+use Rattle.macho_model.specs.Grammar.{ObjectsAreRead}
 use Rattle.macho_standing.proofs.Members.{in_filter, of_filter, in_filter_map, at_front}
 use Rattle.macho_standing.proofs.Distinct.{in_distinct, first_within}
 use Rattle.macho_standing.proofs.Libraries.{same_bytes, itself}

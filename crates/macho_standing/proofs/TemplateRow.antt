@@ -25,7 +25,7 @@ use Rattle.macho_model.specs.Segments.{has_section_in, segment_names_of, list_if
 use Rattle.macho_model.specs.Placement.{Placed}
 use Rattle.macho_model.specs.OutputSections.{OutputSection, Piece, output_sections_in, output_sections_of, extent_of}
 use Rattle.macho_model.specs.Order.{StandInOrder, EndsBefore, row_of, sections_in}
-use Rattle.macho_standing.specs.Leads.{ObjectsAreRead}
+use Rattle.macho_model.specs.Grammar.{ObjectsAreRead}
 use Rattle.macho_standing.proofs.Members.{at_front, of_map, of_filter}
 use Rattle.macho_standing.proofs.TemplateRange.{IsBehind}
 use Rattle.macho_standing.proofs.TemplateKeys.{IsTemplateOf, is_template_output, is_template_key, each_template}

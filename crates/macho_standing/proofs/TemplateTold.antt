@@ -5,7 +5,7 @@
 -- range is in one that ends with it. So they fill the range.
 use Rattle.std.proofs.Common.{◌≡◌, ◌≤◌, ◌==◌, ◌&&◌, not, Bool, true, false, List, [], ◌∷◌, ◌++◌, map, filter, length, get_or, refl, sym, ap}
 use Rattle.std.proofs.Common.{subst, ◌∙◌, arith, inl, inr, All, Option, Some, None}
-use Rattle.std.specs.Prelude.{Contains}
+use Rattle.std.specs.Prelude.{Contains, MatchOption}
 use Rattle.std.specs.Str.{bytes_eq}
 use Rattle.std.proofs.lemmas.Bool.{cases_Bool, and_from, and_parts, or_cases, or_left, true≢false}
 use Rattle.std.proofs.lemmas.List.{append-nil, get_or_default}
@@ -30,8 +30,8 @@ use Rattle.macho_model.specs.OutputSections.{OutputSection, Merged, Piece, piece
 use Rattle.macho_model.specs.OutputSections.{output_sections_in, output_sections_of, output_sections_for, merged_in, sections_of_data}
 use Rattle.macho_model.specs.OutputSections.{is_zeros}
 use Rattle.macho_model.specs.Order.{StandInOrder}
-use Rattle.macho_model.specs.Made.{template_headers, TemplateIsFilled}
-use Rattle.macho_standing.specs.Leads.{ObjectsAreRead}
+use Rattle.macho_model.specs.Made.{template_headers, FillTemplate}
+use Rattle.macho_model.specs.Grammar.{ObjectsAreRead}
 use Rattle.macho_standing.specs.Template.{TemplateIsTight, HeadersTellTemplate}
 use Rattle.macho_standing.proofs.Members.{in_none, in_map, of_map, in_filter, of_filter, in_flat_map, of_flat_map}
 use Rattle.macho_standing.proofs.TemplateRange.{IsWithin, IsAround, is_around, fills}
@@ -168,7 +168,7 @@ is_member l counts p q objects order there =
 -- by the range
 filled : (l : Link) (counts : Counts) (p : Placed) (range : Option Range64) → ObjectsAreRead l → StandInOrder l counts p
     → TemplateHolds l counts p range → TemplateIsTight l p range
-    → TemplateIsFilled (map (output_header l p) (templates l counts)) range
+    → MatchOption range (map (output_header l p) (templates l counts) ≡ []) (FillTemplate (map (output_header l p) (templates l counts)))
 filled l counts p None objects order holds tight =
     ap (map (output_header l p)) (no_elements (templates l counts) (λ o there.
     let t = a_template l counts o objects there in
@@ -212,5 +212,5 @@ headers_tell_template l counts b p objects placed laid headers tight =
     let are : template_headers b ≡ map (output_header l p) (templates l counts)
     = ap (filter (λ (h : SectionHeader). is_template_type (type_of h))) (headers ∙ laid.sections)
     ∙ filter_of_map (output_header l p) (λ (h : SectionHeader). is_template_type (type_of h)) (output_sections_of l counts) in
-    subst (λ (hs : List SectionHeader). TemplateIsFilled hs p.template) (sym are)
+    subst (λ (hs : List SectionHeader). MatchOption p.template (hs ≡ []) (FillTemplate hs)) (sym are)
     (filled l counts p p.template objects laid.order placed.template tight)

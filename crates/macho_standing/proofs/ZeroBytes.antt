@@ -25,7 +25,7 @@ use Rattle.macho_model.specs.Placement.{LiesInNamed, SectionLies, TableLies, Ran
 use Rattle.macho_model.specs.Addresses.{offset_in_file}
 use Rattle.macho_model.specs.Images.{Table, tables_of, tries_of, symbol_tables_of, string_tables_of, signatures_of, fixups_header}
 use Rattle.macho_model.specs.ImportTable.{names_text}
-use Rattle.macho_model.specs.Zeros.{in_file, filled_sections, fixups_content, whole_table, contents_of, IsOutsideSpan, IsZeroElsewhere}
+use Rattle.macho_model.specs.Zeros.{in_file, filled_sections, fixups_content, contents_of, IsOutsideSpan, IsZeroElsewhere}
 use Rattle.macho_model.specs.Lists.{of_first}
 use Rattle.macho_fixups.specs.Runs.{AreSegments}
 use Rattle.macho_promise.specs.FixupsSay.{fixup_segments}
@@ -165,7 +165,8 @@ none_has l counts b p unwind s a part lie zero byte from to =
     let stubs : List Span = map (λ t. in_file p (stub_span t)) p.stubs in
     let made : List Span = in_file p (range_span p.init_offsets) ∷ in_file p (record { start = p.unwind.start; size = unwind }) ∷ map
     (fixups_content l b) (tables_of b) in
-    let tables : List Span = map whole_table (tries_of b ++ symbol_tables_of b ++ string_tables_of b ++ signatures_of b) in
+    let tables : List Span = map (λ t. record { start = t.at; size = t.size })
+    (tries_of b ++ symbol_tables_of b ++ string_tables_of b ++ signatures_of b) in
     All-append P (head ++ slots ++ stubs ++ made) tables
     (All-append P (head ++ slots ++ stubs) made
     (All-append P (head ++ slots) stubs
@@ -186,7 +187,8 @@ none_has l counts b p unwind s a part lie zero byte from to =
     (at_front (range_span p.unwind) (map (linkedit_span p) (linkedit_ranges p)))) lie.unwind_fits)
     (All-map P (fixups_content l b) (tables_of b) (λ k d lt. of_fixups (get_or (tables_of b) k d)
     (All-contains_itself (tables_of b) k d lt))))))
-    (All-map P whole_table (tries_of b ++ symbol_tables_of b ++ string_tables_of b ++ signatures_of b)
+    (All-map P (λ (t : Table). record { start = t.at; size = t.size })
+    (tries_of b ++ symbol_tables_of b ++ string_tables_of b ++ signatures_of b)
     (λ k d lt. of_table (get_or (tries_of b ++ symbol_tables_of b ++ string_tables_of b ++ signatures_of b) k d)
     (All-contains_itself (tries_of b ++ symbol_tables_of b ++ string_tables_of b ++ signatures_of b) k d lt)))
   where
@@ -266,7 +268,7 @@ none_has l counts b p unwind s a part lie zero byte from to =
         (linkedit_apart p.linkedit.fixups first) h.0 h.1
 
     of_table : (t : Table) → Contains (tries_of b ++ symbol_tables_of b ++ string_tables_of b ++ signatures_of b) t
-        → IsOutsideSpan (s.file_offset + (a - s.address)) (whole_table t)
+        → IsOutsideSpan (s.file_offset + (a - s.address)) (record { start = t.at; size = t.size })
     of_table t one =
         let h = All-contains (λ (x : Table). (r : Range64) × Contains (linkedit_ranges p) r × (x.at ≡ r.start) × (x.size ≤ r.end - r.start))
         (tries_of b ++ symbol_tables_of b ++ string_tables_of b ++ signatures_of b) t lie.tables one in

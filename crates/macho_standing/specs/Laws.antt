@@ -20,7 +20,8 @@ use Rattle.macho_parts.specs.Filled.{IsFilled, StubIsSet, bytes_in_file}
 use Rattle.macho_model.specs.Valid.{IsValid}
 use Rattle.macho_parts.specs.Sound.{IsSound}
 use Rattle.macho_standing.specs.Composed.{IsComposed}
-use Rattle.macho_standing.specs.Leads.{ObjectsAreRead, TargetsLead, PersonalitiesFit}
+use Rattle.macho_standing.specs.Leads.{TargetsLead, PersonalitiesFit}
+use Rattle.macho_model.specs.Grammar.{ObjectsAreRead}
 
 -- A sound link, whose objects are objects, is placed.
 pub record IsPlacedLink (l : Link) (counts : Counts) (p : Placed) : Type 0 where

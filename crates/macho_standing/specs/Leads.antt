@@ -1,23 +1,17 @@
 -- What a link's fields and targets have to be for its image to stand: fields lie in their sections, and what words of the loader
 -- lead to has a place.
-use Rattle.std.specs.Prelude.{◌≡◌, ℕ, ◌+◌, ◌<◌, ◌≤◌, true, List, [], length, All, Contains}
+use Rattle.std.specs.Prelude.{◌≡◌, ℕ, ◌+◌, ◌<◌, ◌≤◌, true, [], length, All, Contains}
 use Rattle.macho_records.specs.Sections.{is_zerofill}
 use Rattle.macho_model.specs.declared.rules.UnwindRule.TheVariants.{U7}
 use Rattle.macho_model.specs.declared.targets.Target.{Target}
 use Rattle.macho_model.specs.declared.targets.Target.TheVariants as target
-use Rattle.macho_model.specs.Lists.{IsNumber}
-use Rattle.macho_model.specs.Grammar.{IsObject}
-use Rattle.macho_model.specs.Links.{Object, Link, SectionId, header_at, carried_of}
+use Rattle.macho_model.specs.Links.{Link, SectionId, header_at, carried_of}
 use Rattle.macho_model.specs.Resolution.{chosen_commons}
 use Rattle.macho_model.specs.Needs.{imports_of, unwind_sections}
 use Rattle.macho_model.specs.Targets.{slots_of}
 use Rattle.macho_model.specs.Fields.{Field, fields_of}
 use Rattle.macho_model.specs.Consumed.{entry_count, keeps}
 use Rattle.macho_model.specs.Values.{section_id, needs_fixup}
-
--- the objects of a link keep the rules of objects
-abbrev pub ObjectsAreRead : Link → Type 0
-ObjectsAreRead l = (file : ℕ) (b : List ℕ) → IsNumber l.inputs file (Object b) → IsObject b
 
 -- a target is a part of the link: a carried section up to its end, a chosen common, an import, or the base
 abbrev pub HasPlace : Link → Target → Type 0

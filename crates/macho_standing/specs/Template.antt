@@ -8,7 +8,7 @@ use Rattle.macho_model.specs.Placement.{Placed, id_of, template_sections, IsPlac
 use Rattle.macho_model.specs.Made.{TemplateHeaders}
 use Rattle.macho_model.specs.Agreement.{section_headers_of}
 use Rattle.macho_promise.specs.Promise.{IsLaidOut}
-use Rattle.macho_standing.specs.Leads.{ObjectsAreRead}
+use Rattle.macho_model.specs.Grammar.{ObjectsAreRead}
 
 -- a range begins where a section of the template does, and ends where one does
 pub record IsTight (l : Link) (p : Placed) (r : Range64) : Type 0 where

@@ -24,8 +24,8 @@ use Rattle.macho_model.specs.Targets.{is_import}
 use Rattle.macho_model.specs.Placement.{id_of}
 use Rattle.macho_model.specs.Values.{section_id, needs_fixup, IsNotEncodable, BadRebase}
 use Rattle.macho_model.specs.Stands.{IsAt}
-use Rattle.macho_model.specs.Chain.{WORD_SIZE, STRIDE}
-use Rattle.macho_model.specs.Fixups.{own_entries, import_entries_of, entries_have_addends}
+use Rattle.macho_model.specs.Chain.{STRIDE}
+use Rattle.macho_model.specs.Fixups.{own_entries, import_entries_of, entries_have_addends, import_format}
 use Rattle.macho_model.specs.ImportTable.{names_text}
 use Rattle.macho_fixups.specs.declared.run.Fixup.{Fixup}
 use Rattle.macho_fixups.specs.declared.run.FixupSegment.{FixupSegment}
@@ -41,7 +41,7 @@ use Rattle.macho_fixups.specs.Calls.{FitsTable, AreEntries}
 use Rattle.macho_fixups.specs.steps.Calls.{EntryFits}
 use Rattle.macho_fixups.proofs.RunPages.{chain_is_run}
 use Rattle.macho_fixups.proofs.TableReading.{table_reads_back}
-use Rattle.macho_promise.specs.FixupsSay.{FixupsSay, IsFixupOf, kind_for, fixup_segments, import_format}
+use Rattle.macho_promise.specs.FixupsSay.{FixupsSay, IsFixupOf, kind_for, fixup_segments}
 use Rattle.macho_promise.specs.FixupsSay as promised
 use Rattle.macho_bytes.specs.Numbers.{le_at, le_bytes, row_bytes, be_at, be_bytes}
 use Rattle.macho_bytes.specs.Layouts.{reading}

@@ -7,7 +7,7 @@ use Rattle.std.specs.List.{AllByRecursion}
 use Rattle.std.proofs.lemmas.Bool.{or_cases, leb-true, true≢false}
 use Rattle.std.proofs.lemmas.List.Elements.{All-from_recursion}
 use Rattle.macho_model.specs.declared.placed.PlacedSegment.{PlacedSegment}
-use Rattle.macho_model.specs.Grammar.{IsObject}
+use Rattle.macho_model.specs.Grammar.{IsObject, ObjectsAreRead}
 use Rattle.macho_model.specs.Placement.{is_segment_named}
 use Rattle.macho_model.specs.Memory.{Choice}
 use Rattle.macho_model.specs.Stands.{IsAt}
@@ -40,7 +40,6 @@ use Rattle.macho_model.specs.Addresses.{offset_in_file}
 use Rattle.macho_model_checks.proofs.ExampleCall.{head_of_call, fixups_of_call, tables_of_call, big_words, signature_of_call, call_image}
 use Rattle.macho_model_checks.proofs.ExamplePlacement.{section_a}
 use Rattle.macho_model_checks.proofs.RowsCall.{call_agrees, call_tables}
-use Rattle.macho_standing.specs.Leads.{ObjectsAreRead}
 use Rattle.macho_standing.specs.Laws.{IsPlacedLink}
 use Rattle.macho_standing.proofs.Sounding.{valid_is_sound}
 use Rattle.macho_standing_checks.proofs.FactsCall.{entry_call, object_call, valid_call}

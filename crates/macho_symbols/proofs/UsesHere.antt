@@ -1,6 +1,7 @@
 -- What a use notes, by the rows and by the link. A name leads to an import exactly where a library defines it, and to
 -- nothing exactly where nothing does; its number is the next one exactly where it isn't noted.
 use Rattle.std.proofs.Common.{◌≡◌, ℕ, ◌+◌, ◌<◌, ◌≤◌, ◌⊎◌, inl, inr, All, get_or, Bool, true, false, ◌&&◌, ◌||◌, ◌==◌, not, if◌then◌else◌, Option, Some, None, is_none, List, [], ◌∷◌, ◌++◌, length, map, refl, ap, subst, sym, ◌∙◌, arith, suc, OnOk, IfOk, IfErr, Result, Ok, Err}
+use Rattle.std.specs.Option.{unwrap_or}
 use Rattle.std.specs.List.{position_or_len, list_any}
 use Rattle.std.specs.Str.{bytes_eq}
 use Rattle.std.proofs.lemmas.Bool.{cases_lt}
@@ -9,7 +10,7 @@ use Rattle.std.proofs.lemmas.Bool.Decides.{nat_tests}
 use Rattle.macho_model.specs.declared.targets.Target.TheVariants as target
 use Rattle.macho_model.specs.Symbols.{is_global}
 use Rattle.macho_model.specs.Links.{Link, Input, Object, Dylib, Stub, no_input, object_of}
-use Rattle.macho_model.specs.Resolution.{SymbolId, ImageBase, DSO_HANDLE, entry_at, name_at, definition_of, library_name, install_name_in}
+use Rattle.macho_model.specs.Resolution.{SymbolId, ImageBase, DSO_HANDLE, entry_at, name_at, definition_of, library_name, library_of_input}
 use Rattle.macho_model.specs.Needs.{is_library, is_imported}
 use Rattle.macho_names.specs.declared.notes.Sort.{Sort}
 use Rattle.macho_names.specs.declared.notes.Sort.TheVariants.{Section, Absolute, Common, Offered, Nowhere}
@@ -187,7 +188,7 @@ undefined_here l noted r file symbol is there (UndefinedSymbol name undefined) t
 library_here : (l : Link) (file : ℕ) → library_in (map kept_of l.inputs) file ≡ library_name l file
 library_here l file = of (cases_lt file (length l.inputs))
   where
-    by : (x : Input) → library_text (kept_of x).library ≡ install_name_in x
+    by : (x : Input) → library_text (kept_of x).library ≡ unwrap_or (library_of_input x) []
     by (Object b) = refl
     by (Dylib b) = refl
     by (Stub text says) = refl
@@ -197,7 +198,7 @@ library_here l file = of (cases_lt file (length l.inputs))
     of (inr past) =
         ap (λ f. library_text f.library)
         (get_or_past (map kept_of l.inputs) file no_file (omega (arith, past, length-map l.inputs kept_of)))
-        ∙ ap install_name_in (sym (get_or_past l.inputs file no_input past))
+        ∙ ap (λ (x : Input). unwrap_or (library_of_input x) []) (sym (get_or_past l.inputs file no_input past))
 
 pub imports_here : (l : Link) (noted : List (List ℕ)) (r : ResolvedRows) (imports : List Import) → IsResolved l noted r
     → noted_of imports ≡ r.noted → All (IsImportIn r.files) imports

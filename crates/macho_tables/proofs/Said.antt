@@ -18,7 +18,7 @@ use Rattle.macho_model.specs.Needs.{imports_of, import_library}
 use Rattle.macho_model.specs.Resolution.{SymbolId, entry_at}
 use Rattle.macho_model.specs.Rows.{is_none}
 use Rattle.macho_model.specs.Targets.{own_target, definition_target, target_of_name, is_defined}
-use Rattle.macho_model.specs.Values.{is_absolute_target}
+use Rattle.macho_model.specs.Values.{is_absolute_target, section_id}
 use Rattle.macho_model.specs.Exports.{IsExported, library_number}
 use Rattle.macho_model.specs.Placement.{Placed}
 use Rattle.macho_model.specs.Addresses.{address_of}
@@ -29,7 +29,7 @@ use Rattle.macho_object.specs.Views.{FileBytes}
 use Rattle.macho_promise.specs.TrieSays.{IsFoundExport}
 use Rattle.macho_symbols.specs.declared.exports.ExportName.{ExportName}
 use Rattle.macho_symbols.specs.declared.solved.Import.{Import}
-use Rattle.macho_targets.specs.Laws.{IsOfLink, section_id}
+use Rattle.macho_targets.specs.Laws.{IsOfLink}
 use Rattle.macho_targets.proofs.Named.{name_of_link}
 use Rattle.macho_targets.proofs.OfLink.{section_of}
 use Rattle.macho_fields.specs.Looks.{Look}

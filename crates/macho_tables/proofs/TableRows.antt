@@ -28,7 +28,7 @@ use Rattle.macho_placing.specs.Laws.{IsWhollyPlaced}
 use Rattle.macho_lists.proofs.Members.{contains_filter, filter_contains, nil_contains}
 use Rattle.macho_object.specs.Views.{FileBytes, section_index_of}
 use Rattle.macho_symbols.specs.Kept.{symbol_id}
-use Rattle.macho_targets.specs.Laws.{ObjectsAreRead}
+use Rattle.macho_model.specs.Grammar.{ObjectsAreRead}
 use Rattle.macho_targets.proofs.OfLink.{symbol_of, section_of, carried_symbol}
 use Rattle.macho_tables.specs.steps.Sections.{symbol_header, header_with, number_with, number_told, section_told}
 use Rattle.macho_tables.proofs.Numbers.{section_agrees, commons_agree}

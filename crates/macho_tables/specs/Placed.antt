@@ -7,7 +7,7 @@ use Rattle.macho_model.specs.Targets.{target_of, target_of_name, is_defined}
 use Rattle.macho_model.specs.Placement.{Placed}
 use Rattle.macho_model.specs.Addresses.{address_of}
 use Rattle.macho_placing.specs.Laws.{IsWhollyPlaced}
-use Rattle.macho_targets.specs.Laws.{ObjectsAreRead}
+use Rattle.macho_model.specs.Grammar.{ObjectsAreRead}
 use Rattle.macho_fields.specs.Looks.{Look, Tells}
 
 -- What names and symbols lead to has an address of 64 bits, where it moves with the image.

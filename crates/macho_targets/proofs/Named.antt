@@ -21,7 +21,8 @@ use Rattle.macho_model.specs.Resolution.{stands_in_carried, same_symbol, strong_
 use Rattle.macho_model.specs.Resolution.{first_or, definition_of, is_symbol, is_chosen, chosen_commons, has_name, is_strong, is_weak}
 use Rattle.macho_model.specs.Resolution.{DSO_HANDLE}
 use Rattle.macho_model.specs.Targets.{own_target, definition_target, target_with, is_defined}
-use Rattle.macho_targets.specs.Laws.{ObjectsAreRead, IsOfLink, SymbolTargetsAreOfLink, NameTargetsAreOfLink}
+use Rattle.macho_targets.specs.Laws.{IsOfLink, SymbolTargetsAreOfLink, NameTargetsAreOfLink}
+use Rattle.macho_model.specs.Grammar.{ObjectsAreRead}
 use Rattle.macho_targets.proofs.OfLink.{carried_symbol}
 
 -- the first of a list of symbols is one of them

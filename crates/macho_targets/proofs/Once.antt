@@ -24,7 +24,7 @@ use Rattle.macho_model.specs.Links.{Link, Input, Object, Dylib, Stub, SectionId,
 use Rattle.macho_model.specs.Links.{is_carried}
 use Rattle.macho_model.specs.Needs.{distinct, uses_of}
 use Rattle.macho_model.specs.Targets.{same_target, slots_of, slot_of_use}
-use Rattle.macho_targets.specs.Laws.{section_id}
+use Rattle.macho_model.specs.Values.{section_id}
 
 -- a section stands before another one of the list: in an earlier file, or earlier in the same one
 abbrev pub Before : SectionId → SectionId → Type 0

@@ -2,7 +2,7 @@
 --
 -- A section that the placement lists stands somewhere in its list, and the first that has its file and number is told as its address; no
 -- other has them, since carried sections are listed once each, by file and number. Commons are listed by number, slots by target.
-use Rattle.std.proofs.Common.{◌≡◌, ℕ, ◌+◌, ◌<◌, ◌⊎◌, inl, inr, ◌==◌, ◌&&◌, Bool, true, false, List, [], ◌∷◌, map, length, refl, sym, ap}
+use Rattle.std.proofs.Common.{◌≡◌, ℕ, ◌+◌, ◌<◌, ◌⊎◌, inl, inr, ◌==◌, ◌&&◌, Bool, true, false, List, [], ◌∷◌, length, refl, sym, ap}
 use Rattle.std.proofs.Common.{subst, ◌∙◌, arith, eq-eqb}
 use Rattle.std.specs.Prelude.{filter, Contains}
 use Rattle.std.proofs.lemmas.Bool.{eqb-true}
@@ -17,21 +17,23 @@ use Rattle.macho_model.specs.Links.{Link, SectionId, carried_of}
 use Rattle.macho_model.specs.Resolution.{chosen_commons}
 use Rattle.macho_model.specs.Targets.{same_target}
 use Rattle.macho_model.specs.Placement.{Placed, id_of}
-use Rattle.macho_model.specs.Addresses.{first_number, section_address, common_address, slot_address}
+use Rattle.macho_model.specs.Lists.{of_first}
+use Rattle.macho_model.specs.Addresses.{section_address, common_address, slot_address}
 use Rattle.macho_lists.proofs.Orders.{EachLater}
-use Rattle.macho_targets.specs.Laws.{ListsAll, section_id, TargetsHavePlaces, PlacesAreOne, SlotsHavePlaces, SlotPlacesAreOne}
+use Rattle.macho_targets.specs.Laws.{ListsAll, TargetsHavePlaces, PlacesAreOne, SlotsHavePlaces, SlotPlacesAreOne}
+use Rattle.macho_model.specs.Values.{section_id}
 use Rattle.macho_targets.proofs.Once.{Before, carried_rise, not_before, one_element, numbers_rise, same_target_is, same_targets}
 use Rattle.macho_targets.proofs.Once.{slots_differ}
 
 -- the first that passes is one of the list, and passes
 pub first_passes : {X : Type 0} (p : X → Bool) (f : X → ℕ) (xs : List X) (x : X) → Contains xs x → p x ≡ true
-    → (y : X) × Contains xs y × (p y ≡ true) × (first_number (map f (filter p xs)) ≡ f y)
+    → (y : X) × Contains xs y × (p y ≡ true) × (of_first 0 f (filter p xs) ≡ f y)
 first_passes p f [] x has passes = absurd (nil_contains x has)
 first_passes {X = X} p f (z ∷ xs) x has passes = by (λ later. first_passes p f xs x later passes) (p z) refl (contains_cases z xs x has)
   where
-    by : (Contains xs x → (y : X) × Contains xs y × (p y ≡ true) × (first_number (map f (filter p xs)) ≡ f y)) → (b : Bool) → p z ≡ b
+    by : (Contains xs x → (y : X) × Contains xs y × (p y ≡ true) × (of_first 0 f (filter p xs) ≡ f y)) → (b : Bool) → p z ≡ b
         → (z ≡ x) ⊎ Contains xs x
-        → (y : X) × Contains (z ∷ xs) y × (p y ≡ true) × (first_number (map f (filter p (z ∷ xs))) ≡ f y)
+        → (y : X) × Contains (z ∷ xs) y × (p y ≡ true) × (of_first 0 f (filter p (z ∷ xs)) ≡ f y)
     by rest true e at = (z, contains_first z xs, e, rw e refl)
     by rest false e (inl same) =
         let both : true ≡ false = sym passes ∙ sym (ap p same) ∙ e in

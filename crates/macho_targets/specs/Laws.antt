@@ -5,9 +5,8 @@ use Rattle.macho_records.specs.declared.constants.TheConstants.{ARM64_RELOC_ADDE
 use Rattle.macho_model.specs.declared.placed.Counts.{Counts}
 use Rattle.macho_model.specs.declared.targets.Target.{Target}
 use Rattle.macho_model.specs.declared.targets.Target.TheVariants as target
-use Rattle.macho_model.specs.Lists.{IsNumber}
-use Rattle.macho_model.specs.Grammar.{IsObject}
-use Rattle.macho_model.specs.Links.{Link, Object, SectionId, header_at, sections_of, carried_of}
+use Rattle.macho_model.specs.Grammar.{ObjectsAreRead}
+use Rattle.macho_model.specs.Links.{Link, SectionId, header_at, sections_of, carried_of}
 use Rattle.macho_model.specs.Resolution.{SymbolId, symbols_of, definition_of, chosen_commons}
 use Rattle.macho_model.specs.Needs.{relocation_in}
 use Rattle.macho_model.specs.Targets.{target_with, definition_target, target_of_relocation, is_defined, slots_of}
@@ -15,10 +14,7 @@ use Rattle.macho_model.specs.Placement.{Placed, IsPlaced, id_of}
 use Rattle.macho_model.specs.Addresses.{address_of, slot_address}
 use Rattle.macho_model.specs.Memory.{Choice}
 use Rattle.macho_model.specs.Stands.{IsAt, SlotAt}
-
--- the objects of a link keep the rules of objects
-abbrev pub ObjectsAreRead : Link → Type 0
-ObjectsAreRead l = (file : ℕ) (b : List ℕ) → IsNumber l.inputs file (Object b) → IsObject b
+use Rattle.macho_model.specs.Values.{section_id}
 
 -- A placement lists the carried sections, the chosen commons and the slots of its link, in order.
 pub record ListsAll (l : Link) (p : Placed) : Type 0 where
@@ -27,9 +23,6 @@ pub record ListsAll (l : Link) (p : Placed) : Type 0 where
   pub slots : map (λ s. s.target) p.slots ≡ slots_of l
 
 -- a target is a carried section, a chosen common or the image's base
-abbrev pub section_id : ℕ → ℕ → SectionId
-section_id file section = record { file = file; section = section }
-
 abbrev pub IsOfLink : Link → Target → Type 0
 IsOfLink l (target.Section file section offset) = Contains (carried_of l) (section_id file section)
 IsOfLink l (target.Common id) = id < length (chosen_commons l)

@@ -1,5 +1,5 @@
 -- Look-up of an offset in the bytes of a section `__unwind_info` (mach-o/compact_unwind_encoding.h).
-use Rattle.std.specs.Prelude.{◌≡◌, ◌≢◌, ℕ, ◌≤◌, ◌<◌, List, Option, Some, None}
+use Rattle.std.specs.Prelude.{◌≡◌, ◌≢◌, ℕ, ◌≤◌, ◌<◌, List, Option, Some, None, MatchOption}
 use Rattle.macho_unwind.specs.Sections.{header_of, last_entry, first_at, page_at, word_at, start_at, index_in, encoding_at, personality_in, without_personality, personality_at, lsda_count, lsda_at, HasTables, HasPage}
 use Rattle.macho_unwind.specs.declared.lookup.Found.{Found}
 
@@ -27,8 +27,7 @@ pub record IsPersonality (bytes : List ℕ) (number slot : ℕ) : Type 0 where
 
 -- the personality that a number names: none for 0
 abbrev pub NamesPersonality : List ℕ → ℕ → Option ℕ → Type 0
-NamesPersonality bytes number None = number ≡ 0
-NamesPersonality bytes number (Some slot) = IsPersonality bytes number slot
+NamesPersonality bytes number slot = MatchOption slot (number ≡ 0) (IsPersonality bytes number)
 
 -- LSDA entry j of a page is the first one of the function at a start.
 pub record IsLsda (bytes : List ℕ) (k start lsda j : ℕ) : Type 0 where

@@ -13,10 +13,6 @@ use Rattle.macho_unwind.specs.declared.records.LsdaEntry.{LsdaEntry}
 use Rattle.macho_unwind_pages.specs.declared.plans.Lsda.{Lsda}
 use Rattle.macho_unwind_pages.specs.Plans.{PageList, PlanList, page_size}
 
--- `UNWIND_SECTION_VERSION`
-abbrev pub VERSION : ℕ
-VERSION = 1
-
 -- the places of the tables
 abbrev pub encodings_place : ℕ
 encodings_place = size_of compact_unwind_info_header
@@ -52,7 +48,8 @@ lsda_place plan start = lsdas_place plan + size_of lsda_entry * count_by (λ l. 
 
 abbrev pub header_for : PlanList → CompactUnwindInfoHeader
 header_for plan = record {
-  version = VERSION;
+  -- `UNWIND_SECTION_VERSION`
+  version = 1;
   global_opcodes_offset = encodings_place;
   global_opcodes_len = length plan.globals;
   personalities_offset = personalities_place plan;

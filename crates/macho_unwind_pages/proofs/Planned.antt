@@ -4,7 +4,7 @@
 -- those that not every page may name, and data. So the law of pages and bytes gives the bound of the entries. A page's first start
 -- is that of one of its functions, so it lies between the least start and the span above it.
 use Rattle.std.proofs.Common.{◌≡◌, ℕ, zero, suc, ◌+◌, ◌-◌, ◌^◌, ◌<◌, ◌≤◌, ◌==◌, true, Option, None, Some, IfSome, List, [], ◌∷◌, ◌++◌, length, map, take, get_or, IsPermutation, sym, ap, subst, ◌∙◌, arith, inl, inr, ◌⊎◌}
-use Rattle.std.specs.Prelude.{IsSomeAnd, Result, Ok, Err, IsErrAnd, IfErr}
+use Rattle.std.specs.Prelude.{IsSomeAnd}
 use Rattle.std.specs.List.{All, AllPairs, flat_map, list_any}
 use Rattle.std.proofs.lemmas.List.{length-take}
 use Rattle.std.proofs.lemmas.List.Elements.{All-map, All-append, All-take}
@@ -223,8 +223,3 @@ planned_from text entries run inputs ids codes plan end are is moved inputs_is i
     (subst (λ cs. IsAssembled text (ids_of (inputs_of entries)) cs run plan) codes_are
     (subst (λ is. IsAssembled text is codes run plan) ids_are is))
     moved end_is low ends
-
--- a refusal that is handed on
-pub err_is : {T E : Type 0} (r : Result T E) (P : E → Type 0) (f : E) → IsErrAnd r (λ e. e ≡ f) → P f → IfErr r P
-err_is (Ok x) P f is p = tt
-err_is (Err e) P f is p = subst P (sym is) p

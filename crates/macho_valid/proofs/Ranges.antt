@@ -29,7 +29,7 @@ use Rattle.macho_model.specs.Placement.{Follows, IsPaged, LiesInNamed, SectionLi
 use Rattle.macho_model.specs.Order.{least_file_size}
 use Rattle.macho_model.specs.Valid.{VALID_SUM, IsValid}
 use Rattle.macho_promise.specs.Promise.{IsLaidOut}
-use Rattle.macho_standing.specs.Leads.{ObjectsAreRead}
+use Rattle.macho_model.specs.Grammar.{ObjectsAreRead}
 use Rattle.macho_standing.proofs.Libraries.{same_bytes}
 use Rattle.macho_standing.proofs.Places.{lies_within}
 use Rattle.macho_standing.proofs.Apart.{placed_is_carried}

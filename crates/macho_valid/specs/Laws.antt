@@ -7,7 +7,7 @@ use Rattle.macho_model.specs.Placement.{Placed, IsPlaced}
 use Rattle.macho_model.specs.Faults.{LinkFault, BadName, FaultStands, kept_placement}
 use Rattle.macho_model.specs.Valid.{IsValid}
 use Rattle.macho_promise.specs.Promise.{IsLaidOut}
-use Rattle.macho_standing.specs.Leads.{ObjectsAreRead}
+use Rattle.macho_model.specs.Grammar.{ObjectsAreRead}
 
 -- the bytes of a link's objects are bytes: numbers below 256
 abbrev pub ObjectsAreBytes : Link → Type 0

@@ -17,7 +17,7 @@ use Rattle.macho_faults.specs.Standing.{Stands}
 use Rattle.macho_exports.specs.Entries.{ListEntries}
 use Rattle.macho_symbols.specs.Exported.{AreLists}
 use Rattle.macho_filling.specs.Filled.{NoneIsBad}
-use Rattle.macho_targets.specs.Laws.{ObjectsAreRead}
+use Rattle.macho_model.specs.Grammar.{ObjectsAreRead}
 use Rattle.macho_found.specs.Names.{StubsArePlain}
 use Rattle.macho_linkedit.specs.declared.exports.NamedExport.{NamedExport}
 use Rattle.macho_linkedit.specs.declared.listing.LinkedObject.{LinkedObject}

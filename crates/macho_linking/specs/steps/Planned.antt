@@ -13,7 +13,7 @@ use Rattle.macho_linkedit.specs.declared.exports.NamedExport.{NamedExport}
 use Rattle.macho_linkedit.specs.Listing.{AreObjects}
 use Rattle.macho_linkedit.specs.Tries.{AreKept}
 use Rattle.macho_fields.specs.Looks.{Look, Tells}
-use Rattle.macho_targets.specs.Laws.{ObjectsAreRead}
+use Rattle.macho_model.specs.Grammar.{ObjectsAreRead}
 use Rattle.macho_found.specs.Names.{StubsArePlain}
 use Rattle.macho_tables.specs.Exports.{exports_told}
 use Rattle.macho_reading.specs.Read.{IsReadOf, AreKnown}

@@ -4,7 +4,8 @@ use Rattle.std.specs.List.{slice_get}
 use Rattle.macho_bytes.specs.Numbers.{le_bytes}
 use Rattle.macho_memory_walks.specs.declared.walk.Listed.TheVariants as list
 use Rattle.macho_model.specs.Images.{Table, fixups_header, import_entry}
-use Rattle.macho_model.specs.Chain.{chain_segments, IsFileWord, WORD_SIZE}
+use Rattle.macho_model.specs.Chain.{chain_segments, IsFileWord}
+use Rattle.macho_model.specs.Needs.{POINTER_SIZE}
 use Rattle.macho_model.specs.Loader.{is_bind, ordinal_of}
 use Rattle.macho_model.specs.LoadRules.{segment_in}
 use Rattle.macho_memory_walks.specs.Readings.{command_at, IsNth, HasWord, table_there}
@@ -29,7 +30,7 @@ pub record IsMade (b : List ℕ) (s : ℕ) (choice : Choice) (a value : ℕ) : T
 pub record IsWordByte (b : List ℕ) (s : ℕ) (choice : Choice) (word_at at v : ℕ) : Type 0 where
   pub value : ℕ
   pub made : IsMade b s choice word_at value
-  pub is : v ≡ slice_index (le_bytes WORD_SIZE value) at
+  pub is : v ≡ slice_index (le_bytes POINTER_SIZE value) at
 
 -- a table and the addresses bind a word
 pub record BoundIn (b : List ℕ) (t : Table) (addresses : List ℕ) (word value : ℕ) : Type 0 where

@@ -9,7 +9,8 @@ use Rattle.macho_model.specs.Commands.{Command, commands_of}
 use Rattle.macho_model.specs.Segments.{PAGEZERO, TEXT}
 use Rattle.macho_model.specs.Images.{is_named, Table, table_of_command, fixups_header, starts_count, page_starts, tables_of}
 use Rattle.macho_model.specs.LoadRules.{segment_in}
-use Rattle.macho_model.specs.Chain.{ChainSegment, chain_segment, starts_in_tables, chain_segments, IsFileWord, next_of, WORD_SIZE, STRIDE, OnPageChain}
+use Rattle.macho_model.specs.Chain.{ChainSegment, chain_segment, starts_in_tables, chain_segments, IsFileWord, next_of, STRIDE, OnPageChain}
+use Rattle.macho_model.specs.Needs.{POINTER_SIZE}
 use Rattle.macho_memory_walks.specs.Readings.{command_at, IsNth, HasWord}
 use Rattle.macho_memory_walks.specs.declared.segments.SegmentNumbers.{SegmentNumbers}
 use Rattle.macho_memory_walks.specs.declared.tables.FixupTable.{FixupTable}
@@ -54,10 +55,10 @@ chain_segment_at b number place = chain_segment b (number, segment_in b (command
 
 -- the word at an address in a segment, and whether it stands whole in its file part
 abbrev pub word_in : List ℕ → ChainSegment → ℕ → ℕ
-word_in b s a = le_at WORD_SIZE b (s.file_offset + (a - s.address))
+word_in b s a = le_at POINTER_SIZE b (s.file_offset + (a - s.address))
 
 abbrev pub stands_in : ChainSegment → ℕ → Bool
-stands_in s a = nat_le s.address a && nat_le (a + WORD_SIZE) (s.address + s.file_size)
+stands_in s a = nat_le s.address a && nat_le (a + POINTER_SIZE) (s.address + s.file_size)
 
 -- an address is on the chain of a page of a segment, by number and place of its command; or on none of the segment's
 abbrev pub IsOnPage : List ℕ → ℕ → ℕ → ℕ → ℕ → Type 0

@@ -15,7 +15,8 @@ use Rattle.macho_model.specs.Segments.{TEXT}
 use Rattle.macho_records.specs.declared.header.SegmentCommand.{SegmentCommand}
 use Rattle.macho_records.specs.declared.constants.TheConstants.{LC_SEGMENT_64}
 use Rattle.macho_model.specs.Lists.{IsNumber, EachNext}
-use Rattle.macho_model.specs.Loader.{OnPageOf, WordFits, NeighbourFails}
+use Rattle.macho_model.specs.Loader.{WordFits, NeighbourFails}
+use Rattle.macho_model.specs.Chain.{OnPageChain, chain_segment, chain_segments}
 use Rattle.macho_memory_walks.specs.Readings.{command_at, listed, IsNth, table_there}
 use Rattle.macho_model_walks.specs.Tests.{list_of, test_of}
 
@@ -65,4 +66,5 @@ LoadKeeps b L7 = (length (segments_named TEXT b) ≡ 1) × All (λ s. text_holds
 LoadKeeps b L8 = (length (tables_of b) ≤ 1) × All (λ t. table_fits b t ≡ true) (tables_of b)
 LoadKeeps b L9 = (t : Table) (k : ℕ) → Contains (tables_of b) t → k < (fixups_header b t).imports_count → import_fits b t k ≡ true
 LoadKeeps b L10 =
-    (number : ℕ) (s : SegmentCommand) (page a : ℕ) → IsNumber (segments_of b) number s → OnPageOf b number s page a → WordFits b s page a
+    (number : ℕ) (s : SegmentCommand) (page a : ℕ) → IsNumber (segments_of b) number s
+    → OnPageChain (chain_segments b) b (chain_segment b (number, s)) page a → WordFits b s page a

@@ -5,13 +5,13 @@ use Rattle.std.specs.List.{list_all}
 use Rattle.macho_bytes.specs.Numbers.{le_at}
 use Rattle.macho_records.specs.declared.header.SegmentCommand.{SegmentCommand}
 use Rattle.macho_model.specs.Lists.{IsNumber}
-use Rattle.macho_model.specs.Images.{segments_of, tables_of, CHAIN_PAGE}
-use Rattle.macho_model.specs.Chain.{ChainSegment, chain_segments, WORD_SIZE, OnPageChain}
+use Rattle.macho_model.specs.Images.{segments_of, tables_of}
+use Rattle.macho_model.specs.Chain.{ChainSegment, chain_segment, chain_segments, OnPageChain}
 use Rattle.macho_memory_walks.specs.declared.walk.Listed.TheVariants as list
 use Rattle.macho_memory_walks.specs.Readings.{IsNth, segment_there}
 use Rattle.macho_model_walks.specs.Tests.{page_holds}
 use Rattle.macho_memory_walks.specs.steps.Walks.{Leads, chain_segment_at, word_in, stands_in}
-use Rattle.macho_model.specs.Loader.{is_bind, ordinal_of, is_writable, import_count, OnPageOf, WordFits}
+use Rattle.macho_model.specs.Loader.{is_bind, ordinal_of, is_writable, import_count, WordFits}
 
 -- the import of a word exists, where a segment has a word there and it binds one
 abbrev pub import_exists : List ℕ → ℕ → ChainSegment → Bool
@@ -54,4 +54,5 @@ FitOnNth b number = (place : ℕ) → IsNth list.Segments b number place → (pa
 
 abbrev pub EachWordFits : List ℕ → Type 0
 EachWordFits b =
-    (number : ℕ) (s : SegmentCommand) (page a : ℕ) → IsNumber (segments_of b) number s → OnPageOf b number s page a → WordFits b s page a
+    (number : ℕ) (s : SegmentCommand) (page a : ℕ) → IsNumber (segments_of b) number s
+    → OnPageChain (chain_segments b) b (chain_segment b (number, s)) page a → WordFits b s page a

@@ -3,7 +3,7 @@ use Rattle.std.proofs.Common.{ℕ, List, [], ◌∷◌, ◌++◌, Option, sym, a
 use Rattle.std.specs.List.{cons_option}
 use Rattle.std.specs.Option.{option_copied}
 use Rattle.std.proofs.lemmas.List.{map-append}
-use Rattle.macho_model.specs.Needs.{library_of_input}
+use Rattle.macho_model.specs.Resolution.{library_of_input}
 use Rattle.macho_inputs.specs.steps.Libraries.{texts}
 use Rattle.macho_inputs.proofs.Growing.{gathered_more}
 use Rattle.macho_inputs.proofs.libraries.install_names.Goals as goal

@@ -1,6 +1,6 @@
 use Rattle.std.proofs.Common.{◌≡◌, map, take}
 use Rattle.std.specs.List.{filter_map}
-use Rattle.macho_model.specs.Needs.{library_of_input}
+use Rattle.macho_model.specs.Resolution.{library_of_input}
 use Rattle.macho_inputs.specs.steps.Owned.{input_of}
 use Rattle.macho_inputs.specs.steps.Libraries.{texts}
 use Rattle.macho_inputs.proofs.libraries.install_names.Given as goal

@@ -7,6 +7,7 @@
 use Rattle.std.proofs.Common.{◌≡◌, ◌+◌, ◌<◌, ◌≤◌, ◌^◌, ℕ, List, length, map, sym, ap, subst, ◌∙◌, arith, rules}
 use Rattle.std.specs.List.{All}
 use Rattle.std.proofs.lemmas.List.Sorted.{All-permutation, length_permutation}
+use Rattle.std.proofs.lemmas.Result.{err_from_is_err_and}
 use Rattle.macho_unwind_pages.specs.declared.entries.UnwindInput.{UnwindInput}
 use Rattle.macho_unwind_pages.specs.declared.entries.ResolvedUnwindInfo.{ResolvedUnwindInfo}
 use Rattle.macho_unwind_pages.specs.Entries.{IsLast, ids_of, code_in}
@@ -15,7 +16,7 @@ use Rattle.macho_unwind_pages.specs.steps.Planning.{IsNear, IsBehind, IsReady, I
 use Rattle.macho_unwind_pages.specs.Calls.{PlanFault}
 use Rattle.macho_unwind_pages.proofs.Gathered.{behind}
 use Rattle.macho_unwind_pages.proofs.PlansShort.{plans_short}
-use Rattle.macho_unwind_pages.proofs.Planned.{ready, planned_from, not_far, far_of_run, err_is}
+use Rattle.macho_unwind_pages.proofs.Planned.{ready, planned_from, not_far, far_of_run}
 use Rattle.macho_unwind_pages.proofs.planning.plan.Goals as goal
 
 pub end-requires-clause-some : goal.end-requires-clause-some
@@ -45,9 +46,8 @@ returns-in_err-end-clause-why c =
     c.in_ok-ids.ensures.few in
     let run = c.in_ok-run.run'.items in
     let far = subst (HasFarOffset c.args.text_start) c.as_slice-2.ensures.value c.in_err-end.ensures.why.1 in
-    err_is c.from_residual-in_err-end.result (PlanFault c.args.text_start c.args.entries.now) c.in_err-end.field-0.0
-    c.from_residual-in_err-end.ensures.1
-    (subst (PlanFault c.args.text_start c.args.entries.now) (sym c.in_err-end.ensures.why.0)
+    let e = err_from_is_err_and c.from_residual-in_err-end.result c.from_residual-in_err-end.ensures.1 in
+    rw (e.1, e.2) (subst (PlanFault c.args.text_start c.args.entries.now) (sym c.in_err-end.ensures.why.0)
     (few, far_of_run c.args.text_start c.args.entries.now run c.in_ok-run.ensures.same far))
 
 pub assembled-requires : goal.assembled-requires
