@@ -29,8 +29,12 @@ pub fixed_text_is_held : (b : List ℕ) (s : ℕ) (choice : Choice) (a value n :
     → HoldsText b s choice (a + s) (take n (le_bytes POINTER_SIZE value))
 unfolding le_bytes
 fixed_text_is_held b s choice a value n fixed short apart k within =
-    let long : length (take n (le_bytes POINTER_SIZE value)) ≡ n = omega (arith, length-take n
-    (le_bytes POINTER_SIZE value), length-bytes_low_first 0 POINTER_SIZE value) in
+    let long : length (take n (le_bytes POINTER_SIZE value)) ≡ n = omega (
+      arith,
+      length-take n
+          (le_bytes POINTER_SIZE value),
+      length-bytes_low_first 0 POINTER_SIZE value,
+    ) in
     let below : k < n = omega (arith, long) in
     let here : a + s + k ≡ a + k + s = omega arith in
     let place : a + k - a ≡ k = omega arith in
