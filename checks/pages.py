@@ -2,7 +2,7 @@
 
 docs/USAGE.md has each option and each rule on inputs; docs/ARCHITECTURE.md has each crate once, and no other; each page that README.md
 names is there, and each file of docs/ is named there; crates.txt names for a crate the libraries that its files name, and no other, and the
-paths down from its crates are few.
+paths down from its crates are few. `pages.py --paths` prints the libraries that cost most paths.
 """
 import os
 import re
@@ -75,26 +75,44 @@ def wrong_libraries():
 
 
 # More paths than these make the gate slow: `rt ci` reads the files of a crate once for each path from a crate above it.
-MOST_PATHS = 450_000
+MOST_PATHS = 350_000
 
 
-def paths():
-    """How many paths lead from the crates down to crates below them, each crate itself counted as one."""
+def libraries_of_crates():
+    """The libraries of this repository that each crate names."""
     lines = (line.split("#")[0].partition(":") for line in read("crates.txt").split("\n"))
-    below = {crate.split()[0]: libraries.split() for crate, _, libraries in lines if crate.strip()}
+    named = {crate.split()[0]: libraries.split() for crate, _, libraries in lines if crate.strip()}
+    return {crate: [name for name in libraries if name in named] for crate, libraries in named.items()}
+
+
+def paths(below):
+    """How many paths lead from crates down to crates below them, each crate itself counted as one."""
     count = {}
 
     def of(crate):
         if crate not in count:
-            count[crate] = 1 + sum(of(library) for library in below[crate] if library in below)
+            count[crate] = 1 + sum(of(library) for library in below[crate])
         return count[crate]
 
     return sum(of(crate) for crate in below)
 
 
 def wrong_paths():
-    found = paths()
+    found = paths(libraries_of_crates())
     return [f"crates.txt: {found:,} paths lead down from crates, more than {MOST_PATHS:,}"] if found > MOST_PATHS else []
+
+
+def print_paths():
+    """Prints the libraries of crates without which the paths would be fewest."""
+    below = libraries_of_crates()
+    print(f"{paths(below):9,} paths; without a library of a crate:")
+    without = [
+        (paths({**below, crate: [it for it in libraries if it != name]}), crate, name)
+        for crate, libraries in below.items()
+        for name in libraries
+    ]
+    for left, crate, name in sorted(without)[:40]:
+        print(f"{left:9,} {crate}: {name}")
 
 
 def wrong_pages():
@@ -104,6 +122,8 @@ def wrong_pages():
 
 
 if __name__ == "__main__":
+    if sys.argv[1:] == ["--paths"]:
+        sys.exit(print_paths())
     wrong = wrong_usage() + wrong_crates() + wrong_libraries() + wrong_paths() + wrong_pages()
     for line in wrong:
         print(f"pages: {line}", file=sys.stderr)

@@ -39,8 +39,9 @@ fn a_star_is_any_run_of_bytes_and_other_bytes_are_themselves(rt: HostRuntime) ->
 #[test]
 fn plain_entries_stand_in_order_over_all_texts(rt: HostRuntime) -> Result<(), Fail> {
     let list = ExportList::parse(rt.alloc(), CONTAINS[0].0)?;
-    assert_eq!(rt; list.required_symbols().len(), 1);
-    assert_eq!(rt; list.required_symbols()[0].as_slice(), b"_b".as_slice());
+    let names = list.required_symbols();
+    assert_eq!(rt; names.len(), 1);
+    assert_eq!(rt; names[0].as_slice(), b"_b".as_slice());
     let mut list = ExportList::parse(rt.alloc(), b"_b\n_a*\r\n\n# _c\n_a # first\n")?;
     list.add(b"_b\n*d")?;
     let names = list.required_symbols();

@@ -1,0 +1,117 @@
+"""Proves crates side by side, each over what its earlier checks kept in out/, while a change is written. It gives no verdict: that is
+`rt ci`'s.
+
+prove.py [--lanes N] [CRATE..]    the crates and those below them, or all; N at a time, 4 where none is told
+prove.py --program CRATE          builds a program whose crates are proved, as out/CRATE; --tests CRATE builds and runs its tests
+
+`rt check` of an upper crate sums up the files of all crates below once for each path to them, which takes minutes; here each sum is
+made once. What a crate's check said stands in its out/prove.log. The libraries in out/ are those that `rt check` takes.
+"""
+import argparse
+import os
+import shutil
+import sys
+import threading
+import time
+from concurrent.futures import FIRST_COMPLETED, ThreadPoolExecutor, wait
+
+TOP = os.path.dirname(os.path.dirname(os.path.abspath(__file__)))
+sys.path.insert(0, os.path.dirname(os.path.realpath(shutil.which("rt") or sys.exit("prove: there is no rt"))))
+import rtlib  # noqa: E402  (the kit's own module, beside `rt`)
+
+
+def once(method, lock=threading.RLock()):
+    """A method of a crate whose answer is kept: the files stay as they are meanwhile."""
+    name = f"_{method.__name__}_once"
+
+    def kept(self):
+        with lock:
+            if not hasattr(self, name):
+                setattr(self, name, method(self))
+            return getattr(self, name)
+
+    return kept
+
+
+def crates():
+    """All crates by their names."""
+    rtlib.Crate.below, rtlib.Crate.stamp = once(rtlib.Crate.below), once(rtlib.Crate.stamp)
+    # (its first call sets a signal's handler, which only the main thread may)
+    rtlib.guarded()
+    os.chdir(TOP)
+    return {crate.name: crate for crate in rtlib.crates_below(TOP)}
+
+
+def prove(crate):
+    """Proves a crate, and builds it where it is a library; whether that went well."""
+    os.makedirs(f"{crate.folder}/out", exist_ok=True)
+    with open(f"{crate.folder}/out/prove.log", "w", encoding="utf-8", errors="replace") as crate.out:
+        try:
+            flags = ["--jobs", "1"]
+            return not (crate.build_rlib(flags, anew=False) if crate.makes_rlib() else crate.check(flags))
+        except SystemExit:
+            return False
+
+
+def behind(chosen):
+    """For each crate how many lines the longest chain of crates has that wait for it."""
+    lines = {}
+    for crate in sorted(chosen, key=lambda it: -len(it.below())):
+        lines[crate] = lines.get(crate, 0) + crate.count(rb"\n") + 300
+        for library in crate.below():
+            lines[library] = max(lines.get(library, 0), lines[crate])
+    return lines
+
+
+def prove_all(chosen, lanes):
+    """Proves crates, each once all below it are proved, those first that most others wait for. The names of those that aren't."""
+    lines = behind(chosen)
+    left, running, proved, failed = sorted(chosen, key=lambda it: -lines[it]), {}, set(), set()
+    with ThreadPoolExecutor(lanes) as pool:
+        while left or running:
+            for crate in [it for it in left if all(below in proved for below in it.below())][: lanes - len(running)]:
+                left.remove(crate)
+                running[pool.submit(prove, crate)] = crate, time.monotonic()
+            if not running:
+                break
+            for done in wait(running, return_when=FIRST_COMPLETED).done:
+                crate, begun = running.pop(done)
+                (proved if done.result() else failed).add(crate)
+                told = "" if done.result() else f": NOT PROVED, see {os.path.relpath(crate.folder)}/out/prove.log"
+                print(f"{len(proved):3} of {len(chosen)}  {time.monotonic() - begun:4.0f} s  {crate.name}{told}", flush=True)
+    return sorted(it.name for it in [*failed, *left])
+
+
+def build(crate, tests):
+    """Builds a program, or tests, and runs these."""
+    made = f"out/{crate.name}{'_tests' if tests else ''}"
+    status = crate.compile(["--jobs", "1"], f"{made}.o", tests)
+    words = ["--target", "x86_64-unknown-linux-gnu", "--toolchain", f"{rtlib.KIT}/toolchain", "-o", made, f"{made}.o"]
+    words += [f"{rtlib.KIT}/c/libos_c.a", f"{rtlib.KIT}/c/liblibc_c.a"]
+    status = status or crate.call(f"{rtlib.KIT}/bin/rattle-link", *words)
+    if tests and not status:
+        status = crate.call(rtlib.RUNNER, "--seconds", "60", made)
+    return status
+
+
+def main():
+    parser = argparse.ArgumentParser(description=__doc__, formatter_class=argparse.RawDescriptionHelpFormatter)
+    parser.add_argument("--lanes", type=int, default=4)
+    parser.add_argument("--program", metavar="CRATE")
+    parser.add_argument("--tests", metavar="CRATE")
+    parser.add_argument("crates", nargs="*", metavar="CRATE")
+    asked = parser.parse_args()
+    known = crates()
+    for name in [*asked.crates, *filter(None, [asked.program, asked.tests])]:
+        if name not in known:
+            sys.exit(f"prove: crates.txt has no crate '{name}'")
+    if asked.program or asked.tests:
+        return build(known[asked.program or asked.tests], bool(asked.tests))
+    tops = [known[name] for name in asked.crates] or list(known.values())
+    unproved = prove_all({it for top in tops for it in [top, *top.below()]}, asked.lanes)
+    print(f"not proved: {', '.join(unproved)}" if unproved else "all proved, over what was kept")
+    return 1 if unproved else 0
+
+
+if __name__ == "__main__":
+    sys.exit(main())
