@@ -1,8 +1,8 @@
 """Compares pages of docs/ with the sources that they list.
 
 docs/USAGE.md has each option and each rule on inputs; docs/ARCHITECTURE.md has each crate once, and no other; each page that README.md
-names is there, and each file of docs/ is named there; crates.txt names for a crate the libraries that its files name, and no other, and the
-paths down from its crates are few. `pages.py --paths` prints the libraries that cost most paths.
+names is there, and each file of docs/ is named there; crates.txt names for a crate the libraries that its files name, and no other, and those
+that its edits name; the paths down from its crates are few. `pages.py --paths` prints the libraries that cost most paths.
 """
 import os
 import re
@@ -74,6 +74,17 @@ def wrong_libraries():
     return wrong
 
 
+def wrong_edits():
+    """Edits that name a crate which their own doesn't stand on: they reach no prover."""
+    wrong = []
+    for crate, libraries in libraries_of_crates().items():
+        folder = os.path.join(TOP, "crates", crate, "must-fail")
+        for edit in sorted(os.listdir(folder)) if os.path.isdir(folder) else []:
+            named = set(re.findall(r"(?<![\w:])(\w+)::", read(folder, edit))) & set(crates())
+            wrong += [f"{crate}/{edit} names '{name}', which crates.txt doesn't" for name in named - {crate, *libraries}]
+    return wrong
+
+
 # More paths than these make the gate slow: `rt ci` reads the files of a crate once for each path from a crate above it.
 MOST_PATHS = 350_000
 
@@ -124,7 +135,7 @@ def wrong_pages():
 if __name__ == "__main__":
     if sys.argv[1:] == ["--paths"]:
         sys.exit(print_paths())
-    wrong = wrong_usage() + wrong_crates() + wrong_libraries() + wrong_paths() + wrong_pages()
+    wrong = wrong_usage() + wrong_crates() + wrong_libraries() + wrong_edits() + wrong_paths() + wrong_pages()
     for line in wrong:
         print(f"pages: {line}", file=sys.stderr)
     if not wrong:
