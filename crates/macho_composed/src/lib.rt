@@ -1,9 +1,13 @@
 //! From a file whose parts stand to the whole promise of an image: a law over the laws of the parts.
 //!
 //! `specs/Written` says what is written into a file of zeros, part by part; `specs/Meaning` what each text says; `specs/Whole` what
-//! stands in the file then: the head, the tables, the content. What follows is the promise. No code of a linker stands here.
+//! stands in the file then: the head, the tables, the content. What follows is the promise. No code of a linker stands here; that
+//! which writes the parts is handed on, beside what their laws say.
 #![tactic(auto)]
 
 mod laws;
 
 pub use laws::{composed_files_are_linked, written_files_are_linked};
+pub use macho_chaining::{write_fixup_table, write_words};
+pub use macho_filling::{LinkPlaces, file_offset, fill_contents};
+pub use macho_made::{MadeFault, Tables, unwind_text, write_initializers};

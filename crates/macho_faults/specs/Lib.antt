@@ -1,2 +1,4 @@
 pub mod Errors
 pub mod Standing
+pub use Rattle.macho_promise.specs.Sizes
+pub use Rattle.macho_promise.specs.Promise

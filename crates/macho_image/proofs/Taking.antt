@@ -17,8 +17,8 @@ use Rattle.macho_stub.specs.Answer.{IsStub, IsToldOfText}
 use Rattle.macho_stub.specs.Library.{LibraryFields}
 use Rattle.macho_stub.proofs.Answered.{answer_only}
 use Rattle.macho_promise.specs.Inputs.{IsStubInput}
-use Rattle.macho_inputs.specs.declared.owned.OwnedInput.{OwnedInput}
-use Rattle.macho_inputs.specs.steps.Owned.{input_of, says_of, reading_in}
+use Rattle.macho_linking.specs.OwnedInput.{OwnedInput}
+use Rattle.macho_linking.specs.Owned.{input_of, says_of, reading_in}
 use Rattle.macho_image.specs.Refusals.{StubRefused}
 use Rattle.macho_image.specs.steps.StubRefusals.{stub_refusal}
 

@@ -9,7 +9,7 @@ ghost use Rattle.macho_model.specs.Grammar.{IsObject, IsDylib};
 ghost use Rattle.macho_model.specs.Faults.{bad_name, has_zero};
 ghost use Rattle.macho_image.specs.Linkers.{link_of, with_input, with_export_list, TakesStub};
 ghost use Rattle.macho_promise.specs.Inputs.{IsInput, IsStubInput};
-ghost use Rattle.macho_inputs.specs.steps.Owned.{input_of, says_of};
+ghost use Rattle.macho_linking.specs.Owned.{input_of, says_of};
 ghost use Rattle.macho_faults.specs.declared.fault.LinkError.TheVariants.{OutOfMemory};
 ghost use Rattle.macho_image.specs.Shown.{Shows, ShowsInput, ShowsBytes};
 ghost use Rattle.macho_image.specs.steps.StubRefusals.{stub_refusal};
@@ -18,7 +18,7 @@ ghost use Rattle.macho_image.specs.Refusals.{ArgsRefused, ObjectRefused, DylibRe
 use crate::paths::{has_no_file_name, has_nul};
 use macho_args::{MachOArgs, PlatformVersion};
 use macho_faults::{InputFault, LinkError};
-use macho_inputs::OwnedInput;
+use macho_linking::OwnedInput;
 use macho_object::File;
 use macho_stub::{StubFault, parse_defined_library};
 use std::alloc::{AllocError, Global};
@@ -44,7 +44,7 @@ impl Model for Linker {
     ghost use Rattle.macho_model.specs.Links.{Link};
     ghost use Rattle.macho_model.specs.Faults.{bad_name};
     ghost use Rattle.macho_promise.specs.Inputs.{IsInput};
-    ghost use Rattle.macho_inputs.specs.steps.Owned.{input_of};
+    ghost use Rattle.macho_linking.specs.Owned.{input_of};
     ghost use Rattle.macho_image.specs.steps.Held.{held_link};
 
     ghost Value = { Link };

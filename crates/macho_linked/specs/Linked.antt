@@ -6,8 +6,8 @@ use Rattle.macho_model.specs.Told.{ToldImport, ToldExport}
 use Rattle.macho_model.specs.Valid.{IsValid}
 use Rattle.macho_layout.specs.Placements.{placed_of}
 use Rattle.macho_symbols.specs.declared.exports.ExportName.{ExportName}
-use Rattle.macho_promise.specs.Sizes.{AreCounts}
-use Rattle.macho_promise.specs.Promise.{IsAnswer}
+use Rattle.macho_faults.specs.Sizes.{AreCounts}
+use Rattle.macho_faults.specs.Promise.{IsAnswer}
 use Rattle.macho_faults.specs.declared.fault.LinkError.{LinkError}
 use Rattle.macho_faults.specs.declared.fault.LinkError.TheVariants.{OutOfMemory}
 use Rattle.macho_faults.specs.Standing.{Stands}

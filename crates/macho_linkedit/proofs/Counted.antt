@@ -16,7 +16,7 @@ use Rattle.macho_model.specs.Signature.{identifier_text}
 use Rattle.macho_model.specs.Segments.{one_if}
 use Rattle.macho_model.specs.Head.{DYLINKER, path_command_size}
 use Rattle.macho_symbols.specs.declared.solved.Import.{Import}
-use Rattle.macho_promise.specs.Sizes.{commands_size, own_commands_size, versions_size, padding_size, text_size, counts_with}
+use Rattle.macho_parts.specs.Sizes.{commands_size, own_commands_size, versions_size, padding_size, text_size, counts_with}
 use Rattle.macho_linkedit.specs.declared.counting.SizesAsked.{SizesAsked}
 use Rattle.macho_linkedit.specs.Imports.{texts, name_bytes}
 use Rattle.macho_linkedit.specs.Counting.{AreArguments, AreAsked}

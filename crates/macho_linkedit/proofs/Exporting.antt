@@ -17,7 +17,7 @@ use Rattle.macho_model.specs.Placement.{Placed}
 use Rattle.macho_model.specs.Exports.{Export, Value, Reexport, from_object, from_library, ValueOf, weak_flag, section_flag, library_number}
 use Rattle.macho_model.specs.Values.{is_absolute_target}
 use Rattle.macho_model.specs.Stands.{IsAt}
-use Rattle.macho_promise.specs.TrieSays.{trie_export}
+use Rattle.macho_parts.specs.TrieSays.{trie_export}
 use Rattle.macho_linkedit.specs.Tries.{said_of, value_said, is_thread_local}
 use Rattle.macho_linkedit.specs.Laws.{ValuesAreFound, ReexportsAreFound}
 use Rattle.macho_linkedit.proofs.Numbering.{not_own}

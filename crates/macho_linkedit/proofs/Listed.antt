@@ -22,7 +22,7 @@ use Rattle.macho_model.specs.Grammar.{IsFile}
 use Rattle.macho_model.specs.Links.{Input, Object, Dylib, Stub, Link, no_input, object_bytes, object_of}
 use Rattle.macho_model.specs.Resolution.{SymbolId, name_at, defines, symbols_of_file, symbols_of}
 use Rattle.macho_model.specs.SymbolTable.{is_in_table, table_symbols}
-use Rattle.macho_promise.specs.Sizes.{text_size}
+use Rattle.macho_parts.specs.Sizes.{text_size}
 use Rattle.macho_names.specs.Kept.{in_carried}
 use Rattle.macho_symbols.specs.Kept.{symbol_id}
 use Rattle.macho_linkedit.specs.declared.names.Names.{Names}

@@ -30,7 +30,7 @@ use Rattle.macho_fixups.specs.declared.run.FixupSegment.{FixupSegment}
 use Rattle.macho_fixups.specs.declared.words.FixupKind.TheVariants.{Bind}
 use Rattle.macho_fixups.specs.Words.{FitsOrdinal}
 use Rattle.macho_fixups.specs.Runs.{AreSorted, Holds}
-use Rattle.macho_promise.specs.FixupsSay.{IsFixupOf, slot, pointer, kind_for, own_number, fixup_segment, fixup_segments}
+use Rattle.macho_parts.specs.FixupsSay.{IsFixupOf, slot, pointer, kind_for, own_number, fixup_segment, fixup_segments}
 use Rattle.macho_parts.specs.Asked.{slot_fixup, field_fixup, fixups_in, fixups_asked}
 use Rattle.macho_linkedit.specs.Runs.{PointersFit, IsWordPlace}
 use Rattle.macho_linkedit.specs.Laws.{SortedIsRun}

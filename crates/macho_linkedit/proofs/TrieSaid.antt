@@ -23,7 +23,7 @@ use Rattle.macho_model.specs.Told as told
 use Rattle.macho_model.specs.Told.{ToldExport, IsToldExport, ExportsAreTold}
 use Rattle.macho_trie.specs.Exports.{Exported}
 use Rattle.macho_trie.specs.Lookup.{trie_finds}
-use Rattle.macho_promise.specs.TrieSays.{trie_export, IsTrieText, table_bytes, IsFoundExport}
+use Rattle.macho_parts.specs.TrieSays.{trie_export, IsTrieText, table_bytes, IsFoundExport}
 use Rattle.macho_linkedit.specs.declared.exports.NamedExport.{NamedExport}
 use Rattle.macho_linkedit.specs.Tries.{said_of, said, names_in}
 use Rattle.macho_linkedit.specs.Laws.{TrieSizeIsKept, TrieIsSaid}

@@ -12,7 +12,7 @@ use Rattle.macho_fixups.specs.declared.run.FixupSegment.{FixupSegment}
 use Rattle.macho_fixups.specs.declared.imports.ImportEntry.{ImportEntry}
 use Rattle.macho_fixups.specs.Calls.{AreEntries}
 use Rattle.macho_fixups.specs.Chains.{AllStand}
-use Rattle.macho_promise.specs.FixupsSay.{FixupsSay, fixup_segments}
+use Rattle.macho_parts.specs.FixupsSay.{FixupsSay, fixup_segments}
 use Rattle.macho_records.specs.Symbols.{is_weak_of}
 use Rattle.macho_model.specs.Resolution.{SymbolId, entry_at}
 use Rattle.macho_model.specs.Needs.{import_library}
@@ -22,8 +22,8 @@ use Rattle.macho_model.specs.Values.{is_absolute_target}
 use Rattle.macho_model.specs.Stands.{IsAt}
 use Rattle.macho_model.specs.Told.{ToldExport, IsReexported}
 use Rattle.macho_linkedit.specs.declared.exports.ExportSays.TheVariants.{Reexport}
-use Rattle.macho_promise.specs.TrieSays.{IsTrieText, IsFoundExport, TrieSays}
-use Rattle.macho_promise.specs.Sizes.{IsTrieSize}
+use Rattle.macho_parts.specs.TrieSays.{IsTrieText, IsFoundExport, TrieSays}
+use Rattle.macho_parts.specs.Sizes.{IsTrieSize}
 use Rattle.macho_linkedit.specs.declared.exports.NamedExport.{NamedExport}
 use Rattle.macho_linkedit.specs.Tries.{said_of, value_said, is_thread_local, kept, AreKept, AreSaid, TrieStands}
 use Rattle.macho_model.specs.SymbolRows.{symbol_rows, SymbolsSay}

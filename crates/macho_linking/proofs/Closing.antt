@@ -22,7 +22,7 @@ use Rattle.macho_faults.specs.Standing.{IsStanding}
 use Rattle.macho_linkedit.specs.declared.exports.NamedExport.{NamedExport}
 use Rattle.macho_sizing.specs.Sized.{IsSizedOf}
 use Rattle.macho_fields.specs.declared.fault.FillFault.TheVariants as fill
-use Rattle.macho_made.specs.declared.fault.MadeFault.TheVariants as made
+use Rattle.macho_composed.specs.MadeFault.TheVariants as made
 use Rattle.macho_model.specs.Grammar.{ObjectsAreRead}
 use Rattle.macho_valid.specs.Laws.{ObjectsAreBytes}
 use Rattle.macho_answers.specs.Inputs.{HasBytes}
@@ -34,8 +34,8 @@ use Rattle.macho_tables.proofs.Exported.{exports_are_told}
 use Rattle.macho_linked.specs.declared.image.ImportName.{ImportName}
 use Rattle.macho_linked.specs.Linked.{import_of, IsImageOf, IsRefused}
 use Rattle.macho_linked.specs.declared.image.LinkedImage.{LinkedImage}
-use Rattle.macho_reading.specs.declared.link.ReadLink.{ReadLink}
-use Rattle.macho_reading.specs.Read.{IsReadOf, AreKnown}
+use Rattle.macho_answers.specs.ReadLink.{ReadLink}
+use Rattle.macho_answers.specs.Read.{IsReadOf, AreKnown}
 use Rattle.macho_sizing.specs.declared.asked.SizedLink.{SizedLink}
 use Rattle.macho_linking.specs.declared.fault.Unwritten.{Unwritten}
 use Rattle.macho_linking.specs.declared.fault.Unwritten.TheVariants.{Unfilled, Unmade, OutOfMemory}

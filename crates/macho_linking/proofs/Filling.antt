@@ -16,9 +16,9 @@ use Rattle.macho_fixups.specs.declared.run.Fixup.{Fixup}
 use Rattle.macho_fixups.specs.Chains.{HaveRoom}
 use Rattle.macho_promise.specs.FixupsSay.{fixup_segments}
 use Rattle.macho_parts.specs.Asked.{fixups_asked}
-use Rattle.macho_found.proofs.Segments.{words_room}
-use Rattle.macho_filling.specs.Filled.{ContentsAreFilled, NoneIsBad}
-use Rattle.macho_chaining.specs.Chaining.{IsToChain, IsChained}
+use Rattle.macho_composed.proofs.Segments.{words_room}
+use Rattle.macho_composed.specs.Filled.{ContentsAreFilled, NoneIsBad}
+use Rattle.macho_composed.specs.Chaining.{IsToChain, IsChained}
 use Rattle.macho_composed.specs.Written.{AreContents}
 use Rattle.macho_linking.specs.declared.planned.Planned.{Planned}
 use Rattle.macho_linking.specs.steps.Planned.{IsPlanned, placement_of, counts_of}

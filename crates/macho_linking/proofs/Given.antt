@@ -14,13 +14,13 @@ use Rattle.macho_exports.specs.Entries.{ListEntries}
 use Rattle.macho_symbols.specs.Kept.{ResolvedRows, IsResolved}
 use Rattle.macho_symbols.specs.Exported.{AreLists}
 use Rattle.macho_parts.specs.Views.{object_view, views_of}
-use Rattle.macho_reading.specs.Surveys.{AreOfInputs}
+use Rattle.macho_answers.specs.Surveys.{AreOfInputs}
 use Rattle.macho_promise.specs.Inputs.{IsInput}
 use Rattle.macho_promise.specs.Sizes.{AreCounts}
 use Rattle.macho_faults.specs.declared.fault.LinkError.{LinkError}
 use Rattle.macho_faults.specs.declared.fault.LinkError.TheVariants as error
 use Rattle.macho_faults.specs.Standing.{Stands}
-use Rattle.macho_reading.specs.Read.{IsLinkOf, entry_of}
+use Rattle.macho_answers.specs.Read.{IsLinkOf, entry_of}
 use Rattle.macho_inputs.specs.steps.Owned.{input_of}
 use Rattle.macho_linking.specs.declared.asked.LinkAsked.{LinkAsked}
 use Rattle.macho_linking.specs.steps.Linking.{link_asked, IsGiven}

@@ -11,11 +11,11 @@ use Rattle.macho_linkedit.specs.Counting.{AreArguments}
 use Rattle.macho_linkedit.specs.Listing.{AreObjects}
 use Rattle.macho_linkedit.specs.Tries.{AreKept}
 use Rattle.macho_tables.specs.Exports.{exports_told, CanBeTrie}
-use Rattle.macho_reading.specs.declared.link.ReadLink.{ReadLink}
+use Rattle.macho_answers.specs.ReadLink.{ReadLink}
 use Rattle.macho_sizing.specs.declared.asked.SizesOf.{SizesOf}
 use Rattle.macho_sizing.specs.declared.asked.SizedLink.{SizedLink}
 use Rattle.macho_sizing.specs.Sized.{IsSizedOf}
-use Rattle.macho_made.specs.Symbols.{HasPersonality}
+use Rattle.macho_composed.specs.Symbols.{HasPersonality}
 use Rattle.macho_sizing.specs.Asked.{AreOf, CanBeSized}
 use Rattle.macho_linking.specs.steps.Imaged.{IsToSize, HasSizes}
 

@@ -11,13 +11,13 @@ use Rattle.macho_model.specs.Links.{Link}
 use Rattle.macho_model.specs.Addresses.{offset_in_file}
 use Rattle.macho_model.specs.WrittenSum.{INITIALIZER_SIZE}
 use Rattle.macho_symbols.specs.Kept.{ResolvedRows, HasSymbol}
-use Rattle.macho_made.specs.PersonalityUse.{PersonalityUse}
+use Rattle.macho_composed.specs.PersonalityUse.{PersonalityUse}
 use Rattle.macho_fields.specs.Looks.{Look}
-use Rattle.macho_made.specs.Entries.{resolved_row, MayBeBuilt, KnowsPersonality}
-use Rattle.macho_made.specs.Made.{IsOffsetsText, IsUnwindMade}
-use Rattle.macho_made.specs.Laws.{RangesFit}
-use Rattle.macho_made.proofs.Fitting.{texts_fit}
-use Rattle.macho_made.proofs.Sound.{rows_sound}
+use Rattle.macho_composed.specs.Entries.{resolved_row, MayBeBuilt, KnowsPersonality}
+use Rattle.macho_composed.specs.Made.{IsOffsetsText, IsUnwindMade}
+use Rattle.macho_composed.specs.Laws.{RangesFit}
+use Rattle.macho_composed.proofs.Fitting.{texts_fit}
+use Rattle.macho_composed.proofs.Sound.{rows_sound}
 use Rattle.macho_linking.specs.declared.planned.Planned.{Planned}
 use Rattle.macho_linking.specs.steps.Planned.{IsPlanned, IsLooked, KnowsAll, placement_of, counts_of}
 use Rattle.macho_linking.specs.steps.Written.{OffsetsArePut, UnwindIsPut}

@@ -10,8 +10,8 @@ use Rattle.macho_model.specs.Placement.{Placed}
 use Rattle.macho_model.specs.Addresses.{offset_in_file}
 use Rattle.macho_model.specs.Limits.{LIMIT_32}
 use Rattle.macho_fixups.specs.declared.run.Fixup.{Fixup}
-use Rattle.macho_filling.specs.Filled.{NoneIsBad}
-use Rattle.macho_made.proofs.Nothing.{nothing_passes}
+use Rattle.macho_composed.specs.Filled.{NoneIsBad}
+use Rattle.macho_composed.proofs.Nothing.{nothing_passes}
 use Rattle.macho_ranges.specs.Parts.{written}
 use Rattle.macho_composed.specs.Written.{AreContents, Texts, text_parts}
 use Rattle.macho_composed.specs.Meaning.{WrittenIsLinked, HeadMeans}

@@ -25,24 +25,24 @@ use Rattle.macho_object.specs.Views.{FileBytes}
 use Rattle.macho_promise.specs.Sizes.{counts_with}
 use Rattle.macho_fields.specs.Looks.{Look}
 use Rattle.macho_standing.proofs.Whole.{links_lead}
-use Rattle.macho_reading.proofs.Refusals.{personalities_are_fit}
-use Rattle.macho_found.specs.Premises.{IsSoundlyPlaced}
-use Rattle.macho_found.proofs.Found.{things_found, laid_out, link_placed}
-use Rattle.macho_found.proofs.Segments.{segments_rise, segments_end}
-use Rattle.macho_found.proofs.Pointers.{pointers_stand}
-use Rattle.macho_found.proofs.Template.{templates_tight}
-use Rattle.macho_found.proofs.Inside.{symbols_have, names_have}
-use Rattle.macho_found.proofs.Places.{places_low}
-use Rattle.macho_found.proofs.Slots.{slots_stand}
-use Rattle.macho_found.proofs.Stubs.{stubs_stand}
-use Rattle.macho_found.proofs.Rows.{stubs_follow}
-use Rattle.macho_found.proofs.Files.{parts_stand}
-use Rattle.macho_made.specs.Made.{IsToMake}
-use Rattle.macho_filling.specs.Places.{AreOfLink}
-use Rattle.macho_chaining.specs.Chaining.{CanBeChained}
-use Rattle.macho_filling.specs.Filled.{NoneIsBad}
-use Rattle.macho_filling.specs.Fitting as fitting
-use Rattle.macho_filling.proofs.Fit.{sections_have_room, stubs_have_room, symbols_are_known}
+use Rattle.macho_answers.proofs.Refusals.{personalities_are_fit}
+use Rattle.macho_composed.specs.Premises.{IsSoundlyPlaced}
+use Rattle.macho_composed.proofs.Found.{things_found, laid_out, link_placed}
+use Rattle.macho_composed.proofs.Segments.{segments_rise, segments_end}
+use Rattle.macho_composed.proofs.Pointers.{pointers_stand}
+use Rattle.macho_composed.proofs.Template.{templates_tight}
+use Rattle.macho_composed.proofs.Inside.{symbols_have, names_have}
+use Rattle.macho_composed.proofs.FoundPlaces.{places_low}
+use Rattle.macho_composed.proofs.Slots.{slots_stand}
+use Rattle.macho_composed.proofs.Stubs.{stubs_stand}
+use Rattle.macho_composed.proofs.Rows.{stubs_follow}
+use Rattle.macho_composed.proofs.Files.{parts_stand}
+use Rattle.macho_composed.specs.Made.{IsToMake}
+use Rattle.macho_composed.specs.Places.{AreOfLink}
+use Rattle.macho_composed.specs.Chaining.{CanBeChained}
+use Rattle.macho_composed.specs.Filled.{NoneIsBad}
+use Rattle.macho_composed.specs.Fitting as fitting
+use Rattle.macho_composed.proofs.Fit.{sections_have_room, stubs_have_room, symbols_are_known}
 use Rattle.macho_tables.specs.Placed.{AddressesFit, IsToTable}
 use Rattle.macho_composed.specs.Whole.{IsReady}
 use Rattle.macho_linking.specs.declared.planned.Planned.{Planned}

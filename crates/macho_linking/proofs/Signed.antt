@@ -18,7 +18,7 @@ use Rattle.macho_signature.specs.Sizes.{signature_size, signed_by}
 use Rattle.macho_signature.proofs.Texts.{length-signature}
 use Rattle.macho_signature.proofs.Files.{AgreeBelow, signature-alike}
 use Rattle.macho_sealing.specs.Signing.{IsSignerOf}
-use Rattle.macho_found.proofs.Sizes.{signatures_fill}
+use Rattle.macho_composed.proofs.FoundSizes.{signatures_fill}
 use Rattle.macho_linking.specs.declared.planned.Planned.{Planned}
 use Rattle.macho_linking.specs.steps.Planned.{IsPlanned, placement_of, counts_of}
 use Rattle.macho_linking.specs.steps.Written.{SignatureIsPut}

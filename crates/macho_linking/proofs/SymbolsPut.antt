@@ -20,9 +20,9 @@ use Rattle.macho_linkedit.proofs.CanList.{symbol_is_kept}
 use Rattle.macho_lists.proofs.Members.{contains_all}
 use Rattle.macho_tables.specs.Rows.{AreToList}
 use Rattle.macho_tables.proofs.Short.{sections_are_few, strings_are_short}
-use Rattle.macho_found.specs.Sizes.{FillsTables}
-use Rattle.macho_found.proofs.Heads.{tables_follow}
-use Rattle.macho_found.proofs.Sizes.{symbols_fill}
+use Rattle.macho_composed.specs.FoundSizes.{FillsTables}
+use Rattle.macho_composed.proofs.Heads.{tables_follow}
+use Rattle.macho_composed.proofs.FoundSizes.{symbols_fill}
 use Rattle.macho_commands.proofs.Texts.{length-flat_map_same}
 use Rattle.macho_linking.specs.declared.planned.Planned.{Planned}
 use Rattle.macho_linking.specs.steps.Planned.{IsPlanned, IsLooked, KnowsAll, placement_of, counts_of}

@@ -18,8 +18,8 @@ use Rattle.macho_trie.specs.Tries.{FindsAll, FindsOnly}
 use Rattle.macho_model.specs.Placement.{Placed}
 use Rattle.macho_tables.specs.Exports.{AreExportsOf, exports_told}
 use Rattle.macho_tables.proofs.Kept.{kept_are_one}
-use Rattle.macho_found.proofs.Heads.{tables_follow}
-use Rattle.macho_found.proofs.Sizes.{ranges_suffice}
+use Rattle.macho_composed.proofs.Heads.{tables_follow}
+use Rattle.macho_composed.proofs.FoundSizes.{ranges_suffice}
 use Rattle.macho_composed.specs.Meaning.{TrieMeans}
 use Rattle.macho_linking.specs.declared.planned.Planned.{Planned}
 use Rattle.macho_linking.specs.steps.Planned.{IsPlanned, placement_of, counts_of}

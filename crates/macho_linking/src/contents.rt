@@ -2,7 +2,7 @@
 ghost use Rattle.std.specs.Prelude.{◌≡◌, length, IfOk, OnOk, IfErr};
 ghost use Rattle.macho_bytes.specs.Images.{zeros};
 ghost use Rattle.macho_model.specs.Links.{Link};
-ghost use Rattle.macho_filling.specs.Filled.{NoneIsBad};
+ghost use Rattle.macho_composed.specs.Filled.{NoneIsBad};
 ghost use Rattle.macho_composed.specs.Written.{AreContents};
 ghost use Rattle.macho_linking.specs.steps.Planned.{IsLooked, KnowsAll, placement_of};
 ghost use Rattle.macho_linking.specs.steps.Unwritten.{UnwrittenStands};
@@ -10,11 +10,9 @@ ghost use Rattle.macho_linking.specs.steps.Written.{OffsetsArePut, UnwindIsPut};
 
 use crate::fault::Unwritten;
 use crate::planned::Planned;
-use macho_chaining::write_words;
+use macho_composed::{file_offset, fill_contents, unwind_text, write_initializers, write_words};
 use macho_fields::Places;
-use macho_filling::{file_offset, fill_contents};
 use macho_fixups::Fixup;
-use macho_made::{unwind_text, write_initializers};
 use macho_numbers::put_text;
 use std::alloc::Global;
 

@@ -21,5 +21,6 @@ mod tables;
 mod write;
 
 pub use asked::LinkAsked;
+pub use macho_inputs::OwnedInput;
 pub use passes::link;
 pub use paths::last_part;

@@ -7,11 +7,10 @@ ghost use Rattle.macho_linking.specs.steps.Planned.{IsPlanned, IsLooked, KnowsAl
 ghost use Rattle.macho_linking.specs.steps.Written.{FixupsArePut, TrieIsPut, SymbolsArePut};
 
 use crate::planned::Planned;
-use macho_chaining::write_fixup_table;
+use macho_composed::{Tables, write_fixup_table};
 use macho_fields::Places;
 use macho_fixups::Fixup;
 use macho_linkedit::import_table;
-use macho_made::Tables;
 use macho_numbers::put_text;
 use macho_symbols::OwnEntry;
 use macho_tables::{said_exports, symbol_table};

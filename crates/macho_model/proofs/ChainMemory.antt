@@ -6,7 +6,7 @@
 use Rattle.std.proofs.Common.{◌≡◌, ℕ, ◌+◌, ◌-◌, ◌^◌, ◌<◌, ◌≤◌, ◌⊎◌, List, [], length, take, slice_index, get_or, refl, sym, ap, subst, ◌∙◌, arith, inl, inr}
 use Rattle.std.proofs.lemmas.List.{length-take, get_or-take}
 use Rattle.byteorder.specs.Numbers.{length-bytes_low_first, little_number-reads_back}
-use Rattle.macho_bytes.specs.Numbers.{le_at, le_bytes}
+use Rattle.macho_records.specs.Numbers.{le_at, le_bytes}
 use Rattle.macho_model.specs.Chain.{OnChainOf}
 use Rattle.macho_model.specs.Needs.{POINTER_SIZE}
 use Rattle.macho_model.specs.Memory.{Choice, Covers, IsFixed, IsSegmentByte, Holds, HoldsText, HoldsNumber}

@@ -10,8 +10,8 @@ use Rattle.std.proofs.lemmas.Bool.{lt-ltb}
 use Rattle.std.proofs.lemmas.Bool.Decides.{nat_tests}
 use Rattle.std.proofs.lemmas.List.Edits.{length-between, get_or-between}
 use Rattle.byteorder.specs.Numbers.{little_from-take}
-use Rattle.macho_bytes.specs.Numbers.{le_at}
-use Rattle.macho_bytes.specs.Texts.{Stands}
+use Rattle.macho_records.specs.Numbers.{le_at}
+use Rattle.macho_records.specs.ByteTexts.{Stands}
 use Rattle.macho_records.specs.declared.header.SegmentCommand.{SegmentCommand}
 use Rattle.macho_model.specs.Images.{mapped_segments, tables_of}
 use Rattle.macho_model.specs.Memory.{Choice, Covers, IsSegmentByte, Holds, HoldsText, HoldsNumber}

@@ -4,7 +4,7 @@
 -- equation modulo 2 ^ 64 keeps it. A page compares pages of 4 KiB: a slide of whole pages moves the page of an address by
 -- just the slide, and leaves the offset in it alone.
 use Rattle.std.proofs.Common.{◌≡◌, ℕ, ◌+◌, ◌*◌, ◌%◌, ◌^◌, refl, sym, ap, ◌∙◌, arith}
-use Rattle.macho_bytes.specs.Numbers.{signed, page, low}
+use Rattle.macho_records.specs.Numbers.{signed, page, low}
 use Rattle.macho_model.specs.Words.{imm21, imm26}
 use Rattle.macho_model.specs.Meaning.{Same, address, IsDifference, BranchesTo, PagesTo, OffsetsTo, AddsTo, LoadsFrom, IsDistance, GoesThrough}
 

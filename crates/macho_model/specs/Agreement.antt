@@ -2,8 +2,8 @@
 -- says (`mach-o/loader.h`). Without it each could be right by itself: a loader goes by the commands alone.
 use Rattle.std.specs.Prelude.{◌≡◌, ℕ, ◌+◌, ◌*◌, ◌-◌, ◌≤◌, true, false, List, [], ◌∷◌, map}
 use Rattle.std.specs.List.{flat_map, range_with_len}
-use Rattle.macho_bytes.specs.Layouts.{reading, size_of}
-use Rattle.macho_bytes.specs.Texts.{name_of}
+use Rattle.macho_records.specs.ByteLayouts.{reading, size_of}
+use Rattle.macho_records.specs.ByteTexts.{name_of}
 use Rattle.macho_records.specs.Segments.{text_of}
 use Rattle.macho_records.specs.Layouts.{segment_command, section_header}
 use Rattle.macho_records.specs.declared.header.SegmentCommand.{SegmentCommand}

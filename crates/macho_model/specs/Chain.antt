@@ -2,7 +2,7 @@
 -- its word on the chain, and each word on the chain leads to the next one (`mach-o/fixup-chains.h`).
 use Rattle.std.specs.Prelude.{◌≡◌, ◌≢◌, ℕ, ◌+◌, ◌*◌, ◌-◌, ◌<◌, ◌≤◌, nat_lt, if◌then◌else◌, List, [], length, map, slice_index, Contains}
 use Rattle.std.specs.List.{enumerate_from}
-use Rattle.macho_bytes.specs.Numbers.{le_at, bits}
+use Rattle.macho_records.specs.Numbers.{le_at, bits}
 use Rattle.macho_records.specs.declared.header.SegmentCommand.{SegmentCommand}
 use Rattle.macho_model.specs.Images.{Table, segments_of, tables_of, starts_count, page_starts, NO_START}
 use Rattle.macho_model.specs.Needs.{POINTER_SIZE}

@@ -1,7 +1,7 @@
 -- The load commands of a Mach-O file (`mach-o/loader.h`): a list behind the header, each with its number and its size.
 use Rattle.std.specs.Prelude.{ℕ, zero, suc, ◌+◌, ◌*◌, ◌==◌, nat_le, ◌&&◌, Bool, List, [], ◌∷◌, filter, slice_range}
-use Rattle.macho_bytes.specs.Layouts.{reading, size_of}
-use Rattle.macho_bytes.specs.Texts.{name_of}
+use Rattle.macho_records.specs.ByteLayouts.{reading, size_of}
+use Rattle.macho_records.specs.ByteTexts.{name_of}
 use Rattle.macho_records.specs.Layouts.{mach_header, load_command, segment_command, section_header}
 use Rattle.macho_records.specs.declared.header.MachHeader.{MachHeader}
 use Rattle.macho_model.specs.Lists.{of_first}

@@ -2,8 +2,8 @@
 -- (`mach-o/compact_unwind_encoding.h`). A test for each rule that they keep.
 use Rattle.std.specs.Prelude.{ℕ, ◌+◌, ◌*◌, ◌-◌, ◌/◌, ◌%◌, ◌==◌, nat_le, nat_lt, ◌&&◌, ◌||◌, not, Bool, true, false, List, length, filter, map}
 use Rattle.std.specs.List.{list_any, list_all, flat_map, range_with_len}
-use Rattle.macho_bytes.specs.Numbers.{le_at, bits}
-use Rattle.macho_bytes.specs.Layouts.{reading}
+use Rattle.macho_records.specs.Numbers.{le_at, bits}
+use Rattle.macho_records.specs.ByteLayouts.{reading}
 use Rattle.macho_records.specs.CommandLayouts.{unwind_info_entry}
 use Rattle.macho_records.specs.UnwindInfoEntry.{UnwindInfoEntry}
 use Rattle.macho_records.specs.RelocationInfo.{RelocationInfo}

@@ -1,7 +1,7 @@
 -- The relocated fields of a carried section: where each stands, what it refers to, and what it adds.
 use Rattle.std.specs.Prelude.{ℕ, ◌+◌, ◌*◌, ◌-◌, ◌%◌, ◌^◌, ◌==◌, nat_le, ◌&&◌, ◌||◌, not, if◌then◌else◌, Bool, List, map, filter, Option, Some, None}
 use Rattle.macho_records.specs.declared.constants.TheConstants.{ARM64_RELOC_ADDEND, ARM64_RELOC_BRANCH26, ARM64_RELOC_PAGE21, ARM64_RELOC_PAGEOFF12, ARM64_RELOC_SUBTRACTOR, ARM64_RELOC_UNSIGNED}
-use Rattle.macho_bytes.specs.Numbers.{le_at, signed}
+use Rattle.macho_records.specs.Numbers.{le_at, signed}
 use Rattle.macho_records.specs.RelocationInfo.{RelocationInfo}
 use Rattle.macho_model.specs.declared.targets.Target.{Target}
 use Rattle.macho_model.specs.Objects.{section_bytes}

@@ -3,9 +3,9 @@
 use Rattle.std.specs.Prelude.{◌≡◌, ℕ, ◌+◌, ◌*◌, ◌-◌, ◌==◌, ◌||◌, if◌then◌else◌, Bool, List, [], ◌∷◌, ◌++◌, length, map, filter, replicate, slice_range, sum_by, codes, Option, Some, None}
 use Rattle.std.specs.List.{list_any, range_with_len}
 use Rattle.std.specs.Str.{bytes_eq}
-use Rattle.macho_bytes.specs.Numbers.{rounded_up}
-use Rattle.macho_bytes.specs.Layouts.{reading, size_of}
-use Rattle.macho_bytes.specs.Texts.{name_of}
+use Rattle.macho_records.specs.Numbers.{rounded_up}
+use Rattle.macho_records.specs.ByteLayouts.{reading, size_of}
+use Rattle.macho_records.specs.ByteTexts.{name_of}
 use Rattle.macho_records.specs.Layouts.{segment_command, section_header, symtab_command}
 use Rattle.macho_records.specs.CommandLayouts.{entry_point_command, dylinker_command, dylib_command, rpath_command, linkedit_data_command, uuid_command, build_version_command, build_tool_version}
 use Rattle.macho_records.specs.declared.header.MachHeader.{MachHeader}

@@ -1,8 +1,8 @@
 -- Laws on what memory holds where no chain word has a byte, and on slots and pointers that no fixup moves. Each is the contract
 -- of a function of `src/laws.rt`.
 use Rattle.std.specs.Prelude.{◌≡◌, ℕ, ◌+◌, ◌*◌, ◌^◌, ◌<◌, ◌≤◌, ◌||◌, true, List, [], length, get_or, Some, Contains, is_some}
-use Rattle.macho_bytes.specs.Numbers.{le_at}
-use Rattle.macho_bytes.specs.Texts.{Stands}
+use Rattle.macho_records.specs.Numbers.{le_at}
+use Rattle.macho_records.specs.ByteTexts.{Stands}
 use Rattle.macho_records.specs.declared.header.SegmentCommand.{SegmentCommand}
 use Rattle.macho_model.specs.declared.placed.PlacedSection.{PlacedSection}
 use Rattle.macho_model.specs.declared.placed.Slot.{Slot}

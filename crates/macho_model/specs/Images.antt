@@ -3,9 +3,9 @@
 use Rattle.std.specs.Prelude.{ℕ, ◌+◌, ◌*◌, ◌-◌, ◌==◌, if◌then◌else◌, not, Bool, List, [], map, filter, drop, slice_range, get_or}
 use Rattle.std.specs.List.{range_with_len}
 use Rattle.std.specs.Str.{bytes_eq}
-use Rattle.macho_bytes.specs.Numbers.{le_at, bits, signed}
-use Rattle.macho_bytes.specs.Texts.{name_of}
-use Rattle.macho_bytes.specs.Layouts.{reading, size_of}
+use Rattle.macho_records.specs.Numbers.{le_at, bits, signed}
+use Rattle.macho_records.specs.ByteTexts.{name_of}
+use Rattle.macho_records.specs.ByteLayouts.{reading, size_of}
 use Rattle.macho_records.specs.Layouts.{segment_command, symtab_command, symtab_entry}
 use Rattle.macho_records.specs.CommandLayouts.{entry_point_command, dylib_command, linkedit_data_command, chained_fixups_header, chained_starts_in_segment}
 use Rattle.macho_records.specs.declared.header.SegmentCommand.{SegmentCommand}

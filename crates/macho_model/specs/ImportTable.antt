@@ -2,7 +2,7 @@
 -- (`mach-o/fixup-chains.h`).
 use Rattle.std.specs.Prelude.{◌≡◌, ℕ, ◌+◌, ◌<◌, if◌then◌else◌, List, [], ◌∷◌, ◌++◌, length, filter, get_or, take, sum_by, slice_range}
 use Rattle.std.specs.List.{flat_map}
-use Rattle.macho_bytes.specs.Numbers.{le_at, bits}
+use Rattle.macho_records.specs.Numbers.{le_at, bits}
 use Rattle.macho_model.specs.Links.{Link, carried_of}
 use Rattle.macho_model.specs.Needs.{imports_of, import_library, libraries_needed}
 use Rattle.macho_model.specs.Targets.{slots_of}

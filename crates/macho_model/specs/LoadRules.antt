@@ -1,8 +1,8 @@
 -- What the loader asks of an image: a test for each rule, of one record: the header, a command, a fixup table, an import.
 use Rattle.std.specs.Prelude.{ℕ, ◌+◌, ◌*◌, ◌%◌, ◌^◌, ◌==◌, nat_le, ◌&&◌, ◌||◌, if◌then◌else◌, Bool, List, length, map, drop, get_or}
 use Rattle.std.specs.List.{list_all, range_with_len}
-use Rattle.macho_bytes.specs.Texts.{name_of}
-use Rattle.macho_bytes.specs.Layouts.{reading, size_of}
+use Rattle.macho_records.specs.ByteTexts.{name_of}
+use Rattle.macho_records.specs.ByteLayouts.{reading, size_of}
 use Rattle.macho_records.specs.Layouts.{mach_header, segment_command, symtab_command}
 use Rattle.macho_records.specs.CommandLayouts.{dylib_command, dylinker_command, rpath_command, uuid_command, build_version_command, linkedit_data_command, entry_point_command, chained_fixups_header, chained_starts_in_segment}
 use Rattle.macho_records.specs.declared.header.SegmentCommand.{SegmentCommand}

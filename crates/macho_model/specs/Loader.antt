@@ -1,7 +1,7 @@
 -- When the loader accepts an image: the tests of `LoadRules`, asked of each record, and of each word on the chain. A
 -- refusal names a rule and the file offset of what breaks it.
 use Rattle.std.specs.Prelude.{◌≡◌, ℕ, ◌+◌, ◌-◌, ◌<◌, ◌≤◌, ◌⊎◌, ◌==◌, Bool, true, false, List, [], length, filter, All, Contains, ◌*◌}
-use Rattle.macho_bytes.specs.Numbers.{bits}
+use Rattle.macho_records.specs.Numbers.{bits}
 use Rattle.macho_records.specs.declared.header.SegmentCommand.{SegmentCommand}
 use Rattle.macho_model.specs.declared.rules.LoadRule.{LoadRule}
 use Rattle.macho_model.specs.declared.rules.LoadRule.TheVariants.{L1, L2, L3, L4, L5, L6, L7, L8, L9, L10}

@@ -2,7 +2,7 @@
 -- (`mach-o/loader.h`, `S_INIT_FUNC_OFFSETS`), and section headers of initial values.
 use Rattle.std.specs.Prelude.{◌≡◌, ℕ, ◌+◌, ◌*◌, ◌/◌, ◌≤◌, List, [], ◌∷◌, ◌++◌, length, map, filter, MatchOption, All}
 use Rattle.std.specs.List.{flat_map, range_with_len}
-use Rattle.macho_bytes.specs.Numbers.{le_at}
+use Rattle.macho_records.specs.Numbers.{le_at}
 use Rattle.macho_records.specs.Sections.{type_of, is_template_type}
 use Rattle.macho_records.specs.declared.header.SectionHeader.{SectionHeader}
 use Rattle.macho_model.specs.declared.placed.Range64.{Range64}

@@ -1,7 +1,7 @@
 -- What a relocated field says, as relations between a place, a word that is read there and the address that the field
 -- refers to. Addresses are numbers modulo 2 ^ 64 (`mach-o/arm64/reloc.h`).
 use Rattle.std.specs.Prelude.{◌≡◌, ℕ, ◌+◌, ◌*◌, ◌%◌, ◌^◌, true}
-use Rattle.macho_bytes.specs.Numbers.{signed, page, low}
+use Rattle.macho_records.specs.Numbers.{signed, page, low}
 use Rattle.macho_model.specs.Words.{is_adrp, imm21, imm26, is_add, is_ldr, imm12, scale_of, base_register, written_register, without_imm21, without_imm26, without_imm12, BR_X16, X16}
 
 abbrev pub Same : ℕ → ℕ → Type 0

@@ -5,7 +5,7 @@ use Rattle.std.specs.FinMap.{FinMap, get}
 use Rattle.std.specs.Ordering.{ordering_then, nat_cmp}
 use Rattle.std.specs.declared.cmp.Ordering.{Ordering}
 use Rattle.std.specs.Cmp.Lexicographic.{slice_cmp}
-use Rattle.macho_bytes.specs.Numbers.{le_at, le_bytes, bits}
+use Rattle.macho_records.specs.Numbers.{le_at, le_bytes, bits}
 use Rattle.macho_records.specs.declared.header.SegmentCommand.{SegmentCommand}
 use Rattle.macho_model.specs.Images.{mapped_segments, base_of, Table, tables_of, fixups_header, import_entry, import_name, import_library_name}
 use Rattle.macho_model.specs.Chain.{chain_segments, IsFileWord, OnChainOf}

@@ -1,8 +1,8 @@
 -- The rules of relocatable objects and dynamic libraries, a test for each, of one record: a section, a symbol, a
 -- relocation or a command. `Grammar` asks each test of each record.
 use Rattle.std.specs.Prelude.{ℕ, ◌+◌, ◌*◌, ◌-◌, ◌^◌, ◌==◌, nat_le, nat_lt, ◌&&◌, ◌||◌, not, if◌then◌else◌, Bool, List, length, drop, slice_range, codes}
-use Rattle.macho_bytes.specs.Texts.{name_of}
-use Rattle.macho_bytes.specs.Layouts.{reading, size_of}
+use Rattle.macho_records.specs.ByteTexts.{name_of}
+use Rattle.macho_records.specs.ByteLayouts.{reading, size_of}
 use Rattle.macho_records.specs.Layouts.{mach_header, symtab_command, symtab_entry}
 use Rattle.macho_records.specs.CommandLayouts.{dylib_command}
 use Rattle.macho_records.specs.Relocations.{relocation_info}

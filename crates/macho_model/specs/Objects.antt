@@ -1,8 +1,8 @@
 -- What the bytes of an object or of a dynamic library say: its sections, symbols, names, relocations and install name.
 -- Each is a total function of the whole list of bytes; `Grammar` tells when the bytes are whole.
 use Rattle.std.specs.Prelude.{ℕ, ◌+◌, ◌*◌, ◌==◌, if◌then◌else◌, List, [], drop, slice_range}
-use Rattle.macho_bytes.specs.Texts.{name_of}
-use Rattle.macho_bytes.specs.Layouts.{reading, size_of}
+use Rattle.macho_records.specs.ByteTexts.{name_of}
+use Rattle.macho_records.specs.ByteLayouts.{reading, size_of}
 use Rattle.macho_records.specs.Layouts.{segment_command, section_header, symtab_command, symtab_entry}
 use Rattle.macho_records.specs.CommandLayouts.{dylib_command}
 use Rattle.macho_records.specs.Relocations.{relocation_info}

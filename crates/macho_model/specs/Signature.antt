@@ -3,8 +3,8 @@
 use Rattle.std.specs.Prelude.{◌≡◌, ℕ, ◌+◌, ◌*◌, ◌-◌, ◌/◌, ◌%◌, ◌==◌, if◌then◌else◌, Bool, List, [], ◌∷◌, ◌++◌, length, map, min, replicate, slice_index, slice_range}
 use Rattle.std.specs.List.{flat_map, range_with_len}
 use Rattle.sha2.specs.Sha256.{sha256}
-use Rattle.macho_bytes.specs.Numbers.{big, row_bytes, rounded_up}
-use Rattle.macho_bytes.specs.Layouts.{reading, size_of, spelling}
+use Rattle.macho_records.specs.Numbers.{big, row_bytes, rounded_up}
+use Rattle.macho_records.specs.ByteLayouts.{reading, size_of, spelling}
 use Rattle.macho_records.specs.CommandLayouts.{uuid_command, code_directory}
 use Rattle.macho_records.specs.declared.constants.TheConstants.{LC_UUID}
 use Rattle.macho_records.specs.declared.header.SegmentCommand.{SegmentCommand}

@@ -1,7 +1,7 @@
 -- The symbol table of an image: the rows that a link and its placement ask for, and those that a file says (`mach-o/nlist.h`).
 use Rattle.std.specs.Prelude.{◌≡◌, ℕ, ◌+◌, ◌-◌, ◌*◌, ◌^◌, ◌&&◌, ◌||◌, not, if◌then◌else◌, Bool, false, List, [], ◌∷◌, ◌++◌, length, map, take, sum_by, bit_and, bit_or}
 use Rattle.std.specs.List.{flat_map, position_or_len, range_with_len}
-use Rattle.macho_bytes.specs.Numbers.{bits}
+use Rattle.macho_records.specs.Numbers.{bits}
 use Rattle.macho_records.specs.declared.constants.TheConstants.{N_EXT, N_PEXT, N_SECT}
 use Rattle.macho_records.specs.Symbols.{is_common_of, is_hidden_of}
 use Rattle.macho_model.specs.Symbols.{is_absolute, is_global}

@@ -2,7 +2,7 @@
 -- Addresses are those of a placement, before any slide and with no import chosen (`empty`).
 use Rattle.std.specs.Prelude.{◌≡◌, ℕ, ◌+◌, ◌-◌, ◌%◌, ◌^◌, ◌<◌, ◌≤◌, ◌⊎◌, ◌==◌, nat_le, nat_lt, ◌&&◌, ◌||◌, not, Bool, true, false, length, get_or, Contains, is_some}
 use Rattle.std.specs.FinMap.{empty}
-use Rattle.macho_bytes.specs.Numbers.{bits, page, low}
+use Rattle.macho_records.specs.Numbers.{bits, page, low}
 use Rattle.macho_model.specs.declared.targets.Site.{Site}
 use Rattle.macho_model.specs.declared.targets.Site.TheVariants as site
 use Rattle.macho_model.specs.declared.targets.Target.{Target}

@@ -1,7 +1,7 @@
 -- The arm64 instructions that relocations speak of, as 32-bit words (Arm Architecture Reference Manual for A-profile,
 -- chapter C6), and the immediates that they hold.
 use Rattle.std.specs.Prelude.{ℕ, ◌+◌, ◌*◌, ◌^◌, ◌==◌, ◌&&◌, if◌then◌else◌, Bool}
-use Rattle.macho_bytes.specs.Numbers.{bits}
+use Rattle.macho_records.specs.Numbers.{bits}
 
 -- ADRP: 1 immlo:2 10000 immhi:19 Rd:5
 abbrev pub is_adrp : ℕ → Bool

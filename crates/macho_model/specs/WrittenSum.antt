@@ -2,7 +2,7 @@
 -- from spreading an image over the address space: a placement ends at most this far behind its base.
 use Rattle.std.specs.Prelude.{ℕ, ◌+◌, ◌*◌, ◌-◌, ◌/◌, ◌^◌, length, sum_by}
 use Rattle.macho_records.specs.Layouts.{mach_header, segment_command, section_header}
-use Rattle.macho_bytes.specs.Layouts.{size_of}
+use Rattle.macho_records.specs.ByteLayouts.{size_of}
 use Rattle.macho_model.specs.declared.placed.Counts.{Counts}
 use Rattle.macho_records.specs.Symbols.{common_exponent_of, common_size_of}
 use Rattle.macho_model.specs.Links.{Link, SectionId, header_at, carried_of, placed_exponent}

@@ -2,8 +2,8 @@
 -- commons are small. Each is one rule, asked of one symbol.
 use Rattle.std.proofs.Common.{◌≡◌, ℕ, ◌<◌, ◌≤◌, ◌^◌, Bool, true, false, List, length, arith, length-drop, slice_range, ◌&&◌, ◌+◌, if◌then◌else◌, Some, None, refl, ap, ◌∙◌, sym, []}
 use Rattle.macho_records.specs.declared.header.SectionHeader.{SectionHeader}
-use Rattle.macho_model.specs.Links.{is_carried}
-use Rattle.macho_model.specs.Objects.{section_at, symbol_name}
+use Rattle.macho_object.specs.Links.{is_carried}
+use Rattle.macho_object.specs.Objects.{section_at, symbol_name}
 use Rattle.macho_object.specs.Views.{FileBytes, of_symbol_section, section_index_of, of_section}
 use Rattle.macho_records.specs.declared.symbols.SymtabEntry.{SymtabEntry}
 use Rattle.macho_records.specs.Symbols.{is_weak_of, is_hidden_of}
@@ -13,10 +13,10 @@ use Rattle.macho_names.specs.steps.Notes.{IsString, string_at}
 use Rattle.macho_names.specs.declared.notes.Name.{Name}
 use Rattle.std.proofs.lemmas.Bool.Decides.{nat_tests}
 use Rattle.macho_records.specs.Symbols.{is_common_of, common_size_of}
-use Rattle.macho_model.specs.Objects.{num_symbols, symbol_at, strings_of}
-use Rattle.macho_model.specs.ObjectRules.{name_ends}
-use Rattle.macho_model.specs.Symbols.{is_global}
-use Rattle.macho_model.specs.Grammar.{IsFile}
+use Rattle.macho_object.specs.Objects.{num_symbols, symbol_at, strings_of}
+use Rattle.macho_object.specs.ObjectRules.{name_ends}
+use Rattle.macho_object.specs.Symbols.{is_global}
+use Rattle.macho_object.specs.Grammar.{IsFile}
 
 -- a common of an object is small
 pub commons_are_small : (dyn : Bool) (b : List ℕ) (k : ℕ) → IsFile dyn b → dyn ≡ false → k < num_symbols b

@@ -11,7 +11,7 @@ use Rattle.std.proofs.lemmas.List.FromFn.{map-range_with_len_more}
 use Rattle.std.proofs.lemmas.List.Elements.{All-push, All-nil}
 use Rattle.macho_names.specs.declared.notes.Note.{Note}
 use Rattle.macho_names.specs.Kept.{Row, row_of_symbol, rows_of_stub, is_offered, offered_row}
-use Rattle.macho_model.specs.Objects.{symbol_name}
+use Rattle.macho_object.specs.Objects.{symbol_name}
 use Rattle.macho_names.specs.steps.Notes.{row_in, IsWithin, IsHashOf, CommonFits, AreNoted, IsString}
 use Rattle.macho_names.specs.steps.Tables.{hash_of}
 

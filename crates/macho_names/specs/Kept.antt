@@ -4,9 +4,9 @@ use Rattle.std.specs.Prelude.{◌≡◌, ℕ, ◌-◌, ◌&&◌, ◌||◌, not, 
 use Rattle.std.specs.List.{range_with_len}
 use Rattle.macho_records.specs.declared.symbols.SymtabEntry.{SymtabEntry}
 use Rattle.macho_records.specs.Symbols.{is_common_of, common_exponent_of, is_external_of, is_hidden_of, is_weak_of}
-use Rattle.macho_model.specs.Symbols.{is_absolute, is_in_section, is_global}
-use Rattle.macho_model.specs.Objects.{num_symbols, symbol_at, symbol_name, section_at, install_name_of}
-use Rattle.macho_model.specs.Links.{Input, Object, Dylib, Stub, StubReading, is_carried}
+use Rattle.macho_object.specs.Symbols.{is_absolute, is_in_section, is_global}
+use Rattle.macho_object.specs.Objects.{num_symbols, symbol_at, symbol_name, section_at, install_name_of}
+use Rattle.macho_object.specs.Links.{Input, Object, Dylib, Stub, StubReading, is_carried}
 use Rattle.macho_stub.specs.declared.library.DefinedStubLibrary.{DefinedStubLibrary}
 use Rattle.macho_stub_lines.specs.Lists.{texts}
 use Rattle.macho_names.specs.declared.notes.Sort.{Sort}

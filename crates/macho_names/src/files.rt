@@ -3,8 +3,8 @@
 //! The string table of an object or of a dynamic library is copied once, and a note holds a place and a length in it:
 //! names that share bytes there share them here.
 ghost use Rattle.std.specs.Prelude.{◌≡◌, ℕ, List, ◌+◌, ◌^◌, ◌<◌, ◌||◌, true, false, map, IfOk, OnOk, IfSome, is_some, is_none, ◌++◌, slice_range, length, get_or};
-ghost use Rattle.macho_model.specs.Objects.{num_symbols, strings_of, symbol_name};
-ghost use Rattle.macho_model.specs.Symbols.{is_in_section, is_absolute};
+ghost use Rattle.macho_object.specs.Objects.{num_symbols, strings_of, symbol_name};
+ghost use Rattle.macho_object.specs.Symbols.{is_in_section, is_absolute};
 ghost use Rattle.macho_stub_lines.specs.Lists.{texts};
 ghost use Rattle.macho_names.specs.Kept.{Row, kept_object, kept_dylib, kept_stub, reading_of, rows_of_object, rows_of_dylib, offered_row, is_offered, no_row};
 ghost use Rattle.macho_names.specs.steps.Events.{library_text};

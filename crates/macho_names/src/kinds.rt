@@ -1,7 +1,7 @@
 //! What kind of symbol an entry of a symbol table is. Debugging entries are of no kind.
 ghost use Rattle.std.specs.Prelude.{◌≡◌};
 ghost use Rattle.macho_records.specs.Symbols.{is_common_of};
-ghost use Rattle.macho_model.specs.Symbols.{is_global, is_absolute, is_in_section};
+ghost use Rattle.macho_object.specs.Symbols.{is_global, is_absolute, is_in_section};
 
 use macho_records::{N_SECT, N_STAB, N_TYPE, SymtabEntry};
 

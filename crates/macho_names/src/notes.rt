@@ -6,8 +6,8 @@
 //!     name 1, 5 bytes   hash of `_main`   sort Section   number 0   value 16   global, not weak, not hidden
 ghost use Rattle.std.specs.Prelude.{◌≡◌, ◌+◌, ◌^◌, ◌<◌, ◌≤◌, true, false, ◌==◌, length, if◌then◌else◌};
 ghost use Rattle.macho_records.specs.Symbols.{is_common_of, common_of, common_size_of, common_exponent_of};
-ghost use Rattle.macho_model.specs.Symbols.{is_global};
-ghost use Rattle.macho_model.specs.Objects.{num_symbols, strings_of, symbol_at};
+ghost use Rattle.macho_object.specs.Symbols.{is_global};
+ghost use Rattle.macho_object.specs.Objects.{num_symbols, strings_of, symbol_at};
 ghost use Rattle.macho_names.specs.Kept.{in_carried, sort_of, number_of, value_of, row_of_symbol};
 ghost use Rattle.macho_names.specs.steps.Events.{strength_of, size_of_common};
 ghost use Rattle.macho_names.specs.steps.Notes.{row_in, AreEnds, IsString, IsHashOf, CommonFits};

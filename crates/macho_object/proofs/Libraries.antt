@@ -4,7 +4,7 @@ use Rattle.std.proofs.lemmas.List.Elements.{All-cons, All-nil, All-same}
 use Rattle.macho_bytes.specs.Layouts.{reading}
 use Rattle.macho_bytes.specs.Texts.{name_of}
 use Rattle.macho_records.specs.Layouts.{load_command}
-use Rattle.macho_structs.specs.Layouts.{dylib_command}
+use Rattle.macho_records.specs.CommandLayouts.{dylib_command}
 use Rattle.macho_model.specs.Commands.{numbered, command_fits, path_of, Command}
 use Rattle.macho_model.specs.Objects.{install_name_of, num_symbols}
 use Rattle.macho_model.specs.ObjectRules.{path_ends, needed_in_dylib}

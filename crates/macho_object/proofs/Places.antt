@@ -9,7 +9,7 @@ use Rattle.std.proofs.lemmas.Bool.{leb-true, eqb-true}
 use Rattle.std.proofs.lemmas.List.Elements.{All-nil, All-cons, All-head, All-same, All-filter, filter_passes}
 use Rattle.macho_bytes.specs.Layouts.{reading, size_of}
 use Rattle.macho_records.specs.Layouts.{mach_header, load_command, segment_command, symtab_command}
-use Rattle.macho_structs.specs.Layouts.{dylib_command}
+use Rattle.macho_records.specs.CommandLayouts.{dylib_command}
 use Rattle.macho_records.specs.declared.constants.TheConstants.{LC_SYMTAB}
 use Rattle.macho_model.specs.Lists.{IsNumber, of_first}
 use Rattle.macho_model.specs.Commands.{Command, commands_of, commands_from, commands_end, numbered, header_of, command_fits, place_of}

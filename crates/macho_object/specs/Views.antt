@@ -2,7 +2,7 @@
 -- what the grammar reads in these bytes.
 use Rattle.std.specs.Prelude.{◌≡◌, ℕ, ◌-◌, ◌<◌, nat_lt, ◌&&◌, not, if◌then◌else◌, Bool, true, false, List, Option, Some, None}
 use Rattle.macho_records.specs.declared.symbols.SymtabEntry.{SymtabEntry}
-use Rattle.macho_structs.specs.declared.relocations.RelocationInfo.{RelocationInfo}
+use Rattle.macho_records.specs.RelocationInfo.{RelocationInfo}
 use Rattle.macho_records.specs.Symbols.{is_stab_of}
 use Rattle.macho_model.specs.Symbols.{is_in_section, has_section_name}
 use Rattle.macho_model.specs.Objects.{num_sections, section_at, num_symbols, symbol_at, symbol_name, relocation_at, install_name_of}

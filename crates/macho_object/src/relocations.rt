@@ -1,6 +1,6 @@
 //! Relocations of an object's sections, and the rules that each keeps.
 ghost use Rattle.std.specs.Prelude.{◌≡◌, ℕ, ◌+◌, ◌*◌, ◌^◌, nat_le, ◌<◌, ◌≤◌, true, false, OnOk, IfErr, IfSome, MatchOption, length};
-ghost use Rattle.macho_structs.specs.Relocations.{BitsFit};
+ghost use Rattle.macho_records.specs.Relocations.{BitsFit};
 ghost use Rattle.macho_model.specs.Objects.{section_at, relocation_at, relocation_place};
 ghost use Rattle.macho_model.specs.Grammar.{ObjectBreaks};
 ghost use Rattle.macho_object.specs.Views.{RelocationBytes, relocation_of};

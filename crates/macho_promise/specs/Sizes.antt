@@ -25,8 +25,8 @@ use Rattle.macho_model.specs.Signature.{identifier_text}
 use Rattle.macho_model.specs.Head.{DYLINKER, path_command_size}
 use Rattle.macho_model.specs.SymbolTable.{table_symbols}
 use Rattle.macho_model.specs.Told.{ToldExport, ExportsAreTold}
-use Rattle.macho_unwind_pages.specs.declared.entries.UnwindInput.{UnwindInput}
-use Rattle.macho_unwind_pages.specs.Bounds.{unwind_bound_of}
+use Rattle.macho_unwind.specs.UnwindInput.{UnwindInput}
+use Rattle.macho_unwind.specs.Bounds.{unwind_bound_of}
 use Rattle.macho_trie.specs.Exports.{Exported, as_value, as_reexport, REEXPORT}
 use Rattle.macho_promise.specs.TrieSays.{IsTrieText}
 

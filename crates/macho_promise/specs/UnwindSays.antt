@@ -7,8 +7,8 @@ use Rattle.macho_model.specs.Targets.{slot_number, target_of_relocation}
 use Rattle.macho_model.specs.Consumed.{EntryId, entries_of_link, relocations_in_entry, unwind_entry, START_PLACE, LSDA_PLACE}
 use Rattle.macho_model.specs.Placement.{Placed}
 use Rattle.macho_model.specs.Addresses.{section_address, slot_address, offset_in_file}
-use Rattle.macho_unwind_pages.specs.declared.entries.Personality.{Personality}
-use Rattle.macho_unwind_pages.specs.declared.entries.ResolvedUnwindInfo.{ResolvedUnwindInfo}
+use Rattle.macho_unwind.specs.Personality.{Personality}
+use Rattle.macho_unwind.specs.ResolvedUnwindInfo.{ResolvedUnwindInfo}
 use Rattle.macho_unwind.specs.declared.lookup.Found.{Found}
 use Rattle.macho_unwind.specs.Lookup.{UnwindFinds}
 use Rattle.macho_unwind.specs.Entries.{found_for, IsEntryOf, IsFoundFor, IsSectionOf}

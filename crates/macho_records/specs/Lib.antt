@@ -20,3 +20,6 @@ pub use Rattle.macho_structs.specs.declared.fixups.ChainedStartsInSegment
 pub use Rattle.macho_structs.specs.declared.relocations.RelocationInfo
 pub use Rattle.macho_structs.specs.declared.signature.CodeDirectory
 pub use Rattle.macho_structs.specs.declared.unwind.UnwindInfoEntry
+pub use Rattle.macho_bytes.specs.Layouts as ByteLayouts
+pub use Rattle.macho_bytes.specs.Texts as ByteTexts
+pub use Rattle.macho_bytes.specs.Numbers

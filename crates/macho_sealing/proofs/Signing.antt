@@ -29,7 +29,7 @@ use Rattle.macho_structs.specs.Layouts.{code_directory}
 use Rattle.macho_model.specs.Signature.{directory_for}
 use Rattle.macho_signature.proofs.Texts.{length-signature, length-identifier}
 use Rattle.macho_commands.proofs.HeadRead.{head_read}
-use Rattle.macho_promise.specs.Sizes.{AreCounts, counts_with}
+use Rattle.macho_agreement.specs.Sizes.{AreCounts, counts_with}
 use Rattle.macho_model.specs.Faults.{last_part}
 use Rattle.macho_model.specs.Lists.{EachNext}
 use Rattle.macho_agreement.proofs.Classes.{AllDiffer}

@@ -11,8 +11,8 @@ use Rattle.macho_model.specs.Head.{HeadSays}
 use Rattle.macho_model.specs.Signature.{signature_text, IsSigned}
 use Rattle.macho_signature.specs.declared.signature.Signer.{Signer}
 use Rattle.macho_signature.specs.Sizes.{signed_by}
-use Rattle.macho_promise.specs.Sizes.{AreCounts}
-use Rattle.macho_promise.specs.Promise.{IsLaidOut}
+use Rattle.macho_agreement.specs.Sizes.{AreCounts}
+use Rattle.macho_agreement.specs.Promise.{IsLaidOut}
 
 -- The signer says the name of the link's output without its folders, what it is, and where its `__TEXT` is in the file.
 pub record IsSignerOf (l : Link) (p : Placed) (signer : Signer) : Type 0 where

@@ -45,8 +45,8 @@ use Rattle.macho_fixups.specs.Words.{Says}
 use Rattle.macho_fixups.specs.Chains.{chain_seen, IsPageWord}
 use Rattle.macho_fixups.specs.Laws.{ChainsAreTold}
 use Rattle.macho_commands.specs.Laws.{HeadKeepsRules}
-use Rattle.macho_promise.specs.FixupsSay.{IsFixupOf, own_number, kind_for, fixup_segments}
-use Rattle.macho_promise.specs.FixupsSay as asked
+use Rattle.macho_parts.specs.FixupsSay.{IsFixupOf, own_number, kind_for, fixup_segments}
+use Rattle.macho_parts.specs.FixupsSay as asked
 use Rattle.macho_standing.specs.Leads.{HasPlace}
 use Rattle.macho_standing.specs.Laws.{ComposedIsAccepted}
 use Rattle.macho_standing.proofs.Members.{in_map}

@@ -25,7 +25,7 @@ use Rattle.macho_fixups.specs.declared.run.Fixup.{Fixup}
 use Rattle.macho_fixups.specs.declared.words.FixupKind.{FixupKind}
 use Rattle.macho_fixups.specs.declared.words.FixupKind.TheVariants.{Bind}
 use Rattle.macho_fixups.specs.Words.{Says}
-use Rattle.macho_promise.specs.FixupsSay.{own_number, kind_for}
+use Rattle.macho_parts.specs.FixupsSay.{own_number, kind_for}
 use Rattle.macho_standing.specs.Composed.{ImportsAreWritten}
 use Rattle.macho_standing.proofs.Distinct.{first_within, first_is}
 use Rattle.macho_standing.proofs.Libraries.{library_is_found}

@@ -30,7 +30,7 @@ use Rattle.macho_model.specs.LoadRules.{import_fits}
 use Rattle.macho_model.specs.Fixups.{EntryOfImport, same_entry, has_room, own_entry, own_entries, import_entries_of, import_format}
 use Rattle.macho_model.specs.ImportTable.{names_text, no_entry, entry_of_link, name_of_entry, name_place}
 use Rattle.macho_model.specs.Values.{is_pointer}
-use Rattle.macho_promise.specs.FixupsSay.{fixup_segments}
+use Rattle.macho_parts.specs.FixupsSay.{fixup_segments}
 use Rattle.macho_standing.specs.Leads.{HasPlace, TargetsLead}
 use Rattle.macho_standing.proofs.Members.{at_front, front_or_rest, in_none, of_map, of_flat_map, of_filter_map}
 use Rattle.macho_standing.proofs.Distinct.{of_distinct}

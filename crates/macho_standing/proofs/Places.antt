@@ -37,7 +37,7 @@ use Rattle.macho_fixups.specs.declared.run.Fixup.{Fixup}
 use Rattle.macho_fixups.specs.declared.words.FixupKind.{FixupKind}
 use Rattle.macho_fixups.specs.declared.words.FixupKind.TheVariants.{Rebase}
 use Rattle.macho_fixups.specs.Words.{Says}
-use Rattle.macho_promise.specs.FixupsSay.{kind_for}
+use Rattle.macho_parts.specs.FixupsSay.{kind_for}
 use Rattle.macho_standing.specs.Leads.{HasPlace}
 use Rattle.macho_standing.proofs.Members.{of_map, in_filter, of_filter, at_front, in_none}
 use Rattle.macho_standing.proofs.Run.{HasWord}

@@ -17,7 +17,7 @@ use Rattle.macho_model.specs.Valid.{RelocationsAreSupported}
 use Rattle.macho_fixups.specs.Runs.{AreSegments}
 use Rattle.macho_fixups.specs.Laws.{ChainsAreTold}
 use Rattle.macho_arm64.specs.Laws.{StubsMove}
-use Rattle.macho_promise.specs.FixupsSay.{fixup_segments}
+use Rattle.macho_parts.specs.FixupsSay.{fixup_segments}
 use Rattle.macho_parts.specs.Sound.{IsSound}
 use Rattle.macho_standing.specs.Composed.{FixupsAreWritten, ImportsAreWritten, IsComposed}
 use Rattle.macho_standing.specs.Leads.{TargetsLead}

@@ -22,8 +22,8 @@ use Rattle.macho_fixups.specs.Runs.{Holds}
 use Rattle.macho_fixups.specs.Chains.{chain_seen, IsAddressOf}
 use Rattle.macho_fixups.specs.Readings.{IsRead}
 use Rattle.macho_fixups.specs.Laws.{ChainsAreTold}
-use Rattle.macho_promise.specs.FixupsSay.{IsFixupOf, fixup_segments}
-use Rattle.macho_promise.specs.FixupsSay as asked
+use Rattle.macho_parts.specs.FixupsSay.{IsFixupOf, fixup_segments}
+use Rattle.macho_parts.specs.FixupsSay as asked
 use Rattle.macho_model.specs.ImportTable.{names_text}
 use Rattle.macho_standing.specs.Composed.{FixupsAreWritten}
 use Rattle.macho_standing.proofs.Members.{in_map, one_or_pair}

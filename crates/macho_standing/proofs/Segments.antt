@@ -23,7 +23,7 @@ use Rattle.macho_model.specs.Images.{segments_of, mapped_segments, is_named, bas
 use Rattle.macho_model.specs.Agreement.{SegmentPlace, place_by_command, place_told, SegmentsAgree}
 use Rattle.macho_fixups.specs.declared.run.FixupSegment.{FixupSegment}
 use Rattle.macho_fixups.specs.Readings.{AreSegmentsOf}
-use Rattle.macho_promise.specs.FixupsSay.{fixup_segment, fixup_segments}
+use Rattle.macho_parts.specs.FixupsSay.{fixup_segment, fixup_segments}
 use Rattle.macho_standing.proofs.Members.{in_map, of_map, in_filter, of_filter, at_front, in_none}
 
 -- a placed segment has a command of the file

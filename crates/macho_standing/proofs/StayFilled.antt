@@ -30,7 +30,7 @@ use Rattle.macho_model.specs.Stands.{IsOutsideField, Says, seen_in, kind_of}
 use Rattle.macho_model.specs.Values.{needs_fixup}
 use Rattle.macho_fixups.specs.declared.run.Fixup.{Fixup}
 use Rattle.macho_fixups.specs.Laws.{BytesStay}
-use Rattle.macho_promise.specs.FixupsSay.{fixup_segment, fixup_segments}
+use Rattle.macho_parts.specs.FixupsSay.{fixup_segment, fixup_segments}
 use Rattle.macho_parts.specs.Filled.{FieldIsSet, bytes_in_file}
 use Rattle.macho_standing.specs.Leads.{TargetsLead}
 use Rattle.macho_standing.specs.Laws.{IsPlacedLink, WordsAreWritten, SectionsStayFilled, StubsStaySet}

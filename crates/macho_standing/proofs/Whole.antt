@@ -14,7 +14,7 @@ use Rattle.macho_model.specs.Images.{Table, tables_of, tries_of, symbol_tables_o
 use Rattle.macho_model.specs.ImportTable.{names_text}
 use Rattle.macho_model.specs.Agreement.{table_of_range, TablesAgree}
 use Rattle.macho_fixups.specs.Laws.{ChainsAreTold}
-use Rattle.macho_promise.specs.FixupsSay.{fixup_segments}
+use Rattle.macho_parts.specs.FixupsSay.{fixup_segments}
 use Rattle.macho_model.specs.Fixups.{import_format}
 use Rattle.macho_standing.specs.Composed.{FixupsAreWritten}
 use Rattle.macho_standing.specs.Laws.{IsComposedOf, ComposedStands, ComposedChains, LinksLead}

@@ -27,8 +27,8 @@ use Rattle.macho_model.specs.Memory.{Choice, BindsAll}
 use Rattle.macho_model.specs.Fixups.{EntryOfImport, same_entry, has_room, own_entry, own_entries}
 use Rattle.macho_model.specs.Stands.{Pointer, Denotes, SlotStands, kind_of, is_template_offset}
 use Rattle.macho_model.specs.Values.{is_pointer, is_absolute_target, needs_fixup, IsNotEncodable}
-use Rattle.macho_promise.specs.FixupsSay.{kind_for}
-use Rattle.macho_promise.specs.FixupsSay as asked
+use Rattle.macho_parts.specs.FixupsSay.{kind_for}
+use Rattle.macho_parts.specs.FixupsSay as asked
 use Rattle.macho_standing.specs.Leads.{HasPlace}
 use Rattle.macho_standing.proofs.Members.{in_flat_map, in_filter_map}
 use Rattle.macho_standing.proofs.Distinct.{in_distinct}

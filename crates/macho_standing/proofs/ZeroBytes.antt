@@ -28,7 +28,7 @@ use Rattle.macho_model.specs.ImportTable.{names_text}
 use Rattle.macho_model.specs.Zeros.{in_file, filled_sections, fixups_content, contents_of, IsOutsideSpan, IsZeroElsewhere}
 use Rattle.macho_model.specs.Lists.{of_first}
 use Rattle.macho_fixups.specs.Runs.{AreSegments}
-use Rattle.macho_promise.specs.FixupsSay.{fixup_segments}
+use Rattle.macho_parts.specs.FixupsSay.{fixup_segments}
 use Rattle.macho_standing.proofs.Members.{one_or_pair, of_filter, at_front, at_rest, in_filter, in_map, in_none}
 use Rattle.macho_standing.proofs.Segments.{one_of_name}
 use Rattle.macho_standing.proofs.Apart.{PartsAreApart, parts_apart, apart_back}

@@ -11,7 +11,7 @@ use Rattle.macho_model.specs.Addresses.{offset_in_file}
 use Rattle.macho_model.specs.Zeros.{in_file, IsOutsideSpan}
 use Rattle.macho_fixups.specs.declared.run.FixupSegment.{FixupSegment}
 use Rattle.macho_fixups.specs.Runs.{AreSegments}
-use Rattle.macho_promise.specs.FixupsSay.{fixup_segment, fixup_segments}
+use Rattle.macho_parts.specs.FixupsSay.{fixup_segment, fixup_segments}
 use Rattle.macho_standing.proofs.Members.{one_or_pair}
 use Rattle.macho_standing.proofs.Apart.{pairs_of_map}
 use Rattle.macho_standing.proofs.Held.{place_in_file}

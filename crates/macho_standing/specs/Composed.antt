@@ -18,9 +18,9 @@ use Rattle.macho_fixups.specs.Chains.{ChainIsRun}
 use Rattle.macho_fixups.specs.Tables.{table_text}
 use Rattle.macho_fixups.specs.Readings.{TableReadsBack}
 use Rattle.macho_commands.specs.Laws.{HasRoom}
-use Rattle.macho_promise.specs.FixupsSay.{FixupsSay, fixup_segments}
+use Rattle.macho_parts.specs.FixupsSay.{FixupsSay, fixup_segments}
 use Rattle.macho_model.specs.Fixups.{import_format}
-use Rattle.macho_promise.specs.Promise.{Agrees}
+use Rattle.macho_parts.specs.Promise.{Agrees}
 use Rattle.macho_parts.specs.Filled.{IsFilled, StubIsSet, bytes_in_file}
 
 -- The fixup table and the words of its chains are written: with what their writers promise of the run, and with its room.

@@ -15,7 +15,7 @@ use Rattle.macho_model.specs.Stands.{ImageStands, IsLoadable}
 use Rattle.macho_fixups.specs.declared.run.Fixup.{Fixup}
 use Rattle.macho_fixups.specs.Runs.{AreFixups, AreSegments}
 use Rattle.macho_fixups.specs.Chains.{AreWritten}
-use Rattle.macho_promise.specs.FixupsSay.{IsFixupOf, fixup_segments}
+use Rattle.macho_parts.specs.FixupsSay.{IsFixupOf, fixup_segments}
 use Rattle.macho_parts.specs.Filled.{IsFilled, StubIsSet, bytes_in_file}
 use Rattle.macho_model.specs.Valid.{IsValid}
 use Rattle.macho_parts.specs.Sound.{IsSound}

@@ -7,7 +7,7 @@ use Rattle.macho_model.specs.Links.{Link, header_at}
 use Rattle.macho_model.specs.Placement.{Placed, id_of, template_sections, IsPlaced}
 use Rattle.macho_model.specs.Made.{TemplateHeaders}
 use Rattle.macho_model.specs.Agreement.{section_headers_of}
-use Rattle.macho_promise.specs.Promise.{IsLaidOut}
+use Rattle.macho_parts.specs.Promise.{IsLaidOut}
 use Rattle.macho_model.specs.Grammar.{ObjectsAreRead}
 
 -- a range begins where a section of the template does, and ends where one does

@@ -10,3 +10,6 @@ pub use Rattle.macho_unwind_pages.specs.Bounds
 pub use Rattle.macho_unwind_pages.specs.Plans
 pub use Rattle.macho_unwind_pages.specs.Calls
 pub mod steps
+pub use Rattle.macho_unwind_pages.specs.declared.entries.UnwindInput
+pub use Rattle.macho_unwind_pages.specs.declared.entries.Personality
+pub use Rattle.macho_unwind_pages.specs.declared.entries.ResolvedUnwindInfo

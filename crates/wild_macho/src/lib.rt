@@ -11,4 +11,6 @@ pub use macho_devices::{
     FileFault, Files, MemoryFiles, MemorySink, RealFiles, RealSink, Sink, SinkFault, SteadyFiles,
     SteadySink,
 };
+pub use macho_faults::LinkError;
+pub use macho_linked::LinkedImage;
 pub use macho_report::{Fault, InputKind, Linker};

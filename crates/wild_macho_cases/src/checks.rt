@@ -2,11 +2,10 @@
 
 use crate::runs::{Seen, run_case};
 use macho_case_files::{Case, Extent, GivenFile, Held, Part, Wanted, bytes_of_file};
-use macho_image::{LinkError, LinkedImage};
 use macho_loader::Loaded;
 use sha2::{Digest, Sha256};
 use std::alloc::{AllocError, Global};
-use wild_macho::{Fault, Files, InputKind, MemoryFiles};
+use wild_macho::{Fault, Files, InputKind, LinkError, LinkedImage, MemoryFiles};
 
 // Notes what was wanted and what came.
 fn note_difference(

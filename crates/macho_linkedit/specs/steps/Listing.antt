@@ -11,7 +11,7 @@ use Rattle.macho_records.specs.declared.symbols.SymtabEntry.{SymtabEntry}
 use Rattle.macho_records.specs.declared.constants.TheConstants.{N_SECT}
 use Rattle.macho_model.specs.SymbolRows.{hidden_type}
 use Rattle.macho_model.specs.SymbolTable.{is_in_table}
-use Rattle.macho_promise.specs.Sizes.{text_size}
+use Rattle.macho_parts.specs.Sizes.{text_size}
 use Rattle.macho_names.specs.Kept.{in_carried}
 use Rattle.macho_symbols.specs.Kept.{symbol_id}
 use Rattle.macho_linkedit.specs.declared.listing.TableSymbols.{TableSymbols}

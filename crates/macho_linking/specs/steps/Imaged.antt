@@ -16,16 +16,16 @@ use Rattle.macho_faults.specs.declared.fault.LinkError.{LinkError}
 use Rattle.macho_faults.specs.Standing.{Stands}
 use Rattle.macho_exports.specs.Entries.{ListEntries}
 use Rattle.macho_symbols.specs.Exported.{AreLists}
-use Rattle.macho_filling.specs.Filled.{NoneIsBad}
+use Rattle.macho_composed.specs.Filled.{NoneIsBad}
 use Rattle.macho_model.specs.Grammar.{ObjectsAreRead}
-use Rattle.macho_found.specs.Names.{StubsArePlain}
+use Rattle.macho_composed.specs.Names.{StubsArePlain}
 use Rattle.macho_linkedit.specs.declared.exports.NamedExport.{NamedExport}
 use Rattle.macho_linkedit.specs.declared.listing.LinkedObject.{LinkedObject}
 use Rattle.macho_linkedit.specs.Listing.{AreObjects}
 use Rattle.macho_linkedit.specs.Tries.{AreKept}
 use Rattle.macho_tables.specs.Exports.{exports_told}
-use Rattle.macho_reading.specs.declared.link.ReadLink.{ReadLink}
-use Rattle.macho_reading.specs.Read.{IsReadOf, AreKnown}
+use Rattle.macho_answers.specs.ReadLink.{ReadLink}
+use Rattle.macho_answers.specs.Read.{IsReadOf, AreKnown}
 use Rattle.macho_sizing.specs.declared.asked.SizedLink.{SizedLink}
 use Rattle.macho_sizing.specs.Sized.{IsSizedOf}
 use Rattle.macho_linking.specs.declared.write.Written.{Written}

@@ -14,9 +14,9 @@ use Rattle.macho_linkedit.specs.Listing.{AreObjects}
 use Rattle.macho_linkedit.specs.Tries.{AreKept}
 use Rattle.macho_fields.specs.Looks.{Look, Tells}
 use Rattle.macho_model.specs.Grammar.{ObjectsAreRead}
-use Rattle.macho_found.specs.Names.{StubsArePlain}
+use Rattle.macho_composed.specs.Names.{StubsArePlain}
 use Rattle.macho_tables.specs.Exports.{exports_told}
-use Rattle.macho_reading.specs.Read.{IsReadOf, AreKnown}
+use Rattle.macho_answers.specs.Read.{IsReadOf, AreKnown}
 use Rattle.macho_sizing.specs.Sized.{IsSizedOf}
 use Rattle.macho_linking.specs.declared.planned.Planned.{Planned}
 use Rattle.macho_linking.specs.steps.Linking.{link_asked}

@@ -7,8 +7,8 @@ use Rattle.macho_faults.specs.declared.fault.LinkError.{LinkError}
 use Rattle.macho_faults.specs.declared.fault.LinkError.TheVariants as error
 use Rattle.macho_fields.specs.declared.fault.FillFault.TheVariants as fill
 use Rattle.macho_fields.specs.Faults.{FillStands}
-use Rattle.macho_made.specs.declared.fault.MadeFault.TheVariants as made
-use Rattle.macho_made.specs.Made.{IsRefused}
+use Rattle.macho_composed.specs.MadeFault.TheVariants as made
+use Rattle.macho_composed.specs.Made.{IsRefused}
 use Rattle.macho_linking.specs.declared.fault.Unwritten.{Unwritten}
 use Rattle.macho_linking.specs.declared.fault.Unwritten.TheVariants.{Unfilled, Unmade, OutOfMemory}
 

@@ -1,7 +1,7 @@
 -- The rules of one section, one symbol and one relocation, together: that a record keeps them all, or breaks this one.
 use Rattle.std.specs.Prelude.{◌≡◌, ℕ, ◌<◌, Bool, true, false, List, drop, not, nat_lt, nat_le, ◌==◌, ◌&&◌, ◌||◌, if◌then◌else◌}
 use Rattle.macho_records.specs.declared.constants.TheConstants.{ARM64_RELOC_ADDEND}
-use Rattle.macho_structs.specs.declared.relocations.RelocationInfo.{RelocationInfo}
+use Rattle.macho_records.specs.RelocationInfo.{RelocationInfo}
 use Rattle.macho_model.specs.Objects.{num_sections, section_at, num_symbols}
 use Rattle.macho_model.specs.declared.rules.ObjectRule.{ObjectRule}
 use Rattle.macho_model.specs.declared.rules.ObjectRule.TheVariants.{O5, O6, O7, O8, O9, O10, O11, O12, O13, O14}

@@ -2,7 +2,7 @@
 use Rattle.std.specs.Prelude.{◌≡◌, ℕ, ◌+◌, ◌*◌, ◌<◌, ◌≤◌, Bool, true, false, List, [], ◌∷◌, if◌then◌else◌, length, slice_range, Option, Some, None}
 use Rattle.macho_bytes.specs.Layouts.{reading, size_of}
 use Rattle.macho_records.specs.Layouts.{segment_command, section_header, symtab_command, load_command}
-use Rattle.macho_structs.specs.Layouts.{dylib_command}
+use Rattle.macho_records.specs.CommandLayouts.{dylib_command}
 use Rattle.macho_records.specs.declared.constants.TheConstants.{LC_SEGMENT_64, LC_SYMTAB}
 use Rattle.macho_model.specs.Commands.{commands_of, numbered, command_fits, segment_size}
 use Rattle.macho_model.specs.Objects.{install_name_of, num_sections, section_place, symtab_of}

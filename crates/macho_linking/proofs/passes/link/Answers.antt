@@ -9,7 +9,7 @@ use Rattle.macho_parts.specs.Views.{ViewsObject}
 use Rattle.macho_symbols.specs.Exported.{AreLists}
 use Rattle.macho_linkedit.specs.declared.listing.LinkedObject.{LinkedObject}
 use Rattle.macho_linkedit.specs.Listing.{AreObjects}
-use Rattle.macho_reading.specs.Read.{AreKnown}
+use Rattle.macho_answers.specs.Read.{AreKnown}
 use Rattle.macho_answers.proofs.Inputs.{inputs_are_read, inputs_are_plain}
 use Rattle.macho_linking.specs.steps.Linking.{link_asked}
 use Rattle.macho_linking.proofs.Given.{lists_are, inputs_given, views_few}

@@ -1,5 +1,5 @@
 use Rattle.std.proofs.Common.{◌≡◌, arith, sym}
-use Rattle.macho_model.specs.Objects.{num_symbols}
+use Rattle.macho_object.specs.Objects.{num_symbols}
 use Rattle.macho_names.specs.Kept.{rows_of_dylib}
 use Rattle.macho_names.proofs.Noting.{offered_more, not_offered_more}
 use Rattle.macho_names.proofs.files.dylib_notes.Goals as goal

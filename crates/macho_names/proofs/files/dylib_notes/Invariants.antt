@@ -1,6 +1,6 @@
 use Rattle.std.proofs.Common.{map, filter}
 use Rattle.std.specs.List.{range_with_len}
-use Rattle.macho_model.specs.Objects.{strings_of, symbol_name}
+use Rattle.macho_object.specs.Objects.{strings_of, symbol_name}
 use Rattle.macho_names.specs.Kept.{is_offered, offered_row}
 use Rattle.macho_names.specs.steps.Notes.{AreNoted}
 use Rattle.macho_names.proofs.files.dylib_notes.Given as goal

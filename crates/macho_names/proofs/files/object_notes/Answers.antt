@@ -1,5 +1,5 @@
 use Rattle.std.proofs.Common.{◌≡◌, arith}
-use Rattle.macho_model.specs.Objects.{num_symbols}
+use Rattle.macho_object.specs.Objects.{num_symbols}
 use Rattle.macho_names.specs.Kept.{rows_of_object}
 use Rattle.macho_names.proofs.Noting.{object_row_more}
 use Rattle.macho_names.proofs.files.object_notes.Goals as goal

@@ -1,6 +1,6 @@
 use Rattle.std.proofs.Common.{map}
 use Rattle.std.specs.List.{range_with_len}
-use Rattle.macho_model.specs.Objects.{strings_of}
+use Rattle.macho_object.specs.Objects.{strings_of}
 use Rattle.macho_names.specs.Kept.{row_of_symbol}
 use Rattle.macho_names.specs.steps.Notes.{AreNoted}
 use Rattle.macho_names.proofs.files.object_notes.Given as goal

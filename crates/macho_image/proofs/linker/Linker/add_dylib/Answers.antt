@@ -1,9 +1,9 @@
 -- The input stands behind those before it, and is what its kind says.
 use Rattle.std.proofs.Common.{ap, rules}
 use Rattle.macho_model.specs.Links.{Link}
-use Rattle.macho_inputs.specs.declared.owned.OwnedInput.{OwnedInput}
+use Rattle.macho_linking.specs.OwnedInput.{OwnedInput}
 use Rattle.macho_promise.specs.Inputs.{IsInput}
-use Rattle.macho_inputs.specs.steps.Owned.{input_of}
+use Rattle.macho_linking.specs.Owned.{input_of}
 use Rattle.macho_image.proofs.Taking.{taken_more}
 use Rattle.macho_image.proofs.linker.Linker.add_dylib.Goals as goal
 

@@ -1,7 +1,7 @@
 use Rattle.std.proofs.Common.{rules, ◌≡◌, ℕ, ◌+◌, ◌<◌, nat_le, List, length, sym, subst, arith}
 use Rattle.macho_bytes.specs.Layouts.{reading, size_of}
-use Rattle.macho_structs.specs.Relocations.{relocation_info}
-use Rattle.macho_structs.specs.declared.relocations.RelocationInfo.{RelocationInfo}
+use Rattle.macho_records.specs.Relocations.{relocation_info}
+use Rattle.macho_records.specs.RelocationInfo.{RelocationInfo}
 use Rattle.macho_model.specs.declared.rules.ObjectRule.TheVariants.{O5, O10}
 use Rattle.macho_model.specs.Objects.{relocation_place, relocation_at}
 use Rattle.macho_object.proofs.Breaks.{relocation_breaks}
