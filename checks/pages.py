@@ -2,7 +2,7 @@
 
 docs/USAGE.md has each option and each rule on inputs; docs/ARCHITECTURE.md has each crate once, and no other; each page that README.md
 names is there, and each file of docs/ is named there; crates.txt names for a crate the libraries that its files name, and no other, and those
-that its edits name; the paths down from its crates are few. `pages.py --paths` prints the libraries that cost most paths.
+that its edits name; little is read along the paths down from its crates. `pages.py --paths` prints the libraries that cost most.
 """
 import os
 import re
@@ -85,8 +85,8 @@ def wrong_edits():
     return wrong
 
 
-# More paths than these make the gate slow: `rt ci` reads the files of a crate once for each path from a crate above it.
-MOST_PATHS = 350_000
+# More megabytes than these make the gate slow: `rt ci` sums up the files of a crate once for each path from a crate above it.
+MOST_READ = 21_000
 
 
 def libraries_of_crates():
@@ -96,34 +96,38 @@ def libraries_of_crates():
     return {crate: [name for name in libraries if name in named] for crate, libraries in named.items()}
 
 
-def paths(below):
-    """How many paths lead from crates down to crates below them, each crate itself counted as one."""
-    count = {}
+def read_along(below, size):
+    """The megabytes of all crates' files, those of a crate once for each path that leads down to it, from itself too."""
+    found = {}
 
     def of(crate):
-        if crate not in count:
-            count[crate] = 1 + sum(of(library) for library in below[crate])
-        return count[crate]
+        if crate not in found:
+            found[crate] = size[crate] + sum(of(library) for library in below[crate])
+        return found[crate]
 
     return sum(of(crate) for crate in below)
 
 
+def sizes():
+    return {crate: len(text_of(crate).encode()) / 1e6 for crate in libraries_of_crates()}
+
+
 def wrong_paths():
-    found = paths(libraries_of_crates())
-    return [f"crates.txt: {found:,} paths lead down from crates, more than {MOST_PATHS:,}"] if found > MOST_PATHS else []
+    found = read_along(libraries_of_crates(), sizes())
+    return [f"crates.txt: {found:,.0f} MB are read along its paths, more than {MOST_READ:,}"] if found > MOST_READ else []
 
 
 def print_paths():
-    """Prints the libraries of crates without which the paths would be fewest."""
-    below = libraries_of_crates()
-    print(f"{paths(below):9,} paths; without a library of a crate:")
+    """Prints the libraries of crates without which least would be read."""
+    below, size = libraries_of_crates(), sizes()
+    print(f"{read_along(below, size):9,.0f} MB are read along the paths; without a library of a crate:")
     without = [
-        (paths({**below, crate: [it for it in libraries if it != name]}), crate, name)
+        (read_along({**below, crate: [it for it in libraries if it != name]}, size), crate, name)
         for crate, libraries in below.items()
         for name in libraries
     ]
     for left, crate, name in sorted(without)[:40]:
-        print(f"{left:9,} {crate}: {name}")
+        print(f"{left:9,.0f} {crate}: {name}")
 
 
 def wrong_pages():

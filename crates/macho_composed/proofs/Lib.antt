@@ -8,6 +8,7 @@ pub mod Standing
 pub mod Zeros
 pub mod Lengths
 pub mod Linked
+-- what crates above take of those below
 pub use Rattle.macho_filling.proofs.Fit
 pub use Rattle.macho_made.proofs.Fitting
 pub use Rattle.macho_made.proofs.Sound

@@ -1,6 +1,7 @@
 pub mod Whole
 pub mod Written
 pub mod Meaning
+-- what crates above take of those below
 pub use Rattle.macho_filling.specs.Filled
 pub use Rattle.macho_filling.specs.Places
 pub use Rattle.macho_filling.specs.Fitting
@@ -17,3 +18,4 @@ pub use Rattle.macho_found.specs.Names
 pub use Rattle.macho_found.specs.Entries as FoundEntries
 pub use Rattle.macho_found.specs.Premises
 pub use Rattle.macho_found.specs.Sizes as FoundSizes
+pub use Rattle.macho_ranges.specs.Parts

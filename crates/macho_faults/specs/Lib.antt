@@ -1,4 +1,5 @@
 pub mod Errors
 pub mod Standing
+-- what crates above take of those below
 pub use Rattle.macho_promise.specs.Sizes
 pub use Rattle.macho_promise.specs.Promise

@@ -24,7 +24,7 @@ use Rattle.macho_sizing.specs.Sized.{IsSizedOf}
 use Rattle.macho_fields.specs.declared.fault.FillFault.TheVariants as fill
 use Rattle.macho_composed.specs.MadeFault.TheVariants as made
 use Rattle.macho_model.specs.Grammar.{ObjectsAreRead}
-use Rattle.macho_valid.specs.Laws.{ObjectsAreBytes}
+use Rattle.macho_answers.specs.Laws.{ObjectsAreBytes}
 use Rattle.macho_answers.specs.Inputs.{HasBytes}
 use Rattle.macho_answers.proofs.Inputs.{inputs_are_read, inputs_are_bytes}
 use Rattle.macho_answers.proofs.Told.{standing_is_told}

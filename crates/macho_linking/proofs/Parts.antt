@@ -12,7 +12,7 @@ use Rattle.macho_model.specs.Limits.{LIMIT_32}
 use Rattle.macho_fixups.specs.declared.run.Fixup.{Fixup}
 use Rattle.macho_composed.specs.Filled.{NoneIsBad}
 use Rattle.macho_composed.proofs.Nothing.{nothing_passes}
-use Rattle.macho_ranges.specs.Parts.{written}
+use Rattle.macho_composed.specs.Parts.{written}
 use Rattle.macho_composed.specs.Written.{AreContents, Texts, text_parts}
 use Rattle.macho_composed.specs.Meaning.{WrittenIsLinked, HeadMeans}
 use Rattle.macho_linking.specs.declared.planned.Planned.{Planned}

@@ -24,7 +24,7 @@ use Rattle.macho_placing.specs.Laws.{NonePasses}
 use Rattle.macho_object.specs.Views.{FileBytes}
 use Rattle.macho_promise.specs.Sizes.{counts_with}
 use Rattle.macho_fields.specs.Looks.{Look}
-use Rattle.macho_standing.proofs.Whole.{links_lead}
+use Rattle.macho_tables.proofs.Whole.{links_lead}
 use Rattle.macho_answers.proofs.Refusals.{personalities_are_fit}
 use Rattle.macho_composed.specs.Premises.{IsSoundlyPlaced}
 use Rattle.macho_composed.proofs.Found.{things_found, laid_out, link_placed}

@@ -18,3 +18,5 @@ pub mod Objects
 pub mod RowParts
 pub mod ListedRows
 pub mod Short
+-- what crates above take of those below
+pub use Rattle.macho_standing.proofs.Whole
