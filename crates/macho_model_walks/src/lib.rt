@@ -21,5 +21,5 @@ pub use segment_rules::{
     commands_end_inside, ends_below, file_bytes_are_inside, follows, head_fits, holds_commands,
     is_paged, is_whole, protections_are_right,
 };
-pub use table_rules::{header_is_known, parts_are_inside};
+pub use table_rules::{header_is_known, parts_are_inside, starts_are_right};
 pub use word_rules::page_has;
