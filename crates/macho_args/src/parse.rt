@@ -4,15 +4,16 @@
 //! or an input. So `-o out a.o -lc` gives the output `out`, the file `a.o` of word 2 and the library `c` of word 3.
 
 ghost use Rattle.std.specs.Prelude.{◌≡◌, ◌+◌, ◌-◌, ◌<◌, ◌^◌, length, drop};
-ghost use Rattle.std.specs.Prelude.{Ok, Err, OnOk, OnErr, IfOk, IfErr, MatchResult, ◌⊎◌};
+ghost use Rattle.std.specs.Prelude.{Some, Ok, Err, OnOk, OnErr, IfOk, IfErr, MatchResult, ◌⊎◌, []};
 ghost use Rattle.macho_args.specs.declared.fault.ArgsFault.TheVariants.{OutOfMemory};
+ghost use Rattle.macho_args.specs.declared.options.LinkOption.TheVariants.{PlatformVersion};
 ghost use Rattle.macho_args.specs.steps.Effects.{HasCause};
 ghost use Rattle.macho_args.specs.steps.KeptRoot.{keep_root};
 ghost use Rattle.macho_args.specs.Options.{joined_option};
 ghost use Rattle.macho_args.specs.SearchPaths.{IsParsed, IsRefused};
 ghost use Rattle.macho_args.specs.Settings.{settings_of, fresh};
 ghost use Rattle.macho_args.specs.Store.{KeepsOutside};
-ghost use Rattle.macho_args.specs.Words.{read_all, read_from, read_plain, read_unnamed, read_word, reading};
+ghost use Rattle.macho_args.specs.Words.{read_all, read_from, read_option, read_plain, read_unnamed, read_word, reading};
 ghost use Rattle.macho_args.specs.Words.{texts_of, without_inputs};
 
 use crate::fault::ArgsFault;
@@ -130,19 +131,7 @@ impl MachOArgs {
                 self.set_value(alloc, option, word + 1, value.as_str())?;
                 Ok(1)
             }
-            Some(LinkOption::PlatformVersion) => {
-                let [platform, minimum, sdk, ..] = behind else {
-                    return Err(ArgsFault::MissingValue { word });
-                };
-                self.set_platform(
-                    alloc,
-                    word,
-                    platform.as_str(),
-                    minimum.as_str(),
-                    sdk.as_str(),
-                )?;
-                Ok(3)
-            }
+            Some(LinkOption::PlatformVersion) => self.read_platform(alloc, word, behind),
             Some(LinkOption::Ignored) => Ok(0),
             Some(LinkOption::Refused) => Err(ArgsFault::Unsupported { word }),
             None => {
@@ -150,6 +139,33 @@ impl MachOArgs {
                 Ok(0)
             }
         }
+    }
+
+    // Reads the three words behind `-platform_version`, which is the word with this index.
+    fn read_platform(
+        &mut self,
+        alloc: Global,
+        word: u32,
+        behind: &[String],
+    ) -> Result<usize, ArgsFault>
+        requires { word + 1 + length behind.now < 2 ^ 32 }
+        ensures done { IfOk result (λ values.
+            read_option keep_root (Some PlatformVersion) word [] (texts_of behind.now) (settings_of self.old)
+            ≡ Ok (reading values (settings_of self.new))) }
+        ensures why { IfErr result (HasCause
+            (read_option keep_root (Some PlatformVersion) word [] (texts_of behind.now) (settings_of self.old))) }
+    {
+        let [platform, minimum, sdk, ..] = behind else {
+            return Err(ArgsFault::MissingValue { word });
+        };
+        self.set_platform(
+            alloc,
+            word,
+            platform.as_str(),
+            minimum.as_str(),
+            sdk.as_str(),
+        )?;
+        Ok(3)
     }
 
     // Reads a word that is no option's name.

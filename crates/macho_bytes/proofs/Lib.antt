@@ -8,6 +8,7 @@ pub mod Tables
 pub mod Names
 pub mod Rounding
 pub mod Sequences
+pub mod Groups
 pub mod Ulebs
 pub mod UlebRows
 pub mod Fills

@@ -3,23 +3,18 @@ ghost use Rattle.std.specs.Prelude.{◌≡◌, ◌+◌, ◌≤◌, length};
 ghost use Rattle.macho_bytes.specs.Texts.{put};
 
 use crate::linkedit::{write_linkedit, write_symtab};
-use crate::paths::{path_command_size, write_dylib, write_dylinker, write_rpath};
+use crate::paths::{path_command_size, write_dylib, write_dylinker, write_needed, write_rpath};
 use crate::records::{write_build_version, write_entry_point, write_uuid};
 use crate::segment::write_segment;
 use macho_model::PlacedSegment;
 use macho_records::{
     BuildToolVersion, BuildVersionCommand, DylibCommand, DylinkerCommand, EntryPointCommand,
-    LC_CODE_SIGNATURE, LC_DYLD_CHAINED_FIXUPS, LC_DYLD_EXPORTS_TRIE, LC_ID_DYLIB, LC_LOAD_DYLIB,
+    LC_CODE_SIGNATURE, LC_DYLD_CHAINED_FIXUPS, LC_DYLD_EXPORTS_TRIE, LC_ID_DYLIB,
     LinkeditDataCommand, RpathCommand, SectionHeader, SegmentCommand, SymtabCommand, UuidCommand,
 };
 
 /// The path of the system's dynamic linker.
 pub const DYLINKER_PATH: [u8; 13] = *b"/usr/lib/dyld";
-
-/// The version of a needed library that is written: 1356.0.0, as 16, 8 and 8 bits.
-pub(crate) const LIBRARY_VERSION: u32 = 0x054c_0000;
-/// The oldest version of a needed library that is written: 1.0.0.
-pub(crate) const LIBRARY_COMPATIBILITY: u32 = 0x0001_0000;
 
 /// A range of the file, in `__LINKEDIT`.
 #[derive(Clone, Copy)]
@@ -149,15 +144,7 @@ impl Command<'_> {
             }
             Command::Dylinker => write_dylinker(out, at),
             Command::IdDylib { name } => write_dylib(LC_ID_DYLIB, 1, 0, 0, name, out, at),
-            Command::LoadDylib { name } => write_dylib(
-                LC_LOAD_DYLIB,
-                2,
-                LIBRARY_VERSION,
-                LIBRARY_COMPATIBILITY,
-                name,
-                out,
-                at,
-            ),
+            Command::LoadDylib { name } => write_needed(name, out, at),
             Command::Rpath { path } => write_rpath(path, out, at),
             Command::ChainedFixups(table) => {
                 write_linkedit(LC_DYLD_CHAINED_FIXUPS, *table, out, at)

@@ -8,7 +8,16 @@ ghost use Rattle.macho_commands.specs.Texts.{text_said};
 ghost use Rattle.macho_commands.specs.Reading.{IsReadable};
 
 use crate::command::DYLINKER_PATH;
-use macho_records::{DylibCommand, DylinkerCommand, LC_LOAD_DYLINKER, LC_RPATH, RpathCommand};
+use macho_records::{
+    DylibCommand, DylinkerCommand, LC_LOAD_DYLIB, LC_LOAD_DYLINKER, LC_RPATH, RpathCommand,
+};
+
+/// The version of a needed library that is written: 1356.0.0, as 16, 8 and 8 bits.
+const LIBRARY_VERSION: u32 = 0x054c_0000;
+/// The oldest version of a needed library that is written: 1.0.0.
+const LIBRARY_COMPATIBILITY: u32 = 0x0001_0000;
+/// The time stamp of a needed library that is written.
+const LIBRARY_TIME: u32 = 2;
 
 /// The bytes of a command with a path of so many bytes behind a record, which has so many in front of it.
 pub fn path_command_size(front: usize, path: usize) -> usize
@@ -75,6 +84,26 @@ pub(crate) fn write_dylib(
     };
     record.write(out, at);
     put_path(name, DylibCommand::SIZE, out, at);
+}
+
+/// Writes the command of a library that is needed, at a place.
+pub(crate) fn write_needed(name: &[u8], out: &mut [u8], at: usize)
+    requires fits { path_command_size 24 name.now < 2 ^ 32 }
+    requires room { at + path_command_size 24 name.now ≤ length out.old }
+    ensures written { out.new ≡ put at (text_said (dylib_for LC_LOAD_DYLIB 2 0x054c0000 0x00010000 name.now)) out.old }
+    ensures long { length (text_said (dylib_for LC_LOAD_DYLIB 2 0x054c0000 0x00010000 name.now))
+        ≡ path_command_size 24 name.now }
+    ensures readable { IsReadable (dylib_for LC_LOAD_DYLIB 2 0x054c0000 0x00010000 name.now) }
+{
+    write_dylib(
+        LC_LOAD_DYLIB,
+        LIBRARY_TIME,
+        LIBRARY_VERSION,
+        LIBRARY_COMPATIBILITY,
+        name,
+        out,
+        at,
+    );
 }
 
 /// Writes the command of a path to search `@rpath` in.

@@ -2,6 +2,7 @@ pub mod Puts
 pub mod Placing
 pub mod Saying
 pub mod Reaching
+pub mod RowTests
 pub mod Supporting
 pub mod Numbered
 pub mod Reading

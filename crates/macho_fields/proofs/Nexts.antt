@@ -38,7 +38,8 @@ use Rattle.macho_fields.specs.steps.Fields.{seen, kind_in, target_in, IsNear, Is
 use Rattle.macho_fields.specs.steps.Kinds.{KindFits, IsCallable, IsLoadable, direct, by_stub, by_slot}
 use Rattle.macho_fields.specs.steps.Sections.{IsFillable, IsFilledTo, IsNext}
 use Rattle.macho_fields.proofs.Placing.{defined_is}
-use Rattle.macho_fields.proofs.Supporting.{row_test, no_addend, supported_fits}
+use Rattle.macho_fields.proofs.RowTests.{row_test}
+use Rattle.macho_fields.proofs.Supporting.{no_addend, supported_fits}
 use Rattle.macho_fields.proofs.Reading.{target_read, read_is}
 use Rattle.macho_fields.proofs.One.{one_stands}
 use Rattle.macho_fields.proofs.Steps.{filled_none, filled_prefix, filled_field}

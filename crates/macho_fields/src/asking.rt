@@ -12,11 +12,11 @@ use crate::values::address_of;
 use macho_fixups::FixupKind;
 use macho_model::Target;
 
-/// The bytes of a page that a chain goes through.
-const CHAIN_PAGE: u64 = 0x4000;
+/// The bytes of a page of a segment.
+const SEGMENT_PAGE: u64 = 0x4000;
 
-/// The bytes of a word that the loader writes.
-const WORD_SIZE: u64 = 8;
+/// The bytes of a pointer, as of a word that the loader writes.
+const POINTER_SIZE: u64 = 8;
 
 /// The addends that a word has room for are below this.
 const ADDEND_ROOM: u64 = 256;
@@ -106,5 +106,5 @@ pub(crate) fn fixup_of<P: Places>(places: &P, target: Target, addend: u64) -> Op
 pub(crate) fn may_stand(address: u64) -> bool
     ensures { result ≡ may_stand address }
 {
-    address % CHAIN_PAGE + WORD_SIZE <= CHAIN_PAGE && address % 4 == 0
+    address % SEGMENT_PAGE + POINTER_SIZE <= SEGMENT_PAGE && address % 4 == 0
 }

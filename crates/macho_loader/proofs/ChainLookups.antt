@@ -19,7 +19,8 @@ use Rattle.macho_memory_walks.specs.steps.Walks.{Leads, starts_of, chain_segment
 use Rattle.macho_model_walks.specs.steps.WordTests.{address_in, FitFrom}
 use Rattle.macho_model.proofs.Apart.{EndsBefore}
 use Rattle.macho_memory_walks.proofs.ChainSets.{page_has_start}
-use Rattle.macho_memory_walks.proofs.WordWalk.{on_some_page, numbered_segment, nth_number, nth_one, segment_has_word, starts_missing}
+use Rattle.macho_memory_walks.proofs.NumberedWalk.{numbered_segment, nth_number, nth_one, segment_has_word}
+use Rattle.macho_memory_walks.proofs.WordWalk.{on_some_page, starts_missing}
 use Rattle.macho_memory_walks.proofs.WordWalk.{leads_no_lower, page_chain_found, page_chain_only}
 use Rattle.macho_model_walks.proofs.RuleWalk.{import_count_found}
 use Rattle.macho_loader.specs.steps.Words.{StandApart, IsFittingWord, IsReached}

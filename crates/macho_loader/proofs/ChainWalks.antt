@@ -28,7 +28,8 @@ use Rattle.macho_model_walks.specs.steps.WordTests.{address_in, FitFrom, UnfitFr
 use Rattle.macho_model.proofs.Apart.{EndsBefore, Holds_address, one_holds}
 use Rattle.macho_model.proofs.EachBelow.{and_left, and_right}
 use Rattle.macho_model.specs.Lists.{EachNext}
-use Rattle.macho_memory_walks.proofs.WordWalk.{word_in_segment, segment_has_word, nth_number, leads_more, starts_found, start_is}
+use Rattle.macho_memory_walks.proofs.NumberedWalk.{word_in_segment, segment_has_word, nth_number}
+use Rattle.macho_memory_walks.proofs.WordWalk.{leads_more, starts_found, start_is}
 use Rattle.macho_model_walks.proofs.RuleWalk.{import_count_found}
 use Rattle.macho_model_walks.proofs.UnfitWords.{kept_at}
 use Rattle.macho_loader.specs.steps.Words.{StandApart, IsFittingWord, IsReached}

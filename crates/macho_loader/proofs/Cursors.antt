@@ -8,7 +8,7 @@ use Rattle.macho_model.specs.Commands.{header_of}
 use Rattle.macho_memory_walks.specs.declared.walk.Listed.{Listed}
 use Rattle.macho_memory_walks.specs.Readings.{command_at, is_listed, listed, IsNth}
 use Rattle.macho_memory_walks.proofs.NthWalk.{Passed, none_passed, listed_passed, other_passed, nth_here, all_passed}
-use Rattle.macho_memory_walks.proofs.WordWalk.{few_listed_of}
+use Rattle.macho_memory_walks.proofs.NumberedWalk.{few_listed_of}
 use Rattle.macho_loader.specs.declared.cursor.Cursor.{Cursor}
 use Rattle.macho_loader.specs.steps.Cursors.{IsAt}
 

@@ -11,7 +11,7 @@ use Rattle.macho_memory_walks.specs.declared.walk.Listed.TheVariants as list
 use Rattle.macho_memory_walks.specs.Readings.{command_at, IsNth}
 use Rattle.macho_model_walks.specs.steps.Asked.{NeighbourPasses}
 use Rattle.macho_model.proofs.EachBelow.{and_left, and_right}
-use Rattle.macho_memory_walks.proofs.WordWalk.{nth_one}
+use Rattle.macho_memory_walks.proofs.NumberedWalk.{nth_one}
 
 -- one number more
 pub more_below : {P : ℕ → Type 0} (i n : ℕ) → n ≡ i + 1 → ((k : ℕ) → k < i → P k) → P i → (k : ℕ) → k < n → P k

@@ -19,7 +19,7 @@ use Rattle.macho_model.specs.Loader.{IsAccepted}
 use Rattle.macho_memory_walks.specs.declared.walk.Listed.TheVariants as list
 use Rattle.macho_memory_walks.specs.Readings.{command_at, is_listed, listed, IsNth, segment_there}
 use Rattle.macho_model.proofs.EachBelow.{and_left, and_right}
-use Rattle.macho_memory_walks.proofs.WordWalk.{nth_number}
+use Rattle.macho_memory_walks.proofs.NumberedWalk.{nth_number}
 use Rattle.macho_memory_walks.proofs.ListedLaws.{count_of_segments}
 
 -- the segment's record stands inside the file

@@ -25,7 +25,8 @@ use Rattle.macho_memory_walks.specs.Loaded.{Gives}
 use Rattle.macho_model.proofs.EachBelow.{true_or_false}
 use Rattle.macho_memory_walks.proofs.ListedLaws.{mapped_are, tables_are, nth_image}
 use Rattle.macho_memory_walks.proofs.ListedLaws.{table_contains}
-use Rattle.macho_memory_walks.proofs.WordWalk.{nth_exists, nth_one, few_listed_of, segment_has_word, word_in_segment, some_is}
+use Rattle.macho_memory_walks.proofs.NumberedWalk.{nth_exists, nth_one, few_listed_of, segment_has_word, word_in_segment}
+use Rattle.macho_memory_walks.proofs.WordWalk.{some_is}
 
 -- a mapped segment by its command, and back
 pub byte_found : (b : List ℕ) (number place a v : ℕ) → IsNth list.Mapped b number place

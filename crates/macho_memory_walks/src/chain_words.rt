@@ -17,8 +17,8 @@ use crate::walk::{Listed, count_of, nth};
 
 /// A page without a chain: `DYLD_CHAINED_PTR_START_NONE` of mach-o/fixup-chains.h.
 pub const NO_START: u16 = 0xffff;
-/// The bytes of a page of a chain.
-pub const CHAIN_PAGE: u128 = 0x4000;
+/// The bytes of a page of a segment.
+pub const SEGMENT_PAGE: u128 = 0x4000;
 
 /// The word that a segment has at an address, if it stands whole in its file part.
 pub fn word_of(bytes: &[u8], place: u64, address: u128) -> Option<u64>
@@ -136,7 +136,7 @@ fn is_on_page(bytes: &[u8], number: u32, place: u64, page: u16, address: u64) ->
         return false;
     }
     let first = segment_at(bytes, place).address as u128
-        + CHAIN_PAGE * page as u128
+        + SEGMENT_PAGE * page as u128
         + start as u128;
     reaches(bytes, first, address as u128)
 }

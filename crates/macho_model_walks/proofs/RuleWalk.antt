@@ -25,7 +25,7 @@ use Rattle.macho_model_walks.specs.steps.WordTests.{import_exists, NthImportExis
 use Rattle.macho_model.specs.Images.{table_of_command, tables_of, fixups_header}
 use Rattle.macho_model.specs.Chain.{chain_segments}
 use Rattle.macho_memory_walks.proofs.ListedLaws.{texts_listed, tables_are, nth_image, table_contains}
-use Rattle.macho_memory_walks.proofs.WordWalk.{few_listed_of, nth_exists, nth_one, chain_at, count_of_chain}
+use Rattle.macho_memory_walks.proofs.NumberedWalk.{few_listed_of, nth_exists, nth_one, chain_at, count_of_chain}
 use Rattle.macho_model.proofs.EachBelow.{pass_all}
 use Rattle.macho_model.specs.Lists.{EachNext}
 

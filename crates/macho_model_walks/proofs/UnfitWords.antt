@@ -23,8 +23,9 @@ use Rattle.macho_model_walks.specs.steps.WordTests.{word_fits_test, address_in, 
 use Rattle.macho_model_walks.specs.steps.WordTests.{EachWordFits}
 use Rattle.macho_model.proofs.EachBelow.{true_or_false, and_left}
 use Rattle.macho_model_walks.proofs.WordFitting.{word_fits, fits_word}
-use Rattle.macho_memory_walks.proofs.WordWalk.{step_leads, step_of_word, page_chain_found, page_chain_none, from_start, nth_number}
-use Rattle.macho_memory_walks.proofs.WordWalk.{number_place, few_listed_of, nth_one}
+use Rattle.macho_memory_walks.proofs.NumberedWalk.{nth_number}
+use Rattle.macho_memory_walks.proofs.WordWalk.{step_leads, step_of_word, page_chain_found, page_chain_none, from_start}
+use Rattle.macho_memory_walks.proofs.NumberedWalk.{number_place, few_listed_of, nth_one}
 
 -- a word that passes ends in its page
 pub in_page : (b : List ℕ) (place page offset : ℕ) → word_fits_test b (segment_there b place) page (address_in b place offset) ≡ true

@@ -12,14 +12,13 @@ pub use accept::{LoadFault, first_broken_rule};
 pub use loader_rules::{Asked, other_text, second_table};
 pub use macho_memory_walks::{
     FixupTable, Listed, SegmentNumbers, addend_in, addend_of, base_address, binds, count_of,
-    count_of_pages, count_of_starts, is_listed, is_on_chain, library_of, memory_byte,
-    name_offset_of, nth, offset_of_starts, ordinal, pages_in, place_of_import, place_of_segment,
-    range_from, segment_at, segment_byte, start_of_page, steps_of, table_at, u16_from, u32_from,
-    u64_from, word_of,
+    count_of_starts, is_listed, is_on_chain, library_of, memory_byte, name_offset_of, nth, ordinal,
+    pages_in, place_of_import, range_from, segment_at, segment_byte, start_of_page, steps_of,
+    table_at, u32_from, word_of,
 };
 pub use segment_rules::{
     commands_end_inside, ends_below, file_bytes_are_inside, follows, head_fits, holds_commands,
     is_paged, is_whole, protections_are_right,
 };
-pub use table_rules::{header_is_known, parts_are_inside};
+pub use table_rules::{header_is_known, parts_are_inside, starts_are_right};
 pub use word_rules::page_has;

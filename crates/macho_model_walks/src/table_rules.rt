@@ -2,7 +2,7 @@
 //! import entries.
 ghost use Rattle.std.specs.Prelude.{◌≡◌, nat_le, length, drop};
 ghost use Rattle.macho_model.specs.ObjectRules.{has_nul};
-ghost use Rattle.macho_model.specs.Images.{table_names, libraries_of, segments_of};
+ghost use Rattle.macho_model.specs.Images.{base_of, table_names, libraries_of, segments_of};
 ghost use Rattle.macho_model.specs.LoadRules.{segment_address, starts_known, starts_fit, starts_all_fit, header_known, parts_inside, table_fits, import_fits};
 ghost use Rattle.macho_memory_walks.specs.Readings.{listed, table_there};
 
@@ -13,8 +13,8 @@ use macho_memory_walks::{
 };
 use macho_records::name_bytes;
 
-/// The bytes of a page of a chain.
-const CHAIN_PAGE: u16 = 0x4000;
+/// The bytes of a page of a segment.
+const SEGMENT_PAGE: u16 = 0x4000;
 /// `DYLD_CHAINED_PTR_64_OFFSET` of mach-o/fixup-chains.h.
 const POINTER_FORMAT: u16 = 6;
 
@@ -28,20 +28,23 @@ pub(crate) fn address_of(bytes: &[u8], number: u32) -> u64
     }
 }
 
-/// Whether a segment's starts have the known page size and format, and the segment's address.
+/// Whether the starts of the segment at an address have the known page size and format, and this address.
 #[tactic(auto, unfolding(macho_bytes::specs::Layouts::reading))]
-fn starts_are_known(bytes: &[u8], place: u64, number: u32) -> bool
+fn starts_are_known(bytes: &[u8], place: u64, number: u32, base: u64, address: u64) -> bool
+    requires from { base ≡ base_of bytes.now }
+    requires of { address ≡ segment_address bytes.now number }
     ensures { result ≡ starts_known bytes.now (table_there bytes.now place) number }
 {
     let starts = place_of_segment(bytes, place, number);
-    let address = u64_from(bytes, starts, 8).wrapping_add(base_address(bytes));
-    u16_from(bytes, starts, 4) == CHAIN_PAGE
+    u16_from(bytes, starts, 4) == SEGMENT_PAGE
         && u16_from(bytes, starts, 6) == POINTER_FORMAT
-        && address == address_of(bytes, number)
+        && u64_from(bytes, starts, 8).wrapping_add(base) == address
 }
 
-/// Whether a segment's starts stand inside the table, and are known ones; or it has none.
-fn starts_are_right(bytes: &[u8], place: u64, number: u32) -> bool
+/// Whether the starts of the segment at an address are known ones, and stand inside the table; or it has none.
+pub fn starts_are_right(bytes: &[u8], place: u64, number: u32, base: u64, address: u64) -> bool
+    requires from { base ≡ base_of bytes.now }
+    requires of { address ≡ segment_address bytes.now number }
     ensures { result ≡ starts_fit bytes.now (table_there bytes.now place) number }
 {
     let table = table_at(bytes, place);
@@ -50,15 +53,17 @@ fn starts_are_right(bytes: &[u8], place: u64, number: u32) -> bool
     offset == 0
         || (end <= table.size
             && end + 2 * count_of_pages(bytes, place, number) as u64 <= table.size
-            && starts_are_known(bytes, place, number))
+            && starts_are_known(bytes, place, number, base, address))
 }
 
 /// Whether the starts of each segment are right.
 fn all_starts_are_right(bytes: &[u8], place: u64) -> bool
     ensures { result ≡ starts_all_fit bytes.now (table_there bytes.now place) }
 {
+    let base = base_address(bytes);
     for number in 0..count_of_starts(bytes, place) {
-        if !starts_are_right(bytes, place, number) {
+        let address = address_of(bytes, number);
+        if !starts_are_right(bytes, place, number, base, address) {
             return false;
         }
     }

@@ -15,7 +15,7 @@ ghost use Rattle.macho_model_walks.specs.steps.WordTests.{import_exists, word_fi
 ghost use Rattle.macho_memory_walks.specs.declared.walk.Listed.TheVariants as list;
 
 use macho_memory_walks::{
-    CHAIN_PAGE, Listed, NO_START, binds, count_of, nth, ordinal, pages_of, segment_at, start_of,
+    Listed, NO_START, SEGMENT_PAGE, binds, count_of, nth, ordinal, pages_of, segment_at, start_of,
     step_in, table_at, word_of,
 };
 
@@ -25,12 +25,12 @@ pub fn page_has(bytes: &[u8], place: u64, page: u16, address: u128) -> bool
 {
     let segment = segment_at(bytes, place);
     let start = segment.address as u128;
-    let page_start = start + CHAIN_PAGE * page as u128;
+    let page_start = start + SEGMENT_PAGE * page as u128;
     let is_writable = (segment.first >> 1) & 1 == 1;
     is_writable
         && page_start <= address
         && address <= u128::MAX - 8
-        && address + 8 <= page_start + CHAIN_PAGE
+        && address + 8 <= page_start + SEGMENT_PAGE
         && address + 8 <= start + segment.file_size as u128
 }
 

@@ -2,7 +2,8 @@
 //!
 //! A signature is a superblob of 20 bytes, then the code directory, the identifier and the digests
 //! (`cs_blobs.h`, xnu). Its numbers are big-endian.
-ghost use Rattle.std.specs.Prelude.{◌≡◌, ◌+◌, ◌≤◌, length};
+ghost use Rattle.std.specs.Prelude.{◌≡◌, ◌+◌, ◌≤◌, length, [], ◌∷◌};
+ghost use Rattle.macho_bytes.specs.Numbers.{big, row_bytes, AllBelow};
 ghost use Rattle.macho_bytes.specs.Texts.{put};
 ghost use Rattle.macho_bytes.specs.Layouts.{read_of, size_of, spelling, ReadsBack};
 ghost use Rattle.macho_structs.specs.Layouts.{code_directory};
@@ -126,10 +127,26 @@ impl CodeDirectory {
             at + 40,
             &[r.spare, r.scatter_offset, r.team_offset, r.spare2],
         );
+        self.write_wide(out, at + 56);
+    }
+
+    // Writes the fields of 64 bits, which later versions of the format added, at a place.
+    fn write_wide(&self, out: &mut [u8], at: usize)
+        requires { at + 32 ≤ length out.old }
+        ensures written { let r = self.now in
+            out.new ≡ put at (row_bytes big 8 (r.code_limit64 ∷ r.exec_base ∷ r.exec_limit ∷ r.exec_flags ∷ [])) out.old }
+        ensures fits { let r = self.now in
+            AllBelow 8 (r.code_limit64 ∷ r.exec_base ∷ r.exec_limit ∷ r.exec_flags ∷ []) }
+    {
         put_bigs(
             out,
-            at + 56,
-            &[r.code_limit64, r.exec_base, r.exec_limit, r.exec_flags],
+            at,
+            &[
+                self.code_limit64,
+                self.exec_base,
+                self.exec_limit,
+                self.exec_flags,
+            ],
         );
     }
 }

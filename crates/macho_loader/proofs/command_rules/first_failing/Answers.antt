@@ -2,7 +2,7 @@
 use Rattle.std.proofs.Common.{◌≡◌, ◌≤◌, true, length, refl, sym, subst, ◌∙◌, arith}
 use Rattle.macho_memory_walks.specs.Readings.{command_at, listed}
 use Rattle.macho_model_walks.specs.Tests.{list_of, test_of}
-use Rattle.macho_memory_walks.proofs.WordWalk.{nth_one}
+use Rattle.macho_memory_walks.proofs.NumberedWalk.{nth_one}
 use Rattle.macho_model_walks.proofs.RuleWalk.{each_by_number}
 use Rattle.macho_loader.specs.steps.Cursors.{IsStep}
 use Rattle.macho_loader.proofs.ListWalks.{more_below}

@@ -2,7 +2,7 @@
 use Rattle.std.proofs.Common.{refl, subst, arith}
 use Rattle.macho_memory_walks.specs.declared.walk.Listed.TheVariants as list
 use Rattle.macho_memory_walks.specs.Readings.{HasWord, segment_there}
-use Rattle.macho_memory_walks.proofs.WordWalk.{nth_one}
+use Rattle.macho_memory_walks.proofs.NumberedWalk.{nth_one}
 use Rattle.macho_loader.proofs.ListWalks.{more_below}
 use Rattle.macho_loader.proofs.fixups.word_held.Goals as goal
 

@@ -3,7 +3,7 @@ use Rattle.std.proofs.Common.{refl, subst}
 use Rattle.macho_memory_walks.specs.declared.walk.Listed.TheVariants as list
 use Rattle.macho_model.specs.Chain.{OnPageChain, chain_segments}
 use Rattle.macho_memory_walks.specs.steps.Walks.{chain_segment_at}
-use Rattle.macho_memory_walks.proofs.WordWalk.{nth_one}
+use Rattle.macho_memory_walks.proofs.NumberedWalk.{nth_one}
 use Rattle.macho_memory_walks.proofs.chain_words.is_on_nth.Goals as goal
 
 pub returns-in-Some-clause-only : goal.returns-in-Some-clause-only

@@ -3,7 +3,7 @@ use Rattle.std.proofs.Common.{refl, subst}
 use Rattle.macho_memory_walks.specs.declared.walk.Listed.TheVariants as list
 use Rattle.macho_memory_walks.specs.Readings.{table_there}
 use Rattle.macho_memory_walks.specs.steps.Made.{BoundIn}
-use Rattle.macho_memory_walks.proofs.WordWalk.{nth_one}
+use Rattle.macho_memory_walks.proofs.NumberedWalk.{nth_one}
 use Rattle.macho_memory_walks.proofs.fixed.bound_by_nth.Goals as goal
 
 pub returns-in-Some-clause-found : goal.returns-in-Some-clause-found

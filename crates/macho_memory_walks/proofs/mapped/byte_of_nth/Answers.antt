@@ -4,7 +4,7 @@ use Rattle.macho_memory_walks.specs.declared.walk.Listed.TheVariants as list
 use Rattle.macho_model.specs.LoadRules.{segment_in}
 use Rattle.macho_memory_walks.specs.Readings.{command_at}
 use Rattle.macho_memory_walks.specs.steps.Walks.{SegmentHas}
-use Rattle.macho_memory_walks.proofs.WordWalk.{nth_one}
+use Rattle.macho_memory_walks.proofs.NumberedWalk.{nth_one}
 use Rattle.macho_memory_walks.proofs.LoadedMemory.{byte_found}
 use Rattle.macho_memory_walks.proofs.mapped.byte_of_nth.Goals as goal
 

@@ -7,7 +7,8 @@ use Rattle.macho_model.specs.LoadRules.{begins_behind}
 use Rattle.macho_model.specs.Commands.{numbered}
 use Rattle.macho_memory_walks.specs.Readings.{command_at}
 use Rattle.macho_model_walks.proofs.RuleWalk.{neighbour_fails}
-use Rattle.macho_memory_walks.proofs.WordWalk.{nth_one, some_is}
+use Rattle.macho_memory_walks.proofs.NumberedWalk.{nth_one}
+use Rattle.macho_memory_walks.proofs.WordWalk.{some_is}
 use Rattle.macho_model_walks.proofs.loader_rules.overlapping.Goals as goal
 
 pub returns-then-follows-clause-only : goal.returns-then-follows-clause-only

@@ -4,7 +4,7 @@ use Rattle.macho_memory_walks.specs.declared.walk.Listed.TheVariants as list
 use Rattle.macho_memory_walks.specs.steps.Walks.{chain_segment_at}
 use Rattle.macho_model_walks.specs.steps.WordTests.{import_exists}
 use Rattle.macho_model_walks.proofs.RuleWalk.{import_lacks}
-use Rattle.macho_memory_walks.proofs.WordWalk.{nth_one}
+use Rattle.macho_memory_walks.proofs.NumberedWalk.{nth_one}
 use Rattle.macho_model_walks.proofs.word_rules.nth_import_is_there.Goals as goal
 
 pub returns-in-Some-clause-found : goal.returns-in-Some-clause-found
