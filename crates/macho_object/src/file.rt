@@ -53,7 +53,6 @@ impl<'data> File<'data> {
 
     /// Views bytes that are known to keep every rule, as those that a view was made of before. It looks at the commands
     /// alone.
-    #[tactic(auto, using(crate::proofs::Wholes::is_whole, crate::proofs::Refusals::no_file))]
     pub fn of_valid(input: &'data [u8], is_dynamic: bool) -> File<'data>
         requires { IsFile is_dynamic input.now }
         ensures { result ≡ record { bytes = input.now; is_dynamic = is_dynamic } }

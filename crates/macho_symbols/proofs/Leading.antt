@@ -1,10 +1,11 @@
 -- Where names and symbols lead, by what the table knows: the entry of a name leads to its best row, and what has no entry
 -- is of no event.
-use Rattle.std.proofs.Common.{◌≡◌, ℕ, ◌+◌, ◌<◌, inl, inr, true, false, Some, None, List, [], ◌∷◌, length, map, get_or, refl, ap, subst, sym, ◌∙◌, arith}
+use Rattle.std.proofs.Common.{◌≡◌, ℕ, ◌+◌, ◌<◌, ◌==◌, ◌&&◌, if◌then◌else◌, inl, inr, Bool, true, false, Some, None, List, [], ◌∷◌, length, map, get_or, refl, ap, subst, sym, ◌∙◌, arith}
 use Rattle.std.specs.List.{position_or_len}
 use Rattle.std.proofs.lemmas.List.{get_or-map, length-map, get_or_default}
 use Rattle.std.proofs.lemmas.List.Sums.{position_or_len_is}
-use Rattle.macho_model.specs.Resolution.{SymbolId, same_symbol}
+use Rattle.std.specs.Str.{bytes_eq}
+use Rattle.macho_model.specs.Resolution.{SymbolId, ImageBase, DSO_HANDLE, is_symbol, same_symbol}
 use Rattle.macho_symbols.specs.declared.solved.Common.{Common}
 use Rattle.macho_symbols.specs.declared.solved.Solved.{Solved}
 use Rattle.macho_names.specs.declared.notes.Sort.{Sort}
@@ -12,8 +13,8 @@ use Rattle.macho_names.specs.declared.notes.Sort.TheVariants.{Section, Absolute,
 use Rattle.macho_names.specs.declared.table.Entry.{Entry}
 use Rattle.macho_names.specs.Kept.{FileRows}
 use Rattle.macho_names.specs.steps.Events.{Event, row_at, event_at, events, best_of}
-use Rattle.macho_names.specs.steps.Tables.{IsEntryOf, IsNowhere, names_of, entry_name, no_entry}
-use Rattle.macho_symbols.specs.steps.Targets.{named_in, led_in, lead_in, own_in, chosen_in, id_of}
+use Rattle.macho_names.specs.steps.Tables.{IsEntryOf, IsKnown, IsNowhere, IsThere, names_of, entry_name, no_entry}
+use Rattle.macho_symbols.specs.steps.Targets.{named_in, led_in, lead_in, own_in, chosen_in, id_of, defines_in, defined_as, definition_by, is_of_object}
 use Rattle.macho_symbols.specs.steps.Solved.{IsSolved, common_id, common_told, noted_of}
 use Rattle.macho_names.proofs.Chains.{name_of_entry}
 use Rattle.macho_names.proofs.ChainsMore.{below_more}
@@ -56,15 +57,50 @@ common_ids s is = ap (map common_id) is.commons ∙ told (chosen_in s.files.item
     told (e ∷ es) = ap (λ xs. id_of e ∷ xs) (told es)
 
 -- the best event of a name is the row of its entry
+pub best_of_entry : (files : List FileRows) (heads : List ℕ) (entries : List Entry) (name : List ℕ) (j : ℕ)
+    → IsKnown files heads entries (events files) → IsEntryOf files entries name j
+    → best_of name (events files) ≡ Some (event_at files (get_or entries j no_entry).file (get_or entries j no_entry).row)
+best_of_entry files heads entries name j known of_name =
+    let named : entry_name files (get_or entries j no_entry) ≡ name =
+    sym (name_of_entry files entries j no_entry of_name.0) ∙ of_name.1 in
+    subst (λ n. best_of n (events files) ≡ Some (event_at files (get_or entries j no_entry).file (get_or entries j no_entry).row)) named
+    (known.knows.each j no_entry of_name.0)
+
 pub entry_best : (s : Solved) (name : List ℕ) (j : ℕ) → IsSolved s → IsEntryOf s.files.items s.table.entries.items name j
     → best_of name (events s.files.items) ≡ Some
     (event_at s.files.items (get_or s.table.entries.items j no_entry).file (get_or s.table.entries.items j no_entry).row)
-entry_best s name j is of_name =
-    let named : entry_name s.files.items (get_or s.table.entries.items j no_entry) ≡ name =
-    sym (name_of_entry s.files.items s.table.entries.items j no_entry of_name.0) ∙ of_name.1 in
-    subst (λ n. best_of n (events s.files.items) ≡ Some
-    (event_at s.files.items (get_or s.table.entries.items j no_entry).file (get_or s.table.entries.items j no_entry).row)) named
-    (is.known.knows.each j no_entry of_name.0)
+entry_best s name j is of_name = best_of_entry s.files.items s.table.heads.items s.table.entries.items name j is.known of_name
+
+-- a symbol defines its name if it stands where the entry of the name leads, which is a row of an object
+pub defined_by_best : (files : List FileRows) (e b : Event) → best_of e.row.name (events files) ≡ Some b
+    → defines_in files e ≡ (e.row.global && (is_of_object b.row.sort && same_symbol (id_of e) (id_of b)))
+defined_by_best files e b best = ap (λ o. e.row.global && is_symbol (id_of e) (definition_by e.row.name o)) best
+    ∙ ap (λ d. e.row.global && d) (by_sort b.row.sort)
+  where
+    by_base : (at : Bool) → is_symbol (id_of e) (if at then Some ImageBase else None) ≡ false
+    by_base true = refl
+    by_base false = refl
+
+    by_sort : (sort : Sort) → is_symbol (id_of e) (defined_as e.row.name sort b) ≡ (is_of_object sort && same_symbol (id_of e) (id_of b))
+    by_sort Section = refl
+    by_sort Absolute = refl
+    by_sort CommonSort = refl
+    by_sort Offered = refl
+    by_sort Nowhere = by_base (bytes_eq e.row.name DSO_HANDLE)
+
+pub defined_by_entry : (files : List FileRows) (heads : List ℕ) (entries : List Entry) (file row j : ℕ) (b : Entry)
+    → IsKnown files heads entries (events files) → IsEntryOf files entries (row_at files file row).name j → b ≡ get_or entries j no_entry
+    → defines_in files (event_at files file row)
+    ≡ ((row_at files file row).global && (is_of_object (row_at files b.file b.row).sort && ((file == b.file) && (row == b.row))))
+defined_by_entry files heads entries file row j b known of_name is =
+    defined_by_best files (event_at files file row) (event_at files b.file b.row)
+    (best_of_entry files heads entries (row_at files file row).name j known of_name
+    ∙ ap (λ x. Some (event_at files x.file x.row)) (sym is))
+
+-- the row of an entry is there
+pub entry_is_there : (files : List FileRows) (heads : List ℕ) (entries : List Entry) (name : List ℕ) (j : ℕ) (b : Entry)
+    → IsKnown files heads entries (events files) → IsEntryOf files entries name j → b ≡ get_or entries j no_entry → IsThere files b
+entry_is_there files heads entries name j b known of_name is = subst (IsThere files) (sym is) (known.table.there j no_entry of_name.0)
 
 -- so the name leads where that row does
 pub leads : (s : Solved) (name : List ℕ) (j : ℕ) (e : Entry) (sort : Sort) → IsSolved s
