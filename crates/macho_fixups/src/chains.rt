@@ -13,7 +13,7 @@ ghost use Rattle.macho_fixups.specs.Runs.{AreFixups, AreSegments, Holds};
 ghost use Rattle.macho_fixups.specs.Chains.{place_of, step_of, step_between, AreWritten, HaveWords, IsFirstRefused, HaveRoom, ChainIsRun};
 ghost use Rattle.macho_fixups.specs.steps.Chains.{IsSegmentOf, ArePassed};
 
-use crate::run::{CHAIN_PAGE, Fixup, FixupSegment};
+use crate::run::{Fixup, FixupSegment, SEGMENT_PAGE};
 use crate::words::{FixupKind, NotEncodable, bind_word, rebase_word};
 use macho_numbers::put_little;
 
@@ -99,7 +99,7 @@ fn step_between(a: u64, b: u64) -> u64
     ensures is { result ≡ step_between a b }
     ensures small { result < STEPS }
 {
-    if a / CHAIN_PAGE != b / CHAIN_PAGE || b < a {
+    if a / SEGMENT_PAGE != b / SEGMENT_PAGE || b < a {
         return 0;
     }
     (b - a) / STRIDE

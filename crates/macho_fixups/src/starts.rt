@@ -7,7 +7,7 @@ ghost use Rattle.macho_fixups.specs.Runs.{AreSorted, AreSegments, pages_of, star
 ghost use Rattle.macho_fixups.specs.steps.Cuts.{IsCut, AreBelow, IsRunOf};
 ghost use Rattle.macho_fixups.specs.Tables.{page_starts_text, starts_size, starts_text};
 
-use crate::run::{CHAIN_PAGE, Fixup, FixupSegment, SegmentRun, has_next, skip_below};
+use crate::run::{Fixup, FixupSegment, SEGMENT_PAGE, SegmentRun, has_next, skip_below};
 use macho_numbers::put_little;
 use macho_structs::ChainedStartsInSegment;
 
@@ -63,7 +63,7 @@ pub(crate) fn write_starts(
     let run = write_page_starts(out, behind, segment, fixups, begin);
     let record = ChainedStartsInSegment {
         size: (22 + 2 * run.pages) as u32,
-        page_size: CHAIN_PAGE as u16,
+        page_size: SEGMENT_PAGE as u16,
         pointer_format: POINTER_FORMAT,
         segment_offset: segment.address - base,
         max_valid_pointer: 0,
@@ -95,11 +95,11 @@ fn write_page_starts(
     let mut place = at;
     let mut pages = 0;
     'pages: while has_next(fixups, next, segment) {
-        let number = segment.address / CHAIN_PAGE + pages;
+        let number = segment.address / SEGMENT_PAGE + pages;
         put_little(out, place, start_from(fixups, next, number));
-        let page = number * CHAIN_PAGE;
+        let page = number * SEGMENT_PAGE;
         let left = segment.file_size - (page - segment.address);
-        next = skip_below(fixups, next, page, left.min(CHAIN_PAGE));
+        next = skip_below(fixups, next, page, left.min(SEGMENT_PAGE));
         place += 2;
         pages += 1;
     }
@@ -116,8 +116,8 @@ fn start_from(fixups: &[Fixup], next: usize, number: u64) -> u16
         return NO_START;
     }
     let address = fixups[next].address;
-    if address / CHAIN_PAGE != number {
+    if address / SEGMENT_PAGE != number {
         return NO_START;
     }
-    (address % CHAIN_PAGE) as u16
+    (address % SEGMENT_PAGE) as u16
 }
