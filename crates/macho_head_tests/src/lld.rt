@@ -4,7 +4,8 @@
 //! That linker gives `__LINKEDIT` as many bytes in memory as in the file, so its segment is not made of whole pages; and its
 //! pointers are of format 2, whose targets are addresses, where the loader here knows format 6, whose targets are offsets from
 //! the base. With both mended the image is accepted.
-use macho_loader::{LoadFault, LoadRule, Loaded, LoadedFixup};
+use crate::views::{fixup_at, is_refused, leads_to, leads_to_exit, num_segments};
+use macho_loader::LoadRule;
 
 /// The header and the load commands.
 const HEAD: [u8; 912] =
@@ -61,59 +62,28 @@ fn paged() -> [u8; SIZE] {
 
 #[test]
 fn it_is_refused_for_linkedit_first(rt: HostRuntime) {
-    assert_eq!(rt;
-        Loaded::accept(&image()).err(),
-        Some(LoadFault {
-            rule: LoadRule::L5,
-            place: 488,
-        })
-    );
+    assert!(rt; is_refused(&image(), LoadRule::L5, 488));
 }
 
 #[test]
 fn then_for_its_pointer_format(rt: HostRuntime) {
-    assert_eq!(rt;
-        Loaded::accept(&paged()).err(),
-        Some(LoadFault {
-            rule: LoadRule::L8,
-            place: 560,
-        })
-    );
+    assert!(rt; is_refused(&paged(), LoadRule::L8, 560));
+}
+
+/// With the format of its pointers, and the pointer's target as an offset from the base.
+fn mended() -> [u8; SIZE] {
+    let mut image = paged();
+    image[0x803e] = 6;
+    image[0x400c] = 0;
+    image
 }
 
 #[test]
 fn with_both_mended_it_is_accepted(rt: HostRuntime) {
-    let mut image = paged();
-    image[0x803e] = 6;
-    // the pointer's target, as an offset from the base
-    image[0x400c] = 0;
-    match Loaded::accept(&image) {
-        Ok(loaded) => {
-            assert_eq!(rt; loaded.num_segments(), 4);
-            assert_eq!(rt;
-                loaded.fixup_at(0x1_0000_4008),
-                Some(LoadedFixup::Rebase {
-                    value: 0x1_0000_4000
-                })
-            );
-            assert_eq!(rt;
-                loaded.fixup_at(0x1_0000_4010),
-                Some(LoadedFixup::Bind {
-                    library: 1,
-                    name: b"_exit",
-                    addend: 0
-                })
-            );
-            assert_eq!(rt;
-                loaded.fixup_at(0x1_0000_4018),
-                Some(LoadedFixup::Bind {
-                    library: 1,
-                    name: b"_exit",
-                    addend: 300
-                })
-            );
-            assert_eq!(rt; loaded.fixup_at(0x1_0000_4000), None);
-        }
-        Err(_) => assert!(rt; false),
-    }
+    let image = mended();
+    assert!(rt; num_segments(&image) == Some(4));
+    assert!(rt; leads_to(&image, 0x1_0000_4008, 0x1_0000_4000));
+    assert!(rt; leads_to_exit(&image, 0x1_0000_4010, 0));
+    assert!(rt; leads_to_exit(&image, 0x1_0000_4018, 300));
+    assert!(rt; fixup_at(&image, 0x1_0000_4000).is_none());
 }

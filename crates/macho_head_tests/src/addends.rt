@@ -1,5 +1,6 @@
 //! Two pointers to `_exit` of the one library: one with the addend -8 in its import's entry, one with 5 in its word.
-use macho_loader::{LoadFault, LoadRule, Loaded, LoadedFixup};
+use crate::views::{is_refused, leads_to_exit};
+use macho_loader::LoadRule;
 
 /// The header and the load commands: four segments, the library and the fixup table.
 const HEAD: [u8; 392] =
@@ -33,55 +34,29 @@ fn image() -> [u8; SIZE] {
     image
 }
 
-/// A pointer to `_exit` plus an addend.
-fn exit(addend: i64) -> Option<LoadedFixup<'static>> {
-    Some(LoadedFixup::Bind {
-        library: 1,
-        name: b"_exit",
-        addend,
-    })
+/// The image with one byte changed.
+fn changed(at: usize, byte: u8) -> [u8; SIZE] {
+    let mut image = image();
+    if let Some(old) = image.get_mut(at) {
+        *old = byte;
+    }
+    image
 }
 
 #[test]
 fn both_addends_are_summed_with_their_sign(rt: HostRuntime) {
-    let mut image = image();
-    match Loaded::accept(&image) {
-        Ok(loaded) => {
-            assert_eq!(rt; loaded.fixup_at(0x1_0000_4000), exit(-8));
-            assert_eq!(rt; loaded.fixup_at(0x1_0000_4008), exit(5));
-        }
-        Err(_) => assert!(rt; false),
-    }
+    assert!(rt; leads_to_exit(&image(), 0x1_0000_4000, -8));
+    assert!(rt; leads_to_exit(&image(), 0x1_0000_4008, 5));
     // an addend in the first word too
-    image[0x4003] = 3;
-    match Loaded::accept(&image) {
-        Ok(loaded) => assert_eq!(rt; loaded.fixup_at(0x1_0000_4000), exit(-5)),
-        Err(_) => assert!(rt; false),
-    }
+    assert!(rt; leads_to_exit(&changed(0x4003, 3), 0x1_0000_4000, -5));
 }
 
 #[test]
 fn an_import_behind_the_last_is_refused(rt: HostRuntime) {
-    let mut image = image();
-    image[0x4000] = 2;
-    assert_eq!(rt;
-        Loaded::accept(&image).err(),
-        Some(LoadFault {
-            rule: LoadRule::L10,
-            place: 0x4000,
-        })
-    );
+    assert!(rt; is_refused(&changed(0x4000, 2), LoadRule::L10, 0x4000));
 }
 
 #[test]
 fn a_second_library_of_one_is_refused(rt: HostRuntime) {
-    let mut image = image();
-    image[0x8050] = 2;
-    assert_eq!(rt;
-        Loaded::accept(&image).err(),
-        Some(LoadFault {
-            rule: LoadRule::L9,
-            place: 0x8050,
-        })
-    );
+    assert!(rt; is_refused(&changed(0x8050, 2), LoadRule::L9, 0x8050));
 }

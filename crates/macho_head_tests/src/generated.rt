@@ -1,5 +1,6 @@
 //! An executable with one pointer to its function, whose fixup table has no imports.
-use macho_loader::{LoadFault, LoadRule, Loaded, LoadedFixup};
+use crate::views::{is_refused, leads_to};
+use macho_loader::LoadRule;
 
 /// The header and the load commands: four segments and the fixup table.
 const HEAD: [u8; 336] =
@@ -27,27 +28,12 @@ fn image() -> [u8; 33_011] {
 
 #[test]
 fn its_pointer_is_found(rt: HostRuntime) {
-    let image = image();
-    match Loaded::accept(&image) {
-        Ok(loaded) => assert_eq!(rt;
-            loaded.fixup_at(0x1_0000_4000),
-            Some(LoadedFixup::Rebase {
-                value: 0x1_0000_0240
-            })
-        ),
-        Err(_) => assert!(rt; false),
-    }
+    assert!(rt; leads_to(&image(), 0x1_0000_4000, 0x1_0000_0240));
 }
 
 #[test]
 fn import_format_3_is_refused(rt: HostRuntime) {
     let mut image = image();
     image[0x8014] = 3;
-    assert_eq!(rt;
-        Loaded::accept(&image).err(),
-        Some(LoadFault {
-            rule: LoadRule::L8,
-            place: 320,
-        })
-    );
+    assert!(rt; is_refused(&image, LoadRule::L8, 320));
 }

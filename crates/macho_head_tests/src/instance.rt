@@ -1,6 +1,7 @@
 //! An executable with a slot that leads to `_exit` of the one library, and a pointer to its function, as an independent
 //! script composed it from mach-o/loader.h and mach-o/fixup-chains.h.
-use macho_loader::{LoadFault, LoadRule, Loaded, LoadedFixup};
+use crate::views::{fixup_at, is_refused, leads_to, leads_to_exit, num_segments};
+use macho_loader::{LoadRule, Loaded};
 
 /// The header and the load commands.
 const HEAD: [u8; 920] =
@@ -59,79 +60,53 @@ fn without_last(image: &[u8]) -> &[u8] {
     &image[..image.len().saturating_sub(1)]
 }
 
-fn fixup(image: &[u8], address: u64) -> Option<LoadedFixup<'_>> {
+/// The base, the address of the second segment, and the file offset of the fifth, which is the last.
+fn places(image: &[u8]) -> [u64; 3] {
     match Loaded::accept(image) {
-        Ok(loaded) => loaded.fixup_at(address),
-        Err(_) => None,
+        Ok(loaded) => match (loaded.segment(1), loaded.segment(4), loaded.segment(5)) {
+            (Some(text), Some(last), None) => [loaded.base(), text.vmaddr, last.fileoff],
+            _ => [0; 3],
+        },
+        Err(_fault) => [0; 3],
     }
 }
 
 #[test]
 fn it_is_accepted_with_its_segments(rt: HostRuntime) {
     let image = image();
-    match Loaded::accept(&image) {
-        Ok(loaded) => {
-            assert_eq!(rt; loaded.base(), 0x1_0000_0000);
-            assert_eq!(rt; loaded.num_segments(), 5);
-            assert_eq!(rt; loaded.segment(1).map(|s| s.vmaddr), Some(0x1_0000_0000));
-            assert_eq!(rt; loaded.segment(4).map(|s| s.fileoff), Some(0xc000));
-            assert!(rt; loaded.segment(5).is_none());
-        }
-        Err(_) => assert!(rt; false),
-    }
+    assert!(rt; num_segments(&image) == Some(5));
+    assert!(rt; places(&image) == [0x1_0000_0000, 0x1_0000_0000, 0xc000]);
 }
 
 #[test]
 fn the_slot_leads_to_the_import_and_the_pointer_moves(rt: HostRuntime) {
     let image = image();
-    assert_eq!(rt;
-        fixup(&image, 0x1_0000_4000),
-        Some(LoadedFixup::Bind {
-            library: 1,
-            name: b"_exit",
-            addend: 0,
-        })
-    );
-    assert_eq!(rt;
-        fixup(&image, 0x1_0000_8000),
-        Some(LoadedFixup::Rebase {
-            value: 0x1_0000_0398
-        })
-    );
+    assert!(rt; leads_to_exit(&image, 0x1_0000_4000, 0));
+    assert!(rt; leads_to(&image, 0x1_0000_8000, 0x1_0000_0398));
 }
+
+/// Addresses of no pointer.
+const OTHERS: [u64; 8] = [
+    0,
+    0x4000,
+    0x1_0000_0398,
+    0x1_0000_3fff,
+    0x1_0000_4004,
+    0x1_0000_4008,
+    0x1_0000_8008,
+    u64::MAX,
+];
 
 #[test]
 fn nothing_else_is_on_the_chain(rt: HostRuntime) {
     let image = image();
-    for address in [
-        0,
-        0x4000,
-        0x1_0000_0398,
-        0x1_0000_3fff,
-        0x1_0000_4004,
-        0x1_0000_4008,
-        0x1_0000_8008,
-        u64::MAX,
-    ] {
-        assert!(rt; fixup(&image, address).is_none(), "{address}");
+    for address in OTHERS {
+        assert!(rt; fixup_at(&image, address).is_none(), "{address}");
     }
 }
 
 #[test]
 fn a_file_without_its_last_byte_is_refused(rt: HostRuntime) {
-    let image = image();
-    assert_eq!(rt;
-        Loaded::accept(without_last(&image)).err(),
-        Some(LoadFault {
-            rule: LoadRule::L4,
-            place: 640,
-        })
-    );
-    assert_eq!(rt;
-        Loaded::accept(&[]).err(),
-        Some(LoadFault {
-            rule: LoadRule::L1,
-            place: 0,
-        })
-    );
+    assert!(rt; is_refused(without_last(&image()), LoadRule::L4, 640));
+    assert!(rt; is_refused(&[], LoadRule::L1, 0));
 }
