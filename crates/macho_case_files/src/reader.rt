@@ -20,6 +20,7 @@
 //!       words in.o lib.tbd -map                     without such a line the paths of all files
 //!       fails write 8192                            the first write fails behind so many bytes; `read N`, `print N`, `line N`: that
 //!                                                   one fails, counted from 0
+//!       steady                                      the run stands over files and a standard error that never fail
 //!
 //! What is wanted, of which a case has one of the first two:
 //!
@@ -37,6 +38,8 @@
 //!       holds out image 8192          a path behind the run: the image's first bytes, or all; or `bytes 6f6c64`, `nothing`
 //!       given in.o cffaedfe ..        bytes of a file, as its lines make them
 //!       keeps section 5               what the fault keeps beside its line: a word, a section, a placement
+//!       linker_refuses cut.o          a linker without files refuses that object and takes the others; it links them twice to one image,
+//!                                     whose length and bytes are those of the run's
 //!
 //! A table is a case whose lines stand once for each row, with the parts of the row in the places of `$1`, `$2` and so on:
 //!
@@ -80,6 +83,8 @@ pub struct Case {
     words: Option<Vec<String>>,
     /// What fails in the run.
     pub failing: Failing,
+    /// Whether the run stands over files and a standard error that never fail.
+    pub steady: bool,
     /// What is wanted of the run.
     pub wanted: Wanted,
 }
@@ -343,6 +348,7 @@ fn add_to_case(
         }
         "words" => case.words = Some(words_of(alloc, rest)?),
         "fails" => return add_failing(&mut case.failing, rest),
+        "steady" => case.steady = true,
         _ if is_of_file(key) => return add_to_file(alloc, &mut case.files, key, rest),
         _ => return case.wanted.add(alloc, key, rest),
     }
@@ -384,6 +390,7 @@ fn new_case(alloc: Global, name: &str, line: u64) -> Result<Case, AllocError> {
             print: None,
             line: None,
         },
+        steady: false,
         wanted: Wanted::new(alloc),
     })
 }

@@ -62,6 +62,8 @@ pub struct Wanted {
     pub given: Vec<(String, Vec<u8>)>,
     /// What the fault keeps beside its line.
     pub kept: Option<String>,
+    /// The path of the object that a linker without files refuses, where the others are given to one.
+    pub refused_by_linker: Option<String>,
 }
 
 // The bytes that words say.
@@ -122,6 +124,7 @@ impl Wanted {
             held: Vec::new(alloc),
             given: Vec::new(alloc),
             kept: None,
+            refused_by_linker: None,
         }
     }
 
@@ -140,6 +143,10 @@ impl Wanted {
             }
             "keeps" => {
                 self.kept = Some(String::from_str(alloc, rest)?);
+                Ok(())
+            }
+            "linker_refuses" => {
+                self.refused_by_linker = Some(String::from_str(alloc, rest)?);
                 Ok(())
             }
             _ => Err(wrong("a case has no such line")),

@@ -1,11 +1,12 @@
 //! How a run differs from what its case wants.
 
-use crate::runs::{Seen, run_case};
+use crate::again::check_linker;
+use crate::runs::{Seen, files_of, run_case, run_steadily, steady_files_of};
 use macho_case_files::{Case, Extent, GivenFile, Held, Part, Wanted, bytes_of_file};
 use macho_loader::Loaded;
 use sha2::{Digest, Sha256};
 use std::alloc::{AllocError, Global};
-use wild_macho::{Fault, Files, InputKind, LinkError, LinkedImage, MemoryFiles};
+use wild_macho::{Fault, Files, InputKind, LinkError, LinkedImage};
 
 // Notes what was wanted and what came.
 fn note_difference(
@@ -47,8 +48,8 @@ fn shown_bytes(alloc: Global, bytes: &[u8]) -> Result<String, AllocError> {
 /// No more bytes are shown.
 const MOST_SHOWN: usize = 100;
 
-// Notes a difference, of bytes.
-fn note_bytes(
+/// Notes a difference, of bytes.
+pub(crate) fn note_bytes(
     alloc: Global,
     found: &mut Vec<String>,
     what: &str,
@@ -168,7 +169,22 @@ fn part(bytes: &[u8], place: usize, count: usize) -> &[u8] {
     behind.get(..count).unwrap_or(behind)
 }
 
-// Notes bytes of the image that are not as wanted.
+/// Notes the length of an image and bytes of it that are not as wanted.
+pub(crate) fn check_bytes(
+    alloc: Global,
+    found: &mut Vec<String>,
+    wanted: &Wanted,
+    image: &[u8],
+) -> Result<(), AllocError> {
+    if let Some(want) = wanted.length {
+        let want = format!(in alloc; "{want}")?;
+        let came = format!(in alloc; "{}", image.len())?;
+        note(alloc, found, "length", want.as_str(), came.as_str())?;
+    }
+    check_parts(alloc, found, &wanted.parts, image)
+}
+
+// Notes bytes of an image that are not as wanted.
 fn check_parts(
     alloc: Global,
     found: &mut Vec<String>,
@@ -190,11 +206,7 @@ fn check_image(
     wanted: &Wanted,
     image: &LinkedImage,
 ) -> Result<(), AllocError> {
-    if let Some(want) = wanted.length {
-        let want = format!(in alloc; "{want}")?;
-        let came = format!(in alloc; "{}", image.bytes.len())?;
-        note(alloc, found, "length", want.as_str(), came.as_str())?;
-    }
+    check_bytes(alloc, found, wanted, &image.bytes)?;
     if !wanted.told.is_empty() {
         let told = told_of(alloc, image)?;
         note_text(alloc, found, "told", (&wanted.told, Extent::Whole), &told)?;
@@ -206,11 +218,11 @@ fn check_image(
     if Loaded::accept(&image.bytes).is_err() {
         found.push(String::from_str(alloc, "the loader refuses the image")?)?;
     }
-    check_parts(alloc, found, &wanted.parts, &image.bytes)
+    Ok(())
 }
 
 // What a path holds.
-fn read(alloc: Global, files: &mut MemoryFiles, path: &str) -> Result<Option<Vec<u8>>, AllocError> {
+fn read<F: Files>(alloc: Global, files: &mut F, path: &str) -> Result<Option<Vec<u8>>, AllocError> {
     match files.read(alloc, path) {
         Ok(bytes) => Ok(bytes),
         Err(_fault) => Err(AllocError),
@@ -245,11 +257,11 @@ fn check_path(
 }
 
 // Notes each path that does not hold what is wanted.
-fn check_held(
+fn check_held<F: Files>(
     alloc: Global,
     found: &mut Vec<String>,
     wanted: &Wanted,
-    files: &mut MemoryFiles,
+    files: &mut F,
     image: &[u8],
 ) -> Result<(), AllocError> {
     for (path, held) in &wanted.held {
@@ -313,27 +325,48 @@ fn has_image(status: Option<u8>) -> bool {
     }
 }
 
-/// How a case's run differs from what is wanted, a text for each difference.
-pub(crate) fn differences(alloc: Global, case: &Case) -> Result<Vec<String>, AllocError> {
-    let mut found = Vec::new(alloc);
+// Notes how a run differs from what is wanted of it, with the files behind it.
+fn check_run<F: Files>(
+    alloc: Global,
+    found: &mut Vec<String>,
+    case: &Case,
+    seen: &Seen,
+    files: &mut F,
+) -> Result<(), AllocError> {
     let wanted = &case.wanted;
-    let mut seen = run_case(alloc, case)?;
-    check_answer(alloc, &mut found, wanted, &seen)?;
-    check_given(alloc, &mut found, wanted, &case.files)?;
+    check_answer(alloc, found, wanted, seen)?;
     match &seen.ran.image {
         Some(image) => {
             if !has_image(wanted.status) {
-                note(alloc, &mut found, "image", "none", "one")?;
+                note(alloc, found, "image", "none", "one")?;
             }
-            check_image(alloc, &mut found, wanted, image)?;
-            check_held(alloc, &mut found, wanted, &mut seen.files, &image.bytes)?;
+            check_image(alloc, found, wanted, image)?;
+            check_held(alloc, found, wanted, files, &image.bytes)
         }
         None => {
             if has_image(wanted.status) {
-                note(alloc, &mut found, "image", "one", "none")?;
+                note(alloc, found, "image", "one", "none")?;
             }
-            check_held(alloc, &mut found, wanted, &mut seen.files, b"")?;
+            check_held(alloc, found, wanted, files, b"")
         }
+    }
+}
+
+/// How a case's run differs from what is wanted, a text for each difference.
+pub(crate) fn differences(alloc: Global, case: &Case) -> Result<Vec<String>, AllocError> {
+    let mut found = Vec::new(alloc);
+    check_given(alloc, &mut found, &case.wanted, &case.files)?;
+    if case.steady {
+        let mut files = steady_files_of(alloc, case)?;
+        let seen = run_steadily(alloc, case, &mut files)?;
+        check_run(alloc, &mut found, case, &seen, &mut files)?;
+    } else {
+        let mut files = files_of(alloc, case)?;
+        let seen = run_case(alloc, case, &mut files)?;
+        check_run(alloc, &mut found, case, &seen, &mut files)?;
+    }
+    if let Some(refused) = &case.wanted.refused_by_linker {
+        check_linker(alloc, &mut found, case, refused.as_str())?;
     }
     Ok(found)
 }

@@ -5,6 +5,7 @@
 //! wanted, with 1 where a case isn't, and with 2 where a file can't be read or has a line that isn't of the form.
 #![tactic(auto)]
 
+mod again;
 mod checks;
 mod runs;
 

@@ -1,0 +1,71 @@
+//! A linker without files that is used again: after an object that it refuses, and for a second image.
+
+use crate::checks::{check_bytes, note_bytes};
+use macho_args::MachOArgs;
+use macho_case_files::{Case, bytes_of_file};
+use std::alloc::{AllocError, Global};
+use wild_macho::Linker;
+
+/// A linker is given no more objects.
+const MOST_INPUTS: u32 = 100;
+
+// A linker without inputs.
+fn fresh(alloc: Global) -> Result<Linker, AllocError> {
+    let args = MachOArgs::new(alloc)?;
+    match Linker::new(alloc, &args) {
+        Ok(linker) => Ok(linker),
+        Err(_no_memory) => Err(AllocError),
+    }
+}
+
+// Gives the linker an object; whether it takes it.
+fn takes(linker: &mut Linker, bytes: Vec<u8>) -> bool {
+    linker.num_inputs() < MOST_INPUTS && linker.add_object(bytes).is_ok()
+}
+
+// Whether the linker takes all files of a case but one, which leaves it as it was.
+fn takes_all_but(
+    alloc: Global,
+    linker: &mut Linker,
+    case: &Case,
+    refused: &str,
+) -> Result<bool, AllocError> {
+    let mut count = 0u32;
+    for file in &case.files {
+        let taken = takes(linker, bytes_of_file(alloc, file)?);
+        if taken == (file.path.as_str() == refused) {
+            return Ok(false);
+        }
+        count = count.saturating_add(u32::from(taken));
+        if linker.num_inputs() != count {
+            return Ok(false);
+        }
+    }
+    Ok(true)
+}
+
+// The bytes of the linker's image, none where it gives none.
+fn image_of(alloc: Global, linker: &Linker) -> Vec<u8> {
+    match linker.link_image(alloc, [0; 16]) {
+        Ok(image) => image.bytes,
+        Err(_refusal) => Vec::new(alloc),
+    }
+}
+
+/// Notes where a linker without files doesn't refuse the one object and take the others, or doesn't make one image of them twice, with
+/// the length and the bytes that are wanted of the run's.
+pub(crate) fn check_linker(
+    alloc: Global,
+    found: &mut Vec<String>,
+    case: &Case,
+    refused: &str,
+) -> Result<(), AllocError> {
+    let mut linker = fresh(alloc)?;
+    if !takes_all_but(alloc, &mut linker, case, refused)? {
+        found.push(String::from_str(alloc, "the linker takes other objects")?)?;
+    }
+    let first = image_of(alloc, &linker);
+    let second = image_of(alloc, &linker);
+    note_bytes(alloc, found, "the linker's second image", &first, &second)?;
+    check_bytes(alloc, found, &case.wanted, &first)
+}
