@@ -18,7 +18,7 @@ pub use Rattle.macho_found.proofs.Entries as FoundEntries
 pub use Rattle.macho_found.proofs.Heads
 pub use Rattle.macho_found.proofs.Plain
 pub use Rattle.macho_found.proofs.TableRooms
-pub use Rattle.macho_found.proofs.Tables
+pub use Rattle.macho_found.proofs.Tables as FoundTables
 pub use Rattle.macho_found.proofs.Inside
 pub use Rattle.macho_found.proofs.Places as FoundPlaces
 pub use Rattle.macho_found.proofs.Sizes as FoundSizes

@@ -20,7 +20,7 @@ use Rattle.macho_composed.proofs.FoundEntries.{entries_fit, entries_of_link}
 use Rattle.macho_composed.proofs.Heads.{tables_follow}
 use Rattle.macho_composed.proofs.Plain.{imports_tellable}
 use Rattle.macho_composed.proofs.TableRooms.{tables_room}
-use Rattle.macho_composed.proofs.Tables.{runs_fit}
+use Rattle.macho_composed.proofs.FoundTables.{runs_fit}
 use Rattle.macho_answers.proofs.Refusals.{personalities_are_fit}
 use Rattle.macho_linking.specs.declared.planned.Planned.{Planned}
 use Rattle.macho_linking.specs.steps.Planned.{IsPlanned, placement_of, counts_of}
