@@ -86,7 +86,7 @@ def wrong_edits():
 
 
 # More megabytes than these make the gate slow: `rt ci` sums up the files of a crate once for each path from a crate above it.
-MOST_READ = 21_000
+MOST_READ = 18_500
 
 
 def libraries_of_crates():
