@@ -2,7 +2,7 @@
 //! choice of a definition is told, and compared.
 use crate::objects::{Symbol, Told, file_with, library, note_each, resolve};
 use macho_object::File;
-use macho_symbols::{ExportName, Resolved, SymbolFault, Target};
+use macho_symbols::{Resolved, SymbolFault, Target};
 use std::alloc::{AllocError, Global};
 use std::test::Fail;
 
@@ -131,9 +131,8 @@ fn of_strength(
 fn greatest(commons: &[Row]) -> Option<Row> {
     let mut best: Option<Row> = None;
     for row in commons {
-        match best {
-            Some(old) if row.kind.3 <= old.kind.3 => {}
-            _ => best = Some(*row),
+        if best.is_none_or(|old| row.kind.3 > old.kind.3) {
+            best = Some(*row);
         }
     }
     best
@@ -152,47 +151,29 @@ fn definition_of(alloc: Global, rows: &[Row], name: usize) -> Result<Option<Row>
     Ok(of_strength(alloc, rows, name, OFFERED)?.first().copied())
 }
 
-/// Whether two rows are of one symbol.
-fn is_same(row: Row, other: Row) -> bool {
-    row.file == other.file && row.symbol == other.symbol
-}
-
-/// Whether a row is the definition of its name that an object has.
-fn defines(best: Option<Row>, row: Row) -> bool {
-    match best {
-        Some(best) => best.strength >= COMMON && is_same(best, row),
-        None => false,
-    }
-}
-
 /// The commons that define their names, in order.
 fn chosen(alloc: Global, rows: &[Row]) -> Result<Vec<Row>, AllocError> {
     let mut found = Vec::new(alloc);
     for row in rows {
-        if row.strength == COMMON && defines(definition_of(alloc, rows, row.name)?, *row) {
-            found.push(*row)?;
+        if let Some(best) = definition_of(alloc, rows, row.name)? {
+            if best.strength == COMMON && (best.file, best.symbol) == (row.file, row.symbol) {
+                found.push(best)?;
+            }
         }
     }
     Ok(found)
 }
 
-/// The number of a common among those that define their names.
-fn number_of(commons: &[Row], row: Row) -> u32 {
-    let mut number = 0u32;
-    for common in commons {
-        if is_same(*common, row) {
-            return number;
-        }
-        number = number.saturating_add(1);
-    }
-    99
-}
-
 /// Where a row of an object leads by itself.
 fn own_target(alloc: Global, rows: &[Row], row: Row) -> Result<Target, AllocError> {
     if row.strength == COMMON {
-        let id = number_of(&chosen(alloc, rows)?, row);
-        return Ok(Target::Common { id });
+        let commons = chosen(alloc, rows)?;
+        let place = commons
+            .iter()
+            .position(|c| (c.file, c.symbol) == (row.file, row.symbol));
+        return Ok(Target::Common {
+            id: (place.unwrap_or(99) % 100) as u32,
+        });
     }
     Ok(match row.kind.0 {
         0x0e | 0x0f | 0x1f => Target::Section {
@@ -203,18 +184,6 @@ fn own_target(alloc: Global, rows: &[Row], row: Row) -> Result<Target, AllocErro
         0x02 | 0x03 => Target::Absolute { value: row.kind.3 },
         _ => Target::None,
     })
-}
-
-/// The number of a name among those that are noted, or of the next.
-fn import_of(noted: &[usize], name: usize) -> Target {
-    let mut id = 0u32;
-    for other in noted {
-        if *other == name {
-            return Target::Import { id };
-        }
-        id = id.saturating_add(1);
-    }
-    Target::Import { id }
 }
 
 /// Where a name leads, with the names that are noted before.
@@ -229,7 +198,8 @@ fn named(alloc: Global, rows: &[Row], noted: &[usize], name: usize) -> Result<Ta
     if row.strength != OFFERED {
         return own_target(alloc, rows, row);
     }
-    Ok(import_of(noted, name))
+    let place = noted.iter().position(|n| *n == name);
+    Ok(next_import(place.unwrap_or(noted.len())))
 }
 
 /// A link: the bytes of four files with which of them are libraries, the names that two stubs offer, and all rows.
@@ -280,22 +250,6 @@ fn texts(alloc: Global, names: usize) -> Result<Vec<&'static str>, AllocError> {
     Ok(found)
 }
 
-/// Whether a name is that of a number.
-fn is_name(number: usize, name: &[u8]) -> bool {
-    match NAMES.get(number) {
-        Some(text) => *text == name,
-        None => false,
-    }
-}
-
-/// Whether these are the first two of some rows, by their files.
-fn are_first(rows: &[Row], first: u32, second: u32) -> bool {
-    match (rows.first(), rows.get(1)) {
-        (Some(a), Some(b)) => a.file == first && b.file == second,
-        _ => false,
-    }
-}
-
 /// Whether a fault tells a name with two strong definitions, and the files of the first two.
 fn is_duplicate(alloc: Global, rows: &[Row], fault: &SymbolFault) -> Result<bool, AllocError> {
     let SymbolFault::DuplicateSymbol {
@@ -306,10 +260,13 @@ fn is_duplicate(alloc: Global, rows: &[Row], fault: &SymbolFault) -> Result<bool
     else {
         return Ok(false);
     };
-    for number in 0..3usize {
-        if is_name(number, name) {
+    for (number, text) in NAMES.iter().enumerate() {
+        if *text == name.as_slice() {
             let strong = of_strength(alloc, rows, number, STRONG)?;
-            return Ok(are_first(&strong, *first, *second));
+            return Ok(match (strong.first(), strong.get(1)) {
+                (Some(a), Some(b)) => a.file == *first && b.file == *second,
+                _ => false,
+            });
         }
     }
     Ok(false)
@@ -325,87 +282,56 @@ fn has_duplicate(alloc: Global, rows: &[Row]) -> Result<bool, AllocError> {
     Ok(false)
 }
 
-/// What is told of a name.
-fn told_of(resolved: &Resolved, name: usize) -> Target {
-    match NAMES.get(name) {
-        Some(text) => resolved.definition(*text),
-        None => Target::None,
-    }
-}
-
-/// Whether the common of a number is that of a row, where 9 bytes at a multiple of 16 take 16.
-fn is_common(resolved: &Resolved, number: usize, row: Row) -> bool {
-    let Some(common) = resolved.commons().get(number) else {
-        return false;
-    };
-    let size = if row.kind.3 == 9 { 16 } else { row.kind.3 };
-    common.file == row.file
-        && common.symbol == row.symbol
-        && common.size == size
-        && u16::from(common.align) == row.kind.2 / 256
-}
-
-/// Whether the commons are those of the rows.
-fn are_commons(resolved: &Resolved, rows: &[Row]) -> bool {
-    let mut number = 0usize;
-    for row in rows {
-        if !is_common(resolved, number, *row) {
-            return false;
-        }
-        number = number.saturating_add(1);
-    }
-    resolved.commons().len() == number
-}
-
 /// Whether each name leads where it is to, and the commons are those that define their names.
 fn are_names_right(alloc: Global, rows: &[Row], resolved: &Resolved) -> Result<bool, AllocError> {
-    for name in 0..3usize {
-        if told_of(resolved, name) != named(alloc, rows, &[], name)? {
+    for (name, text) in NAMES.iter().enumerate() {
+        if resolved.definition(*text) != named(alloc, rows, &[], name)? {
             return Ok(false);
         }
     }
-    Ok(are_commons(resolved, &chosen(alloc, rows)?))
-}
-
-/// The definition of a name, if it is exported: one of an object that shows it.
-fn exported(alloc: Global, rows: &[Row], name: usize) -> Result<Option<Row>, AllocError> {
-    match definition_of(alloc, rows, name)? {
-        Some(row) if row.strength >= COMMON && row.kind.0 != 0x1f => Ok(Some(row)),
-        _ => Ok(None),
+    let commons = chosen(alloc, rows)?;
+    if resolved.commons().len() != commons.len() {
+        return Ok(false);
     }
-}
-
-/// Whether an export is of a row that leads to a target.
-fn is_export(export: Option<&ExportName>, row: Row, target: Target) -> bool {
-    match export {
-        Some(export) => {
-            is_name(row.name, &export.name)
-                && export.weak == (row.strength == WEAK)
-                && export.target == target
+    for (common, row) in resolved.commons().iter().zip(&commons) {
+        // 9 bytes at a multiple of 16 take 16
+        let size = if row.kind.3 == 9 { 16 } else { row.kind.3 };
+        if (common.file, common.symbol, common.size) != (row.file, row.symbol, size)
+            || u16::from(common.align) != row.kind.2 / 256
+        {
+            return Ok(false);
         }
-        None => false,
     }
+    Ok(true)
 }
 
-/// Whether the exports are the names that objects define and show, in rising order.
-fn are_exports(alloc: Global, rows: &[Row], exports: &[ExportName]) -> Result<bool, AllocError> {
+/// Whether a name's definition is exported: one of an object that shows it.
+fn is_exported(row: Option<Row>) -> bool {
+    row.is_some_and(|row| row.strength >= COMMON && row.kind.0 != 0x1f)
+}
+
+/// Whether the exports without a list are the names that objects define and show, in rising order.
+fn are_exports_right(alloc: Global, rows: &[Row], resolved: &Resolved) -> Result<bool, Fail> {
+    let exports = resolved.exports(alloc, None)?;
     let mut count = 0usize;
     for name in [2, 0, 1usize] {
-        if let Some(row) = exported(alloc, rows, name)? {
-            let target = named(alloc, rows, &[], name)?;
-            if !is_export(exports.get(count), row, target) {
-                return Ok(false);
-            }
-            count = count.saturating_add(1);
+        let row = definition_of(alloc, rows, name)?;
+        if !is_exported(row) {
+            continue;
+        }
+        let (Some(export), Some(text), Some(row)) = (exports.get(count), NAMES.get(name), row)
+        else {
+            return Ok(false);
+        };
+        count = count.saturating_add(1);
+        if export.name.as_slice() != *text
+            || export.weak != (row.strength == WEAK)
+            || export.target != named(alloc, rows, &[], name)?
+        {
+            return Ok(false);
         }
     }
     Ok(count == exports.len())
-}
-
-/// The same of the exports of a link without a list.
-fn are_exports_right(alloc: Global, rows: &[Row], resolved: &Resolved) -> Result<bool, Fail> {
-    let exports = resolved.exports(alloc, None)?;
-    Ok(are_exports(alloc, rows, &exports)?)
 }
 
 /// Whether a use of a symbol is told as its name's definition is, and a name without one is told as undefined.
@@ -413,7 +339,12 @@ fn is_use_right(expected: Target, row: Row, told: Result<Target, SymbolFault>) -
     match told {
         Ok(target) => target == expected && (!is_global(row.kind) || target != Target::None),
         Err(SymbolFault::UndefinedSymbol { name, file }) => {
-            expected == Target::None && is_global(row.kind) && file == 0 && is_name(row.name, &name)
+            expected == Target::None
+                && is_global(row.kind)
+                && file == 0
+                && NAMES
+                    .get(row.name)
+                    .is_some_and(|text| *text == name.as_slice())
         }
         Err(_) => false,
     }
@@ -429,16 +360,11 @@ fn expected(
     if !is_global(row.kind) {
         return Ok((own_target(alloc, rows, row)?, false));
     }
-    let defines = defines(definition_of(alloc, rows, row.name)?, row);
+    let best = definition_of(alloc, rows, row.name)?;
+    let defines = best.is_some_and(|best| {
+        best.strength >= COMMON && (best.file, best.symbol) == (row.file, row.symbol)
+    });
     Ok((named(alloc, rows, noted, row.name)?, defines))
-}
-
-/// Whether a symbol of the first object and its use are told as expected.
-fn is_told(told: Told, row: Row, leads: Target, defines: bool) -> bool {
-    row.file == 0
-        && told.leads == leads
-        && told.defines == defines
-        && is_use_right(leads, row, told.noted)
 }
 
 /// Whether the uses of all symbols of the first object are told right, one after another, and the imports that they note.
@@ -451,24 +377,23 @@ fn are_uses_right(
     let mut noted = Vec::new(alloc);
     for (told, row) in told.into_iter().zip(rows) {
         let (leads, defines) = expected(alloc, rows, &noted, *row)?;
-        if !is_told(told, *row, leads, defines) {
+        if (told.leads, told.defines) != (leads, defines)
+            || row.file != 0
+            || !is_use_right(leads, *row, told.noted)
+        {
             return Ok(false);
         }
-        if leads == import_of(&noted, NOT_NOTED) {
+        if leads == next_import(noted.len()) {
             noted.push(row.name)?;
         }
     }
     are_imports_right(alloc, rows, resolved, &noted)
 }
 
-/// The number of no name.
-const NOT_NOTED: usize = 3;
-
-/// Whether an import is of a name, and of the library that defines it.
-fn is_import(resolved: &Resolved, number: usize, name: usize, row: Option<Row>) -> bool {
-    match (resolved.imports().get(number), row) {
-        (Some(import), Some(row)) => is_name(name, &import.name) && row.file == import.file,
-        _ => false,
+/// The import of a number.
+fn next_import(number: usize) -> Target {
+    Target::Import {
+        id: (number % 100) as u32,
     }
 }
 
@@ -479,15 +404,17 @@ fn are_imports_right(
     resolved: &Resolved,
     noted: &[usize],
 ) -> Result<bool, AllocError> {
-    let mut number = 0usize;
-    for name in noted {
+    if resolved.imports().len() != noted.len() {
+        return Ok(false);
+    }
+    for (import, name) in resolved.imports().iter().zip(noted) {
         let row = definition_of(alloc, rows, *name)?;
-        if !is_import(resolved, number, *name, row) {
+        let text = NAMES.get(*name).copied().unwrap_or(b"");
+        if import.name.as_slice() != text || row.is_none_or(|row| row.file != import.file) {
             return Ok(false);
         }
-        number = number.saturating_add(1);
     }
-    Ok(resolved.imports().len() == number)
+    Ok(true)
 }
 
 /// Whether all that is told of a link is right.

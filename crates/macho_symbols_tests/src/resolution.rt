@@ -1,7 +1,7 @@
 //! Which definition a name has, which imports are noted, and what is exported.
 use crate::objects::{Symbol, file_with, library, note, object, resolve, target};
 use macho_object::File;
-use macho_symbols::{ExportList, ExportName, SymbolFault, Target};
+use macho_symbols::{ExportList, SymbolFault, Target};
 use std::alloc::Global;
 use std::test::Fail;
 
@@ -133,28 +133,26 @@ const OFFERS: [(Symbol, bool); 9] = [
     (INDIRECT, false),
 ];
 
-/// The library and the file that an object's use of `_f` imports it from, where a dynamic library in front of a stub that offers it has
-/// a symbol of that name.
-fn import_of(alloc: Global, symbol: Symbol) -> Result<(Vec<u8>, u32), Fail> {
-    let bytes = object(alloc, &[USE])?;
-    let dylib = file_with(alloc, true, &[symbol])?;
-    let first = File::parse_bytes(&bytes, false)?;
-    let others = [File::parse_bytes(&dylib, true)?];
-    let libraries = [library(alloc, "/b", &["_f"])?];
-    let mut resolved = resolve(alloc, &first, &others, &libraries)?;
-    let _ = note(&mut resolved, &first, 0).ok_or("a symbol")??;
-    match resolved.imports().first() {
-        Some(import) => Ok((import.library.clone()?, import.file)),
-        None => Err("no import".into()),
-    }
-}
-
 #[test]
 fn a_library_offers_the_names_that_it_defines_and_shows(rt: HostRuntime) -> Result<(), Fail> {
+    let alloc = rt.alloc();
+    let bytes = object(alloc, &[USE])?;
+    let first = File::parse_bytes(&bytes, false)?;
     for (number, (symbol, offered)) in OFFERS.into_iter().enumerate() {
-        let (library, file) = import_of(rt.alloc(), symbol)?;
+        let dylib = file_with(alloc, true, &[symbol])?;
+        let mut resolved = resolve(
+            alloc,
+            &first,
+            &[File::parse_bytes(&dylib, true)?],
+            &[library(alloc, "/b", &["_f"])?],
+        )?;
+        let _ = note(&mut resolved, &first, 0).ok_or("a symbol")??;
+        let Some(import) = resolved.imports().first() else {
+            return Err("no import".into());
+        };
+        let told = (import.library.as_slice(), import.file);
         let wanted: (&[u8], u32) = if offered { (b"/libc", 1) } else { (b"/b", 2) };
-        assert!(rt; (library.as_slice(), file) == wanted, "row {number}");
+        assert_eq!(rt; told, wanted, "row {number}");
     }
     Ok(())
 }
@@ -229,29 +227,25 @@ const COMMONS: [([Symbol; 3], u64, u8); 2] = [
     ),
 ];
 
-/// The file, the number, the size and the alignment of the one common of three objects, to which their symbols lead.
-fn common_of(
-    alloc: Global,
-    [first, second, third]: [Symbol; 3],
-) -> Result<(u32, u32, u64, u8), Fail> {
-    let first = object(alloc, &[first])?;
-    let objects = [object(alloc, &[second])?, object(alloc, &[third])?];
-    let first = File::parse_bytes(&first, false)?;
-    let others = objects_in(alloc, &objects)?;
-    let resolved = resolve(alloc, &first, &others, &[])?;
-    if target(&resolved, &first, 0) != Some((Target::Common { id: 0 }, false)) {
-        return Err("a symbol leads elsewhere".into());
-    }
-    match resolved.commons() {
-        [chosen] => Ok((chosen.file, chosen.symbol, chosen.size, chosen.align)),
-        _ => Err("not one common".into()),
-    }
-}
-
 #[test]
 fn the_greatest_common_is_chosen_by_its_size_alone(rt: HostRuntime) -> Result<(), Fail> {
-    for (symbols, size, align) in COMMONS {
-        assert!(rt; common_of(rt.alloc(), symbols)? == (1, 0, size, align));
+    let alloc = rt.alloc();
+    for ([first, second, third], size, align) in COMMONS {
+        let first = object(alloc, &[first])?;
+        let objects = [object(alloc, &[second])?, object(alloc, &[third])?];
+        let first = File::parse_bytes(&first, false)?;
+        let others = objects_in(alloc, &objects)?;
+        let resolved = resolve(alloc, &first, &others, &[])?;
+        assert_eq!(rt; resolved.commons().len(), 1);
+        let Some(chosen) = resolved.commons().first() else {
+            return Err("no common".into());
+        };
+        let told = (chosen.file, chosen.symbol, chosen.size, chosen.align);
+        assert_eq!(rt; told, (1, 0, size, align));
+        assert_eq!(rt;
+            target(&resolved, &first, 0),
+            Some((Target::Common { id: 0 }, false))
+        );
     }
     Ok(())
 }
@@ -334,44 +328,25 @@ const LISTS: [(&[u8], usize, &[&[u8]]); 5] = [
     (b"", 0, &[]),
 ];
 
-/// The exports of an object with a list of this text, beside a library, and how many imports the list asks for.
-fn exported(alloc: Global, text: &[u8]) -> Result<(Vec<ExportName>, usize), Fail> {
+#[test]
+fn exports_are_what_lists_contain(rt: HostRuntime) -> Result<(), Fail> {
+    let alloc = rt.alloc();
     let bytes = object(alloc, &EXPORTS)?;
     let first = File::parse_bytes(&bytes, false)?;
     let libraries = [library(alloc, "/a", &["_exit", "_main"])?];
-    let list = ExportList::parse(alloc, text)?;
-    let mut resolved = resolve(alloc, &first, &[], &libraries)?;
-    resolved.note_exports(&list)?;
-    let exports = resolved.exports(alloc, Some(&list))?;
-    Ok((exports, resolved.imports().len()))
-}
-
-/// Whether an export has this name: `_exit` alone is exported on from the library, and `_w` alone is weak.
-fn is_export(export: &ExportName, name: &[u8]) -> bool {
-    let is_import = export.target == Target::Import { id: 0 };
-    export.name.as_slice() == name
-        && is_import == (name == b"_exit".as_slice())
-        && export.weak == (name == b"_w".as_slice())
-}
-
-/// Whether the exports have these names.
-fn are_exports(exports: &[ExportName], names: &[&[u8]]) -> bool {
-    for (export, name) in exports.iter().zip(names) {
-        if !is_export(export, *name) {
-            return false;
-        }
-    }
-    exports.len() == names.len()
-}
-
-#[test]
-fn exports_are_what_lists_contain(rt: HostRuntime) -> Result<(), Fail> {
     for (text, noted, names) in LISTS {
-        let (exports, imports) = exported(rt.alloc(), text)?;
-        assert!(rt;
-            imports == noted && are_exports(&exports, names),
-            "{text:?}"
-        );
+        let list = ExportList::parse(alloc, text)?;
+        let mut resolved = resolve(alloc, &first, &[], &libraries)?;
+        resolved.note_exports(&list)?;
+        assert_eq!(rt; resolved.imports().len(), noted, "{text:?}");
+        let exports = resolved.exports(alloc, Some(&list))?;
+        assert_eq!(rt; exports.len(), names.len(), "{text:?}");
+        for (export, name) in exports.iter().zip(names) {
+            assert_eq!(rt; export.name.as_slice(), *name);
+            let reexport = export.target == Target::Import { id: 0 };
+            assert_eq!(rt; reexport, *name == b"_exit".as_slice());
+            assert_eq!(rt; export.weak, *name == b"_w".as_slice());
+        }
     }
     Ok(())
 }

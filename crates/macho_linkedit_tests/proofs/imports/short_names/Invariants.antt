@@ -1,6 +1,6 @@
 use Rattle.std.proofs.Common.{◌≡◌, ◌*◌, ◌≤◌, take}
 use Rattle.macho_linkedit.specs.Imports.{name_bytes}
-use Rattle.macho_symbols_tests.proofs.imports.short_names.Given as goal
+use Rattle.macho_linkedit_tests.proofs.imports.short_names.Given as goal
 
 abbrev pub invariant-loop-import : goal.invariant-loop-import
 invariant-loop-import l = record {

@@ -1,8 +1,8 @@
 -- The object is the link's one input, and has few symbols.
 use Rattle.std.proofs.Common.{ap, arith}
 use Rattle.macho_object.specs.Views.{FileBytes}
-use Rattle.macho_symbols_tests.proofs.Listable.{can_list}
-use Rattle.macho_symbols_tests.proofs.listing.listed.Goals as goal
+use Rattle.macho_linkedit_tests.proofs.Listable.{can_list}
+use Rattle.macho_linkedit_tests.proofs.listing.listed.Goals as goal
 
 pub table_symbols-requires : goal.table_symbols-requires
 table_symbols-requires c =

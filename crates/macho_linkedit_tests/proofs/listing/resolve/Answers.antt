@@ -1,7 +1,7 @@
 -- A resolver without inputs keeps none, and then the object alone; so what it resolves is the link of that object.
 use Rattle.std.proofs.Common.{[]}
-use Rattle.macho_symbols_tests.specs.Alone.{link_of, IsAlone}
-use Rattle.macho_symbols_tests.proofs.listing.resolve.Goals as goal
+use Rattle.macho_linkedit_tests.specs.Linked.{link_of, IsAlone}
+use Rattle.macho_linkedit_tests.proofs.listing.resolve.Goals as goal
 
 pub returns-in-Ok : goal.returns-in-Ok
 returns-in-Ok c =

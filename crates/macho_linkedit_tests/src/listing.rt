@@ -1,6 +1,6 @@
 //! Which symbols of an object stand in the symbol table, and their rows: types by `mach-o/nlist.h`.
 ghost use Rattle.std.specs.Prelude.{◌≡◌, false, IfOk};
-ghost use Rattle.macho_symbols_tests.specs.Alone.{IsAlone};
+ghost use Rattle.macho_linkedit_tests.specs.Linked.{IsAlone};
 
 use crate::symbols::push;
 use macho_linkedit::{

@@ -7,7 +7,7 @@ use Rattle.macho_symbols.specs.Kept.{ResolvedRows}
 use Rattle.macho_linkedit.specs.declared.listing.LinkedObject.{LinkedObject}
 use Rattle.macho_linkedit.specs.Listing.{CanBeListed}
 use Rattle.macho_linkedit.proofs.CanList.{can_be_listed}
-use Rattle.macho_symbols_tests.specs.Alone.{link_of, IsAlone}
+use Rattle.macho_linkedit_tests.specs.Linked.{link_of, IsAlone}
 
 abbrev alone : FileBytes → LinkedObject
 alone f = record { number = 0; file = f }

@@ -1,0 +1,16 @@
+//! Tests of the tables of `__LINKEDIT`: bytes and numbers are written out from `mach-o/fixup-chains.h`, `mach-o/nlist.h` and
+//! `mach-o/loader.h`, or are those of images that ld64.lld (LLVM 19) made.
+#![tactic(auto)]
+
+#[cfg(test)]
+mod exports;
+#[cfg(test)]
+mod imports;
+#[cfg(test)]
+mod listing;
+#[cfg(test)]
+mod run;
+#[cfg(test)]
+mod sizes;
+#[cfg(test)]
+mod symbols;
