@@ -4,9 +4,10 @@ believed.py                 the definitions under the clauses of `run`, in readi
 believed.py --crate NAME    the files of a crate's specs/, and which definitions of each a public clause rests on
 believed.py --lines         writes the reading list and its parts into docs/THEOREMS.md, and the lines of the files that its tables name
 
-Refused are: a file of specs/steps/ under the clauses of `run` or of a function that the README's table names, a file of specs/
-that imports one of specs/steps/, and a row of that table that names a function or clause that isn't there. (A crate may hand
-functions of its own steps to another crate's code, as macho_memory_walks does: these are in no row.)
+Refused are: a file of specs/steps/ under the clauses of `run` or of a function that a table of sentences names (README.md and
+docs/PROVED.md have these), a file of specs/ that imports one of specs/steps/, and a row of such a table that names a function or
+clause that isn't there. (A crate may hand functions of its own steps to another crate's code, as macho_memory_walks does: these
+are in no row.)
 """
 import os
 import re
@@ -17,6 +18,9 @@ CRATES = os.path.join(TOP, "crates")
 NAME = r"[^\s(){}\[\],;.]+"
 BEGIN, END = "<!-- reading list -->\n", "<!-- end of the reading list -->\n"
 PARTS, PARTS_END = "<!-- parts -->\n", "<!-- end of the parts -->\n"
+
+# The pages whose tables say which clause carries a sentence.
+TABLES = ["README.md", os.path.join("docs", "PROVED.md")]
 
 # What is promised, from the headline outwards: each part's last definition, and what it says.
 PROMISED = [
@@ -416,42 +420,54 @@ def wrong_steps(world, function):
     return [f"{function.crate} {function.name} rests on {short(module)}" for module in sorted(steps)]
 
 
-def wrong_rows(world, crates):
-    """Rows of the README whose function or clause isn't there, or rests on steps."""
+def rows_of(page):
+    """The rows of a page's tables of sentences."""
+    rows = []
+    for table in re.findall(r"^\| sentence \|.*?(?=^\s*$)", read(os.path.join(TOP, page)), re.M | re.S):
+        rows += [row for row in table.split("\n")[2:] if row.strip()]
+    return rows
+
+
+def wrong_row(world, crates, row):
+    """What is wrong with a row: its function or clause isn't there, or rests on steps."""
+    cells = [cell.strip() for cell in row.strip().strip("|").split(" | ")]
+    if len(cells) != 3:
+        return [f"a row of {len(cells)} cells: {row[:60]}"]
+    words = re.findall(r"`([^`]+)`", cells[1])
+    crate, functions = (words[0], words[1:]) if words else ("", [])
+    if crate not in crates:
+        return [f"there is no crate '{crate}'"]
     wrong = []
-    table = re.search(r"^\| sentence \|.*?(?=^\s*$)", read(os.path.join(TOP, "README.md")), re.M | re.S)
-    if not table:
-        return ["README.md has no table of sentences"]
-    for row in table.group(0).split("\n")[2:]:
-        cells = [cell.strip() for cell in row.strip().strip("|").split(" | ")]
-        if len(cells) != 3:
-            if row.strip():
-                wrong.append(f"README.md: a row of {len(cells)} cells: {row[:60]}")
-            continue
-        words = re.findall(r"`([^`]+)`", cells[1])
-        crate, functions = (words[0], words[1:]) if words else ("", [])
-        if crate not in crates:
-            wrong.append(f"README.md: there is no crate '{crate}'")
-            continue
-        known = [f for f in functions_of(crate) if f.is_public]
-        clauses = set()
-        if not functions:
-            wrong.append(f"README.md: a row of {crate} names no function: {cells[0][:60]}")
-        for function in functions:
-            owner, _, name = function.rpartition("::")
-            named = [f for f in known if f.name == name and (len(owner) <= 1 or f.owner == owner)]
-            named += [f for f in known if not owner and f.owner == function]
-            if not named:
-                wrong.append(f"README.md: {crate} has no public '{function}'")
-            for one in named:
-                clauses |= {label or kind for kind, label, _ in one.clauses}
-                wrong += wrong_steps(world, one)
-        for clause in re.findall(r"`([^`]+)`", cells[2]):
-            if "/" in clause:
-                if not os.path.exists(os.path.join(CRATES, clause + ".antt")):
-                    wrong.append(f"README.md: there is no file '{clause}'")
-            elif clause not in clauses:
-                wrong.append(f"README.md: {crate} {', '.join(functions)} has no clause '{clause}'")
+    known = [f for f in functions_of(crate) if f.is_public]
+    clauses = set()
+    if not functions:
+        wrong.append(f"a row of {crate} names no function: {cells[0][:60]}")
+    for function in functions:
+        owner, _, name = function.rpartition("::")
+        named = [f for f in known if f.name == name and (len(owner) <= 1 or f.owner == owner)]
+        named += [f for f in known if not owner and f.owner == function]
+        if not named:
+            wrong.append(f"{crate} has no public '{function}'")
+        for one in named:
+            clauses |= {label or kind for kind, label, _ in one.clauses}
+            wrong += wrong_steps(world, one)
+    for clause in re.findall(r"`([^`]+)`", cells[2]):
+        if "/" in clause:
+            if not os.path.exists(os.path.join(CRATES, clause + ".antt")):
+                wrong.append(f"there is no file '{clause}'")
+        elif clause not in clauses:
+            wrong.append(f"{crate} {', '.join(functions)} has no clause '{clause}'")
+    return wrong
+
+
+def wrong_rows(world, crates):
+    """What is wrong with the rows of the tables of sentences, and whether a page has none."""
+    wrong = []
+    for page in TABLES:
+        rows = rows_of(page)
+        wrong += [f"{page}: {it}" for row in rows for it in wrong_row(world, crates, row)]
+        if not rows:
+            wrong.append(f"{page} has no table of sentences")
     return wrong
 
 
