@@ -4,7 +4,8 @@ figures.py          prints the table of docs/FIGURES.md
 figures.py --write  writes it there, between its two marks
 
 A line is a line of a file, comments and empty lines too. Source is src/*.rt; specs are the definitions that public clauses
-rest on (specs/, without specs/steps/); steps are the code's own (specs/steps/); edits are the files of must-fail/.
+rest on (specs/, without specs/steps/); steps are the code's own (specs/steps/); edits are the files of must-fail/, planted those of
+planted/.
 """
 import os
 import sys
@@ -12,7 +13,7 @@ import sys
 TOP = os.path.dirname(os.path.dirname(os.path.abspath(__file__)))
 PAGE = os.path.join(TOP, "docs", "FIGURES.md")
 BEGIN, END = "<!-- lines of crates -->\n", "<!-- end of lines -->\n"
-HEAD = ["crate", "source", "specs", "steps", "proofs", "edits"]
+HEAD = ["crate", "source", "specs", "steps", "proofs", "edits", "planted"]
 
 
 def crates():
@@ -62,6 +63,7 @@ def row(name):
         lines(path for path in stated if is_step(path, specs)),
         lines(files(os.path.join(top, "proofs"), ".antt")),
         len(list(files(os.path.join(top, "must-fail"), ".edit"))),
+        len(list(files(os.path.join(top, "planted"), ".edit"))),
     ]
 
 
@@ -74,7 +76,7 @@ def table():
     rows = [(name, row(name)) for name in known]
     program = under("wild_macho_main", known)
     own = [counts for name, counts in rows if name in program]
-    text = [told(HEAD), "|---|--:|--:|--:|--:|--:|"]
+    text = [told(HEAD), "|---" + "|--:" * (len(HEAD) - 1) + "|"]
     text += [told([f"`{name}`"] + counts) for name, counts in rows]
     text.append(told([f"**the program's {len(own)} crates**"] + [sum(column) for column in zip(*own)]))
     text.append(told([f"**all {len(rows)} crates**"] + [sum(column) for column in zip(*(counts for _, counts in rows))]))

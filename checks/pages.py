@@ -2,7 +2,8 @@
 
 docs/USAGE.md has each option and each rule on inputs; docs/ARCHITECTURE.md has each crate once, and no other; each page that README.md
 names is there, and each file of docs/ is named there; crates.txt names for a crate the libraries that its files name, and no other, and those
-that its edits name; little is read along the paths down from its crates. `pages.py --paths` prints the libraries that cost most.
+that its edits name; each edit of must-fail/ and planted/ fits its files; little is read along the paths down from its crates.
+`pages.py --paths` prints the libraries that cost most.
 """
 import os
 import re
@@ -74,14 +75,38 @@ def wrong_libraries():
     return wrong
 
 
+def edits_of(crate):
+    """The edits of a crate, those that the gate tries and those that it doesn't."""
+    folders = [os.path.join("crates", crate, kind) for kind in ("must-fail", "planted")]
+    there = [folder for folder in folders if os.path.isdir(os.path.join(TOP, folder))]
+    return [os.path.join(folder, name) for folder in there for name in sorted(os.listdir(os.path.join(TOP, folder)))]
+
+
+def misplaced(crate, edit):
+    """What is wrong with the places that an edit changes: each old text stands once in its file, as the edit's earlier lines left it."""
+    path, old, texts, wrong = "", "", {}, []
+    for line in read(edit).split("\n"):
+        kind, _, text = line.partition(": ")
+        if kind == "file":
+            path = text.strip()
+            texts.setdefault(path, read("crates", crate, path))
+        elif kind == "old":
+            old = text
+            if texts[path].count(old) != 1:
+                wrong.append(f"{edit}: an old text stands {texts[path].count(old)} times in {path}")
+        elif kind == "new" and old:
+            texts[path] = texts[path].replace(old, text)
+    return wrong if old else [f"{edit} changes nothing"]
+
+
 def wrong_edits():
-    """Edits that name a crate which their own doesn't stand on: they reach no prover."""
+    """Edits that don't fit their files, or name a crate which their own doesn't stand on: they reach no prover."""
     wrong = []
     for crate, libraries in libraries_of_crates().items():
-        folder = os.path.join(TOP, "crates", crate, "must-fail")
-        for edit in sorted(os.listdir(folder)) if os.path.isdir(folder) else []:
-            named = set(re.findall(r"(?<![\w:])(\w+)::", read(folder, edit))) & set(crates())
-            wrong += [f"{crate}/{edit} names '{name}', which crates.txt doesn't" for name in named - {crate, *libraries}]
+        for edit in edits_of(crate):
+            wrong += misplaced(crate, edit)
+            named = set(re.findall(r"(?<![\w:])(\w+)::", read(edit))) & set(crates())
+            wrong += [f"{edit} names '{name}', which crates.txt doesn't" for name in named - {crate, *libraries}]
     return wrong
 
 
