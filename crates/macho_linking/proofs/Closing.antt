@@ -5,6 +5,7 @@
 -- written then is as promised, with nothing that stands against it.
 use Rattle.std.proofs.Common.{◌≡◌, ℕ, ◌<◌, ◌≤◌, ◌⊎◌, inl, inr, false, List, map, length, refl, sym, subst, All}
 use Rattle.std.specs.Prelude.{Some, Result, Ok, Err, IfErr, IsErrAnd}
+use Rattle.std.specs.Option.{option_copied}
 use Rattle.std.proofs.lemmas.Bool.{cases_lt}
 use Rattle.macho_layout.specs.Placements.{placed_of}
 use Rattle.macho_model.specs.declared.placed.Counts.{Counts}
@@ -43,7 +44,7 @@ use Rattle.macho_linking.specs.declared.planned.Planned.{Planned}
 use Rattle.macho_linking.specs.declared.write.Written.{Written}
 use Rattle.macho_linking.specs.steps.Planned.{IsPlanned, AreInputs}
 use Rattle.macho_linking.specs.steps.Unwritten.{UnwrittenStands, refusal_of}
-use Rattle.macho_linking.specs.steps.Imaged.{StandsAlways, HasSizes, IsToAnswer}
+use Rattle.macho_linking.specs.steps.Imaged.{StandsAlways, IsToSize, HasSizes, IsToAnswer}
 use Rattle.macho_linking.specs.declared.asked.LinkAsked.{LinkAsked}
 use Rattle.macho_linking.specs.steps.Linking.{link_asked, IsGiven}
 use Rattle.macho_linking.proofs.Given.{inputs_given}
@@ -123,6 +124,19 @@ pub planned : (l : Link) (b : Planned) → AreInputs l b → IsReadOf l b.read.n
 planned l b inputs read known sizes =
     record { inputs = inputs; read = read; known = known; kept = sizes.kept; exports = sizes.exports; sized = sizes.sizes }
 
+-- what was viewed and read, with its sizes, is planned
+pub to_planned : (l : Link) (b : Planned) → l ≡ link_asked b.asked.now
+    → IsToSize l b.views.now b.objects.now (option_copied b.list) b.read.now (map (λ n. n.items) b.libraries.now)
+    → HasSizes l b.read.now b.sized.now → IsPlanned l b
+to_planned l b arguments h sizes = planned l b (record {
+  arguments = arguments;
+  views = h.views_are.0;
+  objects = h.objects_are;
+  lists = h.lists_are;
+  rules = h.rules;
+  libraries = h.libraries_are;
+}) h.read_is.0 h.read_is.1 sizes
+
 -- the libraries of a sized link are few
 pub libraries_few : (l : Link) (read : ReadLink) (sized : SizedLink) → HasSizes l read sized
     → length (libraries_needed l) ≤ 240
@@ -143,21 +157,21 @@ pub answered : (l : Link) (uuid : List ℕ) (written : Written) (sized : SizedLi
 answered l uuid written sized read libraries imports h told image bytes placement names listed exports fixups = record {
   counts = sized.counts;
   answer = rw (bytes, placement, names, listed, exports, fixups) (record {
-    linked = h.image.linked;
-    told = record { libraries_are = h.libraries_are; imports_are = told; fixups_are = h.image.many };
+    linked = h.made.image.linked;
+    told = record { libraries_are = h.libraries_are; imports_are = told; fixups_are = h.made.image.many };
     exports_told = exports_are_told l read.exports.items h.read_is.exports;
     unrefused = clear_is_unrefused l sized.counts (placed_of sized.placement) (record {
       single = h.single;
       fit = h.read_is.fit;
       limits = record {
-        numbers = h.sizes.sizes.limits.numbers;
-        pages = h.sizes.sizes.limits.pages;
-        sum = h.sizes.sizes.limits.sum;
-        files = h.sizes.sizes.limits.files;
-        ranges = h.sizes.sizes.limits.ranges;
-        written = h.image.near;
+        numbers = h.made.sizes.sizes.limits.numbers;
+        pages = h.made.sizes.sizes.limits.pages;
+        sum = h.made.sizes.sizes.limits.sum;
+        files = h.made.sizes.sizes.limits.files;
+        ranges = h.made.sizes.sizes.limits.ranges;
+        written = h.made.image.near;
       };
-      values = record { range = h.image.good.range; rebase = h.image.good.rebase; place = h.image.good.place };
+      values = record { range = h.made.image.good.range; rebase = h.made.image.good.rebase; place = h.made.image.good.place };
       name = h.name;
     });
   });

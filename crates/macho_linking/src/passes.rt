@@ -1,15 +1,17 @@
 //! The link as a list of passes: each takes what the passes before it made, and the first that refuses ends the link.
-ghost use Rattle.std.specs.Prelude.{◌≡◌, ℕ, ◌+◌, ◌<◌, ◌^◌, List, map, length, IfOk, OnOk, IfErr};
+ghost use Rattle.std.specs.Prelude.{◌≡◌, ℕ, ◌+◌, ◌<◌, ◌^◌, false, List, map, length, All, IfOk, OnOk, IfErr};
 ghost use Rattle.std.specs.Option.{option_copied};
 ghost use Rattle.macho_model.specs.Links.{Link};
-ghost use Rattle.macho_parts.specs.Views.{views_of};
+ghost use Rattle.macho_parts.specs.Views.{views_of, ViewsObject};
 ghost use Rattle.macho_symbols.specs.Exported.{AreLists};
 ghost use Rattle.macho_linkedit.specs.Counting.{AreArguments};
+ghost use Rattle.macho_linkedit.specs.Listing.{AreObjects};
 ghost use Rattle.macho_faults.specs.declared.fault.LinkError.TheVariants.{OutOfMemory};
+ghost use Rattle.macho_answers.specs.Inputs.{HasBytes};
 ghost use Rattle.macho_answers.specs.Read.{IsReadOf, AreKnown, entry_of};
 ghost use Rattle.macho_linked.specs.Linked.{IsImageOf, IsRefused};
 ghost use Rattle.macho_linking.specs.steps.Linking.{link_asked, IsGiven};
-ghost use Rattle.macho_linking.specs.steps.Imaged.{IsSingle, StandsAlways, IsToSize, HasSizes, IsToAnswer};
+ghost use Rattle.macho_linking.specs.steps.Imaged.{IsSingle, StandsAlways, IsToSize, HasSizes, IsMade, IsToAnswer};
 
 use crate::asked::LinkAsked;
 use crate::bytes::hold_bytes;
@@ -114,19 +116,82 @@ fn size_inputs<'a>(
     size_link(alloc, &sizes, list)
 }
 
+/// What was viewed of a link.
+#[derive(Clone, Copy)]
+struct Viewed<'a> {
+    /// What is linked.
+    asked: &'a LinkAsked<'a>,
+    /// Views of the objects by the numbers of their files, None of another input.
+    views: &'a [Option<File<'a>>],
+    /// The objects, each with its number.
+    objects: &'a [LinkedObject<'a>],
+    /// The entries of the export lists, where there are any.
+    list: Option<&'a ExportList>,
+}
+
+/// The image of a link, with its sizes and its placement.
+#[derive(Drop)]
+struct Made {
+    written: Written,
+    sized: SizedLink,
+}
+
+/// Sizes and places a link that was read, and writes its image.
+fn make_image(
+    alloc: Global,
+    viewed: &Viewed<'_>,
+    read: &ReadLink,
+    libraries: &[Vec<u8>],
+    uuid: [u8; 16],
+) -> Result<Made, LinkError>
+    requires { IsToSize (link_asked viewed.now.asked.now) viewed.now.views.now viewed.now.objects.now (option_copied viewed.now.list)
+        read.now (map (λ n. n.items) libraries.now) }
+    ensures done { IfOk result (λ made. IsMade (link_asked viewed.now.asked.now) uuid read.now made.written made.sized) }
+    ensures why { IfErr result (StandsAlways (link_asked viewed.now.asked.now)) }
+{
+    let Viewed {
+        asked,
+        views,
+        objects,
+        list,
+    } = *viewed;
+    let sized = size_inputs(
+        alloc,
+        &*asked,
+        &*views,
+        &*objects,
+        list,
+        &*read,
+        &*libraries,
+    )?;
+    let planned = Planned {
+        asked,
+        views,
+        objects,
+        list,
+        read,
+        libraries,
+        sized: &sized,
+    };
+    match write_image(alloc, &planned, uuid) {
+        Ok(written) => Ok(Made { written, sized }),
+        Err(fault) => Err(refusal(fault, sized.placement)),
+    }
+}
+
 /// The image with what is told beside its bytes.
 fn answer(
     alloc: Global,
-    written: Written,
-    sized: SizedLink,
+    made: Made,
     read: ReadLink,
     libraries: Vec<Vec<u8>>,
 ) -> Result<LinkedImage, LinkError>
     requires few { length libraries.items + 1 < 2 ^ 32 }
-    ensures done { (l : Link) (uuid : List ℕ) → IsToAnswer l uuid written sized read (map (λ n. n.items) libraries.items)
+    ensures done { (l : Link) (uuid : List ℕ) → IsToAnswer l uuid made.written made.sized read (map (λ n. n.items) libraries.items)
         → IfOk result (IsImageOf l uuid) }
     ensures why { IfErr result (λ e. e ≡ OutOfMemory) }
 {
+    let Made { written, sized } = made;
     let ReadLink { needs, exports, .. } = read;
     let imports = told_imports(alloc, needs.resolved.imports(), &libraries)?;
     Ok(LinkedImage {
@@ -137,6 +202,44 @@ fn answer(
         exports,
         fixups: written.fixups,
     })
+}
+
+/// Makes the image of a link that was read, and answers it.
+fn link_read(
+    alloc: Global,
+    viewed: &Viewed<'_>,
+    read: ReadLink,
+    libraries: Vec<Vec<u8>>,
+    uuid: [u8; 16],
+) -> Result<LinkedImage, LinkError>
+    requires given { IsGiven viewed.now.asked.now }
+    requires bytes { All HasBytes (link_asked viewed.now.asked.now).inputs }
+    requires read_is { IsToSize (link_asked viewed.now.asked.now) viewed.now.views.now viewed.now.objects.now
+        (option_copied viewed.now.list) read (map (λ n. n.items) libraries.items) }
+    requires single { IsSingle (link_asked viewed.now.asked.now) }
+    ensures done { IfOk result (IsImageOf (link_asked viewed.now.asked.now) uuid) }
+    ensures why { IfErr result (IsRefused (link_asked viewed.now.asked.now)) }
+{
+    let made = make_image(alloc, viewed, &read, &libraries, uuid)?;
+    answer(alloc, made, read, libraries)
+}
+
+/// Reads a link that was viewed, and answers its image.
+fn link_viewed(alloc: Global, viewed: &Viewed<'_>, uuid: [u8; 16]) -> Result<LinkedImage, LinkError>
+    requires given { IsGiven viewed.now.asked.now }
+    requires bytes { All HasBytes (link_asked viewed.now.asked.now).inputs }
+    requires views { (viewed.now.views.now ≡ views_of (link_asked viewed.now.asked.now)) × All ViewsObject viewed.now.views.now }
+    requires objects { AreObjects (link_asked viewed.now.asked.now) viewed.now.objects.now
+        × All (λ o. o.file.is_dynamic ≡ false) viewed.now.objects.now }
+    requires lists { AreLists (link_asked viewed.now.asked.now) (option_copied viewed.now.list) }
+    ensures done { IfOk result (IsImageOf (link_asked viewed.now.asked.now) uuid) }
+    ensures why { IfErr result (IsRefused (link_asked viewed.now.asked.now)) }
+{
+    let asked = viewed.asked;
+    let read = read_inputs(alloc, asked, viewed.views, viewed.list)?;
+    let imports = read.needs.resolved.imports();
+    let libraries = needed_libraries(alloc, asked.inputs, imports, asked.dead_strip_dylibs)?;
+    link_read(alloc, viewed, read, libraries, uuid)
 }
 
 /// Links what is asked for, and answers its image, with `uuid` as its identifier.
@@ -157,21 +260,11 @@ pub fn link(alloc: Global, asked: &LinkAsked<'_>, uuid: [u8; 16]) -> Result<Link
     let objects = list_objects(alloc, asked.inputs)?;
     let list = read_lists(alloc, asked.export_lists)?;
     let list = list.as_ref();
-    let read = read_inputs(alloc, asked, &views, list)?;
-    let imports = read.needs.resolved.imports();
-    let libraries = needed_libraries(alloc, asked.inputs, imports, asked.dead_strip_dylibs)?;
-    let sized = size_inputs(alloc, &*asked, &views, &objects, list, &read, &libraries)?;
-    let planned = Planned {
-        asked,
+    let viewed = Viewed {
+        asked: &*asked,
         views: &views,
         objects: &objects,
         list,
-        read: &read,
-        libraries: &libraries,
-        sized: &sized,
     };
-    match write_image(alloc, &planned, uuid) {
-        Ok(written) => answer(alloc, written, sized, read, libraries),
-        Err(fault) => Err(refusal(fault, sized.placement)),
-    }
+    link_viewed(alloc, &viewed, uuid)
 }

@@ -61,10 +61,14 @@ pub record HasSizes (l : Link) (read : ReadLink) (sized : SizedLink) : Type 0 wh
   pub exports : AreKept l (exports_told read.exports.items) kept
   pub sizes : IsSizedOf l kept sized
 
--- THE link is to be answered by an image.
-pub record IsToAnswer (l : Link) (uuid : List ℕ) (written : Written) (sized : SizedLink) (read : ReadLink) (libraries : List (List ℕ)) : Type 0 where
+-- The image of a link is made, with these sizes.
+pub record IsMade (l : Link) (uuid : List ℕ) (read : ReadLink) (written : Written) (sized : SizedLink) : Type 0 where
   pub image : IsImaged l sized.counts (placed_of sized.placement) uuid written.bytes.items written.fixups
   pub sizes : HasSizes l read sized
+
+-- THE link is to be answered by an image.
+pub record IsToAnswer (l : Link) (uuid : List ℕ) (written : Written) (sized : SizedLink) (read : ReadLink) (libraries : List (List ℕ)) : Type 0 where
+  pub made : IsMade l uuid read written sized
   pub read_is : IsReadOf l read
   pub libraries_are : libraries ≡ libraries_needed l
   pub single : IsSingle l

@@ -7,4 +7,4 @@ pub returns-clause-done : goal.returns-clause-done
 returns-clause-done c l uuid h =
     let told = c.in_ok-imports.ensures l (c.imports.ensures l _ h.read_is.resolved)
     (ap (map (λ n. n.items)) c.deref.ensures.value ∙ h.libraries_are) in
-    answered l uuid c.args.written c.args.sized c.args.read _ c.in_ok-imports.imports.items h told _ refl refl refl refl refl refl
+    answered l uuid c.args.made.written c.args.made.sized c.args.read _ c.in_ok-imports.imports.items h told _ refl refl refl refl refl refl
