@@ -8,7 +8,7 @@ ghost use Rattle.macho_parts.specs.Noted.{AreNeeds};
 ghost use Rattle.macho_parts.specs.Views.{views_of, ViewsObject};
 ghost use Rattle.macho_symbols.specs.Kept.{IsResolved};
 ghost use Rattle.macho_needs.specs.Noted.{needed_of};
-ghost use Rattle.macho_layout.specs.Plans.{IsPlanOf};
+ghost use Rattle.macho_layout.specs.Plans.{IsPlanOf, new_plan};
 ghost use Rattle.macho_sizing.specs.steps.Planned.{common_specs, AddsStubs};
 
 use macho_layout::Plan;
@@ -74,6 +74,21 @@ fn add_stubs(plan: &mut Plan, tables: &Tables) -> Result<(), AllocError>
     Ok(())
 }
 
+/// Adds all parts of a link, in their order.
+fn add_parts(plan: &mut Plan, views: &[Option<File<'_>>], needs: &Needs) -> Result<(), AllocError>
+    requires few { length views.now < 2 ^ 32 }
+    requires rules { All ViewsObject views.now }
+    requires link { (l : Link) × (views.now ≡ views_of l) × IsResolved l (imports_of l) needs.now.resolved }
+    ensures { (l : Link) → plan.old ≡ new_plan l.executable → views.now ≡ views_of l → AreNeeds l (needed_of needs.now)
+        → IsResolved l (imports_of l) needs.now.resolved → OnOk result (IsPlanOf l plan.new) }
+{
+    plan_sections(plan, views)?;
+    add_commons(plan, needs.resolved.commons())?;
+    add_slots(plan, &needs.tables)?;
+    add_stubs(plan, &needs.tables)?;
+    Ok(())
+}
+
 /// The plan of a link.
 pub(crate) fn make_plan(
     alloc: Global,
@@ -88,9 +103,6 @@ pub(crate) fn make_plan(
         → IsResolved l (imports_of l) needs.now.resolved → IfOk result (IsPlanOf l) }
 {
     let mut plan = Plan::new(alloc, executable);
-    plan_sections(&mut plan, views)?;
-    add_commons(&mut plan, needs.resolved.commons())?;
-    add_slots(&mut plan, &needs.tables)?;
-    add_stubs(&mut plan, &needs.tables)?;
+    add_parts(&mut plan, views, needs)?;
     Ok(plan)
 }

@@ -57,6 +57,28 @@ fn size_within(
     })
 }
 
+/// The sizes and the placement of a link that is planned.
+fn size_plan(
+    alloc: Global,
+    asked: &SizesOf<'_>,
+    plan: &Plan,
+    list: Option<&ExportList>,
+) -> Result<SizedLink, LinkError>
+    requires { CanBeSized asked.now }
+    ensures done { (l : Link) → AreOf l asked.now → AreLists l (option_copied list.entry) → IsPlanOf l plan.now
+        → IfOk result (IsSizedOf l asked.now.exports.now) }
+    ensures why { (l : Link) (counts : LinkCounts) → AreOf l asked.now → AreLists l (option_copied list.entry) → IsPlanOf l plan.now
+        → AreCounts l counts → IfErr result (Stands l counts) }
+{
+    let imports = asked.needs.resolved.imports();
+    let numbers = count_numbers(alloc, asked, imports, list)?;
+    check_limits(alloc, asked, plan, &numbers)?;
+    match unwind_bytes(alloc, asked)? {
+        Some(unwind) => size_within(alloc, asked, plan, imports, &numbers, unwind),
+        None => Err(too_large(alloc, asked, plan)),
+    }
+}
+
 /// The sizes and the placement of a link, with what was listed and reserved for them. `list` is that of the export lists, if
 /// there are any.
 ///
@@ -77,11 +99,5 @@ pub fn size_link(
         → IfErr result (Stands l counts) }
 {
     let plan = make_plan(alloc, asked.arguments.executable, asked.views, asked.needs)?;
-    let imports = asked.needs.resolved.imports();
-    let numbers = count_numbers(alloc, asked, imports, list)?;
-    check_limits(alloc, asked, &plan, &numbers)?;
-    match unwind_bytes(alloc, asked)? {
-        Some(unwind) => size_within(alloc, asked, &plan, imports, &numbers, unwind),
-        None => Err(too_large(alloc, asked, &plan)),
-    }
+    size_plan(alloc, asked, &plan, list)
 }
