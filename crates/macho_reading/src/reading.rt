@@ -1,5 +1,5 @@
 //! The reading of a link.
-ghost use Rattle.std.specs.Prelude.{◌≡◌, ◌^◌, ◌<◌, ◌⊎◌, true, List, length, Option, Some, None, Ok, Err, IfOk, IfErr, OnOk};
+ghost use Rattle.std.specs.Prelude.{◌≡◌, ◌^◌, ◌<◌, ◌⊎◌, true, List, [], length, Option, Some, None, Ok, Err, IfOk, IfErr, OnOk};
 ghost use Rattle.std.specs.Option.{option_copied};
 ghost use Rattle.macho_model.specs.declared.placed.Counts.{Counts};
 ghost use Rattle.macho_model.specs.Links.{Input, Link};
@@ -90,6 +90,28 @@ fn unless_told(read: Result<Rows, LinkError>, told: Option<LinkError>) -> Result
     }
 }
 
+/// Notes all that the objects ask for, and reads what stands in their consumed sections.
+fn read_uses(
+    alloc: Global,
+    needs: &mut Needs,
+    views: &[Option<File<'_>>],
+    entry: Option<&[u8]>,
+    list: Option<&ExportList>,
+) -> Result<Rows, LinkError>
+    requires few { length views.now < 2 ^ 32 }
+    requires same { AreOfInputs views.now needs.old.resolved.files }
+    ensures done { (l : Link) → IsLinkOf l views.now needs.old.resolved (option_copied entry.entry) (option_copied list.entry)
+        → IsNoted l [] needs.old → IfOk result (λ rows. IsNotedWith l needs.new rows × IsSound l) }
+    ensures usable { IfOk result (AreUsable needs.new.resolved) }
+    ensures why { (l : Link) (counts : Counts) → IsLinkOf l views.now needs.old.resolved (option_copied entry.entry) (option_copied list.entry)
+        → IsNoted l [] needs.old → IfErr result (Stands l counts) }
+    ensures kept { (inputs : List Input) → Keeps inputs needs.old.resolved.files → Keeps inputs needs.new.resolved.files }
+{
+    let told = survey(alloc, needs, views)?;
+    let read = read_behind(alloc, needs, views, entry, list);
+    unless_told(read, told)
+}
+
 /// All that was read, with the exports.
 fn with_exports(
     alloc: Global,
@@ -141,8 +163,6 @@ pub fn read_link(
         → IfErr result (Stands l counts) }
 {
     let mut needs = begun(alloc, resolved);
-    let told = survey(alloc, &mut needs, views)?;
-    let read = read_behind(alloc, &mut needs, views, entry, list);
-    let rows = unless_told(read, told)?;
+    let rows = read_uses(alloc, &mut needs, views, entry, list)?;
     with_exports(alloc, needs, rows, list)
 }
