@@ -2,8 +2,6 @@
 #![tactic(auto)]
 
 #[cfg(test)]
-mod judge;
-#[cfg(test)]
 mod lists;
 #[cfg(test)]
 mod objects;
