@@ -4,8 +4,8 @@
 """
 
 from plain_linker import Object
-from random_links import ADDEND, BRANCH, CROSSING, HANDLE, KINDS, LESS, PAGE, PAGE_OFFSET, POINTER, SECTION_POINTER, SHORT, SHORT_LESS
-from random_links import CROSSED, SLOT_OFFSET, SLOT_PAGE, TO_SLOT, VARIABLE_OFFSET, VARIABLE_PAGE
+from random_links import ADDEND, BRANCH, CROSSED, CROSSING, HANDLE, KINDS, LESS, PAGE, PAGE_OFFSET, POINTER, SECTION_POINTER, SHORT
+from random_links import SHORT_LESS, SLOT_OFFSET, SLOT_PAGE, TO_SLOT, VARIABLE_OFFSET, VARIABLE_PAGE
 
 FORMS = {
     POINTER: "a pointer",
@@ -70,9 +70,8 @@ def what_occurs(link, told):
     if told is not None:
         return {"refused: %s" % what for what, *_ in told}
     found = {OPTIONS[not link.executable]}
-    found |= {
-        name for is_set, name in zip((link.options.lists is not None, link.options.strip, link.options.room), OPTIONS[2:]) if is_set
-    }
+    are_set = link.options.lists is not None, link.options.strip, link.options.room
+    found |= {name for is_set, name in zip(are_set, OPTIONS[2:]) if is_set}
     for _, one in link.objects:
         found |= {section.name.decode() for section in one.sections}
         found |= {FORMS[word >> 24] for section in one.sections for _, word in section.relocations}
@@ -80,8 +79,7 @@ def what_occurs(link, told):
         found |= {"%s, used" % kind_of(symbol) for symbol in used(one)}
     for _, library in link.libraries:
         found |= {"%s in a library" % kind_of(symbol) for symbol in library.symbols or []}
-    told_names = {symbol.name for _, one in link.objects for symbol in one.symbols if symbol.is_global()}
-    for name in told_names:
+    for name in {symbol.name for _, one in link.objects for symbol in one.symbols if symbol.is_global()}:
         found |= {choice for choice, holds in choices(link, name) if holds}
     return found
 
@@ -114,5 +112,4 @@ def choices(link, name):
     yield "the handle of a library", name == HANDLE and is_import
     yield "a hidden definition", own is not None and link.symbol(*own).kind & 0x10 != 0
     yield "an absolute definition", own is not None and link.place_of(*own)[0] == "absolute"
-    yield "an undefined name without a use", not own and not offering and name != HANDLE
-    assert own or not defined
+    yield "an undefined name without a use", not own and not offering and name in CROSSED and name != HANDLE

@@ -9,3 +9,5 @@ mod objects;
 mod resolution;
 #[cfg(test)]
 mod sharing;
+#[cfg(test)]
+mod told;
