@@ -67,11 +67,13 @@ fn a_star_is_any_run_of_bytes_and_other_bytes_are_themselves(rt: HostRuntime) ->
     Ok(())
 }
 
+/// Texts of a list, and its plain entries.
+const ENTRIES: [(&[&[u8]], &[u8]); 2] = [(&[b"_a*\n# c\n _b \n"], b"_b "), (TWO, b"_b _a _b ")];
+
 #[test]
 fn plain_entries_stand_in_order_over_all_texts(rt: HostRuntime) -> Result<(), Fail> {
-    let one = plain_entries(rt.alloc(), CONTAINS[0].0)?;
-    assert_eq!(rt; one.as_slice(), b"_b ".as_slice());
-    let two = plain_entries(rt.alloc(), TWO)?;
-    assert_eq!(rt; two.as_slice(), b"_b _a _b ".as_slice());
+    for (texts, wanted) in ENTRIES {
+        assert_eq!(rt; plain_entries(rt.alloc(), texts)?.as_slice(), wanted);
+    }
     Ok(())
 }
