@@ -19,7 +19,11 @@ INSTRUCTIONS, DEBUG = 0x80000400, 0x02000000
 
 
 class Refused(Exception):
-    """The link is refused."""
+    """The link is refused: why, and what may be told of names, as a word, a name and the numbers of files."""
+
+    def __init__(self, why, *told):
+        super().__init__(why)
+        self.told = told
 
 
 @dataclass
@@ -72,6 +76,10 @@ class Symbol:
     def exponent(self):
         return self.description >> 8 & 15
 
+    def is_offered(self):
+        """Whether a library with the symbol offers its name: the symbol is defined there, and others see it."""
+        return self.is_global() and self.kind & 0x10 == 0 and self.kind & 0xE in (2, 0xE)
+
 
 @dataclass
 class Object:
@@ -81,8 +89,11 @@ class Object:
 
 @dataclass
 class Library:
+    """A library with the names that it offers: a text stub, or a Mach-O file where it has symbols."""
+
     name: bytes
     offered: list
+    symbols: list = None
 
 
 @dataclass
@@ -124,6 +135,15 @@ def section_header(name, segment, address, size, place, exponent, flags, second=
     return name.ljust(16, b"\0") + segment.ljust(16, b"\0") + numbers
 
 
+def symbol_bytes(symbols, step):
+    """The rows of symbols, and the table of their names."""
+    names, rows = b"\0", b""
+    for symbol in symbols:
+        rows += pack("<IBBHQ", len(names) if symbol.name else 0, *(symbol.kind, symbol.section, symbol.description, symbol.value))
+        names += symbol.name + b"\0" if symbol.name else b""
+    return rows, padded(names, step)
+
+
 def object_bytes(thing, flags=0, step=4):
     """The bytes of an object; contents are padded to 8 and names to `step`, or neither where that is 1."""
     start = 32 + 72 + 80 * len(thing.sections) + 24
@@ -138,16 +158,25 @@ def object_bytes(thing, flags=0, step=4):
         where = (behind if count else 0, count)
         headers += section_header(one.name, one.segment, one.address, one.size, at, one.exponent, one.flags, 0, where)
         place, behind = place + in_file, behind + 8 * count
-    names, rows = b"\0", b""
-    for symbol in thing.symbols:
-        rows += pack("<IBBHQ", len(names) if symbol.name else 0, *(symbol.kind, symbol.section, symbol.description, symbol.value))
-        names += symbol.name + b"\0" if symbol.name else b""
-    names = padded(names, step)
+    rows, names = symbol_bytes(thing.symbols, step)
     end = max([one.address + one.size for one in thing.sections], default=0)
     out = pack("<IIIIIIII", 0xFEEDFACF, 0x0100000C, 0, 1, 2, start - 32, flags, 0)
     out += segment_command(b"", 0, end, start, taken, 7, len(thing.sections)) + headers
     out += pack("<IIIIII", 2, 24, behind, len(thing.symbols), behind + len(rows), len(names))
     return out + data + moved + rows + names
+
+
+def library_bytes(library):
+    """The bytes of a library: a stub, or a Mach-O file with a section that has no contents there, its name and its symbols."""
+    if library.symbols is None:
+        return stub_bytes(library)
+    rows, names = symbol_bytes(library.symbols, 4)
+    path = padded(library.name + b"\0", 8)
+    head = segment_command(TEXT, 0, PAGE, 0, 0, 5, 1) + section_header(b"__text", TEXT, 0x1000, 0x100, 0, 2, INSTRUCTIONS)
+    head += pack("<IIIIII", 0xD, 24 + len(path), 24, 1, 0x10000, 0x10000) + path
+    start = 32 + len(head) + 24
+    head += pack("<IIIIII", 2, 24, start, len(library.symbols), start + len(rows), len(names))
+    return pack("<IIIIIIII", 0xFEEDFACF, 0x0100000C, 0, 6, 3, len(head), 0x100085, 0) + head + rows + names
 
 
 def stub_bytes(library):
@@ -246,7 +275,7 @@ class Link:
 
     def define(self):
         """The definitions of names: strong, weak, common, in a library."""
-        self.strong, self.weak, self.commons, self.offered = {}, {}, {}, {}
+        self.strong, self.weak, self.commons, self.offered, twice = {}, {}, {}, {}, {}
         for number, one in self.objects:
             for index, symbol in enumerate(one.symbols):
                 if not symbol.is_global():
@@ -254,7 +283,7 @@ class Link:
                 if self.place_of(number, index)[0] in ("section", "absolute"):
                     table = self.weak if symbol.is_weak() else self.strong
                     if symbol.name in self.strong and not symbol.is_weak():
-                        raise Refused("two definitions of %r" % symbol.name)
+                        twice.setdefault(symbol.name, ("duplicate symbol", symbol.name, self.strong[symbol.name][0], number))
                     table.setdefault(symbol.name, (number, index))
                 elif symbol.is_common():
                     other = self.commons.get(symbol.name)
@@ -263,6 +292,8 @@ class Link:
         for number, library in self.libraries:
             for name in library.offered:
                 self.offered.setdefault(name, number)
+        if twice:
+            raise Refused("two definitions", *twice.values())
 
     def symbol(self, number, index):
         return self.inputs[number].symbols[index]
@@ -295,7 +326,7 @@ class Link:
             return self.note(symbol.name)
         if symbol.name == b"___dso_handle":
             return ("base",)
-        raise Refused("no definition of %r" % symbol.name)
+        raise Refused("no definition", ("undefined symbol", symbol.name, number))
 
     def note(self, name):
         if name not in self.imports:

@@ -1,9 +1,18 @@
-"""Random valid links, each by its number: inputs by their paths, words, and the image by `plain_linker`."""
+"""Random links, each by its number: inputs by their paths, words, and the image by `plain_linker`, or the lines of a refusal.
+
+There are one to three objects and up to three libraries, in any order. Objects have sections of all kinds in `KINDS`, carried, consumed or
+left out, relocations of all forms, initializers and unwind entries. Libraries are text stubs, or Mach-O files with symbols that they offer
+and others. In three of five links the names `_a`, `_b` and `___dso_handle` meet: each object and each Mach-O library has a few symbols of
+any kinds in `CROSSING` with them, also several of one name, and libraries offer them too. So a name has strong, weak and common definitions
+in objects, those that libraries offer or only have, and uses; commons are of one size or several, and of several alignments. Two strong
+definitions are a link that is refused. In some links a name is used that nothing defines; in others there are such names without a use.
+`link_kinds` names what occurs.
+"""
 
 import random
 from struct import pack
 
-from plain_linker import Library, Link, Object, Options, Refused, Section, Symbol, object_bytes, stub_bytes, up
+from plain_linker import Library, Link, Object, Options, Refused, Section, Symbol, library_bytes, object_bytes, up
 
 # the highest bytes of relocation words
 POINTER, SECTION_POINTER, SHORT, SHORT_LESS, LESS = 0x0E, 0x06, 0x0C, 0x1C, 0x1E
@@ -36,6 +45,29 @@ KINDS = [
     (b"__LD", b"__compact_unwind", (3,), 0x02000000),
 ]
 
+# symbols whose names meet in several files: what they are, types, descriptions and values; None for a place in a section
+CROSSING = [
+    ("undefined", 0x01, 0, 0),
+    ("undefined", 0x01, 0, 0),
+    ("undefined", 0x01, 0, 0),
+    ("local", 0x0E, 0, None),
+    ("absolute local", 0x02, 0, 5),
+    ("debugger's", 0x24, 0, None),
+    ("indirect", 0x0B, 0, 1),
+    ("common of 8", 0x01, 0x300, 8),
+    ("common of 9", 0x01, 0x400, 9),
+    ("common of 12", 0x01, 0, 12),
+    ("aligned common of 12", 0x01, 0x300, 12),
+    ("weak", 0x0F, 0x80, None),
+    ("hidden weak", 0x1F, 0x80, None),
+    ("absolute weak", 0x03, 0x80, 78),
+    ("strong", 0x0F, 0, None),
+    ("hidden", 0x1F, 0, None),
+    ("absolute", 0x03, 0, 77),
+]
+HANDLE, NOWHERE = b"___dso_handle", b"_nowhere"
+CROSSED = [b"_a", b"_b", HANDLE]
+
 
 class Maker:
     """Makes one link."""
@@ -43,11 +75,8 @@ class Maker:
     def __init__(self, seed):
         self.random = random.Random(seed)
         self.pick = self.random.choice
-        names = [b"_i%d" % number for number in range(6)]
-        self.libraries = [
-            Library(b"/usr/lib/lib%s.dylib" % self.pick([b"a", b"bb", b"cccc"]), [name for name in names if self.chance(0.5)])
-            for _ in range(self.random.randint(0, 3))
-        ]
+        self.crosses, self.misses = self.chance(0.6), self.chance(0.12)
+        self.libraries = [self.library(b"/usr/lib/lib%s.dylib" % self.pick([b"a", b"bb", b"cccc"])) for _ in range(self.random.randint(0, 3))]
         self.offered = sorted({name for library in self.libraries for name in library.offered})
         self.objects = [self.frame(number) for number in range(self.random.randint(1, 3))]
         told = {symbol.name for one in self.objects for symbol in one.symbols if symbol.is_global()}
@@ -59,14 +88,46 @@ class Maker:
         self.options = self.choose_options()
         # what symbols lead to is looked up by a link that asks for nothing yet
         self.look = Link(self.inputs, self.options)
-        self.look.define()
+        try:
+            self.look.define()
+        except Refused:
+            pass
         for one in self.objects:
             self.ask(one)
 
     def chance(self, part):
         return self.random.random() < part
 
-    # sections and symbols
+    # libraries, sections and symbols
+
+    def library(self, path):
+        """A library: a stub, or a Mach-O file with symbols that are offered and others."""
+        names = [b"_i%d" % number for number in range(6)]
+        offered = [name for name in names + CROSSED * self.crosses if self.chance(0.5 if name in names else 0.3)]
+        if self.chance(0.5):
+            return Library(path, offered)
+        kinds = [row for row in CROSSING if Symbol(b"", row[1], 1, *row[2:]).is_offered()]
+        symbols = [self.crossing(name, self.pick(kinds), 1, self.random.randrange(0x100)) for name in offered]
+        for _ in range(self.random.randint(0, 9)):
+            name = self.pick(names + CROSSED * self.crosses)
+            symbols.append(self.crossing(name, self.pick(CROSSING), 1, self.random.randrange(0x100)))
+        self.random.shuffle(symbols)
+        return Library(path, [symbol.name for symbol in symbols if symbol.is_offered()], symbols)
+
+    def crossing(self, name, row, section, place):
+        """A symbol of a kind; a place in a section is given for those that stand in one."""
+        _, kind, description, value = row
+        return Symbol(name, kind, 0 if value is not None else section, description, place if value is None else value)
+
+    def crossed(self, sections):
+        """A few symbols of any kinds with the names that meet; a name may have several in one object."""
+        symbols = []
+        fixed = [index for index, one in enumerate(sections) if one.name not in (b"__mod_init_func", b"__compact_unwind")]
+        for _ in range(self.random.randint(0, 6) if self.crosses else 0):
+            index = self.pick(fixed)
+            offset = self.random.randint(0, sections[index].size) & (~3 if sections[index].flags & 0x80000000 else ~0)
+            symbols.append(self.crossing(self.pick(CROSSED), self.pick(CROSSING), index + 1, sections[index].address + offset))
+        return symbols
 
     def frame(self, number):
         sections = [Section(b"__TEXT", b"__text", self.pick([2, 3, 4, 5]), INSTRUCTIONS, b"")]
@@ -112,7 +173,7 @@ class Maker:
                 kept.append(symbol)
             if symbol.is_global():
                 told.add(symbol.name)
-        return kept
+        return kept + self.crossed(sections)
 
     def symbol(self, number, index, turn, section):
         offset = self.random.randint(0, section.size) & (~3 if section.flags & 0x80000000 else ~0)
@@ -127,7 +188,7 @@ class Maker:
         """Names that the object uses and doesn't define."""
         names = self.random.sample(self.names, min(len(self.names), self.random.randint(0, 3)))
         names += self.random.sample(self.offered, min(len(self.offered), self.random.randint(0, 4)))
-        names += [b"___dso_handle"] * self.chance(0.3)
+        names += [HANDLE] * self.chance(0.3) + [NOWHERE] * (self.misses and self.chance(0.7))
         for name in names:
             if not any(symbol.name == name and symbol.is_global() for symbol in one.symbols):
                 one.symbols.append(Symbol(name, 1, 0, self.pick([0, 0x40]), 0))
@@ -137,7 +198,7 @@ class Maker:
     def choose_options(self):
         lists = None
         if self.chance(0.4):
-            lines = [b"_main", b"_g0_*", b"_*", b"*_1", b"_c*", b"# x", b"  _i* ", b"_g*_0 # y"] + self.offered
+            lines = [b"_main", b"_g0_*", b"_*", b"*_1", b"_c*", b"# x", b"  _i* ", b"_g*_0 # y", b"_a*", b"_b*"] + self.offered
             lists = [b"\n".join(self.random.sample(lines, self.random.randint(1, 4))) for _ in range(self.random.randint(1, 2))]
         uuid = bytes(self.random.randrange(256) for _ in range(16))
         return Options(b"out", uuid, self.chance(0.3), lists, self.chance(0.3), self.chance(0.3))
@@ -151,7 +212,7 @@ class Maker:
             try:
                 led.append(self.look.target(number, index))
             except Refused:
-                led.append(("none",))
+                led.append(("import", symbol.name) if self.misses else ("none",))
         pick = lambda test: [index for index, target in enumerate(led) if test(target)]
         owner = lambda target: self.inputs[target[1]].sections[target[2]]
         self.here = pick(lambda target: target[0] in ("section", "common", "base"))
@@ -268,12 +329,12 @@ class Maker:
 
 
 def random_link(seed):
-    """Files, words, and the image, or None where the link is refused."""
+    """The plain link, files, words, and the image; or, where the link is refused, what may be told of names and the lines."""
     made = Maker(seed)
     files, words = {}, ["-o", "out", "-uuid", made.options.uuid.hex()]
     for number, one in enumerate(made.inputs):
         path = "input%d" % number
-        files[path] = object_bytes(one, 0x2000) if isinstance(one, Object) else stub_bytes(one)
+        files[path] = object_bytes(one, 0x2000) if isinstance(one, Object) else library_bytes(one)
         words.append(path)
     for number, text in enumerate(made.options.lists or []):
         path = "list%d" % number
@@ -281,7 +342,13 @@ def random_link(seed):
         words += ["-exported_symbols_list", path]
     asked = (made.options.dylib, "-dylib"), (made.options.strip, "-dead_strip_dylibs"), (made.options.room, "-headerpad_max_install_names")
     words += [word for is_set, word in asked if is_set]
+    plain = Link(made.inputs, made.options)
     try:
-        return files, words, Link(made.inputs, made.options).image()
-    except Refused:
-        return files, words, None
+        return plain, files, words, plain.image(), None
+    except Refused as refused:
+        return plain, files, words, [line(*told) for told in refused.told], refused.told
+
+
+def line(what, name, *numbers):
+    """The line that tells of a name in files."""
+    return "wild_macho: %s %s in %s\n" % (what, name.decode(), " and ".join("input%d" % number for number in numbers))

@@ -1,7 +1,8 @@
 """Compares images that the linker writes, byte by byte, with those of a plain linker that shares nothing with it.
 
 `checks/whole_images.py` prints the digests of some images, which tests name. With a program, a folder and a count behind it, as
-`checks/whole_images.sh` gives them, it links the inputs of these and so many random ones there, and compares.
+`checks/whole_images.sh` gives them, it links the inputs of these and so many random ones there, and compares. Where a link is refused for a
+name, the line has to tell a name and the files of which that is true.
 """
 
 import hashlib
@@ -9,6 +10,7 @@ import os
 import subprocess
 import sys
 
+import link_kinds
 from plain_linker import Library, Object, Options, Section, Symbol, link, object_bytes, stub_bytes
 from random_links import BRANCH, INSTRUCTIONS, POINTER, SECTION_POINTER, random_link
 
@@ -110,14 +112,31 @@ def ran(program, folder, files, words):
 
 def compare(program, folder, name, files, words, want):
     got, printed = ran(program, folder, files, words)
+    if isinstance(want, list) and got is None:
+        if want and printed not in want:
+            sys.exit("%s: %r is told; wanted one of %r" % (name, printed, want))
+        return
     if got != want:
-        if got is None or want is None:
-            sys.exit("%s: %s" % (name, "an image is written of a link that is refused" if want is None else printed.strip()))
+        if got is None or isinstance(want, list):
+            sys.exit("%s: %s" % (name, "an image is written of a link that is refused" if isinstance(want, list) else printed.strip()))
         same = [one == other for one, other in zip(got, want)]
         place = same.index(False) if False in same else len(same)
         sys.exit("%s: the image of %d bytes differs from that of %d at %#x" % (name, len(got), len(want), place))
-    if want is not None and not files and hashlib.sha256(want).hexdigest() not in printed:
+    if not files and hashlib.sha256(want).hexdigest() not in printed:
         sys.exit("%s: another digest is printed" % name)
+
+
+def compare_random(program, folder, count):
+    """Compares random links, and asks that all that `link_kinds` names occurs."""
+    counts = dict.fromkeys(link_kinds.ALL, 0)
+    for seed in range(count):
+        plain, files, words, want, told = random_link(seed)
+        compare(program, folder, "random link %d" % seed, files, words, want)
+        for kind in link_kinds.what_occurs(plain, told) & counts.keys():
+            counts[kind] += 1
+    never = [kind for kind, number in counts.items() if not number]
+    if never:
+        sys.exit("of %d random links none has: %s" % (count, ", ".join(never)))
 
 
 def main():
@@ -126,8 +145,8 @@ def main():
             print(hashlib.sha256(want).hexdigest(), len(want), name)
         else:
             compare(sys.argv[1], sys.argv[2], name, files, words, want)
-    for seed in range(int(sys.argv[3]) if len(sys.argv) == 4 else 0):
-        compare(sys.argv[1], sys.argv[2], "random link %d" % seed, *random_link(seed))
+    if len(sys.argv) > 3:
+        compare_random(*sys.argv[1:3], int(sys.argv[3]))
 
 
 if __name__ == "__main__":

@@ -1,5 +1,5 @@
 #!/usr/bin/env bash
-# Compares images that the linker writes, byte by byte, with those of a plain linker in Python: known ones, and 200 random ones.
+# Compares images that the linker writes, byte by byte, with those of a plain linker in Python: known ones, and 300 random ones.
 top=$(cd "$(dirname "$0")/.." && pwd) || exit 1
 folder=$(mktemp -d) || exit 1
 trap 'rm -rf "$folder"' EXIT
@@ -11,5 +11,5 @@ command -v python3 >/dev/null || {
     exit 0
 }
 export PYTHONDONTWRITEBYTECODE=1
-python3 "$top/checks/whole_images.py" "$top/link" "$folder" 200 || fail "an image isn't that of the plain linker"
+python3 "$top/checks/whole_images.py" "$top/link" "$folder" 300 || fail "an image isn't that of the plain linker"
 echo "whole_images: the same"

@@ -2,8 +2,6 @@
 #![tactic(auto)]
 
 #[cfg(test)]
-mod judge;
-#[cfg(test)]
 mod lists;
 #[cfg(test)]
 mod objects;
@@ -11,3 +9,5 @@ mod objects;
 mod resolution;
 #[cfg(test)]
 mod sharing;
+#[cfg(test)]
+mod told;

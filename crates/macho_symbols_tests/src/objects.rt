@@ -207,37 +207,3 @@ pub(crate) fn note(
     }
     Some(resolved.note_use(0, symbol))
 }
-
-/// What is told of a symbol, and then of a use of it.
-#[derive(Drop)]
-pub(crate) struct Told {
-    /// Where it leads.
-    pub(crate) leads: Target,
-    /// Whether it defines its name.
-    pub(crate) defines: bool,
-    /// What noting the use tells.
-    pub(crate) noted: Result<Target, SymbolFault>,
-}
-
-/// What is told of each symbol of the first object, and then of a use of it, one symbol after another.
-pub(crate) fn note_each(
-    alloc: Global,
-    resolved: &mut Resolved,
-    first: &File<'_>,
-) -> Result<Vec<Told>, AllocError>
-    requires { IsFirst first.now.bytes resolved.old }
-{
-    let mut told = Vec::new(alloc);
-    for symbol in 0..first.num_symbols() {
-        let before = target(resolved, first, symbol);
-        let (Some((leads, defines)), Some(noted)) = (before, note(resolved, first, symbol)) else {
-            continue;
-        };
-        told.push(Told {
-            leads,
-            defines,
-            noted,
-        })?;
-    }
-    Ok(told)
-}
