@@ -147,14 +147,39 @@ fn is_stub(alloc: Global, text: &str, wanted: Stub) -> bool {
     }
 }
 
-/// Whether the two parts of a text, one behind the other, are what they should be.
+/// What a text begins with.
+#[derive(Clone, Copy)]
+enum Front {
+    Nothing,
+    /// The line of a document.
+    Document,
+    OneTarget,
+    Main,
+    System,
+    OtherTargets,
+    Varied,
+}
+
+fn front_of(front: Front) -> &'static str {
+    match front {
+        Front::Nothing => "",
+        Front::Document => "--- !tapi-tbd\n",
+        Front::OneTarget => ONE_TARGET,
+        Front::Main => MAIN,
+        Front::System => SYSTEM,
+        Front::OtherTargets => OTHER_TARGETS,
+        Front::Varied => VARIED,
+    }
+}
+
+/// Whether what begins a text and what follows are what they should be.
 fn is_joined_stub(
     alloc: Global,
-    front: &str,
+    front: Front,
     back: &str,
     wanted: Stub,
 ) -> Result<bool, AllocError> {
-    let mut text = String::from_str(alloc, front)?;
+    let mut text = String::from_str(alloc, front_of(front))?;
     text.push_str(back)?;
     Ok(is_stub(alloc, text.as_str(), wanted))
 }
@@ -174,10 +199,10 @@ const ONE_TARGET: &str =
 /// The library `a` with one symbol and a weak one.
 const ONE_OF_EACH: Stub = Stub::Names("a", "1", "_s ", "_w ");
 
-/// Texts in two parts, and what they are.
-static STUBS: [(&str, &str, Stub); 46] = [
+/// Texts by what begins them and what follows, and what they are.
+static STUBS: [(Front, &str, Stub); 46] = [
     (
-        MAIN,
+        Front::Main,
         "",
         Stub::Names(
             "/usr/lib/libMain.dylib",
@@ -186,197 +211,181 @@ static STUBS: [(&str, &str, Stub); 46] = [
             "_main_weak_arm64 _a_weak_arm64 _b_weak_exported_arm64 ",
         ),
     ),
-    (MAIN, "", Stub::Symbols(7)),
+    (Front::Main, "", Stub::Symbols(7)),
     (
-        SYSTEM,
+        Front::System,
         "",
         Stub::Names("/usr/lib/libSystem.B.dylib", "1351", "_exit _write ", ""),
     ),
     (
-        VARIED,
+        Front::Varied,
         "",
         Stub::Names("/lib/a b.dylib", "1,2", "_one _two words _three# ", ""),
     ),
     // the keys of an item, in each order
     (
-        ONE_TARGET,
+        Front::OneTarget,
         "  - targets: [ arm64e-macos ]\n    symbols: [ _s ]\n    weak-symbols: [ _w ]\n",
         ONE_OF_EACH,
     ),
     (
-        ONE_TARGET,
+        Front::OneTarget,
         "  - targets: [ arm64e-macos ]\n    weak-symbols: [ _w ]\n    symbols: [ _s ]\n",
         ONE_OF_EACH,
     ),
     (
-        ONE_TARGET,
+        Front::OneTarget,
         "  - symbols: [ _s ]\n    targets: [ arm64e-macos ]\n    weak-symbols: [ _w ]\n",
         ONE_OF_EACH,
     ),
     (
-        ONE_TARGET,
+        Front::OneTarget,
         "  - symbols: [ _s ]\n    weak-symbols: [ _w ]\n    targets: [ arm64e-macos ]\n",
         ONE_OF_EACH,
     ),
     (
-        ONE_TARGET,
+        Front::OneTarget,
         "  - weak-symbols: [ _w ]\n    targets: [ arm64e-macos ]\n    symbols: [ _s ]\n",
         ONE_OF_EACH,
     ),
     (
-        ONE_TARGET,
+        Front::OneTarget,
         "  - weak-symbols: [ _w ]\n    symbols: [ _s ]\n    targets: [ arm64e-macos ]\n",
         ONE_OF_EACH,
     ),
     // texts outside the grammar
-    ("a: b\n", "", Stub::Refused(1, S1)),
-    ("\n--- !tapi-tbd x\n", "", Stub::Refused(2, S1)),
+    (Front::Nothing, "a: b\n", Stub::Refused(1, S1)),
+    (Front::Nothing, "\n--- !tapi-tbd x\n", Stub::Refused(2, S1)),
     (
-        "--- !tapi-tbd\ntargets: [ a,\n  b\n",
-        "",
+        Front::Document,
+        "targets: [ a,\n  b\n",
         Stub::Refused(2, S1),
     ),
-    ("--- !tapi-tbd\ntargets: [ , ]\n", "", Stub::Refused(2, S1)),
+    (Front::Document, "targets: [ , ]\n", Stub::Refused(2, S1)),
+    (Front::Document, "targets: [ a b ]\n", Stub::Refused(2, S1)),
+    (Front::Document, "targets: a\n", Stub::Refused(2, S1)),
+    (Front::Document, "tbd-version: '4'\n", Stub::Refused(2, S1)),
     (
-        "--- !tapi-tbd\ntargets: [ a b ]\n",
-        "",
+        Front::Document,
+        "install-name: \"a\\b\"\n",
         Stub::Refused(2, S1),
     ),
-    ("--- !tapi-tbd\ntargets: a\n", "", Stub::Refused(2, S1)),
+    (Front::Document, "install-name: a#b\n", Stub::Refused(2, S1)),
+    (Front::Document, "install-name:a\n", Stub::Refused(2, S1)),
+    (Front::Document, "other: [ a\n...\n", Stub::Refused(3, S1)),
     (
-        "--- !tapi-tbd\ntbd-version: '4'\n",
-        "",
-        Stub::Refused(2, S1),
-    ),
-    (
-        "--- !tapi-tbd\ninstall-name: \"a\\b\"\n",
-        "",
-        Stub::Refused(2, S1),
-    ),
-    (
-        "--- !tapi-tbd\ninstall-name: a#b\n",
-        "",
-        Stub::Refused(2, S1),
-    ),
-    ("--- !tapi-tbd\ninstall-name:a\n", "", Stub::Refused(2, S1)),
-    ("--- !tapi-tbd\nother: [ a\n...\n", "", Stub::Refused(3, S1)),
-    (
-        "--- !tapi-tbd\ntargets: [ a,\n...\n]\n",
-        "",
+        Front::Document,
+        "targets: [ a,\n...\n]\n",
         Stub::Refused(3, S1),
     ),
     (
-        "--- !tapi-tbd\ntargets: [ a,\n  'b\n",
-        "",
+        Front::Document,
+        "targets: [ a,\n  'b\n",
         Stub::Refused(3, S1),
     ),
     (
-        "--- !tapi-tbd\nexports:\ntbd-version: 4\n",
-        "",
+        Front::Document,
+        "exports:\ntbd-version: 4\n",
         Stub::Refused(3, S1),
     ),
     (
-        "--- !tapi-tbd\nexports:\n  - a: b\n   c: d\n",
-        "",
+        Front::Document,
+        "exports:\n  - a: b\n   c: d\n",
         Stub::Refused(4, S1),
     ),
+    (Front::Document, "\ttbd-version: 4\n", Stub::Refused(2, S1)),
     (
-        "--- !tapi-tbd\n\ttbd-version: 4\n",
-        "",
+        Front::Document,
+        "install-name: a\u{85}b\n",
         Stub::Refused(2, S1),
     ),
     (
-        "--- !tapi-tbd\ninstall-name: a\u{85}b\n",
-        "",
-        Stub::Refused(2, S1),
-    ),
-    (
-        "--- !tapi-tbd\ntargets: [ a ]\nother: [ b,\n\n  c,\n",
-        "",
+        Front::Document,
+        "targets: [ a ]\nother: [ b,\n\n  c,\n",
         Stub::Refused(3, S1),
     ),
     (
-        "--- !tapi-tbd\nexports: # none\n\n# a comment\n",
-        "",
+        Front::Document,
+        "exports: # none\n\n# a comment\n",
         Stub::Refused(2, S1),
     ),
     (
-        "--- !tapi-tbd\nexports:\n  - symbols: [ a ]\n - targets: [ b ]\n",
-        "",
+        Front::Document,
+        "exports:\n  - symbols: [ a ]\n - targets: [ b ]\n",
         Stub::Refused(4, S1),
     ),
     // texts that break another rule
-    ("", "", Stub::Refused(1, S2)),
+    (Front::Nothing, "", Stub::Refused(1, S2)),
     (
+        Front::Nothing,
         "\n--- !tapi-tbd\ntbd-version: 4\n",
-        "",
         Stub::Refused(2, S2),
     ),
     (
-        "--- !tapi-tbd\nexports:\n  - symbols: [ a ]\n  - targets: [ a b ]\n",
-        "",
+        Front::Document,
+        "exports:\n  - symbols: [ a ]\n  - targets: [ a b ]\n",
         Stub::Refused(1, S2),
     ),
     (
-        "--- !tapi-tbd\nreexported-libraries:\n  - targets: [ a ]\nexports: a\n",
-        "",
+        Front::Document,
+        "reexported-libraries:\n  - targets: [ a ]\nexports: a\n",
         Stub::Refused(1, S2),
     ),
     (
-        "--- !tapi-tbd\ntargets: []\ntargets: []\n",
-        "",
+        Front::Document,
+        "targets: []\ntargets: []\n",
         Stub::Refused(3, S3),
     ),
     (
-        "--- !tapi-tbd\ntargets: []\ntargets: [ a b ]\n",
-        "",
+        Front::Document,
+        "targets: []\ntargets: [ a b ]\n",
         Stub::Refused(3, S3),
     ),
     (
-        "--- !tapi-tbd\ntargets: []\nexports:\n  - symbols: []\ntargets: []\n",
-        "",
+        Front::Document,
+        "targets: []\nexports:\n  - symbols: []\ntargets: []\n",
         Stub::Refused(1, S2),
     ),
     (
-        "--- !tapi-tbd\nexports:\n  - targets: []\n    targets: []\n",
-        "",
+        Front::Document,
+        "exports:\n  - targets: []\n    targets: []\n",
         Stub::Refused(4, S3),
     ),
     (
-        "--- !tapi-tbd\ntbd-version: 3\ntargets: [ arm64e-macos ]\ninstall-name: a\ncurrent-version: 1\n",
-        "",
+        Front::Document,
+        "tbd-version: 3\ntargets: [ arm64e-macos ]\ninstall-name: a\ncurrent-version: 1\n",
         Stub::Refused(1, S4),
     ),
     (
-        "--- !tapi-tbd\ntbd-version: 3\ntargets: [ arm64-macos ]\ninstall-name: a\n",
-        "",
+        Front::Document,
+        "tbd-version: 3\ntargets: [ arm64-macos ]\ninstall-name: a\n",
         Stub::Refused(1, S5),
     ),
     (
-        "--- !tapi-tbd\ntbd-version: 4\ntargets: [ arm64e-macos ]\ninstall-name: a\ncurrent-version: ''\n",
-        "",
+        Front::Document,
+        "tbd-version: 4\ntargets: [ arm64e-macos ]\ninstall-name: a\ncurrent-version: ''\n",
         Stub::Refused(1, S6),
     ),
     (
-        "--- !tapi-tbd\ntbd-version: 4\ntargets: [ arm64e-macos ]\ninstall-name: a\ncurrent-version: 1\nreexported-libraries:\n  - targets: []\n    libraries: []\n  - targets: []\n    libraries: []\n",
-        "",
+        Front::Document,
+        "tbd-version: 4\ntargets: [ arm64e-macos ]\ninstall-name: a\ncurrent-version: 1\nreexported-libraries:\n  - targets: []\n    libraries: []\n  - targets: []\n    libraries: []\n",
         Stub::Refused(1, S7),
     ),
     (
-        "--- !tapi-tbd\ntbd-version: 4\ntargets: [ arm64e-macos ]\ninstall-name: a\ncurrent-version: 1\nreexported-libraries:\n  - targets: [ arm64-macos ]\n    libraries: []\n",
-        "",
+        Front::Document,
+        "tbd-version: 4\ntargets: [ arm64e-macos ]\ninstall-name: a\ncurrent-version: 1\nreexported-libraries:\n  - targets: [ arm64-macos ]\n    libraries: []\n",
         Stub::Refused(1, S8),
     ),
     (
-        "--- !tapi-tbd\ntbd-version: 4\ntargets: [ arm64e-macos ]\ninstall-name: a\ncurrent-version: 1\n--- !tapi-tbd\ntbd-version: 4\ntargets: [ arm64e-macos ]\ninstall-name: c\n",
-        "",
+        Front::Document,
+        "tbd-version: 4\ntargets: [ arm64e-macos ]\ninstall-name: a\ncurrent-version: 1\n--- !tapi-tbd\ntbd-version: 4\ntargets: [ arm64e-macos ]\ninstall-name: c\n",
         Stub::Refused(6, S9),
     ),
-    (OTHER_TARGETS, "", Stub::Refused(1, S5)),
-    (MAIN, FURTHER, Stub::Refused(39, S9)),
+    (Front::OtherTargets, "", Stub::Refused(1, S5)),
+    (Front::Main, FURTHER, Stub::Refused(39, S9)),
 ];
 
-fn stubs() -> &'static [(&'static str, &'static str, Stub)] {
+fn stubs() -> &'static [(Front, &'static str, Stub)] {
     &STUBS
 }
 
@@ -387,7 +396,7 @@ fn texts_with_what_they_are(rt: HostRuntime) -> Result<(), Fail> {
         let (front, back, wanted) = stubs[number];
         assert!(rt;
             is_joined_stub(rt.alloc(), front, back, wanted)?,
-            "{front}{back}"
+            "text {number}: {back}"
         );
     }
     Ok(())
