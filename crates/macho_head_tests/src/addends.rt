@@ -1,5 +1,5 @@
 //! Two pointers to `_exit` of the one library: one with the addend -8 in its import's entry, one with 5 in its word.
-use crate::views::{is_refused, leads_to_exit};
+use crate::views::{View, tells};
 use macho_loader::LoadRule;
 
 /// The header and the load commands: four segments, the library and the fixup table.
@@ -43,20 +43,27 @@ fn changed(at: usize, byte: u8) -> [u8; SIZE] {
     image
 }
 
+/// A byte of the image as it is or changed, and what is then told.
+static VIEWS: [(usize, u8, View); 5] = [
+    (0x4000, 1, View::Exit(0x1_0000_4000, -8)),
+    (0x4000, 1, View::Exit(0x1_0000_4008, 5)),
+    // an addend in the first word too
+    (0x4003, 3, View::Exit(0x1_0000_4000, -5)),
+    // an import behind the last
+    (0x4000, 2, View::Refused(LoadRule::L10, 0x4000)),
+    // the second library of one
+    (0x8050, 2, View::Refused(LoadRule::L9, 0x8050)),
+];
+
+fn views() -> &'static [(usize, u8, View)] {
+    &VIEWS
+}
+
 #[test]
 fn both_addends_are_summed_with_their_sign(rt: HostRuntime) {
-    assert!(rt; leads_to_exit(&image(), 0x1_0000_4000, -8));
-    assert!(rt; leads_to_exit(&image(), 0x1_0000_4008, 5));
-    // an addend in the first word too
-    assert!(rt; leads_to_exit(&changed(0x4003, 3), 0x1_0000_4000, -5));
-}
-
-#[test]
-fn an_import_behind_the_last_is_refused(rt: HostRuntime) {
-    assert!(rt; is_refused(&changed(0x4000, 2), LoadRule::L10, 0x4000));
-}
-
-#[test]
-fn a_second_library_of_one_is_refused(rt: HostRuntime) {
-    assert!(rt; is_refused(&changed(0x8050, 2), LoadRule::L9, 0x8050));
+    let views = views();
+    for number in 0..views.len() {
+        let (at, byte, view) = views[number];
+        assert!(rt; tells(&changed(at, byte), view), "byte {at} is {byte}");
+    }
 }

@@ -77,8 +77,21 @@ fn bare(segment: PlacedSegment, protection: u32) -> Command<'static>
     }
 }
 
-#[test]
-fn segments_are_those_of_an_outside_linker(rt: HostRuntime) -> Result<(), Fail> {
+/// Whether the bytes stand at a place of the outside linker's head.
+fn stand_in_head(bytes: &[u8], at: usize) -> bool {
+    HEAD.get(at..at.saturating_add(bytes.len())) == Some(bytes)
+}
+
+/// Whether commands have the bytes that stand at a place of the outside linker's head.
+fn are_in_head(alloc: Global, commands: &[Command<'_>], at: usize) -> Result<bool, Fail>
+    requires fit { All Fits commands.now }
+    requires small { commands_size commands.now < 2 ^ 32 }
+{
+    Ok(stand_in_head(&spelled(alloc, commands)?, at))
+}
+
+/// The segments, one behind the other.
+fn are_segments_in_head(alloc: Global) -> Result<bool, Fail> {
     let headers = [CODE];
     let text = Command::Segment {
         segment: TEXT,
@@ -86,48 +99,51 @@ fn segments_are_those_of_an_outside_linker(rt: HostRuntime) -> Result<(), Fail> 
         flags: 0,
         headers: &headers,
     };
-    assert!(rt; spelled(rt.alloc(), &[bare(PAGEZERO, 0)])?[..] == HEAD[32..104]);
-    assert!(rt; spelled(rt.alloc(), &[text])?[..] == HEAD[104..256]);
-    assert!(rt; spelled(rt.alloc(), &[bare(LINKEDIT, 1)])?[..] == HEAD[256..328]);
-    Ok(())
+    are_in_head(alloc, &[bare(PAGEZERO, 0), text, bare(LINKEDIT, 1)], 32)
 }
 
-#[test]
-fn tables_are_those_of_an_outside_linker(rt: HostRuntime) -> Result<(), Fail> {
-    let fixups = Table {
-        offset: 0x4000,
-        size: 0x30,
-    };
-    let trie = Table {
-        offset: 0x4030,
-        size: 0x30,
-    };
-    let symbols = SymbolTable {
-        symbols_offset: 0x4068,
-        symbols: 3,
-        strings_offset: 0x4098,
-        strings_size: 0x30,
-    };
-    let signature = Table {
-        offset: 0x40d0,
-        size: 0x120,
-    };
-    assert!(rt; spelled(rt.alloc(), &[Command::ChainedFixups(fixups)])?[..] == HEAD[328..344]);
-    assert!(rt; spelled(rt.alloc(), &[Command::ExportsTrie(trie)])?[..] == HEAD[344..360]);
-    assert!(rt; spelled(rt.alloc(), &[Command::Symtab(symbols)])?[..] == HEAD[360..384]);
-    assert!(rt; spelled(rt.alloc(), &[Command::CodeSignature(signature)])?[..] == HEAD[664..680]);
-    Ok(())
+const FIXUPS: Table = Table {
+    offset: 0x4000,
+    size: 0x30,
+};
+
+const TRIE: Table = Table {
+    offset: 0x4030,
+    size: 0x30,
+};
+
+const SYMBOLS: SymbolTable = SymbolTable {
+    symbols_offset: 0x4068,
+    symbols: 3,
+    strings_offset: 0x4098,
+    strings_size: 0x30,
+};
+
+const SIGNATURE: Table = Table {
+    offset: 0x40d0,
+    size: 0x120,
+};
+
+/// The tables: fixups, exports and symbols stand one behind the other, and the signature is the last command.
+fn are_tables_in_head(alloc: Global) -> Result<bool, Fail> {
+    let tables = [
+        Command::ChainedFixups(FIXUPS),
+        Command::ExportsTrie(TRIE),
+        Command::Symtab(SYMBOLS),
+    ];
+    Ok(
+        are_in_head(alloc, &tables, 328)?
+            && are_in_head(alloc, &[Command::CodeSignature(SIGNATURE)], 664)?,
+    )
 }
 
-#[test]
-fn entry_and_linker_are_those_of_an_outside_linker(rt: HostRuntime) -> Result<(), Fail> {
+/// The dynamic linker and the UUID stand one behind the other, and the entry point behind the versions.
+fn is_entry_in_head(alloc: Global) -> Result<bool, Fail> {
     let uuid = *b"LLD\x88UU1D\xa1\x0e\x0e\xe2\xef\x08\xb7(";
-    assert!(rt; spelled(rt.alloc(), &[Command::Dylinker])?[..] == HEAD[464..496]);
-    assert!(rt; spelled(rt.alloc(), &[Command::Uuid { uuid }])?[..] == HEAD[496..520]);
-    assert!(rt;
-        spelled(rt.alloc(), &[Command::EntryPoint { offset: 0x2c8 }])?[..] == HEAD[552..576]
-    );
-    Ok(())
+    Ok(
+        are_in_head(alloc, &[Command::Dylinker, Command::Uuid { uuid }], 464)?
+            && are_in_head(alloc, &[Command::EntryPoint { offset: 0x2c8 }], 552)?,
+    )
 }
 
 /// `LC_RPATH` of `@loader_path/lib`, as ld64.lld writes it.
@@ -135,13 +151,20 @@ const RPATH: [u8; 32] = *b"\x1c\0\0\x80\x20\0\0\0\x0c\0\0\0@loader_path/lib\0\0\
 /// The same of a path that would end with the command: eight zeros more.
 const LONGER: [u8; 40] = *b"\x1c\0\0\x80\x28\0\0\0\x0c\0\0\0@loader_path/lib/arm\0\0\0\0\0\0\0\0";
 
-#[test]
-fn a_path_has_its_nul_and_fills_the_command(rt: HostRuntime) -> Result<(), Fail> {
-    let path = b"@loader_path/lib";
-    let longer = b"@loader_path/lib/arm";
-    assert!(rt; spelled(rt.alloc(), &[Command::Rpath { path }])?[..] == RPATH[..]);
-    assert!(rt; spelled(rt.alloc(), &[Command::Rpath { path: longer }])?[..] == LONGER[..]);
-    Ok(())
+/// Whether paths have these bytes, which are given out by a function without clauses.
+fn is_path(alloc: Global, path: &[u8], wanted: &[u8]) -> Result<bool, Fail> {
+    if path.len() > 100 {
+        return Ok(false);
+    }
+    Ok(spelled(alloc, &[Command::Rpath { path }])?.as_slice() == wanted)
+}
+
+/// A path has its NUL and fills the command.
+fn are_paths_filled(alloc: Global) -> Result<bool, Fail> {
+    Ok(
+        is_path(alloc, b"@loader_path/lib", &RPATH)?
+            && is_path(alloc, b"@loader_path/lib/arm", &LONGER)?,
+    )
 }
 
 /// `LC_LOAD_DYLIB` after `struct dylib_command` of mach-o/loader.h: the path at 24, a time stamp, two versions.
@@ -154,65 +177,101 @@ const ID_DYLIB: [u8; 48] = *b"\x0d\0\0\0\x30\0\0\0\x18\0\0\0\x01\0\0\0\0\0\0\0\0
 const VERSIONS: [u8; 32] =
     *b"\x32\0\0\0\x20\0\0\0\x01\0\0\0\0\0\x0e\0\0\0\x0f\0\x01\0\0\0wild\0\x0b\0\0";
 
-#[test]
-fn libraries_and_versions_are_those_of_the_header_files(rt: HostRuntime) -> Result<(), Fail> {
-    let needed = Command::LoadDylib {
-        name: b"/usr/lib/libSystem.B.dylib",
+/// Whether a library that is needed, or the image's own, has these bytes.
+fn is_library(alloc: Global, name: &[u8], own: bool, wanted: &[u8]) -> Result<bool, Fail> {
+    if name.len() > 100 {
+        return Ok(false);
+    }
+    let bytes = if own {
+        spelled(alloc, &[Command::IdDylib { name }])?
+    } else {
+        spelled(alloc, &[Command::LoadDylib { name }])?
     };
-    let own = Command::IdDylib {
-        name: b"/usr/lib/libA.dylib",
-    };
+    Ok(bytes.as_slice() == wanted)
+}
+
+fn are_versions(alloc: Global) -> Result<bool, Fail> {
     let versions = Command::BuildVersion {
         minimum: 0x000e_0000,
         sdk: 0x000f_0000,
     };
-    assert!(rt; spelled(rt.alloc(), &[needed])?[..] == LOAD_DYLIB[..]);
-    assert!(rt; spelled(rt.alloc(), &[own])?[..] == ID_DYLIB[..]);
-    assert!(rt; spelled(rt.alloc(), &[versions])?[..] == VERSIONS[..]);
-    assert!(rt; VERSIONS[..24] == HEAD[520..544]);
-    Ok(())
+    Ok(spelled(alloc, &[versions])?[..] == VERSIONS[..])
+}
+
+/// Libraries and versions are those of the header files, and of the versions all but the tool are the outside linker's.
+fn are_libraries_and_versions(alloc: Global) -> Result<bool, Fail> {
+    Ok(
+        is_library(alloc, b"/usr/lib/libSystem.B.dylib", false, &LOAD_DYLIB)?
+            && is_library(alloc, b"/usr/lib/libA.dylib", true, &ID_DYLIB)?
+            && are_versions(alloc)?
+            && stand_in_head(&VERSIONS[..24], 520),
+    )
 }
 
 /// A header of two commands with 56 bytes, after `struct mach_header_64`; its first 16 bytes and its flags are ld64.lld's.
 const HEADER: [u8; 32] =
     *b"\xcf\xfa\xed\xfe\x0c\0\0\x01\0\0\0\0\x02\0\0\0\x02\0\0\0\x38\0\0\0\x85\0\x20\0\0\0\0\0";
 
-#[test]
-fn a_head_begins_with_its_header(rt: HostRuntime) -> Result<(), Fail> {
+/// The head of two commands.
+fn head_of_two() -> [u8; 88] {
     let commands = [Command::EntryPoint { offset: 0x2c8 }, Command::Dylinker];
     let mut out = [0xff; 88];
-    write_head(
-        ImageKind {
-            executable: true,
-            thread_locals: false,
-        },
-        &commands,
-        &mut out,
-    );
-    let mut wanted = HEADER.to_vec(rt.alloc())?;
-    wanted.extend_from_slice(&HEAD[552..576])?;
-    wanted.extend_from_slice(&HEAD[464..496])?;
-    assert!(rt; wanted[..] == out[..]);
-    assert!(rt; HEADER[..16] == HEAD[..16] && HEADER[24..] == HEAD[24..32]);
-    Ok(())
+    let kind = ImageKind {
+        executable: true,
+        thread_locals: false,
+    };
+    write_head(kind, &commands, &mut out);
+    out
+}
+
+/// A head is its header, which is the outside linker's but for the commands' number and size, and the commands.
+fn is_head_of_two() -> bool {
+    let out = head_of_two();
+    out.starts_with(HEADER.as_slice())
+        && stand_in_head(&out[32..56], 552)
+        && stand_in_head(&out[56..], 464)
+}
+
+fn is_header_of_an_outside_linker() -> bool {
+    stand_in_head(&HEADER[..16], 0) && stand_in_head(&HEADER[24..], 24)
+}
+
+/// The head of a library with thread-local variables.
+fn head_of_a_library() -> [u8; 64] {
+    let mut out = [0xff; 64];
+    let own = [Command::IdDylib { name: b"out" }];
+    let kind = ImageKind {
+        executable: false,
+        thread_locals: true,
+    };
+    write_head(kind, &own, &mut out);
+    out
+}
+
+/// A library with thread-local variables says so.
+fn is_library_told() -> bool {
+    match MachHeader::read(&head_of_a_library(), 0) {
+        Some(header) => {
+            header.filetype == 6
+                && header.ncmds == 1
+                && header.sizeofcmds == 32
+                && header.flags == 0x80_0085
+        }
+        None => false,
+    }
 }
 
 #[test]
-fn a_library_with_thread_locals_says_so(rt: HostRuntime) -> Result<(), Fail> {
-    let mut out = [0xff; 64];
-    let own = [Command::IdDylib { name: b"out" }];
-    write_head(
-        ImageKind {
-            executable: false,
-            thread_locals: true,
-        },
-        &own,
-        &mut out,
-    );
-    let header = MachHeader::read(&out, 0).ok_or("no header")?;
-    assert_eq!(rt; header.filetype, 6);
-    assert_eq!(rt; header.ncmds, 1);
-    assert_eq!(rt; header.sizeofcmds, 32);
-    assert_eq!(rt; header.flags, 0x80_0085);
+fn commands_are_those_of_an_outside_linker_and_of_the_header_files(
+    rt: HostRuntime,
+) -> Result<(), Fail> {
+    assert!(rt; are_segments_in_head(rt.alloc())?);
+    assert!(rt; are_tables_in_head(rt.alloc())?);
+    assert!(rt; is_entry_in_head(rt.alloc())?);
+    assert!(rt; are_paths_filled(rt.alloc())?);
+    assert!(rt; are_libraries_and_versions(rt.alloc())?);
+    assert!(rt; is_head_of_two());
+    assert!(rt; is_header_of_an_outside_linker());
+    assert!(rt; is_library_told());
     Ok(())
 }

@@ -1,5 +1,5 @@
 //! An executable with one pointer to its function, whose fixup table has no imports.
-use crate::views::{is_refused, leads_to};
+use crate::views::{View, tells};
 use macho_loader::LoadRule;
 
 /// The header and the load commands: four segments and the fixup table.
@@ -26,14 +26,15 @@ fn image() -> [u8; 33_011] {
     image
 }
 
-#[test]
-fn its_pointer_is_found(rt: HostRuntime) {
-    assert!(rt; leads_to(&image(), 0x1_0000_4000, 0x1_0000_0240));
+/// The image with imports of format 3.
+fn of_format_3() -> [u8; 33_011] {
+    let mut image = image();
+    image[0x8014] = 3;
+    image
 }
 
 #[test]
-fn import_format_3_is_refused(rt: HostRuntime) {
-    let mut image = image();
-    image[0x8014] = 3;
-    assert!(rt; is_refused(&image, LoadRule::L8, 320));
+fn its_pointer_is_found_and_import_format_3_is_refused(rt: HostRuntime) {
+    assert!(rt; tells(&image(), View::Moved(0x1_0000_4000, 0x1_0000_0240)));
+    assert!(rt; tells(&of_format_3(), View::Refused(LoadRule::L8, 320)));
 }

@@ -1,7 +1,7 @@
 //! An executable with a slot that leads to `_exit` of the one library, and a pointer to its function, as an independent
 //! script composed it from mach-o/loader.h and mach-o/fixup-chains.h.
-use crate::views::{fixup_at, is_refused, leads_to, leads_to_exit, num_segments};
-use macho_loader::{LoadRule, Loaded};
+use crate::views::{View, tells, told};
+use macho_loader::LoadRule;
 
 /// The header and the load commands.
 const HEAD: [u8; 920] =
@@ -60,53 +60,26 @@ fn without_last(image: &[u8]) -> &[u8] {
     &image[..image.len().saturating_sub(1)]
 }
 
-/// The base, the address of the second segment, and the file offset of the fifth, which is the last.
-fn places(image: &[u8]) -> [u64; 3] {
-    match Loaded::accept(image) {
-        Ok(loaded) => match (loaded.segment(1), loaded.segment(4), loaded.segment(5)) {
-            (Some(text), Some(last), None) => [loaded.base(), text.vmaddr, last.fileoff],
-            _ => [0; 3],
-        },
-        Err(_fault) => [0; 3],
-    }
-}
-
-#[test]
-fn it_is_accepted_with_its_segments(rt: HostRuntime) {
-    let image = image();
-    assert!(rt; num_segments(&image) == Some(5));
-    assert!(rt; places(&image) == [0x1_0000_0000, 0x1_0000_0000, 0xc000]);
-}
-
-#[test]
-fn the_slot_leads_to_the_import_and_the_pointer_moves(rt: HostRuntime) {
-    let image = image();
-    assert!(rt; leads_to_exit(&image, 0x1_0000_4000, 0));
-    assert!(rt; leads_to(&image, 0x1_0000_8000, 0x1_0000_0398));
-}
-
-/// Addresses of no pointer.
-const OTHERS: [u64; 8] = [
-    0,
-    0x4000,
-    0x1_0000_0398,
-    0x1_0000_3fff,
-    0x1_0000_4004,
-    0x1_0000_4008,
-    0x1_0000_8008,
-    u64::MAX,
+/// What is told of the image: its segments, the slot that leads to the import, the pointer that moves, and addresses of no pointer.
+const VIEWS: [View; 12] = [
+    View::Segments(5),
+    View::Places(0x1_0000_0000, 0x1_0000_0000, 0xc000),
+    View::Exit(0x1_0000_4000, 0),
+    View::Moved(0x1_0000_8000, 0x1_0000_0398),
+    View::Nothing(0),
+    View::Nothing(0x4000),
+    View::Nothing(0x1_0000_0398),
+    View::Nothing(0x1_0000_3fff),
+    View::Nothing(0x1_0000_4004),
+    View::Nothing(0x1_0000_4008),
+    View::Nothing(0x1_0000_8008),
+    View::Nothing(u64::MAX),
 ];
 
 #[test]
-fn nothing_else_is_on_the_chain(rt: HostRuntime) {
+fn it_is_accepted_with_its_pointers_and_refused_where_it_is_cut(rt: HostRuntime) {
     let image = image();
-    for address in OTHERS {
-        assert!(rt; fixup_at(&image, address).is_none(), "{address}");
-    }
-}
-
-#[test]
-fn a_file_without_its_last_byte_is_refused(rt: HostRuntime) {
-    assert!(rt; is_refused(without_last(&image()), LoadRule::L4, 640));
-    assert!(rt; is_refused(&[], LoadRule::L1, 0));
+    assert_eq!(rt; told(&image, &VIEWS), 12);
+    assert!(rt; tells(without_last(&image), View::Refused(LoadRule::L4, 640)));
+    assert!(rt; tells(&[], View::Refused(LoadRule::L1, 0)));
 }

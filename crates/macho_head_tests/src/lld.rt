@@ -4,7 +4,7 @@
 //! That linker gives `__LINKEDIT` as many bytes in memory as in the file, so its segment is not made of whole pages; and its
 //! pointers are of format 2, whose targets are addresses, where the loader here knows format 6, whose targets are offsets from
 //! the base. With both mended the image is accepted.
-use crate::views::{fixup_at, is_refused, leads_to, leads_to_exit, num_segments};
+use crate::views::{View, tells, told};
 use macho_loader::LoadRule;
 
 /// The header and the load commands.
@@ -60,16 +60,6 @@ fn paged() -> [u8; SIZE] {
     image
 }
 
-#[test]
-fn it_is_refused_for_linkedit_first(rt: HostRuntime) {
-    assert!(rt; is_refused(&image(), LoadRule::L5, 488));
-}
-
-#[test]
-fn then_for_its_pointer_format(rt: HostRuntime) {
-    assert!(rt; is_refused(&paged(), LoadRule::L8, 560));
-}
-
 /// With the format of its pointers, and the pointer's target as an offset from the base.
 fn mended() -> [u8; SIZE] {
     let mut image = paged();
@@ -78,12 +68,18 @@ fn mended() -> [u8; SIZE] {
     image
 }
 
+/// What is told of the mended image.
+const VIEWS: [View; 5] = [
+    View::Segments(4),
+    View::Moved(0x1_0000_4008, 0x1_0000_4000),
+    View::Exit(0x1_0000_4010, 0),
+    View::Exit(0x1_0000_4018, 300),
+    View::Nothing(0x1_0000_4000),
+];
+
 #[test]
-fn with_both_mended_it_is_accepted(rt: HostRuntime) {
-    let image = mended();
-    assert!(rt; num_segments(&image) == Some(4));
-    assert!(rt; leads_to(&image, 0x1_0000_4008, 0x1_0000_4000));
-    assert!(rt; leads_to_exit(&image, 0x1_0000_4010, 0));
-    assert!(rt; leads_to_exit(&image, 0x1_0000_4018, 300));
-    assert!(rt; fixup_at(&image, 0x1_0000_4000).is_none());
+fn it_is_refused_for_linkedit_then_for_its_pointers_and_then_accepted(rt: HostRuntime) {
+    assert!(rt; tells(&image(), View::Refused(LoadRule::L5, 488)));
+    assert!(rt; tells(&paged(), View::Refused(LoadRule::L8, 560)));
+    assert_eq!(rt; told(&mended(), &VIEWS), 5);
 }

@@ -1,6 +1,4 @@
 //! Signatures: of an outside linker's image, of bytes with digests from elsewhere, and with another UUID.
-ghost use Rattle.std.specs.Prelude.{◌<◌, ◌^◌, length};
-
 use crate::image::{DIRECTORY, HEAD, SIGNED, TABLES, TABLES_PLACE};
 use macho_signature::{
     Signer, digests_offset, page_count, sign, sign_again, sign_file, signature_size, stamped_uuid,
@@ -36,26 +34,23 @@ fn sign_image(file: &mut [u8]) -> Result<(), Fail> {
 /// The super blob: its magic, 284 bytes, one blob: the code directory, at 20.
 const SUPER_BLOB: [u8; 20] = *b"\xfa\xde\x0c\xc0\0\0\x01\x1c\0\0\0\x01\0\0\0\0\0\0\0\x14";
 
-#[test]
-fn the_code_directory_is_that_of_an_outside_linker(rt: HostRuntime) -> Result<(), Fail> {
-    assert_eq!(rt; signature_size(4, SIGNED), 284);
-    let mut file = image(rt.alloc())?;
-    file.resize(SIGNED + 284, 0xff)?;
-    sign_image(&mut file)?;
-    let mut wanted = image(rt.alloc())?;
-    wanted.extend_from_slice(&SUPER_BLOB)?;
-    wanted.extend_from_slice(&DIRECTORY)?;
-    assert!(rt; file[..] == wanted[..]);
-    Ok(())
+/// Whether a signature is that of the outside linker.
+fn is_outside_signature(signature: &[u8]) -> bool {
+    signature.len() == 284 && signature[..20] == SUPER_BLOB[..] && signature[20..] == DIRECTORY[..]
 }
 
-/// The digests of all pages of some bytes.
-fn digests(alloc: Global, signed: &[u8]) -> Result<Vec<u8>, Fail>
-    requires { length signed.now < 2 ^ 32 }
-{
-    let mut out = vec![in alloc; 0u8; 32 * page_count(signed.len())]?;
-    sign_again(signed, &mut out, 0);
-    Ok(out)
+/// Whether the outside linker's image is signed as that linker signs it.
+fn is_image_signed(alloc: Global) -> Result<bool, Fail> {
+    let mut file = image(alloc)?;
+    file.resize(SIGNED + 284, 0xff)?;
+    sign_image(&mut file)?;
+    let front = image(alloc)?;
+    match (file.get(..SIGNED), file.get(SIGNED..)) {
+        (Some(signed), Some(signature)) => {
+            Ok(signed == front.as_slice() && is_outside_signature(signature))
+        }
+        _ => Ok(false),
+    }
 }
 
 /// `N` bytes that repeat after 251, so that no two pages are alike.
@@ -80,8 +75,8 @@ const SIGNATURE: [u8; 284] =
     \x80\xa7\x0ch\x97\x92,\x94/\xb5\x93\x96\xb4A)i\xfcf\x02\xec}u\xcb\x5c\x0bC\x1e\x7f2\x931\x1f\
     C\xf6\xe3B\x97\x0ce\x95\xaa";
 
-#[test]
-fn a_signature_of_five_digests_has_284_bytes(rt: HostRuntime) {
+/// The signature of the pattern under its name.
+fn pattern_signature() -> [u8; 284] {
     let signed = pattern::<16_624>();
     let signer = Signer {
         identifier: b"out",
@@ -89,11 +84,21 @@ fn a_signature_of_five_digests_has_284_bytes(rt: HostRuntime) {
         text_size: 0x4000,
         executable: false,
     };
-    assert_eq!(rt; page_count(16_624), 5);
-    assert_eq!(rt; digests_offset(3), 124);
     let mut signature = [0xff; 284];
     sign(&signed, &mut signature, &signer);
-    assert!(rt; signature == SIGNATURE);
+    signature
+}
+
+fn is_pattern_signed() -> bool {
+    pattern_signature() == SIGNATURE
+}
+
+/// The sizes of signatures of five digests, and where their digests begin.
+fn are_sizes_told() -> bool {
+    signature_size(4, SIGNED) == 284
+        && page_count(16_624) == 5
+        && page_count(8192) == 2
+        && digests_offset(3) == 124
 }
 
 /// The digests of two pages of the pattern with the stamped UUID at 4,090, by Python's hashlib.
@@ -108,36 +113,49 @@ const INSIDE: [u8; 64] =
 /// Sixteen bytes that tell their places.
 const UUID: [u8; 16] = *b"\0\x01\x02\x03\x04\x05\x06\x07\x08\x09\x0a\x0b\x0c\x0d\x0e\x0f";
 
-#[test]
-fn a_uuid_across_two_pages_is_signed_in_both(rt: HostRuntime) -> Result<(), Fail> {
+/// A UUID across two pages is signed in both, as when every page is signed anew.
+fn is_uuid_signed_across() -> bool {
     let mut signed = pattern::<8192>();
     let mut signature = [0xff; 64];
     sign_again(&signed, &mut signature, 0);
     write_uuid(&mut signed, &mut signature, 0, 4090, UUID);
-    assert!(rt; signature == ACROSS);
-    // the same as signing every page anew
-    assert!(rt; digests(rt.alloc(), &signed)?[..] == ACROSS[..]);
-    Ok(())
+    let mut anew = [0; 64];
+    sign_again(&signed, &mut anew, 0);
+    signature == ACROSS && anew == ACROSS
 }
 
-#[test]
-fn a_uuid_in_one_page_is_signed_there(rt: HostRuntime) {
+/// A UUID in one page is signed there.
+fn is_uuid_signed_inside() -> bool {
     let mut signed = pattern::<8192>();
     let mut signature = INSIDE;
     write_uuid(&mut signed, &mut signature, 0, 4196, UUID);
-    assert!(rt; signature == INSIDE);
-    // the digest of the other page stays, whatever it is
+    signature == INSIDE
+}
+
+/// The digest of the other page stays, whatever it is.
+fn does_other_digest_stay() -> bool {
+    let mut signed = pattern::<8192>();
     let mut wrong = [0xee; 64];
     write_uuid(&mut signed, &mut wrong, 0, 4196, UUID);
-    assert!(rt; wrong[0] == 0xee && wrong[31] == 0xee && wrong[32..] == INSIDE[32..]);
+    wrong[0] == 0xee && wrong[31] == 0xee && wrong[32..] == INSIDE[32..]
+}
+
+/// Version and variant are stamped.
+fn is_uuid_stamped() -> bool {
+    let full = stamped_uuid([0xff; 16]);
+    stamped_uuid(UUID) == *b"\0\x01\x02\x03\x04\x05\x36\x07\x88\x09\x0a\x0b\x0c\x0d\x0e\x0f"
+        && full[6] == 0x3f
+        && full[8] == 0xbf
 }
 
 #[test]
-fn version_and_variant_are_stamped(rt: HostRuntime) {
-    assert_eq!(rt;
-        stamped_uuid(UUID),
-        *b"\0\x01\x02\x03\x04\x05\x36\x07\x88\x09\x0a\x0b\x0c\x0d\x0e\x0f"
-    );
-    assert_eq!(rt; stamped_uuid([0xff; 16])[6], 0x3f);
-    assert_eq!(rt; stamped_uuid([0xff; 16])[8], 0xbf);
+fn signatures_and_uuids(rt: HostRuntime) -> Result<(), Fail> {
+    assert!(rt; is_image_signed(rt.alloc())?);
+    assert!(rt; is_pattern_signed());
+    assert!(rt; are_sizes_told());
+    assert!(rt; is_uuid_signed_across());
+    assert!(rt; is_uuid_signed_inside());
+    assert!(rt; does_other_digest_stay());
+    assert!(rt; is_uuid_stamped());
+    Ok(())
 }

@@ -1,66 +1,69 @@
 //! Objects and libraries from bytes written out, and each rule broken once.
 use ObjectRule::{O1, O2, O3, O4, O5, O6, O7, O8, O9, O10, O11, O12, O13, O14};
 use macho_object::{File, ObjectFault, ObjectRule};
-use std::test::Fail;
 
 /// A function `_main` of two instructions, the first of which has a relocation.
+const OBJECT: [u8; 271] = [
+    // 0: header: object, 3 commands of 200 bytes
+    0xcf, 0xfa, 0xed, 0xfe, 0x0c, 0, 0, 1, 0, 0, 0, 0, 1, 0, 0, 0, //
+    3, 0, 0, 0, 200, 0, 0, 0, 0, 0x20, 0, 0, 0, 0, 0, 0, //
+    // 32: LC_SEGMENT_64 of 152 bytes, 8 bytes at 232, one section
+    0x19, 0, 0, 0, 152, 0, 0, 0, 0, 0, 0, 0, 0, 0, 0, 0, //
+    0, 0, 0, 0, 0, 0, 0, 0, 0, 0, 0, 0, 0, 0, 0, 0, //
+    8, 0, 0, 0, 0, 0, 0, 0, 232, 0, 0, 0, 0, 0, 0, 0, //
+    8, 0, 0, 0, 0, 0, 0, 0, 7, 0, 0, 0, 7, 0, 0, 0, //
+    1, 0, 0, 0, 0, 0, 0, 0, //
+    // 104: `__text` of `__TEXT`: 8 bytes at 232, exponent 2, one relocation at 240, flags 0x80000400
+    0x5f, 0x5f, 0x74, 0x65, 0x78, 0x74, 0, 0, 0, 0, 0, 0, 0, 0, 0, 0, //
+    0x5f, 0x5f, 0x54, 0x45, 0x58, 0x54, 0, 0, 0, 0, 0, 0, 0, 0, 0, 0, //
+    0, 0, 0, 0, 0, 0, 0, 0, 8, 0, 0, 0, 0, 0, 0, 0, //
+    232, 0, 0, 0, 2, 0, 0, 0, 240, 0, 0, 0, 1, 0, 0, 0, //
+    0, 4, 0, 0x80, 0, 0, 0, 0, 0, 0, 0, 0, 0, 0, 0, 0, //
+    // 184: LC_SYMTAB: one symbol at 248, 7 bytes of names at 264
+    2, 0, 0, 0, 24, 0, 0, 0, 248, 0, 0, 0, 1, 0, 0, 0, 8, 1, 0, 0, 7, 0, 0, 0, //
+    // 208: LC_BUILD_VERSION: macOS 14
+    0x32, 0, 0, 0, 24, 0, 0, 0, 1, 0, 0, 0, 0, 0, 14, 0, 0, 0, 14, 0, 0, 0, 0, 0, //
+    // 232: mov w0, #0; ret
+    0, 0, 0x80, 0x52, 0xc0, 3, 0x5f, 0xd6, //
+    // 240: a branch to symbol 0
+    0, 0, 0, 0, 0, 0, 0, 0x2d, //
+    // 248: `_main`, global, at 0 in section 1
+    1, 0, 0, 0, 0x0f, 1, 0, 0, 0, 0, 0, 0, 0, 0, 0, 0, //
+    // 264: the names
+    0, 0x5f, 0x6d, 0x61, 0x69, 0x6e, 0,
+];
+
 fn object() -> [u8; 271] {
-    [
-        // 0: header: object, 3 commands of 200 bytes
-        0xcf, 0xfa, 0xed, 0xfe, 0x0c, 0, 0, 1, 0, 0, 0, 0, 1, 0, 0, 0, //
-        3, 0, 0, 0, 200, 0, 0, 0, 0, 0x20, 0, 0, 0, 0, 0, 0, //
-        // 32: LC_SEGMENT_64 of 152 bytes, 8 bytes at 232, one section
-        0x19, 0, 0, 0, 152, 0, 0, 0, 0, 0, 0, 0, 0, 0, 0, 0, //
-        0, 0, 0, 0, 0, 0, 0, 0, 0, 0, 0, 0, 0, 0, 0, 0, //
-        8, 0, 0, 0, 0, 0, 0, 0, 232, 0, 0, 0, 0, 0, 0, 0, //
-        8, 0, 0, 0, 0, 0, 0, 0, 7, 0, 0, 0, 7, 0, 0, 0, //
-        1, 0, 0, 0, 0, 0, 0, 0, //
-        // 104: `__text` of `__TEXT`: 8 bytes at 232, exponent 2, one relocation at 240, flags 0x80000400
-        0x5f, 0x5f, 0x74, 0x65, 0x78, 0x74, 0, 0, 0, 0, 0, 0, 0, 0, 0, 0, //
-        0x5f, 0x5f, 0x54, 0x45, 0x58, 0x54, 0, 0, 0, 0, 0, 0, 0, 0, 0, 0, //
-        0, 0, 0, 0, 0, 0, 0, 0, 8, 0, 0, 0, 0, 0, 0, 0, //
-        232, 0, 0, 0, 2, 0, 0, 0, 240, 0, 0, 0, 1, 0, 0, 0, //
-        0, 4, 0, 0x80, 0, 0, 0, 0, 0, 0, 0, 0, 0, 0, 0, 0, //
-        // 184: LC_SYMTAB: one symbol at 248, 7 bytes of names at 264
-        2, 0, 0, 0, 24, 0, 0, 0, 248, 0, 0, 0, 1, 0, 0, 0, 8, 1, 0, 0, 7, 0, 0, 0, //
-        // 208: LC_BUILD_VERSION: macOS 14
-        0x32, 0, 0, 0, 24, 0, 0, 0, 1, 0, 0, 0, 0, 0, 14, 0, 0, 0, 14, 0, 0, 0, 0, 0, //
-        // 232: mov w0, #0; ret
-        0, 0, 0x80, 0x52, 0xc0, 3, 0x5f, 0xd6, //
-        // 240: a branch to symbol 0
-        0, 0, 0, 0, 0, 0, 0, 0x2d, //
-        // 248: `_main`, global, at 0 in section 1
-        1, 0, 0, 0, 0x0f, 1, 0, 0, 0, 0, 0, 0, 0, 0, 0, 0, //
-        // 264: the names
-        0, 0x5f, 0x6d, 0x61, 0x69, 0x6e, 0,
-    ]
+    OBJECT
 }
 
 /// Each byte that breaks a rule of the object: its place, the byte, the rule, the place of the record that breaks it.
-fn breaks() -> [(usize, u8, ObjectRule, u64); 21] {
-    [
-        (0, 0xce, O1, 0),
-        (7, 0, O1, 0),
-        (12, 6, O1, 0),
-        (22, 1, O2, 0),
-        (20, 192, O2, 208),
-        (188, 16, O2, 184),
-        (208, 2, O3, 208),
-        (208, 0x19, O2, 208),
-        (184, 0x32, O3, 0),
-        (204, 8, O4, 184),
-        (253, 2, O5, 248),
-        (244, 1, O5, 240),
-        (144, 0xff, O6, 104),
-        (156, 15, O7, 104),
-        (256, 9, O8, 248),
-        (270, 0x78, O9, 248),
-        (240, 5, O10, 240),
-        (164, 5, O10, 104),
-        (168, 0x11, O11, 104), // a thread-local section
-        (168, 1, O12, 104), // zerofill
-        (248, 0, O13, 248), // a symbol without a name
-    ]
+const BREAKS: [(usize, u8, ObjectRule, u64); 21] = [
+    (0, 0xce, O1, 0),
+    (7, 0, O1, 0),
+    (12, 6, O1, 0),
+    (22, 1, O2, 0),
+    (20, 192, O2, 208),
+    (188, 16, O2, 184),
+    (208, 2, O3, 208),
+    (208, 0x19, O2, 208),
+    (184, 0x32, O3, 0),
+    (204, 8, O4, 184),
+    (253, 2, O5, 248),
+    (244, 1, O5, 240),
+    (144, 0xff, O6, 104),
+    (156, 15, O7, 104),
+    (256, 9, O8, 248),
+    (270, 0x78, O9, 248),
+    (240, 5, O10, 240),
+    (164, 5, O10, 104),
+    (168, 0x11, O11, 104), // a thread-local section
+    (168, 1, O12, 104), // zerofill
+    (248, 0, O13, 248), // a symbol without a name
+];
+
+fn breaks() -> &'static [(usize, u8, ObjectRule, u64)] {
+    &BREAKS
 }
 
 /// Whether bytes break a rule at a place.
@@ -79,12 +82,9 @@ fn object_with(changes: &[(usize, u8)]) -> [u8; 271] {
     bytes
 }
 
-#[test]
-fn each_rule_is_told_at_the_record_that_breaks_it(rt: HostRuntime) {
-    for (at, byte, rule, place) in breaks() {
-        let bytes = object_with(&[(at, byte)]);
-        assert!(rt; is_refused(&bytes, false, rule, place), "byte {at}");
-    }
+/// Whether the object with the byte at a place changed breaks the rule.
+fn is_broken(at: usize, byte: u8, rule: ObjectRule, place: u64) -> bool {
+    is_refused(&object_with(&[(at, byte)]), false, rule, place)
 }
 
 /// The first bytes, at most so many.
@@ -92,14 +92,20 @@ fn front(bytes: &[u8], count: usize) -> &[u8] {
     &bytes[..count.min(bytes.len())]
 }
 
-#[test]
-fn a_cut_header_a_long_field_and_a_wide_common(rt: HostRuntime) {
-    let bytes = object();
-    assert!(rt; is_refused(front(&bytes, 31), false, O1, 0));
-    let long_field = object_with(&[(240, 4), (247, 0x2f)]);
-    assert!(rt; is_refused(&long_field, false, O10, 240));
+/// Whether a header that is cut is told.
+fn is_cut_header_told() -> bool {
+    is_refused(front(&object(), 31), false, O1, 0)
+}
+
+/// Whether a relocation of 8 bytes that passes the end of its section is told.
+fn is_long_field_told() -> bool {
+    is_refused(&object_with(&[(240, 4), (247, 0x2f)]), false, O10, 240)
+}
+
+/// Whether a common symbol that is aligned too far is told.
+fn is_wide_common_told() -> bool {
     let common = object_with(&[(252, 1), (253, 0), (255, 15), (256, 8)]);
-    assert!(rt; is_refused(&common, false, O14, 248));
+    is_refused(&common, false, O14, 248)
 }
 
 /// Whether a file is of this kind and has so many sections and symbols.
@@ -155,43 +161,81 @@ fn has_branch(file: &File<'_>) -> bool {
         && branch.r_extern
 }
 
-#[test]
-fn an_object_is_read_in_place(rt: HostRuntime) -> Result<(), Fail> {
-    let bytes = object();
-    let file = File::parse_bytes(&bytes, false)?;
-    assert!(rt; has_counts(&file, false, 1, 1));
-    assert!(rt; has_text(&file));
-    assert!(rt; has_main(&file));
-    assert!(rt; has_branch(&file));
-    assert!(rt; file.install_name().is_none());
-    assert!(rt; File::of_valid(&bytes, false).num_sections() == 1);
-    Ok(())
+/// Whether the object's symbol has a name without bytes, and its section no relocations.
+fn has_no_names(file: &File<'_>) -> bool {
+    let (Some(name), Some(relocations)) = (file.symbol_name(0), file.relocations(0)) else {
+        return false;
+    };
+    name.is_empty() && relocations.num_relocations() == 0
 }
 
-#[test]
-fn an_object_without_names_or_relocations_is_taken(rt: HostRuntime) -> Result<(), Fail> {
+/// Whether the library's install name is `/a`.
+fn has_install_name(file: &File<'_>) -> bool {
+    match file.install_name() {
+        Some(name) => name == b"/a".as_slice(),
+        None => false,
+    }
+}
+
+/// What is asked of a file.
+#[derive(Clone, Copy)]
+enum Asked {
+    Object,
+    NoNames,
+    Library,
+}
+
+/// Whether a file is what is asked.
+fn is_so(file: &File<'_>, asked: Asked) -> bool {
+    match asked {
+        Asked::Object => {
+            has_counts(file, false, 1, 1)
+                && has_text(file)
+                && has_main(file)
+                && has_branch(file)
+                && file.install_name().is_none()
+        }
+        Asked::NoNames => has_no_names(file),
+        Asked::Library => has_counts(file, true, 0, 0) && has_install_name(file),
+    }
+}
+
+/// Whether bytes are a file of the kind that is what is asked; and one that is viewed again has as many sections.
+fn is_file(bytes: &[u8], is_dynamic: bool, asked: Asked) -> bool {
+    match File::parse_bytes(bytes, is_dynamic) {
+        Ok(file) => {
+            let again = File::of_valid(bytes, is_dynamic);
+            again.num_sections() == file.num_sections() && is_so(&file, asked)
+        }
+        Err(_) => false,
+    }
+}
+
+/// Whether the object is read in place.
+fn is_object_read() -> bool {
+    is_file(&object(), false, Asked::Object)
+}
+
+/// Whether an object without names or relocations is taken.
+fn is_bare_object_read() -> bool {
     let bytes = object_with(&[(164, 0), (204, 0), (248, 0), (252, 0x0e)]);
-    let file = File::parse_bytes(&bytes, false)?;
-    assert_eq!(rt; file.symbol_name(0).ok_or("a symbol")?.len(), 0);
-    assert_eq!(rt;
-        file.relocations(0).ok_or("a section")?.num_relocations(),
-        0
-    );
-    Ok(())
+    is_file(&bytes, false, Asked::NoNames)
 }
 
 /// A library `/a` without symbols and names.
+const LIBRARY: [u8; 88] = [
+    // 0: header: dynamic library, 2 commands of 56 bytes
+    0xcf, 0xfa, 0xed, 0xfe, 0x0c, 0, 0, 1, 0, 0, 0, 0, 6, 0, 0, 0, //
+    2, 0, 0, 0, 56, 0, 0, 0, 0, 0, 0, 0, 0, 0, 0, 0, //
+    // 32: LC_ID_DYLIB of 32 bytes, its path at 24
+    0x0d, 0, 0, 0, 32, 0, 0, 0, 24, 0, 0, 0, 2, 0, 0, 0, //
+    0, 0, 1, 0, 0, 0, 1, 0, 0x2f, 0x61, 0, 0, 0, 0, 0, 0, //
+    // 64: LC_SYMTAB: nothing
+    2, 0, 0, 0, 24, 0, 0, 0, 88, 0, 0, 0, 0, 0, 0, 0, 88, 0, 0, 0, 0, 0, 0, 0,
+];
+
 fn library() -> [u8; 88] {
-    [
-        // 0: header: dynamic library, 2 commands of 56 bytes
-        0xcf, 0xfa, 0xed, 0xfe, 0x0c, 0, 0, 1, 0, 0, 0, 0, 6, 0, 0, 0, //
-        2, 0, 0, 0, 56, 0, 0, 0, 0, 0, 0, 0, 0, 0, 0, 0, //
-        // 32: LC_ID_DYLIB of 32 bytes, its path at 24
-        0x0d, 0, 0, 0, 32, 0, 0, 0, 24, 0, 0, 0, 2, 0, 0, 0, //
-        0, 0, 1, 0, 0, 0, 1, 0, 0x2f, 0x61, 0, 0, 0, 0, 0, 0, //
-        // 64: LC_SYMTAB: nothing
-        2, 0, 0, 0, 24, 0, 0, 0, 88, 0, 0, 0, 0, 0, 0, 0, 88, 0, 0, 0, 0, 0, 0, 0,
-    ]
+    LIBRARY
 }
 
 /// The library, whose path begins at the end of its command.
@@ -201,13 +245,24 @@ fn without_path() -> [u8; 88] {
     bytes
 }
 
-#[test]
-fn a_library_is_its_install_name_and_symbols(rt: HostRuntime) -> Result<(), Fail> {
+/// Whether the library is its install name and symbols, and no object.
+fn is_library_read() -> bool {
     let bytes = library();
-    let file = File::parse_bytes(&bytes, true)?;
-    assert_eq!(rt; file.install_name().ok_or("a name")?, b"/a".as_slice());
-    assert!(rt; has_counts(&file, true, 0, 0));
-    assert!(rt; is_refused(&bytes, false, O1, 0));
+    is_file(&bytes, true, Asked::Library) && is_refused(&bytes, false, O1, 0)
+}
+
+#[test]
+fn files_are_read_or_told_by_the_record_that_breaks_a_rule(rt: HostRuntime) {
+    let breaks = breaks();
+    for number in 0..breaks.len() {
+        let (at, byte, rule, place) = breaks[number];
+        assert!(rt; is_broken(at, byte, rule, place), "byte {at}");
+    }
+    assert!(rt; is_cut_header_told());
+    assert!(rt; is_long_field_told());
+    assert!(rt; is_wide_common_told());
+    assert!(rt; is_object_read());
+    assert!(rt; is_bare_object_read());
+    assert!(rt; is_library_read());
     assert!(rt; is_refused(&without_path(), true, O9, 32));
-    Ok(())
 }

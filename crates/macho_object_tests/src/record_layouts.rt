@@ -7,33 +7,21 @@ use macho_records::{
     SymtabCommand, SymtabEntry, UnwindInfoEntry, UuidCommand,
 };
 
-/// The bytes, with one other byte on each side.
-fn is_framed(out: &[u8], bytes: &[u8]) -> bool {
-    match out {
-        [0xee, inner @ .., 0xee] => *inner == *bytes,
-        _ => false,
-    }
-}
+/// How many bytes a record is written among: two more than the longest has.
+const ROOM: usize = 90;
 
-/// The same bytes, by a function without clauses: a proof of a row knows nothing of them.
-fn given<const N: usize>(bytes: [u8; N]) -> [u8; N] {
-    bytes
-}
-
-/// Whether a record is read at the start alone, has this field, and is written as the bytes.
-macro_rules! is_row {
-    ($record:ident, $bytes:expr, $framed:expr, $field:ident, $value:expr) => {{
-        let bytes = given($bytes);
-        let Some(record) = $record::read(&bytes, 0) else {
-            return false;
+/// Whether the bytes stand at 1 and all others are as they were.
+fn is_framed(out: &[u8; ROOM], bytes: &[u8]) -> bool {
+    for at in 0..ROOM {
+        let wanted = match bytes.get(at.wrapping_sub(1)) {
+            Some(byte) => *byte,
+            None => 0xee,
         };
-        let mut out = [0xee; $framed];
-        record.write(&mut out, 1);
-        record.$field == $value
-            && is_framed(&out, &bytes)
-            && $record::read(&bytes, 1).is_none()
-            && $record::read(&bytes, usize::MAX).is_none()
-    }};
+        if out[at] != wanted {
+            return false;
+        }
+    }
+    bytes.len() + 2 <= ROOM
 }
 
 /// MachHeader, laid out by the C structures of the public headers.
@@ -129,137 +117,193 @@ const CODE_DIRECTORY: [u8; 88] = [
 /// RelocationInfo, laid out by the C structures of the public headers.
 const RELOCATION_INFO: [u8; 8] = [0x14, 0x00, 0x00, 0x00, 0x01, 0x02, 0x03, 0xa5];
 
-fn mach_header() -> bool {
-    is_row!(MachHeader, MACH_HEADER, 34, flags, 0x2000)
+/// The records.
+#[derive(Clone, Copy)]
+enum Record {
+    MachHeader,
+    LoadCommand,
+    SegmentCommand,
+    SectionHeader,
+    SymtabCommand,
+    SymtabEntry,
+    EntryPointCommand,
+    DylinkerCommand,
+    DylibCommand,
+    RpathCommand,
+    LinkeditDataCommand,
+    UuidCommand,
+    BuildVersionCommand,
+    BuildToolVersion,
+    ChainedFixupsHeader,
+    ChainedStartsInSegment,
+    UnwindInfoEntry,
+    CodeDirectory,
+    RelocationInfo,
 }
 
-fn load_command() -> bool {
-    is_row!(LoadCommand, LOAD_COMMAND, 10, cmdsize, 0x98)
+/// A field of the record at a place of the bytes, where it stands there whole; and it is written at 1.
+macro_rules! rewritten {
+    ($record:ident, $field:ident, $bytes:expr, $at:expr, $out:expr) => {{
+        match $record::read($bytes, $at) {
+            Some(record) => {
+                record.write($out, 1);
+                Some(record.$field as u64)
+            }
+            None => None,
+        }
+    }};
 }
 
-fn segment_command() -> bool {
-    is_row!(SegmentCommand, SEGMENT_COMMAND, 74, filesize, 0x3f00)
+fn mach_header(bytes: &[u8], at: usize, out: &mut [u8; ROOM]) -> Option<u64> {
+    rewritten!(MachHeader, flags, bytes, at, out)
 }
 
-fn section_header() -> bool {
-    is_row!(SectionHeader, SECTION_HEADER, 82, addr, 0x1_0000_01e0)
+fn load_command(bytes: &[u8], at: usize, out: &mut [u8; ROOM]) -> Option<u64> {
+    rewritten!(LoadCommand, cmdsize, bytes, at, out)
 }
 
-fn symtab_command() -> bool {
-    is_row!(SymtabCommand, SYMTAB_COMMAND, 26, stroff, 0x40e8)
+fn segment_command(bytes: &[u8], at: usize, out: &mut [u8; ROOM]) -> Option<u64> {
+    rewritten!(SegmentCommand, filesize, bytes, at, out)
 }
 
-fn symtab_entry() -> bool {
-    is_row!(SymtabEntry, SYMTAB_ENTRY, 18, n_desc, 0x380)
+fn section_header(bytes: &[u8], at: usize, out: &mut [u8; ROOM]) -> Option<u64> {
+    rewritten!(SectionHeader, addr, bytes, at, out)
 }
 
-fn entry_point_command() -> bool {
-    is_row!(
-        EntryPointCommand,
-        ENTRY_POINT_COMMAND,
-        26,
-        stacksize,
-        0x10_0000
-    )
+fn symtab_command(bytes: &[u8], at: usize, out: &mut [u8; ROOM]) -> Option<u64> {
+    rewritten!(SymtabCommand, stroff, bytes, at, out)
 }
 
-fn dylinker_command() -> bool {
-    is_row!(DylinkerCommand, DYLINKER_COMMAND, 14, name_offset, 12)
+fn symtab_entry(bytes: &[u8], at: usize, out: &mut [u8; ROOM]) -> Option<u64> {
+    rewritten!(SymtabEntry, n_desc, bytes, at, out)
 }
 
-fn dylib_command() -> bool {
-    is_row!(
-        DylibCommand,
-        DYLIB_COMMAND,
-        26,
-        current_version,
-        0x054c_0000
-    )
+fn entry_point_command(bytes: &[u8], at: usize, out: &mut [u8; ROOM]) -> Option<u64> {
+    rewritten!(EntryPointCommand, stacksize, bytes, at, out)
 }
 
-fn rpath_command() -> bool {
-    is_row!(RpathCommand, RPATH_COMMAND, 14, cmd, 0x8000_001c)
+fn dylinker_command(bytes: &[u8], at: usize, out: &mut [u8; ROOM]) -> Option<u64> {
+    rewritten!(DylinkerCommand, name_offset, bytes, at, out)
 }
 
-fn linkedit_data_command() -> bool {
-    is_row!(
-        LinkeditDataCommand,
-        LINKEDIT_DATA_COMMAND,
-        18,
-        dataoff,
-        0x4000
-    )
+fn dylib_command(bytes: &[u8], at: usize, out: &mut [u8; ROOM]) -> Option<u64> {
+    rewritten!(DylibCommand, current_version, bytes, at, out)
 }
 
-fn uuid_command() -> bool {
-    is_row!(UuidCommand, UUID_COMMAND, 26, cmdsize, 24)
+fn rpath_command(bytes: &[u8], at: usize, out: &mut [u8; ROOM]) -> Option<u64> {
+    rewritten!(RpathCommand, cmd, bytes, at, out)
 }
 
-fn build_version_command() -> bool {
-    is_row!(
-        BuildVersionCommand,
-        BUILD_VERSION_COMMAND,
-        26,
-        sdk,
-        0xf_1011
-    )
+fn linkedit_data_command(bytes: &[u8], at: usize, out: &mut [u8; ROOM]) -> Option<u64> {
+    rewritten!(LinkeditDataCommand, dataoff, bytes, at, out)
 }
 
-fn build_tool_version() -> bool {
-    is_row!(BuildToolVersion, BUILD_TOOL_VERSION, 10, version, 0xb00)
+fn uuid_command(bytes: &[u8], at: usize, out: &mut [u8; ROOM]) -> Option<u64> {
+    rewritten!(UuidCommand, cmdsize, bytes, at, out)
 }
 
-fn chained_fixups_header() -> bool {
-    is_row!(
-        ChainedFixupsHeader,
-        CHAINED_FIXUPS_HEADER,
-        30,
-        imports_count,
-        2
-    )
+fn build_version_command(bytes: &[u8], at: usize, out: &mut [u8; ROOM]) -> Option<u64> {
+    rewritten!(BuildVersionCommand, sdk, bytes, at, out)
 }
 
-fn chained_starts_in_segment() -> bool {
-    is_row!(
-        ChainedStartsInSegment,
-        CHAINED_STARTS_IN_SEGMENT,
-        24,
-        segment_offset,
-        0x8000
-    )
+fn build_tool_version(bytes: &[u8], at: usize, out: &mut [u8; ROOM]) -> Option<u64> {
+    rewritten!(BuildToolVersion, version, bytes, at, out)
 }
 
-fn unwind_info_entry() -> bool {
-    is_row!(UnwindInfoEntry, UNWIND_INFO_ENTRY, 34, lsda, 0x1_0000_5000)
+fn chained_fixups_header(bytes: &[u8], at: usize, out: &mut [u8; ROOM]) -> Option<u64> {
+    rewritten!(ChainedFixupsHeader, imports_count, bytes, at, out)
 }
 
-fn code_directory() -> bool {
-    is_row!(CodeDirectory, CODE_DIRECTORY, 90, exec_limit, 0x4000)
+fn chained_starts_in_segment(bytes: &[u8], at: usize, out: &mut [u8; ROOM]) -> Option<u64> {
+    rewritten!(ChainedStartsInSegment, segment_offset, bytes, at, out)
 }
 
-fn relocation_info() -> bool {
-    is_row!(RelocationInfo, RELOCATION_INFO, 10, r_type, 10)
+fn unwind_info_entry(bytes: &[u8], at: usize, out: &mut [u8; ROOM]) -> Option<u64> {
+    rewritten!(UnwindInfoEntry, lsda, bytes, at, out)
+}
+
+fn code_directory(bytes: &[u8], at: usize, out: &mut [u8; ROOM]) -> Option<u64> {
+    rewritten!(CodeDirectory, exec_limit, bytes, at, out)
+}
+
+fn relocation_info(bytes: &[u8], at: usize, out: &mut [u8; ROOM]) -> Option<u64> {
+    rewritten!(RelocationInfo, r_type, bytes, at, out)
+}
+
+/// A field of a record at a place of the bytes, where it stands there whole; and it is written at 1.
+fn written(record: Record, bytes: &[u8], at: usize, out: &mut [u8; ROOM]) -> Option<u64> {
+    match record {
+        Record::MachHeader => mach_header(bytes, at, out),
+        Record::LoadCommand => load_command(bytes, at, out),
+        Record::SegmentCommand => segment_command(bytes, at, out),
+        Record::SectionHeader => section_header(bytes, at, out),
+        Record::SymtabCommand => symtab_command(bytes, at, out),
+        Record::SymtabEntry => symtab_entry(bytes, at, out),
+        Record::EntryPointCommand => entry_point_command(bytes, at, out),
+        Record::DylinkerCommand => dylinker_command(bytes, at, out),
+        Record::DylibCommand => dylib_command(bytes, at, out),
+        Record::RpathCommand => rpath_command(bytes, at, out),
+        Record::LinkeditDataCommand => linkedit_data_command(bytes, at, out),
+        Record::UuidCommand => uuid_command(bytes, at, out),
+        Record::BuildVersionCommand => build_version_command(bytes, at, out),
+        Record::BuildToolVersion => build_tool_version(bytes, at, out),
+        Record::ChainedFixupsHeader => chained_fixups_header(bytes, at, out),
+        Record::ChainedStartsInSegment => chained_starts_in_segment(bytes, at, out),
+        Record::UnwindInfoEntry => unwind_info_entry(bytes, at, out),
+        Record::CodeDirectory => code_directory(bytes, at, out),
+        Record::RelocationInfo => relocation_info(bytes, at, out),
+    }
+}
+
+/// Whether a record is read at the start alone, has this field, and is written as the bytes.
+fn is_row(record: Record, bytes: &[u8], value: u64) -> bool {
+    let mut out = [0xee; ROOM];
+    written(record, bytes, 0, &mut out) == Some(value)
+        && is_framed(&out, bytes)
+        && written(record, bytes, 1, &mut out).is_none()
+        && written(record, bytes, usize::MAX, &mut out).is_none()
+}
+
+/// The records with their bytes and the value of a field.
+const ROWS: [(Record, &[u8], u64); 19] = [
+    (Record::MachHeader, &MACH_HEADER, 0x2000), // flags
+    (Record::LoadCommand, &LOAD_COMMAND, 0x98), // cmdsize
+    (Record::SegmentCommand, &SEGMENT_COMMAND, 0x3f00), // filesize
+    (Record::SectionHeader, &SECTION_HEADER, 0x1_0000_01e0), // addr
+    (Record::SymtabCommand, &SYMTAB_COMMAND, 0x40e8), // stroff
+    (Record::SymtabEntry, &SYMTAB_ENTRY, 0x380), // n_desc
+    (Record::EntryPointCommand, &ENTRY_POINT_COMMAND, 0x10_0000), // stacksize
+    (Record::DylinkerCommand, &DYLINKER_COMMAND, 12), // name_offset
+    (Record::DylibCommand, &DYLIB_COMMAND, 0x054c_0000), // current_version
+    (Record::RpathCommand, &RPATH_COMMAND, 0x8000_001c), // cmd
+    (Record::LinkeditDataCommand, &LINKEDIT_DATA_COMMAND, 0x4000), // dataoff
+    (Record::UuidCommand, &UUID_COMMAND, 24), // cmdsize
+    (
+        Record::BuildVersionCommand,
+        &BUILD_VERSION_COMMAND,
+        0xf_1011,
+    ), // sdk
+    (Record::BuildToolVersion, &BUILD_TOOL_VERSION, 0xb00), // version
+    (Record::ChainedFixupsHeader, &CHAINED_FIXUPS_HEADER, 2), // imports_count
+    (
+        Record::ChainedStartsInSegment,
+        &CHAINED_STARTS_IN_SEGMENT,
+        0x8000,
+    ), // segment_offset
+    (Record::UnwindInfoEntry, &UNWIND_INFO_ENTRY, 0x1_0000_5000), // lsda
+    (Record::CodeDirectory, &CODE_DIRECTORY, 0x4000), // exec_limit
+    (Record::RelocationInfo, &RELOCATION_INFO, 10), // r_type
+];
+
+fn rows() -> &'static [(Record, &'static [u8], u64)] {
+    &ROWS
 }
 
 #[test]
 fn each_record(rt: HostRuntime) {
-    assert!(rt; mach_header());
-    assert!(rt; load_command());
-    assert!(rt; segment_command());
-    assert!(rt; section_header());
-    assert!(rt; symtab_command());
-    assert!(rt; symtab_entry());
-    assert!(rt; entry_point_command());
-    assert!(rt; dylinker_command());
-    assert!(rt; dylib_command());
-    assert!(rt; rpath_command());
-    assert!(rt; linkedit_data_command());
-    assert!(rt; uuid_command());
-    assert!(rt; build_version_command());
-    assert!(rt; build_tool_version());
-    assert!(rt; chained_fixups_header());
-    assert!(rt; chained_starts_in_segment());
-    assert!(rt; unwind_info_entry());
-    assert!(rt; code_directory());
-    assert!(rt; relocation_info());
+    let rows = rows();
+    for number in 0..rows.len() {
+        let (record, bytes, value) = rows[number];
+        assert!(rt; is_row(record, bytes, value), "record {number}");
+    }
 }

@@ -7,7 +7,8 @@ use macho_records::{
     RawSymbolName, SectionAttributes, SectionFlags, SectionHeader, SegmentName, SegmentType,
     SymtabEntry, VerneedTable, Visibility, name_bytes, read_uleb, uleb_size, write_uleb,
 };
-use std::alloc::AllocError;
+use std::alloc::{AllocError, Global};
+use std::fmt::Display;
 use std::hash::{DefaultHasher, Hash, Hasher};
 use std::test::Fail;
 
@@ -58,13 +59,6 @@ fn is_type_row(typ: u32) -> bool {
         && attributes.ty() == typ
 }
 
-#[test]
-fn section_types(rt: HostRuntime) {
-    for typ in 0..256u32 {
-        assert!(rt; is_type_row(typ), "type {typ}");
-    }
-}
-
 /// Whether sections of a segment are writable and excluded, as they should be.
 fn is_name_row(name: &[u8], writable: bool, excluded: bool) -> bool {
     if name.len() > 16 {
@@ -75,15 +69,19 @@ fn is_name_row(name: &[u8], writable: bool, excluded: bool) -> bool {
     same && header.is_writable() == writable && header.should_exclude() == excluded
 }
 
-#[test]
-fn segment_names(rt: HostRuntime) {
-    assert!(rt; is_name_row(b"__PAGEZERO", false, true));
-    assert!(rt; is_name_row(b"__TEXT", false, false));
-    assert!(rt; is_name_row(b"__DATA_CONST", true, false));
-    assert!(rt; is_name_row(b"__DATA", true, false));
-    assert!(rt; is_name_row(b"__LINKEDIT", false, true));
-    assert!(rt; is_name_row(b"__LLVM", true, true));
-    assert!(rt; is_name_row(b"__OBJC_OF_16_BYT", true, false));
+/// Names of segments, whether their sections are writable, and whether they are excluded.
+const NAMES: [(&[u8], bool, bool); 7] = [
+    (b"__PAGEZERO", false, true),
+    (b"__TEXT", false, false),
+    (b"__DATA_CONST", true, false),
+    (b"__DATA", true, false),
+    (b"__LINKEDIT", false, true),
+    (b"__LLVM", true, true),
+    (b"__OBJC_OF_16_BYT", true, false),
+];
+
+fn names() -> &'static [(&'static [u8], bool, bool)] {
+    &NAMES
 }
 
 /// Whether a segment has this place, protection and flags.
@@ -94,88 +92,139 @@ fn is_segment_row(name: SegmentName, key: u32, prot: u32, flags: u32, kept: bool
     access && place && segment.prot == prot && segment.flags == flags
 }
 
-#[test]
-fn segments(rt: HostRuntime) {
-    assert!(rt; is_segment_row(SegmentName::PAGEZERO, 3, 3, 0, false));
-    assert!(rt; is_segment_row(SegmentName::TEXT, 0, 5, 0, true));
-    assert!(rt; is_segment_row(SegmentName::DATA_CONST, 1, 3, 0x10, false));
-    assert!(rt; is_segment_row(SegmentName::DATA, 2, 3, 0, false));
-    assert!(rt; is_segment_row(SegmentName::LINKEDIT, 4, 1, 0, true));
-    assert!(rt; is_segment_row(SegmentName::LLVM, 3, 3, 0, false));
+/// Segments with their places, protections and flags, and whether they are kept without sections.
+const SEGMENTS: [(SegmentName, u32, u32, u32, bool); 6] = [
+    (SegmentName::PAGEZERO, 3, 3, 0, false),
+    (SegmentName::TEXT, 0, 5, 0, true),
+    (SegmentName::DATA_CONST, 1, 3, 0x10, false),
+    (SegmentName::DATA, 2, 3, 0, false),
+    (SegmentName::LINKEDIT, 4, 1, 0, true),
+    (SegmentName::LLVM, 3, 3, 0, false),
+];
+
+fn segments() -> &'static [(SegmentName, u32, u32, u32, bool)] {
+    &SEGMENTS
+}
+
+/// A segment is loaded, and neither a stack nor of thread-local variables.
+fn is_loaded() -> bool {
     let segment = ProgramSegmentDef::new(SegmentName::DATA);
-    assert!(rt; segment.is_loadable() && !segment.is_stack() && !segment.is_tls());
+    segment.is_loadable() && !segment.is_stack() && !segment.is_tls()
 }
 
 /// Debug information is excluded, but for compact unwind information.
-#[test]
-fn debug_sections(rt: HostRuntime) {
+fn are_debug_sections_excluded() -> bool {
     let debug = 0x0200_0000;
-    assert!(rt; section(b"__DWARF", b"__debug_info", debug).should_exclude());
-    assert!(rt; !section(b"__LD", b"__compact_unwind", debug).should_exclude());
+    section(b"__DWARF", b"__debug_info", debug).should_exclude()
+        && !section(b"__LD", b"__compact_unwind", debug).should_exclude()
 }
 
-#[test]
-fn instructions(rt: HostRuntime) {
-    assert!(rt; section(b"__TEXT", b"__text", 0x8000_0000).is_executable());
-    assert!(rt; section(b"__TEXT", b"__text", 0x400).is_executable());
-    assert!(rt; !section(b"__TEXT", b"__const", 0x200).is_executable());
+/// Sections that are of instructions alone, or have some, are executable.
+fn are_instructions_executable() -> bool {
+    section(b"__TEXT", b"__text", 0x8000_0000).is_executable()
+        && section(b"__TEXT", b"__text", 0x400).is_executable()
+        && !section(b"__TEXT", b"__const", 0x200).is_executable()
 }
 
-#[test]
-fn what_no_section_is(rt: HostRuntime) {
+/// What is said of every section.
+fn is_plain_section() -> bool {
     let header = section(b"__TEXT", b"__const", 0);
-    assert!(rt;
-        header.is_alloc() && SectionFlags(0x416).is_alloc() && SectionFlags(0x416).typ() == 0x16
-    );
-    assert!(rt; !header.is_merge_section() && !header.should_retain());
-    assert!(rt; !header.is_group() && !header.is_note() && !header.is_null());
+    let flags = SectionFlags(0x416);
+    let taken = header.is_alloc() && flags.is_alloc() && flags.typ() == 0x16;
+    let merged = header.is_merge_section() || header.should_retain();
+    taken && !merged && !header.is_group() && !header.is_note() && !header.is_null()
 }
 
 /// The attributes of two sections of one type, joined.
-#[test]
-fn section_attributes(rt: HostRuntime) {
+fn are_attributes_joined() -> bool {
     let mut joined = SectionAttributes::new(0x8000_0016, Some(SegmentName::TEXT));
     joined.merge(SectionAttributes::new(0x416, Some(SegmentName::DATA)));
     joined.set_to_default_type();
-    assert_eq!(rt; joined.flags(), 0x8000_0416);
-    assert!(rt; joined.is_writable() && joined.is_executable() && joined.is_alloc());
-    assert!(rt; !joined.is_null() && !joined.occupies_only_tls_address_space());
+    let set = joined.is_writable() && joined.is_executable() && joined.is_alloc();
+    let other = joined.is_null() || joined.occupies_only_tls_address_space();
+    joined.flags() == 0x8000_0416 && set && !other
 }
 
-#[test]
-fn default_attributes(rt: HostRuntime) {
+fn has_no_attribute() -> bool {
     let none = SectionAttributes::default();
-    assert!(rt; none.flags() == 0 && !none.is_writable());
+    none.flags() == 0 && !none.is_writable()
 }
 
-/// A function, which is also hidden.
+/// The types that Mach-O leaves plain can be made.
+fn are_placeholders_made() -> bool {
+    let _indexes = NonAddressableIndexes {};
+    let _versions = VerneedTable {};
+    let _tags = DynamicTagValues {};
+    let _segment: SegmentType = ();
+    let details = BuiltInSectionDetails {
+        segment: Some(SegmentName::LINKEDIT),
+        section_flags: SectionFlags(0),
+        min_alignment: 3,
+    };
+    details.min_alignment == 3
+}
+
 #[test]
-fn functions(rt: HostRuntime) {
+fn sections_and_segments(rt: HostRuntime) {
+    for typ in 0..256u32 {
+        assert!(rt; is_type_row(typ), "type {typ}");
+    }
+    let names = names();
+    for number in 0..names.len() {
+        let (name, writable, excluded) = names[number];
+        assert!(rt; is_name_row(name, writable, excluded), "name {number}");
+    }
+    let segments = segments();
+    for number in 0..segments.len() {
+        let (name, key, prot, flags, kept) = segments[number];
+        assert!(rt;
+            is_segment_row(name, key, prot, flags, kept),
+            "segment {number}"
+        );
+    }
+    assert!(rt; is_loaded());
+    assert!(rt; are_debug_sections_excluded());
+    assert!(rt; are_instructions_executable());
+    assert!(rt; is_plain_section());
+    assert!(rt; are_attributes_joined());
+    assert!(rt; has_no_attribute());
+    assert!(rt; are_placeholders_made());
+}
+
+/// A function, which can be named from outside.
+fn is_function_seen() -> bool {
     let function = symbol(0x0f, 0, 0x20);
-    assert!(rt; !function.is_undefined() && !function.is_local() && function.has_name());
-    assert!(rt; function.is_interposable() && function.visibility() == Visibility::Default);
-    assert!(rt; function.value() == 0x20 && !function.is_tls() && !function.is_func());
-    assert!(rt; !function.is_ifunc() && !function.is_gnu_unique());
-    let hidden = function.with_hidden(true);
-    assert!(rt; hidden.n_type == 0x1f && hidden.is_hidden() && !hidden.is_interposable());
-    assert!(rt; hidden.visibility() == Visibility::Hidden);
-    assert!(rt; hidden.with_hidden(false).n_type == 0x0f);
+    let named = !function.is_undefined() && !function.is_local() && function.has_name();
+    let seen = function.is_interposable() && function.visibility() == Visibility::Default;
+    let other = function.is_tls() || function.is_func();
+    let rare = function.is_ifunc() || function.is_gnu_unique();
+    named && seen && function.value() == 0x20 && !other && !rare
+}
+
+/// The same function hidden, and seen again.
+fn is_function_hidden() -> bool {
+    let hidden = symbol(0x0f, 0, 0x20).with_hidden(true);
+    hidden.n_type == 0x1f
+        && hidden.is_hidden()
+        && !hidden.is_interposable()
+        && hidden.visibility() == Visibility::Hidden
+        && hidden.with_hidden(false).n_type == 0x0f
 }
 
 /// A weak definition, an absolute value, an undefined symbol and a debugging entry.
-#[test]
-fn other_symbols(rt: HostRuntime) {
-    assert!(rt; symbol(0x0f, 0x80, 0).is_weak() && !symbol(0x0f, 0x40, 0).is_weak());
-    assert!(rt; symbol(0x03, 0, 7).is_absolute() && symbol(0x01, 0, 0).is_undefined());
-    assert!(rt; !symbol(0x20, 0, 0).is_undefined());
+fn are_other_symbols_told() -> bool {
+    symbol(0x0f, 0x80, 0).is_weak()
+        && !symbol(0x0f, 0x40, 0).is_weak()
+        && symbol(0x03, 0, 7).is_absolute()
+        && symbol(0x01, 0, 0).is_undefined()
+        && !symbol(0x20, 0, 0).is_undefined()
 }
 
 /// Labels that an assembler made.
-#[test]
-fn strippable_symbols(rt: HostRuntime) {
-    assert!(rt; symbol(0x0e, 0, 0).is_default_strippable(b"ltmp0"));
-    assert!(rt; !symbol(0x0f, 0, 0).is_default_strippable(b"ltmp0"));
-    assert!(rt; !symbol(0x0e, 0, 0).is_default_strippable(b"_ltmp0"));
+fn are_labels_told() -> bool {
+    symbol(0x0e, 0, 0).is_default_strippable(b"ltmp0")
+        && !symbol(0x0f, 0, 0).is_default_strippable(b"ltmp0")
+        && !symbol(0x0e, 0, 0).is_default_strippable(b"_ltmp0")
 }
 
 /// A common of 9 bytes, aligned to 8.
@@ -196,41 +245,45 @@ const UNDEFINED: SymtabEntry = SymtabEntry {
     n_value: 0,
 };
 
-#[test]
-fn commons(rt: HostRuntime) -> Result<(), Fail> {
-    let common = COMMON.as_common().ok_or("no common")?;
-    assert!(rt; common.size == 16 && common.align == 3);
-    assert_eq!(rt; COMMON.size(), 16);
-    assert_eq!(rt; UNDEFINED.size(), 0);
-    Ok(())
+/// Commons have sizes that are rounded up.
+fn are_commons_sized() -> bool {
+    match COMMON.as_common() {
+        Some(common) => {
+            common.size == 16 && common.align == 3 && COMMON.size() == 16 && UNDEFINED.size() == 0
+        }
+        None => false,
+    }
 }
 
 /// A name ends at its first NUL.
-#[test]
-fn names(rt: HostRuntime) {
+fn are_names_ended() -> bool {
     let text = SegmentName::from_bytes(b"__TEXT\0junk");
-    assert!(rt; text == SegmentName::TEXT && text != SegmentName::DATA);
-    assert!(rt; text.into_bytes() == *b"__TEXT\0\0\0\0\0\0\0\0\0\0");
-    assert_eq!(rt; name_bytes(b"ab\0c"), b"ab".as_slice());
+    let same = text == SegmentName::TEXT && text != SegmentName::DATA;
+    let bytes = text.into_bytes() == *b"__TEXT\0\0\0\0\0\0\0\0\0\0";
+    same && bytes && name_bytes(b"ab\0c") == b"ab".as_slice()
 }
 
-#[test]
-fn printed_names(rt: HostRuntime) -> Result<(), Fail> {
-    assert_eq!(rt; SegmentName::TEXT.to_string(rt.alloc())?.as_str(), "__TEXT");
+/// Whether a value is printed as this text.
+fn is_printed<T: Display>(alloc: Global, value: &T, text: &str) -> Result<bool, AllocError> {
+    Ok(value.to_string(alloc)?.as_str() == text)
+}
+
+/// Names are printed, with a mark for a byte that is no text.
+fn are_names_printed(alloc: Global) -> Result<bool, AllocError> {
     let segment = ProgramSegmentDef::new(SegmentName::DATA);
-    assert_eq!(rt; segment.to_string(rt.alloc())?.as_str(), "__DATA");
     let bad = SegmentName::from_bytes(b"a\xffb");
-    assert_eq!(rt; bad.to_string(rt.alloc())?.as_str(), "a\u{FFFD}b");
-    Ok(())
+    Ok(
+        is_printed(alloc, &SegmentName::TEXT, "__TEXT")?
+            && is_printed(alloc, &segment, "__DATA")?
+            && is_printed(alloc, &bad, "a\u{FFFD}b")?
+            && is_printed(alloc, &RawSymbolName::parse(b"_main"), "_main")?,
+    )
 }
 
-#[test]
-fn symbol_names(rt: HostRuntime) -> Result<(), Fail> {
+/// The name of a symbol, which has no version.
+fn is_symbol_name() -> bool {
     let symbol = RawSymbolName::parse(b"_main");
-    assert!(rt; symbol.version_name().is_none() && symbol.is_default());
-    assert_eq!(rt; symbol.name(), b"_main".as_slice());
-    assert_eq!(rt; symbol.to_string(rt.alloc())?.as_str(), "_main");
-    Ok(())
+    symbol.version_name().is_none() && symbol.is_default() && symbol.name() == b"_main".as_slice()
 }
 
 fn hash_of(name: SegmentName) -> u64 {
@@ -240,11 +293,23 @@ fn hash_of(name: SegmentName) -> u64 {
 }
 
 /// Equal names hash alike.
+fn are_hashes_equal() -> bool {
+    let hash = hash_of(SegmentName::from_bytes(b"__TEXT\0junk"));
+    hash == hash_of(SegmentName::TEXT) && hash != hash_of(SegmentName::DATA)
+}
+
 #[test]
-fn hashes(rt: HostRuntime) {
-    let text = SegmentName::from_bytes(b"__TEXT\0junk");
-    assert_eq!(rt; hash_of(text), hash_of(SegmentName::TEXT));
-    assert_ne!(rt; hash_of(text), hash_of(SegmentName::DATA));
+fn symbols_and_names(rt: HostRuntime) -> Result<(), Fail> {
+    assert!(rt; is_function_seen());
+    assert!(rt; is_function_hidden());
+    assert!(rt; are_other_symbols_told());
+    assert!(rt; are_labels_told());
+    assert!(rt; are_commons_sized());
+    assert!(rt; are_names_ended());
+    assert!(rt; is_symbol_name());
+    assert!(rt; are_hashes_equal());
+    assert!(rt; are_names_printed(rt.alloc())?);
+    Ok(())
 }
 
 /// Appends a number, and whether it has this form and is read behind what was there.
@@ -255,23 +320,33 @@ fn is_form(out: &mut Vec<u8>, value: u64, form: &[u8]) -> Result<bool, AllocErro
     Ok(read && out.as_slice().ends_with(form) && uleb_size(value) == form.len())
 }
 
-#[test]
-fn uleb_forms(rt: HostRuntime) -> Result<(), Fail> {
-    let mut out = Vec::new(rt.alloc());
-    assert!(rt; is_form(&mut out, 0, b"\x00")?);
-    assert!(rt; is_form(&mut out, 127, b"\x7f")?);
-    assert!(rt; is_form(&mut out, 128, b"\x80\x01")?);
-    assert!(rt; is_form(&mut out, 300, b"\xac\x02")?);
-    assert!(rt; is_form(&mut out, 12857, b"\xb9\x64")?);
-    assert!(rt; is_form(&mut out, 1 << 32, b"\x80\x80\x80\x80\x10")?);
-    assert!(rt;
-        is_form(
-            &mut out,
-            u64::MAX,
-            b"\xff\xff\xff\xff\xff\xff\xff\xff\xff\x01"
-        )?
-    );
-    Ok(())
+/// Numbers with their bytes.
+const FORMS: [(u64, &[u8]); 7] = [
+    (0, b"\x00"),
+    (127, b"\x7f"),
+    (128, b"\x80\x01"),
+    (300, b"\xac\x02"),
+    (12857, b"\xb9\x64"),
+    (1 << 32, b"\x80\x80\x80\x80\x10"),
+    (u64::MAX, b"\xff\xff\xff\xff\xff\xff\xff\xff\xff\x01"),
+];
+
+fn forms() -> &'static [(u64, &'static [u8])] {
+    &FORMS
+}
+
+/// Bytes, a place in them, the number there and the place behind it.
+const READINGS: [(&[u8], usize, Option<(u64, usize)>); 6] = [
+    (b"\xac\x82\x80\x00", 0, Some((300, 4))),
+    (b"\xac\x82", 0, None),
+    (b"\x80\x80\x80\x80\x80\x80\x80\x80\x80\x80\x00", 0, None),
+    (b"\x80\x80\x80\x80\x80\x80\x80\x80\x80\x02", 0, None),
+    (b"\x00", 1, None),
+    (b"\x00", usize::MAX, None),
+];
+
+fn readings() -> &'static [(&'static [u8], usize, Option<(u64, usize)>)] {
+    &READINGS
 }
 
 fn is_read(bytes: &[u8], at: usize, answer: Option<(u64, usize)>) -> bool {
@@ -279,26 +354,17 @@ fn is_read(bytes: &[u8], at: usize, answer: Option<(u64, usize)>) -> bool {
 }
 
 #[test]
-fn uleb_readings(rt: HostRuntime) {
-    assert!(rt; is_read(b"\xac\x82\x80\x00", 0, Some((300, 4))));
-    assert!(rt; is_read(b"\xac\x82", 0, None));
-    assert!(rt; is_read(b"\x80\x80\x80\x80\x80\x80\x80\x80\x80\x80\x00", 0, None));
-    assert!(rt; is_read(b"\x80\x80\x80\x80\x80\x80\x80\x80\x80\x02", 0, None));
-    assert!(rt; is_read(b"\x00", 1, None));
-    assert!(rt; is_read(b"\x00", usize::MAX, None));
-}
-
-/// The types that Mach-O leaves plain can be made.
-#[test]
-fn placeholders(rt: HostRuntime) {
-    let _indexes = NonAddressableIndexes {};
-    let _versions = VerneedTable {};
-    let _tags = DynamicTagValues {};
-    let _segment: SegmentType = ();
-    let details = BuiltInSectionDetails {
-        segment: Some(SegmentName::LINKEDIT),
-        section_flags: SectionFlags(0),
-        min_alignment: 3,
-    };
-    assert_eq!(rt; details.min_alignment, 3);
+fn numbers_of_any_length(rt: HostRuntime) -> Result<(), Fail> {
+    let mut out = Vec::new(rt.alloc());
+    let forms = forms();
+    for number in 0..forms.len() {
+        let (value, form) = forms[number];
+        assert!(rt; is_form(&mut out, value, form)?, "{value}");
+    }
+    let readings = readings();
+    for number in 0..readings.len() {
+        let (bytes, at, answer) = readings[number];
+        assert!(rt; is_read(bytes, at, answer), "reading {number}");
+    }
+    Ok(())
 }

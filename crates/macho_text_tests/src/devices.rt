@@ -1,153 +1,280 @@
 //! The devices, each on its happy path and at each of its failures.
 
+use Step::{Fails, Folder, Leads, NoFolder, Shows, Takes};
 use macho_args::Paths;
 use macho_devices::{
     FileFault, Files, MemoryFiles, MemorySink, RealFiles, RealSink, Sink, SinkFault, SteadyFiles,
     SteadySink,
 };
-use std::alloc::Global;
+use std::alloc::{AllocError, Global};
 use std::io::Write;
 use std::test::Fail;
 use std::{env, fs, io, process};
 
-// What a read of the path gives, with `-` for no such file and `!` for a failed read.
-fn shown<F: Files>(files: &mut F, alloc: Global, path: &str) -> Result<String, Fail> {
-    match files.read(alloc, path) {
-        Ok(Some(bytes)) => Ok(String::from_utf8(bytes)?),
-        Ok(None) => Ok(String::from_str(alloc, "-")?),
-        Err(FileFault::Failed) => Ok(String::from_str(alloc, "!")?),
-        Err(fault) => Err(Fail::from(fault)),
-    }
+/// What is done with a path, and what has to come of it.
+#[derive(Clone, Copy)]
+enum Step {
+    /// A read gives this text, with `-` for no such file and `!` for a failed read.
+    Shows,
+    /// The canonical path is this one, with `-` for none.
+    Leads,
+    /// The bytes are written.
+    Takes,
+    /// The write of the bytes fails.
+    Fails,
+    /// The path is that of a directory.
+    Folder,
+    /// It isn't.
+    NoFolder,
 }
 
 // Whether a read of the path gives the text.
-fn shows<F: Files>(files: &mut F, alloc: Global, path: &str, want: &str) -> Result<bool, Fail> {
-    Ok(shown(files, alloc, path)?.as_str() == want)
+fn shows<F: Files>(files: &mut F, alloc: Global, path: &str, text: &str) -> bool {
+    match files.read(alloc, path) {
+        Ok(Some(bytes)) => bytes.as_slice() == text.as_bytes(),
+        Ok(None) => text == "-",
+        Err(FileFault::Failed) => text == "!",
+        Err(_) => false,
+    }
 }
 
-// Whether the canonical path is this one, or `-` for none.
-fn leads_to<F: Files>(files: &mut F, alloc: Global, path: &str, want: &str) -> Result<bool, Fail> {
-    Ok(match files.canonical(alloc, path)? {
-        Some(canonical) => canonical.as_str() == want,
-        None => want == "-",
-    })
+// Whether the canonical path is this one.
+fn leads_to<F: Files>(files: &mut F, alloc: Global, path: &str, text: &str) -> bool {
+    match files.canonical(alloc, path) {
+        Ok(Some(canonical)) => canonical.as_str() == text,
+        Ok(None) => text == "-",
+        Err(_) => false,
+    }
 }
 
-// Whether the bytes are written.
-fn takes<F: Files>(files: &mut F, path: &str, bytes: &[u8]) -> bool {
-    files.write(path, bytes) == Ok(())
+// Whether the write of the bytes goes well, or fails.
+fn writes<F: Files>(files: &mut F, path: &str, bytes: &[u8], well: bool) -> bool {
+    match files.write(path, bytes) {
+        Ok(()) => well,
+        Err(FileFault::Failed) => !well,
+        Err(_) => false,
+    }
 }
 
-// Whether the write of the bytes fails.
-fn fails<F: Files>(files: &mut F, path: &str, bytes: &[u8]) -> bool {
-    files.write(path, bytes) == Err(FileFault::Failed)
+// Whether a step goes as it should.
+fn goes<F: Files>(files: &mut F, alloc: Global, step: Step, path: &str, text: &str) -> bool {
+    match step {
+        Shows => shows(files, alloc, path, text),
+        Leads => leads_to(files, alloc, path, text),
+        Takes => writes(files, path, text.as_bytes(), true),
+        Fails => writes(files, path, text.as_bytes(), false),
+        Folder => files.is_dir(path),
+        NoFolder => !files.is_dir(path),
+    }
 }
 
-// Whether the bytes are printed.
-fn prints<S: Sink>(sink: &mut S, bytes: &[u8]) -> bool {
-    sink.write(bytes) == Ok(())
+// How many steps go as they should before one doesn't; each path begins with the same text.
+fn passed<F: Files>(
+    files: &mut F,
+    alloc: Global,
+    front: &str,
+    steps: &[(Step, &str, &str)],
+) -> Result<usize, AllocError> {
+    for number in 0..steps.len() {
+        let (step, back, text) = steps[number];
+        let mut path = String::from_str(alloc, front)?;
+        path.push_str(back)?;
+        if !goes(files, alloc, step, path.as_str(), text) {
+            return Ok(number);
+        }
+    }
+    Ok(steps.len())
 }
 
-// Whether the print of the bytes fails.
-fn breaks<S: Sink>(sink: &mut S, bytes: &[u8]) -> bool {
-    sink.write(bytes) == Err(SinkFault::Failed)
+// Adds a file.
+fn add(files: &mut MemoryFiles, alloc: Global, path: &str, text: &str) -> Result<(), AllocError> {
+    files.add_file(path, text.as_bytes().to_vec(alloc)?)
 }
 
-// Files in memory with a directory, a link, and a file that is added twice.
-fn memory_files(alloc: Global) -> Result<MemoryFiles, Fail> {
-    let mut files = MemoryFiles::new(alloc);
+// Adds a directory, a link, and a file that is added twice.
+fn fill_memory(files: &mut MemoryFiles, alloc: Global) -> Result<(), AllocError> {
     files.add_dir("lib")?;
     files.add_canonical("lib/../a", "/work/a")?;
-    files.add_file("a", b"one".to_vec(alloc)?)?;
-    files.add_file("a", b"two".to_vec(alloc)?)?;
-    Ok(files)
+    add(files, alloc, "a", "one")?;
+    add(files, alloc, "a", "two")
 }
 
-#[test]
-fn memory_files_hold_what_is_added(rt: HostRuntime) -> Result<(), Fail> {
-    let alloc = rt.alloc();
-    let mut files = memory_files(alloc)?;
-    assert!(rt; files.is_dir("lib") && !files.is_dir("a"));
-    assert!(rt; leads_to(&mut files, alloc, "lib/../a", "/work/a")?);
-    assert!(rt; leads_to(&mut files, alloc, "a", "-")?);
-    assert!(rt; shows(&mut files, alloc, "a", "two")?);
-    assert!(rt; shows(&mut files, alloc, "b", "-")?);
-    assert!(rt; takes(&mut files, "b", b"three"));
-    assert!(rt; shows(&mut files, alloc, "b", "three")?);
-    assert!(rt; shows(&mut files, alloc, "a", "two")?);
-    Ok(())
+// How many steps pass over files in memory.
+fn passed_in_memory(alloc: Global) -> Result<usize, AllocError> {
+    let mut files = MemoryFiles::new(alloc);
+    fill_memory(&mut files, alloc)?;
+    passed(&mut files, alloc, "", memory())
 }
 
-#[test]
-fn a_read_fails_by_its_number(rt: HostRuntime) -> Result<(), Fail> {
-    let mut files = MemoryFiles::new(rt.alloc());
-    files.add_file("a", b"one".to_vec(rt.alloc())?)?;
+fn memory() -> &'static [(Step, &'static str, &'static str)] {
+    &MEMORY
+}
+
+const MEMORY: [(Step, &str, &str); 9] = [
+    (Folder, "lib", ""),
+    (NoFolder, "a", ""),
+    (Leads, "lib/../a", "/work/a"),
+    (Leads, "a", "-"),
+    (Shows, "a", "two"),
+    (Shows, "b", "-"),
+    (Takes, "b", "three"),
+    (Shows, "b", "three"),
+    (Shows, "a", "two"),
+];
+
+// Adds a file, and lets the second read fail, and the first four writes.
+fn fill_failing(files: &mut MemoryFiles, alloc: Global) -> Result<(), AllocError> {
+    add(files, alloc, "a", "one")?;
     files.fail_read(1)?;
-    for want in ["one", "!", "one"] {
-        assert!(rt; shows(&mut files, rt.alloc(), "a", want)?);
-    }
-    Ok(())
+    files.fail_write(0, 0)?;
+    files.fail_write(1, 2)?;
+    files.fail_write(2, 3)?;
+    files.fail_write(3, 9)
 }
 
-#[test]
-fn a_failing_write_leaves_the_first_bytes(rt: HostRuntime) -> Result<(), Fail> {
-    let mut files = MemoryFiles::new(rt.alloc());
-    for (number, left) in [(0, 0), (1, 2), (2, 3), (3, 9)] {
-        files.fail_write(number, left)?;
-    }
-    for want in ["", "im", "ima", "imag"] {
-        assert!(rt; fails(&mut files, "out", b"imag"));
-        assert!(rt; shows(&mut files, rt.alloc(), "out", want)?);
-    }
-    assert!(rt; takes(&mut files, "out", b"image"));
-    assert!(rt; shows(&mut files, rt.alloc(), "out", "image")?);
-    Ok(())
+// How many steps pass over files that fail.
+fn passed_failing(alloc: Global) -> Result<usize, AllocError> {
+    let mut files = MemoryFiles::new(alloc);
+    fill_failing(&mut files, alloc)?;
+    passed(&mut files, alloc, "", failing())
 }
 
-// Files that never fail, with a directory, a link and a file.
-fn steady_files(alloc: Global) -> Result<SteadyFiles, Fail> {
-    let mut files = SteadyFiles::new(alloc);
+fn failing() -> &'static [(Step, &'static str, &'static str)] {
+    &FAILING
+}
+
+/// A failing write leaves the first bytes.
+const FAILING: [(Step, &str, &str); 13] = [
+    (Shows, "a", "one"),
+    (Shows, "a", "!"),
+    (Shows, "a", "one"),
+    (Fails, "out", "imag"),
+    (Shows, "out", ""),
+    (Fails, "out", "imag"),
+    (Shows, "out", "im"),
+    (Fails, "out", "imag"),
+    (Shows, "out", "ima"),
+    (Fails, "out", "imag"),
+    (Shows, "out", "imag"),
+    (Takes, "out", "image"),
+    (Shows, "out", "image"),
+];
+
+// Adds a directory, a link and a file.
+fn fill_steady(files: &mut SteadyFiles, alloc: Global) -> Result<(), AllocError> {
     files.add_dir("lib")?;
     files.add_canonical("b", "/work/b")?;
-    files.add_file("a", b"one".to_vec(alloc)?)?;
-    Ok(files)
+    files.add_file("a", b"one".to_vec(alloc)?)
 }
 
+// How many steps pass over files that never fail.
+fn passed_steady(alloc: Global) -> Result<usize, AllocError> {
+    let mut files = SteadyFiles::new(alloc);
+    fill_steady(&mut files, alloc)?;
+    passed(&mut files, alloc, "", steady())
+}
+
+fn steady() -> &'static [(Step, &'static str, &'static str)] {
+    &STEADY
+}
+
+const STEADY: [(Step, &str, &str); 6] = [
+    (Folder, "lib", ""),
+    (Leads, "b", "/work/b"),
+    (Shows, "a", "one"),
+    (Takes, "a", "two"),
+    (Shows, "a", "two"),
+    (Shows, "b", "-"),
+];
+
 #[test]
-fn steady_files_hold_what_is_added(rt: HostRuntime) -> Result<(), Fail> {
-    let alloc = rt.alloc();
-    let mut files = steady_files(alloc)?;
-    assert!(rt; files.is_dir("lib"));
-    assert!(rt; leads_to(&mut files, alloc, "b", "/work/b")?);
-    assert!(rt; shows(&mut files, alloc, "a", "one")?);
-    assert!(rt; takes(&mut files, "a", b"two"));
-    assert!(rt; shows(&mut files, alloc, "a", "two")?);
-    assert!(rt; shows(&mut files, alloc, "b", "-")?);
+fn files_in_memory_hold_what_is_added(rt: HostRuntime) -> Result<(), Fail> {
+    assert_eq!(rt; passed_in_memory(rt.alloc())?, 9);
+    assert_eq!(rt; passed_failing(rt.alloc())?, 13);
+    assert_eq!(rt; passed_steady(rt.alloc())?, 6);
     Ok(())
 }
 
+/// A file that is written, and written once more; one that isn't there; one below a file, which can't be written.
+const OWN: [(Step, &str, &str); 9] = [
+    (Takes, "", "image"),
+    (Shows, "", "image"),
+    (Takes, "", "new"),
+    (Shows, "", "new"),
+    (Shows, ".missing", "-"),
+    (Leads, ".missing", "-"),
+    (Shows, "/below", "!"),
+    (Fails, "/below", "image"),
+    (NoFolder, "", ""),
+];
+
+/// A directory, a device that is full and one that takes all.
+const SYSTEM: [(Step, &str, &str); 6] = [
+    (Shows, "/", "!"),
+    (Fails, "/", "image"),
+    (Fails, "/dev/full", "image"),
+    (Takes, "/dev/null", "image"),
+    (Folder, "/", ""),
+    (Leads, "/.", "/"),
+];
+
+fn own() -> &'static [(Step, &'static str, &'static str)] {
+    &OWN
+}
+
+fn system() -> &'static [(Step, &'static str, &'static str)] {
+    &SYSTEM
+}
+
+// A path for a file of this process.
+fn own_path(alloc: Global, folder: &str, id: u32) -> Result<String, AllocError> {
+    format!(in alloc; "{folder}/wild_macho_devices_{id}")
+}
+
 #[test]
-fn a_memory_sink_fails_past_its_room_and_by_number(rt: HostRuntime) -> Result<(), Fail> {
-    let mut sink = MemorySink::new(rt.alloc(), 4)?;
+fn real_files_are_written_and_read(rt: HostRuntime) -> Result<(), Fail> {
+    let folder = env::temp_dir(&rt)?;
+    let path = own_path(rt.alloc(), folder.as_str(), process::id(rt.process()))?;
+    let mut files = RealFiles::new(&rt, rt.alloc());
+    assert_eq!(rt; passed(&mut files, rt.alloc(), path.as_str(), own())?, 9);
+    assert_eq!(rt; passed(&mut files, rt.alloc(), "", system())?, 6);
+    fs::remove_file(&rt, path)?;
+    Ok(())
+}
+
+// How many prints go as they should, well or not, before one doesn't.
+fn printed<S: Sink>(sink: &mut S, steps: &[(&[u8], bool)]) -> usize {
+    for number in 0..steps.len() {
+        let (bytes, well) = steps[number];
+        let went = match sink.write(bytes) {
+            Ok(()) => well,
+            Err(SinkFault::Failed) => !well,
+        };
+        if !went {
+            return number;
+        }
+    }
+    steps.len()
+}
+
+/// Prints to a sink with room for four bytes, whose third print fails.
+const ROOM: [(&[u8], bool); 4] = [(b"abc", true), (b"de", false), (b"f", false), (b"g", true)];
+
+// The bytes that a sink has, where its prints go as they should.
+fn is_room_kept(alloc: Global) -> Result<bool, AllocError> {
+    let mut sink = MemorySink::new(alloc, 4)?;
     sink.fail_write(2)?;
-    assert!(rt; prints(&mut sink, b"abc"));
-    assert!(rt; breaks(&mut sink, b"de"));
-    assert!(rt; breaks(&mut sink, b"f"));
-    assert!(rt; prints(&mut sink, b"g"));
-    assert!(rt; sink.bytes() == b"abcg".as_slice());
-    Ok(())
+    Ok(printed(&mut sink, &ROOM) == 4 && sink.bytes() == b"abcg".as_slice())
 }
 
-#[test]
-fn a_steady_sink_takes_all(rt: HostRuntime) {
-    assert!(rt; prints(&mut SteadySink::new(), b"abc"));
+fn does_steady_sink_print() -> bool {
+    printed(&mut SteadySink::new(), &[(b"abc", true)]) == 1
 }
 
-// A stream that takes two bytes a call, then nothing, then fails.
+// A stream that takes two bytes a call, then nothing, then two once more, and then fails.
 #[derive(Drop)]
 struct Slow {
     turns: u8,
-    taken: Vec<u8>,
 }
 
 impl Write for Slow {
@@ -155,11 +282,7 @@ impl Write for Slow {
         let turns = self.turns;
         self.turns = turns.saturating_add(1);
         match turns {
-            0 | 1 | 3 => {
-                let count = buf.len().min(2);
-                self.taken.extend_from_slice(&buf[..count])?;
-                Ok(count)
-            }
+            0 | 1 | 3 => Ok(buf.len().min(2)),
             2 => Ok(0),
             _ => Err(io::Error::from(io::ErrorKind::BrokenPipe)),
         }
@@ -170,58 +293,18 @@ impl Write for Slow {
     }
 }
 
-#[test]
-fn a_real_sink_goes_on_until_all_is_taken(rt: HostRuntime) -> Result<(), Fail> {
-    let taken = Vec::new(rt.alloc());
-    let mut sink = RealSink::new(Slow { turns: 0, taken });
-    assert!(rt; prints(&mut sink, b"abcd"));
-    assert!(rt; breaks(&mut sink, b"e"));
-    assert!(rt; breaks(&mut sink, b"fgh"));
-    assert!(rt; prints(&mut sink, b""));
-    Ok(())
-}
+/// Prints to the slow stream.
+const PIECES: [(&[u8], bool); 4] = [(b"abcd", true), (b"e", false), (b"fgh", false), (b"", true)];
 
-// Whether a file is written under the path, and once more.
-fn is_written_twice<F: Files>(files: &mut F, alloc: Global, path: &str) -> Result<bool, Fail> {
-    Ok(
-        takes(files, path, b"image")
-            && shows(files, alloc, path, "image")?
-            && takes(files, path, b"new")
-            && shows(files, alloc, path, "new")?,
-    )
-}
-
-// Whether nothing is written under the path of a directory, below a file, or to a device that is full.
-fn are_refused<F: Files>(files: &mut F, alloc: Global, below: &str) -> Result<bool, Fail> {
-    Ok(
-        shows(files, alloc, below, "!")?
-            && fails(files, below, b"image")
-            && shows(files, alloc, "/", "!")?
-            && fails(files, "/", b"image")
-            && fails(files, "/dev/full", b"image")
-            && takes(files, "/dev/null", b"image"),
-    )
-}
-
-// Whether a path leads to no file.
-fn is_missing<F: Files>(files: &mut F, alloc: Global, path: &str) -> Result<bool, Fail> {
-    Ok(shows(files, alloc, path, "-")? && leads_to(files, alloc, path, "-")?)
+// A real sink goes on until all is taken.
+fn does_real_sink_go_on() -> bool {
+    printed(&mut RealSink::new(Slow { turns: 0 }), &PIECES) == 4
 }
 
 #[test]
-fn real_files_are_written_and_read(rt: HostRuntime) -> Result<(), Fail> {
-    let alloc = rt.alloc();
-    let folder = env::temp_dir(&rt)?;
-    let id = process::id(rt.process());
-    let path = format!(in alloc; "{}/wild_macho_devices_{id}", folder.as_str())?;
-    let below = format!(in alloc; "{path}/below")?;
-    let missing = format!(in alloc; "{path}.missing")?;
-    let mut files = RealFiles::new(&rt, alloc);
-    assert!(rt; is_written_twice(&mut files, alloc, path.as_str())?);
-    assert!(rt; is_missing(&mut files, alloc, missing.as_str())?);
-    assert!(rt; are_refused(&mut files, alloc, below.as_str())?);
-    assert!(rt; files.is_dir("/") && !files.is_dir(path.as_str()));
-    assert!(rt; leads_to(&mut files, alloc, "/.", "/")?);
-    fs::remove_file(&rt, path)?;
+fn sinks_take_and_fail_as_they_are_told(rt: HostRuntime) -> Result<(), Fail> {
+    assert!(rt; is_room_kept(rt.alloc())?);
+    assert!(rt; does_steady_sink_print());
+    assert!(rt; does_real_sink_go_on());
     Ok(())
 }

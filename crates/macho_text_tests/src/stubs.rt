@@ -1,3 +1,4 @@
+use StubRule::{S1, S2, S3, S4, S5, S6, S7, S8, S9};
 use macho_stub::{DefinedStubLibrary, StubFault, StubRule, parse_defined_library};
 use std::alloc::{AllocError, Global};
 use std::fmt::Write;
@@ -96,170 +97,91 @@ exports:\r
   targets: [ arm64e-macos, ]\r
 ";
 
-/// The texts of `names` joined by spaces.
-fn joined(alloc: Global, names: &[&str]) -> Result<String, AllocError> {
-    let mut all = String::new(alloc);
-    for name in names {
-        all.push_str(name)?;
-        all.push_str(" ")?;
-    }
-    Ok(all)
+/// What a text is: a library of this name, version and symbols, each with a space behind it; one of so many symbols; or refused by a
+/// rule, at a line.
+#[derive(Clone, Copy)]
+enum Stub {
+    Names(&'static str, &'static str, &'static str, &'static str),
+    Symbols(usize),
+    Refused(u64, StubRule),
 }
 
-/// Whether the text is read as this library, its names joined by spaces.
-fn reads_as(alloc: Global, text: &str, fields: &[&str; 4]) -> Result<bool, AllocError> {
-    match parse_defined_library(alloc, text) {
-        Err(_) => Ok(false),
-        Ok(library) => {
-            let symbols = joined(alloc, library.symbols.as_slice())?;
-            let weak_symbols = joined(alloc, library.weak_symbols.as_slice())?;
-            Ok(
-                library.install_name == fields[0]
-                    && library.current_version == fields[1]
-                    && symbols.as_str() == fields[2]
-                    && weak_symbols.as_str() == fields[3],
-            )
+/// Whether the names, each with a space behind it, are this text.
+fn are_joined(names: &[&str], text: &str) -> bool {
+    let mut rest = text;
+    for index in 0..names.len() {
+        let Some(behind) = rest.strip_prefix(names[index]) else {
+            return false;
+        };
+        let Some(behind) = behind.strip_prefix(" ") else {
+            return false;
+        };
+        rest = behind;
+    }
+    rest.is_empty()
+}
+
+/// Whether a library is what it should be.
+fn is_library(library: &DefinedStubLibrary<'_>, wanted: Stub) -> bool {
+    match wanted {
+        Stub::Names(name, version, symbols, weak_symbols) => {
+            library.install_name == name
+                && library.current_version == version
+                && are_joined(library.symbols.as_slice(), symbols)
+                && are_joined(library.weak_symbols.as_slice(), weak_symbols)
         }
+        Stub::Symbols(count) => library.total_symbols() == count,
+        Stub::Refused(_, _) => false,
     }
 }
 
-#[test]
-fn whole_texts_are_read(rt: HostRuntime) -> Result<(), Fail> {
-    let main = [
-        "/usr/lib/libMain.dylib",
-        "1.2.3",
-        "_main_arm64 _a_arm64 _b_arm64 _b_exported_arm64 ",
-        "_main_weak_arm64 _a_weak_arm64 _b_weak_exported_arm64 ",
-    ];
-    assert!(rt; reads_as(rt.alloc(), MAIN, &main)?);
-    let system = ["/usr/lib/libSystem.B.dylib", "1351", "_exit _write ", ""];
-    assert!(rt; reads_as(rt.alloc(), SYSTEM, &system)?);
-    let varied = ["/lib/a b.dylib", "1,2", "_one _two words _three# ", ""];
-    assert!(rt; reads_as(rt.alloc(), VARIED, &varied)?);
-    Ok(())
-}
-
-#[test]
-fn symbols_are_counted(rt: HostRuntime) -> Result<(), Fail> {
-    match parse_defined_library(rt.alloc(), MAIN) {
-        Err(_) => assert!(rt; false),
-        Ok(library) => assert_eq!(rt; library.total_symbols(), 7),
-    }
-    Ok(())
-}
-
-/// Whether the text is refused by the rule, at the line.
-fn is_refused(alloc: Global, text: &str, line: u64, rule: StubRule) -> bool {
+/// Whether a text is what it should be.
+fn is_stub(alloc: Global, text: &str, wanted: Stub) -> bool {
     match parse_defined_library(alloc, text) {
-        Ok(_) => false,
-        Err(fault) => fault == StubFault::Rule { line, rule },
+        Ok(library) => is_library(&library, wanted),
+        Err(StubFault::Rule { line, rule }) => match wanted {
+            Stub::Refused(wanted_line, wanted_rule) => line == wanted_line && rule == wanted_rule,
+            _ => false,
+        },
+        Err(StubFault::OutOfMemory) => false,
     }
 }
 
-/// Texts outside the grammar, with the line that is told.
-const OUTSIDE: [(&str, u64); 20] = [
-    ("a: b\n", 1),
-    ("\n--- !tapi-tbd x\n", 2),
-    ("--- !tapi-tbd\ntargets: [ a,\n  b\n", 2),
-    ("--- !tapi-tbd\ntargets: [ , ]\n", 2),
-    ("--- !tapi-tbd\ntargets: [ a b ]\n", 2),
-    ("--- !tapi-tbd\ntargets: a\n", 2),
-    ("--- !tapi-tbd\ntbd-version: '4'\n", 2),
-    ("--- !tapi-tbd\ninstall-name: \"a\\b\"\n", 2),
-    ("--- !tapi-tbd\ninstall-name: a#b\n", 2),
-    ("--- !tapi-tbd\ninstall-name:a\n", 2),
-    ("--- !tapi-tbd\nother: [ a\n...\n", 3),
-    ("--- !tapi-tbd\ntargets: [ a,\n...\n]\n", 3),
-    ("--- !tapi-tbd\ntargets: [ a,\n  'b\n", 3),
-    ("--- !tapi-tbd\nexports:\ntbd-version: 4\n", 3),
-    ("--- !tapi-tbd\nexports:\n  - a: b\n   c: d\n", 4),
-    ("--- !tapi-tbd\n\ttbd-version: 4\n", 2),
-    ("--- !tapi-tbd\ninstall-name: a\u{85}b\n", 2),
-    ("--- !tapi-tbd\ntargets: [ a ]\nother: [ b,\n\n  c,\n", 3),
-    ("--- !tapi-tbd\nexports: # none\n\n# a comment\n", 2),
-    (
-        "--- !tapi-tbd\nexports:\n  - symbols: [ a ]\n - targets: [ b ]\n",
-        4,
-    ),
-];
-
-#[test]
-fn texts_outside_the_grammar(rt: HostRuntime) -> Result<(), Fail> {
-    for (text, line) in OUTSIDE.iter() {
-        assert!(rt; is_refused(rt.alloc(), text, *line, StubRule::S1), "{text}");
-    }
-    Ok(())
+/// What a text begins with.
+#[derive(Clone, Copy)]
+enum Front {
+    Nothing,
+    /// The line of a document.
+    Document,
+    OneTarget,
+    Main,
+    System,
+    OtherTargets,
+    Varied,
 }
 
-/// Texts that break another rule, with the line and the rule that are told.
-const BROKEN: [(&str, u64, StubRule); 14] = [
-    ("", 1, StubRule::S2),
-    ("\n--- !tapi-tbd\ntbd-version: 4\n", 2, StubRule::S2),
-    (
-        "--- !tapi-tbd\nexports:\n  - symbols: [ a ]\n  - targets: [ a b ]\n",
-        1,
-        StubRule::S2,
-    ),
-    (
-        "--- !tapi-tbd\nreexported-libraries:\n  - targets: [ a ]\nexports: a\n",
-        1,
-        StubRule::S2,
-    ),
-    ("--- !tapi-tbd\ntargets: []\ntargets: []\n", 3, StubRule::S3),
-    (
-        "--- !tapi-tbd\ntargets: []\ntargets: [ a b ]\n",
-        3,
-        StubRule::S3,
-    ),
-    (
-        "--- !tapi-tbd\ntargets: []\nexports:\n  - symbols: []\ntargets: []\n",
-        1,
-        StubRule::S2,
-    ),
-    (
-        "--- !tapi-tbd\nexports:\n  - targets: []\n    targets: []\n",
-        4,
-        StubRule::S3,
-    ),
-    (
-        "--- !tapi-tbd\ntbd-version: 3\ntargets: [ arm64e-macos ]\ninstall-name: a\ncurrent-version: 1\n",
-        1,
-        StubRule::S4,
-    ),
-    (
-        "--- !tapi-tbd\ntbd-version: 3\ntargets: [ arm64-macos ]\ninstall-name: a\n",
-        1,
-        StubRule::S5,
-    ),
-    (
-        "--- !tapi-tbd\ntbd-version: 4\ntargets: [ arm64e-macos ]\ninstall-name: a\ncurrent-version: ''\n",
-        1,
-        StubRule::S6,
-    ),
-    (
-        "--- !tapi-tbd\ntbd-version: 4\ntargets: [ arm64e-macos ]\ninstall-name: a\ncurrent-version: 1\nreexported-libraries:\n  - targets: []\n    libraries: []\n  - targets: []\n    libraries: []\n",
-        1,
-        StubRule::S7,
-    ),
-    (
-        "--- !tapi-tbd\ntbd-version: 4\ntargets: [ arm64e-macos ]\ninstall-name: a\ncurrent-version: 1\nreexported-libraries:\n  - targets: [ arm64-macos ]\n    libraries: []\n",
-        1,
-        StubRule::S8,
-    ),
-    (
-        "--- !tapi-tbd\ntbd-version: 4\ntargets: [ arm64e-macos ]\ninstall-name: a\ncurrent-version: 1\n--- !tapi-tbd\ntbd-version: 4\ntargets: [ arm64e-macos ]\ninstall-name: c\n",
-        6,
-        StubRule::S9,
-    ),
-];
-
-#[test]
-fn texts_that_break_a_rule(rt: HostRuntime) -> Result<(), Fail> {
-    for (text, line, rule) in BROKEN.iter() {
-        assert!(rt; is_refused(rt.alloc(), text, *line, *rule), "{text}");
+fn front_of(front: Front) -> &'static str {
+    match front {
+        Front::Nothing => "",
+        Front::Document => "--- !tapi-tbd\n",
+        Front::OneTarget => ONE_TARGET,
+        Front::Main => MAIN,
+        Front::System => SYSTEM,
+        Front::OtherTargets => OTHER_TARGETS,
+        Front::Varied => VARIED,
     }
-    assert!(rt; is_refused(rt.alloc(), OTHER_TARGETS, 1, StubRule::S5));
-    Ok(())
+}
+
+/// Whether what begins a text and what follows are what they should be.
+fn is_joined_stub(
+    alloc: Global,
+    front: Front,
+    back: &str,
+    wanted: Stub,
+) -> Result<bool, AllocError> {
+    let mut text = String::from_str(alloc, front_of(front))?;
+    text.push_str(back)?;
+    Ok(is_stub(alloc, text.as_str(), wanted))
 }
 
 /// A further document, for a library that the main one doesn't list.
@@ -270,49 +192,234 @@ install-name:    '/usr/lib/libC.dylib'
 current-version: 12
 ";
 
+/// A library `a` up to its lists of symbols.
+const ONE_TARGET: &str =
+    "--- !tapi-tbd\ntbd-version: 4\ntargets: [ arm64e-macos ]\ninstall-name: a\ncurrent-version: 1\nexports:\n";
+
+/// The library `a` with one symbol and a weak one.
+const ONE_OF_EACH: Stub = Stub::Names("a", "1", "_s ", "_w ");
+
+/// Texts by what begins them and what follows, and what they are.
+static STUBS: [(Front, &str, Stub); 46] = [
+    (
+        Front::Main,
+        "",
+        Stub::Names(
+            "/usr/lib/libMain.dylib",
+            "1.2.3",
+            "_main_arm64 _a_arm64 _b_arm64 _b_exported_arm64 ",
+            "_main_weak_arm64 _a_weak_arm64 _b_weak_exported_arm64 ",
+        ),
+    ),
+    (Front::Main, "", Stub::Symbols(7)),
+    (
+        Front::System,
+        "",
+        Stub::Names("/usr/lib/libSystem.B.dylib", "1351", "_exit _write ", ""),
+    ),
+    (
+        Front::Varied,
+        "",
+        Stub::Names("/lib/a b.dylib", "1,2", "_one _two words _three# ", ""),
+    ),
+    // the keys of an item, in each order
+    (
+        Front::OneTarget,
+        "  - targets: [ arm64e-macos ]\n    symbols: [ _s ]\n    weak-symbols: [ _w ]\n",
+        ONE_OF_EACH,
+    ),
+    (
+        Front::OneTarget,
+        "  - targets: [ arm64e-macos ]\n    weak-symbols: [ _w ]\n    symbols: [ _s ]\n",
+        ONE_OF_EACH,
+    ),
+    (
+        Front::OneTarget,
+        "  - symbols: [ _s ]\n    targets: [ arm64e-macos ]\n    weak-symbols: [ _w ]\n",
+        ONE_OF_EACH,
+    ),
+    (
+        Front::OneTarget,
+        "  - symbols: [ _s ]\n    weak-symbols: [ _w ]\n    targets: [ arm64e-macos ]\n",
+        ONE_OF_EACH,
+    ),
+    (
+        Front::OneTarget,
+        "  - weak-symbols: [ _w ]\n    targets: [ arm64e-macos ]\n    symbols: [ _s ]\n",
+        ONE_OF_EACH,
+    ),
+    (
+        Front::OneTarget,
+        "  - weak-symbols: [ _w ]\n    symbols: [ _s ]\n    targets: [ arm64e-macos ]\n",
+        ONE_OF_EACH,
+    ),
+    // texts outside the grammar
+    (Front::Nothing, "a: b\n", Stub::Refused(1, S1)),
+    (Front::Nothing, "\n--- !tapi-tbd x\n", Stub::Refused(2, S1)),
+    (
+        Front::Document,
+        "targets: [ a,\n  b\n",
+        Stub::Refused(2, S1),
+    ),
+    (Front::Document, "targets: [ , ]\n", Stub::Refused(2, S1)),
+    (Front::Document, "targets: [ a b ]\n", Stub::Refused(2, S1)),
+    (Front::Document, "targets: a\n", Stub::Refused(2, S1)),
+    (Front::Document, "tbd-version: '4'\n", Stub::Refused(2, S1)),
+    (
+        Front::Document,
+        "install-name: \"a\\b\"\n",
+        Stub::Refused(2, S1),
+    ),
+    (Front::Document, "install-name: a#b\n", Stub::Refused(2, S1)),
+    (Front::Document, "install-name:a\n", Stub::Refused(2, S1)),
+    (Front::Document, "other: [ a\n...\n", Stub::Refused(3, S1)),
+    (
+        Front::Document,
+        "targets: [ a,\n...\n]\n",
+        Stub::Refused(3, S1),
+    ),
+    (
+        Front::Document,
+        "targets: [ a,\n  'b\n",
+        Stub::Refused(3, S1),
+    ),
+    (
+        Front::Document,
+        "exports:\ntbd-version: 4\n",
+        Stub::Refused(3, S1),
+    ),
+    (
+        Front::Document,
+        "exports:\n  - a: b\n   c: d\n",
+        Stub::Refused(4, S1),
+    ),
+    (Front::Document, "\ttbd-version: 4\n", Stub::Refused(2, S1)),
+    (
+        Front::Document,
+        "install-name: a\u{85}b\n",
+        Stub::Refused(2, S1),
+    ),
+    (
+        Front::Document,
+        "targets: [ a ]\nother: [ b,\n\n  c,\n",
+        Stub::Refused(3, S1),
+    ),
+    (
+        Front::Document,
+        "exports: # none\n\n# a comment\n",
+        Stub::Refused(2, S1),
+    ),
+    (
+        Front::Document,
+        "exports:\n  - symbols: [ a ]\n - targets: [ b ]\n",
+        Stub::Refused(4, S1),
+    ),
+    // texts that break another rule
+    (Front::Nothing, "", Stub::Refused(1, S2)),
+    (
+        Front::Nothing,
+        "\n--- !tapi-tbd\ntbd-version: 4\n",
+        Stub::Refused(2, S2),
+    ),
+    (
+        Front::Document,
+        "exports:\n  - symbols: [ a ]\n  - targets: [ a b ]\n",
+        Stub::Refused(1, S2),
+    ),
+    (
+        Front::Document,
+        "reexported-libraries:\n  - targets: [ a ]\nexports: a\n",
+        Stub::Refused(1, S2),
+    ),
+    (
+        Front::Document,
+        "targets: []\ntargets: []\n",
+        Stub::Refused(3, S3),
+    ),
+    (
+        Front::Document,
+        "targets: []\ntargets: [ a b ]\n",
+        Stub::Refused(3, S3),
+    ),
+    (
+        Front::Document,
+        "targets: []\nexports:\n  - symbols: []\ntargets: []\n",
+        Stub::Refused(1, S2),
+    ),
+    (
+        Front::Document,
+        "exports:\n  - targets: []\n    targets: []\n",
+        Stub::Refused(4, S3),
+    ),
+    (
+        Front::Document,
+        "tbd-version: 3\ntargets: [ arm64e-macos ]\ninstall-name: a\ncurrent-version: 1\n",
+        Stub::Refused(1, S4),
+    ),
+    (
+        Front::Document,
+        "tbd-version: 3\ntargets: [ arm64-macos ]\ninstall-name: a\n",
+        Stub::Refused(1, S5),
+    ),
+    (
+        Front::Document,
+        "tbd-version: 4\ntargets: [ arm64e-macos ]\ninstall-name: a\ncurrent-version: ''\n",
+        Stub::Refused(1, S6),
+    ),
+    (
+        Front::Document,
+        "tbd-version: 4\ntargets: [ arm64e-macos ]\ninstall-name: a\ncurrent-version: 1\nreexported-libraries:\n  - targets: []\n    libraries: []\n  - targets: []\n    libraries: []\n",
+        Stub::Refused(1, S7),
+    ),
+    (
+        Front::Document,
+        "tbd-version: 4\ntargets: [ arm64e-macos ]\ninstall-name: a\ncurrent-version: 1\nreexported-libraries:\n  - targets: [ arm64-macos ]\n    libraries: []\n",
+        Stub::Refused(1, S8),
+    ),
+    (
+        Front::Document,
+        "tbd-version: 4\ntargets: [ arm64e-macos ]\ninstall-name: a\ncurrent-version: 1\n--- !tapi-tbd\ntbd-version: 4\ntargets: [ arm64e-macos ]\ninstall-name: c\n",
+        Stub::Refused(6, S9),
+    ),
+    (Front::OtherTargets, "", Stub::Refused(1, S5)),
+    (Front::Main, FURTHER, Stub::Refused(39, S9)),
+];
+
+fn stubs() -> &'static [(Front, &'static str, Stub)] {
+    &STUBS
+}
+
 #[test]
-fn a_further_document_is_listed(rt: HostRuntime) -> Result<(), Fail> {
-    let mut text = String::from_str(rt.alloc(), MAIN)?;
-    text.push_str(FURTHER)?;
-    assert!(rt; is_refused(rt.alloc(), text.as_str(), 39, StubRule::S9));
+fn texts_with_what_they_are(rt: HostRuntime) -> Result<(), Fail> {
+    let stubs = stubs();
+    for number in 0..stubs.len() {
+        let (front, back, wanted) = stubs[number];
+        assert!(rt;
+            is_joined_stub(rt.alloc(), front, back, wanted)?,
+            "text {number}: {back}"
+        );
+    }
     Ok(())
 }
 
-/// An item's keys in each order.
-const ORDERS: [&str; 6] = [
-    "  - targets: [ arm64e-macos ]\n    symbols: [ _s ]\n    weak-symbols: [ _w ]\n",
-    "  - targets: [ arm64e-macos ]\n    weak-symbols: [ _w ]\n    symbols: [ _s ]\n",
-    "  - symbols: [ _s ]\n    targets: [ arm64e-macos ]\n    weak-symbols: [ _w ]\n",
-    "  - symbols: [ _s ]\n    weak-symbols: [ _w ]\n    targets: [ arm64e-macos ]\n",
-    "  - weak-symbols: [ _w ]\n    targets: [ arm64e-macos ]\n    symbols: [ _s ]\n",
-    "  - weak-symbols: [ _w ]\n    symbols: [ _s ]\n    targets: [ arm64e-macos ]\n",
-];
+/// Appends a number between two texts.
+fn push_number(text: &mut String, front: &str, number: u32, back: &str) -> Result<(), AllocError> {
+    write!(text, "{front}{number}{back}")
+}
 
-#[test]
-fn keys_of_an_item_in_each_order(rt: HostRuntime) -> Result<(), Fail> {
-    for order in ORDERS.iter() {
-        let mut text = String::from_str(
-            rt.alloc(),
-            "--- !tapi-tbd\ntbd-version: 4\ntargets: [ arm64e-macos ]\ninstall-name: a\ncurrent-version: 1\nexports:\n",
-        )?;
-        text.push_str(order)?;
-        assert!(rt;
-            reads_as(rt.alloc(), text.as_str(), &["a", "1", "_s ", "_w "])?,
-            "{order}"
-        );
+/// Appends so many numbers, each between the same two texts.
+fn push_numbers(text: &mut String, front: &str, count: u32, back: &str) -> Result<(), AllocError> {
+    for number in 0..count {
+        push_number(text, front, number, back)?;
     }
     Ok(())
 }
 
 /// A text of a library with this many symbols.
 fn library_of_size(alloc: Global, count: u32) -> Result<String, AllocError> {
-    let mut text = String::from_str(
-        alloc,
-        "--- !tapi-tbd\ntbd-version: 4\ntargets: [ arm64e-macos ]\ninstall-name: a\ncurrent-version: 1\nexports:\n  - targets: [ arm64e-macos ]\n    symbols: [",
-    )?;
-    for number in 0..count {
-        write!(text, " _a_symbol_of_some_length_{number},\n")?;
-    }
+    let mut text = String::from_str(alloc, ONE_TARGET)?;
+    text.push_str("  - targets: [ arm64e-macos ]\n    symbols: [")?;
+    push_numbers(&mut text, " _a_symbol_of_some_length_", count, ",\n")?;
     text.push_str(" ]\n")?;
     Ok(text)
 }
@@ -323,35 +430,25 @@ fn library_of_documents(alloc: Global, count: u32) -> Result<String, AllocError>
         alloc,
         "--- !tapi-tbd\ntbd-version: 4\ntargets: [ arm64e-macos ]\ninstall-name: a\ncurrent-version: 1\nreexported-libraries:\n  - targets: [ arm64e-macos ]\n    libraries: [",
     )?;
-    for number in 0..count {
-        write!(text, " /usr/lib/a/{number},\n")?;
-    }
+    push_numbers(&mut text, " /usr/lib/a/", count, ",\n")?;
     text.push_str(" ]\n")?;
     for number in 0..count {
-        write!(
-            text,
-            "--- !tapi-tbd\ntbd-version: 4\ntargets: []\ninstall-name: /usr/lib/a/{number}\nexports:\n  - targets: [ arm64e-macos ]\n    symbols: [ _a_{number} ]\n"
+        push_number(
+            &mut text,
+            "--- !tapi-tbd\ntbd-version: 4\ntargets: []\ninstall-name: /usr/lib/a/",
+            number,
+            "\nexports:\n  - targets: [ arm64e-macos ]\n    symbols: [ ",
         )?;
+        push_number(&mut text, "_a_", number, " ]\n")?;
     }
     Ok(text)
 }
 
 #[test]
-fn many_documents(rt: HostRuntime) -> Result<(), Fail> {
-    let text = library_of_documents(rt.alloc(), 500)?;
-    match parse_defined_library(rt.alloc(), text.as_str()) {
-        Err(_) => assert!(rt; false),
-        Ok(library) => assert_eq!(rt; library.total_symbols(), 500),
-    }
-    Ok(())
-}
-
-#[test]
-fn a_large_library(rt: HostRuntime) -> Result<(), Fail> {
+fn large_texts(rt: HostRuntime) -> Result<(), Fail> {
     let text = library_of_size(rt.alloc(), 5_000)?;
-    match parse_defined_library(rt.alloc(), text.as_str()) {
-        Err(_) => assert!(rt; false),
-        Ok(library) => assert_eq!(rt; library.total_symbols(), 5_000),
-    }
+    assert!(rt; is_stub(rt.alloc(), text.as_str(), Stub::Symbols(5_000)));
+    let text = library_of_documents(rt.alloc(), 500)?;
+    assert!(rt; is_stub(rt.alloc(), text.as_str(), Stub::Symbols(500)));
     Ok(())
 }

@@ -44,28 +44,103 @@ const EMPTY_DISK: Disk = Disk {
     target: "none",
 };
 
-// The words of a line, parsed.
-fn parse(alloc: Global, line: &str, mut disk: Disk) -> Result<MachOArgs, ArgsFault> {
+/// What the settings of a line are asked for.
+#[derive(Clone, Copy)]
+enum Meaning {
+    Driver,
+    Fields,
+    Generated,
+    Fresh,
+    Inputs,
+    CanonicalRoot,
+    PlainRoot,
+}
+
+// Whether the settings say this.
+fn says(args: &MachOArgs, wanted: Meaning) -> bool {
+    match wanted {
+        Meaning::Driver => has_versions(args) && has_driver_paths(args) && has_driver_names(args),
+        Meaning::Fields => has_switches(args)
+            && has_names(args)
+            && has_lists(args)
+            && has_uuid(args),
+        Meaning::Generated => args.generate == Some(10_000),
+        Meaning::Fresh => has_fresh_names(args) && has_constants(args),
+        Meaning::Inputs => has_inputs(args),
+        Meaning::CanonicalRoot => has_canonical_root(args),
+        Meaning::PlainRoot => are(args.lib_search_path(), &["/usr/lib"]),
+    }
+}
+
+// The words of a line.
+fn words_of(alloc: Global, line: &str) -> Result<Vec<String>, AllocError> {
     let mut words = Vec::new(alloc);
     for word in line.split_whitespace() {
         words.push(String::from_str(alloc, word)?)?;
     }
+    Ok(words)
+}
+
+// Whether the settings of words say this, or they are refused for this fault and leave the fields as they were.
+fn are_parsed(
+    alloc: Global,
+    words: &[String],
+    mut disk: Disk,
+    wanted: Result<Meaning, ArgsFault>,
+) -> Result<bool, AllocError> {
     if words.len() > 1000 {
-        return Err(ArgsFault::OutOfMemory);
+        return Ok(false);
     }
     let mut args = MachOArgs::new(alloc)?;
-    args.parse(&words, &mut disk)?;
-    Ok(args)
+    Ok(match args.parse(words, &mut disk) {
+        Ok(()) => is_meant(&args, wanted),
+        Err(fault) => is_untouched(&args) && is_wanted(fault, wanted),
+    })
+}
+
+// Whether the settings are wanted, and what they say.
+fn is_meant(args: &MachOArgs, wanted: Result<Meaning, ArgsFault>) -> bool {
+    match wanted {
+        Ok(meaning) => says(args, meaning),
+        Err(_) => false,
+    }
+}
+
+// Whether the fault is the one that is wanted.
+fn is_wanted(fault: ArgsFault, wanted: Result<Meaning, ArgsFault>) -> bool {
+    match wanted {
+        Ok(_) => false,
+        Err(wanted) => fault == wanted,
+    }
+}
+
+// The same of the words of a line.
+fn is_line(
+    alloc: Global,
+    line: &str,
+    disk: Disk,
+    wanted: Result<Meaning, ArgsFault>,
+) -> Result<bool, AllocError> {
+    let words = words_of(alloc, line)?;
+    are_parsed(alloc, words.as_slice(), disk, wanted)
+}
+
+// Whether no word has set a field.
+fn is_untouched(args: &MachOArgs) -> bool {
+    !args.dylib && args.framework_search_path.is_empty()
 }
 
 // Whether the texts are these.
 fn are(texts: &[String], wanted: &[&str]) -> bool {
-    for (text, one) in texts.iter().zip(wanted) {
-        if text.as_str() != *one {
+    if texts.len() != wanted.len() {
+        return false;
+    }
+    for index in 0..texts.len() {
+        if texts[index].as_str() != wanted[index] {
             return false;
         }
     }
-    texts.len() == wanted.len()
+    true
 }
 
 fn is(text: &Option<String>, wanted: &str) -> bool {
@@ -112,15 +187,6 @@ fn has_driver_names(args: &MachOArgs) -> bool {
         && args.inputs.len() == 3
 }
 
-#[test]
-fn line_of_a_compiler_driver(rt: HostRuntime) -> Result<(), Fail> {
-    let args = parse(rt.alloc(), DRIVER, EMPTY_DISK)?;
-    assert!(rt; has_versions(&args));
-    assert!(rt; has_driver_paths(&args));
-    assert!(rt; has_driver_names(&args));
-    Ok(())
-}
-
 const FIELDS: &str =
     "-dylib -dead_strip_dylibs -map -install_name n -e _start -output x -o y -rpath r -rpath s -rpath r -exported_symbols_list a -exported_symbols_list -b -uuid 00112233445566778899aabbccddeeFF";
 
@@ -151,18 +217,6 @@ fn has_names(args: &MachOArgs) -> bool {
         && !args.should_output_executable()
         && args.output.as_str() == "y"
         && are(&args.rpaths, &["r", "s"])
-}
-
-#[test]
-fn each_option_sets_its_field(rt: HostRuntime) -> Result<(), Fail> {
-    let args = parse(rt.alloc(), FIELDS, EMPTY_DISK)?;
-    assert!(rt; has_switches(&args));
-    assert!(rt; has_names(&args));
-    assert!(rt; has_lists(&args));
-    assert!(rt; has_uuid(&args));
-    let args = parse(rt.alloc(), "-generate 10000", EMPTY_DISK)?;
-    assert!(rt; args.generate == Some(10_000));
-    Ok(())
 }
 
 fn has_fresh_names(args: &MachOArgs) -> bool {
@@ -198,55 +252,57 @@ fn has_constants(args: &MachOArgs) -> bool {
         && are_ignored(&["O4", "-O0", "dynamic", ""], false)
 }
 
-#[test]
-fn no_words(rt: HostRuntime) -> Result<(), Fail> {
-    let args = parse(rt.alloc(), "", EMPTY_DISK)?;
-    assert!(rt; has_fresh_names(&args));
-    assert!(rt; has_constants(&args));
-    Ok(())
+/// Options that are taken and say nothing.
+const WITHOUT_EFFECT: &str =
+    "-no_deduplicate -search_paths_first -no_warn_duplicate_libraries -demangle -dynamic -init_offsets -dead_strip -export_dynamic -O0 -O1 -O2 -O3 -arch arm64 -mllvm -enable-linkonceodr-outlining";
+
+// The letter of an input's kind.
+fn kind_of(input: &InputSpec) -> char {
+    match input {
+        InputSpec::File { .. } => 'o',
+        InputSpec::Lib { .. } => 'l',
+        InputSpec::Framework { .. } => 'f',
+    }
 }
 
-#[test]
-fn options_without_effect(rt: HostRuntime) -> Result<(), Fail> {
-    let line =
-        "-no_deduplicate -search_paths_first -no_warn_duplicate_libraries -demangle -dynamic -init_offsets -dead_strip -export_dynamic -O0 -O1 -O2 -O3 -arch arm64 -mllvm -enable-linkonceodr-outlining";
-    assert!(rt; has_fresh_names(&parse(rt.alloc(), line, EMPTY_DISK)?));
-    Ok(())
+fn name_of(input: &InputSpec) -> &str {
+    match input {
+        InputSpec::File { path, .. } => path.as_str(),
+        InputSpec::Lib { name, .. } => name.as_str(),
+        InputSpec::Framework { name, .. } => name.as_str(),
+    }
 }
 
 // Whether an input is of this kind, its word of this number, and its name this one.
-fn is_input(input: &InputSpec, (kind, at, text): (&str, u32, &str)) -> bool {
-    let (came, name) = match input {
-        InputSpec::File { path, .. } => ("file", path),
-        InputSpec::Lib { name, .. } => ("library", name),
-        InputSpec::Framework { name, .. } => ("framework", name),
-    };
-    came == kind && input.word() == at && name.as_str() == text
+fn is_input(input: &InputSpec, kind: char, at: u32, text: &str) -> bool {
+    kind_of(input) == kind && input.word() == at && name_of(input) == text
 }
 
-/// Inputs, and where their words stand.
-const INPUTS: [(&str, u32, &str); 5] = [
-    ("file", 0, "a.o"),
-    ("library", 1, "c"),
-    ("library", 3, "z"),
-    ("framework", 5, "F"),
-    ("file", 8, "b.o"),
+/// Inputs by the letters of their kinds, and where their words stand.
+const INPUTS: [(char, u32, &str); 5] = [
+    ('o', 0, "a.o"),
+    ('l', 1, "c"),
+    ('l', 3, "z"),
+    ('f', 5, "F"),
+    ('o', 8, "b.o"),
 ];
 
+fn inputs() -> &'static [(char, u32, &'static str)] {
+    &INPUTS
+}
+
 fn has_inputs(args: &MachOArgs) -> bool {
-    for (input, row) in args.inputs.iter().zip(INPUTS) {
-        if !is_input(input, row) {
+    let rows = inputs();
+    for number in 0..rows.len() {
+        let (kind, at, text) = rows[number];
+        let Some(input) = args.inputs.get(number) else {
+            return false;
+        };
+        if !is_input(input, kind, at, text) {
             return false;
         }
     }
-    args.inputs.len() == INPUTS.len()
-}
-
-#[test]
-fn inputs_with_their_words(rt: HostRuntime) -> Result<(), Fail> {
-    let line = "a.o -lc -l z -framework F -o -o b.o";
-    assert!(rt; has_inputs(&parse(rt.alloc(), line, EMPTY_DISK)?));
-    Ok(())
+    args.inputs.len() == rows.len()
 }
 
 fn has_canonical_root(args: &MachOArgs) -> bool {
@@ -264,22 +320,39 @@ fn has_canonical_root(args: &MachOArgs) -> bool {
         )
 }
 
-#[test]
-fn root_and_framework_paths(rt: HostRuntime) -> Result<(), Fail> {
-    let disk = Disk {
-        directory: "/real/sdk/F",
-        link: "/sdk",
-        target: "/real/sdk",
-    };
-    let line = "-L/old -F/F -F/G -Frelative -syslibroot /other -syslibroot /sdk -L/new";
-    assert!(rt; has_canonical_root(&parse(rt.alloc(), line, disk)?));
-    let args = parse(rt.alloc(), "-syslibroot /", disk)?;
-    assert!(rt; are(args.lib_search_path(), &["/usr/lib"]));
-    Ok(())
+/// A disk with a root under another name, and one directory of frameworks below it.
+const ROOT_DISK: Disk = Disk {
+    directory: "/real/sdk/F",
+    link: "/sdk",
+    target: "/real/sdk",
+};
+
+/// Lines that are taken, and what their settings say.
+static TAKEN: [(&str, Disk, Meaning); 8] = [
+    (DRIVER, EMPTY_DISK, Meaning::Driver),
+    (FIELDS, EMPTY_DISK, Meaning::Fields),
+    ("-generate 10000", EMPTY_DISK, Meaning::Generated),
+    ("", EMPTY_DISK, Meaning::Fresh),
+    (WITHOUT_EFFECT, EMPTY_DISK, Meaning::Fresh),
+    (
+        "a.o -lc -l z -framework F -o -o b.o",
+        EMPTY_DISK,
+        Meaning::Inputs,
+    ),
+    (
+        "-L/old -F/F -F/G -Frelative -syslibroot /other -syslibroot /sdk -L/new",
+        ROOT_DISK,
+        Meaning::CanonicalRoot,
+    ),
+    ("-syslibroot /", ROOT_DISK, Meaning::PlainRoot),
+];
+
+fn taken() -> &'static [(&'static str, Disk, Meaning)] {
+    &TAKEN
 }
 
 /// Lines that are refused, and how: a value that is missing, a word that isn't supported or isn't known, a value that is no such value.
-const REFUSED: [(&str, ArgsFault); 38] = [
+const REFUSED: [(&str, ArgsFault); 39] = [
     ("a.o -o", ArgsFault::MissingValue { word: 1 }),
     ("-install_name", ArgsFault::MissingValue { word: 0 }),
     ("-e", ArgsFault::MissingValue { word: 0 }),
@@ -317,6 +390,7 @@ const REFUSED: [(&str, ArgsFault); 38] = [
     ("-version", ArgsFault::Unsupported { word: 0 }),
     ("in.o -generate 1 -x", ArgsFault::Unknown { word: 3 }),
     ("-dylibs", ArgsFault::Unknown { word: 0 }),
+    ("-dylib -what", ArgsFault::Unknown { word: 1 }),
     ("-", ArgsFault::Unknown { word: 0 }),
     (
         "-platform_version ios 1.2.3.4 1",
@@ -344,34 +418,25 @@ const REFUSED: [(&str, ArgsFault); 38] = [
     ("-generate +1", ArgsFault::BadNumber { word: 1 }),
 ];
 
-// Whether a line has this fault.
-fn has_fault(alloc: Global, line: &str, fault: ArgsFault) -> bool {
-    match parse(alloc, line, EMPTY_DISK) {
-        Ok(_args) => false,
-        Err(came) => came == fault,
-    }
+fn refused() -> &'static [(&'static str, ArgsFault)] {
+    &REFUSED
 }
 
 #[test]
-fn each_fault_with_its_word(rt: HostRuntime) {
-    for (line, fault) in REFUSED {
-        assert!(rt; has_fault(rt.alloc(), line, fault), "{line}");
+fn lines_with_what_they_say(rt: HostRuntime) -> Result<(), Fail> {
+    let taken = taken();
+    for number in 0..taken.len() {
+        let (line, disk, wanted) = taken[number];
+        assert!(rt; is_line(rt.alloc(), line, disk, Ok(wanted))?, "{line}");
     }
-}
-
-// Whether a refused line leaves the fields as they were.
-fn stays_fresh(alloc: Global) -> Result<bool, AllocError> {
-    let mut words = Vec::new(alloc);
-    words.push(String::from_str(alloc, "-dylib")?)?;
-    words.push(String::from_str(alloc, "-what")?)?;
-    let mut args = MachOArgs::new(alloc)?;
-    let refused = args.parse(&words, &mut EMPTY_DISK).is_err();
-    Ok(refused && !args.dylib && args.framework_search_path.is_empty())
-}
-
-#[test]
-fn fields_stay_after_a_fault(rt: HostRuntime) -> Result<(), Fail> {
-    assert!(rt; stays_fresh(rt.alloc())?);
+    let refused = refused();
+    for number in 0..refused.len() {
+        let (line, fault) = refused[number];
+        assert!(rt;
+            is_line(rt.alloc(), line, EMPTY_DISK, Err(fault))?,
+            "{line}"
+        );
+    }
     Ok(())
 }
 
@@ -397,6 +462,10 @@ const VERSIONS: [(&str, Option<u32>); 18] = [
     ("4294967296", None),
 ];
 
+fn version_rows() -> &'static [(&'static str, Option<u32>)] {
+    &VERSIONS
+}
+
 fn number_of(text: &str) -> Option<u32> {
     match SemanticVersion::try_from(text) {
         Ok(version) => Some(version.get()),
@@ -406,7 +475,9 @@ fn number_of(text: &str) -> Option<u32> {
 
 #[test]
 fn versions(rt: HostRuntime) {
-    for (text, number) in VERSIONS {
+    let version_rows = version_rows();
+    for number in 0..version_rows.len() {
+        let (text, number) = version_rows[number];
         assert!(rt; number_of(text) == number, "{text}");
     }
 }
