@@ -1,172 +1,169 @@
 //! A plain way to the bytes of a trie, slow and without a table: the judge of the other one.
 //!
-//! A node is a part of the sorted names that have a beginning in common. Those of them that go on with one byte are the names
-//! of a child, which begins where they differ, and so on by recursion. The bytes are written over and over, each time with
-//! the places of the time before.
-ghost use Rattle.std.specs.Prelude.{◌<◌, ◌≤◌, length};
+//! A node is a beginning that two names have in common, or a whole name, or the empty one. In order of their bytes a node stands
+//! in front of all below it, and the node above it is the last one before that it goes on from. The bytes are written over and
+//! over, each time with the places of the time before.
 
-use macho_records::write_uleb;
+use macho_records::{uleb_size, write_uleb};
+use macho_trie::Symbols;
 use std::alloc::{AllocError, Global};
 
-/// A name and its address.
-pub(crate) type Entry = (Vec<u8>, u64);
-
-/// The same, in order.
-type Named<'n> = (&'n [u8], u64);
-
-/// The nodes so far: their bytes and places.
-#[derive(Drop)]
-struct Nodes {
-    bytes: Vec<u8>,
-    places: Vec<u64>,
+/// A node: the way to it, the number of the node above, the address where the way is a name, and its place.
+#[derive(Clone, Copy)]
+struct Node<'n> {
+    way: &'n [u8],
+    above: usize,
+    address: Option<u64>,
+    place: u64,
 }
 
-/// The bytes of the trie of some names with flags 0.
-pub(crate) fn plain_bytes(alloc: Global, entries: &[Entry]) -> Result<Vec<u8>, AllocError> {
-    let mut names: Vec<Named<'_>> = Vec::new(alloc);
-    let mut longest = 0;
-    for (name, address) in entries {
-        names.push((name.as_slice(), *address))?;
-        longest = longest.max(name.len());
-    }
-    names.sort()?;
-    let mut known: Vec<u64> = Vec::new(alloc);
-    let mut bytes = Vec::new(alloc);
-    for _ in 0..12 {
-        let mut nodes = Nodes {
-            bytes: Vec::new(alloc),
-            places: Vec::new(alloc),
-        };
-        write_node(alloc, &mut nodes, &known, &names, 0, longest)?;
-        known = nodes.places;
-        bytes = nodes.bytes;
-    }
-    Ok(bytes)
-}
-
-/// The names that don't end at a depth, where the first one may.
-fn below<'a, 'n>(names: &'a [Named<'n>], depth: usize) -> &'a [Named<'n>] {
-    match names.first() {
-        Some((name, _)) if name.len() == depth => &names[1..],
-        _ => names,
-    }
-}
-
-/// The number behind the names from one on that have its byte at a depth.
-fn group_end(names: &[Named<'_>], begin: usize, depth: usize) -> usize
-    requires { begin < length names.now }
-    ensures after { begin < result }
-    ensures within { result ≤ length names.now }
-{
-    let byte = names[begin].0.get(depth);
-    let mut end = begin + 1;
-    while end < names.len() && names[end].0.get(depth) == byte {
-        end += 1;
-    }
-    end
-}
-
-/// How many first bytes two names share.
-fn shared_length(first: &[u8], second: &[u8]) -> usize {
+/// The bytes at the beginning that two names share.
+fn shared<'n>(first: &'n [u8], second: &[u8]) -> &'n [u8] {
     let shorter = first.len().min(second.len());
     for place in 0..shorter {
         if first[place] != second[place] {
-            return place;
+            return &first[..place];
         }
     }
-    shorter
+    &first[..shorter]
 }
 
-/// What all of some names in order share at their beginning.
-fn shared_by(names: &[Named<'_>]) -> usize {
-    match (names.first(), names.last()) {
-        (Some((first, _)), Some((last, _))) => shared_length(first, last),
-        _ => 0,
+/// The way to the next node behind another one, in order of their bytes.
+fn next_way<'n>(symbols: &'n Symbols, way: &[u8]) -> Option<&'n [u8]> {
+    let mut next: Option<&[u8]> = None;
+    for first in 0..symbols.len() {
+        for second in 0..symbols.len() {
+            let other = shared(symbols.name(first), symbols.name(second));
+            if is_between(way, other, next) {
+                next = Some(other);
+            }
+        }
+    }
+    next
+}
+
+/// Whether a way is behind another one and in front of a third.
+fn is_between(before: &[u8], way: &[u8], after: Option<&[u8]>) -> bool {
+    match after {
+        Some(after) => before < way && way < after,
+        None => before < way,
     }
 }
 
-/// How many nodes the tree of some names has, which begins at a depth and has at most so many nodes one below the other
-/// besides the first.
-fn count_nodes(names: &[Named<'_>], depth: usize, levels: usize) -> usize {
-    let below = below(names, depth);
-    let mut count = 1usize;
-    let mut begin = 0;
-    while begin < below.len() && levels > 0 {
-        let end = group_end(below, begin, depth);
-        let child = &below[begin..end];
-        count = count.wrapping_add(count_nodes(child, shared_by(child), levels - 1));
-        begin = end;
+/// The number of the last node that a way goes on from; there is none above the first node.
+fn above(before: &[Node<'_>], way: &[u8]) -> usize {
+    let mut above = usize::MAX;
+    for (number, node) in before.iter().enumerate() {
+        if way.starts_with(node.way) {
+            above = number;
+        }
+    }
+    above
+}
+
+/// The address of a name.
+fn address_of(symbols: &Symbols, addresses: &[u64], name: &[u8]) -> Option<u64> {
+    for number in 0..symbols.len() {
+        if symbols.name(number) == name {
+            return addresses.get(number).copied();
+        }
+    }
+    None
+}
+
+/// All nodes in order, each at the place 0; there are fewer than 64.
+fn nodes_of<'n>(
+    alloc: Global,
+    symbols: &'n Symbols,
+    addresses: &[u64],
+) -> Result<Vec<Node<'n>>, AllocError> {
+    let mut nodes = Vec::new(alloc);
+    let mut way: &[u8] = &[];
+    for _ in 0..64 {
+        nodes.push(Node {
+            way,
+            above: above(&nodes, way),
+            address: address_of(symbols, addresses, way),
+            place: 0,
+        })?;
+        match next_way(symbols, way) {
+            Some(next) => way = next,
+            None => return Ok(nodes),
+        }
+    }
+    Ok(nodes)
+}
+
+/// Appends the terminal part of a node, behind its size.
+fn write_terminal(bytes: &mut Vec<u8>, address: Option<u64>) -> Result<(), AllocError> {
+    let Some(address) = address else {
+        bytes.push(0)?;
+        return Ok(());
+    };
+    write_uleb(bytes, (uleb_size(address) as u64).wrapping_add(1))?;
+    bytes.push(0)?;
+    write_uleb(bytes, address)
+}
+
+/// How many edges a node has.
+fn count_edges(nodes: &[Node<'_>], number: usize) -> u8 {
+    let mut count = 0u8;
+    for child in nodes {
+        if child.above == number {
+            count = count.wrapping_add(1);
+        }
     }
     count
 }
 
-/// Appends the terminal part of a node, behind its size.
-fn write_terminal(
-    alloc: Global,
+/// Appends the edges of a node whose way has a length.
+fn write_edges(
     bytes: &mut Vec<u8>,
-    names: &[Named<'_>],
-    depth: usize,
+    nodes: &[Node<'_>],
+    number: usize,
+    length: usize,
 ) -> Result<(), AllocError> {
-    let mut part = Vec::new(alloc);
-    if let Some((name, address)) = names.first() {
-        if name.len() == depth {
-            write_uleb(&mut part, 0)?;
-            write_uleb(&mut part, *address)?;
+    bytes.push(count_edges(nodes, number))?;
+    for child in nodes {
+        if child.above == number {
+            bytes.extend_from_slice(child.way.get(length..).unwrap_or(&[]))?;
+            bytes.push(0)?;
+            write_uleb(bytes, child.place)?;
         }
     }
-    write_uleb(bytes, part.len() as u64)?;
-    bytes.extend_from_slice(&part)
-}
-
-/// Appends the edges of a node behind their number, with the places of the time before, from the first child's on.
-fn write_edges(
-    alloc: Global,
-    bytes: &mut Vec<u8>,
-    known: &[u64],
-    below: &[Named<'_>],
-    depth: usize,
-    levels: usize,
-) -> Result<(), AllocError> {
-    let mut edges = Vec::new(alloc);
-    let mut count = 0u8;
-    let mut number = 0usize;
-    let mut begin = 0;
-    while begin < below.len() {
-        let end = group_end(below, begin, depth);
-        let child = &below[begin..end];
-        let shared = shared_by(child);
-        edges.extend_from_slice(below[begin].0.get(depth..shared).unwrap_or(&[]))?;
-        edges.push(0)?;
-        write_uleb(&mut edges, known.get(number).copied().unwrap_or(0))?;
-        number = number.wrapping_add(count_nodes(child, shared, levels));
-        count = count.wrapping_add(1);
-        begin = end;
-    }
-    bytes.push(count)?;
-    bytes.extend_from_slice(&edges)
-}
-
-/// Appends the node of some names at a depth, and the nodes below it.
-fn write_node(
-    alloc: Global,
-    nodes: &mut Nodes,
-    known: &[u64],
-    names: &[Named<'_>],
-    depth: usize,
-    levels: usize,
-) -> Result<(), AllocError> {
-    nodes.places.push(nodes.bytes.len() as u64)?;
-    let number = nodes.places.len();
-    let below = below(names, depth);
-    write_terminal(alloc, &mut nodes.bytes, names, depth)?;
-    let later = known.get(number..).unwrap_or(&[]);
-    write_edges(alloc, &mut nodes.bytes, later, below, depth, levels)?;
-    let mut begin = 0;
-    while begin < below.len() && levels > 0 {
-        let end = group_end(below, begin, depth);
-        let child = &below[begin..end];
-        write_node(alloc, nodes, known, child, shared_by(child), levels - 1)?;
-        begin = end;
-    }
     Ok(())
+}
+
+/// Appends a node by its number.
+fn write_node(
+    bytes: &mut Vec<u8>,
+    nodes: &[Node<'_>],
+    number: usize,
+    node: Node<'_>,
+) -> Result<(), AllocError> {
+    write_terminal(bytes, node.address)?;
+    write_edges(bytes, nodes, number, node.way.len())
+}
+
+/// The bytes of nodes, whose places become known.
+fn written(alloc: Global, nodes: &mut [Node<'_>]) -> Result<Vec<u8>, AllocError> {
+    let mut bytes = Vec::new(alloc);
+    for number in 0..nodes.len() {
+        nodes[number].place = bytes.len() as u64;
+        write_node(&mut bytes, nodes, number, nodes[number])?;
+    }
+    Ok(bytes)
+}
+
+/// The bytes of the trie of names with these addresses and flags 0.
+pub(crate) fn plain_bytes(
+    alloc: Global,
+    symbols: &Symbols,
+    addresses: &[u64],
+) -> Result<Vec<u8>, AllocError> {
+    let mut nodes = nodes_of(alloc, symbols, addresses)?;
+    for _ in 0..12 {
+        written(alloc, &mut nodes)?;
+    }
+    written(alloc, &mut nodes)
 }

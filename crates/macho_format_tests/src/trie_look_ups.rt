@@ -1,6 +1,5 @@
 //! Look-up in tries from bytes written out.
 use macho_trie::{Export, trie_lookup};
-use std::test::Fail;
 
 /// `_foobar` is 1, `_foo` 2, `_fop` 3.
 pub(crate) const THREE: [u8; 32] = [
@@ -19,69 +18,91 @@ pub(crate) const REEXPORT: [u8; 29] = [
     3, 0, 0x98, 4, 0, // 24: address 0x218
 ];
 
-fn is_value(found: Option<Export<'_>>, wanted: u64) -> bool {
-    match found {
-        Some(Export::Value { flags, address }) => flags == 0 && address == wanted,
-        _ => false,
-    }
-}
-
-/// Names that are there, and beginnings and continuations of them that aren't.
-#[test]
-fn names_lead_to_values(rt: HostRuntime) -> Result<(), Fail> {
-    assert!(rt; is_value(trie_lookup(&THREE, b"_foobar"), 1));
-    assert!(rt; is_value(trie_lookup(&THREE, b"_foo"), 2));
-    assert!(rt; is_value(trie_lookup(&THREE, b"_fop"), 3));
-    assert!(rt; is_value(trie_lookup(&REEXPORT, b"_main"), 0x218));
-    for name in ["", "_fo", "_foobarx", "_foox", "foo"] {
-        assert!(rt; trie_lookup(&THREE, name.as_bytes()).is_none());
-    }
-    Ok(())
-}
-
-#[test]
-fn reexport_has_its_library_and_name(rt: HostRuntime) -> Result<(), Fail> {
-    match trie_lookup(&REEXPORT, b"_exit") {
+/// What a look-up finds, in numbers: 1, flags and address; or 2, flags and ordinal of a name that the library has too, and 3 for
+/// one that it has under another name; or zeros for nothing.
+pub(crate) fn found(bytes: &[u8], name: &[u8]) -> [u64; 3] {
+    match trie_lookup(bytes, name) {
+        None => [0; 3],
+        Some(Export::Value { flags, address }) => [1, flags, address],
         Some(
             Export::Reexport {
                 flags,
                 ordinal,
-                name,
+                name: [],
             },
-        ) => {
-            assert_eq!(rt; flags, 8);
-            assert_eq!(rt; ordinal, 1);
-            assert!(rt; name.is_empty());
+        ) => [2, flags, ordinal],
+        Some(Export::Reexport { flags, ordinal, .. }) => [3, flags, ordinal],
+    }
+}
+
+/// What a row says, a trie, a name, and what is found.
+type Row = (&'static str, &'static [u8], &'static [u8], [u64; 3]);
+
+static ROWS: [Row; 21] = [
+    ("a name", &THREE, b"_foobar", [1, 0, 1]),
+    ("a beginning of another name", &THREE, b"_foo", [1, 0, 2]),
+    ("a name beside it", &THREE, b"_fop", [1, 0, 3]),
+    ("a name of an address", &REEXPORT, b"_main", [1, 0, 0x218]),
+    ("a name of a library", &REEXPORT, b"_exit", [2, 8, 1]),
+    ("the empty name", &THREE, b"", [0; 3]),
+    ("a beginning of names alone", &THREE, b"_fo", [0; 3]),
+    ("more than the longest name", &THREE, b"_foobarx", [0; 3]),
+    ("more than another name", &THREE, b"_foox", [0; 3]),
+    ("a name without its first byte", &THREE, b"foo", [0; 3]),
+    ("no bytes", &[], b"", [0; 3]),
+    ("a node without the number of its edges", &[0], b"", [0; 3]),
+    (
+        "a terminal part that passes the end",
+        &[3, 0, 1],
+        b"",
+        [0; 3],
+    ),
+    (
+        "an address that isn't in the terminal part",
+        &[1, 0, 0, 0],
+        b"",
+        [0; 3],
+    ),
+    (
+        "a NUL that isn't in the terminal part",
+        &[2, 8, 1, 0],
+        b"",
+        [0; 3],
+    ),
+    ("an edge without its number", &[0, 1, 0x61, 0], b"a", [0; 3]),
+    (
+        "a label without a NUL in front of its end",
+        &[0, 2, 0x61, 0, 6, 0x62, 2, 0, 1, 0],
+        b"b",
+        [0; 3],
+    ),
+    ("a circle", &[0, 1, 0x61, 0, 0], b"aaa", [0; 3]),
+    ("an empty label", &[0, 1, 0, 0], b"a", [0; 3]),
+    (
+        "an empty label in front of another",
+        &[0, 2, 0, 0, 0x61, 0, 7, 2, 0, 5, 0],
+        b"a",
+        [1, 0, 5],
+    ),
+    (
+        "a terminal part longer than its numbers",
+        &[3, 0, 1, 0xff, 0],
+        b"",
+        [1, 0, 1],
+    ),
+];
+
+/// What the first row says that finds something else.
+fn first_wrong(rows: &[Row]) -> &'static str {
+    for (says, bytes, name, wanted) in rows {
+        if found(bytes, name) != *wanted {
+            return says;
         }
-        _ => return Err("a reexport".into()),
     }
-    Ok(())
+    ""
 }
 
-/// Bytes that are no node give no answer, and neither does a way in a circle.
 #[test]
-fn bytes_that_are_no_node_answer_nothing(rt: HostRuntime) -> Result<(), Fail> {
-    const CASES: [(&[u8], &[u8]); 9] = [
-        (&[], b""),
-        (&[0], b""),
-        (&[3, 0, 1], b""), // the terminal part passes the end
-        (&[1, 0, 0, 0], b""), // the address isn't in the terminal part
-        (&[2, 8, 1, 0], b""), // the name's NUL isn't in the terminal part
-        (&[0, 1, 0x61, 0], b"a"), // an edge without its number
-        (&[0, 2, 0x61, 0, 6, 0x62, 2, 0, 1, 0], b"b"), // a label without a NUL in front of its end
-        (&[0, 1, 0x61, 0, 0], b"aaa"), // a circle
-        (&[0, 1, 0, 0], b"a"), // an empty label
-    ];
-    for (bytes, name) in CASES {
-        assert!(rt; trie_lookup(bytes, name).is_none());
-    }
-    Ok(())
-}
-
-/// An empty label is passed over, and a terminal part may be longer than its numbers.
-#[test]
-fn odd_nodes_are_read(rt: HostRuntime) -> Result<(), Fail> {
-    assert!(rt; is_value(trie_lookup(&[0, 2, 0, 0, 0x61, 0, 7, 2, 0, 5, 0], b"a"), 5));
-    assert!(rt; is_value(trie_lookup(&[3, 0, 1, 0xff, 0], b""), 1));
-    Ok(())
+fn each_name_leads_to_what_stands_for_it(rt: HostRuntime) {
+    assert_eq!(rt; first_wrong(&ROWS), "");
 }

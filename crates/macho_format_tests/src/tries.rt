@@ -3,10 +3,11 @@ ghost use Rattle.macho_trie.specs.Sorting.{AreDistinct, HaveNoNul};
 ghost use Rattle.macho_trie.specs.Symbols.{names_of};
 ghost use Rattle.macho_trie.specs.Exports.{HasNoNul};
 ghost use Rattle.macho_trie.specs.Tries.{IsTrieOf};
-ghost use Rattle.std.specs.Prelude.{IsTrue, IfOk, IfSome};
+ghost use Rattle.std.specs.Prelude.{IsTrue};
 
-use crate::plain_tries::{Entry, plain_bytes};
-use macho_trie::{Export, Symbols, Trie, trie_lookup};
+use crate::plain_tries::plain_bytes;
+use crate::trie_look_ups::{REEXPORT, THREE, found};
+use macho_trie::{Symbols, Trie};
 use std::alloc::{AllocError, Global};
 use std::test::Fail;
 
@@ -45,126 +46,243 @@ fn is_plain(name: &[u8]) -> bool
     true
 }
 
-/// The trie of some names; None where none may be made of them.
-fn trie_of(alloc: Global, symbols: &Symbols) -> Result<Option<Trie>, AllocError>
-    ensures { IfOk result (λ o. IfSome o (λ trie. IsTrieOf trie (names_of symbols.now))) }
+/// The bytes of a trie, and the room that is told for it.
+#[derive(Drop)]
+struct Made {
+    bytes: Vec<u8>,
+    room: usize,
+}
+
+fn spell(alloc: Global, trie: &Trie, symbols: &Symbols) -> Result<Made, AllocError>
+    requires { IsTrieOf trie.now (names_of symbols.now) }
 {
+    let room = trie.compute_byte_size(alloc, symbols)?;
+    let bytes = trie.encode(alloc, symbols)?;
+    Ok(Made { bytes, room })
+}
+
+fn make(alloc: Global, symbols: &Symbols) -> Result<Made, Fail> {
     if !are_fit(symbols) {
-        return Ok(None);
+        return Err(Fail::from("no trie may be made"));
     }
-    Ok(Some(Trie::new(alloc, symbols)?))
+    let trie = Trie::new(alloc, symbols)?;
+    let made = spell(alloc, &trie, symbols)?;
+    Ok(made)
 }
 
-fn bytes_of(alloc: Global, symbols: &Symbols) -> Result<Vec<u8>, Fail> {
-    match trie_of(alloc, symbols)? {
-        Some(trie) => Ok(trie.encode(alloc, symbols)?),
-        None => Err("a trie".into()),
+/// A name, its address, and the library that has it too, or 0.
+type Name = (&'static [u8], u64, u64);
+
+fn add(symbols: &mut Symbols, name: &Name) -> Result<(), AllocError> {
+    let (name, address, library) = name;
+    if *library == 0 {
+        symbols.push(name, *address, 0)
+    } else {
+        symbols.push_reexport(name, *library, b"")
     }
 }
 
-fn size_of(alloc: Global, symbols: &Symbols) -> Result<usize, Fail> {
-    match trie_of(alloc, symbols)? {
-        Some(trie) => Ok(trie.compute_byte_size(alloc, symbols)?),
-        None => Err("a trie".into()),
+fn symbols_of(alloc: Global, names: &[Name]) -> Result<Symbols, AllocError> {
+    let mut symbols = Symbols::new(alloc);
+    for name in names {
+        add(&mut symbols, name)?;
     }
+    Ok(symbols)
 }
 
-fn is_value(found: Option<Export<'_>>, wanted: u64) -> bool {
-    match found {
-        Some(Export::Value { flags, address }) => flags == 0 && address == wanted,
-        _ => false,
+/// Names, and the bytes of their trie.
+type Row = (&'static [Name], &'static [u8]);
+
+static ROWS: [Row; 4] = [
+    (&[], &[]),
+    (&[(b"_main", 0x1234, 0)], &MAIN),
+    (
+        &[(b"_foobar", 1, 0), (b"_foo", 2, 0), (b"_fop", 3, 0)],
+        &THREE,
+    ),
+    (&[(b"_main", 0x218, 0), (b"_exit", 0, 1)], &REEXPORT),
+];
+
+fn is_spelled(alloc: Global, row: &Row) -> Result<bool, Fail> {
+    let symbols = symbols_of(alloc, row.0)?;
+    let made = make(alloc, &symbols)?;
+    Ok(made.bytes.as_slice() == row.1 && made.room == row.1.len())
+}
+
+/// The number of the first row whose trie has other bytes, from 1; 0 where there is none.
+fn first_wrong(alloc: Global, rows: &[Row]) -> Result<usize, Fail> {
+    let mut number = 0usize;
+    for row in rows {
+        number = number.wrapping_add(1);
+        if !is_spelled(alloc, row)? {
+            return Ok(number);
+        }
     }
+    Ok(0)
 }
 
 #[test]
 fn bytes_of_small_tries(rt: HostRuntime) -> Result<(), Fail> {
-    let alloc = rt.alloc();
-    let mut symbols = Symbols::new(alloc);
-    assert!(rt; bytes_of(alloc, &symbols)?.is_empty());
-    symbols.push(b"_main", 0x1234, 0)?;
-    assert_eq!(rt; bytes_of(alloc, &symbols)?.as_slice(), MAIN.as_slice());
-    let mut three = Symbols::new(alloc);
-    three.push(b"_foobar", 1, 0)?;
-    three.push(b"_foo", 2, 0)?;
-    three.push(b"_fop", 3, 0)?;
-    assert_eq!(rt;
-        bytes_of(alloc, &three)?.as_slice(),
-        crate::trie_look_ups::THREE.as_slice()
-    );
-    let mut exit = Symbols::new(alloc);
-    exit.push(b"_main", 0x218, 0)?;
-    exit.push_reexport(b"_exit", 1, b"")?;
-    assert_eq!(rt;
-        bytes_of(alloc, &exit)?.as_slice(),
-        crate::trie_look_ups::REEXPORT.as_slice()
-    );
+    assert_eq!(rt; first_wrong(rt.alloc(), &ROWS)?, 0);
     Ok(())
+}
+
+const DIGITS: [u8; 16] = *b"0123456789abcdef";
+
+/// A long beginning, and a number below 512 in four digits.
+fn prefixed(number: u16) -> [u8; 19] {
+    let mut name = *b"_shared_prefix_0000";
+    name[16] = DIGITS[(number / 256 % 16) as usize];
+    name[17] = DIGITS[(number / 16 % 16) as usize];
+    name[18] = DIGITS[(number % 16) as usize];
+    name
+}
+
+/// 512 of these names, the last number first, with the greatest addresses or with powers of 2.
+fn many(alloc: Global, greatest: bool) -> Result<Symbols, AllocError> {
+    let mut symbols = Symbols::new(alloc);
+    for place in 0..512u16 {
+        let address = if greatest {
+            u64::MAX
+        } else {
+            1 << (place % 63)
+        };
+        symbols.push(&prefixed(511 - place), address, 0)?;
+    }
+    Ok(symbols)
+}
+
+fn made_of_many(alloc: Global, greatest: bool) -> Result<Made, Fail> {
+    let symbols = many(alloc, greatest)?;
+    make(alloc, &symbols)
 }
 
 /// Places that reach 16,384 widen edges, and what is reserved is enough.
 #[test]
 fn reserved_room_is_enough(rt: HostRuntime) -> Result<(), Fail> {
-    let alloc = rt.alloc();
-    let mut greatest = Symbols::new(alloc);
-    let mut symbols = Symbols::new(alloc);
-    for place in 0..512u64 {
-        let name = format!(in alloc; "_shared_prefix_{:04x}", 511 - place)?;
-        greatest.push(name.as_bytes(), u64::MAX, 0)?;
-        symbols.push(name.as_bytes(), 1 << (place % 63), 0)?;
-    }
-    let bytes = bytes_of(alloc, &symbols)?;
-    assert_eq!(rt; bytes.len(), size_of(alloc, &symbols)?);
-    assert!(rt; bytes.len() <= size_of(alloc, &greatest)?);
+    let greatest = made_of_many(rt.alloc(), true)?;
+    let many = made_of_many(rt.alloc(), false)?;
+    assert!(rt; many.bytes.len() == many.room && many.room <= greatest.room);
     Ok(())
+}
+
+/// 1,024 names, each a byte longer than the one before.
+fn deep(alloc: Global) -> Result<Symbols, AllocError> {
+    let mut symbols = Symbols::new(alloc);
+    let mut name = Vec::new(alloc);
+    for length in 1..1025u64 {
+        name.push(b'a')?;
+        symbols.push(&name, length, 0)?;
+    }
+    Ok(symbols)
+}
+
+/// All names of one byte.
+fn broad(alloc: Global) -> Result<Symbols, AllocError> {
+    let mut symbols = Symbols::new(alloc);
+    for byte in 1..=255u8 {
+        symbols.push(&[byte], u64::from(byte), 0)?;
+    }
+    Ok(symbols)
+}
+
+/// Whether each name leads to its number, from 1.
+fn lead_to_numbers(bytes: &[u8], symbols: &Symbols) -> bool {
+    for number in 0..symbols.len() {
+        if found(bytes, symbols.name(number)) != [1, 0, number as u64 + 1] {
+            return false;
+        }
+    }
+    true
+}
+
+/// Whether so many names do so in their trie.
+fn are_found(alloc: Global, symbols: &Symbols, many: usize) -> Result<bool, Fail> {
+    let made = make(alloc, symbols)?;
+    Ok(symbols.len() == many && lead_to_numbers(&made.bytes, symbols))
 }
 
 /// One long way of a thousand nodes, and one node with all edges that there can be.
 #[test]
 fn deep_and_broad_tries(rt: HostRuntime) -> Result<(), Fail> {
-    let alloc = rt.alloc();
-    let letters = vec![in alloc; b'a'; 1024]?;
-    let mut deep = Symbols::new(alloc);
-    let mut broad = Symbols::new(alloc);
-    for length in 1..1025usize {
-        deep.push(&letters[..length], length as u64, 0)?;
+    let deep = deep(rt.alloc())?;
+    assert!(rt; are_found(rt.alloc(), &deep, 1024)?);
+    let broad = broad(rt.alloc())?;
+    assert!(rt; are_found(rt.alloc(), &broad, 255)?);
+    Ok(())
+}
+
+fn is_there(symbols: &Symbols, name: &[u8]) -> bool {
+    for number in 0..symbols.len() {
+        if symbols.name(number) == name {
+            return true;
+        }
     }
-    for byte in 1..=255u8 {
-        broad.push(&[byte], u64::from(byte), 0)?;
+    false
+}
+
+/// Up to 15 letters.
+fn letters(alloc: Global, state: u32) -> Result<Vec<u8>, AllocError> {
+    let mut name = Vec::new(alloc);
+    for letter in 0..(state >> 28) {
+        name.push(b'a' + ((state >> (2 * letter % 24)) % 3) as u8)?;
     }
-    let bytes = bytes_of(alloc, &deep)?;
-    for length in 1..1025usize {
-        assert!(rt; is_value(trie_lookup(&bytes, &letters[..length]), length as u64));
+    Ok(name)
+}
+
+/// The state of the sequence that gives names.
+#[derive(Drop)]
+struct Sequence(u32);
+
+impl Sequence {
+    fn name(&mut self, alloc: Global) -> Result<Vec<u8>, AllocError> {
+        self.0 = self.0.wrapping_mul(1_664_525).wrapping_add(1_013_904_223);
+        letters(alloc, self.0)
     }
-    let bytes = bytes_of(alloc, &broad)?;
-    for byte in 1..=255u8 {
-        assert!(rt; is_value(trie_lookup(&bytes, &[byte]), u64::from(byte)));
+}
+
+/// Adds up to 14 names with their addresses.
+fn add_names(
+    symbols: &mut Symbols,
+    addresses: &mut Vec<u64>,
+    sequence: &mut Sequence,
+    round: u64,
+) -> Result<(), AllocError> {
+    for number in 0..(round % 15) {
+        let name = sequence.name(*addresses.allocator())?;
+        if !is_there(symbols, &name) {
+            let address = number << (3 * (round % 20));
+            symbols.push(&name, address, 0)?;
+            addresses.push(address)?;
+        }
     }
     Ok(())
+}
+
+/// Whether names have the same trie either way.
+fn is_plain_trie(alloc: Global, symbols: &Symbols, addresses: &[u64]) -> Result<bool, Fail> {
+    let made = make(alloc, symbols)?;
+    let plain = plain_bytes(alloc, symbols, addresses)?;
+    Ok(made.bytes.as_slice() == plain.as_slice())
+}
+
+/// Whether a round's names have, or are none.
+fn is_plain_round(alloc: Global, sequence: &mut Sequence, round: u64) -> Result<bool, Fail> {
+    let mut symbols = Symbols::new(alloc);
+    let mut addresses = Vec::new(alloc);
+    add_names(&mut symbols, &mut addresses, sequence, round)?;
+    Ok(addresses.is_empty() || is_plain_trie(alloc, &symbols, &addresses)?)
 }
 
 /// Small sets of names, of letters that an arithmetic sequence gives.
 #[test]
 fn small_tries_are_those_of_the_plain_way(rt: HostRuntime) -> Result<(), Fail> {
-    let alloc = rt.alloc();
-    let mut state = 1u32;
+    let mut sequence = Sequence(1);
     for round in 0..60u64 {
-        let mut symbols = Symbols::new(alloc);
-        let mut entries: Vec<Entry> = Vec::new(alloc);
-        for address in 0..(round % 15) {
-            let mut name = Vec::new(alloc);
-            state = state.wrapping_mul(1_664_525).wrapping_add(1_013_904_223);
-            for letter in 0..(state >> 28) {
-                name.push(b'a' + ((state >> (2 * letter % 24)) % 3) as u8)?;
-            }
-            if !entries.iter().any(|entry| entry.0 == name) {
-                symbols.push(&name, address << (3 * (round % 20)), 0)?;
-                entries.push((name, address << (3 * (round % 20))))?;
-            }
-        }
-        if !entries.is_empty() {
-            let bytes = bytes_of(alloc, &symbols)?;
-            assert_eq!(rt; bytes.as_slice(), plain_bytes(alloc, &entries)?.as_slice());
-        }
+        assert!(rt;
+            is_plain_round(rt.alloc(), &mut sequence, round)?,
+            "{round}"
+        );
     }
     Ok(())
 }

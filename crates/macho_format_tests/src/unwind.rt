@@ -1,38 +1,76 @@
-//! Look-up in bytes laid out apart from this project, their records, and the room for entries.
+//! Look-up in bytes laid out apart from this project, and their records.
 
 use macho_unwind::{
-    CompactUnwindInfoHeader, CompressedPage, Found, LsdaEntry, PageEntry, UnwindFault, UnwindInput,
-    output_size, unwind_bound, unwind_lookup,
+    CompactUnwindInfoHeader, CompressedPage, Found, LsdaEntry, PageEntry, unwind_lookup,
 };
-use std::test::Fail;
 
 /// The section of one function at 0x1000 of 0x20 bytes with encoding 0x02000000.
-const ONE: [u8; 72] = [
+pub(crate) const ONE: [u8; 72] = [
     1, 0, 0, 0, 28, 0, 0, 0, 1, 0, 0, 0, 32, 0, 0, 0, 0, 0, 0, 0, 32, 0, 0, 0, 2, 0, 0, 0, 0, 0, 0,
     2, 0, 0x10, 0, 0, 56, 0, 0, 0, 56, 0, 0, 0, 0x20, 0x10, 0, 0, 0, 0, 0, 0, 56, 0, 0, 0, 3, 0, 0,
     0, 12, 0, 1, 0, 16, 0, 0, 0, 0, 0, 0, 0,
 ];
 
+/// An offset, and what is found of it.
+pub(crate) type LookUp = (u32, Option<Found>);
+
+/// What is found of it.
+const ONE_FOUND: Option<Found> = Some(Found {
+    start: 0x1000,
+    encoding: 0x0200_0000,
+    personality: None,
+    lsda: None,
+});
+
+pub(crate) const ONE_LOOK_UPS: [LookUp; 4] = [
+    (0x0fff, None),
+    (0x1000, ONE_FOUND),
+    (0x101f, ONE_FOUND),
+    (0x1020, None),
+];
+
+/// The number of the first look-up that finds something else, from 1; 0 where there is none.
+pub(crate) fn first_wrong(section: &[u8], look_ups: &[LookUp]) -> usize {
+    let mut number = 0usize;
+    for (offset, found) in look_ups {
+        number = number.wrapping_add(1);
+        if unwind_lookup(section, *offset) != *found {
+            return number;
+        }
+    }
+    0
+}
+
 #[test]
 fn one_function_is_found(rt: HostRuntime) {
-    let found = Found {
-        start: 0x1000,
-        encoding: 0x0200_0000,
-        personality: None,
-        lsda: None,
-    };
-    assert_eq!(rt; unwind_lookup(&ONE, 0x0fff), None);
-    assert_eq!(rt; unwind_lookup(&ONE, 0x1000), Some(found));
-    assert_eq!(rt; unwind_lookup(&ONE, 0x101f), Some(found));
-    assert_eq!(rt; unwind_lookup(&ONE, 0x1020), None);
+    assert_eq!(rt; first_wrong(&ONE, &ONE_LOOK_UPS), 0);
+}
+
+/// Sections that say nothing of an offset.
+static BROKEN: [(&[u8], u32); 4] = [(&[0; 27], 0), (&[0xff; 72], 0), (&[], 0), (&SHORT, 0x1000)];
+
+/// The section above without its last byte.
+const SHORT: [u8; 71] = [
+    1, 0, 0, 0, 28, 0, 0, 0, 1, 0, 0, 0, 32, 0, 0, 0, 0, 0, 0, 0, 32, 0, 0, 0, 2, 0, 0, 0, 0, 0, 0,
+    2, 0, 0x10, 0, 0, 56, 0, 0, 0, 56, 0, 0, 0, 0x20, 0x10, 0, 0, 0, 0, 0, 0, 56, 0, 0, 0, 3, 0, 0,
+    0, 12, 0, 1, 0, 16, 0, 0, 0, 0, 0, 0,
+];
+
+/// The number of the first section that says something of its offset, from 1; 0 where there is none.
+fn first_that_speaks(rows: &[(&[u8], u32)]) -> usize {
+    let mut number = 0usize;
+    for (section, offset) in rows {
+        number = number.wrapping_add(1);
+        if first_wrong(section, &[(*offset, None)]) != 0 {
+            return number;
+        }
+    }
+    0
 }
 
 #[test]
 fn broken_bytes_say_nothing(rt: HostRuntime) {
-    assert_eq!(rt; unwind_lookup(&[0; 27], 0), None);
-    assert_eq!(rt; unwind_lookup(&[0xff; 72], 0), None);
-    assert_eq!(rt; unwind_lookup(&[], 0), None);
-    assert_eq!(rt; unwind_lookup(&ONE[..71], 0x1000), None);
+    assert_eq!(rt; first_that_speaks(&BROKEN), 0);
 }
 
 /// The bytes, with one other byte on each side.
@@ -97,62 +135,4 @@ fn records_are_read_and_written(rt: HostRuntime) {
     assert!(rt; entry_is_a_row());
     assert!(rt; page_is_a_row());
     assert!(rt; lsda_is_a_row());
-}
-
-#[test]
-fn room_of_one_function(rt: HostRuntime) -> Result<(), Fail> {
-    let entries = [UnwindInput {
-        encoding: 0x0200_0000,
-        personality: None,
-        lsda: false,
-    }];
-    assert_eq!(rt; output_size(rt.alloc(), &entries, 0x20)?, 72);
-    assert_eq!(rt; unwind_bound(rt.alloc(), &entries, 0x20)?, Some(72));
-    assert_eq!(rt;
-        output_size(rt.alloc(), &entries, 1 << 56),
-        Err(UnwindFault::OffsetTooLarge)
-    );
-    assert_eq!(rt;
-        unwind_bound(rt.alloc(), &entries, 1 << 56)?,
-        Some(72 + 24 * (1 << 32))
-    );
-    Ok(())
-}
-
-#[test]
-fn room_of_no_function(rt: HostRuntime) -> Result<(), Fail> {
-    assert_eq!(rt; output_size(rt.alloc(), &[], 0)?, 40);
-    assert_eq!(rt; unwind_bound(rt.alloc(), &[], 0)?, Some(40));
-    Ok(())
-}
-
-#[test]
-fn room_of_two_pages(rt: HostRuntime) -> Result<(), Fail> {
-    let entry = UnwindInput {
-        encoding: 0x0200_0000,
-        personality: None,
-        lsda: false,
-    };
-    assert_eq!(rt; output_size(rt.alloc(), &[entry, entry], 0x100_0020)?, 100);
-    Ok(())
-}
-
-#[test]
-fn four_personalities_have_no_room(rt: HostRuntime) {
-    let mut entries = [UnwindInput {
-        encoding: 0x0200_0000,
-        personality: Some(0),
-        lsda: true,
-    }; 4];
-    entries[1].personality = Some(3);
-    entries[2].personality = Some(1);
-    entries[3].personality = Some(2);
-    assert_eq!(rt;
-        output_size(rt.alloc(), &entries, 0),
-        Err(UnwindFault::TooManyPersonalities)
-    );
-    assert_eq!(rt;
-        unwind_bound(rt.alloc(), &entries, 0),
-        Err(UnwindFault::TooManyPersonalities)
-    );
 }

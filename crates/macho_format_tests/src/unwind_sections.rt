@@ -3,15 +3,16 @@ ghost use Rattle.std.specs.Prelude.{IsTrue};
 ghost use Rattle.macho_unwind_pages.specs.Entries.{AreEntries};
 ghost use Rattle.macho_unwind.specs.steps.Conditions.{IsFit, AreApart, HaveOneSlot};
 
+use crate::unwind::{LookUp, ONE, ONE_LOOK_UPS, first_wrong};
 use macho_unwind::{Found, Personality, ResolvedUnwindInfo, UnwindFault, build, unwind_lookup};
-use std::alloc::Global;
+use std::alloc::{AllocError, Global};
 use std::test::Fail;
 
 /// The start of the text.
-const TEXT: u64 = 0x1_0000_0000;
+pub(crate) const TEXT: u64 = 0x1_0000_0000;
 
 /// Whether a section may be made of entries.
-fn are_fit(text: u64, entries: &[ResolvedUnwindInfo]) -> bool
+pub(crate) fn are_fit(text: u64, entries: &[ResolvedUnwindInfo]) -> bool
     ensures { IsTrue result → AreEntries text entries.now }
 {
     for later in 0..entries.len() {
@@ -62,144 +63,235 @@ fn have_one_slot(one: Option<Personality>, other: Option<Personality>) -> bool
     }
 }
 
-/// The section of entries that may be in one.
-fn section_of(alloc: Global, entries: &[ResolvedUnwindInfo]) -> Result<Vec<u8>, Fail> {
+/// The section of entries, where they may be in one.
+fn section_of(
+    alloc: Global,
+    entries: &[ResolvedUnwindInfo],
+) -> Result<Result<Vec<u8>, UnwindFault>, Fail> {
     if !are_fit(TEXT, entries) {
         return Err(Fail::from("the entries break a condition"));
     }
-    Ok(build(alloc, TEXT, entries)?)
+    Ok(build(alloc, TEXT, entries))
 }
 
-/// A function of 0x20 bytes that has neither personality nor language data.
-fn plain(start: u64, encoding: u32) -> ResolvedUnwindInfo {
-    ResolvedUnwindInfo {
-        start,
-        length: 0x20,
-        encoding,
-        personality: None,
-        lsda: None,
+/// Entries, how long their section is, and what is found in it.
+#[derive(Clone, Copy)]
+struct Row<'a> {
+    says: &'static str,
+    entries: &'a [ResolvedUnwindInfo],
+    length: usize,
+    look_ups: &'a [LookUp],
+}
+
+/// A function of 0x20 bytes that has neither personality nor language data, and what is found of it at the start.
+const PLAIN: ResolvedUnwindInfo = ResolvedUnwindInfo {
+    start: TEXT,
+    length: 0x20,
+    encoding: 0x0200_0000,
+    personality: None,
+    lsda: None,
+};
+
+const FOUND: Found = Found {
+    start: 0,
+    encoding: 0x0200_0000,
+    personality: None,
+    lsda: None,
+};
+
+const ALONE: [ResolvedUnwindInfo; 1] = [ResolvedUnwindInfo {
+    start: TEXT + 0x1000,
+    ..PLAIN
+}];
+
+static ROWS: [Row<'static>; 4] = [
+    Row {
+        says: "one function",
+        entries: &ALONE,
+        length: 72,
+        look_ups: &ONE_LOOK_UPS,
+    },
+    Row {
+        says: "no function",
+        entries: &[],
+        length: 0,
+        look_ups: &[],
+    },
+    Row {
+        says: "two functions far apart",
+        entries: &[
+            ResolvedUnwindInfo {
+                start: TEXT + 0x100_1000,
+                encoding: 0x0200_0001,
+                ..PLAIN
+            },
+            ResolvedUnwindInfo {
+                start: TEXT + 0x1000,
+                encoding: 0x0200_0001,
+                ..PLAIN
+            },
+        ],
+        length: 100,
+        look_ups: &[
+            (0x0fff, None),
+            (
+                0x100_0fff,
+                Some(Found {
+                    start: 0x1000,
+                    encoding: 0x0200_0001,
+                    ..FOUND
+                }),
+            ),
+            (
+                0x100_1000,
+                Some(Found {
+                    start: 0x100_1000,
+                    encoding: 0x0200_0001,
+                    ..FOUND
+                }),
+            ),
+            (0x100_1020, None),
+        ],
+    },
+    // header, an encoding for each of three personality numbers, two slots, data, two page entries, a page and its words
+    Row {
+        says: "personalities and language data",
+        entries: &[
+            ResolvedUnwindInfo {
+                start: TEXT + 0x40,
+                length: 0x20,
+                encoding: 0x4400_0000,
+                personality: Some(Personality {
+                    id: 9,
+                    slot: TEXT + 0x8008,
+                }),
+                lsda: Some(TEXT + 0x6000),
+            },
+            ResolvedUnwindInfo {
+                start: TEXT,
+                length: 0x20,
+                encoding: 0x4400_0000,
+                personality: Some(Personality {
+                    id: 4,
+                    slot: TEXT + 0x8010,
+                }),
+                lsda: None,
+            },
+            ResolvedUnwindInfo {
+                start: TEXT + 0x20,
+                encoding: 0x4400_0000,
+                ..PLAIN
+            },
+        ],
+        length: 28 + 4 * 3 + 4 * 2 + 8 + 12 * 2 + 12 + 4 * 3,
+        look_ups: &[
+            (
+                0,
+                Some(Found {
+                    start: 0,
+                    encoding: 0x4400_0000,
+                    personality: Some(0x8010),
+                    lsda: None,
+                }),
+            ),
+            (
+                0x20,
+                Some(Found {
+                    start: 0x20,
+                    encoding: 0x4400_0000,
+                    ..FOUND
+                }),
+            ),
+            (
+                0x5f,
+                Some(Found {
+                    start: 0x40,
+                    encoding: 0x4400_0000,
+                    personality: Some(0x8008),
+                    lsda: Some(0x6000),
+                }),
+            ),
+        ],
+    },
+];
+
+fn is_right(alloc: Global, row: &Row<'_>) -> Result<bool, Fail> {
+    match section_of(alloc, row.entries)? {
+        Ok(section) => {
+            Ok(section.len() == row.length && first_wrong(&section, row.look_ups) == 0)
+        }
+        Err(_) => Ok(false),
     }
 }
 
-/// What is found of such a function.
-fn found(start: u32, encoding: u32) -> Option<Found> {
-    Some(Found {
-        start,
-        encoding,
-        personality: None,
-        lsda: None,
-    })
+/// What the first row says whose section is another.
+fn first_other(alloc: Global, rows: &[Row<'_>]) -> Result<&'static str, Fail> {
+    for row in rows {
+        if !is_right(alloc, row)? {
+            return Ok(row.says);
+        }
+    }
+    Ok("")
+}
+
+#[test]
+fn sections_tell_what_they_were_made_of(rt: HostRuntime) -> Result<(), Fail> {
+    assert_eq!(rt; first_other(rt.alloc(), &ROWS)?, "");
+    Ok(())
 }
 
 #[test]
 fn one_function_is_written(rt: HostRuntime) -> Result<(), Fail> {
-    let section = section_of(rt.alloc(), &[plain(TEXT + 0x1000, 0x0200_0000)])?;
-    let expected = [
-        1, 0, 0, 0, 28, 0, 0, 0, 1, 0, 0, 0, 32, 0, 0, 0, 0, 0, 0, 0, 32, 0, 0, 0, 2, 0, 0, 0, 0,
-        0, 0, 2, 0, 0x10, 0, 0, 56, 0, 0, 0, 56, 0, 0, 0, 0x20, 0x10, 0, 0, 0, 0, 0, 0, 56, 0, 0,
-        0, 3, 0, 0, 0, 12, 0, 1, 0, 16, 0, 0, 0, 0, 0, 0, 0,
-    ];
-    assert_eq!(rt; section.as_slice(), expected.as_slice());
-    assert_eq!(rt; unwind_lookup(section.as_slice(), 0x0fff), None);
-    assert_eq!(rt;
-        unwind_lookup(section.as_slice(), 0x1000),
-        found(0x1000, 0x0200_0000)
-    );
-    assert_eq!(rt;
-        unwind_lookup(section.as_slice(), 0x101f),
-        found(0x1000, 0x0200_0000)
-    );
-    assert_eq!(rt; unwind_lookup(section.as_slice(), 0x1020), None);
+    let section = section_of(rt.alloc(), &ALONE)??;
+    assert!(rt; section[..] == ONE[..]);
     Ok(())
 }
 
-#[test]
-fn no_functions_are_no_bytes(rt: HostRuntime) -> Result<(), Fail> {
-    assert_eq!(rt; section_of(rt.alloc(), &[])?.len(), 0);
-    Ok(())
+/// 300 functions of four bytes from the start of the text on, each with an encoding of its own.
+fn many(alloc: Global) -> Result<Vec<ResolvedUnwindInfo>, AllocError> {
+    let mut entries = Vec::new(alloc);
+    for number in 0..300u32 {
+        entries.push(ResolvedUnwindInfo {
+            start: TEXT + 4 * number as u64,
+            encoding: 0x0200_0000 + number,
+            ..PLAIN
+        })?;
+    }
+    Ok(entries)
 }
 
-#[test]
-fn two_functions_far_apart(rt: HostRuntime) -> Result<(), Fail> {
-    let entries = [
-        plain(TEXT + 0x100_1000, 0x0200_0001),
-        plain(TEXT + 0x1000, 0x0200_0001),
-    ];
-    let section = section_of(rt.alloc(), &entries)?;
-    assert_eq!(rt; section.len(), 100);
-    assert_eq!(rt; unwind_lookup(section.as_slice(), 0x0fff), None);
-    assert_eq!(rt;
-        unwind_lookup(section.as_slice(), 0x100_0fff),
-        found(0x1000, 0x0200_0001)
-    );
-    assert_eq!(rt;
-        unwind_lookup(section.as_slice(), 0x100_1000),
-        found(0x100_1000, 0x0200_0001)
-    );
-    assert_eq!(rt; unwind_lookup(section.as_slice(), 0x100_1020), None);
-    Ok(())
+/// Whether the last byte of each leads to it.
+fn many_are_found(section: &[u8]) -> bool {
+    for number in 0..300u32 {
+        let found = Found {
+            start: 4 * number,
+            encoding: 0x0200_0000 + number,
+            ..FOUND
+        };
+        if unwind_lookup(section, 4 * number + 3) != Some(found) {
+            return false;
+        }
+    }
+    true
 }
 
 #[test]
 fn functions_of_many_encodings(rt: HostRuntime) -> Result<(), Fail> {
-    let mut entries = Vec::new(rt.alloc());
-    for k in 0..300u32 {
-        entries.push(plain(TEXT + 4 * k as u64, 0x0200_0000 + k))?;
-    }
-    let section = section_of(rt.alloc(), entries.as_slice())?;
-    assert_eq!(rt; section.len(), 2512);
-    for k in 0..300u32 {
-        assert_eq!(rt;
-            unwind_lookup(section.as_slice(), 4 * k + 3),
-            found(4 * k, 0x0200_0000 + k)
-        );
-    }
+    let entries = many(rt.alloc())?;
+    let section = section_of(rt.alloc(), &entries)??;
+    assert!(rt; section.len() == 2512 && many_are_found(&section));
     Ok(())
 }
 
-#[test]
-fn personalities_and_language_data(rt: HostRuntime) -> Result<(), Fail> {
-    let mut entries = [plain(TEXT, 0x4400_0000); 3];
-    entries[0].start = TEXT + 0x40;
-    entries[0].personality = Some(Personality {
-        id: 9,
-        slot: TEXT + 0x8008,
-    });
-    entries[0].lsda = Some(TEXT + 0x6000);
-    entries[1].personality = Some(Personality {
-        id: 4,
-        slot: TEXT + 0x8010,
-    });
-    entries[2].start = TEXT + 0x20;
-    let section = section_of(rt.alloc(), &entries)?;
-    let first = Found {
-        start: 0,
-        encoding: 0x4400_0000,
-        personality: Some(0x8010),
-        lsda: None,
-    };
-    let last = Found {
-        start: 0x40,
-        encoding: 0x4400_0000,
-        personality: Some(0x8008),
-        lsda: Some(0x6000),
-    };
-    assert_eq!(rt; unwind_lookup(section.as_slice(), 0), Some(first));
-    assert_eq!(rt;
-        unwind_lookup(section.as_slice(), 0x20),
-        found(0x20, 0x4400_0000)
-    );
-    assert_eq!(rt; unwind_lookup(section.as_slice(), 0x5f), Some(last));
-    Ok(())
-}
+/// A function 4 GiB from the start of the text.
+const FAR: [ResolvedUnwindInfo; 1] = [ResolvedUnwindInfo {
+    start: TEXT + 0x1_0000_0000,
+    ..PLAIN
+}];
 
 #[test]
-fn far_functions_have_no_section(rt: HostRuntime) {
-    let far = [plain(TEXT + 0x1_0000_0000, 0x0200_0000)];
-    if are_fit(TEXT, &far) {
-        assert_eq!(rt;
-            build(rt.alloc(), TEXT, &far).err(),
-            Some(UnwindFault::OffsetTooLarge)
-        );
-    }
+fn far_functions_have_no_section(rt: HostRuntime) -> Result<(), Fail> {
+    let far = section_of(rt.alloc(), &FAR)?;
+    assert!(rt; far.err() == Some(UnwindFault::OffsetTooLarge));
+    Ok(())
 }

@@ -14,19 +14,28 @@ use macho_records::{
 use std::alloc::{AllocError, Global};
 use std::test::Fail;
 
-/// Segments by their names.
-pub(crate) const TEXT: [u8; 16] = *b"__TEXT\0\0\0\0\0\0\0\0\0\0";
+/// Segments by their numbers.
+pub(crate) const TEXT: u8 = 0;
 
-pub(crate) const DATA_CONST: [u8; 16] = *b"__DATA_CONST\0\0\0\0";
+pub(crate) const DATA_CONST: u8 = 1;
 
-pub(crate) const DATA: [u8; 16] = *b"__DATA\0\0\0\0\0\0\0\0\0\0";
+pub(crate) const DATA: u8 = 2;
 
-pub(crate) const A: [u8; 16] = *b"__A\0\0\0\0\0\0\0\0\0\0\0\0\0";
+pub(crate) const A: u8 = 3;
 
-pub(crate) const B: [u8; 16] = *b"__B\0\0\0\0\0\0\0\0\0\0\0\0\0";
+pub(crate) const B: u8 = 4;
+
+/// Their names.
+const SEGMENTS: [[u8; 16]; 5] = [
+    *b"__TEXT\0\0\0\0\0\0\0\0\0\0",
+    *b"__DATA_CONST\0\0\0\0",
+    *b"__DATA\0\0\0\0\0\0\0\0\0\0",
+    *b"__A\0\0\0\0\0\0\0\0\0\0\0\0\0",
+    *b"__B\0\0\0\0\0\0\0\0\0\0\0\0\0",
+];
 
 /// A carried section: its segment, its name, its type and attributes, its alignment as an exponent of 2, its bytes.
-pub(crate) type Row = ([u8; 16], [u8; 16], u32, u8, u64);
+pub(crate) type Row = (u8, [u8; 16], u32, u8, u64);
 
 /// What is placed: sections of one file, commons by size and alignment, slots, stubs, and what is counted beside.
 #[derive(Clone, Copy)]
@@ -87,11 +96,18 @@ fn may_stand(spec: &SectionSpec) -> bool
     !local
 }
 
+fn segment_name(number: u8) -> SegmentName {
+    match SEGMENTS.get(number as usize) {
+        Some(name) => SegmentName::from_bytes(name),
+        None => SegmentName::from_bytes(&[0; 16]),
+    }
+}
+
 fn add_section(plan: &mut Plan, section: u32, row: &Row) -> Result<(), Fail> {
     let spec = SectionSpec {
         file: 0,
         section,
-        segment: SegmentName::from_bytes(&row.0),
+        segment: segment_name(row.0),
         name: row.1,
         flags: row.2,
         align: row.3,
@@ -144,13 +160,18 @@ fn add_stubs(plan: &mut Plan, stubs: u32) -> Result<(), AllocError> {
     Ok(())
 }
 
+fn add_all(plan: &mut Plan, case: &Case<'_>) -> Result<(), Fail> {
+    add_sections(plan, case.sections)?;
+    add_commons(plan, case.commons)?;
+    add_slots(plan, case.slots)?;
+    add_stubs(plan, case.stubs)?;
+    Ok(())
+}
+
 /// The plan of a case.
 pub(crate) fn plan_of(alloc: Global, case: &Case<'_>) -> Result<Plan, Fail> {
     let mut plan = Plan::new(alloc, case.executable);
-    add_sections(&mut plan, case.sections)?;
-    add_commons(&mut plan, case.commons)?;
-    add_slots(&mut plan, case.slots)?;
-    add_stubs(&mut plan, case.stubs)?;
+    add_all(&mut plan, case)?;
     Ok(plan)
 }
 
@@ -174,51 +195,16 @@ pub(crate) fn placement(alloc: Global, case: &Case<'_>) -> Result<Placement, Fai
     }
 }
 
-/// Of each segment its address, its size, its file offset, its file size.
-pub(crate) fn segments(alloc: Global, placement: &Placement) -> Result<Vec<[u64; 4]>, AllocError> {
-    let mut list = Vec::new(alloc);
-    for one in &placement.segments {
-        list.push([one.address, one.size, one.file_offset, one.file_size])?;
-    }
-    Ok(list)
-}
-
-/// Of each output section its address, its size, its file offset, its alignment.
-pub(crate) fn headers(alloc: Global, placement: &Placement) -> Result<Vec<[u64; 4]>, AllocError> {
-    let mut list = Vec::new(alloc);
-    for one in &placement.output_sections {
-        list.push([
-            one.addr,
-            one.size,
-            u64::from(one.offset),
-            u64::from(one.align),
-        ])?;
-    }
-    Ok(list)
-}
-
-fn push_sections(list: &mut Vec<u64>, placement: &Placement) -> Result<(), AllocError> {
+fn push_places(list: &mut Vec<u64>, placement: &Placement) -> Result<(), AllocError> {
     for one in &placement.sections {
         list.push(one.address)?;
     }
-    Ok(())
-}
-
-fn push_commons(list: &mut Vec<u64>, placement: &Placement) -> Result<(), AllocError> {
     for one in &placement.commons {
         list.push(one.address)?;
     }
-    Ok(())
-}
-
-fn push_slots(list: &mut Vec<u64>, placement: &Placement) -> Result<(), AllocError> {
     for one in &placement.slots {
         list.push(one.address)?;
     }
-    Ok(())
-}
-
-fn push_stubs(list: &mut Vec<u64>, placement: &Placement) -> Result<(), AllocError> {
     for one in &placement.stubs {
         list.push(one.address)?;
     }
@@ -228,10 +214,7 @@ fn push_stubs(list: &mut Vec<u64>, placement: &Placement) -> Result<(), AllocErr
 /// The addresses of sections, commons, slots and stubs, in this order.
 pub(crate) fn places(alloc: Global, placement: &Placement) -> Result<Vec<u64>, AllocError> {
     let mut list = Vec::new(alloc);
-    push_sections(&mut list, placement)?;
-    push_commons(&mut list, placement)?;
-    push_slots(&mut list, placement)?;
-    push_stubs(&mut list, placement)?;
+    push_places(&mut list, placement)?;
     Ok(list)
 }
 

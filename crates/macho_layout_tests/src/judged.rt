@@ -1,5 +1,5 @@
 //! Small plans of chance, placed once more by a plain walk, and looked at pair by pair.
-use crate::cases::{A, B, COUNTS, Case, DATA, DATA_CONST, Row, TEXT, placement, places, segments};
+use crate::cases::{A, B, COUNTS, Case, DATA, DATA_CONST, Row, TEXT, placement, places};
 use crate::chance::Dice;
 use macho_layout::{Counts, Placement};
 use std::alloc::{AllocError, Global};
@@ -7,7 +7,7 @@ use std::test::Fail;
 
 /// A part with its output section: that section's place in the order, with the tens by segment, and its number.
 #[derive(Clone, Copy)]
-pub(crate) struct Member {
+struct Member {
     rank: u64,
     output: u64,
     align: u8,
@@ -21,27 +21,44 @@ const NOWHERE: u64 = u64::MAX;
 /// The section of commons.
 const COMMON: [u8; 16] = *b"__common\0\0\0\0\0\0\0\0";
 
-/// The numbers of output sections that no carried section is merged into.
+/// The number of the output section of commons where no carried section is merged into it.
 const COMMONS: u64 = 1000;
 
-const SLOTS: u64 = 1001;
+/// What the linker makes has the numbers from there on: a slot, a stub, the initializers, the unwind information.
+const SLOT: Member = Member {
+    rank: 10,
+    output: 1001,
+    align: 3,
+    size: 8,
+    address: NOWHERE,
+};
 
-const STUBS: u64 = 1002;
+const STUB: Member = Member {
+    rank: 3,
+    output: 1002,
+    align: 2,
+    size: 12,
+    address: NOWHERE,
+};
 
-const INITIALIZERS: u64 = 1003;
+const INITIALIZERS: Member = Member {
+    rank: 1,
+    output: 1003,
+    align: 2,
+    size: 0,
+    address: NOWHERE,
+};
 
-const UNWIND: u64 = 1004;
+const UNWIND: Member = Member {
+    rank: 2,
+    output: 1004,
+    align: 2,
+    size: 0,
+    address: NOWHERE,
+};
 
-/// A part that isn't placed yet.
-fn unplaced(rank: u64, output: u64, align: u8, size: u64) -> Member {
-    Member {
-        rank,
-        output,
-        align,
-        size,
-        address: NOWHERE,
-    }
-}
+/// Behind the greatest number of an output section.
+const OUTPUTS: u64 = 1005;
 
 /// Code, then what the linker makes, then data, thread-local data and zeros, commons, other zeros.
 fn class_of(row: &Row) -> u64 {
@@ -55,45 +72,36 @@ fn class_of(row: &Row) -> u64 {
     }
 }
 
-/// `__TEXT`, `__DATA_CONST`, `__DATA`, and others as first seen.
-fn segment_of(rows: &[Row], row: &Row) -> u64 {
-    if row.0 == TEXT {
-        return 0;
+/// The place of a segment: `__TEXT`, `__DATA_CONST`, `__DATA`, and others as first seen.
+fn segment_of(rows: &[Row], segment: u8) -> u64 {
+    if segment < A {
+        return u64::from(segment);
     }
-    if row.0 == DATA_CONST {
-        return 1;
+    for row in rows {
+        if row.0 >= A {
+            return if row.0 == segment { 3 } else { 4 };
+        }
     }
-    if row.0 == DATA {
-        return 2;
-    }
-    match rows.iter().find(|other| other.0 == A || other.0 == B) {
-        Some(first) if first.0 != row.0 => 4,
-        _ => 3,
-    }
-}
-
-/// Whether two sections are merged.
-fn same_output(row: &Row, other: &Row) -> bool {
-    row.0 == other.0 && row.1 == other.1 && row.2 & 0xff == other.2 & 0xff
+    3
 }
 
 /// The output section of a section: the number of the first that is merged into it.
-fn output_of(rows: &[Row], row: &Row, none: u64) -> u64 {
-    match rows.iter().position(|other| same_output(row, other)) {
-        Some(number) => number as u64,
-        None => none,
+fn output_of(rows: &[Row], row: &Row) -> u64 {
+    let mut number = 0u64;
+    for other in rows {
+        if row.0 == other.0 && row.1 == other.1 && row.2 & 0xff == other.2 & 0xff {
+            return number;
+        }
+        number = number.wrapping_add(1);
     }
-}
-
-fn is_template(row: &Row) -> bool {
-    row.2 & 0xff == 0x11 || row.2 & 0xff == 0x12
+    COMMONS
 }
 
 /// The alignment of the template.
 fn template_align(rows: &[Row]) -> u8 {
     let mut align = 0;
     for row in rows {
-        if is_template(row) {
+        if row.2 & 0xff == 0x11 || row.2 & 0xff == 0x12 {
             align = row.3.max(align);
         }
     }
@@ -101,13 +109,23 @@ fn template_align(rows: &[Row]) -> u8 {
 }
 
 /// The alignment that a section is placed at.
-fn align_of(row: &Row, template: u8) -> u8 {
-    if is_template(row) {
-        template
-    } else if row.2 & 0xff == 0x13 {
-        row.3.max(3)
-    } else {
-        row.3
+fn align_of(rows: &[Row], row: &Row) -> u8 {
+    match row.2 & 0xff {
+        0x11 | 0x12 => template_align(rows),
+        0x13 => row.3.max(3),
+        _ => row.3,
+    }
+}
+
+/// A section, or a common as a section of its own.
+fn member_of(rows: &[Row], row: &Row) -> Member {
+    let segment = segment_of(rows, row.0);
+    Member {
+        rank: segment.wrapping_mul(10).wrapping_add(class_of(row)),
+        output: output_of(rows, row),
+        align: align_of(rows, row),
+        size: row.4,
+        address: NOWHERE,
     }
 }
 
@@ -118,40 +136,29 @@ fn add(list: &mut Vec<Member>, times: u32, one: Member) -> Result<(), AllocError
     Ok(())
 }
 
-/// Sections, commons, slots, stubs, initializers, unwind information.
-fn members_of(alloc: Global, case: &Case<'_>) -> Result<Vec<Member>, AllocError> {
-    let rows = case.sections;
-    let template = template_align(rows);
-    let mut list = Vec::new(alloc);
-    for row in rows {
-        let rank = segment_of(rows, row)
-            .wrapping_mul(10)
-            .wrapping_add(class_of(row));
-        let output = output_of(rows, row, COMMONS);
-        list.push(unplaced(rank, output, align_of(row, template), row.4))?;
-    }
-    let output = output_of(rows, &(DATA, COMMON, 1, 0, 0), COMMONS);
-    for common in case.commons {
-        list.push(unplaced(27, output, common.1, common.0))?;
-    }
-    add(&mut list, case.slots, unplaced(10, SLOTS, 3, 8))?;
-    add(&mut list, case.stubs, unplaced(3, STUBS, 2, 12))?;
-    add_made(
-        &mut list,
-        1,
-        INITIALIZERS,
-        case.counts.initializers.wrapping_mul(4),
-    )?;
-    add_made(&mut list, 2, UNWIND, case.counts.unwind)?;
-    Ok(list)
+/// What the linker makes once, where it isn't empty.
+fn add_made(list: &mut Vec<Member>, mut one: Member, size: u64) -> Result<(), AllocError> {
+    one.size = size;
+    add(list, u32::from(size > 0), one)
 }
 
-/// What the linker makes, where it isn't empty.
-fn add_made(list: &mut Vec<Member>, rank: u64, output: u64, size: u64) -> Result<(), AllocError> {
-    if size > 0 {
-        list.push(unplaced(rank, output, 2, size))?;
+fn add_sections(list: &mut Vec<Member>, case: &Case<'_>) -> Result<(), AllocError> {
+    for row in case.sections {
+        list.push(member_of(case.sections, row))?;
+    }
+    for (size, align) in case.commons {
+        list.push(member_of(case.sections, &(DATA, COMMON, 1, *align, *size)))?;
     }
     Ok(())
+}
+
+/// Sections, commons, slots, stubs, initializers, unwind information.
+fn add_members(list: &mut Vec<Member>, case: &Case<'_>) -> Result<(), AllocError> {
+    add_sections(list, case)?;
+    add(list, case.slots, SLOT)?;
+    add(list, case.stubs, STUB)?;
+    add_made(list, INITIALIZERS, case.counts.initializers.wrapping_mul(4))?;
+    add_made(list, UNWIND, case.counts.unwind)
 }
 
 /// The least multiple of a power of 2 from an address on.
@@ -160,15 +167,21 @@ fn up(at: u64, align: u8) -> u64 {
     at.wrapping_add(mask) & !mask
 }
 
-/// Places the parts of an output section, and answers where they end.
-fn place_output(list: &mut [Member], output: u64, from: u64) -> u64 {
+/// Where an output section begins that comes behind an address.
+fn start_of(list: &[Member], output: u64, from: u64) -> u64 {
     let mut at = from;
-    for one in list.iter() {
+    for one in list {
         if one.output == output {
             at = at.max(up(from, one.align));
         }
     }
-    for one in list.iter_mut() {
+    at
+}
+
+/// Places the parts of an output section, and answers where they end.
+fn place_output(list: &mut [Member], output: u64, from: u64) -> u64 {
+    let mut at = start_of(list, output, from);
+    for one in list {
         if one.output == output {
             one.address = up(at, one.align);
             at = one.address.wrapping_add(one.size);
@@ -190,63 +203,63 @@ fn place_rank(list: &mut [Member], rank: u64, from: u64) -> u64 {
     at
 }
 
-/// Places all, each segment from a page of its own on, behind so many bytes of the head.
-fn place(list: &mut [Member], base: u64, head: u64) {
-    let mut at = base.wrapping_add(head);
-    for segment in 0..5u64 {
-        for class in 0..10u64 {
-            at = place_rank(list, segment * 10 + class, at);
+/// Places all from an address on, each segment from a page of its own on.
+fn place(list: &mut [Member], from: u64) {
+    let mut at = from;
+    for rank in 0..50u64 {
+        if rank % 10 == 0 && rank > 0 {
+            at = up(at, 14);
         }
-        at = up(at, 14);
+        at = place_rank(list, rank, at);
     }
 }
 
-/// How many segments are mapped, `__TEXT` among them.
-fn mapped(list: &[Member]) -> u64 {
-    let mut count = 1u64;
-    for segment in 1..5u64 {
-        let tens = segment * 10;
-        if list
-            .iter()
-            .any(|one| one.rank >= tens && one.rank < tens + 10)
-        {
-            count = count.wrapping_add(1);
+fn has_segment(list: &[Member], segment: u64) -> bool {
+    for one in list {
+        if one.rank / 10 == segment {
+            return true;
         }
     }
-    count
+    false
 }
 
-/// How many output sections there are.
-fn outputs(list: &[Member]) -> u64 {
-    let mut count = 0u64;
-    for (number, one) in list.iter().enumerate() {
-        if list.iter().position(|other| other.output == one.output) == Some(number) {
-            count = count.wrapping_add(1);
+fn has_output(list: &[Member], output: u64) -> bool {
+    for one in list {
+        if one.output == output {
+            return true;
         }
     }
-    count
+    false
 }
 
-/// The bytes of header, commands and padding.
+/// The bytes of header, commands and padding: `__TEXT` and `__LINKEDIT` are always there.
 fn head(case: &Case<'_>, list: &[Member]) -> u64 {
-    let segments = mapped(list).wrapping_add(1 + u64::from(case.executable));
-    segments
-        .wrapping_mul(72)
-        .wrapping_add(outputs(list).wrapping_mul(80))
-        .wrapping_add(32)
+    let mut bytes = 32u64 + 2 * 72;
+    if case.executable {
+        bytes = bytes.wrapping_add(72);
+    }
+    for segment in 1..5u64 {
+        if has_segment(list, segment) {
+            bytes = bytes.wrapping_add(72);
+        }
+    }
+    for output in 0..OUTPUTS {
+        if has_output(list, output) {
+            bytes = bytes.wrapping_add(80);
+        }
+    }
+    bytes
         .wrapping_add(case.counts.commands)
         .wrapping_add(case.counts.padding)
 }
 
 /// The parts where the walk has them.
 fn walked(alloc: Global, case: &Case<'_>) -> Result<Vec<Member>, AllocError> {
-    let mut list = members_of(alloc, case)?;
+    let mut list = Vec::new(alloc);
+    add_members(&mut list, case)?;
+    let base = if case.executable { 0x1_0000_0000u64 } else { 0 };
     let head = head(case, &list);
-    place(
-        &mut list,
-        if case.executable { 0x1_0000_0000 } else { 0 },
-        head,
-    );
+    place(&mut list, base.wrapping_add(head));
     Ok(list)
 }
 
@@ -262,36 +275,21 @@ fn found(alloc: Global, case: &Case<'_>, placement: &Placement) -> Result<Vec<u6
     Ok(list)
 }
 
-/// Takes over the addresses that were found.
-fn found_members(
-    walked: &[Member],
-    found: &[u64],
-    list: &mut Vec<Member>,
-) -> Result<(), AllocError> {
-    for (one, address) in walked.iter().zip(found.iter()) {
-        let mut one = *one;
-        one.address = *address;
-        list.push(one)?;
-    }
-    Ok(())
-}
-
 /// Whether all addresses are those of the walk.
 fn are_least(walked: &[Member], found: &[u64]) -> bool {
-    walked.len() == found.len()
-        && walked
-            .iter()
-            .zip(found.iter())
-            .all(|(one, address)| one.address == *address)
+    if walked.len() != found.len() {
+        return false;
+    }
+    for number in 0..walked.len() {
+        if walked[number].address != found[number] {
+            return false;
+        }
+    }
+    true
 }
 
 fn end_of(one: &Member) -> u64 {
     one.address.wrapping_add(one.size)
-}
-
-fn are_aligned(list: &[Member]) -> bool {
-    list.iter()
-        .all(|one| up(one.address, one.align) == one.address)
 }
 
 /// Whether two parts share no address.
@@ -309,8 +307,9 @@ fn are_ordered(one: &Member, other: &Member) -> bool {
 
 /// Whether each two parts are apart and in order.
 fn pairs_stand(list: &[Member]) -> bool {
-    for (number, one) in list.iter().enumerate() {
-        for other in list.iter().skip(number).skip(1) {
+    for later in 0..list.len() {
+        for earlier in 0..later {
+            let (one, other) = (&list[earlier], &list[later]);
             if !are_apart(one, other) || !are_ordered(one, other) {
                 return false;
             }
@@ -320,49 +319,46 @@ fn pairs_stand(list: &[Member]) -> bool {
 }
 
 /// Whether a part lies in a segment, in its file part where it has bytes in the file.
-fn lies_in(one: &Member, segment: &[u64; 4]) -> bool {
+fn lies_in_one(one: &Member, placement: &Placement) -> bool {
     let in_file = one.size > 0 && !(one.rank % 10 > 5);
-    let size = if in_file { segment[3] } else { segment[1] };
-    segment[0] <= one.address && end_of(one) <= segment[0].wrapping_add(size)
+    for segment in &placement.segments {
+        let size = if in_file {
+            segment.file_size
+        } else {
+            segment.size
+        };
+        let end = segment.address.wrapping_add(size);
+        if segment.address <= one.address && end_of(one) <= end {
+            return true;
+        }
+    }
+    false
 }
 
-fn lie_in_segments(list: &[Member], segments: &[[u64; 4]]) -> bool {
-    list.iter()
-        .all(|one| segments.iter().any(|segment| lies_in(one, segment)))
+/// Whether each part is aligned and lies in a segment.
+fn each_stands(list: &[Member], placement: &Placement) -> bool {
+    for one in list {
+        if up(one.address, one.align) != one.address || !lies_in_one(one, placement) {
+            return false;
+        }
+    }
+    true
 }
 
-/// Whether parts at these addresses are aligned, stand pair by pair, and lie in the segments.
-fn all_stand(alloc: Global, placement: &Placement, list: &[Member]) -> Result<bool, AllocError> {
-    let segments = segments(alloc, placement)?;
-    Ok(are_aligned(list) && pairs_stand(list) && lie_in_segments(list, &segments))
-}
-
-/// The same of the parts of a walk at the addresses that were found.
-fn found_stand(
-    alloc: Global,
-    placement: &Placement,
-    walked: &[Member],
-    found: &[u64],
-) -> Result<bool, AllocError> {
-    let mut list = Vec::new(alloc);
-    found_members(walked, found, &mut list)?;
-    all_stand(alloc, placement, &list)
-}
-
-/// Whether a placement is that of the walk, and stands.
-fn is_right(alloc: Global, case: &Case<'_>, placement: &Placement) -> Result<bool, AllocError> {
+/// Whether a placement is that of the walk, and its parts stand.
+fn is_right(alloc: Global, case: &Case<'_>, placement: &Placement) -> Result<bool, Fail> {
     let walked = walked(alloc, case)?;
     let found = found(alloc, case, placement)?;
-    Ok(are_least(&walked, &found) && found_stand(alloc, placement, &walked, &found)?)
+    Ok(are_least(&walked, &found) && pairs_stand(&walked) && each_stands(&walked, placement))
 }
 
 /// Whether a plan is placed so.
 fn is_placed_right(alloc: Global, case: &Case<'_>) -> Result<bool, Fail> {
     let placement = placement(alloc, case)?;
-    Ok(is_right(alloc, case, &placement)?)
+    is_right(alloc, case, &placement)
 }
 
-/// Which sections there may be; of an executable without the last two, since it may have six segments at most.
+/// Which sections there may be; of an executable without the last, since it may have six segments at most.
 const KINDS: [Row; 14] = [
     (TEXT, *b"__text\0\0\0\0\0\0\0\0\0\0", 0x8000_0400, 2, 8),
     (TEXT, *b"__const\0\0\0\0\0\0\0\0\0", 0, 0, 0),
@@ -380,6 +376,10 @@ const KINDS: [Row; 14] = [
     (B, *b"__data\0\0\0\0\0\0\0\0\0\0", 0, 0, 0),
 ];
 
+fn kinds() -> &'static [Row] {
+    &KINDS
+}
+
 /// Alignments, of which some come more often than others.
 const ALIGNS: [u8; 8] = [0, 0, 1, 2, 3, 3, 5, 14];
 
@@ -388,25 +388,20 @@ fn align(dice: &mut Dice) -> u8 {
     ALIGNS.get(side).copied().unwrap_or(0)
 }
 
-fn section(dice: &mut Dice, kinds: u64) -> Row {
-    let side = dice.roll(kinds) as usize;
-    let mut row = KINDS.get(side).copied().unwrap_or(KINDS[0]);
-    row.3 = align(dice);
-    row.4 = dice.roll(40);
-    row
+fn sections(alloc: Global, dice: &mut Dice, kinds: &[Row]) -> Result<Vec<Row>, AllocError> {
+    let mut rows = Vec::new(alloc);
+    for _ in 0..dice.roll(14) {
+        let side = dice.roll(kinds.len() as u64) as usize;
+        if let Some(kind) = kinds.get(side) {
+            rows.push((kind.0, kind.1, kind.2, align(dice), dice.roll(40)))?;
+        }
+    }
+    Ok(rows)
 }
 
 /// None, one or two.
 fn few(dice: &mut Dice) -> u32 {
     u32::try_from(dice.roll(3)).unwrap_or(0)
-}
-
-fn sections(alloc: Global, dice: &mut Dice, kinds: u64) -> Result<Vec<Row>, AllocError> {
-    let mut rows = Vec::new(alloc);
-    for _ in 0..dice.roll(14) {
-        rows.push(section(dice, kinds))?;
-    }
-    Ok(rows)
 }
 
 fn commons(alloc: Global, dice: &mut Dice) -> Result<Vec<(u64, u8)>, AllocError> {
@@ -428,7 +423,8 @@ fn counts(dice: &mut Dice) -> Counts {
 
 /// Whether a plan of chance is placed right.
 fn judged(alloc: Global, dice: &mut Dice, executable: bool) -> Result<bool, Fail> {
-    let sections = sections(alloc, dice, if executable { 13 } else { 14 })?;
+    let most = if executable { 13 } else { 14 };
+    let sections = sections(alloc, dice, kinds().get(..most).unwrap_or(&[]))?;
     let commons = commons(alloc, dice)?;
     let case = Case {
         executable,

@@ -9,30 +9,38 @@ const CODE: Row = (TEXT, *b"__text\0\0\0\0\0\0\0\0\0\0", 0x8000_0400, 2, 8);
 /// The name of other sections.
 const X: [u8; 16] = *b"__x\0\0\0\0\0\0\0\0\0\0\0\0\0";
 
-/// What is answered.
-#[derive(Clone, Copy, PartialEq, Eq)]
-enum Told {
-    Placed,
-    Segments(u64),
-    Sections(u64),
-    TooLong,
-    TooLongAsPlaced,
-    Other,
+/// The last segment of a placement that is too long: its address and file offset.
+fn last_segment(placement: &Placement) -> [u64; 3] {
+    match placement.segments.last() {
+        Some(last) => [5, last.address, last.file_offset],
+        None => [5, 0, 0],
+    }
 }
 
-fn told_by(fault: &LayoutFault) -> Told {
-    match fault {
-        LayoutFault::TooMany {
-            what: Limit::Segments,
-            number,
-        } => Told::Segments(*number),
-        LayoutFault::TooMany {
-            what: Limit::Sections,
-            number,
-        } => Told::Sections(*number),
-        LayoutFault::TooLarge { placement: None } => Told::TooLong,
-        LayoutFault::TooLarge { placement: Some(_) } => Told::TooLongAsPlaced,
-        _ => Told::Other,
+/// What is answered, in numbers: 1 where a plan is placed; 2 or 3 and how many segments or sections there are too many of; 4 where it
+/// is too long by its sizes; 5 where it is as placed, with its last segment.
+fn told(outcome: &Result<Placement, LayoutFault>) -> [u64; 3] {
+    match outcome {
+        Ok(_) => [1, 0, 0],
+        Err(
+            LayoutFault::TooMany {
+                what: Limit::Segments,
+                number,
+            },
+        ) => [2, *number, 0],
+        Err(
+            LayoutFault::TooMany {
+                what: Limit::Sections,
+                number,
+            },
+        ) => [3, *number, 0],
+        Err(LayoutFault::TooLarge { placement: None }) => [4, 0, 0],
+        Err(
+            LayoutFault::TooLarge {
+                placement: Some(placement),
+            },
+        ) => last_segment(placement),
+        Err(_) => [0; 3],
     }
 }
 
@@ -48,54 +56,70 @@ fn executable(sections: &[Row]) -> Case<'_> {
     }
 }
 
-fn answer(alloc: Global, sections: &[Row]) -> Result<Told, Fail> {
-    match outcome(alloc, &executable(sections))? {
-        Ok(_) => Ok(Told::Placed),
-        Err(fault) => Ok(told_by(&fault)),
+fn answer(alloc: Global, sections: &[Row]) -> Result<[u64; 3], Fail> {
+    let outcome = outcome(alloc, &executable(sections))?;
+    Ok(told(&outcome))
+}
+
+/// What a row says, its sections, and what is answered.
+type Answered = (&'static str, &'static [Row], [u64; 3]);
+
+static ROWS: [Answered; 5] = [
+    (
+        "five segments with `__PAGEZERO` and `__LINKEDIT`",
+        &[
+            CODE,
+            (DATA_CONST, X, 0, 3, 8),
+            (DATA, X, 0, 3, 8),
+            (A, X, 0, 3, 8),
+        ],
+        [1, 0, 0],
+    ),
+    (
+        "one segment more",
+        &[
+            CODE,
+            (DATA_CONST, X, 0, 3, 8),
+            (DATA, X, 0, 3, 8),
+            (A, X, 0, 3, 8),
+            (B, X, 0, 3, 8),
+        ],
+        [2, 7, 0],
+    ),
+    (
+        "zeros that fill nearly all addresses",
+        &[CODE, (DATA, X, 1, 0, 0xffff_ffff_0000_0000)],
+        [4, 0, 0],
+    ),
+    (
+        "4 GiB of zeros",
+        &[CODE, (DATA, X, 1, 0, 0x1_0000_0000)],
+        [1, 0, 0],
+    ),
+    (
+        "4 GiB of data, and `__LINKEDIT` behind them",
+        &[CODE, (DATA, X, 0, 0, 0x1_0000_0000)],
+        [5, 0x2_0000_4000, 0x1_0000_4000],
+    ),
+];
+
+fn rows() -> &'static [Answered] {
+    &ROWS
+}
+
+/// What the first row says that is answered otherwise.
+fn first_wrong(alloc: Global, rows: &[Answered]) -> Result<&'static str, Fail> {
+    for (says, sections, wanted) in rows {
+        if answer(alloc, sections)? != *wanted {
+            return Ok(says);
+        }
     }
-}
-
-/// Sections in five segments with `__PAGEZERO` and `__LINKEDIT`, and in one more.
-const FIVE: [Row; 4] = [
-    CODE,
-    (DATA_CONST, X, 0, 3, 8),
-    (DATA, X, 0, 3, 8),
-    (A, X, 0, 3, 8),
-];
-
-const SIX: [Row; 5] = [
-    CODE,
-    (DATA_CONST, X, 0, 3, 8),
-    (DATA, X, 0, 3, 8),
-    (A, X, 0, 3, 8),
-    (B, X, 0, 3, 8),
-];
-/// Zeros that fill nearly all addresses, those of 4 GiB, and data of 4 GiB.
-const ENDLESS: [Row; 2] = [CODE, (DATA, X, 1, 0, 0xffff_ffff_0000_0000)];
-
-const LONG_ZEROS: [Row; 2] = [CODE, (DATA, X, 1, 0, 0x1_0000_0000)];
-
-const LONG_DATA: [Row; 2] = [CODE, (DATA, X, 0, 0, 0x1_0000_0000)];
-
-#[test]
-fn six_segments_are_the_most(rt: HostRuntime) -> Result<(), Fail> {
-    assert!(rt; answer(rt.alloc(), &FIVE)? == Told::Placed);
-    assert!(rt; answer(rt.alloc(), &SIX)? == Told::Segments(7));
-    Ok(())
+    Ok("")
 }
 
 #[test]
-fn four_gigabytes_may_be_zeros_and_not_data(rt: HostRuntime) -> Result<(), Fail> {
-    assert!(rt; answer(rt.alloc(), &LONG_ZEROS)? == Told::Placed);
-    assert!(rt; answer(rt.alloc(), &LONG_DATA)? == Told::TooLongAsPlaced);
-    Ok(())
-}
-
-#[test]
-fn sizes_near_2_to_the_64th_are_refused_before_anything_is_placed(
-    rt: HostRuntime,
-) -> Result<(), Fail> {
-    assert!(rt; answer(rt.alloc(), &ENDLESS)? == Told::TooLong);
+fn too_much_is_refused(rt: HostRuntime) -> Result<(), Fail> {
+    assert_eq!(rt; first_wrong(rt.alloc(), rows())?, "");
     Ok(())
 }
 
@@ -113,55 +137,15 @@ fn many(alloc: Global, number: u16) -> Result<Vec<Row>, AllocError> {
 }
 
 /// What is answered to so many output sections.
-fn answer_to_many(alloc: Global, number: u16) -> Result<Told, Fail> {
+fn answer_to_many(alloc: Global, number: u16) -> Result<[u64; 3], Fail> {
     let rows = many(alloc, number)?;
     answer(alloc, &rows)
 }
 
 #[test]
 fn sections_of_255_names_are_the_most(rt: HostRuntime) -> Result<(), Fail> {
-    assert!(rt; answer_to_many(rt.alloc(), 255)? == Told::Placed);
-    assert!(rt; answer_to_many(rt.alloc(), 256)? == Told::Sections(256));
-    Ok(())
-}
-
-/// The placement that is too large.
-fn kept(fault: LayoutFault) -> Option<Placement> {
-    match fault {
-        LayoutFault::TooLarge { placement } => placement,
-        _ => None,
-    }
-}
-
-/// The last segment of a placement.
-fn last_segment(placement: &Placement) -> [u64; 2] {
-    match placement.segments.last() {
-        Some(last) => [last.address, last.file_offset],
-        None => [0, 0],
-    }
-}
-
-fn last_of(placement: Option<Placement>) -> [u64; 2] {
-    match placement {
-        Some(placement) => last_segment(&placement),
-        None => [0, 0],
-    }
-}
-
-/// The last segment of the placement that a refusal keeps.
-fn last_kept(alloc: Global, sections: &[Row]) -> Result<[u64; 2], Fail> {
-    match outcome(alloc, &executable(sections))? {
-        Ok(_) => Ok([0, 0]),
-        Err(fault) => Ok(last_of(kept(fault))),
-    }
-}
-
-/// Where `__LINKEDIT` stands behind 4 GiB of data.
-const BEHIND_DATA: [u64; 2] = [0x2_0000_4000, 0x1_0000_4000];
-
-#[test]
-fn a_refusal_of_too_much_data_keeps_the_placement(rt: HostRuntime) -> Result<(), Fail> {
-    assert!(rt; last_kept(rt.alloc(), &LONG_DATA)? == BEHIND_DATA);
+    assert!(rt; answer_to_many(rt.alloc(), 255)? == [1, 0, 0]);
+    assert!(rt; answer_to_many(rt.alloc(), 256)? == [3, 256, 0]);
     Ok(())
 }
 
