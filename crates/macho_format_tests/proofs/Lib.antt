@@ -1,3 +1,1 @@
-pub mod ExampleTables
-pub mod ExampleImages
 pub mod Fitness

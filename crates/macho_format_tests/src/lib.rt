@@ -1,11 +1,6 @@
-//! Tests of the tables of an image, a module for each subject: chained fixups, exports tries and compact unwind; and callers of their
-//! laws.
+//! Tests of exports tries and of compact unwind, a module for each subject; and callers of the laws of both, and of chained fixups.
 #![tactic(auto)]
 
-#[cfg(test)]
-mod fixup_images;
-#[cfg(test)]
-mod fixups;
 #[cfg(test)]
 mod laws;
 #[cfg(test)]

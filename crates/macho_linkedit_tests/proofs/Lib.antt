@@ -1,1 +1,3 @@
 pub mod Listable
+pub mod ExampleTables
+pub mod ExampleImages

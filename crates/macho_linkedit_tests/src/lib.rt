@@ -5,6 +5,10 @@
 #[cfg(test)]
 mod exports;
 #[cfg(test)]
+mod fixup_images;
+#[cfg(test)]
+mod fixups;
+#[cfg(test)]
 mod imports;
 #[cfg(test)]
 mod listing;

@@ -1,8 +1,8 @@
 use Rattle.std.proofs.Common.{drop, arith}
 use Rattle.std.proofs.lemmas.List.{length-take, length-drop}
 use Rattle.macho_fixups.specs.Runs.{pages_of}
-use Rattle.macho_format_tests.proofs.ExampleImages.{fits_image, are_image_imports}
-use Rattle.macho_format_tests.proofs.fixup_images.add_table.Goals as goal
+use Rattle.macho_linkedit_tests.proofs.ExampleImages.{fits_image, are_image_imports}
+use Rattle.macho_linkedit_tests.proofs.fixup_images.add_table.Goals as goal
 
 pub write_chained_fixup_table-requires-clause-fits : goal.write_chained_fixup_table-requires-clause-fits
 write_chained_fixup_table-requires-clause-fits c = fits_image

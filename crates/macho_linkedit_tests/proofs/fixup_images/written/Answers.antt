@@ -1,6 +1,6 @@
 use Rattle.std.proofs.Common.{arith}
-use Rattle.macho_format_tests.proofs.ExampleImages.{are_image_fixups, are_image_segments, has_image_room}
-use Rattle.macho_format_tests.proofs.fixup_images.written.Goals as goal
+use Rattle.macho_linkedit_tests.proofs.ExampleImages.{are_image_fixups, are_image_segments, has_image_room}
+use Rattle.macho_linkedit_tests.proofs.fixup_images.written.Goals as goal
 
 pub write_chains-requires-clause-fixups : goal.write_chains-requires-clause-fixups
 write_chains-requires-clause-fixups c = are_image_fixups

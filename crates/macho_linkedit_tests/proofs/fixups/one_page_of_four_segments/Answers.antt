@@ -1,7 +1,7 @@
 use Rattle.std.proofs.Common.{arith}
 use Rattle.macho_fixups.specs.Runs.{pages_of}
-use Rattle.macho_format_tests.proofs.ExampleTables.{fits_table}
-use Rattle.macho_format_tests.proofs.fixups.one_page_of_four_segments.Goals as goal
+use Rattle.macho_linkedit_tests.proofs.ExampleTables.{fits_table}
+use Rattle.macho_linkedit_tests.proofs.fixups.one_page_of_four_segments.Goals as goal
 
 pub write_chained_fixup_table-requires-clause-fits : goal.write_chained_fixup_table-requires-clause-fits
 write_chained_fixup_table-requires-clause-fits g c = fits_table

@@ -13,7 +13,7 @@ use Rattle.macho_fixups.specs.Runs.{AreFixups, AreSegments, Holds, pages_of}
 use Rattle.macho_fixups.specs.Chains.{HaveRoom}
 use Rattle.macho_fixups.specs.declared.imports.ImportEntry.{ImportEntry}
 use Rattle.macho_fixups.specs.Calls.{FitsTable, AreEntries}
-use Rattle.macho_format_tests.proofs.ExampleTables.{all, all_pairs}
+use Rattle.macho_linkedit_tests.proofs.ExampleTables.{all, all_pairs}
 
 abbrev pub last_segment : FixupSegment
 last_segment = record { address = 0x100004000; size = 0xc000; file_offset = 0x4000; file_size = 0x8010 }

@@ -1,6 +1,6 @@
 use Rattle.std.proofs.Common.{arith}
-use Rattle.macho_format_tests.proofs.ExampleTables.{are_pointers, is_data, has_room}
-use Rattle.macho_format_tests.proofs.fixups.three_pointers_on_two_pages.Goals as goal
+use Rattle.macho_linkedit_tests.proofs.ExampleTables.{are_pointers, is_data, has_room}
+use Rattle.macho_linkedit_tests.proofs.fixups.three_pointers_on_two_pages.Goals as goal
 
 pub write_chains-requires-clause-fixups : goal.write_chains-requires-clause-fixups
 write_chains-requires-clause-fixups g c = are_pointers
