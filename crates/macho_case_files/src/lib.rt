@@ -1,17 +1,24 @@
 //! The files of cases of whole runs: which files, words and failures a run has, and what is wanted of it.
 //!
-//! [`cases_of`] reads a file, in the form that `reader` shows. Of a case [`words_of_case`] gives the words of its run, and
-//! [`bytes_of_file`] the bytes of each file, written out from tables of sections and symbols. Nothing here knows the linker: who runs it
-//! compares what came with a case's [`Wanted`].
+//! [`written_out`] writes out the tables of a file, [`lines_of`] gives its lines, of which those behind `case` are a case ([`case_at`]),
+//! in the form that `reader` shows. [`files_of`] makes the files of a case from tables of sections and symbols, [`rest_of`] and
+//! [`number_of`] look for a line of it. Nothing here knows the linker: who runs it hands what came to [`check_answer`],
+//! [`check_image`] and [`check_held`], which note what is not as wanted.
 #![tactic(auto)]
 
-mod given;
+mod files;
 mod lines;
+mod notes;
+mod object;
 mod reader;
 mod values;
 mod wanted;
 
-pub use crate::given::{GivenFile, bytes_of_file};
-pub use crate::reader::{Case, Failing, cases_of, words_of_case};
+pub use crate::files::{GivenFile, files_of, words_of_case};
+pub use crate::lines::{Line, number_of, rest_of};
+pub use crate::notes::note;
+pub use crate::reader::{case_at, lines_of, written_out};
 pub use crate::values::Unread;
-pub use crate::wanted::{Extent, Held, Part, Wanted};
+pub use crate::wanted::{
+    Came, check_answer, check_bytes, check_held, check_image, check_line, check_same,
+};

@@ -1,87 +1,55 @@
-//! The lines of a case file, with tables written out.
+//! Lines of a case.
 
-use crate::values::Unread;
-use std::alloc::{AllocError, Global};
+use crate::values::{Unread, number};
 
-/// A line that says something, and its number in the file.
-#[derive(Drop)]
-pub(crate) struct Line {
-    pub(crate) number: u64,
-    pub(crate) text: String,
+/// A line: its first word, and what stands behind it.
+#[derive(Clone, Copy)]
+pub struct Line<'a> {
+    /// The first word.
+    pub key: &'a str,
+    /// What stands behind it.
+    pub rest: &'a str,
 }
 
-// The text with the fields of a row in the places of `$1`, `$2` and so on.
-fn filled(alloc: Global, text: &str, fields: &[&str]) -> Result<Option<String>, AllocError> {
-    let mut out = String::new(alloc);
-    for (number, piece) in text.split('$').enumerate() {
-        if number == 0 {
-            out.push_str(piece)?;
-            continue;
-        }
-        let Some(digit) = piece.as_bytes().first() else {
-            return Ok(None);
-        };
-        let Some(field) = fields.get((*digit).wrapping_sub(b'1') as usize) else {
-            return Ok(None);
-        };
-        out.push_str(field)?;
-        out.push_str(piece.get(1..).unwrap_or(""))?;
+/// The first word of a text, and what stands behind it.
+pub(crate) fn first_word(text: &str) -> Line<'_> {
+    match text.split_once(' ') {
+        Some((key, rest)) => Line { key, rest },
+        None => Line {
+            key: text,
+            rest: "",
+        },
     }
-    Ok(Some(out))
 }
 
-// Adds the lines of a table for a row.
-fn add_row(
-    alloc: Global,
-    lines: &mut Vec<Line>,
-    table: &[&str],
-    row: &str,
-    number: u64,
-) -> Result<(), Unread> {
-    let mut fields = Vec::new(alloc);
-    for field in row.split('|') {
-        fields.push(field.trim())?;
-    }
-    for text in table {
-        match filled(alloc, text, &fields)? {
-            Some(text) => add_line(lines, text, number)?,
-            None => return Err(Unread::at(number, "the row has no such field")),
+/// Whether a table has the word.
+pub(crate) fn is_in(words: &[&str], word: &str) -> bool {
+    for one in words {
+        if *one == word {
+            return true;
         }
     }
-    Ok(())
+    false
 }
 
-// Adds a line that says something.
-fn add_line(lines: &mut Vec<Line>, text: String, number: u64) -> Result<(), AllocError> {
-    if !text.as_str().trim().is_empty() {
-        lines.push(Line { number, text })?;
+/// What stands behind the first word of the first line that begins with it.
+pub fn rest_of<'a>(case: &[Line<'a>], key: &str) -> Option<&'a str> {
+    for line in case {
+        if line.key == key {
+            return Some(line.rest);
+        }
     }
-    Ok(())
+    None
 }
 
-/// The lines that say something: all but blank ones and those that begin with `#`. The lines behind `table` stand once for each row.
-pub(crate) fn lines_of(alloc: Global, text: &str) -> Result<Vec<Line>, Unread> {
-    let mut lines = Vec::new(alloc);
-    let mut table = Vec::new(alloc);
-    let mut in_table = false;
-    let mut number = 0u64;
-    for line in text.lines() {
-        number = number.saturating_add(1);
-        let line = line.trim_start();
-        if line.is_empty() || line.starts_with('#') {
-            continue;
-        }
-        if line == "table" {
-            table.clear();
-            in_table = true;
-        } else if let Some(row) = line.strip_prefix("row ") {
-            in_table = false;
-            add_row(alloc, &mut lines, &table, row, number)?;
-        } else if in_table {
-            table.push(line)?;
-        } else {
-            add_line(&mut lines, String::from_str(alloc, line)?, number)?;
-        }
+/// The number that stands there.
+///
+/// # Errors
+///
+/// What stands there is no number.
+pub fn number_of(case: &[Line<'_>], key: &str) -> Result<Option<u64>, Unread> {
+    match rest_of(case, key) {
+        Some(rest) => Ok(Some(number(rest, u64::MAX)?)),
+        None => Ok(None),
     }
-    Ok(lines)
 }

@@ -1,8 +1,7 @@
 //! A linker without files that is used again: after an object that it refuses, and for a second image.
 
-use crate::checks::{check_bytes, note_bytes};
 use macho_args::MachOArgs;
-use macho_case_files::{Case, bytes_of_file};
+use macho_case_files::{GivenFile, Line, Unread, check_bytes, note};
 use std::alloc::{AllocError, Global};
 use wild_macho::Linker;
 
@@ -23,21 +22,18 @@ fn takes(linker: &mut Linker, bytes: Vec<u8>) -> bool {
     linker.num_inputs() < MOST_INPUTS && linker.add_object(bytes).is_ok()
 }
 
-// Whether the linker takes all files of a case but one, which leaves it as it was.
+// Whether the linker takes all files but one, which leaves it as it was.
 fn takes_all_but(
     alloc: Global,
     linker: &mut Linker,
-    case: &Case,
+    files: &[GivenFile<'_>],
     refused: &str,
 ) -> Result<bool, AllocError> {
     let mut count = 0u32;
-    for file in &case.files {
-        let taken = takes(linker, bytes_of_file(alloc, file)?);
-        if taken == (file.path.as_str() == refused) {
-            return Ok(false);
-        }
+    for file in files {
+        let taken = takes(linker, Vec::from_slice(alloc, &file.bytes)?);
         count = count.saturating_add(u32::from(taken));
-        if linker.num_inputs() != count {
+        if taken == (file.path == refused) || linker.num_inputs() != count {
             return Ok(false);
         }
     }
@@ -52,20 +48,42 @@ fn image_of(alloc: Global, linker: &Linker) -> Vec<u8> {
     }
 }
 
+// Notes where a linker doesn't make one image twice, with the length and the bytes that are wanted of the run's.
+fn check_images(
+    alloc: Global,
+    found: &mut String,
+    case: &[Line<'_>],
+    linker: &Linker,
+) -> Result<(), Unread> {
+    let first = image_of(alloc, linker);
+    let second = image_of(alloc, linker);
+    note(alloc, found, "the linker's second image", &first, &second)?;
+    check_bytes(alloc, found, case, &first)
+}
+
+// Gives a linker the files, and notes where it takes others or makes other images.
+fn check_given(
+    alloc: Global,
+    found: &mut String,
+    case: &[Line<'_>],
+    linker: &mut Linker,
+    (files, refused): (&[GivenFile<'_>], &str),
+) -> Result<(), Unread> {
+    if !takes_all_but(alloc, linker, files, refused)? {
+        found.push_str("the linker takes other objects\n")?;
+    }
+    check_images(alloc, found, case, linker)
+}
+
 /// Notes where a linker without files doesn't refuse the one object and take the others, or doesn't make one image of them twice, with
 /// the length and the bytes that are wanted of the run's.
 pub(crate) fn check_linker(
     alloc: Global,
-    found: &mut Vec<String>,
-    case: &Case,
+    found: &mut String,
+    case: &[Line<'_>],
+    files: &[GivenFile<'_>],
     refused: &str,
-) -> Result<(), AllocError> {
+) -> Result<(), Unread> {
     let mut linker = fresh(alloc)?;
-    if !takes_all_but(alloc, &mut linker, case, refused)? {
-        found.push(String::from_str(alloc, "the linker takes other objects")?)?;
-    }
-    let first = image_of(alloc, &linker);
-    let second = image_of(alloc, &linker);
-    note_bytes(alloc, found, "the linker's second image", &first, &second)?;
-    check_bytes(alloc, found, &case.wanted, &first)
+    check_given(alloc, found, case, &mut linker, (files, refused))
 }

@@ -6,11 +6,11 @@
 #![tactic(auto)]
 
 mod again;
-mod checks;
+mod answers;
 mod runs;
 
-use crate::checks::differences;
-use macho_case_files::{Case, Unread, cases_of};
+use crate::runs::check_case;
+use macho_case_files::{Line, Unread, case_at, lines_of, written_out};
 use std::process::ExitCode;
 use std::{env, fs, io};
 
@@ -20,47 +20,84 @@ const DIFFERENT: u8 = 1;
 /// The status where a file can't be read.
 const UNREADABLE: u8 = 2;
 
-// Prints how a case differs from what is wanted; whether it does.
-fn check(rt: &HostRuntime, path: &str, case: &Case) -> io::Result<bool> {
-    let found = match differences(rt.alloc(), case) {
-        Ok(found) => found,
-        Err(_no_memory) => return Err(io::Error::from(io::ErrorKind::OutOfMemory)),
-    };
-    let name = case.name.as_str();
-    let line = case.line;
-    for difference in &found {
-        println!(rt; "{path}:{line}: {name}: {difference}")?;
+// Prints why a case or a file can't be read; the status.
+fn tell_unread(rt: &HostRuntime, path: &str, name: &str, unread: Unread) -> io::Result<u8> {
+    let what = unread.what;
+    println!(rt; "{path}: {name}: {what}")?;
+    Ok(UNREADABLE)
+}
+
+// Prints how a case differs from what is wanted; the status.
+fn tell(rt: &HostRuntime, path: &str, name: &str, found: &str) -> io::Result<u8> {
+    if found.is_empty() {
+        return Ok(0);
     }
-    Ok(!found.is_empty())
+    println!(rt; "{path}: {name}\n{found}")?;
+    Ok(DIFFERENT)
+}
+
+// Checks a case; the status.
+fn check(rt: &HostRuntime, path: &str, name: &str, case: &[Line<'_>]) -> io::Result<u8> {
+    let mut found = String::new(rt.alloc());
+    match check_case(rt.alloc(), &mut found, case) {
+        Ok(()) => tell(rt, path, name, found.as_str()),
+        Err(unread) => tell_unread(rt, path, name, unread),
+    }
+}
+
+/// How many cases there are, how many are not as wanted, and the highest status.
+#[derive(Clone, Copy)]
+struct Count {
+    cases: u64,
+    wrong: u64,
+    status: u8,
+}
+
+// Checks the cases of a file.
+fn check_cases(rt: &HostRuntime, path: &str, lines: &[Line<'_>]) -> io::Result<Count> {
+    let mut count = Count {
+        cases: 0,
+        wrong: 0,
+        status: 0,
+    };
+    for (place, line) in lines.iter().enumerate() {
+        if line.key == "case" {
+            let status = check(rt, path, line.rest, case_at(lines, place))?;
+            count.cases = count.cases.saturating_add(1);
+            count.wrong = count.wrong.saturating_add(u64::from(status > 0));
+            count.status = count.status.max(status);
+        }
+    }
+    Ok(count)
 }
 
 // Checks the cases of a file, and tells how many there are and how many differ; the status.
-fn check_all(rt: &HostRuntime, path: &str, cases: &[Case]) -> io::Result<u8> {
-    let mut wrong = 0u64;
-    for case in cases {
-        if check(rt, path, case)? {
-            wrong = wrong.saturating_add(1);
-        }
-    }
-    let count = cases.len();
+fn check_all(rt: &HostRuntime, path: &str, lines: &[Line<'_>]) -> io::Result<u8> {
+    let count = check_cases(rt, path, lines)?;
+    let cases = count.cases;
+    let wrong = count.wrong;
     if wrong == 0 {
-        println!(rt; "{path}: {count} cases")?;
-        return Ok(0);
+        println!(rt; "{path}: {cases} cases")?;
+    } else {
+        println!(rt; "{path}: {cases} cases, {wrong} not as wanted")?;
     }
-    println!(rt; "{path}: {count} cases, {wrong} not as wanted")?;
-    Ok(DIFFERENT)
+    Ok(count.status)
+}
+
+// Checks the cases of a text with tables written out; the status.
+fn check_text(rt: &HostRuntime, path: &str, text: &str) -> io::Result<u8> {
+    match lines_of(rt.alloc(), text) {
+        Ok(lines) => check_all(rt, path, &lines),
+        Err(unread) => tell_unread(rt, path, "its lines", unread),
+    }
 }
 
 // Reads and checks a file; the status.
 fn check_file(rt: &HostRuntime, path: &str) -> io::Result<u8> {
     let text = fs::read_to_string(rt, path)?;
-    match cases_of(rt.alloc(), text.as_str()) {
-        Ok(cases) => check_all(rt, path, &cases),
-        Err(Unread::Line { number, what }) => {
-            println!(rt; "{path}:{number}: {what}")?;
-            Ok(UNREADABLE)
-        }
-        Err(Unread::OutOfMemory) => Err(io::Error::from(io::ErrorKind::OutOfMemory)),
+    match written_out(rt.alloc(), text.as_str()) {
+        Ok(text) => check_text(rt, path, text.as_str()),
+        Err(unread) => tell_unread(rt, path, "its tables", unread),
     }
 }
 
