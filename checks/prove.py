@@ -1,7 +1,7 @@
 """Proves crates side by side, each over what its earlier checks kept in out/, while a change is written. It gives no verdict: that is
 `rt ci`'s.
 
-prove.py [--lanes N] [CRATE..]    the crates and those below them, or all; N at a time, 4 where none is told
+prove.py [--lanes N] [CRATE..]    the crates and those below them, or all; N at a time, else as many as processors and memory allow
 prove.py --program CRATE          builds a program whose crates are proved, as out/CRATE; --tests CRATE builds and runs its tests
 
 `rt check` of an upper crate sums up the files of all crates below once for each path to them, which takes minutes; here each sum is
@@ -82,6 +82,13 @@ def prove_all(chosen, lanes):
     return sorted(it.name for it in [*failed, *left])
 
 
+def most_lanes():
+    """One for each processor, as far as there are 5 GB of memory for each."""
+    with open("/proc/meminfo", encoding="utf-8") as file:
+        free = next((int(line.split()[1]) for line in file if line.startswith("MemAvailable:")), 0)
+    return max(1, min(len(os.sched_getaffinity(0)), free // 5_000_000))
+
+
 def build(crate, tests):
     """Builds a program, or tests, and runs these."""
     made = f"out/{crate.name}{'_tests' if tests else ''}"
@@ -96,7 +103,7 @@ def build(crate, tests):
 
 def main():
     parser = argparse.ArgumentParser(description=__doc__, formatter_class=argparse.RawDescriptionHelpFormatter)
-    parser.add_argument("--lanes", type=int, default=4)
+    parser.add_argument("--lanes", type=int, default=most_lanes())
     parser.add_argument("--program", metavar="CRATE")
     parser.add_argument("--tests", metavar="CRATE")
     parser.add_argument("crates", nargs="*", metavar="CRATE")
