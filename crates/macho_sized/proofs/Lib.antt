@@ -1,0 +1,4 @@
+pub mod Widths
+pub mod Inserting
+pub mod Splitting
+pub mod Trees

@@ -1,0 +1,2 @@
+//! A law on the sizes of a link: each link whose exported names can be spelled has them.
+#![tactic(auto)]
