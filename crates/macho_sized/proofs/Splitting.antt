@@ -7,7 +7,7 @@ use Rattle.std.proofs.Common.{inl, inr}
 use Rattle.std.proofs.lemmas.Bool.{cases_lt}
 use Rattle.std.proofs.lemmas.List.{append-nil}
 use Rattle.macho_trie.specs.Trees.{Edges, no_edge, edge, LeadsTo, edge_count, IsLabel, AreRadix}
-use Rattle.macho_sized.proofs.Inserting.{Inserted, head, in_front, later, under, ending, shorter, forked, front_label, back_label}
+use Rattle.macho_sized.proofs.Inserting.{Inserted, head, in_front, later, under, ending, shorter, forked, back_label}
 
 -- one of two texts ends, or they begin with different bytes
 abbrev Leave : List ℕ → List ℕ → Type 0

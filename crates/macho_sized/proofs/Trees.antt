@@ -3,13 +3,14 @@
 -- Beginning at the last, each name is inserted into the tree of those behind it, which doesn't lead to it. The empty name ends at
 -- the root, and any other one is a label that is inserted below it. So the tree leads from each name to its number, and from
 -- no other. The tree has least widths, and with them its nodes have places, and its bytes are told.
-use Rattle.std.proofs.Common.{◌≡◌, ◌⊎◌, ℕ, zero, suc, ◌+◌, ◌<◌, ◌≤◌, List, [], ◌∷◌, ◌++◌, length, map, get_or, Option, Some, None, refl, sym}
+use Rattle.std.proofs.Common.{◌≡◌, ◌⊎◌, ℕ, zero, suc, ◌+◌, ◌<◌, List, [], ◌∷◌, length, map, get_or, Option, Some, None, refl, sym}
 use Rattle.std.proofs.Common.{ap, ◌∙◌, subst, arith, inl, inr}
-use Rattle.std.specs.Prelude.{slice_index, slice_index_or}
+use Rattle.std.specs.Prelude.{slice_index_or}
 use Rattle.std.proofs.lemmas.List.{length-map, get_or-map}
 use Rattle.macho_trie.specs.Exports.{Exported, as_value}
 use Rattle.macho_trie.specs.Trees.{Edges, no_edge, edge, LeadsTo, IsLabel, AreRadix}
 use Rattle.macho_trie.specs.Encoding.{says_of, terminal_size, place_of, tree_bytes, AreLeast, IsExportsTrie}
+use Rattle.macho_sized.specs.Names.{IsSpelled}
 use Rattle.macho_sized.proofs.Inserting.{Inserted}
 use Rattle.macho_sized.proofs.Splitting.{insert}
 use Rattle.macho_sized.proofs.Widths.{least_widths}
@@ -18,10 +19,6 @@ use Rattle.macho_sized.proofs.Widths.{least_widths}
 abbrev pub Numbered : List (List ℕ) → ℕ → List ℕ → ℕ → Type 0
 Numbered [] i name s = ⊥
 Numbered (x ∷ names) i name s = ((x ≡ name) × (s ≡ i)) ⊎ Numbered names (i + 1) name s
-
--- each byte of a name is one of 1 to 255
-abbrev pub IsSpelled : List ℕ → Type 0
-IsSpelled name = (k : ℕ) → k < length name → (1 ≤ slice_index name k) × (slice_index name k < 256)
 
 -- each name is spelled, and no later one is the same
 abbrev pub AreInsertable : List (List ℕ) → Type 0
@@ -144,15 +141,18 @@ names_in symbols = map (λ p. p.0) symbols
 
 -- THE trie of some symbols
 pub trie_of : (symbols : List (List ℕ × Exported)) → AreInsertable (names_in symbols) → (bytes : List ℕ) × IsExportsTrie symbols bytes
-trie_of symbols able = (tree_bytes (says_of symbols) (place_of size widths.0 tree) 0 tree, record {
-  symbol = t.symbol;
-  below = t.below;
-  radix = t.radix;
-  names = λ name s. (forth name s, back name s);
-  width = widths.0;
-  least = widths.1;
-  text = refl;
-})
+trie_of symbols able = (
+  tree_bytes (says_of symbols) (place_of size widths.0 tree) 0 tree,
+  record {
+    symbol = t.symbol;
+    below = t.below;
+    radix = t.radix;
+    names = λ name s. (forth name s, back name s);
+    width = widths.0;
+    least = widths.1;
+    text = refl;
+  },
+)
   where
     t : IsTreeOf (names_in symbols) 0
     t = tree_of (names_in symbols) 0 able
