@@ -5,3 +5,4 @@ pub mod Trees
 pub mod Rising
 pub mod Listing
 pub mod Sized
+pub mod Needed

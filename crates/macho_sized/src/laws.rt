@@ -1,7 +1,13 @@
-//! A law on sizes: the contract of a function that does nothing.
-ghost use Rattle.macho_sized.specs.Laws.{SizesAre};
+//! Laws on sizes: each is the contract of a function that does nothing.
+ghost use Rattle.macho_sized.specs.Laws.{SizesAre, SizesNeedSpelling, LinksHaveSizes};
 
-/// A link whose exported names are spelled with bytes from 1 to 255 has sizes.
+/// A link has sizes exactly where its exported names are spelled with bytes from 1 to 255.
 pub fn sizes_are()
-    ensures { SizesAre }
+    ensures are { SizesAre }
+    ensures needed { SizesNeedSpelling }
+{}
+
+/// A link of objects, libraries and stubs has one list of sizes.
+pub fn links_have_sizes()
+    ensures { LinksHaveSizes }
 {}

@@ -1,6 +1,8 @@
-//! A law on the sizes of a link: each link whose exported names can be spelled has them.
+//! Laws on the sizes of a link: it has them exactly where its exported names can be spelled in a trie, as those of inputs
+//! that were taken can.
 #![tactic(auto)]
 
 mod laws;
 
+pub use laws::links_have_sizes;
 pub use laws::sizes_are;
