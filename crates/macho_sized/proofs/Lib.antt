@@ -6,3 +6,6 @@ pub mod Rising
 pub mod Listing
 pub mod Sized
 pub mod Needed
+pub mod Utf8
+pub mod StubNames
+pub mod Taken

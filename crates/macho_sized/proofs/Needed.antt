@@ -2,19 +2,17 @@
 --
 -- Each of them leads to a symbol of the trie that keeps room for them. So it is the labels on its way, one after the other, and
 -- the bytes of labels are 1 to 255.
-use Rattle.std.proofs.Common.{◌≡◌, ◌⊎◌, ℕ, ◌+◌, ◌-◌, ◌<◌, ◌≤◌, Bool, List, [], ◌∷◌, ◌++◌, length, map, get_or, Option, refl, sym, ap, ◌∙◌}
+use Rattle.std.proofs.Common.{◌≡◌, ℕ, ◌-◌, ◌<◌, List, [], ◌∷◌, ◌++◌, length, map, Option, refl, sym, ap, ◌∙◌}
 use Rattle.std.proofs.Common.{subst, arith, inl, inr}
-use Rattle.std.specs.Prelude.{slice_index, slice_index_or, Contains}
+use Rattle.std.specs.Prelude.{slice_index, Contains}
 use Rattle.std.proofs.lemmas.Bool.{cases_lt}
 use Rattle.std.proofs.lemmas.List.{length-append, length-map, get_or_append_left, get_or-append_right, get_or-map}
-use Rattle.macho_model.specs.declared.placed.Counts.{Counts}
-use Rattle.macho_model.specs.Links.{Link}
-use Rattle.macho_model.specs.Told.{ToldExport, IsToldExport}
+use Rattle.macho_model.specs.Told.{ToldExport}
 use Rattle.macho_trie.specs.Exports.{Exported, as_value}
 use Rattle.macho_trie.specs.Trees.{Edges, no_edge, edge, LeadsTo, AreRadix}
 use Rattle.macho_trie.specs.Encoding.{IsExportsTrie}
 use Rattle.macho_promise.specs.TrieSays.{IsTrieText}
-use Rattle.macho_promise.specs.Sizes.{IsTrieSize, AreCounts, kept_for}
+use Rattle.macho_promise.specs.Sizes.{IsTrieSize, kept_for}
 use Rattle.macho_sized.specs.Names.{IsSpelled}
 use Rattle.macho_sized.specs.Laws.{SizesNeedSpelling}
 use Rattle.macho_sized.proofs.Trees.{names_in}

@@ -4,5 +4,4 @@
 
 mod laws;
 
-pub use laws::links_have_sizes;
-pub use laws::sizes_are;
+pub use laws::{links_have_sizes, sizes_are};
