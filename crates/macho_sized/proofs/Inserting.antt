@@ -117,7 +117,8 @@ under label symbol below rest left s r i = record {
     only n t (inr h) = inl (inr h)
 
 -- at an edge's child, where no name ended
-pub ending : (label : List ℕ) (below rest : Edges) (s : ℕ) → AreRadix (edge label None below rest) → Inserted (edge label None below rest) label s
+pub ending : (label : List ℕ) (below rest : Edges) (s : ℕ) → AreRadix (edge label None below rest)
+    → Inserted (edge label None below rest) label s
 ending label below rest s r = record {
   out = edge label (Some s) below rest;
   radix = (r.0, inl refl, r.2, r.3, r.4);

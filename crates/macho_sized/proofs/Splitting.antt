@@ -123,7 +123,8 @@ along label symbol below rest name s same r l none inserts = by (split label nam
 pub insert : (es : Edges) → AreRadix es → (name : List ℕ) (s : ℕ) → IsLabel name → ((t : ℕ) → LeadsTo es name t → ⊥) → Inserted es name s
 insert no_edge r name s l none = (in_front name s no_edge l tt tt).0
 insert (edge label symbol below rest) r name s l none =
-    by (insert below r.2) (insert rest r.4 name s l (λ t h. none t (inr h))) (cases_lt (head label) (head name)) (cases_lt (head name) (head label))
+    by (insert below r.2) (insert rest r.4 name s l (λ t h. none t (inr h))) (cases_lt (head label) (head name))
+    (cases_lt (head name) (head label))
   where
     by : Inserts below → Inserted rest name s → (head label < head name) ⊎ (head name ≤ head label)
         → (head name < head label) ⊎ (head label ≤ head name) → Inserted (edge label symbol below rest) name s

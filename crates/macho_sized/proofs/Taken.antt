@@ -56,7 +56,8 @@ symbol_spelled b k all = by ((symbol_at b k).n_strx == 0) refl
 
     by : (x : Bool) → ((symbol_at b k).n_strx == 0) ≡ x → All IsLetter (symbol_name b k)
     by true e = rw e (All-nil IsLetter)
-    by false e = rw e (in_front (drop (symbol_at b k).n_strx (strings_of b)) (All-drop IsByte (symbol_at b k).n_strx (strings_of b) strings))
+    by false e =
+        rw e (in_front (drop (symbol_at b k).n_strx (strings_of b)) (All-drop IsByte (symbol_at b k).n_strx (strings_of b) strings))
 
 -- the bytes of a file that is an object
 object_has : (x : Input) → HasBytes x → All IsByte (object_bytes x)
@@ -132,7 +133,8 @@ of_distinct (y ∷ xs) x there =
           (filter_contains (λ z. not (bytes_eq y z)) (distinct bytes_eq xs) x later).0)
     ]
 
-import_spelled : (l : Link) (name : List ℕ) → All IsInput l.inputs → All HasBytes l.inputs → Contains (imports_of l) name → All IsLetter name
+import_spelled : (l : Link) (name : List ℕ) → All IsInput l.inputs → All HasBytes l.inputs → Contains (imports_of l) name
+    → All IsLetter name
 unfolding imports_of
 import_spelled l name are have there =
     imported_spelled l name are have

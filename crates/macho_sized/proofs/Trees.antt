@@ -109,14 +109,15 @@ tree_of ((b ∷ bs) ∷ names) i able =
     with_name (b ∷ bs) names i (record { some = omega arith; plain = able.0 }) (able.1 (i + 1)) (tree_of names (i + 1) able.2)
 
 -- the number of a name is its place
-numbered_at : (names : List (List ℕ)) (i k : ℕ) (name : List ℕ) → k < length names → get_or names k [] ≡ name → Numbered names i name (i + k)
+numbered_at : (names : List (List ℕ)) (i k : ℕ) (name : List ℕ) → k < length names → get_or names k [] ≡ name
+    → Numbered names i name (i + k)
 numbered_at [] i k name within is = absurd (omega (arith, within))
 numbered_at (x ∷ names) i zero name within is = inl (is, omega arith)
 numbered_at (x ∷ names) i (suc k) name within is =
     let next : i + 1 + k ≡ i + suc k = omega arith in
     inr (subst (λ (s : ℕ). Numbered names (i + 1) name s) next (numbered_at names (i + 1) k name (omega (arith, within)) is))
 
-pub place_numbered : (names : List (List ℕ)) (i : ℕ) (name : List ℕ) (s : ℕ) → Numbered names i name s
+place_numbered : (names : List (List ℕ)) (i : ℕ) (name : List ℕ) (s : ℕ) → Numbered names i name s
     → (k : ℕ) × (s ≡ i + k) × (k < length names) × (get_or names k [] ≡ name)
 place_numbered [] i name s none = absurd none
 place_numbered (x ∷ names) i name s (inl (is, number)) = (0, omega (arith, number), omega arith, is)
