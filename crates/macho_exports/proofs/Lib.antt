@@ -1,8 +1,9 @@
 pub mod Adding
-pub mod Fronts
+pub mod Indexed
 pub mod Listed
 pub mod Matching
 pub mod Places
+pub mod Stands
 pub mod Tables
 pub mod Trims
 pub mod UpTo

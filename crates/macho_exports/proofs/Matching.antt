@@ -76,12 +76,12 @@ behind_at rest name k within matched =
     (omega (arith, length-range_with_len 0 (length name + 1)))
     (ap (λ j. matches rest (drop j name)) (get_or-range_with_len 0 (length name + 1) k 0 (omega arith) ∙ omega arith) ∙ matched)
 
-record SomeRest (rest name : List ℕ) : Type 0 where
-  at : ℕ
-  within : at ≤ length name
-  matched : matches rest (drop at name) ≡ true
+pub record SomeRest (rest name : List ℕ) : Type 0 where
+  pub at : ℕ
+  pub within : at ≤ length name
+  pub matched : matches rest (drop at name) ≡ true
 
-behind_some : (rest name : List ℕ) → matches_behind rest name ≡ true → SomeRest rest name
+pub behind_some : (rest name : List ℕ) → matches_behind rest name ≡ true → SomeRest rest name
 unfolding matches_behind
 behind_some rest name is =
     let some = Any-from_list_any (λ j. matches rest (drop j name)) (range_with_len 0 (length name + 1)) is in
@@ -185,7 +185,7 @@ pub plain_from : (xs : List ℕ) → Nowhere (Passes (is_byte STAR) xs) 0 (lengt
 plain_from xs none k d h = false_from_ne_true (get_or xs k d == STAR)
     (λ is. none k (omega arith) h (ap (λ b. b == STAR) (get_or_default xs k 0 d h) ∙ is))
 
-at_star : (xs : List ℕ) (n : ℕ) → n < length xs → Passes (is_byte STAR) xs n → xs ≡ take n xs ++ STAR ∷ drop (n + 1) xs
+pub at_star : (xs : List ℕ) (n : ℕ) → n < length xs → Passes (is_byte STAR) xs n → xs ≡ take n xs ++ STAR ∷ drop (n + 1) xs
 at_star xs n within star =
     sym (take-append-drop n xs)
     ∙ ap (λ ys. take n xs ++ ys) (drop_more xs n 0 within ∙ ap (λ b. b ∷ drop (n + 1) xs) (eqb-true (get_or xs n 0) STAR star))

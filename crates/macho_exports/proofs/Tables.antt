@@ -1,5 +1,5 @@
--- Numbers of patterns under first parts. A group that gets a number keeps those that it had, and other groups are as they
--- were. A first part that gets a group had no number before, and each other one finds the group that it found.
+-- Numbers of patterns under parts. A group that gets a number keeps those that it had, and other groups are as they
+-- were. A part that gets a group had no number before, and each other one finds the group that it found.
 use Rattle.std.proofs.Common.{◌≡◌, ℕ, ◌<◌, ◌≤◌, ◌==◌, true, false, Bool, Option, Some, None, List, [], ◌∷◌, ◌++◌, length, get_or}
 use Rattle.std.proofs.Common.{refl, ap, sym, subst, ◌∙◌, arith, inl, inr, set}
 use Rattle.std.proofs.lemmas.Bool.{cases_lt, or_left, or_right, eqb-true, eqb-false, eq-eqb}
@@ -11,7 +11,7 @@ use Rattle.std.specs.Str.{bytes_eq}
 use Rattle.std.specs.HashMap.{HashMap, get_by, UpdatesBy}
 use Rattle.std.specs.declared.vec.Vec.{Vec}
 use Rattle.macho_exports.specs.steps.Lists.{texts_of}
-use Rattle.macho_exports.specs.steps.Tables.{has, numbers_at, numbers_of, KeepsNumbers, KeepsGroups, KeepsFronts}
+use Rattle.macho_exports.specs.steps.Tables.{has, numbers_at, numbers_of, KeepsNumbers, KeepsGroups, KeepsParts}
 use Rattle.macho_exports.proofs.Places.{same, same_items, other_found}
 
 -- what holds of a number that is among numbers holds of one of them
@@ -71,7 +71,7 @@ more_groups groups more (Some g) = elim (cases_lt g (length groups)) [
 ]
 
 pub new_group : {A B S : Type 0} (m n : HashMap (Vec ℕ A) ℕ S) (groups : List (Vec ℕ B)) (key : Vec ℕ A) (v : Vec ℕ B) (w : Option ℕ)
-    → numbers_of m groups key.items ≡ [] → UpdatesBy same_items (same_items key) m n w → KeepsFronts m groups n (groups ++ v ∷ [])
+    → numbers_of m groups key.items ≡ [] → UpdatesBy same_items (same_items key) m n w → KeepsParts m groups n (groups ++ v ∷ [])
 new_group m n groups key v w none updates = record { each = λ q. of (bytes_eq key.items q) q refl }
   where
     of : (t : Bool) (q : List ℕ) → bytes_eq key.items q ≡ t → KeepsNumbers (numbers_of m groups q) (numbers_of n (groups ++ v ∷ []) q)
@@ -84,7 +84,7 @@ new_group m n groups key v w none updates = record { each = λ q. of (bytes_eq k
         ∙ ap (numbers_at (texts_of groups ++ v.items ∷ [])) (other_found m n key w q updates other)))
         (more_groups (texts_of groups) (v.items ∷ []) (get_by (λ k. bytes_eq q k.items) m))
 
--- a first part that has no group, or one that isn't there
+-- a part that has no group, or one that isn't there
 pub no_group : {A B S : Type 0} (m : HashMap (Vec ℕ A) ℕ S) (groups : List (Vec ℕ B)) (q : List ℕ)
     → get_by (λ k. bytes_eq q k.items) m ≡ None → numbers_of m groups q ≡ []
 no_group m groups q none = ap (numbers_at (texts_of groups)) none

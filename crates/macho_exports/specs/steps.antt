@@ -1,4 +1,5 @@
 -- How export lists are read and kept.
+pub mod Ends
 pub mod Indexed
 pub mod Lines
 pub mod Lists

@@ -8,9 +8,11 @@
 //!       _b
 #![tactic(auto)]
 
+mod ends;
 mod entries;
 mod list;
 mod names;
+mod parts;
 mod patterns;
 mod table;
 

@@ -26,7 +26,7 @@ pub struct ExportList {
     pub(crate) patterns: Vec<Vec<u8>>,
     /// Where each plain entry stands first. Names that were taken back may have places of others, or none.
     pub(crate) places: HashMap<Vec<u8>, usize>,
-    /// Where the patterns are found by their first parts.
+    /// Where the patterns are found by their first and last parts.
     pub(crate) table: PatternTable,
 }
 
@@ -147,8 +147,8 @@ impl ExportList {
 impl ExportList {
     /// Whether the list contains a name: it is an entry, or matches one with stars. It takes no memory.
     ///
-    /// Of the patterns those are tried whose first part, what stands in front of the first star, the name begins with:
-    /// each of those that begin with a star, but few of many with different first parts.
+    /// Of the patterns those are tried that are found by the front of the name, as their first part, or by its end, as their
+    /// last part: few of many that differ at one end, but each of those that begin and end with a star.
     pub fn contains(&self, name: &[u8]) -> bool
         ensures within { result ≡ is_within self.now name.now }
         ensures listed { (texts : List (List ℕ)) → IsListOf texts self.now → result ≡ listed texts name.now }

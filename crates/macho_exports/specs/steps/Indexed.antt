@@ -1,23 +1,52 @@
--- What a table of patterns keeps.
-use Rattle.std.specs.Prelude.{◌≡◌, ℕ, true, List, length}
+-- What tables of patterns keep, and what is found by them.
+use Rattle.std.specs.Prelude.{◌≡◌, ℕ, ◌&&◌, ◌⊎◌, nat_le, nat_lt, true, Bool, List, [], length, get_or}
 use Rattle.std.specs.List.{list_any, position_or_len}
 use Rattle.std.specs.Str.{bytes_eq}
+use Rattle.macho_model.specs.ExportLists.{matches}
+use Rattle.macho_exports.specs.declared.parts.PartTable.{PartTable}
 use Rattle.macho_exports.specs.declared.table.PatternTable.{PatternTable}
+use Rattle.macho_exports.specs.steps.Ends.{part_at, bytes_at}
 use Rattle.macho_exports.specs.steps.Lists.{ArePlaces}
-use Rattle.macho_exports.specs.steps.Tables.{front_of, has, numbers_of, KeepsNumbers, KeepsFronts}
+use Rattle.macho_exports.specs.steps.Tables.{has, numbers_of, KeepsNumbers, KeepsParts}
 
--- A number was noted under a first part.
-pub record IsNoted (t : PatternTable) (front : List ℕ) (n : ℕ) : Type 0 where
-  pub numbered : has (numbers_of t.fronts t.groups.items front) n ≡ true
-  pub long : has t.lengths.items (length front) ≡ true
+-- A number was noted under the part of a pattern.
+pub record IsNoted (t : PartTable) (pattern : List ℕ) (n : ℕ) : Type 0 where
+  pub numbered : has (numbers_of t.parts t.groups.items (part_at t.end pattern)) n ≡ true
+  pub long : has t.lengths.items (length (part_at t.end pattern)) ≡ true
 
--- Nothing that was noted under first parts is lost.
-pub record KeepsTable (old new : PatternTable) : Type 0 where
-  pub same : new.places ≡ old.places
-  pub numbers : KeepsFronts old.fronts old.groups.items new.fronts new.groups.items
+-- Nothing that was noted under parts is lost.
+pub record KeepsTable (old new : PartTable) : Type 0 where
+  pub same : new.end ≡ old.end
+  pub numbers : KeepsParts old.parts old.groups.items new.parts new.groups.items
   pub longs : KeepsNumbers old.lengths.items new.lengths.items
 
--- The place at which each pattern stands first is noted under its first part.
+pub record KeepsTables (old new : PatternTable) : Type 0 where
+  pub same : new.places ≡ old.places
+  pub fronts : KeepsTable old.fronts new.fronts
+  pub backs : KeepsTable old.backs new.backs
+
+-- a number was noted under one of the parts of a pattern
+abbrev pub IsNotedIn : PatternTable → List ℕ → ℕ → Type 0
+IsNotedIn t pattern n = IsNoted t.fronts pattern n ⊎ IsNoted t.backs pattern n
+
+-- The place at which each pattern stands first is noted under one of its parts.
 pub record IsIndexed (patterns : List (List ℕ)) (t : PatternTable) : Type 0 where
   pub are : ArePlaces patterns t.places
-  pub noted : (q : List ℕ) → list_any (bytes_eq q) patterns ≡ true → IsNoted t (front_of q) (position_or_len (bytes_eq q) patterns)
+  pub noted : (q : List ℕ) → list_any (bytes_eq q) patterns ≡ true → IsNotedIn t q (position_or_len (bytes_eq q) patterns)
+
+-- a name matches the pattern of a number
+abbrev pub is_match_at : List (List ℕ) → List ℕ → ℕ → Bool
+is_match_at patterns name n = nat_lt n (length patterns) && matches (get_or patterns n []) name
+
+-- a name matches the pattern of one of some numbers
+abbrev pub is_match_of : List (List ℕ) → List ℕ → List ℕ → Bool
+is_match_of patterns name numbers = list_any (is_match_at patterns name) numbers
+
+-- a name matches a pattern that was noted under so many of its own bytes
+abbrev pub is_match_under : PartTable → List (List ℕ) → List ℕ → ℕ → Bool
+is_match_under t patterns name count =
+    nat_le count (length name) && is_match_of patterns name (numbers_of t.parts t.groups.items (bytes_at t.end count name))
+
+-- a name matches a pattern that was noted under some of its own bytes
+abbrev pub is_match_in : PartTable → List (List ℕ) → List ℕ → Bool
+is_match_in t patterns name = list_any (is_match_under t patterns name) t.lengths.items

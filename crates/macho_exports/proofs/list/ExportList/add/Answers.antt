@@ -3,7 +3,7 @@ use Rattle.macho_exports.specs.Entries.{ListEntries}
 use Rattle.macho_exports.specs.steps.Indexed.{IsIndexed}
 use Rattle.macho_exports.specs.steps.Lists.{texts_of, ArePlaces}
 use Rattle.macho_exports.proofs.Adding.{text_more, taken_off, count_of, same_entries}
-use Rattle.macho_exports.proofs.Fronts.{indexed_front}
+use Rattle.macho_exports.proofs.Indexed.{indexed_front}
 use Rattle.macho_exports.proofs.Places.{places_front}
 use Rattle.macho_exports.proofs.list.ExportList.add.Goals as goal
 

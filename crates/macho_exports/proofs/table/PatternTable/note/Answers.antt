@@ -1,11 +1,10 @@
-use Rattle.std.proofs.Common.{◌≡◌, sym, subst, ◌∙◌, length, false, ℕ, List}
+use Rattle.std.proofs.Common.{◌≡◌, sym, subst, ◌∙◌, length, false}
 use Rattle.std.proofs.lemmas.List.{length-map}
 use Rattle.std.specs.List.{list_any}
 use Rattle.std.specs.Str.{bytes_eq}
 use Rattle.macho_exports.specs.steps.Lists.{texts_of}
-use Rattle.macho_exports.specs.steps.Tables.{front_of}
-use Rattle.macho_exports.specs.steps.Indexed.{IsNoted}
-use Rattle.macho_exports.proofs.Fronts.{indexed_again, indexed_more}
+use Rattle.macho_exports.specs.steps.Indexed.{IsNotedIn}
+use Rattle.macho_exports.proofs.Indexed.{indexed_again, indexed_more}
 use Rattle.macho_exports.proofs.UpTo.{on_ok}
 use Rattle.macho_exports.proofs.table.PatternTable.note.Goals as goal
 
@@ -17,12 +16,9 @@ pub returns-clause-noted : goal.returns-clause-noted
 returns-clause-noted c =
     let patterns = texts_of c.args.patterns.now in
     let unknown : list_any (bytes_eq c.args.pattern.now) patterns ≡ false = sym c.is_among.ensures ∙ c.if-is_among.false in
-    let noted : IsNoted c.note_front.new.self (front_of c.args.pattern.now) (length patterns) =
-    subst (λ (f : List ℕ). IsNoted c.note_front.new.self f (length patterns)) c.front_of.ensures
-    (subst (λ n. IsNoted c.note_front.new.self c.front_of.result.now n) (sym (length-map c.args.patterns.now (λ v. v.items)))
-    c.in_ok-note_front.ensures.noted) in
-    let more = indexed_more patterns c.args.pattern.now c.args.self.now c.note_front.new.self c.requires c.in_ok-note_front.ensures.kept
+    let noted : IsNotedIn c.note_part.new.self c.args.pattern.now (length patterns) =
+    subst (λ n. IsNotedIn c.note_part.new.self c.args.pattern.now n) (sym (length-map c.args.patterns.now (λ v. v.items)))
+    c.in_ok-note_part.ensures.noted in
+    let more = indexed_more patterns c.args.pattern.now c.args.self.now c.note_part.new.self c.requires c.in_ok-note_part.ensures.kept
     unknown noted in
-    on_ok c.note_place.result
-    (λ are. record { are = are; noted = λ q is. record { numbered = (more q is).numbered; long = (more q is).long } })
-    c.note_place.ensures.noted
+    on_ok c.note_place.result (λ are. record { are = are; noted = more }) c.note_place.ensures.noted

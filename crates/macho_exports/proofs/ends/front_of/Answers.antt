@@ -1,7 +1,7 @@
 use Rattle.std.proofs.Common.{sym}
 use Rattle.macho_model.specs.ExportLists.{STAR}
 use Rattle.macho_exports.proofs.Trims.{before_is, before_all}
-use Rattle.macho_exports.proofs.table.front_of.Goals as goal
+use Rattle.macho_exports.proofs.ends.front_of.Goals as goal
 
 pub returns-in-Some : goal.returns-in-Some
 returns-in-Some c = sym (before_is STAR c.args.pattern.now c.in-Some.star c.in-Some.ensures.0 c.in-Some.ensures.1)

@@ -1,6 +1,6 @@
 use Rattle.std.proofs.Common.{[], ◌∷◌, ◌∙◌, sym, append-nil}
 use Rattle.macho_exports.proofs.Tables.{put_there, put_keeps}
-use Rattle.macho_exports.proofs.table.put_number.Goals as goal
+use Rattle.macho_exports.proofs.parts.put_number.Goals as goal
 
 pub returns-in_err-push-clause-kept : goal.returns-in_err-push-clause-kept
 returns-in_err-push-clause-kept c =
