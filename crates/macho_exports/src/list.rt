@@ -147,8 +147,9 @@ impl ExportList {
 impl ExportList {
     /// Whether the list contains a name: it is an entry, or matches one with stars. It takes no memory.
     ///
-    /// Of the patterns those are tried that are found by the front of the name, as their first part, or by its end, as their
-    /// last part: few of many that differ at one end, but each of those that begin and end with a star.
+    /// Of the patterns those are tried whose first part, in front of the first star, the name begins with, or whose last
+    /// part, behind the last star, it ends with: few of many that differ at one end, but each of those that begin and end
+    /// with a star.
     pub fn contains(&self, name: &[u8]) -> bool
         ensures within { result ≡ is_within self.now name.now }
         ensures listed { (texts : List (List ℕ)) → IsListOf texts self.now → result ≡ listed texts name.now }

@@ -5,8 +5,8 @@
 //!     fronts     _a: pattern 0,  _: pattern 1
 //!     backs      _y: pattern 2,  _x: pattern 3
 //!
-//! Patterns that share both parts are tried one by one on names with one of them, and so are all patterns that begin and end
-//! with a star, on each name.
+//! Patterns that share both parts are tried one by one on each name that begins or ends so. Those that begin and end with a
+//! star are tried one by one on every name.
 ghost use Rattle.std.specs.Prelude.{◌≡◌, [], ◌∷◌, ◌++◌, OnOk};
 ghost use Rattle.std.specs.List.{list_any};
 ghost use Rattle.macho_model.specs.ExportLists.{matches};

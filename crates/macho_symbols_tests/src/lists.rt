@@ -6,8 +6,14 @@ use std::test::Fail;
 /// Two texts of one list.
 const TWO: &[&[u8]] = &[b"_b\n_a*\r\n\n# _c\n_a # first\n", b"_b\n*d"];
 
+/// Patterns with one first part.
+const ONE_FIRST: &[&[u8]] = &[b"ab*y\nab*b\nab*c*d"];
+
+/// Patterns with one last part.
+const ONE_LAST: &[&[u8]] = &[b"*1*z\n*2*z\na*z"];
+
 /// Texts of a list, names and whether the list contains the name.
-const CONTAINS: [(&[&[u8]], &[u8], bool); 24] = [
+const CONTAINS: [(&[&[u8]], &[u8], bool); 42] = [
     (&[b"_a*\n# c\n _b \n"], b"_a", true),
     (&[b"_a*\n# c\n _b \n"], b"_ax", true),
     (&[b"_a*\n# c\n _b \n"], b"_b", true),
@@ -29,6 +35,24 @@ const CONTAINS: [(&[&[u8]], &[u8], bool); 24] = [
     (&[b"_a*b*c"], b"_axbbyc", true),
     (&[b"_a*b*c"], b"_axcyb", false),
     (&[b"a*a"], b"a", false),
+    (&[b"*z"], b"z", true),
+    (&[b"*z"], b"zy", false),
+    (&[b"*yz"], b"z", false),
+    (&[b"**"], b"", true),
+    (&[b"**"], b"_a", true),
+    (&[b"*a*z"], b"az", true),
+    (&[b"*a*z"], b"za", false),
+    (&[b"a*z"], b"abz", true),
+    (&[b"a*z"], b"z", false),
+    (&[b"ab*b"], b"ab", false),
+    (ONE_FIRST, b"ab", false),
+    (ONE_FIRST, b"abb", true),
+    (ONE_FIRST, b"abcd", true),
+    (ONE_FIRST, b"abd", false),
+    (ONE_LAST, b"1z", true),
+    (ONE_LAST, b"x2yz", true),
+    (ONE_LAST, b"3z", false),
+    (ONE_LAST, b"ayz", true),
     (TWO, b"_ad", true),
     (TWO, b"d", true),
     (TWO, b"_c", false),
