@@ -342,6 +342,24 @@ def lines_of(world, one):
     return definition.end - definition.start + 1
 
 
+def parts_of(world, one):
+    """Of a definition's lines how many are comments, and how many only tell the type of a function or a constant."""
+    file = world.files[one[0]]
+    definition = file.definitions[one[1]]
+    lines = [line.strip() for line in file.text.split("\n")[definition.start: definition.end + 1]]
+    code = [line for line in lines if not line.startswith("--")]
+    types = 0
+    if code and not re.match(r"(?:pub )?(?:record|data)\b", code[0]):
+        types = next((number for number, line in enumerate(code) if number and re.match(re.escape(one[1]) + r"(?:\s|$)|unfolding\s", line)), 0)
+    return len(lines) - len(code), types
+
+
+def comments_and_types(world, files):
+    """How many lines of all definitions of some files are comments, and how many are types."""
+    parts = [parts_of(world, one) for found in files.values() for one in found]
+    return tuple(sum(numbers) for numbers in zip(*parts))
+
+
 def short(module):
     return module.replace("Rattle.", "").replace(".specs.", "/specs/").replace("steps.", "steps/")
 
@@ -400,6 +418,8 @@ def print_run(world):
         lines = sum(lines_of(world, one) for one in found)
         total, whole, count = total + lines, whole + world.files[module].lines, count + len(found)
         print(f"{lines:5}  {short(module)}: {', '.join(one[1] for one in found)}")
+    comments, types = comments_and_types(world, files)
+    print(f"{total - comments - types:5}  lines of equations, fields and cases; {comments} of comments, {types} of types")
     print(f"{total:5}  lines in {count} definitions of {len(files)} files, which have {whole} lines in all")
     return [f"{short(module)} is a file of steps, under `run`" for module in files if is_step(module)]
 
@@ -482,14 +502,20 @@ def subject(text):
 
 
 def rows_of_run(world):
-    """The reading list as rows of a table, and their sum."""
-    rows, total = [], 0
-    for module, found in reading_list(world, run_of(world)).items():
+    """The reading list as rows of a table, their sum, and what kinds of lines these are."""
+    rows, total, files = [], 0, reading_list(world, run_of(world))
+    for module, found in files.items():
         lines = sum(lines_of(world, one) for one in found)
         total += lines
         crate, _, file = short(module).partition("/specs/")
         rows.append(f"| `{crate}` `{file}` | {lines} | {subject(world.files[module].text)} |")
-    return ["| crate and file | lines | it says |", "|---|--:|---|"] + rows + [f"| **all {len(rows)} files** | **{total:,}** | |"]
+    comments, types = comments_and_types(world, files)
+    return ["| crate and file | lines | it says |", "|---|--:|---|"] + rows + [
+        f"| **all {len(rows)} files** | **{total:,}** | |",
+        "",
+        f"Of these {total:,} lines {comments:,} are comments, and {types:,} are types of functions and constants, which the checker compares",
+        f"with the equations. The other {total - comments - types:,} are equations, fields and cases.",
+    ]
 
 
 def rows_of_parts(world):

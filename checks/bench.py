@@ -22,6 +22,13 @@ def calls(n):
     return TEXT + "    bl _f\n" * n + END.replace("ret\n", "ret\n    .globl _f\n_f: ret\n")
 
 
+def sections(n):
+    """Calls in 200 sections of different names, so none is merged with another."""
+    many = f"    .rept {n // 200}\n    bl _f\n    .endr\n"
+    rest = "".join(f"    .section __TEXT,__s{i},regular,pure_instructions\n    .p2align 2\n{many}" for i in range(200))
+    return TEXT + "    bl _f\n" + END.replace("    .subsections_via_symbols\n", "    .globl _f\n_f: ret\n") + rest + "    .subsections_via_symbols\n"
+
+
 def globals_(n):
     return TEXT + END + "".join(f"    .globl _g{i}\n_g{i}: ret\n" for i in range(n))
 
@@ -34,6 +41,7 @@ def data(n):
 CASES = {
     "made": ("N made objects (`-generate N`)", 10_000, None),
     "calls": ("one object of N calls", 1_000_000, calls),
+    "sections": ("one object of 200 sections with N calls", 2_000_000, sections),
     "globals": ("one object of N global functions", 1_000_000, globals_),
     "data": ("one object of N bytes of data", 200_000_000, data),
 }
