@@ -1,0 +1,10 @@
+extern int shared;
+extern char room[];
+extern long table[];
+int first_of_two(void);
+int weak_here(void);
+int of_the_other(void);
+const char *title(void);
+void fill(void);
+int *counter(void);
+double area(double radius);
