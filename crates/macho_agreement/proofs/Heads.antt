@@ -19,8 +19,9 @@ use Rattle.macho_model.specs.Links.{Link}
 use Rattle.macho_model.specs.Needs.{libraries_needed}
 use Rattle.macho_model.specs.Segments.{list_if}
 use Rattle.macho_model.specs.Placement.{Placed, head_size}
-use Rattle.macho_model.specs.Head.{HeadCommand, HeadSays, commands_for, header_for, segment_for, entry_point_for, versions_for}
-use Rattle.macho_model.specs.Head.{dylinker_for, dylib_for, rpath_for, headers_in, size_said, path_command_size}
+use Rattle.macho_model.specs.HeadCommands.{HeadCommand, CommandsSay, commands_for, header_for, segment_for, entry_point_for, versions_for}
+use Rattle.macho_model.specs.Head.{headers_in, path_command_size}
+use Rattle.macho_model.specs.HeadCommands.{dylinker_for, dylib_for, rpath_for, size_said}
 use Rattle.macho_promise.specs.Sizes.{commands_size, own_commands_size, versions_size}
 
 -- the commands of the segments
@@ -65,7 +66,7 @@ commands_sized l counts p uuid trie = simp sum_by-append (omega (
 ))
 
 -- THE end of the commands
-pub head_ends : (l : Link) (counts : Counts) (uuid b : List ℕ) (p : Placed) → HeadSays l counts uuid b p → counts.commands ≡ commands_size l
+pub head_ends : (l : Link) (counts : Counts) (uuid b : List ℕ) (p : Placed) → CommandsSay l counts uuid b p → counts.commands ≡ commands_size l
     → flat_map (headers_in p) p.segments ≡ p.output_sections → commands_end b + counts.padding ≡ head_size counts p
 unfolding commands_end header_for
 head_ends l counts uuid b p says counted headers =

@@ -26,14 +26,13 @@ use Rattle.macho_faults.specs.Standing.{Stands, IsStanding}
 use Rattle.macho_model.specs.Grammar.{ObjectsAreRead}
 use Rattle.macho_valid.specs.Laws.{ObjectsAreBytes}
 use Rattle.macho_answers.specs.Refusals.{StandingIsTold}
-use Rattle.macho_valid.proofs.LinkRefusals.{link_is_not_refused}
 use Rattle.macho_valid.proofs.PlacementRefusals.{placement_is_not_refused}
 use Rattle.macho_sizes.proofs.One.{sizes_one}
 
 -- a valid link's unwind information isn't cut
 unwind_small : (l : Link) (counts : Counts) → IsValid l counts → counts.unwind ≤ 2 ^ 32
 unfolding content_sum unsigned_sum written_sum_of
-unwind_small l counts valid = omega (arith, valid.numbers.sum)
+unwind_small l counts valid = omega (arith, valid.sum)
 
 pub uncut : (counts : Counts) → counts.unwind ≤ 2 ^ 32 → record counts { unwind = min counts.unwind (2 ^ 32) } ≡ counts
 uncut counts small =
@@ -53,7 +52,7 @@ not_standing l counts f objects bytes name are valid stands = by (kept_placement
   where
     alone : kept_placement f ≡ None → ⊥
     alone none =
-        let is : f ≡ model.BadName = link_is_not_refused l counts f valid none stands.stands in
+        let is : f ≡ model.BadName = valid.unrefused f none stands.stands in
         true≢false (sym (subst (FaultStands l counts) is stands.stands) ∙ name)
 
     by : (o : Option Placed) → kept_placement f ≡ o → IfSome o (IsKept l) → ⊥

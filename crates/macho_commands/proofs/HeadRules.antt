@@ -24,10 +24,11 @@ use Rattle.macho_model.specs.Needs.{libraries_needed}
 use Rattle.macho_model.specs.Segments.{list_if}
 use Rattle.macho_model.specs.Placement.{Placed}
 use Rattle.macho_model.specs.LoadRules.{image_head_fits, needed_in_image}
-use Rattle.macho_model.specs.Head.{HeadCommand, Segment, EntryPoint, Uuid, BuildVersion, Dylinker, Dylib, Rpath, LinkeditData, Symtab}
-use Rattle.macho_model.specs.Head.{Other, segment_for, entry_point_for, uuid_for, versions_for, dylinker_for, dylib_for, rpath_for}
-use Rattle.macho_model.specs.Head.{linkedit_for, symtab_for, range_size, command_in, commands_in, size_said, header_for, commands_for}
-use Rattle.macho_model.specs.Head.{HeadSays}
+use Rattle.macho_model.specs.HeadCommands.{HeadCommand, Segment, EntryPoint, Uuid, BuildVersion, Dylinker, Dylib, Rpath, LinkeditData, Symtab}
+use Rattle.macho_model.specs.HeadCommands.{Other, segment_for, entry_point_for, uuid_for, versions_for, dylinker_for, dylib_for, rpath_for}
+use Rattle.macho_model.specs.Head.{range_size}
+use Rattle.macho_model.specs.HeadCommands.{linkedit_for, symtab_for, command_in, commands_in, size_said, header_for, commands_for}
+use Rattle.macho_model.specs.HeadCommands.{CommandsSay}
 use Rattle.macho_commands.proofs.Told.{tables_for}
 use Rattle.macho_commands.proofs.Shapes.{IsRead, Shape, a_segment, an_entry_point, a_uuid, a_build_version, a_dylinker, a_dylib, an_rpath}
 use Rattle.macho_commands.proofs.Shapes.{a_symtab, a_table, unknown, shape, size_said-is}
@@ -143,7 +144,7 @@ pub and-true : (p q : Bool) → p ≡ true → q ≡ true → (p && q) ≡ true
 and-true p q e f = rw (e, f) refl
 
 -- the commands end where the header says
-pub ends-said : (l : Link) (counts : Counts) (uuid b : List ℕ) (p : Placed) (h : HeadSays l counts uuid b p)
+pub ends-said : (l : Link) (counts : Counts) (uuid b : List ℕ) (p : Placed) (h : CommandsSay l counts uuid b p)
     → commands_end b ≡ 32 + sum_by (λ c. c.size) (commands_of b)
 unfolding commands_end header_for
 ends-said l counts uuid b p h =
@@ -152,7 +153,7 @@ ends-said l counts uuid b p h =
     ∙ ap (λ (n : ℕ). 32 + n) (sym (sizes-in b))
 
 -- each command is as long as it has to be, and ends inside
-pub each-fits : (l : Link) (counts : Counts) (uuid b : List ℕ) (p : Placed) → HeadSays l counts uuid b p
+pub each-fits : (l : Link) (counts : Counts) (uuid b : List ℕ) (p : Placed) → CommandsSay l counts uuid b p
     → EachCommand (commands_of b) (command_fits (needed_in_image b) b)
 unfolding commands_in
 each-fits l counts uuid b p h =
@@ -173,7 +174,7 @@ type_known : (e : Bool) → (((if e then MH_EXECUTE else MH_DYLIB) == MH_EXECUTE
 type_known true = refl
 type_known false = refl
 
-pub head-fits : (l : Link) (counts : Counts) (uuid b : List ℕ) (p : Placed) → HeadSays l counts uuid b p → 32 ≤ length b
+pub head-fits : (l : Link) (counts : Counts) (uuid b : List ℕ) (p : Placed) → CommandsSay l counts uuid b p → 32 ≤ length b
     → image_head_fits b ≡ true
 unfolding header_for
 head-fits l counts uuid b p h room =

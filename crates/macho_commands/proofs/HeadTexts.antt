@@ -14,7 +14,7 @@ use Rattle.macho_bytes.proofs.Puts.{put-put}
 use Rattle.macho_records.specs.Layouts.{mach_header}
 use Rattle.macho_records.specs.declared.header.MachHeader.{MachHeader}
 use Rattle.macho_model.specs.Commands.{header_of, commands_from, commands_of}
-use Rattle.macho_model.specs.Head.{HeadCommand, command_in, commands_in, size_said, header_for, commands_for}
+use Rattle.macho_model.specs.HeadCommands.{HeadCommand, command_in, commands_in, size_said, header_for, commands_for}
 use Rattle.macho_commands.specs.declared.head.ImageKind.{ImageKind}
 use Rattle.macho_commands.specs.declared.command.Command.{Command}
 use Rattle.macho_commands.specs.Commands.{said_by, size_of_command, commands_text, commands_size}

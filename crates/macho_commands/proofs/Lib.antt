@@ -12,4 +12,5 @@ pub mod HeadRules
 pub mod SegmentRules
 pub mod Kept
 pub mod HeadTexts
+pub mod HeadBytes
 pub mod Rows

@@ -14,8 +14,9 @@ use Rattle.macho_model.specs.Links.{Link}
 use Rattle.macho_model.specs.Needs.{libraries_needed}
 use Rattle.macho_model.specs.Placement.{Placed}
 use Rattle.macho_model.specs.Segments.{list_if}
-use Rattle.macho_model.specs.Head.{HeadCommand, segment_for, entry_point_for, uuid_for, versions_for, dylinker_for, dylib_for, rpath_for}
-use Rattle.macho_model.specs.Head.{linkedit_for, symtab_for, range_size, commands_for}
+use Rattle.macho_model.specs.HeadCommands.{HeadCommand, segment_for, entry_point_for, uuid_for, versions_for, dylinker_for, dylib_for, rpath_for}
+use Rattle.macho_model.specs.Head.{range_size}
+use Rattle.macho_model.specs.HeadCommands.{linkedit_for, symtab_for, commands_for}
 use Rattle.macho_commands.specs.Texts.{number_said}
 use Rattle.macho_commands.proofs.Walked.{said_with}
 

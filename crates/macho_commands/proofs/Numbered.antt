@@ -12,8 +12,8 @@ use Rattle.macho_records.specs.declared.constants.TheConstants.{LC_BUILD_VERSION
 use Rattle.macho_records.specs.declared.constants.TheConstants.{LC_RPATH, LC_SEGMENT_64, LC_SYMTAB, LC_UUID}
 use Rattle.macho_model.specs.Commands.{Command}
 use Rattle.macho_model.specs.Agreement.{section_headers_at}
-use Rattle.macho_model.specs.Head.{Segment, EntryPoint, Uuid, BuildVersion, Dylinker, Dylib, Rpath, LinkeditData, Symtab, behind}
-use Rattle.macho_model.specs.Head.{tools_at, command_in}
+use Rattle.macho_model.specs.HeadCommands.{Segment, EntryPoint, Uuid, BuildVersion, Dylinker, Dylib, Rpath, LinkeditData, Symtab, behind}
+use Rattle.macho_model.specs.HeadCommands.{tools_at, command_in}
 use Rattle.macho_commands.specs.steps.Writing.{IsLinkedit}
 
 pub in_segment : (b : List ℕ) (c : Command) → c.number ≡ LC_SEGMENT_64

@@ -17,7 +17,7 @@ use Rattle.macho_records.specs.Layouts.{segment_command}
 use Rattle.macho_structs.specs.Layouts.{entry_point_command}
 use Rattle.macho_model.specs.Commands as found
 use Rattle.macho_model.specs.Agreement.{section_headers_at}
-use Rattle.macho_model.specs.Head.{HeadCommand, Segment, EntryPoint, command_in}
+use Rattle.macho_model.specs.HeadCommands.{HeadCommand, Segment, EntryPoint, command_in}
 use Rattle.macho_commands.specs.declared.command.Command.{Command}
 use Rattle.macho_commands.specs.Commands.{said_by, text_of, size_of_command, commands_text}
 use Rattle.macho_commands.proofs.Numbered.{in_segment, in_entry_point}

@@ -8,7 +8,7 @@ use Rattle.macho_records.specs.declared.constants.TheConstants.{LC_CODE_SIGNATUR
 use Rattle.macho_records.specs.declared.constants.TheConstants.{LC_ID_DYLIB, LC_LOAD_DYLIB}
 use Rattle.macho_records.specs.declared.header.SectionHeader.{SectionHeader}
 use Rattle.macho_model.specs.declared.placed.PlacedSegment.{PlacedSegment}
-use Rattle.macho_model.specs.Head.{HeadCommand, size_said, dylinker_for, dylib_for, linkedit_for}
+use Rattle.macho_model.specs.HeadCommands.{HeadCommand, size_said, dylinker_for, dylib_for, linkedit_for}
 use Rattle.macho_commands.specs.declared.command.SymbolTable.{SymbolTable}
 use Rattle.macho_commands.specs.Commands.{segment_said, entry_point_said, uuid_said, symtab_said}
 

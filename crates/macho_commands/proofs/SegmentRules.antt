@@ -24,7 +24,7 @@ use Rattle.macho_model.specs.Segments.{TEXT, segment_rank}
 use Rattle.macho_model.specs.Placement.{Placed, is_segment_named, Follows}
 use Rattle.macho_model.specs.Images.{segments_of, is_named}
 use Rattle.macho_model.specs.LoadRules.{segment_in, begins_behind}
-use Rattle.macho_model.specs.Head.{segment_for}
+use Rattle.macho_model.specs.HeadCommands.{segment_for}
 use Rattle.macho_model.specs.Lists.{EachNext}
 use Rattle.macho_commands.proofs.Told.{segment_taken}
 

@@ -14,8 +14,8 @@ use Rattle.macho_records.specs.declared.constants.TheConstants.{LC_DYLD_EXPORTS_
 use Rattle.macho_records.specs.declared.constants.TheConstants.{LC_MAIN, LC_RPATH, LC_SEGMENT_64, LC_SYMTAB, LC_UUID}
 use Rattle.macho_model.specs.Commands.{Command}
 use Rattle.macho_model.specs.Agreement.{section_headers_at}
-use Rattle.macho_model.specs.Head.{Segment, EntryPoint, Uuid, BuildVersion, Dylinker, Dylib, Rpath, LinkeditData, Symtab, Other, behind}
-use Rattle.macho_model.specs.Head.{tools_at, command_in, size_said}
+use Rattle.macho_model.specs.HeadCommands.{Segment, EntryPoint, Uuid, BuildVersion, Dylinker, Dylib, Rpath, LinkeditData, Symtab, Other, behind}
+use Rattle.macho_model.specs.HeadCommands.{tools_at, command_in, size_said}
 use Rattle.macho_commands.specs.Texts.{number_said}
 use Rattle.macho_commands.specs.steps.Writing.{IsLinkedit}
 use Rattle.macho_commands.proofs.Numbered.{in_segment, in_entry_point, in_uuid, in_build_version, in_dylinker, in_dylib, in_rpath}

@@ -28,9 +28,11 @@ use Rattle.macho_model.specs.Agreement.{section_headers_at, section_headers_of}
 use Rattle.macho_model.specs.Images.{segments_of, Table, table_of_command, tables_of, tries_of, signatures_of, symbols_range}
 use Rattle.macho_model.specs.Images.{strings_range, symbol_tables_of, string_tables_of, entries_of_file, libraries_of}
 use Rattle.macho_model.specs.Signature.{uuid_written}
-use Rattle.macho_model.specs.Head.{HeadCommand, Segment, EntryPoint, Uuid, Dylib, LinkeditData, Symtab, headers_in, segment_for}
-use Rattle.macho_model.specs.Head.{entry_point_for, uuid_for, dylib_for, linkedit_for, symtab_for, path_filled, range_size, commands_for}
-use Rattle.macho_model.specs.Head.{commands_in, behind}
+use Rattle.macho_model.specs.Head.{headers_in}
+use Rattle.macho_model.specs.HeadCommands.{HeadCommand, Segment, EntryPoint, Uuid, Dylib, LinkeditData, Symtab, segment_for}
+use Rattle.macho_model.specs.Head.{path_filled, range_size}
+use Rattle.macho_model.specs.HeadCommands.{entry_point_for, uuid_for, dylib_for, linkedit_for, symtab_for, commands_for}
+use Rattle.macho_model.specs.HeadCommands.{commands_in, behind}
 use Rattle.macho_commands.proofs.Numbered.{in_segment, in_entry_point, in_uuid, in_dylib, in_symtab, in_linkedit}
 use Rattle.macho_commands.proofs.Walked.{said_with, chosen_in}
 use Rattle.macho_commands.proofs.Listed.{pieces-are, all_kept, none_kept, entry_kept, entry_dropped}

@@ -11,7 +11,7 @@ use Rattle.std.proofs.lemmas.List.Sums.{sum_by-cons}
 use Rattle.macho_bytes.specs.Layouts.{reading}
 use Rattle.macho_records.specs.Layouts.{load_command}
 use Rattle.macho_model.specs.Commands.{Command, commands_from, commands_of, header_of, numbered}
-use Rattle.macho_model.specs.Head.{HeadCommand, command_in, commands_in, size_said}
+use Rattle.macho_model.specs.HeadCommands.{HeadCommand, command_in, commands_in, size_said}
 use Rattle.macho_commands.specs.Texts.{number_said}
 use Rattle.macho_commands.proofs.Shapes.{IsRead, shape, number_said-is, size_said-is}
 

@@ -6,8 +6,9 @@ use Rattle.macho_records.specs.declared.constants.TheConstants.{LC_BUILD_VERSION
 use Rattle.macho_records.specs.declared.header.SectionHeader.{SectionHeader}
 use Rattle.macho_records.specs.declared.header.SegmentCommand.{SegmentCommand}
 use Rattle.macho_model.specs.declared.placed.PlacedSegment.{PlacedSegment}
-use Rattle.macho_model.specs.Head as head
-use Rattle.macho_model.specs.Head.{HeadCommand, PLATFORM_MACOS, THIS_TOOL, THIS_VERSION, dylinker_for, dylib_for, rpath_for, linkedit_for, size_said}
+use Rattle.macho_model.specs.HeadCommands as records
+use Rattle.macho_model.specs.Head.{PLATFORM_MACOS, THIS_TOOL, THIS_VERSION}
+use Rattle.macho_model.specs.HeadCommands.{HeadCommand, dylinker_for, dylib_for, rpath_for, linkedit_for, size_said}
 use Rattle.macho_commands.specs.declared.command.SymbolTable.{SymbolTable}
 use Rattle.macho_commands.specs.declared.command.Command.{Command}
 use Rattle.macho_commands.specs.declared.command.Command.TheVariants.{Segment, EntryPoint, Uuid, BuildVersion, Dylinker, IdDylib, LoadDylib, Rpath, ChainedFixups, ExportsTrie, Symtab, CodeSignature}
@@ -30,22 +31,22 @@ segment_record s protection segment_flags count = record {
 }
 
 abbrev pub segment_said : PlacedSegment → ℕ → ℕ → List SectionHeader → HeadCommand
-segment_said s protection segment_flags headers = head.Segment (segment_record s protection segment_flags (length headers)) headers
+segment_said s protection segment_flags headers = records.Segment (segment_record s protection segment_flags (length headers)) headers
 
 -- an entry with the default stack, a UUID, versions with this linker as the one tool
 abbrev pub entry_point_said : ℕ → HeadCommand
-entry_point_said offset = head.EntryPoint (record { cmd = LC_MAIN; cmdsize = 24; entryoff = offset; stacksize = 0 })
+entry_point_said offset = records.EntryPoint (record { cmd = LC_MAIN; cmdsize = 24; entryoff = offset; stacksize = 0 })
 
 abbrev pub uuid_said : List ℕ → HeadCommand
-uuid_said uuid = head.Uuid (record { cmd = LC_UUID; cmdsize = 24; uuid = uuid })
+uuid_said uuid = records.Uuid (record { cmd = LC_UUID; cmdsize = 24; uuid = uuid })
 
 abbrev pub versions_said : ℕ → ℕ → HeadCommand
 versions_said minimum sdk =
-    head.BuildVersion (record { cmd = LC_BUILD_VERSION; cmdsize = 32; platform = PLATFORM_MACOS; minos = minimum; sdk = sdk; ntools = 1 })
+    records.BuildVersion (record { cmd = LC_BUILD_VERSION; cmdsize = 32; platform = PLATFORM_MACOS; minos = minimum; sdk = sdk; ntools = 1 })
     (record { tool = THIS_TOOL; version = THIS_VERSION } ∷ [])
 
 abbrev pub symtab_said : SymbolTable → HeadCommand
-symtab_said t = head.Symtab (record {
+symtab_said t = records.Symtab (record {
   cmd = LC_SYMTAB;
   cmdsize = 24;
   symoff = t.symbols_offset;

@@ -6,7 +6,7 @@ use Rattle.macho_records.specs.Layouts.{mach_header}
 use Rattle.macho_records.specs.declared.constants.TheConstants.{CPU_SUBTYPE_ARM64_ALL, CPU_TYPE_ARM64, MH_DYLDLINK, MH_DYLIB, MH_EXECUTE, MH_HAS_TLV_DESCRIPTORS, MH_MAGIC_64, MH_NOUNDEFS, MH_PIE, MH_TWOLEVEL}
 use Rattle.macho_records.specs.declared.header.MachHeader.{MachHeader}
 use Rattle.macho_model.specs.Commands.{header_of}
-use Rattle.macho_model.specs.Head.{commands_in}
+use Rattle.macho_model.specs.HeadCommands.{commands_in}
 use Rattle.macho_commands.specs.declared.head.ImageKind.{ImageKind}
 use Rattle.macho_commands.specs.declared.command.Command.{Command}
 use Rattle.macho_commands.specs.Commands.{said_by, commands_text, commands_size}

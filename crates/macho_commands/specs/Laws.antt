@@ -20,12 +20,14 @@ use Rattle.macho_model.specs.Images.{segments_named, tables_of, tries_of, signat
 use Rattle.macho_model.specs.LoadRules.{image_head_fits, needed_in_image, protections_fit, file_part_inside, segment_is_paged, segment_ends, begins_behind, text_holds_commands}
 use Rattle.macho_model.specs.Agreement.{SegmentsAgree, section_headers_of, table_of_range}
 use Rattle.macho_model.specs.Signature.{UuidSays}
-use Rattle.macho_model.specs.Head.{headers_in, describes_thread_locals, commands_in, commands_for, HeadSays}
+use Rattle.macho_model.specs.Head as head
+use Rattle.macho_model.specs.Head.{headers_in, describes_thread_locals, head_for, HeadSays}
+use Rattle.macho_model.specs.HeadCommands.{commands_in, commands_for, CommandsSay}
 use Rattle.macho_model.specs.Lists.{EachNext}
 use Rattle.macho_commands.specs.declared.head.ImageKind.{ImageKind}
 use Rattle.macho_commands.specs.declared.command.Command.{Command}
-use Rattle.macho_commands.specs.Commands.{said_by}
-use Rattle.macho_commands.specs.Heads.{HeadIsFound}
+use Rattle.macho_commands.specs.Commands.{said_by, commands_size}
+use Rattle.macho_commands.specs.Heads.{head_text, HeadIsFound, HeadIsReadable}
 
 -- What the readings of a file find of a link's load commands, with an exports trie of so many bytes.
 pub record HeadReads (l : Link) (counts : Counts) (uuid b : List ℕ) (p : Placed) (trie : ℕ) : Type 0 where
@@ -69,11 +71,28 @@ pub record HeadIsAccepted (b : List ℕ) : Type 0 where
 -- a file with the header and the load commands of a link whose segments are placed keeps them
 abbrev pub HeadKeepsRules : Type 0
 HeadKeepsRules =
-    (l : Link) (counts : Counts) (uuid b : List ℕ) (p : Placed) → HeadSays l counts uuid b p → IsInOrder l p → HasRoom b p → HeadIsAccepted b
+    (l : Link) (counts : Counts) (uuid b : List ℕ) (p : Placed) → CommandsSay l counts uuid b p → IsInOrder l p → HasRoom b p → HeadIsAccepted b
 
 -- a file that has the head of its kind, with commands that say those of a link, has the link's head
 abbrev pub FoundIsSaid : Type 0
 FoundIsSaid =
     (l : Link) (counts : Counts) (uuid b : List ℕ) (p : Placed) (trie : ℕ) (kind : ImageKind) (commands : List Command) → kind.executable ≡ l.executable
     → kind.thread_locals ≡ describes_thread_locals p → map said_by commands ≡ commands_for l counts p uuid trie → HeadIsFound kind commands b
-    → HeadSays l counts uuid b p
+    → CommandsSay l counts uuid b p
+
+-- the text of such a head is the link's, byte for byte
+abbrev pub HeadIsSpelled : Type 0
+HeadIsSpelled =
+    (l : Link) (counts : Counts) (uuid : List ℕ) (p : Placed) (trie : ℕ) (kind : ImageKind) (commands : List Command)
+    → kind.executable ≡ l.executable → kind.thread_locals ≡ describes_thread_locals p
+    → map said_by commands ≡ commands_for l counts p uuid trie → length (head_text kind commands) ≡ 32 + commands_size commands
+    → head_text kind commands ≡ head_for l p (head.commands_for l counts p uuid trie)
+
+-- a reader of a file that begins with the link's head finds the link's header and load commands, where a text of commands that say the
+-- link's is found again: no number is too large for its field
+abbrev pub HeadIsFoundAgain : Type 0
+HeadIsFoundAgain =
+    (l : Link) (counts : Counts) (uuid b : List ℕ) (p : Placed) (says : HeadSays l counts uuid b p) (kind : ImageKind)
+    (commands : List Command) → kind.executable ≡ l.executable → kind.thread_locals ≡ describes_thread_locals p
+    → map said_by commands ≡ commands_for l counts p uuid says.trie → length (head_text kind commands) ≡ 32 + commands_size commands
+    → HeadIsReadable kind commands → CommandsSay l counts uuid b p

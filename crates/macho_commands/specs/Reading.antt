@@ -4,7 +4,7 @@ use Rattle.macho_bytes.specs.Texts.{Stands}
 use Rattle.macho_bytes.specs.Layouts.{reading}
 use Rattle.macho_records.specs.Layouts.{load_command}
 use Rattle.macho_model.specs.Commands as found
-use Rattle.macho_model.specs.Head.{HeadCommand, command_in, size_said}
+use Rattle.macho_model.specs.HeadCommands.{HeadCommand, command_in, size_said}
 use Rattle.macho_commands.specs.declared.command.Command.{Command}
 use Rattle.macho_commands.specs.Texts.{text_said, number_said}
 use Rattle.macho_commands.specs.Commands.{said_by, size_of_command, commands_text}

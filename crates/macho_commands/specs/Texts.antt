@@ -4,7 +4,7 @@ use Rattle.std.specs.List.{flat_map}
 use Rattle.macho_bytes.specs.Layouts.{spelling}
 use Rattle.macho_records.specs.Layouts.{segment_command, section_header, symtab_command}
 use Rattle.macho_structs.specs.Layouts.{entry_point_command, dylinker_command, dylib_command, rpath_command, linkedit_data_command, uuid_command, build_version_command, build_tool_version}
-use Rattle.macho_model.specs.Head.{HeadCommand, Segment, EntryPoint, Uuid, BuildVersion, Dylinker, Dylib, Rpath, LinkeditData, Symtab, Other}
+use Rattle.macho_model.specs.HeadCommands.{HeadCommand, Segment, EntryPoint, Uuid, BuildVersion, Dylinker, Dylib, Rpath, LinkeditData, Symtab, Other}
 
 unfoldable pub text_said : HeadCommand → List ℕ
 text_said (Segment command headers) = spelling segment_command command ++ flat_map (spelling section_header) headers

@@ -25,6 +25,8 @@ mod segment;
 
 pub use command::{Command, DYLINKER_PATH, SymbolTable, Table};
 pub use head::{ImageKind, write_head};
-pub use laws::{head_found_is_said, head_is_read, head_keeps_rules};
+pub use laws::{
+    head_found_is_said, head_is_found_again, head_is_read, head_is_spelled, head_keeps_rules,
+};
 pub use list::{commands_size, write_commands};
 pub use paths::path_command_size;

@@ -1,7 +1,7 @@
 //! Commands that name ranges of `__LINKEDIT`.
 ghost use Rattle.std.specs.Prelude.{◌≡◌, ◌+◌, ◌≤◌, length};
 ghost use Rattle.macho_bytes.specs.Texts.{put};
-ghost use Rattle.macho_model.specs.Head.{linkedit_for};
+ghost use Rattle.macho_model.specs.HeadCommands.{linkedit_for};
 ghost use Rattle.macho_commands.specs.Texts.{text_said};
 ghost use Rattle.macho_commands.specs.Commands.{symtab_said};
 ghost use Rattle.macho_commands.specs.steps.Writing.{IsLinkedit};

@@ -16,9 +16,9 @@ use Rattle.macho_model.specs.Links.{Link}
 use Rattle.macho_model.specs.Placement.{Placed}
 use Rattle.macho_model.specs.Resolution.{SymbolId, name_at}
 use Rattle.macho_model.specs.Commands.{commands_end, header_of}
-use Rattle.macho_model.specs.Head.{header_for, commands_for, size_said, HeadCommand}
+use Rattle.macho_model.specs.HeadCommands.{header_for, commands_for, size_said, HeadCommand}
 use Rattle.macho_model.specs.SymbolTable.{table_symbols}
-use Rattle.macho_model.specs.SymbolRows.{SymbolRow, row_of, symbol_rows}
+use Rattle.macho_linkedit.specs.TableRows.{SymbolRow, row_of, symbol_rows}
 use Rattle.macho_commands.proofs.Texts.{length-flat_map_same}
 use Rattle.macho_promise.specs.Sizes.{AreCounts, counts_with, text_size}
 use Rattle.macho_linkedit.specs.Symbols.{entries_from, strings_of_rows, HasRows}

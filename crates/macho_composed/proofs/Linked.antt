@@ -15,9 +15,10 @@ use Rattle.macho_model.specs.Links.{Link}
 use Rattle.macho_model.specs.Placement.{Placed, range_span}
 use Rattle.macho_model.specs.Images.{fixups_header}
 use Rattle.macho_model.specs.Head.{HeadSays}
+use Rattle.macho_model.specs.HeadCommands.{CommandsSay}
 use Rattle.macho_model.specs.OutputSections.{POINTER_EXPONENT, piece}
 use Rattle.macho_model.specs.WrittenSum.{SYMBOL_SIZE}
-use Rattle.macho_model.specs.SymbolRows.{SymbolsSay}
+use Rattle.macho_model.specs.SymbolEntries.{SymbolsSay}
 use Rattle.macho_model.specs.Zeros.{IsZeroElsewhere}
 use Rattle.macho_fixups.specs.declared.run.Fixup.{Fixup}
 use Rattle.macho_fixups.specs.Tables.{names_place}
@@ -214,7 +215,7 @@ pub written_is_linked : PartLaws → MeaningLaws → WrittenIsLinked
 written_is_linked parts laws l counts uuid b p ready can w =
     laws.whole l counts uuid b p (record {
       ready = ready;
-      head = record { says = head; fits = omega (arith, w.says.0.trie, table); names = w.says.1.head.names };
+      head = record { text = text; says = head; fits = omega (arith, w.says.0.trie, table); names = w.says.1.head.names };
       tables = record {
         fixups = laws.fixups l p w.run w.says.1.fixups.imports b (fixups_stand l counts uuid p b w seen) w.says.1.fixups.of_link
             can.encoded;
@@ -249,7 +250,13 @@ written_is_linked parts laws l counts uuid b p ready can w =
     stands : AreStanding l p w.run w.texts p.linkedit.signature.end b
     stands = standing parts l counts uuid p b ready can begin w
 
-    head : HeadSays l counts uuid b p
+    text : HeadSays l counts uuid b p
+    text = record {
+      trie = length w.texts.trie;
+      text = subst (λ (t : List ℕ). Stands b (record { at = 0; text = t })) w.says.1.head.is (stands.texts 6 no_part (omega arith));
+    }
+
+    head : CommandsSay l counts uuid b p
     head = record {
       trie = length w.texts.trie;
       header = w.says.1.head.header b (stands.texts 6 no_part (omega arith));

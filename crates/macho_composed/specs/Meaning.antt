@@ -8,9 +8,11 @@ use Rattle.macho_model.specs.declared.placed.Counts.{Counts}
 use Rattle.macho_model.specs.Links.{Link}
 use Rattle.macho_model.specs.Placement.{Placed}
 use Rattle.macho_model.specs.Commands.{header_of}
-use Rattle.macho_model.specs.Head.{header_for, commands_for, commands_in}
+use Rattle.macho_model.specs.Head as head
+use Rattle.macho_model.specs.Head.{head_for}
+use Rattle.macho_model.specs.HeadCommands.{header_for, commands_for, commands_in}
 use Rattle.macho_model.specs.Signature.{signature_text}
-use Rattle.macho_model.specs.SymbolRows.{symbol_rows}
+use Rattle.macho_linkedit.specs.TableRows.{symbol_rows}
 use Rattle.macho_model.specs.Told.{ToldExport}
 use Rattle.macho_fixups.specs.declared.run.Fixup.{Fixup}
 use Rattle.macho_signature.specs.declared.signature.Signer.{Signer}
@@ -71,6 +73,7 @@ pub record HeadMeans (l : Link) (counts : Counts) (uuid : List ℕ) (p : Placed)
   pub parts : HeadParts
   pub of_link : AreHeadParts l counts uuid p parts × (parts.trie_size ≡ trie)
   pub long : length text ≡ head_bytes p parts
+  pub is : text ≡ head_for l p (head.commands_for l counts p uuid trie)
   pub header : (b : List ℕ) → Stands b (record { at = 0; text = text }) → header_of b ≡ header_for l p (commands_for l counts p uuid trie)
   pub commands : (b : List ℕ) → Stands b (record { at = 0; text = text }) → commands_in b ≡ commands_for l counts p uuid trie
   pub names : NamesAreWhole l

@@ -7,9 +7,10 @@ use Rattle.macho_model.specs.Links.{Link}
 use Rattle.macho_model.specs.Placement.{Placed}
 use Rattle.macho_model.specs.Faults.{entry_is_defined}
 use Rattle.macho_model.specs.Head.{HeadSays}
+use Rattle.macho_model.specs.HeadCommands.{CommandsSay}
 use Rattle.macho_model.specs.ImportTable.{ImportTableSays}
 use Rattle.macho_model.specs.Made.{InitOffsetsSay}
-use Rattle.macho_model.specs.SymbolRows.{SymbolsSay}
+use Rattle.macho_model.specs.SymbolEntries.{SymbolsSay}
 use Rattle.macho_model.specs.Signature.{signature_text}
 use Rattle.macho_model.specs.Zeros.{IsZeroElsewhere}
 use Rattle.macho_fixups.specs.Runs.{AreSegments}
@@ -43,9 +44,10 @@ pub record IsSealed (l : Link) (b : List ℕ) (p : Placed) : Type 0 where
   pub stands : Stands b
       (record { at = p.linkedit.signature.start; text = signature_text (signed_by signer p.linkedit.signature.start) b })
 
--- Header and load commands stand in front, and tell a trie that ends in its range.
+-- Header and load commands stand in front, are found there, and tell a trie that ends in its range.
 pub record HeadStands (l : Link) (counts : Counts) (uuid : List ℕ) (b : List ℕ) (p : Placed) : Type 0 where
-  pub says : HeadSays l counts uuid b p
+  pub text : HeadSays l counts uuid b p
+  pub says : CommandsSay l counts uuid b p
   pub fits : TrieFits p says.trie
   pub names : NamesAreWhole l
 

@@ -13,7 +13,7 @@ use Rattle.macho_bytes.specs.Numbers.{bits}
 use Rattle.macho_structs.specs.declared.relocations.RelocationInfo.{RelocationInfo}
 use Rattle.macho_structs.specs.declared.unwind.UnwindInfoEntry.{UnwindInfoEntry}
 use Rattle.macho_model.specs.declared.rules.UnwindRule.{UnwindRule}
-use Rattle.macho_model.specs.Grammar.{IsObject}
+use Rattle.macho_model.specs.ObjectLaws.{KeepsObjectRules}
 use Rattle.macho_model.specs.Objects.{num_sections, section_at, relocation_at}
 use Rattle.macho_model.specs.Consumed.{is_plain_pointer, each_relocation_in, unwind_relocation_fits, single_relocations, start_fits}
 use Rattle.macho_model.specs.Consumed.{function_inside, entry_is_clear, absent_is_zero, START_PLACE, LSDA_PLACE}
@@ -45,7 +45,7 @@ plain_names r n m exists plain by_number = (
       (arith, nat_tests, exists, plain, by_number),
 )
 
-pub names_section : (b : List ℕ) (k r : ℕ) → IsObject b → k < num_sections b → r < (section_at b k).nreloc
+pub names_section : (b : List ℕ) (k r : ℕ) → KeepsObjectRules b → k < num_sections b → r < (section_at b k).nreloc
     → is_plain_pointer (relocation_at b k r) ≡ true → NamesSection b (relocation_at b k r)
 names_section b k r object among lt plain = plain_names (relocation_at b k r) _ (num_sections b) (object.o5.1 k r among lt) plain
 

@@ -6,7 +6,9 @@
 use Rattle.std.proofs.Common.{◌≡◌, ℕ, ◌+◌, ◌*◌, ◌%◌, ◌<◌, ◌≤◌, ◌⊎◌, inl, inr, eqb, Bool, true, false, List, [], ◌∷◌, ◌++◌, length, map}
 use Rattle.std.proofs.Common.{get_or, None, refl, sym, ap, ◌∙◌, subst, arith, below_more, append_assoc, slice_range, length-take}
 use Rattle.std.proofs.Common.{length-drop}
-use Rattle.std.proofs.Common.{nat_le, ◌≢◌}
+use Rattle.std.proofs.Common.{nat_le, nat_lt, ◌≢◌, ◌^◌, ◌==◌, ◌&&◌, ◌||◌, if◌then◌else◌}
+use Rattle.std.proofs.lemmas.Bool.{leb-true}
+use Rattle.std.proofs.lemmas.Nat.{pow_pos}
 use Rattle.std.proofs.lemmas.Bool.Decides.{nat_tests}
 use Rattle.std.proofs.lemmas.List.{append-nil, get_or_default}
 use Rattle.std.specs.List.{range_with_len, flat_map, Contains}
@@ -15,11 +17,15 @@ use Rattle.macho_bytes.specs.Layouts.{read_of}
 use Rattle.macho_structs.specs.Layouts.{unwind_info_entry}
 use Rattle.macho_records.specs.Sections.{is_zerofill}
 use Rattle.macho_structs.specs.declared.relocations.RelocationInfo.{RelocationInfo}
-use Rattle.macho_object.specs.Views.{RelocationBytes}
+use Rattle.macho_records.specs.declared.header.SectionHeader.{SectionHeader}
+use Rattle.macho_object.specs.Views.{FileBytes, RelocationBytes}
 use Rattle.macho_model.specs.Links.{Link}
-use Rattle.macho_model.specs.Grammar.{IsObject}
-use Rattle.macho_model.specs.Objects.{num_sections, section_at, section_bytes, relocation_at}
+use Rattle.macho_model.specs.Grammar.{IsFile}
+use Rattle.macho_model.specs.ObjectLaws.{KeepsObjectRules}
+use Rattle.macho_model.proofs.ObjectLaws.{object_keeps}
+use Rattle.macho_model.specs.Objects.{num_sections, num_symbols, section_at, section_bytes, relocation_at}
 use Rattle.macho_model.specs.Consumed.{is_plain_pointer, initializer_section_fits}
+use Rattle.macho_consumed.specs.steps.Sections.{IsRead}
 use Rattle.macho_symbols.specs.Kept.{ResolvedRows, IsResolved, HasSymbol}
 use Rattle.macho_consumed.specs.declared.rows.Initializer.{Initializer}
 use Rattle.macho_consumed.specs.declared.fault.ConsumedFault.{ConsumedFault}
@@ -39,13 +45,50 @@ cut : (at n : ℕ) (b : List ℕ) → at + n ≤ length b → length (slice_rang
 cut at n b le = simp (length-take, length-drop) (omega arith)
 
 -- the bytes of a section that has bytes are as many as its size
-pub length_bytes : (b : List ℕ) (k : ℕ) → IsObject b → k < num_sections b → is_zerofill (section_at b k) ≡ false
+pub length_bytes : (b : List ℕ) (k : ℕ) → KeepsObjectRules b → k < num_sections b → is_zerofill (section_at b k) ≡ false
     → length (section_bytes b k) ≡ (section_at b k).size
 unfolding section_bytes
 length_bytes b k object lt plain =
     let inside = object.o6 k lt in
     let le : (section_at b k).offset + (section_at b k).size ≤ length b = grind (arith, nat_tests, plain, inside) in
     rw plain (cut ((section_at b k).offset) ((section_at b k).size) b le)
+
+-- the symbols that a section's relocations name are there, and each relocation begins in the section
+symbol_there : (r : RelocationInfo) (n m : ℕ) → (if r.r_extern then nat_lt r.r_symbolnum n else ((r.r_type == 10) ||
+    (nat_le 1 r.r_symbolnum && nat_le r.r_symbolnum m))) ≡ true
+    → r.r_extern ≡ true → r.r_symbolnum < n
+symbol_there r n m exists extern = grind (arith, nat_tests, exists, extern)
+
+pub keeps_of : (dyn : Bool) (b : List ℕ) → dyn ≡ false → IsFile dyn b → KeepsObjectRules b
+keeps_of dyn b static kept =
+    let whole : IsFile false b = subst (λ (d : Bool). IsFile d b) static kept in object_keeps whole
+
+pub externs_exist : (f : FileBytes) (k : ℕ) → f.is_dynamic ≡ false → IsFile f.is_dynamic f.bytes → k < num_sections f.bytes
+    → ExternsExist f.bytes k
+externs_exist f k static whole among r lt extern =
+    symbol_there (relocation_at f.bytes k r) (num_symbols f.bytes) (num_sections f.bytes)
+    ((keeps_of f.is_dynamic f.bytes static whole).o5.1 k r among lt) extern
+
+pub are_inside : (f : FileBytes) (k : ℕ) → f.is_dynamic ≡ false → IsFile f.is_dynamic f.bytes → k < num_sections f.bytes
+    → AreInside f.bytes k
+are_inside f k static whole among r lt =
+    let inside = leb-true ((relocation_at f.bytes k r).r_address + 2 ^ (relocation_at f.bytes k r).r_length) (section_at f.bytes k).size
+    ((keeps_of f.is_dynamic f.bytes static whole).o10.1 k r among lt) in
+    omega (arith, inside, pow_pos (relocation_at f.bytes k r).r_length)
+
+-- what is read of a section of a file that is an object
+pub is_read : (f : FileBytes) (k : ℕ) (h : SectionHeader) (bytes : List ℕ) (s : RelocationBytes) → f.is_dynamic ≡ false
+    → IsFile f.is_dynamic f.bytes → k < num_sections f.bytes → h ≡ section_at f.bytes k → bytes ≡ section_bytes f.bytes k
+    → s ≡ record { bytes = f.bytes; section = k } → IsRead f k h bytes s
+is_read f k h bytes s static whole among head content is =
+    subst (IsRead f k h bytes) (sym is) (record {
+      same = ap (λ (d : Bool). record { bytes = f.bytes; is_dynamic = d }) static;
+      numbered = refl;
+      object = keeps_of f.is_dynamic f.bytes static whole;
+      among = among;
+      head = head;
+      content = content;
+    })
 
 -- the number of a relocation that is found
 pub found_below : (b : List ℕ) (k n place r : ℕ) → Contains (found b k n place) r → r < n
@@ -175,7 +218,7 @@ pub slot_within : (b : List ℕ) (k n slot : ℕ) (cells : List Cell) → IsTabl
 slot_within b k n slot cells table lt = omega (arith, lt, table.long)
 
 -- a slot lies in the bytes that are read
-pub slot_bytes : (s t : RelocationBytes) (slot : ℕ) (bytes : List ℕ) → s ≡ t → IsObject s.bytes → s.section < num_sections s.bytes
+pub slot_bytes : (s t : RelocationBytes) (slot : ℕ) (bytes : List ℕ) → s ≡ t → KeepsObjectRules s.bytes → s.section < num_sections s.bytes
     → bytes ≡ section_bytes s.bytes s.section → is_zerofill (section_at t.bytes t.section) ≡ false
     → 8 * slot + 8 ≤ (section_at t.bytes t.section).size
     → 8 * slot + 0 + 8 ≤ length bytes
@@ -187,7 +230,7 @@ slot_bytes s t slot bytes same object among content plain within =
     omega (arith, back.1, length_bytes s.bytes s.section object among back.0, ap length content)
 
 -- and so does an entry
-pub entry_bytes : (s t : RelocationBytes) (entry : ℕ) (bytes : List ℕ) → s ≡ t → IsObject s.bytes → s.section < num_sections s.bytes
+pub entry_bytes : (s t : RelocationBytes) (entry : ℕ) (bytes : List ℕ) → s ≡ t → KeepsObjectRules s.bytes → s.section < num_sections s.bytes
     → bytes ≡ section_bytes s.bytes s.section → is_zerofill (section_at t.bytes t.section) ≡ false
     → 32 * entry + 32 ≤ (section_at t.bytes t.section).size
     → 32 * entry + 32 ≤ length bytes

@@ -19,6 +19,7 @@ use Rattle.macho_model.specs.Lists.{IsNumber}
 use Rattle.macho_model.specs.Objects.{num_sections, num_symbols}
 use Rattle.macho_model.specs.ObjectRules.{symbol_section_exists, relocation_number_exists}
 use Rattle.macho_model.specs.Grammar.{IsObject}
+use Rattle.macho_model.proofs.ObjectLaws.{object_keeps}
 use Rattle.macho_model.specs.Symbols.{is_absolute, is_in_section, is_global, is_local}
 use Rattle.macho_model.specs.Links.{Input, Object, Dylib, Stub, Link, no_input, object_bytes, object_of, SectionId, header_at, is_carried, sections_of_file, sections_of, carried_of}
 use Rattle.macho_model.specs.Resolution.{SymbolId, Definition, Symbol, Library, ImageBase, entry_at, name_at, symbols_of_file, symbols_of, section_of_symbol, stands_in_carried, is_definition, is_strong, is_weak, has_name, strong_of, weak_of, commons_of, greatest_of, libraries_with, DSO_HANDLE, first_or, definition_of, is_symbol, same_symbol, is_chosen, chosen_commons}
@@ -169,7 +170,7 @@ own_inside l s objects f among chosen = by (stands_in_carried l s) (is_absolute 
     by true b c stands common =
         let inside = and_left (is_in_section e) (is_carried (header_at l (section_of_symbol l s))) stands in
         let carried = and_right (is_in_section e) (is_carried (header_at l (section_of_symbol l s))) stands in
-        let rule : symbol_section_exists (object_of l s.file) s.symbol ≡ true = (whole l s.file objects f).o5.0 s.symbol among in
+        let rule : symbol_section_exists (object_of l s.file) s.symbol ≡ true = (object_keeps (whole l s.file objects f)).o5.0 s.symbol among in
         let exists = or_right (not (is_in_section e)) (nat_le 1 e.n_sect && nat_le e.n_sect (num_sections (object_of l s.file))) rule
         (ap not inside) in
         let low = leb-true 1 e.n_sect (and_left (nat_le 1 e.n_sect) _ exists) in
@@ -325,7 +326,7 @@ relocation_inside l s r objects leads = by (relocation_in l s r).r_extern refl
     f = file_of_section l s (in_unfiltered (λ t. is_carried (header_at l t)) (sections_of l) s leads.carried)
 
     exists : relocation_number_exists (object_of l s.file) s.section r ≡ true
-    exists = (whole l s.file objects f.0).o5.1 s.section r f.1 leads.among
+    exists = (object_keeps (whole l s.file objects f.0)).o5.1 s.section r f.1 leads.among
 
     by_section : (b : Bool) → is_carried (header_at l (section_named l s r)) ≡ b → (relocation_in l s r).r_extern ≡ false
         → LeadsInside l (if b then target.Section s.file ((relocation_in l s r).r_symbolnum - 1) 0 else target.None)

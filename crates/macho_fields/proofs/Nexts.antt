@@ -13,7 +13,9 @@ use Rattle.macho_model.specs.declared.targets.Target.{Target}
 use Rattle.macho_model.specs.declared.targets.Target.TheVariants as target
 use Rattle.macho_model.specs.Objects.{num_sections, num_symbols, section_at, section_bytes, relocation_at}
 use Rattle.macho_model.specs.ObjectRules.{relocation_number_exists}
-use Rattle.macho_model.specs.Grammar.{IsObject, IsFile}
+use Rattle.macho_model.specs.Grammar.{IsFile}
+use Rattle.macho_model.specs.ObjectLaws.{KeepsObjectRules}
+use Rattle.macho_model.proofs.ObjectLaws.{object_keeps}
 use Rattle.macho_model.specs.Links.{Link, SectionId, object_of, header_at}
 use Rattle.macho_model.specs.Needs.{relocation_in}
 use Rattle.macho_model.specs.Targets.{target_of_relocation, is_defined, is_import}
@@ -21,7 +23,7 @@ use Rattle.macho_model.specs.Fields.{Field, field_of, content_of, has_subtrahend
 use Rattle.macho_model.specs.Rows.{is_none, is_supported, difference_fits, has_form, addend_fits, begins_pair}
 use Rattle.macho_model.specs.Stands.{Kind, Pointer, Difference, Branch, Page, Offset, SlotPage, SlotOffset, SlotDistance, NoKind}
 use Rattle.macho_model.specs.Placement.{Placed, id_of}
-use Rattle.macho_model.specs.Valid.{RelocationsAreSupported}
+use Rattle.macho_model.specs.Supported.{RelocationsAreSupported}
 use Rattle.macho_model.proofs.EachBelow.{true_or_false, and_left, and_right, or_right, is_equal}
 use Rattle.std.proofs.lemmas.List.Edits.{length-between}
 use Rattle.macho_fixups.specs.declared.run.Fixup.{Fixup}
@@ -139,7 +141,7 @@ section_exists b k r h other plain =
 -- THE next field, of the bytes of its object.
 next_in : (l : Link) (p : Placed) (q : PlacedSection) (look : Look) (descriptors : Bool) (r : ℕ) (text old : List ℕ) (n : Near)
     (f : read.Field)
-    → RelocationsAreSupported l → IsFillable l p q look → IsObject (object_of l q.file) → q.section < num_sections (object_of l q.file)
+    → RelocationsAreSupported l → IsFillable l p q look → KeepsObjectRules (object_of l q.file) → q.section < num_sections (object_of l q.file)
     → text ≡ section_bytes (object_of l q.file) q.section → length text ≡ (header_at l (id_of q)).size → q.address + length text ≤ 2 ^ 64
     → descriptors ≡ (type_of (header_at l (id_of q)) == S_THREAD_LOCAL_VARIABLES) → r < (header_at l (id_of q)).nreloc
     → IsNear (object_of l q.file) q.section r n → IsRead look q.file (object_of l q.file) text n f
@@ -213,13 +215,13 @@ next_in l p q look descriptors r text old n f sound fill object section bytes lo
 -- The same of bytes that are those of the object.
 pub next_is : (l : Link) (p : Placed) (q : PlacedSection) (look : Look) (descriptors : Bool) (r : ℕ) (b text old : List ℕ) (n : Near)
     (f : read.Field)
-    → object_of l q.file ≡ b → RelocationsAreSupported l → IsFillable l p q look → IsObject b → q.section < num_sections b
+    → object_of l q.file ≡ b → RelocationsAreSupported l → IsFillable l p q look → KeepsObjectRules b → q.section < num_sections b
     → text ≡ section_bytes b q.section → length text ≡ (section_at b q.section).size → q.address + length text ≤ 2 ^ 64
     → descriptors ≡ (type_of (section_at b q.section) == S_THREAD_LOCAL_VARIABLES) → r < (section_at b q.section).nreloc
     → IsNear b q.section r n → IsRead look q.file b text n f → is_prefix_type n.relocation.r_type ≡ false
     → IsStill l q r old → IsNext l p q look descriptors r old × (seen f ≡ field_of l (id_of q) r)
 next_is l p q look descriptors r b text old n f same sound fill =
-    subst (λ (m : List ℕ). IsObject m → q.section < num_sections m → text ≡ section_bytes m q.section
+    subst (λ (m : List ℕ). KeepsObjectRules m → q.section < num_sections m → text ≡ section_bytes m q.section
     → length text ≡ (section_at m q.section).size
     → q.address + length text ≤ 2 ^ 64 → descriptors ≡ (type_of (section_at m q.section) == S_THREAD_LOCAL_VARIABLES)
     → r < (section_at m q.section).nreloc → IsNear m q.section r n → IsRead look q.file m text n f
@@ -228,11 +230,11 @@ next_is l p q look descriptors r b text old n f same sound fill =
     same (next_in l p q look descriptors r text old n f sound fill)
 
 -- each field of a section stands inside it
-inside_all : (l : Link) (q : PlacedSection) (b : List ℕ) → object_of l q.file ≡ b → IsObject b → q.section < num_sections b → (r : ℕ)
+inside_all : (l : Link) (q : PlacedSection) (b : List ℕ) → object_of l q.file ≡ b → KeepsObjectRules b → q.section < num_sections b → (r : ℕ)
     → r < (header_at l (id_of q)).nreloc
     → (field_of l (id_of q) r).offset + (field_of l (id_of q) r).width ≤ (header_at l (id_of q)).size
 inside_all l q b same =
-    subst (λ (m : List ℕ). IsObject m → q.section < num_sections m → (r : ℕ) → r < (header_at l (id_of q)).nreloc
+    subst (λ (m : List ℕ). KeepsObjectRules m → q.section < num_sections m → (r : ℕ) → r < (header_at l (id_of q)).nreloc
     → (field_of l (id_of q) r).offset + (field_of l (id_of q) r).width ≤ (header_at l (id_of q)).size) same
     (λ object section r lt. leb-true _ _ (object.o10.1 q.section r section lt))
 
@@ -330,7 +332,7 @@ behind_last l p q b asked text run same filled =
     subst (λ (m : List ℕ). IsFilledTo l p q (section_at m q.section).nreloc asked text run) (sym same) filled
 
 -- the bytes of a section that has them in the file
-pub section_long : (b : List ℕ) (k : ℕ) → IsObject b → k < num_sections b → is_zerofill (section_at b k) ≡ false
+pub section_long : (b : List ℕ) (k : ℕ) → KeepsObjectRules b → k < num_sections b → is_zerofill (section_at b k) ≡ false
     → length (section_bytes b k) ≡ (section_at b k).size
 unfolding section_bytes
 section_long b k object among filled =
@@ -341,5 +343,6 @@ section_long b k object among filled =
     let long : length (slice_range b h.offset end) ≡ h.size = omega (arith, inside, length-between b h.offset end) in
     rw filled long
 
-pub object_kept : (dyn : Bool) (b : List ℕ) → dyn ≡ false → IsFile dyn b → IsObject b
-object_kept dyn b static kept = subst (λ (d : Bool). IsFile d b) static kept
+pub object_kept : (dyn : Bool) (b : List ℕ) → dyn ≡ false → IsFile dyn b → KeepsObjectRules b
+object_kept dyn b static kept =
+    let whole : IsFile false b = subst (λ (d : Bool). IsFile d b) static kept in object_keeps whole

@@ -20,7 +20,7 @@ use Rattle.macho_model.specs.Fields.{Field, field_of, content_of, is_prefix_type
 use Rattle.macho_model.specs.Placement.{Placed, id_of}
 use Rattle.macho_model.specs.Stands.{IsOutsideField, Says, seen_in, kind_of}
 use Rattle.macho_model.specs.Values.{needs_fixup}
-use Rattle.macho_model.specs.Valid.{RelocationsAreSupported}
+use Rattle.macho_model.specs.Supported.{RelocationsAreSupported}
 use Rattle.macho_model.proofs.EachBelow.{true_or_false, and_left, and_right, either}
 use Rattle.macho_fixups.specs.declared.run.Fixup.{Fixup}
 use Rattle.macho_parts.specs.Filled.{FieldIsSet}

@@ -13,7 +13,8 @@ use Rattle.macho_model.specs.declared.placed.PlacedSegment.{PlacedSegment}
 use Rattle.macho_model.specs.declared.placed.Range64.{Range64}
 use Rattle.macho_model.specs.Links.{Link}
 use Rattle.macho_model.specs.Segments.{TEXT}
-use Rattle.macho_model.specs.Head.{headers_in, size_said}
+use Rattle.macho_model.specs.Head.{headers_in}
+use Rattle.macho_model.specs.HeadCommands.{size_said}
 use Rattle.macho_model.specs.Placement.{Placed, head_size, is_segment_named, range_span}
 use Rattle.macho_model.specs.OutputSections.{POINTER_EXPONENT, piece}
 use Rattle.macho_promise.specs.Sizes.{AreCounts, counts_with, commands_size}

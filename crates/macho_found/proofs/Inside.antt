@@ -22,6 +22,7 @@ use Rattle.macho_model.specs.Targets.{place_of_symbol, own_target, definition_ta
 use Rattle.macho_model.specs.Targets.{target_of_relocation}
 use Rattle.macho_targets.specs.Laws.{IsOfLink}
 use Rattle.macho_model.specs.Grammar.{ObjectsAreRead}
+use Rattle.macho_model.proofs.ObjectLaws.{object_keeps}
 use Rattle.macho_model.specs.Values.{section_id}
 use Rattle.macho_targets.proofs.OfLink.{symbol_of, section_of, symbol_there, IsSectionOf}
 use Rattle.macho_targets.proofs.Named.{defined_by, name_of_link, symbol_of_link}
@@ -57,7 +58,7 @@ symbol_inside l s read there stands =
     let of = symbol_of l s there in
     let own = and_parts (is_in_section (entry_at l s)) (is_carried (header_at l (section_of_symbol l s))) stands in
     let rule : value_in_section (object_of l s.file) s.symbol ≡ true =
-    subst (λ (b : List ℕ). value_in_section b s.symbol ≡ true) (sym of.object) ((read s.file of.bytes of.input).o8 s.symbol of.symbol) in
+    subst (λ (b : List ℕ). value_in_section b s.symbol ≡ true) (sym of.object) ((object_keeps (read s.file of.bytes of.input)).o8 s.symbol of.symbol) in
     let h = header_at l (section_of_symbol l s) in
     let value = and_parts (nat_le h.addr (entry_at l s).n_value) (nat_le (entry_at l s).n_value (h.addr + h.size))
     (tested (is_in_section (entry_at l s)) _ own.0 rule) in
@@ -111,7 +112,7 @@ symbol_low : (l : Link) (s : SectionId) (r : ℕ) → ObjectsAreRead l → (of :
 symbol_low l s r read of low extern =
     let here : relocation_in l s r ≡ relocation_at of.bytes s.section r = ap (λ (b : List ℕ). relocation_at b s.section r) of.object in
     let exists : relocation_number_exists of.bytes s.section r ≡ true =
-    (read s.file of.bytes of.input).o5.1 s.section r of.section
+    (object_keeps (read s.file of.bytes of.input)).o5.1 s.section r of.section
     (subst (λ (b : List ℕ). r < (section_at b s.section).nreloc) of.object low) in
     let extern_here : (relocation_at of.bytes s.section r).r_extern ≡ true = ap (λ (q : RelocationInfo). q.r_extern) (sym here) ∙ extern in
     let test : nat_lt (relocation_at of.bytes s.section r).r_symbolnum (num_symbols of.bytes) ≡ true = rw extern_here at exists in

@@ -22,7 +22,7 @@ use Rattle.macho_model.specs.Faults.{last_part}
 use Rattle.macho_model.specs.Made.{initializers_of}
 use Rattle.macho_model.specs.Signature.{identifier_text}
 use Rattle.macho_model.specs.SymbolTable.{table_symbols}
-use Rattle.macho_model.specs.SymbolRows.{SymbolRow, row_of, symbol_rows}
+use Rattle.macho_linkedit.specs.TableRows.{SymbolRow, row_of, symbol_rows}
 use Rattle.macho_model.specs.ImportTable.{fixup_count}
 use Rattle.macho_model.specs.Values.{needs_fixup}
 use Rattle.macho_model.specs.Placement.{Placed, id_of, range_span}

@@ -5,7 +5,7 @@ use Rattle.macho_model.specs.Links.{Link}
 use Rattle.macho_model.specs.Resolution.{name_at}
 use Rattle.macho_model.specs.Made.{initializers_of}
 use Rattle.macho_model.specs.SymbolTable.{table_symbols}
-use Rattle.macho_model.specs.SymbolRows.{symbol_rows}
+use Rattle.macho_linkedit.specs.TableRows.{symbol_rows}
 use Rattle.macho_model.specs.ImportTable.{fixup_count}
 use Rattle.macho_model.specs.WrittenSum.{INITIALIZER_SIZE, SYMBOL_SIZE}
 use Rattle.macho_model.specs.Placement.{Placed}

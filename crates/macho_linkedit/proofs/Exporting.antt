@@ -2,7 +2,7 @@
 --
 -- A name that an object defines leads to a section, a common or an absolute value, and to nothing else. By each it is exported
 -- as the address less the base, or as the value, with the flags of what it is.
-use Rattle.std.proofs.Common.{◌≡◌, ℕ, ◌+◌, ◌-◌, ◌≤◌, Bool, true, false, if◌then◌else◌, refl, sym, ap, arith}
+use Rattle.std.proofs.Common.{◌≡◌, ℕ, ◌-◌, ◌≤◌, Bool, true, false, if◌then◌else◌, refl, sym, ap, arith}
 use Rattle.std.specs.List.{position_or_len}
 use Rattle.std.specs.FinMap.{empty}
 use Rattle.macho_records.specs.Symbols.{is_weak_of, is_common_of}
@@ -11,13 +11,13 @@ use Rattle.macho_model.specs.declared.targets.Target.TheVariants as target
 use Rattle.macho_model.specs.Symbols.{is_absolute}
 use Rattle.macho_model.specs.Links.{Link}
 use Rattle.macho_model.specs.Resolution.{SymbolId, entry_at, same_symbol, stands_in_carried, chosen_commons}
-use Rattle.macho_model.specs.Needs.{imports_of, import_library}
+use Rattle.macho_model.specs.Needs.{imports_of}
 use Rattle.macho_model.specs.Targets.{place_of_symbol, own_target, definition_target, target_of_name}
 use Rattle.macho_model.specs.Placement.{Placed}
-use Rattle.macho_model.specs.Exports.{Export, Value, Reexport, from_object, from_library, ValueOf, weak_flag, section_flag, library_number}
+use Rattle.macho_model.specs.Exports.{weak_flag}
 use Rattle.macho_model.specs.Values.{is_absolute_target}
 use Rattle.macho_model.specs.Stands.{IsAt}
-use Rattle.macho_parts.specs.TrieSays.{trie_export}
+use Rattle.macho_parts.specs.TrieSays.{from_object, from_library, ValueOf}
 use Rattle.macho_linkedit.specs.Tries.{said_of, value_said, is_thread_local}
 use Rattle.macho_linkedit.specs.Laws.{ValuesAreFound, ReexportsAreFound}
 use Rattle.macho_linkedit.proofs.Numbering.{not_own}
@@ -36,27 +36,15 @@ not_base l s is = by (stands_in_carried l s) (is_absolute (entry_at l s)) (is_co
     by false false true is = cc
     by false false false is = cc
 
--- What a target is exported as.
-record IsSaid (l : Link) (p : Placed) (s : SymbolId) (t : Target) (address : ℕ) : Type 0 where
-  export : Export
-  value : ValueOf l p (weak_flag l s) t export
-  is : said_of (value_said t (is_weak_of (entry_at l s)) (is_thread_local l t) address p.base) ≡ trie_export export
-
+-- what a target is exported as
 by_target : (l : Link) (p : Placed) (s : SymbolId) (t : Target) (address : ℕ) → own_target l s ≡ t → IsAt l p 0 empty t address
-    → (is_absolute_target t ≡ false → p.base ≤ address) → IsSaid l p s t address
+    → (is_absolute_target t ≡ false → p.base ≤ address)
+    → ValueOf l p (weak_flag l s) t (said_of (value_said t (is_weak_of (entry_at l s)) (is_thread_local l t) address p.base))
 by_target l p s (target.Section file section offset) address is at above =
-    let low : p.base ≤ address = above refl in record {
-      export = Value (section_flag l file section + weak_flag l s) (address - p.base);
-      value = (at.0, address - p.base, at.1, omega (arith, at.2, low), refl);
-      is = refl;
-    }
+    let low : p.base ≤ address = above refl in (at.0, address - p.base, at.1, omega (arith, at.2, low), refl)
 by_target l p s (target.Common id) address is at above =
-    let low : p.base ≤ address = above refl in record {
-      export = Value (weak_flag l s) (address - p.base);
-      value = (at.0, address - p.base, at.1, at.2, omega (arith, at.3, low), refl);
-      is = refl;
-    }
-by_target l p s (target.Absolute value) address is at above = record { export = Value (2 + weak_flag l s) value; value = refl; is = refl }
+    let low : p.base ≤ address = above refl in (at.0, address - p.base, at.1, at.2, omega (arith, at.3, low), refl)
+by_target l p s (target.Absolute value) address is at above = refl
 by_target l p s (target.Import id) address is at above = absurd (not_own l s id is)
 by_target l p s target.Base address is at above = absurd (not_base l s is)
 by_target l p s target.None address is at above = absurd at
@@ -64,12 +52,7 @@ by_target l p s target.None address is at above = absurd at
 pub values_are_found : ValuesAreFound
 values_are_found l p name s address exported at above =
     let own : own_target l s ≡ target_of_name l name = sym (ap (definition_target l (imports_of l) name) exported.0) in
-    let said = by_target l p s (target_of_name l name) address own at above in
-    record { export = said.export; exported = from_object s said.export exported said.value; is = said.is }
+    from_object s _ exported (by_target l p s (target_of_name l name) address own at above)
 
 pub reexports_are_found : ReexportsAreFound
-reexports_are_found l p name (c, lists, listed) = record {
-  export = Reexport (library_number l (import_library l name));
-  exported = from_library c lists listed;
-  is = refl;
-}
+reexports_are_found l p name is = from_library is

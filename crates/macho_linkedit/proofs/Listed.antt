@@ -19,6 +19,7 @@ use Rattle.macho_records.specs.declared.symbols.SymtabEntry.{SymtabEntry}
 use Rattle.macho_model.specs.Symbols.{is_global, is_absolute}
 use Rattle.macho_model.specs.Objects.{num_symbols, symtab_of, symbol_at, symbol_name, strings_of}
 use Rattle.macho_model.specs.Grammar.{IsFile}
+use Rattle.macho_model.proofs.ObjectLaws.{object_keeps, dylib_keeps}
 use Rattle.macho_model.specs.Links.{Input, Object, Dylib, Stub, Link, no_input, object_bytes, object_of}
 use Rattle.macho_model.specs.Resolution.{SymbolId, name_at, defines, symbols_of_file, symbols_of}
 use Rattle.macho_model.specs.SymbolTable.{is_in_table, table_symbols}
@@ -82,8 +83,8 @@ none_is l file k b is undefined =
 
 -- a name is shorter than its file
 file_small : (dyn : Bool) (b : List ℕ) → IsFile dyn b → length b < 2 ^ 32
-file_small true b whole = grind (arith, nat_tests, whole.o1)
-file_small false b whole = grind (arith, nat_tests, whole.o1)
+file_small true b whole = grind (arith, nat_tests, (dylib_keeps whole).o1)
+file_small false b whole = grind (arith, nat_tests, (object_keeps whole).o1)
 
 pub name_small : (dyn : Bool) (b : List ℕ) (k : ℕ) → IsFile dyn b → length (symbol_name b k) + 1 < 2 ^ 32
 unfolding symbol_name strings_of

@@ -14,7 +14,7 @@ use Rattle.macho_bytes.proofs.Puts.{put-put, put_nothing}
 use Rattle.macho_bytes.proofs.Tables.{flat_map-more}
 use Rattle.macho_records.specs.Layouts.{symtab_entry}
 use Rattle.macho_records.specs.declared.symbols.SymtabEntry.{SymtabEntry}
-use Rattle.macho_model.specs.SymbolRows.{SymbolRow}
+use Rattle.macho_linkedit.specs.TableRows.{SymbolRow}
 use Rattle.macho_linkedit.specs.declared.symbols.SymbolTable.{SymbolTable}
 use Rattle.macho_linkedit.specs.Symbols.{entry_for, entries_from, HasRows}
 use Rattle.macho_linkedit.specs.steps.Rows.{IsWrittenSoFar}

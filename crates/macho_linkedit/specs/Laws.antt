@@ -1,5 +1,6 @@
 -- Laws on the tables of `__LINKEDIT`: each is the contract of a function of `src/laws.rt`.
 use Rattle.std.specs.Prelude.{◌≡◌, ℕ, ◌≤◌, ◌<◌, ◌^◌, false, List, map, length, sum_by, All, IsPermutation}
+use Rattle.std.specs.List.{range_with_len}
 use Rattle.std.specs.FinMap.{empty}
 use Rattle.macho_model.specs.declared.placed.Counts.{Counts}
 use Rattle.macho_model.specs.Links.{Link}
@@ -14,7 +15,7 @@ use Rattle.macho_fixups.specs.Calls.{AreEntries}
 use Rattle.macho_fixups.specs.Chains.{AllStand}
 use Rattle.macho_parts.specs.FixupsSay.{FixupsSay, fixup_segments}
 use Rattle.macho_records.specs.Symbols.{is_weak_of}
-use Rattle.macho_model.specs.Resolution.{SymbolId, entry_at}
+use Rattle.macho_model.specs.Resolution.{SymbolId, entry_at, name_at}
 use Rattle.macho_model.specs.Needs.{import_library}
 use Rattle.macho_model.specs.Targets.{target_of_name}
 use Rattle.macho_model.specs.Exports.{IsExported, library_number}
@@ -22,15 +23,17 @@ use Rattle.macho_model.specs.Values.{is_absolute_target}
 use Rattle.macho_model.specs.Stands.{IsAt}
 use Rattle.macho_model.specs.Told.{ToldExport, IsReexported}
 use Rattle.macho_linkedit.specs.declared.exports.ExportSays.TheVariants.{Reexport}
-use Rattle.macho_parts.specs.TrieSays.{IsTrieText, IsFoundExport, TrieSays}
+use Rattle.macho_parts.specs.TrieSays.{IsTrieText, ExportedAs, TrieSays}
 use Rattle.macho_parts.specs.Sizes.{IsTrieSize}
 use Rattle.macho_linkedit.specs.declared.exports.NamedExport.{NamedExport}
 use Rattle.macho_linkedit.specs.Tries.{said_of, value_said, is_thread_local, kept, AreKept, AreSaid, TrieStands}
-use Rattle.macho_model.specs.SymbolRows.{symbol_rows, SymbolsSay}
+use Rattle.macho_model.specs.SymbolEntries.{SymbolsSay}
+use Rattle.macho_linkedit.specs.TableRows.{symbol_rows}
 use Rattle.macho_linkedit.specs.declared.symbols.SymbolTable.{SymbolTable}
 use Rattle.macho_linkedit.specs.Symbols.{HasRows, SymbolsStand}
 use Rattle.macho_linkedit.specs.Imports.{IsImportTable, AreTellable, TableStands}
-use Rattle.macho_model.specs.Objects.{num_symbols}
+use Rattle.macho_model.specs.Objects.{num_symbols, symbol_name}
+use Rattle.macho_model.specs.SymbolTable.{table_symbols}
 use Rattle.macho_symbols.specs.Kept.{ResolvedRows, IsResolved}
 use Rattle.macho_linkedit.specs.declared.listing.LinkedObject.{LinkedObject}
 use Rattle.macho_linkedit.specs.Listing.{AreObjects, CanBeListed}
@@ -71,25 +74,31 @@ TrieIsSaid =
     → IsWholeList l p
     → AreSaid l p told exports → TrieStands b t exports bytes → TrieSays l b p
 
--- a symbol table with the rows of a link that stands in a file says them
+-- a symbol table with the rows of a link that stands in a file says their entries and the strings
 abbrev pub SymbolsAreSaid : Type 0
 SymbolsAreSaid =
     (l : Link) (counts : Counts) (b : List ℕ) (p : Placed) (at : ℕ) (t : SymbolTable) → HasRows (symbol_rows l counts p) t
     → SymbolsStand b at t
     → SymbolsSay l counts b p
 
--- an exported name that an object defines, and one that is exported on from a library, say what they are exported as
+-- and where a file says them, a reader finds the name of each entry at its place
+abbrev pub NamesAreFound : Type 0
+NamesAreFound =
+    (l : Link) (counts : Counts) (b : List ℕ) (p : Placed) → SymbolsSay l counts b p
+    → map (symbol_name b) (range_with_len 0 (num_symbols b)) ≡ map (name_at l) (table_symbols l)
+
+-- an exported name that an object defines, and one that is re-exported from a library, say what they are exported as
 abbrev pub ValuesAreFound : Type 0
 ValuesAreFound =
     (l : Link) (p : Placed) (name : List ℕ) (s : SymbolId) (address : ℕ) → IsExported l name s → IsAt l p 0 empty
     (target_of_name l name) address
     → (is_absolute_target (target_of_name l name) ≡ false → p.base ≤ address)
-    → IsFoundExport l p name (said_of
+    → ExportedAs l p name (said_of
     (value_said (target_of_name l name) (is_weak_of (entry_at l s)) (is_thread_local l (target_of_name l name)) address p.base))
 
 abbrev pub ReexportsAreFound : Type 0
 ReexportsAreFound =
-    (l : Link) (p : Placed) (name : List ℕ) → IsReexported l name → IsFoundExport l p name
+    (l : Link) (p : Placed) (name : List ℕ) → IsReexported l name → ExportedAs l p name
     (said_of (Reexport (library_number l (import_library l name))))
 
 -- the objects of a link whose symbols are resolved can be listed, where their symbols are few

@@ -1,6 +1,7 @@
 pub mod Runs
 pub mod Imports
 pub mod Tries
+pub mod TableRows
 pub mod Symbols
 pub mod Listing
 pub mod Counting

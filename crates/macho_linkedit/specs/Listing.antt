@@ -10,7 +10,7 @@ use Rattle.macho_model.specs.Exports.{is_listed}
 use Rattle.macho_model.specs.Targets.{own_target}
 use Rattle.macho_model.specs.Placement.{Placed}
 use Rattle.macho_model.specs.Addresses.{address_of}
-use Rattle.macho_model.specs.SymbolRows.{section_of_row}
+use Rattle.macho_model.specs.SymbolEntries.{entry_section}
 use Rattle.macho_parts.specs.Sizes.{text_size}
 use Rattle.macho_symbols.specs.Kept.{ResolvedRows, HasSymbol, symbol_id}
 use Rattle.macho_linkedit.specs.declared.listing.LinkedObject.{LinkedObject}
@@ -51,5 +51,5 @@ pub record IsRowOf (l : Link) (counts : Counts) (p : Placed) (o : LinkedObject) 
   pub bytes_are : object_of l o.number ≡ o.file.bytes
   pub name_is : name ≡ symbol_name o.file.bytes index
   pub listed_is : listed ≡ is_listed l (symbol_name o.file.bytes index)
-  pub section_is : section ≡ section_of_row l counts (symbol_id o.number index)
+  pub section_is : section ≡ entry_section l counts (symbol_id o.number index)
   pub address_is : address ≡ address_of p (own_target l (symbol_id o.number index))

@@ -7,7 +7,7 @@ use Rattle.macho_bytes.specs.Layouts.{spelling, size_of, ReadsBack}
 use Rattle.macho_records.specs.Layouts.{symtab_entry}
 use Rattle.macho_records.specs.declared.symbols.SymtabEntry.{SymtabEntry}
 use Rattle.macho_model.specs.Images.{symbol_tables_of, string_tables_of}
-use Rattle.macho_model.specs.SymbolRows.{SymbolRow}
+use Rattle.macho_linkedit.specs.TableRows.{SymbolRow}
 use Rattle.macho_linkedit.specs.declared.symbols.TableRow.{TableRow}
 use Rattle.macho_linkedit.specs.declared.symbols.SymbolTable.{SymbolTable}
 

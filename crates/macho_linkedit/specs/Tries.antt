@@ -12,7 +12,7 @@ use Rattle.macho_model.specs.Placement.{Placed}
 use Rattle.macho_model.specs.Told.{ToldExport, ExportsAreTold}
 use Rattle.macho_trie.specs.Exports.{Exported, as_value, as_reexport, REEXPORT}
 use Rattle.macho_trie.specs.Tries.{IsTrieOf, IsReservedFor, FindsAll, FindsOnly}
-use Rattle.macho_parts.specs.TrieSays.{IsTrieText, IsFoundExport}
+use Rattle.macho_parts.specs.TrieSays.{IsTrieText, ExportedAs}
 use Rattle.macho_parts.specs.Sizes.{kept_for}
 use Rattle.macho_linkedit.specs.declared.exports.ExportSays.{ExportSays}
 use Rattle.macho_linkedit.specs.declared.exports.ExportSays.TheVariants.{Value, Reexport}
@@ -57,7 +57,7 @@ pub record AreKept (l : Link) (told : List ToldExport) (exports : List NamedExpo
 pub record AreSaid (l : Link) (p : Placed) (told : List ToldExport) (exports : List NamedExport) : Type 0 where
   pub told_are : ExportsAreTold l told
   pub names : names_in exports ≡ map (λ e. e.name) told
-  pub each : All (λ e. IsFoundExport l p e.name.now (said_of e.says)) exports
+  pub each : All (λ e. ExportedAs l p e.name.now (said_of e.says)) exports
 
 -- A whole trie of these exports, and no more, stands in a file at the range of the file's one trie.
 pub record TrieStands (b : List ℕ) (t : Table) (exports : List NamedExport) (bytes : List ℕ) : Type 0 where

@@ -1,5 +1,5 @@
 //! Laws on the tables of `__LINKEDIT`: each is the contract of a function that does nothing.
-ghost use Rattle.macho_linkedit.specs.Laws.{SortedIsRun, TableIsSaid, FixupsAreSaid, TrieSizeIsKept, TrieIsSaid, SymbolsAreSaid};
+ghost use Rattle.macho_linkedit.specs.Laws.{SortedIsRun, TableIsSaid, FixupsAreSaid, TrieSizeIsKept, TrieIsSaid, SymbolsAreSaid, NamesAreFound};
 ghost use Rattle.macho_linkedit.specs.Laws.{ValuesAreFound, ReexportsAreFound, ResolvedCanBeListed};
 
 /// The fixups that the parts of a placed link ask for, sorted, are its run: apart, in segments, all of them and no other.
@@ -21,9 +21,11 @@ pub fn exports_are_said()
     ensures trie { TrieIsSaid }
 {}
 
-/// A symbol table with a link's rows, that stands in a file, says these rows, the strings and the places of the names.
+/// A symbol table with a link's rows, that stands in a file, says the entries of these rows, and the strings. A reader of a file that
+/// says them finds the name of each entry.
 pub fn symbols_are_said()
-    ensures { SymbolsAreSaid }
+    ensures entries { SymbolsAreSaid }
+    ensures names { NamesAreFound }
 {}
 
 /// What is said of an exported name is what it is exported as: a value at an address, or the number of a library.

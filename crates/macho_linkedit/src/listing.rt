@@ -4,7 +4,7 @@ ghost use Rattle.std.specs.Prelude.{◌≡◌, ℕ, ◌+◌, ◌*◌, ◌<◌, �
 ghost use Rattle.std.specs.List.{range_with_len};
 ghost use Rattle.macho_model.specs.declared.placed.Counts.{Counts};
 ghost use Rattle.macho_model.specs.Placement.{Placed};
-ghost use Rattle.macho_model.specs.SymbolRows.{row_of};
+ghost use Rattle.macho_linkedit.specs.TableRows.{row_of};
 ghost use Rattle.macho_linkedit.specs.Symbols.{row_seen};
 ghost use Rattle.macho_model.specs.Objects.{num_symbols, strings_of, symbol_at};
 ghost use Rattle.macho_model.specs.Links.{Link, object_of};

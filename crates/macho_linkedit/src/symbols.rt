@@ -8,7 +8,7 @@ ghost use Rattle.std.specs.Prelude.{◌≡◌, ◌+◌, ◌*◌, ◌<◌, ◌≤
 ghost use Rattle.macho_bytes.specs.Texts.{put};
 ghost use Rattle.macho_bytes.specs.Layouts.{ReadsBack, spelling};
 ghost use Rattle.macho_records.specs.Layouts.{symtab_entry};
-ghost use Rattle.macho_model.specs.SymbolRows.{SymbolRow};
+ghost use Rattle.macho_linkedit.specs.TableRows.{SymbolRow};
 ghost use Rattle.macho_linkedit.specs.Symbols.{row_seen, HasRows, table_text, table_size};
 ghost use Rattle.macho_linkedit.specs.steps.Rows.{IsWrittenSoFar};
 

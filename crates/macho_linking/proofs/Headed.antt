@@ -129,6 +129,7 @@ head_written l b head uuid before now h parts said =
         parts = head;
         of_link = (parts, refl);
         long = said.long;
+        is = said.is;
         header = said.header;
         commands = said.commands;
         names = libraries_whole l h.inputs.rules.1;

@@ -11,7 +11,7 @@ use Rattle.macho_records.specs.Layouts.{symtab_entry}
 use Rattle.macho_model.specs.Links.{Link}
 use Rattle.macho_model.specs.Needs.{imports_of}
 use Rattle.macho_model.specs.Objects.{num_symbols}
-use Rattle.macho_model.specs.SymbolRows.{symbol_rows}
+use Rattle.macho_linkedit.specs.TableRows.{symbol_rows}
 use Rattle.std.specs.Option.{option_copied}
 use Rattle.macho_fields.specs.Looks.{Look}
 use Rattle.macho_linkedit.specs.declared.symbols.SymbolTable.{SymbolTable}

@@ -16,6 +16,7 @@ use Rattle.macho_model.specs.Links.{Link, SectionId, object_of, header_at, is_ca
 use Rattle.macho_model.specs.Needs.{relocation_in, section_named}
 use Rattle.macho_model.specs.Consumed.{is_plain_pointer}
 use Rattle.macho_model.specs.Grammar.{ObjectsAreRead}
+use Rattle.macho_model.proofs.ObjectLaws.{object_keeps}
 use Rattle.macho_targets.proofs.OfLink.{section_of, carried_there, IsSectionOf}
 
 pub not_addend : (q : RelocationInfo) → is_plain_pointer q ≡ true → (q.r_type == ARM64_RELOC_ADDEND) ≡ false
@@ -27,7 +28,7 @@ pub symbol_low : (l : Link) (s : SectionId) (r : ℕ) → ObjectsAreRead l → C
 symbol_low l s r read there low extern =
     let of : IsSectionOf l s = section_of l s there in
     let exists : relocation_number_exists of.bytes s.section r ≡ true =
-    (read s.file of.bytes of.input).o5.1 s.section r of.section
+    (object_keeps (read s.file of.bytes of.input)).o5.1 s.section r of.section
     (subst (λ (b : List ℕ). r < (section_at b s.section).nreloc) of.object low) in
     let extern_here : (relocation_at of.bytes s.section r).r_extern ≡ true =
     subst (λ (b : List ℕ). (relocation_at b s.section r).r_extern ≡ true) of.object extern in
@@ -42,7 +43,7 @@ pub named_there : (l : Link) (s : SectionId) (r : ℕ) → ObjectsAreRead l → 
 named_there l s r read there low plain number carried =
     let of : IsSectionOf l s = section_of l s there in
     let exists : relocation_number_exists of.bytes s.section r ≡ true =
-    (read s.file of.bytes of.input).o5.1 s.section r of.section
+    (object_keeps (read s.file of.bytes of.input)).o5.1 s.section r of.section
     (subst (λ (b : List ℕ). r < (section_at b s.section).nreloc) of.object low) in
     let here : relocation_in l s r ≡ relocation_at of.bytes s.section r = ap (λ (b : List ℕ). relocation_at b s.section r) of.object in
     let number_here : (relocation_at of.bytes s.section r).r_extern ≡ false =
@@ -62,7 +63,7 @@ pub place_inside : (l : Link) (s : SectionId) (r : ℕ) → ObjectsAreRead l →
 place_inside l s r read there low =
     let of : IsSectionOf l s = section_of l s there in
     let inside : field_inside of.bytes s.section r ≡ true =
-    (read s.file of.bytes of.input).o10.1 s.section r of.section
+    (object_keeps (read s.file of.bytes of.input)).o10.1 s.section r of.section
     (subst (λ (b : List ℕ). r < (section_at b s.section).nreloc) of.object low) in
     subst (λ (b : List ℕ). (relocation_at b s.section r).r_address + 2 ^ (relocation_at b s.section r).r_length ≤
     (section_at b s.section).size)

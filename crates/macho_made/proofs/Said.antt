@@ -4,7 +4,7 @@
 -- number k of the file's offsets is number k of the text. The range of unwind information has the room that was counted, so it begins with
 -- the text, and what the text's look-up finds is found in it.
 use Rattle.std.proofs.Common.{◌≡◌, ℕ, ◌+◌, ◌*◌, ◌-◌, ◌<◌, ◌≤◌, ◌⊎◌, inl, inr, ◌==◌, eq-eqb, Bool, true, cond, List, [], length, map, take}
-use Rattle.std.proofs.Common.{drop, refl, sym, ap, ◌∙◌, arith}
+use Rattle.std.proofs.Common.{drop, refl, sym, ap, subst, ◌∙◌, arith}
 use Rattle.std.specs.Prelude.{slice_range}
 use Rattle.std.specs.List.{range_with_len}
 use Rattle.std.proofs.lemmas.List.{take-take, length-take, length-drop}
@@ -125,8 +125,7 @@ unwind_said l counts p b text make made stands = record {
     content = text;
     exact = made.exact;
     begins = front;
-    found = λ offset e is. made.found (unwind_bytes b p) front offset e is;
-    only = λ offset x finds. by offset x finds made.exact;
+    finds = λ offset x. (λ finds. by offset x finds made.exact, found offset x);
     empty = λ none. no_room l counts p make (ap length none);
   };
   content = refl;
@@ -134,6 +133,11 @@ unwind_said l counts p b text make made stands = record {
   where
     front : BeginsWith (unwind_bytes b p) text
     front = unwind_begins l counts p b text make made stands
+
+    found : (offset : ℕ) (x : Found) → IsFoundFor p.base (resolved_entries l p) offset x → UnwindFinds (unwind_bytes b p) offset x
+    found offset x is =
+        subst (λ (y : Found). UnwindFinds (unwind_bytes b p) offset y) (sym is.is)
+        (made.found (unwind_bytes b p) front offset is.entry is.of_offset)
 
     by : (offset : ℕ) (x : Found) → UnwindFinds (unwind_bytes b p) offset x → IsUnwindText p.base (resolved_entries l p) text
         → IsFoundFor p.base (resolved_entries l p) offset x

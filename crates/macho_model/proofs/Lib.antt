@@ -10,3 +10,6 @@ pub mod PointerFixups
 pub mod PlainPointers
 pub mod LinkLaws
 pub mod CommonNumbers
+pub mod ObjectLaws
+pub mod FixedPointers
+pub mod Unrefused

@@ -1,6 +1,6 @@
 -- When bytes are a relocatable object or a dynamic library that this linker takes: the tests of `ObjectRules`, asked of
 -- each record. A refusal names a rule and the place of a record that fails its test.
-use Rattle.std.specs.Prelude.{◌≡◌, ℕ, ◌<◌, ◌≤◌, ◌⊎◌, not, ◌||◌, Bool, true, false, List, [], length, get_or, All}
+use Rattle.std.specs.Prelude.{◌≡◌, ℕ, ◌<◌, ◌≤◌, ◌⊎◌, not, ◌||◌, Bool, true, false, List, [], All}
 use Rattle.macho_model.specs.declared.rules.ObjectRule.{ObjectRule}
 use Rattle.macho_model.specs.declared.rules.ObjectRule.TheVariants.{O1, O2, O3, O4, O5, O6, O7, O8, O9, O10, O11, O12, O13, O14}
 use Rattle.macho_records.specs.declared.constants.TheConstants.{LC_ID_DYLIB, LC_SEGMENT_64, LC_SYMTAB, MH_DYLIB, MH_OBJECT}
@@ -10,53 +10,13 @@ use Rattle.macho_model.specs.Links.{Link, Object}
 use Rattle.macho_model.specs.Objects.{num_sections, section_place, section_at, num_symbols, symbol_place, relocation_place}
 use Rattle.macho_model.specs.ObjectRules.{head_fits, commands_inside, needed_in_object, needed_in_dylib, has_one, tables_inside, symbol_section_exists, relocation_number_exists, data_inside, exponent_fits, value_in_section, name_ends, path_ends, relocations_inside, field_inside, thread_local_in_data, zerofill_unrelocated, global_has_name, common_fits}
 
--- a test holds of each section, symbol, relocation or command
-abbrev pub EachSection : List ℕ → (ℕ → Bool) → Type 0
-EachSection b test = (k : ℕ) → k < num_sections b → test k ≡ true
-
-abbrev pub EachSymbol : List ℕ → (ℕ → Bool) → Type 0
-EachSymbol b test = (k : ℕ) → k < num_symbols b → test k ≡ true
-
-abbrev pub EachRelocation : List ℕ → (ℕ → ℕ → Bool) → Type 0
-EachRelocation b test = (k r : ℕ) → k < num_sections b → r < (section_at b k).nreloc → test k r ≡ true
-
+-- a test holds of each command
 abbrev pub EachCommand : List Command → (Command → Bool) → Type 0
 EachCommand cs test = All (λ c. test c ≡ true) cs
 
 -- the load commands are whole; where they aren't, nothing that they tell of is looked at
 abbrev pub AreWhole : List ℕ → (Command → Bool) → Type 0
 AreWhole b fits = (commands_inside b ≡ true) × EachCommand (commands_of b) fits
-
--- The bytes are a relocatable object: one field for each rule.
-pub record IsObject (b : List ℕ) : Type 0 where
-  pub o1 : head_fits MH_OBJECT b ≡ true
-  pub o2 : AreWhole b (command_fits (needed_in_object b) b)
-  pub o3 : (has_one LC_SEGMENT_64 b ≡ true) × (has_one LC_SYMTAB b ≡ true)
-  pub o4 : tables_inside b ≡ true
-  pub o5 : EachSymbol b (symbol_section_exists b) × EachRelocation b (relocation_number_exists b)
-  pub o6 : EachSection b (data_inside b)
-  pub o7 : EachSection b (exponent_fits b)
-  pub o8 : EachSymbol b (value_in_section b)
-  pub o9 : EachSymbol b (name_ends b)
-  pub o10 : EachSection b (relocations_inside b) × EachRelocation b (field_inside b)
-  pub o11 : EachSection b (thread_local_in_data b)
-  pub o12 : EachSection b (zerofill_unrelocated b)
-  pub o13 : EachSymbol b (global_has_name b)
-  pub o14 : EachSymbol b (common_fits b)
-
--- The bytes are a dynamic library: its segments are not read, so no rule speaks of sections.
-pub record IsDylib (b : List ℕ) : Type 0 where
-  pub o1 : head_fits MH_DYLIB b ≡ true
-  pub o2 : AreWhole b (command_fits needed_in_dylib b)
-  pub o3 : (has_one LC_ID_DYLIB b ≡ true) × (has_one LC_SYMTAB b ≡ true)
-  pub o4 : tables_inside b ≡ true
-  pub o9 : EachSymbol b (name_ends b) × EachCommand (numbered LC_ID_DYLIB b) (path_ends b)
-  pub o13 : EachSymbol b (global_has_name b)
-
--- an object, or a dynamic library
-abbrev pub IsFile : Bool → List ℕ → Type 0
-IsFile false b = IsObject b
-IsFile true b = IsDylib b
 
 -- Some section, symbol, relocation or command whose record stands at a place fails a test. Where the command that tells of
 -- such records isn't there once, or their table isn't whole, there are none.
@@ -104,7 +64,11 @@ ObjectBreaks b O1 place = (place ≡ 0) × (head_fits MH_OBJECT b ≡ false)
 ObjectBreaks b O2 place = ((place ≡ 0) × (commands_inside b ≡ false)) ⊎ CommandFails (commands_of b) place (command_fits (needed_in_object b) b)
 ObjectBreaks b rule place = AreWhole b (command_fits (needed_in_object b) b) × ObjectRecordBreaks b rule place
 
--- The same of a dynamic library.
+-- The bytes are a relocatable object: no rule is broken, at any place.
+pub record IsObject (b : List ℕ) : Type 0 where
+  pub unbroken : (rule : ObjectRule) (place : ℕ) → ObjectBreaks b rule place → ⊥
+
+-- A record of a dynamic library breaks a rule.
 abbrev pub DylibRecordBreaks : List ℕ → ObjectRule → ℕ → Type 0
 DylibRecordBreaks b O3 place = IsNotOne LC_ID_DYLIB b place ⊎ IsNotOne LC_SYMTAB b place
 DylibRecordBreaks b O4 place = (has_one LC_SYMTAB b ≡ true) × (place ≡ place_of LC_SYMTAB b) × (tables_inside b ≡ false)
@@ -112,15 +76,25 @@ DylibRecordBreaks b O9 place = SymbolFails b place (name_ends b) ⊎ CommandFail
 DylibRecordBreaks b O13 place = SymbolFails b place (global_has_name b)
 DylibRecordBreaks b rule place = ⊥
 
+-- A dynamic library breaks a rule at a place.
 abbrev pub DylibBreaks : List ℕ → ObjectRule → ℕ → Type 0
 DylibBreaks b O1 place = (place ≡ 0) × (head_fits MH_DYLIB b ≡ false)
 DylibBreaks b O2 place = ((place ≡ 0) × (commands_inside b ≡ false)) ⊎ CommandFails (commands_of b) place (command_fits needed_in_dylib b)
 DylibBreaks b rule place = AreWhole b (command_fits needed_in_dylib b) × DylibRecordBreaks b rule place
 
+-- The bytes are a dynamic library. Its segments are not read, so no rule speaks of sections.
+pub record IsDylib (b : List ℕ) : Type 0 where
+  pub unbroken : (rule : ObjectRule) (place : ℕ) → DylibBreaks b rule place → ⊥
+
 -- A file of a kind (a dynamic library or not) breaks a rule at a place.
 abbrev pub Breaks : Bool → List ℕ → ObjectRule → ℕ → Type 0
 Breaks false b rule place = ObjectBreaks b rule place
 Breaks true b rule place = DylibBreaks b rule place
+
+-- an object, or a dynamic library
+abbrev pub IsFile : Bool → List ℕ → Type 0
+IsFile false b = IsObject b
+IsFile true b = IsDylib b
 
 -- the objects of a link keep the rules of objects
 abbrev pub ObjectsAreRead : Link → Type 0

@@ -1,89 +1,34 @@
--- THE header and the load commands of an image, with every field (`mach-o/loader.h`): those that a link and its placement ask
--- for, and those that a file says.
-use Rattle.std.specs.Prelude.{◌≡◌, ℕ, ◌+◌, ◌*◌, ◌-◌, ◌==◌, ◌||◌, if◌then◌else◌, Bool, List, [], ◌∷◌, ◌++◌, length, map, filter, replicate, slice_range, sum_by, codes, Option, Some, None}
-use Rattle.std.specs.List.{list_any, range_with_len}
+-- THE head of an image, byte for byte (`mach-o/loader.h`): the header and the load commands that a link and its placement ask for.
+use Rattle.std.specs.Prelude.{ℕ, ◌+◌, ◌*◌, ◌-◌, ◌==◌, if◌then◌else◌, Bool, List, [], ◌∷◌, ◌++◌, length, map, filter, replicate, sum_by, codes, Option, Some, None}
+use Rattle.std.specs.List.{list_any, flat_map, concat}
 use Rattle.std.specs.Str.{bytes_eq}
 use Rattle.macho_records.specs.Numbers.{rounded_up}
-use Rattle.macho_records.specs.ByteLayouts.{reading, size_of}
-use Rattle.macho_records.specs.ByteTexts.{name_of}
-use Rattle.macho_records.specs.Layouts.{segment_command, section_header, symtab_command}
+use Rattle.macho_records.specs.ByteLayouts.{spelling, size_of}
+use Rattle.macho_records.specs.ByteTexts.{name_of, Stands}
+use Rattle.macho_records.specs.Layouts.{mach_header, segment_command, section_header, symtab_command}
 use Rattle.macho_records.specs.CommandLayouts.{entry_point_command, dylinker_command, dylib_command, rpath_command, linkedit_data_command, uuid_command, build_version_command, build_tool_version}
 use Rattle.macho_records.specs.declared.header.MachHeader.{MachHeader}
-use Rattle.macho_records.specs.declared.header.SegmentCommand.{SegmentCommand}
 use Rattle.macho_records.specs.declared.header.SectionHeader.{SectionHeader}
-use Rattle.macho_records.specs.declared.symbols.SymtabCommand.{SymtabCommand}
-use Rattle.macho_records.specs.EntryPointCommand.{EntryPointCommand}
-use Rattle.macho_records.specs.DylinkerCommand.{DylinkerCommand}
-use Rattle.macho_records.specs.DylibCommand.{DylibCommand}
-use Rattle.macho_records.specs.RpathCommand.{RpathCommand}
-use Rattle.macho_records.specs.LinkeditDataCommand.{LinkeditDataCommand}
-use Rattle.macho_records.specs.UuidCommand.{UuidCommand}
-use Rattle.macho_records.specs.BuildVersionCommand.{BuildVersionCommand}
-use Rattle.macho_records.specs.BuildToolVersion.{BuildToolVersion}
 use Rattle.macho_records.specs.declared.constants.TheConstants.{CPU_SUBTYPE_ARM64_ALL, CPU_TYPE_ARM64, LC_BUILD_VERSION, LC_CODE_SIGNATURE, LC_DYLD_CHAINED_FIXUPS, LC_DYLD_EXPORTS_TRIE, LC_ID_DYLIB, LC_LOAD_DYLIB, LC_LOAD_DYLINKER, LC_MAIN, LC_RPATH, LC_SEGMENT_64, LC_SYMTAB, LC_UUID, MH_DYLDLINK, MH_DYLIB, MH_EXECUTE, MH_HAS_TLV_DESCRIPTORS, MH_MAGIC_64, MH_NOUNDEFS, MH_PIE, MH_TWOLEVEL, S_THREAD_LOCAL_VARIABLES}
 use Rattle.macho_records.specs.Sections.{type_of}
 use Rattle.macho_records.specs.Segments.{bytes_of, text_of, segment_flags_of}
 use Rattle.macho_model.specs.declared.placed.Counts.{Counts}
 use Rattle.macho_model.specs.declared.placed.PlacedSegment.{PlacedSegment}
 use Rattle.macho_model.specs.declared.placed.Range64.{Range64}
-use Rattle.macho_model.specs.Commands.{Command, header_of, commands_of}
 use Rattle.macho_model.specs.Links.{Link}
 use Rattle.macho_model.specs.Needs.{libraries_needed}
 use Rattle.macho_model.specs.Targets.{target_of_name}
 use Rattle.macho_model.specs.Segments.{list_if, loaded_protection_of}
 use Rattle.macho_model.specs.Placement.{Placed}
 use Rattle.macho_model.specs.Addresses.{address_of}
-use Rattle.macho_model.specs.Agreement.{section_headers_at}
 use Rattle.macho_model.specs.Signature.{uuid_written}
-
--- A load command with all that it says: its record, and what stands behind the record. A path stands there with the zeros
--- that fill the command.
-pub data HeadCommand : Type 0 where
-  Segment : (command : SegmentCommand) (headers : List SectionHeader) → HeadCommand
-  EntryPoint : (command : EntryPointCommand) → HeadCommand
-  Uuid : (command : UuidCommand) → HeadCommand
-  BuildVersion : (command : BuildVersionCommand) (tools : List BuildToolVersion) → HeadCommand
-  Dylinker : (command : DylinkerCommand) (path : List ℕ) → HeadCommand
-  Dylib : (command : DylibCommand) (path : List ℕ) → HeadCommand
-  Rpath : (command : RpathCommand) (path : List ℕ) → HeadCommand
-  LinkeditData : (command : LinkeditDataCommand) → HeadCommand
-  Symtab : (command : SymtabCommand) → HeadCommand
-  -- a command that no image of this linker has
-  Other : (number size : ℕ) → HeadCommand
-
--- what a file says of a command, by its number
-abbrev pub behind : List ℕ → Command → ℕ → List ℕ
-behind b c record_size = slice_range b (c.at + record_size) (c.at + c.size)
-
-abbrev pub tools_at : List ℕ → ℕ → List BuildToolVersion
-tools_at b at =
-    map (λ k. reading build_tool_version b (at + size_of build_version_command + size_of build_tool_version * k))
-    (range_with_len 0 (reading build_version_command b at).ntools)
-
-unfoldable pub command_in : List ℕ → Command → HeadCommand
-command_in b c =
-    if c.number == LC_SEGMENT_64 then Segment (reading segment_command b c.at) (section_headers_at b c.at)
-    else if c.number == LC_MAIN then EntryPoint (reading entry_point_command b c.at)
-    else if c.number == LC_UUID then Uuid (reading uuid_command b c.at)
-    else if c.number == LC_BUILD_VERSION then BuildVersion (reading build_version_command b c.at) (tools_at b c.at)
-    else if c.number == LC_LOAD_DYLINKER then Dylinker (reading dylinker_command b c.at) (behind b c (size_of dylinker_command))
-    else if (c.number == LC_ID_DYLIB) || (c.number == LC_LOAD_DYLIB) then Dylib (reading dylib_command b c.at) (behind b c (size_of dylib_command))
-    else if c.number == LC_RPATH then Rpath (reading rpath_command b c.at) (behind b c (size_of rpath_command))
-    else if c.number == LC_SYMTAB then Symtab (reading symtab_command b c.at)
-    else if (c.number == LC_DYLD_CHAINED_FIXUPS) || (c.number == LC_DYLD_EXPORTS_TRIE) || (c.number == LC_CODE_SIGNATURE)
-    then LinkeditData (reading linkedit_data_command b c.at)
-    else Other c.number c.size
-
--- the load commands that a file says, in order
-unfoldable pub commands_in : List ℕ → List HeadCommand
-commands_in b = map (command_in b) (commands_of b)
 
 -- a segment's command: it has the protections and the flags of its name, and the headers of its sections behind it
 abbrev pub headers_in : Placed → PlacedSegment → List SectionHeader
 headers_in p s = filter (λ h. bytes_eq (name_of h.segname) (text_of s.name)) p.output_sections
 
-abbrev pub segment_for : Placed → PlacedSegment → HeadCommand
-segment_for p s = Segment (record {
+abbrev pub segment_for : Placed → PlacedSegment → List ℕ
+segment_for p s = spelling segment_command (record {
   cmd = LC_SEGMENT_64;
   cmdsize = size_of segment_command + size_of section_header * length (headers_in p s);
   segname = bytes_of s.name;
@@ -95,19 +40,19 @@ segment_for p s = Segment (record {
   initprot = loaded_protection_of (text_of s.name);
   nsects = length (headers_in p s);
   flags = segment_flags_of (text_of s.name);
-}) (headers_in p s)
+}) ++ flat_map (spelling section_header) (headers_in p s)
 
 -- where an executable begins, counted from the base; the stack has the default size
-abbrev pub entry_point_for : Link → Placed → HeadCommand
-entry_point_for l p = EntryPoint (record {
+abbrev pub entry_point_for : Link → Placed → List ℕ
+entry_point_for l p = spelling entry_point_command (record {
   cmd = LC_MAIN;
   cmdsize = size_of entry_point_command;
   entryoff = address_of p (target_of_name l l.entry) - p.base;
   stacksize = 0;
 })
 
-abbrev pub uuid_for : List ℕ → HeadCommand
-uuid_for uuid = Uuid (record { cmd = LC_UUID; cmdsize = size_of uuid_command; uuid = uuid_written uuid })
+abbrev pub uuid_for : List ℕ → List ℕ
+uuid_for uuid = spelling uuid_command (record { cmd = LC_UUID; cmdsize = size_of uuid_command; uuid = uuid_written uuid })
 
 -- `PLATFORM_MACOS`; this linker as a tool, by the number 'wild', and its version, 0.11.0
 abbrev pub PLATFORM_MACOS : ℕ
@@ -120,17 +65,17 @@ abbrev pub THIS_VERSION : ℕ
 THIS_VERSION = 0x00000b00
 
 -- the least version of the system and that of the SDK, where they were given
-abbrev pub versions_for : Option (ℕ × ℕ) → List HeadCommand
+abbrev pub versions_for : Option (ℕ × ℕ) → List (List ℕ)
 versions_for None = []
 versions_for (Some (minimum, sdk)) =
-    BuildVersion (record {
+    (spelling build_version_command (record {
       cmd = LC_BUILD_VERSION;
       cmdsize = size_of build_version_command + size_of build_tool_version;
       platform = PLATFORM_MACOS;
       minos = minimum;
       sdk = sdk;
       ntools = 1;
-    }) (record { tool = THIS_TOOL; version = THIS_VERSION } ∷ []) ∷ []
+    }) ++ spelling build_tool_version (record { tool = THIS_TOOL; version = THIS_VERSION })) ∷ []
 
 -- a command with a path behind a record: at least one NUL ends the path, and zeros fill the command to a multiple of 8 bytes
 abbrev pub path_command_size : ℕ → List ℕ → ℕ
@@ -143,32 +88,37 @@ path_filled record_size path = path ++ replicate (path_command_size record_size 
 abbrev pub DYLINKER : List ℕ
 DYLINKER = codes "/usr/lib/dyld"
 
-abbrev pub dylinker_for : HeadCommand
-dylinker_for = Dylinker
-    (record { cmd = LC_LOAD_DYLINKER; cmdsize = path_command_size (size_of dylinker_command) DYLINKER; name_offset = size_of dylinker_command })
-    (path_filled (size_of dylinker_command) DYLINKER)
+abbrev pub dylinker_for : List ℕ
+dylinker_for = spelling dylinker_command (record {
+  cmd = LC_LOAD_DYLINKER;
+  cmdsize = path_command_size (size_of dylinker_command) DYLINKER;
+  name_offset = size_of dylinker_command;
+}) ++ path_filled (size_of dylinker_command) DYLINKER
 
 -- a library by its install name: this one, or one that is needed
-abbrev pub dylib_for : ℕ → ℕ → ℕ → ℕ → List ℕ → HeadCommand
-dylib_for number timestamp current compatible path = Dylib (record {
+abbrev pub dylib_for : ℕ → ℕ → ℕ → ℕ → List ℕ → List ℕ
+dylib_for number timestamp current compatible path = spelling dylib_command (record {
   cmd = number;
   cmdsize = path_command_size (size_of dylib_command) path;
   name_offset = size_of dylib_command;
   timestamp = timestamp;
   current_version = current;
   compatibility_version = compatible;
-}) (path_filled (size_of dylib_command) path)
+}) ++ path_filled (size_of dylib_command) path
 
-abbrev pub rpath_for : List ℕ → HeadCommand
-rpath_for path =
-    Rpath (record { cmd = LC_RPATH; cmdsize = path_command_size (size_of rpath_command) path; name_offset = size_of rpath_command })
-    (path_filled (size_of rpath_command) path)
+abbrev pub rpath_for : List ℕ → List ℕ
+rpath_for path = spelling rpath_command (record {
+  cmd = LC_RPATH;
+  cmdsize = path_command_size (size_of rpath_command) path;
+  name_offset = size_of rpath_command;
+}) ++ path_filled (size_of rpath_command) path
 
-abbrev pub linkedit_for : ℕ → ℕ → ℕ → HeadCommand
-linkedit_for number at size = LinkeditData (record { cmd = number; cmdsize = size_of linkedit_data_command; dataoff = at; datasize = size })
+abbrev pub linkedit_for : ℕ → ℕ → ℕ → List ℕ
+linkedit_for number at size =
+    spelling linkedit_data_command (record { cmd = number; cmdsize = size_of linkedit_data_command; dataoff = at; datasize = size })
 
-abbrev pub symtab_for : Counts → Placed → HeadCommand
-symtab_for counts p = Symtab (record {
+abbrev pub symtab_for : Counts → Placed → List ℕ
+symtab_for counts p = spelling symtab_command (record {
   cmd = LC_SYMTAB;
   cmdsize = size_of symtab_command;
   symoff = p.linkedit.symtab.start;
@@ -181,7 +131,7 @@ abbrev pub range_size : Range64 → ℕ
 range_size r = r.end - r.start
 
 -- THE load commands of an image, in order, with a UUID and an exports trie of so many bytes.
-unfoldable pub commands_for : Link → Counts → Placed → List ℕ → ℕ → List HeadCommand
+unfoldable pub commands_for : Link → Counts → Placed → List ℕ → ℕ → List (List ℕ)
 commands_for l counts p uuid trie =
     map (segment_for p) p.segments
     ++ list_if l.executable (entry_point_for l p ∷ [])
@@ -195,18 +145,6 @@ commands_for l counts p uuid trie =
     ∷ symtab_for counts p
     ∷ linkedit_for LC_CODE_SIGNATURE p.linkedit.signature.start (range_size p.linkedit.signature) ∷ []
 
-abbrev pub size_said : HeadCommand → ℕ
-size_said (Segment command headers) = command.cmdsize
-size_said (EntryPoint command) = command.cmdsize
-size_said (Uuid command) = command.cmdsize
-size_said (BuildVersion command tools) = command.cmdsize
-size_said (Dylinker command path) = command.cmdsize
-size_said (Dylib command path) = command.cmdsize
-size_said (Rpath command path) = command.cmdsize
-size_said (LinkeditData command) = command.cmdsize
-size_said (Symtab command) = command.cmdsize
-size_said (Other number size) = size
-
 -- the flags of an image: no name is left undefined, it is for the dynamic linker, by two levels of names; an executable may be
 -- slid; and where thread-local variables are described, that they are
 abbrev pub describes_thread_locals : Placed → Bool
@@ -216,21 +154,24 @@ abbrev pub flags_for : Link → Placed → ℕ
 flags_for l p =
     MH_NOUNDEFS + MH_DYLDLINK + MH_TWOLEVEL + (if l.executable then MH_PIE else 0) + (if describes_thread_locals p then MH_HAS_TLV_DESCRIPTORS else 0)
 
--- THE header of an image, in front of its load commands.
-unfoldable pub header_for : Link → Placed → List HeadCommand → MachHeader
-header_for l p commands = record {
+-- the header in front of so many load commands, which have so many bytes
+abbrev pub header_for : Link → Placed → ℕ → ℕ → MachHeader
+header_for l p commands bytes = record {
   magic = MH_MAGIC_64;
   cputype = CPU_TYPE_ARM64;
   cpusubtype = CPU_SUBTYPE_ARM64_ALL;
   filetype = if l.executable then MH_EXECUTE else MH_DYLIB;
-  ncmds = length commands;
-  sizeofcmds = sum_by size_said commands;
+  ncmds = commands;
+  sizeofcmds = bytes;
   flags = flags_for l p;
   reserved = 0;
 }
 
--- The file has this header and these load commands, with an exports trie of some size.
+-- THE head: the header, and the load commands behind it.
+unfoldable pub head_for : Link → Placed → List (List ℕ) → List ℕ
+head_for l p commands = spelling mach_header (header_for l p (length commands) (sum_by length commands)) ++ concat commands
+
+-- The file begins with this head, with an exports trie of some size.
 pub record HeadSays (l : Link) (counts : Counts) (uuid : List ℕ) (b : List ℕ) (p : Placed) : Type 0 where
   pub trie : ℕ
-  pub header : header_of b ≡ header_for l p (commands_for l counts p uuid trie)
-  pub commands : commands_in b ≡ commands_for l counts p uuid trie
+  pub text : Stands b (record { at = 0; text = head_for l p (commands_for l counts p uuid trie) })

@@ -25,6 +25,7 @@ pub mod Memory
 pub mod Stands
 pub mod Exports
 pub mod Rows
+pub mod Supported
 pub mod Consumed
 pub mod Limits
 pub mod Values
@@ -35,8 +36,9 @@ pub mod Addresses
 pub mod Agreement
 pub mod Signature
 pub mod Head
+pub mod HeadCommands
 pub mod SymbolTable
-pub mod SymbolRows
+pub mod SymbolEntries
 pub mod ImportTable
 pub mod Zeros
 pub mod Made
@@ -46,6 +48,7 @@ pub mod Laws
 pub mod SlideLaws
 pub mod HeldLaws
 pub mod LinkLaws
+pub mod ObjectLaws
 -- the layouts of the records, and the tests on section headers, of the crates below
 pub use Rattle.macho_records.specs.CommandLayouts
 pub use Rattle.macho_records.specs.Layouts as HeaderLayouts

@@ -26,11 +26,11 @@ pub record ToldExport : Type 0 where
 unfoldable pub imports_told : Link → List ToldImport
 imports_told l = map (λ name. record { library = library_number l (import_library l name); name = name }) (imports_of l)
 
--- a name is exported on from a library: it is imported, and the lists contain it
+-- a name is re-exported from a library: it is imported, and the lists contain it
 abbrev pub IsReexported : Link → List ℕ → Type 0
 IsReexported l name = Contains (imports_of l) name × (has_lists l ≡ true) × (is_listed l name ≡ true)
 
--- a name is exported: from an object, weak as its definition is; or on from a library
+-- a name is exported: from an object, weak as its definition is; or re-exported from a library
 pub data IsToldExport (l : Link) (name : List ℕ) : Bool → Type 0 where
   from_object : (s : SymbolId) → IsExported l name s → IsToldExport l name (is_weak_of (entry_at l s))
   from_library : IsReexported l name → IsToldExport l name false

@@ -1,26 +1,19 @@
--- Valid links: those that a linker owes an image, wherever there is memory.
-use Rattle.std.specs.Prelude.{◌≡◌, ℕ, ◌+◌, ◌*◌, ◌-◌, ◌%◌, ◌^◌, ◌<◌, ◌≤◌, ◌⊎◌, ◌==◌, nat_le, nat_lt, ◌&&◌, ◌||◌, not, Bool, true, false, List, length, All, Contains, Some, is_some}
-use Rattle.macho_model.specs.declared.rules.UnwindRule.{UnwindRule}
-use Rattle.macho_model.specs.declared.targets.Limit.{Limit}
+-- Valid links: those that a linker owes an image if their paths can be written, wherever there is memory.
+use Rattle.std.specs.Prelude.{◌≡◌, ℕ, ◌+◌, ◌*◌, ◌-◌, ◌%◌, ◌^◌, ◌≤◌, ◌==◌, nat_le, nat_lt, ◌&&◌, ◌||◌, not, Bool, true, false, All, Contains, None, is_some}
 use Rattle.macho_model.specs.declared.targets.Target.{Target}
 use Rattle.macho_model.specs.declared.targets.Target.TheVariants as target
 use Rattle.macho_model.specs.declared.placed.Counts.{Counts}
 use Rattle.macho_records.specs.Symbols.{common_exponent_of, common_size_of}
-use Rattle.macho_model.specs.ExportLists.{plain_entries}
 use Rattle.macho_model.specs.Links.{Link, SectionId, header_at, carried_of, placed_exponent}
-use Rattle.macho_model.specs.Resolution.{entry_at, strong_of, definition_of}
-use Rattle.macho_model.specs.Needs.{Use, uses_of, name_used, initializer_sections, unwind_sections, relocation_in, POINTER_SIZE}
+use Rattle.macho_model.specs.Resolution.{entry_at}
 use Rattle.macho_model.specs.Fields.{Field, fields_of, content_of}
 use Rattle.macho_model.specs.Words.{scale_of}
 use Rattle.macho_model.specs.Segments.{segment_name, may_hold_pointers}
 use Rattle.macho_model.specs.WrittenSum.{written_sum_of}
 use Rattle.macho_model.specs.Placement.{common_of}
 use Rattle.macho_model.specs.Stands.{Kind, Pointer, Difference, Branch, Page, Offset, kind_of}
-use Rattle.macho_model.specs.Rows.{is_supported, share_byte, are_pair}
-use Rattle.macho_model.specs.Consumed.{initializer_section_fits, initializer_slot_fits, entry_count, whole_entries, keeps}
-use Rattle.macho_model.specs.Limits.{limited}
 use Rattle.macho_model.specs.Values.{fits_signed, needs_fixup}
-use Rattle.macho_model.specs.Faults.{entry_is_defined}
+use Rattle.macho_model.specs.Faults.{LinkFault, BadName, FaultStands, kept_placement}
 
 -- a number modulo 2 ^ 64, read as signed, is below 2 ^ 23 in size
 abbrev pub is_small : ℕ → Bool
@@ -65,41 +58,12 @@ field_fits l s f kind = true
 abbrev pub VALID_SUM : ℕ
 VALID_SUM = 64 * 2 ^ 20
 
--- Names: each that is used, listed or begun at is defined, and none has two strong definitions. A relocation whose name has
--- no definition has no target, and so breaks another part too: that of relocations, of initializers or of unwind entries.
-pub record NamesAreDefined (l : Link) : Type 0 where
-  pub single : (name : List ℕ) → length (strong_of l name) ≤ 1
-  pub used : (u : Use) (name : List ℕ) → Contains (uses_of l) u → name_used l u ≡ Some name → is_some (definition_of l name) ≡ true
-  pub listed : All (λ name. is_some (definition_of l name) ≡ true) (plain_entries l.export_lists)
-  pub entry : entry_is_defined l ≡ true
-
--- Relocations: each is supported, and two of them share a byte only as a pair.
-pub record RelocationsAreSupported (l : Link) : Type 0 where
-  pub supported : (s : SectionId) (r : ℕ) → Contains (carried_of l) s → r < (header_at l s).nreloc → is_supported l s r ≡ true
-  pub apart : (s : SectionId) (q r : ℕ) → Contains (carried_of l) s → q < r → r < (header_at l s).nreloc
-      → (share_byte l s q r ≡ false) ⊎ (are_pair l s q r ≡ true)
-
--- Initializers and unwind entries keep their rules.
-pub record ConsumedKeepRules (l : Link) : Type 0 where
-  pub initializers : All (λ s. initializer_section_fits l s ≡ true) (initializer_sections l)
-  pub slots : (s : SectionId) (slot : ℕ) → Contains (initializer_sections l) s → POINTER_SIZE * slot + POINTER_SIZE ≤ (header_at l s).size
-      → initializer_slot_fits l s slot ≡ true
-  pub placed : (s : SectionId) (r : ℕ) → Contains (initializer_sections l) s → r < (header_at l s).nreloc
-      → ((relocation_in l s r).r_address % POINTER_SIZE == 0) ≡ true
-  pub whole : All (λ s. whole_entries l s ≡ true) (unwind_sections l)
-  pub unwind : (s : SectionId) (e : ℕ) (rule : UnwindRule) → Contains (unwind_sections l) s → e < entry_count l s → keeps l s e rule ≡ true
-
--- Numbers: none passes its limit, and the written sum is small.
-pub record NumbersAreSmall (l : Link) (counts : Counts) : Type 0 where
-  pub limits : (what : Limit) → (limited l counts what).0 ≤ (limited l counts what).1
-  pub sum : written_sum_of l counts ≤ VALID_SUM
-
 -- A valid link.
 pub record IsValid (l : Link) (counts : Counts) : Type 0 where
-  pub names : NamesAreDefined l
-  pub relocations : RelocationsAreSupported l
+  -- no refusal stands that shows without a placement, but that of a path that can't be written
+  pub unrefused : (f : LinkFault) → kept_placement f ≡ None → FaultStands l counts f → f ≡ BadName
   -- each field fits
   pub fields : (s : SectionId) → Contains (carried_of l) s
       → All (λ f. field_fits l s f (kind_of f.type (is_some f.subtrahend)) ≡ true) (fields_of l s)
-  pub consumed : ConsumedKeepRules l
-  pub numbers : NumbersAreSmall l counts
+  -- and the written sum is small
+  pub sum : written_sum_of l counts ≤ VALID_SUM

@@ -69,3 +69,13 @@ pub fn one_input_more_adds_its_own()
 pub fn chosen_commons_are_counted()
     ensures { CommonsAreCounted }
 {}
+
+ghost use Rattle.macho_model.specs.ObjectLaws.{ObjectsKeepRules, KeepersAreObjects, DylibsKeepRules, KeepersAreDylibs};
+
+/// An object, or a dynamic library, is what passes each test of its kind.
+pub fn objects_pass_each_test()
+    ensures objects { ObjectsKeepRules }
+    ensures are_objects { KeepersAreObjects }
+    ensures libraries { DylibsKeepRules }
+    ensures are_libraries { KeepersAreDylibs }
+{}

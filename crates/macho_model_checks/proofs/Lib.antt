@@ -1,4 +1,3 @@
-pub mod BrokenInputs
 pub mod ObjectTests
 pub mod LoaderTests
 pub mod ValidTests

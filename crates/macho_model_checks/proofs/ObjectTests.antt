@@ -14,11 +14,13 @@ use Rattle.macho_model.specs.ObjectRules.{head_fits, commands_inside, needed_in_
 use Rattle.macho_model.specs.ObjectRules.{relocation_number_exists, data_inside, exponent_fits, value_in_section, name_ends}
 use Rattle.macho_model.specs.ObjectRules.{relocations_inside, field_inside, thread_local_in_data, zerofill_unrelocated, global_has_name}
 use Rattle.macho_model.specs.ObjectRules.{common_fits}
-use Rattle.macho_model.specs.Grammar.{EachSection, EachSymbol, EachRelocation, EachCommand, IsObject}
+use Rattle.macho_model.specs.Grammar.{EachCommand, IsObject}
+use Rattle.macho_model.specs.ObjectLaws.{EachSection, EachSymbol, EachRelocation, KeepsObjectRules}
+use Rattle.macho_model.proofs.ObjectLaws.{object_keeps, kept_object}
 use Rattle.macho_model.proofs.EachBelow.{each_below, true_or_false, and_left, and_right, and_both, same_number, other_number, all_pass}
 use Rattle.macho_model.proofs.EachBelow.{pass_all, below_pass, pass_below}
 
--- what an object keeps, rule by rule: the fields of `IsObject`
+-- what an object keeps, rule by rule: the fields of `KeepsObjectRules`
 abbrev pub Keeps : List ℕ → ObjectRule → Type 0
 Keeps b O1 = head_fits MH_OBJECT b ≡ true
 Keeps b O2 = (commands_inside b ≡ true) × EachCommand (commands_of b) (command_fits (needed_in_object b) b)
@@ -37,6 +39,7 @@ Keeps b O14 = EachSymbol b (common_fits b)
 
 pub keeps_all : (b : List ℕ) → ((rule : ObjectRule) → Keeps b rule) → IsObject b
 keeps_all b h =
+    let keeps : KeepsObjectRules b =
     record {
       o1 = h O1;
       o2 = h O2;
@@ -52,23 +55,27 @@ keeps_all b h =
       o12 = h O12;
       o13 = h O13;
       o14 = h O14;
-    }
+    } in
+    kept_object keeps
 
 pub all_kept : (b : List ℕ) → IsObject b → (rule : ObjectRule) → Keeps b rule
-all_kept b is O1 = is.o1
-all_kept b is O2 = is.o2
-all_kept b is O3 = is.o3
-all_kept b is O4 = is.o4
-all_kept b is O5 = is.o5
-all_kept b is O6 = is.o6
-all_kept b is O7 = is.o7
-all_kept b is O8 = is.o8
-all_kept b is O9 = is.o9
-all_kept b is O10 = is.o10
-all_kept b is O11 = is.o11
-all_kept b is O12 = is.o12
-all_kept b is O13 = is.o13
-all_kept b is O14 = is.o14
+all_kept b is = by_rule (object_keeps is)
+  where
+    by_rule : KeepsObjectRules b → (rule : ObjectRule) → Keeps b rule
+    by_rule keeps O1 = keeps.o1
+    by_rule keeps O2 = keeps.o2
+    by_rule keeps O3 = keeps.o3
+    by_rule keeps O4 = keeps.o4
+    by_rule keeps O5 = keeps.o5
+    by_rule keeps O6 = keeps.o6
+    by_rule keeps O7 = keeps.o7
+    by_rule keeps O8 = keeps.o8
+    by_rule keeps O9 = keeps.o9
+    by_rule keeps O10 = keeps.o10
+    by_rule keeps O11 = keeps.o11
+    by_rule keeps O12 = keeps.o12
+    by_rule keeps O13 = keeps.o13
+    by_rule keeps O14 = keeps.o14
 
 -- a test of each relocation
 abbrev pub each_relocation : List ℕ → (ℕ → ℕ → Bool) → Bool

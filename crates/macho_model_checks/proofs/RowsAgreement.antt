@@ -4,11 +4,12 @@
 -- A loader goes by the load commands of the file alone. So a file may be accepted, and its memory be as the placement tells,
 -- while it begins elsewhere, maps a page twice, or puts data where it may be run: the segments of its commands are not those
 -- of the placement then. And a file without a dynamic linker is no image at all, whatever its placement is.
-use Rattle.std.proofs.Common.{◌≡◌, ℕ, List, [], ◌∷◌, ◌++◌, length, get_or, map, replicate, refl, ap, ◌∙◌, sym, arith, None}
-use Rattle.std.specs.Prelude.{codes, ◌+◌}
+use Rattle.std.proofs.Common.{◌≡◌, ℕ, ◌%◌, Bool, true, false, List, [], ◌∷◌, ◌++◌, length, get_or, map, replicate, refl, ap, ◌∙◌, sym, arith, None}
+use Rattle.std.specs.Prelude.{codes, ◌+◌, if◌then◌else◌}
 use Rattle.macho_bytes.specs.Numbers.{le_at, le_bytes, row_bytes}
-use Rattle.macho_bytes.specs.Layouts.{reading}
-use Rattle.macho_records.specs.declared.header.MachHeader.{MachHeader}
+use Rattle.macho_bytes.specs.Layouts.{reading, spelling}
+use Rattle.macho_bytes.proofs.Numbers.{drop-stands}
+use Rattle.macho_records.specs.declared.constants.TheConstants.{MH_DYLDLINK, MH_HAS_TLV_DESCRIPTORS, MH_NOUNDEFS, MH_PIE, MH_TWOLEVEL}
 use Rattle.macho_records.specs.declared.segments.TheConstants.SegmentName as name
 use Rattle.macho_model.specs.declared.placed.Counts.{Counts}
 use Rattle.macho_model.specs.declared.placed.PlacedSegment.{PlacedSegment}
@@ -17,7 +18,7 @@ use Rattle.macho_model.specs.Links.{Link}
 use Rattle.macho_model.specs.Images.{segments_of, base_of, libraries_of, tables_of, entries_of_file}
 use Rattle.macho_model.specs.Placement.{Placed, head_size}
 use Rattle.macho_model.specs.Agreement.{SegmentPlace, place_by_command, SegmentsAgree, section_headers_at, section_headers_of}
-use Rattle.macho_model.specs.Head.{HeadSays, header_for}
+use Rattle.macho_model.specs.Head.{HeadSays, commands_for, describes_thread_locals, flags_for, head_for}
 use Rattle.macho_model_checks.proofs.Examples.{words8, words, name16}
 use Rattle.macho_model_checks.proofs.ExampleImages.{smallest}
 use Rattle.macho_model_checks.proofs.ExamplePlacement.{counts_a, placed_a, placed_with, pagezero_to, text_from, header_a, section_a}
@@ -91,15 +92,34 @@ bare =
     ++ plain_segment (codes "__TEXT") (0x100000000 ∷ 0x4000 ∷ 0 ∷ 0x4000 ∷ []) 5 ++ words (0x80000028 ∷ 24 ∷ []) ++ words8 (0x80 ∷ 0 ∷ [])
     ++ some_code ++ replicate 16248 0
 
-bare_facts : (load_verdict bare ≡ load_all_pass) × ((header_of bare).flags ≡ 0)
+bare_facts : (load_verdict bare ≡ load_all_pass) × (get_or bare 24 0 ≡ 0)
 unfolding load_verdict commands_end tables_of base_of segments_of libraries_of commands_of commands_from header_of reading le_at row_bytes
     le_bytes words8 words name16 plain_segment bare
 bare_facts = (refl, refl)
 
+-- the lowest byte of the header's flags
+flags_low : (executable locals : Bool)
+    → (MH_NOUNDEFS + MH_DYLDLINK + MH_TWOLEVEL + (if executable then MH_PIE else 0) + (if locals then MH_HAS_TLV_DESCRIPTORS else 0)) % 256
+    ≡ 0x85
+flags_low true true = refl
+flags_low true false = refl
+flags_low false true = refl
+flags_low false false = refl
+
+flags_spelled : (l : Link) (counts : Counts) (uuid : List ℕ) (p : Placed) (trie : ℕ) (rest : List ℕ)
+    → get_or (head_for l p (commands_for l counts p uuid trie) ++ rest) 24 0 ≡ flags_for l p % 256
+unfolding head_for spelling row_bytes le_bytes
+flags_spelled l counts uuid p trie rest = refl
+
+pub flags_byte : (l : Link) (counts : Counts) (uuid b : List ℕ) (p : Placed) → HeadSays l counts uuid b p → get_or b 24 0 ≡ 0x85
+flags_byte l counts uuid b p says =
+    let text : List ℕ = head_for l p (commands_for l counts p uuid says.trie) in
+    ap (λ (bytes : List ℕ). get_or bytes 24 0) (drop-stands b (record { at = 0; text = text }) says.text)
+    ∙ flags_spelled l counts uuid p says.trie _ ∙ flags_low l.executable (describes_thread_locals p)
+
 pub bare_is_refused : (l : Link) (counts : Counts) (uuid : List ℕ) (p : Placed) → HeadSays l counts uuid bare p → ⊥
-unfolding header_for
 bare_is_refused l counts uuid p says =
-    let flags = sym bare_facts.1 ∙ ap (λ (h : MachHeader). h.flags) says.header in
+    let flags = sym bare_facts.1 ∙ flags_byte l counts uuid bare p says in
     absurd (omega (arith, flags))
 
 -- 3. One page twice: the first page of the file is mapped as `__TEXT` and again as `__DATA`, where the placement tells another page.

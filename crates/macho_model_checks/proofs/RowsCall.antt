@@ -5,9 +5,10 @@
 use Rattle.std.proofs.Common.{◌≡◌, ℕ, zero, suc, ◌+◌, ◌<◌, ◌==◌, ◌&&◌, if◌then◌else◌, List, [], ◌∷◌, length, get_or, map, refl, ap, ◌∙◌}
 use Rattle.std.proofs.Common.{sym, arith, true}
 use Rattle.std.specs.Prelude.{codes, slice_range}
+use Rattle.std.specs.List.{range_with_len}
+use Rattle.macho_records.specs.declared.symbols.SymtabEntry.{SymtabEntry}
 use Rattle.macho_bytes.specs.Numbers.{le_at, le_bytes, be_at, be_bytes, row_bytes}
-use Rattle.macho_bytes.specs.Layouts.{reading}
-use Rattle.macho_records.specs.declared.header.MachHeader.{MachHeader}
+use Rattle.macho_bytes.specs.Layouts.{reading, spelling}
 use Rattle.macho_structs.specs.Layouts.{uuid_command, code_directory}
 use Rattle.macho_records.specs.declared.constants.TheConstants.{LC_UUID}
 use Rattle.macho_model.specs.declared.placed.Counts.{Counts}
@@ -34,10 +35,13 @@ use Rattle.macho_model.specs.Addresses.{section_address, common_address, slot_ad
 use Rattle.macho_model.specs.Agreement.{SegmentsAgree, section_headers_of, section_headers_at, TablesAgree}
 use Rattle.macho_model.specs.Signature.{uuid_written, UuidSays, Signed, DIRECTORY_PLACE, directory_size, directory_for, identifier_text}
 use Rattle.macho_model.specs.Faults.{last_part}
-use Rattle.macho_model.specs.Head.{HeadSays, commands_in, command_in, commands_for, header_for}
+use Rattle.macho_model.specs.Head as head
+use Rattle.macho_model.specs.Head.{HeadSays, head_for}
+use Rattle.macho_model.specs.HeadCommands.{CommandsSay, commands_in, command_in, commands_for, header_for}
 use Rattle.macho_model.specs.SymbolTable.{table_symbols}
-use Rattle.macho_model.specs.SymbolRows.{SymbolRow, symbol_rows, symbol_rows_in, strings_text, string_places, string_places_in, SymbolsSay}
+use Rattle.macho_model.specs.SymbolEntries.{symbol_entries, strings_text, SymbolsSay}
 use Rattle.macho_model.specs.ImportTable.{fixup_count, names_text, name_of_entry, EntrySays, ImportTableSays, LibrariesSay}
+use Rattle.macho_model_checks.proofs.RowsAgreement.{flags_byte}
 use Rattle.macho_model_checks.proofs.Examples.{words8, words, halves, name16, changed}
 use Rattle.macho_model_checks.proofs.ExampleLinks.{entry}
 use Rattle.macho_model_checks.proofs.ExampleCall.{calls_exit, calling, counts_of_call, placed_call, uuid_given, head_of_call}
@@ -67,12 +71,49 @@ unfolding commands_end commands_of commands_from header_of reading le_at row_byt
     sections_of carried_of template_exponent placed_exponent symbols_of strong_of weak_of commons_of greatest_of libraries_with
     definition_of chosen_commons initializer_sections unwind_sections uses_of imports_of libraries_needed target_of
     target_of_relocation slots_of stubs_of fields_of plain_entries all_entries entries_of other_segments segment_names_of
-    output_keys_of table_symbols symbol_rows symbol_rows_in output_sections_of output_sections_for pieces_of
+    output_keys_of table_symbols symbol_entries output_sections_of output_sections_for pieces_of
     segments_for
 call_sections = refl
 
--- THE header and the thirteen commands, with every field
+-- THE header and the thirteen commands, byte for byte: 32 and 888 bytes
+call_long : length call_image ≡ 49948
+unfolding commands_end commands_of commands_from header_of reading le_at row_bytes le_bytes words8 words halves name16 entry calls_exit
+    head_of_call fixups_of_call tables_of_call be_at be_bytes big_words signature_of_call call_image
+call_long = refl
+
+head_long : length (head_for calling placed_call (head.commands_for calling counts_of_call placed_call uuid_given 14)) ≡ 920
+unfolding commands_end commands_of commands_from header_of reading le_at row_bytes le_bytes words8 words halves name16 entry calls_exit
+    head_of_call fixups_of_call tables_of_call be_at be_bytes big_words signature_of_call call_image segment_of num_sections section_place
+    section_at section_bytes symtab_of num_symbols symbol_place symbol_at strings_of symbol_name relocation_place relocation_at
+    sections_of carried_of template_exponent placed_exponent symbols_of strong_of weak_of commons_of greatest_of libraries_with
+    definition_of chosen_commons initializer_sections unwind_sections uses_of imports_of libraries_needed target_of
+    target_of_relocation slots_of stubs_of fields_of plain_entries all_entries entries_of other_segments segment_names_of
+    output_keys_of section_address common_address slot_address head.commands_for head_for spelling
+    section_headers_of section_headers_at uuid_written
+head_long = refl
+
+head_stands : slice_range call_image 0 920 ≡ head_for calling placed_call (head.commands_for calling counts_of_call placed_call uuid_given 14)
+unfolding commands_end commands_of commands_from header_of reading le_at row_bytes le_bytes words8 words halves name16 entry calls_exit
+    head_of_call fixups_of_call tables_of_call be_at be_bytes big_words signature_of_call call_image segment_of num_sections section_place
+    section_at section_bytes symtab_of num_symbols symbol_place symbol_at strings_of symbol_name relocation_place relocation_at
+    sections_of carried_of template_exponent placed_exponent symbols_of strong_of weak_of commons_of greatest_of libraries_with
+    definition_of chosen_commons initializer_sections unwind_sections uses_of imports_of libraries_needed target_of
+    target_of_relocation slots_of stubs_of fields_of plain_entries all_entries entries_of other_segments segment_names_of
+    output_keys_of section_address common_address slot_address head.commands_for head_for spelling
+    section_headers_of section_headers_at uuid_written
+head_stands = refl
+
 pub call_head : HeadSays calling counts_of_call uuid_given call_image placed_call
+call_head = record {
+  trie = 14;
+  text = record {
+    within = omega (arith, head_long, call_long);
+    same = ap (λ (n : ℕ). slice_range call_image 0 (0 + n)) head_long ∙ head_stands;
+  };
+}
+
+-- and as a reader finds them
+pub call_commands : CommandsSay calling counts_of_call uuid_given call_image placed_call
 unfolding commands_end commands_of commands_from header_of reading le_at row_bytes le_bytes words8 words halves name16 entry calls_exit
     head_of_call fixups_of_call tables_of_call be_at be_bytes big_words signature_of_call call_image segment_of num_sections section_place
     section_at section_bytes symtab_of num_symbols symbol_place symbol_at strings_of symbol_name relocation_place relocation_at
@@ -81,7 +122,7 @@ unfolding commands_end commands_of commands_from header_of reading le_at row_byt
     target_of_relocation slots_of stubs_of fields_of plain_entries all_entries entries_of other_segments segment_names_of
     output_keys_of section_address common_address slot_address commands_in command_in commands_for header_for
     section_headers_of section_headers_at uuid_written
-call_head = record { trie = 14; header = refl; commands = refl }
+call_commands = record { trie = 14; header = refl; commands = refl }
 
 pub call_uuid : UuidSays uuid_given call_image
 unfolding commands_end commands_of commands_from header_of reading le_at row_bytes le_bytes words8 words halves name16 entry calls_exit
@@ -120,9 +161,16 @@ unfolding commands_end commands_of commands_from header_of reading le_at row_byt
     sections_of carried_of template_exponent placed_exponent symbols_of strong_of weak_of commons_of greatest_of libraries_with
     definition_of chosen_commons initializer_sections unwind_sections uses_of imports_of libraries_needed target_of
     target_of_relocation slots_of stubs_of fields_of plain_entries all_entries entries_of other_segments segment_names_of
-    output_keys_of table_symbols symbol_rows symbol_rows_in strings_text string_places string_places_in
+    output_keys_of table_symbols symbol_entries strings_text
     output_sections_of output_sections_for pieces_of segments_for section_address common_address slot_address
-call_symbols = record { rows = refl; strings = refl; places = refl }
+call_symbols = record { entries = refl; strings = refl }
+
+-- its name is found at its place
+call_names : map (symbol_name call_image) (range_with_len 0 (num_symbols call_image)) ≡ codes "_main" ∷ []
+unfolding commands_end commands_of commands_from header_of reading le_at row_bytes le_bytes words8 words halves name16 entry calls_exit
+    head_of_call fixups_of_call tables_of_call be_at be_bytes big_words signature_of_call call_image segment_of num_sections section_place
+    section_at section_bytes symtab_of num_symbols symbol_place symbol_at strings_of symbol_name
+call_names = refl
 
 -- THE import table: library 1, `_exit`, no addend; and the library
 first_entry : EntrySays calling call_image (record { at = 0xc000; size = 0xd0 }) 0
@@ -279,15 +327,14 @@ call_is_accepted = accepted_keeping call_image keeps
 unfoldable pub without_flags : List ℕ
 without_flags = changed call_image 24 (words (0 ∷ []))
 
-flags_there : (header_of without_flags).flags ≡ 0
+flags_there : get_or without_flags 24 0 ≡ 0
 unfolding changed without_flags commands_end commands_of commands_from header_of reading le_at row_bytes le_bytes words8 words halves
     name16 entry calls_exit head_of_call fixups_of_call tables_of_call be_at be_bytes big_words signature_of_call call_image
 flags_there = refl
 
 pub flags_are_asked : (l : Link) (counts : Counts) (uuid : List ℕ) (p : Placed) → HeadSays l counts uuid without_flags p → ⊥
-unfolding header_for
 flags_are_asked l counts uuid p says =
-    let flags = sym flags_there ∙ ap (λ (h : MachHeader). h.flags) says.header in
+    let flags = sym flags_there ∙ flags_byte l counts uuid without_flags p says in
     absurd (omega (arith, flags))
 
 unfoldable pub without_version : List ℕ
@@ -309,27 +356,27 @@ version_is_asked says =
 unfoldable pub with_another_value : List ℕ
 with_another_value = changed call_image 0xc0f0 (words8 (0x10000039c ∷ []))
 
-value_there : map (λ r. r.value) (symbol_rows_in with_another_value) ≡ 0x10000039c ∷ []
+value_there : map (λ e. e.n_value) (map (symbol_at with_another_value) (range_with_len 0 (num_symbols with_another_value))) ≡ 0x10000039c ∷ []
 unfolding changed with_another_value commands_end commands_of commands_from header_of reading le_at row_bytes le_bytes words8 words halves
     name16 entry calls_exit head_of_call fixups_of_call tables_of_call be_at be_bytes big_words signature_of_call call_image segment_of
     num_sections section_place section_at section_bytes symtab_of num_symbols symbol_place symbol_at strings_of symbol_name
-    relocation_place relocation_at symbol_rows_in
+    relocation_place relocation_at
 value_there = refl
 
-value_asked : map (λ r. r.value) (symbol_rows calling counts_of_call placed_call) ≡ 0x100000398 ∷ []
+value_asked : map (λ e. e.n_value) (symbol_entries calling counts_of_call placed_call) ≡ 0x100000398 ∷ []
 unfolding commands_end commands_of commands_from header_of reading le_at row_bytes le_bytes words8 words halves name16 entry calls_exit
     head_of_call fixups_of_call tables_of_call be_at be_bytes big_words signature_of_call call_image segment_of num_sections section_place
     section_at section_bytes symtab_of num_symbols symbol_place symbol_at strings_of symbol_name relocation_place relocation_at
     sections_of carried_of template_exponent placed_exponent symbols_of strong_of weak_of commons_of greatest_of libraries_with
     definition_of chosen_commons initializer_sections unwind_sections uses_of imports_of libraries_needed target_of
     target_of_relocation slots_of stubs_of fields_of plain_entries all_entries entries_of other_segments segment_names_of
-    output_keys_of table_symbols symbol_rows symbol_rows_in output_sections_of output_sections_for pieces_of
+    output_keys_of table_symbols symbol_entries output_sections_of output_sections_for pieces_of
     segments_for section_address common_address slot_address
 value_asked = refl
 
 pub value_is_asked : SymbolsSay calling counts_of_call with_another_value placed_call → ⊥
 value_is_asked says =
-    let values = sym value_there ∙ ap (λ (rows : List SymbolRow). map (λ r. r.value) rows) says.rows ∙ value_asked in
+    let values = sym value_there ∙ ap (λ (es : List SymtabEntry). map (λ e. e.n_value) es) says.entries ∙ value_asked in
     let value : 0x10000039c ≡ 0x100000398 = ap (λ (ns : List ℕ). get_or ns 0 0) values in
     absurd (omega (arith, value))
 

@@ -31,14 +31,13 @@ use Rattle.macho_model.specs.OutputSections.{output_sections_of, output_sections
 use Rattle.macho_model.specs.Agreement.{EntryAgrees}
 use Rattle.macho_model.specs.Signature.{IsSigned}
 use Rattle.macho_model.specs.SymbolTable.{table_symbols}
-use Rattle.macho_model.specs.SymbolRows.{symbol_rows, symbol_rows_in}
 use Rattle.macho_model.specs.ImportTable.{fixup_count, names_text}
 use Rattle.macho_bytes.specs.Uleb.{uleb_at}
 use Rattle.macho_model.specs.declared.targets.Target.{Target}
 use Rattle.macho_trie.specs.Exports.{Exported, as_value, as_reexport}
 use Rattle.macho_trie.specs.Nodes.{Node, node_at, terminal_at, terminal_between, export_in, edges_at, edge_at, ended_name}
 use Rattle.macho_trie.specs.Lookup.{Finds, trie_finds}
-use Rattle.macho_promise.specs.TrieSays.{trie_export, table_bytes, TrieSays}
+use Rattle.macho_promise.specs.TrieSays.{table_bytes, TrieSays}
 use Rattle.macho_model.specs.Consumed.{entries_of_link}
 use Rattle.macho_promise.specs.UnwindSays.{resolved_entries, UnwindSays}
 use Rattle.macho_records.specs.declared.header.SectionHeader.{SectionHeader}
@@ -82,10 +81,9 @@ export_is_asked says =
     let table : trie_table ≡ says.table = ap (λ (ts : List Table). get_or ts 0 says.table) (sym other_trie_there.0 ∙ says.one) in
     let bytes : table_bytes with_another_export says.table ≡ other_trie =
     ap (table_bytes with_another_export) (sym table) ∙ other_trie_there.1 in
-    let found = says.only (codes "_main") (as_value 0 0x39c)
+    let exported = (says.finds (codes "_main") (as_value 0 0x39c)).0
     (subst (λ (ns : List ℕ). trie_finds ns (codes "_main") (as_value 0 0x39c)) (sym bytes) finds_other) in
-    let is = exported_is (codes "_main") found.export found.exported in
-    let value : 0x39c ≡ 0x398 = ap value_in (found.is ∙ ap trie_export is.1) in
+    let value : 0x39c ≡ 0x398 = ap value_in (exported_is (codes "_main") (as_value 0 0x39c) exported).1 in
     absurd (omega (arith, value))
 
 -- of the signature its last byte
@@ -151,7 +149,7 @@ unfolding commands_end commands_of commands_from header_of reading le_at row_byt
     sections_of carried_of template_exponent placed_exponent symbols_of strong_of weak_of commons_of greatest_of libraries_with
     definition_of chosen_commons initializer_sections unwind_sections uses_of imports_of libraries_needed target_of
     target_of_relocation slots_of stubs_of fields_of plain_entries all_entries entries_of other_segments segment_names_of
-    output_keys_of table_symbols symbol_rows symbol_rows_in output_sections_of output_sections_for pieces_of
+    output_keys_of table_symbols output_sections_of output_sections_for pieces_of
     segments_for entries_of_link resolved_entries
 none_resolved = refl
 
@@ -170,7 +168,7 @@ unfolding commands_end commands_of commands_from header_of reading le_at row_byt
     sections_of carried_of template_exponent placed_exponent symbols_of strong_of weak_of commons_of greatest_of libraries_with
     definition_of chosen_commons initializer_sections unwind_sections uses_of imports_of libraries_needed target_of
     target_of_relocation slots_of stubs_of fields_of plain_entries all_entries entries_of other_segments segment_names_of
-    output_keys_of table_symbols symbol_rows symbol_rows_in output_sections_of output_sections_for pieces_of
+    output_keys_of table_symbols output_sections_of output_sections_for pieces_of
     segments_for
 header_there = refl
 

@@ -32,7 +32,6 @@ use Rattle.macho_model.specs.Fields.{fields_of}
 use Rattle.macho_model.specs.Segments.{other_segments, segment_names_of, output_keys_of, segments_for}
 use Rattle.macho_model.specs.OutputSections.{output_sections_of, output_sections_for, pieces_of}
 use Rattle.macho_model.specs.SymbolTable.{table_symbols}
-use Rattle.macho_model.specs.SymbolRows.{symbol_rows, symbol_rows_in}
 use Rattle.macho_model_checks.proofs.Examples.{words8, words, halves, name16}
 use Rattle.macho_model_checks.proofs.ExampleLinks.{entry}
 
@@ -100,7 +99,7 @@ unfolding commands_end commands_of commands_from header_of reading le_at row_byt
     sections_of carried_of template_exponent placed_exponent symbols_of strong_of weak_of commons_of greatest_of libraries_with
     definition_of chosen_commons initializer_sections unwind_sections uses_of imports_of libraries_needed target_of
     target_of_relocation slots_of stubs_of fields_of plain_entries all_entries entries_of other_segments segment_names_of
-    output_keys_of table_symbols symbol_rows symbol_rows_in output_sections_of output_sections_for pieces_of
+    output_keys_of table_symbols output_sections_of output_sections_for pieces_of
     segments_for row_of
 order_computed = (refl, refl, refl)
 
@@ -115,7 +114,7 @@ unfolding commands_end commands_of commands_from header_of reading le_at row_byt
     sections_of carried_of template_exponent placed_exponent symbols_of strong_of weak_of commons_of greatest_of libraries_with
     definition_of chosen_commons initializer_sections unwind_sections uses_of imports_of libraries_needed target_of
     target_of_relocation slots_of stubs_of fields_of plain_entries all_entries entries_of other_segments segment_names_of
-    output_keys_of table_symbols symbol_rows symbol_rows_in output_sections_of output_sections_for pieces_of
+    output_keys_of table_symbols output_sections_of output_sections_for pieces_of
     segments_for row_of
 least_computed = (refl, refl, refl, refl, refl)
 
@@ -130,7 +129,7 @@ unfolding commands_end commands_of commands_from header_of reading le_at row_byt
     sections_of carried_of template_exponent placed_exponent symbols_of strong_of weak_of commons_of greatest_of libraries_with
     definition_of chosen_commons initializer_sections unwind_sections uses_of imports_of libraries_needed target_of
     target_of_relocation slots_of stubs_of fields_of plain_entries all_entries entries_of other_segments segment_names_of
-    output_keys_of table_symbols symbol_rows symbol_rows_in output_sections_of output_sections_for pieces_of
+    output_keys_of table_symbols output_sections_of output_sections_for pieces_of
     segments_for row_of
 call_stands_in_order = record {
   segments = refl;

@@ -16,15 +16,14 @@ use Rattle.std.proofs.lemmas.List.{take-append-drop}
 use Rattle.macho_model.specs.declared.placed.PlacedSection.{PlacedSection}
 use Rattle.macho_model.specs.declared.targets.Target.{Target}
 use Rattle.macho_model.specs.declared.targets.Target.TheVariants as target
-use Rattle.macho_model.specs.Exports.{Export, Value, IsExported, ExportedAs, ValueOf, weak_flag, section_flag}
-use Rattle.macho_model.specs.Exports as exports
+use Rattle.macho_model.specs.Exports.{IsExported, weak_flag, section_flag}
 use Rattle.macho_trie.specs.Exports.{Exported, as_value}
 use Rattle.macho_trie.specs.Nodes.{Edge, Node, node_at, terminal_at, terminal_between, export_in, edges_at, edge_at, ended_name}
 use Rattle.macho_trie.specs.Trees.{Edges, no_edge, edge, LeadsTo, node_count, AreRadix}
 use Rattle.macho_trie.specs.Encoding.{says_of, tree_bytes, place_of, terminal_size, AreLeast}
 use Rattle.macho_trie.specs.Lookup.{leads, Finds, trie_finds}
 use Rattle.macho_trie.specs.Lookup as lookup
-use Rattle.macho_promise.specs.TrieSays.{trie_export, table_bytes, IsFoundExport, IsTrieText, TrieSays}
+use Rattle.macho_promise.specs.TrieSays.{ExportedAs, from_object, from_library, ValueOf, table_bytes, IsTrieText, TrieSays}
 use Rattle.macho_model_checks.proofs.ExamplePlacement.{section_a}
 use Rattle.macho_model_checks.proofs.ExampleCall.{calls_exit, calling, placed_call, head_of_call, fixups_of_call, tables_of_call}
 use Rattle.macho_model_checks.proofs.ExampleCall.{big_words, signature_of_call, call_image}
@@ -116,16 +115,16 @@ unfolding commands_end commands_of commands_from header_of reading le_at row_byt
     output_keys_of own_entries import_entries_of entries_have_addends fixup_count names_text
 main_facts = (refl, refl, refl)
 
-value_is : (e : Export) → ValueOf calling placed_call 0 (target.Section 0 0 0) e → e ≡ Value 0 0x398
+value_is : (e : Exported) → ValueOf calling placed_call 0 (target.Section 0 0 0) e → e ≡ as_value 0 0x398
 value_is e (address, value, (q, (zero, within, is), file, section, at), sum, same) =
     let place : 0x100000398 ≡ address = ap (λ (x : PlacedSection). x.address) is ∙ at in
-    same ∙ ap (λ f. Value (f + 0) value) main_facts.2 ∙ ap (Value 0) (omega (arith, place, sum))
+    same ∙ ap (λ f. as_value (f + 0) value) main_facts.2 ∙ ap (as_value 0) (omega (arith, place, sum))
 value_is e (address, value, (q, (suc zero, within, is), file, section, at), sum, same) =
     absurd (let no : 1 ≡ 0 = ap (λ (x : PlacedSection). x.section) is ∙ section in omega (arith, no))
 value_is e (address, value, (q, (suc (suc k), within, is), file, section, at), sum, same) = absurd (omega (arith, within))
 
-pub exported_is : (name : List ℕ) (e : Export) → ExportedAs calling placed_call name e → (name ≡ codes "_main") × (e ≡ Value 0 0x398)
-exported_is name _ (exports.ExportedAs.from_object s e exported value) =
+pub exported_is : (name : List ℕ) (e : Exported) → ExportedAs calling placed_call name e → (name ≡ codes "_main") × (e ≡ as_value 0 0x398)
+exported_is name _ (from_object s e exported value) =
     let who = named_main name s exported.0 in
     let here : ValueOf calling placed_call (weak_flag calling main_symbol) (target_of_name calling (codes "_main")) e =
     subst (λ n. ValueOf calling placed_call (weak_flag calling main_symbol) (target_of_name calling n) e) who.0
@@ -134,7 +133,7 @@ exported_is name _ (exports.ExportedAs.from_object s e exported value) =
     subst (λ (u : Target). ValueOf calling placed_call 0 u e) main_facts.0
     (subst (λ w. ValueOf calling placed_call w (target_of_name calling (codes "_main")) e) main_facts.1 here) in
     (who.0, value_is e there)
-exported_is name _ (exports.ExportedAs.from_library one lists listed) = absurd (let no : false ≡ true = lists in cc)
+exported_is name _ (from_library on) = absurd (let no : false ≡ true = on.1 in cc)
 
 pub main_is_exported : IsExported calling (codes "_main") main_symbol
 unfolding commands_end commands_of commands_from header_of reading le_at row_bytes le_bytes words8 words halves name16 entry calls_exit
@@ -146,7 +145,7 @@ unfolding commands_end commands_of commands_from header_of reading le_at row_byt
     output_keys_of own_entries import_entries_of entries_have_addends fixup_count names_text
 main_is_exported = (refl, refl, refl)
 
-main_exported : ExportedAs calling placed_call (codes "_main") (Value 0 0x398)
+main_exported : ExportedAs calling placed_call (codes "_main") (as_value 0 0x398)
 unfolding commands_end commands_of commands_from header_of reading le_at row_bytes le_bytes words8 words halves name16 entry calls_exit
     head_of_call fixups_of_call tables_of_call be_at be_bytes big_words signature_of_call call_image segment_of num_sections section_place
     section_at section_bytes symtab_of num_symbols symbol_place symbol_at strings_of symbol_name relocation_place relocation_at
@@ -154,7 +153,7 @@ unfolding commands_end commands_of commands_from header_of reading le_at row_byt
     definition_of chosen_commons initializer_sections unwind_sections uses_of imports_of libraries_needed target_of
     target_of_relocation slots_of stubs_of fields_of plain_entries all_entries entries_of other_segments segment_names_of
     output_keys_of own_entries import_entries_of entries_have_addends fixup_count names_text
-main_exported = exports.ExportedAs.from_object main_symbol (Value 0 0x398) main_is_exported
+main_exported = from_object main_symbol (as_value 0 0x398) main_is_exported
     (0x100000398, 0x398, (section_a 0x100000398, (0, omega arith, refl), refl, refl, refl), refl, refl)
 
 -- the two nodes
@@ -302,32 +301,28 @@ exact_trie = inr (
 )
 
 -- THE exports trie
-found_in : (name : List ℕ) (e : Export) → ExportedAs calling placed_call name e → trie_finds trie_of_call name (trie_export e)
-found_in name e exported =
-    let is = exported_is name e exported in
-    subst (λ (n : List ℕ). trie_finds trie_of_call n (trie_export e)) (sym is.0)
-    (subst (λ (x : Export). trie_finds trie_of_call (codes "_main") (trie_export x)) (sym is.1) finds_main)
+found_in : (name : List ℕ) (x : Exported) → ExportedAs calling placed_call name x → trie_finds trie_of_call name x
+found_in name x exported =
+    let is = exported_is name x exported in
+    subst (λ (n : List ℕ). trie_finds trie_of_call n x) (sym is.0)
+    (subst (λ (y : Exported). trie_finds trie_of_call (codes "_main") y) (sym is.1) finds_main)
 
-only_in : (name : List ℕ) (x : Exported) → trie_finds trie_of_call name x → IsFoundExport calling placed_call name x
+only_in : (name : List ℕ) (x : Exported) → trie_finds trie_of_call name x → ExportedAs calling placed_call name x
 only_in name x finds =
     let is = only_main 0 name x refl finds in
-    record {
-      export = Value 0 0x398;
-      exported = subst (λ (n : List ℕ). ExportedAs calling placed_call n (Value 0 0x398)) (sym is.0) main_exported;
-      is = is.1;
-    }
-
-sound_in : IsFoundExport calling placed_call (codes "_main") (as_value 0 0x398)
-sound_in = record { export = Value 0 0x398; exported = main_exported; is = refl }
+    subst (λ (n : List ℕ). ExportedAs calling placed_call n x) (sym is.0)
+    (subst (λ (y : Exported). ExportedAs calling placed_call (codes "_main") y) (sym is.1) main_exported)
 
 pub call_trie : TrieSays calling call_image placed_call
 call_trie = record {
   table = trie_table;
   one = trie_there.0;
-  found = λ name e exported. rw trie_there.1 (found_in name e exported);
-  only = λ name x finds. only_in name x (subst (λ (bytes : List ℕ). trie_finds bytes name x) trie_there.1 finds);
+  finds = λ name x. (
+    λ finds. only_in name x (subst (λ (bytes : List ℕ). trie_finds bytes name x) trie_there.1 finds),
+    λ exported. rw trie_there.1 (found_in name x exported),
+  );
   symbols = main_says;
-  sound = All-cons (λ (s : List ℕ × Exported). IsFoundExport calling placed_call s.0 s.1) (codes "_main", as_value 0 0x398) []
-      sound_in (All-nil _);
+  sound = All-cons (λ (s : List ℕ × Exported). ExportedAs calling placed_call s.0 s.1) (codes "_main", as_value 0 0x398) []
+      main_exported (All-nil _);
   exact = rw trie_there.1 exact_trie;
 }

@@ -22,7 +22,6 @@ use Rattle.macho_model.specs.OutputSections.{output_sections_of, output_sections
 use Rattle.macho_model.specs.Images.{segments_of, mapped_segments, base_of, libraries_of, tables_of, tries_of, signatures_of}
 use Rattle.macho_model.specs.Images.{symbol_tables_of, string_tables_of, entries_of_file}
 use Rattle.macho_model.specs.SymbolTable.{table_symbols}
-use Rattle.macho_model.specs.SymbolRows.{symbol_rows, symbol_rows_in}
 use Rattle.macho_model_checks.proofs.Examples.{words8, words, halves, name16}
 use Rattle.macho_model_checks.proofs.ExampleLinks.{entry}
 
@@ -33,7 +32,7 @@ unfolding commands_end commands_of commands_from header_of reading le_at row_byt
     sections_of carried_of template_exponent placed_exponent symbols_of strong_of weak_of commons_of greatest_of libraries_with
     definition_of chosen_commons initializer_sections unwind_sections uses_of imports_of libraries_needed target_of
     target_of_relocation slots_of stubs_of fields_of plain_entries all_entries entries_of other_segments segment_names_of
-    output_keys_of table_symbols symbol_rows symbol_rows_in output_sections_of output_sections_for pieces_of
+    output_keys_of table_symbols output_sections_of output_sections_for pieces_of
     segments_for entries_of_link resolved_entries
 no_entries = refl
 
@@ -49,8 +48,10 @@ call_unwind = record {
   content = [];
   exact = inl (no_entries, refl);
   begins = record { within = omega arith; same = refl };
-  found = λ offset e is. absurd (omega (arith, ap length no_entries, is.one.1));
-  only = λ offset x finds. absurd (
-      let header : 28 ≤ length (unwind_bytes call_image placed_call) = finds.tables.header in omega (arith, ap length no_bytes, header));
+  finds = λ offset x. (
+    λ finds. absurd (
+        let header : 28 ≤ length (unwind_bytes call_image placed_call) = finds.tables.header in omega (arith, ap length no_bytes, header)),
+    λ is. absurd (omega (arith, ap length no_entries, is.of_offset.one.1)),
+  );
   empty = λ none. refl;
 }

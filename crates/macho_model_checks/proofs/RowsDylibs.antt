@@ -14,6 +14,8 @@ use Rattle.macho_model.specs.Objects.{symtab_of, num_symbols, symbol_place, symb
 use Rattle.macho_model.specs.ObjectRules.{head_fits, commands_inside, needed_in_dylib, has_one, tables_inside, name_ends, path_ends}
 use Rattle.macho_model.specs.ObjectRules.{global_has_name}
 use Rattle.macho_model.specs.Grammar.{IsDylib}
+use Rattle.macho_model.specs.ObjectLaws.{KeepsDylibRules}
+use Rattle.macho_model.proofs.ObjectLaws.{dylib_keeps, kept_dylib}
 use Rattle.macho_model.proofs.EachBelow.{each_below, true_or_false, and_left, and_right, and_both, all_pass, pass_all, below_pass}
 use Rattle.macho_model.proofs.EachBelow.{pass_below}
 use Rattle.macho_model_checks.proofs.Examples.{words8, words, halves, changed}
@@ -50,6 +52,7 @@ pub is_dylib : (b : List ℕ) → dylib_tests b ≡ replicate 6 true → IsDylib
 unfolding dylib_tests
 is_dylib b h =
     let ans = λ (n : ℕ). answer n (dylib_tests b) (replicate 6 true) h in
+    let keeps : KeepsDylibRules b =
     record {
       o1 = ans 0;
       o2 = (
@@ -64,11 +67,13 @@ is_dylib b h =
         all_pass (path_ends b) (numbered LC_ID_DYLIB b) (and_right (each_below (num_symbols b) (name_ends b)) _ (ans 4)),
       );
       o13 = below_pass (num_symbols b) (global_has_name b) (ans 5);
-    }
+    } in
+    kept_dylib keeps
 
 pub dylib_passes : (b : List ℕ) → IsDylib b → dylib_tests b ≡ replicate 6 true
 unfolding dylib_tests
-dylib_passes b d =
+dylib_passes b is =
+    let d = dylib_keeps is in
     rw (
       d.o1,
       and_both (commands_inside b) (list_all (command_fits needed_in_dylib b) (commands_of b)) d.o2.0

@@ -14,8 +14,9 @@ use Rattle.macho_model.specs.Resolution.{Symbol, symbols_of, strong_of, weak_of,
 use Rattle.macho_model.specs.Resolution.{chosen_commons, entry_at}
 use Rattle.macho_model.specs.Needs.{initializer_sections, unwind_sections, uses_of, imports_of, libraries_needed}
 use Rattle.macho_model.specs.Targets.{target_of, target_of_name, target_of_relocation, slots_of, stubs_of}
-use Rattle.macho_model.specs.Exports.{Value, ExportedAs, is_listed, weak_flag, section_flag}
-use Rattle.macho_model.specs.Exports as exports
+use Rattle.macho_model.specs.Exports.{is_listed, weak_flag, section_flag}
+use Rattle.macho_trie.specs.Exports.{as_value}
+use Rattle.macho_promise.specs.TrieSays.{ExportedAs, from_object}
 use Rattle.macho_model_checks.proofs.Examples.{words8, words, halves, name16, object_a, object_b, changed, header_b}
 use Rattle.macho_model_checks.proofs.ExampleLinks.{executable_of, section, symbol}
 use Rattle.macho_model_checks.proofs.ExamplePlacement.{link_a, placed_a, section_a}
@@ -58,9 +59,9 @@ unfolding header_of commands_from commands_of commands_end segment_of num_sectio
     plain_entries all_entries entries_of le_at le_bytes row_bytes reading words8 words halves name16 object_b changed object_a
 what_main_is = (refl, refl, refl, refl, refl)
 
-pub main_is_exported : ExportedAs link_a placed_a (codes "_main") (Value 0 0x138)
+pub main_is_exported : ExportedAs link_a placed_a (codes "_main") (as_value 0 0x138)
 main_is_exported =
-    exports.ExportedAs.from_object (symbol 0 0) (Value 0 0x138) (what_main_is.0, what_main_is.1, what_main_is.2)
+    from_object (symbol 0 0) (as_value 0 0x138) (what_main_is.0, what_main_is.1, what_main_is.2)
     (rw what_main_is.3 (
       0x100000138,
       0x138,

@@ -4,7 +4,7 @@
 -- encoding, the page's entry and the last one, and the page with its one function (`mach-o/compact_unwind_encoding.h`). Entries have one
 -- plan, so a section with another encoding, or with another end of the last function, is none of theirs.
 use Rattle.std.proofs.Common.{◌≡◌, ℕ, ◌+◌, ◌-◌, ◌/◌, ◌%◌, ◌^◌, ◌<◌, ◌≤◌, List, [], ◌∷◌, ◌++◌, length, get_or, replicate, refl, sym, ap}
-use Rattle.std.proofs.Common.{◌∙◌, subst, inl, inr, arith, None, All}
+use Rattle.std.proofs.Common.{◌↔◌, ◌∙◌, subst, inl, inr, arith, None, All}
 use Rattle.std.specs.Prelude.{slice_index, slice_range, IfSome}
 use Rattle.std.proofs.lemmas.List.Elements.{All-nil, All-cons}
 use Rattle.std.proofs.lemmas.List.Sorted.{IsPermutation-refl}
@@ -31,7 +31,9 @@ use Rattle.macho_unwind_pages.specs.Orders.{in_order, put_in_order}
 use Rattle.macho_unwind_pages.specs.Plans.{PageList, PlanList, IsPage, IsPlan, IsPlanOf, AreLocals, HasSlot}
 use Rattle.macho_unwind_pages.proofs.OnePlan.{plans_are_one}
 use Rattle.macho_unwind.specs.Texts.{section_text, page_text, HasPlaces}
-use Rattle.macho_unwind.specs.Entries.{IsSectionOf, BeginsWith}
+use Rattle.macho_unwind.specs.declared.lookup.Found.{Found}
+use Rattle.macho_unwind.specs.Lookup.{UnwindFinds}
+use Rattle.macho_unwind.specs.Entries.{IsSectionOf, IsFoundFor, BeginsWith}
 use Rattle.macho_unwind.proofs.EntryLookup.{finds-entries, finds-only-entries}
 use Rattle.macho_promise.specs.UnwindSays.{resolved_entries, unwind_bytes, IsUnwindText, UnwindSays}
 use Rattle.macho_model_checks.proofs.Examples.{words8, words, halves, name16, changed}
@@ -174,16 +176,23 @@ whole_section = refl
 begins_there : BeginsWith (unwind_bytes unwind_file placed_unwind) unwind_section
 begins_there = rw range_there (record { within = omega (arith, long_section); same = whole_section })
 
+finds_there : (offset : ℕ) (x : Found)
+    → UnwindFinds (unwind_bytes unwind_file placed_unwind) offset x ↔ IsFoundFor 0x100000000 functions offset x
+finds_there offset x = (
+  finds-only-entries 0x100000000 functions unwind_section they_are_entries section_is_theirs (unwind_bytes unwind_file placed_unwind)
+      begins_there offset x,
+  λ is. subst (λ (y : Found). UnwindFinds (unwind_bytes unwind_file placed_unwind) offset y) (sym is.is)
+      (finds-entries 0x100000000 functions unwind_section they_are_entries section_is_theirs (unwind_bytes unwind_file placed_unwind)
+      begins_there offset is.entry is.of_offset),
+)
+
 -- THE unwind information of a link with an entry: it is found, and nothing else
 pub entry_is_said : UnwindSays unwinding unwind_file placed_unwind
 entry_is_said = record {
   content = unwind_section;
   exact = rw resolved_are (inr (omega arith, section_is_theirs));
   begins = begins_there;
-  found = rw resolved_are (finds-entries 0x100000000 functions unwind_section they_are_entries section_is_theirs
-      (unwind_bytes unwind_file placed_unwind) begins_there);
-  only = rw resolved_are (finds-only-entries 0x100000000 functions unwind_section they_are_entries section_is_theirs
-      (unwind_bytes unwind_file placed_unwind) begins_there);
+  finds = rw resolved_are finds_there;
   empty = λ none. absurd (omega (arith, ap length (sym resolved_are ∙ none)));
 }
 

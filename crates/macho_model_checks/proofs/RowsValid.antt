@@ -26,8 +26,9 @@ use Rattle.macho_model.proofs.EachBelow.{true_or_false}
 use Rattle.macho_model_checks.proofs.Examples.{words8, words, halves, name16, object_a}
 use Rattle.macho_model_checks.proofs.ExampleLinks.{entry, text_object, executable_of}
 use Rattle.macho_model_checks.proofs.ExamplePlacement.{link_a, counts_a}
-use Rattle.macho_model_checks.proofs.ValidTests.{ValidPart, Single, Used, Listed, Begun, Supported, NonOverlapping, Fitting, Initializers}
-use Rattle.macho_model_checks.proofs.ValidTests.{Slots, AtSlots, Whole, Unwind, Limits, Sum, ValidKeeps, valid_verdict, verdict_but}
+use Rattle.macho_model_checks.specs.ValidParts.{ValidPart, Single, Used, Listed, Begun, Supported, NonOverlapping, Fitting, Initializers}
+use Rattle.macho_model_checks.specs.ValidParts.{Slots, AtSlots, Whole, Unwind, Limits, Sum, ValidKeeps}
+use Rattle.macho_model_checks.proofs.ValidTests.{valid_verdict, verdict_but}
 use Rattle.macho_model_checks.proofs.ValidTests.{is_part, valid_answer, shows_valid_test, is_valid_by_tests, ValidBreaksAlone}
 use Rattle.macho_model_checks.proofs.ValidTests.{valid_breaks_alone}
 

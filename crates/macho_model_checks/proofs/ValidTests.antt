@@ -1,13 +1,15 @@
 -- Each part of validity as one test, and what the tests say of a link.
 --
+-- A part says that the refusals of a kind don't stand, that each field fits, or that the sum is small; all parts together are validity.
 -- A part speaks of each symbol, use, section, relocation, slot or limit, and of these a link has finitely many: so it has a
 -- test that is true exactly where the part holds. Of names there are more, but one with two definitions is that of a symbol.
 -- So the tests, computed, show of a small link that it is valid, or which part it breaks, and that it keeps the others.
-use Rattle.std.proofs.Common.{◌≡◌, ◌≢◌, ℕ, ◌+◌, ◌*◌, ◌/◌, ◌%◌, ◌<◌, ◌≤◌, ◌==◌, ◌⊎◌, inl, inr, nat_le, Bool, true, false, not, ◌&&◌, ◌||◌}
+use Rattle.std.proofs.Common.{◌≡◌, ◌≢◌, ℕ, ◌/◌, ◌%◌, ◌<◌, ◌≤◌, ◌==◌, ◌⊎◌, inl, inr, nat_le, Bool, true, false, not, ◌&&◌, ◌||◌}
 use Rattle.std.proofs.Common.{List, [], ◌∷◌, length, get_or, map, refl, sym, ap, ◌∙◌, arith, Some, None, All}
-use Rattle.std.specs.Prelude.{Option, Contains, is_some, filter}
+use Rattle.std.specs.Prelude.{Option, Contains, IsNone, is_some, filter}
 use Rattle.std.specs.List.{list_all}
 use Rattle.std.proofs.lemmas.Bool.{leb-true, le-leb, cases_lt}
+use Rattle.std.proofs.lemmas.List.{get_or_default}
 use Rattle.std.proofs.lemmas.List.Elements.{All-contains, All-filter, Contains-get_or, filter_passes}
 use Rattle.std.proofs.lemmas.Slice.Eq.{bytes_eq-Decides}
 use Rattle.macho_model.specs.declared.rules.UnwindRule.{UnwindRule}
@@ -17,91 +19,159 @@ use Rattle.macho_model.specs.declared.targets.Limit.TheVariants as limit
 use Rattle.macho_model.specs.declared.placed.Counts.{Counts}
 use Rattle.macho_model.specs.ExportLists.{plain_entries}
 use Rattle.macho_model.specs.Links.{Link, SectionId, header_at, carried_of}
-use Rattle.macho_model.specs.Resolution.{SymbolId, symbols_of, name_at, has_name, is_strong, strong_of, definition_of}
-use Rattle.macho_model.specs.Needs.{Use, uses_of, name_used, initializer_sections, unwind_sections, relocation_in, POINTER_SIZE}
+use Rattle.macho_model.specs.Lists.{IsNumber}
+use Rattle.macho_model.specs.Symbols.{is_global}
+use Rattle.macho_model.specs.Placement.{Placed}
+use Rattle.macho_model.specs.Values.{section_id, fits_signed}
+use Rattle.macho_model.specs.Resolution.{SymbolId, symbols_of, entry_at, name_at, has_name, is_strong, strong_of, definition_of}
+use Rattle.macho_model.specs.Needs.{Use, uses_of, symbol_used, initializer_sections, unwind_sections, relocation_in, POINTER_SIZE}
 use Rattle.macho_model.specs.Fields.{fields_of}
 use Rattle.macho_model.specs.WrittenSum.{written_sum_of}
 use Rattle.macho_model.specs.Stands.{kind_of}
 use Rattle.macho_model.specs.Rows.{is_supported, share_byte, are_pair}
 use Rattle.macho_model.specs.Consumed.{initializer_section_fits, initializer_slot_fits, entry_count, whole_entries, keeps}
 use Rattle.macho_model.specs.Limits.{limited}
-use Rattle.macho_model.specs.Faults.{entry_is_defined}
+use Rattle.macho_model.specs.Faults.{LinkFault, DuplicateSymbol, UndefinedSymbol, EntryNotDefined, ExportListMissing, BadInitializer}
+use Rattle.macho_model.specs.Faults.{BadUnwind, UnsupportedRelocation, OverlappingFields, BindAddend, FixupPlace, TooMany, ImageTooLarge}
+use Rattle.macho_model.specs.Faults.{RebaseTarget, RelocationRange, BadName, names_symbol, entry_is_defined, IsBadEntry, IsBadInitializer}
+use Rattle.macho_model.specs.Faults.{FaultStands, kept_placement}
 use Rattle.macho_model.specs.Valid.{VALID_SUM, field_fits, IsValid}
-use Rattle.macho_model.proofs.EachBelow.{each_below, true_or_false, and_right, or_second, same_number, other_number, all_pass, pass_all}
+use Rattle.macho_model_checks.specs.ValidParts.{ValidPart, ValidKeeps}
+use Rattle.macho_model_checks.specs.ValidParts.{Single, Used, Listed, Begun, Supported, NonOverlapping, Fitting, Initializers, Slots, AtSlots}
+use Rattle.macho_model_checks.specs.ValidParts.{Whole, Unwind, Limits, Sum}
+use Rattle.macho_model.proofs.EachBelow.{each_below, not_false, true_or_false, and_right, or_second, same_number, other_number, all_pass, pass_all}
+use Rattle.macho_model.proofs.FixedPointers.{import_needs, pointer_keeps, import_stays}
+use Rattle.macho_model.proofs.Unrefused.{never, valid_relocations, valid_initializers, valid_slot, valid_at_slot, valid_whole, valid_entry}
+use Rattle.macho_model.proofs.Unrefused.{valid_limit}
 use Rattle.macho_model.proofs.EachBelow.{below_pass, pass_below}
 
--- The parts of validity.
-pub data ValidPart : Type 0 where
-  Single : ValidPart
-  Used : ValidPart
-  Listed : ValidPart
-  Begun : ValidPart
-  Supported : ValidPart
-  NonOverlapping : ValidPart
-  Fitting : ValidPart
-  Initializers : ValidPart
-  Slots : ValidPart
-  AtSlots : ValidPart
-  Whole : ValidPart
-  Unwind : ValidPart
-  Limits : ValidPart
-  Sum : ValidPart
+-- Of a link that keeps each part no refusal stands: each shows a part that is broken.
+none_some : {X : Type 0} (o : Option X) → IsNone o → is_some o ≡ true → ⊥
+none_some o none some = true_or_false (is_some o) some none
 
-abbrev pub ValidKeeps : Link → Counts → ValidPart → Type 0
-ValidKeeps l counts Single = (name : List ℕ) → length (strong_of l name) ≤ 1
-ValidKeeps l counts Used = (u : Use) (name : List ℕ) → Contains (uses_of l) u → name_used l u ≡ Some name
-    → is_some (definition_of l name) ≡ true
-ValidKeeps l counts Listed = All (λ name. is_some (definition_of l name) ≡ true) (plain_entries l.export_lists)
-ValidKeeps l counts Begun = entry_is_defined l ≡ true
-ValidKeeps l counts Supported = (s : SectionId) (r : ℕ) → Contains (carried_of l) s → r < (header_at l s).nreloc → is_supported l s r ≡ true
-ValidKeeps l counts NonOverlapping =
-    (s : SectionId) (q r : ℕ) → Contains (carried_of l) s → q < r → r < (header_at l s).nreloc → (share_byte l s q r ≡ false)
-    ⊎ (are_pair l s q r ≡ true)
-ValidKeeps l counts Fitting =
-    (s : SectionId) → Contains (carried_of l) s → All (λ f. field_fits l s f (kind_of f.type (is_some f.subtrahend)) ≡ true) (fields_of l s)
-ValidKeeps l counts Initializers = All (λ s. initializer_section_fits l s ≡ true) (initializer_sections l)
-ValidKeeps l counts Slots =
-    (s : SectionId) (slot : ℕ) → Contains (initializer_sections l) s → POINTER_SIZE * slot + POINTER_SIZE ≤ (header_at l s).size
-    → initializer_slot_fits l s slot ≡ true
-ValidKeeps l counts AtSlots =
-    (s : SectionId) (r : ℕ) → Contains (initializer_sections l) s → r < (header_at l s).nreloc
-    → ((relocation_in l s r).r_address % POINTER_SIZE == 0) ≡ true
-ValidKeeps l counts Whole = All (λ s. whole_entries l s ≡ true) (unwind_sections l)
-ValidKeeps l counts Unwind =
-    (s : SectionId) (e : ℕ) (rule : UnwindRule) → Contains (unwind_sections l) s → e < entry_count l s → keeps l s e rule ≡ true
-ValidKeeps l counts Limits = (what : Limit) → (limited l counts what).0 ≤ (limited l counts what).1
-ValidKeeps l counts Sum = written_sum_of l counts ≤ VALID_SUM
+bad_entry : (l : Link) (counts : Counts) (s : SectionId) (e : ℕ) (rule : UnwindRule) → ((part : ValidPart) → ValidKeeps l counts part)
+    → Contains (unwind_sections l) s → IsBadEntry l s e rule → ⊥
+bad_entry l counts s e U1 h one (at, broken) =
+    true_or_false (whole_entries l s) (All-contains (λ t. whole_entries l t ≡ true) (unwind_sections l) s (h Whole) one) broken
+bad_entry l counts s e U2 h one (within, broken) = true_or_false (keeps l s e U2) (h Unwind s e U2 one within) broken
+bad_entry l counts s e U3 h one (within, broken) = true_or_false (keeps l s e U3) (h Unwind s e U3 one within) broken
+bad_entry l counts s e U4 h one (within, broken) = true_or_false (keeps l s e U4) (h Unwind s e U4 one within) broken
+bad_entry l counts s e U5 h one (within, broken) = true_or_false (keeps l s e U5) (h Unwind s e U5 one within) broken
+bad_entry l counts s e U6 h one (within, broken) = true_or_false (keeps l s e U6) (h Unwind s e U6 one within) broken
+bad_entry l counts s e U7 h one (within, broken) = true_or_false (keeps l s e U7) (h Unwind s e U7 one within) broken
+bad_entry l counts s e U8 h one (within, broken) = true_or_false (keeps l s e U8) (h Unwind s e U8 one within) broken
 
--- a link that keeps each part is valid, and the other way
+bad_initializer : (l : Link) (counts : Counts) (s : SectionId) (offset : ℕ) → ((part : ValidPart) → ValidKeeps l counts part)
+    → Contains (initializer_sections l) s → IsBadInitializer l s offset → ⊥
+bad_initializer l counts s offset h one (inl (broken, at)) =
+    true_or_false (initializer_section_fits l s)
+    (All-contains (λ t. initializer_section_fits l t ≡ true) (initializer_sections l) s (h Initializers) one) broken
+bad_initializer l counts s offset h one (inr (inl (slot, within, at, broken))) =
+    true_or_false (initializer_slot_fits l s slot) (h Slots s slot one within) broken
+bad_initializer l counts s offset h one (inr (inr (r, within, at, broken))) =
+    true_or_false ((relocation_in l s r).r_address % POINTER_SIZE == 0) (h AtSlots s r one within)
+    (ap (λ (n : ℕ). n % POINTER_SIZE == 0) (sym at) ∙ broken)
+
+-- a refusal that keeps a placement is not of the link alone
+kept : (p : Placed) → Some p ≡ None → ⊥
+kept p h = cc
+
+unrefused_keeping : (l : Link) (counts : Counts) (f : LinkFault) → ((part : ValidPart) → ValidKeeps l counts part)
+    → kept_placement f ≡ None → FaultStands l counts f → f ≡ BadName
+unrefused_keeping l counts (DuplicateSymbol name first second) h alone (i, j, s, t, before, at_i, at_j, one, two) =
+    absurd (omega (arith, h Single name, before, at_j.0))
+unrefused_keeping l counts (UndefinedSymbol name file) h alone (u, s, one, named, used, global, is, of, none) =
+    absurd (none_some (definition_of l name) none
+    (ap (λ (n : List ℕ). is_some (definition_of l n)) (sym is) ∙ h Used u s one named used global))
+unrefused_keeping l counts (EntryNotDefined name) h alone (is, broken) = absurd (true_or_false _ (h Begun) broken)
+unrefused_keeping l counts (ExportListMissing name) h alone (one, none) =
+    absurd (none_some (definition_of l name) none
+    (All-contains (λ n. is_some (definition_of l n) ≡ true) (plain_entries l.export_lists) name (h Listed) one))
+unrefused_keeping l counts (BadInitializer file section offset) h alone (one, bad) =
+    absurd (bad_initializer l counts (section_id file section) offset h one bad)
+unrefused_keeping l counts (BadUnwind file section entry rule) h alone (one, bad) =
+    absurd (bad_entry l counts (section_id file section) entry rule h one bad)
+unrefused_keeping l counts (UnsupportedRelocation file section relocation) h alone (one, within, broken) =
+    absurd (true_or_false _ (h Supported (section_id file section) relocation one within) broken)
+unrefused_keeping l counts (OverlappingFields file section first second) h alone (one, before, within, share, pair) =
+    elim (h NonOverlapping (section_id file section) first second one before within) [
+      | inl none ↦ absurd (true_or_false _ share none)
+      | inr are ↦ absurd (true_or_false _ are pair)
+    ]
+unrefused_keeping l counts (BindAddend file section relocation addend) h alone (f, of, pointer, import, is, broken) =
+    absurd (true_or_false (fits_signed 32 f.addend)
+    (import_stays l f.target f.addend import
+    (pointer_keeps l (section_id file section) f (h Fitting) of.0 of.1 (import_needs l (section_id file section) f pointer import)).2)
+    (ap (fits_signed 32) (sym is) ∙ broken))
+unrefused_keeping l counts (FixupPlace file section relocation None) h alone (f, of, needs, broken) =
+    absurd (true_or_false _ (pointer_keeps l (section_id file section) f (h Fitting) of.0 of.1 needs).0 broken)
+unrefused_keeping l counts (FixupPlace file section relocation (Some p)) h alone stands = absurd (kept p alone)
+unrefused_keeping l counts (TooMany what number None) h alone (is, more) = absurd (omega (arith, h Limits what, is, more))
+unrefused_keeping l counts (TooMany what number (Some p)) h alone stands = absurd (kept p alone)
+unrefused_keeping l counts (ImageTooLarge None) h alone stands = absurd (omega (arith, h Sum, stands))
+unrefused_keeping l counts (ImageTooLarge (Some p)) h alone stands = absurd (kept p alone)
+unrefused_keeping l counts (RebaseTarget at p) h alone stands = absurd (kept p alone)
+unrefused_keeping l counts (RelocationRange at p) h alone stands = absurd (kept p alone)
+unrefused_keeping l counts BadName h alone stands = refl
+
+-- A link that keeps each part is valid, and the other way.
 pub valid_keeping : (l : Link) (counts : Counts) → ((part : ValidPart) → ValidKeeps l counts part) → IsValid l counts
 valid_keeping l counts h = record {
-  names = record { single = h Single; used = h Used; listed = h Listed; entry = h Begun };
-  relocations = record { supported = h Supported; apart = h NonOverlapping };
+  unrefused = λ f alone stands. unrefused_keeping l counts f h alone stands;
   fields = h Fitting;
-  consumed = record { initializers = h Initializers; slots = h Slots; placed = h AtSlots; whole = h Whole; unwind = h Unwind };
-  numbers = record { limits = h Limits; sum = h Sum };
+  sum = h Sum;
 }
 
-pub keeping_valid : (l : Link) (counts : Counts) → IsValid l counts → (part : ValidPart) → ValidKeeps l counts part
-keeping_valid l counts v Single = v.names.single
-keeping_valid l counts v Used = v.names.used
-keeping_valid l counts v Listed = v.names.listed
-keeping_valid l counts v Begun = v.names.entry
-keeping_valid l counts v Supported = v.relocations.supported
-keeping_valid l counts v NonOverlapping = v.relocations.apart
-keeping_valid l counts v Fitting = v.fields
-keeping_valid l counts v Initializers = v.consumed.initializers
-keeping_valid l counts v Slots = v.consumed.slots
-keeping_valid l counts v AtSlots = v.consumed.placed
-keeping_valid l counts v Whole = v.consumed.whole
-keeping_valid l counts v Unwind = v.consumed.unwind
-keeping_valid l counts v Limits = v.numbers.limits
-keeping_valid l counts v Sum = v.numbers.sum
+-- two strong definitions of a name are told, by the files of the first two
+numbered : {X : Type 0} (xs : List X) (k : ℕ) (d : X) → k < length xs → IsNumber xs k (get_or xs k d)
+numbered xs k d lt = (lt, get_or_default xs k (get_or xs k d) d lt)
 
--- a name that is used is defined
-abbrev pub is_defined_if : Link → Option (List ℕ) → Bool
-is_defined_if l None = true
-is_defined_if l (Some name) = is_some (definition_of l name)
+pub keeping_valid : (l : Link) (counts : Counts) → IsValid l counts → (part : ValidPart) → ValidKeeps l counts part
+keeping_valid l counts v Single = λ name. elim (cases_lt 1 (length (strong_of l name))) [
+  | inl many ↦
+      let none : SymbolId = record { file = 0; symbol = 0 } in
+      let s = get_or (strong_of l name) 0 none in
+      let t = get_or (strong_of l name) 1 none in
+      absurd (never l counts (DuplicateSymbol name s.file t.file) v refl refl (
+        0,
+        1,
+        s,
+        t,
+        omega arith,
+        numbered (strong_of l name) 0 none (omega (arith, many)),
+        numbered (strong_of l name) 1 none many,
+        refl,
+        refl,
+      ))
+  | inr few ↦ few
+]
+keeping_valid l counts v Used = λ u s one named used global. not_false (is_some (definition_of l (name_at l s)))
+    (λ none. never l counts (UndefinedSymbol (name_at l s) s.file) v refl refl (u, s, one, named, used, global, refl, refl, none))
+keeping_valid l counts v Listed = λ k d lt. not_false _
+    (λ none. never l counts (ExportListMissing (get_or (plain_entries l.export_lists) k d)) v refl refl
+    (Contains-get_or (plain_entries l.export_lists) k d lt, none))
+keeping_valid l counts v Begun = not_false (entry_is_defined l)
+    (λ broken. never l counts (EntryNotDefined l.entry) v refl refl (refl, broken))
+keeping_valid l counts v Supported = (valid_relocations l counts v).supported
+keeping_valid l counts v NonOverlapping = (valid_relocations l counts v).apart
+keeping_valid l counts v Fitting = v.fields
+keeping_valid l counts v Initializers = λ k d lt. valid_initializers l counts (get_or (initializer_sections l) k d) v
+    (Contains-get_or (initializer_sections l) k d lt)
+keeping_valid l counts v Slots = λ s slot one within. valid_slot l counts s slot v one within
+keeping_valid l counts v AtSlots = λ s r one within. valid_at_slot l counts s r v one within
+keeping_valid l counts v Whole = λ k d lt. valid_whole l counts (get_or (unwind_sections l) k d) v
+    (Contains-get_or (unwind_sections l) k d lt)
+keeping_valid l counts v Unwind = λ s e rule one within. valid_entry l counts s e rule v one within
+keeping_valid l counts v Limits = λ what. valid_limit l counts what v
+keeping_valid l counts v Sum = v.sum
+
+-- a symbol that is used is local, or its name is defined
+abbrev pub is_found : Link → Option SymbolId → Bool
+is_found l None = true
+is_found l (Some s) = not (is_global (entry_at l s)) || is_some (definition_of l (name_at l s))
+
+abbrev pub use_is_found : Link → Use → Bool
+use_is_found l u = not (names_symbol l u) || is_found l (symbol_used l u)
 
 -- two relocations share no byte, or are a pair
 abbrev pub part_in_peace : Link → SectionId → ℕ → ℕ → Bool
@@ -121,7 +191,7 @@ is_in_limit l counts what = nat_le (limited l counts what).0 (limited l counts w
 -- a part's test
 abbrev pub valid_test : Link → Counts → ValidPart → Bool
 valid_test l counts Single = list_all (λ s. nat_le (length (strong_of l (name_at l s))) 1) (symbols_of l)
-valid_test l counts Used = list_all (λ u. is_defined_if l (name_used l u)) (uses_of l)
+valid_test l counts Used = list_all (use_is_found l) (uses_of l)
 valid_test l counts Listed = list_all (λ name. is_some (definition_of l name)) (plain_entries l.export_lists)
 valid_test l counts Begun = entry_is_defined l
 valid_test l counts Supported = list_all (λ s. each_below (header_at l s).nreloc (is_supported l s)) (carried_of l)
@@ -167,15 +237,25 @@ single_shows l h name =
       | inr few ↦ few
     ]
 
-used_shows : (l : Link) (u : Use) (name : List ℕ) → is_defined_if l (name_used l u) ≡ true → name_used l u ≡ Some name
-    → is_some (definition_of l name) ≡ true
-used_shows l u name h is = ap (is_defined_if l) (sym is) ∙ h
+left_true : (a b : Bool) → a ≡ true → (not a || b) ≡ true → b ≡ true
+left_true true b is h = h
+left_true false b is h = absurd (true_or_false false is refl)
 
-shows_used : (l : Link) (u : Use) (found : Option (List ℕ)) → name_used l u ≡ found
-    → ((name : List ℕ) → name_used l u ≡ Some name → is_some (definition_of l name) ≡ true)
-    → is_defined_if l found ≡ true
-shows_used l u None is h = refl
-shows_used l u (Some name) is h = h name is
+true_left : (a b : Bool) → (a ≡ true → b ≡ true) → (not a || b) ≡ true
+true_left true b h = h refl
+true_left false b h = refl
+
+used_shows : (l : Link) (u : Use) (s : SymbolId) → use_is_found l u ≡ true → names_symbol l u ≡ true → symbol_used l u ≡ Some s
+    → is_global (entry_at l s) ≡ true → is_some (definition_of l (name_at l s)) ≡ true
+used_shows l u s h named used global =
+    left_true (is_global (entry_at l s)) (is_some (definition_of l (name_at l s))) global
+    (ap (is_found l) (sym used) ∙ left_true (names_symbol l u) (is_found l (symbol_used l u)) named h)
+
+shows_found : (l : Link) (u : Use) (found : Option SymbolId) → symbol_used l u ≡ found
+    → ((s : SymbolId) → symbol_used l u ≡ Some s → is_global (entry_at l s) ≡ true → is_some (definition_of l (name_at l s)) ≡ true)
+    → is_found l found ≡ true
+shows_found l u None is h = refl
+shows_found l u (Some s) is h = true_left (is_global (entry_at l s)) (is_some (definition_of l (name_at l s))) (h s is)
 
 -- the other way of a pair's test
 peace_shows : (a b : Bool) → (not a || b) ≡ true → (a ≡ false) ⊎ (b ≡ true)
@@ -211,7 +291,7 @@ limit_shows l counts limit.Pages h = all_pass (is_in_limit l counts) all_limits 
 pub valid_test_shows : (l : Link) (counts : Counts) (part : ValidPart) → valid_test l counts part ≡ true → ValidKeeps l counts part
 valid_test_shows l counts Single h = single_shows l h
 valid_test_shows l counts Used h =
-    λ u name one is. used_shows l u name (one_passes (λ x. is_defined_if l (name_used l x)) (uses_of l) u h one) is
+    λ u s one named used global. used_shows l u s (one_passes (use_is_found l) (uses_of l) u h one) named used global
 valid_test_shows l counts Listed h = all_pass (λ name. is_some (definition_of l name)) (plain_entries l.export_lists) h
 valid_test_shows l counts Begun h = h
 valid_test_shows l counts Supported h =
@@ -249,8 +329,9 @@ shows_valid_test l counts Single h =
     passes_each (λ s. nat_le (length (strong_of l (name_at l s))) 1) (symbols_of l)
     (λ s one. le-leb (length (strong_of l (name_at l s))) 1 (h (name_at l s)))
 shows_valid_test l counts Used h =
-    passes_each (λ u. is_defined_if l (name_used l u)) (uses_of l) (λ u one. shows_used l u (name_used l u) refl
-    (λ name is. h u name one is))
+    passes_each (use_is_found l) (uses_of l)
+    (λ u one. true_left (names_symbol l u) (is_found l (symbol_used l u))
+    (λ named. shows_found l u (symbol_used l u) refl (λ s used global. h u s one named used global)))
 shows_valid_test l counts Listed h = pass_all (λ name. is_some (definition_of l name)) (plain_entries l.export_lists) h
 shows_valid_test l counts Begun h = h
 shows_valid_test l counts Supported h =

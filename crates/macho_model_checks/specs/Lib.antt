@@ -1,1 +1,2 @@
+pub mod ValidParts
 pub mod Laws

@@ -4,7 +4,7 @@
 
 mod laws;
 
-pub use laws::what_breaks_a_rule_is_refused;
+pub use laws::{valid_links_keep_each_part, what_breaks_a_rule_is_refused};
 
 #[cfg(test)]
 mod tests;

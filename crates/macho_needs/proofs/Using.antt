@@ -9,6 +9,7 @@ use Rattle.macho_model.specs.declared.placed.Counts.{Counts}
 use Rattle.macho_model.specs.declared.targets.Target.{Target}
 use Rattle.macho_model.specs.Objects.{num_sections, num_symbols, section_at, relocation_at}
 use Rattle.macho_model.specs.Grammar.{IsObject}
+use Rattle.macho_model.proofs.ObjectLaws.{object_keeps}
 use Rattle.macho_model.specs.Links.{Input, Link, SectionId, object_of}
 use Rattle.macho_model.specs.Resolution.{SymbolId, definition_of}
 use Rattle.macho_model.specs.Needs.{Use, ByRelocation, uses_of, relocation_in, section_named, symbol_of_relocation, symbol_used, global_name}
@@ -112,7 +113,7 @@ named_there l s r object rel whole of other extern =
     let there : rel ≡ relocation_at object.bytes s.section r = of.is ∙ ap (λ b. relocation_at b s.section r) of.object_is in
     let number : r < (section_at object.bytes s.section).nreloc = subst (λ b. r < (section_at b s.section).nreloc) of.object_is of.number in
     let test : number_test rel (num_sections object.bytes) (nat_lt rel.r_symbolnum (num_symbols object.bytes)) ≡ true
-    = ap (λ q. number_test q (num_sections object.bytes) (nat_lt q.r_symbolnum (num_symbols object.bytes))) there ∙ whole.o5.1 s.section r of.section number in
+    = ap (λ q. number_test q (num_sections object.bytes) (nat_lt q.r_symbolnum (num_symbols object.bytes))) there ∙ (object_keeps whole).o5.1 s.section r of.section number in
     below rel.r_extern (rel.r_type == ARM64_RELOC_ADDEND) _ rel.r_symbolnum (num_sections object.bytes) test extern other
 
 found_is : (l : Link) (s : SectionId) (r : ℕ) → ((relocation_in l s r).r_type == ARM64_RELOC_ADDEND) ≡ false → IsFoundBy l s.file (relocation_in l s r) → IsFound l (ByRelocation s r)

@@ -7,3 +7,5 @@ pub mod Powers
 pub mod Refusals
 pub mod Wholes
 pub mod Places
+-- lemmas of a crate below, which crates above cite
+pub use Rattle.macho_model.proofs.ObjectLaws

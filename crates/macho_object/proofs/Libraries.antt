@@ -8,7 +8,8 @@ use Rattle.macho_records.specs.CommandLayouts.{dylib_command}
 use Rattle.macho_model.specs.Commands.{numbered, command_fits, path_of, Command}
 use Rattle.macho_model.specs.Objects.{install_name_of, num_symbols}
 use Rattle.macho_model.specs.ObjectRules.{path_ends, needed_in_dylib}
-use Rattle.macho_model.specs.Grammar.{IsDylib, DylibBreaks, AreWhole}
+use Rattle.macho_model.specs.Grammar.{DylibBreaks, AreWhole}
+use Rattle.macho_model.specs.ObjectLaws.{KeepsDylibRules}
 use Rattle.macho_model.specs.declared.rules.ObjectRule.TheVariants.{O9}
 use Rattle.macho_model.specs.Lists.{of_first}
 use Rattle.macho_object.specs.declared.outline.Outline.{Outline}
@@ -34,7 +35,7 @@ path_breaks b main only fails whole =
 
 -- a library that keeps every rule
 pub is_library : (o : Outline) → IsOutlined o → o.is_dynamic ≡ true → path_ends o.input.now (command_at o.input.now o.places.main) ≡ true
-    → ((k : ℕ) → k < num_symbols o.input.now → NameFits o.input.now k) → IsDylib o.input.now
+    → ((k : ℕ) → k < num_symbols o.input.now → NameFits o.input.now k) → KeepsDylibRules o.input.now
 is_library o known kind path names =
     let b = o.input.now in
     let only : numbered 13 b ≡ command_at b o.places.main ∷ [] = rw kind at known.commands.main_only in

@@ -35,7 +35,7 @@ impl<'data> File<'data> {
     /// # Errors
     ///
     /// A rule that the bytes break, and the place of the record that breaks it.
-    #[tactic(auto, using(crate::proofs::Wholes::is_whole, crate::proofs::Refusals::no_file))]
+    #[tactic(auto, using(crate::proofs::Wholes::is_whole, crate::proofs::Refusals::no_file, crate::proofs::Wholes::kept))]
     pub fn parse_bytes(input: &'data [u8], is_dynamic: bool) -> Result<File<'data>, ObjectFault>
         ensures view { IfOk result (λ f. f ≡ record { bytes = input.now; is_dynamic = is_dynamic }) }
         ensures found { OnOk result (IsFile is_dynamic input.now) }

@@ -1,6 +1,7 @@
 //! Whether a file keeps every rule of its kind.
 ghost use Rattle.std.specs.Prelude.{◌≡◌, true, false, OnOk, IfErr};
-ghost use Rattle.macho_model.specs.Grammar.{IsObject, IsDylib, ObjectBreaks, DylibBreaks};
+ghost use Rattle.macho_model.specs.Grammar.{ObjectBreaks, DylibBreaks};
+ghost use Rattle.macho_model.specs.ObjectLaws.{KeepsObjectRules, KeepsDylibRules};
 ghost use Rattle.macho_object.specs.steps.Outlines.{IsOutlined};
 
 use crate::fault::ObjectFault;
@@ -12,7 +13,7 @@ impl Outline<'_> {
     pub(crate) fn check_object(&self) -> Result<(), ObjectFault>
         requires outlined { IsOutlined self.now }
         requires object { self.now.is_dynamic ≡ false }
-        ensures ok { OnOk result (IsObject self.now.input.now) }
+        ensures ok { OnOk result (KeepsObjectRules self.now.input.now) }
         ensures why { IfErr result (λ f. ObjectBreaks self.now.input.now f.rule f.place) }
     {
         self.check_sections()?;
@@ -25,7 +26,7 @@ impl Outline<'_> {
     pub(crate) fn check_library(&self) -> Result<(), ObjectFault>
         requires outlined { IsOutlined self.now }
         requires library { self.now.is_dynamic ≡ true }
-        ensures ok { OnOk result (IsDylib self.now.input.now) }
+        ensures ok { OnOk result (KeepsDylibRules self.now.input.now) }
         ensures why { IfErr result (λ f. DylibBreaks self.now.input.now f.rule f.place) }
     {
         let Some(_name) = self.path() else {

@@ -6,7 +6,7 @@ use Rattle.macho_model.specs.Targets.{is_import}
 use Rattle.macho_model.specs.Segments.{segment_name, may_hold_pointers}
 use Rattle.macho_model.specs.Values.{fits_signed, is_pointer, needs_fixup}
 use Rattle.macho_model.specs.Faults.{IsUndefined}
-use Rattle.macho_model.specs.Valid.{RelocationsAreSupported}
+use Rattle.macho_model.specs.Supported.{RelocationsAreSupported}
 
 -- The relocations of carried sections are sound.
 pub record IsSound (l : Link) : Type 0 where

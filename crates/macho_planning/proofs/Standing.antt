@@ -14,6 +14,7 @@ use Rattle.macho_records.specs.declared.header.SectionHeader.{SectionHeader}
 use Rattle.macho_model.specs.Objects.{section_at, num_sections}
 use Rattle.macho_model.specs.ObjectRules.{is_thread_local}
 use Rattle.macho_model.specs.Grammar.{IsObject}
+use Rattle.macho_model.proofs.ObjectLaws.{object_keeps}
 use Rattle.macho_model.specs.Segments.{PAGEZERO, LINKEDIT, DATA}
 use Rattle.macho_model.specs.Links.{is_carried}
 use Rattle.macho_object.specs.Views.{FileBytes, of_section}
@@ -48,8 +49,8 @@ may_stand file section h rules carried =
 -- each header of an object keeps the rules
 pub keeps_rules : (b : List ℕ) (k : ℕ) → IsObject b → k < num_sections b → KeepsRules (section_at b k)
 keeps_rules b k is low = record {
-  aligned = leb-true (section_at b k).align 14 (is.o7 k low);
-  thread_local = λ e. or_else (is_thread_local (type_of (section_at b k))) _ (is.o11 k low) e;
+  aligned = leb-true (section_at b k).align 14 ((object_keeps is).o7 k low);
+  thread_local = λ e. or_else (is_thread_local (type_of (section_at b k))) _ ((object_keeps is).o11 k low) e;
 }
   where
     or_else : (a c : Bool) → (not a || c) ≡ true → a ≡ true → c ≡ true

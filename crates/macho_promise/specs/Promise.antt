@@ -10,7 +10,7 @@ use Rattle.macho_model.specs.Fixups.{ChainIsWhole}
 use Rattle.macho_model.specs.Agreement.{CommandsAgree, TablesAgree}
 use Rattle.macho_model.specs.Signature.{UuidSays, IsSigned}
 use Rattle.macho_model.specs.Head.{HeadSays}
-use Rattle.macho_model.specs.SymbolRows.{SymbolsSay}
+use Rattle.macho_model.specs.SymbolEntries.{SymbolsSay}
 use Rattle.macho_model.specs.ImportTable.{ImportTableSays, LibrariesSay}
 use Rattle.macho_model.specs.Zeros.{IsZeroElsewhere}
 use Rattle.macho_model.specs.Made.{InitOffsetsSay, TemplateHeaders}

@@ -1,5 +1,5 @@
 -- What the unwind information of an image says: look-up of an offset finds the entry of its function.
-use Rattle.std.specs.Prelude.{◌≡◌, ℕ, ◌+◌, ◌-◌, ◌≤◌, ◌⊎◌, List, [], length, map, slice_get, slice_range, Option, Some, None, option_map}
+use Rattle.std.specs.Prelude.{◌≡◌, ℕ, ◌+◌, ◌-◌, ◌≤◌, ◌⊎◌, ◌↔◌, List, [], length, map, slice_get, slice_range, Option, Some, None, option_map}
 use Rattle.macho_bytes.specs.Texts.{Stands}
 use Rattle.macho_model.specs.Links.{Link, header_at}
 use Rattle.macho_model.specs.Needs.{section_named, PERSONALITY_PLACE}
@@ -11,7 +11,7 @@ use Rattle.macho_unwind.specs.Personality.{Personality}
 use Rattle.macho_unwind.specs.ResolvedUnwindInfo.{ResolvedUnwindInfo}
 use Rattle.macho_unwind.specs.declared.lookup.Found.{Found}
 use Rattle.macho_unwind.specs.Lookup.{UnwindFinds}
-use Rattle.macho_unwind.specs.Entries.{found_for, IsEntryOf, IsFoundFor, IsSectionOf}
+use Rattle.macho_unwind.specs.Entries.{IsFoundFor, IsSectionOf}
 
 -- the relocation of an address of an entry, where it has one
 abbrev pub relocation_of : Link → EntryId → ℕ → Option ℕ
@@ -57,10 +57,7 @@ pub record UnwindSays (l : Link) (b : List ℕ) (p : Placed) : Type 0 where
   pub content : List ℕ
   pub exact : IsUnwindText p.base (resolved_entries l p) content
   pub begins : Stands (unwind_bytes b p) (record { at = 0; text = content })
-  -- the entry of an offset is found
-  pub found : (offset : ℕ) (e : ResolvedUnwindInfo) → IsEntryOf p.base (resolved_entries l p) offset e
-      → UnwindFinds (unwind_bytes b p) offset (found_for p.base e)
-  -- and nothing else
-  pub only : (offset : ℕ) (x : Found) → UnwindFinds (unwind_bytes b p) offset x → IsFoundFor p.base (resolved_entries l p) offset x
+  -- look-up of an offset finds exactly what its entry says
+  pub finds : (offset : ℕ) (x : Found) → UnwindFinds (unwind_bytes b p) offset x ↔ IsFoundFor p.base (resolved_entries l p) offset x
   -- without entries there is no range
   pub empty : resolved_entries l p ≡ [] → p.unwind.end ≡ p.unwind.start

@@ -15,6 +15,7 @@ use Rattle.macho_records.specs.declared.header.SectionHeader.{SectionHeader}
 use Rattle.macho_object.specs.Views.{RelocationBytes}
 use Rattle.macho_model.specs.Objects.{num_sections, section_at, relocation_at}
 use Rattle.macho_model.specs.Grammar.{IsObject}
+use Rattle.macho_model.proofs.ObjectLaws.{object_keeps}
 use Rattle.macho_model.specs.ExportLists.{plain_entries}
 use Rattle.macho_model.specs.Links.{Input, Link, SectionId, object_of, header_at, is_consumed, is_initializers, is_unwind_entries, sections_of, carried_of}
 use Rattle.macho_model.specs.Needs.{ByInitializer, ByPersonality, ByName, uses_of, carried_uses, initializer_uses, personality_uses, initializer_sections, unwind_sections, is_imported, relocation_in, relocations_of, relocations_at}
@@ -127,7 +128,7 @@ pub is_in_walk : (l : Link) (files : List FileRows) (file : ℕ) (list : Relocat
 is_in_walk l files file list kind size r of has lt is =
     let s = section_id file list.section in
     let same : list.bytes ≡ object_of l file = sym (same_object l file list.bytes has) in
-    let whole = subst (λ b. IsObject b) same of.object in
+    let whole = object_keeps (subst (λ b. IsObject b) same of.object) in
     let there = section_listed l file list.section (record { within = has.there; bytes = list.bytes; is = has.is; object = whole })
     (subst (λ b. list.section < num_sections b) same of.there) in
     let placed = subst (λ n. is_placed kind n (relocation_at list.bytes list.section r).r_address ≡ true) of.size_is

@@ -6,7 +6,7 @@ use Rattle.macho_records.specs.declared.constants.TheConstants.{LC_LOAD_DYLIB}
 use Rattle.macho_model.specs.declared.placed.Counts.{Counts}
 use Rattle.macho_model.specs.Links.{Link}
 use Rattle.macho_model.specs.Placement.{Placed}
-use Rattle.macho_model.specs.Head.{HeadCommand, commands_for, segment_for, dylib_for, rpath_for}
+use Rattle.macho_model.specs.HeadCommands.{HeadCommand, commands_for, segment_for, dylib_for, rpath_for}
 use Rattle.macho_sealing.specs.declared.commands.HeadParts.{HeadParts}
 use Rattle.macho_sealing.specs.Heads.{AreHeadParts, commands_of_parts}
 use Rattle.macho_sealing.specs.steps.Said.{own_said, tables_said}

@@ -14,7 +14,8 @@ use Rattle.std.proofs.lemmas.List.Folds.{length-flat_map-take}
 use Rattle.macho_records.specs.declared.header.SectionHeader.{SectionHeader}
 use Rattle.macho_model.specs.declared.placed.PlacedSegment.{PlacedSegment}
 use Rattle.macho_model.specs.Placement.{Placed}
-use Rattle.macho_model.specs.Head.{HeadCommand, headers_in, segment_for}
+use Rattle.macho_model.specs.Head.{headers_in}
+use Rattle.macho_model.specs.HeadCommands.{HeadCommand, segment_for}
 use Rattle.macho_sealing.specs.Splits.{HeadersAreSplit}
 
 part_first : {X : Type 0} (xs ys : List X) → slice_range (xs ++ ys) 0 (0 + length xs) ≡ xs

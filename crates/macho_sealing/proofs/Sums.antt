@@ -10,7 +10,8 @@ use Rattle.macho_bytes.specs.Texts.{put}
 use Rattle.macho_model.specs.declared.placed.Counts.{Counts}
 use Rattle.macho_model.specs.Links.{Link}
 use Rattle.macho_model.specs.Placement.{Placed}
-use Rattle.macho_model.specs.Head.{commands_for, header_for, size_said, describes_thread_locals}
+use Rattle.macho_model.specs.Head.{describes_thread_locals}
+use Rattle.macho_model.specs.HeadCommands.{commands_for, header_for, size_said}
 use Rattle.macho_commands.specs.declared.command.Command.{Command}
 use Rattle.macho_commands.specs.declared.command.Command.TheVariants.{Segment, EntryPoint, Uuid, BuildVersion, Dylinker, IdDylib}
 use Rattle.macho_commands.specs.declared.command.Command.TheVariants.{LoadDylib, Rpath, ChainedFixups, ExportsTrie, Symtab, CodeSignature}
@@ -18,6 +19,7 @@ use Rattle.macho_commands.specs.declared.head.ImageKind.{ImageKind}
 use Rattle.macho_commands.specs.Commands.{said_by, Fits, size_of_command, commands_size}
 use Rattle.macho_commands.specs.Heads.{head_text, HeadIsReadable}
 use Rattle.macho_commands.proofs.HeadTexts.{found_said}
+use Rattle.macho_commands.proofs.HeadBytes.{head_spelled}
 use Rattle.macho_sealing.specs.declared.commands.HeadParts.{HeadParts}
 use Rattle.macho_sealing.specs.Heads.{AreHeadParts, commands_of_parts, head_bytes, HeadIsPut}
 use Rattle.macho_sealing.proofs.Joined.{parts_said}
@@ -69,6 +71,7 @@ head_put l counts uuid p h cs kind before now are said executable locals written
   text = head_text kind cs;
   put_is = written;
   long = long ∙ omega (arith, sized cs, ap (sum_by size_said) said);
+  is = head_spelled l counts uuid p h.trie_size kind cs (executable ∙ are.executable) locals all long;
   header = λ b stands.
       let found = found_said l counts uuid b p h.trie_size kind cs (executable ∙ are.executable) locals all (readable.found b stands) in
       found.header ∙ ap (header_for l p) (sym found.commands ∙ (readable.found b stands).said ∙ all);

@@ -14,7 +14,9 @@ use Rattle.macho_model.specs.Segments.{list_if}
 use Rattle.macho_model.specs.Placement.{Placed}
 use Rattle.macho_model.specs.Addresses.{address_of}
 use Rattle.macho_model.specs.Signature.{uuid_written}
-use Rattle.macho_model.specs.Head.{HeadCommand, commands_in, commands_for, header_for, segment_for, versions_for, dylinker_for, dylib_for, rpath_for, linkedit_for, range_size, size_said}
+use Rattle.macho_model.specs.Head as head
+use Rattle.macho_model.specs.Head.{range_size, head_for}
+use Rattle.macho_model.specs.HeadCommands.{HeadCommand, commands_in, commands_for, header_for, segment_for, versions_for, dylinker_for, dylib_for, rpath_for, linkedit_for, size_said}
 use Rattle.macho_commands.specs.Commands.{entry_point_said, uuid_said, symtab_said}
 use Rattle.macho_sealing.specs.declared.commands.HeadParts.{HeadParts}
 
@@ -61,11 +63,12 @@ commands_of_parts p h =
 abbrev pub head_bytes : Placed → HeadParts → ℕ
 head_bytes p h = size_of mach_header + sum_by size_said (commands_of_parts p h)
 
--- A text was put to the front of a file, and every file that begins with it has the head of the link.
+-- The text of the link's head was put to the front of a file, and in every file that begins with it a reader finds header and commands.
 pub record HeadIsPut (l : Link) (counts : Counts) (uuid : List ℕ) (p : Placed) (h : HeadParts) (before now : List ℕ) : Type 0 where
   pub text : List ℕ
   pub put_is : now ≡ put 0 text before
   pub long : length text ≡ head_bytes p h
+  pub is : text ≡ head_for l p (head.commands_for l counts p uuid h.trie_size)
   pub header : (b : List ℕ) → Stands b (record { at = 0; text = text })
       → header_of b ≡ header_for l p (commands_for l counts p uuid h.trie_size)
   pub commands : (b : List ℕ) → Stands b (record { at = 0; text = text }) → commands_in b ≡ commands_for l counts p uuid h.trie_size

@@ -7,7 +7,7 @@ use Rattle.macho_model.specs.Links.{Link}
 use Rattle.macho_model.specs.Segments.{TEXT}
 use Rattle.macho_model.specs.Placement.{Placed, IsPlaced, is_segment_named}
 use Rattle.macho_model.specs.Faults.{last_part}
-use Rattle.macho_model.specs.Head.{HeadSays}
+use Rattle.macho_model.specs.HeadCommands.{CommandsSay}
 use Rattle.macho_model.specs.Signature.{signature_text, IsSigned}
 use Rattle.macho_signature.specs.declared.signature.Signer.{Signer}
 use Rattle.macho_signature.specs.Sizes.{signed_by}
@@ -24,7 +24,7 @@ pub record IsSignerOf (l : Link) (p : Placed) (signer : Signer) : Type 0 where
 -- a signature of what stands in front of it, in the range of a file that ends with it
 abbrev pub SignatureIsSaid : Type 0
 SignatureIsSaid =
-    (l : Link) (counts : Counts) (uuid b : List ℕ) (p : Placed) (signer : Signer) → HeadSays l counts uuid b p → AreCounts l counts
+    (l : Link) (counts : Counts) (uuid b : List ℕ) (p : Placed) (signer : Signer) → CommandsSay l counts uuid b p → AreCounts l counts
     → IsPlaced l counts p
     → IsLaidOut l counts p → IsSignerOf l p signer → length b ≡ p.linkedit.signature.end
     → Stands b (record { at = p.linkedit.signature.start; text = signature_text (signed_by signer p.linkedit.signature.start) b })

@@ -4,7 +4,7 @@ ghost use Rattle.macho_model.specs.declared.placed.Counts.{Counts};
 ghost use Rattle.macho_model.specs.Links.{Link};
 ghost use Rattle.macho_records.specs.declared.constants.TheConstants.{LC_ID_DYLIB, LC_LOAD_DYLIB};
 ghost use Rattle.macho_model.specs.Segments.{list_if};
-ghost use Rattle.macho_model.specs.Head.{commands_for, versions_for, dylinker_for, dylib_for, rpath_for};
+ghost use Rattle.macho_model.specs.HeadCommands.{commands_for, versions_for, dylinker_for, dylib_for, rpath_for};
 ghost use Rattle.macho_layout.specs.Placements.{placed_of};
 ghost use Rattle.macho_commands.specs.Commands.{said_by, entry_point_said};
 ghost use Rattle.macho_sealing.specs.Heads.{AreHeadParts, TablesAreSmall, commands_of_parts};

@@ -3,7 +3,8 @@ ghost use Rattle.std.specs.Prelude.{◌≡◌, ◌+◌, ◌≤◌, ◌++◌, len
 ghost use Rattle.macho_records.specs.Segments.{text_of, segment_flags_of};
 ghost use Rattle.macho_model.specs.Segments.{loaded_protection_of};
 ghost use Rattle.macho_model.specs.Placement.{Placed};
-ghost use Rattle.macho_model.specs.Head.{segment_for, headers_in};
+ghost use Rattle.macho_model.specs.Head.{headers_in};
+ghost use Rattle.macho_model.specs.HeadCommands.{segment_for};
 ghost use Rattle.macho_layout.specs.Placements.{placed_of};
 ghost use Rattle.macho_commands.specs.Commands.{said_by};
 ghost use Rattle.macho_sealing.specs.Splits.{HeadersAreSplit};

@@ -12,6 +12,7 @@ use Rattle.std.proofs.lemmas.List.Elements.{All-map}
 use Rattle.std.proofs.lemmas.List.FromFn.{length-enumerate_from, get_or-enumerate_from}
 use Rattle.macho_records.specs.Symbols.{is_common_of, common_exponent_of}
 use Rattle.macho_model.specs.Grammar.{IsObject}
+use Rattle.macho_model.proofs.ObjectLaws.{object_keeps}
 use Rattle.macho_model.specs.Objects.{num_symbols}
 use Rattle.macho_model.specs.Links.{Link, Input, Object, Dylib, Stub, object_bytes, object_of, no_input}
 use Rattle.macho_model.specs.declared.targets.Target.{Target}
@@ -82,7 +83,7 @@ chosen_small l s rules c =
     let f = from_filter (is_chosen l) (symbols_of l) s c in
     let kept = symbol_kept l s rules f.0 in
     let common : is_common_of (entry_at l s) ≡ true = left_of _ _ f.1 in
-    leb-true (common_exponent_of (entry_at l s)) 14 (parts (is_common_of (entry_at l s)) _ _ (kept.0.o14 s.symbol kept.1) common)
+    leb-true (common_exponent_of (entry_at l s)) 14 (parts (is_common_of (entry_at l s)) _ _ ((object_keeps kept.0).o14 s.symbol kept.1) common)
   where
     parts : (a b c : Bool) → (not a || (b && c)) ≡ true → a ≡ true → b ≡ true
     parts true true c e a = refl

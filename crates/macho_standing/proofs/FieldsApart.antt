@@ -12,7 +12,7 @@ use Rattle.macho_structs.specs.declared.relocations.RelocationInfo.{RelocationIn
 use Rattle.macho_model.specs.Links.{Link, SectionId, header_at, carried_of}
 use Rattle.macho_model.specs.Needs.{relocation_in, relocations_of}
 use Rattle.macho_model.specs.Fields.{Field, field_of, fields_of, is_prefix_type, is_difference, is_with_addend, takes_addend, width_of}
-use Rattle.macho_model.specs.Valid.{RelocationsAreSupported}
+use Rattle.macho_model.specs.Supported.{RelocationsAreSupported}
 use Rattle.macho_standing.proofs.Members.{of_map, of_filter}
 
 -- a field is that of a relocation

@@ -20,10 +20,11 @@ use Rattle.macho_model.specs.Words.{is_adrp, is_branch}
 use Rattle.macho_model.specs.Rows.{has_form, begins_pair, is_none, difference_fits, pointer_fits, may_be_called, defined_or_import}
 use Rattle.macho_model.specs.Rows.{takes_offset, load_fits, is_supported}
 use Rattle.macho_model.specs.SlideLaws.{targets_move, subtrahend_moves}
-use Rattle.macho_model.specs.Stands.{Kind, Pointer, Difference, Branch, Page, Offset, SlotPage, SlotOffset, SlotDistance, NoKind, kind_of}
+use Rattle.macho_model.specs.Stands.{Kind, Pointer, Difference, Branch, Page, Offset, SlotPage, SlotOffset, SlotDistance, kind_of}
 use Rattle.macho_model.specs.Stands.{is_template_offset}
-use Rattle.macho_model.specs.Valid.{RelocationsAreSupported}
+use Rattle.macho_model.specs.Supported.{RelocationsAreSupported}
 use Rattle.macho_model.specs.Values.{is_pointer, is_absolute_target, needs_fixup}
+pub use Rattle.macho_model.proofs.FixedPointers.{fixed_pointer}
 pub use Rattle.macho_standing.proofs.FieldsApart.{IsFieldOf, field_number, AreDisjoint, fields_apart}
 
 -- what a field is, of a kind: a pointer of 8 bytes to something, or one whose targets move
@@ -227,45 +228,7 @@ field_fits_in l s f sound one in_f =
     (supported_fits l s n.number (sound.supported s n.number one n.within) n.whole
     (λ h. sound.supported s (n.number - 1) one (omega (arith, n.within))))
 
--- a pointer that the loader writes is a pointer of 8 bytes
-pub fixed_pointer : (l : Link) (s : SectionId) (f : Field) → needs_fixup l s f ≡ true
-    → (f.width ≡ 8) × (kind_of f.type (is_some f.subtrahend) ≡ Pointer) × (is_template_offset l s f ≡ false)
-    × (is_absolute_target f.target ≡ false)
-fixed_pointer l s f needs =
-    let parts = and_parts (is_pointer f && not (is_absolute_target f.target)) (not (is_template_offset l s f)) needs in
-    let first = and_parts (is_pointer f) (not (is_absolute_target f.target)) parts.0 in
-    let pointer = and_parts (f.width == 8) _ first.0 in (
-      eqb-true f.width 8 pointer.0,
-      by (kind_of f.type (is_some f.subtrahend)) refl,
-      not-true (is_template_offset l s f) parts.1,
-      not-true
-          (is_absolute_target f.target) first.1,
-    )
-  where
-    of_kind : (k : Kind) → kind_of f.type (is_some f.subtrahend) ≡ k → (f.width == 8) ≡ true → is_pointer f ≡ true
-    of_kind k is wide = (and_parts (is_pointer f) (not (is_absolute_target f.target))
-        (and_parts (is_pointer f && not (is_absolute_target f.target)) (not (is_template_offset l s f)) needs).0).0
-
-    second : is_pointer f ≡ true
-    second = (and_parts (is_pointer f) (not (is_absolute_target f.target))
-        (and_parts (is_pointer f && not (is_absolute_target f.target)) (not (is_template_offset l s f)) needs).0).0
-
-    never : (k : Kind) → kind_of f.type (is_some f.subtrahend) ≡ k → ((f.width == 8) && false) ≡ true
-        → kind_of f.type (is_some f.subtrahend) ≡ Pointer
-    never k is h = absurd (true≢false (sym (and_parts (f.width == 8) false h).1))
-
-    by : (k : Kind) → kind_of f.type (is_some f.subtrahend) ≡ k → kind_of f.type (is_some f.subtrahend) ≡ Pointer
-    by Pointer is = is
-    by Difference is = never Difference is (rw is at second)
-    by Branch is = never Branch is (rw is at second)
-    by Page is = never Page is (rw is at second)
-    by Offset is = never Offset is (rw is at second)
-    by SlotPage is = never SlotPage is (rw is at second)
-    by SlotOffset is = never SlotOffset is (rw is at second)
-    by SlotDistance is = never SlotDistance is (rw is at second)
-    by NoKind is = never NoKind is (rw is at second)
-
--- a pointer that it does not write is an offset from the template, or an absolute value
+-- a pointer that the loader does not write is an offset from the template, or an absolute value
 pub plain_pointer : (l : Link) (s : SectionId) (f : Field) → IsWholePointer f → needs_fixup l s f ≡ false
     → (is_template_offset l s f || is_absolute_target f.target) ≡ true
 plain_pointer l s f h plain =

@@ -8,7 +8,9 @@ use Rattle.std.specs.List.{enumerate_from, range_with_len}
 use Rattle.std.proofs.lemmas.List.{get_or_default}
 use Rattle.std.proofs.lemmas.List.FromFn.{length-enumerate_from, get_or-enumerate_from, length-range_with_len, get_or-range_with_len}
 use Rattle.macho_model.specs.Objects.{num_sections, num_symbols}
-use Rattle.macho_model.specs.Grammar.{IsObject, ObjectsAreRead}
+use Rattle.macho_model.specs.Grammar.{ObjectsAreRead}
+use Rattle.macho_model.specs.ObjectLaws.{KeepsObjectRules}
+use Rattle.macho_model.proofs.ObjectLaws.{object_keeps}
 use Rattle.macho_model.specs.Links.{Input, Object, Dylib, Stub, Link, no_input, object_bytes, object_of, SectionId, sections_of_file}
 use Rattle.macho_model.specs.Links.{sections_of}
 use Rattle.macho_model.specs.Resolution.{SymbolId, symbols_of_file, symbols_of}
@@ -46,7 +48,7 @@ pub record IsObjectFile (l : Link) (file : ℕ) : Type 0 where
   pub within : file < length l.inputs
   pub bytes : List ℕ
   pub is : get_or l.inputs file no_input ≡ Object bytes
-  pub object : IsObject (object_of l file)
+  pub object : KeepsObjectRules (object_of l file)
 
 object_file : (l : Link) (file : ℕ) (bytes : List ℕ) → ObjectsAreRead l → file < length l.inputs
     → get_or l.inputs file no_input ≡ Object bytes
@@ -55,7 +57,8 @@ object_file l file bytes inputs lt is = record {
   within = lt;
   bytes = bytes;
   is = is;
-  object = subst IsObject (sym (ap object_bytes is)) (inputs file bytes (lt, get_or_default l.inputs file (Object bytes) no_input lt ∙ is));
+  object = subst KeepsObjectRules (sym (ap object_bytes is))
+      (object_keeps (inputs file bytes (lt, get_or_default l.inputs file (Object bytes) no_input lt ∙ is)));
 }
 
 -- numbers from 0 on

@@ -25,7 +25,7 @@ use Rattle.macho_model.specs.Fields.{Field, field_of, fields_of, is_prefix_type}
 use Rattle.macho_model.specs.Rows.{is_none, has_form, defined_or_import, is_supported}
 use Rattle.macho_model.specs.Consumed.{entry_count, relocations_in_entry}
 use Rattle.macho_model.specs.SlideLaws.{targets_move}
-use Rattle.macho_model.specs.Valid.{RelocationsAreSupported}
+use Rattle.macho_model.specs.Supported.{RelocationsAreSupported}
 use Rattle.macho_model.specs.Values.{is_absolute_target, needs_fixup}
 use Rattle.macho_standing.specs.Leads.{HasPlace, TargetsLead, PersonalitiesFit}
 use Rattle.macho_model.specs.Grammar.{ObjectsAreRead}

@@ -13,7 +13,7 @@ use Rattle.macho_model.specs.Fixups.{ChainIsWhole}
 use Rattle.macho_model.specs.Agreement.{SegmentsAgree}
 use Rattle.macho_model.specs.HeldLaws.{TextsAreHeld, ZerosAreHeld, NumbersAreHeld, SlotsMove, ImportSlotsBind, PlainPointersStay}
 use Rattle.macho_model.specs.SlideLaws.{FieldsMove, PointersMove, ImportPointersBind}
-use Rattle.macho_model.specs.Valid.{RelocationsAreSupported}
+use Rattle.macho_model.specs.Supported.{RelocationsAreSupported}
 use Rattle.macho_fixups.specs.Runs.{AreSegments}
 use Rattle.macho_fixups.specs.Laws.{ChainsAreTold}
 use Rattle.macho_arm64.specs.Laws.{StubsMove}

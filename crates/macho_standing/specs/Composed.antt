@@ -10,7 +10,7 @@ use Rattle.macho_model.specs.Links.{Link, header_at}
 use Rattle.macho_model.specs.WrittenSum.{STUB_SIZE}
 use Rattle.macho_model.specs.Placement.{Placed, id_of}
 use Rattle.macho_model.specs.Values.{BadRebase}
-use Rattle.macho_model.specs.Head.{HeadSays}
+use Rattle.macho_model.specs.HeadCommands.{CommandsSay}
 use Rattle.macho_model.specs.ImportTable.{ImportTableSays, LibrariesSay, names_text}
 use Rattle.macho_model.specs.Zeros.{IsZeroElsewhere}
 use Rattle.macho_fixups.specs.Runs.{AreSegments}
@@ -58,7 +58,7 @@ pub record ContentIsWritten (l : Link) (b : List ℕ) (p : Placed) : Type 0 wher
 
 -- The header and the load commands are written, in a file that has room for the segments.
 pub record HeadIsWritten (l : Link) (counts : Counts) (uuid : List ℕ) (b : List ℕ) (p : Placed) : Type 0 where
-  pub says : HeadSays l counts uuid b p
+  pub says : CommandsSay l counts uuid b p
   pub room : HasRoom b p
   pub segments : AreSegments (fixup_segments p)
 

@@ -33,8 +33,7 @@ use Rattle.std.proofs.lemmas.Bool.{true≢false}
 use Rattle.macho_model.specs.Images.{segments_of, base_of, tables_of, entries_of_file}
 use Rattle.macho_model.specs.Addresses.{offset_in_file}
 use Rattle.macho_model_checks.proofs.ExampleCall.{head_of_call, fixups_of_call, tables_of_call, big_words, signature_of_call, call_image}
-use Rattle.macho_model_checks.proofs.ExamplePlacement.{section_a}
-use Rattle.macho_model_checks.proofs.RowsCall.{call_head, call_imports, call_libraries}
+use Rattle.macho_model_checks.proofs.RowsCall.{call_commands, call_imports, call_libraries}
 use Rattle.macho_model_checks.proofs.RowsCallZeros.{call_zeros}
 use Rattle.macho_standing.specs.Composed.{SectionIsWritten, StubIsWritten, IsComposed}
 use Rattle.macho_standing.specs.Laws.{IsComposedOf}
@@ -180,7 +179,7 @@ stub_call = rw stub_bytes_call (record {
 -- THE image is composed of its parts.
 pub call_is_composed : IsComposed calling counts_of_call uuid_given call_image placed_call
 call_is_composed = record {
-  head = record { says = call_head; room = room_call; segments = segments_call };
+  head = record { says = call_commands; room = room_call; segments = segments_call };
   agrees = agrees_call;
   fixups = fixups_call;
   imports = record { table = call_imports; libraries = call_libraries };

@@ -14,6 +14,7 @@ use Rattle.macho_model.specs.Symbols.{is_in_segment}
 use Rattle.macho_model.specs.ObjectRules.{is_thread_local}
 use Rattle.macho_model.specs.Objects.{num_sections}
 use Rattle.macho_model.specs.Grammar.{IsObject}
+use Rattle.macho_model.proofs.ObjectLaws.{object_keeps}
 use Rattle.macho_model.specs.Links.{Link, SectionId, object_of, header_at, carried_of}
 use Rattle.macho_model.specs.Needs.{Use, ByRelocation, relocation_in, relocations_of}
 use Rattle.macho_model.specs.Targets.{target_of_relocation, is_import}
@@ -159,7 +160,7 @@ misplaced_is l s r word t holds is leads held = by (is_pointer (field_of l s r))
     fixup e a true false x y z =
         let type : (type_of (header_at l s) == S_THREAD_LOCAL_VARIABLES) ≡ true = first
         (type_of (header_at l s) == S_THREAD_LOCAL_VARIABLES) _ y in
-        let may : may_hold_pointers (segment_name l s) ≡ true = descriptors (header_at l s) (is.object.o11 s.section is.among) type in
+        let may : may_hold_pointers (segment_name l s) ≡ true = descriptors (header_at l s) ((object_keeps is.object).o11 s.section is.among) type in
         let no : true ≡ false = sym may ∙ z in cc
       where
         first : (p q : Bool) → (p && q) ≡ true → p ≡ true

@@ -10,6 +10,7 @@ use Rattle.macho_records.specs.declared.constants.TheConstants.{ARM64_RELOC_ADDE
 use Rattle.macho_records.specs.Sections.{is_zerofill}
 use Rattle.macho_model.specs.Objects.{num_sections, num_symbols, section_at, section_bytes, relocation_at}
 use Rattle.macho_model.specs.Grammar.{IsObject}
+use Rattle.macho_model.proofs.ObjectLaws.{object_keeps}
 use Rattle.macho_model.specs.Links.{no_input}
 use Rattle.macho_names.specs.Kept.{FileRows, kept_of, kept_object, row_of_symbol, rows_of_object, no_file}
 use Rattle.macho_symbols.specs.Kept.{ResolvedRows}
@@ -34,9 +35,9 @@ unfolding section_bytes
 field_within b k r is among there =
     let h = section_at b k in
     within (is_zerofill h) b h.offset h.size h.nreloc ((relocation_at b k r).r_address + 2 ^ (relocation_at b k r).r_length) r
-    (is.o12 k among)
-    (left (is_zerofill h || nat_le (h.offset + h.size) (length b)) (nat_le (h.addr + h.size) (2 ^ 64)) (is.o6 k among))
-    (is.o10.1 k r among there) there
+    ((object_keeps is).o12 k among)
+    (left (is_zerofill h || nat_le (h.offset + h.size) (length b)) (nat_le (h.addr + h.size) (2 ^ 64)) ((object_keeps is).o6 k among))
+    ((object_keeps is).o10.1 k r among there) there
   where
     left : (a c : Bool) → (a && c) ≡ true → a ≡ true
     left true c t = refl
@@ -51,7 +52,7 @@ number_test q symbols sections =
 numbered : (b : List ℕ) (k r : ℕ) → IsObject b → k < num_sections b → r < (section_at b k).nreloc
     → number_test (relocation_at b k r) (num_symbols b) (num_sections b) ≡ true
 unfolding number_test
-numbered b k r is among there = is.o5.1 k r among there
+numbered b k r is among there = (object_keeps is).o5.1 k r among there
 
 pub section_there : (b : List ℕ) (k r : ℕ) → IsObject b → k < num_sections b → r < (section_at b k).nreloc
     → ((relocation_at b k r).r_type == ARM64_RELOC_ADDEND) ≡ false

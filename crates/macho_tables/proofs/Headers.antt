@@ -21,7 +21,7 @@ use Rattle.macho_model.specs.Segments.{TEXT, DATA_CONST, OutputKey, same_key, ke
 use Rattle.macho_model.specs.OutputSections.{OutputSection, Merged, InitOffsets, UnwindInfo, Stubs, Slots, output_sections_in}
 use Rattle.macho_model.specs.OutputSections.{output_sections_of, output_header}
 use Rattle.macho_model.specs.Placement.{Placed}
-use Rattle.macho_model.specs.SymbolRows.{is_merged}
+use Rattle.macho_model.specs.SymbolEntries.{is_merged}
 use Rattle.macho_placing.specs.Laws.{IsWhollyPlaced}
 use Rattle.macho_layout.proofs.Named.{name_in_field}
 use Rattle.macho_lists.proofs.Members.{all_contains}

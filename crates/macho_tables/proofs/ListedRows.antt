@@ -6,7 +6,7 @@ use Rattle.macho_model.specs.Links.{Link}
 use Rattle.macho_model.specs.Resolution.{SymbolId}
 use Rattle.macho_model.specs.Placement.{Placed}
 use Rattle.macho_model.specs.SymbolTable.{table_symbols}
-use Rattle.macho_model.specs.SymbolRows.{SymbolRow, row_of, symbol_rows}
+use Rattle.macho_linkedit.specs.TableRows.{SymbolRow, row_of, symbol_rows}
 use Rattle.macho_symbols.specs.Kept.{symbol_id}
 use Rattle.macho_linkedit.specs.declared.listing.LinkedObject.{LinkedObject}
 use Rattle.macho_linkedit.specs.declared.listing.TableSymbol.{TableSymbol}

@@ -24,7 +24,7 @@ use Rattle.macho_model.specs.Segments.{list_if}
 use Rattle.macho_model.specs.OutputSections.{OutputSection, Merged, output_sections_in, output_sections_of, output_sections_for}
 use Rattle.macho_model.specs.OutputSections.{output_header}
 use Rattle.macho_model.specs.Placement.{Placed, id_of, is_segment_named, SectionLies, LiesInNamed, common_span}
-use Rattle.macho_model.specs.SymbolRows.{is_merged, section_number}
+use Rattle.macho_model.specs.SymbolEntries.{is_merged, section_number}
 use Rattle.macho_placing.specs.Laws.{IsWhollyPlaced}
 use Rattle.macho_lists.proofs.Members.{contains_first, contains_map, map_contains, contains_flat_map, contains_range, all_contains}
 use Rattle.macho_lists.proofs.Members.{contains_all}

@@ -9,7 +9,7 @@ use Rattle.macho_model.specs.Links.{Link, object_of}
 use Rattle.macho_model.specs.Targets.{own_target, target_of}
 use Rattle.macho_model.specs.Placement.{Placed}
 use Rattle.macho_model.specs.Addresses.{address_of}
-use Rattle.macho_model.specs.SymbolRows.{section_of_row}
+use Rattle.macho_model.specs.SymbolEntries.{entry_section}
 use Rattle.macho_object.specs.Views.{FileBytes, symbol_name_of}
 use Rattle.macho_symbols.specs.Kept.{symbol_id}
 use Rattle.macho_fields.specs.Looks.{Look}
@@ -41,7 +41,7 @@ name_seen f k name lt plain is =
 pub section_seen : (l : Link) (counts : Counts) (p : Placed) (look : Look) (o : LinkedObject) (index : ℕ) → IsToTable l counts p look
     → object_of l o.number ≡ o.file.bytes
     → o.file.is_dynamic ≡ false → IsInTable l (symbol_id o.number index)
-    → section_told p o.file index ≡ section_of_row l counts (symbol_id o.number index)
+    → section_told p o.file index ≡ entry_section l counts (symbol_id o.number index)
 section_seen l counts p look o index to bytes kind in_it =
     ap (λ (d : Bool). section_told p (record { bytes = o.file.bytes; is_dynamic = d }) index) kind
     ∙ section_is l counts p o.number index o.file.bytes to.objects to.placed bytes in_it

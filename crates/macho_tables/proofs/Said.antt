@@ -26,7 +26,7 @@ use Rattle.macho_model.specs.Stands.{IsAt}
 use Rattle.macho_lists.proofs.Members.{filter_contains, all_contains, contains_all, map_contains, contains_map}
 use Rattle.macho_parts.specs.Views.{object_view, views_of}
 use Rattle.macho_object.specs.Views.{FileBytes}
-use Rattle.macho_promise.specs.TrieSays.{IsFoundExport}
+use Rattle.macho_promise.specs.TrieSays.{ExportedAs}
 use Rattle.macho_symbols.specs.declared.exports.ExportName.{ExportName}
 use Rattle.macho_symbols.specs.declared.solved.Import.{Import}
 use Rattle.macho_targets.specs.Laws.{IsOfLink}
@@ -77,10 +77,10 @@ local_is l target.None of = refl
 -- What is said of a name that an object defines.
 value_found : (l : Link) (counts : Counts) (p : Placed) (look : Look) (name : List ℕ) (s : SymbolId) (t : Target)
     → IsToTable l counts p look → IsExported l name s → t ≡ target_of_name l name → is_defined t ≡ true
-    → IsFoundExport l p name (said_of (value_in look (views_of l) (is_weak_of (entry_at l s)) t))
+    → ExportedAs l p name (said_of (value_in look (views_of l) (is_weak_of (entry_at l s)) t))
 value_found l counts p look name s t to exported is moves =
-    subst (λ (u : Target). IsFoundExport l p name (said_of (value_in look (views_of l) (is_weak_of (entry_at l s)) u))) (sym is)
-    (subst (λ (x : ExportSays). IsFoundExport l p name (said_of x)) (sym same)
+    subst (λ (u : Target). ExportedAs l p name (said_of (value_in look (views_of l) (is_weak_of (entry_at l s)) u))) (sym is)
+    (subst (λ (x : ExportSays). ExportedAs l p name (said_of x)) (sym same)
     (values_are_found l p name s (address_of p named) exported (stands_at l p named (lists_all l counts p to.placed) of) (λ moving. far.1)))
   where
     named : Target
@@ -107,10 +107,10 @@ value_found l counts p look name s t to exported is moves =
 -- an absolute value is what it is
 absolute_found : (l : Link) (p : Placed) (look : Look) (name : List ℕ) (s : SymbolId) (value : ℕ) → IsExported l name s
     → target.Absolute value ≡ target_of_name l name
-    → IsFoundExport l p name (said_of (value_in look (views_of l) (is_weak_of (entry_at l s)) (target.Absolute value)))
+    → ExportedAs l p name (said_of (value_in look (views_of l) (is_weak_of (entry_at l s)) (target.Absolute value)))
 absolute_found l p look name s value exported is =
     subst
-    (λ (u : Target). IsFoundExport l p name (said_of (value_said u (is_weak_of (entry_at l s)) (is_thread_local l u) value p.base)))
+    (λ (u : Target). ExportedAs l p name (said_of (value_said u (is_weak_of (entry_at l s)) (is_thread_local l u) value p.base)))
     (sym is)
     (values_are_found l p name s value exported (subst (λ (u : Target). IsAt l p 0 empty u value) is refl)
     (λ moving. absurd (true≢false (subst (λ (u : Target). is_absolute_target u ≡ false) (sym is) moving))))
@@ -119,12 +119,12 @@ absolute_found l p look name s value exported is =
 pub export_found : (l : Link) (counts : Counts) (p : Placed) (look : Look) (exports : List ExportName) (imports : List Import)
     (libraries : List (List ℕ)) (e : ExportName)
     → AreExportsOf l exports imports libraries → IsToTable l counts p look → Contains exports e
-    → IsFoundExport l p e.name.items (said_of (says_said look (views_of l) imports libraries e.weak e.target))
+    → ExportedAs l p e.name.items (said_of (says_said look (views_of l) imports libraries e.weak e.target))
 export_found l counts p look exports imports libraries e of to there =
     by (all_contains (IsExportedName l) exports e of.exports_are.each there)
   where
     object : (t : Target) (s : SymbolId) → IsExported l e.name.items s → t ≡ target_of_name l e.name.items
-        → IsFoundExport l p e.name.items (said_of (says_said look (views_of l) imports libraries (is_weak_of (entry_at l s)) t))
+        → ExportedAs l p e.name.items (said_of (says_said look (views_of l) imports libraries (is_weak_of (entry_at l s)) t))
     object (target.Section file section offset) s exported is = value_found l counts p look e.name.items s
         (target.Section file section offset) to exported is refl
     object (target.Common id) s exported is = value_found l counts p look e.name.items s (target.Common id) to exported is refl
@@ -138,22 +138,22 @@ export_found l counts p look exports imports libraries e of to there =
         absurd (true≢false (sym none ∙ own_is_some l s (defined_leads l e.name.items s exported.0)))
 
     import_said : (id : ℕ) → e.target ≡ target.Import id
-        → IsFoundExport l p e.name.items (said_of (Reexport (library_number l (import_library l e.name.items))))
-        → IsFoundExport l p e.name.items (said_of (says_said look (views_of l) imports libraries e.weak e.target))
+        → ExportedAs l p e.name.items (said_of (Reexport (library_number l (import_library l e.name.items))))
+        → ExportedAs l p e.name.items (said_of (says_said look (views_of l) imports libraries e.weak e.target))
     import_said id leads found =
         let one = export_imported l imports e id of.imports_are (all_contains (IsExportedName l) exports e of.exports_are.each there)
         leads in
         let number : number_in libraries (library_at imports id) ≡ library_number l (import_library l e.name.items) =
         ap (number_in libraries) one.library
         ∙ ap (λ (names : List (List ℕ)). number_in names (import_library l e.name.items)) of.libraries_are in
-        subst (λ (t : Target). IsFoundExport l p e.name.items (said_of (says_said look (views_of l) imports libraries e.weak t)))
+        subst (λ (t : Target). ExportedAs l p e.name.items (said_of (says_said look (views_of l) imports libraries e.weak t)))
         (sym leads)
-        (subst (λ (n : ℕ). IsFoundExport l p e.name.items (said_of (Reexport n))) (sym number) found)
+        (subst (λ (n : ℕ). ExportedAs l p e.name.items (said_of (Reexport n))) (sym number) found)
 
     by : IsExportedName l e
-        → IsFoundExport l p e.name.items (said_of (says_said look (views_of l) imports libraries e.weak e.target))
+        → ExportedAs l p e.name.items (said_of (says_said look (views_of l) imports libraries e.weak e.target))
     by (inl (s, exported, weak, leads)) =
-        subst (λ (w : Bool). IsFoundExport l p e.name.items (said_of (says_said look (views_of l) imports libraries w e.target))) (sym weak)
+        subst (λ (w : Bool). ExportedAs l p e.name.items (said_of (says_said look (views_of l) imports libraries w e.target))) (sym weak)
         (object e.target s exported leads)
     by (inr (among, lists, listed, weak, leads)) = import_said _ leads (reexports_are_found l p e.name.items (among, lists, listed))
 
@@ -166,7 +166,7 @@ are_said l counts p look exports imports libraries v of to is = record {
   told_are = exports_are_told l exports of.exports_are;
   names = names_seen exports says v is ∙ names_are exports;
   each =
-      contains_all (λ (x : NamedExport). IsFoundExport l p x.name.now (said_of x.says)) v
+      contains_all (λ (x : NamedExport). ExportedAs l p x.name.now (said_of x.says)) v
       (λ x one. by x (map_contains (λ (e : ExportName). (e.name.items, says e)) exports (seen x)
       (subst (λ (xs : List (List ℕ × ExportSays)). Contains xs (seen x)) is (contains_map seen v x one))));
 }
@@ -175,9 +175,9 @@ are_said l counts p look exports imports libraries v of to is = record {
     says e = says_said look (views_of l) imports libraries e.weak e.target
 
     by : (x : NamedExport) → (e : ExportName) × Contains exports e × ((let q : List ℕ × ExportSays = (e.name.items, says e) in q) ≡ seen x)
-        → IsFoundExport l p x.name.now (said_of x.says)
+        → ExportedAs l p x.name.now (said_of x.says)
     by x (e, there, same) =
-        subst (λ (q : List ℕ × ExportSays). IsFoundExport l p q.0 (said_of q.1)) same
+        subst (λ (q : List ℕ × ExportSays). ExportedAs l p q.0 (said_of q.1)) same
         (export_found l counts p look exports imports libraries e of to there)
 
 -- each keeps the place of what it is exported as

@@ -22,7 +22,7 @@ use Rattle.macho_model.specs.Resolution.{section_of_symbol, is_symbol, defines, 
 use Rattle.macho_model.specs.Targets.{own_target, target_of, target_with, definition_target}
 use Rattle.macho_model.specs.Segments.{key_of, common_key}
 use Rattle.macho_model.specs.SymbolTable.{is_named_definition, is_in_table, table_symbols}
-use Rattle.macho_model.specs.SymbolRows.{section_number, section_of_row}
+use Rattle.macho_model.specs.SymbolEntries.{section_number, entry_section}
 use Rattle.macho_model.specs.Placement.{Placed}
 use Rattle.macho_placing.specs.Laws.{IsWhollyPlaced}
 use Rattle.macho_lists.proofs.Members.{contains_filter, filter_contains, nil_contains}
@@ -158,9 +158,9 @@ in_sections l s has = (filter_contains (λ (t : SectionId). is_carried (header_a
 -- THE section of a row
 pub section_is : (l : Link) (counts : Counts) (p : Placed) (file index : ℕ) (b : List ℕ) → ObjectsAreRead l → IsWhollyPlaced l counts p
     → object_of l file ≡ b → IsInTable l (symbol_id file index)
-    → section_told p (record { bytes = b; is_dynamic = false }) index ≡ section_of_row l counts (symbol_id file index)
+    → section_told p (record { bytes = b; is_dynamic = false }) index ≡ entry_section l counts (symbol_id file index)
 section_is l counts p file index b read placed is in_it =
-    subst (λ (x : List ℕ). section_told p (record { bytes = x; is_dynamic = false }) index ≡ section_of_row l counts s) is
+    subst (λ (x : List ℕ). section_told p (record { bytes = x; is_dynamic = false }) index ≡ entry_section l counts s) is
     (by (is_common_of (entry_at l s)) (is_absolute (entry_at l s)) refl refl)
   where
     s : SymbolId
@@ -211,7 +211,7 @@ section_is l counts p file index b read placed is in_it =
         only false false false e g h = h
 
     by : (c a : Bool) → is_common_of (entry_at l s) ≡ c → is_absolute (entry_at l s) ≡ a
-        → section_told p f index ≡ section_of_row l counts s
+        → section_told p f index ≡ entry_section l counts s
     by true a e g =
         first (is_common_of (entry_at l s)) (number_told p common_key) (number_with p (symbol_header f index)) e
         ∙ commons_agree l counts p placed (common_chosen l s in_it e)

@@ -5,7 +5,7 @@ ghost use Rattle.macho_model.specs.declared.placed.Counts.{Counts};
 ghost use Rattle.macho_model.specs.Links.{Link};
 ghost use Rattle.macho_model.specs.Objects.{num_symbols};
 ghost use Rattle.macho_model.specs.Exports.{is_listed};
-ghost use Rattle.macho_model.specs.SymbolRows.{row_of, symbol_rows};
+ghost use Rattle.macho_linkedit.specs.TableRows.{row_of, symbol_rows};
 ghost use Rattle.macho_layout.specs.Placements.{placed_of};
 ghost use Rattle.macho_symbols.specs.Exported.{AreLists};
 ghost use Rattle.macho_symbols.specs.Kept.{symbol_id};

@@ -17,6 +17,7 @@ use Rattle.macho_model.specs.Lists.{IsNumber}
 use Rattle.macho_model.specs.Symbols.{is_in_section}
 use Rattle.macho_model.specs.Objects.{num_sections, num_symbols, symbol_at}
 use Rattle.macho_model.specs.Grammar.{IsObject, ObjectsAreRead}
+use Rattle.macho_model.proofs.ObjectLaws.{object_keeps}
 use Rattle.macho_model.specs.Links.{Link, Input, Object, Dylib, Stub, object_bytes, no_input, object_of, SectionId, header_at}
 use Rattle.macho_model.specs.Links.{sections_of_file, sections_of, is_carried, carried_of}
 use Rattle.macho_model.specs.Resolution.{SymbolId, symbols_of_file, symbols_of, entry_at, section_of_symbol, stands_in_carried}
@@ -118,7 +119,7 @@ or_else false b e a_is = cc
 section_exists : (b : List ℕ) → IsObject b → (k : ℕ) → k < num_symbols b → is_in_section (symbol_at b k) ≡ true
     → (1 ≤ (symbol_at b k).n_sect) × ((symbol_at b k).n_sect ≤ num_sections b)
 section_exists b is k low inside =
-    let both = or_else _ _ (is.o5.0 k low) inside in
+    let both = or_else _ _ ((object_keeps is).o5.0 k low) inside in
     (leb-true _ _ (and_left _ _ both), leb-true _ _ (and_right _ _ both))
 
 -- a symbol that stands in a carried section leads into it

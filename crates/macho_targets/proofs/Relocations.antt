@@ -6,6 +6,7 @@ use Rattle.std.proofs.Common.{◌≡◌, ℕ, suc, ◌-◌, ◌<◌, ◌≤◌, 
 use Rattle.std.proofs.Common.{arith}
 use Rattle.std.proofs.lemmas.Bool.{leb-true}
 use Rattle.macho_model.proofs.EachBelow.{and_left, and_right}
+use Rattle.macho_model.proofs.ObjectLaws.{object_keeps}
 use Rattle.macho_records.specs.declared.constants.TheConstants.{ARM64_RELOC_ADDEND}
 use Rattle.macho_structs.specs.declared.relocations.RelocationInfo.{RelocationInfo}
 use Rattle.macho_model.specs.ObjectRules.{relocation_number_exists}
@@ -26,7 +27,7 @@ relocation_of_link l s r read there low plain moves = by (relocation_in l s r).r
 
     -- the rule on its number
     exists : relocation_number_exists of.bytes s.section r ≡ true
-    exists = (read s.file of.bytes of.input).o5.1 s.section r of.section
+    exists = (object_keeps (read s.file of.bytes of.input)).o5.1 s.section r of.section
         (subst (λ (b : List ℕ). r < (section_at b s.section).nreloc) of.object low)
 
     here : relocation_in l s r ≡ relocation_at of.bytes s.section r

@@ -27,7 +27,7 @@ use Rattle.macho_model.specs.Fields.{pointer_addend}
 use Rattle.macho_model.specs.Words.{is_branch}
 use Rattle.macho_model.specs.Rows.{is_supported, defined_or_import, difference_fits, begins_pair, pointer_fits, may_be_called, has_form}
 use Rattle.macho_model.specs.Stands.{Kind, Pointer, Difference, Branch, Page, Offset, SlotPage, SlotOffset, SlotDistance, NoKind, kind_of}
-use Rattle.macho_model.specs.Valid.{RelocationsAreSupported}
+use Rattle.macho_model.specs.Supported.{RelocationsAreSupported}
 use Rattle.macho_standing.specs.Leads.{HasPlace}
 use Rattle.macho_model.specs.Grammar.{ObjectsAreRead}
 use Rattle.macho_standing.proofs.Fits.{field_number, pick, skip}

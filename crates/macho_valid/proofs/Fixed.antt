@@ -23,13 +23,15 @@ use Rattle.macho_model.specs.Stands.{SectionAt, IsAt}
 use Rattle.macho_model.specs.Values.{section_id, needs_fixup, IsNotEncodable, BadRebase}
 use Rattle.macho_model.specs.Valid.{stays_inside}
 use Rattle.macho_standing.specs.Leads.{HasPlace, TargetsLead}
-use Rattle.macho_standing.proofs.Sounding.{valid_is_sound, pointer_keeps}
+use Rattle.macho_model.proofs.FixedPointers.{pointer_keeps}
+use Rattle.macho_model.proofs.Unrefused.{valid_relocations}
+use Rattle.macho_standing.proofs.Sounding.{valid_is_sound}
 use Rattle.macho_standing.proofs.Leading.{link_leads}
 use Rattle.macho_valid.proofs.Ranges.{IsValidPlaced, IsNear, section_near, common_near}
 use Rattle.macho_valid.proofs.Near.{same_id, base_low, target_near, section_multiple}
 
 pub leads_of : (l : Link) (counts : Counts) (p : Placed) → IsValidPlaced l counts p → TargetsLead l
-leads_of l counts p h = link_leads l h.objects h.valid.relocations (valid_is_sound l counts h.valid).1
+leads_of l counts p h = link_leads l h.objects (valid_relocations l counts h.valid) (valid_is_sound l counts h.valid).1
 
 -- a field that stands at a multiple does so in memory
 pub field_multiple : (l : Link) (counts : Counts) (p : Placed) (s : SectionId) (f : Field) (address j : ℕ) → IsValidPlaced l counts p
@@ -43,7 +45,7 @@ pub no_bad_place : (l : Link) (counts : Counts) (p : Placed) (s : SectionId) (f 
     → Contains (carried_of l) s → Contains (fields_of l s) f → needs_fixup l s f ≡ true → SectionAt p s.file s.section address
     → (0x4000 < (address + f.offset) % 0x4000 + 8) ⊎ (1 ≤ (address + f.offset) % 4) → ⊥
 no_bad_place l counts p s f address h one field needs at bad =
-    let keeps = pointer_keeps l counts s f h.valid one field needs in
+    let keeps = pointer_keeps l s f h.valid.fields one field needs in
     let both = and_parts (nat_le 8 (2 ^ placed_exponent l s)) (f.offset % 8 == 0) keeps.1 in
     let section = field_multiple l counts p s f address 3 h at both.0 in
     let offset = eqb-true (f.offset % 8) 0 both.1 in
@@ -89,7 +91,7 @@ inside_near l counts p c target.None x addend h has moves stays at = absurd has
 -- THE rebases
 pub no_bad_rebase : (l : Link) (counts : Counts) (p : Placed) (at : Site) → IsValidPlaced l counts p → BadRebase l p at → ⊥
 no_bad_rebase l counts p (site.Field file section relocation) h (f, x, (one, field, is), needs, moves, at, bad) =
-    let keeps = pointer_keeps l counts (section_id file section) f h.valid one field needs in
+    let keeps = pointer_keeps l (section_id file section) f h.valid.fields one field needs in
     let has = (leads_of l counts p h).pointers (section_id file section) f one field needs in
     encodable p ((x + f.addend) % 2 ^ 64) (inside_near l counts p empty f.target x f.addend h has moves keeps.2 at) bad
 no_bad_rebase l counts p (site.Slot index) h (t, x, number, moves, at, bad) =

@@ -25,6 +25,7 @@ use Rattle.macho_model.specs.Stands.{Kind, Pointer, Difference, Branch, Page, Of
 use Rattle.macho_model.specs.Stands.{SectionAt, IsAt, CallIsAt, SubtrahendIsAt}
 use Rattle.macho_model.specs.Values.{section_id, fits_signed, less, branch_reaches, page_reaches, offset_fits, DoesNotFit}
 use Rattle.macho_model.specs.Values.{BadRange}
+use Rattle.macho_model.proofs.Unrefused.{valid_relocations}
 use Rattle.macho_model.specs.Valid.{is_small, is_multiple, stands_at_multiple, field_fits}
 use Rattle.macho_standing.proofs.Fits.{field_fits_in}
 use Rattle.macho_valid.specs.Laws.{ObjectsAreBytes}
@@ -80,7 +81,7 @@ moves_of : (l : Link) (counts : Counts) (p : Placed) (s : SectionId) (f : Field)
     → Contains (carried_of l) s
     → Contains (fields_of l s) f → kind_of f.type (is_some f.subtrahend) ≡ k → (Pointer ≡ k → ⊥) → targets_move f k ≡ true
 moves_of l counts p s f k h one field is other =
-    elim (field_fits_in l s f h.valid.relocations one field) [
+    elim (field_fits_in l s f (valid_relocations l counts h.valid) one field) [
       | inl pointer ↦ absurd (other (sym pointer.kind ∙ is))
       | inr moves ↦ sym (ap (targets_move f) is) ∙ moves
     ]
@@ -112,7 +113,7 @@ call_multiple : (l : Link) (counts : Counts) (p : Placed) (s : SectionId) (f : F
     → is_multiple l 4 t f.addend ≡ true
     → defined_or_import t ≡ true → CallIsAt l p 0 empty t x → (x + f.addend) % 4 ≡ 0
 call_multiple l counts p s f x h one field kind (target.Import id) is test leads (stub, in_stubs, id_is, x_is) =
-    let none = import_addend l s f h.valid.relocations one field kind (ap is_import is) in
+    let none = import_addend l s f (valid_relocations l counts h.valid) one field kind (ap is_import is) in
     let four = All-contains (λ (t : Stub). t.address % 4 ≡ 0) p.stubs stub h.placed.aligned.stubs in_stubs in
     omega (arith, none, four, x_is)
 call_multiple l counts p s f x h one field kind (target.Section file section offset) is test leads at =

@@ -1,4 +1,3 @@
-pub mod LinkRefusals
 pub mod Ranges
 pub mod Reach
 pub mod FieldTargets

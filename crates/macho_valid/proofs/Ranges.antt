@@ -167,7 +167,7 @@ pub record IsNearSegment (p : Placed) (s : PlacedSegment) : Type 0 where
 pub segment_near : (l : Link) (counts : Counts) (p : Placed) (s : PlacedSegment) → IsValidPlaced l counts p → Contains p.segments s
     → is_segment_named PAGEZERO s ≡ false → IsNearSegment p s
 segment_near l counts p s h (i, lt, at) other =
-    record { low = place.0; high = omega (arith, end, h.valid.numbers.sum); file = omega (arith, place.1, small, end, h.valid.numbers.sum) }
+    record { low = place.0; high = omega (arith, end, h.valid.sum); file = omega (arith, place.1, small, end, h.valid.sum) }
   where
     t : HasText l p
     t = has_text l counts p h.placed h.laid

@@ -35,15 +35,16 @@ use Rattle.macho_model.specs.Segments.{PAGEZERO, TEXT, DATA_CONST, DATA, LINKEDI
 use Rattle.macho_model.specs.Segments.{other_segments, segment_rank, segment_names_of}
 use Rattle.macho_model.specs.Rows.{is_none}
 use Rattle.macho_model.specs.Consumed.{EntryId, entries_of_link, entry_count, is_plain_pointer, is_section_target}
-use Rattle.macho_model.specs.Consumed.{initializer_relocation_fits, initializer_section_fits, relocations_in_entry, unwind_entry}
+use Rattle.macho_model.specs.Consumed.{initializer_relocation_fits, relocations_in_entry, unwind_entry}
 use Rattle.macho_model.specs.Consumed.{START_PLACE, LSDA_PLACE, holds_functions, lies_in, starts_in}
 use Rattle.macho_model.specs.Placement.{Placed, id_of, is_segment_named, linkedit_ranges}
 use Rattle.macho_model.specs.Order.{least_file_size, LiesInFile}
 use Rattle.macho_model.specs.Stands.{SectionAt, IsAt}
 use Rattle.macho_model.specs.Values.{is_absolute_target}
-use Rattle.macho_model.specs.Limits.{PassesLimit, IsTooLarge, ImagePasses, IsWritten32, LIMIT_32}
+use Rattle.macho_model.specs.Limits.{PassesLimit, ImagePasses, IsWritten32}
 use Rattle.macho_model.specs.Limits as written
 use Rattle.macho_model.specs.Valid.{VALID_SUM}
+use Rattle.macho_model.proofs.Unrefused.{valid_initializers, valid_slot, valid_at_slot, valid_entry}
 use Rattle.macho_standing.proofs.Members.{in_map, of_map, in_filter, of_filter, in_flat_map, of_flat_map}
 use Rattle.macho_standing.proofs.Libraries.{same_bytes, itself}
 use Rattle.macho_standing.proofs.Inputs.{section_of_file}
@@ -160,10 +161,10 @@ initializer_near l counts p s r x h one within at =
     let file = section_of_file l s h.objects (initializer_section l s one) in
     let inside = leb-true ((relocation_in l s r).r_address + 2 ^ (relocation_in l s r).r_length) (header_at l s).size
     (file.file.object.o10.1 s.section r file.within within) in
-    let eight = eqb-true ((relocation_in l s r).r_address % 8) 0 (h.valid.consumed.placed s r one within) in
+    let eight = eqb-true ((relocation_in l s r).r_address % 8) 0 (valid_at_slot l counts s r h.valid one within) in
     let whole = eqb-true ((header_at l s).size % 8) 0
     (and_parts (type_of (header_at l s) == S_MOD_INIT_FUNC_POINTERS) ((header_at l s).size % 8 == 0)
-    (All-contains (λ t. initializer_section_fits l t ≡ true) (initializer_sections l) s h.valid.consumed.initializers one)).1 in
+    (valid_initializers l counts s h.valid one)).1 in
     let slot : ℕ = (relocation_in l s r).r_address / 8 in
     let place : (relocation_in l s r).r_address ≡ 8 * slot = omega (arith, eight) in
     let end : 8 * slot + 8 ≤ (header_at l s).size = omega (arith, inside, whole, place, pow_pos (relocation_in l s r).r_length) in
@@ -171,7 +172,7 @@ initializer_near l counts p s r x h one within at =
     let there : Contains (relocations_at l s (8 * slot)) r =
     in_filter (λ k. (relocation_in l s k).r_address == 8 * slot) (relocations_of l s) r (in_range n r within)
     (eq-eqb (relocation_in l s r).r_address (8 * slot) place) in
-    let slot_fits = h.valid.consumed.slots s slot one end in
+    let slot_fits = valid_slot l counts s slot h.valid one end in
     let all = (and_parts (length (relocations_at l s (8 * slot)) == 1)
     (list_all (initializer_relocation_fits l s) (relocations_at l s (8 * slot)))
     (and_parts ((length (relocations_at l s (8 * slot)) == 1) && list_all (initializer_relocation_fits l s)
@@ -220,12 +221,12 @@ written_near l counts p x h (written.IsWritten32.initializer s r _ one within at
 written_near l counts p _ h (written.IsWritten32.function d r at extra one there place extent) =
     let e = entry_of l d one in
     let s = d.of_section in
-    let start = h.valid.consumed.unwind s d.entry U4 e.0 e.1 in
+    let start = valid_entry l counts s d.entry U4 h.valid e.0 e.1 in
     let named = (and_parts (not (relocation_in l s r).r_extern) (holds_functions l (section_named l s r))
     (each_passes (λ k. not (relocation_in l s k).r_extern && holds_functions l (section_named l s k))
     (relocations_in_entry l s d.entry START_PLACE) r
     (and_parts (not (length (relocations_in_entry l s d.entry START_PLACE) == 0)) _ start).1 there)).0 in
-    let inside = h.valid.consumed.unwind s d.entry U5 e.0 e.1 in
+    let inside = valid_entry l counts s d.entry U5 h.valid e.0 e.1 in
     let lies = each_passes (λ k. lies_in l (section_named l s k) (unwind_entry l s d.entry).start (unwind_entry l s d.entry).length)
     (starts_in l s d.entry) r inside
     (in_filter (λ k. not (relocation_in l s k).r_extern) (relocations_in_entry l s d.entry START_PLACE) r there named) in
@@ -234,7 +235,7 @@ written_near l counts p _ h (written.IsWritten32.function d r at extra one there
 written_near l counts p _ h (written.IsWritten32.language d r at one there place) =
     let e = entry_of l d one in
     let s = d.of_section in
-    let fit = h.valid.consumed.unwind s d.entry U7 e.0 e.1 in
+    let fit = valid_entry l counts s d.entry U7 h.valid e.0 e.1 in
     let second =
     (and_parts (list_all
     (λ k. (relocation_in l s k).r_extern && (is_defined (target_of_relocation l s k) || is_import (target_of_relocation l s k)))

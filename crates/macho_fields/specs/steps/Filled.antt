@@ -7,7 +7,7 @@ use Rattle.macho_model.specs.declared.placed.PlacedSection.{PlacedSection}
 use Rattle.macho_model.specs.declared.targets.Site.{Site}
 use Rattle.macho_model.specs.declared.targets.Site.TheVariants as site
 use Rattle.macho_model.specs.Objects.{num_sections, section_at, section_bytes}
-use Rattle.macho_model.specs.Grammar.{IsObject}
+use Rattle.macho_model.specs.ObjectLaws.{KeepsObjectRules}
 use Rattle.macho_model.specs.Fields.{Field}
 use Rattle.macho_fixups.specs.declared.run.Fixup.{Fixup}
 use Rattle.macho_fields.specs.declared.fault.FillFault.{FillFault}
@@ -22,7 +22,7 @@ use Rattle.macho_fields.specs.steps.Writes.{IsPut, HasField, DoesNotHold}
 
 -- where a section comes from: its object, and its bytes and relocations in it
 pub record IsSource (s : Source) : Type 0 where
-  pub object : IsObject s.file.now.bytes
+  pub object : KeepsObjectRules s.file.now.bytes
   pub static : s.file.now.is_dynamic ≡ false
   pub among : s.place.section < num_sections s.file.now.bytes
   pub list : s.list.now ≡ record { bytes = s.file.now.bytes; section = s.place.section }

@@ -9,7 +9,7 @@ use Rattle.macho_model.specs.Resolution.{SymbolId, name_at}
 use Rattle.macho_bytes.specs.Numbers.{bits}
 use Rattle.macho_records.specs.declared.symbols.SymtabEntry.{SymtabEntry}
 use Rattle.macho_records.specs.declared.constants.TheConstants.{N_SECT}
-use Rattle.macho_model.specs.SymbolRows.{hidden_type}
+use Rattle.macho_model.specs.SymbolEntries.{hidden_type}
 use Rattle.macho_model.specs.SymbolTable.{is_in_table}
 use Rattle.macho_parts.specs.Sizes.{text_size}
 use Rattle.macho_names.specs.Kept.{in_carried}

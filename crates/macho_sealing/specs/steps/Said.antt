@@ -3,7 +3,8 @@ use Rattle.std.specs.Prelude.{List, [], ◌∷◌, ◌++◌, if◌then◌else◌
 use Rattle.macho_records.specs.declared.constants.TheConstants.{LC_ID_DYLIB, LC_DYLD_CHAINED_FIXUPS, LC_DYLD_EXPORTS_TRIE, LC_CODE_SIGNATURE}
 use Rattle.macho_model.specs.declared.placed.Linkedit.{Linkedit}
 use Rattle.macho_model.specs.Segments.{list_if}
-use Rattle.macho_model.specs.Head.{HeadCommand, versions_for, dylinker_for, dylib_for, linkedit_for, range_size}
+use Rattle.macho_model.specs.Head.{range_size}
+use Rattle.macho_model.specs.HeadCommands.{HeadCommand, versions_for, dylinker_for, dylib_for, linkedit_for}
 use Rattle.macho_commands.specs.Commands.{entry_point_said, uuid_said, symtab_said}
 use Rattle.macho_sealing.specs.declared.commands.HeadParts.{HeadParts}
 

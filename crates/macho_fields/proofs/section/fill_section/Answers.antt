@@ -1,4 +1,5 @@
-use Rattle.std.proofs.Common.{length, sym, ◌∙◌, ap}
+use Rattle.std.proofs.Common.{ℕ, ◌==◌, length, sym, ◌∙◌, ap, arith}
+use Rattle.macho_records.specs.Sections.{type_of}
 use Rattle.std.proofs.lemmas.Result.{on_ok_weaker}
 use Rattle.macho_object.proofs.Options.{some_if}
 use Rattle.macho_fields.proofs.Nexts.{section_long, object_kept, behind_last}
@@ -12,6 +13,26 @@ copy_from_slice-requires g c =
     let object = object_kept c.args.file.now.is_dynamic b c.requires.object c.is_dynamic-object.ensures.kept in
     let bytes = (some_if _ _ _ c.in-Some-Some-Some.ensures').1 in
     c.requires.room ∙ sym (section_long b k object c.requires.among c.requires.filled) ∙ sym (ap length bytes)
+
+pub fill_fields-requires-clause-source : goal.fill_fields-requires-clause-source
+fill_fields-requires-clause-source g c =
+    let b = c.args.file.now.bytes in
+    let k = c.args.place.section in
+    let object = object_kept c.args.file.now.is_dynamic b c.requires.object c.is_dynamic-object.ensures.kept in
+    let header = (some_if _ _ _ c.in-Some-Some-Some.ensures).1 in
+    let bytes = (some_if _ _ _ c.in-Some-Some-Some.ensures').1 in
+    let list = (some_if _ _ _ c.in-Some-Some-Some.ensures'').1 in
+    let long = ap length bytes ∙ section_long b k object c.requires.among c.requires.filled in
+    record {
+      object = object;
+      static = c.requires.object;
+      among = c.requires.among;
+      list = list;
+      bytes = bytes;
+      long = long;
+      low = omega (arith, c.requires.low, c.requires.room, long);
+      descriptors = ap (λ (n : ℕ). n == 19) (c.typ.ensures ∙ ap type_of header);
+    }
 
 pub returns-clause-done : goal.returns-clause-done
 returns-clause-done g c =

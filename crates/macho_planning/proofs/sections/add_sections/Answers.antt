@@ -1,13 +1,20 @@
 -- Each section that is viewed is one of the object's, keeps its rules, and adds what one more adds.
-use Rattle.std.proofs.Common.{◌∷◌, [], sym, ap, ◌∙◌}
+use Rattle.std.proofs.Common.{◌∷◌, [], sym, ap, subst, ◌∙◌}
 use Rattle.macho_records.specs.declared.header.SectionHeader.{SectionHeader}
 use Rattle.macho_model.specs.Objects.{section_at}
 use Rattle.macho_model.specs.Segments.{list_if}
 use Rattle.macho_model.specs.Links.{is_carried}
-use Rattle.macho_planning.specs.Sections.{spec_for, specs_below}
-use Rattle.macho_planning.proofs.Standing.{header_viewed}
+use Rattle.macho_planning.specs.Sections.{spec_for, KeepsRules, specs_below}
+use Rattle.macho_planning.proofs.Standing.{header_viewed, keeps_rules}
 use Rattle.macho_planning.proofs.Listing.{with_specs, with_both, specs_more}
 use Rattle.macho_planning.proofs.sections.add_sections.Goals as goal
+
+pub add_section-requires : goal.add_section-requires
+add_section-requires c =
+    let object = c.args.object.now in
+    let k = c.loop-section.section in
+    let viewed = header_viewed object k c.in-Some.header c.requires.object c.in-Some.ensures in
+    subst KeepsRules (sym viewed.0) (keeps_rules object.bytes k c.requires.rules viewed.1)
 
 pub loop-section-preserved : goal.loop-section-preserved
 loop-section-preserved c =

@@ -2,7 +2,7 @@
 use Rattle.std.proofs.Common.{map, ap, ◌∙◌, arith}
 use Rattle.std.proofs.lemmas.List.{map-append}
 use Rattle.macho_records.specs.declared.constants.TheConstants.{LC_LOAD_DYLIB}
-use Rattle.macho_model.specs.Head.{dylib_for}
+use Rattle.macho_model.specs.HeadCommands.{dylib_for}
 use Rattle.macho_commands.specs.Commands.{said_by}
 use Rattle.macho_sealing.proofs.Made.{more_made}
 use Rattle.macho_sealing.proofs.commands.add_libraries.Goals as goal

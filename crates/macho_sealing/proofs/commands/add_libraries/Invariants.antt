@@ -1,6 +1,6 @@
 use Rattle.std.proofs.Common.{map}
 use Rattle.macho_records.specs.declared.constants.TheConstants.{LC_LOAD_DYLIB}
-use Rattle.macho_model.specs.Head.{dylib_for}
+use Rattle.macho_model.specs.HeadCommands.{dylib_for}
 use Rattle.macho_commands.specs.Commands.{said_by}
 use Rattle.macho_sealing.proofs.Made.{IsMade}
 use Rattle.macho_sealing.proofs.commands.add_libraries.Given as goal

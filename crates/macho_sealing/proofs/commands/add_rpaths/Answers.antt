@@ -1,7 +1,7 @@
 -- Each step says one more of the texts.
 use Rattle.std.proofs.Common.{map, ap, ◌∙◌, arith}
 use Rattle.std.proofs.lemmas.List.{map-append}
-use Rattle.macho_model.specs.Head.{rpath_for}
+use Rattle.macho_model.specs.HeadCommands.{rpath_for}
 use Rattle.macho_commands.specs.Commands.{said_by}
 use Rattle.macho_sealing.proofs.Made.{more_made}
 use Rattle.macho_sealing.proofs.commands.add_rpaths.Goals as goal

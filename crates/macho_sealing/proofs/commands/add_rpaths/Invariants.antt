@@ -1,5 +1,5 @@
 use Rattle.std.proofs.Common.{map}
-use Rattle.macho_model.specs.Head.{rpath_for}
+use Rattle.macho_model.specs.HeadCommands.{rpath_for}
 use Rattle.macho_commands.specs.Commands.{said_by}
 use Rattle.macho_sealing.proofs.Made.{IsMade}
 use Rattle.macho_sealing.proofs.commands.add_rpaths.Given as goal

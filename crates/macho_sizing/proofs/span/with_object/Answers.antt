@@ -1,15 +1,25 @@
 -- The span of an object: where the next section doesn't fit any more, neither do all.
-use Rattle.std.proofs.Common.{ℕ, Bool, ◌+◌, ap, ◌∙◌, arith, sum_by}
+use Rattle.std.proofs.Common.{ℕ, Bool, ◌+◌, ◌≤◌, sym, ap, subst, ◌∙◌, arith, sum_by}
 use Rattle.std.specs.List.{range_with_len}
+use Rattle.std.proofs.lemmas.Bool.{leb-true}
 use Rattle.std.proofs.lemmas.List.{take_all}
 use Rattle.std.proofs.lemmas.List.FromFn.{length-range_with_len}
+use Rattle.macho_records.specs.declared.header.SectionHeader.{SectionHeader}
 use Rattle.macho_model.specs.Objects.{num_sections, section_at}
+use Rattle.macho_model.proofs.ObjectLaws.{object_keeps}
 use Rattle.macho_object.specs.Views.{section_count}
 use Rattle.macho_layout.proofs.Costs.{fitting-none, fitting-some, fitting-is, fitting-below}
 use Rattle.macho_planning.proofs.Standing.{header_viewed}
 use Rattle.macho_sizing.specs.steps.Spans.{span_of, span_below}
 use Rattle.macho_sizing.proofs.Spans.{below_more, below_less}
 use Rattle.macho_sizing.proofs.span.with_object.Goals as goal
+
+pub with_section-requires : goal.with_section-requires
+with_section-requires c =
+    let b = c.args.object.now.bytes in
+    let k = c.loop-section.section in
+    let seen = header_viewed c.args.object.now k c.in-Some.header c.requires.object c.in-Some.ensures in
+    subst (λ (h : SectionHeader). h.align ≤ 14) (sym seen.0) (leb-true (section_at b k).align 14 ((object_keeps c.requires.rules).o7 k seen.1))
 
 pub returns-in_err-span : goal.returns-in_err-span
 returns-in_err-span c =

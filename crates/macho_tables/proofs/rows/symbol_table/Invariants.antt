@@ -3,7 +3,7 @@ use Rattle.std.specs.Prelude.{map}
 use Rattle.std.specs.Option.{option_copied}
 use Rattle.macho_model.specs.declared.placed.Counts.{Counts}
 use Rattle.macho_model.specs.Links.{Link}
-use Rattle.macho_model.specs.SymbolRows.{row_of}
+use Rattle.macho_linkedit.specs.TableRows.{row_of}
 use Rattle.macho_layout.specs.Placements.{placed_of}
 use Rattle.macho_linkedit.specs.Listing.{id_of_symbol}
 use Rattle.macho_linkedit.specs.Symbols.{HasRows}
