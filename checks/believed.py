@@ -4,9 +4,12 @@ believed.py                 the definitions under the clauses of `run`, in readi
 believed.py --crate NAME    the files of a crate's specs/, and which definitions of each a public clause rests on
 believed.py --lines         writes the reading list and its parts into docs/THEOREMS.md, and the lines of the files that its tables name
 
-Refused are: a file of specs/steps/ under the clauses of `run` or of a function that a table of sentences names (README.md and
-docs/PROVED.md have these), a file of specs/ that imports one of specs/steps/, and a row of such a table that names a function or
-clause that isn't there. (A crate may hand functions of its own steps to another crate's code, as macho_memory_walks does: these
+What a reader has to believe are equations, fields and cases: comments explain them, and the checker compares types with them. So
+these are told apart, and the first may be at most MOST_LINES.
+
+Refused are: more lines than these under the clauses of `run`, a file of specs/steps/ under the clauses of `run` or of a function that
+a table of sentences names (README.md and docs/PROVED.md have these), a file of specs/ that imports one of specs/steps/, and a row of
+such a table that names a function or clause that isn't there. (A crate may hand functions of its own steps to another crate's code, as macho_memory_walks does: these
 are in no row.)
 """
 import os
@@ -18,6 +21,9 @@ CRATES = os.path.join(TOP, "crates")
 NAME = r"[^\s(){}\[\],;.]+"
 BEGIN, END = "<!-- reading list -->\n", "<!-- end of the reading list -->\n"
 PARTS, PARTS_END = "<!-- parts -->\n", "<!-- end of the parts -->\n"
+
+# The most equations, fields and cases that a reader of `run` has to believe.
+MOST_LINES = 3500
 
 # The pages whose tables say which clause carries a sentence.
 TABLES = ["README.md", os.path.join("docs", "PROVED.md")]
@@ -419,9 +425,11 @@ def print_run(world):
         total, whole, count = total + lines, whole + world.files[module].lines, count + len(found)
         print(f"{lines:5}  {short(module)}: {', '.join(one[1] for one in found)}")
     comments, types = comments_and_types(world, files)
-    print(f"{total - comments - types:5}  lines of equations, fields and cases; {comments} of comments, {types} of types")
+    believed = total - comments - types
+    print(f"{believed:5}  lines of equations, fields and cases, of at most {MOST_LINES}; {comments} of comments, {types} of types")
     print(f"{total:5}  lines in {count} definitions of {len(files)} files, which have {whole} lines in all")
-    return [f"{short(module)} is a file of steps, under `run`" for module in files if is_step(module)]
+    wrong = [f"{short(module)} is a file of steps, under `run`" for module in files if is_step(module)]
+    return wrong + ([f"{believed} equations, fields and cases under `run`, more than {MOST_LINES}"] if believed > MOST_LINES else [])
 
 
 def wrong_imports(world):
