@@ -9,8 +9,8 @@ these are told apart, and the first may be at most MOST_LINES.
 
 Refused are: more lines than these under the clauses of `run`, a file of specs/steps/ under the clauses of `run` or of a function that
 a table of sentences names (README.md and docs/PROVED.md have these), a file of specs/ that imports one of specs/steps/, and a row of
-such a table that names a function or clause that isn't there. (A crate may hand functions of its own steps to another crate's code, as macho_memory_walks does: these
-are in no row.)
+such a table that names a function or clause that isn't there. (A crate may hand functions of its own steps to another crate's code, as
+macho_memory_walks does: these are in no row.)
 """
 import os
 import re

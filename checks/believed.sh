@@ -1,7 +1,7 @@
 #!/usr/bin/env bash
-# Prints the definitions under the clauses of `run`, in reading order, with their lines. Fails where steps of the code are
-# among them or under a function that a table of README.md or docs/PROVED.md names, or where a row of these names a clause that isn't
-# there.
+# Prints the definitions under the clauses of `run`, in reading order, with their lines. Fails where these are more than 3,500 equations,
+# fields and cases, where steps of the code are among them or under a function that a table of README.md or docs/PROVED.md names, or
+# where a row of these names a clause that isn't there.
 # Where python3 isn't installed, nothing is read.
 top=$(cd "$(dirname "$0")/.." && pwd) || exit 1
 command -v python3 >/dev/null || {
