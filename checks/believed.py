@@ -4,8 +4,8 @@ believed.py                 the definitions under the clauses of `run`, in readi
 believed.py --crate NAME    the files of a crate's specs/, and which definitions of each a public clause rests on
 believed.py --lines         writes the reading list and its parts into docs/THEOREMS.md, and the lines of the files that its tables name
 
-What a reader has to believe are equations, fields and cases: comments explain them, and the checker compares types with them. So
-these are told apart, and the first may be at most MOST_LINES.
+The total counts all lines of the definitions. Of these, equations, fields and cases are told apart from comments and from types, which
+the checker compares with the equations. So that they don't grow unseen, there may be at most MOST_LINES of them.
 
 Refused are: more lines than these under the clauses of `run`, a file of specs/steps/ under the clauses of `run` or of a function that
 a table of sentences names (README.md and docs/PROVED.md have these), a file of specs/ that imports one of specs/steps/, and a row of
@@ -22,7 +22,7 @@ NAME = r"[^\s(){}\[\],;.]+"
 BEGIN, END = "<!-- reading list -->\n", "<!-- end of the reading list -->\n"
 PARTS, PARTS_END = "<!-- parts -->\n", "<!-- end of the parts -->\n"
 
-# The most equations, fields and cases that a reader of `run` has to believe.
+# The most equations, fields and cases under `run`; the total, with comments and types, has no limit here.
 MOST_LINES = 3500
 
 # The pages whose tables say which clause carries a sentence.
