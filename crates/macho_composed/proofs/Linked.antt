@@ -252,6 +252,7 @@ written_is_linked parts laws l counts uuid b p ready can w =
 
     text : HeadSays l counts uuid b p
     text = record {
+      versions = w.says.1.head.versions;
       trie = length w.texts.trie;
       text = subst (λ (t : List ℕ). Stands b (record { at = 0; text = t })) w.says.1.head.is (stands.texts 6 no_part (omega arith));
     }

@@ -31,7 +31,7 @@ use Rattle.macho_chaining.specs.Writing.{text_of_range}
 use Rattle.macho_chaining.specs.Laws.{TableIsOf}
 use Rattle.macho_made.specs.Made.{IsToMake, IsOffsetsText, IsUnwindMade}
 use Rattle.macho_agreement.specs.Laws.{NamesAreWhole}
-use Rattle.macho_sealing.specs.Heads.{AreHeadParts, head_bytes}
+use Rattle.macho_sealing.specs.Heads.{AreHeadParts, VersionsFit, head_bytes}
 use Rattle.macho_sealing.specs.declared.commands.HeadParts.{HeadParts}
 use Rattle.macho_sealing.specs.Signing.{IsSignerOf}
 use Rattle.macho_ranges.specs.Parts.{written}
@@ -73,6 +73,7 @@ pub record HeadMeans (l : Link) (counts : Counts) (uuid : List ℕ) (p : Placed)
   pub parts : HeadParts
   pub of_link : AreHeadParts l counts uuid p parts × (parts.trie_size ≡ trie)
   pub long : length text ≡ head_bytes p parts
+  pub versions : VersionsFit l.versions
   pub is : text ≡ head_for l p (head.commands_for l counts p uuid trie)
   pub header : (b : List ℕ) → Stands b (record { at = 0; text = text }) → header_of b ≡ header_for l p (commands_for l counts p uuid trie)
   pub commands : (b : List ℕ) → Stands b (record { at = 0; text = text }) → commands_in b ≡ commands_for l counts p uuid trie

@@ -130,6 +130,7 @@ head_written l b head uuid before now h parts said =
         of_link = (parts, refl);
         long = said.long;
         is = said.is;
+        versions = said.versions;
         header = said.header;
         commands = said.commands;
         names = libraries_whole l h.inputs.rules.1;

@@ -1,5 +1,5 @@
 -- THE head of an image, byte for byte (`mach-o/loader.h`): the header and the load commands that a link and its placement ask for.
-use Rattle.std.specs.Prelude.{ℕ, ◌+◌, ◌*◌, ◌-◌, ◌==◌, if◌then◌else◌, Bool, List, [], ◌∷◌, ◌++◌, length, map, filter, replicate, sum_by, codes, Option, Some, None}
+use Rattle.std.specs.Prelude.{ℕ, ◌+◌, ◌*◌, ◌-◌, ◌^◌, ◌<◌, ◌==◌, if◌then◌else◌, Bool, List, [], ◌∷◌, ◌++◌, length, map, filter, replicate, sum_by, codes, Option, Some, None, IfSome}
 use Rattle.std.specs.List.{list_any, flat_map, concat}
 use Rattle.std.specs.Str.{bytes_eq}
 use Rattle.macho_records.specs.Numbers.{rounded_up}
@@ -171,7 +171,8 @@ header_for l p commands bytes = record {
 unfoldable pub head_for : Link → Placed → List (List ℕ) → List ℕ
 head_for l p commands = spelling mach_header (header_for l p (length commands) (sum_by length commands)) ++ concat commands
 
--- The file begins with this head, with an exports trie of some size.
+-- The file begins with this head, with an exports trie of some size. The versions that were given fit their fields.
 pub record HeadSays (l : Link) (counts : Counts) (uuid : List ℕ) (b : List ℕ) (p : Placed) : Type 0 where
+  pub versions : IfSome l.versions (λ v. (v.0 < 2 ^ 32) × (v.1 < 2 ^ 32))
   pub trie : ℕ
   pub text : Stands b (record { at = 0; text = head_for l p (commands_for l counts p uuid trie) })

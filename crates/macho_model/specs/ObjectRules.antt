@@ -1,5 +1,5 @@
 -- The rules of relocatable objects and dynamic libraries, a test for each, of one record: a section, a symbol, a
--- relocation or a command. `Grammar` asks each test of each record.
+-- relocation or a command. `Grammar` says which records fail one.
 use Rattle.std.specs.Prelude.{ℕ, ◌+◌, ◌*◌, ◌-◌, ◌^◌, ◌==◌, nat_le, nat_lt, ◌&&◌, ◌||◌, not, if◌then◌else◌, Bool, List, length, drop, slice_range, codes}
 use Rattle.macho_records.specs.ByteTexts.{name_of}
 use Rattle.macho_records.specs.ByteLayouts.{reading, size_of}

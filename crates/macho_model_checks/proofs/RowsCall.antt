@@ -2,7 +2,7 @@
 --
 -- Each part is computed twice: from the bytes that were written out by hand, and from the link and its placement. So the
 -- definitions of header, commands, symbols, imports and section headers are those of the public headers, in this instance.
-use Rattle.std.proofs.Common.{◌≡◌, ℕ, zero, suc, ◌+◌, ◌<◌, ◌==◌, ◌&&◌, if◌then◌else◌, List, [], ◌∷◌, length, get_or, map, refl, ap, ◌∙◌}
+use Rattle.std.proofs.Common.{◌≡◌, ℕ, zero, suc, ◌+◌, ◌^◌, ◌<◌, ◌==◌, ◌&&◌, if◌then◌else◌, List, Some, [], ◌∷◌, length, get_or, map, refl, ap, ◌∙◌}
 use Rattle.std.proofs.Common.{sym, arith, true}
 use Rattle.std.specs.Prelude.{codes, slice_range}
 use Rattle.std.specs.List.{range_with_len}
@@ -105,6 +105,7 @@ head_stands = refl
 
 pub call_head : HeadSays calling counts_of_call uuid_given call_image placed_call
 call_head = record {
+  versions = tt;
   trie = 14;
   text = record {
     within = omega (arith, head_long, call_long);
@@ -336,6 +337,11 @@ pub flags_are_asked : (l : Link) (counts : Counts) (uuid : List ℕ) (p : Placed
 flags_are_asked l counts uuid p says =
     let flags = sym flags_there ∙ flags_byte l counts uuid without_flags p says in
     absurd (omega (arith, flags))
+
+-- a version of the system past its field, whatever the file says
+pub versions_fit : (counts : Counts) (uuid b : List ℕ) (p : Placed)
+    → HeadSays (record calling { versions = Some (2 ^ 32, 0) }) counts uuid b p → ⊥
+versions_fit counts uuid b p says = absurd (omega (arith, says.versions.0))
 
 unfoldable pub without_version : List ℕ
 without_version = changed call_image 750 (0xa6 ∷ [])

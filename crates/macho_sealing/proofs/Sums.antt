@@ -3,7 +3,7 @@
 -- The bytes of the commands are the sum of their sizes: no command is longer than all together, and since none is empty there
 -- are no more commands
 -- than bytes. What was written is the text of the commands, so every file that begins with it says them.
-use Rattle.std.proofs.Common.{◌≡◌, ℕ, zero, suc, ◌+◌, ◌<◌, ◌≤◌, ◌^◌, List, [], ◌∷◌, map, length, get_or, refl, sym, ap, ◌∙◌, arith, All}
+use Rattle.std.proofs.Common.{◌≡◌, ℕ, zero, suc, ◌+◌, ◌<◌, ◌≤◌, ◌^◌, List, [], ◌∷◌, map, length, get_or, refl, sym, ap, subst, ◌∙◌, arith, All}
 use Rattle.std.specs.Prelude.{sum_by}
 use Rattle.std.proofs.lemmas.List.Sums.{sum_by-cons}
 use Rattle.macho_bytes.specs.Texts.{put}
@@ -21,7 +21,7 @@ use Rattle.macho_commands.specs.Heads.{head_text, HeadIsReadable}
 use Rattle.macho_commands.proofs.HeadTexts.{found_said}
 use Rattle.macho_commands.proofs.HeadBytes.{head_spelled}
 use Rattle.macho_sealing.specs.declared.commands.HeadParts.{HeadParts}
-use Rattle.macho_sealing.specs.Heads.{AreHeadParts, commands_of_parts, head_bytes, HeadIsPut}
+use Rattle.macho_sealing.specs.Heads.{AreHeadParts, VersionsFit, commands_of_parts, head_bytes, HeadIsPut}
 use Rattle.macho_sealing.proofs.Joined.{parts_said}
 
 pub sized : (cs : List Command) → commands_size cs ≡ sum_by size_said (map said_by cs)
@@ -66,11 +66,13 @@ pub head_put : (l : Link) (counts : Counts) (uuid : List ℕ) (p : Placed) (h : 
     → AreHeadParts l counts uuid p h → map said_by cs ≡ commands_of_parts p h → kind.executable ≡ h.executable
     → kind.thread_locals ≡ describes_thread_locals p
     → now ≡ put 0 (head_text kind cs) before → length (head_text kind cs) ≡ 32 + commands_size cs → HeadIsReadable kind cs
+    → VersionsFit h.versions
     → HeadIsPut l counts uuid p h before now
-head_put l counts uuid p h cs kind before now are said executable locals written long readable = record {
+head_put l counts uuid p h cs kind before now are said executable locals written long readable fit = record {
   text = head_text kind cs;
   put_is = written;
   long = long ∙ omega (arith, sized cs, ap (sum_by size_said) said);
+  versions = subst VersionsFit are.versions fit;
   is = head_spelled l counts uuid p h.trie_size kind cs (executable ∙ are.executable) locals all long;
   header = λ b stands.
       let found = found_said l counts uuid b p h.trie_size kind cs (executable ∙ are.executable) locals all (readable.found b stands) in

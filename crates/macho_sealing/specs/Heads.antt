@@ -1,5 +1,5 @@
 -- What the head of an image is made of, beside its placement.
-use Rattle.std.specs.Prelude.{◌≡◌, ℕ, ◌+◌, ◌-◌, ◌<◌, ◌^◌, if◌then◌else◌, List, [], ◌∷◌, ◌++◌, length, map, sum_by}
+use Rattle.std.specs.Prelude.{◌≡◌, ℕ, ◌+◌, ◌-◌, ◌<◌, ◌^◌, if◌then◌else◌, List, [], ◌∷◌, ◌++◌, length, map, sum_by, Option, IfSome}
 use Rattle.macho_bytes.specs.Texts.{put, Stands}
 use Rattle.macho_bytes.specs.Layouts.{size_of}
 use Rattle.macho_records.specs.Layouts.{mach_header}
@@ -31,6 +31,10 @@ pub record AreHeadParts (l : Link) (counts : Counts) (uuid : List ℕ) (p : Plac
   pub rpaths : map (λ n. n.items) h.rpaths.now ≡ l.rpaths
   pub symbols : h.symbols ≡ counts.symbols
   pub strings : h.strings_size ≡ counts.strings
+
+-- versions that are not cut to their fields
+abbrev pub VersionsFit : Option (ℕ × ℕ) → Type 0
+VersionsFit versions = IfSome versions (λ v. (v.0 < 2 ^ 32) × (v.1 < 2 ^ 32))
 
 -- the tables end in a file of fewer than 2 ^ 32 bytes
 pub record TablesAreSmall (t : Linkedit) : Type 0 where
@@ -68,6 +72,7 @@ pub record HeadIsPut (l : Link) (counts : Counts) (uuid : List ℕ) (p : Placed)
   pub text : List ℕ
   pub put_is : now ≡ put 0 text before
   pub long : length text ≡ head_bytes p h
+  pub versions : VersionsFit l.versions
   pub is : text ≡ head_for l p (head.commands_for l counts p uuid h.trie_size)
   pub header : (b : List ℕ) → Stands b (record { at = 0; text = text })
       → header_of b ≡ header_for l p (commands_for l counts p uuid h.trie_size)

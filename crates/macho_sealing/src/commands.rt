@@ -6,8 +6,9 @@ ghost use Rattle.macho_records.specs.declared.constants.TheConstants.{LC_ID_DYLI
 ghost use Rattle.macho_model.specs.Segments.{list_if};
 ghost use Rattle.macho_model.specs.HeadCommands.{commands_for, versions_for, dylinker_for, dylib_for, rpath_for};
 ghost use Rattle.macho_layout.specs.Placements.{placed_of};
+ghost use Rattle.macho_commands.specs.declared.command.Command.TheVariants.{BuildVersion};
 ghost use Rattle.macho_commands.specs.Commands.{said_by, entry_point_said};
-ghost use Rattle.macho_sealing.specs.Heads.{AreHeadParts, TablesAreSmall, commands_of_parts};
+ghost use Rattle.macho_sealing.specs.Heads.{AreHeadParts, TablesAreSmall, VersionsFit, commands_of_parts};
 ghost use Rattle.macho_sealing.specs.Splits.{HeadersAreSplit};
 ghost use Rattle.macho_sealing.specs.steps.Said.{own_said, tables_said};
 
@@ -66,12 +67,21 @@ fn add_entry(parts: &HeadParts<'_>, commands: &mut Vec<Command<'_>>) -> Result<(
     Ok(())
 }
 
+/// The command of the least version of the system and that of the SDK.
+fn build_version<'a>(minimum: u32, sdk: u32) -> Command<'a>
+    ensures is { result ≡ BuildVersion minimum sdk }
+    ensures fit { (minimum < 2 ^ 32) × (sdk < 2 ^ 32) }
+{
+    Command::BuildVersion { minimum, sdk }
+}
+
 /// The versions of the system that the image is for, where they were given.
 fn add_versions(parts: &HeadParts<'_>, commands: &mut Vec<Command<'_>>) -> Result<(), AllocError>
-    ensures { OnOk result (map said_by commands.new.items ≡ map said_by commands.old.items ++ versions_for parts.now.versions) }
+    ensures said { OnOk result (map said_by commands.new.items ≡ map said_by commands.old.items ++ versions_for parts.now.versions) }
+    ensures fit { OnOk result (VersionsFit parts.now.versions) }
 {
     if let Some((minimum, sdk)) = parts.versions {
-        commands.push(Command::BuildVersion { minimum, sdk })?;
+        commands.push(build_version(minimum, sdk))?;
     }
     Ok(())
 }
@@ -118,7 +128,8 @@ fn add_rpaths<'a>(rpaths: &'a [Vec<u8>], commands: &mut Vec<Command<'a>>) -> Res
 
 /// What stands behind the segments' commands and in front of the libraries.
 fn add_own<'a>(parts: &HeadParts<'a>, commands: &mut Vec<Command<'a>>) -> Result<(), AllocError>
-    ensures { OnOk result (map said_by commands.new.items ≡ map said_by commands.old.items ++ own_said parts.now) }
+    ensures said { OnOk result (map said_by commands.new.items ≡ map said_by commands.old.items ++ own_said parts.now) }
+    ensures fit { OnOk result (VersionsFit parts.now.versions) }
 {
     add_entry(parts, commands)?;
     commands.push(Command::Uuid { uuid: parts.uuid })?;
@@ -162,6 +173,7 @@ pub fn head_commands<'a>(
     requires split { HeadersAreSplit (placed_of placement.now) }
     requires tables { TablesAreSmall placement.now.linkedit }
     ensures said { IfOk result (λ v. map said_by v.items ≡ commands_of_parts (placed_of placement.now) parts.now) }
+    ensures fit { OnOk result (VersionsFit parts.now.versions) }
     ensures done { (l : Link) (counts : Counts) (uuid : List ℕ) → AreHeadParts l counts uuid (placed_of placement.now) parts.now → IfOk result (λ v. map said_by v.items ≡ commands_for l counts (placed_of placement.now) uuid parts.now.trie_size) }
 {
     let mut commands = Vec::new(alloc);

@@ -21,4 +21,4 @@ returns-clause-done c l counts uuid are =
     head_put l counts uuid (placed_of c.args.placement.now) c.args.parts.now c.deref.result.now _ _ _ are
     (ap (map said_by) c.deref.ensures.value
     ∙ c.in_ok-commands.ensures.said) refl c.describes_thread_locals.ensures c.write_head.ensures.done
-    c.write_head.ensures.length c.write_head.ensures.found
+    c.write_head.ensures.length c.write_head.ensures.found c.in_ok-commands.ensures.fit
