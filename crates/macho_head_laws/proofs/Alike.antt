@@ -13,7 +13,8 @@ use Rattle.macho_bytes.specs.Layouts.{spelling}
 use Rattle.macho_records.specs.Layouts.{section_header}
 use Rattle.macho_records.specs.Segments.{bytes_of, text_of, segment_flags_of}
 use Rattle.macho_records.specs.declared.header.SectionHeader.{SectionHeader}
-use Rattle.macho_records.specs.declared.constants.TheConstants.{LC_CODE_SIGNATURE, LC_DYLD_CHAINED_FIXUPS, LC_DYLD_EXPORTS_TRIE, LC_SEGMENT_64}
+use Rattle.macho_records.specs.declared.constants.TheConstants.{LC_CODE_SIGNATURE, LC_DYLD_CHAINED_FIXUPS, LC_DYLD_EXPORTS_TRIE}
+use Rattle.macho_records.specs.declared.constants.TheConstants.{LC_SEGMENT_64}
 use Rattle.macho_model.specs.declared.placed.Counts.{Counts}
 use Rattle.macho_model.specs.declared.placed.PlacedSegment.{PlacedSegment}
 use Rattle.macho_model.specs.declared.placed.Range64.{Range64}
@@ -48,14 +49,16 @@ filter_cut : (name : List ℕ) (hs : List SectionHeader) → filter (λ h. bytes
 filter_cut name [] = refl
 filter_cut name (h ∷ hs) = by (filter_cut name hs) (bytes_eq (name_of h.segname) name) refl
   where
-    by : filter (λ k. bytes_eq (name_of k.segname) name) (map header_cut hs) ≡ map header_cut (filter (λ k. bytes_eq (name_of k.segname) name) hs)
+    by : filter (λ k. bytes_eq (name_of k.segname) name) (map header_cut hs)
+        ≡ map header_cut (filter (λ k. bytes_eq (name_of k.segname) name) hs)
         → (x : Bool) → bytes_eq (name_of h.segname) name ≡ x
         → filter (λ k. bytes_eq (name_of k.segname) name) (map header_cut (h ∷ hs))
         ≡ map header_cut (filter (λ k. bytes_eq (name_of k.segname) name) (h ∷ hs))
     by rest true e = rw (e, rest) refl
     by rest false e = rw (e, rest) refl
 
-pub headers_cut : (l : Link) (p : Placed) (s : PlacedSegment) → headers_in (placed_cut l p) (segment_cut s) ≡ map header_cut (headers_in p s)
+pub headers_cut : (l : Link) (p : Placed) (s : PlacedSegment)
+    → headers_in (placed_cut l p) (segment_cut s) ≡ map header_cut (headers_in p s)
 headers_cut l p s = filter_cut (text_of s.name) p.output_sections
 
 -- a header's bytes, and those of headers
@@ -112,7 +115,8 @@ entry_alike : (l : Link) (p : Placed) → text_said (entry_point_for l (placed_c
 unfolding text_said spelling row_bytes
 entry_alike l p = rw (entry_cut l p, bytes_cut8 (entry_distance l p)) refl
 
-linkedit_alike : (number at size : ℕ) → text_said (linkedit_for number (at % 2 ^ 32) (size % 2 ^ 32)) ≡ text_said (linkedit_for number at size)
+linkedit_alike : (number at size : ℕ)
+    → text_said (linkedit_for number (at % 2 ^ 32) (size % 2 ^ 32)) ≡ text_said (linkedit_for number at size)
 unfolding text_said spelling row_bytes
 linkedit_alike number at size = rw (bytes_cut4 at, bytes_cut4 size) refl
 
@@ -132,13 +136,15 @@ symtab_alike l counts p =
       bytes_cut4 counts.strings,
     ) refl
 
-listed_alike : (e : Bool) (h k : HeadCommand) → text_said h ≡ text_said k → map text_said (list_if e (h ∷ [])) ≡ map text_said (list_if e (k ∷ []))
+listed_alike : (e : Bool) (h k : HeadCommand) → text_said h ≡ text_said k
+    → map text_said (list_if e (h ∷ [])) ≡ map text_said (list_if e (k ∷ []))
 listed_alike true h k same = ap (λ (t : List ℕ). t ∷ []) same
 listed_alike false h k same = refl
 
 -- THE bytes of all commands
 pub commands_alike : (l : Link) (counts : Counts) (p : Placed) (uuid : List ℕ) (trie : ℕ)
-    → map text_said (commands_for l (counts_cut counts) (placed_cut l p) uuid (trie % 2 ^ 32)) ≡ map text_said (commands_for l counts p uuid trie)
+    → map text_said (commands_for l (counts_cut counts) (placed_cut l p) uuid (trie % 2 ^ 32))
+    ≡ map text_said (commands_for l counts p uuid trie)
 unfolding commands_for
 commands_alike l counts p uuid trie =
     simp map-append (rw (

@@ -102,7 +102,8 @@ pub range_same : (number : ℕ) (r : Range64) (t : List Table) → t ≡ table_o
 range_same number r t cut is = ap (λ (x : Table). linkedit_for number x.at x.size) (range_kept r t cut is)
 
 -- one table is at the place of the other, and as long
-pub at_same : (a b m n : ℕ) (t : List Table) → t ≡ record { at = a; size = m } ∷ [] → t ≡ record { at = b; size = n } ∷ [] → (a ≡ b) × (m ≡ n)
+pub at_same : (a b m n : ℕ) (t : List Table) → t ≡ record { at = a; size = m } ∷ []
+    → t ≡ record { at = b; size = n } ∷ [] → (a ≡ b) × (m ≡ n)
 at_same a b m n t one two =
     let same = ap (λ (ts : List Table). get_or ts 0 (record { at = b; size = n })) (sym one ∙ two) in
     (ap (λ (x : Table). x.at) same, ap (λ (x : Table). x.size) same)

@@ -18,7 +18,8 @@ use Rattle.macho_records.specs.Layouts.{segment_command, section_header, symtab_
 use Rattle.macho_records.specs.Segments.{bytes_of, text_of, segment_flags_of}
 use Rattle.macho_records.specs.declared.header.SegmentCommand.{SegmentCommand}
 use Rattle.macho_records.specs.declared.header.SectionHeader.{SectionHeader}
-use Rattle.macho_records.specs.declared.constants.TheConstants.{LC_BUILD_VERSION, LC_ID_DYLIB, LC_LOAD_DYLIB, LC_MAIN, LC_SEGMENT_64, LC_SYMTAB, LC_UUID}
+use Rattle.macho_records.specs.declared.constants.TheConstants.{LC_BUILD_VERSION, LC_ID_DYLIB, LC_LOAD_DYLIB, LC_MAIN}
+use Rattle.macho_records.specs.declared.constants.TheConstants.{LC_SEGMENT_64, LC_SYMTAB, LC_UUID}
 use Rattle.macho_records.specs.declared.symbols.SymtabCommand.{SymtabCommand}
 use Rattle.macho_structs.specs.declared.commands.EntryPointCommand.{EntryPointCommand}
 use Rattle.macho_structs.specs.declared.commands.DylinkerCommand.{DylinkerCommand}
@@ -60,7 +61,8 @@ IsNamed h = (length h.sectname ≡ 16) × (length h.segname ≡ 16)
 protection_fits : (name : List ℕ) → loaded_protection_of name < 256 ^ 4
 protection_fits name = by (bytes_eq name PAGEZERO) (bytes_eq name TEXT) (bytes_eq name LINKEDIT) refl refl refl
   where
-    by : (x y z : Bool) → bytes_eq name PAGEZERO ≡ x → bytes_eq name TEXT ≡ y → bytes_eq name LINKEDIT ≡ z → loaded_protection_of name < 256 ^ 4
+    by : (x y z : Bool) → bytes_eq name PAGEZERO ≡ x → bytes_eq name TEXT ≡ y → bytes_eq name LINKEDIT ≡ z
+        → loaded_protection_of name < 256 ^ 4
     by true y z e f g = rw e (omega arith)
     by false true z e f g = rw (e, f) (omega arith)
     by false false true e f g = rw (e, f, g) (omega arith)
@@ -90,7 +92,9 @@ header_back h named =
     reads_back section_header (header_cut h) little_is_sound (named.0, (named.1, ((wide, refl), ((words, refl), tt)))) refl
 
 headers_back : (hs : List SectionHeader) → All IsNamed hs → EachReadsBack section_header (map header_cut hs)
-headers_back hs named = record { each = All-map (ReadsBack section_header) header_cut hs (λ k d lt. header_back (get_or hs k d) (named k d lt)) }
+headers_back hs named = record {
+  each = All-map (ReadsBack section_header) header_cut hs (λ k d lt. header_back (get_or hs k d) (named k d lt));
+}
 
 headers_long : (hs : List SectionHeader) → All IsNamed hs → length (flat_map (spelling section_header) (map header_cut hs)) ≡ 80 * length hs
 headers_long hs named =
@@ -126,7 +130,8 @@ segment_back s n named fits =
       (named, ((places, refl), (((protection_fits name, (protection_fits name, (count, (flags_fit name, tt)))), refl), tt))),
     ) refl
 
-segment_long : (s : PlacedSegment) (n : ℕ) → length (bytes_of s.name) ≡ 16 → length (spelling segment_command (segment_record (segment_cut s) n)) ≡ 72
+segment_long : (s : PlacedSegment) (n : ℕ) → length (bytes_of s.name) ≡ 16
+    → length (spelling segment_command (segment_record (segment_cut s) n)) ≡ 72
 unfolding segment_record
 segment_long s n named =
     length-spelling segment_command (segment_record (segment_cut s) n) little_is_sound (refl, (named, (refl, (refl, tt))))
@@ -138,7 +143,8 @@ segment_whole s hs named each =
     let n : ℕ = length (map header_cut hs) in
     let behind = headers_long hs each in
     let first = segment_long s n named in
-    let both = length-append (spelling segment_command (segment_record (segment_cut s) n)) (flat_map (spelling section_header) (map header_cut hs)) in
+    let both = length-append (spelling segment_command (segment_record (segment_cut s) n))
+    (flat_map (spelling section_header) (map header_cut hs)) in
     record {
       long = omega (arith, behind, first, both, length-map hs header_cut);
       least = omega arith;
@@ -147,7 +153,8 @@ segment_whole s hs named each =
     }
 
 -- an entry, and the tables
-pub entry_point_whole : (distance : ℕ) → IsWhole (EntryPoint (record { cmd = LC_MAIN; cmdsize = 24; entryoff = distance % 2 ^ 64; stacksize = 0 }))
+pub entry_point_whole : (distance : ℕ)
+    → IsWhole (EntryPoint (record { cmd = LC_MAIN; cmdsize = 24; entryoff = distance % 2 ^ 64; stacksize = 0 }))
 unfolding text_said
 entry_point_whole distance =
     let r : EntryPointCommand = record { cmd = LC_MAIN; cmdsize = 24; entryoff = distance % 2 ^ 64; stacksize = 0 } in
@@ -161,7 +168,8 @@ unfolding text_said
 linkedit_whole number at size known =
     let r : LinkeditDataCommand = record { cmd = number; cmdsize = 16; dataoff = at % 2 ^ 32; datasize = size % 2 ^ 32 } in
     let back : ReadsBack linkedit_data_command r =
-    reads_back linkedit_data_command r little_is_sound (((number_fits number known, (omega arith, (omega arith, (omega arith, tt)))), refl), tt)
+    reads_back linkedit_data_command r little_is_sound
+    (((number_fits number known, (omega arith, (omega arith, (omega arith, tt)))), refl), tt)
     refl in
     record { long = back.long; least = omega arith; found = λ fits. linkedit_readable r known back }
   where

@@ -3,13 +3,14 @@
 -- The header stands first, and its fields are constants but for these two numbers. What it says of the bytes is what is left of their
 -- number in 32 bits; and the end of the commands is where the placement's head ends. So the bytes are that many, and below 2 ^ 32. Each
 -- command has at least 8 of them, so the number of commands fits too, and so does the size of each.
-use Rattle.std.proofs.Common.{◌≡◌, ℕ, ◌+◌, ◌*◌, ◌%◌, ◌^◌, ◌<◌, Bool, true, false, List, [], ◌∷◌, ◌++◌, length, map, refl, sym, ap, subst, ◌∙◌}
+use Rattle.std.proofs.Common.{◌≡◌, ℕ, ◌+◌, ◌*◌, ◌%◌, ◌^◌, ◌<◌, Bool, true, false, List, [], ◌∷◌, ◌++◌, length, map, refl, sym, ap}
+use Rattle.std.proofs.Common.{subst, ◌∙◌}
 use Rattle.std.proofs.Common.{arith, All}
 use Rattle.std.specs.Prelude.{if◌then◌else◌, sum_by}
 use Rattle.std.specs.List.{concat, flat_map}
 use Rattle.std.proofs.lemmas.List.{length-map, map-append}
 use Rattle.std.proofs.lemmas.List.Concat.{flat_map-cons}
-use Rattle.macho_bytes.specs.Numbers.{row_bytes}
+use Rattle.macho_bytes.specs.Numbers.{AllBelow, row_bytes}
 use Rattle.macho_bytes.specs.Texts.{Stands}
 use Rattle.macho_bytes.specs.Layouts.{spelling, ReadsBack}
 use Rattle.macho_bytes.proofs.Layouts.{reads_back}
@@ -56,8 +57,9 @@ flags_fit l p = by l.executable (describes_thread_locals p) refl refl
 header_back : (l : Link) (p : Placed) (n m : ℕ) → ReadsBack mach_header (head.header_for l p (n % 2 ^ 32) (m % 2 ^ 32))
 header_back l p n m =
     let fit : (head.header_for l p (n % 2 ^ 32) (m % 2 ^ 32)).flags < 256 ^ 4 = flags_fit l p in
+    let last : AllBelow 4 (n % 2 ^ 32 ∷ m % 2 ^ 32 ∷ flags_for l p ∷ 0 ∷ []) = (omega arith, (omega arith, (fit, (omega arith, tt)))) in
     reads_back mach_header (head.header_for l p (n % 2 ^ 32) (m % 2 ^ 32)) little_is_sound
-    (((omega arith, (omega arith, (omega arith, (type_fits l.executable, (omega arith, (omega arith, (fit, (omega arith, tt)))))))), refl), tt)
+    (((omega arith, (omega arith, (omega arith, (type_fits l.executable, last)))), refl), tt)
     refl
 
 -- what is found of a head
@@ -68,7 +70,8 @@ pub record HeadFound (l : Link) (b : List ℕ) (p : Placed) (hs : List HeadComma
 -- THE commands of a file that begins with them, where their bytes are as many as the header says
 list_found : (l : Link) (b : List ℕ) (p : Placed) (hs : List HeadCommand) → All IsWhole hs
     → Stands b (record { at = 0; text = head_for l p (map text_said hs) })
-    → (header_of b ≡ head.header_for l p (length hs % 2 ^ 32) (sum_by size_said hs % 2 ^ 32) → sum_by size_said hs % 2 ^ 32 ≡ sum_by size_said hs)
+    → (header_of b ≡ head.header_for l p (length hs % 2 ^ 32) (sum_by size_said hs % 2 ^ 32)
+    → sum_by size_said hs % 2 ^ 32 ≡ sum_by size_said hs)
     → HeadFound l b p hs
 unfolding head_for header_of commands_of commands_in
 list_found l b p hs whole s fits =

@@ -2,7 +2,8 @@
 --
 -- A segment's name is that of the link, filled with zeros, so it has 16 bytes at least; its text is read from a field of the file, so
 -- it has 16 at most. The headers of sections are read from the file, and their names are filled in the same way.
-use Rattle.std.proofs.Common.{◌≡◌, ℕ, ◌+◌, ◌*◌, ◌-◌, ◌≤◌, ◌==◌, List, [], ◌∷◌, length, map, get_or, drop, slice_range, refl, sym, ap, subst, ◌∙◌}
+use Rattle.std.proofs.Common.{◌≡◌, ℕ, ◌+◌, ◌*◌, ◌-◌, ◌≤◌, ◌==◌, List, [], ◌∷◌, length, map, get_or, drop, slice_range, refl, sym, ap}
+use Rattle.std.proofs.Common.{subst, ◌∙◌}
 use Rattle.std.proofs.Common.{arith, All}
 use Rattle.std.specs.Prelude.{replicate}
 use Rattle.std.specs.List.{flat_map, range_with_len, position_or_len}
@@ -64,7 +65,8 @@ of_flat_map P f (x ∷ xs) each = rw (flat_map-cons f x xs) (All-append P (f x) 
 each_same : {X : Type 0} (f g : X → List ℕ) (xs : List X) → map f xs ≡ map g xs → All (λ x. f x ≡ g x) xs
 each_same f g [] e = All-nil (λ x. f x ≡ g x)
 each_same f g (x ∷ xs) e =
-    All-cons (λ x. f x ≡ g x) x xs (ap (λ (ts : List (List ℕ)). get_or ts 0 []) e) (each_same f g xs (ap (λ (ts : List (List ℕ)). drop 1 ts) e))
+    All-cons (λ x. f x ≡ g x) x xs (ap (λ (ts : List (List ℕ)). get_or ts 0 []) e)
+    (each_same f g xs (ap (λ (ts : List (List ℕ)). drop 1 ts) e))
 
 -- THE names of segments
 segment_read : (b : List ℕ) (at : ℕ) → length (reading segment_command b at).segname ≤ 16
@@ -96,10 +98,13 @@ segments_named l counts b p order agree = λ k d lt.
         omega (arith, name_short (reading segment_command b at).segname, segment_read b at)))
 
     texts : All (λ s. length (text_of s.name) ≤ 16) p.segments
-    texts = of_map Short place_told p.segments (All-same Short (map place_told p.segments) (map place_by_command (segments_of b)) (sym agree) read)
+    texts =
+        of_map Short place_told p.segments
+        (All-same Short (map place_told p.segments) (map place_by_command (segments_of b)) (sym agree) read)
 
 -- THE names in section headers
-header_read : (b : List ℕ) (at : ℕ) → (length (reading section_header b at).sectname ≤ 16) × (length (reading section_header b at).segname ≤ 16)
+header_read : (b : List ℕ) (at : ℕ)
+    → (length (reading section_header b at).sectname ≤ 16) × (length (reading section_header b at).segname ≤ 16)
 unfolding reading
 header_read b at = (field_short b (at + 0) (at + 16) (omega arith), field_short b (at + 16) (at + 32) (omega arith))
 
@@ -113,7 +118,8 @@ headers_short : (b : List ℕ) → All ShortNames (section_headers_of b)
 unfolding section_headers_of section_headers_at
 headers_short b =
     of_flat_map ShortNames (λ (c : Command). section_headers_at b c.at) (numbered LC_SEGMENT_64 b)
-    (λ c. All-map ShortNames (λ (k : ℕ). reading section_header b (c.at + 72 + 80 * k)) (range_with_len 0 (reading segment_command b c.at).nsects)
+    (λ c. All-map ShortNames (λ (k : ℕ). reading section_header b (c.at + 72 + 80 * k))
+    (range_with_len 0 (reading segment_command b c.at).nsects)
     (λ k d lt. header_read b _))
 
 headers_long : (l : Link) (counts : Counts) (p : Placed) → All LongNames (output_sections_for l counts p)

@@ -42,7 +42,8 @@ pub walked : (hs : List HeadCommand) (b : List ℕ) (at : ℕ) → EachThere b a
 unfolding found.commands_from
 walked [] b at each = refl
 walked (h ∷ hs) b at each =
-    let rest : found.commands_from b (at + size_said h) (length hs) ≡ placed_said (at + size_said h) hs = walked hs b (at + size_said h) each.1 in
+    let rest : found.commands_from b (at + size_said h) (length hs) ≡ placed_said (at + size_said h) hs =
+    walked hs b (at + size_said h) each.1 in
     rw (each.0.number, each.0.size, rest) refl
 
 -- and what they say

@@ -10,8 +10,8 @@ use Rattle.std.specs.Str.{bytes_eq}
 use Rattle.macho_bytes.specs.Texts.{name_of}
 use Rattle.macho_records.specs.Segments.{bytes_of, text_of}
 use Rattle.macho_records.specs.declared.header.SectionHeader.{SectionHeader}
-use Rattle.macho_records.specs.declared.constants.TheConstants.{LC_CODE_SIGNATURE, LC_DYLD_CHAINED_FIXUPS, LC_DYLD_EXPORTS_TRIE, LC_ID_DYLIB}
-use Rattle.macho_records.specs.declared.constants.TheConstants.{LC_LOAD_DYLIB, LC_MAIN}
+use Rattle.macho_records.specs.declared.constants.TheConstants.{LC_CODE_SIGNATURE, LC_DYLD_CHAINED_FIXUPS, LC_DYLD_EXPORTS_TRIE}
+use Rattle.macho_records.specs.declared.constants.TheConstants.{LC_ID_DYLIB, LC_LOAD_DYLIB, LC_MAIN}
 use Rattle.macho_model.specs.declared.placed.Counts.{Counts}
 use Rattle.macho_model.specs.declared.placed.PlacedSegment.{PlacedSegment}
 use Rattle.macho_model.specs.declared.placed.Range64.{Range64}
@@ -20,8 +20,8 @@ use Rattle.macho_model.specs.Needs.{libraries_needed}
 use Rattle.macho_model.specs.Segments.{list_if}
 use Rattle.macho_model.specs.Placement.{Placed}
 use Rattle.macho_model.specs.Head.{headers_in, range_size}
-use Rattle.macho_model.specs.HeadCommands.{HeadCommand, EntryPoint, segment_for, entry_point_for, uuid_for, versions_for, dylinker_for, dylib_for}
-use Rattle.macho_model.specs.HeadCommands.{rpath_for, linkedit_for, symtab_for, commands_for}
+use Rattle.macho_model.specs.HeadCommands.{HeadCommand, EntryPoint, segment_for, entry_point_for, uuid_for, versions_for, dylinker_for}
+use Rattle.macho_model.specs.HeadCommands.{dylib_for, rpath_for, linkedit_for, symtab_for, commands_for}
 use Rattle.macho_commands.specs.steps.Writing.{IsLinkedit}
 use Rattle.macho_head_laws.proofs.Cut.{segment_cut, range_cut, range_cut-size, counts_cut, placed_cut, entry_cut, entry_distance}
 use Rattle.macho_head_laws.proofs.Alike.{segment_with, headers_cut}
@@ -53,6 +53,9 @@ versions (Some (minimum, sdk)) fit = versions_whole minimum sdk fit.0 fit.1
 own_name : (e : Bool) (name : List ℕ) → IsWhole (if e then dylinker_for else dylib_for LC_ID_DYLIB 1 0 0 name)
 own_name true name = dylinker_whole
 own_name false name = dylib_whole LC_ID_DYLIB 1 0 0 name (inl refl) (omega arith) (omega arith) (omega arith)
+
+needed_name : (name : List ℕ) → IsWhole (dylib_for LC_LOAD_DYLIB 2 0x054c0000 0x00010000 name)
+needed_name name = dylib_whole LC_LOAD_DYLIB 2 0x054c0000 0x00010000 name (inr refl) (omega arith) (omega arith) (omega arith)
 
 ranged : (number : ℕ) (r : Range64) → IsLinkedit number → IsWhole (linkedit_for number (range_cut r).start (range_size (range_cut r)))
 ranged number r known =
@@ -95,6 +98,6 @@ commands_whole l counts p uuid trie named headers fit =
     (versions l.versions fit))
     (All-cons IsWhole _ [] (own_name l.executable l.install_name) (All-nil IsWhole)))
     (All-map IsWhole (dylib_for LC_LOAD_DYLIB 2 0x054c0000 0x00010000) (libraries_needed l) (λ k d lt.
-    dylib_whole LC_LOAD_DYLIB 2 0x054c0000 0x00010000 (get_or (libraries_needed l) k d) (inr refl) (omega arith) (omega arith) (omega arith))))
+    needed_name (get_or (libraries_needed l) k d))))
     (All-map IsWhole rpath_for l.rpaths (λ k d lt. rpath_whole (get_or l.rpaths k d))))
     (tables l counts p trie)
