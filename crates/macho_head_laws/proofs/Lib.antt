@@ -1,0 +1,9 @@
+pub mod Cut
+pub mod Alike
+pub mod Fits
+pub mod Walk
+pub mod Named
+pub mod Whole
+pub mod Found
+pub mod Compared
+pub mod Linked
