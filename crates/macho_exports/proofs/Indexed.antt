@@ -1,7 +1,8 @@
 -- Patterns by their parts. A name that matches a pattern has each of the pattern's parts where such parts stand. So where a
 -- pattern among others matches, the place at which it stands first is noted, in one of the tables, under the name's own bytes
 -- of one of the noted lengths at one of these places, and is tried. What is tried stands among the patterns.
-use Rattle.std.proofs.Common.{◌≡◌, ℕ, ◌+◌, ◌-◌, ◌<◌, ◌≤◌, ◌&&◌, ◌||◌, true, false, Bool, List, [], ◌∷◌, ◌++◌, length, get_or, take, drop}
+use Rattle.std.proofs.Common.{◌≡◌, ℕ, zero, suc, ◌+◌, ◌-◌, ◌<◌, ◌≤◌, ◌&&◌, ◌||◌, not, true, false, Bool, List, [], ◌∷◌, ◌++◌}
+use Rattle.std.proofs.Common.{length, get_or, take, drop}
 use Rattle.std.proofs.Common.{refl, ap, sym, subst, ◌∙◌, arith, inl, inr}
 use Rattle.std.proofs.lemmas.Bool.{both_ways, false_from_ne_true, or_cases, or_left, or_right, and_parts, and_from, lt-ltb, ltb-true}
 use Rattle.std.proofs.lemmas.Bool.{le-leb}
@@ -9,7 +10,7 @@ use Rattle.std.proofs.lemmas.List.Sums.{passes_at_first}
 use Rattle.std.proofs.lemmas.List.Folds.{list_any_at, list_any_none, list_any-append, Any-from_list_any}
 use Rattle.std.proofs.lemmas.List.FromFn.{length-range_with_len, get_or-range_with_len}
 use Rattle.std.proofs.lemmas.Slice.Eq.{bytes_eq-Decides}
-use Rattle.std.specs.List.{list_any, position_or_len, slice_range}
+use Rattle.std.specs.List.{list_any, position_or_len, range_with_len, slice_range}
 use Rattle.std.specs.Str.{bytes_eq}
 use Rattle.memchr.proofs.lemmas.MatchLemmas.{OccursAt-part}
 use Rattle.macho_model.specs.ExportLists.{matches}
@@ -18,53 +19,86 @@ use Rattle.macho_exports.specs.declared.table.PatternTable.{PatternTable}
 use Rattle.macho_exports.specs.steps.Ends.{IsPart, first_place, last_place}
 use Rattle.macho_exports.specs.steps.Tables.{numbers_of}
 use Rattle.macho_exports.specs.steps.Indexed.{IsNoted, IsNotedIn, KeepsTable, KeepsTables, IsIndexed}
-use Rattle.macho_exports.specs.steps.Indexed.{is_match_at, is_match_of, is_match_from, is_match_under, is_match_in, places_from}
+use Rattle.macho_exports.specs.steps.Indexed.{is_match_at, is_match_of, is_match_under, is_match_in}
+use Rattle.macho_exports.specs.steps.Indexed.{is_again, is_match_by, is_match_from, places_from}
 use Rattle.macho_exports.proofs.Stands.{stands}
 use Rattle.macho_exports.proofs.Places.{same, any_place, place_stays, place_last, places_front, places_again, still_among}
 use Rattle.macho_exports.proofs.Tables.{any_of}
 
--- places from one to another
-tried_place : (p : ℕ → Bool) (first last at : ℕ) → first ≤ at → at ≤ last → p at ≡ true → list_any p (places_from first last) ≡ true
-tried_place p first last at low high is =
+-- places from a first one on
+pub tried_place : (p : ℕ → Bool) (first n at : ℕ) → first ≤ at → at < first + n → p at ≡ true → list_any p (range_with_len first n) ≡ true
+tried_place p first n at low high is =
     let there : first + (at - first) ≡ at = omega (arith, low) in
-    let within : at - first < last + 1 - first = omega (arith, low, high) in
-    list_any_at p (places_from first last) (at - first) 0 (omega (arith, within, length-range_with_len first (last + 1 - first)))
-    (ap p (get_or-range_with_len first (last + 1 - first) (at - first) 0 within ∙ there) ∙ is)
+    let within : at - first < n = omega (arith, low, high) in
+    list_any_at p (range_with_len first n) (at - first) 0 (omega (arith, within, length-range_with_len first n))
+    (ap p (get_or-range_with_len first n (at - first) 0 within ∙ there) ∙ is)
 
-no_place : (p : ℕ → Bool) (first last : ℕ) → ((k : ℕ) → first ≤ k → k < last + 1 → p k ≡ false)
-    → list_any p (places_from first last) ≡ false
-no_place p first last none = list_any_none p (places_from first last) (λ k d h.
-    let within : k < last + 1 - first = omega (arith, h, length-range_with_len first (last + 1 - first)) in
-    ap p (get_or-range_with_len first (last + 1 - first) k d within) ∙ none (first + k) (omega arith) (omega (arith, within)))
+pub no_place : (p : ℕ → Bool) (first n : ℕ) → ((k : ℕ) → first ≤ k → k < first + n → p k ≡ false)
+    → list_any p (range_with_len first n) ≡ false
+no_place p first n none = list_any_none p (range_with_len first n) (λ k d h.
+    let within : k < n = omega (arith, h, length-range_with_len first n) in
+    ap p (get_or-range_with_len first n k d within) ∙ none (first + k) (omega arith) (omega (arith, within)))
 
 -- what is found under some of a name's bytes
 pub tried_under : (t : PartTable) (patterns : List (List ℕ)) (name : List ℕ) (count at : ℕ) → count ≤ length name
     → first_place t.stands (length name) count ≤ at → at ≤ last_place t.stands (length name) count
-    → is_match_from t patterns name count at ≡ true → is_match_under t patterns name count ≡ true
+    → is_match_from t patterns name count (first_place t.stands (length name) count) at ≡ true
+    → is_match_under t patterns name count ≡ true
 tried_under t patterns name count at short low high is =
+    let first = first_place t.stands (length name) count in
     and_from _ _ (le-leb count (length name) short)
-    (tried_place (is_match_from t patterns name count) (first_place t.stands (length name) count)
-    (last_place t.stands (length name) count) at low high is)
+    (tried_place (is_match_from t patterns name count first) first (last_place t.stands (length name) count + 1 - first) at low
+    (omega (arith, low, high)) is)
 
 pub none_under : (t : PartTable) (patterns : List (List ℕ)) (name : List ℕ) (count : ℕ) → count ≤ length name
     → ((k : ℕ) → first_place t.stands (length name) count ≤ k → k < last_place t.stands (length name) count + 1
-    → is_match_from t patterns name count k ≡ false) → is_match_under t patterns name count ≡ false
+    → is_match_from t patterns name count (first_place t.stands (length name) count) k ≡ false)
+    → is_match_under t patterns name count ≡ false
 none_under t patterns name count short none =
     let first = first_place t.stands (length name) count in
-    let last = last_place t.stands (length name) count in
-    let nowhere : list_any (is_match_from t patterns name count) (places_from first last) ≡ false =
-    no_place (is_match_from t patterns name count) first last none in
-    ap (λ b. b && list_any (is_match_from t patterns name count) (places_from first last)) (le-leb count (length name) short) ∙ nowhere
+    let places = places_from first (last_place t.stands (length name) count) in
+    ap (λ b. b && list_any (is_match_from t patterns name count first) places) (le-leb count (length name) short)
+    ∙ no_place (is_match_from t patterns name count first) first (last_place t.stands (length name) count + 1 - first)
+    (λ k low high. none k low (omega (arith, low, high)))
+
+-- of places with the same bytes the first one is tried
+first_under : (t : PartTable) (patterns : List (List ℕ)) (name : List ℕ) (count n at : ℕ) → at < n → count ≤ length name
+    → first_place t.stands (length name) count ≤ at → at ≤ last_place t.stands (length name) count
+    → is_match_by t patterns name count at ≡ true → is_match_under t patterns name count ≡ true
+first_under t patterns name count zero at below short low high is = absurd (omega (arith, below))
+first_under t patterns name count (suc n) at below short low high is =
+    of (is_again name count first at) refl (λ k h. first_under t patterns name count n k h short)
+  where
+    first : ℕ
+    first = first_place t.stands (length name) count
+
+    last : ℕ
+    last = last_place t.stands (length name) count
+
+    Earlier : Type 0
+    Earlier = (k : ℕ) → k < n → first ≤ k → k ≤ last → is_match_by t patterns name count k ≡ true
+        → is_match_under t patterns name count ≡ true
+
+    of : (again : Bool) → is_again name count first at ≡ again → Earlier → is_match_under t patterns name count ≡ true
+    of true again earlier =
+        let a = Any-from_list_any (λ k. bytes_eq (slice_range name k (k + count)) (slice_range name at (at + count)))
+        (range_with_len first (at - first)) again in
+        let before : a.0 < at - first = omega (arith, a.2, length-range_with_len first (at - first)) in
+        let value : a.1 ≡ first + a.0 = sym a.3 ∙ get_or-range_with_len first (at - first) a.0 a.1 before in
+        earlier a.1 (omega (arith, value, before, below)) (omega (arith, value)) (omega (arith, value, before, high))
+        (ap (λ (f : List ℕ). is_match_of patterns name (numbers_of t.parts t.groups.items f)) (same _ _ a.4) ∙ is)
+    of false new earlier = tried_under t patterns name count at short low high (and_from _ _ (ap not new) is)
 
 -- what is tried is among the patterns
 tried : (patterns : List (List ℕ)) (t : PartTable) (name : List ℕ) → is_match_in t patterns name ≡ true
     → list_any (λ e. matches e name) patterns ≡ true
 tried patterns t name is =
     let under = Any-from_list_any (is_match_under t patterns name) t.lengths.items is in
-    let places = places_from (first_place t.stands (length name) under.1) (last_place t.stands (length name) under.1) in
-    let from = Any-from_list_any (is_match_from t patterns name under.1) places (and_parts _ _ under.4).1 in
+    let first = first_place t.stands (length name) under.1 in
+    let places = places_from first (last_place t.stands (length name) under.1) in
+    let from = Any-from_list_any (is_match_from t patterns name under.1 first) places (and_parts _ _ under.4).1 in
     let numbers = numbers_of t.parts t.groups.items (slice_range name from.1 (from.1 + under.1)) in
-    let a = Any-from_list_any (is_match_at patterns name) numbers from.4 in
+    let a = Any-from_list_any (is_match_at patterns name) numbers (and_parts _ _ from.4).1 in
     let both = and_parts _ _ a.4 in
     list_any_at (λ e. matches e name) patterns a.1 [] (ltb-true a.1 (length patterns) both.0) both.1
 
@@ -80,10 +114,10 @@ untried patterns t name q n noted is here =
     ap (λ m. take m (drop s.at name)) size ∙ OccursAt-part name part s.at s.occurs in
     let under : is_match_of patterns name (numbers_of t.parts t.groups.items part) ≡ true =
     any_of (is_match_at patterns name) (numbers_of t.parts t.groups.items part) n noted.numbered here in
-    let from : is_match_from t patterns name count s.at ≡ true =
+    let by : is_match_by t patterns name count s.at ≡ true =
     ap (λ (f : List ℕ). is_match_of patterns name (numbers_of t.parts t.groups.items f)) there ∙ under in
     any_of (is_match_under t patterns name) t.lengths.items count noted.long
-    (tried_under t patterns name count s.at (omega (arith, s.occurs.fits)) s.low s.high from)
+    (first_under t patterns name count (s.at + 1) s.at (omega arith) (omega (arith, s.occurs.fits)) s.low s.high by)
 
 -- what is found by the tables
 pub found : (patterns : List (List ℕ)) (t : PatternTable) (name : List ℕ) → IsIndexed patterns t

@@ -21,8 +21,8 @@ use Rattle.macho_exports.specs.declared.ends.Where.{Where}
 use Rattle.macho_exports.specs.declared.ends.Where.TheVariants.{Front, Anywhere, Back}
 use Rattle.macho_exports.specs.steps.Ends.{front_of, back_of, IsPart, first_place, last_place}
 use Rattle.macho_exports.specs.steps.Matching.{matches_behind}
-use Rattle.macho_exports.proofs.Matching.{IsPlain, rest_plain, plain_from, plain_entry, at_star, one_byte, no_byte, behind_some, behind_later}
-use Rattle.macho_exports.proofs.Matching.{last_star}
+use Rattle.macho_exports.proofs.Matching.{IsPlain, rest_plain, plain_from, plain_entry, at_star, one_byte, no_byte, last_star}
+use Rattle.macho_exports.proofs.Matching.{behind_some, behind_later}
 
 -- plain bytes in front
 run_front : (run rest name : List ℕ) → IsPlain run → matches (run ++ rest) name ≡ true → take (length run) name ≡ run

@@ -7,14 +7,17 @@
 //!     groups     0: patterns 0 and 2,  1: pattern 1,  2: pattern 3
 //!     lengths    2, 0
 //!
-//! Of the name `_ab_x` the last two bytes are looked up, and no byte: patterns 0, 2 and 3 are tried. By parts that stand
-//! anywhere, `*ab*` and `*b_x*` are both tried on it: of two bytes `_a`, `ab`, `b_` and `_x` are looked up, and of three `_ab`,
-//! `ab_` and `b_x`.
+//! Of the name `_ab_x` the last two bytes are looked up, and no byte: patterns 0, 2 and 3 are tried.
+//!
+//! Parts that stand anywhere are looked up at all places. If `*ab*` and `*b_x*` are known by `ab` and `b_x`, then `_a`, `ab`,
+//! `b_` and `_x` of that name are looked up, and `_ab`, `ab_` and `b_x`: both patterns are tried. Where the same bytes come
+//! again in a name, their patterns aren't tried again.
 ghost use Rattle.std.specs.Prelude.{◌≡◌, ◌<◌, ◌≤◌, ◌+◌, ℕ, true, List, [], length, get_or, OnOk, IfOk};
 ghost use Rattle.macho_exports.specs.steps.Lists.{texts_of};
 ghost use Rattle.macho_exports.specs.steps.Tables.{has, numbers_of, KeepsNumbers, KeepsGroups, KeepsParts, IsGroup};
 ghost use Rattle.macho_exports.specs.steps.Ends.{IsPart};
-ghost use Rattle.macho_exports.specs.steps.Indexed.{is_match_at, is_match_of, is_match_from, is_match_under, is_match_in, IsNoted, KeepsTable};
+ghost use Rattle.macho_exports.specs.steps.Indexed.{is_match_at, is_match_of, is_again, is_match_from, is_match_under};
+ghost use Rattle.macho_exports.specs.steps.Indexed.{is_match_in, IsNoted, KeepsTable};
 
 use crate::ends::Where;
 use crate::patterns::matches;
@@ -131,6 +134,19 @@ fn matches_at(patterns: &[Vec<u8>], name: &[u8], number: usize) -> bool
     number < patterns.len() && matches(&patterns[number], name)
 }
 
+/// Whether so many bytes of a name from a place on stand at an earlier place, too, from a first one on.
+fn is_again(name: &[u8], count: usize, first: usize, at: usize) -> bool
+    requires { at + count ≤ length name.now }
+    ensures { result ≡ is_again name.now count first at }
+{
+    for earlier in first..at {
+        if name[earlier..earlier + count] == name[at..at + count] {
+            return true;
+        }
+    }
+    false
+}
+
 /// Whether a name matches one of the patterns of some numbers.
 fn matches_one(patterns: &[Vec<u8>], name: &[u8], numbers: &[usize]) -> bool
     ensures { result ≡ is_match_of (texts_of patterns.now) name.now numbers.now }
@@ -144,13 +160,24 @@ fn matches_one(patterns: &[Vec<u8>], name: &[u8], numbers: &[usize]) -> bool
 }
 
 impl PartTable {
-    /// Whether a name matches one of the patterns that were noted under so many of its bytes from a place on.
-    fn matches_from(&self, patterns: &[Vec<u8>], name: &[u8], count: usize, at: usize) -> bool
+    /// Whether a name matches one of the patterns that were noted under so many of its bytes from a place on. Bytes that
+    /// stand at an earlier place, too, were looked up there.
+    fn matches_from(
+        &self,
+        patterns: &[Vec<u8>],
+        name: &[u8],
+        count: usize,
+        first: usize,
+        at: usize,
+    ) -> bool
         requires { at + count ≤ length name.now }
-        ensures { result ≡ is_match_from self.now (texts_of patterns.now) name.now count at }
+        ensures { result ≡ is_match_from self.now (texts_of patterns.now) name.now count first at }
     {
-        let part = &name[at..at + count];
-        matches_one(patterns, name, self.numbers_under(part))
+        let numbers = self.numbers_under(&name[at..at + count]);
+        if numbers.is_empty() || is_again(name, count, first, at) {
+            return false;
+        }
+        matches_one(patterns, name, numbers)
     }
 
     /// Whether a name matches one of the patterns that were noted under so many of its bytes.
@@ -163,7 +190,7 @@ impl PartTable {
         let first = self.stands.first_place(name.len(), count);
         let last = self.stands.last_place(name.len(), count);
         for at in first..last + 1 {
-            if self.matches_from(patterns, name, count, at) {
+            if self.matches_from(patterns, name, count, first, at) {
                 return true;
             }
         }

@@ -1,5 +1,5 @@
 -- What tables of patterns keep, and what is found by them.
-use Rattle.std.specs.Prelude.{◌≡◌, ℕ, ◌+◌, ◌-◌, ◌&&◌, ◌⊎◌, nat_le, nat_lt, true, Bool, List, [], length, get_or}
+use Rattle.std.specs.Prelude.{◌≡◌, ℕ, ◌+◌, ◌-◌, ◌&&◌, ◌⊎◌, not, nat_le, nat_lt, true, Bool, List, [], length, get_or}
 use Rattle.std.specs.List.{list_any, position_or_len, range_with_len, slice_range}
 use Rattle.std.specs.Str.{bytes_eq}
 use Rattle.macho_model.specs.ExportLists.{matches}
@@ -45,10 +45,19 @@ is_match_at patterns name n = nat_lt n (length patterns) && matches (get_or patt
 abbrev pub is_match_of : List (List ℕ) → List ℕ → List ℕ → Bool
 is_match_of patterns name numbers = list_any (is_match_at patterns name) numbers
 
+-- so many bytes of a name from a place on stand at an earlier place, too, from a first one on
+abbrev pub is_again : List ℕ → ℕ → ℕ → ℕ → Bool
+is_again name count first at =
+    list_any (λ k. bytes_eq (slice_range name k (k + count)) (slice_range name at (at + count))) (range_with_len first (at - first))
+
 -- a name matches a pattern that was noted under so many of its own bytes from a place on
-abbrev pub is_match_from : PartTable → List (List ℕ) → List ℕ → ℕ → ℕ → Bool
-is_match_from t patterns name count at =
+abbrev pub is_match_by : PartTable → List (List ℕ) → List ℕ → ℕ → ℕ → Bool
+is_match_by t patterns name count at =
     is_match_of patterns name (numbers_of t.parts t.groups.items (slice_range name at (at + count)))
+
+-- and these bytes stand at no earlier place, from a first one on
+abbrev pub is_match_from : PartTable → List (List ℕ) → List ℕ → ℕ → ℕ → ℕ → Bool
+is_match_from t patterns name count first at = not (is_again name count first at) && is_match_by t patterns name count at
 
 -- the places from one to another
 abbrev pub places_from : ℕ → ℕ → List ℕ
@@ -58,7 +67,7 @@ places_from first last = range_with_len first (last + 1 - first)
 abbrev pub is_match_under : PartTable → List (List ℕ) → List ℕ → ℕ → Bool
 is_match_under t patterns name count =
     nat_le count (length name)
-    && list_any (is_match_from t patterns name count)
+    && list_any (is_match_from t patterns name count (first_place t.stands (length name) count))
     (places_from (first_place t.stands (length name) count) (last_place t.stands (length name) count))
 
 -- a name matches a pattern that was noted under some of its own bytes
