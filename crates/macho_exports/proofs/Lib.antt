@@ -3,6 +3,7 @@ pub mod Indexed
 pub mod Listed
 pub mod Matching
 pub mod Places
+pub mod Runs
 pub mod Stands
 pub mod Tables
 pub mod Trims

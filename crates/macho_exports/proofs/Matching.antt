@@ -24,7 +24,7 @@ use Rattle.macho_exports.specs.steps.Matching.{matches_behind}
 abbrev pub IsPlain : List ℕ → Type 0
 IsPlain xs = All (λ b. (b == STAR) ≡ false) xs
 
-rest_plain : (c : ℕ) (xs : List ℕ) → IsPlain (c ∷ xs) → IsPlain xs
+pub rest_plain : (c : ℕ) (xs : List ℕ) → IsPlain (c ∷ xs) → IsPlain xs
 rest_plain c xs plain k d h = plain (suc k) d (omega (arith, h))
 
 flip_eq : (a b : ℕ) → (a == b) ≡ (b == a)
@@ -173,7 +173,7 @@ next_star xs rest name at plain first here = of (matches_behind rest (drop (at +
         ∙ sym is
 
 -- an entry by its first star
-starless : (xs : List ℕ) (n : ℕ) → NoneBefore (Passes (is_byte STAR) xs) 0 (length xs) n → IsPlain (take n xs)
+pub starless : (xs : List ℕ) (n : ℕ) → NoneBefore (Passes (is_byte STAR) xs) 0 (length xs) n → IsPlain (take n xs)
 starless xs n first k d h =
     let short : length (take n xs) ≡ n = length-take-le n xs (omega (arith, first.high)) in
     let below : k < n = omega (arith, h, short) in

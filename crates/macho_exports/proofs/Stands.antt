@@ -1,49 +1,49 @@
--- The parts of a pattern at both ends.
+-- The parts of a pattern in a name that matches it.
 --
--- A name that matches a pattern begins with the first part, byte by byte up to the first star. A pattern with a star is a
--- front, its last star and plain bytes behind it: whatever bytes the front takes, some rest of the name matches behind the
--- star (`reached`), and so the name ends with the plain bytes. A pattern with no star is its own part, and the name is the same.
+-- Bytes in front that are no stars are matched one by one (`run_front`). So a name begins with the first part. Bytes somewhere in
+-- a pattern that are no stars: what stands before them takes some bytes of the name, a star any number and each other byte
+-- one, and then they are in front (`run_some`). A pattern with a star is a front, its last star and plain bytes behind it:
+-- whatever bytes the front takes, some rest of the name matches behind the star (`reached`), and so the name ends with the
+-- plain bytes. A pattern with no star is its own last part, and the name is the same.
 use Rattle.std.proofs.Common.{◌≡◌, ℕ, zero, suc, ◌+◌, ◌-◌, ◌<◌, ◌≤◌, ◌==◌, ◌⊎◌, not, true, false, Bool, List, [], ◌∷◌, ◌++◌, length}
-use Rattle.std.proofs.Common.{get_or, take, drop, refl, ap, sym, ◌∙◌, arith, inl, inr, length-take, length-drop, length-append}
+use Rattle.std.proofs.Common.{get_or, take, drop, refl, ap, sym, subst, ◌∙◌, arith, inl, inr, length-take, length-drop, length-append}
+use Rattle.std.proofs.Common.{take-append-drop, drop-drop, take_all}
 use Rattle.std.proofs.Math.Seq.{get_or-append_seam, drop-append-add}
 use Rattle.std.proofs.lemmas.Bool.{both_ways, false_from_ne_true, and_parts, eqb-true}
-use Rattle.std.proofs.lemmas.List.{get_or-drop, get_or-append-add, get_or_default}
-use Rattle.std.proofs.lemmas.List.Sums.{suffix_len_is}
+use Rattle.std.proofs.lemmas.List.{get_or-drop, get_or-take, get_or-append-add, get_or_default}
+use Rattle.std.proofs.lemmas.List.Sums.{suffix_len_is, fails_before_first}
 use Rattle.std.proofs.lemmas.Slice.Eq.{bytes_eq-Decides}
 use Rattle.std.specs.List.{position_or_len, suffix_len}
-use Rattle.memchr.specs.Find.{Nowhere, NoneAfter, Passes, is_byte}
+use Rattle.memchr.specs.Find.{Nowhere, NoneAfter, OccursAt, Passes, is_byte}
+use Rattle.memchr.proofs.lemmas.MatchLemmas.{OccursAt-part, OccursAt-from_part, OccursAt-split}
 use Rattle.macho_model.specs.ExportLists.{STAR, matches}
-use Rattle.macho_exports.specs.declared.ends.End.{End}
-use Rattle.macho_exports.specs.declared.ends.End.TheVariants.{Front, Back}
-use Rattle.macho_exports.specs.steps.Ends.{front_of, back_of, part_at, bytes_at}
+use Rattle.macho_exports.specs.declared.ends.Where.{Where}
+use Rattle.macho_exports.specs.declared.ends.Where.TheVariants.{Front, Anywhere, Back}
+use Rattle.macho_exports.specs.steps.Ends.{front_of, back_of, IsPart, first_place, last_place}
 use Rattle.macho_exports.specs.steps.Matching.{matches_behind}
-use Rattle.macho_exports.proofs.Matching.{IsPlain, plain_from, plain_entry, at_star, one_byte, no_byte, behind_some, behind_later, last_star}
+use Rattle.macho_exports.proofs.Matching.{IsPlain, rest_plain, plain_from, plain_entry, at_star, one_byte, no_byte, last_star}
+use Rattle.macho_exports.proofs.Matching.{behind_some, behind_later}
+
+-- plain bytes in front
+run_front : (run rest name : List ℕ) → IsPlain run → matches (run ++ rest) name ≡ true → take (length run) name ≡ run
+run_front [] rest name plain is = refl
+run_front (c ∷ run) rest [] plain is = absurd (both_ways _ (no_byte c (run ++ rest) (plain 0 c (omega arith))) is)
+run_front (c ∷ run) rest (y ∷ name) plain is =
+    let both = and_parts _ _ (sym (one_byte c (run ++ rest) y name (plain 0 c (omega arith))) ∙ is) in
+    ap (λ b. b ∷ take (length run) name) (sym (eqb-true c y both.0))
+    ∙ ap (λ (r : List ℕ). c ∷ r) (run_front run rest name (rest_plain c run plain) both.1)
 
 -- a name begins with the first part of what it matches
-front_more : (c : ℕ) (pattern : List ℕ) → (c == STAR) ≡ false → front_of (c ∷ pattern) ≡ c ∷ front_of pattern
-front_more c pattern plain =
-    let place : position_or_len (λ b. b == STAR) (c ∷ pattern) ≡ suc (position_or_len (λ b. b == STAR) pattern) =
-    rw plain (omega arith) in
-    ap (λ k. take k (c ∷ pattern)) place
-
-front_none : (c : ℕ) (pattern : List ℕ) → (c == STAR) ≡ true → front_of (c ∷ pattern) ≡ []
-front_none c pattern star = rw star refl
+front_plain : (pattern : List ℕ) → IsPlain (front_of pattern)
+front_plain pattern k d h =
+    let n = position_or_len (λ b. b == STAR) pattern in
+    let below : k < n = omega (arith, h, length-take n pattern) in
+    ap (λ b. b == STAR) (get_or-take n pattern k d below) ∙ fails_before_first (λ b. b == STAR) pattern k d below
 
 begins : (pattern name : List ℕ) → matches pattern name ≡ true → take (length (front_of pattern)) name ≡ front_of pattern
-begins [] name is = refl
-begins (c ∷ pattern) name is = of (c == STAR) refl name is (begins pattern)
-  where
-    of : (t : Bool) → (c == STAR) ≡ t → (n : List ℕ) → matches (c ∷ pattern) n ≡ true
-        → ((n : List ℕ) → matches pattern n ≡ true → take (length (front_of pattern)) n ≡ front_of pattern)
-        → take (length (front_of (c ∷ pattern))) n ≡ front_of (c ∷ pattern)
-    of true star n is rest = rw (front_none c pattern star) refl
-    of false plain [] is rest = absurd (both_ways _ (no_byte c pattern plain) is)
-    of false plain (y ∷ n) is rest =
-        let more = front_more c pattern plain in
-        let long : length (front_of (c ∷ pattern)) ≡ suc (length (front_of pattern)) = ap length more ∙ omega arith in
-        let both = and_parts _ _ (sym (one_byte c pattern y n plain) ∙ is) in
-        ap (λ k. take k (y ∷ n)) long ∙ ap (λ (f : List ℕ). y ∷ f) (rest n both.1)
-        ∙ ap (λ b. b ∷ front_of pattern) (sym (eqb-true c y both.0)) ∙ sym more
+begins pattern name is =
+    let n = position_or_len (λ b. b == STAR) pattern in
+    run_front (front_of pattern) (drop n pattern) name (front_plain pattern) (ap (λ p. matches p name) (take-append-drop n pattern) ∙ is)
 
 -- a pattern by its last star
 record LastStar (pattern : List ℕ) : Type 0 where
@@ -154,12 +154,69 @@ ends pattern name is = elim (by_last pattern) [
       (sym ((bytes_eq-Decides l.rest (drop (length name - length l.rest) name)).0 behind))
 ]
 
--- the part of a pattern stands at its end of each name that matches
-pub stands : (end : End) (pattern name : List ℕ) → matches pattern name ≡ true
-    → bytes_at end (length (part_at end pattern)) name ≡ part_at end pattern
-stands Front pattern name is = begins pattern name is
-stands Back pattern name is = ends pattern name is
+-- plain bytes somewhere
+record Somewhere (run name : List ℕ) : Type 0 where
+  at : ℕ
+  occurs : OccursAt name run at
 
-pub within : (end : End) (count : ℕ) (name : List ℕ) → length (bytes_at end count name) ≤ length name
-within Front count name = omega (arith, length-take count name)
-within Back count name = omega (arith, length-drop (length name - count) name)
+later : (run name : List ℕ) (k : ℕ) → k ≤ length name → Somewhere run (drop k name) → Somewhere run name
+later run name k within s = record {
+  at = k + s.at;
+  occurs = OccursAt-from_part name run (k + s.at) (omega (arith, within, s.occurs.fits, length-drop k name))
+      (ap (take (length run)) (sym (drop-drop s.at k name)) ∙ OccursAt-part (drop k name) run s.at s.occurs);
+}
+
+run_some : (xs run rest name : List ℕ) → IsPlain run → matches (xs ++ (run ++ rest)) name ≡ true → Somewhere run name
+run_some [] run rest name plain is =
+    let there = run_front run rest name plain is in
+    record { at = 0; occurs = OccursAt-from_part name run 0 (omega (arith, ap length there, length-take (length run) name)) there }
+run_some (c ∷ xs) run rest name plain is = of (c == STAR) refl name is (λ n. run_some xs run rest n plain)
+  where
+    of : (t : Bool) → (c == STAR) ≡ t → (n : List ℕ) → matches (c ∷ (xs ++ (run ++ rest))) n ≡ true
+        → ((m : List ℕ) → matches (xs ++ (run ++ rest)) m ≡ true → Somewhere run m) → Somewhere run n
+    of true star n is below =
+        let some = behind_some (xs ++ (run ++ rest)) n (sym (star_byte c (xs ++ (run ++ rest)) n star) ∙ is) in
+        later run n some.at some.within (below (drop some.at n) some.matched)
+    of false plain [] is below = absurd (both_ways _ (no_byte c (xs ++ (run ++ rest)) plain) is)
+    of false plain (y ∷ n) is below =
+        later run (y ∷ n) 1 (omega arith) (below n (and_parts _ _ (sym (one_byte c (xs ++ (run ++ rest)) y n plain) ∙ is)).1)
+
+-- a part of a pattern stands where it has to in each name that matches
+pub record StandsIn (w : Where) (part name : List ℕ) : Type 0 where
+  pub at : ℕ
+  pub low : first_place w (length name) (length part) ≤ at
+  pub high : at ≤ last_place w (length name) (length part)
+  pub occurs : OccursAt name part at
+
+in_front : (part name : List ℕ) → take (length part) name ≡ part → StandsIn Front part name
+in_front part name there = record {
+  at = 0;
+  low = omega arith;
+  high = omega arith;
+  occurs = OccursAt-from_part name part 0 (omega (arith, ap length there, length-take (length part) name)) there;
+}
+
+anywhere : (part name : List ℕ) → Somewhere part name → StandsIn Anywhere part name
+anywhere part name s = record { at = s.at; low = omega arith; high = omega (arith, s.occurs.fits); occurs = s.occurs }
+
+behind_all : (part name : List ℕ) → drop (length name - length part) name ≡ part → StandsIn Back part name
+behind_all part name there = record {
+  at = length name - length part;
+  low = omega arith;
+  high = omega arith;
+  occurs = OccursAt-from_part name part (length name - length part)
+      (omega (arith, ap length there, length-drop (length name - length part) name))
+      (ap (take (length part)) there ∙ take_all (length part) part (omega arith));
+}
+
+pub stands : (w : Where) (part pattern name : List ℕ) → IsPart w part pattern → matches pattern name ≡ true → StandsIn w part name
+stands Front part pattern name is matched =
+    in_front part name (subst (λ (p : List ℕ). take (length p) name ≡ p) (sym is) (begins pattern name matched))
+stands Anywhere part pattern name is matched =
+    let parts : pattern ≡ take is.at pattern ++ (part ++ drop (is.at + length part) pattern) =
+    sym (take-append-drop is.at pattern) ∙ ap (λ t. take is.at pattern ++ t) (OccursAt-split pattern part is.at is.occurs) in
+    anywhere part name
+    (run_some (take is.at pattern) part (drop (is.at + length part) pattern) name is.plain
+    (ap (λ p. matches p name) (sym parts) ∙ matched))
+stands Back part pattern name is matched =
+    behind_all part name (subst (λ (p : List ℕ). drop (length name - length p) name ≡ p) (sym is) (ends pattern name matched))

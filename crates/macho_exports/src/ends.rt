@@ -1,28 +1,32 @@
-//! The ends of patterns and names. A pattern has a first part in front of its first star, and a last part behind its last
-//! one. A name begins with the first part of each pattern that it matches, and ends with the last part:
+//! The parts of patterns at their ends, and where in a name parts stand. A pattern has a first part in front of its first
+//! star, and a last part behind its last one. A name begins with the first part of each pattern that it matches, ends with
+//! the last part, and has somewhere each part that stands between two stars:
 //!
-//!     pattern    first part   last part   matches
-//!     _a*b*c     _a           c           _a1b2c
-//!     *_x        no byte      _x          _a_x
-//!     _a*        _a           no byte     _ab
-//!     ab*b       ab           b           abb, but not ab
+//!     pattern    first part   between stars   last part   matches
+//!     _a*b*c     _a           b               c           _a1b2c
+//!     *_x        no byte                      _x          _a_x
+//!     _a*        _a                           no byte     _ab
+//!     ab*b       ab                           b           abb, but not ab
+//!     *y1*z*     no byte      y1, z           no byte     _y12z3
 ghost use Rattle.std.specs.Prelude.{◌≡◌, ◌≤◌, length};
-ghost use Rattle.macho_exports.specs.steps.Ends.{front_of, back_of, part_at, bytes_at};
+ghost use Rattle.macho_exports.specs.steps.Ends.{front_of, back_of, first_place, last_place};
 
 use crate::patterns::behind;
 use memchr::{memchr, memrchr};
 
-/// An end of a pattern or a name.
+/// Where in a name some parts stand.
 #[derive(Clone, Copy)]
-pub(crate) enum End {
+pub(crate) enum Where {
     /// Where it begins.
     Front,
+    /// At any place.
+    Anywhere,
     /// Where it ends.
     Back,
 }
 
 /// The first part of a pattern: what stands in front of the first star, all of it where there is none.
-fn front_of(pattern: &[u8]) -> &[u8]
+pub(crate) fn front_of(pattern: &[u8]) -> &[u8]
     ensures { result.now ≡ front_of pattern.now }
 {
     match memchr(b'*', pattern) {
@@ -32,7 +36,7 @@ fn front_of(pattern: &[u8]) -> &[u8]
 }
 
 /// The last part of a pattern: what stands behind the last star, all of it where there is none.
-fn back_of(pattern: &[u8]) -> &[u8]
+pub(crate) fn back_of(pattern: &[u8]) -> &[u8]
     ensures { result.now ≡ back_of pattern.now }
 {
     match memrchr(b'*', pattern) {
@@ -41,25 +45,26 @@ fn back_of(pattern: &[u8]) -> &[u8]
     }
 }
 
-impl End {
-    /// The part of a pattern at this end.
-    pub(crate) fn part_of(self, pattern: &[u8]) -> &[u8]
-        ensures { result.now ≡ part_at self pattern.now }
+impl Where {
+    /// The first place in a name of some length at which a part of so many bytes may stand.
+    pub(crate) fn first_place(self, long: usize, count: usize) -> usize
+        requires { count ≤ long }
+        ensures { result ≡ first_place self long count }
     {
         match self {
-            End::Front => front_of(pattern),
-            End::Back => back_of(pattern),
+            Where::Front | Where::Anywhere => 0,
+            Where::Back => long - count,
         }
     }
 
-    /// So many bytes of a name at this end.
-    pub(crate) fn bytes_of(self, name: &[u8], count: usize) -> &[u8]
-        requires { count ≤ length name.now }
-        ensures { result.now ≡ bytes_at self count name.now }
+    /// The last such place.
+    pub(crate) fn last_place(self, long: usize, count: usize) -> usize
+        requires { count ≤ long }
+        ensures { result ≡ last_place self long count }
     {
         match self {
-            End::Front => &name[..count],
-            End::Back => &name[name.len() - count..],
+            Where::Front => 0,
+            Where::Anywhere | Where::Back => long - count,
         }
     }
 }

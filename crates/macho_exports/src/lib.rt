@@ -8,6 +8,7 @@
 //!       _b
 #![tactic(auto)]
 
+mod chosen;
 mod ends;
 mod entries;
 mod list;

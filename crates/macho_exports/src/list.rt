@@ -26,7 +26,7 @@ pub struct ExportList {
     pub(crate) patterns: Vec<Vec<u8>>,
     /// Where each plain entry stands first. Names that were taken back may have places of others, or none.
     pub(crate) places: HashMap<Vec<u8>, usize>,
-    /// Where the patterns are found by their first and last parts.
+    /// Where the patterns are found by their parts.
     pub(crate) table: PatternTable,
 }
 
@@ -147,9 +147,10 @@ impl ExportList {
 impl ExportList {
     /// Whether the list contains a name: it is an entry, or matches one with stars. It takes no memory.
     ///
-    /// Of the patterns those are tried whose first part, in front of the first star, the name begins with, or whose last
-    /// part, behind the last star, it ends with: few of many that differ at one end, but each of those that begin and end
-    /// with a star.
+    /// Of the patterns those are tried of which the name has a part: begins with the first one, in front of the first star,
+    /// ends with the last one, behind the last star, or has somewhere up to eight bytes that stand between two stars. Each
+    /// pattern has one part that it is tried for. These are few of many patterns that differ in one part, but all of those
+    /// that share all parts.
     pub fn contains(&self, name: &[u8]) -> bool
         ensures within { result ≡ is_within self.now name.now }
         ensures listed { (texts : List (List ℕ)) → IsListOf texts self.now → result ≡ listed texts name.now }

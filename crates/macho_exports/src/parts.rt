@@ -1,28 +1,35 @@
-//! Patterns by their parts at one end. The numbers of patterns with one part stand together in a group, and each length that
-//! a part has is kept once. So of a name its bytes at that end are looked up once for each of these lengths. Of `*_x`,
-//! `_a*_y`, `*b*_x` and `_c*`, numbered from 0, by their last parts:
+//! Patterns by parts that stand in names at the front, at the back or anywhere. The numbers of patterns with one part stand
+//! together in a group, and each length that a part has is kept once. So of a name its bytes are looked up once for each of
+//! these lengths, at each place where such a part may stand. Of `*_x`, `_a*_y`, `*b*_x` and `_c*`, numbered from 0, by their
+//! last parts:
 //!
 //!     parts      _x: group 0,  _y: group 1,  no byte: group 2
 //!     groups     0: patterns 0 and 2,  1: pattern 1,  2: pattern 3
 //!     lengths    2, 0
 //!
 //! Of the name `_ab_x` the last two bytes are looked up, and no byte: patterns 0, 2 and 3 are tried.
-ghost use Rattle.std.specs.Prelude.{◌≡◌, ◌<◌, true, [], length, get_or, OnOk, IfOk};
+//!
+//! Parts that stand anywhere are looked up at all places. If `*ab*` and `*b_x*` are known by `ab` and `b_x`, then `_a`, `ab`,
+//! `b_` and `_x` of that name are looked up, and `_ab`, `ab_` and `b_x`: both patterns are tried. Where the same bytes come
+//! again in a name, their patterns aren't tried again.
+ghost use Rattle.std.specs.Prelude.{◌≡◌, ◌<◌, ◌≤◌, ◌+◌, ℕ, true, List, [], length, get_or, OnOk, IfOk};
 ghost use Rattle.macho_exports.specs.steps.Lists.{texts_of};
 ghost use Rattle.macho_exports.specs.steps.Tables.{has, numbers_of, KeepsNumbers, KeepsGroups, KeepsParts, IsGroup};
-ghost use Rattle.macho_exports.specs.steps.Indexed.{is_match_at, is_match_of, is_match_under, is_match_in, IsNoted, KeepsTable};
+ghost use Rattle.macho_exports.specs.steps.Ends.{IsPart};
+ghost use Rattle.macho_exports.specs.steps.Indexed.{is_match_at, is_match_of, is_again, is_match_from, is_match_under};
+ghost use Rattle.macho_exports.specs.steps.Indexed.{is_match_in, IsNoted, KeepsTable};
 
-use crate::ends::End;
+use crate::ends::Where;
 use crate::patterns::matches;
 use std::alloc::{AllocError, Global};
 use std::collections::HashMap;
 
-/// Where patterns are found by their parts at one end. Patterns that were taken back may have left numbers in it: a number
+/// Where patterns are found by their parts. Patterns that were taken back may have left numbers in it: a number
 /// only tells which pattern to try, if there is one.
 #[derive(Drop)]
 pub(crate) struct PartTable {
-    /// The end at which the parts stand.
-    pub(crate) end: End,
+    /// Where in a name the parts stand.
+    pub(crate) stands: Where,
     /// The group of each part.
     pub(crate) parts: HashMap<Vec<u8>, usize>,
     /// The numbers of the patterns of each group.
@@ -77,28 +84,25 @@ fn put_number(groups: &mut Vec<Vec<usize>>, group: usize, number: usize) -> Resu
 
 impl PartTable {
     /// A table of no pattern.
-    pub(crate) fn new(alloc: Global, end: End) -> PartTable
-        ensures { result.end ≡ end }
-    {
+    pub(crate) fn new(alloc: Global, stands: Where) -> PartTable {
         PartTable {
-            end,
+            stands,
             parts: HashMap::new(alloc),
             groups: Vec::new(alloc),
             lengths: Vec::new(alloc),
         }
     }
 
-    /// Notes the number of a pattern under its part.
+    /// Notes the number of a pattern under a part.
     pub(crate) fn note(
         &mut self,
         alloc: Global,
-        pattern: &[u8],
+        part: &[u8],
         number: usize,
     ) -> Result<(), AllocError>
-        ensures noted { OnOk result (IsNoted self.new pattern.now number) }
+        ensures noted { OnOk result ((pattern : List ℕ) → IsPart self.old.stands part.now pattern → IsNoted self.new pattern number) }
         ensures kept { KeepsTable self.old self.new }
     {
-        let part = self.end.part_of(pattern);
         note_length(&mut self.lengths, part.len())?;
         let group = group_of(alloc, &mut self.parts, &mut self.groups, part)?;
         put_number(&mut self.groups, group, number)
@@ -113,6 +117,14 @@ impl PartTable {
             _ => &[],
         }
     }
+
+    /// How many patterns share a part; every pattern has the empty one.
+    pub(crate) fn sharing(&self, part: &[u8]) -> usize {
+        if part.is_empty() {
+            return usize::MAX;
+        }
+        self.numbers_under(part).len()
+    }
 }
 
 /// Whether a name matches the pattern of a number, if there is one.
@@ -120,6 +132,19 @@ fn matches_at(patterns: &[Vec<u8>], name: &[u8], number: usize) -> bool
     ensures { result ≡ is_match_at (texts_of patterns.now) name.now number }
 {
     number < patterns.len() && matches(&patterns[number], name)
+}
+
+/// Whether so many bytes of a name from a place on stand at an earlier place, too, from a first one on.
+fn is_again(name: &[u8], count: usize, first: usize, at: usize) -> bool
+    requires { at + count ≤ length name.now }
+    ensures { result ≡ is_again name.now count first at }
+{
+    for earlier in first..at {
+        if name[earlier..earlier + count] == name[at..at + count] {
+            return true;
+        }
+    }
+    false
 }
 
 /// Whether a name matches one of the patterns of some numbers.
@@ -135,6 +160,26 @@ fn matches_one(patterns: &[Vec<u8>], name: &[u8], numbers: &[usize]) -> bool
 }
 
 impl PartTable {
+    /// Whether a name matches one of the patterns that were noted under so many of its bytes from a place on. Bytes that
+    /// stand at an earlier place, too, were looked up there.
+    fn matches_from(
+        &self,
+        patterns: &[Vec<u8>],
+        name: &[u8],
+        count: usize,
+        first: usize,
+        at: usize,
+    ) -> bool
+        requires { at + count ≤ length name.now }
+        ensures { result ≡ is_match_from self.now (texts_of patterns.now) name.now count first at }
+    {
+        let numbers = self.numbers_under(&name[at..at + count]);
+        if numbers.is_empty() || is_again(name, count, first, at) {
+            return false;
+        }
+        matches_one(patterns, name, numbers)
+    }
+
     /// Whether a name matches one of the patterns that were noted under so many of its bytes.
     fn matches_under(&self, patterns: &[Vec<u8>], name: &[u8], count: usize) -> bool
         ensures { result ≡ is_match_under self.now (texts_of patterns.now) name.now count }
@@ -142,8 +187,14 @@ impl PartTable {
         if name.len() < count {
             return false;
         }
-        let part = self.end.bytes_of(name, count);
-        matches_one(patterns, name, self.numbers_under(part))
+        let first = self.stands.first_place(name.len(), count);
+        let last = self.stands.last_place(name.len(), count);
+        for at in first..last + 1 {
+            if self.matches_from(patterns, name, count, first, at) {
+                return true;
+            }
+        }
+        false
     }
 
     /// Whether a name matches one of the patterns that were noted.

@@ -1,19 +1,22 @@
-//! Patterns by their parts at both ends: a name begins with the first part and ends with the last part of each pattern that it
-//! matches. So each pattern is noted under one of them alone: under the last one where the first is empty and the other way
-//! round, else under that which fewer patterns share so far. Of `_a*`, `_*_x`, `_*_y` and `*_x`, numbered from 0:
+//! Patterns by their parts: a name begins with the first part of each pattern that it matches, ends with the last part, and has
+//! somewhere what stands between two stars. So each pattern is noted under one part alone: under the first or the last one,
+//! that which fewer patterns share so far, but never under an empty one if it has another part. Where many patterns share
+//! that, or it is empty, the pattern is noted under some bytes between two stars, unless as many share them. Of `_a*`,
+//! `_*_x`, `_*_y`, `*_x`, `*y1*` and `*y1*z*`, numbered from 0:
 //!
-//!     fronts     _a: pattern 0,  _: pattern 1
+//!     fronts     _a: pattern 0,   _: pattern 1
+//!     middles    y1: pattern 4,   z: pattern 5
 //!     backs      _y: pattern 2,  _x: pattern 3
 //!
-//! Patterns that share both parts are tried one by one on each name that begins or ends so. Those that begin and end with a
-//! star are tried one by one on every name.
+//! Patterns that share all their parts are tried one by one on each name that has the one that they were noted under.
 ghost use Rattle.std.specs.Prelude.{◌≡◌, [], ◌∷◌, ◌++◌, OnOk};
 ghost use Rattle.std.specs.List.{list_any};
 ghost use Rattle.macho_model.specs.ExportLists.{matches};
 ghost use Rattle.macho_exports.specs.steps.Lists.{texts_of};
 ghost use Rattle.macho_exports.specs.steps.Indexed.{IsNotedIn, KeepsTables, IsIndexed};
 
-use crate::ends::End;
+use crate::chosen::part_for;
+use crate::ends::Where;
 use crate::names::{is_among, note_place};
 use crate::parts::PartTable;
 use std::alloc::{AllocError, Global};
@@ -26,9 +29,14 @@ pub(crate) struct PatternTable {
     pub(crate) places: HashMap<Vec<u8>, usize>,
     /// Patterns by their first parts.
     pub(crate) fronts: PartTable,
+    /// Patterns by bytes between two of their stars.
+    pub(crate) middles: PartTable,
     /// Patterns by their last parts.
     pub(crate) backs: PartTable,
 }
+
+/// So many patterns are few enough to be tried one by one on each name that has the part that they share.
+const FEW: usize = 8;
 
 impl PatternTable {
     /// A table of no pattern.
@@ -37,8 +45,9 @@ impl PatternTable {
     {
         PatternTable {
             places: HashMap::new(alloc),
-            fronts: PartTable::new(alloc, End::Front),
-            backs: PartTable::new(alloc, End::Back),
+            fronts: PartTable::new(alloc, Where::Front),
+            middles: PartTable::new(alloc, Where::Anywhere),
+            backs: PartTable::new(alloc, Where::Back),
         }
     }
 
@@ -47,14 +56,18 @@ impl PatternTable {
         ensures noted { OnOk result (IsNotedIn self.new pattern.now number) }
         ensures kept { KeepsTables self.old self.new }
     {
-        let first = End::Front.part_of(pattern);
-        let last = End::Back.part_of(pattern);
-        let sharing_first = self.fronts.numbers_under(first).len();
-        let sharing_last = self.backs.numbers_under(last).len();
-        if first.is_empty() || (!last.is_empty() && sharing_last < sharing_first) {
-            self.backs.note(alloc, pattern, number)
+        let first = part_for(&self.fronts, pattern);
+        let middle = part_for(&self.middles, pattern);
+        let last = part_for(&self.backs, pattern);
+        let sharing_first = self.fronts.sharing(first);
+        let sharing_last = self.backs.sharing(last);
+        let fewer = sharing_first.min(sharing_last);
+        if fewer > FEW && self.middles.sharing(middle) < fewer {
+            self.middles.note(alloc, middle, number)
+        } else if sharing_last < sharing_first {
+            self.backs.note(alloc, last, number)
         } else {
-            self.fronts.note(alloc, pattern, number)
+            self.fronts.note(alloc, first, number)
         }
     }
 
@@ -81,6 +94,8 @@ impl PatternTable {
         requires { IsIndexed (texts_of patterns.now) self.now }
         ensures { result ≡ list_any (λ e. matches e name.now) (texts_of patterns.now) }
     {
-        self.fronts.has_match(patterns, name) || self.backs.has_match(patterns, name)
+        self.fronts.has_match(patterns, name)
+            || self.middles.has_match(patterns, name)
+            || self.backs.has_match(patterns, name)
     }
 }

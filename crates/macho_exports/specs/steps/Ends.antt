@@ -1,9 +1,10 @@
--- The ends of patterns and names.
-use Rattle.std.specs.Prelude.{ℕ, ◌-◌, ◌==◌, not, List, length, take, drop}
+-- The parts of patterns, and where they stand in names.
+use Rattle.std.specs.Prelude.{◌≡◌, ℕ, ◌-◌, ◌==◌, not, false, All, List, length, drop}
 use Rattle.std.specs.List.{before_first, suffix_len}
+use Rattle.memchr.specs.Find.{OccursAt}
 use Rattle.macho_model.specs.ExportLists.{STAR}
-use Rattle.macho_exports.specs.declared.ends.End.{End}
-use Rattle.macho_exports.specs.declared.ends.End.TheVariants.{Front, Back}
+use Rattle.macho_exports.specs.declared.ends.Where.{Where}
+use Rattle.macho_exports.specs.declared.ends.Where.TheVariants.{Front, Anywhere, Back}
 
 -- what stands in front of the first star, all of it where there is none
 abbrev pub front_of : List ℕ → List ℕ
@@ -13,12 +14,30 @@ front_of pattern = before_first (λ b. b == STAR) pattern
 abbrev pub back_of : List ℕ → List ℕ
 back_of pattern = drop (length pattern - suffix_len (λ b. not (b == STAR)) pattern) pattern
 
--- the part of a pattern at an end
-abbrev pub part_at : End → List ℕ → List ℕ
-part_at Front pattern = front_of pattern
-part_at Back pattern = back_of pattern
+-- Bytes that stand in a pattern one behind the other, without a star.
+pub record IsRun (run pattern : List ℕ) : Type 0 where
+  pub at : ℕ
+  pub occurs : OccursAt pattern run at
+  pub plain : All (λ b. (b == STAR) ≡ false) run
 
--- so many bytes of a name at an end
-abbrev pub bytes_at : End → ℕ → List ℕ → List ℕ
-bytes_at Front count name = take count name
-bytes_at Back count name = drop (length name - count) name
+-- A text stands at the end of another one.
+pub record IsTail (tail text : List ℕ) : Type 0 where
+  pub at : ℕ
+  pub is : tail ≡ drop at text
+
+-- the parts of a pattern that each name which matches it has there
+abbrev pub IsPart : Where → List ℕ → List ℕ → Type 0
+IsPart Front part pattern = part ≡ front_of pattern
+IsPart Anywhere part pattern = IsRun part pattern
+IsPart Back part pattern = part ≡ back_of pattern
+
+-- the first and the last place in a name of some length at which so many bytes may stand
+abbrev pub first_place : Where → ℕ → ℕ → ℕ
+first_place Front long count = 0
+first_place Anywhere long count = 0
+first_place Back long count = long - count
+
+abbrev pub last_place : Where → ℕ → ℕ → ℕ
+last_place Front long count = 0
+last_place Anywhere long count = long - count
+last_place Back long count = long - count

@@ -1,0 +1,72 @@
+//! The part of a pattern that a table knows it by: the first or the last one, or else a run of at most eight bytes between two
+//! stars. Of these runs that is taken which fewer patterns share so far, and of equals a longer one. The runs of
+//! `*ab*_longer_1*`:
+//!
+//!     between stars   runs
+//!     ab              ab
+//!     _longer_1       _longer_, longer_1
+//!
+//! Where `*_longer_*` was noted under its own eight bytes, `longer_1` is taken.
+ghost use Rattle.std.specs.Prelude.{◌≡◌, ℕ, List};
+ghost use Rattle.macho_exports.specs.steps.Ends.{IsRun, IsPart};
+
+use crate::ends::{Where, back_of, front_of};
+use crate::parts::PartTable;
+use crate::patterns::behind;
+use memchr::memchr;
+
+/// So many bytes has a run at most.
+const RUN: usize = 8;
+
+/// Of two runs that which fewer patterns share, of equals the longer one.
+fn rarer<'a>(table: &PartTable, one: &'a [u8], other: &'a [u8]) -> &'a [u8]
+    ensures { (pattern : List ℕ) → IsRun one.now pattern → IsRun other.now pattern → IsRun result.now pattern }
+{
+    let sharing_one = table.sharing(one);
+    let sharing_other = table.sharing(other);
+    let is_longer = sharing_other == sharing_one && other.len() > one.len();
+    if sharing_other < sharing_one || is_longer {
+        other
+    } else {
+        one
+    }
+}
+
+/// The rarest of a run and those of some bytes between two stars.
+fn rarest_in<'a>(table: &PartTable, run: &'a [u8], between: &'a [u8]) -> &'a [u8]
+    ensures { (pattern : List ℕ) → IsRun run.now pattern → IsRun between.now pattern → IsRun result.now pattern }
+{
+    let width = between.len().min(RUN);
+    let mut rarest = run;
+    for at in 0..between.len() - width + 1 {
+        rarest = rarer(table, rarest, &between[at..at + width]);
+    }
+    rarest
+}
+
+/// The rarest run of a pattern, empty where no byte stands between two stars.
+fn rarest_run<'a>(table: &PartTable, pattern: &'a [u8]) -> &'a [u8]
+    ensures { IsRun result.now pattern.now }
+{
+    let mut rarest: &'a [u8] = &[];
+    let Some(first) = memchr(b'*', pattern) else {
+        return rarest;
+    };
+    let mut left = behind(pattern, first, 1);
+    while let Some(star) = memchr(b'*', left) {
+        rarest = rarest_in(table, rarest, &left[..star]);
+        left = behind(left, star, 1);
+    }
+    rarest
+}
+
+/// The part of a pattern that a table is to note it under.
+pub(crate) fn part_for<'a>(table: &PartTable, pattern: &'a [u8]) -> &'a [u8]
+    ensures { IsPart table.now.stands result.now pattern.now }
+{
+    match table.stands {
+        Where::Front => front_of(pattern),
+        Where::Anywhere => rarest_run(table, pattern),
+        Where::Back => back_of(pattern),
+    }
+}
