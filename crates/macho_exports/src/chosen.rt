@@ -1,13 +1,14 @@
-//! The part of a pattern that a table knows it by: the first or the last one, or else a run of at most eight bytes between two
-//! stars. Of these runs that is taken which fewer patterns share so far, and of equals a longer one. The runs of
-//! `*ab*_longer_1*`:
+//! The part of a pattern that a table knows it by: the first or the last one, or else a run of bytes between two stars. A run
+//! has 8, 4, 2 or 1 bytes, the most of these that stand between the stars: each length of runs is looked up at each place of a
+//! name, so there are few. Of the runs that is taken which fewer patterns share so far, and of equals a longer one. The runs
+//! of `*ab*_longer_1*`:
 //!
 //!     between stars   runs
 //!     ab              ab
 //!     _longer_1       _longer_, longer_1
 //!
 //! Where `*_longer_*` was noted under its own eight bytes, `longer_1` is taken.
-ghost use Rattle.std.specs.Prelude.{◌≡◌, ℕ, List};
+ghost use Rattle.std.specs.Prelude.{◌≡◌, ◌≤◌, ℕ, List, length};
 ghost use Rattle.macho_exports.specs.steps.Ends.{IsRun, IsPart};
 
 use crate::ends::{Where, back_of, front_of};
@@ -15,17 +16,28 @@ use crate::parts::PartTable;
 use crate::patterns::behind;
 use memchr::memchr;
 
-/// So many bytes has a run at most.
-const RUN: usize = 8;
+/// How many bytes the runs have of so many bytes between two stars.
+fn run_length(long: usize) -> usize
+    ensures { result ≤ long }
+{
+    if long >= 8 {
+        8
+    } else if long >= 4 {
+        4
+    } else {
+        long.min(2)
+    }
+}
 
-/// Of two runs that which fewer patterns share, of equals the longer one.
+/// Of two runs that which fewer patterns share, of equals the longer one; an empty one only if both are.
 fn rarer<'a>(table: &PartTable, one: &'a [u8], other: &'a [u8]) -> &'a [u8]
     ensures { (pattern : List ℕ) → IsRun one.now pattern → IsRun other.now pattern → IsRun result.now pattern }
 {
     let sharing_one = table.sharing(one);
     let sharing_other = table.sharing(other);
     let is_longer = sharing_other == sharing_one && other.len() > one.len();
-    if sharing_other < sharing_one || is_longer {
+    let is_rarer = sharing_other < sharing_one || is_longer;
+    if one.is_empty() || (is_rarer && !other.is_empty()) {
         other
     } else {
         one
@@ -36,7 +48,7 @@ fn rarer<'a>(table: &PartTable, one: &'a [u8], other: &'a [u8]) -> &'a [u8]
 fn rarest_in<'a>(table: &PartTable, run: &'a [u8], between: &'a [u8]) -> &'a [u8]
     ensures { (pattern : List ℕ) → IsRun run.now pattern → IsRun between.now pattern → IsRun result.now pattern }
 {
-    let width = between.len().min(RUN);
+    let width = run_length(between.len());
     let mut rarest = run;
     for at in 0..between.len() - width + 1 {
         rarest = rarer(table, rarest, &between[at..at + width]);

@@ -147,10 +147,10 @@ impl ExportList {
 impl ExportList {
     /// Whether the list contains a name: it is an entry, or matches one with stars. It takes no memory.
     ///
-    /// Of the patterns those are tried of which the name has a part: begins with the first one, in front of the first star,
-    /// ends with the last one, behind the last star, or has somewhere up to eight bytes that stand between two stars. Each
-    /// pattern has one part that it is tried for. These are few of many patterns that differ in one part, but all of those
-    /// that share all parts.
+    /// Each pattern is tried on those names alone that have one of its parts: that begin with the first one, in front of the
+    /// first star, end with the last one, behind the last star, or have somewhere up to eight bytes that stand between two
+    /// stars. The last are looked up where more than a few patterns share the other two. So few of many patterns are tried
+    /// that differ in one part, but all of those that share all parts.
     pub fn contains(&self, name: &[u8]) -> bool
         ensures within { result ≡ is_within self.now name.now }
         ensures listed { (texts : List (List ℕ)) → IsListOf texts self.now → result ≡ listed texts name.now }

@@ -118,11 +118,8 @@ impl PartTable {
         }
     }
 
-    /// How many patterns share a part; every pattern has the empty one.
+    /// How many patterns were noted under a part.
     pub(crate) fn sharing(&self, part: &[u8]) -> usize {
-        if part.is_empty() {
-            return usize::MAX;
-        }
         self.numbers_under(part).len()
     }
 }

@@ -1,14 +1,15 @@
 //! Patterns by their parts: a name begins with the first part of each pattern that it matches, ends with the last part, and has
-//! somewhere what stands between two stars. So each pattern is noted under one part alone: under the first or the last one,
-//! that which fewer patterns share so far, but never under an empty one if it has another part. Where many patterns share
-//! that, or it is empty, the pattern is noted under some bytes between two stars, unless as many share them. Of `_a*`,
-//! `_*_x`, `_*_y`, `*_x`, `*y1*` and `*y1*z*`, numbered from 0:
+//! somewhere what stands between two stars. So each pattern is noted under one part alone: under the last one where the first
+//! is empty and the other way round, else under that which fewer patterns share so far. Where many patterns share that, the
+//! pattern is noted under some bytes between two stars if fewer share these. Of `_a*`, `_*_x`, `_*_y` and `*_x`, and of `*y1*`
+//! and `*y1*z*` behind many others that begin and end with a star, numbered from 0:
 //!
-//!     fronts     _a: pattern 0,   _: pattern 1
-//!     middles    y1: pattern 4,   z: pattern 5
-//!     backs      _y: pattern 2,  _x: pattern 3
+//!     fronts     _a: pattern 0,  _: pattern 1
+//!     backs      _y: pattern 2,  _x: pattern 3,  no byte: many
+//!     middles    y1: pattern 20,  z: pattern 21
 //!
-//! Patterns that share all their parts are tried one by one on each name that has the one that they were noted under.
+//! A few patterns are tried one by one on each name that has the part that they share, since that is faster than to look up
+//! all that a name has somewhere. So are many patterns that share all their parts.
 ghost use Rattle.std.specs.Prelude.{◌≡◌, [], ◌∷◌, ◌++◌, OnOk};
 ghost use Rattle.std.specs.List.{list_any};
 ghost use Rattle.macho_model.specs.ExportLists.{matches};
@@ -35,8 +36,8 @@ pub(crate) struct PatternTable {
     pub(crate) backs: PartTable,
 }
 
-/// So many patterns are few enough to be tried one by one on each name that has the part that they share.
-const FEW: usize = 8;
+/// So many patterns that share a part at an end are too many to be tried one by one.
+const MANY: usize = 16;
 
 impl PatternTable {
     /// A table of no pattern.
@@ -61,10 +62,11 @@ impl PatternTable {
         let last = part_for(&self.backs, pattern);
         let sharing_first = self.fronts.sharing(first);
         let sharing_last = self.backs.sharing(last);
-        let fewer = sharing_first.min(sharing_last);
-        if fewer > FEW && self.middles.sharing(middle) < fewer {
+        let is_last = first.is_empty() || (!last.is_empty() && sharing_last < sharing_first);
+        let sharing = if is_last { sharing_last } else { sharing_first };
+        if sharing >= MANY && !middle.is_empty() && self.middles.sharing(middle) < sharing {
             self.middles.note(alloc, middle, number)
-        } else if sharing_last < sharing_first {
+        } else if is_last {
             self.backs.note(alloc, last, number)
         } else {
             self.fronts.note(alloc, first, number)

@@ -5,4 +5,4 @@ use Rattle.macho_exports.proofs.chosen.rarest_in.Goals as goal
 pub loop-at-preserved : goal.loop-at-preserved
 loop-at-preserved c pattern run between =
     c.rarer-rarest.ensures pattern (c.loop-at.invariant pattern run between)
-    (run_part c.args.between.now pattern c.loop-at.at c.min-width.result (omega arith) between)
+    (run_part c.args.between.now pattern c.loop-at.at c.run_length-width.result (omega arith) between)
