@@ -70,7 +70,6 @@ pub fn reserve_trie(alloc: Global, exports: &[NamedExport<'_>]) -> Result<Reserv
     let symbols = kept_symbols(alloc, exports)?;
     let trie = Trie::new(alloc, &symbols)?;
     let size = trie.compute_byte_size(alloc, &symbols)?;
-    let _bytes = trie.encode(alloc, &symbols)?;
     Ok(ReservedTrie { trie, size })
 }
 

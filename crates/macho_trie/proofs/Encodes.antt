@@ -4,7 +4,7 @@
 -- length, since each node has as many bytes as its size says. The tree that the rows spell is the radix tree of the
 -- names, so the bytes are its exports trie. Terminal parts that are nowhere longer have no greater size, and the one for
 -- the greatest address is at least as long as that for any other.
-use Rattle.std.proofs.Common.{◌≡◌, ◌↔◌, ℕ, zero, suc, ◌+◌, ◌^◌, ◌<◌, ◌≤◌, List, [], ◌∷◌, ◌++◌, length, sum, map, slice_index, get_or}
+use Rattle.std.proofs.Common.{◌≡◌, ◌⊎◌, ◌↔◌, ℕ, zero, suc, ◌+◌, ◌^◌, ◌<◌, ◌≤◌, List, [], ◌∷◌, ◌++◌, length, sum, map, slice_index, get_or}
 use Rattle.std.proofs.Common.{Option, Some, None, Contains, refl, sym, ap, subst, ◌∙◌, arith, inl, inr}
 use Rattle.std.specs.Option.{option_map}
 use Rattle.std.specs.List.{All}
@@ -22,7 +22,7 @@ use Rattle.macho_trie.specs.Tables.{name_at, trees_of, IsTable}
 use Rattle.macho_trie.specs.Encoding.{export_bytes, terminal_bytes, says_of, edges_bytes, node_bytes, tree_bytes, node_sizes, place_of}
 use Rattle.macho_trie.specs.Encoding.{total_of, terminal_size, AreLeast, IsExportsTrie}
 use Rattle.macho_trie.specs.steps.Layouts.{names_at, says_at, size_at, tree_at, AreLaidOut}
-use Rattle.macho_trie.specs.Tries.{IsTrieOf, IsSizeOf, IsShortest, IsRoomFor, AreNoLarger, Reserves, AreReserved}
+use Rattle.macho_trie.specs.Tries.{IsTrieOf, IsSizeOf, IsLengthOfTrie, IsShortest, IsRoomFor, AreNoLarger, Reserves, AreReserved}
 use Rattle.macho_trie.specs.declared.layout.Layout.{Layout}
 use Rattle.macho_trie.specs.declared.symbols.Symbols.{Symbols}
 use Rattle.macho_trie.specs.declared.symbols.Symbol.{Symbol}
@@ -290,6 +290,27 @@ pub no_bytes : (trie : Trie) (l : Layout) (places out : List ℕ) → IsTrieOf t
 no_bytes trie l places out t same none is =
     is ∙ ap (λ (rs : List Row). tree_bytes (says_at l) (slice_index places) 0 (trees_of (names_at l) rs)) (same
     ∙ no_rows trie (names_at l) t none)
+
+-- the size is the length of the trie's bytes
+pub trie_long : (trie : Trie) (l : Layout) (places : List ℕ) (n : ℕ) → IsTrieOf trie (names_at l) → l.rows.now ≡ trie.rows.items
+    → AreLaidOut l places → IsSizeOf trie (names_at l) (symbols_of l.symbols.now) n → IsLengthOfTrie (symbols_of l.symbols.now) n
+trie_long trie l places n t same a size = (
+  text,
+  cases (symbols_of l.symbols.now) refl,
+  only_size trie (names_at l) (symbols_of l.symbols.now) n (length text) size
+      (length_is trie l places text same a refl),
+)
+  where
+    text : List ℕ
+    text = tree_bytes (says_at l) (slice_index places) 0 (tree_at l)
+
+    cases : (xs : List (List ℕ × Exported)) → symbols_of l.symbols.now ≡ xs
+        → ((symbols_of l.symbols.now ≡ []) × (text ≡ [])) ⊎ ((1 ≤ length (symbols_of l.symbols.now))
+        × IsExportsTrie (symbols_of l.symbols.now) text)
+    cases [] none = inl (none, no_bytes trie l places text t same (omega (arith, ap length none, names_long l.symbols.now)) refl)
+    cases (x ∷ xs) some =
+        let long : 1 ≤ length (symbols_of l.symbols.now) = omega (arith, ap length some) in
+        inr (long, exports_trie l places text (table_of_trie trie l t same (omega (arith, long, names_long l.symbols.now))) a refl)
 
 pub found_all : (trie : Trie) (l : Layout) (places out : List ℕ) → IsTrieOf trie (names_at l) → l.rows.now ≡ trie.rows.items
     → AreLaidOut l places

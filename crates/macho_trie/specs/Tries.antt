@@ -1,9 +1,9 @@
 -- What a trie promises for the register whose names it was made of.
-use Rattle.std.specs.Prelude.{◌≡◌, ℕ, ◌-◌, ◌^◌, ◌<◌, ◌≤◌, List, [], ◌∷◌, length, Some, Contains}
+use Rattle.std.specs.Prelude.{◌≡◌, ◌⊎◌, ℕ, ◌-◌, ◌^◌, ◌<◌, ◌≤◌, List, [], ◌∷◌, length, Some, Contains}
 use Rattle.macho_trie.specs.Lookup.{trie_finds}
 use Rattle.macho_trie.specs.Exports.{Exported, as_value, as_reexport}
 use Rattle.macho_trie.specs.Tables.{trees_of, IsTable}
-use Rattle.macho_trie.specs.Encoding.{says_of, terminal_bytes, terminal_size, total_of, AreWide, AreLeast}
+use Rattle.macho_trie.specs.Encoding.{says_of, terminal_bytes, terminal_size, total_of, AreWide, AreLeast, IsExportsTrie}
 use Rattle.macho_trie.specs.Trees.{Edges, node_count}
 use Rattle.macho_trie.specs.declared.trie.Trie.{Trie}
 
@@ -21,6 +21,11 @@ pub record IsSizeOf (trie : Trie) (names : List (List ℕ)) (symbols : List (Lis
   pub width : ℕ → ℕ
   pub least : AreLeast (terminal_size (says_of symbols)) width (tree_of trie names)
   pub total : n ≡ total_of (terminal_size (says_of symbols)) width (tree_of trie names)
+
+-- So many bytes has the exports trie of some symbols: none of none.
+abbrev pub IsLengthOfTrie : List (List ℕ × Exported) → ℕ → Type 0
+IsLengthOfTrie symbols n =
+    (bytes : List ℕ) × (((symbols ≡ []) × (bytes ≡ [])) ⊎ ((1 ≤ length symbols) × IsExportsTrie symbols bytes)) × (length bytes ≡ n)
 
 -- no widths that are wide enough give fewer bytes
 abbrev pub IsShortest : Trie → List (List ℕ) → List (List ℕ × Exported) → ℕ → Type 0

@@ -20,7 +20,7 @@ pub struct Trie {
 }
 
 impl Trie {
-    ghost use Rattle.macho_trie.specs.Tries.{IsTrieOf, IsSizeOf, IsShortest, IsRoomFor, IsReservedFor, FindsAll, FindsOnly};
+    ghost use Rattle.macho_trie.specs.Tries.{IsTrieOf, IsSizeOf, IsLengthOfTrie, IsShortest, IsRoomFor, IsReservedFor, FindsAll, FindsOnly};
 
     /// The tree of a register's names, by one sort of them.
     pub fn new(alloc: Global, symbols: &Symbols) -> Result<Trie, AllocError>
@@ -46,6 +46,7 @@ impl Trie {
         requires { IsTrieOf self.now (names_of symbols.now) }
         ensures size { IfOk result (λ n. IsSizeOf self.now (names_of symbols.now) (symbols_of symbols.now) n) }
         ensures only { IfOk result (λ n. (m : ℕ) → IsSizeOf self.now (names_of symbols.now) (symbols_of symbols.now) m → m ≡ n) }
+        ensures exact { IfOk result (λ n. IsLengthOfTrie (symbols_of symbols.now) n) }
         ensures shortest { IfOk result (IsShortest self.now (names_of symbols.now) (symbols_of symbols.now)) }
         ensures covers { IfOk result (IsRoomFor self.now (names_of symbols.now) (symbols_of symbols.now)) }
         ensures reserves { IfOk result (IsReservedFor self.now (names_of symbols.now) (symbols_of symbols.now)) }

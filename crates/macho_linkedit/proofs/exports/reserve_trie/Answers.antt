@@ -3,7 +3,7 @@ use Rattle.std.proofs.Common.{List, ℕ, sym, subst}
 use Rattle.macho_trie.specs.Exports.{Exported}
 use Rattle.macho_trie.specs.Symbols.{symbols_of}
 use Rattle.macho_trie.specs.Sorting.{AreDistinct, HaveNoNul}
-use Rattle.macho_trie.specs.Tries.{IsTrieOf, IsReservedFor}
+use Rattle.macho_trie.specs.Tries.{IsTrieOf, IsLengthOfTrie, IsReservedFor}
 use Rattle.macho_linkedit.specs.Tries.{names_in}
 use Rattle.macho_linkedit.proofs.Reserving.{kept_names}
 use Rattle.macho_linkedit.proofs.exports.reserve_trie.Goals as goal
@@ -25,3 +25,7 @@ returns-clause-reserved c = let names = kept_names c.in_ok-symbols.symbols c.arg
       (subst (λ (ns : List (List ℕ)). IsReservedFor c.in_ok-trie.trie ns
       (symbols_of c.in_ok-symbols.symbols) c.in_ok-size.size) names c.in_ok-size.ensures.reserves);
 }
+
+pub returns-clause-exact : goal.returns-clause-exact
+returns-clause-exact c =
+    subst (λ (xs : List (List ℕ × Exported)). IsLengthOfTrie xs c.in_ok-size.size) c.in_ok-symbols.ensures c.in_ok-size.ensures.exact

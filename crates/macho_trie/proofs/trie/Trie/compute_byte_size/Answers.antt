@@ -1,7 +1,7 @@
 use Rattle.std.proofs.Common.{length, arith, ap}
 use Rattle.macho_trie.specs.Symbols.{symbols_of, names_of}
 use Rattle.macho_trie.specs.declared.layout.Layout.{Layout}
-use Rattle.macho_trie.proofs.Encodes.{places_long, size_is, only_size, shortest, covers, is_room, no_larger}
+use Rattle.macho_trie.proofs.Encodes.{places_long, size_is, trie_long, only_size, shortest, covers, is_room, no_larger}
 use Rattle.macho_trie.proofs.trie.Trie.compute_byte_size.Goals as goal
 
 pub index-requires : goal.index-requires
@@ -28,6 +28,13 @@ returns-clause-only c m b =
     only_size c.args.self.now (names_of c.args.symbols.now) (symbols_of c.args.symbols.now) c.index.result.now m
     (size_is c.args.self.now l c.in_ok-places.places.items c.len.result c.index.result.now _ c.deref.ensures.value c.in_ok-places.ensures
     (omega (arith, c.len.ensures, c.args.self.now.rows.ok.0)) c.index.ensures) b
+
+pub returns-clause-exact : goal.returns-clause-exact
+returns-clause-exact c =
+    let l : Layout = record { symbols = c.args.symbols; rows = c.deref.result } in
+    trie_long c.args.self.now l c.in_ok-places.places.items c.index.result.now c.requires c.deref.ensures.value c.in_ok-places.ensures
+    (size_is c.args.self.now l c.in_ok-places.places.items c.len.result c.index.result.now _ c.deref.ensures.value c.in_ok-places.ensures
+    (omega (arith, c.len.ensures, c.args.self.now.rows.ok.0)) c.index.ensures)
 
 pub returns-clause-shortest : goal.returns-clause-shortest
 returns-clause-shortest c =
