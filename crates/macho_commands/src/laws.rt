@@ -1,7 +1,8 @@
 //! Laws on the load commands of a link: each is the contract of a function that does nothing.
 ghost use Rattle.macho_commands.specs.Laws.{FoundIsSaid, HeadIsFoundAgain, HeadIsRead, HeadIsSpelled, HeadKeepsRules};
 
-/// A head that was written with commands that say those of a link is the link's head, in every file that begins with it.
+/// In every file that begins with a head that was written with commands that say those of a link, a reader finds the link's header
+/// and load commands.
 pub fn head_found_is_said()
     ensures { FoundIsSaid }
 {}
