@@ -13,18 +13,18 @@ use Rattle.macho_model.specs.Faults.{BadUnwind, UnsupportedRelocation, Overlappi
 use Rattle.macho_model.specs.Faults.{RebaseTarget, RelocationRange, BadName, FaultStands}
 use Rattle.macho_fields.specs.Faults.{IsBadPlace}
 use Rattle.macho_reading.proofs.Refusals.{read_is_not_refused}
-use Rattle.macho_answers.specs.Refusals.{NothingPasses, IsClear, ClearIsUnrefused}
+use Rattle.macho_answers.specs.Refusals.{IsClear, ClearIsUnrefused}
 
 -- the placement that is kept is this one
 kept_is : (q p : Placed) → (Some q ≡ None) ⊎ (Some q ≡ Some p) → q ≡ p
 kept_is q p (inl none) = absurd (cc)
 kept_is q p (inr same) = cc
 
-none_passes : (l : Link) (counts : Counts) (p : Placed) → NothingPasses l counts p → ImagePasses l p → ⊥
-none_passes l counts p limits (inl (s, has, inl offset)) = absurd (omega (arith, offset, (limits.files s has).0))
-none_passes l counts p limits (inl (s, has, inr size)) = absurd (omega (arith, size, (limits.files s has).1))
-none_passes l counts p limits (inr (inl (r, has, end))) = absurd (omega (arith, end, limits.ranges r has))
-none_passes l counts p limits (inr (inr (x, written, far))) = absurd (omega (arith, far, limits.written x written))
+none_passes : (l : Link) (counts : Counts) (p : Placed) → IsClear l counts p → ImagePasses l p → ⊥
+none_passes l counts p clear (inl (s, has, inl offset)) = absurd (omega (arith, offset, (clear.limits.files s has).0))
+none_passes l counts p clear (inl (s, has, inr size)) = absurd (omega (arith, size, (clear.limits.files s has).1))
+none_passes l counts p clear (inr (inl (r, has, end))) = absurd (omega (arith, end, clear.limits.ranges r has))
+none_passes l counts p clear (inr (inr (x, written, far))) = absurd (omega (arith, far, clear.written x written))
 
 none : (l : Link) (counts : Counts) (p : Placed) → IsClear l counts p → (f : LinkFault)
     → (kept_placement f ≡ None) ⊎ (kept_placement f ≡ Some p) → FaultStands l counts f → ⊥
@@ -51,7 +51,7 @@ none l counts p clear (TooMany what number (Some q)) of stands =
     clear.limits.pages what number (subst (λ (x : Placed). PassesLimit l counts what number (Some x)) (kept_is q p of) stands)
 none l counts p clear (ImageTooLarge None) of stands = clear.limits.sum stands
 none l counts p clear (ImageTooLarge (Some q)) of stands =
-    none_passes l counts p clear.limits (subst (ImagePasses l) (kept_is q p of) stands)
+    none_passes l counts p clear (subst (ImagePasses l) (kept_is q p of) stands)
 none l counts p clear (RebaseTarget at q) of stands =
     clear.values.rebase at (subst (λ (x : Placed). BadRebase l x at) (kept_is q p of) stands)
 none l counts p clear (RelocationRange at q) of stands =

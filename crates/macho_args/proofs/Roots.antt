@@ -21,7 +21,7 @@ use Rattle.macho_args.specs.declared.options.Valued.TheVariants.{Rpath, LibraryP
 use Rattle.macho_args.specs.declared.options.Valued.TheVariants.{Arch, Mllvm, Uuid, Generate}
 use Rattle.macho_args.specs.declared.fault.ArgsFault.TheVariants.{Unknown, Unsupported, BadVersion, BadPlatform, BadUuid, BadNumber, OutOfMemory}
 use Rattle.macho_args.specs.steps.Effects.{HasCause}
-use Rattle.macho_args.specs.Effects.{uuid_of, count_of, with_versions}
+use Rattle.macho_args.specs.Effects.{uuid_of, count_of}
 use Rattle.macho_args.specs.Effects.{◌>>=◌, at_root, joined, with_flag, with_value, with_platform}
 use Rattle.std.specs.FinMap.{get}
 use Rattle.macho_args.specs.Store.{CanonicalPaths, Directories}
@@ -81,6 +81,11 @@ module _ (root_of : List ℕ → List ℕ) where
   value-finish Mllvm i v s = finished-cond _ _ _
   value-finish Uuid i v s = finished-or (uuid_of v) (BadUuid i) (λ bytes. Ok (record s { uuid = Some bytes }))
   value-finish Generate i v s = finished-or (count_of v) (BadNumber i) (λ n. Ok (record s { generate = Some n }))
+
+  -- the platform with its two versions
+  abbrev with_versions : List ℕ → ℕ → ℕ → Settings → Settings
+  with_versions platform lowest built s =
+      record s { platform_version = Some (record { platform = platform; minimum_version = lowest; sdk_version = built }) }
 
   platform-finish : (i : ℕ) (p m k : List ℕ) (s : Settings) → with_platform i p m k (finish s) ≡ finished (with_platform i p m k s)
   unfolding with_platform

@@ -76,11 +76,6 @@ with_value set_root Mllvm i v s =
 with_value set_root Uuid i v s = ok_or (uuid_of v) (BadUuid i) >>= λ bytes. Ok (record s { uuid = Some bytes })
 with_value set_root Generate i v s = ok_or (count_of v) (BadNumber i) >>= λ n. Ok (record s { generate = Some n })
 
--- the platform with its two versions
-abbrev pub with_versions : List ℕ → ℕ → ℕ → Settings → Settings
-with_versions platform lowest built s =
-    record s { platform_version = Some (record { platform = platform; minimum_version = lowest; sdk_version = built }) }
-
 -- The three values of `-platform_version`, which is the word i: a platform, the lowest version of the system,
 -- and the version of the SDK.
 unfoldable pub with_platform : ℕ → List ℕ → List ℕ → List ℕ → Settings → Result Settings ArgsFault
@@ -88,5 +83,5 @@ with_platform i platform minimum sdk s =
     if bytes_eq platform (codes "macos") then (do
       lowest ← ok_or (version_of minimum) (BadVersion (i + 2))
       built ← ok_or (version_of sdk) (BadVersion (i + 3))
-      Ok (with_versions platform lowest built s))
+      Ok (record s { platform_version = Some (record { platform = platform; minimum_version = lowest; sdk_version = built }) }))
     else Err (BadPlatform (i + 1))

@@ -73,7 +73,7 @@ abbrev pub HeadKeepsRules : Type 0
 HeadKeepsRules =
     (l : Link) (counts : Counts) (uuid b : List ℕ) (p : Placed) → CommandsSay l counts uuid b p → IsInOrder l p → HasRoom b p → HeadIsAccepted b
 
--- a file that has the head of its kind, with commands that say those of a link, has the link's head
+-- a file in which the head of its kind is found, with commands that say those of a link, says the link's load commands
 abbrev pub FoundIsSaid : Type 0
 FoundIsSaid =
     (l : Link) (counts : Counts) (uuid b : List ℕ) (p : Placed) (trie : ℕ) (kind : ImageKind) (commands : List Command) → kind.executable ≡ l.executable

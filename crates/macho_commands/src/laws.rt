@@ -1,7 +1,7 @@
 //! Laws on the load commands of a link: each is the contract of a function that does nothing.
 ghost use Rattle.macho_commands.specs.Laws.{FoundIsSaid, HeadIsFoundAgain, HeadIsRead, HeadIsSpelled, HeadKeepsRules};
 
-/// A head that was written with commands that say those of a link is the link's head, in every file that begins with it.
+/// A file in which a reader finds a header of a link's kind, with commands that say those of the link, says the link's load commands.
 pub fn head_found_is_said()
     ensures { FoundIsSaid }
 {}

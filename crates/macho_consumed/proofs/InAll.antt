@@ -2,7 +2,7 @@
 --
 -- A section that is listed is one of a file that is viewed, and of its kind: it comes from the file's own list, which is a filter
 -- of its sections' numbers. What is added for one section more stands behind what was added before.
-use Rattle.std.proofs.Common.{◌≡◌, ℕ, ◌+◌, ◌/◌, ◌<◌, Bool, true, List, [], ◌∷◌, ◌++◌, length, filter, get_or, take, Option, Some, None}
+use Rattle.std.proofs.Common.{◌≡◌, ℕ, ◌+◌, ◌<◌, Bool, true, List, [], ◌∷◌, ◌++◌, length, filter, get_or, take, Option, Some, None}
 use Rattle.std.proofs.Common.{refl, sym, ap, ◌∙◌, subst}
 use Rattle.std.proofs.lemmas.List.{append-nil, take_more, get_or_default}
 use Rattle.std.proofs.lemmas.List.Elements.{All-more, All-contains, All-nil, All-map, All-from_get_or}
@@ -15,13 +15,11 @@ use Rattle.macho_consumed.specs.declared.listing.Kind.{Kind}
 use Rattle.macho_consumed.specs.declared.listing.SectionRef.{SectionRef}
 use Rattle.macho_consumed.specs.steps.Listed.{is_of_kind, ref, refs_in, refs_of_file, refs_of, bytes_in, bytes_viewed}
 use Rattle.macho_consumed.specs.declared.listing.Kind.TheVariants.{Initializers, Entries}
-use Rattle.macho_consumed.specs.declared.rows.Initializer.{Initializer}
-use Rattle.macho_consumed.specs.declared.rows.UnwindEntry.{UnwindEntry}
 use Rattle.macho_consumed.specs.declared.fault.ConsumedFault.{ConsumedFault}
 use Rattle.macho_consumed.specs.declared.fault.ConsumedFault.TheVariants.{BadInitializer, BadUnwind, OutOfMemory}
-use Rattle.macho_consumed.specs.steps.Slots.{SectionFits, IsBadSection, slot_rows}
-use Rattle.macho_consumed.specs.steps.Entries.{SectionKeeps, IsBadUnwind, rows_in}
-use Rattle.macho_consumed.specs.steps.Gathered.{all_of, IsListed, initializers_at, FitsAt, IsBadAt, entries_at, KeepsAt, IsBadRuleAt}
+use Rattle.macho_consumed.specs.steps.Slots.{IsBadSection}
+use Rattle.macho_consumed.specs.steps.Entries.{IsBadUnwind}
+use Rattle.macho_consumed.specs.steps.Gathered.{all_of, IsListed, IsBadAt, IsBadRuleAt}
 use Rattle.macho_consumed.proofs.Members.{all_joined, in_filter, in_range}
 
 -- A section of a kind is listed.
@@ -74,9 +72,9 @@ pub all_more : {X : Type 0} (P : X → Type 0) (xs : List X) (i : ℕ) (x : X) �
 all_more {X = X} P xs i x lt is all one = All-more P xs i x lt all (subst P is one)
 
 -- the bytes of its file
-pub view_bytes : (kind : Kind) (files : List (Option FileBytes)) (s : SectionRef) (f : FileBytes) → Some f ≡ get_or files s.file None
+pub view_bytes : (files : List (Option FileBytes)) (s : SectionRef) (f : FileBytes) → Some f ≡ get_or files s.file None
     → bytes_in files s.file ≡ f.bytes
-view_bytes kind files s f is = ap bytes_viewed (sym is)
+view_bytes files s f is = ap bytes_viewed (sym is)
 
 pub view_section : (kind : Kind) (files : List (Option FileBytes)) (s : SectionRef) (f : FileBytes) → IsOne kind files s
     → Some f ≡ get_or files s.file None
@@ -100,7 +98,23 @@ pub next_at : (kind : Kind) (files : List (Option FileBytes)) (refs : List Secti
     → IsOne kind files (at refs i) × Contains (all_of kind files) (at refs i)
 next_at kind files refs i are lt = next_listed kind files refs i (at refs i) are lt (is_at refs i lt)
 
--- initializers of the section that a loop is at
+-- the section that a loop is at: its rows stand behind those so far, and what holds of all so far holds of it, too
+pub more_rows : {X : Type 0} (of : List ℕ → SectionRef → List X) (files : List (Option FileBytes)) (refs : List SectionRef) (i : ℕ)
+    (f : FileBytes) (rows next : List X) → i < length refs → Some f ≡ get_or files (at refs i).file None
+    → rows ≡ flat_map (λ s. of (bytes_in files s.file) s) (take i refs) → next ≡ rows ++ of f.bytes (at refs i)
+    → next ≡ flat_map (λ s. of (bytes_in files s.file) s) (take (i + 1) refs)
+more_rows of files refs i f rows next lt is so_far added =
+    added ∙ ap (λ (b : List ℕ). rows ++ of b (at refs i)) (sym (view_bytes files (at refs i) f is))
+    ∙ joined_more (λ s. of (bytes_in files s.file) s) refs i (at refs i) rows lt (is_at refs i lt) so_far
+
+pub more_hold : (P : List ℕ → SectionRef → Type 0) (files : List (Option FileBytes)) (refs : List SectionRef) (i : ℕ) (f : FileBytes)
+    → i < length refs → Some f ≡ get_or files (at refs i).file None → All (λ s. P (bytes_in files s.file) s) (take i refs)
+    → P f.bytes (at refs i) → All (λ s. P (bytes_in files s.file) s) (take (i + 1) refs)
+more_hold P files refs i f lt is so_far holds =
+    all_more (λ s. P (bytes_in files s.file) s) refs i (at refs i) lt (is_at refs i lt) so_far
+    (subst (λ (b : List ℕ). P b (at refs i)) (sym (view_bytes files (at refs i) f is)) holds)
+
+-- a section that breaks a rule
 pub bad_initializers : (r : ResolvedRows) (files : List (Option FileBytes)) (s : SectionRef) (f : FileBytes) (fault : ConsumedFault)
     → Contains (all_of Initializers files) s
     → Some f ≡ get_or files s.file None → IsBadSection r f.bytes s.file s.section fault → IsBadAt r files fault
@@ -108,30 +122,11 @@ bad_initializers r files s f (BadInitializer file section offset) there is bad =
   s,
   there,
   subst (λ (b : List ℕ). IsBadSection r b s.file s.section (BadInitializer file section offset)) (sym
-      (view_bytes Initializers files s f is)) bad,
+      (view_bytes files s f is)) bad,
 )
 bad_initializers r files s f (BadUnwind file section e rule) there is bad = bad
 bad_initializers r files s f OutOfMemory there is bad = tt
 
-pub more_initializers : (files : List (Option FileBytes)) (refs : List SectionRef) (i : ℕ) (f : FileBytes)
-    (rows next : List Initializer) → i < length refs
-    → Some f ≡ get_or files (at refs i).file None → rows ≡ flat_map (initializers_at files) (take i refs)
-    → next ≡ rows ++ slot_rows f.bytes (at refs i).file (at refs i).section ((section_at f.bytes (at refs i).section).size / 8)
-    → next ≡ flat_map (initializers_at files) (take (i + 1) refs)
-more_initializers files refs i f rows next lt is so_far added =
-    added ∙ ap (λ (b : List ℕ). rows ++ slot_rows b (at refs i).file (at refs i).section ((section_at b (at refs i).section).size / 8))
-    (sym (view_bytes Initializers files (at refs i) f is))
-    ∙ joined_more (initializers_at files) refs i (at refs i) rows lt (is_at refs i lt) so_far
-
-pub more_fit : (r : ResolvedRows) (files : List (Option FileBytes)) (refs : List SectionRef) (i : ℕ) (f : FileBytes) → i < length refs
-    → Some f ≡ get_or files (at refs i).file None → All (FitsAt r files) (take i refs)
-    → SectionFits r f.bytes (at refs i).file (at refs i).section
-    → All (FitsAt r files) (take (i + 1) refs)
-more_fit r files refs i f lt is so_far fits =
-    all_more (FitsAt r files) refs i (at refs i) lt (is_at refs i lt) so_far
-    (subst (λ (b : List ℕ). SectionFits r b (at refs i).file (at refs i).section) (sym (view_bytes Initializers files (at refs i) f is)) fits)
-
--- and its entries
 pub bad_entries : (r : ResolvedRows) (files : List (Option FileBytes)) (s : SectionRef) (f : FileBytes) (fault : ConsumedFault)
     → Contains (all_of Entries files) s
     → Some f ≡ get_or files s.file None → IsBadUnwind r f.bytes s.file s.section fault → IsBadRuleAt r files fault
@@ -140,24 +135,6 @@ bad_entries r files s f (BadUnwind file section e rule) there is bad = (
   s,
   there,
   subst (λ (b : List ℕ). IsBadUnwind r b s.file s.section (BadUnwind file section e rule)) (sym
-      (view_bytes Entries files s f is)) bad,
+      (view_bytes files s f is)) bad,
 )
 bad_entries r files s f OutOfMemory there is bad = tt
-
-pub more_entries : (files : List (Option FileBytes)) (refs : List SectionRef) (i : ℕ) (f : FileBytes) (rows next : List UnwindEntry)
-    → i < length refs
-    → Some f ≡ get_or files (at refs i).file None → rows ≡ flat_map (entries_at files) (take i refs)
-    → next ≡ rows ++ rows_in f.bytes (at refs i).file (at refs i).section ((section_at f.bytes (at refs i).section).size / 32)
-    → next ≡ flat_map (entries_at files) (take (i + 1) refs)
-more_entries files refs i f rows next lt is so_far added =
-    added ∙ ap (λ (b : List ℕ). rows ++ rows_in b (at refs i).file (at refs i).section ((section_at b (at refs i).section).size / 32))
-    (sym (view_bytes Entries files (at refs i) f is))
-    ∙ joined_more (entries_at files) refs i (at refs i) rows lt (is_at refs i lt) so_far
-
-pub more_keep : (r : ResolvedRows) (files : List (Option FileBytes)) (refs : List SectionRef) (i : ℕ) (f : FileBytes) → i < length refs
-    → Some f ≡ get_or files (at refs i).file None → All (KeepsAt r files) (take i refs)
-    → SectionKeeps r f.bytes (at refs i).file (at refs i).section
-    → All (KeepsAt r files) (take (i + 1) refs)
-more_keep r files refs i f lt is so_far fits =
-    all_more (KeepsAt r files) refs i (at refs i) lt (is_at refs i lt) so_far
-    (subst (λ (b : List ℕ). SectionKeeps r b (at refs i).file (at refs i).section) (sym (view_bytes Entries files (at refs i) f is)) fits)

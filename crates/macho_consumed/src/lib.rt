@@ -34,3 +34,4 @@ pub use places::is_plain_pointer;
 pub use reading::{read_entries, read_initializers};
 pub use room::{RoomFault, unwind_room};
 pub use rows::{Initializer, PersonalityUse, SectionPlace, UnwindEntry};
+pub use targets::is_section_target;

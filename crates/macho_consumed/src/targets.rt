@@ -11,7 +11,7 @@ use macho_model::Target;
 use macho_symbols::Resolved;
 
 /// Whether a target is a place in a carried section.
-fn is_section_target(target: Target) -> bool
+pub fn is_section_target(target: Target) -> bool
     ensures { result ≡ is_section_target target }
 {
     match target {

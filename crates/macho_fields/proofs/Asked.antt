@@ -26,7 +26,7 @@ use Rattle.macho_model.proofs.EachBelow.{true_or_false, and_left, and_right}
 use Rattle.macho_fixups.specs.declared.words.FixupKind.TheVariants.{Rebase, Bind}
 use Rattle.macho_parts.specs.FixupsSay.{kind_for}
 use Rattle.macho_fields.specs.Looks.{Look, TellsAddresses, Tells, IsThere, IsFound}
-use Rattle.macho_fields.specs.steps.Fields.{kind_in, in_template, is_pointer_kind, is_absolute, asks, fixup_value, is_encodable, kind_asked, may_stand, start_of}
+use Rattle.macho_fields.specs.steps.Fields.{kind_in, in_template, is_pointer_kind, asks, fixup_value, is_encodable, kind_asked, may_stand, start_of}
 use Rattle.macho_fields.proofs.Placing.{address_told}
 use Rattle.macho_fields.proofs.Saying.{IsStart}
 
@@ -41,14 +41,6 @@ pointer_same f SlotPage e = rw e refl
 pointer_same f SlotOffset e = rw e refl
 pointer_same f SlotDistance e = rw e refl
 pointer_same f NoKind e = rw e refl
-
-absolute_same : (t : Target) → is_absolute_target t ≡ is_absolute t
-absolute_same (target.Section file section offset) = refl
-absolute_same (target.Common id) = refl
-absolute_same (target.Import id) = refl
-absolute_same target.Base = refl
-absolute_same (target.Absolute value) = refl
-absolute_same target.None = refl
 
 -- a target that is placed lies in the template as it is told
 template_same : (l : Link) (p : Placed) (look : Look) (t : Target) → Tells l p look → IsThere p t → is_in_template l t ≡ in_template look t
@@ -96,28 +88,26 @@ asks_same l p look descriptors s f tells there is = by (is_pointer_kind (kind_in
     by : (b : Bool) → is_pointer_kind (kind_in f) ≡ b → needs_fixup l s f ≡ asks descriptors look f
     by true pointer =
         ap (λ (b : Bool). b && not (is_absolute_target f.target) && not (is_template_offset l s f)) (pointer_same f (kind_in f) refl)
-        ∙ ap (λ (b : Bool). (f.width == 8) && is_pointer_kind (kind_in f) && not b && not (is_template_offset l s f))
-        (absolute_same f.target)
-        ∙ ap (λ (b : Bool). (f.width == 8) && is_pointer_kind (kind_in f) && not (is_absolute f.target) && not b)
+        ∙ ap (λ (b : Bool). (f.width == 8) && is_pointer_kind (kind_in f) && not (is_absolute_target f.target) && not b)
         (offset_same l p look descriptors s f tells (there (pointer_only (kind_in f) pointer)) is)
     by false other =
         ap (λ (b : Bool). b && not (is_absolute_target f.target) && not (is_template_offset l s f))
         (pointer_same f (kind_in f) refl ∙ ap (λ (b : Bool). (f.width == 8) && b) other)
         ∙ none_other (f.width == 8) (not (is_absolute_target f.target)) (not (is_template_offset l s f))
-        ∙ sym (none_other (f.width == 8) (not (is_absolute f.target)) (not (descriptors && in_template look f.target)))
-        ∙ ap (λ (b : Bool). (f.width == 8) && b && not (is_absolute f.target) && not (descriptors && in_template look f.target)) (sym other)
+        ∙ sym (none_other (f.width == 8) (not (is_absolute_target f.target)) (not (descriptors && in_template look f.target)))
+        ∙ ap (λ (b : Bool). (f.width == 8) && b && not (is_absolute_target f.target) && not (descriptors && in_template look f.target)) (sym other)
 
 pub asked_kind : (look : Look) (descriptors : Bool) (f : Field) → asks descriptors look f ≡ true → kind_in f ≡ Pointer
 asked_kind look descriptors f h =
     let pointer = (f.width == 8) && is_pointer_kind (kind_in f) in
-    let moves = not (is_absolute f.target) in
+    let moves = not (is_absolute_target f.target) in
     pointer_only (kind_in f)
     (and_right (f.width == 8) (is_pointer_kind (kind_in f)) (and_left pointer moves
     (and_left (pointer && moves) (not (descriptors && in_template look f.target)) h)))
 
 -- a pointer that isn't asked for is to no import, and counts from where it should
 plain_target : (look : Look) (descriptors : Bool) (w : ℕ) (t : Target) → w ≡ 8
-    → ((w == 8) && true && not (is_absolute t) && not (descriptors && in_template look t)) ≡ false → is_import t ≡ false
+    → ((w == 8) && true && not (is_absolute_target t) && not (descriptors && in_template look t)) ≡ false → is_import t ≡ false
 plain_target look descriptors w (target.Section file section offset) eight h = refl
 plain_target look descriptors w (target.Common id) eight h = refl
 plain_target look descriptors w target.Base eight h = refl
@@ -132,7 +122,7 @@ pub unasked_target : (look : Look) (descriptors : Bool) (f : Field) → f.width 
     → is_import f.target ≡ false
 unasked_target look descriptors f eight pointer h =
     plain_target look descriptors f.width f.target eight (sym
-    (ap (λ (k : Kind). (f.width == 8) && is_pointer_kind k && not (is_absolute f.target) && not
+    (ap (λ (k : Kind). (f.width == 8) && is_pointer_kind k && not (is_absolute_target f.target) && not
     (descriptors && in_template look f.target)) pointer)
     ∙ h)
 

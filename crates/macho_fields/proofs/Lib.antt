@@ -11,7 +11,6 @@ pub mod One
 pub mod Steps
 pub mod Ends
 pub mod Still
-pub mod Tried
 pub mod Nexts
 pub mod Through
 pub mod Leading

@@ -1,5 +1,6 @@
 -- Why a section, a stub or a slot isn't filled, and when that stands for a placement of a link.
 use Rattle.std.specs.Prelude.{◌≡◌, ℕ, true, Some}
+use Rattle.macho_model.specs.declared.targets.Site.{Site}
 use Rattle.macho_model.specs.declared.targets.Site.TheVariants as site
 use Rattle.macho_model.specs.declared.placed.PlacedSection.{PlacedSection}
 use Rattle.macho_model.specs.Links.{Link}
@@ -29,3 +30,9 @@ pub record NoneStandsIn (l : Link) (p : Placed) (q : PlacedSection) : Type 0 whe
   pub range : (r : ℕ) → BadRange l p (site.Field q.file q.section r) → ⊥
   pub rebase : (r : ℕ) → BadRebase l p (site.Field q.file q.section r) → ⊥
   pub place : (r : ℕ) → IsBadPlace l p q.file q.section r → ⊥
+
+-- No such fault stands at all: no value is out of the range of its field or stub, each word that the loader writes can say its value, and has a place.
+pub record NoneIsBad (l : Link) (p : Placed) : Type 0 where
+  pub range : (at : Site) → BadRange l p at → ⊥
+  pub rebase : (at : Site) → BadRebase l p at → ⊥
+  pub place : (file section relocation : ℕ) → IsBadPlace l p file section relocation → ⊥

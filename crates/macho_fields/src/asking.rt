@@ -2,8 +2,9 @@
 ghost use Rattle.std.specs.Prelude.{◌≡◌, ◌-◌, ◌==◌, ◌&&◌, nat_le, if◌then◌else◌};
 ghost use Rattle.macho_bytes.specs.Numbers.{bits};
 ghost use Rattle.macho_model.specs.Fixups.{has_room};
+ghost use Rattle.macho_model.specs.Values.{is_absolute_target};
 ghost use Rattle.macho_fixups.specs.declared.words.FixupKind.TheVariants.{Bind};
-ghost use Rattle.macho_fields.specs.steps.Fields.{seen, asks, in_template, is_absolute, fixup_asked, may_stand};
+ghost use Rattle.macho_fields.specs.steps.Fields.{seen, asks, in_template, fixup_asked, may_stand};
 
 use crate::field::Field;
 use crate::kinds::{FieldKind, kind_of};
@@ -36,7 +37,7 @@ pub(crate) fn is_in_template<P: Places>(places: &P, target: Target) -> bool
 }
 
 fn is_absolute(target: Target) -> bool
-    ensures { result ≡ is_absolute target }
+    ensures { result ≡ is_absolute_target target }
 {
     match target {
         Target::Absolute { value: _ } => true,

@@ -12,7 +12,6 @@ ghost use Rattle.macho_fields.specs.steps.Filled.{IsSource, IsStopped};
 use crate::asking::asks;
 use crate::fault::FillFault;
 use crate::field::{Field, near_at, read_field};
-use crate::kinds::is_prefix;
 use crate::making::{fault_of, word_of, written_of};
 use crate::places::Places;
 use crate::section::Source;
@@ -48,9 +47,10 @@ fn lesser(told: FillFault, other: FillFault) -> FillFault
     }
 }
 
-/// Why a field can't be filled, None where it can.
+/// Why the field of a pointer or a difference can't be filled, None where it can.
 fn field_fault<P: Places>(places: &P, source: &Source<'_, '_>, field: &Field) -> Option<FillFault>
     requires low { source.now.place.address + field.now.offset < 2 ^ 64 }
+    requires number { field.now.r_type ≡ ARM64_RELOC_UNSIGNED }
     ensures { IfSome result (IsStopped (P.look places.now) source.now.descriptors source.now.place (seen field.now) source.now.bytes.now) }
 {
     if asks(places, field, source.descriptors) {
@@ -76,9 +76,6 @@ fn relocation_fault<P: Places>(places: &P, source: &Source<'_, '_>, index: u32) 
         → IfSome result (FillStands l p) }
 {
     let near = near_at(source.list, index);
-    if is_prefix(near.relocation.r_type) {
-        return None;
-    }
     if near.relocation.r_type != ARM64_RELOC_UNSIGNED {
         return None;
     }

@@ -1,7 +1,7 @@
 //! Writing a value to a field.
 ghost use Rattle.std.specs.Prelude.{◌≡◌, ◌+◌, ◌≤◌, true, false, length, OnOk, OnErr, IfErr, IfSome, MatchOption};
 ghost use Rattle.macho_arm64.specs.Fields.{width_of, is_field};
-ghost use Rattle.macho_fields.specs.steps.Writes.{IsReady, ChangesOnly, IsPut, HasField, CannotPut, at_start};
+ghost use Rattle.macho_fields.specs.steps.Writes.{IsReady, ChangesOnly, IsPut, HasField, CannotPut, IsNumber};
 
 use macho_arm64::{FieldSize, Relaxation, fits_instruction, write_field};
 use macho_numbers::Number;
@@ -89,29 +89,17 @@ pub(crate) fn put_field(write: &FieldWrite, out: &mut [u8]) -> Result<(), WriteF
 /// The bytes of the widest field.
 const WIDEST: usize = 8;
 
-/// Tries to write a value to a copy of its field's bytes.
-fn try_field(write: &FieldWrite, bytes: &[u8], copy: &mut [u8]) -> Option<WriteFault>
-    requires { length copy.old ≡ length bytes.now }
-    ensures { IfSome result (CannotPut (at_start write.now) bytes.now) }
-{
-    copy.copy_from_slice(bytes);
-    match put_field(&FieldWrite { at: 0, ..*write }, copy) {
-        Ok(()) => None,
-        Err(fault) => Some(fault),
-    }
-}
-
-/// Why a value can't be written to its field in some bytes, None where it can. These are left as they are.
+/// Why a number can't be written to a field of bytes, None where it can. It is tried on other bytes: whether it fits rests on the
+/// field's width alone.
 pub(crate) fn write_fault(write: &FieldWrite, bytes: &[u8]) -> Option<WriteFault>
+    requires { IsNumber write.now }
     ensures { IfSome result (CannotPut write.now bytes.now) }
 {
-    let Some(width) = width_of(write.size) else {
-        return Some(WriteFault::NoWord);
-    };
     if !has_room(write, bytes.len()) {
         return Some(WriteFault::NoWord);
     }
-    let at = write.at as usize;
-    let mut copy = [0; WIDEST];
-    try_field(write, &bytes[at..at + width], &mut copy[..width])
+    match write_field(write.size, &mut [0; WIDEST], 0, write.value) {
+        Ok(()) => None,
+        Err(_) => Some(WriteFault::Range),
+    }
 }

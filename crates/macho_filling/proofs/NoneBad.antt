@@ -10,9 +10,8 @@ use Rattle.macho_model.specs.declared.targets.Site.TheVariants as site
 use Rattle.macho_model.specs.Links.{Link, SectionId, carried_of}
 use Rattle.macho_model.specs.Placement.{Placed, id_of}
 use Rattle.macho_model.specs.Values.{section_id, BadRange, BadRebase}
-use Rattle.macho_fields.specs.Faults.{IsBadPlace, NoneStandsIn}
+use Rattle.macho_fields.specs.Faults.{IsBadPlace, NoneStandsIn, NoneIsBad}
 use Rattle.macho_fields.specs.Through.{NoStubIsFar, EachSlotFits}
-use Rattle.macho_filling.specs.Filled.{NoneIsBad}
 
 pub none_is_bad : (l : Link) (p : Placed) → map id_of p.sections ≡ carried_of l → EachSlotFits l p
     → All (NoneStandsIn l p) p.sections → NoStubIsFar l p

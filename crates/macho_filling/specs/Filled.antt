@@ -1,16 +1,13 @@
--- What is filled: sections and stubs as parts of the file, each at its place; and that nothing stands against them.
+-- What is filled: sections and stubs as parts of the file, each at its place.
 use Rattle.std.specs.Prelude.{◌≡◌, ℕ, ◌≤◌, List, [], ◌∷◌, length}
 use Rattle.macho_bytes.specs.Texts.{Part, end_of}
 use Rattle.macho_model.specs.declared.placed.PlacedSection.{PlacedSection}
 use Rattle.macho_model.specs.declared.placed.Stub.{Stub}
-use Rattle.macho_model.specs.declared.targets.Site.{Site}
 use Rattle.macho_model.specs.Links.{Link}
 use Rattle.macho_model.specs.Placement.{Placed}
 use Rattle.macho_model.specs.Addresses.{offset_in_file}
 use Rattle.macho_model.specs.Zeros.{filled_sections}
-use Rattle.macho_model.specs.Values.{BadRange, BadRebase}
 use Rattle.macho_parts.specs.Filled.{IsFilled, StubIsSet}
-use Rattle.macho_fields.specs.Faults.{IsBadPlace}
 use Rattle.macho_ranges.specs.Parts.{written}
 
 -- parts are those of some things, one by one
@@ -50,9 +47,3 @@ pub record ContentsAreFilled (l : Link) (p : Placed) (old new : List ℕ) : Type
   pub sections : SectionsAreFilled l p old between
   pub long : length between ≡ length old
   pub stubs : StubsAreFilled p between new
-
--- No value is out of the range of its field or stub, each word that the loader writes can say its value, and has a place.
-pub record NoneIsBad (l : Link) (p : Placed) : Type 0 where
-  pub range : (at : Site) → BadRange l p at → ⊥
-  pub rebase : (at : Site) → BadRebase l p at → ⊥
-  pub place : (file section relocation : ℕ) → IsBadPlace l p file section relocation → ⊥

@@ -3,11 +3,11 @@ ghost use Rattle.std.specs.Prelude.{◌≡◌, ◌^◌, ◌<◌, ◌++◌, lengt
 ghost use Rattle.macho_model.specs.Links.{Link};
 ghost use Rattle.macho_layout.specs.Placements.{placed_of};
 ghost use Rattle.macho_parts.specs.Asked.{fixups_asked};
-ghost use Rattle.macho_fields.specs.Faults.{FillStands};
+ghost use Rattle.macho_fields.specs.Faults.{FillStands, NoneIsBad};
 ghost use Rattle.macho_fields.specs.Looks.{TellsAddresses};
 ghost use Rattle.macho_fields.specs.Through.{StubsAreFound, NoStubIsFar};
 ghost use Rattle.macho_filling.specs.Fitting.{SectionsFit, StubsFit, AreKnown, AreAllToFill};
-ghost use Rattle.macho_filling.specs.Filled.{StubsAreFilled, ContentsAreFilled, NoneIsBad};
+ghost use Rattle.macho_filling.specs.Filled.{StubsAreFilled, ContentsAreFilled};
 
 use crate::least::least_fault;
 use crate::sections::fill_sections;

@@ -163,15 +163,9 @@ answered l uuid written sized read libraries imports h told image bytes placemen
     unrefused = clear_is_unrefused l sized.counts (placed_of sized.placement) (record {
       single = h.single;
       fit = h.read_is.fit;
-      limits = record {
-        numbers = h.made.sizes.sizes.limits.numbers;
-        pages = h.made.sizes.sizes.limits.pages;
-        sum = h.made.sizes.sizes.limits.sum;
-        files = h.made.sizes.sizes.limits.files;
-        ranges = h.made.sizes.sizes.limits.ranges;
-        written = h.made.image.near;
-      };
-      values = record { range = h.made.image.good.range; rebase = h.made.image.good.rebase; place = h.made.image.good.place };
+      limits = h.made.sizes.sizes.limits;
+      written = h.made.image.near;
+      values = h.made.image.good;
       name = h.name;
     });
   });

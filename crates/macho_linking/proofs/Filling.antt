@@ -17,7 +17,8 @@ use Rattle.macho_fixups.specs.Chains.{HaveRoom}
 use Rattle.macho_promise.specs.FixupsSay.{fixup_segments}
 use Rattle.macho_parts.specs.Asked.{fixups_asked}
 use Rattle.macho_composed.proofs.Segments.{words_room}
-use Rattle.macho_composed.specs.Filled.{ContentsAreFilled, NoneIsBad}
+use Rattle.macho_composed.specs.Filled.{ContentsAreFilled}
+use Rattle.macho_fields.specs.Faults.{NoneIsBad}
 use Rattle.macho_composed.specs.Chaining.{IsToChain, IsChained}
 use Rattle.macho_composed.specs.Written.{AreContents}
 use Rattle.macho_linking.specs.declared.planned.Planned.{Planned}

@@ -10,7 +10,7 @@ use Rattle.macho_model.specs.Placement.{Placed}
 use Rattle.macho_model.specs.Addresses.{offset_in_file}
 use Rattle.macho_model.specs.Limits.{LIMIT_32}
 use Rattle.macho_fixups.specs.declared.run.Fixup.{Fixup}
-use Rattle.macho_composed.specs.Filled.{NoneIsBad}
+use Rattle.macho_fields.specs.Faults.{NoneIsBad}
 use Rattle.macho_composed.proofs.Nothing.{nothing_passes}
 use Rattle.macho_composed.specs.Parts.{written}
 use Rattle.macho_composed.specs.Written.{AreContents, Texts, text_parts}

@@ -40,7 +40,7 @@ use Rattle.macho_composed.proofs.Files.{parts_stand}
 use Rattle.macho_composed.specs.Made.{IsToMake}
 use Rattle.macho_composed.specs.Places.{AreOfLink}
 use Rattle.macho_composed.specs.Chaining.{CanBeChained}
-use Rattle.macho_composed.specs.Filled.{NoneIsBad}
+use Rattle.macho_fields.specs.Faults.{NoneIsBad}
 use Rattle.macho_composed.specs.Fitting as fitting
 use Rattle.macho_composed.proofs.Fit.{sections_have_room, stubs_have_room, symbols_are_known}
 use Rattle.macho_tables.specs.Placed.{AddressesFit, IsToTable}

@@ -4,7 +4,6 @@ ghost use Rattle.std.specs.Option.{option_copied};
 ghost use Rattle.macho_model.specs.declared.placed.Counts.{Counts};
 ghost use Rattle.macho_model.specs.Links.{Input, Link};
 ghost use Rattle.macho_model.specs.Needs.{uses_of};
-ghost use Rattle.macho_model.specs.Consumed.{is_section_target};
 ghost use Rattle.macho_model.specs.Faults.{entry_is_defined};
 ghost use Rattle.macho_names.specs.Kept.{Keeps};
 ghost use Rattle.macho_symbols.specs.Kept.{IsResolved};
@@ -14,25 +13,11 @@ ghost use Rattle.macho_needs.specs.Noted.{IsNoted};
 ghost use Rattle.macho_reading.specs.Read.{entry_of};
 ghost use Rattle.macho_reading.specs.steps.Steps.{uses_before_names};
 
+use macho_consumed::is_section_target;
 use macho_faults::LinkError;
-use macho_model::Target;
 use macho_needs::Needs;
 use macho_symbols::{ExportList, Resolved};
 use std::alloc::Global;
-
-/// Whether a target is a place in a carried section.
-fn is_section(target: Target) -> bool
-    ensures { result ≡ is_section_target target }
-{
-    match target {
-        Target::Section { .. } => true,
-        Target::Common { .. }
-        | Target::Import { .. }
-        | Target::Base
-        | Target::Absolute { .. }
-        | Target::None => false,
-    }
-}
 
 /// Refuses an executable whose entry is not defined in a carried section.
 pub(crate) fn find_entry(
@@ -49,7 +34,7 @@ pub(crate) fn find_entry(
     let Some(name) = entry else {
         return Ok(());
     };
-    if is_section(symbols.definition(name)) {
+    if is_section_target(symbols.definition(name)) {
         return Ok(());
     }
     Err(LinkError::EntryNotDefined {

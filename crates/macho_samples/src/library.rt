@@ -54,18 +54,28 @@ fn id_bytes(alloc: Global, name: &str) -> Result<Vec<u8>, AllocError> {
     Ok(out)
 }
 
-/// The bytes of a dynamic library: a header, its install name and its symbol table.
+/// The bytes of a dynamic library that offers its names.
 pub fn dylib_bytes(alloc: Global, library: &Library<'_>) -> Result<Vec<u8>, AllocError> {
     let mut offered = Vec::new(alloc);
     add_symbols(&mut offered, library.names, 0)?;
     add_symbols(&mut offered, library.weak, 0x80)?;
-    let symbols = symbols_of(alloc, &offered)?;
-    let id = id_bytes(alloc, library.install_name)?;
+    dylib_with(alloc, library.install_name, &offered)
+}
+
+/// The bytes of a dynamic library with some symbols: a header, its install name and its symbol table.
+pub fn dylib_with(
+    alloc: Global,
+    install_name: &str,
+    symbols: &[Symbol<'_>],
+) -> Result<Vec<u8>, AllocError> {
+    let symbols = symbols_of(alloc, symbols)?;
+    let id = id_bytes(alloc, install_name)?;
     let commands = length(&id).saturating_add(SYMTAB_SIZE);
     let mut out = Vec::new(alloc);
     put_header(&mut out, DYLIB, 2, commands)?;
     out.extend_from_slice(&id)?;
-    put_symtab(&mut out, HEADER_SIZE.saturating_add(commands), &symbols)?;
+    let table = HEADER_SIZE.saturating_add(commands);
+    put_symtab(&mut out, table, &symbols.rows, &symbols.names)?;
     out.extend_from_slice(&symbols.rows)?;
     out.extend_from_slice(&symbols.names)?;
     Ok(out)

@@ -39,12 +39,23 @@ pub(crate) fn put_header(
     put_words(out, &[kind, commands, size, 0, 0])
 }
 
+/// The bytes of a symbol's row.
+const ROW_SIZE: u64 = 16;
+
 /// The symbols as they stand in a table, and their names.
 #[derive(Drop)]
 pub(crate) struct Symbols {
-    count: u64,
     pub(crate) rows: Vec<u8>,
     pub(crate) names: Vec<u8>,
+}
+
+/// Adds the row of a symbol whose name begins at the place in the string table.
+pub fn put_symbol(rows: &mut Vec<u8>, place: u64, symbol: &Symbol<'_>) -> Result<(), AllocError> {
+    put_words(rows, &[place])?;
+    rows.push(symbol.kind)?;
+    rows.push(symbol.section)?;
+    put_half(rows, symbol.description as u64)?;
+    put_longs(rows, &[symbol.value])
 }
 
 /// The table of the symbols.
@@ -57,33 +68,25 @@ pub(crate) fn symbols_of(alloc: Global, symbols: &[Symbol<'_>]) -> Result<Symbol
         } else {
             length(&names)
         };
-        put_words(&mut rows, &[place])?;
-        rows.push(symbol.kind)?;
-        rows.push(symbol.section)?;
-        put_half(&mut rows, symbol.description as u64)?;
-        put_longs(&mut rows, &[symbol.value])?;
+        put_symbol(&mut rows, place, symbol)?;
         if !symbol.name.is_empty() {
             names.extend_from_slice(symbol.name)?;
             names.push(0)?;
         }
     }
     pad(&mut names, 4)?;
-    Ok(Symbols {
-        count: symbols.len() as u64,
-        rows,
-        names,
-    })
+    Ok(Symbols { rows, names })
 }
 
-/// The command of a symbol table that begins at the place.
+/// The command of a symbol table that begins at the place, with the string table behind it.
 pub(crate) fn put_symtab(
     out: &mut Vec<u8>,
     place: u64,
-    symbols: &Symbols,
+    rows: &[u8],
+    names: &[u8],
 ) -> Result<(), AllocError> {
-    let names = place.saturating_add(length(&symbols.rows));
-    put_words(out, &[SYMTAB, SYMTAB_SIZE, place, symbols.count])?;
-    put_words(out, &[names, length(&symbols.names)])
+    put_words(out, &[SYMTAB, SYMTAB_SIZE, place, length(rows) / ROW_SIZE])?;
+    put_words(out, &[place.saturating_add(length(rows)), length(names)])
 }
 
 // How many bytes a section has, and how many of them stand in the file.
@@ -184,29 +187,38 @@ fn put_segment(
     Ok(())
 }
 
-/// The bytes of an object.
+/// The bytes of an object, whose names begin with a zero and are padded to four bytes.
+pub fn object_bytes(alloc: Global, object: &Object<'_>) -> Result<Vec<u8>, AllocError> {
+    let symbols = symbols_of(alloc, object.symbols)?;
+    object_with(alloc, object.sections, &symbols.rows, &symbols.names)
+}
+
+/// The bytes of an object with the rows of a symbol table, by [`put_symbol`], and a string table.
 ///
 /// Its two commands are the segment and the symbol table. The contents of the sections stand one behind the other, padded to eight
-/// bytes at their end; then the relocations of all sections, the symbols, and the names, which begin with a zero and are padded
-/// to four bytes.
-pub fn object_bytes(alloc: Global, object: &Object<'_>) -> Result<Vec<u8>, AllocError> {
-    let count = object.sections.len() as u64;
+/// bytes at their end; then the relocations of all sections, the symbols, and the names.
+pub fn object_with(
+    alloc: Global,
+    sections: &[Section<'_>],
+    rows: &[u8],
+    names: &[u8],
+) -> Result<Vec<u8>, AllocError> {
+    let count = sections.len() as u64;
     let commands = SEGMENT_SIZE
         .saturating_add(SECTION_SIZE.saturating_mul(count))
         .saturating_add(SYMTAB_SIZE);
     let content = HEADER_SIZE.saturating_add(commands);
-    let data = contents(alloc, object.sections)?;
-    let moved = relocations(alloc, object.sections)?;
-    let symbols = symbols_of(alloc, object.symbols)?;
+    let data = contents(alloc, sections)?;
+    let moved = relocations(alloc, sections)?;
     let behind = content.saturating_add(length(&data));
     let table = behind.saturating_add(length(&moved));
     let mut out = Vec::new(alloc);
     put_header(&mut out, OBJECT, 2, commands)?;
-    put_segment(&mut out, object.sections, content, behind)?;
-    put_symtab(&mut out, table, &symbols)?;
+    put_segment(&mut out, sections, content, behind)?;
+    put_symtab(&mut out, table, rows, names)?;
     out.extend_from_slice(&data)?;
     out.extend_from_slice(&moved)?;
-    out.extend_from_slice(&symbols.rows)?;
-    out.extend_from_slice(&symbols.names)?;
+    out.extend_from_slice(rows)?;
+    out.extend_from_slice(names)?;
     Ok(out)
 }

@@ -17,7 +17,7 @@ use Rattle.macho_linkedit.specs.declared.exports.NamedExport.{NamedExport}
 use Rattle.macho_linkedit.specs.Tries.{kept, AreKept}
 use Rattle.macho_linkedit.proofs.TrieSaid.{trie_size_is_kept}
 use Rattle.macho_sizing.specs.declared.numbers.Numbers.{Numbers}
-use Rattle.macho_sizing.specs.Sized.{LimitsHold}
+use Rattle.macho_sizes.specs.Limits.{LimitsHold}
 use Rattle.macho_sizing.specs.steps.Passing.{AreNumbers, AreSymbols, AreWithin}
 use Rattle.macho_sizing.specs.steps.Rooms.{IsAnswered, TellsRoom}
 use Rattle.macho_sizing.proofs.Larger.{sections_within, unwind_within}

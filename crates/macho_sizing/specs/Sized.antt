@@ -1,13 +1,10 @@
 -- What is promised of the sizes and the placement of a link.
-use Rattle.std.specs.Prelude.{◌≡◌, ℕ, ◌<◌, List, Some, None, Contains}
+use Rattle.std.specs.Prelude.{◌≡◌, List}
 use Rattle.macho_model.specs.declared.placed.Counts.{Counts}
-use Rattle.macho_model.specs.declared.placed.PlacedSegment.{PlacedSegment}
-use Rattle.macho_model.specs.declared.placed.Range64.{Range64}
-use Rattle.macho_model.specs.declared.targets.Limit.{Limit}
 use Rattle.macho_model.specs.Links.{Link}
-use Rattle.macho_model.specs.Placement.{Placed, linkedit_ranges}
-use Rattle.macho_model.specs.Limits.{PassesLimit, IsTooLarge, LIMIT_32}
+use Rattle.macho_model.specs.Placement.{Placed}
 use Rattle.macho_promise.specs.Sizes.{AreCounts}
+use Rattle.macho_sizes.specs.Limits.{LimitsHold}
 use Rattle.macho_layout.specs.Placements.{placed_of}
 use Rattle.macho_layout.specs.Plans.{Planning, IsPlanOf}
 use Rattle.macho_layout.specs.Sums.{FitsLimits}
@@ -17,15 +14,6 @@ use Rattle.macho_linkedit.specs.declared.exports.NamedExport.{NamedExport}
 use Rattle.macho_linkedit.specs.Listing.{AreListed}
 use Rattle.macho_linkedit.specs.Tries.{IsReserved}
 use Rattle.macho_sizing.specs.declared.asked.SizedLink.{SizedLink}
-
--- No number passes a limit, and no file offset or size of the placement passes 32 bits. What is left that an image may be too
--- large by are the offsets of initializers and of unwind entries.
-pub record LimitsHold (l : Link) (counts : Counts) (p : Placed) : Type 0 where
-  pub numbers : (what : Limit) (number : ℕ) → PassesLimit l counts what number None → ⊥
-  pub pages : (what : Limit) (number : ℕ) → PassesLimit l counts what number (Some p) → ⊥
-  pub sum : IsTooLarge l counts None → ⊥
-  pub files : (s : PlacedSegment) → Contains p.segments s → (s.file_offset < LIMIT_32) × (s.file_size < LIMIT_32)
-  pub ranges : (r : Range64) → Contains (linkedit_ranges p) r → r.end < LIMIT_32
 
 -- The placement is laid out of a plan of the link.
 pub record IsPlannedBy (l : Link) (counts : Counts) (p : Placed) : Type 0 where

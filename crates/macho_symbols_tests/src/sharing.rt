@@ -1,6 +1,7 @@
 //! Many symbols that share a long name, or the tails of one: each is looked for in a time that doesn't grow with the name.
-use crate::objects::{Symbol, object_of, push_entry, resolve, target};
+use crate::objects::{Symbol, resolve, target};
 use macho_object::File;
+use macho_samples::{MAIN_OBJECT, object_with, put_symbol};
 use macho_symbols::Target;
 use std::alloc::{AllocError, Global};
 use std::test::Fail;
@@ -20,24 +21,24 @@ const LOCAL: Symbol = Symbol(b"", 0x0e, 1, 0, 8);
 
 /// An object with one string. Its symbols are a definition, and uses and local symbols by turns; each is named by the string
 /// so many bytes further on than the one before.
-fn sharing(alloc: Global, step: usize) -> Result<Vec<u8>, AllocError> {
+fn sharing(alloc: Global, step: u64) -> Result<Vec<u8>, AllocError> {
     let mut names = vec![in alloc; b'x'; LENGTH + 2]?;
     for end in [0, LENGTH + 1] {
         if let Some(byte) = names.get_mut(end) {
             *byte = 0;
         }
     }
-    let mut entries = Vec::new(alloc);
-    let mut at = 1usize;
+    let mut rows = Vec::new(alloc);
+    let mut at = 1u64;
     for k in 0..SYMBOLS {
         let symbol = match k % 2 {
             0 => { if k == 0 { DEFINED } else { LOCAL } }
             _ => USED,
         };
-        push_entry(&mut entries, at, symbol)?;
+        put_symbol(&mut rows, at, &symbol.told())?;
         at = at.saturating_add(step);
     }
-    object_of(alloc, &entries, &names)
+    object_with(alloc, MAIN_OBJECT.sections, &rows, &names)
 }
 
 /// Where a place in the object's section leads.

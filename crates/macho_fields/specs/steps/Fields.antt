@@ -16,7 +16,7 @@ use Rattle.macho_fields.specs.declared.field.Near.{Near}
 use Rattle.macho_model.specs.Fields as model
 use Rattle.macho_model.specs.Meaning.{address}
 use Rattle.macho_model.specs.Stands.{Kind, Pointer, Difference, Branch, Page, Offset, SlotPage, SlotOffset, SlotDistance, NoKind, kind_of}
-use Rattle.macho_model.specs.Values.{less}
+use Rattle.macho_model.specs.Values.{less, is_absolute_target}
 use Rattle.macho_arm64.specs.Laws.{size_for}
 use Rattle.macho_fields.specs.declared.kinds.FieldKind.{FieldKind}
 use Rattle.macho_fields.specs.declared.kinds.FieldKind.TheVariants as kind
@@ -168,13 +168,9 @@ abbrev pub is_pointer_kind : Kind → Bool
 is_pointer_kind Pointer = true
 is_pointer_kind kind = false
 
-abbrev pub is_absolute : Target → Bool
-is_absolute (target.Absolute value) = true
-is_absolute t = false
-
 abbrev pub asks : Bool → Look → model.Field → Bool
 asks descriptors look f =
-    (f.width == 8) && is_pointer_kind (kind_in f) && not (is_absolute f.target) && not (descriptors && in_template look f.target)
+    (f.width == 8) && is_pointer_kind (kind_in f) && not (is_absolute_target f.target) && not (descriptors && in_template look f.target)
 
 -- the value of a fixup, whether a chain word has room for it, and what the word is asked to become
 abbrev pub fixup_value : Look → Target → ℕ → ℕ

@@ -1,7 +1,7 @@
 -- A value that is written to a field: what its bytes become, and when it can't be written.
 use Rattle.std.specs.Prelude.{◌≡◌, ℕ, ◌+◌, ◌≤◌, ◌⊎◌, true, false, List, length, slice_index}
 use Rattle.macho_bytes.specs.Numbers.{le_at}
-use Rattle.macho_arm64.specs.declared.kinds.FieldSize.TheVariants.{Low12}
+use Rattle.macho_arm64.specs.declared.kinds.FieldSize.TheVariants.{Bytes, Low12}
 use Rattle.macho_arm64.specs.Fields.{width_of, field_at, is_field, fits_word, can_hold, Holds}
 use Rattle.macho_arm64.specs.Relaxations.{is_relaxable, IsMadeAdd}
 use Rattle.macho_fields.specs.declared.write.FieldWrite.{FieldWrite}
@@ -45,6 +45,8 @@ abbrev pub CannotPut : FieldWrite → List ℕ → WriteFault → Type 0
 CannotPut w old NoWord = HasField w old → ⊥
 CannotPut w old Range = DoesNotHold w old
 
--- the same of bytes that begin with the field
-abbrev pub at_start : FieldWrite → FieldWrite
-at_start w = record { at = 0; size = w.size; relax = w.relax; value = w.value }
+-- A number is written to bytes, and no instruction is changed.
+pub record IsNumber (w : FieldWrite) : Type 0 where
+  pub width : ℕ
+  pub bytes : w.size ≡ Bytes width
+  pub plain : w.relax ≡ false

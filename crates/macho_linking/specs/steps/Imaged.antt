@@ -16,7 +16,7 @@ use Rattle.macho_faults.specs.declared.fault.LinkError.{LinkError}
 use Rattle.macho_faults.specs.Standing.{Stands}
 use Rattle.macho_exports.specs.Entries.{ListEntries}
 use Rattle.macho_symbols.specs.Exported.{AreLists}
-use Rattle.macho_composed.specs.Filled.{NoneIsBad}
+use Rattle.macho_fields.specs.Faults.{NoneIsBad}
 use Rattle.macho_model.specs.Grammar.{ObjectsAreRead}
 use Rattle.macho_composed.specs.Names.{StubsArePlain}
 use Rattle.macho_linkedit.specs.declared.exports.NamedExport.{NamedExport}

@@ -1,7 +1,9 @@
-use Rattle.std.proofs.Common.{◌∙◌}
+use Rattle.std.proofs.Common.{◌∙◌, ◌/◌}
 use Rattle.std.proofs.lemmas.Result.{err_from_is_err_and}
+use Rattle.macho_model.specs.Objects.{section_at}
 use Rattle.macho_consumed.specs.declared.listing.Kind.TheVariants.{Entries}
-use Rattle.macho_consumed.proofs.InAll.{next_at, no_view, view_section, bad_entries, more_entries, more_keep}
+use Rattle.macho_consumed.specs.steps.Entries.{SectionKeeps, rows_in}
+use Rattle.macho_consumed.proofs.InAll.{next_at, no_view, view_section, bad_entries, more_rows, more_hold}
 use Rattle.macho_consumed.proofs.ReadInitializers.{all_named}
 use Rattle.macho_consumed.proofs.gathering.gather_entries.Goals as goal
 
@@ -29,6 +31,8 @@ returns-in_err-add_entries-clause-why c =
 
 pub loop-at-preserved : goal.loop-at-preserved
 loop-at-preserved c = record {
-  rows = more_entries _ _ _ _ _ _ c.loop-at-test.true c.in-Some.ensures c.loop-at.invariant.rows c.in_ok-add_entries.ensures.added;
-  fit = more_keep _ _ _ _ _ c.loop-at-test.true c.in-Some.ensures c.loop-at.invariant.fit c.in_ok-add_entries.ensures.found;
+  rows = more_rows (λ b s. rows_in b s.file s.section ((section_at b s.section).size / 32)) _ _ _ _ _ _ c.loop-at-test.true
+      c.in-Some.ensures c.loop-at.invariant.rows c.in_ok-add_entries.ensures.added;
+  fit = more_hold (λ b s. SectionKeeps c.args.symbols.now b s.file s.section) _ _ _ _ c.loop-at-test.true c.in-Some.ensures
+      c.loop-at.invariant.fit c.in_ok-add_entries.ensures.found;
 }

@@ -1,7 +1,9 @@
-use Rattle.std.proofs.Common.{◌∙◌}
+use Rattle.std.proofs.Common.{◌∙◌, ◌/◌}
 use Rattle.std.proofs.lemmas.Result.{err_from_is_err_and}
+use Rattle.macho_model.specs.Objects.{section_at}
 use Rattle.macho_consumed.specs.declared.listing.Kind.TheVariants.{Initializers}
-use Rattle.macho_consumed.proofs.InAll.{next_at, no_view, view_section, bad_initializers, more_initializers, more_fit}
+use Rattle.macho_consumed.specs.steps.Slots.{SectionFits, slot_rows}
+use Rattle.macho_consumed.proofs.InAll.{next_at, no_view, view_section, bad_initializers, more_rows, more_hold}
 use Rattle.macho_consumed.proofs.ReadInitializers.{all_named}
 use Rattle.macho_consumed.proofs.gathering.gather_initializers.Goals as goal
 
@@ -29,6 +31,8 @@ returns-in_err-add_initializers-clause-why c =
 
 pub loop-at-preserved : goal.loop-at-preserved
 loop-at-preserved c = record {
-  rows = more_initializers _ _ _ _ _ _ c.loop-at-test.true c.in-Some.ensures c.loop-at.invariant.rows c.in_ok-add_initializers.ensures.added;
-  fit = more_fit _ _ _ _ _ c.loop-at-test.true c.in-Some.ensures c.loop-at.invariant.fit c.in_ok-add_initializers.ensures.found;
+  rows = more_rows (λ b s. slot_rows b s.file s.section ((section_at b s.section).size / 8)) _ _ _ _ _ _ c.loop-at-test.true
+      c.in-Some.ensures c.loop-at.invariant.rows c.in_ok-add_initializers.ensures.added;
+  fit = more_hold (λ b s. SectionFits c.args.symbols.now b s.file s.section) _ _ _ _ c.loop-at-test.true c.in-Some.ensures
+      c.loop-at.invariant.fit c.in_ok-add_initializers.ensures.found;
 }

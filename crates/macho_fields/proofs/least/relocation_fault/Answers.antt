@@ -1,5 +1,7 @@
-use Rattle.std.proofs.Common.{sym, ◌∙◌}
+-- A pointer's relocation is no part of another one's field.
+use Rattle.std.proofs.Common.{ℕ, ap}
 use Rattle.std.proofs.lemmas.Option.{IfSome_then}
+use Rattle.macho_model.specs.Fields.{is_prefix_type}
 use Rattle.macho_fields.proofs.Nexts.{one_alone}
 use Rattle.macho_fields.proofs.least.relocation_fault.Goals as goal
 
@@ -8,4 +10,4 @@ returns g c =
     λ l p fill. IfSome_then c.field_fault.result c.field_fault.ensures
     (λ fault stopped. one_alone l p (g.P.Places.look c.args.places.now) c.args.source.now c.args.index c.near_at-near.result
     c.read_field-field.result fault c.requires.source fill c.requires.index c.near_at-near.ensures c.read_field-field.ensures
-    (sym c.is_prefix.ensures ∙ c.if-is_prefix.false) stopped)
+    (ap (λ (type : ℕ). is_prefix_type type) c.if-near-ne-ARM64_RELOC_UNSIGNED.false) stopped)

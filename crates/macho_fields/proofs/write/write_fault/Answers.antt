@@ -1,25 +1,20 @@
--- The copy has the field's bytes.
-use Rattle.std.proofs.Common.{◌≡◌, ℕ, ◌+◌, ◌≤◌, true, length, ap, ◌∙◌, arith, rules}
-use Rattle.std.specs.Prelude.{slice_range}
-use Rattle.std.proofs.lemmas.List.Edits.{length-between}
-use Rattle.std.proofs.lemmas.Option.{IfSome_then}
+-- Whether a number fits rests on its field's width alone, so it doesn't fit in the section's bytes either.
+use Rattle.std.proofs.Common.{◌≡◌, ℕ, false, List, refl, sym, ap, ◌∙◌}
+use Rattle.std.proofs.lemmas.Bool.{true≢false}
 use Rattle.macho_bytes.specs.Numbers.{le_at}
-use Rattle.macho_bytes.proofs.Reading.{le_at-between}
-use Rattle.macho_arm64.specs.Fields.{width_of, is_field}
-use Rattle.macho_fields.proofs.Puts.{field_is_wide}
-use Rattle.macho_fields.proofs.Tried.{put_tried}
+use Rattle.macho_arm64.specs.declared.kinds.FieldSize.{FieldSize}
+use Rattle.macho_arm64.specs.Fields.{can_hold}
+use Rattle.macho_fields.specs.declared.write.FieldWrite.{FieldWrite}
+use Rattle.macho_fields.specs.steps.Writes.{IsNumber, DoesNotHold}
 use Rattle.macho_fields.proofs.write.write_fault.Goals as goal
 
-pub returns : goal.returns
-returns c =
-    let w = c.args.write.now in
-    let there : (is_field w.size ≡ true) × (w.at + width_of w.size ≤ length c.args.bytes.now) = c.has_room.ensures.yes (search rules) in
-    let width : c.in-Some.width ≡ width_of w.size = c.in-Some.ensures.1 in
-    let end = w.at + c.in-Some.width in
-    let start : w.at + 0 ≡ w.at = omega arith in
-    IfSome_then c.try_field.result c.try_field.ensures
-    (λ fault cannot. put_tried w c.args.bytes.now (slice_range c.args.bytes.now w.at end) fault
-    (omega (arith, there.1, width, length-between c.args.bytes.now w.at end))
-    (le_at-between 4 w.at end 0 c.args.bytes.now (omega (arith, width, field_is_wide w.size there.0))
-    ∙ ap (λ (n : ℕ). le_at 4 c.args.bytes.now n) start)
-    cannot)
+not_held : (w : FieldWrite) (bytes : List ℕ) (word : ℕ) → IsNumber w → can_hold w.size word w.value ≡ false → DoesNotHold w bytes
+not_held w bytes word number none = record {
+  mid = bytes;
+  ready = record { kept = λ plain. refl; made = λ relax. absurd (true≢false (sym relax ∙ number.plain)) };
+  no_room = ap (λ (s : FieldSize). can_hold s (le_at 4 bytes w.at) w.value) number.bytes
+      ∙ sym (ap (λ (s : FieldSize). can_hold s word w.value) number.bytes) ∙ none;
+}
+
+pub returns-in-Err : goal.returns-in-Err
+returns-in-Err c = not_held c.args.write.now c.args.bytes.now _ c.requires c.in-Err.ensures.why

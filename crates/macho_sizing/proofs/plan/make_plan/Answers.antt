@@ -1,6 +1,6 @@
 -- All parts are added to a plan of nothing.
 use Rattle.std.proofs.Common.{◌≡◌, Bool, subst}
-use Rattle.macho_layout.specs.Plans.{Planning, new_plan}
+use Rattle.macho_layout.specs.Plans.{new_plan}
 use Rattle.macho_sizing.proofs.plan.make_plan.Goals as goal
 
 pub returns : goal.returns
