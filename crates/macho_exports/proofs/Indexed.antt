@@ -2,24 +2,27 @@
 -- pattern among others matches, the place at which it stands first is noted, in one of the tables, under the name's own bytes
 -- of one of the noted lengths at one of these places, and is tried. What is tried stands among the patterns.
 use Rattle.std.proofs.Common.{◌≡◌, ℕ, zero, suc, ◌+◌, ◌-◌, ◌<◌, ◌≤◌, ◌&&◌, ◌||◌, not, true, false, Bool, List, [], ◌∷◌, ◌++◌}
-use Rattle.std.proofs.Common.{length, get_or, take, drop}
+use Rattle.std.proofs.Common.{length, get_or, take, drop, if◌then◌else◌, Option, Some, None}
 use Rattle.std.proofs.Common.{refl, ap, sym, subst, ◌∙◌, arith, inl, inr}
 use Rattle.std.proofs.lemmas.Bool.{both_ways, false_from_ne_true, or_cases, or_left, or_right, and_parts, and_from, lt-ltb, ltb-true}
-use Rattle.std.proofs.lemmas.Bool.{le-leb}
+use Rattle.std.proofs.lemmas.Bool.{le-leb, cases_lt}
+use Rattle.std.proofs.lemmas.List.{get_or_past}
 use Rattle.std.proofs.lemmas.List.Sums.{passes_at_first}
 use Rattle.std.proofs.lemmas.List.Folds.{list_any_at, list_any_none, list_any-append, Any-from_list_any}
 use Rattle.std.proofs.lemmas.List.FromFn.{length-range_with_len, get_or-range_with_len}
 use Rattle.std.proofs.lemmas.Slice.Eq.{bytes_eq-Decides}
 use Rattle.std.specs.List.{list_any, position_or_len, range_with_len, slice_range}
 use Rattle.std.specs.Str.{bytes_eq}
+use Rattle.std.specs.HashMap.{get_by}
 use Rattle.memchr.proofs.lemmas.MatchLemmas.{OccursAt-part}
 use Rattle.macho_model.specs.ExportLists.{matches}
 use Rattle.macho_exports.specs.declared.parts.PartTable.{PartTable}
 use Rattle.macho_exports.specs.declared.table.PatternTable.{PatternTable}
-use Rattle.macho_exports.specs.steps.Ends.{IsPart, first_place, last_place}
-use Rattle.macho_exports.specs.steps.Tables.{numbers_of}
+use Rattle.macho_exports.specs.steps.Ends.{IsPart, first_place, last_place, has_many_places}
+use Rattle.macho_exports.specs.steps.Lists.{texts_of}
+use Rattle.macho_exports.specs.steps.Tables.{numbers_at, numbers_of}
 use Rattle.macho_exports.specs.steps.Indexed.{IsNoted, IsNotedIn, KeepsTable, KeepsTables, IsIndexed}
-use Rattle.macho_exports.specs.steps.Indexed.{is_match_at, is_match_of, is_match_under, is_match_in}
+use Rattle.macho_exports.specs.steps.Indexed.{is_match_at, is_match_of, is_match_under, is_match_found, is_match_any, is_match_in}
 use Rattle.macho_exports.specs.steps.Indexed.{is_again, is_match_by, is_match_from, places_from}
 use Rattle.macho_exports.proofs.Stands.{stands}
 use Rattle.macho_exports.proofs.Places.{same, any_place, place_stays, place_last, places_front, places_again, still_among}
@@ -90,22 +93,53 @@ first_under t patterns name count (suc n) at below short low high is =
     of false new earlier = tried_under t patterns name count at short low high (and_from _ _ (ap not new) is)
 
 -- what is tried is among the patterns
-tried : (patterns : List (List ℕ)) (t : PartTable) (name : List ℕ) → is_match_in t patterns name ≡ true
+tried_of : (patterns : List (List ℕ)) (name numbers : List ℕ) → is_match_of patterns name numbers ≡ true
     → list_any (λ e. matches e name) patterns ≡ true
-tried patterns t name is =
+tried_of patterns name numbers is =
+    let a = Any-from_list_any (is_match_at patterns name) numbers is in
+    let both = and_parts _ _ a.4 in
+    list_any_at (λ e. matches e name) patterns a.1 [] (ltb-true a.1 (length patterns) both.0) both.1
+
+tried_found : (patterns : List (List ℕ)) (t : PartTable) (name : List ℕ) → is_match_found t patterns name ≡ true
+    → list_any (λ e. matches e name) patterns ≡ true
+tried_found patterns t name is =
     let under = Any-from_list_any (is_match_under t patterns name) t.lengths.items is in
     let first = first_place t.stands (length name) under.1 in
     let places = places_from first (last_place t.stands (length name) under.1) in
     let from = Any-from_list_any (is_match_from t patterns name under.1 first) places (and_parts _ _ under.4).1 in
-    let numbers = numbers_of t.parts t.groups.items (slice_range name from.1 (from.1 + under.1)) in
-    let a = Any-from_list_any (is_match_at patterns name) numbers (and_parts _ _ from.4).1 in
-    let both = and_parts _ _ a.4 in
-    list_any_at (λ e. matches e name) patterns a.1 [] (ltb-true a.1 (length patterns) both.0) both.1
+    tried_of patterns name (numbers_of t.parts t.groups.items (slice_range name from.1 (from.1 + under.1))) (and_parts _ _ from.4).1
+
+tried_any : (patterns : List (List ℕ)) (t : PartTable) (name : List ℕ) → is_match_any t patterns name ≡ true
+    → list_any (λ e. matches e name) patterns ≡ true
+tried_any patterns t name is =
+    let a = Any-from_list_any (is_match_of patterns name) (texts_of t.groups.items) is in
+    tried_of patterns name a.1 a.4
+
+tried : (patterns : List (List ℕ)) (t : PartTable) (name : List ℕ) → is_match_in t patterns name ≡ true
+    → list_any (λ e. matches e name) patterns ≡ true
+tried patterns t name is = of (has_many_places t.stands (length name)) refl
+  where
+    of : (many : Bool) → has_many_places t.stands (length name) ≡ many → list_any (λ e. matches e name) patterns ≡ true
+    of true e = tried_any patterns t name (ap (λ b. if b then is_match_any t patterns name else is_match_found t patterns name) (sym e) ∙ is)
+    of false e = tried_found patterns t name (ap (λ b. if b then is_match_any t patterns name else is_match_found t patterns name) (sym e) ∙ is)
+
+-- what passes a test among the numbers under a part is one of the groups
+group_at : (test : List ℕ → Bool) → test [] ≡ false → (groups : List (List ℕ)) (k : ℕ) → test (get_or groups k []) ≡ true
+    → list_any test groups ≡ true
+group_at test none groups k is = elim (cases_lt k (length groups)) [
+  | inl within ↦ list_any_at test groups k [] within is
+  | inr past ↦ absurd (both_ways _ none (ap test (sym (get_or_past groups k [] past)) ∙ is))
+]
+
+any_group : (test : List ℕ → Bool) → test [] ≡ false → (groups : List (List ℕ)) (group : Option ℕ) → test (numbers_at groups group) ≡ true
+    → list_any test groups ≡ true
+any_group test none groups None is = absurd (both_ways _ none is)
+any_group test none groups (Some k) is = group_at test none groups k is
 
 -- a pattern that was noted is tried on each name that it matches
-untried : (patterns : List (List ℕ)) (t : PartTable) (name q : List ℕ) (n : ℕ) → IsNoted t q n → matches q name ≡ true
-    → is_match_at patterns name n ≡ true → is_match_in t patterns name ≡ true
-untried patterns t name q n noted is here =
+untried_found : (patterns : List (List ℕ)) (t : PartTable) (name q : List ℕ) (n : ℕ) → IsNoted t q n → matches q name ≡ true
+    → is_match_at patterns name n ≡ true → is_match_found t patterns name ≡ true
+untried_found patterns t name q n noted is here =
     let part = noted.part in
     let count = length part in
     let s = stands t.stands part q name noted.is is in
@@ -118,6 +152,23 @@ untried patterns t name q n noted is here =
     ap (λ (f : List ℕ). is_match_of patterns name (numbers_of t.parts t.groups.items f)) there ∙ under in
     any_of (is_match_under t patterns name) t.lengths.items count noted.long
     (first_under t patterns name count (s.at + 1) s.at (omega arith) (omega (arith, s.occurs.fits)) s.low s.high by)
+
+untried_any : (patterns : List (List ℕ)) (t : PartTable) (name q : List ℕ) (n : ℕ) → IsNoted t q n
+    → is_match_at patterns name n ≡ true → is_match_any t patterns name ≡ true
+untried_any patterns t name q n noted here =
+    any_group (is_match_of patterns name) refl (texts_of t.groups.items) (get_by (λ k. bytes_eq noted.part k.items) t.parts)
+    (any_of (is_match_at patterns name) (numbers_of t.parts t.groups.items noted.part) n noted.numbered here)
+
+untried : (patterns : List (List ℕ)) (t : PartTable) (name q : List ℕ) (n : ℕ) → IsNoted t q n → matches q name ≡ true
+    → is_match_at patterns name n ≡ true → is_match_in t patterns name ≡ true
+untried patterns t name q n noted is here = of (has_many_places t.stands (length name)) refl
+  where
+    of : (many : Bool) → has_many_places t.stands (length name) ≡ many → is_match_in t patterns name ≡ true
+    of true e =
+        ap (λ b. if b then is_match_any t patterns name else is_match_found t patterns name) e ∙ untried_any patterns t name q n noted here
+    of false e =
+        ap (λ b. if b then is_match_any t patterns name else is_match_found t patterns name) e
+        ∙ untried_found patterns t name q n noted is here
 
 -- what is found by the tables
 pub found : (patterns : List (List ℕ)) (t : PatternTable) (name : List ℕ) → IsIndexed patterns t

@@ -9,10 +9,13 @@
 //!     ab*b       ab                           b           abb, but not ab
 //!     *y1*z*     no byte      y1, z           no byte     _y12z3
 ghost use Rattle.std.specs.Prelude.{◌≡◌, ◌≤◌, length};
-ghost use Rattle.macho_exports.specs.steps.Ends.{front_of, back_of, first_place, last_place};
+ghost use Rattle.macho_exports.specs.steps.Ends.{front_of, back_of, first_place, last_place, has_many_places};
 
 use crate::patterns::behind;
 use memchr::{memchr, memrchr};
+
+/// The most bytes of a name in which parts are looked up at each place.
+const LONG: usize = 256;
 
 /// Where in a name some parts stand.
 #[derive(Clone, Copy)]
@@ -54,6 +57,16 @@ impl Where {
         match self {
             Where::Front | Where::Anywhere => 0,
             Where::Back => long - count,
+        }
+    }
+
+    /// Whether there are so many places in a name of so many bytes that parts aren't looked up at each of them.
+    pub(crate) fn has_many_places(self, long: usize) -> bool
+        ensures { result ≡ has_many_places self long }
+    {
+        match self {
+            Where::Anywhere => long > LONG,
+            Where::Front | Where::Back => false,
         }
     }
 

@@ -17,7 +17,7 @@ ghost use Rattle.macho_exports.specs.steps.Lists.{texts_of};
 ghost use Rattle.macho_exports.specs.steps.Tables.{has, numbers_of, KeepsNumbers, KeepsGroups, KeepsParts, IsGroup};
 ghost use Rattle.macho_exports.specs.steps.Ends.{IsPart};
 ghost use Rattle.macho_exports.specs.steps.Indexed.{is_match_at, is_match_of, is_again, is_match_from, is_match_under};
-ghost use Rattle.macho_exports.specs.steps.Indexed.{is_match_in, IsNoted, KeepsTable};
+ghost use Rattle.macho_exports.specs.steps.Indexed.{is_match_found, is_match_any, is_match_in, IsNoted, KeepsTable};
 
 use crate::ends::Where;
 use crate::patterns::matches;
@@ -194,9 +194,9 @@ impl PartTable {
         false
     }
 
-    /// Whether a name matches one of the patterns that were noted.
-    pub(crate) fn has_match(&self, patterns: &[Vec<u8>], name: &[u8]) -> bool
-        ensures { result ≡ is_match_in self.now (texts_of patterns.now) name.now }
+    /// Whether a name matches one of the patterns that were noted under some of its bytes.
+    fn matches_found(&self, patterns: &[Vec<u8>], name: &[u8]) -> bool
+        ensures { result ≡ is_match_found self.now (texts_of patterns.now) name.now }
     {
         for length in &self.lengths {
             if self.matches_under(patterns, name, *length) {
@@ -204,5 +204,29 @@ impl PartTable {
             }
         }
         false
+    }
+
+    /// Whether a name matches one of the patterns that were noted, each of which is tried.
+    fn matches_any(&self, patterns: &[Vec<u8>], name: &[u8]) -> bool
+        ensures { result ≡ is_match_any self.now (texts_of patterns.now) name.now }
+    {
+        for numbers in &self.groups {
+            if matches_one(patterns, name, numbers) {
+                return true;
+            }
+        }
+        false
+    }
+
+    /// Whether a name matches one of the patterns that were noted. In a long name whose parts may stand anywhere all patterns are
+    /// tried, since what is looked up costs its length squared, and a pattern is sought in a name in the time of its length.
+    pub(crate) fn has_match(&self, patterns: &[Vec<u8>], name: &[u8]) -> bool
+        ensures { result ≡ is_match_in self.now (texts_of patterns.now) name.now }
+    {
+        if self.stands.has_many_places(name.len()) {
+            self.matches_any(patterns, name)
+        } else {
+            self.matches_found(patterns, name)
+        }
     }
 }

@@ -1,5 +1,5 @@
 -- The parts of patterns, and where they stand in names.
-use Rattle.std.specs.Prelude.{◌≡◌, ℕ, ◌-◌, ◌==◌, not, false, All, List, length, drop}
+use Rattle.std.specs.Prelude.{◌≡◌, ℕ, ◌-◌, ◌==◌, nat_lt, not, Bool, false, All, List, length, drop}
 use Rattle.std.specs.List.{before_first, suffix_len}
 use Rattle.memchr.specs.Find.{OccursAt}
 use Rattle.macho_model.specs.ExportLists.{STAR}
@@ -41,3 +41,9 @@ abbrev pub last_place : Where → ℕ → ℕ → ℕ
 last_place Front long count = 0
 last_place Anywhere long count = long - count
 last_place Back long count = long - count
+
+-- parts that stand anywhere are not looked up at all the places of a name of so many bytes
+abbrev pub has_many_places : Where → ℕ → Bool
+has_many_places Front long = false
+has_many_places Anywhere long = nat_lt 256 long
+has_many_places Back long = false

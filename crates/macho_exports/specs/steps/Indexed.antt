@@ -1,12 +1,12 @@
 -- What tables of patterns keep, and what is found by them.
-use Rattle.std.specs.Prelude.{◌≡◌, ℕ, ◌+◌, ◌-◌, ◌&&◌, ◌⊎◌, not, nat_le, nat_lt, true, Bool, List, [], length, get_or}
+use Rattle.std.specs.Prelude.{◌≡◌, ℕ, ◌+◌, ◌-◌, ◌&&◌, ◌⊎◌, not, if◌then◌else◌, nat_le, nat_lt, true, Bool, List, [], length, get_or}
 use Rattle.std.specs.List.{list_any, position_or_len, range_with_len, slice_range}
 use Rattle.std.specs.Str.{bytes_eq}
 use Rattle.macho_model.specs.ExportLists.{matches}
 use Rattle.macho_exports.specs.declared.parts.PartTable.{PartTable}
 use Rattle.macho_exports.specs.declared.table.PatternTable.{PatternTable}
-use Rattle.macho_exports.specs.steps.Ends.{IsPart, first_place, last_place}
-use Rattle.macho_exports.specs.steps.Lists.{ArePlaces}
+use Rattle.macho_exports.specs.steps.Ends.{IsPart, first_place, last_place, has_many_places}
+use Rattle.macho_exports.specs.steps.Lists.{ArePlaces, texts_of}
 use Rattle.macho_exports.specs.steps.Tables.{has, numbers_of, KeepsNumbers, KeepsParts}
 
 -- A number was noted under a part of a pattern.
@@ -71,5 +71,14 @@ is_match_under t patterns name count =
     (places_from (first_place t.stands (length name) count) (last_place t.stands (length name) count))
 
 -- a name matches a pattern that was noted under some of its own bytes
+abbrev pub is_match_found : PartTable → List (List ℕ) → List ℕ → Bool
+is_match_found t patterns name = list_any (is_match_under t patterns name) t.lengths.items
+
+-- a name matches a pattern that was noted, whatever it was noted under
+abbrev pub is_match_any : PartTable → List (List ℕ) → List ℕ → Bool
+is_match_any t patterns name = list_any (is_match_of patterns name) (texts_of t.groups.items)
+
+-- one of the two, by the name's length
 abbrev pub is_match_in : PartTable → List (List ℕ) → List ℕ → Bool
-is_match_in t patterns name = list_any (is_match_under t patterns name) t.lengths.items
+is_match_in t patterns name =
+    if has_many_places t.stands (length name) then is_match_any t patterns name else is_match_found t patterns name
