@@ -2,7 +2,7 @@
 use Rattle.std.specs.Prelude.{◌≡◌, ℕ, true, List}
 use Rattle.macho_stub.specs.Answer.{IsToldOfText}
 use Rattle.macho_stub_lines.specs.declared.fault.StubFault.TheVariants.{Rule}
-use Rattle.macho_model.specs.Grammar.{IsObject, IsDylib, ObjectBreaks, DylibBreaks}
+use Rattle.macho_model.specs.Grammar.{ObjectBreaks, DylibBreaks}
 use Rattle.macho_model.specs.Links.{Link, StubReading}
 use Rattle.macho_model.specs.Faults.{bad_name}
 use Rattle.macho_promise.specs.Inputs.{IsStubInput}
@@ -18,15 +18,15 @@ RefusalStands l error.BadName = ⊥
 RefusalStands l (error.BadInput fault) = ⊥
 RefusalStands l refusal = IsRefused l refusal
 
--- The refusal of an object: it breaks the rule that is told, at the place that is told.
+-- The refusal of an object: it breaks the rule that is told, at the place that is told. So it is no object.
 abbrev pub ObjectRefused : List ℕ → LinkError → Type 0
-ObjectRefused b (error.BadInput (input.Object fault)) = ObjectBreaks b fault.rule fault.place × (IsObject b → ⊥)
+ObjectRefused b (error.BadInput (input.Object fault)) = ObjectBreaks b fault.rule fault.place
 ObjectRefused b error.OutOfMemory = Unit {0}
 ObjectRefused b refusal = ⊥
 
 -- the same of a dynamic library
 abbrev pub DylibRefused : List ℕ → LinkError → Type 0
-DylibRefused b (error.BadInput (input.Object fault)) = DylibBreaks b fault.rule fault.place × (IsDylib b → ⊥)
+DylibRefused b (error.BadInput (input.Object fault)) = DylibBreaks b fault.rule fault.place
 DylibRefused b error.OutOfMemory = Unit {0}
 DylibRefused b refusal = ⊥
 

@@ -66,11 +66,11 @@ held-among files paths path bytes first missing =
 
 -- an object that keeps the rules isn't refused
 object-refused : (bytes : List ℕ) (refusal : LinkError) → IsObject bytes → BytesRefused head.Object bytes refusal → ⊥
-object-refused bytes (error.BadInput (broken.Object f)) object why = why.1 object
+object-refused bytes (error.BadInput (broken.Object f)) object why = object.unbroken f.rule f.place why
 object-refused bytes refusal object why = why
 
 dylib-refused : (bytes : List ℕ) (refusal : LinkError) → IsDylib bytes → BytesRefused head.Dylib bytes refusal → ⊥
-dylib-refused bytes (error.BadInput (broken.Object f)) dylib why = why.1 dylib
+dylib-refused bytes (error.BadInput (broken.Object f)) dylib why = dylib.unbroken f.rule f.place why
 dylib-refused bytes refusal dylib why = why
 
 stub-refused : (bytes : List ℕ) (says : StubReading) (refusal : LinkError) → IsStubInput bytes says → BytesRefused head.Stub bytes refusal

@@ -7,7 +7,7 @@ use Rattle.macho_args.specs.Store.{Store}
 use Rattle.macho_args.specs.SearchPaths.{IsRefused}
 use Rattle.macho_model.specs.Links.{Link, StubReading}
 use Rattle.macho_model.specs.Faults.{bad_name}
-use Rattle.macho_model.specs.Grammar.{IsObject, IsDylib, ObjectBreaks, DylibBreaks}
+use Rattle.macho_model.specs.Grammar.{IsObject, ObjectBreaks, DylibBreaks}
 use Rattle.macho_promise.specs.Inputs.{IsStubInput}
 use Rattle.macho_stub.specs.Answer.{IsToldOfText}
 use Rattle.macho_stub_lines.specs.declared.fault.StubFault.TheVariants.{Rule}
@@ -57,11 +57,11 @@ pub record NoneFailed (old new : Failures) : Type 0 where
 abbrev pub reading : ℕ → Failures
 reading reads = failures reads 0 0
 
--- Bytes are refused, by their head: they break the rule that is told, at the place that is told, and are no such input. Bytes that
--- begin as a stub and aren't UTF-8 break the first rule of stubs at line 1.
+-- Bytes are refused, by their head: they break the rule that is told, at the place that is told, and so are no such input. Of a stub
+-- both are said; bytes that begin as a stub and aren't UTF-8 break the first rule of stubs at line 1.
 abbrev pub BytesRefused : Head → List ℕ → LinkError → Type 0
-BytesRefused head.Object bytes (error.BadInput (input.Object fault)) = ObjectBreaks bytes fault.rule fault.place × (IsObject bytes → ⊥)
-BytesRefused head.Dylib bytes (error.BadInput (input.Object fault)) = DylibBreaks bytes fault.rule fault.place × (IsDylib bytes → ⊥)
+BytesRefused head.Object bytes (error.BadInput (input.Object fault)) = ObjectBreaks bytes fault.rule fault.place
+BytesRefused head.Dylib bytes (error.BadInput (input.Object fault)) = DylibBreaks bytes fault.rule fault.place
 BytesRefused head.Stub bytes (error.BadInput (input.Stub line rule)) =
     (IsToldOfText bytes (Rule line rule) × ((says : StubReading) → IsStubInput bytes says → ⊥))
     ⊎ ((IsUtf8 bytes → ⊥) × (line ≡ 1) × (rule ≡ S1))
