@@ -63,8 +63,14 @@ const MANY: &[u8] =
     b"*!a*\n*!b*\n*!c*\n*!d*\n*!e*\n*!f*\n*!g*\n*!h*\n*!i*\n*!j*\n*!k*\n*!l*\n*!m*\n*!n*\n*!o*\n*!p*\n*!q*\n*!r*\n\
 *!s*\n*!t*\n*!u*\n*!v*\n*!w*\n*!x*\n*!y*\n*!z*\n*!0*\n*!1*\n*!2*\n*!3*\n*!4*\n*!5*\n*!6*\n*!7*\n*!8*\n*!9*";
 
+/// A name of 302 bytes.
+const LONG_NAME: &[u8] =
+    b"aaaaaaaaaaaaaaaaaaaaaaaaaaaaaaaaaaaaaaaaaaaaaaaaaaaaaaaaaaaaaaaaaaaaaaaaaaaaaaaaaaaaaaaaaaaaaaaaaaaa\
+aaaaaaaaaaaaaaaaaaaaaaaaaaaaaaaaaaaaaaaaaaaaaaaaaaaaaaaaaaaaaaaaaaaaaaaaaaaaaaaaaaaaaaaaaaaaaaaaaaaa\
+aaaaaaaaaaaaaaaaaaaaaaaaaaaaaaaaaaaaaaaaaaaaaaaaaaaaaaaaaaaaaaaaaaaaaaaaaaaaaaaaaaaaaaaaaaaaaaaaaaaay1";
+
 /// Texts behind these patterns, names and whether the list contains the name.
-const BEHIND_MANY: [(&[u8], &[u8], bool); 33] = [
+const BEHIND_MANY: [(&[u8], &[u8], bool); 36] = [
     (b"*y1*", b"y1", true),
     (b"*y1*", b"y1b", true),
     (b"*y1*", b"ay1", true),
@@ -114,6 +120,9 @@ const BEHIND_MANY: [(&[u8], &[u8], bool); 33] = [
     (b"*x", b"!x", true),
     (b"*y1*", b"!0!z!9", true),
     (b"*y1*", b"!", false),
+    (b"*y1*", LONG_NAME, true),
+    (b"*ya*\n*y2*", LONG_NAME, false),
+    (b"*a*y*1*", LONG_NAME, true),
 ];
 
 /// A list of texts.
