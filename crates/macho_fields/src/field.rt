@@ -146,12 +146,15 @@ fn small_addend(before: Option<RelocationInfo>) -> u64
     }
 }
 
-/// The address in the input of the section that a relocation names by its number, from 1.
+/// The address in the input of the section that a relocation names by its number, from 1; 0 where it names a symbol.
 fn input_address(file: &File<'_>, relocation: RelocationInfo) -> u64
     requires { file.now.is_dynamic ≡ false }
-    ensures { relocation.r_symbolnum - 1 < num_sections file.now.bytes
+    ensures { relocation.r_extern ≡ false → relocation.r_symbolnum - 1 < num_sections file.now.bytes
         → result ≡ (section_at file.now.bytes (relocation.r_symbolnum - 1)).addr }
 {
+    if relocation.r_extern {
+        return 0;
+    }
     match file.section(relocation.r_symbolnum.saturating_sub(1)) {
         Some(header) => header.addr,
         None => 0,

@@ -1,7 +1,7 @@
 -- One input more.
 --
 -- The inputs before a place, and that at the place, are those before the next place. So what is gathered of each, in order, is
--- what was gathered before and what the new one adds: the install names of libraries, and the objects with their numbers.
+-- what was gathered before and what the new one adds: the objects with their numbers.
 use Rattle.std.proofs.Common.{◌≡◌, ℕ, ◌+◌, ◌<◌, ◌≤◌, List, [], ◌∷◌, ◌++◌, length, get_or, take, map, sym, ap, subst, ◌∙◌, arith, refl, Option, Vec, Global}
 use Rattle.std.specs.List.{enumerate_from, filter_map}
 use Rattle.std.proofs.lemmas.List.{length-map, length-take, map-append, take_all, take_more}
@@ -19,14 +19,6 @@ pub inputs_more : (xs : List OwnedInput) (i : ℕ) (x : OwnedInput) → i < leng
     ≡ map input_of (take i xs) ++ input_of x ∷ []
 inputs_more xs i x lt is =
     ap (map input_of) (take_more xs i x lt ∙ ap (λ (y : OwnedInput). take i xs ++ y ∷ []) (sym is)) ∙ map-append input_of (take i xs) (x ∷ [])
-
--- what is gathered of one more
-pub gathered_more : {X : Type 0} (f : Input → Option X) (xs : List OwnedInput) (i : ℕ) (x : OwnedInput) (old new : List X) → i < length xs
-    → x ≡ get_or xs i x → old ≡ filter_map f (map input_of (take i xs)) → new ≡ old ++ filter_map f (input_of x ∷ [])
-    → new ≡ filter_map f (map input_of (take (i + 1) xs))
-gathered_more {X} f xs i x old new lt is so_far added =
-    added ∙ ap (λ (ys : List X). ys ++ filter_map f (input_of x ∷ [])) so_far
-    ∙ sym (ap (filter_map f) (inputs_more xs i x lt is) ∙ filter_map-append f (map input_of (take i xs)) (input_of x ∷ []))
 
 -- the objects of one more
 pub objects_more : (xs : List OwnedInput) (i : ℕ) (x : OwnedInput) (old new : List (ℕ × List ℕ)) → i < length xs → x ≡ get_or xs i x

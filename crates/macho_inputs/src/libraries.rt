@@ -1,51 +1,15 @@
 //! The libraries that the image of a link needs.
-ghost use Rattle.std.specs.Prelude.{◌≡◌, map, filter, All, IfOk, option_copied};
-ghost use Rattle.std.specs.List.{filter_map};
+ghost use Rattle.std.specs.Prelude.{◌≡◌, map, filter, IfOk};
 ghost use Rattle.macho_model.specs.Links.{Link};
 ghost use Rattle.macho_model.specs.Needs.{distinct, imports_of, libraries_needed};
-ghost use Rattle.macho_model.specs.Resolution.{library_of_input};
 ghost use Rattle.std.specs.Str.{bytes_eq};
-ghost use Rattle.macho_promise.specs.Inputs.{IsInput};
-ghost use Rattle.macho_symbols.specs.Told.{ImportsAre};
-ghost use Rattle.macho_inputs.specs.steps.Owned.{input_of};
+ghost use Rattle.macho_symbols.specs.Kept.{IsResolved};
 ghost use Rattle.macho_inputs.specs.steps.Libraries.{texts};
 ghost use Rattle.macho_inputs.specs.steps.Libraries.{asked_of, is_kept};
 
-use crate::owned::OwnedInput;
-use crate::stubs::library_of;
 use indexmap::IndexSet;
-use macho_object::File;
-use macho_symbols::Import;
+use macho_symbols::{Import, Resolved};
 use std::alloc::{AllocError, Global};
-
-/// The install name of an input that is a library.
-fn install_name(alloc: Global, input: &OwnedInput) -> Result<Option<&[u8]>, AllocError>
-    requires { IsInput (input_of input.now) }
-    ensures { IfOk result (λ name. option_copied name ≡ library_of_input (input_of input.now)) }
-{
-    match input {
-        OwnedInput::Object(_) => Ok(None),
-        OwnedInput::Dylib(bytes) => Ok(File::of_valid(bytes, true).install_name()),
-        OwnedInput::Stub(text) => {
-            let library = library_of(alloc, text.as_str())?;
-            Ok(Some(library.install_name.as_bytes()))
-        }
-    }
-}
-
-/// The install names of the inputs that are libraries, in order.
-fn install_names(alloc: Global, inputs: &[OwnedInput]) -> Result<Vec<&[u8]>, AllocError>
-    requires { All (λ input. IsInput (input_of input)) inputs.now }
-    ensures { IfOk result (λ names. texts names.items ≡ filter_map library_of_input (map input_of inputs.now)) }
-{
-    let mut names = Vec::new(alloc);
-    for input in inputs {
-        if let Some(name) = install_name(alloc, input)? {
-            names.push(name)?;
-        }
-    }
-    Ok(names)
-}
 
 /// The names in order, each once, where it stands first.
 fn distinct_names<'a>(alloc: Global, names: &[&'a [u8]]) -> Result<IndexSet<&'a [u8]>, AllocError>
@@ -103,17 +67,14 @@ fn kept_names(
 /// There is not enough memory.
 pub fn needed_libraries(
     alloc: Global,
-    inputs: &[OwnedInput],
-    imports: &[Import],
+    symbols: &Resolved,
     dead_strip_dylibs: bool,
 ) -> Result<Vec<Vec<u8>>, AllocError>
-    requires { All (λ input. IsInput (input_of input)) inputs.now }
-    ensures { (l : Link) → l.inputs ≡ map input_of inputs.now → l.dead_strip_dylibs ≡ dead_strip_dylibs
-        → ImportsAre l (imports_of l) imports.now
+    ensures { (l : Link) → l.dead_strip_dylibs ≡ dead_strip_dylibs → IsResolved l (imports_of l) symbols.now
         → IfOk result (λ libraries. map (λ library. library.items) libraries.items ≡ libraries_needed l) }
 {
-    let names = install_names(alloc, inputs)?;
+    let names = symbols.libraries(alloc)?;
     let names = distinct_names(alloc, &names)?;
-    let asked = asked_names(alloc, imports)?;
+    let asked = asked_names(alloc, symbols.imports())?;
     kept_names(alloc, names.as_slice(), &asked, dead_strip_dylibs)
 }

@@ -237,8 +237,8 @@ fn link_viewed(alloc: Global, viewed: &Viewed<'_>, uuid: [u8; 16]) -> Result<Lin
 {
     let asked = viewed.asked;
     let read = read_inputs(alloc, asked, viewed.views, viewed.list)?;
-    let imports = read.needs.resolved.imports();
-    let libraries = needed_libraries(alloc, asked.inputs, imports, asked.dead_strip_dylibs)?;
+    let symbols = &read.needs.resolved;
+    let libraries = needed_libraries(alloc, symbols, asked.dead_strip_dylibs)?;
     link_read(alloc, viewed, read, libraries, uuid)
 }
 

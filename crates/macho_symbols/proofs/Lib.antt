@@ -2,6 +2,7 @@ mod Ascending
 mod AskedFor
 mod ExportedLink
 mod InOrder
+mod InstallNames
 mod OpenNames
 pub mod Bridge
 pub mod ChosenOnes

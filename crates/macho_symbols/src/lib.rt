@@ -4,6 +4,7 @@
 mod asked;
 mod choosing;
 mod exports;
+mod libraries;
 mod resolved;
 mod resolver;
 mod solved;

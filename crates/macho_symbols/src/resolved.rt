@@ -1,8 +1,9 @@
 //! Resolved symbols, as callers see them: what each name and each symbol leads to, and what was noted.
-ghost use Rattle.std.specs.Prelude.{◌≡◌, ℕ, List, true, length, IfOk, IfErr, OnOk, OnErr};
+ghost use Rattle.std.specs.Prelude.{◌≡◌, ℕ, List, true, length, map, IfOk, IfErr, OnOk, OnErr};
+ghost use Rattle.std.specs.List.{filter_map};
 ghost use Rattle.macho_model.specs.Symbols.{is_global};
 ghost use Rattle.macho_model.specs.Links.{Link};
-ghost use Rattle.macho_model.specs.Resolution.{definition_of, defines, entry_at, name_at};
+ghost use Rattle.macho_model.specs.Resolution.{definition_of, defines, entry_at, library_of_input, name_at};
 ghost use Rattle.macho_model.specs.Targets.{target_with, definition_target};
 ghost use Rattle.macho_model.specs.ExportLists.{plain_entries};
 ghost use Rattle.std.specs.Option.{option_copied};
@@ -11,11 +12,12 @@ ghost use Rattle.macho_symbols.specs.Kept.{IsResolved, HasSymbol, symbol_id};
 ghost use Rattle.macho_symbols.specs.Told.{CommonsAre, ImportsAre, IsDefined, IsUndefined, noting, noting_names, AreDefined, IsMissing};
 
 use crate::exports::ExportName;
+use crate::libraries::library_names;
 use crate::solved::{Common, Import, Solved};
 use macho_exports::ExportList;
 use macho_model::Target;
 use macho_names::SymbolFault;
-use std::alloc::Global;
+use std::alloc::{AllocError, Global};
 use std::marker::Model;
 
 /// The symbols of a link, resolved. Files are numbered as they were added.
@@ -119,6 +121,18 @@ impl Resolved {
 }
 
 impl Resolved {
+    /// The install names of the inputs that are libraries, in order.
+    ///
+    /// # Errors
+    ///
+    /// There is not enough memory.
+    pub fn libraries(&self, alloc: Global) -> Result<Vec<&[u8]>, AllocError>
+        ensures { (l : Link) (noted : List (List ℕ)) → IsResolved l noted self.now
+            → IfOk result (λ names. map (λ n. n.now) names.items ≡ filter_map library_of_input l.inputs) }
+    {
+        library_names(alloc, &self.solved.files)
+    }
+
     /// The imports noted so far, in order of their numbers.
     pub fn imports(&self) -> &[Import]
         ensures { (l : Link) (noted : List (List ℕ)) → IsResolved l noted self.now → ImportsAre l noted result.now }

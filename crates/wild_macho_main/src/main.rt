@@ -40,5 +40,8 @@ fn main(rt: HostRuntime) -> ExitCode {
     let mut out = RealSink::new(rt.stdout());
     let mut err = RealSink::new(rt.stderr());
     let ran = run(rt.alloc(), &words, &mut files, &mut out, &mut err);
-    ExitCode::from(ran.status)
+    let status = ran.status;
+    // what the run tells, a text for each exported name, is freed by the end of the process
+    std::mem::forget(ran);
+    ExitCode::from(status)
 }

@@ -1,6 +1,6 @@
 -- What holds once all rows were taken in: the table knows all events, the commons are those that were chosen, and each
 -- entry has the number of its import, where that is noted.
-use Rattle.std.specs.Prelude.{◌≡◌, ℕ, ◌+◌, ◌^◌, ◌<◌, ◌≤◌, ◌≢◌, ◌==◌, nat_lt, ◌&&◌, ◌||◌, Bool, AllPairs, List, [], length, map, get_or, All, Contains, ◌++◌, Some, true, false}
+use Rattle.std.specs.Prelude.{◌≡◌, ℕ, ◌+◌, ◌^◌, ◌<◌, ◌≤◌, ◌≢◌, ◌==◌, nat_lt, ◌&&◌, ◌||◌, Bool, AllPairs, List, [], length, map, get_or, All, Contains, ◌++◌, Option, Some, true, false}
 use Rattle.macho_bytes.specs.Numbers.{rounded_up}
 use Rattle.macho_model.specs.Resolution.{SymbolId, Library}
 use Rattle.macho_model.specs.Needs.{import_number}
@@ -49,6 +49,10 @@ pub record IsNumbered (noted : List (List ℕ)) (name : List ℕ) (number : ℕ)
 -- what is told of an import: its library's file and install name
 abbrev pub library_in : List FileRows → ℕ → List ℕ
 library_in files file = library_text (get_or files file no_file).library
+
+-- the install name of a file that is a library
+abbrev pub install_name_in : FileRows → Option (List ℕ)
+install_name_in f = f.library
 
 -- an import is bound to the library that defines its name
 abbrev pub IsImportIn : List FileRows → Import → Type 0

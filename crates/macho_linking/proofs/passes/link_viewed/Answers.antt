@@ -1,6 +1,5 @@
 -- What is read of a viewed link is handed on, and its refusal is the link's.
 use Rattle.std.proofs.Common.{refl}
-use Rattle.macho_model.specs.Needs.{imports_of}
 use Rattle.macho_faults.specs.declared.fault.LinkError.TheVariants as error
 use Rattle.macho_answers.proofs.Inputs.{inputs_are_read, inputs_are_plain}
 use Rattle.macho_linking.specs.steps.Linking.{link_asked}
@@ -27,6 +26,6 @@ link_read-requires-clause-read_is c =
       objects_are = c.requires.objects;
       lists_are = c.requires.lists;
       read_is = (c.in_ok-read.ensures.done, c.in_ok-read.ensures.known);
-      libraries_are = c.in_ok-libraries.ensures l refl refl (c.imports-imports.ensures l (imports_of l) c.in_ok-read.ensures.done.resolved);
+      libraries_are = c.in_ok-libraries.ensures l refl c.in_ok-read.ensures.done.resolved;
       rules = (inputs_are_read l (inputs_given a c.requires.given), inputs_are_plain l (inputs_given a c.requires.given));
     }
