@@ -11,9 +11,10 @@ ghost use Rattle.macho_symbols.specs.Exported.{AreLists};
 ghost use Rattle.macho_symbols.specs.Kept.{symbol_id};
 ghost use Rattle.macho_linkedit.specs.Symbols.{row_seen, HasRows};
 ghost use Rattle.macho_tables.specs.steps.Rows.{NumbersRise, HasNumber, IsObjectAt, CanHaveRow, IsListed};
+ghost use Rattle.macho_tables.specs.steps.Sections.{sections_told};
 ghost use Rattle.macho_tables.specs.Rows.{AreToList};
 
-use crate::sections::section_of_symbol;
+use crate::sections::{numbers_of_objects, section_of_symbol};
 use macho_exports::ExportList;
 use macho_fields::{Places, address_of};
 use macho_layout::Placement;
@@ -49,15 +50,17 @@ fn is_listed(lists: Option<&ExportList>, name: &[u8]) -> bool
     }
 }
 
-/// The row of a symbol of the table.
+/// The row of a symbol of the table, by the numbers of its object's sections.
 fn row_of<'a, P: Places>(
     places: &P,
     placement: &Placement,
     object: &LinkedObject<'a>,
     index: u32,
     lists: Option<&ExportList>,
+    numbers: &[u8],
 ) -> TableRow<'a>
     requires few { length placement.now.output_sections.items ≤ 255 }
+    requires told { numbers.now ≡ sections_told (placed_of placement.now) object.now.file }
     requires symbol { CanHaveRow object.now index }
     requires known { P.has_symbol places.now object.now.number index }
     ensures { (l : Link) (counts : Counts) → IsListed l counts (placed_of placement.now) (P.look places.now) object.now index
@@ -67,7 +70,7 @@ fn row_of<'a, P: Places>(
     let Some(name) = object.file.symbol_name(index) else {
         unreachable!()
     };
-    let section = section_of_symbol(placement, object, index);
+    let section = section_of_symbol(placement, object, index, numbers);
     let address = address_of(places, places.target(object.number, index));
     table_row(
         object,
@@ -102,14 +105,22 @@ pub fn symbol_table<P: Places>(
         (option_copied lists.entry)
         → IfOk result (HasRows (symbol_rows l counts (placed_of placement.now))) }
 {
+    let numbers = numbers_of_objects(alloc, placement, objects)?;
     let mut table = SymbolTable::with_capacity(
         alloc,
         listed.symbols.len(),
         listed.strings as usize,
     )?;
     for symbol in listed.symbols.as_slice() {
-        let object = &objects[place_of(objects, symbol.file)];
-        table.push(row_of(places, placement, object, symbol.symbol, lists))?;
+        let place = place_of(objects, symbol.file);
+        table.push(row_of(
+            places,
+            placement,
+            &objects[place],
+            symbol.symbol,
+            lists,
+            &numbers[place],
+        ))?;
     }
     Ok(table)
 }

@@ -1,17 +1,28 @@
 //! The numbers of output sections, by which symbols tell where they stand. There are at most 255.
-ghost use Rattle.std.specs.Prelude.{◌≡◌, ◌<◌, ◌≤◌, nat_lt, ◌&&◌, false, length};
+//!
+//! The output section of each section of an object is searched for once, before the rows of symbols are made:
+//!
+//! ```text
+//! sections of an object     __text   __compact_unwind   __data
+//! their output sections          1                  0        4   ->   a symbol whose n_sect is 3 stands in output section 4
+//! ```
+ghost use Rattle.std.specs.Prelude.{◌≡◌, ◌<◌, ◌≤◌, nat_lt, ◌&&◌, false, length, map, Some, IfOk};
 ghost use Rattle.macho_bytes.specs.Texts.{name_of};
 ghost use Rattle.macho_model.specs.Objects.{num_symbols};
 ghost use Rattle.macho_model.specs.Segments.{key_of};
+ghost use Rattle.macho_model.specs.Placement.{Placed};
 ghost use Rattle.macho_layout.specs.Placements.{placed_of};
 ghost use Rattle.macho_tables.specs.steps.Sections.{key_seen, begins_at, fills, holds_slots, is_made};
-ghost use Rattle.macho_tables.specs.steps.Sections.{is_of, number_told, symbol_header, section_told};
+ghost use Rattle.macho_tables.specs.steps.Sections.{is_of, number_told, number_with, header_with, symbol_header, section_told};
+ghost use Rattle.macho_tables.specs.steps.Sections.{sections_told, objects_told};
 
 use macho_layout::Placement;
 use macho_linkedit::LinkedObject;
 use macho_model::{Range64, Slot};
 use macho_names::is_common;
+use macho_object::File;
 use macho_records::{S_ZEROFILL, SectionFlags, SectionHeader, name_bytes};
+use std::alloc::{AllocError, Global};
 
 /// What sections are merged by: those of one segment, name and type become one output section.
 #[derive(Clone, Copy)]
@@ -91,20 +102,70 @@ fn section_number(placement: &Placement, by: &MergedBy<'_>) -> u8
     0
 }
 
-/// The header of the section that a symbol of an object is defined in, None for any other symbol.
-fn header_of_symbol(object: &LinkedObject<'_>, index: u32) -> Option<SectionHeader>
-    ensures { result ≡ symbol_header object.now.file index }
+/// The number of the output section that a section of an object is merged into; 0 where there is none.
+fn number_of_section(placement: &Placement, file: &File<'_>, section: u32) -> u8
+    requires { length placement.now.output_sections.items ≤ 255 }
+    ensures { result ≡ number_with (placed_of placement.now) (header_with file.now (Some section)) }
 {
-    match object.file.symbol_section(index) {
-        Some(section) => object.file.section(section),
-        None => None,
+    match file.section(section) {
+        Some(header) => section_number(placement, &merged_by(&header)),
+        None => 0,
     }
 }
 
-/// The number of the output section that a symbol of an object stands in; 0 for a value of its own.
-pub(crate) fn section_of_symbol(placement: &Placement, object: &LinkedObject<'_>, index: u32) -> u8
+/// The numbers of the output sections that the sections of an object are merged into, in order.
+fn numbers_of_sections(
+    alloc: Global,
+    placement: &Placement,
+    file: &File<'_>,
+) -> Result<Vec<u8>, AllocError>
+    requires { length placement.now.output_sections.items ≤ 255 }
+    ensures { IfOk result (λ numbers. numbers.items ≡ sections_told (placed_of placement.now) file.now) }
+{
+    let count = file.num_sections();
+    let mut numbers = Vec::with_capacity(alloc, count as usize)?;
+    for section in 0..count {
+        numbers.push(number_of_section(placement, file, section))?;
+    }
+    Ok(numbers)
+}
+
+/// The same for each object.
+pub(crate) fn numbers_of_objects(
+    alloc: Global,
+    placement: &Placement,
+    objects: &[LinkedObject<'_>],
+) -> Result<Vec<Vec<u8>>, AllocError>
+    requires { length placement.now.output_sections.items ≤ 255 }
+    ensures { IfOk result (λ all. map (λ numbers. numbers.items) all.items ≡ objects_told (placed_of placement.now) objects.now) }
+{
+    let mut all = Vec::with_capacity(alloc, objects.len())?;
+    for object in objects {
+        all.push(numbers_of_sections(alloc, placement, &object.file)?)?;
+    }
+    Ok(all)
+}
+
+/// The number of the output section that a symbol is defined in, by those of its object's sections; 0 for a value of its own.
+fn number_of_symbol(file: &File<'_>, index: u32, numbers: &[u8]) -> u8
+    ensures { (p : Placed) → numbers.now ≡ sections_told p file.now → result ≡ number_with p (symbol_header file.now index) }
+{
+    match file.symbol_section(index) {
+        Some(section) if (section as usize) < numbers.len() => numbers[section as usize],
+        _ => 0,
+    }
+}
+
+/// The number of the output section that a symbol of an object stands in, by those of the object's sections; 0 for a value of its own.
+pub(crate) fn section_of_symbol(
+    placement: &Placement,
+    object: &LinkedObject<'_>,
+    index: u32,
+    numbers: &[u8],
+) -> u8
     requires few { length placement.now.output_sections.items ≤ 255 }
     requires among { index < num_symbols object.now.file.bytes }
+    requires told { numbers.now ≡ sections_told (placed_of placement.now) object.now.file }
     ensures { result ≡ section_told (placed_of placement.now) object.now.file index }
 {
     let Some(symbol) = object.file.symbol(index) else {
@@ -118,8 +179,5 @@ pub(crate) fn section_of_symbol(placement: &Placement, object: &LinkedObject<'_>
         };
         return section_number(placement, &commons);
     }
-    match header_of_symbol(object, index) {
-        Some(header) => section_number(placement, &merged_by(&header)),
-        None => 0,
-    }
+    number_of_symbol(&object.file, index, numbers)
 }

@@ -1,7 +1,8 @@
 -- The number of an output section, as the headers of a placement tell it: that of the first header of a segment, name and type that is no
 -- section of the linker's own.
-use Rattle.std.specs.Prelude.{ℕ, ◌+◌, ◌==◌, nat_lt, ◌&&◌, ◌||◌, not, if◌then◌else◌, Bool, false, List, [], ◌∷◌, length, Option, Some, None}
-use Rattle.std.specs.List.{position_or_len}
+use Rattle.std.specs.Prelude.{ℕ, ◌+◌, ◌==◌, nat_lt, ◌&&◌, ◌||◌, not, if◌then◌else◌, Bool, false, List, [], ◌∷◌, length, map, Option}
+use Rattle.std.specs.Prelude.{Some, None}
+use Rattle.std.specs.List.{position_or_len, range_with_len}
 use Rattle.std.specs.Str.{bytes_eq}
 use Rattle.macho_bytes.specs.Texts.{name_of}
 use Rattle.macho_records.specs.declared.header.SectionHeader.{SectionHeader}
@@ -11,7 +12,8 @@ use Rattle.macho_model.specs.declared.placed.Slot.{Slot}
 use Rattle.macho_model.specs.Objects.{symbol_at, section_at}
 use Rattle.macho_model.specs.Segments.{TEXT, DATA_CONST, OutputKey, same_key, key_of, common_key}
 use Rattle.macho_model.specs.Placement.{Placed}
-use Rattle.macho_object.specs.Views.{FileBytes, of_section, of_symbol_section, section_index_of}
+use Rattle.macho_object.specs.Views.{FileBytes, section_count, of_section, of_symbol_section, section_index_of}
+use Rattle.macho_linkedit.specs.declared.listing.LinkedObject.{LinkedObject}
 use Rattle.macho_tables.specs.declared.sections.MergedBy.{MergedBy}
 
 -- what sections are merged by, without where the names lie
@@ -57,6 +59,14 @@ symbol_header f index = header_with f (of_symbol_section f index (section_index_
 abbrev pub number_with : Placed → Option SectionHeader → ℕ
 number_with p None = 0
 number_with p (Some h) = number_told p (key_of h)
+
+-- the numbers of the output sections that the sections of an object are merged into, in order
+unfoldable pub sections_told : Placed → FileBytes → List ℕ
+sections_told p f = map (λ k. number_with p (header_with f (Some k))) (range_with_len 0 (section_count f.is_dynamic f.bytes))
+
+-- the same for each object
+abbrev pub objects_told : Placed → List LinkedObject → List (List ℕ)
+objects_told p objects = map (λ o. sections_told p o.file) objects
 
 -- the number of the output section that a symbol stands in
 abbrev pub section_told : Placed → FileBytes → ℕ → ℕ

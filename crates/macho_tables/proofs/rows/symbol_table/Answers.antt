@@ -1,5 +1,6 @@
--- The object of each symbol is there, and can have the symbol's row; that row is the next one of the table.
-use Rattle.std.proofs.Common.{◌<◌, ℕ, get_or, sym}
+-- The object of each symbol is there, and can have the symbol's row; its sections' numbers stand at its place. That row is the next one of
+-- the table.
+use Rattle.std.proofs.Common.{◌<◌, ℕ, get_or, sym, ◌∙◌}
 use Rattle.std.specs.Option.{option_copied}
 use Rattle.macho_model.specs.Objects.{num_symbols}
 use Rattle.macho_layout.specs.Placements.{placed_of}
@@ -11,16 +12,17 @@ use Rattle.macho_linkedit.specs.Symbols.{row_seen}
 use Rattle.macho_tables.proofs.TableRows.{in_table}
 use Rattle.macho_tables.proofs.Objects.{objects_rise, object_there, row_rests, strings_short}
 use Rattle.macho_tables.proofs.ListedRows.{item_listed, rows_to, table_more, table_whole}
+use Rattle.macho_tables.proofs.SectionNumbers.{numbers_of_object}
 use Rattle.macho_tables.proofs.rows.symbol_table.Goals as goal
 
 abbrev none : TableSymbol
 none = record { file = 0; symbol = 0 }
 
-pub place_of-requires-clause-rise : goal.place_of-requires-clause-rise
-place_of-requires-clause-rise g c = objects_rise c.requires.link.0 c.args.objects.now c.requires.link.2.objects_are
+pub place_of-place-requires-clause-rise : goal.place_of-place-requires-clause-rise
+place_of-place-requires-clause-rise g c = objects_rise c.requires.link.0 c.args.objects.now c.requires.link.2.objects_are
 
-pub place_of-requires-clause-there : goal.place_of-requires-clause-there
-place_of-requires-clause-there g c =
+pub place_of-place-requires-clause-there : goal.place_of-place-requires-clause-there
+place_of-place-requires-clause-there g c =
     let some = c.requires.link in
     let s = get_or c.as_slice-symbol-items.result.now c.loop-symbol.symbol-index none in
     let listed = item_listed some.0 c.args.listed.now c.as_slice-symbol-items.result.now c.loop-symbol.symbol-index none some.2.listed_are
@@ -34,8 +36,8 @@ row_of-requires-clause-symbol g c =
     let listed = item_listed some.0 c.args.listed.now c.as_slice-symbol-items.result.now c.loop-symbol.symbol-index none some.2.listed_are
     c.as_slice-symbol-items.ensures.value c.loop-symbol-test.true in
     (row_rests some.0 some.1 (placed_of c.args.placement.now) (g.P.Places.look c.args.places.now) c.args.objects.now c.args.listed.now
-    (option_copied c.args.lists) c.place_of.result c.index-objects-place_of.result (id_of_symbol s) some.2 listed c.place_of.ensures
-    c.index-objects-place_of.is).0
+    (option_copied c.args.lists) c.place_of-place.result c.index-objects-place.result (id_of_symbol s) some.2 listed
+    c.place_of-place.ensures c.index-objects-place.is).0
 
 pub row_of-requires-clause-known : goal.row_of-requires-clause-known
 row_of-requires-clause-known g c =
@@ -45,11 +47,18 @@ row_of-requires-clause-known g c =
     c.as_slice-symbol-items.ensures.value c.loop-symbol-test.true in
     let can = (row_rests some.0 some.1 (placed_of c.args.placement.now) (g.P.Places.look c.args.places.now) c.args.objects.now
     c.args.listed.now
-    (option_copied c.args.lists) c.place_of.result c.index-objects-place_of.result (id_of_symbol s) some.2 listed c.place_of.ensures
-    c.index-objects-place_of.is).0 in
+    (option_copied c.args.lists) c.place_of-place.result c.index-objects-place.result (id_of_symbol s) some.2 listed
+    c.place_of-place.ensures c.index-objects-place.is).0 in
     all_contains (λ (o : LinkedObject). (k : ℕ) → k < num_symbols o.file.bytes → g.P.Places.has_symbol c.args.places.now o.number k)
-    c.args.objects.now c.index-objects-place_of.result c.requires.symbols
-    (c.place_of.result, c.place_of.ensures.within, sym c.index-objects-place_of.is) s.symbol can.among
+    c.args.objects.now c.index-objects-place.result c.requires.symbols
+    (c.place_of-place.result, c.place_of-place.ensures.within, sym c.index-objects-place.is) s.symbol can.among
+
+pub row_of-requires-clause-told : goal.row_of-requires-clause-told
+row_of-requires-clause-told g c =
+    c.deref.ensures.value
+    ∙ numbers_of_object (placed_of c.args.placement.now) c.args.objects.now c.in_ok-numbers.numbers.items c.place_of-place.result
+    c.index-objects-place.result c.index.result.now c.in_ok-numbers.ensures c.place_of-place.ensures.within c.index-objects-place.is
+    c.index.ensures
 
 pub push-requires : goal.push-requires
 push-requires g c =
@@ -65,11 +74,11 @@ loop-symbol-preserved g c l counts to =
     let n = c.loop-symbol.symbol-index in
     let s = get_or now n none in
     let listed = item_listed l c.args.listed.now now n none to.listed_are c.as_slice-symbol-items.ensures.value c.loop-symbol-test.true in
-    let rests = row_rests l counts p look c.args.objects.now c.args.listed.now (option_copied c.args.lists) c.place_of.result
-    c.index-objects-place_of.result (id_of_symbol s) to listed c.place_of.ensures c.index-objects-place_of.is in
-    table_more l counts p c.args.listed.now now n none c.args.objects.now c.place_of.result c.index-objects-place_of.result
-    (row_seen c.row_of.result) c.push.new.self c.as_slice-symbol-items.ensures.value c.loop-symbol-test.true c.place_of.ensures
-    c.index-objects-place_of.is
+    let rests = row_rests l counts p look c.args.objects.now c.args.listed.now (option_copied c.args.lists) c.place_of-place.result
+    c.index-objects-place.result (id_of_symbol s) to listed c.place_of-place.ensures c.index-objects-place.is in
+    table_more l counts p c.args.listed.now now n none c.args.objects.now c.place_of-place.result c.index-objects-place.result
+    (row_seen c.row_of.result) c.push.new.self c.as_slice-symbol-items.ensures.value c.loop-symbol-test.true c.place_of-place.ensures
+    c.index-objects-place.is
     (c.row_of.ensures l counts rests.1)
     (c.in_ok-push.ensures (rows_to l counts p c.args.listed.now n) (c.loop-symbol.invariant l counts to))
 
