@@ -1,23 +1,32 @@
 -- Tables of addresses.
-use Rattle.std.specs.Prelude.{◌≡◌, ℕ, ◌==◌, ◌&&◌, Bool, List, [], ◌∷◌, map, filter, Option, Some, None}
-use Rattle.indexmap.specs.IndexMap.{IndexMap, get}
+use Rattle.std.specs.Prelude.{◌≡◌, ℕ, ◌==◌, ◌&&◌, nat_lt, if◌then◌else◌, Bool, List, [], length, get_or, map, filter, unwrap_or}
+use Rattle.std.specs.declared.vec.Vec.{Vec}
+use Rattle.indexmap.specs.IndexMap.{get}
 use Rattle.macho_model.specs.declared.placed.PlacedSection.{PlacedSection}
+use Rattle.macho_model.specs.Lists.{of_first}
 use Rattle.macho_model.specs.Placement.{Placed}
 use Rattle.macho_addresses.specs.declared.SectionKey.{SectionKey}
+use Rattle.macho_addresses.specs.declared.SectionTable.{SectionTable}
 use Rattle.macho_addresses.specs.declared.Addresses.{Addresses}
 
 abbrev pub same_section : SectionKey → SectionKey → Bool
 same_section a b = (a.file == b.file) && (a.section == b.section)
 
--- the address of the first of some sections
-abbrev pub first_address : List PlacedSection → Option ℕ
-first_address [] = None
-first_address (s ∷ sections) = Some s.address
+abbrev pub rows_of : {A : Type 0} → List (Vec ℕ A) → List (List ℕ)
+rows_of rows = map (λ r. r.items) rows
 
--- A table has the address of each section of a list, and of no other.
-abbrev pub HoldsSections : {S : Type 0} → IndexMap SectionKey ℕ S → List PlacedSection → Type 0
+-- the address that a table has for a section: in the file's row, or by its key where there is no row for it
+abbrev pub address_in : SectionTable → ℕ → ℕ → ℕ
+address_in table file section =
+    if nat_lt file (length table.rows.items) && nat_lt section 256 then get_or (get_or (rows_of table.rows.items) file []) section 0
+    else unwrap_or (get same_section table.others (record { file = file; section = section })) 0
+
+-- A table has the address of each section of a list, the first where it is listed twice, and 0 for each other.
+abbrev pub HoldsSections : SectionTable → List PlacedSection → Type 0
 HoldsSections table sections =
-    (file section : ℕ) → get same_section table (record { file = file; section = section }) ≡ first_address (filter (λ q. (q.file == file) && (q.section == section)) sections)
+    (file section : ℕ)
+    → address_in table file section
+    ≡ of_first 0 (λ q. q.address) (filter (λ q. (q.file == file) && (q.section == section)) sections)
 
 -- THE tables of a placement.
 pub record AreAddresses (a : Addresses) (q : Placed) : Type 0 where

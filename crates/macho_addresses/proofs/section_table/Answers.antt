@@ -5,6 +5,6 @@ use Rattle.macho_addresses.proofs.section_table.Goals as goal
 
 pub loop-done-preserved : goal.loop-done-preserved
 loop-done-preserved c =
-    table_more c.loop-done.table c.insert.new.self c.args.sections.now (length c.args.sections.now - 1 - c.loop-done.done) _ _ _
+    table_more c.loop-done.table c.put.new.self c.args.sections.now (length c.args.sections.now - 1 - c.loop-done.done) _ _ _
     (omega arith) (omega arith) (omega arith) c.loop-done.invariant
-    c.in_ok-insert.ensures.updates.0
+    c.in_ok-put.ensures
