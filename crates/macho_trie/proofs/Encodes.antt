@@ -202,9 +202,9 @@ bytes_same says p q i (edge label symbol below rest) h =
 
 -- names of the register
 pub names_long : (s : Symbols) → length (names_of s) ≡ length (symbols_of s)
-names_long s = length-map s.items.items (λ i. i.name.items) ∙ sym (length-map s.items.items symbol_of)
+names_long s = length-map s.items.items (λ i. i.name.now) ∙ sym (length-map s.items.items symbol_of)
 
-names_each : (items : List Symbol) (k : ℕ) → name_at (map (λ i. i.name.items) items) k ≡ (get_or (map symbol_of items) k (
+names_each : (items : List Symbol) (k : ℕ) → name_at (map (λ i. i.name.now) items) k ≡ (get_or (map symbol_of items) k (
   [],
   as_value
       0 0,

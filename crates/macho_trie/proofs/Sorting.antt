@@ -176,14 +176,15 @@ are_sorted names was items n distinct is begins moved sorted = record {
         ∙ sym (get_or-map (λ (p : List ℕ × ℕ). p.1) (map seen items) (k + 1) ([], 0) 0 h)))
 
 -- one name more before sorting
-pub numbered_more : (items : List Symbol) (before after : List (Bor (List ℕ) × ℕ)) (text : Bor (List ℕ)) (item : Symbol) (k : ℕ)
-    → map seen before ≡ numbered (map (λ (i : Symbol). i.name.items) items) k → after ≡ before ++ (text, k) ∷ []
-    → text.now ≡ item.name.items
-    → item ≡ get_or items k item → k < length items → map seen after ≡ numbered (map (λ (i : Symbol). i.name.items) items) (k + 1)
-numbered_more items before after text item k same pushed text_is item_is within =
-    let names : List (List ℕ) = map (λ (i : Symbol). i.name.items) items in
+pub numbered_more : (items view : List Symbol) (before after : List (Bor (List ℕ) × ℕ)) (k : ℕ) (d : Symbol)
+    → map seen before ≡ numbered (map (λ (i : Symbol). i.name.now) items) k → after ≡ before ++ ((get_or view k d).name, k) ∷ []
+    → view ≡ items → k < length items → map seen after ≡ numbered (map (λ (i : Symbol). i.name.now) items) (k + 1)
+numbered_more items view before after k d same pushed is within =
+    let names : List (List ℕ) = map (λ (i : Symbol). i.name.now) items in
+    let text : Bor (List ℕ) = (get_or view k d).name in
     let name_is : text.now ≡ name_at names k
-    = text_is ∙ ap (λ (i : Symbol). i.name.items) item_is ∙ sym (get_or-map (λ (i : Symbol). i.name.items) items k item [] within) in
+    = ap (λ (xs : List Symbol). (get_or xs k d).name.now) is
+    ∙ sym (get_or-map (λ (i : Symbol). i.name.now) items k d [] within) in
     let one : (let p : List ℕ × ℕ = (text.now, k) in p) ≡ (name_at names k, k) = ap (λ (n : List ℕ). (let p : List ℕ × ℕ = (n, k) in
     p)) name_is in
     ap (λ (xs : List (Bor (List ℕ) × ℕ)). map seen xs) pushed

@@ -7,7 +7,7 @@ use Rattle.macho_trie.specs.declared.symbols.Says.TheVariants.{Value, Reexport}
 
 abbrev pub said_of : Says → Exported
 said_of (Value flags address) = as_value flags address
-said_of (Reexport ordinal name) = as_reexport REEXPORT ordinal name.items
+said_of (Reexport ordinal name) = as_reexport REEXPORT ordinal name.now
 
 abbrev pub symbol_of : Symbol → List ℕ × Exported
-symbol_of s = (s.name.items, said_of s.says)
+symbol_of s = (s.name.now, said_of s.says)

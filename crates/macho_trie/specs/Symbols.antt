@@ -13,7 +13,7 @@ with_symbol symbols name x = symbols ++ (name, x) ∷ []
 
 -- the names alone
 abbrev pub names_of : Symbols → List (List ℕ)
-names_of s = map (λ i. i.name.items) s.items.items
+names_of s = map (λ i. i.name.now) s.items.items
 
 -- the names with one more at their end
 abbrev pub with_name : List (List ℕ) → List ℕ → List (List ℕ)

@@ -36,14 +36,14 @@ pub(crate) struct Open {
 /// place of the row after its subtree the number of rows from there to the end.
 #[derive(Drop)]
 pub(crate) struct Builder<'s> {
-    pub(crate) symbols: &'s Symbols,
+    pub(crate) symbols: &'s Symbols<'s>,
     pub(crate) rows: Vec<Row>,
     pub(crate) nodes: Vec<Open>,
 }
 
 impl<'s> Builder<'s> {
     /// The root alone.
-    pub(crate) fn new(alloc: Global, symbols: &'s Symbols) -> Result<Builder<'s>, AllocError>
+    pub(crate) fn new(alloc: Global, symbols: &'s Symbols<'s>) -> Result<Builder<'s>, AllocError>
         ensures empty { IfOk result (λ b. (rows_in b ≡ []) × (open_in b ≡ root_node ∷ [])) }
         ensures names { IfOk result (λ b. names_in b ≡ names_of symbols.now) }
     {
@@ -228,7 +228,7 @@ fn number_ends(rows: &mut [Row])
 /// The rows of the radix tree of sorted names, the root first.
 pub(crate) fn table_of(
     alloc: Global,
-    symbols: &Symbols,
+    symbols: &Symbols<'_>,
     sorted: &[(&[u8], usize)],
 ) -> Result<Vec<Row>, AllocError>
     requires sorted { AreSorted (names_of symbols.now) (map (λ p. (p.0.now, p.1)) sorted.now) }

@@ -19,7 +19,7 @@ use std::alloc::{AllocError, Global};
 /// A table with the symbols that its rows name.
 #[derive(Clone, Copy)]
 pub(crate) struct Layout<'a> {
-    pub(crate) symbols: &'a Symbols,
+    pub(crate) symbols: &'a Symbols<'a>,
     pub(crate) rows: &'a [Row],
 }
 
@@ -84,7 +84,7 @@ impl<'a> Layout<'a> {
         ensures sizes { IfOk result (λ v. AreSizes self.now (slice_index widths.now) v.items) }
         ensures parents { OnOk result (AreParents self.now parents.new) }
     {
-        let mut sizes = Vec::new(alloc);
+        let mut sizes = Vec::with_capacity(alloc, self.rows.len())?;
         for row in 0..self.rows.len() {
             let front = added(self.terminal_size(self.rows[row])?, 1)?;
             let edges = self.edges_size(row, widths, parents)?;
@@ -190,7 +190,7 @@ impl<'a> Layout<'a> {
 fn places_of(alloc: Global, sizes: &[usize]) -> Result<Vec<usize>, AllocError>
     ensures { IfOk result (λ v. AreSums sizes.now v.items) }
 {
-    let mut places = Vec::new(alloc);
+    let mut places = Vec::with_capacity(alloc, sizes.len() + 1)?;
     let mut place = 0;
     for size in sizes {
         places.push(place)?;
@@ -248,7 +248,7 @@ fn moved_edges(alloc: Global, before: &[usize], places: &[usize]) -> Result<Vec<
 }
 
 /// The bytes of a terminal part.
-pub(crate) fn export_size(says: &Says) -> Result<usize, AllocError>
+pub(crate) fn export_size(says: &Says<'_>) -> Result<usize, AllocError>
     ensures { IfOk result (λ n. n ≡ length (export_bytes (said_of says.now))) }
 {
     match says {

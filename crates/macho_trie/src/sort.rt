@@ -8,16 +8,16 @@ use crate::symbols::Symbols;
 use std::alloc::{AllocError, Global};
 
 /// All names in rising order of their bytes, each with the number of its symbol.
-pub(crate) fn sorted_names(
+pub(crate) fn sorted_names<'a>(
     alloc: Global,
-    symbols: &Symbols,
-) -> Result<Vec<(&[u8], usize)>, AllocError>
+    symbols: &Symbols<'a>,
+) -> Result<Vec<(&'a [u8], usize)>, AllocError>
     requires { AreDistinct (names_of symbols.now) }
     ensures { IfOk result (λ v. AreSorted (names_of symbols.now) (map (λ p. (p.0.now, p.1)) v.items)) }
 {
-    let mut names = Vec::new(alloc);
+    let mut names = Vec::with_capacity(alloc, symbols.len())?;
     for (symbol, item) in symbols.items.iter().enumerate() {
-        names.push((item.name.as_slice(), symbol))?;
+        names.push((item.name, symbol))?;
     }
     names.sort()?;
     Ok(names)

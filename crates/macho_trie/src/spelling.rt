@@ -22,13 +22,13 @@ use macho_records::write_uleb;
 use std::alloc::{AllocError, Global};
 
 impl<'a> Layout<'a> {
-    /// The bytes of all nodes, in preorder, at these places.
+    /// The bytes of all nodes, in preorder, at these places. The place after the last node is how many there are.
     pub(crate) fn spell(&self, alloc: Global, places: &[usize]) -> Result<Vec<u8>, AllocError>
         requires sound { IsLaid self.now }
-        requires places { length self.now.rows.now ≤ length places.now }
+        requires places { length self.now.rows.now < length places.now }
         ensures { IfOk result (λ v. v.items ≡ tree_bytes (says_at self.now) (slice_index places.now) 0 (tree_at self.now)) }
     {
-        let mut out = Vec::new(alloc);
+        let mut out = Vec::with_capacity(alloc, places[self.rows.len()])?;
         for row in 0..self.rows.len() {
             let node = self.rows[row];
             self.write_terminal(&mut out, node)?;
@@ -75,7 +75,7 @@ impl<'a> Layout<'a> {
         requires label { row.start + row.length ≤ length (name_at (names_at self.now) row.symbol) }
         ensures { OnOk result (out.new.items ≡ out.old.items ++ (label_of (names_at self.now) row ++ (0 ∷ uleb_of place))) }
     {
-        let name = self.symbols.items[row.symbol].name.as_slice();
+        let name = self.symbols.items[row.symbol].name;
         out.extend_from_slice(&name[row.start..row.start + row.length])?;
         out.push(0)?;
         write_uleb(out, place as u64)
@@ -83,7 +83,7 @@ impl<'a> Layout<'a> {
 }
 
 /// Appends what a terminal part says.
-fn write_export(out: &mut Vec<u8>, says: &Says) -> Result<(), AllocError>
+fn write_export(out: &mut Vec<u8>, says: &Says<'_>) -> Result<(), AllocError>
     ensures { OnOk result (out.new.items ≡ out.old.items ++ export_bytes (said_of says.now)) }
 {
     match says {

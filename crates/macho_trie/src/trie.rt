@@ -23,7 +23,7 @@ impl Trie {
     ghost use Rattle.macho_trie.specs.Tries.{IsTrieOf, IsSizeOf, IsLengthOfTrie, IsShortest, IsRoomFor, IsReservedFor, FindsAll, FindsOnly};
 
     /// The tree of a register's names, by one sort of them.
-    pub fn new(alloc: Global, symbols: &Symbols) -> Result<Trie, AllocError>
+    pub fn new(alloc: Global, symbols: &Symbols<'_>) -> Result<Trie, AllocError>
         requires distinct { AreDistinct (names_of symbols.now) }
         requires plain { HaveNoNul (names_of symbols.now) }
         ensures { IfOk result (λ trie. IsTrieOf trie (names_of symbols.now)) }
@@ -42,7 +42,11 @@ impl Trie {
     ///
     /// With the greatest addresses and flags 0, and reexports as they are, it is room enough for any addresses with
     /// flags below 128.
-    pub fn compute_byte_size(&self, alloc: Global, symbols: &Symbols) -> Result<usize, AllocError>
+    pub fn compute_byte_size(
+        &self,
+        alloc: Global,
+        symbols: &Symbols<'_>,
+    ) -> Result<usize, AllocError>
         requires { IsTrieOf self.now (names_of symbols.now) }
         ensures size { IfOk result (λ n. IsSizeOf self.now (names_of symbols.now) (symbols_of symbols.now) n) }
         ensures only { IfOk result (λ n. (m : ℕ) → IsSizeOf self.now (names_of symbols.now) (symbols_of symbols.now) m → m ≡ n) }
@@ -60,7 +64,7 @@ impl Trie {
     }
 
     /// The bytes of the trie, none for no symbols. The register has the names that the trie was made of, in the same order.
-    pub fn encode(&self, alloc: Global, symbols: &Symbols) -> Result<Vec<u8>, AllocError>
+    pub fn encode(&self, alloc: Global, symbols: &Symbols<'_>) -> Result<Vec<u8>, AllocError>
         requires { IsTrieOf self.now (names_of symbols.now) }
         ensures empty { symbols_of symbols.now ≡ [] → IfOk result (λ v. v.items ≡ []) }
         ensures tree { 1 ≤ length (symbols_of symbols.now) → IfOk result (λ v. IsExportsTrie (symbols_of symbols.now) v.items) }

@@ -8,8 +8,8 @@ use Rattle.macho_trie.proofs.build.table_of.Given as goal
 abbrev pub invariant-loop-left : goal.invariant-loop-left
 invariant-loop-left l = record {
   within : l.left < length l.sorted;
-  names : names_in l.builder ≡ names_of l.symbols;
-  built : AreBuilt (names_of l.symbols) (map seen l.sorted) l.left (rows_in l.builder) (open_in l.builder);
+  names : names_in l.builder ≡ names_of l.fn.symbols;
+  built : AreBuilt (names_of l.fn.symbols) (map seen l.sorted) l.left (rows_in l.builder) (open_in l.builder);
 }
 
 abbrev pub decreases-loop-left : goal.decreases-loop-left

@@ -10,7 +10,7 @@ use Rattle.macho_trie.proofs.layout.Layout.sizes.Goals as goal
 
 pub loop-row-init : goal.loop-row-init
 loop-row-init c = record {
-  first = c.new-sizes.ensures.items;
+  first = c.in_ok-sizes.ensures.items;
   named = named_first c.args.self.now c.args.parents.now c.requires.parents;
 }
 

@@ -11,7 +11,7 @@ pub returns : goal.returns
 returns c =
     let marked : c.args.row.is_terminal ≡ true = search rules in
     let is = says_is c.args.self.now.symbols.now.items.items c.args.row.symbol c.index.result.now
-    (omega (arith, c.requires, length-map c.args.self.now.symbols.now.items.items (λ i. i.name.items))) in
+    (omega (arith, c.requires, length-map c.args.self.now.symbols.now.items.items (λ i. i.name.now))) in
     on_ok_weaker c.write_export.result (λ after. terminal_spelled (says_at c.args.self.now) c.args.row _ c.in_ok-part.part
     c.args.out.now.items
     c.write_uleb.new.out.items c.write_export.new.out.items marked (is ∙ ap (λ s. said_of s.says) (sym c.index.ensures))
