@@ -21,9 +21,9 @@ use Rattle.macho_linkedit.specs.Tries.{said_of, kept_of, said, kept, names_in, H
 use Rattle.macho_linkedit.specs.steps.Values.{IsSmall, AreSmall}
 
 -- maps of equal functions, one after another
-first_of : (xs : List Symbol) → map (λ (p : List ℕ × Exported). p.0) (map symbol_of xs) ≡ map (λ i. i.name.items) xs
+first_of : (xs : List Symbol) → map (λ (p : List ℕ × Exported). p.0) (map symbol_of xs) ≡ map (λ i. i.name.now) xs
 first_of [] = refl
-first_of (x ∷ xs) = ap (λ (ns : List (List ℕ)). x.name.items ∷ ns) (first_of xs)
+first_of (x ∷ xs) = ap (λ (ns : List (List ℕ)). x.name.now ∷ ns) (first_of xs)
 
 names_kept : (xs : List NamedExport) → map (λ (p : List ℕ × Exported). p.0) (map kept xs) ≡ names_in xs
 names_kept [] = refl

@@ -74,10 +74,10 @@ pub fn reserve_trie(alloc: Global, exports: &[NamedExport<'_>]) -> Result<Reserv
 }
 
 /// The register of names, with what keeps the place of each.
-fn kept_symbols(alloc: Global, exports: &[NamedExport<'_>]) -> Result<Symbols, AllocError>
+fn kept_symbols<'a>(alloc: Global, exports: &[NamedExport<'a>]) -> Result<Symbols<'a>, AllocError>
     ensures { IfOk result (λ s. symbols_of s ≡ map kept exports.now) }
 {
-    let mut symbols = Symbols::new(alloc);
+    let mut symbols = Symbols::with_capacity(alloc, exports.len())?;
     for export in exports {
         match export.says {
             ExportSays::Value { .. } => symbols.push(export.name, u64::MAX, 0)?,
@@ -90,12 +90,12 @@ fn kept_symbols(alloc: Global, exports: &[NamedExport<'_>]) -> Result<Symbols, A
 }
 
 /// The register of names, with what each is exported as.
-fn said_symbols(alloc: Global, exports: &[NamedExport<'_>]) -> Result<Symbols, AllocError>
+fn said_symbols<'a>(alloc: Global, exports: &[NamedExport<'a>]) -> Result<Symbols<'a>, AllocError>
     requires { All (λ e. HasFlags e.says) exports.now }
     ensures are { IfOk result (λ s. symbols_of s ≡ map said exports.now) }
     ensures small { OnOk result (AreSmall exports.now (length exports.now)) }
 {
-    let mut symbols = Symbols::new(alloc);
+    let mut symbols = Symbols::with_capacity(alloc, exports.len())?;
     for export in exports {
         match export.says {
             ExportSays::Value { flags, value } => symbols.push(export.name, value, flags)?,
