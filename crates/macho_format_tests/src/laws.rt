@@ -158,7 +158,7 @@ fn plans_of_entries(text: u64, span: u64, entries: &[ResolvedUnwindInfo])
 }
 
 /// A size that a trie has is its only one.
-fn size_of_a_trie(trie: &Trie, symbols: &Symbols, size: usize)
+fn size_of_a_trie(trie: &Trie, symbols: &Symbols<'_>, size: usize)
     requires { IsSizeOf trie.now (names_of symbols.now) (symbols_of symbols.now) size }
     ensures { (n : ℕ) → IsSizeOf trie.now (names_of symbols.now) (symbols_of symbols.now) n → n ≡ size }
 {

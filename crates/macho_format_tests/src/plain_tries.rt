@@ -29,7 +29,7 @@ fn shared<'n>(first: &'n [u8], second: &[u8]) -> &'n [u8] {
 }
 
 /// The way to the next node behind another one, in order of their bytes.
-fn next_way<'n>(symbols: &'n Symbols, way: &[u8]) -> Option<&'n [u8]> {
+fn next_way<'n>(symbols: &Symbols<'n>, way: &[u8]) -> Option<&'n [u8]> {
     let mut next: Option<&[u8]> = None;
     for first in 0..symbols.len() {
         for second in 0..symbols.len() {
@@ -62,7 +62,7 @@ fn above(before: &[Node<'_>], way: &[u8]) -> usize {
 }
 
 /// The address of a name.
-fn address_of(symbols: &Symbols, addresses: &[u64], name: &[u8]) -> Option<u64> {
+fn address_of(symbols: &Symbols<'_>, addresses: &[u64], name: &[u8]) -> Option<u64> {
     for number in 0..symbols.len() {
         if symbols.name(number) == name {
             return addresses.get(number).copied();
@@ -74,7 +74,7 @@ fn address_of(symbols: &Symbols, addresses: &[u64], name: &[u8]) -> Option<u64> 
 /// All nodes in order, each at the place 0; there are fewer than 64.
 fn nodes_of<'n>(
     alloc: Global,
-    symbols: &'n Symbols,
+    symbols: &Symbols<'n>,
     addresses: &[u64],
 ) -> Result<Vec<Node<'n>>, AllocError> {
     let mut nodes = Vec::new(alloc);
@@ -158,7 +158,7 @@ fn written(alloc: Global, nodes: &mut [Node<'_>]) -> Result<Vec<u8>, AllocError>
 /// The bytes of the trie of names with these addresses and flags 0.
 pub(crate) fn plain_bytes(
     alloc: Global,
-    symbols: &Symbols,
+    symbols: &Symbols<'_>,
     addresses: &[u64],
 ) -> Result<Vec<u8>, AllocError> {
     let mut nodes = nodes_of(alloc, symbols, addresses)?;

@@ -18,7 +18,7 @@ const MAIN: [u8; 14] = [
 ];
 
 /// Whether a trie may be made of the names: looked up name by name.
-fn are_fit(symbols: &Symbols) -> bool
+fn are_fit(symbols: &Symbols<'_>) -> bool
     ensures distinct { IsTrue result → AreDistinct (names_of symbols.now) }
     ensures plain { IsTrue result → HaveNoNul (names_of symbols.now) }
 {
@@ -53,7 +53,7 @@ struct Made {
     room: usize,
 }
 
-fn spell(alloc: Global, trie: &Trie, symbols: &Symbols) -> Result<Made, AllocError>
+fn spell(alloc: Global, trie: &Trie, symbols: &Symbols<'_>) -> Result<Made, AllocError>
     requires { IsTrieOf trie.now (names_of symbols.now) }
 {
     let room = trie.compute_byte_size(alloc, symbols)?;
@@ -61,7 +61,7 @@ fn spell(alloc: Global, trie: &Trie, symbols: &Symbols) -> Result<Made, AllocErr
     Ok(Made { bytes, room })
 }
 
-fn make(alloc: Global, symbols: &Symbols) -> Result<Made, Fail> {
+fn make(alloc: Global, symbols: &Symbols<'_>) -> Result<Made, Fail> {
     if !are_fit(symbols) {
         return Err(Fail::from("no trie may be made"));
     }
@@ -73,7 +73,7 @@ fn make(alloc: Global, symbols: &Symbols) -> Result<Made, Fail> {
 /// A name, its address, and the library that has it too, or 0.
 type Name = (&'static [u8], u64, u64);
 
-fn add(symbols: &mut Symbols, name: &Name) -> Result<(), AllocError> {
+fn add<'n>(symbols: &mut Symbols<'n>, name: &'n Name) -> Result<(), AllocError> {
     let (name, address, library) = name;
     if *library == 0 {
         symbols.push(name, *address, 0)
@@ -82,7 +82,7 @@ fn add(symbols: &mut Symbols, name: &Name) -> Result<(), AllocError> {
     }
 }
 
-fn symbols_of(alloc: Global, names: &[Name]) -> Result<Symbols, AllocError> {
+fn symbols_of<'n>(alloc: Global, names: &'n [Name]) -> Result<Symbols<'n>, AllocError> {
     let mut symbols = Symbols::new(alloc);
     for name in names {
         add(&mut symbols, name)?;
@@ -138,56 +138,77 @@ fn prefixed(number: u16) -> [u8; 19] {
     name
 }
 
-/// 512 of these names, the last number first, with the greatest addresses or with powers of 2.
-fn many(alloc: Global, greatest: bool) -> Result<Symbols, AllocError> {
-    let mut symbols = Symbols::new(alloc);
+/// 512 of these names, the last number first.
+fn prefixed_names(alloc: Global) -> Result<Vec<[u8; 19]>, AllocError> {
+    let mut names = Vec::with_capacity(alloc, 512)?;
     for place in 0..512u16 {
+        names.push(prefixed(511 - place))?;
+    }
+    Ok(names)
+}
+
+/// Such names with the greatest addresses, or with powers of 2.
+fn many<'n>(
+    alloc: Global,
+    names: &'n [[u8; 19]],
+    greatest: bool,
+) -> Result<Symbols<'n>, AllocError> {
+    let mut symbols = Symbols::with_capacity(alloc, names.len())?;
+    for (place, name) in names.iter().enumerate() {
         let address = if greatest {
             u64::MAX
         } else {
-            1 << (place % 63)
+            1 << (place as u64 % 63)
         };
-        symbols.push(&prefixed(511 - place), address, 0)?;
+        symbols.push(name, address, 0)?;
     }
     Ok(symbols)
 }
 
-fn made_of_many(alloc: Global, greatest: bool) -> Result<Made, Fail> {
-    let symbols = many(alloc, greatest)?;
+fn made_of_many(alloc: Global, names: &[[u8; 19]], greatest: bool) -> Result<Made, Fail> {
+    let symbols = many(alloc, names, greatest)?;
     make(alloc, &symbols)
 }
 
 /// Places that reach 16,384 widen edges, and what is reserved is enough.
 #[test]
 fn reserved_room_is_enough(rt: HostRuntime) -> Result<(), Fail> {
-    let greatest = made_of_many(rt.alloc(), true)?;
-    let many = made_of_many(rt.alloc(), false)?;
+    let names = prefixed_names(rt.alloc())?;
+    let greatest = made_of_many(rt.alloc(), &names, true)?;
+    let many = made_of_many(rt.alloc(), &names, false)?;
     assert!(rt; many.bytes.len() == many.room && many.room <= greatest.room);
     Ok(())
 }
 
-/// 1,024 names, each a byte longer than the one before.
-fn deep(alloc: Global) -> Result<Symbols, AllocError> {
+/// All beginnings of a name but the empty one, each a byte longer than the one before.
+fn deep<'n>(alloc: Global, name: &'n [u8]) -> Result<Symbols<'n>, AllocError> {
     let mut symbols = Symbols::new(alloc);
-    let mut name = Vec::new(alloc);
-    for length in 1..1025u64 {
-        name.push(b'a')?;
-        symbols.push(&name, length, 0)?;
+    for place in 0..name.len() {
+        symbols.push(&name[..place + 1], place as u64 + 1, 0)?;
     }
     Ok(symbols)
 }
 
-/// All names of one byte.
-fn broad(alloc: Global) -> Result<Symbols, AllocError> {
+/// A name of one byte for each of these bytes.
+fn broad<'n>(alloc: Global, bytes: &'n [u8]) -> Result<Symbols<'n>, AllocError> {
     let mut symbols = Symbols::new(alloc);
-    for byte in 1..=255u8 {
-        symbols.push(&[byte], u64::from(byte), 0)?;
+    for place in 0..bytes.len() {
+        symbols.push(&bytes[place..place + 1], place as u64 + 1, 0)?;
     }
     Ok(symbols)
+}
+
+/// All bytes that a name may have.
+fn bytes_of_names(alloc: Global) -> Result<Vec<u8>, AllocError> {
+    let mut bytes = Vec::new(alloc);
+    for byte in 1..=255u8 {
+        bytes.push(byte)?;
+    }
+    Ok(bytes)
 }
 
 /// Whether each name leads to its number, from 1.
-fn lead_to_numbers(bytes: &[u8], symbols: &Symbols) -> bool {
+fn lead_to_numbers(bytes: &[u8], symbols: &Symbols<'_>) -> bool {
     for number in 0..symbols.len() {
         if found(bytes, symbols.name(number)) != [1, 0, number as u64 + 1] {
             return false;
@@ -197,7 +218,7 @@ fn lead_to_numbers(bytes: &[u8], symbols: &Symbols) -> bool {
 }
 
 /// Whether so many names do so in their trie.
-fn are_found(alloc: Global, symbols: &Symbols, many: usize) -> Result<bool, Fail> {
+fn are_found(alloc: Global, symbols: &Symbols<'_>, many: usize) -> Result<bool, Fail> {
     let made = make(alloc, symbols)?;
     Ok(symbols.len() == many && lead_to_numbers(&made.bytes, symbols))
 }
@@ -205,16 +226,18 @@ fn are_found(alloc: Global, symbols: &Symbols, many: usize) -> Result<bool, Fail
 /// One long way of a thousand nodes, and one node with all edges that there can be.
 #[test]
 fn deep_and_broad_tries(rt: HostRuntime) -> Result<(), Fail> {
-    let deep = deep(rt.alloc())?;
+    let name = vec![in rt.alloc(); b'a'; 1024]?;
+    let deep = deep(rt.alloc(), &name)?;
     assert!(rt; are_found(rt.alloc(), &deep, 1024)?);
-    let broad = broad(rt.alloc())?;
+    let bytes = bytes_of_names(rt.alloc())?;
+    let broad = broad(rt.alloc(), &bytes)?;
     assert!(rt; are_found(rt.alloc(), &broad, 255)?);
     Ok(())
 }
 
-fn is_there(symbols: &Symbols, name: &[u8]) -> bool {
-    for number in 0..symbols.len() {
-        if symbols.name(number) == name {
+fn is_there(names: &[Vec<u8>], name: &[u8]) -> bool {
+    for other in names {
+        if other.as_slice() == name {
             return true;
         }
     }
@@ -241,37 +264,50 @@ impl Sequence {
     }
 }
 
-/// Adds up to 14 names with their addresses.
+/// Adds up to 14 names, none twice, and their addresses.
 fn add_names(
-    symbols: &mut Symbols,
+    names: &mut Vec<Vec<u8>>,
     addresses: &mut Vec<u64>,
     sequence: &mut Sequence,
     round: u64,
 ) -> Result<(), AllocError> {
     for number in 0..(round % 15) {
         let name = sequence.name(*addresses.allocator())?;
-        if !is_there(symbols, &name) {
-            let address = number << (3 * (round % 20));
-            symbols.push(&name, address, 0)?;
-            addresses.push(address)?;
+        if !is_there(names, &name) {
+            names.push(name)?;
+            addresses.push(number << (3 * (round % 20)))?;
         }
     }
     Ok(())
 }
 
+/// Names with their addresses.
+fn with_addresses<'n>(
+    alloc: Global,
+    names: &'n [Vec<u8>],
+    addresses: &[u64],
+) -> Result<Symbols<'n>, AllocError> {
+    let mut symbols = Symbols::new(alloc);
+    for (number, name) in names.iter().enumerate() {
+        symbols.push(name, addresses.get(number).copied().unwrap_or(0), 0)?;
+    }
+    Ok(symbols)
+}
+
 /// Whether names have the same trie either way.
-fn is_plain_trie(alloc: Global, symbols: &Symbols, addresses: &[u64]) -> Result<bool, Fail> {
-    let made = make(alloc, symbols)?;
-    let plain = plain_bytes(alloc, symbols, addresses)?;
+fn is_plain_trie(alloc: Global, names: &[Vec<u8>], addresses: &[u64]) -> Result<bool, Fail> {
+    let symbols = with_addresses(alloc, names, addresses)?;
+    let made = make(alloc, &symbols)?;
+    let plain = plain_bytes(alloc, &symbols, addresses)?;
     Ok(made.bytes.as_slice() == plain.as_slice())
 }
 
 /// Whether a round's names have, or are none.
 fn is_plain_round(alloc: Global, sequence: &mut Sequence, round: u64) -> Result<bool, Fail> {
-    let mut symbols = Symbols::new(alloc);
+    let mut names = Vec::new(alloc);
     let mut addresses = Vec::new(alloc);
-    add_names(&mut symbols, &mut addresses, sequence, round)?;
-    Ok(addresses.is_empty() || is_plain_trie(alloc, &symbols, &addresses)?)
+    add_names(&mut names, &mut addresses, sequence, round)?;
+    Ok(names.is_empty() || is_plain_trie(alloc, &names, &addresses)?)
 }
 
 /// Small sets of names, of letters that an arithmetic sequence gives.
