@@ -4,15 +4,15 @@
 -- symbols up to one more adds that one where it stands in the table, with the bytes of its name and a NUL. The objects are
 -- those of the link in order, so their symbols one behind the other are the link's.
 use Rattle.std.proofs.Common.{◌≡◌, ℕ, ◌+◌, ◌-◌, ◌^◌, ◌<◌, ◌≤◌, ◌==◌, ◌&&◌, ◌||◌, not, if◌then◌else◌, Bool, true, false, cond, List, [], ◌∷◌, ◌++◌, map, take, drop, length, get_or, refl, sym, ap, subst, ◌∙◌, arith, Option, Some, None}
-use Rattle.std.specs.Prelude.{Contains, filter, sum_by}
+use Rattle.std.specs.Prelude.{All, Contains, filter, sum_by}
 use Rattle.std.specs.List.{flat_map, filter_map, cons_option, enumerate_from, position_or_len}
 use Rattle.std.proofs.lemmas.Bool.Decides.{nat_tests}
 use Rattle.std.proofs.lemmas.List.{append-nil, append_assoc, get_or_default, length-take, length-drop, map-append, take_more}
 use Rattle.std.proofs.lemmas.List.Concat.{flat_map-append}
-use Rattle.std.proofs.lemmas.List.Elements.{filter-append}
+use Rattle.std.proofs.lemmas.List.Elements.{All-nil, All-push, filter-append}
 use Rattle.std.proofs.lemmas.List.Folds.{flat_map-map}
 use Rattle.std.proofs.lemmas.List.FromFn.{map-range_with_len_more, get_or-enumerate_from, length-enumerate_from}
-use Rattle.std.proofs.lemmas.List.Sums.{sum_by-append, sum_by-cons}
+use Rattle.std.proofs.lemmas.List.Sums.{sum_by-append, sum_by-cons, prefix_len-le-length}
 use Rattle.macho_bytes.specs.Texts.{name_of}
 use Rattle.macho_records.specs.Symbols.{is_default_strippable_of, is_common_of}
 use Rattle.macho_records.specs.declared.symbols.SymtabEntry.{SymtabEntry}
@@ -31,7 +31,7 @@ use Rattle.macho_linkedit.specs.steps.Names.{AreNames}
 use Rattle.macho_linkedit.specs.declared.listing.LinkedObject.{LinkedObject}
 use Rattle.macho_linkedit.specs.declared.listing.TableSymbol.{TableSymbol}
 use Rattle.macho_linkedit.specs.declared.listing.TableSymbols.{TableSymbols}
-use Rattle.macho_linkedit.specs.Listing.{object_in, seen_object, AreObjects, id_of_symbol, AreListed}
+use Rattle.macho_linkedit.specs.Listing.{object_in, seen_object, AreObjects, id_of_symbol, HasLength, AreListed}
 use Rattle.macho_linkedit.specs.steps.Listing.{is_defined_symbol, name_length, symbols_in, Lists}
 use Rattle.macho_linkedit.proofs.Members.{in_map, from_filter_map}
 
@@ -126,6 +126,31 @@ found_name n b k e name are entry defined is =
     is ∙ ap (λ (xs : List ℕ). name_of (drop e.n_strx xs)) are.strings_are
     ∙ ap (λ (x : SymtabEntry). name_of (drop x.n_strx (strings_of b))) entry ∙ named_is b k defined
 
+-- a name of so many bytes, one or more, stands whole in the string table
+pub name_taken : (b : List ℕ) (k size : ℕ) → size ≡ length (symbol_name b k) → (size ≡ 0 → ⊥)
+    → ((symbol_at b k).n_strx + size ≤ length (strings_of b))
+    × (take size (drop (symbol_at b k).n_strx (strings_of b)) ≡ symbol_name b k)
+unfolding symbol_name
+name_taken b k size long some = by ((symbol_at b k).n_strx == 0) long
+  where
+    behind : List ℕ
+    behind = drop (symbol_at b k).n_strx (strings_of b)
+
+    end : ℕ
+    end = position_or_len (λ c. c == 0) behind
+
+    within : end ≤ length behind
+    within = prefix_len-le-length _ behind
+
+    by : (t : Bool) → size ≡ length (if t then [] else name_of behind)
+        → ((symbol_at b k).n_strx + size ≤ length (strings_of b)) × (take size behind ≡ (if t then [] else name_of behind))
+    by true is = absurd (some is)
+    by false is =
+        let same : size ≡ end = omega (arith, is, within, length-take end behind) in (
+          omega (arith, same, within, some, length-drop (symbol_at b k).n_strx (strings_of b)),
+          ap (λ (n : ℕ). take n behind) same,
+        )
+
 -- what holds of a string table holds of the names' own one
 pub own_names : (strings : List ℕ) (n : Names) → AreNames strings n → AreNames n.strings.now n
 own_names strings n are = subst (λ (xs : List ℕ). AreNames xs n) (sym are.strings_are) are
@@ -139,12 +164,14 @@ symbols_more : (file n : ℕ) (b : List ℕ) → symbols_in file b (n + 1) ≡ s
 symbols_more file n b = map-range_with_len_more (λ k. symbol_id file k) 0 n n (omega arith)
 
 pub lists_none : (l : Link) (file : ℕ) (b : List ℕ) (t : TableSymbols) → Lists l (symbols_in file b 0) t t
-lists_none l file b t = record { symbols_are = sym (append-nil (map id_of_symbol t.symbols.items)); strings_are = omega arith }
+lists_none l file b t =
+    record { symbols_are = sym (append-nil (map id_of_symbol t.symbols.items)); lengths_are = λ told. told; strings_are = omega arith }
 
 pub lists_skip : (l : Link) (file n : ℕ) (b : List ℕ) (old now : TableSymbols) → Lists l (symbols_in file b n) old now
     → None ≡ name_length l (symbol_id file n) → Lists l (symbols_in file b (n + 1)) old now
 lists_skip l file n b old now done none = record {
   symbols_are = done.symbols_are ∙ ap (λ (xs : List SymbolId). map id_of_symbol old.symbols.items ++ xs) same;
+  lengths_are = done.lengths_are;
   strings_are = done.strings_are ∙ ap (λ (xs : List SymbolId). old.strings + sum_by (λ s. text_size (name_at l s)) xs) same;
 }
   where
@@ -163,7 +190,7 @@ lists_skip l file n b old now done none = record {
         (filter (is_in_table l) (symbols_in file b n)))
 
 pub lists_add : (l : Link) (file n size : ℕ) (b : List ℕ) (old now next : TableSymbols) → Lists l (symbols_in file b n) old now
-    → Some size ≡ name_length l (symbol_id file n) → next.symbols.items ≡ now.symbols.items ++ record { file = file; symbol = n } ∷ []
+    → Some size ≡ name_length l (symbol_id file n) → next.symbols.items ≡ now.symbols.items ++ record { file = file; symbol = n; length = size } ∷ []
     → next.strings ≡ now.strings + (size + 1) → Lists l (symbols_in file b (n + 1)) old next
 lists_add l file n size b old now next done some pushed counted = record {
   symbols_are =
@@ -171,6 +198,7 @@ lists_add l file n size b old now next done some pushed counted = record {
       ∙ ap (λ (xs : List SymbolId). xs ++ symbol_id file n ∷ []) done.symbols_are
       ∙ append_assoc (map id_of_symbol old.symbols.items) (filter (is_in_table l) (symbols_in file b n)) (symbol_id file n ∷ [])
       ∙ ap (λ (xs : List SymbolId). map id_of_symbol old.symbols.items ++ xs) (sym more);
+  lengths_are = λ told. subst (All (HasLength l)) (sym pushed) (All-push (HasLength l) now.symbols.items s (done.lengths_are told) there.1);
   strings_are =
       omega (
         arith,
@@ -184,7 +212,7 @@ lists_add l file n size b old now next done some pushed counted = record {
 }
   where
     s : TableSymbol
-    s = record { file = file; symbol = n }
+    s = record { file = file; symbol = n; length = size }
 
     inside : (t : Bool) → is_in_table l (symbol_id file n) ≡ t → Some size ≡
         (if t then Some (length (name_at l (symbol_id file n))) else None)
@@ -208,6 +236,7 @@ lists_append l xs ys old now next first second = record {
       second.symbols_are ∙ ap (λ (zs : List SymbolId). zs ++ filter (is_in_table l) ys) first.symbols_are
       ∙ append_assoc (map id_of_symbol old.symbols.items) (filter (is_in_table l) xs) (filter (is_in_table l) ys)
       ∙ ap (λ (zs : List SymbolId). map id_of_symbol old.symbols.items ++ zs) (sym (filter-append (is_in_table l) xs ys));
+  lengths_are = λ told. second.lengths_are (first.lengths_are told);
   strings_are =
       omega (
         arith,
@@ -304,6 +333,7 @@ are_listed l objects old table are none one done = record {
       done.symbols_are ∙ ap (λ (xs : List TableSymbol). map id_of_symbol xs ++ filter (is_in_table l)
       (flat_map symbols_in_object objects)) none
       ∙ ap (filter (is_in_table l)) (symbols_are l objects are);
+  lengths_are = done.lengths_are (subst (All (HasLength l)) (sym none) (All-nil (HasLength l)));
   strings_are =
       done.strings_are
       ∙ ap (λ (n : ℕ). n + sum_by (λ s. text_size (name_at l s)) (filter (is_in_table l) (flat_map symbols_in_object objects))) one

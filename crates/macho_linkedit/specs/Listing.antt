@@ -1,5 +1,5 @@
 -- Which symbols of a link's objects stand in the symbol table, as they are listed before addresses are known.
-use Rattle.std.specs.Prelude.{◌≡◌, ℕ, ◌+◌, ◌<◌, ◌^◌, false, Bool, List, map, sum_by, All, Option, Some, None}
+use Rattle.std.specs.Prelude.{◌≡◌, ℕ, ◌+◌, ◌<◌, ◌^◌, false, Bool, List, length, map, sum_by, All, Option, Some, None}
 use Rattle.std.specs.List.{enumerate_from, filter_map}
 use Rattle.macho_model.specs.Objects.{num_symbols, symbol_name}
 use Rattle.macho_model.specs.Links.{Input, Object, Dylib, Stub, Link, object_of}
@@ -39,9 +39,14 @@ pub record CanBeListed (r : ResolvedRows) (objects : List LinkedObject) : Type 0
 abbrev pub id_of_symbol : TableSymbol → SymbolId
 id_of_symbol s = record { file = s.file; symbol = s.symbol }
 
--- THE symbols of the table, and the bytes of its strings.
+-- the bytes of its name are told
+abbrev pub HasLength : Link → TableSymbol → Type 0
+HasLength l s = s.length ≡ length (name_at l (id_of_symbol s))
+
+-- THE symbols of the table with the bytes of their names, and the bytes of its strings.
 pub record AreListed (l : Link) (t : TableSymbols) : Type 0 where
   pub symbols_are : map id_of_symbol t.symbols.items ≡ table_symbols l
+  pub lengths_are : All (HasLength l) t.symbols.items
   pub strings_are : t.strings ≡ 1 + sum_by (λ s. text_size (name_at l s)) (table_symbols l)
 
 -- What the row of a symbol is made of, besides its entry: its name, whether the export lists contain it, the number of its

@@ -6,7 +6,7 @@ ghost use Rattle.macho_model.specs.declared.placed.Counts.{Counts};
 ghost use Rattle.macho_model.specs.Placement.{Placed};
 ghost use Rattle.macho_linkedit.specs.TableRows.{row_of};
 ghost use Rattle.macho_linkedit.specs.Symbols.{row_seen};
-ghost use Rattle.macho_model.specs.Objects.{num_symbols, strings_of, symbol_at};
+ghost use Rattle.macho_model.specs.Objects.{num_symbols, strings_of, symbol_at, symbol_name};
 ghost use Rattle.macho_model.specs.Links.{Link, object_of};
 ghost use Rattle.macho_model.specs.SymbolTable.{is_in_table};
 ghost use Rattle.macho_symbols.specs.Kept.{IsResolved, HasSymbol, symbol_id};
@@ -32,6 +32,24 @@ pub struct LinkedObject<'a> {
     pub file: File<'a>,
 }
 
+impl<'a> LinkedObject<'a> {
+    /// The name of a symbol, found by the bytes that it has: none of them is read.
+    pub fn name(&self, index: u32, size: u32) -> &'a [u8]
+        requires among { index < num_symbols self.now.file.bytes }
+        requires size { size ≡ length (symbol_name self.now.file.bytes index) }
+        ensures { result.now ≡ symbol_name self.now.file.bytes index }
+    {
+        if size == 0 {
+            return &[];
+        }
+        let Some(symbol) = self.file.symbol(index) else {
+            unreachable!()
+        };
+        let at = symbol.n_strx as usize;
+        &self.file.strings()[at..at + size as usize]
+    }
+}
+
 /// A symbol of the table: a symbol of an object.
 #[derive(Clone, Copy)]
 pub struct TableSymbol {
@@ -39,6 +57,8 @@ pub struct TableSymbol {
     pub file: u32,
     /// The index of the symbol in it.
     pub symbol: u32,
+    /// The bytes of its name.
+    pub length: u32,
 }
 
 /// The symbols of the table, by object, then index.
@@ -117,6 +137,7 @@ fn list_object(
             table.symbols.push(TableSymbol {
                 file: object.number,
                 symbol,
+                length,
             })?;
             table.strings += u64::from(length) + 1;
         }

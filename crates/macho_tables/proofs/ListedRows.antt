@@ -12,8 +12,9 @@ use Rattle.macho_linkedit.specs.declared.listing.LinkedObject.{LinkedObject}
 use Rattle.macho_linkedit.specs.declared.listing.TableSymbol.{TableSymbol}
 use Rattle.macho_linkedit.specs.declared.listing.TableSymbols.{TableSymbols}
 use Rattle.macho_linkedit.specs.declared.symbols.SymbolTable.{SymbolTable}
-use Rattle.macho_linkedit.specs.Listing.{id_of_symbol, AreListed}
+use Rattle.macho_linkedit.specs.Listing.{id_of_symbol, HasLength, AreListed}
 use Rattle.macho_linkedit.specs.Symbols.{HasRows}
+use Rattle.macho_lists.proofs.Members.{all_contains}
 use Rattle.macho_tables.specs.steps.Rows.{IsObjectAt}
 use Rattle.macho_tables.proofs.Lists.{map_more}
 use Rattle.macho_tables.proofs.Numbered.{number_at}
@@ -32,6 +33,14 @@ pub item_listed : (l : Link) (t : TableSymbols) (now : List TableSymbol) (n : �
 item_listed l t now n d are same lt =
     symbol_listed l t n (get_or now n d) are (omega (arith, lt, ap (λ (xs : List TableSymbol). length xs) same))
     (same_item t now n d same lt)
+
+-- the bytes of its name are told
+pub item_long : (l : Link) (t : TableSymbols) (now : List TableSymbol) (n : ℕ) (d : TableSymbol) → AreListed l t → now ≡ t.symbols.items
+    → n < length now
+    → HasLength l (get_or now n d)
+item_long l t now n d are same lt =
+    all_contains (HasLength l) t.symbols.items (get_or now n d) are.lengths_are
+    (n, omega (arith, lt, ap (λ (xs : List TableSymbol). length xs) same), sym (same_item t now n d same lt))
 
 -- the rows of the first symbols
 abbrev pub rows_to : Link → Counts → Placed → TableSymbols → ℕ → List SymbolRow

@@ -92,6 +92,14 @@ symbol_listed l t n s are lt is =
     subst (λ (ids : List SymbolId). Contains ids (id_of_symbol s)) are.symbols_are
     (contains_map id_of_symbol t.symbols.items s (n, lt, sym is))
 
+-- The object of a number has the bytes of the link's file of that number.
+pub object_is : (l : Link) (objects : List LinkedObject) (file place : ℕ) (o : LinkedObject) → AreObjects l objects
+    → IsObjectAt objects file place → o ≡ get_or objects place o
+    → object_of l file ≡ o.file.bytes
+object_is l objects file place o are at is =
+    ap (object_of l) (sym at.is ∙ number_at objects place o at.within ∙ ap (λ (x : LinkedObject). x.number) (sym is))
+    ∙ bytes_are l objects place o are at.within is
+
 -- What a row of a listed symbol rests on, at the place of its object.
 pub row_rests : (l : Link) (counts : Counts) (p : Placed) (look : Look) (objects : List LinkedObject) (t : TableSymbols)
     (lists : Option ListEntries) (place : ℕ) (o : LinkedObject) (s : SymbolId)
@@ -126,7 +134,7 @@ row_rests l counts p look objects t lists place o s to listed at is = (
     bytes = bytes_are l objects place o to.objects_are at.within is
 
     same : object_of l s.file ≡ o.file.bytes
-    same = ap (object_of l) number ∙ bytes
+    same = object_is l objects s.file place o to.objects_are at is
 
 -- the strings of the first rows are short, where all are
 pub strings_short : (l : Link) (counts : Counts) (p : Placed) (t : TableSymbols) (n : ℕ) (table : SymbolTable) → AreListed l t

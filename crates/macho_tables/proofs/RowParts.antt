@@ -1,16 +1,12 @@
 -- The parts of a symbol's row, as they are looked up: its name, its section, its address.
-use Rattle.std.proofs.Common.{◌≡◌, ℕ, ◌<◌, ◌&&◌, not, Bool, true, false, List, refl, ap, ◌∙◌}
-use Rattle.std.specs.Prelude.{if◌then◌else◌, nat_lt, Some, None}
-use Rattle.std.proofs.lemmas.Bool.{lt-ltb}
-use Rattle.macho_records.specs.Symbols.{is_stab_of}
+use Rattle.std.proofs.Common.{◌≡◌, ℕ, ◌<◌, Bool, false, ap, ◌∙◌}
 use Rattle.macho_model.specs.declared.placed.Counts.{Counts}
-use Rattle.macho_model.specs.Objects.{num_symbols, symbol_at, symbol_name}
+use Rattle.macho_model.specs.Objects.{num_symbols}
 use Rattle.macho_model.specs.Links.{Link, object_of}
 use Rattle.macho_model.specs.Targets.{own_target, target_of}
 use Rattle.macho_model.specs.Placement.{Placed}
 use Rattle.macho_model.specs.Addresses.{address_of}
 use Rattle.macho_model.specs.SymbolEntries.{entry_section}
-use Rattle.macho_object.specs.Views.{FileBytes, symbol_name_of}
 use Rattle.macho_symbols.specs.Kept.{symbol_id}
 use Rattle.macho_fields.specs.Looks.{Look}
 use Rattle.macho_linkedit.specs.declared.listing.LinkedObject.{LinkedObject}
@@ -19,23 +15,6 @@ use Rattle.macho_fields.specs.steps.Fields.{wrapped_in}
 use Rattle.macho_tables.specs.steps.Sections.{section_told}
 use Rattle.macho_tables.proofs.Addressed.{told_address}
 use Rattle.macho_tables.proofs.TableRows.{IsInTable, own_is, section_is}
-
--- a name that a view shows
-pub name_seen : (f : FileBytes) (k : ℕ) (name : List ℕ) → k < num_symbols f.bytes → is_stab_of (symbol_at f.bytes k) ≡ false
-    → Some name ≡ symbol_name_of f k
-    → name ≡ symbol_name f.bytes k
-name_seen f k name lt plain is =
-    by (nat_lt k (num_symbols f.bytes)) (is_stab_of (symbol_at f.bytes k)) (lt-ltb k (num_symbols f.bytes) lt) plain is
-  where
-    by : (a b : Bool) → a ≡ true → b ≡ false → Some name ≡ (if (a && not b) then Some (symbol_name f.bytes k) else None)
-        → name ≡ symbol_name f.bytes k
-    by a b e g h =
-        let same : Some name ≡ Some (symbol_name f.bytes k) = h ∙ flags a b e g in
-        cc
-      where
-        flags : (a b : Bool) → a ≡ true → b ≡ false
-            → (if (a && not b) then Some (symbol_name f.bytes k) else None) ≡ Some (symbol_name f.bytes k)
-        flags a b e g = rw (e, g) refl
 
 -- the section that a view tells
 pub section_seen : (l : Link) (counts : Counts) (p : Placed) (look : Look) (o : LinkedObject) (index : ℕ) → IsToTable l counts p look

@@ -3,7 +3,7 @@ ghost use Rattle.std.specs.Prelude.{◌≡◌, ℕ, ◌<◌, ◌≤◌, ◌^◌,
 ghost use Rattle.std.specs.Option.{option_copied};
 ghost use Rattle.macho_model.specs.declared.placed.Counts.{Counts};
 ghost use Rattle.macho_model.specs.Links.{Link};
-ghost use Rattle.macho_model.specs.Objects.{num_symbols};
+ghost use Rattle.macho_model.specs.Objects.{num_symbols, symbol_name};
 ghost use Rattle.macho_model.specs.Exports.{is_listed};
 ghost use Rattle.macho_linkedit.specs.TableRows.{row_of, symbol_rows};
 ghost use Rattle.macho_layout.specs.Placements.{placed_of};
@@ -18,7 +18,7 @@ use crate::sections::{numbers_of_objects, section_of_symbol};
 use macho_exports::ExportList;
 use macho_fields::{Places, address_of};
 use macho_layout::Placement;
-use macho_linkedit::{LinkedObject, SymbolTable, TableRow, TableSymbols, table_row};
+use macho_linkedit::{LinkedObject, SymbolTable, TableRow, TableSymbol, TableSymbols, table_row};
 use std::alloc::{AllocError, Global};
 
 /// The place of the object of a number: the first whose number isn't below.
@@ -55,21 +55,21 @@ fn row_of<'a, P: Places>(
     places: &P,
     placement: &Placement,
     object: &LinkedObject<'a>,
-    index: u32,
+    symbol: TableSymbol,
     lists: Option<&ExportList>,
     numbers: &[u8],
 ) -> TableRow<'a>
     requires few { length placement.now.output_sections.items ≤ 255 }
     requires told { numbers.now ≡ sections_told (placed_of placement.now) object.now.file }
-    requires symbol { CanHaveRow object.now index }
-    requires known { P.has_symbol places.now object.now.number index }
-    ensures { (l : Link) (counts : Counts) → IsListed l counts (placed_of placement.now) (P.look places.now) object.now index
+    requires symbol { CanHaveRow object.now symbol.symbol }
+    requires size { symbol.length ≡ length (symbol_name object.now.file.bytes symbol.symbol) }
+    requires known { P.has_symbol places.now object.now.number symbol.symbol }
+    ensures { (l : Link) (counts : Counts) → IsListed l counts (placed_of placement.now) (P.look places.now) object.now symbol.symbol
         (option_copied lists.entry)
-        → row_seen result ≡ row_of l counts (placed_of placement.now) (symbol_id object.now.number index) }
+        → row_seen result ≡ row_of l counts (placed_of placement.now) (symbol_id object.now.number symbol.symbol) }
 {
-    let Some(name) = object.file.symbol_name(index) else {
-        unreachable!()
-    };
+    let index = symbol.symbol;
+    let name = object.name(index, symbol.length);
     let section = section_of_symbol(placement, object, index, numbers);
     let address = address_of(places, places.target(object.number, index));
     table_row(
@@ -117,7 +117,7 @@ pub fn symbol_table<P: Places>(
             places,
             placement,
             &objects[place],
-            symbol.symbol,
+            *symbol,
             lists,
             &numbers[place],
         ))?;

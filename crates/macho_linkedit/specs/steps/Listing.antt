@@ -1,5 +1,5 @@
 -- Symbols of an object as they are looked at one by one.
-use Rattle.std.specs.Prelude.{◌≡◌, ℕ, ◌+◌, ◌-◌, ◌*◌, ◌^◌, bit_or, ◌==◌, ◌&&◌, ◌||◌, not, if◌then◌else◌, Bool, List, ◌++◌, map, filter, length, sum_by, Option, Some, None}
+use Rattle.std.specs.Prelude.{◌≡◌, ℕ, ◌+◌, ◌-◌, ◌*◌, ◌^◌, bit_or, ◌==◌, ◌&&◌, ◌||◌, not, if◌then◌else◌, Bool, List, ◌++◌, map, filter, length, sum_by, All, Option, Some, None}
 use Rattle.std.specs.List.{range_with_len}
 use Rattle.macho_records.specs.Symbols.{is_common_of, is_hidden_of}
 use Rattle.macho_model.specs.Symbols.{is_absolute, is_global}
@@ -15,7 +15,7 @@ use Rattle.macho_parts.specs.Sizes.{text_size}
 use Rattle.macho_names.specs.Kept.{in_carried}
 use Rattle.macho_symbols.specs.Kept.{symbol_id}
 use Rattle.macho_linkedit.specs.declared.listing.TableSymbols.{TableSymbols}
-use Rattle.macho_linkedit.specs.Listing.{id_of_symbol}
+use Rattle.macho_linkedit.specs.Listing.{id_of_symbol, HasLength}
 
 abbrev pub is_defined_symbol : List ℕ → ℕ → Bool
 is_defined_symbol b k =
@@ -29,9 +29,10 @@ name_length l s = if is_in_table l s then Some (length (name_at l s)) else None
 abbrev pub symbols_in : ℕ → List ℕ → ℕ → List SymbolId
 symbols_in file b n = map (λ k. symbol_id file k) (range_with_len 0 n)
 
--- Of some symbols those that stand in the table are listed behind the others, and the bytes of their names are added.
+-- Of some symbols those that stand in the table are listed behind the others, and the bytes of their names are told and added.
 pub record Lists (l : Link) (symbols : List SymbolId) (old new : TableSymbols) : Type 0 where
   pub symbols_are : map id_of_symbol new.symbols.items ≡ map id_of_symbol old.symbols.items ++ filter (is_in_table l) symbols
+  pub lengths_are : All (HasLength l) old.symbols.items → All (HasLength l) new.symbols.items
   pub strings_are : new.strings ≡ old.strings + sum_by (λ s. text_size (name_at l s)) (filter (is_in_table l) symbols)
 
 -- the type and the description of a row, by the symbol's entry and whether its name is listed

@@ -6,7 +6,7 @@ use Rattle.macho_layout.specs.Placements.{placed_of}
 use Rattle.macho_symbols.specs.Kept.{symbol_id}
 use Rattle.macho_fields.specs.steps.Fields.{wrapped_in}
 use Rattle.macho_tables.proofs.TableRows.{in_table}
-use Rattle.macho_tables.proofs.RowParts.{name_seen, section_seen, address_seen}
+use Rattle.macho_tables.proofs.RowParts.{section_seen, address_seen}
 use Rattle.macho_tables.proofs.rows.row_of.Goals as goal
 
 pub returns : goal.returns
@@ -15,15 +15,15 @@ returns g c l counts is =
     let look = g.P.Places.look c.args.places.now in
     let o = c.args.object.now in
     let can = c.requires.symbol in
-    let in_it = in_table l (symbol_id o.number c.args.index) is.listed in
-    let name = name_seen o.file c.args.index c.in-Some.name.now can.among can.plain c.in-Some.ensures in
+    let index = c.args.symbol.symbol in
+    let in_it = in_table l (symbol_id o.number index) is.listed in
     c.table_row.ensures l counts p (record {
       bytes_are = is.bytes_are;
-      name_is = name;
-      listed_is = c.is_listed.ensures l is.lists_are ∙ ap (is_listed l) name;
-      section_is = c.section_of_symbol-section.ensures ∙ section_seen l counts p look o c.args.index is.link is.bytes_are can.kind in_it;
+      name_is = c.name-name.ensures;
+      listed_is = c.is_listed.ensures l is.lists_are ∙ ap (is_listed l) c.name-name.ensures;
+      section_is = c.section_of_symbol-section.ensures ∙ section_seen l counts p look o index is.link is.bytes_are can.kind in_it;
       address_is =
           c.address_of-address.ensures.wrapped ∙ ap (wrapped_in look) c.target.ensures
-          ∙ address_seen l counts p look o.number c.args.index is.link
-          (subst (λ (b : List ℕ). c.args.index < num_symbols b) (sym is.bytes_are) can.among) in_it;
+          ∙ address_seen l counts p look o.number index is.link
+          (subst (λ (b : List ℕ). index < num_symbols b) (sym is.bytes_are) can.among) in_it;
     })

@@ -1,8 +1,8 @@
 -- The object of each symbol is there, and can have the symbol's row; its sections' numbers stand at its place. That row is the next one of
 -- the table.
-use Rattle.std.proofs.Common.{◌<◌, ℕ, get_or, sym, ◌∙◌}
+use Rattle.std.proofs.Common.{◌<◌, ℕ, List, length, get_or, sym, ap, ◌∙◌}
 use Rattle.std.specs.Option.{option_copied}
-use Rattle.macho_model.specs.Objects.{num_symbols}
+use Rattle.macho_model.specs.Objects.{num_symbols, symbol_name}
 use Rattle.macho_layout.specs.Placements.{placed_of}
 use Rattle.macho_lists.proofs.Members.{all_contains}
 use Rattle.macho_linkedit.specs.declared.listing.LinkedObject.{LinkedObject}
@@ -10,13 +10,13 @@ use Rattle.macho_linkedit.specs.declared.listing.TableSymbol.{TableSymbol}
 use Rattle.macho_linkedit.specs.Listing.{id_of_symbol}
 use Rattle.macho_linkedit.specs.Symbols.{row_seen}
 use Rattle.macho_tables.proofs.TableRows.{in_table}
-use Rattle.macho_tables.proofs.Objects.{objects_rise, object_there, row_rests, strings_short}
-use Rattle.macho_tables.proofs.ListedRows.{item_listed, rows_to, table_more, table_whole}
+use Rattle.macho_tables.proofs.Objects.{objects_rise, object_there, object_is, row_rests, strings_short}
+use Rattle.macho_tables.proofs.ListedRows.{item_listed, item_long, rows_to, table_more, table_whole}
 use Rattle.macho_tables.proofs.SectionNumbers.{numbers_of_object}
 use Rattle.macho_tables.proofs.rows.symbol_table.Goals as goal
 
 abbrev none : TableSymbol
-none = record { file = 0; symbol = 0 }
+none = record { file = 0; symbol = 0; length = 0 }
 
 pub place_of-place-requires-clause-rise : goal.place_of-place-requires-clause-rise
 place_of-place-requires-clause-rise g c = objects_rise c.requires.link.0 c.args.objects.now c.requires.link.2.objects_are
@@ -52,6 +52,17 @@ row_of-requires-clause-known g c =
     all_contains (λ (o : LinkedObject). (k : ℕ) → k < num_symbols o.file.bytes → g.P.Places.has_symbol c.args.places.now o.number k)
     c.args.objects.now c.index-objects-place.result c.requires.symbols
     (c.place_of-place.result, c.place_of-place.ensures.within, sym c.index-objects-place.is) s.symbol can.among
+
+pub row_of-requires-clause-size : goal.row_of-requires-clause-size
+row_of-requires-clause-size g c =
+    let some = c.requires.link in
+    let now = c.as_slice-symbol-items.result.now in
+    let s = get_or now c.loop-symbol.symbol-index none in
+    item_long some.0 c.args.listed.now now c.loop-symbol.symbol-index none some.2.listed_are c.as_slice-symbol-items.ensures.value
+    c.loop-symbol-test.true
+    ∙ ap (λ (b : List ℕ). length (symbol_name b s.symbol))
+    (object_is some.0 c.args.objects.now s.file c.place_of-place.result c.index-objects-place.result some.2.objects_are
+    c.place_of-place.ensures c.index-objects-place.is)
 
 pub row_of-requires-clause-told : goal.row_of-requires-clause-told
 row_of-requires-clause-told g c =
