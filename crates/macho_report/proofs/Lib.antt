@@ -1,4 +1,5 @@
 pub mod Prints
+pub mod Pushes
 pub mod Words
 pub mod Listed
 pub use Rattle.macho_job.proofs.Sure

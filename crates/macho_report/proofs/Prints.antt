@@ -7,7 +7,7 @@ use Rattle.std.proofs.Common.{length, get_or, append_assoc, Option, Some, None, 
 use Rattle.std.specs.List.{flat_map}
 use Rattle.std.specs.Option.{option_map}
 use Rattle.std.proofs.Math.Seq.{drop-cons, take-append-add}
-use Rattle.std.proofs.lemmas.List.{append-nil, take-append-drop, take-append-le, take_min, take_all}
+use Rattle.std.proofs.lemmas.List.{append-nil, take-append-drop, take-append-le, take_min}
 use Rattle.std.proofs.lemmas.Grind.{flat_map-append}
 use Rattle.macho_devices.specs.Devices.{TakesBytes, TakesPrefix}
 use Rattle.macho_devices.specs.Faults.{CountsOn, CountRose}
@@ -37,36 +37,11 @@ takes-front a b c xs ys zs p q = record {
 }
 
 -- all pieces, around one of them
-around : {X : Type 0} (f : X → List ℕ) (xs : List X) (i : ℕ) (d : X) → i < length xs
+pub around : {X : Type 0} (f : X → List ℕ) (xs : List X) (i : ℕ) (d : X) → i < length xs
     → flat_map f xs ≡ flat_map f (take i xs) ++ (f (get_or xs i d) ++ flat_map f (drop (suc i) xs))
 around {X} f xs i d within =
     ap (flat_map f) (sym (take-append-drop i xs))
     ∙ (flat_map-append f (take i xs) (drop i xs) ∙ ap (λ (ys : List X). flat_map f (take i xs) ++ flat_map f ys) (drop-cons xs i d within))
-
--- a piece is refused
-pub piece-refused : {X A E : Type 0} (f : X → List ℕ) (xs : List X) (i : ℕ) (d : X) (a b c : Option (List ℕ)) (old mid new : ℕ)
-    (r : Result A E) (e : E) → r ≡ Err e
-    → i < length xs → TakesBytes a b (flat_map f (take i xs)) → TakesPrefix b c (f (get_or xs i d)) → CountsOn old mid → CountsOn mid new
-    → CountRose mid new
-    → IsPrinted a c old new (flat_map f xs) r
-piece-refused {X} {A} {E} f xs i d a b c old mid new r e is within p q before after rose =
-    subst (λ (s : Result A E). IsPrinted a c old new (flat_map f xs) s) (sym is) (record {
-      done = tt;
-      left = subst (λ (t : List ℕ). TakesPrefix a c t) (sym (around f xs i d within))
-          (takes-front a b c (flat_map f (take i xs)) (f (get_or xs i d)) (flat_map f (drop (suc i) xs)) p q);
-      why = rose-since old mid new before after rose;
-      counted = record {
-        never_falls = omega (arith, before.never_falls, after.never_falls);
-        never_passes = λ low. after.never_passes
-            (before.never_passes low);
-      };
-    })
-
--- all pieces are taken
-pub pieces-taken : {X : Type 0} (f : X → List ℕ) (xs : List X) (i : ℕ) (a b : Option (List ℕ)) → length xs ≤ i
-    → TakesBytes a b (flat_map f (take i xs))
-    → TakesBytes a b (flat_map f xs)
-pieces-taken {X} f xs i a b end p = subst (λ (ys : List X). TakesBytes a b (flat_map f ys)) (take_all i xs end) p
 
 -- a line that was printed was told
 pub told-by : {A E : Type 0} (a b : Option (List ℕ)) (old new : ℕ) (line : List ℕ) (r : Result A E) → IsPrinted a b old new line r

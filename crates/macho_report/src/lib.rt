@@ -4,6 +4,7 @@
 //! from `macho_job`.
 #![tactic(auto)]
 
+mod line_buffer;
 mod lines;
 mod map;
 mod pieces;

@@ -10,9 +10,11 @@ ghost use Rattle.macho_model.specs.Placement.{id_of};
 ghost use Rattle.macho_job.specs.Names.{names_of};
 ghost use Rattle.macho_report.specs.Lines.{hex_text, map_line};
 ghost use Rattle.macho_report.specs.Printing.{IsPrinted};
+ghost use Rattle.macho_report.specs.steps.Pushes.{IsPushed};
 ghost use Rattle.macho_report.specs.steps.Sections.{HasSection};
 
-use crate::pieces::{Piece, print_pieces};
+use crate::line_buffer::LineBuffer;
+use crate::pieces::{Piece, push_pieces};
 use macho_devices::{Sink, SinkFault};
 use macho_job::{FileNames, InputView, Linker};
 use macho_layout::PlacedSection;
@@ -29,33 +31,61 @@ pub(crate) fn print_map<O: Sink>(
     ensures { IsPrinted (O.taken out.old) (O.taken out.new) (O.faults out.old) (O.faults out.new)
         (flat_map (map_line linker.now (names_of names.now)) sections.now) result }
 {
+    let mut lines = LineBuffer::new();
+    push_sections(&mut lines, out, linker, names, sections)?;
+    lines.flush(out)
+}
+
+// The lines of the placed sections, one behind the other.
+fn push_sections<O: Sink>(
+    lines: &mut LineBuffer,
+    out: &mut O,
+    linker: &Linker,
+    names: &FileNames,
+    sections: &[PlacedSection],
+) -> Result<(), SinkFault>
+    requires { map id_of sections.now ≡ carried_of linker.now }
+    ensures { IsPushed (O.taken out.old) (O.taken out.new) (O.faults out.old) (O.faults out.new)
+        lines.old.held.items lines.new.held.items
+        (flat_map (map_line linker.now (names_of names.now)) sections.now) result }
+{
     for index in 0..sections.len() {
         let section = &sections[index];
-        print_section(out, linker, names, section)?;
+        push_section(lines, out, linker, names, section)?;
     }
     Ok(())
 }
 
 // The line of a placed section.
-fn print_section<O: Sink>(
+fn push_section<O: Sink>(
+    lines: &mut LineBuffer,
     out: &mut O,
     linker: &Linker,
     names: &FileNames,
     section: &PlacedSection,
 ) -> Result<(), SinkFault>
     requires { HasSection linker.now (id_of section.now) }
-    ensures { IsPrinted (O.taken out.old) (O.taken out.new) (O.faults out.old) (O.faults out.new)
-        (map_line linker.now (names_of names.now) section.now) result }
+    ensures { IsPushed (O.taken out.old) (O.taken out.new) (O.faults out.old) (O.faults out.new)
+        lines.old.held.items lines.new.held.items (map_line linker.now (names_of names.now) section.now) result }
 {
     let header = header_of(linker, section);
     let segment = name_bytes(&header.segname);
     let name = name_bytes(&header.sectname);
     let path = names.path(section.file);
-    print_row(out, section.address, header.size, segment, name, path)
+    push_row(
+        lines,
+        out,
+        section.address,
+        header.size,
+        segment,
+        name,
+        path,
+    )
 }
 
 // A row of the map.
-fn print_row<'a, O: Sink>(
+fn push_row<'a, O: Sink>(
+    lines: &mut LineBuffer,
     out: &mut O,
     address: u64,
     size: u64,
@@ -63,7 +93,8 @@ fn print_row<'a, O: Sink>(
     name: &'a [u8],
     path: &'a [u8],
 ) -> Result<(), SinkFault>
-    ensures { IsPrinted (O.taken out.old) (O.taken out.new) (O.faults out.old) (O.faults out.new)
+    ensures { IsPushed (O.taken out.old) (O.taken out.new) (O.faults out.old) (O.faults out.new)
+        lines.old.held.items lines.new.held.items
         (flat_map (λ piece. piece) (hex_text address ∷ codes " " ∷ hex_text size ∷ codes " " ∷ segment.now ∷ codes "," ∷ name.now
         ∷ codes " " ∷ path.now ∷ codes "\n" ∷ [])) result }
 {
@@ -79,7 +110,7 @@ fn print_row<'a, O: Sink>(
         Piece::Text(path),
         Piece::Text(b"\n"),
     ];
-    print_pieces(out, &pieces)
+    push_pieces(lines, out, &pieces)
 }
 
 // The header of a placed section in its object.

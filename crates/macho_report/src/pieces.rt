@@ -1,11 +1,13 @@
-//! Texts that are printed piece by piece, without memory.
+//! Texts that are printed piece by piece through a buffer of lines, without memory.
 
 ghost use Rattle.std.specs.Prelude.{◌≡◌};
 ghost use Rattle.hex.specs.Hex.{encode_lower};
 ghost use Rattle.std.specs.List.{flat_map};
 ghost use Rattle.macho_report.specs.Lines.{hex_text};
 ghost use Rattle.macho_report.specs.Printing.{IsPrinted, piece_text};
+ghost use Rattle.macho_report.specs.steps.Pushes.{IsPushed};
 
+use crate::line_buffer::LineBuffer;
 use byteorder::{BigEndian, ByteOrder};
 use itoa::Buffer;
 use macho_devices::{Sink, SinkFault};
@@ -28,24 +30,43 @@ pub(crate) fn print_pieces<S: Sink>(sink: &mut S, pieces: &[Piece<'_>]) -> Resul
     ensures { IsPrinted (S.taken sink.old) (S.taken sink.new) (S.faults sink.old) (S.faults sink.new)
         (flat_map piece_text pieces.now) result }
 {
+    let mut lines = LineBuffer::new();
+    push_pieces(&mut lines, sink, pieces)?;
+    lines.flush(sink)
+}
+
+/// Pushes the pieces, one behind the other. Where the sink fails, nothing more is printed.
+pub(crate) fn push_pieces<S: Sink>(
+    lines: &mut LineBuffer,
+    sink: &mut S,
+    pieces: &[Piece<'_>],
+) -> Result<(), SinkFault>
+    ensures { IsPushed (S.taken sink.old) (S.taken sink.new) (S.faults sink.old) (S.faults sink.new)
+        lines.old.held.items lines.new.held.items (flat_map piece_text pieces.now) result }
+{
     for index in 0..pieces.len() {
         let piece = &pieces[index];
-        print_piece(sink, piece)?;
+        push_piece(lines, sink, piece)?;
     }
     Ok(())
 }
 
-fn print_piece<S: Sink>(sink: &mut S, piece: &Piece<'_>) -> Result<(), SinkFault>
-    ensures { IsPrinted (S.taken sink.old) (S.taken sink.new) (S.faults sink.old) (S.faults sink.new) (piece_text piece.now) result }
+fn push_piece<S: Sink>(
+    lines: &mut LineBuffer,
+    sink: &mut S,
+    piece: &Piece<'_>,
+) -> Result<(), SinkFault>
+    ensures { IsPushed (S.taken sink.old) (S.taken sink.new) (S.faults sink.old) (S.faults sink.new)
+        lines.old.held.items lines.new.held.items (piece_text piece.now) result }
 {
     match *piece {
-        Piece::Text(text) => sink.write(text),
+        Piece::Text(text) => lines.push(sink, text),
         Piece::Number(number) => {
             let mut buffer = Buffer::new();
-            sink.write(buffer.format(number).as_bytes())
+            lines.push(sink, buffer.format(number).as_bytes())
         }
-        Piece::Address(address) => sink.write(&hex_digits(address)),
-        Piece::Digest(digest) => sink.write(&digest_digits(digest)),
+        Piece::Address(address) => lines.push(sink, &hex_digits(address)),
+        Piece::Digest(digest) => lines.push(sink, &digest_digits(digest)),
     }
 }
 
