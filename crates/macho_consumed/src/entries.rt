@@ -62,7 +62,7 @@ fn bad_unwind(file: u32, section: u32, entry: u32, rule: UnwindRule) -> Consumed
 /// last one is cut is looked at behind them.
 pub(crate) fn add_entries(
     alloc: Global,
-    symbols: &Resolved,
+    symbols: &Resolved<'_>,
     file: &File<'_>,
     number: u32,
     section: u32,

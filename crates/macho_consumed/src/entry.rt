@@ -151,7 +151,7 @@ impl Section<'_, '_> {
     /// The personality function of an entry, by the number of that address's relocation.
     fn personality(
         &self,
-        symbols: &Resolved,
+        symbols: &Resolved<'_>,
         file: u32,
         number: Option<u32>,
     ) -> Result<Option<PersonalityUse>, UnwindRule>
@@ -238,7 +238,7 @@ impl Section<'_, '_> {
     /// An entry, by the words and the relocations that it has.
     pub(crate) fn entry(
         &self,
-        symbols: &Resolved,
+        symbols: &Resolved<'_>,
         file: u32,
         entry: u32,
         places: &[Cell],

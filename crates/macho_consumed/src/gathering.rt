@@ -18,7 +18,7 @@ use std::alloc::Global;
 pub(crate) fn gather_initializers(
     alloc: Global,
     files: &[Option<File<'_>>],
-    symbols: &Resolved,
+    symbols: &Resolved<'_>,
 ) -> Result<Vec<Initializer>, ConsumedFault>
     requires { AreKept files.now symbols.now.files }
     ensures rows { IfOk result (λ v. v.items ≡ flat_map (initializers_at files.now) (all_of Kind.Initializers files.now)) }
@@ -40,7 +40,7 @@ pub(crate) fn gather_initializers(
 pub(crate) fn gather_entries(
     alloc: Global,
     files: &[Option<File<'_>>],
-    symbols: &Resolved,
+    symbols: &Resolved<'_>,
 ) -> Result<Vec<UnwindEntry>, ConsumedFault>
     requires { AreKept files.now symbols.now.files }
     ensures rows { IfOk result (λ v. v.items ≡ flat_map (entries_at files.now) (all_of Kind.Entries files.now)) }

@@ -24,7 +24,7 @@ use std::alloc::Global;
 pub fn read_initializers(
     alloc: Global,
     files: &[Option<File<'_>>],
-    symbols: &Resolved,
+    symbols: &Resolved<'_>,
 ) -> Result<Vec<Initializer>, ConsumedFault>
     requires { AreKept files.now symbols.now.files }
     ensures rows { (l : Link) → files.now ≡ views_of l → IfOk result (λ v. v.items ≡ initializer_rows l) }
@@ -43,7 +43,7 @@ pub fn read_initializers(
 pub fn read_entries(
     alloc: Global,
     files: &[Option<File<'_>>],
-    symbols: &Resolved,
+    symbols: &Resolved<'_>,
 ) -> Result<Vec<UnwindEntry>, ConsumedFault>
     requires { AreKept files.now symbols.now.files }
     ensures rows { (l : Link) → files.now ≡ views_of l → IfOk result (λ v. v.items ≡ entry_rows l) }

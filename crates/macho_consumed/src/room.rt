@@ -44,7 +44,7 @@ impl<T: Drop> From<AllocFailed<T>> for RoomFault {
 }
 
 /// The number of the slot of an entry's personality function, if it has one.
-fn slot_of(needs: &Needs, entry: UnwindEntry) -> Option<usize>
+fn slot_of(needs: &Needs<'_>, entry: UnwindEntry) -> Option<usize>
     requires { HasPersonality needs.now.resolved entry }
     ensures { (l : Link) → AreNoted l needs.now → result ≡ number_of_target l entry.file entry.personality }
 {
@@ -59,7 +59,7 @@ fn slot_of(needs: &Needs, entry: UnwindEntry) -> Option<usize>
 }
 
 /// An entry, as the bound asks for it. A number of 2^32 or more would take more memory than there is.
-fn input(needs: &Needs, entry: UnwindEntry) -> Result<UnwindInput, AllocError>
+fn input(needs: &Needs<'_>, entry: UnwindEntry) -> Result<UnwindInput, AllocError>
     requires { HasPersonality needs.now.resolved entry }
     ensures { (l : Link) → AreNoted l needs.now → IfOk result (λ i. i ≡ input_by l entry) }
 {
@@ -78,7 +78,7 @@ fn input(needs: &Needs, entry: UnwindEntry) -> Result<UnwindInput, AllocError>
 /// The entries, as the bound asks for them.
 fn inputs(
     alloc: Global,
-    needs: &Needs,
+    needs: &Needs<'_>,
     entries: &[UnwindEntry],
 ) -> Result<Vec<UnwindInput>, AllocError>
     requires { All (HasPersonality needs.now.resolved) entries.now }
@@ -99,7 +99,7 @@ fn inputs(
 /// More than three personality functions, a room of 2^64 bytes or more, or not enough memory.
 pub fn unwind_room(
     alloc: Global,
-    needs: &Needs,
+    needs: &Needs<'_>,
     entries: &[UnwindEntry],
     span: u64,
 ) -> Result<u64, RoomFault>

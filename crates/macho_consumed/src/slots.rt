@@ -76,7 +76,7 @@ fn bad_initializer(file: u32, section: u32, offset: u64) -> ConsumedFault
 /// relocation stands between it and the next.
 pub(crate) fn add_initializers(
     alloc: Global,
-    symbols: &Resolved,
+    symbols: &Resolved<'_>,
     file: &File<'_>,
     number: u32,
     section: u32,

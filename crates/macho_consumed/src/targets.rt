@@ -36,7 +36,7 @@ fn is_somewhere(target: Target) -> bool
 }
 
 /// Whether an initializer is a place in a carried section.
-pub(crate) fn leads_into(symbols: &Resolved, row: Initializer) -> bool
+pub(crate) fn leads_into(symbols: &Resolved<'_>, row: Initializer) -> bool
     requires { HasSymbol symbols.now row.file row.relocation.r_symbolnum }
     ensures { (l : Link) (noted : List (List ℕ)) → IsResolved l noted symbols.now → result ≡ leads_into l noted row }
 {
@@ -44,7 +44,7 @@ pub(crate) fn leads_into(symbols: &Resolved, row: Initializer) -> bool
 }
 
 /// Whether a personality function is defined, or one of a library.
-pub(crate) fn leads_somewhere(symbols: &Resolved, file: u32, used: PersonalityUse) -> bool
+pub(crate) fn leads_somewhere(symbols: &Resolved<'_>, file: u32, used: PersonalityUse) -> bool
     requires { HasSymbol symbols.now file used.relocation.r_symbolnum }
     ensures { (l : Link) (noted : List (List ℕ)) → IsResolved l noted symbols.now → result ≡ leads_somewhere l noted file (Some used) }
 {

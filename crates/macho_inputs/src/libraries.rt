@@ -67,7 +67,7 @@ fn kept_names(
 /// There is not enough memory.
 pub fn needed_libraries(
     alloc: Global,
-    symbols: &Resolved,
+    symbols: &Resolved<'_>,
     dead_strip_dylibs: bool,
 ) -> Result<Vec<Vec<u8>>, AllocError>
     ensures { (l : Link) → l.dead_strip_dylibs ≡ dead_strip_dylibs → IsResolved l (imports_of l) symbols.now

@@ -17,7 +17,11 @@ use macho_symbols::{Resolved, Resolver};
 use std::alloc::{AllocError, Global};
 
 /// Takes in what is kept of an input.
-fn add_input(alloc: Global, resolver: &mut Resolver, input: &OwnedInput) -> Result<(), AllocError>
+fn add_input<'data>(
+    alloc: Global,
+    resolver: &mut Resolver<'data>,
+    input: &'data OwnedInput,
+) -> Result<(), AllocError>
     requires rules { IsInput (input_of input.now) }
     requires few { length resolver.old < 2 ^ 32 - 1 }
     ensures { (inputs : List Input) → Keeps inputs resolver.old → OnOk result (Keeps (inputs ++ input_of input.now ∷ []) resolver.new) }
@@ -42,7 +46,10 @@ fn add_input(alloc: Global, resolver: &mut Resolver, input: &OwnedInput) -> Resu
 /// # Errors
 ///
 /// `DuplicateSymbol` where two objects define a name strongly, and `OutOfMemory`.
-pub fn resolve_inputs(alloc: Global, inputs: &[OwnedInput]) -> Result<Resolved, LinkError>
+pub fn resolve_inputs<'data>(
+    alloc: Global,
+    inputs: &'data [OwnedInput],
+) -> Result<Resolved<'data>, LinkError>
     requires rules { All (λ input. IsInput (input_of input)) inputs.now }
     requires few { length inputs.now < 2 ^ 32 }
     ensures done { (l : Link) → l.inputs ≡ map input_of inputs.now → IfOk result (λ r. IsResolved l [] r) }

@@ -85,7 +85,7 @@ fn listed_name(
     object: &LinkedObject<'_>,
     names: &Names<'_>,
     index: u32,
-    resolved: &Resolved,
+    resolved: &Resolved<'_>,
 ) -> Option<u32>
     requires object { object.now.file.is_dynamic ≡ false }
     requires names { AreNames (strings_of object.now.file.bytes) names.now }
@@ -119,7 +119,7 @@ fn listed_name(
 fn list_object(
     alloc: Global,
     object: &LinkedObject<'_>,
-    resolved: &Resolved,
+    resolved: &Resolved<'_>,
     table: &mut TableSymbols,
 ) -> Result<(), AllocError>
     requires object { object.now.file.is_dynamic ≡ false }
@@ -153,7 +153,7 @@ fn list_object(
 pub fn table_symbols(
     alloc: Global,
     objects: &[LinkedObject<'_>],
-    resolved: &Resolved,
+    resolved: &Resolved<'_>,
 ) -> Result<TableSymbols, AllocError>
     requires { CanBeListed resolved.now objects.now }
     ensures { (l : Link) (noted : List (List ℕ)) → IsResolved l noted resolved.now → AreObjects l objects.now → IfOk result (AreListed l) }

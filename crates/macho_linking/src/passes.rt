@@ -44,12 +44,12 @@ fn entry_name<'a>(asked: &LinkAsked<'a>) -> Option<&'a [u8]>
 }
 
 /// Resolves the symbols of the inputs, and reads what the objects ask for.
-fn read_inputs(
+fn read_inputs<'a>(
     alloc: Global,
-    asked: &LinkAsked<'_>,
+    asked: &LinkAsked<'a>,
     views: &[Option<File<'_>>],
     list: Option<&ExportList>,
-) -> Result<ReadLink, LinkError>
+) -> Result<ReadLink<'a>, LinkError>
     requires given { IsGiven asked.now }
     requires views { views.now ≡ views_of (link_asked asked.now) }
     requires lists { AreLists (link_asked asked.now) (option_copied list) }
@@ -83,7 +83,7 @@ fn size_inputs<'a>(
     views: &'a [Option<File<'a>>],
     objects: &'a [LinkedObject<'a>],
     list: Option<&'a ExportList>,
-    read: &'a ReadLink,
+    read: &'a ReadLink<'a>,
     libraries: &'a [Vec<u8>],
 ) -> Result<SizedLink, LinkError>
     requires { IsToSize (link_asked asked.now) views.now objects.now (option_copied list) read.now (map (λ n. n.items) libraries.now) }
@@ -140,7 +140,7 @@ struct Made {
 fn make_image(
     alloc: Global,
     viewed: &Viewed<'_>,
-    read: &ReadLink,
+    read: &ReadLink<'_>,
     libraries: &[Vec<u8>],
     uuid: [u8; 16],
 ) -> Result<Made, LinkError>
@@ -183,11 +183,11 @@ fn make_image(
 fn answer(
     alloc: Global,
     made: Made,
-    read: ReadLink,
+    read: ReadLink<'_>,
     libraries: Vec<Vec<u8>>,
 ) -> Result<LinkedImage, LinkError>
     requires few { length libraries.items + 1 < 2 ^ 32 }
-    ensures done { (l : Link) (uuid : List ℕ) → IsToAnswer l uuid made.written made.sized read (map (λ n. n.items) libraries.items)
+    ensures done { (l : Link) (uuid : List ℕ) → IsToAnswer l uuid made.written made.sized read.entry (map (λ n. n.items) libraries.items)
         → IfOk result (IsImageOf l uuid) }
     ensures why { IfErr result (λ e. e ≡ OutOfMemory) }
 {
@@ -208,7 +208,7 @@ fn answer(
 fn link_read(
     alloc: Global,
     viewed: &Viewed<'_>,
-    read: ReadLink,
+    read: ReadLink<'_>,
     libraries: Vec<Vec<u8>>,
     uuid: [u8; 16],
 ) -> Result<LinkedImage, LinkError>

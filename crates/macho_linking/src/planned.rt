@@ -18,7 +18,7 @@ pub(crate) struct Planned<'a> {
     /// The entries of the export lists, where there are any.
     pub(crate) list: Option<&'a ExportList>,
     /// What the objects ask for.
-    pub(crate) read: &'a ReadLink,
+    pub(crate) read: &'a ReadLink<'a>,
     /// The libraries that the image needs.
     pub(crate) libraries: &'a [Vec<u8>],
     /// Sizes and placement.

@@ -1,4 +1,4 @@
--- What a resolver keeps of its inputs, so that it needs none of their bytes: a row for each symbol of an object, and a
+-- What a resolver keeps of its inputs, so that it reads nothing else of them: a row for each symbol of an object, and a
 -- row for each name that a library offers.
 use Rattle.std.specs.Prelude.{◌≡◌, ℕ, ◌-◌, ◌&&◌, ◌||◌, not, if◌then◌else◌, Bool, true, false, List, [], ◌++◌, map, filter, Option, Some, None}
 use Rattle.std.specs.List.{range_with_len}

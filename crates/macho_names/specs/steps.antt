@@ -3,3 +3,4 @@ pub mod Events
 pub mod Found
 pub mod Notes
 pub mod Tables
+pub mod Texts

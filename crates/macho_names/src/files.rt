@@ -1,7 +1,7 @@
 //! What is kept of one input: the bytes with its names, and a note for each symbol or for each name that it offers.
 //!
-//! The string table of an object or of a dynamic library is copied once, and a note holds a place and a length in it:
-//! names that share bytes there share them here.
+//! A note holds a place and a length in these bytes. Those of an object or of a dynamic library are its string table, which stays
+//! in the input: names that share bytes there share them here. The names of a stub are joined into one text.
 ghost use Rattle.std.specs.Prelude.{◌≡◌, ℕ, List, ◌+◌, ◌^◌, ◌<◌, ◌||◌, true, false, map, IfOk, OnOk, IfSome, is_some, is_none, ◌++◌, slice_range, length, get_or};
 ghost use Rattle.macho_object.specs.Objects.{num_symbols, strings_of, symbol_name};
 ghost use Rattle.macho_object.specs.Symbols.{is_in_section, is_absolute};
@@ -10,6 +10,7 @@ ghost use Rattle.macho_names.specs.Kept.{Row, kept_object, kept_dylib, kept_stub
 ghost use Rattle.macho_names.specs.steps.Events.{library_text};
 ghost use Rattle.macho_names.specs.steps.Notes.{AreNoted, AreEnds, IsString, IsHashOf, CommonFits, row_in, named_row};
 ghost use Rattle.macho_names.specs.steps.Tables.{hash_of};
+ghost use Rattle.macho_names.specs.steps.Texts.{bytes_of};
 
 use crate::ends::block_ends;
 use crate::kinds::{is_absolute, is_in_section};
@@ -21,27 +22,49 @@ use macho_stub::DefinedStubLibrary;
 use std::alloc::{AllocError, Global};
 use std::marker::Model;
 
+/// Bytes with names.
+#[derive(Drop)]
+pub(crate) enum Text<'data> {
+    /// The string table of an input.
+    Input(&'data [u8]),
+    /// The names of a stub, joined.
+    Joined(Vec<u8>),
+}
+
+impl<'data> Text<'data> {
+    /// The bytes.
+    fn bytes(&self) -> &[u8]
+        ensures { result.now ≡ bytes_of self.now }
+    {
+        match self {
+            Text::Input(strings) => strings,
+            Text::Joined(names) => names.as_slice(),
+        }
+    }
+}
+
 /// What is kept of one input.
 #[derive(Drop)]
-pub struct FileNames {
+pub struct FileNames<'data> {
     /// The install name of a library.
-    library: Option<Vec<u8>>,
+    library: Option<&'data [u8]>,
     /// The bytes with the names.
-    text: Vec<u8>,
+    text: Text<'data>,
     notes: Vec<Note>,
 }
 
-impl Model for FileNames {
+impl<'data> Model for FileNames<'data> {
     ghost use Rattle.macho_names.specs.Kept.{FileRows};
 
     ghost Value = { FileRows };
 
-    ghost use Rattle.std.specs.Prelude.{map};
-    ghost use Rattle.macho_names.specs.steps.Notes.{IsHeld, row_in, bytes_of};
+    ghost use Rattle.std.specs.Prelude.{map, option_copied};
+    ghost use Rattle.macho_names.specs.steps.Notes.{IsHeld, row_in};
+    ghost use Rattle.macho_names.specs.steps.Texts.{bytes_of};
 
-    ghost view = { λ f. record { library = bytes_of f.library; rows = map (row_in f.text.items) f.notes.items } };
+    ghost view = { λ f. record { library = option_copied f.library; rows = map (row_in (bytes_of f.text)) f.notes.items } };
 
-    ghost invariant = { λ f. IsHeld f.text.items f.notes.items };
+    ghost invariant = { λ f. IsHeld (bytes_of f.text) f.notes.items };
 }
 
 /// The notes of an object's symbols, in the bytes of its string table.
@@ -142,13 +165,13 @@ fn offer_names(text: &mut Vec<u8>, notes: &mut Vec<Note>, names: &[&str]) -> Res
     Ok(())
 }
 
-impl FileNames {
+impl<'data> FileNames<'data> {
     /// What is kept of an object.
     ///
     /// # Errors
     ///
     /// There is not enough memory, or the string table has 4 GiB.
-    pub fn of_object(alloc: Global, file: &File<'_>) -> Result<FileNames, AllocError>
+    pub fn of_object(alloc: Global, file: &File<'data>) -> Result<FileNames<'data>, AllocError>
         requires object { file.now.is_dynamic ≡ false }
         ensures { IfOk result (λ f. f ≡ kept_object file.now.bytes) }
     {
@@ -159,7 +182,7 @@ impl FileNames {
         Ok(FileNames {
             library: None,
             notes: object_notes(alloc, file)?,
-            text: Vec::from_slice(alloc, strings)?,
+            text: Text::Input(strings),
         })
     }
 
@@ -168,7 +191,7 @@ impl FileNames {
     /// # Errors
     ///
     /// There is not enough memory, or the string table has 4 GiB.
-    pub fn of_dylib(alloc: Global, file: &File<'_>) -> Result<FileNames, AllocError>
+    pub fn of_dylib(alloc: Global, file: &File<'data>) -> Result<FileNames<'data>, AllocError>
         requires dylib { file.now.is_dynamic ≡ true }
         ensures { IfOk result (λ f. f ≡ kept_dylib file.now.bytes) }
     {
@@ -180,9 +203,9 @@ impl FileNames {
             return Err(AllocError);
         }
         Ok(FileNames {
-            library: Some(Vec::from_slice(alloc, install_name)?),
+            library: Some(install_name),
             notes: dylib_notes(alloc, file)?,
-            text: Vec::from_slice(alloc, strings)?,
+            text: Text::Input(strings),
         })
     }
 
@@ -192,7 +215,10 @@ impl FileNames {
     ///
     /// There is not enough memory, or the names together have more than 4 GiB.
     #[tactic(auto, unfolding(crate::specs::Kept::rows_of_stub))]
-    pub fn of_stub(alloc: Global, stub: &DefinedStubLibrary<'_>) -> Result<FileNames, AllocError>
+    pub fn of_stub(
+        alloc: Global,
+        stub: &DefinedStubLibrary<'data>,
+    ) -> Result<FileNames<'data>, AllocError>
         ensures { IfOk result (λ f. f ≡ kept_stub (reading_of stub.now)) }
     {
         let mut text = Vec::new(alloc);
@@ -200,14 +226,14 @@ impl FileNames {
         offer_names(&mut text, &mut notes, &stub.symbols)?;
         offer_names(&mut text, &mut notes, &stub.weak_symbols)?;
         Ok(FileNames {
-            library: Some(Vec::from_slice(alloc, stub.install_name.as_bytes())?),
-            text,
+            library: Some(stub.install_name.as_bytes()),
+            text: Text::Joined(text),
             notes,
         })
     }
 }
 
-impl FileNames {
+impl<'data> FileNames<'data> {
     /// How many rows there are.
     pub fn len(&self) -> usize
         ensures { result ≡ length self.now.rows }
@@ -223,11 +249,11 @@ impl FileNames {
     }
 
     /// The install name of a library, empty for an object.
-    pub fn library(&self) -> &[u8]
+    pub fn library(&self) -> &'data [u8]
         ensures { result.now ≡ library_text self.now.library }
     {
-        match &self.library {
-            Some(name) => name.as_slice(),
+        match self.library {
+            Some(name) => name,
             None => &[],
         }
     }
@@ -239,7 +265,7 @@ impl FileNames {
     {
         let name = self.notes[row].name;
         let at = name.at as usize;
-        &self.text[at..at + name.length as usize]
+        &self.text.bytes()[at..at + name.length as usize]
     }
 
     /// How many bytes the name of a row has.

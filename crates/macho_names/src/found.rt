@@ -17,7 +17,12 @@ use std::alloc::{AllocError, Global};
 pub const NO_ENTRY: u32 = u32::MAX;
 
 /// The number of the entry of a row's name; `NO_ENTRY` for a row that isn't global.
-fn found_row(files: &[FileNames], table: &Table, file: u32, row: usize) -> Result<u32, AllocError>
+fn found_row(
+    files: &[FileNames<'_>],
+    table: &Table,
+    file: u32,
+    row: usize,
+) -> Result<u32, AllocError>
     requires file { file < length files.now }
     requires row { row < row_count files.now file }
     requires table { IsTable files.now table.now.heads.items table.now.entries.items }
@@ -37,7 +42,7 @@ fn found_row(files: &[FileNames], table: &Table, file: u32, row: usize) -> Resul
 /// The entries of a file's rows.
 fn found_rows(
     alloc: Global,
-    files: &[FileNames],
+    files: &[FileNames<'_>],
     table: &Table,
     file: u32,
 ) -> Result<Vec<u32>, AllocError>
@@ -60,7 +65,7 @@ fn found_rows(
 /// There is not enough memory, or there are 2 ^ 32 - 1 entries.
 pub fn found_entries(
     alloc: Global,
-    files: &[FileNames],
+    files: &[FileNames<'_>],
     table: &Table,
 ) -> Result<Vec<Vec<u32>>, AllocError>
     requires few { length files.now < 2 ^ 32 }

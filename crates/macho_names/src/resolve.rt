@@ -9,7 +9,12 @@ use crate::table::{Table, hash_of_row, note_in, rows_in};
 
 impl Table {
     /// Takes a row in: of a name that is new, or that is known.
-    fn take_row(&mut self, files: &[FileNames], file: u32, row: usize) -> Result<(), SymbolFault>
+    fn take_row(
+        &mut self,
+        files: &[FileNames<'_>],
+        file: u32,
+        row: usize,
+    ) -> Result<(), SymbolFault>
         requires file { file < length files.now }
         requires row { row < row_count files.now file }
         requires table { IsTable files.now self.old.heads.items self.old.entries.items }
@@ -29,7 +34,7 @@ impl Table {
     }
 
     /// Takes the rows of a file in.
-    fn take_file(&mut self, files: &[FileNames], file: u32) -> Result<(), SymbolFault>
+    fn take_file(&mut self, files: &[FileNames<'_>], file: u32) -> Result<(), SymbolFault>
         requires file { file < length files.now }
         requires table { IsTable files.now self.old.heads.items self.old.entries.items }
         ensures table { OnOk result (IsTable files.now self.new.heads.items self.new.entries.items) }
@@ -47,7 +52,7 @@ impl Table {
     /// # Errors
     ///
     /// A name has two strong definitions, or there is not enough memory.
-    pub fn take_files(&mut self, files: &[FileNames]) -> Result<(), SymbolFault>
+    pub fn take_files(&mut self, files: &[FileNames<'_>]) -> Result<(), SymbolFault>
         requires few { length files.now < 2 ^ 32 }
         requires known { IsKnown files.now self.old.heads.items self.old.entries.items [] }
         ensures done { OnOk result (IsKnown files.now self.new.heads.items self.new.entries.items (events files.now)) }

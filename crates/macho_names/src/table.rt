@@ -76,7 +76,7 @@ fn tag(hash: u64) -> u32
 }
 
 /// How many rows a file has.
-pub fn rows_in(files: &[FileNames], file: u32) -> usize
+pub fn rows_in(files: &[FileNames<'_>], file: u32) -> usize
     requires { file < length files.now }
     ensures { result ≡ row_count files.now file }
 {
@@ -84,7 +84,7 @@ pub fn rows_in(files: &[FileNames], file: u32) -> usize
 }
 
 /// The name of a row of some files.
-pub fn name_in<'a>(files: &'a [FileNames], file: u32, row: usize) -> &'a [u8]
+pub fn name_in<'a>(files: &'a [FileNames<'_>], file: u32, row: usize) -> &'a [u8]
     requires file { file < length files.now }
     requires row { row < row_count files.now file }
     ensures { result.now ≡ (row_at files.now file row).name }
@@ -93,7 +93,7 @@ pub fn name_in<'a>(files: &'a [FileNames], file: u32, row: usize) -> &'a [u8]
 }
 
 /// The hash of the name of a row of some files.
-pub fn hash_of_row(files: &[FileNames], file: u32, row: usize) -> u64
+pub fn hash_of_row(files: &[FileNames<'_>], file: u32, row: usize) -> u64
     requires file { file < length files.now }
     requires row { row < row_count files.now file }
     ensures { result ≡ hash_of (row_at files.now file row).name }
@@ -102,7 +102,7 @@ pub fn hash_of_row(files: &[FileNames], file: u32, row: usize) -> u64
 }
 
 /// The note of a row of some files.
-pub fn note_in(files: &[FileNames], file: u32, row: usize) -> Note
+pub fn note_in(files: &[FileNames<'_>], file: u32, row: usize) -> Note
     requires file { file < length files.now }
     requires row { row < row_count files.now file }
     ensures row { named_row (row_at files.now file row).name result ≡ row_at files.now file row }
@@ -119,7 +119,7 @@ struct Place {
 }
 
 /// Whether a row is of the file of an entry's row, and its name stands where that one's does.
-fn is_at(files: &[FileNames], entry: Entry, place: Option<Place>) -> bool
+fn is_at(files: &[FileNames<'_>], entry: Entry, place: Option<Place>) -> bool
     requires entry { IsThere files.now entry }
     requires place { IfSome place (λ p. (p.file < length files.now) × (p.row < row_count files.now p.file)) }
     ensures { result ≡ true → IsSomeAnd place (λ p. (row_at files.now p.file p.row).name ≡ entry_name files.now entry) }
@@ -134,7 +134,13 @@ fn is_at(files: &[FileNames], entry: Entry, place: Option<Place>) -> bool
 }
 
 /// Whether an entry is of a name: by its tag, and then by where it stands, or by its bytes.
-fn is_named(files: &[FileNames], entry: Entry, name: &[u8], hash: u64, place: Option<Place>) -> bool
+fn is_named(
+    files: &[FileNames<'_>],
+    entry: Entry,
+    name: &[u8],
+    hash: u64,
+    place: Option<Place>,
+) -> bool
     requires entry { IsThere files.now entry }
     requires tagged { IsTagged files.now entry }
     requires hash { hash ≡ hash_of name.now }
@@ -175,7 +181,7 @@ impl Table {
     /// The number of the entry of a name, of which the hash is given, and the row that brings it, if one does.
     fn find_from(
         &self,
-        files: &[FileNames],
+        files: &[FileNames<'_>],
         name: &[u8],
         hash: u64,
         place: Option<Place>,
@@ -199,7 +205,7 @@ impl Table {
     }
 
     /// The number of a name's entry.
-    pub fn find(&self, files: &[FileNames], name: &[u8]) -> Option<usize>
+    pub fn find(&self, files: &[FileNames<'_>], name: &[u8]) -> Option<usize>
         requires { IsTable files.now self.now.heads.items self.now.entries.items }
         ensures found { IfSome result (λ j. IsEntryOf files.now self.now.entries.items name.now j) }
         ensures none { IfNone result (IsNowhere name.now (names_of files.now self.now.entries.items)) }
@@ -208,7 +214,13 @@ impl Table {
     }
 
     /// The number of the entry of a row's name, of which the hash is given.
-    pub fn find_row(&self, files: &[FileNames], file: u32, row: usize, hash: u64) -> Option<usize>
+    pub fn find_row(
+        &self,
+        files: &[FileNames<'_>],
+        file: u32,
+        row: usize,
+        hash: u64,
+    ) -> Option<usize>
         requires file { file < length files.now }
         requires row { row < row_count files.now file }
         requires table { IsTable files.now self.now.heads.items self.now.entries.items }
@@ -225,7 +237,7 @@ impl Table {
     /// Adds a name, which a row brings.
     pub(crate) fn add(
         &mut self,
-        files: &[FileNames],
+        files: &[FileNames<'_>],
         file: u32,
         row: usize,
         hash: u64,
@@ -258,7 +270,7 @@ impl Table {
 }
 
 /// Whether the row of a file is a better definition than an entry's: a stronger one, or a greater common.
-fn beats(files: &[FileNames], file: u32, row: usize, old: Entry) -> bool
+fn beats(files: &[FileNames<'_>], file: u32, row: usize, old: Entry) -> bool
     requires file { file < length files.now }
     requires row { row < row_count files.now file }
     requires old { IsThere files.now old }
@@ -271,7 +283,7 @@ fn beats(files: &[FileNames], file: u32, row: usize, old: Entry) -> bool
 }
 
 /// Whether an entry's row and the row of a file are strong definitions.
-fn are_strong(files: &[FileNames], file: u32, row: usize, old: Entry) -> bool
+fn are_strong(files: &[FileNames<'_>], file: u32, row: usize, old: Entry) -> bool
     requires file { file < length files.now }
     requires row { row < row_count files.now file }
     requires old { IsThere files.now old }
@@ -304,7 +316,7 @@ impl Table {
     /// Takes the row of a file for the best one of its name, where it is.
     pub(crate) fn improve(
         &mut self,
-        files: &[FileNames],
+        files: &[FileNames<'_>],
         number: usize,
         file: u32,
         row: usize,

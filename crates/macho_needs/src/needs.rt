@@ -24,9 +24,9 @@ use std::alloc::{AllocError, Global};
 
 /// What a link needs, as far as its uses were noted.
 #[derive(Drop)]
-pub struct Needs {
+pub struct Needs<'data> {
     /// Its symbols, with the imports that are noted.
-    pub resolved: Resolved,
+    pub resolved: Resolved<'data>,
     /// Slots, stubs and import entries of their own.
     pub tables: Tables,
 }
@@ -48,10 +48,10 @@ fn section_target(object: &File<'_>, file: u32, number: u32) -> Target
     }
 }
 
-impl Needs {
+impl<'data> Needs<'data> {
     /// The needs of a link of which nothing is noted. Nothing is allocated.
-    pub fn new(alloc: Global, resolved: Resolved) -> Needs
-        ensures { (l : Link) → IsResolved l [] resolved → IsNoted l [] result }
+    pub fn new(alloc: Global, resolved: Resolved<'data>) -> Needs<'data>
+        ensures { (l : Link) → IsResolved l [] resolved.entry → IsNoted l [] result }
     {
         Needs {
             resolved,

@@ -27,7 +27,7 @@ const GREATEST_NUMBER: usize = u32::MAX as usize;
 pub struct LinkPlaces<'a, 'data> {
     placement: &'a Placement,
     addresses: Addresses,
-    needs: &'a Needs,
+    needs: &'a Needs<'a>,
     /// How many imports are noted.
     imports: usize,
     views: &'a [Option<File<'data>>],
@@ -60,7 +60,7 @@ impl<'a, 'data> LinkPlaces<'a, 'data> {
     pub fn new(
         alloc: Global,
         placement: &'a Placement,
-        needs: &'a Needs,
+        needs: &'a Needs<'a>,
         views: &'a [Option<File<'data>>],
     ) -> Result<LinkPlaces<'a, 'data>, AllocError>
         ensures tells { (l : Link) (counts : Counts) → AreOfLink l counts (placed_of placement.now) needs.now views.now

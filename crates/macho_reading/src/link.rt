@@ -5,9 +5,9 @@ use macho_symbols::ExportName;
 
 /// All that the objects of a link ask for.
 #[derive(Drop)]
-pub struct ReadLink {
+pub struct ReadLink<'data> {
     /// Its symbols, imports, slots, stubs and import entries of their own.
-    pub needs: Needs,
+    pub needs: Needs<'data>,
     /// Its initializers, by file, section and slot.
     pub initializers: Vec<Initializer>,
     /// Its entries of unwind information, by file, section and number.

@@ -22,7 +22,7 @@ use std::alloc::Global;
 /// Refuses an executable whose entry is not defined in a carried section.
 pub(crate) fn find_entry(
     alloc: Global,
-    symbols: &Resolved,
+    symbols: &Resolved<'_>,
     entry: Option<&[u8]>,
 ) -> Result<(), LinkError>
     ensures found { (l : Link) (noted : List (List ℕ)) → IsResolved l noted symbols.now → option_copied entry.entry ≡ entry_of l
@@ -43,7 +43,7 @@ pub(crate) fn find_entry(
 }
 
 /// Notes the names of export lists that libraries define.
-pub(crate) fn note_list(needs: &mut Needs, list: Option<&ExportList>) -> Result<(), LinkError>
+pub(crate) fn note_list(needs: &mut Needs<'_>, list: Option<&ExportList>) -> Result<(), LinkError>
     ensures noted { (l : Link) → IsNoted l (uses_before_names l) needs.old → AreLists l (option_copied list.entry)
         → OnOk result (IsNoted l (uses_of l) needs.new) }
     ensures why { (l : Link) (counts : Counts) (noted : List (List ℕ)) → IsResolved l noted needs.old.resolved

@@ -22,9 +22,9 @@ use macho_symbols::Resolved;
 use std::alloc::Global;
 
 /// The needs of a link of which nothing is noted.
-pub(crate) fn begun(alloc: Global, resolved: Resolved) -> Needs
-    ensures noted { (l : Link) → IsResolved l [] resolved → IsNoted l [] result }
-    ensures same { result.resolved ≡ resolved }
+pub(crate) fn begun<'data>(alloc: Global, resolved: Resolved<'data>) -> Needs<'data>
+    ensures noted { (l : Link) → IsResolved l [] resolved.entry → IsNoted l [] result }
+    ensures same { result.resolved ≡ resolved.entry }
 {
     Needs {
         resolved,
@@ -33,7 +33,7 @@ pub(crate) fn begun(alloc: Global, resolved: Resolved) -> Needs
 }
 
 /// Notes what initializers use, in order.
-fn use_initializers(needs: &mut Needs, rows: &[Initializer]) -> Result<(), LinkError>
+fn use_initializers(needs: &mut Needs<'_>, rows: &[Initializer]) -> Result<(), LinkError>
     requires held { AreOfSome needs.old.resolved.files }
     requires usable { All (IsUsable needs.old.resolved) rows.now }
     ensures noted { (l : Link) (us : List Use) → IsNoted l us needs.old → All (IsInitializerOf l) rows.now
@@ -49,7 +49,7 @@ fn use_initializers(needs: &mut Needs, rows: &[Initializer]) -> Result<(), LinkE
 }
 
 /// Notes the personality function of an entry, if it has one.
-fn use_entry(needs: &mut Needs, entry: UnwindEntry) -> Result<(), LinkError>
+fn use_entry(needs: &mut Needs<'_>, entry: UnwindEntry) -> Result<(), LinkError>
     requires { IsUsableEntry needs.old.resolved entry }
     ensures noted { (l : Link) (us : List Use) → IsNoted l us needs.old → IsEntryOf l entry → BeginsWith l (us ++ uses_of_entry entry)
         → OnOk result (IsNoted l (us ++ uses_of_entry entry) needs.new) }
@@ -65,7 +65,7 @@ fn use_entry(needs: &mut Needs, entry: UnwindEntry) -> Result<(), LinkError>
 }
 
 /// Notes the personality functions of entries, in order.
-fn use_entries(needs: &mut Needs, entries: &[UnwindEntry]) -> Result<(), LinkError>
+fn use_entries(needs: &mut Needs<'_>, entries: &[UnwindEntry]) -> Result<(), LinkError>
     requires held { AreOfSome needs.old.resolved.files }
     requires usable { All (IsUsableEntry needs.old.resolved) entries.now }
     ensures noted { (l : Link) (us : List Use) → IsNoted l us needs.old → All (IsEntryOf l) entries.now
@@ -81,7 +81,7 @@ fn use_entries(needs: &mut Needs, entries: &[UnwindEntry]) -> Result<(), LinkErr
 }
 
 /// Notes what the rows of a link use: its initializers, then its personality functions.
-pub(crate) fn use_rows(needs: &mut Needs, rows: &Rows) -> Result<(), LinkError>
+pub(crate) fn use_rows(needs: &mut Needs<'_>, rows: &Rows) -> Result<(), LinkError>
     requires held { AreOfSome needs.old.resolved.files }
     requires usable { AreUsable needs.old.resolved rows.now }
     ensures noted { (l : Link) → IsNoted l (uses_of_carried l) needs.old → AreRows l rows.now → EntriesKeepRules l

@@ -32,7 +32,7 @@ use std::alloc::Global;
 /// looked for before those names.
 fn note_rest(
     alloc: Global,
-    needs: &mut Needs,
+    needs: &mut Needs<'_>,
     rows: &Rows,
     entry: Option<&[u8]>,
     list: Option<&ExportList>,
@@ -55,7 +55,7 @@ fn note_rest(
 /// Reads and notes what stands behind carried relocations.
 fn read_behind(
     alloc: Global,
-    needs: &mut Needs,
+    needs: &mut Needs<'_>,
     views: &[Option<File<'_>>],
     entry: Option<&[u8]>,
     list: Option<&ExportList>,
@@ -93,7 +93,7 @@ fn unless_told(read: Result<Rows, LinkError>, told: Option<LinkError>) -> Result
 /// Notes all that the objects ask for, and reads what stands in their consumed sections.
 fn read_uses(
     alloc: Global,
-    needs: &mut Needs,
+    needs: &mut Needs<'_>,
     views: &[Option<File<'_>>],
     entry: Option<&[u8]>,
     list: Option<&ExportList>,
@@ -113,16 +113,16 @@ fn read_uses(
 }
 
 /// All that was read, with the exports.
-fn with_exports(
+fn with_exports<'data>(
     alloc: Global,
-    needs: Needs,
+    needs: Needs<'data>,
     rows: Rows,
     list: Option<&ExportList>,
-) -> Result<ReadLink, LinkError>
-    ensures done { (l : Link) → IsNotedWith l needs rows → IsSound l → AreLists l (option_copied list.entry) → IfOk result (IsReadOf l) }
-    ensures known { (views : List (Option FileBytes)) → AreOfInputs views needs.resolved.files → AreUsable needs.resolved rows
+) -> Result<ReadLink<'data>, LinkError>
+    ensures done { (l : Link) → IsNotedWith l needs.entry rows → IsSound l → AreLists l (option_copied list.entry) → IfOk result (IsReadOf l) }
+    ensures known { (views : List (Option FileBytes)) → AreOfInputs views needs.entry.resolved.files → AreUsable needs.entry.resolved rows
         → IfOk result (AreKnown views) }
-    ensures why { (l : Link) (counts : Counts) → IsNotedWith l needs rows → AreLists l (option_copied list.entry)
+    ensures why { (l : Link) (counts : Counts) → IsNotedWith l needs.entry rows → AreLists l (option_copied list.entry)
         → IfErr result (Stands l counts) }
 {
     let exports = needs.resolved.exports(alloc, list)?;
@@ -143,23 +143,23 @@ fn with_exports(
 /// A name that is used, entered at or listed has no definition, a section of initializers or of unwind entries breaks its rules,
 /// a relocation is not supported, two overlap, an addend doesn't fit, a pointer stands where none may, or there is not enough memory.
 /// Of several refusals that is told which stands first in `LinkError`.
-pub fn read_link(
+pub fn read_link<'data>(
     alloc: Global,
-    resolved: Resolved,
+    resolved: Resolved<'data>,
     views: &[Option<File<'_>>],
     entry: Option<&[u8]>,
     list: Option<&ExportList>,
-) -> Result<ReadLink, LinkError>
+) -> Result<ReadLink<'data>, LinkError>
     requires few { length views.now < 2 ^ 32 }
     requires same { AreOfInputs views.now resolved.files }
 
     // What is read is what the objects ask for, and nothing of it stands against the link.
-    ensures done { (l : Link) → IsLinkOf l views.now resolved (option_copied entry.entry) (option_copied list.entry)
+    ensures done { (l : Link) → IsLinkOf l views.now resolved.entry (option_copied entry.entry) (option_copied list.entry)
         → IfOk result (IsReadOf l) }
 
     // The symbols that it names are there.
     ensures known { IfOk result (AreKnown views.now) }
-    ensures why { (l : Link) (counts : Counts) → IsLinkOf l views.now resolved (option_copied entry.entry) (option_copied list.entry)
+    ensures why { (l : Link) (counts : Counts) → IsLinkOf l views.now resolved.entry (option_copied entry.entry) (option_copied list.entry)
         → IfErr result (Stands l counts) }
 {
     let mut needs = begun(alloc, resolved);

@@ -54,7 +54,7 @@ fn error_of(fault: ConsumedFault) -> LinkError
 /// entry or of a name of export lists goes before.
 pub(crate) fn refusal(
     alloc: Global,
-    needs: &mut Needs,
+    needs: &mut Needs<'_>,
     views: &[Option<File<'_>>],
     entry: Option<&[u8]>,
     list: Option<&ExportList>,

@@ -43,7 +43,7 @@ fn are_whole(views: &[Option<File<'_>>])
 pub(crate) fn read_rows(
     alloc: Global,
     views: &[Option<File<'_>>],
-    symbols: &Resolved,
+    symbols: &Resolved<'_>,
 ) -> Result<Rows, ConsumedFault>
     requires few { length views.now < 2 ^ 32 }
     requires same { AreOfInputs views.now symbols.now.files }

@@ -43,7 +43,7 @@ fn is_use(kind: Kind, size: u64, relocation: RelocationInfo) -> bool
 
 /// Notes the use of a symbol.
 fn use_symbol(
-    needs: &mut Needs,
+    needs: &mut Needs<'_>,
     kind: Kind,
     file: u32,
     relocation: RelocationInfo,
@@ -62,7 +62,7 @@ fn use_symbol(
 
 /// Notes what a section of a kind and of so many bytes uses, in the order of its relocations.
 fn use_relocations(
-    needs: &mut Needs,
+    needs: &mut Needs<'_>,
     list: &RelocationList<'_>,
     kind: Kind,
     size: u64,
@@ -87,7 +87,7 @@ fn use_relocations(
 
 /// Notes what a section of an object uses, if it is of a kind.
 fn use_section(
-    needs: &mut Needs,
+    needs: &mut Needs<'_>,
     object: &File<'_>,
     kind: Kind,
     file: u32,
@@ -115,7 +115,12 @@ fn use_section(
 }
 
 /// Notes what the sections of a kind use, in the order of an object's headers.
-fn use_object(needs: &mut Needs, object: &File<'_>, kind: Kind, file: u32) -> Result<(), LinkError>
+fn use_object(
+    needs: &mut Needs<'_>,
+    object: &File<'_>,
+    kind: Kind,
+    file: u32,
+) -> Result<(), LinkError>
     requires kind { object.now.is_dynamic ≡ false }
     requires rows { HasRows needs.old.resolved.files file object.now.bytes }
     ensures why { (l : Link) (counts : Counts) → HasObject l file object.now.bytes → Keeps l.inputs needs.old.resolved.files
@@ -130,7 +135,7 @@ fn use_object(needs: &mut Needs, object: &File<'_>, kind: Kind, file: u32) -> Re
 
 /// Notes what the sections of a kind use, if a file is an object.
 fn use_file(
-    needs: &mut Needs,
+    needs: &mut Needs<'_>,
     views: &[Option<File<'_>>],
     kind: Kind,
     file: u32,
@@ -148,7 +153,7 @@ fn use_file(
 }
 
 /// Notes what the sections of a kind use, by file, section and relocation.
-fn use_kind(needs: &mut Needs, views: &[Option<File<'_>>], kind: Kind) -> Result<(), LinkError>
+fn use_kind(needs: &mut Needs<'_>, views: &[Option<File<'_>>], kind: Kind) -> Result<(), LinkError>
     requires few { length views.now < 2 ^ 32 }
     requires same { AreOfInputs views.now needs.old.resolved.files }
     ensures why { (l : Link) (counts : Counts) → views.now ≡ views_of l → Keeps l.inputs needs.old.resolved.files
@@ -163,7 +168,10 @@ fn use_kind(needs: &mut Needs, views: &[Option<File<'_>>], kind: Kind) -> Result
 
 /// Refuses a link that has an initializer or a personality function whose name nothing defines: initializers go before personality
 /// functions, and of each kind the first by file, section and relocation is told. The needs are then of no use.
-pub(crate) fn find_undefined(needs: &mut Needs, views: &[Option<File<'_>>]) -> Result<(), LinkError>
+pub(crate) fn find_undefined(
+    needs: &mut Needs<'_>,
+    views: &[Option<File<'_>>],
+) -> Result<(), LinkError>
     requires few { length views.now < 2 ^ 32 }
     requires same { AreOfInputs views.now needs.old.resolved.files }
     ensures why { (l : Link) (counts : Counts) → views.now ≡ views_of l → Keeps l.inputs needs.old.resolved.files

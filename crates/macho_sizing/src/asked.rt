@@ -18,7 +18,7 @@ pub struct SizesOf<'a> {
     /// The objects, each with its number.
     pub objects: &'a [LinkedObject<'a>],
     /// What the objects ask for.
-    pub needs: &'a Needs,
+    pub needs: &'a Needs<'a>,
     /// The initializers.
     pub initializers: &'a [Initializer],
     /// The entries of unwind information.

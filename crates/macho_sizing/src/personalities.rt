@@ -15,7 +15,11 @@ use macho_needs::{Needs, SlotKey, key};
 use std::alloc::{AllocError, Global};
 
 /// Notes the personality function of an entry, if it has one.
-fn note(needs: &Needs, entry: UnwindEntry, seen: &mut IndexSet<SlotKey>) -> Result<(), AllocError>
+fn note(
+    needs: &Needs<'_>,
+    entry: UnwindEntry,
+    seen: &mut IndexSet<SlotKey>,
+) -> Result<(), AllocError>
     requires { HasPersonality needs.now.resolved entry }
     ensures { (l : Link) → IsResolved l (imports_of l) needs.now.resolved
         → OnOk result (map target_of seen.new.keys ≡ with_some same_target (map target_of seen.old.keys) (personality_of l entry)) }
@@ -32,7 +36,7 @@ fn note(needs: &Needs, entry: UnwindEntry, seen: &mut IndexSet<SlotKey>) -> Resu
 /// How many personality functions entries name.
 pub(crate) fn count_personalities(
     alloc: Global,
-    needs: &Needs,
+    needs: &Needs<'_>,
     entries: &[UnwindEntry],
 ) -> Result<usize, AllocError>
     requires { All (HasPersonality needs.now.resolved) entries.now }

@@ -75,7 +75,11 @@ fn add_stubs(plan: &mut Plan, tables: &Tables) -> Result<(), AllocError>
 }
 
 /// Adds all parts of a link, in their order.
-fn add_parts(plan: &mut Plan, views: &[Option<File<'_>>], needs: &Needs) -> Result<(), AllocError>
+fn add_parts(
+    plan: &mut Plan,
+    views: &[Option<File<'_>>],
+    needs: &Needs<'_>,
+) -> Result<(), AllocError>
     requires few { length views.now < 2 ^ 32 }
     requires rules { All ViewsObject views.now }
     requires link { (l : Link) × (views.now ≡ views_of l) × IsResolved l (imports_of l) needs.now.resolved }
@@ -94,7 +98,7 @@ pub(crate) fn make_plan(
     alloc: Global,
     executable: bool,
     views: &[Option<File<'_>>],
-    needs: &Needs,
+    needs: &Needs<'_>,
 ) -> Result<Plan, AllocError>
     requires few { length views.now < 2 ^ 32 }
     requires rules { All ViewsObject views.now }

@@ -160,7 +160,7 @@ fn judged(
 
 /// Looks at a relocation of a section: its use is noted, and what stands against it is found.
 fn survey_relocation(
-    needs: &mut Needs,
+    needs: &mut Needs<'_>,
     findings: &mut Findings,
     object: &File<'_>,
     list: &RelocationList<'_>,
@@ -190,7 +190,7 @@ fn survey_relocation(
 
 /// Looks at all relocations of a section, in the order of its table.
 fn survey_relocations(
-    needs: &mut Needs,
+    needs: &mut Needs<'_>,
     findings: &mut Findings,
     object: &File<'_>,
     list: &RelocationList<'_>,
@@ -232,7 +232,7 @@ fn pair(at: Section, told: Option<(u32, u32)>) -> Option<Pair>
 /// Looks at a carried section: which of its relocations overlap, then each of them.
 pub(crate) fn survey_section(
     alloc: Global,
-    needs: &mut Needs,
+    needs: &mut Needs<'_>,
     findings: &mut Findings,
     object: &File<'_>,
     at: Section,

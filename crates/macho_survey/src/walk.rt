@@ -37,7 +37,7 @@ fn holds_pointers(header: SectionHeader) -> bool
 /// Looks at a section of an object, if it is carried.
 fn survey_if_carried(
     alloc: Global,
-    needs: &mut Needs,
+    needs: &mut Needs<'_>,
     findings: &mut Findings,
     object: &File<'_>,
     file: u32,
@@ -72,7 +72,7 @@ fn survey_if_carried(
 /// Looks at the carried sections of an object, in the order of its headers.
 fn survey_object(
     alloc: Global,
-    needs: &mut Needs,
+    needs: &mut Needs<'_>,
     findings: &mut Findings,
     object: &File<'_>,
     file: u32,
@@ -97,7 +97,7 @@ fn survey_object(
 /// Looks at the carried sections of a file, if it is an object.
 fn survey_file(
     alloc: Global,
-    needs: &mut Needs,
+    needs: &mut Needs<'_>,
     findings: &mut Findings,
     views: &[Option<File<'_>>],
     file: u32,
@@ -128,7 +128,7 @@ fn survey_file(
 /// A relocation uses a name that nothing defines, or there is not enough memory. The needs are then of no use.
 pub fn survey(
     alloc: Global,
-    needs: &mut Needs,
+    needs: &mut Needs<'_>,
     views: &[Option<File<'_>>],
 ) -> Result<Option<LinkError>, LinkError>
     requires few { length views.now < 2 ^ 32 }

@@ -6,7 +6,7 @@ ghost use Rattle.macho_symbols.specs.steps.Solved.{IsSolved, IsUnchanged, HasGro
 use crate::solved::{Solved, is_import, is_nothing};
 use macho_names::SymbolFault;
 
-impl Solved {
+impl<'data> Solved<'data> {
     /// Notes a name, where a library defines it and it isn't noted yet.
     fn note_name(&mut self, name: &[u8]) -> Result<(), SymbolFault>
         requires { IsSolved self.old }

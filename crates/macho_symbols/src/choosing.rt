@@ -23,7 +23,7 @@ pub(crate) fn is_of_object(sort: Sort) -> bool
 
 /// Whether a row is the definition of its name, of which the entry's number is given.
 pub(crate) fn is_definition(
-    files: &[FileNames],
+    files: &[FileNames<'_>],
     table: &Table,
     number: usize,
     file: u32,
@@ -43,7 +43,7 @@ pub(crate) fn is_definition(
 }
 
 /// Whether a row is the definition of its name.
-pub(crate) fn defines(files: &[FileNames], table: &Table, file: u32, row: usize) -> bool
+pub(crate) fn defines(files: &[FileNames<'_>], table: &Table, file: u32, row: usize) -> bool
     requires file { file < length files.now }
     requires row { row < row_count files.now file }
     requires known { IsKnown files.now table.now.heads.items table.now.entries.items (events files.now) }
@@ -60,7 +60,7 @@ pub(crate) fn defines(files: &[FileNames], table: &Table, file: u32, row: usize)
 }
 
 /// Whether a row is a common that defines its name.
-fn is_chosen(files: &[FileNames], table: &Table, file: u32, row: usize) -> bool
+fn is_chosen(files: &[FileNames<'_>], table: &Table, file: u32, row: usize) -> bool
     requires file { file < length files.now }
     requires row { row < row_count files.now file }
     requires known { IsKnown files.now table.now.heads.items table.now.entries.items (events files.now) }
@@ -70,7 +70,7 @@ fn is_chosen(files: &[FileNames], table: &Table, file: u32, row: usize) -> bool
 }
 
 /// A chosen common, as it is told.
-fn common_at(files: &[FileNames], file: u32, row: usize) -> Result<Common, SymbolFault>
+fn common_at(files: &[FileNames<'_>], file: u32, row: usize) -> Result<Common, SymbolFault>
     requires file { file < length files.now }
     requires row { row < row_count files.now file }
     requires common { is_chosen_in files.now (event_at files.now file row) ≡ true }
@@ -92,7 +92,7 @@ fn common_at(files: &[FileNames], file: u32, row: usize) -> Result<Common, Symbo
 
 /// Adds the chosen commons of a file.
 fn add_commons(
-    files: &[FileNames],
+    files: &[FileNames<'_>],
     table: &Table,
     file: u32,
     commons: &mut Vec<Common>,
@@ -114,7 +114,7 @@ fn add_commons(
 /// The commons that define their names, in order.
 pub(crate) fn chosen_commons(
     alloc: Global,
-    files: &[FileNames],
+    files: &[FileNames<'_>],
     table: &Table,
 ) -> Result<Vec<Common>, SymbolFault>
     requires few { length files.now < 2 ^ 32 }

@@ -48,7 +48,7 @@ fn is_weak(note: Note) -> bool
     is_of_object(note.sort) && note.weak
 }
 
-impl Solved {
+impl<'data> Solved<'data> {
     /// Whether the name of an entry is that of a noted import.
     fn is_noted(&self, number: usize) -> bool
         requires solved { IsSolved self.now }
@@ -94,7 +94,7 @@ impl Solved {
     }
 }
 
-impl Solved {
+impl<'data> Solved<'data> {
     /// The exported names in rising order, each with its entry's number. Names of 4 GiB and more are not held.
     fn exported_names(
         &self,
@@ -160,7 +160,7 @@ impl Solved {
     }
 }
 
-impl Solved {
+impl<'data> Solved<'data> {
     /// Refuses names of which one has no definition.
     fn find_all(&self, alloc: Global, names: &[Vec<u8>]) -> Result<(), SymbolFault>
         requires { IsSolved self.now }

@@ -7,7 +7,10 @@ use macho_names::FileNames;
 use std::alloc::{AllocError, Global};
 
 /// The install names of the files that are libraries, in order.
-pub(crate) fn library_names(alloc: Global, files: &[FileNames]) -> Result<Vec<&[u8]>, AllocError>
+pub(crate) fn library_names<'data>(
+    alloc: Global,
+    files: &[FileNames<'data>],
+) -> Result<Vec<&'data [u8]>, AllocError>
     ensures { IfOk result (λ names. map (λ n. n.now) names.items ≡ filter_map install_name_in files.now) }
 {
     let mut names = Vec::new(alloc);

@@ -22,11 +22,11 @@ use std::marker::Model;
 
 /// The symbols of a link, resolved. Files are numbered as they were added.
 #[derive(Drop)]
-pub struct Resolved {
-    pub(crate) solved: Solved,
+pub struct Resolved<'data> {
+    pub(crate) solved: Solved<'data>,
 }
 
-impl Model for Resolved {
+impl<'data> Model for Resolved<'data> {
     ghost use Rattle.macho_symbols.specs.Kept.{ResolvedRows};
 
     ghost Value = { ResolvedRows };
@@ -38,7 +38,7 @@ impl Model for Resolved {
     ghost invariant = { λ r. IsSolved r.solved };
 }
 
-impl Resolved {
+impl<'data> Resolved<'data> {
     /// What a global name leads to: `Target::None` for a name without a definition.
     pub fn definition(&self, name: &[u8]) -> Target
         ensures { (l : Link) (noted : List (List ℕ)) → IsResolved l noted self.now → result ≡ definition_target l noted name.now (definition_of l name.now) }
@@ -81,7 +81,7 @@ impl Resolved {
     }
 }
 
-impl Resolved {
+impl<'data> Resolved<'data> {
     /// Notes a use of a symbol of an object, and tells what it leads to. A symbol of a library that is noted for the first
     /// time gets the next number.
     ///
@@ -102,7 +102,7 @@ impl Resolved {
     }
 }
 
-impl Resolved {
+impl<'data> Resolved<'data> {
     /// Notes the entries without a star of an export list: each that a library defines, and that isn't noted yet, gets the
     /// next number.
     ///
@@ -120,7 +120,7 @@ impl Resolved {
     }
 }
 
-impl Resolved {
+impl<'data> Resolved<'data> {
     /// The install names of the inputs that are libraries, in order.
     ///
     /// # Errors

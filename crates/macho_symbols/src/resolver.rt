@@ -15,12 +15,12 @@ use std::marker::Model;
 
 /// Symbols of inputs. Files are numbered from 0, in the order in which they are added.
 #[derive(Drop)]
-pub struct Resolver {
+pub struct Resolver<'data> {
     pub(crate) alloc: Global,
-    pub(crate) files: Vec<FileNames>,
+    pub(crate) files: Vec<FileNames<'data>>,
 }
 
-impl Model for Resolver {
+impl<'data> Model for Resolver<'data> {
     ghost use Rattle.std.specs.Prelude.{List, length, ◌<◌, ◌^◌};
     ghost use Rattle.macho_names.specs.Kept.{FileRows};
 
@@ -31,9 +31,9 @@ impl Model for Resolver {
     ghost invariant = { λ r. length r.files.items < 2 ^ 32 };
 }
 
-impl Resolver {
+impl<'data> Resolver<'data> {
     /// A resolver without inputs. It takes no memory.
-    pub fn new(alloc: Global) -> Resolver
+    pub fn new(alloc: Global) -> Resolver<'data>
         ensures { Keeps [] result }
     {
         Resolver {
@@ -43,9 +43,9 @@ impl Resolver {
     }
 
     /// Adds what is kept of an input.
-    fn add(&mut self, file: FileNames) -> Result<u32, AllocError>
+    fn add(&mut self, file: FileNames<'data>) -> Result<u32, AllocError>
         requires { length self.old + 1 < 2 ^ 32 }
-        ensures added { OnOk result (self.new ≡ self.old ++ file ∷ []) }
+        ensures added { OnOk result (self.new ≡ self.old ++ file.entry ∷ []) }
         ensures number { IfOk result (λ n. n ≡ length self.old) }
         ensures kept { OnErr result (self.new ≡ self.old) }
     {
@@ -54,12 +54,12 @@ impl Resolver {
         Ok(number)
     }
 
-    /// Adds an object, and gives its number. Its names are copied.
+    /// Adds an object, and gives its number. Its names stay in its bytes.
     ///
     /// # Errors
     ///
     /// There is not enough memory. Nothing was added.
-    pub fn add_object(&mut self, file: &File<'_>) -> Result<u32, AllocError>
+    pub fn add_object(&mut self, file: &File<'data>) -> Result<u32, AllocError>
         requires object { file.now.is_dynamic ≡ false }
         requires few { length self.old < 2 ^ 32 - 1 }
         ensures added { (inputs : List Input) → Keeps inputs self.old → OnOk result (Keeps (inputs ++ Object file.now.bytes ∷ []) self.new) }
@@ -70,12 +70,12 @@ impl Resolver {
         self.add(names)
     }
 
-    /// Adds a dynamic library, and gives its number. The names that it offers are copied.
+    /// Adds a dynamic library, and gives its number. The names that it offers stay in its bytes.
     ///
     /// # Errors
     ///
     /// There is not enough memory. Nothing was added.
-    pub fn add_dylib(&mut self, file: &File<'_>) -> Result<u32, AllocError>
+    pub fn add_dylib(&mut self, file: &File<'data>) -> Result<u32, AllocError>
         requires dylib { file.now.is_dynamic ≡ true }
         requires few { length self.old < 2 ^ 32 - 1 }
         ensures added { (inputs : List Input) → Keeps inputs self.old → OnOk result (Keeps (inputs ++ Dylib file.now.bytes ∷ []) self.new) }
@@ -91,7 +91,7 @@ impl Resolver {
     /// # Errors
     ///
     /// There is not enough memory. Nothing was added.
-    pub fn add_stub(&mut self, stub: &DefinedStubLibrary<'_>) -> Result<u32, AllocError>
+    pub fn add_stub(&mut self, stub: &DefinedStubLibrary<'data>) -> Result<u32, AllocError>
         requires few { length self.old < 2 ^ 32 - 1 }
         ensures added { (inputs : List Input) (text : List ℕ) → Keeps inputs self.old
             → OnOk result (Keeps (inputs ++ Stub text (reading_of stub.now) ∷ []) self.new) }
@@ -103,16 +103,16 @@ impl Resolver {
     }
 }
 
-impl Resolver {
+impl<'data> Resolver<'data> {
     /// Resolves the symbols of all inputs.
     ///
     /// # Errors
     ///
     /// A name has two strong definitions, or there is not enough memory. The resolver is consumed.
-    pub fn resolve(self) -> Result<Resolved, SymbolFault>
-        ensures done { (l : Link) → Keeps l.inputs self → IfOk result (λ r. IsResolved l [] r) }
-        ensures single { (l : Link) → Keeps l.inputs self → OnOk result ((name : List ℕ) → length (strong_of l name) ≤ 1) }
-        ensures why { (l : Link) → Keeps l.inputs self → IfErr result (IsDuplicateOf l) }
+    pub fn resolve(self) -> Result<Resolved<'data>, SymbolFault>
+        ensures done { (l : Link) → Keeps l.inputs self.entry → IfOk result (λ r. IsResolved l [] r) }
+        ensures single { (l : Link) → Keeps l.inputs self.entry → OnOk result ((name : List ℕ) → length (strong_of l name) ≤ 1) }
+        ensures why { (l : Link) → Keeps l.inputs self.entry → IfErr result (IsDuplicateOf l) }
     {
         let alloc = self.alloc;
         let files = self.files;
@@ -135,7 +135,7 @@ impl Resolver {
 }
 
 /// How many rows may bring a name.
-fn named_rows(files: &[FileNames]) -> usize {
+fn named_rows(files: &[FileNames<'_>]) -> usize {
     let mut rows = 0usize;
     for file in files {
         rows = rows.saturating_add(file.len());

@@ -47,8 +47,8 @@ pub struct Common {
 
 /// The files, the table of names with the entries of symbols, the chosen commons and the imports noted so far.
 #[derive(Drop)]
-pub(crate) struct Solved {
-    pub(crate) files: Vec<FileNames>,
+pub(crate) struct Solved<'data> {
+    pub(crate) files: Vec<FileNames<'data>>,
     pub(crate) table: Table,
     /// For each file the entries of its rows, as far as they were looked for.
     pub(crate) found: Vec<Vec<u32>>,
@@ -69,7 +69,7 @@ fn is_at(common: Common, file: u32, row: usize) -> bool
 }
 
 /// The install name of a library, by its number.
-fn library_in(files: &[FileNames], file: u32) -> &[u8]
+fn library_in<'data>(files: &[FileNames<'data>], file: u32) -> &'data [u8]
     requires { file < length files.now }
     ensures { result.now ≡ library_in files.now file }
 {
@@ -116,7 +116,7 @@ fn number_of_common(commons: &[Common], file: u32, row: usize) -> u32
 }
 
 /// Where a row leads by itself.
-fn own_target(files: &[FileNames], commons: &[Common], file: u32, row: usize) -> Target
+fn own_target(files: &[FileNames<'_>], commons: &[Common], file: u32, row: usize) -> Target
     requires file { file < length files.now }
     requires row { row < row_count files.now file }
     requires few { length commons.now < 2 ^ 32 }
@@ -149,7 +149,7 @@ fn base_target(name: &[u8]) -> Target
     }
 }
 
-impl Solved {
+impl<'data> Solved<'data> {
     /// The number of an entry's import, or the one that it would get.
     fn number_of_import(&self, number: usize, name: &[u8]) -> u32
         requires solved { IsSolved self.now }
@@ -250,7 +250,7 @@ impl Solved {
     }
 }
 
-impl Solved {
+impl<'data> Solved<'data> {
     /// Notes a name that a library defines, and that isn't noted yet.
     pub(crate) fn note(&mut self, name: Vec<u8>) -> Result<(), SymbolFault>
         requires solved { IsSolved self.old }
@@ -302,7 +302,7 @@ pub(crate) fn is_nothing(target: Target) -> bool
     }
 }
 
-impl Solved {
+impl<'data> Solved<'data> {
     /// Notes a use of a symbol, and tells what it leads to.
     pub(crate) fn note_use(&mut self, file: u32, row: usize) -> Result<Target, SymbolFault>
         requires file { file < length self.old.files.items }

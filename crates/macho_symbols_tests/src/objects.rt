@@ -71,12 +71,12 @@ pub(crate) fn library<'a>(
 }
 
 /// The symbols of an object, of others behind it, and of libraries behind these, resolved.
-pub(crate) fn resolve(
+pub(crate) fn resolve<'a>(
     alloc: Global,
-    first: &File<'_>,
-    others: &[File<'_>],
-    libraries: &[DefinedStubLibrary<'_>],
-) -> Result<Resolved, SymbolFault>
+    first: &File<'a>,
+    others: &[File<'a>],
+    libraries: &[DefinedStubLibrary<'a>],
+) -> Result<Resolved<'a>, SymbolFault>
     ensures { IfOk result (IsFirst first.now.bytes) }
 {
     let mut resolver = Resolver::new(alloc);
@@ -98,7 +98,11 @@ pub(crate) fn resolve(
 }
 
 /// What a symbol of the first object leads to, and whether it defines its name; None of a number that no symbol has.
-pub(crate) fn target(resolved: &Resolved, first: &File<'_>, symbol: u32) -> Option<(Target, bool)>
+pub(crate) fn target(
+    resolved: &Resolved<'_>,
+    first: &File<'_>,
+    symbol: u32,
+) -> Option<(Target, bool)>
     requires { IsFirst first.now.bytes resolved.now }
 {
     if symbol >= first.num_symbols() {
@@ -109,7 +113,7 @@ pub(crate) fn target(resolved: &Resolved, first: &File<'_>, symbol: u32) -> Opti
 
 /// Notes a use of a symbol of the first object; None of a number that no symbol has.
 pub(crate) fn note(
-    resolved: &mut Resolved,
+    resolved: &mut Resolved<'_>,
     first: &File<'_>,
     symbol: u32,
 ) -> Option<Result<Target, SymbolFault>>

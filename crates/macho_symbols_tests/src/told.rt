@@ -133,7 +133,7 @@ fn put_exports(out: &mut Vec<u8>, exports: &[ExportName]) -> Result<(), AllocErr
 fn put_listed(
     alloc: Global,
     out: &mut Vec<u8>,
-    resolved: &Resolved,
+    resolved: &Resolved<'_>,
     list: Option<&ExportList>,
 ) -> Result<(), AllocError> {
     match resolved.exports(alloc, list) {
@@ -145,7 +145,7 @@ fn put_listed(
 /// Notes what a list asks for, and adds why that is refused, if it is.
 fn put_noted(
     out: &mut Vec<u8>,
-    resolved: &mut Resolved,
+    resolved: &mut Resolved<'_>,
     list: &ExportList,
 ) -> Result<(), AllocError> {
     match resolved.note_exports(list) {
@@ -158,7 +158,7 @@ fn put_noted(
 fn put_answer(
     alloc: Global,
     out: &mut Vec<u8>,
-    resolved: &mut Resolved,
+    resolved: &mut Resolved<'_>,
     ask: Ask,
 ) -> Result<(), AllocError> {
     match ask {
@@ -176,7 +176,7 @@ fn put_answer(
 /// Adds where a symbol of the first object leads, or what noting a use of it tells.
 fn put_use(
     out: &mut Vec<u8>,
-    resolved: &mut Resolved,
+    resolved: &mut Resolved<'_>,
     first: &File<'_>,
     symbol: u32,
     notes: bool,
@@ -202,7 +202,7 @@ fn put_use(
 /// Adds what is told of uses, one after another.
 fn put_uses(
     out: &mut Vec<u8>,
-    resolved: &mut Resolved,
+    resolved: &mut Resolved<'_>,
     first: &File<'_>,
     uses: &[(u32, bool)],
 ) -> Result<(), AllocError>

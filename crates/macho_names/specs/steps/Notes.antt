@@ -1,6 +1,5 @@
 -- Notes: how a row is held, with its name as a place and a length in the bytes of its file.
-use Rattle.std.specs.Prelude.{◌≡◌, ℕ, ◌+◌, ◌^◌, ◌<◌, ◌≤◌, ◌==◌, ◌/◌, ◌*◌, get_or, if◌then◌else◌, Option, Some, None, List, [], length, map, drop, slice_range, All}
-use Rattle.std.specs.declared.vec.Vec.{Vec}
+use Rattle.std.specs.Prelude.{◌≡◌, ℕ, ◌+◌, ◌^◌, ◌<◌, ◌≤◌, ◌==◌, ◌/◌, ◌*◌, get_or, if◌then◌else◌, List, [], length, map, drop, slice_range, All}
 use Rattle.macho_bytes.specs.Texts.{name_of}
 use Rattle.macho_bytes.specs.Numbers.{rounded_up}
 use Rattle.macho_names.specs.declared.notes.Sort.{Sort}
@@ -61,11 +60,6 @@ pub record IsHeld (text : List ℕ) (notes : List Note) : Type 0 where
   pub within : All (IsWithin text) notes
   pub hashed : All (λ n. IsHashOf text n.name n.hash) notes
   pub small : All (λ n. CommonFits n.sort n.number n.value) notes
-
--- the bytes of an install name
-abbrev pub bytes_of : {A : Type 0} → Option (Vec ℕ A) → Option (List ℕ)
-bytes_of None = None
-bytes_of (Some v) = Some v.items
 
 -- The first of some rows are noted, in the order of their indexes.
 pub record AreNoted (text : List ℕ) (notes : List Note) (rows : List Row) : Type 0 where

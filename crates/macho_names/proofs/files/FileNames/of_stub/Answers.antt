@@ -1,4 +1,4 @@
-use Rattle.std.proofs.Common.{[], refl, ◌∙◌}
+use Rattle.std.proofs.Common.{[], refl}
 use Rattle.macho_names.specs.steps.Notes.{AreNoted}
 use Rattle.macho_names.proofs.Noting.{none_noted, stub_noted}
 use Rattle.macho_names.proofs.files.FileNames.of_stub.Goals as goal
@@ -14,4 +14,4 @@ returns c =
     let none : AreNoted c.new-text.result.items c.new-notes.result.items [] = rw
     (c.new-text.ensures.items, c.new-notes.ensures.items) none_noted in
     let noted = stub_noted _ _ _ _ (c.in_ok-offer_names-2.ensures _ (c.in_ok-offer_names.ensures _ none)) in
-    rw (noted.are, c.deref.ensures.value, c.deref-2.ensures.value, c.in_ok-from_slice.ensures.items ∙ c.as_bytes.ensures.value) refl
+    rw (noted.are, c.deref.ensures.value, c.deref-2.ensures.value, c.as_bytes.ensures.value) refl
