@@ -254,24 +254,47 @@ fn libraries_of(
     Ok(libraries)
 }
 
+/// Adds what is told of a link that is resolved.
+fn put_told(
+    alloc: Global,
+    out: &mut Vec<u8>,
+    resolved: &mut Resolved<'_>,
+    first: &File<'_>,
+    row: &Row,
+) -> Result<(), AllocError>
+    requires { IsFirst first.now.bytes resolved.old }
+{
+    put_uses(out, resolved, first, row.3)?;
+    for ask in row.4 {
+        put_answer(alloc, out, resolved, *ask)?;
+        out.extend_from_slice(b"; ")?;
+    }
+    Ok(())
+}
+
+/// Adds what is told of the files and libraries of a link.
+fn put_link<'a>(
+    alloc: Global,
+    out: &mut Vec<u8>,
+    views: &[File<'a>],
+    libraries: &[DefinedStubLibrary<'a>],
+    row: &Row,
+) -> Result<(), AllocError> {
+    let Some((first, others)) = views.split_first() else {
+        return Ok(());
+    };
+    match resolve(alloc, first, others, libraries) {
+        Ok(mut resolved) => put_told(alloc, out, &mut resolved, first, row),
+        Err(fault) => put_fault(out, &fault),
+    }
+}
+
 /// What is told of a link.
 pub(crate) fn told(alloc: Global, row: &Row) -> Result<Vec<u8>, AllocError> {
     let mut out = Vec::new(alloc);
     let files = files_of(alloc, row.0, row.1)?;
     let views = views_of(alloc, &files, row.1)?;
     let libraries = libraries_of(alloc, row.2)?;
-    let Some((first, others)) = views.split_first() else {
-        return Ok(out);
-    };
-    match resolve(alloc, first, others, &libraries) {
-        Ok(mut resolved) => {
-            put_uses(&mut out, &mut resolved, first, row.3)?;
-            for ask in row.4 {
-                put_answer(alloc, &mut out, &mut resolved, *ask)?;
-                out.extend_from_slice(b"; ")?;
-            }
-        }
-        Err(fault) => put_fault(&mut out, &fault)?,
-    }
+    put_link(alloc, &mut out, &views, &libraries, row)?;
     Ok(out)
 }
