@@ -165,17 +165,12 @@ fn many<'n>(
     Ok(symbols)
 }
 
-fn made_of_many(alloc: Global, names: &[[u8; 19]], greatest: bool) -> Result<Made, Fail> {
-    let symbols = many(alloc, names, greatest)?;
-    make(alloc, &symbols)
-}
-
 /// Places that reach 16,384 widen edges, and what is reserved is enough.
 #[test]
 fn reserved_room_is_enough(rt: HostRuntime) -> Result<(), Fail> {
     let names = prefixed_names(rt.alloc())?;
-    let greatest = made_of_many(rt.alloc(), &names, true)?;
-    let many = made_of_many(rt.alloc(), &names, false)?;
+    let greatest = make(rt.alloc(), &many(rt.alloc(), &names, true)?)?;
+    let many = make(rt.alloc(), &many(rt.alloc(), &names, false)?)?;
     assert!(rt; many.bytes.len() == many.room && many.room <= greatest.room);
     Ok(())
 }
