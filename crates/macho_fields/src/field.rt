@@ -1,9 +1,10 @@
 //! A field, read from its relocation, the one in front of it and the bytes of its section.
-ghost use Rattle.std.specs.Prelude.{◌≡◌, ◌+◌, ◌-◌, ◌^◌, ◌<◌, ◌≤◌, ◌⊎◌, true, false, IfSome, length};
+ghost use Rattle.std.specs.Prelude.{◌≡◌, ◌+◌, ◌-◌, ◌^◌, ◌<◌, ◌≤◌, ◌⊎◌, true, false, Some, IfSome, length};
 ghost use Rattle.macho_bytes.specs.Numbers.{le_at, signed};
 ghost use Rattle.macho_model.specs.Objects.{num_sections, section_at, relocation_at};
 ghost use Rattle.macho_structs.specs.Relocations.{BitsFit};
-ghost use Rattle.macho_fields.specs.steps.Fields.{before, subtractor_in, addend_before, target_in, subtrahend_in, addend_in, small_addend_in, IsNear, IsRead};
+ghost use Rattle.macho_fields.specs.steps.Fields.{subtractor_in, addend_before, target_in, subtrahend_in, addend_in, small_addend_in};
+ghost use Rattle.macho_fields.specs.steps.Fields.{IsInFront, IsNear, IsRead};
 
 use crate::places::Places;
 use macho_arm64::{is_difference, is_with_addend};
@@ -211,28 +212,21 @@ fn relocation_at(list: &RelocationList<'_>, index: u32) -> RelocationInfo
     }
 }
 
-/// The relocation in front of one.
-fn previous_of(list: &RelocationList<'_>, index: u32) -> Option<RelocationInfo>
-    requires { index < (section_at list.now.bytes list.now.section).nreloc }
-    ensures is { result ≡ before list.now.bytes list.now.section index }
-    ensures bits { IfSome result BitsFit }
-{
-    if index == 0 {
-        None
-    } else {
-        Some(relocation_at(list, index - 1))
-    }
-}
-
-/// A relocation of a list with the one in front of it.
-pub(crate) fn near_at(list: &RelocationList<'_>, index: u32) -> Near
-    requires { index < (section_at list.now.bytes list.now.section).nreloc }
-    ensures { IsNear list.now.bytes list.now.section index result }
+/// A relocation of a list with the one in front of it, which was read already.
+pub(crate) fn near_at(
+    list: &RelocationList<'_>,
+    index: u32,
+    previous: Option<RelocationInfo>,
+) -> Near
+    requires index { index < (section_at list.now.bytes list.now.section).nreloc }
+    requires previous { IsInFront list.now.bytes list.now.section index previous }
+    ensures near { IsNear list.now.bytes list.now.section index result }
+    ensures front { IsInFront list.now.bytes list.now.section (index + 1) (Some result.relocation) }
 {
     Near {
         index,
         relocation: relocation_at(list, index),
-        previous: previous_of(list, index),
+        previous,
     }
 }
 

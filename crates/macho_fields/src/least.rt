@@ -6,12 +6,12 @@ ghost use Rattle.macho_model.specs.Links.{Link};
 ghost use Rattle.macho_model.specs.Placement.{Placed};
 ghost use Rattle.macho_fields.specs.Filling.{IsToFill};
 ghost use Rattle.macho_fields.specs.Faults.{FillStands};
-ghost use Rattle.macho_fields.specs.steps.Fields.{seen};
+ghost use Rattle.macho_fields.specs.steps.Fields.{seen, IsNear};
 ghost use Rattle.macho_fields.specs.steps.Filled.{IsSource, IsStopped};
 
 use crate::asking::asks;
 use crate::fault::FillFault;
-use crate::field::{Field, near_at, read_field};
+use crate::field::{Field, Near, near_at, read_field};
 use crate::making::{fault_of, word_of, written_of};
 use crate::places::Places;
 use crate::section::Source;
@@ -68,18 +68,22 @@ fn field_fault<P: Places>(places: &P, source: &Source<'_, '_>, field: &Field) ->
 
 /// Why a pointer can't be filled, None where it can or the relocation is of another type: what else can't be filled is out of
 /// range, and of such fields the first one was met already.
-fn relocation_fault<P: Places>(places: &P, source: &Source<'_, '_>, index: u32) -> Option<FillFault>
+fn relocation_fault<P: Places>(
+    places: &P,
+    source: &Source<'_, '_>,
+    near: &Near,
+) -> Option<FillFault>
     requires source { IsSource source.now }
-    requires index { index < (section_at source.now.file.now.bytes source.now.place.section).nreloc }
+    requires near { IsNear source.now.list.now.bytes source.now.list.now.section near.now.index near.now }
+    requires index { near.now.index < (section_at source.now.file.now.bytes source.now.place.section).nreloc }
     requires symbols { (s : ℕ) → s < num_symbols source.now.file.now.bytes → P.has_symbol places.now source.now.place.file s }
     ensures { (l : Link) (p : Placed) → IsToFill l p source.now.place (P.look places.now) source.now.file.now.bytes
         → IfSome result (FillStands l p) }
 {
-    let near = near_at(source.list, index);
     if near.relocation.r_type != ARM64_RELOC_UNSIGNED {
         return None;
     }
-    let field = read_field(places, source.place.file, source.file, source.bytes, &near);
+    let field = read_field(places, source.place.file, source.file, source.bytes, near);
     field_fault(places, source, &field)
 }
 
@@ -91,10 +95,13 @@ fn relocations_fault<P: Places>(places: &P, source: &Source<'_, '_>, told: FillF
         → FillStands l p told → FillStands l p result }
 {
     let mut least = told;
+    let mut previous = None;
     for index in 0..source.list.num_relocations() {
-        if let Some(fault) = relocation_fault(places, source, index) {
+        let near = near_at(source.list, index, previous);
+        if let Some(fault) = relocation_fault(places, source, &near) {
             least = lesser(least, fault);
         }
+        previous = Some(near.relocation);
     }
     least
 }

@@ -9,14 +9,14 @@ ghost use Rattle.macho_parts.specs.Asked.{fixups_in};
 ghost use Rattle.macho_parts.specs.Filled.{IsFilled};
 ghost use Rattle.macho_fields.specs.Filling.{IsToFill};
 ghost use Rattle.macho_fields.specs.Faults.{FillStands, NoneStandsIn};
-ghost use Rattle.macho_fields.specs.steps.Fields.{seen};
+ghost use Rattle.macho_fields.specs.steps.Fields.{seen, IsNear};
 ghost use Rattle.macho_fields.specs.steps.Writes.{IsPut};
 ghost use Rattle.macho_fields.specs.steps.Filled.{IsSource, IsAsked, CannotAsk, CannotSet, written_in, IsDone, IsStopped};
 ghost use Rattle.macho_fields.specs.steps.Sections.{IsFilledTo};
 
 use crate::asking::asks;
 use crate::fault::FillFault;
-use crate::field::{Field, near_at, read_field};
+use crate::field::{Field, Near, near_at, read_field};
 use crate::kinds::is_prefix;
 use crate::making::{fault_of, word_of, written_of};
 use crate::places::Places;
@@ -99,31 +99,31 @@ fn fill_field<P: Places>(
 fn fill_one<P: Places>(
     places: &P,
     source: &Source<'_, '_>,
-    index: u32,
+    near: &Near,
     run: &mut Vec<Fixup>,
     out: &mut [u8],
 ) -> Result<(), FillFault>
     requires source { IsSource source.now }
-    requires index { index < (section_at source.now.file.now.bytes source.now.place.section).nreloc }
+    requires near { IsNear source.now.list.now.bytes source.now.list.now.section near.now.index near.now }
+    requires index { near.now.index < (section_at source.now.file.now.bytes source.now.place.section).nreloc }
     requires symbols { (s : ℕ) → s < num_symbols source.now.file.now.bytes → P.has_symbol places.now source.now.place.file s }
     ensures done { (l : Link) (p : Placed) (asked : List Fixup)
         → IsToFill l p source.now.place (P.look places.now) source.now.file.now.bytes
-        → IsFilledTo l p source.now.place index asked out.old run.old.items
-        → OnOk result (IsFilledTo l p source.now.place (index + 1) asked out.new run.new.items) }
+        → IsFilledTo l p source.now.place near.now.index asked out.old run.old.items
+        → OnOk result (IsFilledTo l p source.now.place (near.now.index + 1) asked out.new run.new.items) }
     ensures why { (l : Link) (p : Placed) (asked : List Fixup)
         → IsToFill l p source.now.place (P.look places.now) source.now.file.now.bytes
-        → IsFilledTo l p source.now.place index asked out.old run.old.items
+        → IsFilledTo l p source.now.place near.now.index asked out.old run.old.items
         → IfErr result (FillStands l p) }
 {
-    let near = near_at(source.list, index);
     if is_prefix(near.relocation.r_type) {
         return Ok(());
     }
-    let field = read_field(places, source.place.file, source.file, source.bytes, &near);
+    let field = read_field(places, source.place.file, source.file, source.bytes, near);
     fill_field(places, source, &field, run, out)
 }
 
-/// Takes care of all relocations of a section.
+/// Takes care of all relocations of a section. Each is read once, and kept for the one behind it.
 fn fill_fields<P: Places>(
     places: &P,
     source: &Source<'_, '_>,
@@ -139,8 +139,11 @@ fn fill_fields<P: Places>(
     ensures why { (l : Link) (p : Placed) → IsToFill l p source.now.place (P.look places.now) source.now.file.now.bytes
         → IfErr result (FillStands l p) }
 {
+    let mut previous = None;
     for index in 0..source.list.num_relocations() {
-        fill_one(places, source, index, run, out)?;
+        let near = near_at(source.list, index, previous);
+        fill_one(places, source, &near, run, out)?;
+        previous = Some(near.relocation);
     }
     Ok(())
 }

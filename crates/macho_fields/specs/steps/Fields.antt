@@ -191,6 +191,11 @@ fixup_asked look t addend = if is_encodable look t addend then Some (kind_asked 
 abbrev pub may_stand : ℕ → Bool
 may_stand address = nat_le (address % SEGMENT_PAGE + 8) SEGMENT_PAGE && (address % 4 == 0)
 
+-- What was read in front of relocation r of section k, where there is one.
+pub record IsInFront (b : List ℕ) (k r : ℕ) (previous : Option RelocationInfo) : Type 0 where
+  pub is : previous ≡ before b k r
+  pub bits : IfSome previous BitsFit
+
 -- A relocation with the one in front of it.
 pub record IsNear (b : List ℕ) (k r : ℕ) (n : Near) : Type 0 where
   pub index : n.index ≡ r

@@ -8,6 +8,6 @@ use Rattle.macho_fields.proofs.least.relocation_fault.Goals as goal
 pub returns : goal.returns
 returns g c =
     λ l p fill. IfSome_then c.field_fault.result c.field_fault.ensures
-    (λ fault stopped. one_alone l p (g.P.Places.look c.args.places.now) c.args.source.now c.args.index c.near_at-near.result
-    c.read_field-field.result fault c.requires.source fill c.requires.index c.near_at-near.ensures c.read_field-field.ensures
+    (λ fault stopped. one_alone l p (g.P.Places.look c.args.places.now) c.args.source.now c.args.near.now.index c.args.near.now
+    c.read_field-field.result fault c.requires.source fill c.requires.index c.requires.near c.read_field-field.ensures
     (ap (λ (type : ℕ). is_prefix_type type) c.if-near-ne-ARM64_RELOC_UNSIGNED.false) stopped)
