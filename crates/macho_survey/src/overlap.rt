@@ -72,13 +72,15 @@ fn are_in_order(list: &RelocationList<'_>) -> bool
 {
     let mut older = Hull::EMPTY;
     let mut hull = Hull::EMPTY;
+    let mut last = None;
     for index in 0..list.num_relocations() {
-        let seen = Seen::of(list, index);
+        let seen = Seen::of(list, index, last);
         if !hull.or(older, seen.ends_pair()).excludes(seen.this) {
             return false;
         }
         older = hull;
         hull = hull.with(seen.this);
+        last = Some(seen);
     }
     true
 }
@@ -144,10 +146,13 @@ fn overlap_by_table(
     ensures { IfOk result (IsFoundIn list.now.bytes list.now.section) }
 {
     let mut table = IndexMap::new(alloc);
+    let mut last = None;
     for index in 0..list.num_relocations() {
-        if let Some(earlier) = put_field(&mut table, Seen::of(list, index), index)? {
+        let seen = Seen::of(list, index, last);
+        if let Some(earlier) = put_field(&mut table, seen, index)? {
             return Ok(Some((earlier, index)));
         }
+        last = Some(seen);
     }
     Ok(None)
 }

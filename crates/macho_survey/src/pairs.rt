@@ -1,9 +1,9 @@
 //! A relocation beside its neighbours in the table: which two are one field.
-ghost use Rattle.std.specs.Prelude.{◌≡◌, ◌+◌, ◌-◌, ◌<◌, nat_le, nat_lt, if◌then◌else◌, Some, None};
+ghost use Rattle.std.specs.Prelude.{◌≡◌, ◌+◌, ◌<◌, nat_lt, if◌then◌else◌, Some, None, IfSome};
 ghost use Rattle.macho_structs.specs.Relocations.{BitsFit};
 ghost use Rattle.macho_model.specs.Objects.{section_at, relocation_at};
 ghost use Rattle.macho_model.specs.Fields.{is_pair};
-ghost use Rattle.macho_survey.specs.steps.Windows.{window_in, subtracted, with_addend, begins, ends};
+ghost use Rattle.macho_survey.specs.steps.Windows.{window_in, this_of, subtracted, with_addend, begins, ends, IsLast};
 
 use macho_arm64::{is_difference, is_with_addend};
 use macho_object::RelocationList;
@@ -27,23 +27,35 @@ pub(crate) fn is_pair(first: RelocationInfo, second: RelocationInfo) -> bool
     is_difference(first, second) || is_with_addend(first, second)
 }
 
-/// The relocation before one in a table.
-fn before(list: &RelocationList<'_>, index: u32) -> Option<RelocationInfo>
-    requires { index < (section_at list.now.bytes list.now.section).nreloc }
-    ensures { result ≡ (if nat_le 1 index then Some (relocation_at list.now.bytes list.now.section (index - 1)) else None) }
+/// The relocation before one in a table: the one that was seen last.
+fn before(last: Option<Seen>) -> Option<RelocationInfo>
+    ensures { result ≡ this_of last }
 {
-    if index == 0 {
-        None
-    } else {
-        list.get(index - 1)
+    match last {
+        Some(last) => Some(last.this),
+        None => None,
+    }
+}
+
+/// A relocation of a table: the one behind that which was seen last, and the first of the table where none was.
+fn here(list: &RelocationList<'_>, index: u32, last: Option<Seen>) -> Option<RelocationInfo>
+    requires index { index < (section_at list.now.bytes list.now.section).nreloc }
+    requires last { IsLast list.now.bytes list.now.section index last }
+    ensures is { result ≡ Some (relocation_at list.now.bytes list.now.section index) }
+    ensures bits { IfSome result BitsFit }
+{
+    match last {
+        Some(last) => last.next,
+        None => list.get(index),
     }
 }
 
 /// The relocation behind one in a table.
 fn behind(list: &RelocationList<'_>, index: u32) -> Option<RelocationInfo>
     requires { index < (section_at list.now.bytes list.now.section).nreloc }
-    ensures { result ≡ (if nat_lt (index + 1) (section_at list.now.bytes list.now.section).nreloc
+    ensures is { result ≡ (if nat_lt (index + 1) (section_at list.now.bytes list.now.section).nreloc
         then Some (relocation_at list.now.bytes list.now.section (index + 1)) else None) }
+    ensures bits { IfSome result BitsFit }
 {
     let _count = list.num_relocations();
     list.get(index + 1)
@@ -90,17 +102,19 @@ impl Seen {
         }
     }
 
-    /// A relocation of a table, with its neighbours.
-    pub(crate) fn of(list: &RelocationList<'_>, index: u32) -> Seen
-        requires { index < (section_at list.now.bytes list.now.section).nreloc }
+    /// A relocation of a table, with its neighbours, by what was seen last: the one before it, None where it is the first.
+    pub(crate) fn of(list: &RelocationList<'_>, index: u32, last: Option<Seen>) -> Seen
+        requires index { index < (section_at list.now.bytes list.now.section).nreloc }
+        requires last { IsLast list.now.bytes list.now.section index last }
         ensures seen { result ≡ window_in list.now.bytes list.now.section index }
         ensures bits { BitsFit result.this }
+        ensures last { IsLast list.now.bytes list.now.section (index + 1) (Some result) }
     {
-        let Some(this) = list.get(index) else {
+        let Some(this) = here(list, index, last) else {
             unreachable!()
         };
         Seen {
-            before: before(list, index),
+            before: before(last),
             this,
             next: behind(list, index),
         }

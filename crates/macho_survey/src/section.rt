@@ -15,7 +15,8 @@ ghost use Rattle.macho_faults.specs.Standing.{Stands};
 ghost use Rattle.macho_parts.specs.Noted.{BeginsWith};
 ghost use Rattle.macho_needs.specs.Noted.{IsNext};
 ghost use Rattle.macho_survey.specs.steps.Found.{IsSurveyed};
-ghost use Rattle.macho_survey.specs.steps.Sections.{is_plain, IsSectionOf, HasRows, id_of, counted_from, addend_by, pointer_at};
+ghost use Rattle.macho_survey.specs.steps.Windows.{window_in};
+ghost use Rattle.macho_survey.specs.steps.Sections.{is_plain, IsSectionOf, relocations_of, HasRows, id_of, counted_from, addend_by, pointer_at};
 ghost use Rattle.macho_survey.specs.steps.Sections.{bad_addend, misplaced, judged, pair_of, HasObject, IsCarriedAt};
 
 use crate::findings::{Addend, Findings, Pair, Place};
@@ -158,17 +159,19 @@ fn judged(
         .with_place(place, is_misplaced(at.holds_pointers, pointer, target))
 }
 
-/// Looks at a relocation of a section: its use is noted, and what stands against it is found.
+/// Looks at a relocation of a section, which was seen with its neighbours: its use is noted, and what stands against it is found.
 fn survey_relocation(
     needs: &mut Needs<'_>,
     findings: &mut Findings,
     object: &File<'_>,
-    list: &RelocationList<'_>,
     bytes: &[u8],
     at: Section,
     index: u32,
+    seen: Seen,
 ) -> Result<(), LinkError>
-    requires section { IsSectionOf object.now list.now bytes.now at }
+    requires section { IsSectionOf object.now bytes.now at }
+    requires seen { seen ≡ window_in object.now.bytes at.section index }
+    requires bits { BitsFit seen.this }
     requires index { index < (section_at object.now.bytes at.section).nreloc }
     requires rows { HasRows needs.old.resolved.files at.file object.now.bytes }
     ensures surveyed { (l : Link) (ss : List SectionId) (us : List Use) → object_of l at.file ≡ object.now.bytes
@@ -180,7 +183,6 @@ fn survey_relocation(
     ensures kept { (inputs : List Input) → Keeps inputs needs.old.resolved.files → Keeps inputs needs.new.resolved.files }
 {
     let _object = object.is_dynamic();
-    let seen = Seen::of(list, index);
     let pointer = pointer(object, bytes, seen);
     let target = needs.use_relocation(object, at.file, seen.this, pointer)?;
     let word = word_at(bytes, seen.this);
@@ -197,7 +199,8 @@ fn survey_relocations(
     bytes: &[u8],
     at: Section,
 ) -> Result<(), LinkError>
-    requires section { IsSectionOf object.now list.now bytes.now at }
+    requires section { IsSectionOf object.now bytes.now at }
+    requires list { list.now ≡ relocations_of object.now at }
     requires rows { HasRows needs.old.resolved.files at.file object.now.bytes }
     ensures surveyed { (l : Link) (ss : List SectionId) (us : List Use) → object_of l at.file ≡ object.now.bytes
         → Contains (carried_of l) (id_of at)
@@ -208,8 +211,11 @@ fn survey_relocations(
         → BeginsWith l (us ++ carried_uses l (id_of at)) → IsSurveyed l ss us needs.old findings.old → IfErr result (Stands l counts) }
     ensures kept { (inputs : List Input) → Keeps inputs needs.old.resolved.files → Keeps inputs needs.new.resolved.files }
 {
+    let mut last = None;
     for index in 0..list.num_relocations() {
-        survey_relocation(needs, findings, object, list, bytes, at, index)?;
+        let seen = Seen::of(list, index, last);
+        survey_relocation(needs, findings, object, bytes, at, index, seen)?;
+        last = Some(seen);
     }
     Ok(())
 }

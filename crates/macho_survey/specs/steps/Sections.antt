@@ -28,13 +28,16 @@ use Rattle.macho_survey.specs.steps.Windows.{window_in, subtracted}
 abbrev pub id_of : Section → SectionId
 id_of at = section_id at.file at.section
 
--- a section of an object, with its relocations and bytes
-pub record IsSectionOf (object : FileBytes) (list : RelocationBytes) (bytes : List ℕ) (at : Section) : Type 0 where
+-- a section of an object, with its bytes
+pub record IsSectionOf (object : FileBytes) (bytes : List ℕ) (at : Section) : Type 0 where
   pub kind : object.is_dynamic ≡ false
   pub there : at.section < num_sections object.bytes
-  pub list_is : list ≡ record { bytes = object.bytes; section = at.section }
   pub bytes_are : bytes ≡ section_bytes object.bytes at.section
   pub holds : at.holds_pointers ≡ may_hold_pointers (name_of (section_at object.bytes at.section).segname)
+
+-- its relocations
+abbrev pub relocations_of : FileBytes → Section → RelocationBytes
+relocations_of object at = record { bytes = object.bytes; section = at.section }
 
 -- the rows of symbols are of inputs of which one is the object
 pub record HasRows (files : List FileRows) (file : ℕ) (bytes : List ℕ) : Type 0 where

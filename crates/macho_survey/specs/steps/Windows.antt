@@ -1,6 +1,7 @@
 -- A relocation of a table beside its neighbours.
-use Rattle.std.specs.Prelude.{ℕ, ◌+◌, ◌-◌, nat_le, nat_lt, if◌then◌else◌, Bool, false, List, Option, Some, None}
+use Rattle.std.specs.Prelude.{◌≡◌, ℕ, ◌+◌, ◌-◌, nat_le, nat_lt, if◌then◌else◌, Bool, false, List, Option, Some, None, IfSome}
 use Rattle.macho_structs.specs.declared.relocations.RelocationInfo.{RelocationInfo}
+use Rattle.macho_structs.specs.Relocations.{BitsFit}
 use Rattle.macho_model.specs.Objects.{section_at, relocation_at}
 use Rattle.macho_model.specs.Fields.{is_difference, is_with_addend, is_pair}
 use Rattle.macho_survey.specs.declared.pairs.Seen.{Seen}
@@ -12,6 +13,16 @@ window_in b k r = record {
   this = relocation_at b k r;
   next = if nat_lt (r + 1) (section_at b k).nreloc then Some (relocation_at b k (r + 1)) else None;
 }
+
+-- what was seen last before relocation r of section k: the one in front of it, if there is one, with its neighbours
+pub record IsLast (b : List ℕ) (k r : ℕ) (last : Option Seen) : Type 0 where
+  pub is : last ≡ (if nat_le 1 r then Some (window_in b k (r - 1)) else None)
+  pub bits : IfSome last (λ w. IfSome w.next BitsFit)
+
+-- the relocation that was seen
+abbrev pub this_of : Option Seen → Option RelocationInfo
+this_of None = None
+this_of (Some w) = Some w.this
 
 abbrev pub tests_before : (RelocationInfo → RelocationInfo → Bool) → Option RelocationInfo → RelocationInfo → Bool
 tests_before test None this = false

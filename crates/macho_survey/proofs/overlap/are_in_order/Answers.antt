@@ -26,4 +26,5 @@ loop-index-preserved c =
       older = λ q below. c.loop-index.invariant.hull q (omega (arith, below));
       hull = subst (λ h. Holds b k h (c.loop-index.index + 1)) (sym new)
           (hull_more b k c.loop-index.index hull c.loop-index.invariant.hull);
+      last = c.of-seen.ensures.last;
     }

@@ -6,12 +6,12 @@ use Rattle.macho_survey.proofs.overlap.overlap_by_table.Goals as goal
 pub returns-in-Some : goal.returns-in-Some
 returns-in-Some c =
     let there : c.loop-index.index < (section_at c.args.list.now.bytes c.args.list.now.section).nreloc = omega arith in
-    seen_taken c.args.list.now.bytes c.args.list.now.section c.loop-index.index _ _ c.of.result c.in_ok-earlier.field-0 c.in-Some.earlier
-    c.loop-index.invariant.table there c.of.ensures.seen c.in-Some.is c.in_ok-earlier.ensures
+    seen_taken c.args.list.now.bytes c.args.list.now.section c.loop-index.index _ _ c.of-seen.result c.in_ok-earlier.field-0 c.in-Some.earlier
+    c.loop-index.invariant.table there c.of-seen.ensures.seen c.in-Some.is c.in_ok-earlier.ensures
 
 pub loop-index-preserved : goal.loop-index-preserved
 loop-index-preserved c =
-    let more = seen_more c.args.list.now.bytes c.args.list.now.section c.loop-index.index _ _ c.of.result c.in_ok-earlier.field-0
-    c.loop-index.invariant.table c.loop-index.invariant.apart c.of.ensures.seen (none_left _ c.in_default.not-Some)
+    let more = seen_more c.args.list.now.bytes c.args.list.now.section c.loop-index.index _ _ c.of-seen.result c.in_ok-earlier.field-0
+    c.loop-index.invariant.table c.loop-index.invariant.apart c.of-seen.ensures.seen (none_left _ c.in_default.not-Some)
     c.in_ok-earlier.ensures in
-    record { table = more.table; apart = more.apart }
+    record { table = more.table; apart = more.apart; last = c.of-seen.ensures.last }

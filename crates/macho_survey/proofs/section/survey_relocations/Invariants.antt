@@ -4,6 +4,7 @@ use Rattle.macho_model.specs.Needs.{Use, carried_uses}
 use Rattle.macho_names.specs.Kept.{Keeps}
 use Rattle.macho_parts.specs.Noted.{BeginsWith}
 use Rattle.macho_survey.specs.steps.Found.{IsSurveyed}
+use Rattle.macho_survey.specs.steps.Windows.{IsLast}
 use Rattle.macho_survey.specs.steps.Sections.{id_of}
 use Rattle.macho_survey.proofs.section.survey_relocations.Given as goal
 
@@ -14,5 +15,6 @@ invariant-loop-index v =
           → Contains (carried_of l) (id_of v.at)
           → BeginsWith l (us ++ carried_uses l (id_of v.at)) → IsSurveyed l ss us v.initial.needs v.initial.findings
           → IsSurveyed l ss (us ++ take v.index (carried_uses l (id_of v.at))) v.needs v.findings;
+      last : IsLast v.list.bytes v.list.section v.index v.last;
       kept : (inputs : List Input) → Keeps inputs v.initial.needs.resolved.files → Keeps inputs v.needs.resolved.files;
     }
