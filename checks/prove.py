@@ -2,12 +2,14 @@
 `rt ci`'s.
 
 prove.py [--lanes N] [CRATE..]    the crates and those below them, or all; N at a time, else as many as processors and memory allow
+prove.py --over FOLDER [CRATE..]  first takes the libraries that an `rt ci` built in another checkout, where the files are the same
 prove.py --program CRATE          builds a program whose crates are proved, as out/CRATE; --tests CRATE builds and runs its tests
 
 `rt check` of an upper crate sums up the files of all crates below once for each path to them, which takes minutes; here each sum is
 made once. What a crate's check said stands in its out/prove.log. The libraries in out/ are those that `rt check` takes.
 """
 import argparse
+import filecmp
 import os
 import shutil
 import sys
@@ -40,6 +42,36 @@ def crates():
     rtlib.guarded()
     os.chdir(TOP)
     return {crate.name: crate for crate in rtlib.crates_below(TOP)}
+
+
+def is_same(crate, folder):
+    """Whether a crate and those below it have the same files in another checkout."""
+    there = os.path.join(folder, os.path.relpath(crate.folder, TOP))
+    for top, other in [(crate.folder, there), (there, crate.folder)]:
+        for file in rtlib.files_of(top):
+            twin = os.path.join(other, os.path.relpath(file, top))
+            if not os.path.isfile(twin) or not filecmp.cmp(file, twin, shallow=False):
+                return False
+    return True
+
+
+def take(chosen, folder):
+    """Takes the libraries that an `rt ci` built in another checkout, which have no stamp there. They hold statements alone, so they fit
+    only those below that are taken with them."""
+    taken = set()
+    for crate in sorted(chosen, key=lambda it: len(it.below())):
+        made = os.path.join(folder, os.path.relpath(crate.folder, TOP), "out/rlib")
+        if not os.path.isfile(f"{made}/{crate.name}.rlib") or not all(below in taken for below in crate.below()):
+            continue
+        if is_same(crate, folder):
+            taken.add(crate)
+            here = f"{crate.folder}/out/rlib/{crate.name}.rlib"
+            if not crate.is_built() or not filecmp.cmp(here, f"{made}/{crate.name}.rlib", shallow=False):
+                shutil.rmtree(f"{crate.folder}/out/rlib", ignore_errors=True)
+                shutil.copytree(made, f"{crate.folder}/out/rlib")
+                with open(f"{crate.folder}/out/rlib/stamp", "w", encoding="utf-8") as it:
+                    it.write(crate.stamp())
+    print(f"{len(taken)} of {len(chosen)} crates are taken from {folder}", flush=True)
 
 
 def prove(crate):
@@ -104,6 +136,7 @@ def build(crate, tests):
 def main():
     parser = argparse.ArgumentParser(description=__doc__, formatter_class=argparse.RawDescriptionHelpFormatter)
     parser.add_argument("--lanes", type=int, default=most_lanes())
+    parser.add_argument("--over", metavar="FOLDER")
     parser.add_argument("--program", metavar="CRATE")
     parser.add_argument("--tests", metavar="CRATE")
     parser.add_argument("crates", nargs="*", metavar="CRATE")
@@ -115,7 +148,10 @@ def main():
     if asked.program or asked.tests:
         return build(known[asked.program or asked.tests], bool(asked.tests))
     tops = [known[name] for name in asked.crates] or list(known.values())
-    unproved = prove_all({it for top in tops for it in [top, *top.below()]}, asked.lanes)
+    chosen = {it for top in tops for it in [top, *top.below()]}
+    if asked.over:
+        take(chosen, os.path.abspath(asked.over))
+    unproved = prove_all(chosen, asked.lanes)
     print(f"not proved: {', '.join(unproved)}" if unproved else "all proved, over what was kept")
     return 1 if unproved else 0
 

@@ -18,6 +18,7 @@ program=$top/crates/wild_macho_main/out/wild_macho_main
 cp "$top"/checks/many_kinds/* "$folder" && cd "$folder" || exit 1
 
 cat >refuse.c <<'C'
+#include <errno.h>
 #include <stddef.h>
 #include <stdio.h>
 #include <stdlib.h>
@@ -26,7 +27,11 @@ extern void *__libc_malloc(size_t), *__libc_calloc(size_t, size_t), *__libc_real
 
 static long refused = -1, count;
 
-static int is_refused(void) { return refused >= 0 && ++count == refused; }
+static int is_refused(void) {
+    if (refused < 0 || ++count != refused) return 0;
+    errno = ENOMEM;
+    return 1;
+}
 
 void *malloc(size_t size) { return is_refused() ? NULL : __libc_malloc(size); }
 void *calloc(size_t number, size_t size) { return is_refused() ? NULL : __libc_calloc(number, size); }
