@@ -60,17 +60,18 @@ def take(chosen, folder):
     only those below that are taken with them."""
     taken = set()
     for crate in sorted(chosen, key=lambda it: len(it.below())):
-        made = os.path.join(folder, os.path.relpath(crate.folder, TOP), "out/rlib")
-        if not os.path.isfile(f"{made}/{crate.name}.rlib") or not all(below in taken for below in crate.below()):
+        here = f"{crate.folder}/out/rlib"
+        made = os.path.join(folder, os.path.relpath(here, TOP))
+        if not os.path.isdir(f"{made}/{crate.name}.rlib") or not all(below in taken for below in crate.below()):
             continue
         if is_same(crate, folder):
             taken.add(crate)
-            here = f"{crate.folder}/out/rlib/{crate.name}.rlib"
-            if not crate.is_built() or not filecmp.cmp(here, f"{made}/{crate.name}.rlib", shallow=False):
-                shutil.rmtree(f"{crate.folder}/out/rlib", ignore_errors=True)
-                shutil.copytree(made, f"{crate.folder}/out/rlib")
-                with open(f"{crate.folder}/out/rlib/stamp", "w", encoding="utf-8") as it:
-                    it.write(crate.stamp())
+            if not crate.is_built() or rtlib.text_of(f"{here}/from") != folder:
+                shutil.rmtree(here, ignore_errors=True)
+                shutil.copytree(made, here)
+                for name, text in [("stamp", crate.stamp()), ("from", folder)]:
+                    with open(f"{here}/{name}", "w", encoding="utf-8") as it:
+                        it.write(text)
     print(f"{len(taken)} of {len(chosen)} crates are taken from {folder}", flush=True)
 
 
