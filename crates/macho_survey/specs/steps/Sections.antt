@@ -1,6 +1,7 @@
 -- A carried section whose relocations are looked at, by its object's bytes: what its relocations are pointers with, and whether it may
 -- hold what the loader writes.
-use Rattle.std.specs.Prelude.{◌≡◌, ℕ, ◌+◌, ◌-◌, ◌%◌, ◌^◌, ◌<◌, ◌==◌, ◌&&◌, not, if◌then◌else◌, Bool, true, false, List, length, get_or, filter, Option, Some, None}
+use Rattle.std.specs.Prelude.{◌≡◌, ℕ, ◌+◌, ◌-◌, ◌%◌, ◌^◌, ◌<◌, ◌==◌, ◌&&◌, not, if◌then◌else◌}
+use Rattle.std.specs.Prelude.{Bool, true, false, List, length, get_or, filter, Option, Some, None}
 use Rattle.std.specs.List.{flat_map}
 use Rattle.macho_bytes.specs.Numbers.{le_at}
 use Rattle.macho_bytes.specs.Texts.{name_of}
@@ -60,7 +61,8 @@ is_plain w = (w.this.r_type == ARM64_RELOC_UNSIGNED) && (w.this.r_length == 3) &
 
 abbrev pub pointer_at : List ℕ → ℕ → ℕ → Option ℕ
 pointer_at b k r =
-    if is_plain (window_in b k r) then Some (addend_by b (relocation_at b k r) (le_at 8 (section_bytes b k) (relocation_at b k r).r_address)) else None
+    if is_plain (window_in b k r) then Some (addend_by b (relocation_at b k r) (le_at 8 (section_bytes b k) (relocation_at b k r).r_address))
+    else None
 
 -- a pointer to an import with an addend that doesn't fit
 abbrev pub bad_addend : Place → Option ℕ → Target → Option Addend

@@ -29,5 +29,5 @@ returns-clause-noted c l noted lists =
 
 pub returns-clause-kept : goal.returns-clause-kept
 returns-clause-kept c inputs keeps =
-    files_stay c.note_exports.result inputs c.args.needs.now.resolved c.note_exports.new.self (λ l noted. noting_names l noted c.in-Some.list.now.plain)
-    keeps c.note_exports.ensures.noted c.note_exports.ensures.kept
+    files_stay c.note_exports.result inputs c.args.needs.now.resolved c.note_exports.new.self
+    (λ l noted. noting_names l noted c.in-Some.list.now.plain) keeps c.note_exports.ensures.noted c.note_exports.ensures.kept

@@ -6,8 +6,8 @@ use Rattle.macho_survey.proofs.overlap.overlap_by_table.Goals as goal
 pub returns-in-Some : goal.returns-in-Some
 returns-in-Some c =
     let there : c.loop-index.index < (section_at c.args.list.now.bytes c.args.list.now.section).nreloc = omega arith in
-    seen_taken c.args.list.now.bytes c.args.list.now.section c.loop-index.index _ _ c.of-seen.result c.in_ok-earlier.field-0 c.in-Some.earlier
-    c.loop-index.invariant.table there c.of-seen.ensures.seen c.in-Some.is c.in_ok-earlier.ensures
+    seen_taken c.args.list.now.bytes c.args.list.now.section c.loop-index.index _ _ c.of-seen.result c.in_ok-earlier.field-0
+    c.in-Some.earlier c.loop-index.invariant.table there c.of-seen.ensures.seen c.in-Some.is c.in_ok-earlier.ensures
 
 pub loop-index-preserved : goal.loop-index-preserved
 loop-index-preserved c =

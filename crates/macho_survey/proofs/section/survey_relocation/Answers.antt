@@ -58,8 +58,8 @@ returns-clause-surveyed c l ss us object carried next before =
     let s = id_of c.args.at in
     let whole : IsObject c.args.object.now.bytes = subst (λ b. IsFile b c.args.object.now.bytes) c.requires.section.kind
     c.is_dynamic-object.ensures.kept in
-    let of = is_relocation l s c.args.index c.args.object.now c.args.bytes.now c.args.seen object c.requires.section.bytes_are c.requires.seen
-    c.requires.bits c.requires.section.there c.requires.index in
+    let of = is_relocation l s c.args.index c.args.object.now c.args.bytes.now c.args.seen object c.requires.section.bytes_are
+    c.requires.seen c.requires.bits c.requires.section.there c.requires.index in
     let pointer = pointer_told l s c.args.index c.args.object.now c.args.bytes.now c.args.seen object c.requires.section.bytes_are
     c.requires.seen c.requires.bits
     c.pointer-pointer.result c.pointer-pointer.ensures in
@@ -75,9 +75,11 @@ returns-clause-surveyed c l ss us object carried next before =
     before noted leads held in
     let place : Place = record { file = c.args.at.file; section = c.args.at.section; relocation = c.args.index } in
     let same = c.judged.ensures
-    ∙ ap (λ w. judged c.args.findings.now c.args.at.holds_pointers place w c.in_ok-target.target c.word_at-word.result c.pointer-pointer.result)
+    ∙ ap (λ w. judged c.args.findings.now c.args.at.holds_pointers place w c.in_ok-target.target c.word_at-word.result
+    c.pointer-pointer.result)
     (seen_of l s c.args.index c.args.object.now c.args.bytes.now c.args.seen object c.requires.section.bytes_are c.requires.seen
     c.requires.bits)
-    ∙ ap (judged c.args.findings.now c.args.at.holds_pointers place (window_of l s c.args.index) c.in_ok-target.target c.word_at-word.result)
+    ∙ ap (judged c.args.findings.now c.args.at.holds_pointers place (window_of l s c.args.index) c.in_ok-target.target
+    c.word_at-word.result)
     pointer in
     subst (λ (f : Findings). IsSurveyed l ss (us ++ ByRelocation s c.args.index ∷ []) c.use_relocation.new.self f) (sym same) more
