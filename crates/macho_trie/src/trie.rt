@@ -105,7 +105,8 @@ impl Trie {
             rows: &self.rows,
         };
         let places = layout.lay_out(alloc)?;
+        let size = places[self.rows.len()];
         layout.spell(alloc, &places, out, at)?;
-        Ok(places[self.rows.len()])
+        Ok(size)
     }
 }

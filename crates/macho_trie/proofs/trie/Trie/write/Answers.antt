@@ -16,8 +16,8 @@ spell-requires-clause-room c =
     let same = ap (λ (ps : List ℕ). tree_bytes (says_at l) (slice_index ps) 0 (tree_at l)) c.deref-2.ensures.value in
     c.requires.room _ (length_is c.args.self.now l c.in_ok-places.places.items _ c.deref.ensures.value c.in_ok-places.ensures same)
 
-pub index-requires : goal.index-requires
-index-requires c =
+pub index-size-requires : goal.index-size-requires
+index-size-requires c =
     let l : Layout = record { symbols = c.args.symbols; rows = c.deref.result } in
     omega (
       arith,
@@ -32,8 +32,8 @@ pub returns-clause-done : goal.returns-clause-done
 returns-clause-done c =
     let l : Layout = record { symbols = c.args.symbols; rows = c.deref.result } in
     let same = ap (λ (ps : List ℕ). tree_bytes (says_at l) (slice_index ps) 0 (tree_at l)) c.deref-2.ensures.value in
-    let long = ap length same ∙ text_long c.args.self.now l c.in_ok-places.places.items c.len.result c.index.result.now _
-    c.deref.ensures.value c.in_ok-places.ensures (omega (arith, c.len.ensures, c.args.self.now.rows.ok.0)) c.index.ensures in
+    let long = ap length same ∙ text_long c.args.self.now l c.in_ok-places.places.items c.len.result c.index-size.result.now _
+    c.deref.ensures.value c.in_ok-places.ensures (omega (arith, c.len.ensures, c.args.self.now.rows.ok.0)) c.index-size.ensures in
     record {
       text = tree_bytes (says_at l) (slice_index c.deref-2.result.now) 0 (tree_at l);
       says = is_text c.args.self.now l c.in_ok-places.places.items _ c.requires.trie c.deref.ensures.value c.in_ok-places.ensures same
