@@ -9,15 +9,16 @@ use Rattle.std.proofs.lemmas.List.{get_or_default, get_or-map, length-map}
 use Rattle.macho_trie.specs.Exports.{Exported, as_value}
 use Rattle.macho_trie.specs.Says.{symbol_of}
 use Rattle.macho_trie.specs.Symbols.{symbols_of, names_of}
-use Rattle.macho_trie.specs.Encoding.{says_of}
-use Rattle.macho_trie.specs.Tries.{IsSizeOf, Reserves, AreReserved}
+use Rattle.macho_trie.specs.Encoding.{says_of, IsExportsTrie}
+use Rattle.macho_trie.specs.Tries.{IsSizeOf, Reserves, AreReserved, IsWritten, FindsAll, FindsOnly}
+use Rattle.macho_parts.specs.TrieSays.{IsTrieText}
 use Rattle.macho_trie.specs.declared.symbols.Symbol.{Symbol}
 use Rattle.macho_trie.specs.declared.symbols.Symbols.{Symbols}
 use Rattle.macho_linkedit.specs.declared.exports.ExportSays.{ExportSays}
 use Rattle.macho_linkedit.specs.declared.exports.ExportSays.TheVariants.{Value, Reexport}
 use Rattle.macho_linkedit.specs.declared.exports.NamedExport.{NamedExport}
 use Rattle.macho_linkedit.specs.declared.exports.ReservedTrie.{ReservedTrie}
-use Rattle.macho_linkedit.specs.Tries.{said_of, kept_of, said, kept, names_in, HasFlags, IsReserved}
+use Rattle.macho_linkedit.specs.Tries.{said_of, kept_of, said, kept, names_in, HasFlags, IsReserved, IsTriePut}
 use Rattle.macho_linkedit.specs.steps.Values.{IsSmall, AreSmall}
 
 -- maps of equal functions, one after another
@@ -74,6 +75,36 @@ pub fits_room : (t : ReservedTrie) (reserved exports : List NamedExport) (m : �
 fits_room t reserved exports m is same kept_is size =
     is.room (map said exports) m (subst (λ (xs : List (List ℕ × Exported)). AreReserved xs (map said exports)) (sym same) kept_is)
     (subst (λ (ns : List (List ℕ)). IsSizeOf t.trie ns (map said exports) m) (sym (same_names reserved exports same)) size)
+
+-- so does what is said by a register of these names
+pub said_fits : (t : ReservedTrie) (s : Symbols) (reserved exports : List NamedExport) (m : ℕ) → IsReserved t reserved
+    → map kept reserved ≡ map kept exports → AreReserved (map kept exports) (map said exports) → symbols_of s ≡ map said exports
+    → IsSizeOf t.trie (names_of s) (symbols_of s) m → m ≤ t.size
+said_fits t s reserved exports m is same kept_is are size =
+    fits_room t reserved exports m is same kept_is
+    (subst (λ (xs : List (List ℕ × Exported)). IsSizeOf t.trie (names_in exports) xs m) are
+    (subst (λ (ns : List (List ℕ)). IsSizeOf t.trie ns (symbols_of s) m) (said_names s exports are) size))
+
+trie_text : (symbols : List (List ℕ × Exported)) (text : List ℕ) → (symbols ≡ [] → text ≡ [])
+    → (1 ≤ length symbols → IsExportsTrie symbols text) → IsTrieText symbols text
+trie_text [] text none some = inl (refl, none refl)
+trie_text (x ∷ symbols) text none some = inr (omega arith, some (omega arith))
+
+-- and so the trie that was written is theirs
+pub trie_is_put : (t : ReservedTrie) (s : Symbols) (reserved exports : List NamedExport) (at n : ℕ) (old new : List ℕ)
+    → IsReserved t reserved → map kept reserved ≡ map kept exports → AreReserved (map kept exports) (map said exports)
+    → symbols_of s ≡ map said exports → IsWritten t.trie (names_of s) (symbols_of s) at n old new → IsTriePut t exports at n old new
+trie_is_put t s reserved exports at n old new is same kept_is are w = record {
+  text = w.text;
+  exact = subst (λ (xs : List (List ℕ × Exported)). IsTrieText xs w.text) are
+      (trie_text (symbols_of s) w.text w.says.empty w.says.tree);
+  found = subst (λ (xs : List (List ℕ × Exported)). FindsAll xs w.text) are w.says.found;
+  only = subst (λ (xs : List (List ℕ × Exported)). FindsOnly xs w.text) are w.says.only;
+  long = w.long;
+  fits = said_fits t s reserved exports n is same kept_is are
+      (subst (λ (k : ℕ). IsSizeOf t.trie (names_of s) (symbols_of s) k) w.long w.says.size);
+  is = w.is;
+}
 
 -- values so far are small, and so is one more
 pub small_none : (exports : List NamedExport) → AreSmall exports 0

@@ -1,6 +1,6 @@
 -- The exports trie of a link: the room that is kept for it before addresses are known, and its bytes.
-use Rattle.std.specs.Prelude.{◌≡◌, ℕ, ◌-◌, ◌+◌, ◌^◌, ◌<◌, ◌==◌, if◌then◌else◌, Bool, false, List, [], ◌∷◌, map, length, All}
-use Rattle.macho_bytes.specs.Texts.{Stands}
+use Rattle.std.specs.Prelude.{◌≡◌, ℕ, ◌-◌, ◌+◌, ◌^◌, ◌<◌, ◌≤◌, ◌==◌, if◌then◌else◌, Bool, false, List, [], ◌∷◌, map, length, All}
+use Rattle.macho_bytes.specs.Texts.{put, Stands}
 use Rattle.macho_model.specs.Images.{Table, tries_of}
 use Rattle.macho_records.specs.Sections.{type_of}
 use Rattle.macho_records.specs.declared.constants.TheConstants.{S_THREAD_LOCAL_VARIABLES}
@@ -42,6 +42,16 @@ names_in exports = map (λ e. e.name.now) exports
 pub record IsReserved (t : ReservedTrie) (exports : List NamedExport) : Type 0 where
   pub names : IsTrieOf t.trie (names_in exports)
   pub room : IsReservedFor t.trie (names_in exports) (map kept exports) t.size
+
+-- The trie of some exports, of so many bytes and no more than room was kept for, was put at a place.
+pub record IsTriePut (t : ReservedTrie) (exports : List NamedExport) (at n : ℕ) (old new : List ℕ) : Type 0 where
+  pub text : List ℕ
+  pub exact : IsTrieText (map said exports) text
+  pub found : FindsAll (map said exports) text
+  pub only : FindsOnly (map said exports) text
+  pub long : length text ≡ n
+  pub fits : n ≤ t.size
+  pub is : new ≡ put at text old
 
 -- flags fit the one byte that is kept for them
 abbrev pub HasFlags : ExportSays → Type 0

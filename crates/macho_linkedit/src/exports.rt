@@ -2,12 +2,11 @@
 //!
 //! Of `_a` and `_b` at addresses of at most 8 bytes each the room is that of two terminal parts of 11 bytes; with offsets
 //! 0x4000 and 0x4008 from the base each has 4.
-ghost use Rattle.std.specs.Prelude.{◌≡◌, ℕ, ◌≤◌, List, map, length, All, IfOk, OnOk, false, if◌then◌else◌};
+ghost use Rattle.std.specs.Prelude.{◌≡◌, ℕ, ◌+◌, ◌≤◌, List, map, length, All, IfOk, OnOk, false, if◌then◌else◌};
 ghost use Rattle.macho_trie.specs.Sorting.{AreDistinct, HaveNoNul};
 ghost use Rattle.macho_trie.specs.Symbols.{symbols_of};
-ghost use Rattle.macho_trie.specs.Tries.{FindsAll, FindsOnly};
 ghost use Rattle.macho_parts.specs.TrieSays.{IsTrieText};
-ghost use Rattle.macho_linkedit.specs.Tries.{kept, said, names_in, IsReserved, HasFlags, value_said};
+ghost use Rattle.macho_linkedit.specs.Tries.{kept, said, names_in, IsReserved, IsTriePut, HasFlags, value_said};
 ghost use Rattle.macho_model.specs.Values.{is_absolute_target};
 ghost use Rattle.macho_linkedit.specs.steps.Values.{AreSmall};
 
@@ -108,21 +107,27 @@ fn said_symbols<'a>(alloc: Global, exports: &[NamedExport<'a>]) -> Result<Symbol
 }
 
 impl ReservedTrie {
-    /// The bytes of the trie, now that the values are known. Names are those that room was kept for, in the same order.
+    /// Writes the trie from a place of a file on, now that the values are known, and returns how many bytes it has. The other bytes
+    /// stay. Names are those that room was kept for, in the same order.
     ///
     /// # Errors
     ///
     /// There is not enough memory.
-    pub fn encode(&self, alloc: Global, exports: &[NamedExport<'_>]) -> Result<Vec<u8>, AllocError>
+    pub fn write(
+        &self,
+        alloc: Global,
+        exports: &[NamedExport<'_>],
+        out: &mut [u8],
+        at: usize,
+    ) -> Result<usize, AllocError>
         requires flags { All (λ e. HasFlags e.says) exports.now }
         requires reserved { (reserved : List NamedExport) × IsReserved self.now reserved × (map kept reserved ≡ map kept exports.now) }
-        ensures fits { IfOk result (λ v. length v.items ≤ self.now.size) }
-        ensures exact { IfOk result (λ v. IsTrieText (map said exports.now) v.items) }
-        ensures found { IfOk result (λ v. FindsAll (map said exports.now) v.items) }
-        ensures only { IfOk result (λ v. FindsOnly (map said exports.now) v.items) }
+        requires room { at + self.now.size ≤ length out.old }
+        ensures length { length out.new ≡ length out.old }
+        ensures done { IfOk result (λ n. IsTriePut self.now exports.now at n out.old out.new) }
     {
         let symbols = said_symbols(alloc, exports)?;
-        self.trie.encode(alloc, &symbols)
+        self.trie.write(alloc, &symbols, out, at)
     }
 }
 

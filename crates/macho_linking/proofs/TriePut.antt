@@ -3,7 +3,6 @@
 use Rattle.std.proofs.Common.{◌≡◌, ℕ, ◌+◌, ◌-◌, ◌^◌, ◌<◌, ◌≤◌, ◌⊎◌, inl, inr, List, map, length, refl, sym, ap, subst, arith}
 use Rattle.std.proofs.lemmas.Bool.{cases_lt}
 use Rattle.std.proofs.lemmas.List.{length-map}
-use Rattle.macho_bytes.specs.Texts.{put}
 use Rattle.macho_model.specs.declared.targets.Limit.TheVariants as limit
 use Rattle.macho_model.specs.Links.{Link}
 use Rattle.macho_model.specs.Needs.{imports_of, libraries_needed}
@@ -12,7 +11,7 @@ use Rattle.macho_symbols.specs.declared.solved.Import.{Import}
 use Rattle.macho_symbols.specs.Exported.{AreExports}
 use Rattle.macho_symbols.specs.Told.{ImportsAre}
 use Rattle.macho_linkedit.specs.declared.exports.NamedExport.{NamedExport}
-use Rattle.macho_linkedit.specs.Tries.{kept, said, AreKept, AreSaid, IsReserved}
+use Rattle.macho_linkedit.specs.Tries.{kept, said, AreKept, AreSaid, IsReserved, IsTriePut}
 use Rattle.macho_promise.specs.TrieSays.{IsTrieText}
 use Rattle.macho_trie.specs.Tries.{FindsAll, FindsOnly}
 use Rattle.macho_model.specs.Placement.{Placed}
@@ -69,28 +68,26 @@ room_suffices l b n h fits =
     )
 
 -- put there, it is the link's trie
-pub trie_put : (l : Link) (b : Planned) (text old new : List ℕ) (size : ℕ) → IsPlanned l b → length text ≤ b.sized.now.trie.size
-    → size ≡ length text → new ≡ put (placement_of b).linkedit.trie.start text old → TrieMeans l (placement_of b) text
+pub trie_put : (l : Link) (b : Planned) (old new : List ℕ) (size : ℕ) (exports : List NamedExport) → IsPlanned l b
+    → (w : IsTriePut b.sized.now.trie exports (placement_of b).linkedit.trie.start size old new) → TrieMeans l (placement_of b) w.text
     → TrieIsPut l (placement_of b) size old new
-trie_put l b text old new size h fits long is says = record {
-  text = text;
-  is = is;
-  long = sym long;
-  fits = (room_suffices l b (length text) h fits).0;
+trie_put l b old new size exports h w says = record {
+  text = w.text;
+  is = w.is;
+  long = w.long;
+  fits = (room_suffices l b (length w.text) h (omega (arith, w.long, w.fits))).0;
   says = says;
 }
 
 -- what the bytes of the trie tell, by the lists that they were made from
-pub trie_means : (l : Link) (p : Placed) (names : List ExportName) (exports given : List NamedExport) (bytes text : List ℕ)
-    → given ≡ exports → text ≡ bytes → AreSaid l p (exports_told names) exports → IsTrieText (map said given) bytes
-    → FindsAll (map said given) bytes → FindsOnly (map said given) bytes → TrieMeans l p text
-trie_means l p names exports given bytes text same is said_are exact all only =
-    subst (TrieMeans l p) (sym is)
-    (record {
-      told = exports_told names;
-      exports = given;
-      said_are = subst (AreSaid l p (exports_told names)) (sym same) said_are;
-      exact = exact;
-      all = all;
-      only = only;
-    })
+pub trie_means : (l : Link) (p : Placed) (names : List ExportName) (exports given : List NamedExport) (text : List ℕ)
+    → given ≡ exports → AreSaid l p (exports_told names) exports → IsTrieText (map said given) text
+    → FindsAll (map said given) text → FindsOnly (map said given) text → TrieMeans l p text
+trie_means l p names exports given text same said_are exact all only = record {
+  told = exports_told names;
+  exports = given;
+  said_are = subst (AreSaid l p (exports_told names)) (sym same) said_are;
+  exact = exact;
+  all = all;
+  only = only;
+}

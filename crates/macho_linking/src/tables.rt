@@ -11,7 +11,6 @@ use macho_composed::{Tables, write_fixup_table};
 use macho_fields::Places;
 use macho_fixups::Fixup;
 use macho_linkedit::import_table;
-use macho_numbers::put_text;
 use macho_symbols::OwnEntry;
 use macho_tables::{said_exports, symbol_table};
 use std::alloc::{AllocError, Global};
@@ -70,9 +69,8 @@ pub(crate) fn write_trie<P: Places>(
         imports,
         b.libraries,
     )?;
-    let text = b.sized.trie.encode(alloc, &exports)?;
-    put_text(out, b.sized.placement.linkedit.trie.start as usize, &text);
-    Ok(text.len())
+    let start = b.sized.placement.linkedit.trie.start as usize;
+    b.sized.trie.write(alloc, &exports, out, start)
 }
 
 /// Writes the symbol table and its strings.

@@ -4,13 +4,15 @@
 -- length, since each node has as many bytes as its size says. The tree that the rows spell is the radix tree of the
 -- names, so the bytes are its exports trie. Terminal parts that are nowhere longer have no greater size, and the one for
 -- the greatest address is at least as long as that for any other.
-use Rattle.std.proofs.Common.{◌≡◌, ◌⊎◌, ◌↔◌, ℕ, zero, suc, ◌+◌, ◌^◌, ◌<◌, ◌≤◌, List, [], ◌∷◌, ◌++◌, length, sum, map, slice_index, get_or}
+use Rattle.std.proofs.Common.{◌≡◌, ◌⊎◌, ◌↔◌, ℕ, zero, suc, ◌+◌, ◌^◌, ◌<◌, ◌≤◌, List, [], ◌∷◌, ◌++◌, length, sum, map, slice_index, get_or, take, drop}
 use Rattle.std.proofs.Common.{Option, Some, None, Contains, refl, sym, ap, subst, ◌∙◌, arith, inl, inr}
 use Rattle.std.specs.Option.{option_map}
 use Rattle.std.specs.List.{All}
 use Rattle.std.proofs.lemmas.Bool.{cases_lt}
-use Rattle.std.proofs.lemmas.List.{length-append, length-map, take_all, get_or_default}
+use Rattle.std.proofs.lemmas.List.{length-append, length-map, take_all, get_or_default, append-nil}
 use Rattle.std.proofs.Math.ListN.{get_or-eq_default}
+use Rattle.std.proofs.Math.Seq.{take-append_seam, drop-length}
+use Rattle.macho_bytes.specs.Texts.{put}
 use Rattle.macho_bytes.specs.Uleb.{uleb_of, uleb_at}
 use Rattle.macho_bytes.proofs.Ulebs.{groups_last, length-uleb_of, uleb_of-grows}
 use Rattle.macho_trie.specs.Exports.{Exported, as_value, as_reexport}
@@ -22,7 +24,7 @@ use Rattle.macho_trie.specs.Tables.{name_at, trees_of, IsTable}
 use Rattle.macho_trie.specs.Encoding.{export_bytes, terminal_bytes, says_of, edges_bytes, node_bytes, tree_bytes, node_sizes, place_of}
 use Rattle.macho_trie.specs.Encoding.{total_of, terminal_size, AreLeast, IsExportsTrie}
 use Rattle.macho_trie.specs.steps.Layouts.{names_at, says_at, size_at, tree_at, AreLaidOut}
-use Rattle.macho_trie.specs.Tries.{IsTrieOf, IsSizeOf, IsLengthOfTrie, IsShortest, IsRoomFor, AreNoLarger, Reserves, AreReserved}
+use Rattle.macho_trie.specs.Tries.{IsTrieOf, IsSizeOf, IsLengthOfTrie, IsShortest, IsRoomFor, AreNoLarger, Reserves, AreReserved, IsTextOf}
 use Rattle.macho_trie.specs.declared.layout.Layout.{Layout}
 use Rattle.macho_trie.specs.declared.symbols.Symbols.{Symbols}
 use Rattle.macho_trie.specs.declared.symbols.Symbol.{Symbol}
@@ -337,3 +339,34 @@ found_only trie l places out t same a is small name x f =
           let F : List ℕ → Type 0 = λ bs. trie_finds bs name x in
           absurd (nothing_found [] name 0 x nothing_read (subst F (no_bytes trie l places out t same (omega arith) is) f))
     ]
+
+-- the bytes are as many as the place after the last node tells
+pub text_long : (trie : Trie) (l : Layout) (places : List ℕ) (k n d : ℕ) → l.rows.now ≡ trie.rows.items → AreLaidOut l places
+    → k ≡ length trie.rows.items → n ≡ get_or places k d → length (tree_bytes (says_at l) (slice_index places) 0 (tree_at l)) ≡ n
+text_long trie l places k n d same a k_is n_is =
+    let text : List ℕ = tree_bytes (says_at l) (slice_index places) 0 (tree_at l) in
+    only_size trie (names_at l) (symbols_of l.symbols.now) n (length text) (size_is trie l places k n d same a k_is n_is)
+    (length_is trie l places text same a refl)
+
+-- the bytes are all that is promised of the trie's text
+pub is_text : (trie : Trie) (l : Layout) (places text : List ℕ) → IsTrieOf trie (names_at l) → l.rows.now ≡ trie.rows.items
+    → AreLaidOut l places → text ≡ tree_bytes (says_at l) (slice_index places) 0 (tree_at l) → length text < 2 ^ 64
+    → IsTextOf trie (names_at l) (symbols_of l.symbols.now) text
+is_text trie l places text t same a is small = record {
+  empty = λ none. no_bytes trie l places text t same (omega (arith, ap length none, names_long l.symbols.now)) is;
+  tree = λ some. exports_trie l places text (table_of_trie trie l t same (omega (arith, some, names_long l.symbols.now))) a is;
+  size = length_is trie l places text same a is;
+  found = found_all trie l places text t same a is small;
+  only = found_only trie l places text t same a is small;
+}
+
+-- a text put over as many bytes, as a `Vec` has it whose bytes were written
+pub put_over : (text bytes now : List ℕ) (count : ℕ) → now ≡ put 0 text bytes → length text ≡ length bytes → count ≡ length bytes
+    → take count (now ++ drop (length now) bytes) ≡ text
+unfolding put
+put_over text bytes now count is same long =
+    let whole : put 0 text bytes ≡ text = ap (λ (n : ℕ). text ++ drop n bytes) (omega (arith, same)) ∙ ap (λ (t : List ℕ). text ++ t) (drop-length bytes)
+    ∙ append-nil text in
+    let all = is ∙ whole in
+    ap (λ (n : ℕ). take n (now ++ drop (length now) bytes)) (omega (arith, long, same, ap length all))
+    ∙ take-append_seam now (drop (length now) bytes) ∙ all

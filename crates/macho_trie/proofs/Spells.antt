@@ -1,11 +1,14 @@
 -- Bytes of nodes, from the table.
 --
 -- As with sizes: the bytes of the nodes in preorder are those of the rows in order, and the edges of a row are those of its
--- children's rows, one after the other. What is written so far and the bytes of what is left are the bytes of all.
+-- children's rows, one after the other. What is written so far and the bytes of what is left are the bytes of all. A node is put
+-- where the one before it ends, so that all of them are one text at the place of the first.
 use Rattle.std.proofs.Common.{◌≡◌, ℕ, zero, suc, ◌+◌, ◌-◌, ◌<◌, ◌≤◌, List, [], ◌∷◌, ◌++◌, length, drop, true, Option, Some, refl, sym, ap}
 use Rattle.std.proofs.Common.{subst, append_assoc, ◌∙◌, arith}
 use Rattle.std.specs.Option.{option_map}
-use Rattle.std.proofs.lemmas.List.{append-nil}
+use Rattle.std.proofs.lemmas.List.{append-nil, length-append}
+use Rattle.macho_bytes.specs.Texts.{put}
+use Rattle.macho_bytes.proofs.Puts.{put-put, put_nothing, length-put}
 use Rattle.macho_bytes.specs.Uleb.{uleb_of}
 use Rattle.macho_trie.specs.Exports.{Exported}
 use Rattle.macho_trie.specs.Trees.{Edges, no_edge, edge, edge_count, node_count}
@@ -106,30 +109,94 @@ tree_bytes-row says place i names row rows =
     ∙ ap (λ (xs : List ℕ). node_bytes says place i (symbol_at row) children ++ xs) (tree_bytes-split says place (i + 1) row.children
     (trees_of names rows))
 
--- one node more is written
-pub node_spelled : (says : ℕ → Exported) (place : ℕ → ℕ) (i : ℕ) (names : List (List ℕ)) (rows : List Row) (whole written terminal
-    counted more : List ℕ)
+-- a node's bytes, from its parts
+pub node_written : (says : ℕ → Exported) (place : ℕ → ℕ) (i : ℕ) (names : List (List ℕ)) (rows : List Row) (before terminal counted
+    more : List ℕ)
     → AreRows names rows → i < length rows
-    → written ++ tree_bytes says place i (trees_from names rows i) ≡ whole
-    → terminal ≡ written ++ terminal_bytes (option_map says (symbol_at (row_at rows i))) → counted ≡ terminal ++ (row_at rows
+    → terminal ≡ before ++ terminal_bytes (option_map says (symbol_at (row_at rows i))) → counted ≡ terminal ++ (row_at rows
     i).children ∷ []
     → more ≡ counted ++ edges_bytes place (i + 1) (children_at names rows i)
-    → more ++ tree_bytes says place (i + 1) (trees_from names rows (i + 1)) ≡ whole
-node_spelled says place i names rows whole written terminal counted more sound within same terminal_is counted_is more_is =
+    → more ≡ before ++ node_bytes says place i (symbol_at (row_at rows i)) (children_at names rows i)
+node_written says place i names rows before terminal counted more sound within terminal_is counted_is more_is =
     let at = row_sound names rows i _ sound.trees within in
-    let rest : List ℕ = tree_bytes says place (i + 1) (trees_from names rows (i + 1)) in
     let part : List ℕ = terminal_bytes (option_map says (symbol_at (row_at rows i))) in
     let edges : List ℕ = edges_bytes place (i + 1) (children_at names rows i) in
-    let all : tree_bytes says place i (trees_from names rows i) ≡ (part ++ (edge_count (children_at names rows i) ∷ edges)) ++ rest
-    = ap (λ (es : Edges). tree_bytes says place i es) (trees_cons names rows i _ within)
-    ∙ tree_bytes-row says place i names (row_at rows i) (drop (i + 1) rows) in
-    let node : more ≡ written ++ (part ++ (edge_count (children_at names rows i) ∷ edges))
-    = more_is ∙ ap (λ (xs : List ℕ). xs ++ edges) (counted_is ∙ ap (λ (xs : List ℕ). xs ++ (row_at rows i).children ∷ []) terminal_is)
-    ∙ append_assoc (written ++ part) ((row_at rows i).children ∷ []) edges
-    ∙ append_assoc written part ((row_at rows i).children ∷ edges)
-    ∙ ap (λ (n : ℕ). written ++ (part ++ (n ∷ edges))) (sym at.children) in
-    ap (λ (xs : List ℕ). xs ++ rest) node ∙ append_assoc written (part ++ (edge_count (children_at names rows i) ∷ edges)) rest
-    ∙ ap (λ (xs : List ℕ). written ++ xs) (sym all) ∙ same
+    more_is ∙ ap (λ (xs : List ℕ). xs ++ edges) (counted_is ∙ ap (λ (xs : List ℕ). xs ++ (row_at rows i).children ∷ []) terminal_is)
+    ∙ append_assoc (before ++ part) ((row_at rows i).children ∷ []) edges
+    ∙ append_assoc before part ((row_at rows i).children ∷ edges)
+    ∙ ap (λ (n : ℕ). before ++ (part ++ (n ∷ edges))) (sym at.children)
+
+-- the bytes from a row on are those of its node and those behind it
+node_first : (says : ℕ → Exported) (place : ℕ → ℕ) (i : ℕ) (names : List (List ℕ)) (rows : List Row) → i < length rows
+    → tree_bytes says place i (trees_from names rows i)
+    ≡ node_bytes says place i (symbol_at (row_at rows i)) (children_at names rows i) ++ tree_bytes says place (i + 1) (trees_from names
+    rows (i + 1))
+node_first says place i names rows within =
+    ap (λ (es : Edges). tree_bytes says place i es) (trees_cons names rows i _ within)
+    ∙ tree_bytes-row says place i names (row_at rows i) (drop (i + 1) rows)
+
+-- The nodes before a row are put at a place, one behind the other, and the bytes of the others are left.
+pub record IsSpelled (whole : List ℕ) (at : ℕ) (left before now : List ℕ) (end : ℕ) : Type 0 where
+  pub written : List ℕ
+  pub is : now ≡ put at written before
+  pub ends : end ≡ at + length written
+  pub text : written ++ left ≡ whole
+
+pub spelled_first : (whole : List ℕ) (at : ℕ) (before : List ℕ) → at ≤ length before → IsSpelled whole at whole before before at
+spelled_first whole at before within = record {
+  written = [];
+  is = sym (put_nothing at before within);
+  ends = omega arith;
+  text = refl;
+}
+
+-- there is room for what is left, and the bytes are as many as before
+pub spelled_fits : (whole : List ℕ) (at : ℕ) (left before now : List ℕ) (end : ℕ) → IsSpelled whole at left before now end
+    → at + length whole ≤ length before → (end + length left ≤ length now) × (length now ≡ length before)
+spelled_fits whole at left before now end s room =
+    let all = ap length (sym s.text) ∙ length-append s.written left in
+    let long = ap length s.is ∙ length-put at s.written before (omega (arith, all)) in (omega (arith, all, long, s.ends), long)
+
+-- there is room for the next node
+pub node_fits : (says : ℕ → Exported) (place : ℕ → ℕ) (i : ℕ) (names : List (List ℕ)) (rows : List Row) (whole : List ℕ) (at : ℕ)
+    (before now node : List ℕ) (end : ℕ)
+    → i < length rows → at + length whole ≤ length before
+    → IsSpelled whole at (tree_bytes says place i (trees_from names rows i)) before now end
+    → node ≡ node_bytes says place i (symbol_at (row_at rows i)) (children_at names rows i)
+    → end + length node ≤ length now
+node_fits says place i names rows whole at before now node end within room s node_is =
+    let left : List ℕ = tree_bytes says place (i + 1) (trees_from names rows (i + 1)) in
+    let first : tree_bytes says place i (trees_from names rows i) ≡ node ++ left
+    = node_first says place i names rows within ∙ ap (λ (xs : List ℕ). xs ++ left) (sym node_is) in
+    omega (arith, (spelled_fits whole at _ before now end s room).0, ap length first, length-append node left)
+
+-- one node more is put
+pub spelled_more : (says : ℕ → Exported) (place : ℕ → ℕ) (i : ℕ) (names : List (List ℕ)) (rows : List Row) (whole : List ℕ) (at : ℕ)
+    (before now node next : List ℕ) (end to : ℕ)
+    → i < length rows → at + length whole ≤ length before
+    → IsSpelled whole at (tree_bytes says place i (trees_from names rows i)) before now end
+    → node ≡ node_bytes says place i (symbol_at (row_at rows i)) (children_at names rows i)
+    → next ≡ put end node now → to ≡ end + length node
+    → IsSpelled whole at (tree_bytes says place (i + 1) (trees_from names rows (i + 1))) before next to
+spelled_more says place i names rows whole at before now node next end to within room s node_is next_is to_is =
+    let left : List ℕ = tree_bytes says place (i + 1) (trees_from names rows (i + 1)) in
+    let first : tree_bytes says place i (trees_from names rows i) ≡ node ++ left
+    = node_first says place i names rows within ∙ ap (λ (xs : List ℕ). xs ++ left) (sym node_is) in
+    let fits = spelled_fits whole at _ before now end s room in
+    let long = ap length first ∙ length-append node left in
+    record {
+      written = s.written ++ node;
+      is = next_is ∙ ap (λ (xs : List ℕ). put end node xs) s.is
+          ∙ put-put at end s.written node before s.ends (omega (arith, fits.0, fits.1, long));
+      ends = omega (arith, to_is, s.ends, length-append s.written node);
+      text = append_assoc s.written node left ∙ ap (λ (xs : List ℕ). s.written ++ xs) (sym first) ∙ s.text;
+    }
+
+-- behind the last node all is put
+pub spelled_last : (whole : List ℕ) (at : ℕ) (left before now : List ℕ) (end : ℕ) → IsSpelled whole at left before now end → left ≡ []
+    → now ≡ put at whole before
+spelled_last whole at left before now end s none =
+    s.is ∙ ap (λ (xs : List ℕ). put at xs before) (sym (append-nil s.written) ∙ ap (λ (xs : List ℕ). s.written ++ xs) (sym none) ∙ s.text)
 
 -- a terminal part by what it says
 pub terminal_spelled : (says : ℕ → Exported) (row : Row) (x : Exported) (part : ℕ) (before sized after : List ℕ)

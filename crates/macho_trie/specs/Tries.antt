@@ -1,5 +1,6 @@
 -- What a trie promises for the register whose names it was made of.
 use Rattle.std.specs.Prelude.{◌≡◌, ◌⊎◌, ℕ, ◌-◌, ◌^◌, ◌<◌, ◌≤◌, List, [], ◌∷◌, length, Some, Contains}
+use Rattle.macho_bytes.specs.Texts.{put}
 use Rattle.macho_trie.specs.Lookup.{trie_finds}
 use Rattle.macho_trie.specs.Exports.{Exported, as_value, as_reexport}
 use Rattle.macho_trie.specs.Tables.{trees_of, IsTable}
@@ -69,3 +70,20 @@ FindsAll symbols bytes = (name : List ℕ) (x : Exported) → Contains symbols (
 
 abbrev pub FindsOnly : List (List ℕ × Exported) → List ℕ → Type 0
 FindsOnly symbols bytes = (name : List ℕ) (x : Exported) → trie_finds bytes name x → Contains symbols (name, x)
+
+-- What a trie's text for some symbols is: nothing for none, else their exports trie, of the size under the least widths. Look-up in it
+-- finds each symbol, and nothing else.
+pub record IsTextOf (trie : Trie) (names : List (List ℕ)) (symbols : List (List ℕ × Exported)) (text : List ℕ) : Type 0 where
+  pub empty : symbols ≡ [] → text ≡ []
+  pub tree : 1 ≤ length symbols → IsExportsTrie symbols text
+  pub size : IsSizeOf trie names symbols (length text)
+  pub found : FindsAll symbols text
+  pub only : FindsOnly symbols text
+
+-- Such a text, of so many bytes, was put at a place.
+pub record IsWritten (trie : Trie) (names : List (List ℕ)) (symbols : List (List ℕ × Exported)) (at n : ℕ) (old new : List ℕ) : Type 0
+  where
+    pub text : List ℕ
+    pub says : IsTextOf trie names symbols text
+    pub long : length text ≡ n
+    pub is : new ≡ put at text old

@@ -8,10 +8,11 @@
 //!     02 00 03   00                         19: flags 0, address 3, no edge
 ghost use Rattle.std.specs.Prelude.{◌≡◌, ℕ, ◌+◌, ◌<◌, ◌≤◌, ◌++◌, ◌∷◌, List, OnOk, IfOk, length, slice_index};
 ghost use Rattle.std.specs.Option.{option_map};
-ghost use Rattle.macho_trie.specs.Tables.{symbol_at, name_at, label_of};
+ghost use Rattle.macho_bytes.specs.Texts.{put};
+ghost use Rattle.macho_trie.specs.Tables.{symbol_at, row_at, name_at, label_of};
 ghost use Rattle.macho_bytes.specs.Uleb.{uleb_of};
 ghost use Rattle.macho_trie.specs.steps.Layouts.{names_at, says_at, tree_at, children_of, IsLaid};
-ghost use Rattle.macho_trie.specs.Encoding.{edges_bytes, export_bytes, terminal_bytes, tree_bytes};
+ghost use Rattle.macho_trie.specs.Encoding.{edges_bytes, export_bytes, node_bytes, terminal_bytes, tree_bytes};
 ghost use Rattle.macho_trie.specs.Says.{said_of};
 
 use crate::layout::{Layout, export_size};
@@ -22,20 +23,44 @@ use macho_records::write_uleb;
 use std::alloc::{AllocError, Global};
 
 impl<'a> Layout<'a> {
-    /// The bytes of all nodes, in preorder, at these places. The place after the last node is how many there are.
-    pub(crate) fn spell(&self, alloc: Global, places: &[usize]) -> Result<Vec<u8>, AllocError>
+    /// Writes the bytes of all nodes from a place on, in preorder, where edges tell these places. Each node is made apart, in memory
+    /// that the next one takes over; the other bytes stay.
+    pub(crate) fn spell(
+        &self,
+        alloc: Global,
+        places: &[usize],
+        out: &mut [u8],
+        at: usize,
+    ) -> Result<(), AllocError>
         requires sound { IsLaid self.now }
         requires places { length self.now.rows.now < length places.now }
-        ensures { IfOk result (λ v. v.items ≡ tree_bytes (says_at self.now) (slice_index places.now) 0 (tree_at self.now)) }
+        requires room { at + length (tree_bytes (says_at self.now) (slice_index places.now) 0 (tree_at self.now)) ≤ length out.old }
+        ensures length { length out.new ≡ length out.old }
+        ensures done { OnOk result (out.new ≡ put at (tree_bytes (says_at self.now) (slice_index places.now) 0 (tree_at self.now)) out.old) }
     {
-        let mut out = Vec::with_capacity(alloc, places[self.rows.len()])?;
+        let mut node = Vec::new(alloc);
+        let mut place = at;
         for row in 0..self.rows.len() {
-            let node = self.rows[row];
-            self.write_terminal(&mut out, node)?;
-            out.push(node.children)?;
-            self.write_edges(&mut out, row, places)?;
+            node.clear();
+            self.write_node(&mut node, row, places)?;
+            out[place..place + node.len()].copy_from_slice(&node);
+            place += node.len();
         }
-        Ok(out)
+        Ok(())
+    }
+
+    /// Appends a node: its terminal part, the number of its children, and its edges.
+    fn write_node(&self, out: &mut Vec<u8>, row: usize, places: &[usize]) -> Result<(), AllocError>
+        requires sound { IsLaid self.now }
+        requires here { row < length self.now.rows.now }
+        requires places { length self.now.rows.now ≤ length places.now }
+        ensures { OnOk result (out.new.items ≡ out.old.items
+            ++ node_bytes (says_at self.now) (slice_index places.now) row (symbol_at (row_at self.now.rows.now row)) (children_of self.now row)) }
+    {
+        let node = self.rows[row];
+        self.write_terminal(out, node)?;
+        out.push(node.children)?;
+        self.write_edges(out, row, places)
     }
 
     /// Appends a terminal part behind its size.

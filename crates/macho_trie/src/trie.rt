@@ -1,5 +1,5 @@
 //! The exports trie of a register of names.
-ghost use Rattle.std.specs.Prelude.{◌≡◌, ℕ, ◌<◌, ◌≤◌, [], List, IfOk, length, Contains};
+ghost use Rattle.std.specs.Prelude.{◌≡◌, ℕ, ◌+◌, ◌<◌, ◌≤◌, [], List, IfOk, length, Contains};
 ghost use Rattle.macho_trie.specs.Exports.{Exported};
 ghost use Rattle.macho_trie.specs.Symbols.{names_of, symbols_of};
 ghost use Rattle.macho_trie.specs.Sorting.{AreDistinct, HaveNoNul};
@@ -20,7 +20,7 @@ pub struct Trie {
 }
 
 impl Trie {
-    ghost use Rattle.macho_trie.specs.Tries.{IsTrieOf, IsSizeOf, IsLengthOfTrie, IsShortest, IsRoomFor, IsReservedFor, FindsAll, FindsOnly};
+    ghost use Rattle.macho_trie.specs.Tries.{IsTrieOf, IsSizeOf, IsLengthOfTrie, IsShortest, IsRoomFor, IsReservedFor, FindsAll, FindsOnly, IsWritten};
 
     /// The tree of a register's names, by one sort of them.
     pub fn new(alloc: Global, symbols: &Symbols<'_>) -> Result<Trie, AllocError>
@@ -77,6 +77,36 @@ impl Trie {
             rows: &self.rows,
         };
         let places = layout.lay_out(alloc)?;
-        layout.spell(alloc, &places)
+        let mut bytes = vec![in alloc; 0u8; places[self.rows.len()]]?;
+        layout.spell(alloc, &places, &mut bytes, 0)?;
+        Ok(bytes)
+    }
+
+    /// Writes the trie from a place on, and returns how many bytes it has, none for no symbols. The other bytes stay. The register has
+    /// the names that the trie was made of, in the same order.
+    ///
+    /// # Errors
+    ///
+    /// There is not enough memory.
+    pub fn write(
+        &self,
+        alloc: Global,
+        symbols: &Symbols<'_>,
+        out: &mut [u8],
+        at: usize,
+    ) -> Result<usize, AllocError>
+        requires trie { IsTrieOf self.now (names_of symbols.now) }
+        requires room { (n : ℕ) → IsSizeOf self.now (names_of symbols.now) (symbols_of symbols.now) n → at + n ≤ length out.old }
+        ensures length { length out.new ≡ length out.old }
+        ensures done { IfOk result (λ n. IsWritten self.now (names_of symbols.now) (symbols_of symbols.now) at n out.old out.new) }
+    {
+        let layout = Layout {
+            symbols,
+            rows: &self.rows,
+        };
+        let places = layout.lay_out(alloc)?;
+        let size = places[self.rows.len()];
+        layout.spell(alloc, &places, out, at)?;
+        Ok(size)
     }
 }

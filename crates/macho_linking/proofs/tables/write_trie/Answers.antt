@@ -1,4 +1,5 @@
-use Rattle.std.proofs.Common.{List, length, map, sym, ap, subst, ◌∙◌, arith, All}
+use Rattle.std.proofs.Common.{List, map, sym, ap, subst, ◌∙◌, arith, All}
+use Rattle.std.proofs.lemmas.Result.{IfOk-weaker}
 use Rattle.macho_model.specs.Needs.{imports_of}
 use Rattle.macho_linkedit.specs.declared.exports.NamedExport.{NamedExport}
 use Rattle.macho_linkedit.specs.Tries.{HasFlags, kept}
@@ -19,12 +20,12 @@ said_exports-requires-clause-link g c =
           (c.imports-imports.ensures l (imports_of l) planned.read.resolved),
     )
 
-pub encode-requires-clause-flags : goal.encode-requires-clause-flags
-encode-requires-clause-flags g c =
+pub write-requires-clause-flags : goal.write-requires-clause-flags
+write-requires-clause-flags g c =
     subst (λ (es : List NamedExport). All (λ e. HasFlags e.says) es) (sym c.deref-2.ensures.value) c.in_ok-exports.ensures.flags
 
-pub encode-requires-clause-reserved : goal.encode-requires-clause-reserved
-encode-requires-clause-reserved g c =
+pub write-requires-clause-reserved : goal.write-requires-clause-reserved
+write-requires-clause-reserved g c =
     let l = c.requires.link.0 in
     let planned = c.requires.link.1.planned in
     let are = exports_are l c.args.b.now c.deref.result.now c.imports-imports.result.now planned c.deref.ensures.value
@@ -36,22 +37,18 @@ encode-requires-clause-reserved g c =
       kept_are.2 ∙ ap (map kept) (sym c.deref-2.ensures.value),
     )
 
-pub put_text-requires : goal.put_text-requires
-put_text-requires g c =
-    let size = length c.in_ok-text.text.items in
-    let room = room_suffices c.requires.link.0 c.args.b.now size c.requires.link.1.planned c.in_ok-text.ensures.fits in
-    omega (arith, room.1, c.requires.long, ap length c.deref-3.ensures.value)
+pub write-requires-clause-room : goal.write-requires-clause-room
+write-requires-clause-room g c =
+    let size = c.args.b.now.sized.now.trie.size in
+    omega (arith, (room_suffices c.requires.link.0 c.args.b.now size c.requires.link.1.planned (omega arith)).1, c.requires.long)
 
 pub returns-clause-done : goal.returns-clause-done
 returns-clause-done g c l looked =
     let planned = looked.planned in
     let are = exports_are l c.args.b.now c.deref.result.now c.imports-imports.result.now planned c.deref.ensures.value
     (c.imports-imports.ensures l (imports_of l) planned.read.resolved) in
-    trie_put l c.args.b.now c.deref-3.result.now c.args.out.now c.put_text.new.out c.len.result planned
-    (omega (arith, c.in_ok-text.ensures.fits, ap length c.deref-3.ensures.value))
-    (omega (arith, c.len.ensures, ap length c.deref-3.ensures.value)) c.put_text.ensures
-    (trie_means l (placement_of c.args.b.now) c.deref.result.now c.in_ok-exports.exports.items c.deref-2.result.now c.in_ok-text.text.items
-    c.deref-3.result.now c.deref-2.ensures.value c.deref-3.ensures.value
-    (c.in_ok-exports.ensures.said l (counts_of c.args.b.now) (placement_of c.args.b.now) are (planned_to_table l c.args.b.now _ looked)
-    planned.inputs.views)
-    c.in_ok-text.ensures.exact c.in_ok-text.ensures.found c.in_ok-text.ensures.only)
+    let said = c.in_ok-exports.ensures.said l (counts_of c.args.b.now) (placement_of c.args.b.now) are
+    (planned_to_table l c.args.b.now _ looked) planned.inputs.views in
+    IfOk-weaker c.write.result _ _ (λ size w. trie_put l c.args.b.now c.args.out.now c.write.new.out size c.deref-2.result.now planned w
+    (trie_means l (placement_of c.args.b.now) c.deref.result.now c.in_ok-exports.exports.items c.deref-2.result.now w.text
+    c.deref-2.ensures.value said w.exact w.found w.only)) c.write.ensures.done
