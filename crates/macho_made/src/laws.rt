@@ -1,7 +1,7 @@
 //! Laws of what is made: each is the contract of a function that does nothing.
 ghost use Rattle.macho_made.specs.Laws.{EntriesMayBeBuilt, OffsetsAreSaid, UnwindIsSaid, TextsFitRanges, NothingWrittenPasses};
 
-/// The entries of a link are such that unwind information can be made of them: what is asked of the caller of `unwind_text`.
+/// The entries of a link are such that unwind information can be made of them: what is asked of the caller of `unwind_section`.
 pub fn entries_may_be_built()
     ensures { EntriesMayBeBuilt }
 {}

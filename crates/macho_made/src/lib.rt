@@ -21,4 +21,4 @@ pub use laws::{
     entries_may_be_built, nothing_written_passes, texts_are_said, texts_fit_their_ranges,
 };
 pub use macho_consumed::Tables;
-pub use unwind::unwind_text;
+pub use unwind::unwind_section;

@@ -14,7 +14,7 @@ ghost use Rattle.macho_made.specs.steps.Built.{IsBuilt, HasFarEnd, IsNotBuilt};
 use crate::fault::MadeFault;
 use macho_consumed::{PersonalityUse, SectionPlace, Tables, UnwindEntry};
 use macho_fields::Places;
-use macho_unwind::{Personality, ResolvedUnwindInfo, UnwindFault, build};
+use macho_unwind::{Personality, ResolvedUnwindInfo, UnwindFault, UnwindSection};
 use std::alloc::{AllocError, Global};
 
 /// The address of a place in a section of a file.
@@ -131,40 +131,44 @@ fn ends_are_near(base: u64, entries: &[ResolvedUnwindInfo]) -> bool
 }
 
 /// The section of entries.
-fn section(alloc: Global, base: u64, entries: &[ResolvedUnwindInfo]) -> Result<Vec<u8>, MadeFault>
+fn section(
+    alloc: Global,
+    base: u64,
+    entries: &[ResolvedUnwindInfo],
+) -> Result<UnwindSection, MadeFault>
     requires { MayBeBuilt base entries.now }
-    ensures done { IfOk result (λ v. IsBuilt base entries.now v.items) }
+    ensures done { IfOk result (IsBuilt base entries.now) }
     ensures why { IfErr result (IsNotBuilt base entries.now) }
 {
     if !ends_are_near(base, entries) {
         return Err(MadeFault::TooLarge);
     }
-    match build(alloc, base, entries) {
-        Ok(bytes) => Ok(bytes),
+    match UnwindSection::new(alloc, base, entries) {
+        Ok(section) => Ok(section),
         Err(UnwindFault::TooManyPersonalities) => unreachable!(),
         Err(UnwindFault::OffsetTooLarge) => Err(MadeFault::TooLarge),
         Err(UnwindFault::OutOfMemory) => Err(MadeFault::OutOfMemory),
     }
 }
 
-/// The unwind information of entries, as bytes; no entries give no bytes. It has at most the room that was counted for it; the
-/// caller leaves zeros in the rest of that.
+/// The unwind information of entries, ready to be written; no entries give no bytes. It has at most the room that was counted for
+/// it; the caller leaves zeros in the rest of that.
 ///
 /// # Errors
 ///
 /// `TooLarge` where a function, its end, its language data or the slot of its personality stands 2^32 bytes or more behind the base,
 /// or so many bytes would be needed; `OutOfMemory`.
-pub fn unwind_text<P: Places>(
+pub fn unwind_section<P: Places>(
     alloc: Global,
     places: &P,
     tables: &Tables,
     entries: &[UnwindEntry],
-) -> Result<Vec<u8>, MadeFault>
+) -> Result<UnwindSection, MadeFault>
     requires symbols { All (KnowsPersonality (P.has_symbol places.now)) entries.now }
     requires sound { MayBeBuilt (P.look places.now).base (map (resolved_row (P.look places.now) tables.now.slots) entries.now) }
     ensures done { (l : Link) (counts : Counts) (p : Placed) → IsToMake l counts p → Tells l p (P.look places.now)
         → tables.now.slots ≡ slots_of l
-        → entries.now ≡ entry_rows l → IfOk result (λ v. IsUnwindMade l p v.items) }
+        → entries.now ≡ entry_rows l → IfOk result (IsUnwindMade l p) }
     ensures why { (l : Link) (counts : Counts) (p : Placed) → IsToMake l counts p → Tells l p (P.look places.now)
         → tables.now.slots ≡ slots_of l
         → entries.now ≡ entry_rows l → IfErr result (IsRefused l p) }

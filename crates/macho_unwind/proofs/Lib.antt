@@ -15,3 +15,4 @@ pub mod EntryRows
 pub mod EntryLookup
 pub mod Rows
 pub mod OnePlace
+pub mod Planned

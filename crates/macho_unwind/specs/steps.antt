@@ -1,4 +1,5 @@
 -- The code's own steps: what private functions say, and what loops keep. No clause of a public function cites them.
 pub mod Conditions
 pub mod Parts
+pub mod Planned
 pub mod Says

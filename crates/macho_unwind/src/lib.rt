@@ -43,4 +43,4 @@ pub use records::{
     COMPACT_UNWIND_SECTION_NAME, CompactUnwindInfoHeader, CompressedPage, LsdaEntry, PageEntry,
     UNWIND_INFO_SECTION_NAME,
 };
-pub use section::build;
+pub use section::{UnwindSection, build};

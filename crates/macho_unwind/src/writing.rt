@@ -1,18 +1,16 @@
 //! Writes a plan as bytes.
-ghost use Rattle.std.specs.Prelude.{◌≡◌, ◌+◌, ◌-◌, ◌*◌, ◌^◌, ◌<◌, ◌≤◌, length, All, MatchOption, IfOk, IfErr, OnOk, count_by, nat_lt, sum_by};
+ghost use Rattle.std.specs.Prelude.{◌≡◌, ◌+◌, ◌-◌, ◌*◌, ◌^◌, ◌<◌, ◌≤◌, length, All, MatchOption, count_by, nat_lt, sum_by};
 ghost use Rattle.std.specs.List.{flat_map, AllPairs, range_with_len};
 ghost use Rattle.macho_bytes.specs.Texts.{put};
 ghost use Rattle.macho_unwind_pages.specs.Plans.{IsPlan, plan_list, page_list, page_size, size_of};
 ghost use Rattle.macho_unwind.specs.Texts.{HasPlaces, header_for, page_place, entries_place, lsdas_place, pages_place, last_place, entry_text, last_entry_for, lsda_text, page_text, section_text};
 ghost use Rattle.macho_unwind.specs.Layouts.{page_entry};
-ghost use Rattle.macho_unwind.specs.steps.Says.{PlanIsFound, WriteFault};
 ghost use Rattle.macho_bytes.specs.Layouts.{spelling};
 
 use crate::lookup::COMPRESSED;
 use crate::records::{CompactUnwindInfoHeader, CompressedPage, LsdaEntry, PageEntry};
 use macho_numbers::put_littles;
-use macho_unwind_pages::{Lsda, Page, Plan, UnwindFault};
-use std::alloc::Global;
+use macho_unwind_pages::{Lsda, Page, Plan};
 
 /// `UNWIND_SECTION_VERSION`.
 const VERSION: u32 = 1;
@@ -88,7 +86,7 @@ fn lsdas_before(lsdas: &[Lsda], start: u32) -> usize
 }
 
 /// The bytes of the section; None where the place of its last page doesn't fit 32 bits.
-fn section_size(plan: &Plan) -> Option<usize>
+pub(crate) fn section_size(plan: &Plan) -> Option<usize>
     requires plan { IsPlan (plan_list plan.now) }
     requires some { 0 < length plan.now.pages.items }
     ensures { MatchOption result (2 ^ 32 ≤ last_place (plan_list plan.now)) (λ n. (n ≡ size_of (plan_list plan.now)) × HasPlaces (plan_list plan.now)) }
@@ -134,7 +132,7 @@ fn pages_start(plan: &Plan) -> usize
 }
 
 /// Writes a plan into bytes of its size.
-fn write_plan(out: &mut [u8], plan: &Plan)
+pub(crate) fn write_plan(out: &mut [u8], plan: &Plan)
     requires plan { IsPlan (plan_list plan.now) }
     requires places { HasPlaces (plan_list plan.now) }
     requires room { size_of (plan_list plan.now) ≤ length out.old }
@@ -207,22 +205,4 @@ fn write_last_entry(out: &mut [u8], plan: &Plan)
         out,
         entries_start(plan) + PageEntry::SIZE * plan.pages.len(),
     );
-}
-
-/// The bytes of a plan of a page or more.
-pub(crate) fn section_bytes(alloc: Global, plan: &Plan) -> Result<Vec<u8>, UnwindFault>
-    requires plan { IsPlan (plan_list plan.now) }
-    requires some { 0 < length plan.now.pages.items }
-    ensures done { IfOk result (λ v. v.items ≡ section_text (plan_list plan.now)) }
-    ensures said { IfOk result (λ v. PlanIsFound (plan_list plan.now) v.items) }
-    ensures long { IfOk result (λ v. length v.items ≡ size_of (plan_list plan.now)) }
-    ensures places { OnOk result (HasPlaces (plan_list plan.now)) }
-    ensures why { IfErr result (WriteFault (plan_list plan.now)) }
-{
-    let Some(size) = section_size(plan) else {
-        return Err(UnwindFault::OffsetTooLarge);
-    };
-    let mut bytes = vec![in alloc; 0u8; size]?;
-    write_plan(&mut bytes, plan);
-    Ok(bytes)
 }

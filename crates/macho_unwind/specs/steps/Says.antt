@@ -1,13 +1,9 @@
 -- What a plan says of an offset, in the words of its rows: a row is a function's start and its encoding with the number
 -- of its personality in bits 28 and 29.
-use Rattle.std.specs.Prelude.{◌≡◌, ◌≢◌, ℕ, ◌-◌, ◌^◌, ◌≤◌, ◌<◌, List, length, slice_index, All, Contains, Option, Some, None}
+use Rattle.std.specs.Prelude.{◌≡◌, ◌≢◌, ℕ, ◌-◌, ◌≤◌, ◌<◌, List, length, slice_index, All, Contains, Option, Some, None}
 use Rattle.macho_unwind_pages.specs.declared.plans.Lsda.{Lsda}
 use Rattle.macho_unwind_pages.specs.declared.paging.Row.{Row}
 use Rattle.macho_unwind_pages.specs.Plans.{PlanList, rows_of}
-use Rattle.macho_unwind_pages.specs.declared.entries.UnwindFault.{UnwindFault}
-use Rattle.macho_unwind_pages.specs.declared.entries.UnwindFault.TheVariants.{TooManyPersonalities, OffsetTooLarge, OutOfMemory}
-use Rattle.macho_unwind.specs.Lookup.{UnwindFinds}
-use Rattle.macho_unwind.specs.Texts.{last_place}
 use Rattle.macho_unwind.specs.Sections.{personality_in, without_personality}
 use Rattle.macho_unwind.specs.declared.lookup.Found.{Found}
 
@@ -38,13 +34,3 @@ pub record PlanSays (plan : PlanList) (offset : ℕ) (x : Found) : Type 0 where
   pub cleared : x.encoding ≡ without_personality row.code
   pub personality : NamesSlot plan.personalities (personality_in row.code) x.personality
   pub lsda : IsLsdaOf plan.lsdas row.start x.lsda
-
--- look-up in bytes finds what a plan says, at every offset
-abbrev pub PlanIsFound : PlanList → List ℕ → Type 0
-PlanIsFound plan bytes = (offset : ℕ) (x : Found) → PlanSays plan offset x → UnwindFinds bytes offset x
-
--- Why a plan is not written: the place of its last page doesn't fit 32 bits.
-abbrev pub WriteFault : PlanList → UnwindFault → Type 0
-WriteFault plan TooManyPersonalities = ⊥
-WriteFault plan OffsetTooLarge = 2 ^ 32 ≤ last_place plan
-WriteFault plan OutOfMemory = Unit {0}

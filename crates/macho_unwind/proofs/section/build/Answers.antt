@@ -1,64 +1,36 @@
--- The section of entries.
+-- The bytes of the section of entries.
 --
--- No entries give no bytes: they have no id and no page, so neither too many of them nor a far page. One entry or more have
--- a plan, which has a page, and the bytes are its text. So they are the entries' section, and look-up in a section finds
--- each offset's entry and nothing else. The plan is the entries' only one and its places fit 32 bits, so no plan of them has
--- a far page.
-use Rattle.std.proofs.Common.{◌<◌, length, arith}
-use Rattle.std.proofs.lemmas.Bool.Decides.{nat_tests}
-use Rattle.std.proofs.lemmas.List.{length-map}
-use Rattle.macho_unwind_pages.specs.Plans.{plan_list, page_list}
-use Rattle.macho_unwind.proofs.EntryLookup.{finds-entries, finds-only-entries, no-ids, some-page}
-use Rattle.macho_unwind.proofs.OnePlace.{is_section, no_far_page, no_page_at_all}
+-- There are as many as the section has, and its text was put at 0. A text that is put over a list of its own length is all of
+-- it. So the bytes are the section's, of which the clauses were told when it was made.
+use Rattle.std.proofs.Common.{◌≡◌, ℕ, ◌++◌, List, length, take, drop, sym, subst, ◌∙◌, ap, arith}
+use Rattle.macho_unwind.specs.Entries.{FindsEntries, FindsOnlyEntries, IsSectionOf}
+use Rattle.macho_unwind.proofs.Joining.{put_all, written_back}
 use Rattle.macho_unwind.proofs.section.build.Goals as goal
 
-pub returns-then-is_empty-clause-few : goal.returns-then-is_empty-clause-few
-returns-then-is_empty-clause-few c =
-    let test = c.is_empty.ensures in
-    let empty = c.if-is_empty.true in
-    no-ids c.args.entries.now (grind (arith, nat_tests))
+-- the bytes that are answered
+abbrev bytes_of : goal.Joined-section-2 → List ℕ
+bytes_of c = take c.in_ok-bytes.bytes.len (c.write.new.out ++ drop (length c.write.new.out) c.in_ok-bytes.bytes.items)
 
-pub section_bytes-requires-clause-some : goal.section_bytes-requires-clause-some
-section_bytes-requires-clause-some c =
-    let test = c.is_empty.ensures in
-    let empty = c.if-is_empty.false in
-    let some : 0 < length c.args.entries.now = grind (arith, nat_tests) in
-    omega (
-      arith,
-      some-page c.args.text_start c.args.entries.now (plan_list c.in_ok-plan.plan) c.in_ok-plan.ensures.done some,
-      length-map c.in_ok-plan.plan.pages.items page_list,
-    )
+-- they are the section
+are : (c : goal.Joined-section-2) → bytes_of c ≡ c.in_ok-section.section
+are c =
+    let text = c.in_ok-section.section in
+    let size = c.size.ensures in
+    let len = c.in_ok-bytes.ensures.len in
+    let whole : length text ≡ length c.deref_mut.result.now = omega (arith, size, len, c.deref_mut.ensures.len) in
+    let kept = ap (λ (t : List ℕ). length t) c.deref_mut.ensures.value in
+    written_back text c.in_ok-bytes.bytes.items c.write.new.out c.in_ok-bytes.bytes.len
+    (c.write.ensures ∙ put_all text c.deref_mut.result.now whole)
+    (omega (arith, whole, kept)) (omega (arith, kept, c.deref_mut.ensures.len))
 
 pub returns-clause-found : goal.returns-clause-found
 returns-clause-found c =
-    let test = c.is_empty.ensures in
-    let full = c.if-is_empty.false in
-    let some : 0 < length c.args.entries.now = grind (arith, nat_tests) in
-    finds-entries c.args.text_start c.args.entries.now _ c.requires
-    (is_section c.args.text_start c.args.entries.now (plan_list c.in_ok-plan.plan) _ some c.in_ok-plan.ensures.done
-    c.in_ok-bytes.ensures.places c.in_ok-bytes.ensures.done)
+    subst (FindsEntries c.args.text_start c.args.entries.now) (sym (are c)) c.in_ok-section.ensures.found
 
 pub returns-clause-only : goal.returns-clause-only
 returns-clause-only c some =
-    finds-only-entries c.args.text_start c.args.entries.now _ c.requires
-    (is_section c.args.text_start c.args.entries.now (plan_list c.in_ok-plan.plan) _ some c.in_ok-plan.ensures.done
-    c.in_ok-bytes.ensures.places c.in_ok-bytes.ensures.done)
+    subst (FindsOnlyEntries c.args.text_start c.args.entries.now) (sym (are c)) (c.in_ok-section.ensures.only some)
 
 pub returns-clause-done : goal.returns-clause-done
 returns-clause-done c some =
-    is_section c.args.text_start c.args.entries.now (plan_list c.in_ok-plan.plan) _ some c.in_ok-plan.ensures.done
-    c.in_ok-bytes.ensures.places c.in_ok-bytes.ensures.done
-
-pub returns-then-is_empty-clause-fits : goal.returns-then-is_empty-clause-fits
-returns-then-is_empty-clause-fits c =
-    let test = c.is_empty.ensures in
-    let empty = c.if-is_empty.true in
-    no_page_at_all c.args.text_start c.args.entries.now (grind (arith, nat_tests))
-
-pub returns-clause-fits : goal.returns-clause-fits
-returns-clause-fits c =
-    let test = c.is_empty.ensures in
-    let full = c.if-is_empty.false in
-    let some : 0 < length c.args.entries.now = grind (arith, nat_tests) in
-    no_far_page c.args.text_start c.args.entries.now (plan_list c.in_ok-plan.plan) some c.in_ok-plan.ensures.done
-    c.in_ok-bytes.ensures.places
+    subst (IsSectionOf c.args.text_start c.args.entries.now) (sym (are c)) (c.in_ok-section.ensures.done some)

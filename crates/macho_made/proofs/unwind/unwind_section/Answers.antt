@@ -5,7 +5,7 @@ use Rattle.macho_made.specs.Entries.{resolved_row}
 use Rattle.macho_made.proofs.Resolved.{starts_low, lsdas_low}
 use Rattle.macho_made.proofs.Resolving.{rows_resolved}
 use Rattle.macho_made.proofs.Passing.{built_made, not_built}
-use Rattle.macho_made.proofs.unwind.unwind_text.Goals as goal
+use Rattle.macho_made.proofs.unwind.unwind_section.Goals as goal
 
 pub resolve_all-requires-clause-starts : goal.resolve_all-requires-clause-starts
 resolve_all-requires-clause-starts g c = starts_low (g.P.Places.look c.args.places.now) c.args.tables.now.slots c.args.entries.now
@@ -20,7 +20,7 @@ returns-clause-done g c = λ l counts p make tells slots same.
     let look = g.P.Places.look c.args.places.now in
     let row = resolved_row look c.args.tables.now.slots in
     IfOk-weaker c.section.result _ _
-    (λ v. built_made l counts p c.base.result c.as_slice.result.now v.items make (c.base.ensures ∙ tells.addresses.base)
+    (λ v. built_made l counts p c.base.result c.as_slice.result.now v make (c.base.ensures ∙ tells.addresses.base)
     (c.as_slice.ensures.value ∙ c.in_ok-resolved.ensures ∙ ap (map row) same ∙ rows_resolved l counts p look c.args.tables.now.slots make
     tells slots))
     c.section.ensures.done
