@@ -41,9 +41,6 @@ pub record HasRows (rows : List SymbolRow) (t : SymbolTable) : Type 0 where
 unfoldable pub table_text : SymbolTable → List ℕ
 table_text t = flat_map (spelling symtab_entry) t.entries ++ t.strings
 
-abbrev pub table_size : SymbolTable → ℕ
-table_size t = size_of symtab_entry * length t.entries + length t.strings
-
 -- The table of some rows is written at the front of a range, and the bytes behind it stay.
 pub record IsTableWritten (rows : List SymbolRow) (before now : List ℕ) : Type 0 where
   pub table : SymbolTable

@@ -3,9 +3,7 @@ ghost use Rattle.std.specs.Prelude.{◌≡◌, false, IfOk};
 ghost use Rattle.macho_linkedit_tests.specs.Linked.{IsAlone};
 
 use crate::symbols::{begin, push};
-use macho_linkedit::{
-    LinkedObject, TableRow, TableSymbol, TableSymbols, table_row, table_symbols,
-};
+use macho_linkedit::{LinkedObject, TableRow, TableSymbol, TableSymbols, table_row, table_symbols};
 use macho_object::File;
 use macho_records::SymtabEntry;
 use macho_samples::{GLOBAL, LOCAL, MAIN, MAIN_OBJECT, Object, Symbol, UNDEFINED, object_bytes};

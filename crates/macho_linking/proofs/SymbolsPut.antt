@@ -17,7 +17,7 @@ use Rattle.macho_linkedit.specs.Listing.{id_of_symbol}
 use Rattle.macho_linkedit.specs.TableRows.{symbol_rows}
 use Rattle.std.specs.Option.{option_copied}
 use Rattle.macho_fields.specs.Looks.{Look}
-use Rattle.macho_linkedit.specs.Symbols.{SymbolTable, HasRows, table_text, table_size, IsTableWritten}
+use Rattle.macho_linkedit.specs.Symbols.{SymbolTable, HasRows, table_text, IsTableWritten}
 use Rattle.macho_linkedit.proofs.CanList.{symbol_is_kept}
 use Rattle.macho_lists.proofs.Members.{contains_all}
 use Rattle.macho_tables.specs.Rows.{AreToList}
@@ -66,30 +66,13 @@ fills l b t h rows = symbols_fill l (counts_of b) (placement_of b) t h.sized.pla
 abbrev pub both : Planned → ℕ
 both b = (placement_of b).linkedit.strtab.end - (placement_of b).linkedit.symtab.start
 
--- they lie in the file, and the table has as many bytes
-pub record FillsBoth (b : Planned) (t : SymbolTable) : Type 0 where
-  pub rises : (placement_of b).linkedit.symtab.start ≤ (placement_of b).linkedit.strtab.end
-  pub inside : (placement_of b).linkedit.strtab.end ≤ (placement_of b).linkedit.signature.end
-  pub whole : table_size t ≡ (placement_of b).linkedit.strtab.end - (placement_of b).linkedit.symtab.start
-
-pub fills_both : (l : Link) (b : Planned) (t : SymbolTable) → IsPlanned l b → HasRows (symbol_rows l (counts_of b) (placement_of b)) t
-    → FillsBoth b t
-fills_both l b t h rows =
-    let full = fills l b t h rows in
-    let follow = tables_follow l (counts_of b) (placement_of b) h.sized.placed in
-    record {
-      rises = omega (arith, full.behind, full.strings);
-      inside = omega (arith, follow.strings.1, follow.signature);
-      whole = omega (arith, full.behind, full.strings);
-    }
-
--- They have room for the listed symbols, and the strings that were counted.
-pub record IsRoom (b : Planned) : Type 0 where
+-- They lie in the file, and have as many bytes as the listed symbols and the strings that were counted.
+pub record RangesHaveRoom (b : Planned) : Type 0 where
   pub rises : (placement_of b).linkedit.symtab.start ≤ (placement_of b).linkedit.strtab.end
   pub inside : (placement_of b).linkedit.strtab.end ≤ (placement_of b).linkedit.signature.end
   pub listed : 16 * length b.sized.now.symbols.symbols.items + b.sized.now.symbols.strings ≡ both b
 
-pub has_room : (l : Link) (b : Planned) → IsPlanned l b → IsRoom b
+pub has_room : (l : Link) (b : Planned) → IsPlanned l b → RangesHaveRoom b
 has_room l b h =
     let kept = ranges_suffice l (counts_of b) (placement_of b) h.sized.placed h.sized.counted in
     let follow = tables_follow l (counts_of b) (placement_of b) h.sized.placed in
@@ -123,11 +106,11 @@ symbols_put l b old part new h long written is =
     let entries : List ℕ = flat_map (spelling symtab_entry) t.entries in
     let strings : List ℕ = t.strings in
     let at : ℕ = (placement_of b).linkedit.symtab.start in
-    let filled = fills_both l b t h written.rows_are in
+    let ranges = has_room l b h in
     let many : length entries ≡ size_of symtab_entry * length t.entries = length-flat_map_same
     (spelling symtab_entry) (size_of symtab_entry) t.entries (λ i d lt. (written.back i d lt).long) in
-    let size : length (entries ++ strings) ≡ both b = omega (arith, length-append entries strings, many, filled.whole) in
-    let room : at + both b ≤ length old = omega (arith, filled.rises, filled.inside, long) in
+    let size : length (entries ++ strings) ≡ both b = omega (arith, length-append entries strings, many, full.behind, full.strings) in
+    let room : at + both b ≤ length old = omega (arith, ranges.rises, ranges.inside, long) in
     let all : part ≡ entries ++ strings = written.is ∙ put_whole (entries ++ strings) (take (both b) (drop at old))
     (size ∙ sym (part_long at (both b) old room)) in
     let one : new ≡ put at (entries ++ strings) old = is

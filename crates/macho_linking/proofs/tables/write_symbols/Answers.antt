@@ -1,4 +1,5 @@
 use Rattle.std.proofs.Common.{◌-◌, refl, arith}
+use Rattle.std.proofs.lemmas.Result.{on_ok_weaker}
 use Rattle.macho_linking.specs.steps.Planned.{placement_of, counts_of}
 use Rattle.macho_linking.proofs.SymbolsPut.{outputs_few, strings_short, objects_known, to_list, has_room, symbols_put, part_long}
 use Rattle.macho_linking.proofs.tables.write_symbols.Goals as goal
@@ -29,5 +30,6 @@ write_symbol_table-requires-clause-room g c =
 
 pub returns-clause-done : goal.returns-clause-done
 returns-clause-done g c l looked =
-    symbols_put l c.args.b.now c.args.out.now c.write_symbol_table.new.out _ looked.planned c.requires.long
-    (c.write_symbol_table.ensures.done l (counts_of c.args.b.now) (to_list l c.args.b.now _ looked)) refl
+    on_ok_weaker c.write_symbol_table.result
+    (λ written. symbols_put l c.args.b.now c.args.out.now c.write_symbol_table.new.out _ looked.planned c.requires.long written refl)
+    (c.write_symbol_table.ensures.done l (counts_of c.args.b.now) (to_list l c.args.b.now _ looked))
