@@ -21,8 +21,7 @@ use Rattle.macho_model.specs.SymbolTable.{table_symbols}
 use Rattle.macho_linkedit.specs.TableRows.{SymbolRow, row_of, symbol_rows}
 use Rattle.macho_commands.proofs.Texts.{length-flat_map_same}
 use Rattle.macho_promise.specs.Sizes.{AreCounts, counts_with, text_size}
-use Rattle.macho_linkedit.specs.Symbols.{entries_from, strings_of_rows, HasRows}
-use Rattle.macho_linkedit.specs.declared.symbols.SymbolTable.{SymbolTable}
+use Rattle.macho_linkedit.specs.Symbols.{SymbolTable, entries_from, strings_of_rows, HasRows}
 use Rattle.macho_linkedit.proofs.Rows.{names_long, name_size}
 use Rattle.macho_sealing.specs.Heads.{AreHeadParts, head_bytes}
 use Rattle.macho_sealing.specs.declared.commands.HeadParts.{HeadParts}
@@ -34,7 +33,7 @@ entries_long place (r ∷ rows) = ap suc (entries_long (place + (length r.name +
 
 -- a table with the rows of a link has as many entries as are counted
 pub symbols_counted : (l : Link) (counts : Counts) (p : Placed) (t : SymbolTable) → AreCounts l counts → HasRows (symbol_rows l counts p) t
-    → length t.entries.items ≡ counts.symbols
+    → length t.entries ≡ counts.symbols
 unfolding symbol_rows counts_with
 symbols_counted l counts p t counted has =
     ap length has.entries_are ∙ entries_long 1 (map (row_of l counts p) (table_symbols l))
@@ -51,7 +50,7 @@ sizes_same l counts p (s ∷ ss) =
 
 -- and as many bytes of strings
 pub strings_counted : (l : Link) (counts : Counts) (p : Placed) (t : SymbolTable) → AreCounts l counts → HasRows (symbol_rows l counts p) t
-    → length t.strings.items ≡ counts.strings
+    → length t.strings ≡ counts.strings
 unfolding symbol_rows counts_with
 strings_counted l counts p t counted has =
     let rows : length (flat_map (λ (r : SymbolRow). r.name ++ 0 ∷ []) (map (row_of l counts p) (table_symbols l)))
@@ -59,7 +58,7 @@ strings_counted l counts p t counted has =
     names_long (map (row_of l counts p) (table_symbols l)) ∙ sizes_same l counts p (table_symbols l) in
     let told : counts.strings ≡ 1 + sum_by (λ (s : SymbolId). text_size (name_at l s)) (table_symbols l) =
     ap (λ (c : Counts). c.strings) counted.are in
-    let long : length t.strings.items ≡ length (strings_of_rows (map (row_of l counts p) (table_symbols l))) = ap length has.strings_are in
+    let long : length t.strings ≡ length (strings_of_rows (map (row_of l counts p) (table_symbols l))) = ap length has.strings_are in
     omega (arith, rows, told, long)
 
 pub symbols_long : (entries : List SymtabEntry) → All (ReadsBack symtab_entry) entries

@@ -139,7 +139,7 @@ symbols_say laws l counts uuid p b ready w seen =
       symbols = seen.reads.symbols
           ∙ ap (λ (n : ℕ). record { at = p.linkedit.symtab.start; size = size_of symtab_entry * n } ∷ []) (sym many);
       strings = seen.reads.strings ∙ ap (λ (n : ℕ). record { at = n; size = counts.strings } ∷ []) next
-          ∙ ap (λ (n : ℕ). record { at = p.linkedit.symtab.start + size_of symtab_entry * length m.table.entries.items; size = n } ∷ [])
+          ∙ ap (λ (n : ℕ). record { at = p.linkedit.symtab.start + size_of symtab_entry * length m.table.entries; size = n } ∷ [])
           (sym (strings_counted l counts p m.table ready.counted m.rows));
       text = text;
       back = m.back;
@@ -148,17 +148,17 @@ symbols_say laws l counts uuid p b ready w seen =
     m : SymbolsMean l counts p w.texts.symbols w.texts.strings
     m = w.says.1.symbols
 
-    many : length m.table.entries.items ≡ counts.symbols
+    many : length m.table.entries ≡ counts.symbols
     many = symbols_counted l counts p m.table ready.counted m.rows
 
-    next : p.linkedit.strtab.start ≡ p.linkedit.symtab.start + size_of symtab_entry * length m.table.entries.items
+    next : p.linkedit.strtab.start ≡ p.linkedit.symtab.start + size_of symtab_entry * length m.table.entries
     next = strings_behind l counts p ready ∙ ap (λ (n : ℕ). p.linkedit.symtab.start + size_of symtab_entry * n) (sym many)
 
     text : Stands b (record { at = p.linkedit.symtab.start; text = table_text m.table })
     text =
-        stands_joined b p.linkedit.symtab.start p.linkedit.strtab.start (flat_map (spelling symtab_entry) m.table.entries.items)
-        m.table.strings.items
-        (next ∙ ap (λ (n : ℕ). p.linkedit.symtab.start + n) (sym (symbols_long m.table.entries.items m.back)))
+        stands_joined b p.linkedit.symtab.start p.linkedit.strtab.start (flat_map (spelling symtab_entry) m.table.entries)
+        m.table.strings
+        (next ∙ ap (λ (n : ℕ). p.linkedit.symtab.start + n) (sym (symbols_long m.table.entries m.back)))
         (subst (λ (t : List ℕ). Stands b (record { at = p.linkedit.symtab.start; text = t })) m.entries_are
         (seen.stands.texts 4 no_part (omega arith)))
         (subst (λ (t : List ℕ). Stands b (record { at = p.linkedit.strtab.start; text = t })) m.strings_are
@@ -196,7 +196,7 @@ told l counts uuid p b ready w seen = record {
     symbols : size_of symtab_entry * counts.symbols ≡ length w.texts.symbols
     symbols =
         ap (λ (n : ℕ). size_of symtab_entry * n) (sym (symbols_counted l counts p m.table ready.counted m.rows))
-        ∙ sym (symbols_long m.table.entries.items m.back) ∙ ap length (sym m.entries_are)
+        ∙ sym (symbols_long m.table.entries m.back) ∙ ap length (sym m.entries_are)
 
     strings : counts.strings ≡ length w.texts.strings
     strings = sym (strings_counted l counts p m.table ready.counted m.rows) ∙ ap length (sym m.strings_are)

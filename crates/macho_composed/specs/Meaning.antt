@@ -22,9 +22,8 @@ use Rattle.macho_promise.specs.Promise.{IsLinked}
 use Rattle.macho_trie.specs.Tries.{FindsAll, FindsOnly}
 use Rattle.macho_linkedit.specs.declared.exports.NamedExport.{NamedExport}
 use Rattle.macho_linkedit.specs.declared.imports.ImportTable.{ImportTable}
-use Rattle.macho_linkedit.specs.declared.symbols.SymbolTable.{SymbolTable}
 use Rattle.macho_linkedit.specs.Imports.{AreTellable}
-use Rattle.macho_linkedit.specs.Symbols.{HasRows}
+use Rattle.macho_linkedit.specs.Symbols.{SymbolTable, HasRows}
 use Rattle.macho_linkedit.specs.Tries.{AreSaid, said}
 use Rattle.macho_chaining.specs.Chaining.{CanBeChained}
 use Rattle.macho_chaining.specs.Writing.{text_of_range}
@@ -58,9 +57,9 @@ pub record TrieMeans (l : Link) (p : Placed) (text : List ℕ) : Type 0 where
 pub record SymbolsMean (l : Link) (counts : Counts) (p : Placed) (symbols strings : List ℕ) : Type 0 where
   pub table : SymbolTable
   pub rows : HasRows (symbol_rows l counts p) table
-  pub entries_are : symbols ≡ flat_map (spelling symtab_entry) table.entries.items
-  pub strings_are : strings ≡ table.strings.items
-  pub back : All (ReadsBack symtab_entry) table.entries.items
+  pub entries_are : symbols ≡ flat_map (spelling symtab_entry) table.entries
+  pub strings_are : strings ≡ table.strings
+  pub back : All (ReadsBack symtab_entry) table.entries
 
 -- What is made of consumed sections is made of a link's.
 pub record MadeMeans (l : Link) (counts : Counts) (p : Placed) (initializers unwind : List ℕ) : Type 0 where

@@ -118,9 +118,9 @@ rows_many l counts p = length-map (table_symbols l) (row_of l counts p)
 pub symbols_fill : SymbolsFill
 symbols_fill l counts p t whole are has =
     let kept = ranges_suffice l counts p whole are in
-    let many : length t.entries.items ≡ length (table_symbols l) =
+    let many : length t.entries ≡ length (table_symbols l) =
     ap length has.entries_are ∙ entries_many 1 (symbol_rows l counts p) ∙ rows_many l counts p in
-    let long : length t.strings.items ≡ 1 + sum_by (λ s. text_size (name_at l s)) (table_symbols l) =
+    let long : length t.strings ≡ 1 + sum_by (λ s. text_size (name_at l s)) (table_symbols l) =
     ap length has.strings_are ∙ strings_long l counts p in
     record {
       many = many ∙ sym (symbols_counted l counts are);

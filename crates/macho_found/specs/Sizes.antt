@@ -16,8 +16,7 @@ use Rattle.macho_placing.specs.Laws.{IsWhollyPlaced}
 use Rattle.macho_signature.specs.declared.signature.Signer.{Signer}
 use Rattle.macho_signature.specs.Sizes.{signature_size}
 use Rattle.macho_sealing.specs.Signing.{IsSignerOf}
-use Rattle.macho_linkedit.specs.declared.symbols.SymbolTable.{SymbolTable}
-use Rattle.macho_linkedit.specs.Symbols.{HasRows}
+use Rattle.macho_linkedit.specs.Symbols.{SymbolTable, HasRows}
 
 -- An offset for each initializer, the bound of the unwind information, the reserved trie, an entry for each symbol, and the names
 -- with their NULs behind the entries.
@@ -34,11 +33,11 @@ RangesSuffice = (l : Link) (counts : Counts) (p : Placed) → IsWhollyPlaced l c
 
 -- A symbol table fills its two ranges, entries first.
 pub record FillsTables (counts : Counts) (p : Placed) (t : SymbolTable) : Type 0 where
-  pub many : length t.entries.items ≡ counts.symbols
-  pub long : length t.strings.items ≡ counts.strings
-  pub symbols : p.linkedit.symtab.end ≡ p.linkedit.symtab.start + SYMBOL_SIZE * length t.entries.items
-  pub behind : p.linkedit.strtab.start ≡ p.linkedit.symtab.start + SYMBOL_SIZE * length t.entries.items
-  pub strings : p.linkedit.strtab.end ≡ p.linkedit.strtab.start + length t.strings.items
+  pub many : length t.entries ≡ counts.symbols
+  pub long : length t.strings ≡ counts.strings
+  pub symbols : p.linkedit.symtab.end ≡ p.linkedit.symtab.start + SYMBOL_SIZE * length t.entries
+  pub behind : p.linkedit.strtab.start ≡ p.linkedit.symtab.start + SYMBOL_SIZE * length t.entries
+  pub strings : p.linkedit.strtab.end ≡ p.linkedit.strtab.start + length t.strings
 
 abbrev pub SymbolsFill : Type 0
 SymbolsFill =

@@ -31,9 +31,8 @@ use Rattle.macho_model.specs.SymbolEntries.{entry_of_symbol, placed_entries, sym
 use Rattle.macho_model.specs.Lists.{of_first}
 use Rattle.macho_model.specs.declared.placed.Counts.{Counts}
 use Rattle.macho_model.specs.Placement.{Placed}
-use Rattle.macho_linkedit.specs.declared.symbols.SymbolTable.{SymbolTable}
 use Rattle.macho_linkedit.specs.TableRows.{SymbolRow, row_of, symbol_rows}
-use Rattle.macho_linkedit.specs.Symbols.{entries_from, table_text, SymbolsStand}
+use Rattle.macho_linkedit.specs.Symbols.{SymbolTable, entries_from, table_text, SymbolsStand}
 use Rattle.macho_linkedit.specs.Laws.{SymbolsAreSaid}
 use Rattle.macho_linkedit.proofs.NamesStand.{name_stands, whole, name_read, read_plain}
 
@@ -99,47 +98,47 @@ same_entries l counts p place (s ∷ ss) =
 
 -- What is read of both tables.
 record AreRead (b : List ℕ) (t : SymbolTable) : Type 0 where
-  entries : map (symbol_at b) (range_with_len 0 (num_symbols b)) ≡ t.entries.items
-  strings : strings_of b ≡ t.strings.items
+  entries : map (symbol_at b) (range_with_len 0 (num_symbols b)) ≡ t.entries
+  strings : strings_of b ≡ t.strings
 
 are_read : (b : List ℕ) (at : ℕ) (t : SymbolTable) → SymbolsStand b at t → AreRead b t
 unfolding num_symbols symbol_place symbol_at strings_of table_text
 are_read b at t stands = record {
   entries =
-      sym (fill_by_all (λ (k : ℕ). reading symtab_entry b ((symtab_of b).symoff + 16 * k)) t.entries.items (symtab_of b).nsyms none count
+      sym (fill_by_all (λ (k : ℕ). reading symtab_entry b ((symtab_of b).symoff + 16 * k)) t.entries (symtab_of b).nsyms none count
       (λ k lt. sym (entry k (omega (arith, lt, count)))));
   strings =
       ap (λ (n : ℕ). slice_range b n (n + (symtab_of b).strsize)) tells.stroff
-      ∙ ap (λ (n : ℕ). slice_range b (at + 16 * length t.entries.items) (at + 16 * length t.entries.items + n)) tells.strsize
+      ∙ ap (λ (n : ℕ). slice_range b (at + 16 * length t.entries) (at + 16 * length t.entries + n)) tells.strsize
       ∙ behind.same;
 }
   where
     none : SymtabEntry
     none = record { n_strx = 0; n_type = 0; n_sect = 0; n_desc = 0; n_value = 0 }
 
-    tells : IsTold b (record { at = at; size = 16 * length t.entries.items })
-        (record { at = at + 16 * length t.entries.items; size = length t.strings.items })
-    tells = told b (record { at = at; size = 16 * length t.entries.items })
-        (record { at = at + 16 * length t.entries.items; size = length t.strings.items }) stands.symbols stands.strings
+    tells : IsTold b (record { at = at; size = 16 * length t.entries })
+        (record { at = at + 16 * length t.entries; size = length t.strings })
+    tells = told b (record { at = at; size = 16 * length t.entries })
+        (record { at = at + 16 * length t.entries; size = length t.strings }) stands.symbols stands.strings
 
-    count : length t.entries.items ≡ (symtab_of b).nsyms
+    count : length t.entries ≡ (symtab_of b).nsyms
     count = omega (arith, tells.nsyms)
 
     text : List ℕ
-    text = flat_map (spelling symtab_entry) t.entries.items
+    text = flat_map (spelling symtab_entry) t.entries
 
-    long : length text ≡ 16 * length t.entries.items
-    long = length-table (spelling symtab_entry) 16 t.entries.items (record { long = λ k d lt. (stands.back k d lt).long })
+    long : length text ≡ 16 * length t.entries
+    long = length-table (spelling symtab_entry) 16 t.entries (record { long = λ k d lt. (stands.back k d lt).long })
 
-    behind : Stands b (record { at = at + 16 * length t.entries.items; text = t.strings.items })
-    behind = stands-back b at (at + 16 * length t.entries.items) text t.strings.items (omega (arith, long)) stands.text
+    behind : Stands b (record { at = at + 16 * length t.entries; text = t.strings })
+    behind = stands-back b at (at + 16 * length t.entries) text t.strings (omega (arith, long)) stands.text
 
-    entry : (k : ℕ) → k < length t.entries.items
-        → reading symtab_entry b ((symtab_of b).symoff + 16 * k) ≡ get_or t.entries.items k none
+    entry : (k : ℕ) → k < length t.entries
+        → reading symtab_entry b ((symtab_of b).symoff + 16 * k) ≡ get_or t.entries k none
     entry k inside =
-        let there = table-stands (spelling symtab_entry) 16 t.entries.items at k none b
+        let there = table-stands (spelling symtab_entry) 16 t.entries at k none b
         (record { long = λ j x h. (stands.back j x h).long }) inside
-        (stands-front b at text t.strings.items stands.text) in
+        (stands-front b at text t.strings stands.text) in
         ap (λ (n : ℕ). reading symtab_entry b (n + 16 * k)) tells.symoff
         ∙ (stands.back k none inside).back b (at + 16 * k) there
 

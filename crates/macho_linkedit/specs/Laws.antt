@@ -29,8 +29,7 @@ use Rattle.macho_linkedit.specs.declared.exports.NamedExport.{NamedExport}
 use Rattle.macho_linkedit.specs.Tries.{said_of, value_said, is_thread_local, kept, AreKept, AreSaid, TrieStands}
 use Rattle.macho_model.specs.SymbolEntries.{SymbolsSay}
 use Rattle.macho_linkedit.specs.TableRows.{symbol_rows}
-use Rattle.macho_linkedit.specs.declared.symbols.SymbolTable.{SymbolTable}
-use Rattle.macho_linkedit.specs.Symbols.{HasRows, SymbolsStand}
+use Rattle.macho_linkedit.specs.Symbols.{SymbolTable, HasRows, SymbolsStand}
 use Rattle.macho_linkedit.specs.Imports.{IsImportTable, AreTellable, TableStands}
 use Rattle.macho_model.specs.Objects.{num_symbols, symbol_name}
 use Rattle.macho_model.specs.SymbolTable.{table_symbols}

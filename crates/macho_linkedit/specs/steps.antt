@@ -2,7 +2,6 @@
 pub mod Libraries
 pub mod Entries
 pub mod Values
-pub mod Rows
 pub mod Names
 pub mod Listing
 pub mod Counting

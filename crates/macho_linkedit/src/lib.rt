@@ -22,4 +22,4 @@ pub use laws::{
 pub use libraries::{library_number, library_places};
 pub use listing::{LinkedObject, TableSymbol, TableSymbols, table_row, table_symbols};
 pub use run::sort_run;
-pub use symbols::{SymbolTable, TableRow};
+pub use symbols::{SymbolWriter, TableRow};

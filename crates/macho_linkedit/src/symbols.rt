@@ -1,28 +1,29 @@
-//! The symbol table and its strings, as one fold over the rows.
+//! The symbol table and its strings, written row by row into the range of the file that is kept for them.
 //!
 //! `_a` of section 1 at 0x4000 and `_b` behind it at 0x4008:
 //!
 //!     entries   01 00 00 00 0f 01 00 00 00 40 00 00 00 00 00 00   04 00 00 00 0f 01 00 00 08 40 00 00 00 00 00 00
 //!     strings   00 5f 61 00 5f 62 00
-ghost use Rattle.std.specs.Prelude.{◌≡◌, ◌+◌, ◌*◌, ◌<◌, ◌≤◌, ◌^◌, List, [], ◌∷◌, ◌++◌, length, IfOk, OnOk, All};
-ghost use Rattle.macho_bytes.specs.Texts.{put};
-ghost use Rattle.macho_bytes.specs.Layouts.{ReadsBack, spelling};
+//!
+//! How many symbols there are is known from the start, and so is where the strings begin.
+ghost use Rattle.std.specs.Prelude.{◌≡◌, ℕ, ◌+◌, ◌*◌, ◌<◌, ◌≤◌, ◌^◌, List, [], ◌∷◌, ◌++◌, length};
+ghost use Rattle.macho_bytes.specs.Layouts.{size_of};
 ghost use Rattle.macho_records.specs.Layouts.{symtab_entry};
 ghost use Rattle.macho_linkedit.specs.TableRows.{SymbolRow};
-ghost use Rattle.macho_linkedit.specs.Symbols.{row_seen, HasRows, table_text, table_size};
-ghost use Rattle.macho_linkedit.specs.steps.Rows.{IsWrittenSoFar};
+ghost use Rattle.macho_linkedit.specs.Symbols.{row_seen, AreRowsWritten};
 
 use macho_numbers::put_text;
 use macho_records::SymtabEntry;
-use std::alloc::{AllocError, Global};
 
-/// A symbol table and its strings.
-#[derive(Drop)]
-pub struct SymbolTable {
-    /// The entries, in order.
-    pub entries: Vec<SymtabEntry>,
-    /// A NUL, and then the name of each entry with its NUL.
-    pub strings: Vec<u8>,
+/// Where the next row of a symbol table goes, in the range of the file for its entries and strings.
+#[derive(Clone, Copy)]
+pub struct SymbolWriter {
+    /// The place of its entry.
+    pub entry: usize,
+    /// The place of the strings, behind the room of all entries.
+    pub strings: usize,
+    /// The place of its name among the strings.
+    pub name: usize,
 }
 
 /// A symbol of the table: its name, and the fields of its entry but the place of the name.
@@ -40,70 +41,44 @@ pub struct TableRow<'a> {
     pub value: u64,
 }
 
-impl SymbolTable {
-    /// A table without symbols, with memory for `symbols` entries and `strings` bytes of strings. Its strings begin with a NUL.
-    ///
-    /// # Errors
-    ///
-    /// There is not enough memory.
-    pub fn with_capacity(
-        alloc: Global,
-        symbols: usize,
-        strings: usize,
-    ) -> Result<SymbolTable, AllocError>
-        ensures { IfOk result (λ t. HasRows [] t) }
+impl SymbolWriter {
+    /// Begins the table of a number of symbols at the front of a range: its strings begin with a NUL.
+    pub fn begin(symbols: usize, out: &mut [u8]) -> SymbolWriter
+        requires { size_of symtab_entry * symbols < length out.old }
+        ensures written { AreRowsWritten symbols [] result out.old out.new }
+        ensures length { length out.new ≡ length out.old }
     {
-        let entries = Vec::with_capacity(alloc, symbols)?;
-        let mut text = Vec::with_capacity(alloc, strings)?;
-        text.push(0)?;
-        Ok(SymbolTable {
-            entries,
-            strings: text,
-        })
+        let strings = SymtabEntry::SIZE * symbols;
+        put_text(out, strings, &[0]);
+        SymbolWriter {
+            entry: 0,
+            strings,
+            name: 1,
+        }
     }
 
-    /// Adds a symbol behind the others.
-    ///
-    /// # Errors
-    ///
-    /// There is not enough memory. The table is of no further use.
-    pub fn push(&mut self, row: TableRow<'_>) -> Result<(), AllocError>
-        requires { length self.old.strings.items < 2 ^ 32 }
-        ensures { (rows : List SymbolRow) → HasRows rows self.old → OnOk result (HasRows (rows ++ row_seen row.entry ∷ []) self.new) }
+    /// Writes a symbol behind the others: its entry, and its name with a NUL.
+    pub fn push(&mut self, out: &mut [u8], row: TableRow<'_>)
+        requires short { self.old.name < 2 ^ 32 }
+        requires entry { self.old.entry + size_of symtab_entry ≤ self.old.strings }
+        requires name { self.old.strings + self.old.name + length row.name.now < length out.old }
+        ensures written { (symbols : ℕ) (rows : List SymbolRow) (before : List ℕ) → AreRowsWritten symbols rows self.old before out.old
+            → AreRowsWritten symbols (rows ++ row_seen row.entry ∷ []) self.new before out.new }
+        ensures length { length out.new ≡ length out.old }
     {
-        self.entries.push(SymtabEntry {
-            n_strx: self.strings.len() as u32,
+        let entry = SymtabEntry {
+            n_strx: self.name as u32,
             n_type: row.kind,
             n_sect: row.section,
             n_desc: row.description,
             n_value: row.value,
-        })?;
-        self.strings.extend_from_slice(row.name)?;
-        self.strings.push(0)?;
-        Ok(())
+        };
+        entry.write(out, self.entry);
+        let place = self.strings + self.name;
+        let end = place + row.name.len();
+        put_text(out, place, row.name);
+        put_text(out, end, &[0]);
+        self.entry += SymtabEntry::SIZE;
+        self.name += row.name.len() + 1;
     }
-
-    /// Writes the entries, 16 bytes each, at the front of a range of the file, and the strings behind them. The bytes behind the
-    /// strings stay.
-    pub fn write(&self, out: &mut [u8])
-        requires { table_size self.now ≤ length out.old }
-        ensures written { out.new ≡ put 0 (table_text self.now) out.old }
-        ensures back { All (ReadsBack symtab_entry) self.now.entries.items }
-    {
-        let end = write_entries(&self.entries, out);
-        put_text(out, end, &self.strings);
-    }
-}
-
-/// Writes entries at the front of a range. Returns how many bytes they took.
-fn write_entries(entries: &[SymtabEntry], out: &mut [u8]) -> usize
-    requires { 16 * length entries.now ≤ length out.old }
-    ensures { IsWrittenSoFar entries.now result out.old out.new }
-{
-    let mut place = 0;
-    for entry in entries {
-        entry.write(out, place);
-        place += SymtabEntry::SIZE;
-    }
-    place
 }

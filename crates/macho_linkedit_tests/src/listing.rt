@@ -2,10 +2,8 @@
 ghost use Rattle.std.specs.Prelude.{◌≡◌, false, IfOk};
 ghost use Rattle.macho_linkedit_tests.specs.Linked.{IsAlone};
 
-use crate::symbols::push;
-use macho_linkedit::{
-    LinkedObject, SymbolTable, TableRow, TableSymbol, TableSymbols, table_row, table_symbols,
-};
+use crate::symbols::{begin, push};
+use macho_linkedit::{LinkedObject, TableRow, TableSymbol, TableSymbols, table_row, table_symbols};
 use macho_object::File;
 use macho_records::SymtabEntry;
 use macho_samples::{GLOBAL, LOCAL, MAIN, MAIN_OBJECT, Object, Symbol, UNDEFINED, object_bytes};
@@ -152,28 +150,29 @@ fn is_entry(entry: SymtabEntry, row: Row, (begin, kind, description): (u32, u8, 
         && entry.n_value == row.3
 }
 
-/// Whether these are the entries of the rows.
-fn are_entries(entries: &[SymtabEntry]) -> bool {
+/// Whether these bytes begin with the entries of the rows.
+fn are_entries(bytes: &[u8]) -> bool {
     for place in 0..ROWS.len() {
-        match (entries.get(place), ROWS.get(place), ENTRIES.get(place)) {
-            (Some(entry), Some(row), Some(said)) if is_entry(*entry, *row, *said) => {}
+        let entry = SymtabEntry::read(bytes, 16 * place);
+        match (entry, ROWS.get(place), ENTRIES.get(place)) {
+            (Some(entry), Some(row), Some(said)) if is_entry(entry, *row, *said) => {}
             _ => return false,
         }
     }
-    entries.len() == ROWS.len()
+    true
 }
 
-/// The symbol table with the rows of an object.
-fn table_of(alloc: Global, bytes: &[u8]) -> Result<SymbolTable, Fail> {
+/// Writes the symbol table with the rows of an object.
+fn write_table(bytes: &[u8], out: &mut [u8]) -> Result<(), Fail> {
     let object = LinkedObject {
         number: 0,
         file: File::parse_bytes(bytes, false)?,
     };
-    let mut table = SymbolTable::with_capacity(alloc, 7, 56)?;
+    let mut table = begin(ROWS.len(), out)?;
     for row in ROWS {
-        push(&mut table, row_of(&object, row)?)?;
+        push(&mut table, out, row_of(&object, row)?)?;
     }
-    Ok(table)
+    Ok(())
 }
 
 #[test]
@@ -183,10 +182,11 @@ fn a_symbol_of_each_kind(rt: HostRuntime) -> Result<(), Fail> {
     let listed = listed(alloc, &bytes)?;
     assert!(rt; are_numbers(&listed.symbols));
     assert!(rt; listed.strings == 56);
-    let table = table_of(alloc, &bytes)?;
-    assert!(rt; are_entries(&table.entries));
+    let mut out = vec![in alloc; 0xaa; 168]?;
+    write_table(&bytes, &mut out)?;
+    assert!(rt; are_entries(&out));
     assert!(rt;
-        table.strings.as_slice()
+        out.get(112..).unwrap_or(b"")
             == b"\0_local\0_main\0_hidden\0_weak\0_absolute\0_common\0_unlisted\0".as_slice()
     );
     Ok(())

@@ -1,33 +1,43 @@
 //! The symbol table and its strings.
-use macho_linkedit::{SymbolTable, TableRow};
-use std::alloc::{AllocError, Global};
+use macho_linkedit::{SymbolWriter, TableRow};
+use std::alloc::AllocError;
 use std::test::Fail;
 
-/// Adds a symbol where the strings are short.
-pub(crate) fn push(table: &mut SymbolTable, row: TableRow<'_>) -> Result<(), AllocError> {
-    if table.strings.len() >= 1 << 32 {
+/// Begins a table of few symbols where there is room for its entries and a byte behind them.
+pub(crate) fn begin(symbols: usize, out: &mut [u8]) -> Result<SymbolWriter, AllocError> {
+    if symbols > 9 || 16 * symbols >= out.len() {
         return Err(AllocError);
     }
-    table.push(row)
+    Ok(SymbolWriter::begin(symbols, out))
 }
 
-/// Writes a table where there is room.
-fn write(table: &SymbolTable, out: &mut [u8]) -> Result<(), AllocError> {
-    let symbols = table.entries.len();
-    let strings = table.strings.len();
-    if symbols > 9 || strings > out.len() || 16 * symbols > out.len() - strings {
+/// Writes a symbol where there is room for it.
+pub(crate) fn push(
+    table: &mut SymbolWriter,
+    out: &mut [u8],
+    row: TableRow<'_>,
+) -> Result<(), AllocError> {
+    if table.strings > out.len() || table.name > out.len() - table.strings {
         return Err(AllocError);
     }
-    table.write(out);
+    let room = out.len() - table.strings - table.name;
+    if row.name.len() >= room || table.name >= 1 << 32 {
+        return Err(AllocError);
+    }
+    if table.strings < 16 || table.entry > table.strings - 16 {
+        return Err(AllocError);
+    }
+    table.push(out, row);
     Ok(())
 }
 
 #[test]
 fn a_function_and_a_hidden_common(rt: HostRuntime) -> Result<(), Fail> {
-    let alloc = rt.alloc();
-    let mut table = SymbolTable::with_capacity(alloc, 2, 9)?;
+    let mut out = [0xaa; 44];
+    let mut table = begin(2, &mut out)?;
     push(
         &mut table,
+        &mut out,
         TableRow {
             name: b"_main",
             kind: 0x0f,
@@ -38,6 +48,7 @@ fn a_function_and_a_hidden_common(rt: HostRuntime) -> Result<(), Fail> {
     )?;
     push(
         &mut table,
+        &mut out,
         TableRow {
             name: b"_c",
             kind: 0x1e,
@@ -46,8 +57,6 @@ fn a_function_and_a_hidden_common(rt: HostRuntime) -> Result<(), Fail> {
             value: 0x1_0000_4000,
         },
     )?;
-    let mut out = [0xaa; 44];
-    write(&table, &mut out)?;
     assert!(rt;
         out == *b"\x01\0\0\0\x0f\x01\0\0\x98\x01\0\0\x01\0\0\0\
         \x07\0\0\0\x1e\x02\0\0\0\x40\0\0\x01\0\0\0\

@@ -2,7 +2,7 @@
 use Rattle.std.proofs.Common.{◌≡◌, ℕ, ◌+◌, ◌-◌, ◌*◌, ◌^◌, ◌<◌, ◌≤◌, List, ◌++◌, length, take, drop, refl, sym, ap, ◌∙◌, arith, All}
 use borrow.Rule.Slice.PartMut.{put_mid}
 use Rattle.std.specs.List.{flat_map}
-use Rattle.std.proofs.lemmas.List.{append-nil, drop_all, length-append, length-drop, length-take}
+use Rattle.std.proofs.lemmas.List.{append-nil, drop_all, length-append, length-drop, length-map, length-take}
 use Rattle.macho_bytes.specs.Layouts.{spelling, size_of, ReadsBack}
 use Rattle.macho_bytes.specs.Texts.{put}
 use Rattle.macho_bytes.proofs.Puts.{put-put}
@@ -11,18 +11,20 @@ use Rattle.macho_records.specs.Layouts.{symtab_entry}
 use Rattle.macho_model.specs.Links.{Link}
 use Rattle.macho_model.specs.Needs.{imports_of}
 use Rattle.macho_model.specs.Objects.{num_symbols}
+use Rattle.macho_model.specs.Resolution.{SymbolId}
+use Rattle.macho_model.specs.SymbolTable.{table_symbols}
+use Rattle.macho_linkedit.specs.Listing.{id_of_symbol}
 use Rattle.macho_linkedit.specs.TableRows.{symbol_rows}
 use Rattle.std.specs.Option.{option_copied}
 use Rattle.macho_fields.specs.Looks.{Look}
-use Rattle.macho_linkedit.specs.declared.symbols.SymbolTable.{SymbolTable}
-use Rattle.macho_linkedit.specs.Symbols.{HasRows, table_text, table_size}
+use Rattle.macho_linkedit.specs.Symbols.{SymbolTable, HasRows, table_text, IsTableWritten}
 use Rattle.macho_linkedit.proofs.CanList.{symbol_is_kept}
 use Rattle.macho_lists.proofs.Members.{contains_all}
 use Rattle.macho_tables.specs.Rows.{AreToList}
 use Rattle.macho_tables.proofs.Short.{sections_are_few, strings_are_short}
 use Rattle.macho_composed.specs.FoundSizes.{FillsTables}
 use Rattle.macho_composed.proofs.Heads.{tables_follow}
-use Rattle.macho_composed.proofs.FoundSizes.{symbols_fill}
+use Rattle.macho_composed.proofs.FoundSizes.{ranges_suffice, symbols_fill}
 use Rattle.macho_commands.proofs.Texts.{length-flat_map_same}
 use Rattle.macho_linking.specs.declared.planned.Planned.{Planned}
 use Rattle.macho_linking.specs.steps.Planned.{IsPlanned, IsLooked, KnowsAll, placement_of, counts_of}
@@ -64,21 +66,23 @@ fills l b t h rows = symbols_fill l (counts_of b) (placement_of b) t h.sized.pla
 abbrev pub both : Planned → ℕ
 both b = (placement_of b).linkedit.strtab.end - (placement_of b).linkedit.symtab.start
 
--- they lie in the file, and the table has as many bytes
-pub record FillsBoth (b : Planned) (t : SymbolTable) : Type 0 where
+-- They lie in the file, and have as many bytes as the listed symbols and the strings that were counted.
+pub record RangesHaveRoom (b : Planned) : Type 0 where
   pub rises : (placement_of b).linkedit.symtab.start ≤ (placement_of b).linkedit.strtab.end
   pub inside : (placement_of b).linkedit.strtab.end ≤ (placement_of b).linkedit.signature.end
-  pub whole : table_size t ≡ (placement_of b).linkedit.strtab.end - (placement_of b).linkedit.symtab.start
+  pub listed : 16 * length b.sized.now.symbols.symbols.items + b.sized.now.symbols.strings ≡ both b
 
-pub fills_both : (l : Link) (b : Planned) (t : SymbolTable) → IsPlanned l b → HasRows (symbol_rows l (counts_of b) (placement_of b)) t
-    → FillsBoth b t
-fills_both l b t h rows =
-    let full = fills l b t h rows in
+pub has_room : (l : Link) (b : Planned) → IsPlanned l b → RangesHaveRoom b
+has_room l b h =
+    let kept = ranges_suffice l (counts_of b) (placement_of b) h.sized.placed h.sized.counted in
     let follow = tables_follow l (counts_of b) (placement_of b) h.sized.placed in
+    let items = b.sized.now.symbols.symbols.items in
+    let many : length items ≡ length (table_symbols l) =
+    sym (length-map items id_of_symbol) ∙ ap (λ (ids : List SymbolId). length ids) h.sized.listed.symbols_are in
     record {
-      rises = omega (arith, full.behind, full.strings);
+      rises = omega (arith, kept.symbols, kept.behind, kept.strings);
       inside = omega (arith, follow.strings.1, follow.signature);
-      whole = omega (arith, full.behind, full.strings);
+      listed = omega (arith, kept.symbols, kept.behind, kept.strings, many, h.sized.listed.strings_are);
     }
 
 -- a text over all of a part
@@ -91,23 +95,23 @@ pub part_long : (at n : ℕ) (out : List ℕ) → at + n ≤ length out → leng
 part_long at n out fits = omega (arith, length-take n (drop at out), length-drop at out)
 
 -- THE table, written over both
-pub symbols_put : (l : Link) (b : Planned) (t : SymbolTable) (old part new : List ℕ) → IsPlanned l b
-    → HasRows (symbol_rows l (counts_of b) (placement_of b)) t → All (ReadsBack symtab_entry) t.entries.items
+pub symbols_put : (l : Link) (b : Planned) (old part new : List ℕ) → IsPlanned l b
     → length old ≡ (placement_of b).linkedit.signature.end
-    → part ≡ put 0 (table_text t) (take (both b) (drop (placement_of b).linkedit.symtab.start old))
+    → IsTableWritten (symbol_rows l (counts_of b) (placement_of b)) (take (both b) (drop (placement_of b).linkedit.symtab.start old)) part
     → new ≡ put_mid (placement_of b).linkedit.symtab.start (both b) old part → SymbolsArePut l (counts_of b) (placement_of b) old new
 unfolding table_text
-symbols_put l b t old part new h rows back long written is =
-    let full = fills l b t h rows in
-    let entries : List ℕ = flat_map (spelling symtab_entry) t.entries.items in
-    let strings : List ℕ = t.strings.items in
+symbols_put l b old part new h long written is =
+    let t = written.table in
+    let full = fills l b t h written.rows_are in
+    let entries : List ℕ = flat_map (spelling symtab_entry) t.entries in
+    let strings : List ℕ = t.strings in
     let at : ℕ = (placement_of b).linkedit.symtab.start in
-    let filled = fills_both l b t h rows in
-    let many : length entries ≡ size_of symtab_entry * length t.entries.items = length-flat_map_same
-    (spelling symtab_entry) (size_of symtab_entry) t.entries.items (λ i d lt. (back i d lt).long) in
-    let size : length (entries ++ strings) ≡ both b = omega (arith, length-append entries strings, many, filled.whole) in
-    let room : at + both b ≤ length old = omega (arith, filled.rises, filled.inside, long) in
-    let all : part ≡ entries ++ strings = written ∙ put_whole (entries ++ strings) (take (both b) (drop at old))
+    let ranges = has_room l b h in
+    let many : length entries ≡ size_of symtab_entry * length t.entries = length-flat_map_same
+    (spelling symtab_entry) (size_of symtab_entry) t.entries (λ i d lt. (written.back i d lt).long) in
+    let size : length (entries ++ strings) ≡ both b = omega (arith, length-append entries strings, many, full.behind, full.strings) in
+    let room : at + both b ≤ length old = omega (arith, ranges.rises, ranges.inside, long) in
+    let all : part ≡ entries ++ strings = written.is ∙ put_whole (entries ++ strings) (take (both b) (drop at old))
     (size ∙ sym (part_long at (both b) old room)) in
     let one : new ≡ put at (entries ++ strings) old = is
     ∙ put_mid-whole at (both b) old (entries ++ strings) part (sym size) (omega (arith, size, room)) all in
@@ -119,5 +123,5 @@ symbols_put l b t old part new h rows back long written is =
           (omega (arith, behind, room, size, length-append entries strings)));
       fits = omega (arith, many, full.symbols);
       fit = omega (arith, full.strings);
-      says = record { table = t; rows = rows; entries_are = refl; strings_are = refl; back = back };
+      says = record { table = t; rows = written.rows_are; entries_are = refl; strings_are = refl; back = written.back };
     }

@@ -12,7 +12,7 @@ use macho_fields::Places;
 use macho_fixups::Fixup;
 use macho_linkedit::import_table;
 use macho_symbols::OwnEntry;
-use macho_tables::{said_exports, symbol_table};
+use macho_tables::{said_exports, write_symbol_table};
 use std::alloc::{AllocError, Global};
 
 /// The entries of the import table that pointers need of their own.
@@ -88,16 +88,15 @@ pub(crate) fn write_symbols<P: Places>(
         → OnOk result (SymbolsArePut l (counts_of b.now) (placement_of b.now) out.old out.new) }
 {
     let placement = &b.sized.placement;
-    let table = symbol_table(
+    let start = placement.linkedit.symtab.start as usize;
+    let end = placement.linkedit.strtab.end as usize;
+    write_symbol_table(
         alloc,
         places,
         placement,
         b.objects,
         &b.sized.symbols,
         b.list,
-    )?;
-    let start = placement.linkedit.symtab.start as usize;
-    let end = placement.linkedit.strtab.end as usize;
-    table.write(&mut out[start..end]);
-    Ok(())
+        &mut out[start..end],
+    )
 }

@@ -9,7 +9,7 @@ use Rattle.std.specs.Prelude.{sum_by, Option}
 use Rattle.std.specs.List.{filter_map, enumerate_from}
 use Rattle.std.proofs.lemmas.List.{length-map}
 use Rattle.std.proofs.lemmas.List.Elements.{All-nil, All-cons}
-use Rattle.std.proofs.lemmas.List.Sums.{sum_by-take-le, sum_by-cons}
+use Rattle.std.proofs.lemmas.List.Sums.{sum_by_more_le, sum_by-cons}
 use Rattle.macho_records.specs.Symbols.{is_stab_of}
 use Rattle.macho_model.specs.declared.placed.Counts.{Counts}
 use Rattle.macho_model.specs.Objects.{num_symbols, symbol_at}
@@ -28,11 +28,10 @@ use Rattle.macho_targets.proofs.OfLink.{IsSymbolOf, symbol_of}
 use Rattle.macho_linkedit.specs.declared.listing.LinkedObject.{LinkedObject}
 use Rattle.macho_linkedit.specs.declared.listing.TableSymbol.{TableSymbol}
 use Rattle.macho_linkedit.specs.declared.listing.TableSymbols.{TableSymbols}
-use Rattle.macho_linkedit.specs.declared.symbols.SymbolTable.{SymbolTable}
 use Rattle.macho_linkedit.specs.Listing.{object_in, seen_object, AreObjects, id_of_symbol, AreListed}
-use Rattle.macho_linkedit.specs.Symbols.{HasRows}
+use Rattle.macho_linkedit.specs.Symbols.{SymbolTable, HasRows}
 use Rattle.macho_linkedit.proofs.Listed.{bytes_are}
-use Rattle.macho_linkedit.proofs.Rows.{name_size, names_long}
+use Rattle.macho_linkedit.proofs.Rows.{name_size, table_strings}
 use Rattle.macho_standing.proofs.Members.{in_filter_map}
 use Rattle.macho_tables.specs.Rows.{AreToList}
 use Rattle.macho_tables.specs.steps.Rows.{NumbersRise, HasNumber, IsObjectAt, CanHaveRow, IsListed}
@@ -136,22 +135,22 @@ row_rests l counts p look objects t lists place o s to listed at is = (
     same : object_of l s.file ≡ o.file.bytes
     same = object_is l objects s.file place o to.objects_are at is
 
--- the strings of the first rows are short, where all are
-pub strings_short : (l : Link) (counts : Counts) (p : Placed) (t : TableSymbols) (n : ℕ) (table : SymbolTable) → AreListed l t
-    → t.strings < 2 ^ 32
-    → HasRows (map (row_of l counts p) (take n (map id_of_symbol t.symbols.items))) table → length table.strings.items < 2 ^ 32
-strings_short l counts p t n table are short has =
-    let rows : List SymbolRow = map (row_of l counts p) (take n (map id_of_symbol t.symbols.items)) in
-    let long = names_long rows in
+-- the strings of the first rows and the next name with its NUL are within the strings of all
+pub names_fit : (l : Link) (counts : Counts) (p : Placed) (t : TableSymbols) (n : ℕ) (table : SymbolTable) (s : SymbolId) → AreListed l t
+    → n < length t.symbols.items
+    → s ≡ get_or (map id_of_symbol t.symbols.items) n s
+    → HasRows (map (row_of l counts p) (take n (map id_of_symbol t.symbols.items))) table
+    → length table.strings + text_size (name_at l s) ≤ t.strings
+names_fit l counts p t n table s are lt is has =
+    let ids : List SymbolId = map id_of_symbol t.symbols.items in
     omega (
       arith,
-      ap (λ (text : List ℕ). length text) has.strings_are,
-      names_long rows,
-      sizes (take n (map id_of_symbol t.symbols.items)),
-      sum_by-take-le (λ (s : SymbolId). text_size (name_at l s)) (map id_of_symbol t.symbols.items) n,
-      ap (λ (ids : List SymbolId). sum_by (λ s. text_size (name_at l s)) ids) are.symbols_are,
+      table_strings (map (row_of l counts p) (take n ids)) table has,
+      sizes (take n ids),
+      sum_by_more_le (λ (u : SymbolId). text_size (name_at l u)) ids n s (omega (arith, lt, length-map t.symbols.items id_of_symbol)),
+      ap (λ (u : SymbolId). text_size (name_at l u)) is,
+      ap (λ (us : List SymbolId). sum_by (λ u. text_size (name_at l u)) us) are.symbols_are,
       are.strings_are,
-      short,
     )
   where
     sizes : (ids : List SymbolId) → sum_by name_size (map (row_of l counts p) ids) ≡ sum_by (λ s. text_size (name_at l s)) ids

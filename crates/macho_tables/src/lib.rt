@@ -15,5 +15,5 @@ mod told;
 
 pub use exports::{kept_exports, said_exports};
 pub use laws::{exports_are_all_told, symbols_fit_a_table};
-pub use rows::symbol_table;
+pub use rows::write_symbol_table;
 pub use told::told_imports;

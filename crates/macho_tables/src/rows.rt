@@ -1,6 +1,8 @@
 //! The symbol table: a row for each symbol that was listed.
-ghost use Rattle.std.specs.Prelude.{◌≡◌, ℕ, ◌<◌, ◌≤◌, ◌^◌, List, length, All, IfOk};
+ghost use Rattle.std.specs.Prelude.{◌≡◌, ℕ, ◌+◌, ◌*◌, ◌<◌, ◌≤◌, ◌^◌, List, length, All, OnOk};
 ghost use Rattle.std.specs.Option.{option_copied};
+ghost use Rattle.macho_bytes.specs.Layouts.{size_of};
+ghost use Rattle.macho_records.specs.Layouts.{symtab_entry};
 ghost use Rattle.macho_model.specs.declared.placed.Counts.{Counts};
 ghost use Rattle.macho_model.specs.Links.{Link};
 ghost use Rattle.macho_model.specs.Objects.{num_symbols, symbol_name};
@@ -9,7 +11,7 @@ ghost use Rattle.macho_linkedit.specs.TableRows.{row_of, symbol_rows};
 ghost use Rattle.macho_layout.specs.Placements.{placed_of};
 ghost use Rattle.macho_symbols.specs.Exported.{AreLists};
 ghost use Rattle.macho_symbols.specs.Kept.{symbol_id};
-ghost use Rattle.macho_linkedit.specs.Symbols.{row_seen, HasRows};
+ghost use Rattle.macho_linkedit.specs.Symbols.{row_seen, IsTableWritten};
 ghost use Rattle.macho_tables.specs.steps.Rows.{NumbersRise, HasNumber, IsObjectAt, CanHaveRow, IsListed};
 ghost use Rattle.macho_tables.specs.steps.Sections.{sections_told};
 ghost use Rattle.macho_tables.specs.Rows.{AreToList};
@@ -18,7 +20,7 @@ use crate::sections::{numbers_of_objects, section_of_symbol};
 use macho_exports::ExportList;
 use macho_fields::{Places, address_of};
 use macho_layout::Placement;
-use macho_linkedit::{LinkedObject, SymbolTable, TableRow, TableSymbol, TableSymbols, table_row};
+use macho_linkedit::{LinkedObject, SymbolWriter, TableRow, TableSymbol, TableSymbols, table_row};
 use std::alloc::{AllocError, Global};
 
 /// The place of the object of a number: the first whose number isn't below.
@@ -82,45 +84,45 @@ fn row_of<'a, P: Places>(
     )
 }
 
-/// The symbol table of a placed link, with a row for each listed symbol, in order. `listed` are the symbols that were counted before
-/// addresses were known; `lists` are the export lists, where there are any.
+/// Writes the symbol table of a placed link at the front of a range, with a row for each listed symbol, in order. `listed` are the
+/// symbols that were counted before addresses were known; `lists` are the export lists, where there are any.
 ///
 /// # Errors
 ///
 /// There is not enough memory.
-pub fn symbol_table<P: Places>(
+pub fn write_symbol_table<P: Places>(
     alloc: Global,
     places: &P,
     placement: &Placement,
     objects: &[LinkedObject<'_>],
     listed: &TableSymbols,
     lists: Option<&ExportList>,
-) -> Result<SymbolTable, AllocError>
+    out: &mut [u8],
+) -> Result<(), AllocError>
     requires few { length placement.now.output_sections.items ≤ 255 }
     requires short { listed.now.strings < 2 ^ 32 }
     requires symbols { All (λ o. (k : ℕ) → k < num_symbols o.file.bytes → P.has_symbol places.now o.number k) objects.now }
+    requires room { size_of symtab_entry * length listed.now.symbols.items + listed.now.strings ≤ length out.old }
     requires link { (l : Link) × (counts : Counts)
         × AreToList l counts (placed_of placement.now) (P.look places.now) objects.now listed.now (option_copied lists) }
-    ensures { (l : Link) (counts : Counts) → AreToList l counts (placed_of placement.now) (P.look places.now) objects.now listed.now
+    ensures done { (l : Link) (counts : Counts) → AreToList l counts (placed_of placement.now) (P.look places.now) objects.now listed.now
         (option_copied lists.entry)
-        → IfOk result (HasRows (symbol_rows l counts (placed_of placement.now))) }
+        → OnOk result (IsTableWritten (symbol_rows l counts (placed_of placement.now)) out.old out.new) }
+    ensures length { length out.new ≡ length out.old }
 {
     let numbers = numbers_of_objects(alloc, placement, objects)?;
-    let mut table = SymbolTable::with_capacity(
-        alloc,
-        listed.symbols.len(),
-        listed.strings as usize,
-    )?;
+    let mut table = SymbolWriter::begin(listed.symbols.len(), out);
     for symbol in listed.symbols.as_slice() {
         let place = place_of(objects, symbol.file);
-        table.push(row_of(
+        let row = row_of(
             places,
             placement,
             &objects[place],
             *symbol,
             lists,
             &numbers[place],
-        ))?;
+        );
+        table.push(out, row);
     }
-    Ok(table)
+    Ok(())
 }

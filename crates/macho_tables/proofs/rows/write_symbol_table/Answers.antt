@@ -1,6 +1,6 @@
 -- The object of each symbol is there, and can have the symbol's row; its sections' numbers stand at its place. That row is the next one of
--- the table.
-use Rattle.std.proofs.Common.{◌<◌, ℕ, List, length, get_or, sym, ap, ◌∙◌}
+-- the table, and there is room for it, since all names were counted.
+use Rattle.std.proofs.Common.{◌<◌, ℕ, List, [], length, get_or, sym, ap, subst, ◌∙◌, arith}
 use Rattle.std.specs.Option.{option_copied}
 use Rattle.macho_model.specs.Objects.{num_symbols, symbol_name}
 use Rattle.macho_layout.specs.Placements.{placed_of}
@@ -8,12 +8,12 @@ use Rattle.macho_lists.proofs.Members.{all_contains}
 use Rattle.macho_linkedit.specs.declared.listing.LinkedObject.{LinkedObject}
 use Rattle.macho_linkedit.specs.declared.listing.TableSymbol.{TableSymbol}
 use Rattle.macho_linkedit.specs.Listing.{id_of_symbol}
-use Rattle.macho_linkedit.specs.Symbols.{row_seen}
+use Rattle.macho_linkedit.specs.Symbols.{row_seen, AreRowsWritten}
 use Rattle.macho_tables.proofs.TableRows.{in_table}
-use Rattle.macho_tables.proofs.Objects.{objects_rise, object_there, object_is, row_rests, strings_short}
-use Rattle.macho_tables.proofs.ListedRows.{item_listed, item_long, rows_to, table_more, table_whole}
+use Rattle.macho_tables.proofs.Objects.{objects_rise, object_there, object_is, row_rests}
+use Rattle.macho_tables.proofs.ListedRows.{item_listed, item_long, rows_to, next_row, row_fits, table_more, table_whole}
 use Rattle.macho_tables.proofs.SectionNumbers.{numbers_of_object}
-use Rattle.macho_tables.proofs.rows.symbol_table.Goals as goal
+use Rattle.macho_tables.proofs.rows.write_symbol_table.Goals as goal
 
 abbrev none : TableSymbol
 none = record { file = 0; symbol = 0; length = 0 }
@@ -71,11 +71,31 @@ row_of-requires-clause-told g c =
     c.index-objects-place.result c.index.result.now c.in_ok-numbers.ensures c.place_of-place.ensures.within c.index-objects-place.is
     c.index.ensures
 
+pub begin-requires : goal.begin-requires
+begin-requires g c = omega (arith, c.len.ensures, c.requires.room, c.requires.link.2.listed_are.strings_are)
+
 pub push-requires : goal.push-requires
 push-requires g c =
     let some = c.requires.link in
-    strings_short some.0 some.1 (placed_of c.args.placement.now) c.args.listed.now c.loop-symbol.symbol-index c.loop-symbol.table
-    some.2.listed_are c.requires.short (c.loop-symbol.invariant some.0 some.1 some.2)
+    let p = placed_of c.args.placement.now in
+    let look = g.P.Places.look c.args.places.now in
+    let now = c.as_slice-symbol-items.result.now in
+    let n = c.loop-symbol.symbol-index in
+    let s = get_or now n none in
+    let listed = item_listed some.0 c.args.listed.now now n none some.2.listed_are c.as_slice-symbol-items.ensures.value
+    c.loop-symbol-test.true in
+    let rests = row_rests some.0 some.1 p look c.args.objects.now c.args.listed.now (option_copied c.args.lists) c.place_of-place.result
+    c.index-objects-place.result (id_of_symbol s) some.2 listed c.place_of-place.ensures c.index-objects-place.is in
+    let row = next_row some.0 some.1 p s c.args.objects.now c.place_of-place.result c.index-objects-place.result
+    (row_seen c.row_of-row.result) c.place_of-place.ensures c.index-objects-place.is (c.row_of-row.ensures some.0 some.1 rests.1) in
+    let room = row_fits some.0 some.1 p c.args.listed.now now n none (row_seen c.row_of-row.result) c.loop-symbol.table c.args.out.now
+    c.loop-symbol.out some.2.listed_are c.requires.short c.requires.room c.as_slice-symbol-items.ensures.value c.loop-symbol-test.true row
+    (c.loop-symbol.invariant some.0 some.1 some.2) in
+    record { short = room.short; entry = room.entry; name = room.behind }
+
+pub loop-symbol-init : goal.loop-symbol-init
+loop-symbol-init g c l counts to =
+    subst (λ (m : ℕ). AreRowsWritten m [] c.begin-table.result c.args.out.now c.begin-table.new.out) c.len.ensures c.begin-table.ensures.written
 
 pub loop-symbol-preserved : goal.loop-symbol-preserved
 loop-symbol-preserved g c l counts to =
@@ -87,13 +107,15 @@ loop-symbol-preserved g c l counts to =
     let listed = item_listed l c.args.listed.now now n none to.listed_are c.as_slice-symbol-items.ensures.value c.loop-symbol-test.true in
     let rests = row_rests l counts p look c.args.objects.now c.args.listed.now (option_copied c.args.lists) c.place_of-place.result
     c.index-objects-place.result (id_of_symbol s) to listed c.place_of-place.ensures c.index-objects-place.is in
-    table_more l counts p c.args.listed.now now n none c.args.objects.now c.place_of-place.result c.index-objects-place.result
-    (row_seen c.row_of.result) c.push.new.self c.as_slice-symbol-items.ensures.value c.loop-symbol-test.true c.place_of-place.ensures
-    c.index-objects-place.is
-    (c.row_of.ensures l counts rests.1)
-    (c.in_ok-push.ensures (rows_to l counts p c.args.listed.now n) (c.loop-symbol.invariant l counts to))
+    table_more l counts p c.args.listed.now now n none (row_seen c.row_of-row.result) c.push.new.self c.args.out.now c.push.new.out
+    c.as_slice-symbol-items.ensures.value c.loop-symbol-test.true
+    (next_row l counts p s c.args.objects.now c.place_of-place.result c.index-objects-place.result (row_seen c.row_of-row.result)
+    c.place_of-place.ensures c.index-objects-place.is (c.row_of-row.ensures l counts rests.1))
+    (c.push.ensures.written (length c.args.listed.now.symbols.items) (rows_to l counts p c.args.listed.now n) c.args.out.now
+    (c.loop-symbol.invariant l counts to))
 
-pub returns : goal.returns
-returns g c l counts to =
+pub returns-clause-done : goal.returns-clause-done
+returns-clause-done g c l counts to =
     table_whole l counts (placed_of c.args.placement.now) c.args.listed.now c.as_slice-symbol-items.result.now c.loop-symbol.symbol-index
-    c.loop-symbol.table to.listed_are c.as_slice-symbol-items.ensures.value c.loop-symbol-test.false (c.loop-symbol.invariant l counts to)
+    c.loop-symbol.table c.args.out.now c.loop-symbol.out to.listed_are c.as_slice-symbol-items.ensures.value c.loop-symbol-test.false
+    (c.loop-symbol.invariant l counts to)
