@@ -11,7 +11,7 @@ ghost use Rattle.std.specs.Prelude.{◌≡◌, ◌<◌, ◌≤◌, ◌^◌};
 ghost use Rattle.macho_model.specs.Words.{is_adrp, is_branch, is_add, is_ldr, is_load_store, scale_of, imm21, imm26, imm12, without_imm21, without_imm26, without_imm12, written_register};
 
 /// The bytes of a page that an ADRP goes by.
-pub(crate) const PAGE_SIZE: u64 = 4096;
+pub const PAGE_SIZE: u64 = 4096;
 
 pub(crate) fn is_adrp(word: u32) -> bool
     ensures { result ≡ is_adrp word }
