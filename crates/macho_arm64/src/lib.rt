@@ -24,4 +24,4 @@ pub use names::rel_type_to_string;
 pub use pairs::{is_difference, is_with_addend};
 pub use relaxation::{NotALoad, Relaxation};
 pub use stubs::{PltFault, start_memory_address, write_plt_entry};
-pub use words::is_ldr;
+pub use words::{PAGE_SIZE, is_add, is_ldr, is_load_store};

@@ -11,7 +11,7 @@ ghost use Rattle.std.specs.Prelude.{◌≡◌, ◌<◌, ◌≤◌, ◌^◌};
 ghost use Rattle.macho_model.specs.Words.{is_adrp, is_branch, is_add, is_ldr, is_load_store, scale_of, imm21, imm26, imm12, without_imm21, without_imm26, without_imm12, written_register};
 
 /// The bytes of a page that an ADRP goes by.
-pub(crate) const PAGE_SIZE: u64 = 4096;
+pub const PAGE_SIZE: u64 = 4096;
 
 pub(crate) fn is_adrp(word: u32) -> bool
     ensures { result ≡ is_adrp word }
@@ -25,7 +25,8 @@ pub(crate) fn is_branch(word: u32) -> bool
     (word >> 26) & 0x1f == 0b00101
 }
 
-pub(crate) fn is_add(word: u32) -> bool
+/// Whether a word is an ADD, in 64 bits, of an immediate that is not shifted.
+pub fn is_add(word: u32) -> bool
     ensures { result ≡ is_add word }
 {
     (word >> 22) & 0x3ff == 0b1001000100
@@ -38,7 +39,8 @@ pub fn is_ldr(word: u32) -> bool
     (word >> 22) & 0x3ff == 0b1111100101
 }
 
-pub(crate) fn is_load_store(word: u32) -> bool
+/// Whether a word is a load or store with an unsigned offset.
+pub fn is_load_store(word: u32) -> bool
     ensures { result ≡ is_load_store word }
 {
     (word >> 27) & 7 == 0b111 && (word >> 24) & 3 == 0b01

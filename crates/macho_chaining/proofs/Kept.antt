@@ -15,6 +15,7 @@ use Rattle.macho_model.specs.Needs.{POINTER_SIZE}
 use Rattle.macho_model.specs.Links.{Link}
 use Rattle.macho_model.specs.Placement.{Placed, Span}
 use Rattle.macho_model.specs.Zeros.{IsOutsideSpan}
+use Rattle.macho_model.specs.Head.{range_size}
 use Rattle.macho_fixups.specs.declared.run.Fixup.{Fixup}
 use Rattle.macho_fixups.specs.Words.{word_of}
 use Rattle.macho_fixups.specs.Chains.{place_of, step_of}
@@ -25,7 +26,7 @@ use Rattle.macho_model.specs.Fixups.{import_format}
 use Rattle.macho_linkedit.specs.declared.imports.ImportTable.{ImportTable}
 use Rattle.macho_linkedit.proofs.TableSays.{table_is_said}
 use Rattle.macho_standing.proofs.TableLength.{table_long}
-use Rattle.macho_chaining.specs.Writing.{range_size, text_of_table, text_of_range}
+use Rattle.macho_chaining.specs.Writing.{text_of_table, text_of_range}
 use Rattle.macho_chaining.specs.Laws.{word_ranges, WordLiesIn, AgreeIn, BytesOutsideStay, WordsStay, FixupsStand, FixupsAreKept}
 use Rattle.macho_chaining.specs.Laws.{ImportsAreKept}
 use Rattle.macho_chaining.proofs.Lying.{words_lie}

@@ -7,6 +7,7 @@ use Rattle.macho_bytes.specs.Texts.{put}
 use Rattle.macho_bytes.proofs.Puts.{length-put}
 use Rattle.macho_bytes.proofs.Writes.{put_mid-whole}
 use Rattle.macho_model.specs.Placement.{Placed}
+use Rattle.macho_model.specs.Head.{range_size}
 use Rattle.macho_fixups.specs.declared.run.Fixup.{Fixup}
 use Rattle.macho_fixups.specs.declared.run.FixupSegment.{FixupSegment}
 use Rattle.macho_fixups.specs.declared.imports.ImportEntry.{ImportEntry}
@@ -14,7 +15,7 @@ use Rattle.macho_fixups.specs.Tables.{table_text}
 use Rattle.macho_fixups.specs.Readings.{TableReadsBack}
 use Rattle.macho_promise.specs.FixupsSay.{fixup_segments}
 use Rattle.macho_linkedit.specs.declared.imports.ImportTable.{ImportTable}
-use Rattle.macho_chaining.specs.Writing.{range_size, FitsRange, text_of_table, text_of_range, TableIsPut}
+use Rattle.macho_chaining.specs.Writing.{FitsRange, text_of_table, text_of_range, TableIsPut}
 
 -- What the writer of a table hands on, of a part of a file.
 pub record IsTableIn (p : Placed) (run : List Fixup) (t : ImportTable) (segments : List FixupSegment) (entries : List ImportEntry)

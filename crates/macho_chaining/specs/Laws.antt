@@ -10,6 +10,7 @@ use Rattle.macho_model.specs.ImportTable.{ImportTableSays}
 use Rattle.macho_model.specs.Placement.{Placed, Span, section_span, slot_span}
 use Rattle.macho_model.specs.Values.{BadRebase}
 use Rattle.macho_model.specs.Zeros.{in_file, filled_sections, IsOutsideSpan}
+use Rattle.macho_model.specs.Head.{range_size}
 use Rattle.macho_fixups.specs.declared.run.Fixup.{Fixup}
 use Rattle.macho_fixups.specs.Calls.{AreEntries}
 use Rattle.macho_fixups.specs.Chains.{place_of, AllStand, ChainIsRun}
@@ -21,7 +22,7 @@ use Rattle.macho_linkedit.specs.Runs.{IsRunOf}
 use Rattle.macho_standing.specs.Composed.{FixupsAreWritten}
 use Rattle.macho_standing.specs.Laws.{WordsAreWritten}
 use Rattle.macho_chaining.specs.Chaining.{CanBeChained}
-use Rattle.macho_chaining.specs.Writing.{range_size, text_of_table, text_of_range}
+use Rattle.macho_chaining.specs.Writing.{text_of_table, text_of_range}
 
 -- the ranges of the file that words lie in: those of sections with bytes, and those of slots
 unfoldable pub word_ranges : Link → Placed → List Span

@@ -1,7 +1,7 @@
 -- The fixup table of a placement, in the range that is kept for it.
-use Rattle.std.specs.Prelude.{◌≡◌, ℕ, ◌-◌, ◌≤◌, List, length, replicate}
+use Rattle.std.specs.Prelude.{◌≡◌, ℕ, ◌≤◌, List, length, replicate}
 use Rattle.macho_bytes.specs.Texts.{put}
-use Rattle.macho_model.specs.declared.placed.Range64.{Range64}
+use Rattle.macho_model.specs.Head.{range_size}
 use Rattle.macho_model.specs.Images.{import_entry_size}
 use Rattle.macho_model.specs.Placement.{Placed}
 use Rattle.macho_fixups.specs.declared.run.Fixup.{Fixup}
@@ -10,9 +10,6 @@ use Rattle.macho_fixups.specs.Tables.{table_room, table_text}
 use Rattle.macho_fixups.specs.Readings.{TableReadsBack}
 use Rattle.macho_promise.specs.FixupsSay.{fixup_segments}
 use Rattle.macho_linkedit.specs.declared.imports.ImportTable.{ImportTable}
-
-abbrev pub range_size : Range64 → ℕ
-range_size r = r.end - r.start
 
 -- the room that a table of a run needs
 abbrev pub room_of : Placed → List Fixup → ImportTable → ℕ

@@ -14,7 +14,7 @@ use Rattle.macho_model.specs.declared.placed.Counts.{Counts}
 use Rattle.macho_model.specs.Links.{Link}
 use Rattle.macho_model.specs.Placement.{Placed, range_span}
 use Rattle.macho_model.specs.Images.{fixups_header}
-use Rattle.macho_model.specs.Head.{HeadSays}
+use Rattle.macho_model.specs.Head.{HeadSays, range_size}
 use Rattle.macho_model.specs.HeadCommands.{CommandsSay}
 use Rattle.macho_model.specs.OutputSections.{POINTER_EXPONENT, piece}
 use Rattle.macho_model.specs.WrittenSum.{SYMBOL_SIZE}
@@ -29,7 +29,7 @@ use Rattle.macho_promise.specs.TrieSays.{TrieSays}
 use Rattle.macho_linkedit.specs.Laws.{TrieIsSaid, SymbolsAreSaid}
 use Rattle.macho_linkedit.specs.Symbols.{table_text}
 use Rattle.macho_chaining.specs.Chaining.{CanBeChained}
-use Rattle.macho_chaining.specs.Writing.{text_of_range, text_of_table, range_size}
+use Rattle.macho_chaining.specs.Writing.{text_of_range, text_of_table}
 use Rattle.macho_chaining.specs.Laws.{TableIsOf, BytesOutsideStay, WordsStay, FixupsStand, FixupsAreKept, ImportsAreKept}
 use Rattle.macho_made.specs.Laws.{OffsetsAreSaid, UnwindIsSaid, SaysUnwind}
 use Rattle.macho_found.specs.Heads.{TablesEnd}

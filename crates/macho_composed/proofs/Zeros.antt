@@ -14,6 +14,7 @@ use Rattle.macho_model.specs.Links.{Link}
 use Rattle.macho_model.specs.Placement.{Placed, Span, range_span}
 use Rattle.macho_model.specs.Addresses.{offset_in_file}
 use Rattle.macho_model.specs.Commands.{commands_end}
+use Rattle.macho_model.specs.Head.{range_size}
 use Rattle.macho_model.specs.Images.{fixups_header, tables_of, tries_of, symbol_tables_of, string_tables_of, signatures_of}
 use Rattle.macho_model.specs.ImportTable.{names_text}
 use Rattle.macho_model.specs.Zeros.{in_file, contents_of, fixups_content, IsOutsideSpan, IsZeroElsewhere}
@@ -21,7 +22,7 @@ use Rattle.macho_fixups.specs.declared.run.Fixup.{Fixup}
 use Rattle.macho_fixups.specs.Tables.{names_place}
 use Rattle.macho_promise.specs.FixupsSay.{fixup_segments}
 use Rattle.macho_linkedit.specs.declared.imports.ImportTable.{ImportTable}
-use Rattle.macho_chaining.specs.Writing.{text_of_range, text_of_table, range_size}
+use Rattle.macho_chaining.specs.Writing.{text_of_range, text_of_table}
 use Rattle.macho_chaining.specs.Laws.{TableIsOf}
 use Rattle.macho_standing.proofs.TableLength.{table_long}
 use Rattle.macho_composed.specs.Written.{Texts, text_parts, content_ranges, AreStanding}

@@ -29,5 +29,5 @@ pub use least::section_fault;
 pub use places::Places;
 pub use section::fill_section;
 pub use slots::slot_fixups;
-pub use stubs::fill_stubs;
+pub use stubs::{STUB_BYTES, fill_stubs};
 pub use values::address_of;

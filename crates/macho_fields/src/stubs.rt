@@ -15,7 +15,7 @@ use macho_model::{Site, Stub, Target};
 use macho_numbers::put_text;
 
 /// The bytes of a stub.
-const STUB_BYTES: usize = 12;
+pub const STUB_BYTES: usize = 12;
 
 /// The words of a stub.
 fn stub_text<P: Places>(places: &P, stub: Stub, index: u32) -> Result<[u8; 12], FillFault>

@@ -11,10 +11,8 @@ use crate::field::Field;
 use crate::kinds::{FieldKind, kind_of, size_of};
 use crate::places::Places;
 use crate::write::FieldWrite;
+use macho_arm64::PAGE_SIZE;
 use macho_model::Target;
-
-/// The bytes of a page that an ADRP goes by.
-const PAGE_SIZE: u64 = 4096;
 
 /// How far one address is behind another, modulo 2^64.
 fn distance(to: u64, from: u64) -> u64

@@ -11,14 +11,11 @@ ghost use Rattle.macho_filling.specs.Filled.{StubsAreFilled, ContentsAreFilled};
 
 use crate::least::least_fault;
 use crate::sections::fill_sections;
-use macho_fields::{FillFault, Places, fill_stubs, slot_fixups};
+use macho_fields::{FillFault, Places, STUB_BYTES, fill_stubs, slot_fixups};
 use macho_fixups::Fixup;
 use macho_layout::Placement;
 use macho_object::File;
 use macho_places::file_offset;
-
-/// The bytes of a stub.
-const STUB_BYTES: usize = 12;
 
 /// There are fewer slots and fewer stubs than numbers of 32 bits tell.
 const GREATEST_COUNT: usize = u32::MAX as usize;

@@ -68,17 +68,11 @@ pub enum InputView<'a> {
     Stub(&'a str),
 }
 
-fn some_has_nul(paths: &[String]) -> bool
-    ensures { result ≡ list_any (λ path. has_zero (string_bytes path)) paths.now }
-{
-    paths.iter().any(|path| has_nul(path.as_bytes()))
-}
-
 /// Whether a NUL stands in one of the paths.
 fn any_has_nul(paths: &[String]) -> bool
     ensures { result ≡ list_any has_zero (map string_bytes paths.now) }
 {
-    some_has_nul(paths)
+    paths.iter().any(|path| has_nul(path.as_bytes()))
 }
 
 /// The bytes of the paths.

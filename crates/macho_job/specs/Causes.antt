@@ -140,7 +140,7 @@ JobFails told s paths old new Write = CountRose old.writes new.writes
 JobFails told s paths old new Print = CountRose old.prints new.prints
 JobFails told s paths old new OutOfMemory = Unit {0}
 
--- a fault of the words: that of the first which breaks its row
+-- a fault of the words: that of the first argument that is not accepted
 abbrev pub WordsFail : List (List ℕ) → Fault → Type 0
 WordsFail words (Words fault) = IsRefused words fault
 WordsFail words OutOfMemory = Unit {0}

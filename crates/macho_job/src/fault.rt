@@ -48,9 +48,9 @@ pub enum Fault {
         /// Why.
         error: LinkError,
     },
-    /// A word breaks its row.
+    /// An argument is not accepted.
     Words {
-        /// The first such word, and how.
+        /// The first such argument, by its index among the words, and why.
         fault: ArgsFault,
     },
     /// A read failed.

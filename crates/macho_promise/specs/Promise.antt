@@ -23,9 +23,11 @@ use Rattle.macho_promise.specs.FixupsSay.{FixupsSay}
 
 -- Where things are, beside `IsPlaced`: of the link and the placement alone.
 pub record IsLaidOut (l : Link) (counts : Counts) (p : Placed) : Type 0 where
-  -- parts stand in the stated order, each as low as it may
+  -- parts stand in the stated order
   pub order : StandInOrder l counts p
+  -- each part begins as low as it may, and each segment ends with the page of what it holds
   pub least : AreLeast l counts p
+  -- the first segment's file offset is 0, and each table, also an empty one, lies in the file bytes of `__LINKEDIT`
   pub low : IsLow p
   -- the output sections are those of the link, with all that their headers say
   pub sections : p.output_sections ≡ output_sections_for l counts p
@@ -41,20 +43,28 @@ pub record Agrees (l : Link) (counts : Counts) (b : List ℕ) (p : Placed) : Typ
 pub record Tells (l : Link) (b : List ℕ) (p : Placed) : Type 0 where
   -- it writes the slots and the pointers that move or lead to imports, and no other word
   pub chain : ChainIsWhole l b p
+  -- the import table has the entries of the link, in order, each with its library, name and addend
   pub imports : ImportTableSays l b
+  -- the file names the libraries that the link needs, in order
   pub libraries : LibrariesSay l b
+  -- look-up of a name in the exports trie finds exactly what it is exported as
   pub exports : TrieSays l b p
+  -- there is one offset for each initializer, in order, which leads to it
   pub initializers : InitOffsetsSay l b p
+  -- of the headers of sections with initial values of thread-local variables the first begins the template, and the last ends it
   pub template : TemplateHeaders b p
+  -- look-up of an offset in the unwind information finds exactly what its entry says
   pub unwind : UnwindSays l b p
 
 -- What the file says of itself, byte for byte. Its unwind information has so many bytes.
 pub record IsWritten (l : Link) (counts : Counts) (uuid : List ℕ) (b : List ℕ) (p : Placed) (unwind : ℕ) : Type 0 where
   -- header and load commands, with every field
   pub head : HeadSays l counts uuid b p
+  -- the file has one UUID, which is this one with its version and variant set
   pub uuid_is : UuidSays uuid b
   -- the fixup table, and the words of its chains
   pub fixups : FixupsSay l b p
+  -- the entries of the symbol table and the names of the string table, to the last byte
   pub symbols : SymbolsSay l counts b p
   -- the digests are those of the final bytes
   pub signed : IsSigned l b
@@ -90,12 +100,15 @@ pub record IsAnswer (l : Link) (counts : Counts) (uuid : List ℕ) (b : List ℕ
 
 -- The sizes that a placement kept by a refusal has: those of the link, but 2 ^ 32 for unwind information where its bound is more.
 pub record AreKeptCounts (l : Link) (counts : Counts) : Type 0 where
+  -- the sizes of the link
   pub whole : Counts
   pub are : AreCounts l whole
+  -- those that are kept
   pub capped : counts ≡ record whole { unwind = min whole.unwind (2 ^ 32) }
 
 -- A placement that is kept by a refusal is placed as that of an answer is.
 pub record IsKept (l : Link) (p : Placed) : Type 0 where
+  -- the sizes by which it was placed
   pub counts : Counts
   pub counted : AreKeptCounts l counts
   -- each part has its place

@@ -45,7 +45,7 @@ word_name inputs lists word =
     option_map_or name_of_input (find (λ input. word_of input == word) inputs)
     (option_map_or (λ list. list.1) (find (λ list. list.0 == word) lists) [])
 
--- a word that breaks its row: its index, and how
+-- an argument that is not accepted: its index, and why
 abbrev pub broken_word : ArgsFault → ℕ × List ℕ
 broken_word (words.MissingValue word) = (word, codes "MissingValue")
 broken_word (words.Unknown word) = (word, codes "Unknown")

@@ -2,12 +2,11 @@
 ghost use Rattle.std.specs.Prelude.{◌≡◌, true, false};
 ghost use Rattle.macho_model.specs.Targets.{is_defined};
 ghost use Rattle.macho_model.specs.Rows.{has_form, is_none, defined_or_import, takes_offset, load_fits};
-ghost use Rattle.macho_model.specs.Words.{is_add, is_load_store};
 ghost use Rattle.macho_survey.specs.steps.Supported.{difference_in, addend_in, pointer_in, called_in, page_load};
 ghost use Rattle.macho_survey.specs.steps.Supported.{offset_load, slot_reference_in, reference_in, supported_in};
 
 use crate::pairs::Seen;
-use macho_arm64::{FieldSize, fits_instruction, is_ldr};
+use macho_arm64::{FieldSize, fits_instruction, is_add, is_ldr, is_load_store};
 use macho_model::Target;
 use macho_needs::is_import;
 use macho_records::{
@@ -42,20 +41,6 @@ fn has_form(rel: RelocationInfo, length: u8, pcrel: bool) -> bool
     ensures { result ≡ has_form rel length pcrel true }
 {
     rel.r_length == length && rel.r_pcrel == pcrel && rel.r_extern
-}
-
-/// Whether a word is an ADD of an immediate that is not shifted.
-fn is_add(word: u32) -> bool
-    ensures { result ≡ is_add word }
-{
-    (word >> 22) & 0x3ff == 0b1001000100
-}
-
-/// Whether a word is a load or store with an unsigned offset.
-fn is_load_store(word: u32) -> bool
-    ensures { result ≡ is_load_store word }
-{
-    (word >> 27) & 7 == 0b111 && (word >> 24) & 3 == 0b01
 }
 
 /// Whether a word takes an offset in a page.

@@ -61,7 +61,7 @@ pub link-fails : (l : Link) (e : LinkError) (f : Fault) → RefusalStands l e �
 link-fails l e f stands (inl told) = subst (IsLinkFault l) (sym told.1) (record { fails = λ told s paths old new links. tt })
 link-fails l e f stands (inr told) = subst (IsLinkFault l) (sym told.1) (link-kept l e stands told.0)
 
--- a refusal of the words is the first that breaks its row
+-- a refusal of the words is that of the first argument that is not accepted
 pub words-fail : (words : List (List ℕ)) (e : ArgsFault) (f : Fault) → (e ≡ arg.OutOfMemory) ⊎ IsRefused words e
     → Tells e arg.OutOfMemory (fault.Words e) f → WordsFail words f
 words-fail words e f why (inl told) = subst (WordsFail words) (sym told.1) tt

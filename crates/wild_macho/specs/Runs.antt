@@ -67,10 +67,14 @@ LeavesNothing (Some fault) old new = (new.outside.store ≡ old.outside.store) �
 
 -- THE image of a run by settings: that of their job; what stands under the paths after it, and what was printed.
 pub record HasImage (s : Settings) (old new : Devices) (fault : Option Fault) (image : LinkedImage) : Type 0 where
+  -- the job of the settings, by the files as they were before the run
   pub job : Job
   pub is : IsJob old.outside.store s job
+  -- the image is as promised, and has the identifier of the job
   pub is_image : IsImageOf job.link job.uuid image
+  -- the output path holds the image, after a failed write the first of it; every other path holds what it held
   pub left : LeavesImage fault old.outside.store new.outside.store job.output image.bytes.items
+  -- the lines that the settings ask for are printed, after a failed print the first of them
   pub lines : LeavesLines fault old.printed new.printed (run_lines s job.link job.paths image)
 
 -- A fault of settings has its cause, by the files that were read, and its line is told.
@@ -90,14 +94,20 @@ pub record RunsBy (s : Settings) (old new : Devices) (before after : ErrorSink) 
   -- paths that can't be written are told before an input is read, where there is memory
   pub named : bad_name (link_of s) ≡ true → (ran.fault ≡ Some (LinkFault BadName)) ⊎ (ran.fault ≡ Some OutOfMemory)
 
--- A run whose words are refused: the fault is that of the first which breaks its row, or want of memory; it is told, and nothing changes.
+-- A run whose words are refused: the fault is that of the first argument that is not accepted, or want of memory; it is told, and
+-- nothing changes.
 pub record RefusesWords (words : List (List ℕ)) (old new : Devices) (before after : ErrorSink) (ran : Ran) : Type 0 where
+  -- there is a fault, and the status is its own
   pub fault : Fault
   pub is : ran.fault ≡ Some fault
   pub status : ran.status ≡ status_of (Some fault)
+  -- there is no image
   pub image : ran.image ≡ None
+  -- the fault has its cause in the words
   pub why : WordsFail words fault
+  -- no file changes, and nothing is printed
   pub same : new ≡ old
+  -- the line of the fault is told; no input and no export list is known that it could name
   pub line : IsLineTold before.taken after.taken before.faults after.faults (fault_line [] [] [] fault)
 
 -- the words say these settings, by what is told of the files outside
