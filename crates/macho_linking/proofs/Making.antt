@@ -2,11 +2,12 @@
 --
 -- Their ranges end in the file and have the room of the texts. The symbols of all rows are kept, so they are known. Then each text is
 -- put at the front of its range.
-use Rattle.std.proofs.Common.{◌≡◌, ℕ, ◌-◌, ◌*◌, List, length, refl, ap, ◌∙◌, sym, subst, arith, All, Option, Some, None}
+use Rattle.std.proofs.Common.{◌≡◌, ℕ, ◌+◌, ◌-◌, ◌*◌, ◌≤◌, ◌++◌, List, length, drop, refl, ap, ◌∙◌}
+use Rattle.std.proofs.Common.{sym, subst, arith, All, Option, Some, None}
 use Rattle.std.specs.Prelude.{map, IfSome}
-use borrow.Rule.Slice.PartMut.{put_mid}
+use borrow.Rule.Slice.PartMut.{put_mid, mid_of}
 use Rattle.macho_bytes.specs.Texts.{put}
-use Rattle.macho_bytes.proofs.Writes.{put_mid-whole}
+use Rattle.macho_bytes.proofs.Writes.{put_mid-front, put_mid-whole}
 use Rattle.macho_model.specs.Links.{Link}
 use Rattle.macho_model.specs.Addresses.{offset_in_file}
 use Rattle.macho_model.specs.WrittenSum.{INITIALIZER_SIZE}
@@ -66,12 +67,25 @@ offsets_put l b at k text out h long place whole says = record {
     fits : RangesFit l (placement_of b)
     fits = ranges_fit l b h
 
-pub unwind_put : (l : Link) (b : Planned) (at : ℕ) (text written out now : List ℕ) → IsPlanned l b
-    → at ≡ offset_in_file (placement_of b) (placement_of b).unwind.start → written ≡ text → now ≡ put at written out
-    → IsUnwindMade l (placement_of b) text → UnwindIsPut l (placement_of b) out now
-unwind_put l b at text written out now h place same is says = record {
+-- a text that is put at the front of `&mut out[at..]` is put at the place
+front_put : (at k : ℕ) (text written out : List ℕ) → at + length text ≤ length out → k ≡ length out - at
+    → written ≡ put 0 text (mid_of at k out) → put_mid at k out written ≡ put at text out
+unfolding put
+front_put at k text written out fits behind is =
+    let same : 0 + length text ≡ length text = omega arith in
+    put_mid-front at k out text written behind fits (is ∙ ap (λ (n : ℕ). text ++ drop n (mid_of at k out)) same)
+
+pub unwind_put : (l : Link) (b : Planned) (at k : ℕ) (text written out : List ℕ) → IsPlanned l b
+    → length out ≡ (placement_of b).linkedit.signature.end
+    → at ≡ offset_in_file (placement_of b) (placement_of b).unwind.start → k ≡ length out - at → written ≡ put 0 text (mid_of at k out)
+    → IsUnwindMade l (placement_of b) text → UnwindIsPut l (placement_of b) out (put_mid at k out written)
+unwind_put l b at k text written out h long place behind is says = record {
   text = text;
-  is = is ∙ ap (λ (t : List ℕ). put at t out) same ∙ ap (λ (a : ℕ). put a text out) place;
-  fits = (ranges_fit l b h).unwind text says;
+  is = front_put at k text written out (omega (arith, fits.unwind text says, fits.unwind_end, place, long)) behind is
+      ∙ ap (λ (a : ℕ). put a text out) place;
+  fits = fits.unwind text says;
   says = says;
 }
+  where
+    fits : RangesFit l (placement_of b)
+    fits = ranges_fit l b h

@@ -10,10 +10,9 @@ ghost use Rattle.macho_linking.specs.steps.Written.{OffsetsArePut, UnwindIsPut};
 
 use crate::fault::Unwritten;
 use crate::planned::Planned;
-use macho_composed::{file_offset, fill_contents, unwind_text, write_initializers, write_words};
+use macho_composed::{file_offset, fill_contents, unwind_section, write_initializers, write_words};
 use macho_fields::Places;
 use macho_fixups::Fixup;
-use macho_numbers::put_text;
 use std::alloc::Global;
 
 /// The bytes of an initializer's offset.
@@ -82,7 +81,7 @@ pub(crate) fn write_unwind<P: Places>(
 {
     let placement = &b.sized.placement;
     let at = file_offset(&placement.segments, placement.unwind.start) as usize;
-    let text = unwind_text(alloc, places, &b.read.needs.tables, &b.read.entries)?;
-    put_text(out, at, &text);
+    let section = unwind_section(alloc, places, &b.read.needs.tables, &b.read.entries)?;
+    section.write(&mut out[at..]);
     Ok(())
 }
