@@ -32,16 +32,20 @@ compiled x86_64-apple-macos14 x86.o
 compiled x86_64-linux-gnu elf.o
 compiled $mac lto.o -flto
 "$ar" rc libtwice.a twice.o && "$lipo" -create twice.o x86.o -output fat.o || fail "an archive or a universal file isn't made"
-head -c -1 "$top/examples/greeting/greet.o" >cut.o || fail "there is no object to cut"
+head -c -1 "$top/examples/greeting/greet.o" >cut.o && head -c 15 twice.o >stump.o || fail "there is no object to cut"
 mkdir folder
 both='[ arm64-macos, arm64e-macos ]'
 { stub '--- !tapi-tbd' 'tbd-version: 4' "targets: $both" && printf '  - targets: %s\n    symbols: [ _printf ]\n' "$both"; } >libSystem.tbd
 sed 's/, arm64e-macos//' libSystem.tbd >plain.tbd
+head -c -5 libSystem.tbd >cut.tbd
 { stub '--- !tapi-tbd-v3' 'archs: [ arm64 ]' 'platform: macosx' && printf '  - archs: [ arm64 ]\n    symbols: [ _printf ]\n'; } >v3.tbd
 printf '{ "main_library": {}, "tapi_tbd_version": 5 }\n' >v5.tbd
 
-"$top/link" -o right main.o twice.o libSystem.tbd || fail "what is right is refused"
-python3 "$top/checks/mistakes.py" "$top/link" "$top/docs/USAGE.md" || exit 1
-clang --target=$mac --ld-path="$top/link" -mlinker-version=520 -L. -o called main.c twice.c && [ -s called ] ||
-    fail "clang does not link by this linker"
-echo "mistakes: clang links by this linker"
+# What is right, as in the first section of the page.
+macos='-platform_version macos 14.0 14.0'
+"$top/link" $macos -o right main.o twice.o libSystem.tbd || fail "what is right is refused"
+"$top/link" $macos -dylib -install_name @rpath/libtwice.dylib -o libtwice.dylib twice.o || fail "the library is refused"
+"$top/link" $macos -rpath @loader_path -o right main.o libtwice.dylib libSystem.tbd || fail "a program over the library is refused"
+sed "s,'/usr.*','@rpath/libtwice.dylib',; s/_printf/_twice/" libSystem.tbd >libtwice.tbd
+"$top/link" $macos -rpath @loader_path -o over main.o libtwice.tbd libSystem.tbd || fail "a program over a stub is refused"
+python3 "$top/checks/mistakes.py" "$top/link" "$top/docs/USAGE.md"
