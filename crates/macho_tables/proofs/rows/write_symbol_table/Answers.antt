@@ -1,6 +1,6 @@
 -- The object of each symbol is there, and can have the symbol's row; its sections' numbers stand at its place. That row is the next one of
 -- the table, and there is room for it, since all names were counted.
-use Rattle.std.proofs.Common.{◌<◌, ℕ, List, [], length, get_or, sym, ap, subst, ◌∙◌, arith}
+use Rattle.std.proofs.Common.{◌≡◌, ◌<◌, ℕ, List, [], length, get_or, sym, ap, subst, ◌∙◌, arith}
 use Rattle.std.specs.Option.{option_copied}
 use Rattle.macho_model.specs.Objects.{num_symbols, symbol_name}
 use Rattle.macho_layout.specs.Placements.{placed_of}
@@ -29,8 +29,8 @@ place_of-place-requires-clause-there g c =
     c.as_slice-symbol-items.ensures.value c.loop-symbol-test.true in
     object_there some.0 c.args.objects.now (id_of_symbol s) some.2.objects_are (in_table some.0 (id_of_symbol s) listed).there
 
-pub row_of-requires-clause-symbol : goal.row_of-requires-clause-symbol
-row_of-requires-clause-symbol g c =
+pub row_of-row-requires-clause-symbol : goal.row_of-row-requires-clause-symbol
+row_of-row-requires-clause-symbol g c =
     let some = c.requires.link in
     let s = get_or c.as_slice-symbol-items.result.now c.loop-symbol.symbol-index none in
     let listed = item_listed some.0 c.args.listed.now c.as_slice-symbol-items.result.now c.loop-symbol.symbol-index none some.2.listed_are
@@ -39,8 +39,8 @@ row_of-requires-clause-symbol g c =
     (option_copied c.args.lists) c.place_of-place.result c.index-objects-place.result (id_of_symbol s) some.2 listed
     c.place_of-place.ensures c.index-objects-place.is).0
 
-pub row_of-requires-clause-known : goal.row_of-requires-clause-known
-row_of-requires-clause-known g c =
+pub row_of-row-requires-clause-known : goal.row_of-row-requires-clause-known
+row_of-row-requires-clause-known g c =
     let some = c.requires.link in
     let s = get_or c.as_slice-symbol-items.result.now c.loop-symbol.symbol-index none in
     let listed = item_listed some.0 c.args.listed.now c.as_slice-symbol-items.result.now c.loop-symbol.symbol-index none some.2.listed_are
@@ -53,8 +53,8 @@ row_of-requires-clause-known g c =
     c.args.objects.now c.index-objects-place.result c.requires.symbols
     (c.place_of-place.result, c.place_of-place.ensures.within, sym c.index-objects-place.is) s.symbol can.among
 
-pub row_of-requires-clause-size : goal.row_of-requires-clause-size
-row_of-requires-clause-size g c =
+pub row_of-row-requires-clause-size : goal.row_of-row-requires-clause-size
+row_of-row-requires-clause-size g c =
     let some = c.requires.link in
     let now = c.as_slice-symbol-items.result.now in
     let s = get_or now c.loop-symbol.symbol-index none in
@@ -64,15 +64,15 @@ row_of-requires-clause-size g c =
     (object_is some.0 c.args.objects.now s.file c.place_of-place.result c.index-objects-place.result some.2.objects_are
     c.place_of-place.ensures c.index-objects-place.is)
 
-pub row_of-requires-clause-told : goal.row_of-requires-clause-told
-row_of-requires-clause-told g c =
+pub row_of-row-requires-clause-told : goal.row_of-row-requires-clause-told
+row_of-row-requires-clause-told g c =
     c.deref.ensures.value
     ∙ numbers_of_object (placed_of c.args.placement.now) c.args.objects.now c.in_ok-numbers.numbers.items c.place_of-place.result
     c.index-objects-place.result c.index.result.now c.in_ok-numbers.ensures c.place_of-place.ensures.within c.index-objects-place.is
     c.index.ensures
 
-pub begin-requires : goal.begin-requires
-begin-requires g c = omega (arith, c.len.ensures, c.requires.room, c.requires.link.2.listed_are.strings_are)
+pub begin-table-requires : goal.begin-table-requires
+begin-table-requires g c = omega (arith, c.len.ensures, c.requires.room, c.requires.link.2.listed_are.strings_are)
 
 pub push-requires : goal.push-requires
 push-requires g c =
@@ -95,7 +95,8 @@ push-requires g c =
 
 pub loop-symbol-init : goal.loop-symbol-init
 loop-symbol-init g c l counts to =
-    subst (λ (m : ℕ). AreRowsWritten m [] c.begin-table.result c.args.out.now c.begin-table.new.out) c.len.ensures c.begin-table.ensures.written
+    let many : c.len.result ≡ length c.args.listed.now.symbols.items = omega (arith, c.len.ensures) in
+    subst (λ (m : ℕ). AreRowsWritten m [] c.begin-table.result c.args.out.now c.begin-table.new.out) many c.begin-table.ensures.written
 
 pub loop-symbol-preserved : goal.loop-symbol-preserved
 loop-symbol-preserved g c l counts to =
