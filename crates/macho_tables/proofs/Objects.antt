@@ -3,7 +3,7 @@
 -- Objects are listed in the order of the inputs, so their numbers rise. A symbol of the table is one of an input that is an object, which
 -- is
 -- listed under its number with its bytes.
-use Rattle.std.proofs.Common.{◌≡◌, ℕ, ◌+◌, ◌^◌, ◌<◌, ◌≤◌, false, List, [], ◌∷◌, map, take, length, get_or, refl, sym, ap, subst, ◌∙◌, arith}
+use Rattle.std.proofs.Common.{◌≡◌, ℕ, ◌+◌, ◌<◌, ◌≤◌, false, List, [], ◌∷◌, map, take, length, get_or, refl, sym, ap, subst, ◌∙◌, arith}
 use Rattle.std.proofs.Common.{All, Contains}
 use Rattle.std.specs.Prelude.{sum_by, Option}
 use Rattle.std.specs.List.{filter_map, enumerate_from}
