@@ -17,7 +17,7 @@ use Rattle.macho_model.specs.Links.{Link, Input, Object, Dylib, Stub, object_of}
 use Rattle.macho_model.specs.Resolution.{SymbolId, name_at, symbols_of}
 use Rattle.macho_model.specs.Placement.{Placed}
 use Rattle.macho_model.specs.SymbolTable.{table_symbols}
-use Rattle.macho_linkedit.specs.TableRows.{SymbolRow, row_of}
+use Rattle.macho_linkedit.specs.TableRows.{row_of}
 use Rattle.macho_exports.specs.Entries.{ListEntries}
 use Rattle.macho_symbols.specs.Kept.{symbol_id}
 use Rattle.macho_promise.specs.Sizes.{text_size}
