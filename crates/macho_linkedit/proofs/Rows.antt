@@ -130,7 +130,7 @@ pub written_more : (symbols : ℕ) (rows : List SymbolRow) (r : SymbolRow) (e : 
     → now ≡ put (w.strings + w.name + length r.name) (0 ∷ []) with_name
     → next.entry ≡ w.entry + 16 → next.strings ≡ w.strings → next.name ≡ w.name + (length r.name + 1)
     → AreRowsWritten symbols (rows ++ r ∷ []) next before now
-written_more symbols rows r e w next before out with_entry with_name now old e_is good space fits is_entry is_name is_end entry strings name =
+written_more symbols rows r e w next before out first second now old e_is good space fits put_entry put_name put_end entry strings name =
     record {
       table = record { entries = old.table.entries ++ e ∷ []; strings = old.table.strings ++ (r.name ++ 0 ∷ []) };
       rows_are = rows_more rows r old.table e old.rows_are (e_is ∙ ap (λ (n : ℕ). entry_for n r) old.name);
@@ -147,8 +147,8 @@ written_more symbols rows r e w next before out with_entry with_name now old e_i
       room = omega (arith, entry, strings, space);
       inside = omega (arith, strings, name, fits, same);
       is =
-          is_end ∙ ap (put (w.strings + w.name + length r.name) (0 ∷ [])) (is_name ∙ ap (put (w.strings + w.name) r.name)
-          (is_entry ∙ ap (put w.entry (spelling symtab_entry e)) old.is))
+          put_end ∙ ap (put (w.strings + w.name + length r.name) (0 ∷ [])) (put_name ∙ ap (put (w.strings + w.name) r.name)
+          (put_entry ∙ ap (put w.entry (spelling symtab_entry e)) old.is))
           ∙ both_grow w.strings w.entry (w.strings + w.name) x (spelling symtab_entry e) old.table.strings r.name (0 ∷ []) before
           (omega (arith, old.entry, long)) (omega (arith, good.long, space)) (omega (arith, old.name)) (omega (arith, fits, same))
           ∙ ap (λ (n : ℕ). put n (old.table.strings ++ (r.name ++ 0 ∷ [])) (put 0 (x ++ spelling symtab_entry e) before)) (sym strings)
@@ -167,7 +167,8 @@ written_more symbols rows r e w next before out with_entry with_name now old e_i
     same = written_length symbols rows w before out old
 
 -- all of them are the table
-pub written_all : (symbols : ℕ) (rows : List SymbolRow) (w : SymbolWriter) (before now : List ℕ) → symbols ≡ length rows → AreRowsWritten symbols rows w before now
+pub written_all : (symbols : ℕ) (rows : List SymbolRow) (w : SymbolWriter) (before now : List ℕ) → symbols ≡ length rows
+    → AreRowsWritten symbols rows w before now
     → IsTableWritten rows before now
 unfolding table_text
 written_all symbols rows w before now many old = record {

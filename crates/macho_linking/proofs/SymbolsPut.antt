@@ -3,7 +3,7 @@ use Rattle.std.proofs.Common.{◌≡◌, ℕ, ◌+◌, ◌-◌, ◌*◌, ◌^◌
 use borrow.Rule.Slice.PartMut.{put_mid}
 use Rattle.std.specs.List.{flat_map}
 use Rattle.std.proofs.lemmas.List.{append-nil, drop_all, length-append, length-drop, length-map, length-take}
-use Rattle.macho_bytes.specs.Layouts.{spelling, size_of, ReadsBack}
+use Rattle.macho_bytes.specs.Layouts.{spelling, size_of}
 use Rattle.macho_bytes.specs.Texts.{put}
 use Rattle.macho_bytes.proofs.Puts.{put-put}
 use Rattle.macho_bytes.proofs.Writes.{put_mid-whole}

@@ -3,7 +3,7 @@
 -- Objects are listed in the order of the inputs, so their numbers rise. A symbol of the table is one of an input that is an object, which
 -- is
 -- listed under its number with its bytes.
-use Rattle.std.proofs.Common.{◌≡◌, ℕ, ◌+◌, ◌^◌, ◌<◌, ◌≤◌, false, List, [], ◌∷◌, map, take, length, get_or, refl, sym, ap, subst, ◌∙◌, arith}
+use Rattle.std.proofs.Common.{◌≡◌, ℕ, ◌+◌, ◌<◌, ◌≤◌, false, List, [], ◌∷◌, map, take, length, get_or, refl, sym, ap, subst, ◌∙◌, arith}
 use Rattle.std.proofs.Common.{All, Contains}
 use Rattle.std.specs.Prelude.{sum_by, Option}
 use Rattle.std.specs.List.{filter_map, enumerate_from}
@@ -17,7 +17,7 @@ use Rattle.macho_model.specs.Links.{Link, Input, Object, Dylib, Stub, object_of}
 use Rattle.macho_model.specs.Resolution.{SymbolId, name_at, symbols_of}
 use Rattle.macho_model.specs.Placement.{Placed}
 use Rattle.macho_model.specs.SymbolTable.{table_symbols}
-use Rattle.macho_linkedit.specs.TableRows.{SymbolRow, row_of}
+use Rattle.macho_linkedit.specs.TableRows.{row_of}
 use Rattle.macho_exports.specs.Entries.{ListEntries}
 use Rattle.macho_symbols.specs.Kept.{symbol_id}
 use Rattle.macho_promise.specs.Sizes.{text_size}
