@@ -192,9 +192,9 @@ fn subtrahend_of<P: Places>(places: &P, file: u32, before: Option<RelocationInfo
 /// A relocation, with the one in front of it.
 #[derive(Clone, Copy)]
 pub(crate) struct Near {
-    /// Its number.
+    /// Its number in its section's table, from 0.
     pub index: u32,
-    /// The relocation.
+    /// What it says.
     pub relocation: RelocationInfo,
     /// The one in front, where there is one.
     pub previous: Option<RelocationInfo>,
