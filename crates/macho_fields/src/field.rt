@@ -16,11 +16,11 @@ use macho_records::{ARM64_RELOC_UNSIGNED, RelocationInfo};
 /// A field of a section.
 #[derive(Clone, Copy)]
 pub(crate) struct Field {
-    /// The number of its relocation.
+    /// The number of its relocation in the section's table, from 0.
     pub relocation: u32,
-    /// Where it stands in its section.
+    /// Where it stands: bytes from the start of its section.
     pub offset: u32,
-    /// Its bytes.
+    /// How many bytes it has.
     pub width: u8,
     /// The type of its relocation.
     pub r_type: u8,
