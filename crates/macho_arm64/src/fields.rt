@@ -37,8 +37,11 @@ pub fn fits_instruction(size: FieldSize, word: u32) -> bool
 /// Writes a value to a field of 4 or 8 bytes, or to the immediate of the instruction at a place.
 ///
 /// The value is the number that the field then holds, modulo 2^64: a distance in bytes for a branch, a distance of
-/// pages in bytes for an ADRP, an offset in a page for an ADD, a load or a store. Nothing is written where it does not
-/// fit.
+/// pages in bytes for an ADRP, an offset in a page for an ADD, a load or a store.
+///
+/// # Errors
+///
+/// The value does not fit the field, or is no multiple of what the field counts in. Nothing is written then.
 pub fn write_field(
     size: FieldSize,
     bytes: &mut [u8],

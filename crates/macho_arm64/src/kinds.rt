@@ -119,7 +119,11 @@ const KINDS: [KindRow; 13] = [
 ];
 
 impl MachOAArch64 {
-    /// The kind of a relocation, by its type, length and pcrel. Refused where there is no such relocation.
+    /// The kind of a relocation, by its type, length and pcrel.
+    ///
+    /// # Errors
+    ///
+    /// There is no relocation of this type, length and pcrel.
     pub fn relocation_from_raw(rel: RelocationInfo) -> Result<RelocationKindInfo, UnknownRelocation>
         ensures found { IfOk result (λ info. info_of rel ≡ Some info) }
         ensures why { OnErr result (info_of rel ≡ None) }

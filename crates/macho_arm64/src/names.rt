@@ -8,6 +8,10 @@ use std::alloc::{AllocError, Global};
 
 /// What a relocation's type is printed as: `ARM64_RELOC_BRANCH26` of type 2, and `Unknown arm64 relocation type 0xc` of
 /// type 12, which has no name.
+///
+/// # Errors
+///
+/// There is not enough memory.
 pub fn rel_type_to_string(alloc: Global, rel: RelocationInfo) -> Result<String, AllocError>
     ensures { IfOk result (λ s. string_bytes s ≡ type_text rel.r_type) }
 {

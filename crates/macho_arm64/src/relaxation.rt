@@ -66,7 +66,11 @@ impl Relaxation {
         }
     }
 
-    /// Relaxes the instruction at a place. Nothing is changed where it is no load that can be made an ADD.
+    /// Relaxes the instruction at a place.
+    ///
+    /// # Errors
+    ///
+    /// The instruction is no load that can be made an ADD. Nothing is changed then.
     pub fn apply(&self, bytes: &mut [u8], at: usize) -> Result<(), NotALoad>
         requires { at + 4 ≤ length bytes.old }
         ensures found { OnOk result (can_relax self.now (le_at 4 bytes.old at) ≡ true) }

@@ -36,7 +36,11 @@ pub enum PltFault {
 }
 
 /// Writes the stub at an address that goes through the slot at another. The entry has the stub's 12 bytes, and a slot's
-/// address is a multiple of 8. Nothing is written where the slot is out of reach.
+/// address is a multiple of 8.
+///
+/// # Errors
+///
+/// The slot is out of reach: not above the stub, or 4 GiB or more above the stub's page. Nothing is written then.
 pub fn write_plt_entry(
     plt_entry: &mut [u8],
     got_address: u64,

@@ -12,7 +12,7 @@ use std::alloc::{AllocError, Global};
 pub struct GivenFile<'a> {
     /// The path under which the run finds it.
     pub path: &'a str,
-    /// Its bytes.
+    /// What the run finds there.
     pub bytes: Vec<u8>,
 }
 

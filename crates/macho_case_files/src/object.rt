@@ -247,7 +247,11 @@ fn symbols_of<'a>(alloc: Global, lines: &[Line<'a>]) -> Result<Vec<Symbol<'a>>, 
     Ok(symbols)
 }
 
-/// The bytes of an object.
+/// The bytes of the object that some lines of a case describe.
+///
+/// # Errors
+///
+/// A line can't be read, or there is not enough memory.
 pub(crate) fn bytes_of_object(alloc: Global, lines: &[Line<'_>]) -> Result<Vec<u8>, Unread> {
     let held = held_of(alloc, lines)?;
     let sections = sections_of(alloc, lines, &held)?;

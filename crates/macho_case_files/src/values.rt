@@ -48,7 +48,7 @@ pub(crate) fn word_number(word: &str) -> Result<u32, Unread> {
     Ok((number(word, 0xffff_ffff)? % 0x1_0000_0000) as u32)
 }
 
-/// A byte.
+/// A number of 8 bits.
 pub(crate) fn byte(word: &str) -> Result<u8, Unread> {
     Ok((number(word, 0xff)? % 0x100) as u8)
 }

@@ -10,7 +10,7 @@ use std::alloc::{AllocError, Global};
 /// What a run answered.
 #[derive(Clone, Copy)]
 pub struct Came<'a> {
-    /// Its status.
+    /// The status that it ended with.
     pub status: u8,
     /// What stands on standard output.
     pub printed: &'a [u8],

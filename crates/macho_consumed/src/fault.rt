@@ -5,27 +5,28 @@ ghost use Rattle.macho_consumed.specs.declared.fault.ConsumedFault.TheVariants.{
 use macho_model::UnwindRule;
 use std::alloc::{AllocError, AllocFailed};
 
-/// Why the consumed sections of a link are refused. Files are told by their numbers, sections from 0.
+/// Why the consumed sections of a link are refused. Objects are told by their numbers among the inputs, sections by those in their
+/// objects, each from 0.
 #[derive(Clone, Copy, Debug, PartialEq, Eq, Drop)]
 pub enum ConsumedFault {
     /// A section of initializers breaks its rules.
     BadInitializer {
-        /// The file.
+        /// The number of the object.
         file: u32,
-        /// The section in it.
+        /// The number of the section in it.
         section: u32,
-        /// Where in the section: the slot, or the relocation between slots; 0 for the section as a whole.
+        /// Bytes from the section's start: to the slot, or to the relocation between slots; 0 for the section as a whole.
         offset: u64,
     },
     /// An entry of compact unwind information breaks a rule.
     BadUnwind {
-        /// The file.
+        /// The number of the object.
         file: u32,
-        /// The section in it.
+        /// The number of the section in it.
         section: u32,
-        /// The number of the entry; of a cut section that of the entry that is cut.
+        /// The number of the entry in the section, from 0; of a cut section that of the entry that is cut.
         entry: u32,
-        /// The rule.
+        /// The rule that it breaks.
         rule: UnwindRule,
     },
     /// There is not enough memory.

@@ -12,14 +12,14 @@ use macho_object::RelocationList;
 use macho_records::{ARM64_RELOC_UNSIGNED, RelocationInfo};
 use std::alloc::{AllocError, Global};
 
-/// What stands at a place.
+/// The relocations at a place.
 #[derive(Clone, Copy)]
 pub(crate) enum Cell {
-    /// Nothing.
+    /// There is none.
     Empty,
-    /// One relocation, by its number.
+    /// There is one, by its number in the section's table, from 0.
     One(u32),
-    /// Several.
+    /// There are two or more.
     Several,
 }
 

@@ -19,28 +19,29 @@ pub enum InputFault {
     Stub {
         /// The line that breaks it, from 1.
         line: u64,
-        /// The rule.
+        /// The rule that it breaks.
         rule: StubRule,
     },
 }
 
-/// A refusal of the linker, in the order in which refusals are told. Files, sections and relocations are numbered from 0.
+/// A refusal of the linker, in the order in which refusals are told. A file is told by its number among the inputs, a section by its
+/// number in its object, and a relocation by its number in its section's table, each from 0.
 #[derive(Drop)]
 pub enum LinkError {
     /// Two objects define a name strongly.
     DuplicateSymbol {
-        /// The name.
+        /// The name that they define, without the NUL behind it.
         name: Vec<u8>,
-        /// The file of one of them.
+        /// The number of one of the two objects.
         first: u32,
-        /// The file of the other.
+        /// The number of the other.
         second: u32,
     },
     /// A file uses a name that nothing defines.
     UndefinedSymbol {
-        /// The name.
+        /// The name that is used, without the NUL behind it.
         name: Vec<u8>,
-        /// The file that uses it.
+        /// The number of the object that uses it.
         file: u32,
     },
     /// An executable's entry is not defined in a carried section.
@@ -55,62 +56,62 @@ pub enum LinkError {
     },
     /// A section of initializers is broken.
     BadInitializer {
-        /// The file.
+        /// The number of the object among the inputs.
         file: u32,
-        /// The section in it.
+        /// The number of the section in it.
         section: u32,
         /// The place in the section, in bytes.
         offset: u64,
     },
     /// An unwind entry is broken.
     BadUnwind {
-        /// The file.
+        /// The number of the object among the inputs.
         file: u32,
-        /// The section in it.
+        /// The number of the section in it.
         section: u32,
-        /// The entry.
+        /// The number of the entry in the section, from 0; of a cut section that of the entry that is cut.
         entry: u32,
         /// The rule that it breaks.
         rule: UnwindRule,
     },
     /// A relocation is not supported: by its form, its pair, the instruction at its place or the kind of its target.
     UnsupportedRelocation {
-        /// The file.
+        /// The number of the object among the inputs.
         file: u32,
-        /// The section in it.
+        /// The number of the section in it.
         section: u32,
-        /// The relocation in its table.
+        /// The number of the relocation in the section's table.
         relocation: u32,
     },
     /// Two relocations of a section share a byte, and are no pair.
     OverlappingFields {
-        /// The file.
+        /// The number of the object among the inputs.
         file: u32,
-        /// The section in it.
+        /// The number of the section in it.
         section: u32,
-        /// The one that stands first in the table.
+        /// The number of the one that stands first in the table.
         first: u32,
-        /// The other.
+        /// The number of the other.
         second: u32,
     },
     /// The addend of a pointer to an import doesn't fit 32 bits.
     BindAddend {
-        /// The file.
+        /// The number of the object among the inputs.
         file: u32,
-        /// The section in it.
+        /// The number of the section in it.
         section: u32,
-        /// The relocation in its table.
+        /// The number of the relocation in the section's table.
         relocation: u32,
         /// The addend, modulo 2^64.
         addend: u64,
     },
     /// The loader can't write a pointer: by its segment, or, with a placement, by its address.
     FixupPlace {
-        /// The file.
+        /// The number of the object among the inputs.
         file: u32,
-        /// The section in it.
+        /// The number of the section in it.
         section: u32,
-        /// The relocation in its table.
+        /// The number of the relocation in the section's table.
         relocation: u32,
         /// The placement by which the pointer's place is bad.
         placement: Option<Placement>,

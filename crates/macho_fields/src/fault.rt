@@ -10,21 +10,21 @@ use std::alloc::{AllocError, AllocFailed};
 pub enum FillFault {
     /// The value of a field, or the way from a stub to its slot, does not fit.
     Range {
-        /// Where.
+        /// Where the value was to be written.
         at: Site,
     },
     /// The value of a pointer or a slot has no word that the loader could make it from.
     Rebase {
-        /// Where.
+        /// Where the value was to be written.
         at: Site,
     },
     /// A pointer that the loader writes crosses a page, or isn't at a multiple of four.
     Place {
-        /// The number of the file.
+        /// The number of the object among the inputs, from 0.
         file: u32,
         /// The number of the section in it, from 0.
         section: u32,
-        /// The number of the relocation in its table, from 0.
+        /// The number of the relocation in the section's table, from 0.
         relocation: u32,
     },
     /// A relocation has no row in the table of relocations; a link that was found sound has none.

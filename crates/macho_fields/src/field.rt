@@ -16,11 +16,11 @@ use macho_records::{ARM64_RELOC_UNSIGNED, RelocationInfo};
 /// A field of a section.
 #[derive(Clone, Copy)]
 pub(crate) struct Field {
-    /// The number of its relocation.
+    /// The number of its relocation in the section's table, from 0.
     pub relocation: u32,
-    /// Where it stands in its section.
+    /// Where it stands: bytes from the start of its section.
     pub offset: u32,
-    /// Its bytes.
+    /// How many bytes it has.
     pub width: u8,
     /// The type of its relocation.
     pub r_type: u8,
@@ -192,9 +192,9 @@ fn subtrahend_of<P: Places>(places: &P, file: u32, before: Option<RelocationInfo
 /// A relocation, with the one in front of it.
 #[derive(Clone, Copy)]
 pub(crate) struct Near {
-    /// Its number.
+    /// Its number in its section's table, from 0.
     pub index: u32,
-    /// The relocation.
+    /// What it says.
     pub relocation: RelocationInfo,
     /// The one in front, where there is one.
     pub previous: Option<RelocationInfo>,

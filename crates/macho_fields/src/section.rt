@@ -35,7 +35,7 @@ pub(crate) struct Source<'a, 'data> {
     pub list: &'a RelocationList<'data>,
     /// Its bytes there.
     pub bytes: &'a [u8],
-    /// Its place.
+    /// Where it is placed: its segment, and the address of its first byte.
     pub place: PlacedSection,
     /// Whether it describes thread-local variables.
     pub descriptors: bool,

@@ -14,7 +14,7 @@ use macho_arm64::write_plt_entry;
 use macho_model::{Site, Stub, Target};
 use macho_numbers::put_text;
 
-/// The bytes of a stub.
+/// How many bytes a stub has: three instructions.
 pub const STUB_BYTES: usize = 12;
 
 /// The words of a stub.

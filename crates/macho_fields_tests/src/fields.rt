@@ -232,7 +232,7 @@ fn instructions_reach_their_targets_or_are_refused(rt: HostRuntime) -> Result<()
     Ok(())
 }
 
-/// An import.
+/// An import, by its number in the link.
 const IMPORT: Target = Target::Import { id: 3 };
 
 /// Look-ups of an import with a stub and a slot.
@@ -436,7 +436,7 @@ fn imports_go_by_their_stubs_and_slots(rt: HostRuntime) -> Result<(), Fail> {
     Ok(())
 }
 
-/// A common.
+/// A common, by its number among those that are chosen.
 const COMMON: Target = Target::Common { id: 0 };
 
 /// A field at an address, of a common at an address or of the base, 0x100000000: what its word becomes.

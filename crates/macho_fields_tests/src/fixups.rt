@@ -52,15 +52,6 @@ fn leads(first: Target, section: u64) -> Known {
     places
 }
 
-/// A place in a section, an offset from its start.
-fn at(offset: u64) -> Target {
-    Target::Section {
-        file: 0,
-        section: 0,
-        offset,
-    }
-}
-
 /// The start of a section.
 const START: Target = Target::Section {
     file: 0,
@@ -159,41 +150,49 @@ fn words_stand_in_one_page_at_multiples_of_four(rt: HostRuntime) -> Result<(), F
     Ok(())
 }
 
+/// A slot of an import, and one of a place in the image.
+const SLOTS: [Slot; 2] = [
+    Slot {
+        target: Target::Import { id: 1 },
+        address: BASE + 0x4000,
+    },
+    Slot {
+        target: Target::Section {
+            file: 0,
+            section: 0,
+            offset: 0x20,
+        },
+        address: BASE + 0x4008,
+    },
+];
+
+/// What they ask for where the section stands 0x8000 behind the base.
+const SLOT_FIXUPS: [Fixup; 2] = [
+    Fixup {
+        address: BASE + 0x4000,
+        kind: FixupKind::Bind {
+            ordinal: 1,
+            addend: 0,
+        },
+    },
+    Fixup {
+        address: BASE + 0x4008,
+        kind: FixupKind::Rebase { target: 0x8020 },
+    },
+];
+
 #[test]
-fn fixups_stand_behind_those_of_slots_in_order(rt: HostRuntime) -> Result<(), Fail> {
-    let slots = [
-        Slot {
-            target: Target::Import { id: 1 },
-            address: BASE + 0x4000,
-        },
-        Slot {
-            target: at(0x20),
-            address: BASE + 0x4008,
-        },
-    ];
+fn slots_ask_for_fixups_in_order(rt: HostRuntime) -> Result<(), Fail> {
     let mut run = Vec::new(rt.alloc());
-    slot_fixups(&leading_to(BASE + 0x8000), &slots, &mut run).map_err(|_| "refused")?;
-    let expected = [
-        Fixup {
-            address: BASE + 0x4000,
-            kind: FixupKind::Bind {
-                ordinal: 1,
-                addend: 0,
-            },
-        },
-        Fixup {
-            address: BASE + 0x4008,
-            kind: FixupKind::Rebase { target: 0x8020 },
-        },
-    ];
-    assert!(rt; run.len() == 2 && run[0] == expected[0] && run[1] == expected[1]);
-    let far = slot_fixups(&leading_to(BASE + (1 << 36)), &slots, &mut run);
-    let index = 1;
-    assert_eq!(rt;
-        far,
-        Err(FillFault::Rebase {
-            at: Site::Slot { index }
-        })
-    );
+    slot_fixups(&leading_to(BASE + 0x8000), &SLOTS, &mut run).map_err(|_| "refused")?;
+    assert!(rt; run.len() == 2 && run[0] == SLOT_FIXUPS[0] && run[1] == SLOT_FIXUPS[1]);
     Ok(())
+}
+
+#[test]
+fn a_slot_too_far_from_the_base_is_refused(rt: HostRuntime) {
+    let mut run = Vec::new(rt.alloc());
+    let far = slot_fixups(&leading_to(BASE + (1 << 36)), &SLOTS, &mut run);
+    let at = Site::Slot { index: 1 };
+    assert_eq!(rt; far, Err(FillFault::Rebase { at }));
 }

@@ -5,7 +5,8 @@ use macho_fields::{FillFault, Places, fill_section};
 use macho_fixups::Fixup;
 use macho_model::{PlacedSection, Range64, Target};
 use macho_object::File;
-use std::alloc::Global;
+use macho_samples::{Content, Object, Section, Symbol, UNDEFINED, object_bytes};
+use std::alloc::{AllocError, Global};
 use std::process::Abort;
 
 /// What is looked up.
@@ -27,7 +28,7 @@ pub struct Known {
     pub own: u32,
     /// Whether any section is in the thread-local template.
     pub in_template: bool,
-    /// The template.
+    /// The addresses of the thread-local template, None where there is none.
     pub template: Option<Range64>,
 }
 
@@ -109,36 +110,6 @@ impl Places for Known {
     }
 }
 
-/// The object, but for its section's bytes and relocations.
-const OBJECT: [u8; 279] = [
-    // 0: header: object, 2 commands of 176 bytes
-    0xcf, 0xfa, 0xed, 0xfe, 0x0c, 0, 0, 1, 0, 0, 0, 0, 1, 0, 0, 0, //
-    2, 0, 0, 0, 176, 0, 0, 0, 0, 0, 0, 0, 0, 0, 0, 0, //
-    // 32: LC_SEGMENT_64 of 152 bytes, 16 bytes at 208, one section
-    0x19, 0, 0, 0, 152, 0, 0, 0, 0, 0, 0, 0, 0, 0, 0, 0, //
-    0, 0, 0, 0, 0, 0, 0, 0, 0, 0, 0, 0, 0, 0, 0, 0, //
-    16, 0, 0, 0, 0, 0, 0, 0, 208, 0, 0, 0, 0, 0, 0, 0, //
-    16, 0, 0, 0, 0, 0, 0, 0, 7, 0, 0, 0, 7, 0, 0, 0, //
-    1, 0, 0, 0, 0, 0, 0, 0, //
-    // 104: `__data` of `__DATA`: 16 bytes at 208, exponent 2, two relocations at 224
-    0x5f, 0x5f, 0x64, 0x61, 0x74, 0x61, 0, 0, 0, 0, 0, 0, 0, 0, 0, 0, //
-    0x5f, 0x5f, 0x44, 0x41, 0x54, 0x41, 0, 0, 0, 0, 0, 0, 0, 0, 0, 0, //
-    0, 0, 0, 0, 0, 0, 0, 0, 16, 0, 0, 0, 0, 0, 0, 0, //
-    208, 0, 0, 0, 2, 0, 0, 0, 224, 0, 0, 0, 2, 0, 0, 0, //
-    0, 0, 0, 0, 0, 0, 0, 0, 0, 0, 0, 0, 0, 0, 0, 0, //
-    // 184: LC_SYMTAB: two symbols at 240, 7 bytes of names at 272
-    2, 0, 0, 0, 24, 0, 0, 0, 240, 0, 0, 0, 2, 0, 0, 0, 16, 1, 0, 0, 7, 0, 0, 0, //
-    // 208: the section's bytes
-    0, 0, 0, 0, 0, 0, 0, 0, 0, 0, 0, 0, 0, 0, 0, 0, //
-    // 224: its relocations
-    0, 0, 0, 0, 0, 0, 0, 0, 0, 0, 0, 0, 0, 0, 0, 0, //
-    // 240: `_a` and `_b`, which other files define
-    1, 0, 0, 0, 1, 0, 0, 0, 0, 0, 0, 0, 0, 0, 0, 0, //
-    4, 0, 0, 0, 1, 0, 0, 0, 0, 0, 0, 0, 0, 0, 0, 0, //
-    // 272: the names
-    0, 0x5f, 0x61, 0, 0x5f, 0x62, 0,
-];
-
 /// A relocation: the offset, and the packed word.
 pub type Relocation = (u32, u32);
 
@@ -147,37 +118,55 @@ pub type Relocation = (u32, u32);
 pub struct Given {
     /// Its bytes.
     pub text: [u8; 16],
-    /// Its relocations, of which so many are there.
+    /// Its relocations, of which the first `count` are there.
     pub relocations: [Relocation; 2],
-    /// How many are there.
+    /// How many relocations are there, at most 2.
     pub count: u8,
     /// The type of the section.
     pub kind: u8,
     /// Its address in the object, below 256.
     pub input: u8,
-    /// Its place.
+    /// The address of its first byte in the image.
     pub address: u64,
 }
 
-/// The object with a section.
-fn object(given: &Given) -> [u8; 279] {
-    let mut bytes = OBJECT;
-    bytes[136] = given.input;
-    bytes[164] = given.count;
-    bytes[168] = given.kind;
-    for i in 0..16usize {
-        bytes[208 + i] = given.text[i];
-    }
-    for r in 0..2usize {
-        let (at, word) = given.relocations[r];
-        let at_bytes = at.to_le_bytes();
-        let word_bytes = word.to_le_bytes();
-        for i in 0..4usize {
-            bytes[224 + 8 * r + i] = at_bytes[i];
-            bytes[228 + 8 * r + i] = word_bytes[i];
-        }
-    }
-    bytes
+/// Two symbols that other files define.
+const SYMBOLS: [Symbol<'static>; 2] = [
+    Symbol {
+        name: b"_a",
+        ..UNDEFINED
+    },
+    Symbol {
+        name: b"_b",
+        ..UNDEFINED
+    },
+];
+
+/// A relocation as a table of an object has it.
+fn row_of(relocation: Relocation) -> macho_samples::Relocation {
+    let (at, word) = relocation;
+    macho_samples::Relocation(at, word & 0xff_ffff, (word >> 24) as u8)
+}
+
+/// The bytes of the object with a section.
+fn object(alloc: Global, given: &Given) -> Result<Vec<u8>, AllocError> {
+    let [first, second] = given.relocations;
+    let relocations = [row_of(first), row_of(second)];
+    let count = usize::from(given.count).min(2);
+    let section = Section {
+        segment: b"__DATA",
+        name: b"__data",
+        address: u64::from(given.input),
+        exponent: 2,
+        flags: u32::from(given.kind),
+        content: Content::Bytes(&given.text),
+        relocations: &relocations[..count],
+    };
+    let object = Object {
+        sections: &[section],
+        symbols: &SYMBOLS,
+    };
+    object_bytes(alloc, &object)
 }
 
 /// Fills the section, and gives the fixups that it asks for.
@@ -188,7 +177,7 @@ pub fn fill(
     places: &Known,
     text: &mut [u8],
 ) -> Result<Vec<Fixup>, FillFault> {
-    let bytes = object(given);
+    let bytes = object(alloc, given)?;
     let Ok(file) = File::parse_bytes(&bytes, false) else {
         panic!(rt; "no object")
     };

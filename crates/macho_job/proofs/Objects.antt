@@ -1,12 +1,13 @@
 -- The bytes of a made object.
 --
--- With a call and without one the object is a list of numbers, and then its names, each with a NUL. What is written is that list in
--- other brackets. The size of the strings is the sum of the lengths of the names, and one for each NUL.
+-- With a call and without one the object's records are spelled as a list of bytes, and then come its names, each with a NUL. What is
+-- written is that list in other brackets. The size of the strings is the sum of the lengths of the names, and one for each NUL.
 use Rattle.std.proofs.Common.{◌≡◌, ℕ, ◌+◌, arith, ap, sym, ◌∙◌, Bool, true, false, List, [], ◌∷◌, ◌++◌, append_assoc, length}
 use Rattle.std.specs.Prelude.{◌==◌, if◌then◌else◌}
 use Rattle.std.proofs.lemmas.Bool.Decides.{nat_tests}
 use Rattle.std.proofs.lemmas.List.{length-append}
-use Rattle.macho_bytes.specs.Numbers.{le_bytes}
+use Rattle.macho_bytes.specs.Layouts.{spelling}
+use Rattle.macho_bytes.specs.Numbers.{le_bytes, row_bytes}
 use Rattle.macho_job.specs.Generator.{words, object_with, generated_object, function_name, pointer_name}
 use Rattle.macho_job.specs.steps.Objects.{joined_all, OBJECT_HEAD, CALLING_SECTIONS, LAST_SECTIONS, calling_parts, last_parts}
 use Rattle.macho_job.specs.steps.Objects.{calling_object, last_object}
@@ -54,14 +55,14 @@ calling_size name pointer next =
 
 -- THE last object
 pub last_is : (name pointer next : List ℕ) → last_object (joined_all OBJECT_HEAD) name pointer ≡ object_with 0 name pointer next
-unfolding last_object last_parts object_with le_bytes
+unfolding last_object last_parts object_with le_bytes spelling row_bytes
 last_is name pointer next =
     ap (last_of name pointer (3 + length name + length pointer)) (last_strings name pointer)
     ∙ ap (λ (n : ℕ). last_of name pointer n (name ++ 0 ∷ pointer ++ 0 ∷ [])) (last_size name pointer)
 
 -- an object that calls the next function
 pub calling_is : (name pointer next : List ℕ) → calling_object (joined_all OBJECT_HEAD) name pointer next ≡ object_with 1 name pointer next
-unfolding calling_object calling_parts object_with le_bytes
+unfolding calling_object calling_parts object_with le_bytes spelling row_bytes
 calling_is name pointer next =
     ap (calling_of name pointer (4 + length name + length pointer + length next)) (calling_strings name pointer next)
     ∙ ap (λ (n : ℕ). calling_of name pointer n (name ++ 0 ∷ pointer ++ 0 ∷ (next ++ 0 ∷ []))) (calling_size name pointer next)

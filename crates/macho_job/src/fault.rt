@@ -21,31 +21,31 @@ pub enum InputKind {
     Other,
 }
 
-/// Why a run fails. `word` is the index of the word in which the path stands.
+/// Why a run fails. Words are told by their indices, from 0.
 #[derive(Drop)]
 pub enum Fault {
     /// There is no file under the path.
     MissingFile {
-        /// The path's word.
+        /// The index of the word in which the path stands.
         word: u32,
     },
     /// The file does not begin as an object.
     UnknownKind {
-        /// The path's word.
+        /// The index of the word in which the path stands.
         word: u32,
         /// What it begins as.
         kind: InputKind,
     },
     /// The file breaks a rule of objects.
     Input {
-        /// The path's word.
+        /// The index of the word in which the path stands; of a made object its number, from 0.
         word: u32,
-        /// The rule, and where.
+        /// The rule, and where it is broken.
         error: LinkError,
     },
     /// The link is refused.
     Link {
-        /// Why.
+        /// Why it is refused.
         error: LinkError,
     },
     /// An argument is not accepted.
@@ -55,7 +55,7 @@ pub enum Fault {
     },
     /// A read failed.
     Read {
-        /// The path's word.
+        /// The index of the word in which the path stands.
         word: u32,
     },
     /// The write of the image failed.

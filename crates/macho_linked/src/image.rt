@@ -8,7 +8,7 @@ use macho_symbols::ExportName;
 pub struct ImportName {
     /// The number of its library among those that the image needs, from 1.
     pub library: u32,
-    /// The name.
+    /// The name, without the NUL behind it.
     pub name: Vec<u8>,
 }
 

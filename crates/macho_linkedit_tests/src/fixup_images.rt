@@ -1,6 +1,7 @@
 //! An image with words and a table of both writers, read by the plain functions of the chain, of memory and of the loader.
 ghost use Rattle.std.specs.Prelude.{◌≡◌, ◌≤◌, IfOk, length, vec_len};
 
+use crate::segments::{PAGEZERO, TEXT};
 use macho_fixups::{
     Fixup, FixupKind, FixupSegment, ImportEntry, table_size, write_chained_fixup_table,
     write_chains,
@@ -11,18 +12,8 @@ use std::alloc::{AllocError, Global};
 use std::test::Fail;
 
 const SEGMENTS: [FixupSegment; 3] = [
-    FixupSegment {
-        address: 0,
-        size: 0x1_0000_0000,
-        file_offset: 0,
-        file_size: 0,
-    },
-    FixupSegment {
-        address: 0x1_0000_0000,
-        size: 0x4000,
-        file_offset: 0,
-        file_size: 0x4000,
-    },
+    PAGEZERO,
+    TEXT,
     FixupSegment {
         address: 0x1_0000_4000,
         size: 0xc000,

@@ -2,6 +2,7 @@
 
 ghost use Rattle.std.specs.Prelude.{◌≡◌, IfOk, vec_len};
 
+use crate::segments::{PAGEZERO, TEXT};
 use macho_fixups::{
     Fixup, FixupKind, FixupSegment, ImportEntry, NotEncodable, table_size, write_bind_encoding,
     write_chained_fixup_table, write_chains, write_rebase_encoding,
@@ -20,18 +21,8 @@ fn words_of_both_kinds(rt: HostRuntime) {
 }
 
 const SEGMENTS: [FixupSegment; 4] = [
-    FixupSegment {
-        address: 0,
-        size: 0x1_0000_0000,
-        file_offset: 0,
-        file_size: 0,
-    },
-    FixupSegment {
-        address: 0x1_0000_0000,
-        size: 0x4000,
-        file_offset: 0,
-        file_size: 0x4000,
-    },
+    PAGEZERO,
+    TEXT,
     FixupSegment {
         address: 0x1_0000_4000,
         size: 0x4000,

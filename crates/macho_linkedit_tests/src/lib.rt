@@ -15,6 +15,8 @@ mod listing;
 #[cfg(test)]
 mod run;
 #[cfg(test)]
+mod segments;
+#[cfg(test)]
 mod sizes;
 #[cfg(test)]
 mod symbols;

@@ -51,7 +51,8 @@ pub record Tells (l : Link) (b : List ℕ) (p : Placed) : Type 0 where
   pub exports : TrieSays l b p
   -- there is one offset for each initializer, in order, which leads to it
   pub initializers : InitOffsetsSay l b p
-  -- of the headers of sections with initial values of thread-local variables the first begins the template, and the last ends it
+  -- the headers of sections with initial values of thread-local variables fill the template, which the first begins and the last
+  -- ends; without a template there are none
   pub template : TemplateHeaders b p
   -- look-up of an offset in the unwind information finds exactly what its entry says
   pub unwind : UnwindSays l b p

@@ -7,7 +7,7 @@ ghost use Rattle.macho_report.specs.Printing.{IsPrinted};
 use crate::pieces::{Piece, print_pieces};
 use macho_devices::{Sink, SinkFault};
 
-/// A text.
+/// One text.
 pub(crate) fn print_text<E: Sink>(err: &mut E, text: &'static [u8]) -> Result<(), SinkFault>
     ensures { IsPrinted (E.taken err.old) (E.taken err.new) (E.faults err.old) (E.faults err.new) (line_of (text.now ∷ [])) result }
 {

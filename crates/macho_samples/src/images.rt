@@ -1,17 +1,55 @@
-//! An image written out by hand, by `mach-o/loader.h` and `mach-o/fixup-chains.h`, which tests of several crates read.
+//! Two images written out by hand, by `mach-o/loader.h` and `mach-o/fixup-chains.h`, which tests of several crates read.
 
-/// The head of an image with fixups: header, `__PAGEZERO`, `__TEXT`, `__DATA`, one library, and a fixup table with starts
-/// in two pages of `__DATA` and one import.
-const CHAINED: [u8; 403] = [
-    // 0: header: executable, 5 commands of 288 bytes
-    0xcf, 0xfa, 0xed, 0xfe, 0x0c, 0, 0, 1, 0, 0, 0, 0, 2, 0, 0, 0, //
-    5, 0, 0, 0, 32, 1, 0, 0, 0x85, 0, 0x20, 0, 0, 0, 0, 0, //
-    // 32: `__PAGEZERO`
+/// What both have at 32: `__PAGEZERO`, 4 GiB from address 0, nothing of the file.
+const PAGEZERO: [u8; 72] = [
     0x19, 0, 0, 0, 72, 0, 0, 0, 0x5f, 0x5f, 0x50, 0x41, 0x47, 0x45, 0x5a, 0x45, //
     0x52, 0x4f, 0, 0, 0, 0, 0, 0, 0, 0, 0, 0, 0, 0, 0, 0, //
     0, 0, 0, 0, 1, 0, 0, 0, 0, 0, 0, 0, 0, 0, 0, 0, //
     0, 0, 0, 0, 0, 0, 0, 0, 0, 0, 0, 0, 0, 0, 0, 0, //
-    0, 0, 0, 0, 0, 0, 0, 0, //
+    0, 0, 0, 0, 0, 0, 0, 0,
+];
+
+/// The head of the smallest image but for `__PAGEZERO`: header, `__TEXT` with one section, the entry point, the dynamic linker
+/// and the section's two instructions.
+const SMALLEST: [u8; 248] = [
+    // 0: header: executable, 4 commands of 280 bytes
+    0xcf, 0xfa, 0xed, 0xfe, 0x0c, 0, 0, 1, 0, 0, 0, 0, 2, 0, 0, 0, //
+    4, 0, 0, 0, 24, 1, 0, 0, 0x85, 0, 0x20, 0, 0, 0, 0, 0, //
+    // 104: `__TEXT`: a page at 0x100000000, to be read and executed, one section
+    0x19, 0, 0, 0, 152, 0, 0, 0, 0x5f, 0x5f, 0x54, 0x45, 0x58, 0x54, 0, 0, //
+    0, 0, 0, 0, 0, 0, 0, 0, 0, 0, 0, 0, 1, 0, 0, 0, //
+    0, 0x40, 0, 0, 0, 0, 0, 0, 0, 0, 0, 0, 0, 0, 0, 0, //
+    0, 0x40, 0, 0, 0, 0, 0, 0, 5, 0, 0, 0, 5, 0, 0, 0, //
+    1, 0, 0, 0, 0, 0, 0, 0, //
+    // 176: `__text`: 8 bytes at 0x138
+    0x5f, 0x5f, 0x74, 0x65, 0x78, 0x74, 0, 0, 0, 0, 0, 0, 0, 0, 0, 0, //
+    0x5f, 0x5f, 0x54, 0x45, 0x58, 0x54, 0, 0, 0, 0, 0, 0, 0, 0, 0, 0, //
+    0x38, 1, 0, 0, 1, 0, 0, 0, 8, 0, 0, 0, 0, 0, 0, 0, //
+    0x38, 1, 0, 0, 2, 0, 0, 0, 0, 0, 0, 0, 0, 0, 0, 0, //
+    0, 4, 0, 0x80, 0, 0, 0, 0, 0, 0, 0, 0, 0, 0, 0, 0, //
+    // 256: the entry point at 0x138; 280: the dynamic linker
+    0x28, 0, 0, 0x80, 24, 0, 0, 0, 0x38, 1, 0, 0, 0, 0, 0, 0, 0, 0, 0, 0, 0, 0, 0, 0, //
+    0x0e, 0, 0, 0, 32, 0, 0, 0, 12, 0, 0, 0, 0x2f, 0x75, 0x73, 0x72, //
+    0x2f, 0x6c, 0x69, 0x62, 0x2f, 0x64, 0x79, 0x6c, 0x64, 0, 0, 0, 0, 0, 0, 0, //
+    // 312: mov w0, #0; ret
+    0, 0, 0x80, 0x52, 0xc0, 3, 0x5f, 0xd6,
+];
+
+/// An executable of one page whose `_main` answers 0. Zeros fill the page behind its head.
+pub fn smallest_image() -> [u8; 0x4000] {
+    let mut image = [0; 0x4000];
+    image[..32].copy_from_slice(&SMALLEST[..32]);
+    image[32..104].copy_from_slice(&PAGEZERO);
+    image[104..320].copy_from_slice(&SMALLEST[32..]);
+    image
+}
+
+/// The head of an image with fixups but for `__PAGEZERO`: header, `__TEXT`, `__DATA`, one library, and a fixup table with starts
+/// in two pages of `__DATA` and one import.
+const CHAINED: [u8; 331] = [
+    // 0: header: executable, 5 commands of 288 bytes
+    0xcf, 0xfa, 0xed, 0xfe, 0x0c, 0, 0, 1, 0, 0, 0, 0, 2, 0, 0, 0, //
+    5, 0, 0, 0, 32, 1, 0, 0, 0x85, 0, 0x20, 0, 0, 0, 0, 0, //
     // 104: `__TEXT`: a page at 0x100000000
     0x19, 0, 0, 0, 72, 0, 0, 0, 0x5f, 0x5f, 0x54, 0x45, 0x58, 0x54, 0, 0, //
     0, 0, 0, 0, 0, 0, 0, 0, 0, 0, 0, 0, 1, 0, 0, 0, //
@@ -56,7 +94,9 @@ const SECOND_PAGE: [u8; 16] = [0x66, 0x55, 0, 0, 0, 0, 0, 0, 0, 0x40, 0, 0, 0xf0
 /// An executable whose chain has three words over two pages of `__DATA`: two pointers to places of its own, and one to an import.
 pub fn chained_image() -> [u8; 0x8010] {
     let mut image = [0; 0x8010];
-    image[..403].copy_from_slice(&CHAINED);
+    image[..32].copy_from_slice(&CHAINED[..32]);
+    image[32..104].copy_from_slice(&PAGEZERO);
+    image[104..403].copy_from_slice(&CHAINED[32..]);
     image[0x4000..0x4020].copy_from_slice(&FIRST_PAGE);
     image[0x8000..0x8010].copy_from_slice(&SECOND_PAGE);
     image

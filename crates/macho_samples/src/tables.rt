@@ -5,7 +5,7 @@
 pub struct Object<'a> {
     /// Its sections, all in the one segment of an object.
     pub sections: &'a [Section<'a>],
-    /// Its symbols.
+    /// The rows of its symbol table, in order.
     pub symbols: &'a [Symbol<'a>],
 }
 
@@ -24,7 +24,7 @@ pub struct Section<'a> {
     pub flags: u32,
     /// What it holds.
     pub content: Content<'a>,
-    /// Its relocations.
+    /// The rows of its relocation table, in order.
     pub relocations: &'a [Relocation],
 }
 
@@ -51,9 +51,9 @@ pub struct Symbol<'a> {
     pub kind: u8,
     /// Its section, counted from 1, or 0.
     pub section: u8,
-    /// Its description.
+    /// `n_desc`: what a reference or a definition asks for, as weak.
     pub description: u16,
-    /// Its value.
+    /// `n_value`: its address in the object, or what its type says.
     pub value: u64,
 }
 
@@ -69,7 +69,7 @@ pub mod kinds {
     pub const SHORT_LESS: u8 = 0x1c;
     /// The symbol that is taken off, for eight bytes.
     pub const LESS: u8 = 0x1e;
-    /// A branch.
+    /// A branch to a symbol.
     pub const BRANCH: u8 = 0x2d;
     /// The page of a symbol.
     pub const PAGE: u8 = 0x3d;

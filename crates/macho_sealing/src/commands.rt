@@ -165,6 +165,10 @@ fn add_tables(
 
 /// The load commands of an image, in order: segments with their section headers, entry, UUID, versions, the dynamic linker or the
 /// library's own name, libraries, paths to search, tables.
+///
+/// # Errors
+///
+/// There is not enough memory.
 pub fn head_commands<'a>(
     alloc: Global,
     placement: &'a Placement,

@@ -25,6 +25,10 @@ fn describes_thread_locals(placement: &Placement) -> bool
 }
 
 /// Writes header and load commands to the front of a file; the other bytes stay.
+///
+/// # Errors
+///
+/// There is not enough memory; nothing is written then.
 pub fn write_image_head(
     alloc: Global,
     placement: &Placement,

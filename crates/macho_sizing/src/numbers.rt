@@ -48,9 +48,9 @@ pub(crate) struct Numbers {
 /// A number that passes a limit.
 #[derive(Clone, Copy)]
 pub(crate) struct Passed {
-    /// The limit.
+    /// Which limit it passes.
     pub(crate) what: Limit,
-    /// The number.
+    /// How many there are.
     pub(crate) number: u64,
 }
 

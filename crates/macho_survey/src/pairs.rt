@@ -12,11 +12,11 @@ use macho_records::RelocationInfo;
 /// A relocation, and those before and behind it in the table.
 #[derive(Clone, Copy)]
 pub(crate) struct Seen {
-    /// The one before it.
+    /// The one before it, None for the first.
     pub(crate) before: Option<RelocationInfo>,
-    /// The relocation.
+    /// The relocation itself.
     pub(crate) this: RelocationInfo,
-    /// The one behind it.
+    /// The one behind it, None for the last.
     pub(crate) next: Option<RelocationInfo>,
 }
 

@@ -74,7 +74,7 @@ pub record HasImage (s : Settings) (old new : Devices) (fault : Option Fault) (i
   pub is_image : IsImageOf job.link job.uuid image
   -- the output path holds the image, after a failed write the first of it; every other path holds what it held
   pub left : LeavesImage fault old.outside.store new.outside.store job.output image.bytes.items
-  -- the lines that the settings ask for are printed, after a failed print the first of them
+  -- the lines that the settings ask for are printed; after a failed print the first of them, after a failed write none
   pub lines : LeavesLines fault old.printed new.printed (run_lines s job.link job.paths image)
 
 -- A fault of settings has its cause, by the files that were read, and its line is told.

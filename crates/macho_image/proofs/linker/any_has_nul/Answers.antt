@@ -10,5 +10,5 @@ use Rattle.macho_image.proofs.linker.any_has_nul.Goals as goal
 pub returns : goal.returns
 returns c =
     any_from_yields_List (λ path. has_zero (string_bytes path)) _ _ _ c.any.ensures.ran (YieldsList-from_slice c.args.paths.now cc)
-        (λ x b q k. search (rules, tests))
+    (λ x b q k. search (rules, tests))
     ∙ any_path has_zero c.args.paths.now
