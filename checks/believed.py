@@ -11,7 +11,8 @@ these don't grow unseen, there may be at most MOST_LINES of them.
 Refused are: more lines than these under the clauses of `run`, a file of specs/steps/ under the clauses of `run` or of a function that
 a table of sentences names (README.md and docs/PROVED.md have these), a file of specs/ that imports one of specs/steps/, and a row of
 such a table that names a function or clause that isn't there. (A crate may hand functions of its own steps to another crate's code, as
-macho_memory_walks does: these are in no row.)
+macho_memory_walks does: these are in no row.) Refused is also a file of the reading list that isn't in just one row of the table of
+public sources (docs/THEOREMS.md), and a row of that table that names a file that isn't there, or no source.
 """
 import os
 import re
@@ -22,6 +23,7 @@ CRATES = os.path.join(TOP, "crates")
 NAME = r"[^\s(){}\[\],;.]+"
 BEGIN, END = "<!-- reading list -->\n", "<!-- end of the reading list -->\n"
 PARTS, PARTS_END = "<!-- parts -->\n", "<!-- end of the parts -->\n"
+SOURCES, SOURCES_END = "<!-- sources -->\n", "<!-- end of the sources -->\n"
 
 # The most equations, fields and cases under `run`. The goal for all lines, with comments and types, is the same number: it isn't
 # reached, so it is told and not asked.
@@ -501,6 +503,32 @@ def wrong_rows(world, crates):
     return wrong
 
 
+def rows_of_sources():
+    """The rows of the table of public sources, as (crate, its files, source)."""
+    table = read(os.path.join(TOP, "docs", "THEOREMS.md")).split(SOURCES)[1].split(SOURCES_END)[0]
+    rows = []
+    for line in table.strip().split("\n")[2:]:
+        crate, files, source = (cell.strip() for cell in line.strip("|").split(" | ", 2))
+        rows.append((crate.strip("`"), re.findall(r"`(\w+)`", files), source))
+    return rows
+
+
+def wrong_sources(world):
+    """Files of the reading list that aren't in one row of the table of public sources; rows without a source or with other files."""
+    wrong, told = [], {}
+    for crate, files, source in rows_of_sources():
+        if not source or not files:
+            wrong.append(f"a row of {crate} in the table of public sources lacks files or a source")
+        for file in files:
+            module = f"Rattle.{crate}.specs.{file}"
+            told[module] = told.get(module, 0) + 1
+            if module not in world.files:
+                wrong.append(f"there is no file '{short(module)}' of the table of public sources")
+    wrong += [f"{short(module)} is in {count} rows of the table of public sources" for module, count in told.items() if count > 1]
+    missing = [module for module in reading_list(world, run_of(world)) if module not in told]
+    return wrong + [f"{short(module)} is in no row of the table of public sources" for module in missing]
+
+
 def subject(text):
     """What a file says that it is: its first comment, up to the first full stop or colon."""
     words = []
@@ -583,7 +611,7 @@ def main():
         missing = write_lines(world)
         print("\n".join(missing) or "docs/THEOREMS.md: the lines are written")
         return 1 if missing else 0
-    wrong = print_run(world) + wrong_imports(world) + wrong_rows(world, crates)
+    wrong = print_run(world) + wrong_imports(world) + wrong_rows(world, crates) + wrong_sources(world)
     for line in dict.fromkeys(wrong):
         print(f"believed: {line}", file=sys.stderr)
     return 1 if wrong else 0
