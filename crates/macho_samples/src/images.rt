@@ -1,20 +1,17 @@
 //! Two images written out by hand, by `mach-o/loader.h` and `mach-o/fixup-chains.h`, which tests of several crates read.
 
-/// What both have at 32: `__PAGEZERO`, 4 GiB from address 0, nothing of the file.
-const PAGEZERO: [u8; 72] = [
+/// The head of the smallest image: header, `__PAGEZERO`, `__TEXT` with one section, the entry point, the dynamic linker and the section's
+/// two instructions.
+const SMALLEST: [u8; 320] = [
+    // 0: header: executable, 4 commands of 280 bytes
+    0xcf, 0xfa, 0xed, 0xfe, 0x0c, 0, 0, 1, 0, 0, 0, 0, 2, 0, 0, 0, //
+    4, 0, 0, 0, 24, 1, 0, 0, 0x85, 0, 0x20, 0, 0, 0, 0, 0, //
+    // 32: `__PAGEZERO`
     0x19, 0, 0, 0, 72, 0, 0, 0, 0x5f, 0x5f, 0x50, 0x41, 0x47, 0x45, 0x5a, 0x45, //
     0x52, 0x4f, 0, 0, 0, 0, 0, 0, 0, 0, 0, 0, 0, 0, 0, 0, //
     0, 0, 0, 0, 1, 0, 0, 0, 0, 0, 0, 0, 0, 0, 0, 0, //
     0, 0, 0, 0, 0, 0, 0, 0, 0, 0, 0, 0, 0, 0, 0, 0, //
-    0, 0, 0, 0, 0, 0, 0, 0,
-];
-
-/// The head of the smallest image but for `__PAGEZERO`: header, `__TEXT` with one section, the entry point, the dynamic linker
-/// and the section's two instructions.
-const SMALLEST: [u8; 248] = [
-    // 0: header: executable, 4 commands of 280 bytes
-    0xcf, 0xfa, 0xed, 0xfe, 0x0c, 0, 0, 1, 0, 0, 0, 0, 2, 0, 0, 0, //
-    4, 0, 0, 0, 24, 1, 0, 0, 0x85, 0, 0x20, 0, 0, 0, 0, 0, //
+    0, 0, 0, 0, 0, 0, 0, 0, //
     // 104: `__TEXT`: a page at 0x100000000, to be read and executed, one section
     0x19, 0, 0, 0, 152, 0, 0, 0, 0x5f, 0x5f, 0x54, 0x45, 0x58, 0x54, 0, 0, //
     0, 0, 0, 0, 0, 0, 0, 0, 0, 0, 0, 0, 1, 0, 0, 0, //
@@ -38,18 +35,22 @@ const SMALLEST: [u8; 248] = [
 /// An executable of one page whose `_main` answers 0. Zeros fill the page behind its head.
 pub fn smallest_image() -> [u8; 0x4000] {
     let mut image = [0; 0x4000];
-    image[..32].copy_from_slice(&SMALLEST[..32]);
-    image[32..104].copy_from_slice(&PAGEZERO);
-    image[104..320].copy_from_slice(&SMALLEST[32..]);
+    image[..320].copy_from_slice(&SMALLEST);
     image
 }
 
-/// The head of an image with fixups but for `__PAGEZERO`: header, `__TEXT`, `__DATA`, one library, and a fixup table with starts
+/// The head of an image with fixups: header, `__PAGEZERO`, `__TEXT`, `__DATA`, one library, and a fixup table with starts
 /// in two pages of `__DATA` and one import.
-const CHAINED: [u8; 331] = [
+const CHAINED: [u8; 403] = [
     // 0: header: executable, 5 commands of 288 bytes
     0xcf, 0xfa, 0xed, 0xfe, 0x0c, 0, 0, 1, 0, 0, 0, 0, 2, 0, 0, 0, //
     5, 0, 0, 0, 32, 1, 0, 0, 0x85, 0, 0x20, 0, 0, 0, 0, 0, //
+    // 32: `__PAGEZERO`
+    0x19, 0, 0, 0, 72, 0, 0, 0, 0x5f, 0x5f, 0x50, 0x41, 0x47, 0x45, 0x5a, 0x45, //
+    0x52, 0x4f, 0, 0, 0, 0, 0, 0, 0, 0, 0, 0, 0, 0, 0, 0, //
+    0, 0, 0, 0, 1, 0, 0, 0, 0, 0, 0, 0, 0, 0, 0, 0, //
+    0, 0, 0, 0, 0, 0, 0, 0, 0, 0, 0, 0, 0, 0, 0, 0, //
+    0, 0, 0, 0, 0, 0, 0, 0, //
     // 104: `__TEXT`: a page at 0x100000000
     0x19, 0, 0, 0, 72, 0, 0, 0, 0x5f, 0x5f, 0x54, 0x45, 0x58, 0x54, 0, 0, //
     0, 0, 0, 0, 0, 0, 0, 0, 0, 0, 0, 0, 1, 0, 0, 0, //
@@ -94,9 +95,7 @@ const SECOND_PAGE: [u8; 16] = [0x66, 0x55, 0, 0, 0, 0, 0, 0, 0, 0x40, 0, 0, 0xf0
 /// An executable whose chain has three words over two pages of `__DATA`: two pointers to places of its own, and one to an import.
 pub fn chained_image() -> [u8; 0x8010] {
     let mut image = [0; 0x8010];
-    image[..32].copy_from_slice(&CHAINED[..32]);
-    image[32..104].copy_from_slice(&PAGEZERO);
-    image[104..403].copy_from_slice(&CHAINED[32..]);
+    image[..403].copy_from_slice(&CHAINED);
     image[0x4000..0x4020].copy_from_slice(&FIRST_PAGE);
     image[0x8000..0x8010].copy_from_slice(&SECOND_PAGE);
     image

@@ -4,7 +4,8 @@
 //! `mach-o/loader.h`, `mach-o/nlist.h` and `mach-o/reloc.h` and share nothing with the linker, so that what a test expects of
 //! the linker doesn't come from the linker. Nothing is checked: a table may say what no linker takes.
 //! [`object_with`], with [`put_symbol`], and [`dylib_with`] write what these tables can't say: names that share bytes, and any symbols of
-//! a library. [`smallest_image`] and [`chained_image`] are finished images. All are public since tests of other crates, and the files of cases, call them.
+//! a library. [`smallest_image`] and [`chained_image`] are finished images. All are public since tests of other crates, and the files of
+//! cases, call them.
 #![tactic(auto)]
 
 mod images;
