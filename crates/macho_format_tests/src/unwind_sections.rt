@@ -99,17 +99,37 @@ const FOUND: Found = Found {
     lsda: None,
 };
 
+const FOUND_BEHIND_HEAD: Option<Found> = Some(Found {
+    start: 0x230,
+    ..FOUND
+});
+
 const ALONE: [ResolvedUnwindInfo; 1] = [ResolvedUnwindInfo {
     start: TEXT + 0x1000,
     ..PLAIN
 }];
 
-static ROWS: [Row<'static>; 4] = [
+static ROWS: [Row<'static>; 5] = [
     Row {
         says: "one function",
         entries: &ALONE,
         length: 72,
         look_ups: &ONE_LOOK_UPS,
+    },
+    Row {
+        says: "one function of two instructions behind a head of 0x230 bytes",
+        entries: &[ResolvedUnwindInfo {
+            start: TEXT + 0x230,
+            length: 8,
+            ..PLAIN
+        }],
+        length: 72,
+        look_ups: &[
+            (0x22f, None),
+            (0x230, FOUND_BEHIND_HEAD),
+            (0x237, FOUND_BEHIND_HEAD),
+            (0x238, None),
+        ],
     },
     Row {
         says: "no function",

@@ -56,7 +56,7 @@ fn image() -> [u8; 49_948] {
 }
 
 /// All but the last byte.
-fn without_last(image: &[u8]) -> &[u8] {
+pub(crate) fn without_last(image: &[u8]) -> &[u8] {
     &image[..image.len().saturating_sub(1)]
 }
 

@@ -7,6 +7,8 @@
 #[cfg(test)]
 mod addends;
 #[cfg(test)]
+mod alone;
+#[cfg(test)]
 mod commands;
 #[cfg(test)]
 mod generated;
