@@ -1,7 +1,9 @@
 #!/usr/bin/env bash
 # Each request for memory of a run is refused in turn: the run ends with status 5 and its line, and the output path holds what it
-# held; or, where the run can do without, it answers what it answers with ample memory. The requests are refused by a small library
-# that stands before the system's; where no C compiler is installed to make it, nothing is tried.
+# held; or, where the run can do without, it answers what it answers with ample memory. Then the same of a program whose linker links
+# again where memory runs out in the link: whichever request of the link is refused, it answers what it answers with ample memory.
+# The requests are refused by a small library that stands before the system's; where no C compiler is installed to make it, nothing is
+# tried.
 top=$(cd "$(dirname "$0")/.." && pwd) || exit 1
 folder=$(mktemp -d) || exit 1
 trap 'rm -rf "$folder"' EXIT
@@ -12,9 +14,9 @@ compiler=$(tool clang || command -v cc) || {
     echo "refused_memory: SKIPPED, since no C compiler is installed"
     exit 0
 }
-program=$top/crates/wild_macho_main/out/wild_macho_main
+program=("$top/crates/wild_macho_main/out/wild_macho_main")
 "$top/link" -x 2>/dev/null
-[ -x "$program" ] || fail "there is no program"
+[ -x "${program[0]}" ] || fail "there is no program"
 cp "$top"/checks/many_kinds/* "$folder" && cd "$folder" || exit 1
 
 cat >refuse.c <<'C'
@@ -48,39 +50,85 @@ __attribute__((destructor)) static void end(void) {
 C
 "$compiler" -O1 -shared -fPIC -o refuse.so refuse.c || fail "the library isn't made"
 
+# The program whose linker links again, which is proved and built where a source of a crate is newer.
+linking_again() {
+    local name=wild_macho_cases
+    local made=$top/crates/$name/out/$name
+    local newer="none is made"
+    [ -x "$made" ] && newer=$(find "$top/crates.txt" "$top/crates" -name out -prune -o \
+        -type f \( -name '*.rt' -o -name '*.antt' -o -name crates.txt \) -newer "$made" -print -quit)
+    if [ -n "$newer" ]; then
+        rm -f "$made"
+        python3 "$top/checks/prove.py" "$name" && python3 "$top/checks/prove.py" --program "$name" && touch "$made"
+    fi >/dev/null 2>&1
+    [ -x "$made" ] && echo "$made"
+}
+
 # Runs the words with the request of this number refused; what is printed goes to `printed` and `said`.
 run_without() {
     echo old >out
-    REFUSED=$1 LD_PRELOAD=$folder/refuse.so "$program" -o out "${@:2}" >printed 2>said
+    REFUSED=$1 LD_PRELOAD=$folder/refuse.so "${program[@]}" -o out "${@:2}" >printed 2>said
 }
 
-# The same, with ample memory, for each request of the words.
+# The line that tells a second link.
+again='wild_macho_cases: linked again'
+
+# Fails unless a run that ended with status 5 left all as it was.
+check_refused() {
+    [ "$(cat out)" = old ] || fail "$1: the output changes"
+    [ -s printed ] && fail "$1: lines are printed"
+    [ -s said ] && [ "$(cat said)" != 'wild_macho: out of memory' ] && fail "$1: '$(cat said)'"
+}
+
+# Fails unless a run ended with this status, and left and printed what the run with ample memory does.
+check_same() {
+    [ "$2" = "$ample" ] && cmp -s out ample.out && cmp -s printed ample.printed && cmp -s said ample.said ||
+        fail "$1: status $2, '$(cat said)'"
+}
+
+# The same, with ample memory, for each request of the words. A link that ran out of memory is made again, if the program does so: then
+# no request between two of the link ends the run.
 tried=0
+linked_again=0
 refuse_each() {
     run_without 0 "$@"
     ample=$?
     cp out ample.out && cp printed ample.printed && cp said ample.said
     requests=$(cat count)
     [ "$requests" -gt 0 ] || fail "'$*': no request is seen"
+    begun= ended=
     for ((number = 1; number <= requests; number++)); do
         run_without "$number" "$@"
         status=$?
-        if [ "$status" = 5 ]; then
-            [ "$(cat out)" = old ] || fail "'$*' without request $number: the output changes"
-            [ -s printed ] && fail "'$*' without request $number: lines are printed"
-            [ -s said ] && [ "$(cat said)" != 'wild_macho: out of memory' ] && fail "'$*' without request $number: '$(cat said)'"
+        case="'$*' without request $number"
+        if [ "$(head -n 1 said)" = "$again" ]; then
+            [ -z "$ended" ] || fail "$case: it links again, and not without request $ended"
+            begun=$number linked_again=$((linked_again + 1))
+            sed -i 1d said
+            check_same "$case" "$status"
+        elif [ "$status" = 5 ]; then
+            [ -z "$begun" ] || ended=$number
+            check_refused "$case"
         else
-            [ "$status" = "$ample" ] && cmp -s out ample.out && cmp -s printed ample.printed && cmp -s said ample.said ||
-                fail "'$*' without request $number: status $status, '$(cat said)'"
+            check_same "$case" "$status"
         fi
     done
     tried=$((tried + requests))
 }
 
 inputs=(main.o names.o locals.o guarded.o scaled.o libSystem.tbd)
-refuse_each -map -platform_version macos 14.0 15.0 -exported_symbols_list counted.exports "${inputs[@]}"
+all=(-map -platform_version macos 14.0 15.0 -exported_symbols_list counted.exports "${inputs[@]}")
+refuse_each "${all[@]}"
 refuse_each -generate 3
 refuse_each -L/a -L /b -F/f -framework X -lfoo -rpath x -platform_version macos 14.0 15.16.17 -syslibroot /sdk main.o
 refuse_each -platform_version macos 1.2.3.4 1
 refuse_each "${inputs[@]}" counted.exports
-echo "refused_memory: $tried requests refused, one in each run"
+
+# The program that links again: two images, and a link that is refused for a symbol that no input defines.
+program=("$(linking_again)" -again)
+[ -x "${program[0]}" ] || fail "there is no program that links again"
+refuse_each "${all[@]}"
+refuse_each -generate 3
+refuse_each -platform_version macos 14.0 15.0 main.o names.o libSystem.tbd
+[ "$linked_again" -gt 0 ] || fail "no linker links again"
+echo "refused_memory: $tried requests refused, one in each run; $linked_again of them in a link that was made again"

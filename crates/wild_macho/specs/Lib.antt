@@ -6,3 +6,7 @@ pub use Rattle.macho_report.specs.Heads
 pub use Rattle.macho_report.specs.Search
 pub use Rattle.macho_report.specs.Linkers
 pub use Rattle.macho_report.specs.Head
+-- and those that its passes cite
+pub use Rattle.macho_report.specs.Causes
+pub use Rattle.macho_report.specs.Names
+pub use Rattle.macho_report.specs.Refusals

@@ -1,7 +1,8 @@
 //! The linker's top call.
 //!
 //! [`run`] links what the words of a command line say, and answers the image and the status. The devices that it reads and
-//! prints to are handed on from `macho_devices`; why it fails, and the linker without files, from the crates of the job.
+//! prints to are handed on from `macho_devices`; why it fails, the linker without files, and what a run is made of besides it,
+//! from the crates of the job.
 #![tactic(auto)]
 
 mod passes;
@@ -13,4 +14,6 @@ pub use macho_devices::{
 };
 pub use macho_faults::LinkError;
 pub use macho_linked::LinkedImage;
-pub use macho_report::{Fault, InputKind, Linker};
+pub use macho_report::{
+    Fault, FileNames, InputKind, Linker, gather, print_fault, print_lines, uuid_of,
+};

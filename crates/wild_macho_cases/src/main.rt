@@ -3,14 +3,21 @@
 //! The arguments name files of cases, whose form the module `reader` of `macho_case_files` shows. Of each file one line tells how many
 //! cases it has; a case that is not as wanted is told with what was wanted and what came. The program ends with 0 where all is as
 //! wanted, with 1 where a case isn't, and with 2 where a file can't be read or has a line that isn't of the form.
+//!
+//! Behind the word `-again` the arguments are those of the linker, which then links as the module `linked_again` shows.
+//!
+//! The program ends with 5 where memory ran out.
 #![tactic(auto)]
 
 mod again;
 mod answers;
+mod linked_again;
 mod runs;
 
+use crate::linked_again::link_words;
 use crate::runs::check_case;
 use macho_case_files::{Line, Unread, case_at, lines_of, written_out};
+use std::io::ErrorKind;
 use std::process::ExitCode;
 use std::{env, fs, io};
 
@@ -19,6 +26,12 @@ const DIFFERENT: u8 = 1;
 
 /// The status where a file can't be read.
 const UNREADABLE: u8 = 2;
+
+/// The status where memory ran out.
+const OUT_OF_MEMORY: u8 = 5;
+
+/// The word before the linker's own.
+const AGAIN: &str = "-again";
 
 // Prints why a case or a file can't be read; the status.
 fn tell_unread(rt: &HostRuntime, path: &str, name: &str, unread: Unread) -> io::Result<u8> {
@@ -102,12 +115,10 @@ fn check_file(rt: &HostRuntime, path: &str) -> io::Result<u8> {
 }
 
 // Checks all files; the highest status.
-fn check_files(rt: &HostRuntime) -> io::Result<u8> {
+fn check_files(rt: &HostRuntime, paths: &[String]) -> io::Result<u8> {
     let mut status = 0u8;
-    for (number, path) in env::args(rt)?.enumerate() {
-        if number > 0 {
-            status = status.max(check_file(rt, path.as_str())?);
-        }
+    for path in paths {
+        status = status.max(check_file(rt, path.as_str())?);
     }
     if status == 0 {
         println!(rt; "all as wanted")?;
@@ -115,11 +126,37 @@ fn check_files(rt: &HostRuntime) -> io::Result<u8> {
     Ok(status)
 }
 
+// The words behind the program's name.
+fn words_of(rt: &HostRuntime) -> io::Result<Vec<String>> {
+    let mut words = Vec::new(rt.alloc());
+    for (number, word) in env::args(rt)?.enumerate() {
+        if number > 0 {
+            words.push(word)?;
+        }
+    }
+    Ok(words)
+}
+
+// Links, where the words ask for that, or checks the files that they name; the status.
+fn run_words(rt: &HostRuntime, words: &[String]) -> io::Result<u8> {
+    match words.split_first() {
+        Some((first, rest)) if first.as_str() == AGAIN => Ok(link_words(rt, rest)),
+        _ => check_files(rt, words),
+    }
+}
+
+// Runs the program; the status.
+fn run(rt: &HostRuntime) -> io::Result<u8> {
+    let words = words_of(rt)?;
+    run_words(rt, &words)
+}
+
 fn main(rt: HostRuntime) -> ExitCode {
-    match check_files(&rt) {
+    match run(&rt) {
         Ok(status) => ExitCode::from(status),
+        Err(error) if error.kind() == ErrorKind::OutOfMemory => ExitCode::from(OUT_OF_MEMORY),
         Err(_error) => {
-            let _ = eprintln!(rt; "a file can't be read, or memory ran out");
+            let _ = eprintln!(rt; "a file can't be read");
             ExitCode::from(UNREADABLE)
         }
     }
