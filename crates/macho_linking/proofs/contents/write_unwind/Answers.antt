@@ -1,5 +1,5 @@
 -- The unwind information has room in its range, which ends in the file. So it is put at the front of the range.
-use Rattle.std.proofs.Common.{List, length, refl, ap, sym, subst, ◌∙◌, arith, All}
+use Rattle.std.proofs.Common.{List, refl, sym, subst, ◌∙◌, arith, All}
 use Rattle.std.specs.Prelude.{map}
 use Rattle.macho_composed.specs.UnwindEntry.{UnwindEntry}
 use Rattle.macho_composed.specs.Entries.{resolved_row, MayBeBuilt, KnowsPersonality}
@@ -32,8 +32,8 @@ returns-in_err-section-clause-why g c = λ l h.
     (c.in_err-section.ensures.why l (counts_of b) (placement_of b) (planned_to_make l b h.planned) h.tells h.planned.read.needs.slots
     (c.deref-2.ensures.value ∙ h.planned.read.entries))
 
-pub slice_bounds-write-start : goal.slice_bounds-write-start
-slice_bounds-write-start g c =
+pub slice_bounds-write-count : goal.slice_bounds-write-count
+slice_bounds-write-count g c =
     let some = c.requires.link in
     let b = c.args.b.now in
     let fits = ranges_fit some.0 b some.1.planned in
