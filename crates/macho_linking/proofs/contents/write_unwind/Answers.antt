@@ -40,6 +40,14 @@ slice_bounds-write-count g c =
     let at = c.file_offset-at.ensures.low (placement_of b) c.deref.ensures.value (omega (arith, fits.unwind_end, c.requires.long)) in
     omega (arith, at, fits.unwind_end, c.requires.long)
 
+pub slice_bounds-write-start : goal.slice_bounds-write-start
+slice_bounds-write-start g c =
+    let some = c.requires.link in
+    let b = c.args.b.now in
+    let fits = ranges_fit some.0 b some.1.planned in
+    let at = c.file_offset-at.ensures.low (placement_of b) c.deref.ensures.value (omega (arith, fits.unwind_end, c.requires.long)) in
+    omega (arith, at, fits.unwind_end, c.requires.long)
+
 pub write-requires : goal.write-requires
 write-requires g c =
     let some = c.requires.link in
