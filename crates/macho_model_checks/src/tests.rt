@@ -41,6 +41,12 @@ fn fault_with(at: usize, byte: u8) -> Option<LoadFault> {
     first_broken_rule(&image).err()
 }
 
+/// What is told of the first bytes of the smallest image.
+fn fault_of_first(count: usize) -> Option<LoadFault> {
+    let image = smallest_image();
+    first_broken_rule(image.get(..count)?).err()
+}
+
 #[test]
 fn the_two_images_break_no_rule(rt: HostRuntime) {
     assert!(rt; first_broken_rule(&smallest_image()).is_ok());
@@ -56,11 +62,7 @@ fn each_rule_is_told_at_what_breaks_it(rt: HostRuntime) {
             "byte {at}"
         );
     }
-    let smallest = smallest_image();
-    assert_eq!(rt;
-        first_broken_rule(&smallest[..31]).err(),
-        Some(LoadFault { rule: L1, place: 0 })
-    );
+    assert_eq!(rt; fault_of_first(31), Some(LoadFault { rule: L1, place: 0 }));
 }
 
 #[test]
