@@ -119,10 +119,26 @@ CASES = {
     "mixed": ("N files of 50 functions with strings, pointers, calls and unwind entries", (20, 200, 2_000),
               many_objects(FIFTY, "_f000000_00")),
     "names": ("50,000 names, a list of N names", (2_000,), listed("_n{0:05}_y{0:05}")),
-    "ends": ("50,000 names, a list of N patterns `*_y00017`", (2_000, 20_000), listed("*_y{:05}")),
+    "ends": ("50,000 names, a list of N patterns `*_y00017`", (2_000,), listed("*_y{:05}")),
     "middles": ("50,000 names, a list of N patterns `_*_y00017`", (2_000,), listed("_*_y{:05}")),
     "runs": ("50,000 names, a list of N patterns `*y00017*`", (2_000,), listed("*y{:05}*")),
 }
+
+
+def made_apart(make, folder, n):
+    """The words that `make` answers. A process of its own makes the inputs, since a child's memory counts from that of its parent."""
+    reads, writes = os.pipe()
+    child = os.fork()
+    if child == 0:
+        with os.fdopen(writes, "w", encoding="utf-8") as pipe:
+            pipe.write("\n".join(make(folder, n)))
+        os._exit(0)
+    os.close(writes)
+    with os.fdopen(reads, encoding="utf-8") as pipe:
+        words = pipe.read().split("\n")
+    if os.waitpid(child, 0)[1]:
+        sys.exit("bench: the inputs aren't made")
+    return words
 
 
 def run(words, error):
@@ -146,7 +162,7 @@ def bench(name, program, size, runs):
     for n in (size,) if size else sizes:
         with tempfile.TemporaryDirectory() as folder:
             out = ["-o", os.path.join(folder, "out")]
-            words = ["-generate", str(n)] if make is None else make(folder, n)
+            words = ["-generate", str(n)] if make is None else made_apart(make, folder, n)
             linkers = [[program, *out, *words]]
             if lld and make is not None:
                 linkers += [[lld, *PLATFORM, *out, *words], [lld, "--threads=1", *PLATFORM, *out, *words]]
