@@ -4,10 +4,8 @@ use Rattle.std.specs.Char.{is_ascii_digit}
 use Rattle.std.specs.List.{list_all}
 use Rattle.std.specs.Str.Parse.{digits_value}
 
--- the text is one decimal digit or more, and nothing else
-abbrev pub is_numeral : List ℕ → Bool
-is_numeral text = nat_lt 0 (length text) && list_all is_ascii_digit text
-
--- the number that a text of decimal digits writes, if it is at most `most`
+-- the number that a text of one decimal digit or more writes, if it is at most `most`
 unfoldable pub number_up_to : ℕ → List ℕ → Option ℕ
-number_up_to most text = if is_numeral text && nat_le (digits_value 10 text) most then Some (digits_value 10 text) else None
+number_up_to most text =
+    if (nat_lt 0 (length text) && list_all is_ascii_digit text) && nat_le (digits_value 10 text) most then Some (digits_value 10 text)
+    else None

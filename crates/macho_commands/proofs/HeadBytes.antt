@@ -12,7 +12,7 @@ use Rattle.macho_bytes.specs.Texts.{Stands}
 use Rattle.macho_bytes.specs.Layouts.{spelling}
 use Rattle.macho_records.specs.Layouts.{mach_header}
 use Rattle.macho_records.specs.declared.constants.TheConstants.{LC_CODE_SIGNATURE, LC_DYLD_CHAINED_FIXUPS}
-use Rattle.macho_records.specs.declared.constants.TheConstants.{LC_DYLD_EXPORTS_TRIE, LC_ID_DYLIB, LC_LOAD_DYLIB}
+use Rattle.macho_records.specs.declared.constants.TheConstants.{LC_DYLD_EXPORTS_TRIE, LC_ID_DYLIB}
 use Rattle.macho_records.specs.declared.header.MachHeader.{MachHeader}
 use Rattle.macho_model.specs.declared.placed.Counts.{Counts}
 use Rattle.macho_model.specs.Links.{Link}
@@ -21,7 +21,7 @@ use Rattle.macho_model.specs.Placement.{Placed}
 use Rattle.macho_model.specs.Segments.{list_if}
 use Rattle.macho_model.specs.Head as head
 use Rattle.macho_model.specs.Head.{range_size, head_for}
-use Rattle.macho_model.specs.HeadCommands.{HeadCommand, segment_for, entry_point_for, uuid_for, versions_for, dylinker_for, dylib_for, rpath_for}
+use Rattle.macho_model.specs.HeadCommands.{HeadCommand, segment_for, entry_point_for, uuid_for, versions_for, dylinker_for, dylib_for, needed_dylib_for, rpath_for}
 use Rattle.macho_model.specs.HeadCommands.{linkedit_for, symtab_for, commands_for}
 use Rattle.macho_commands.specs.declared.command.Command.{Command}
 use Rattle.macho_commands.specs.Texts.{text_said}
@@ -56,11 +56,11 @@ segments_text : (p : Placed) → map text_said (map (segment_for p) p.segments) 
 unfolding text_said
 segments_text p = each_text (segment_for p) (head.segment_for p) p.segments (λ s. refl)
 
-libraries_text : (names : List (List ℕ)) → map text_said (map (dylib_for LC_LOAD_DYLIB 2 0x054c0000 0x00010000) names)
-    ≡ map (head.dylib_for LC_LOAD_DYLIB 2 0x054c0000 0x00010000) names
+libraries_text : (names : List (List ℕ)) → map text_said (map needed_dylib_for names)
+    ≡ map head.needed_dylib_for names
 unfolding text_said
 libraries_text names =
-    each_text (dylib_for LC_LOAD_DYLIB 2 0x054c0000 0x00010000) (head.dylib_for LC_LOAD_DYLIB 2 0x054c0000 0x00010000) names (λ name. refl)
+    each_text needed_dylib_for head.needed_dylib_for names (λ name. refl)
 
 rpaths_text : (paths : List (List ℕ)) → map text_said (map rpath_for paths) ≡ map head.rpath_for paths
 unfolding text_said

@@ -14,7 +14,7 @@ use Rattle.macho_records.specs.Layouts.{segment_command, section_header, symtab_
 use Rattle.macho_structs.specs.Layouts.{entry_point_command, dylinker_command, dylib_command, rpath_command, linkedit_data_command}
 use Rattle.macho_structs.specs.Layouts.{uuid_command, build_version_command}
 use Rattle.macho_records.specs.declared.constants.TheConstants.{LC_CODE_SIGNATURE, LC_DYLD_CHAINED_FIXUPS, LC_DYLD_EXPORTS_TRIE}
-use Rattle.macho_records.specs.declared.constants.TheConstants.{LC_ID_DYLIB, LC_LOAD_DYLIB, MH_DYLIB, MH_EXECUTE}
+use Rattle.macho_records.specs.declared.constants.TheConstants.{LC_ID_DYLIB, MH_DYLIB, MH_EXECUTE}
 use Rattle.macho_records.specs.declared.header.MachHeader.{MachHeader}
 use Rattle.macho_model.specs.declared.placed.Counts.{Counts}
 use Rattle.macho_model.specs.Commands.{Command, commands_of, commands_end, command_fits}
@@ -25,7 +25,7 @@ use Rattle.macho_model.specs.Segments.{list_if}
 use Rattle.macho_model.specs.Placement.{Placed}
 use Rattle.macho_model.specs.LoadRules.{image_head_fits, needed_in_image}
 use Rattle.macho_model.specs.HeadCommands.{HeadCommand, Segment, EntryPoint, Uuid, BuildVersion, Dylinker, Dylib, Rpath, LinkeditData, Symtab}
-use Rattle.macho_model.specs.HeadCommands.{Other, segment_for, entry_point_for, uuid_for, versions_for, dylinker_for, dylib_for, rpath_for}
+use Rattle.macho_model.specs.HeadCommands.{Other, segment_for, entry_point_for, uuid_for, versions_for, dylinker_for, dylib_for, needed_dylib_for, rpath_for}
 use Rattle.macho_model.specs.Head.{range_size}
 use Rattle.macho_model.specs.HeadCommands.{linkedit_for, symtab_for, command_in, commands_in, size_said, header_for, commands_for}
 use Rattle.macho_model.specs.HeadCommands.{CommandsSay}
@@ -109,8 +109,8 @@ commands-whole : (l : Link) (counts : Counts) (p : Placed) (uuid : List ℕ) (tr
 unfolding commands_for
 commands-whole l counts p uuid trie =
     let segments = all_whole (segment_for p) p.segments (λ s. whole (segment_for p s) (omega arith) (omega arith)) in
-    let libraries = all_whole (dylib_for LC_LOAD_DYLIB 2 0x054c0000 0x00010000) (libraries_needed l)
-    (λ name. whole (dylib_for LC_LOAD_DYLIB 2 0x054c0000 0x00010000 name) (omega arith) (omega arith)) in
+    let libraries = all_whole needed_dylib_for (libraries_needed l)
+    (λ name. whole (needed_dylib_for name) (omega arith) (omega arith)) in
     let paths = all_whole rpath_for l.rpaths (λ path. whole (rpath_for path) (omega arith) (omega arith)) in
     let table = λ (n at size : ℕ). whole (linkedit_for n at size) (omega arith) (omega arith) in
     let tables = All-from_recursion IsWhole (tables_for counts p trie) (

@@ -7,14 +7,14 @@ use Rattle.std.proofs.Common.{◌≡◌, ℕ, ◌==◌, Bool, true, false, List,
 use Rattle.std.specs.Prelude.{if◌then◌else◌, Option, Some, None}
 use Rattle.std.proofs.lemmas.List.Elements.{filter-append}
 use Rattle.macho_records.specs.declared.constants.TheConstants.{LC_BUILD_VERSION, LC_CODE_SIGNATURE, LC_DYLD_CHAINED_FIXUPS}
-use Rattle.macho_records.specs.declared.constants.TheConstants.{LC_DYLD_EXPORTS_TRIE, LC_ID_DYLIB, LC_LOAD_DYLIB, LC_LOAD_DYLINKER}
+use Rattle.macho_records.specs.declared.constants.TheConstants.{LC_DYLD_EXPORTS_TRIE, LC_ID_DYLIB, LC_LOAD_DYLINKER}
 use Rattle.macho_records.specs.declared.constants.TheConstants.{LC_RPATH}
 use Rattle.macho_model.specs.declared.placed.Counts.{Counts}
 use Rattle.macho_model.specs.Links.{Link}
 use Rattle.macho_model.specs.Needs.{libraries_needed}
 use Rattle.macho_model.specs.Placement.{Placed}
 use Rattle.macho_model.specs.Segments.{list_if}
-use Rattle.macho_model.specs.HeadCommands.{HeadCommand, segment_for, entry_point_for, uuid_for, versions_for, dylinker_for, dylib_for, rpath_for}
+use Rattle.macho_model.specs.HeadCommands.{HeadCommand, segment_for, entry_point_for, uuid_for, versions_for, dylinker_for, dylib_for, needed_dylib_for, rpath_for}
 use Rattle.macho_model.specs.Head.{range_size}
 use Rattle.macho_model.specs.HeadCommands.{linkedit_for, symtab_for, commands_for}
 use Rattle.macho_commands.specs.Texts.{number_said}
@@ -58,7 +58,7 @@ pub record Pieces (n : ℕ) (l : Link) (counts : Counts) (p : Placed) (uuid : Li
   pub segments_are : said_with n (map (segment_for p) p.segments) ≡ segments
   pub entry_is : said_with n (list_if l.executable (entry_point_for l p ∷ [])) ≡ entry
   pub uuid_is : said_with n (uuid_for uuid ∷ []) ≡ uuids
-  pub libraries_are : said_with n (map (dylib_for LC_LOAD_DYLIB 2 0x054c0000 0x00010000) (libraries_needed l)) ≡ libraries
+  pub libraries_are : said_with n (map needed_dylib_for (libraries_needed l)) ≡ libraries
   pub tables_are : said_with n (linkedit_for LC_DYLD_CHAINED_FIXUPS p.linkedit.fixups.start (range_size p.linkedit.fixups)
       ∷ linkedit_for LC_DYLD_EXPORTS_TRIE p.linkedit.trie.start trie ∷ symtab_for counts p
       ∷ linkedit_for LC_CODE_SIGNATURE p.linkedit.signature.start (range_size p.linkedit.signature) ∷ []) ≡ tables

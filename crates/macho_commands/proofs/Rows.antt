@@ -5,10 +5,10 @@
 use Rattle.std.proofs.Common.{◌≡◌, ℕ, List, [], ◌∷◌, refl}
 use Rattle.std.specs.Prelude.{sum_by, codes}
 use Rattle.macho_records.specs.declared.constants.TheConstants.{LC_CODE_SIGNATURE, LC_DYLD_CHAINED_FIXUPS, LC_DYLD_EXPORTS_TRIE}
-use Rattle.macho_records.specs.declared.constants.TheConstants.{LC_ID_DYLIB, LC_LOAD_DYLIB}
+use Rattle.macho_records.specs.declared.constants.TheConstants.{LC_ID_DYLIB}
 use Rattle.macho_records.specs.declared.header.SectionHeader.{SectionHeader}
 use Rattle.macho_model.specs.declared.placed.PlacedSegment.{PlacedSegment}
-use Rattle.macho_model.specs.HeadCommands.{HeadCommand, size_said, dylinker_for, dylib_for, linkedit_for}
+use Rattle.macho_model.specs.HeadCommands.{HeadCommand, size_said, dylinker_for, dylib_for, needed_dylib_for, linkedit_for}
 use Rattle.macho_commands.specs.declared.command.SymbolTable.{SymbolTable}
 use Rattle.macho_commands.specs.Commands.{segment_said, entry_point_said, uuid_said, symtab_said}
 
@@ -26,7 +26,7 @@ executable s h uuid n t = refl
 with_import : (s : PlacedSegment) (h : SectionHeader) (uuid : List ℕ) (n : ℕ) (t : SymbolTable)
     → sum_by size_said (segment_said s 0 0 [] ∷ segment_said s 5 0 (h ∷ h ∷ []) ∷ segment_said s 3 16 (h ∷ []) ∷ segment_said s 1 0 []
     ∷ entry_point_said n
-    ∷ uuid_said uuid ∷ dylinker_for ∷ dylib_for LC_LOAD_DYLIB 2 0x054c0000 0x00010000 (codes "/usr/lib/libSystem.B.dylib") ∷ tables n t) ≡
+    ∷ uuid_said uuid ∷ dylinker_for ∷ needed_dylib_for (codes "/usr/lib/libSystem.B.dylib") ∷ tables n t) ≡
     736
 unfolding tables
 with_import s h uuid n t = refl

@@ -31,7 +31,7 @@ use Rattle.macho_model.specs.Signature.{uuid_written}
 use Rattle.macho_model.specs.Head.{headers_in}
 use Rattle.macho_model.specs.HeadCommands.{HeadCommand, Segment, EntryPoint, Uuid, Dylib, LinkeditData, Symtab, segment_for}
 use Rattle.macho_model.specs.Head.{path_filled, range_size}
-use Rattle.macho_model.specs.HeadCommands.{entry_point_for, uuid_for, dylib_for, linkedit_for, symtab_for, commands_for}
+use Rattle.macho_model.specs.HeadCommands.{entry_point_for, uuid_for, needed_dylib_for, linkedit_for, symtab_for, commands_for}
 use Rattle.macho_model.specs.HeadCommands.{commands_in, behind}
 use Rattle.macho_commands.proofs.Numbered.{in_segment, in_entry_point, in_uuid, in_dylib, in_symtab, in_linkedit}
 use Rattle.macho_commands.proofs.Walked.{said_with, chosen_in}
@@ -80,7 +80,7 @@ segments-listed l counts p uuid trie =
       segments_are = all_kept LC_SEGMENT_64 (segment_for p) p.segments (λ s. refl);
       entry_is = entry_dropped LC_SEGMENT_64 l.executable (entry_point_for l p) refl;
       uuid_is = refl;
-      libraries_are = none_kept LC_SEGMENT_64 (dylib_for LC_LOAD_DYLIB 2 0x054c0000 0x00010000) (libraries_needed l) (λ name. refl);
+      libraries_are = none_kept LC_SEGMENT_64 needed_dylib_for (libraries_needed l) (λ name. refl);
       tables_are = refl;
       no_versions = refl;
       no_dylinker = refl;
@@ -101,7 +101,7 @@ entry-listed l counts p uuid trie =
       segments_are = none_kept LC_MAIN (segment_for p) p.segments (λ s. refl);
       entry_is = entry_kept LC_MAIN l.executable (entry_point_for l p) refl;
       uuid_is = refl;
-      libraries_are = none_kept LC_MAIN (dylib_for LC_LOAD_DYLIB 2 0x054c0000 0x00010000) (libraries_needed l) (λ name. refl);
+      libraries_are = none_kept LC_MAIN needed_dylib_for (libraries_needed l) (λ name. refl);
       tables_are = refl;
       no_versions = refl;
       no_dylinker = refl;
@@ -111,19 +111,19 @@ entry-listed l counts p uuid trie =
     ∙ simp append-nil
 
 libraries-listed : (l : Link) (counts : Counts) (p : Placed) (uuid : List ℕ) (trie : ℕ)
-    → said_with LC_LOAD_DYLIB (commands_for l counts p uuid trie) ≡ map (dylib_for LC_LOAD_DYLIB 2 0x054c0000 0x00010000)
+    → said_with LC_LOAD_DYLIB (commands_for l counts p uuid trie) ≡ map needed_dylib_for
     (libraries_needed l)
 libraries-listed l counts p uuid trie =
     pieces-are LC_LOAD_DYLIB l counts p uuid trie (record {
       segments = [];
       entry = [];
       uuids = [];
-      libraries = map (dylib_for LC_LOAD_DYLIB 2 0x054c0000 0x00010000) (libraries_needed l);
+      libraries = map needed_dylib_for (libraries_needed l);
       tables = [];
       segments_are = none_kept LC_LOAD_DYLIB (segment_for p) p.segments (λ s. refl);
       entry_is = entry_dropped LC_LOAD_DYLIB l.executable (entry_point_for l p) refl;
       uuid_is = refl;
-      libraries_are = all_kept LC_LOAD_DYLIB (dylib_for LC_LOAD_DYLIB 2 0x054c0000 0x00010000) (libraries_needed l) (λ name. refl);
+      libraries_are = all_kept LC_LOAD_DYLIB needed_dylib_for (libraries_needed l) (λ name. refl);
       tables_are = refl;
       no_versions = refl;
       no_dylinker = refl;
@@ -161,7 +161,7 @@ one-listed n l counts p uuid trie one =
       segments_are = none_kept n (segment_for p) p.segments (λ s. one.segment);
       entry_is = entry_dropped n l.executable (entry_point_for l p) one.entry;
       uuid_is = refl;
-      libraries_are = none_kept n (dylib_for LC_LOAD_DYLIB 2 0x054c0000 0x00010000) (libraries_needed l) (λ name. one.library);
+      libraries_are = none_kept n needed_dylib_for (libraries_needed l) (λ name. one.library);
       tables_are = refl;
       no_versions = one.versions;
       no_dylinker = one.dylinker;
@@ -316,7 +316,7 @@ names_told b (c ∷ cs) (name ∷ names) e =
     ap (λ (t : List ℕ). t ∷ map (λ d. path_of b d (reading dylib_command b d.at).name_offset) cs) here
     ∙ ap (λ (ts : List (List ℕ)). name_of name ∷ ts) (names_told b cs names (ap (λ (xs : List (ℕ × List ℕ)). drop 1 xs) e))
 
-libraries-taken : (names : List (List ℕ)) → map path_taken (map (dylib_for LC_LOAD_DYLIB 2 0x054c0000 0x00010000) names) ≡ map path_for
+libraries-taken : (names : List (List ℕ)) → map path_taken (map needed_dylib_for names) ≡ map path_for
     names
 libraries-taken [] = refl
 libraries-taken (name ∷ names) = ap (λ (xs : List (ℕ × List ℕ)). path_for name ∷ xs) (libraries-taken names)

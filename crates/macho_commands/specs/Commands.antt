@@ -2,13 +2,13 @@
 use Rattle.std.specs.Prelude.{ℕ, ◌+◌, ◌*◌, ◌<◌, ◌^◌, List, [], ◌∷◌, length, sum_by}
 use Rattle.std.specs.List.{flat_map}
 use Rattle.macho_records.specs.Segments.{bytes_of}
-use Rattle.macho_records.specs.declared.constants.TheConstants.{LC_BUILD_VERSION, LC_CODE_SIGNATURE, LC_DYLD_CHAINED_FIXUPS, LC_DYLD_EXPORTS_TRIE, LC_ID_DYLIB, LC_LOAD_DYLIB, LC_MAIN, LC_SEGMENT_64, LC_SYMTAB, LC_UUID}
+use Rattle.macho_records.specs.declared.constants.TheConstants.{LC_BUILD_VERSION, LC_CODE_SIGNATURE, LC_DYLD_CHAINED_FIXUPS, LC_DYLD_EXPORTS_TRIE, LC_ID_DYLIB, LC_MAIN, LC_SEGMENT_64, LC_SYMTAB, LC_UUID}
 use Rattle.macho_records.specs.declared.header.SectionHeader.{SectionHeader}
 use Rattle.macho_records.specs.declared.header.SegmentCommand.{SegmentCommand}
 use Rattle.macho_model.specs.declared.placed.PlacedSegment.{PlacedSegment}
 use Rattle.macho_model.specs.HeadCommands as records
 use Rattle.macho_model.specs.Head.{PLATFORM_MACOS, THIS_TOOL, THIS_VERSION}
-use Rattle.macho_model.specs.HeadCommands.{HeadCommand, dylinker_for, dylib_for, rpath_for, linkedit_for, size_said}
+use Rattle.macho_model.specs.HeadCommands.{HeadCommand, dylinker_for, dylib_for, needed_dylib_for, rpath_for, linkedit_for, size_said}
 use Rattle.macho_commands.specs.declared.command.SymbolTable.{SymbolTable}
 use Rattle.macho_commands.specs.declared.command.Command.{Command}
 use Rattle.macho_commands.specs.declared.command.Command.TheVariants.{Segment, EntryPoint, Uuid, BuildVersion, Dylinker, IdDylib, LoadDylib, Rpath, ChainedFixups, ExportsTrie, Symtab, CodeSignature}
@@ -63,7 +63,7 @@ said_by (Uuid uuid) = uuid_said uuid
 said_by (BuildVersion minimum sdk) = versions_said minimum sdk
 said_by Dylinker = dylinker_for
 said_by (IdDylib name) = dylib_for LC_ID_DYLIB 1 0 0 name.now
-said_by (LoadDylib name) = dylib_for LC_LOAD_DYLIB 2 0x054c0000 0x00010000 name.now
+said_by (LoadDylib name) = needed_dylib_for name.now
 said_by (Rpath path) = rpath_for path.now
 said_by (ChainedFixups table) = linkedit_for LC_DYLD_CHAINED_FIXUPS table.offset table.size
 said_by (ExportsTrie table) = linkedit_for LC_DYLD_EXPORTS_TRIE table.offset table.size

@@ -4,7 +4,7 @@ ghost use Rattle.macho_bytes.specs.Numbers.{rounded_up};
 ghost use Rattle.macho_bytes.specs.Texts.{put};
 ghost use Rattle.macho_records.specs.declared.constants.TheConstants.{LC_ID_DYLIB, LC_LOAD_DYLIB};
 ghost use Rattle.macho_model.specs.Head.{path_command_size, path_filled};
-ghost use Rattle.macho_model.specs.HeadCommands.{dylinker_for, dylib_for, rpath_for};
+ghost use Rattle.macho_model.specs.HeadCommands.{dylinker_for, dylib_for, needed_dylib_for, rpath_for};
 ghost use Rattle.macho_commands.specs.Texts.{text_said};
 ghost use Rattle.macho_commands.specs.Reading.{IsReadable};
 
@@ -91,10 +91,10 @@ pub(crate) fn write_dylib(
 pub(crate) fn write_needed(name: &[u8], out: &mut [u8], at: usize)
     requires fits { path_command_size 24 name.now < 2 ^ 32 }
     requires room { at + path_command_size 24 name.now ≤ length out.old }
-    ensures written { out.new ≡ put at (text_said (dylib_for LC_LOAD_DYLIB 2 0x054c0000 0x00010000 name.now)) out.old }
-    ensures long { length (text_said (dylib_for LC_LOAD_DYLIB 2 0x054c0000 0x00010000 name.now))
+    ensures written { out.new ≡ put at (text_said (needed_dylib_for name.now)) out.old }
+    ensures long { length (text_said (needed_dylib_for name.now))
         ≡ path_command_size 24 name.now }
-    ensures readable { IsReadable (dylib_for LC_LOAD_DYLIB 2 0x054c0000 0x00010000 name.now) }
+    ensures readable { IsReadable (needed_dylib_for name.now) }
 {
     write_dylib(
         LC_LOAD_DYLIB,

@@ -1,10 +1,9 @@
 -- What is told of the consumed sections of a link: what is read of them, and which refusal stands.
 use Rattle.std.specs.Prelude.{◌≡◌, ℕ, ◌+◌, ◌*◌, ◌%◌, ◌<◌, ◌≤◌, ◌==◌, true, All, Contains}
 use Rattle.macho_model.specs.declared.rules.UnwindRule.{UnwindRule}
-use Rattle.macho_model.specs.Links.{Link, SectionId, header_at}
+use Rattle.macho_model.specs.Links.{Link, SectionId, section_id, header_at}
 use Rattle.macho_model.specs.Consumed.{initializer_section_fits, initializer_slot_fits, entry_count, whole_entries, keeps}
 use Rattle.macho_model.specs.Faults.{IsBadInitializer, IsBadEntry}
-use Rattle.macho_model.specs.Values.{section_id}
 use Rattle.macho_model.specs.Needs.{initializer_sections, unwind_sections, relocation_in, POINTER_SIZE}
 use Rattle.macho_consumed.specs.declared.fault.ConsumedFault.{ConsumedFault}
 use Rattle.macho_consumed.specs.declared.fault.ConsumedFault.TheVariants.{BadInitializer, BadUnwind, OutOfMemory}

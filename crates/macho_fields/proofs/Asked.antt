@@ -13,14 +13,14 @@ use Rattle.macho_records.specs.declared.constants.TheConstants.{S_THREAD_LOCAL_V
 use Rattle.macho_model.specs.declared.placed.Range64.{Range64}
 use Rattle.macho_model.specs.declared.targets.Target.{Target}
 use Rattle.macho_model.specs.declared.targets.Target.TheVariants as target
-use Rattle.macho_model.specs.Links.{Link, SectionId, header_at, is_template}
+use Rattle.macho_model.specs.Links.{Link, SectionId, section_id, header_at, is_template}
 use Rattle.macho_model.specs.Targets.{is_import}
 use Rattle.macho_model.specs.Fields.{Field}
 use Rattle.macho_model.specs.Segments.{SEGMENT_PAGE}
 use Rattle.macho_model.specs.Placement.{Placed}
 use Rattle.macho_model.specs.Addresses.{address_of}
 use Rattle.macho_model.specs.Stands.{Kind, Pointer, Difference, Branch, Page, Offset, SlotPage, SlotOffset, SlotDistance, NoKind, is_template_offset, is_in_template}
-use Rattle.macho_model.specs.Values.{is_pointer, is_absolute_target, needs_fixup, IsNotEncodable, section_id}
+use Rattle.macho_model.specs.Values.{is_pointer, is_absolute_target, needs_fixup, IsNotEncodable}
 use Rattle.macho_model.specs.Fixups.{has_room}
 use Rattle.macho_model.proofs.EachBelow.{true_or_false, and_left, and_right}
 use Rattle.macho_fixups.specs.declared.words.FixupKind.TheVariants.{Rebase, Bind}

@@ -18,7 +18,7 @@ use Rattle.macho_model.specs.declared.placed.Slot.{Slot}
 use Rattle.macho_model.specs.declared.placed.Stub.{Stub}
 use Rattle.macho_model.specs.declared.targets.Target.{Target}
 use Rattle.macho_model.specs.declared.targets.Target.TheVariants as target
-use Rattle.macho_model.specs.Links.{Link, SectionId, header_at, carried_of, is_template}
+use Rattle.macho_model.specs.Links.{Link, SectionId, section_id, header_at, carried_of, is_template}
 use Rattle.macho_model.specs.Resolution.{chosen_commons}
 use Rattle.macho_model.specs.Needs.{ByRelocation, distinct, uses_of, carried_uses, relocation_in}
 use Rattle.macho_model.specs.Targets.{same_target, slots_of, stubs_of, slot_of_use, stub_of_use, slot_of_relocation, stub_of_relocation, target_of_relocation}
@@ -26,7 +26,6 @@ use Rattle.macho_model.specs.Placement.{Placed, IsPlaced, TemplateHolds, templat
 use Rattle.macho_model.proofs.EachBelow.{true_or_false}
 use Rattle.macho_fields.specs.Looks.{IsThere, HasSlot, HasStub, IsFound}
 use Rattle.macho_fields.specs.Laws.{LeadsInside, TargetsAreKept}
-use Rattle.macho_model.specs.Values.{section_id}
 use Rattle.macho_fields.proofs.Once.{placed_once, same_target_is}
 
 -- behind another element

@@ -3,10 +3,10 @@ use Rattle.std.specs.Prelude.{◌≡◌, ℕ, true, Some}
 use Rattle.macho_model.specs.declared.targets.Site.{Site}
 use Rattle.macho_model.specs.declared.targets.Site.TheVariants as site
 use Rattle.macho_model.specs.declared.placed.PlacedSection.{PlacedSection}
-use Rattle.macho_model.specs.Links.{Link}
+use Rattle.macho_model.specs.Links.{Link, section_id}
 use Rattle.macho_model.specs.Fields.{Field}
 use Rattle.macho_model.specs.Placement.{Placed}
-use Rattle.macho_model.specs.Values.{section_id, FieldOf, needs_fixup, BadRange, BadRebase}
+use Rattle.macho_model.specs.Values.{FieldOf, needs_fixup, BadRange, BadRebase}
 use Rattle.macho_model.specs.Faults.{BadPlace}
 use Rattle.macho_fields.specs.declared.fault.FillFault.{FillFault}
 use Rattle.macho_fields.specs.declared.fault.FillFault.TheVariants.{Range, Rebase, Place, Unsupported, OutOfMemory}

@@ -5,11 +5,10 @@ use Rattle.macho_model.specs.declared.targets.Target.{Target}
 use Rattle.macho_model.specs.declared.targets.Target.TheVariants as target
 use Rattle.macho_model.specs.Lists.{IsNumber}
 use Rattle.macho_model.specs.Grammar.{IsObject}
-use Rattle.macho_model.specs.Links.{Object, Link, SectionId, carried_of}
+use Rattle.macho_model.specs.Links.{Object, Link, SectionId, section_id, carried_of}
 use Rattle.macho_model.specs.Resolution.{chosen_commons}
 use Rattle.macho_model.specs.Targets.{target_of_relocation}
 use Rattle.macho_model.specs.Placement.{Placed, IsPlaced}
-use Rattle.macho_model.specs.Values.{section_id}
 use Rattle.macho_fields.specs.Looks.{Leads, IsPlacedOnce, IsFound}
 
 -- each thing that is placed has one address

@@ -7,9 +7,9 @@ use Rattle.macho_lists.proofs.Members.{all_contains, map_contains}
 use Rattle.macho_model.specs.declared.placed.PlacedSection.{PlacedSection}
 use Rattle.macho_model.specs.declared.targets.Site.{Site}
 use Rattle.macho_model.specs.declared.targets.Site.TheVariants as site
-use Rattle.macho_model.specs.Links.{Link, SectionId, carried_of}
+use Rattle.macho_model.specs.Links.{Link, SectionId, section_id, carried_of}
 use Rattle.macho_model.specs.Placement.{Placed, id_of}
-use Rattle.macho_model.specs.Values.{section_id, BadRange, BadRebase}
+use Rattle.macho_model.specs.Values.{BadRange, BadRebase}
 use Rattle.macho_fields.specs.Faults.{IsBadPlace, NoneStandsIn, NoneIsBad}
 use Rattle.macho_fields.specs.Through.{NoStubIsFar, EachSlotFits}
 

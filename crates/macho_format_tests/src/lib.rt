@@ -1,4 +1,4 @@
-//! Tests of exports tries and of compact unwind, a module for each subject; and callers of the laws of both, and of chained fixups.
+//! Tests of exports tries and of compact unwind, a module for each subject; and callers of the laws of both.
 #![tactic(auto)]
 
 #[cfg(test)]

@@ -14,7 +14,7 @@ use Rattle.macho_model.specs.Symbols.{is_absolute, is_in_section, is_global, is_
 use Rattle.macho_model.specs.ObjectRules.{value_in_section, relocation_number_exists}
 use Rattle.macho_model.specs.Objects.{num_symbols, section_at, relocation_at}
 use Rattle.macho_structs.specs.declared.relocations.RelocationInfo.{RelocationInfo}
-use Rattle.macho_model.specs.Links.{Link, SectionId, object_of, header_at, sections_of, is_carried}
+use Rattle.macho_model.specs.Links.{Link, SectionId, section_id, object_of, header_at, sections_of, is_carried}
 use Rattle.macho_model.specs.Resolution.{SymbolId, Definition, Symbol, Library, ImageBase, symbols_of, entry_at, name_at, definition_of}
 use Rattle.macho_model.specs.Resolution.{stands_in_carried, section_of_symbol}
 use Rattle.macho_model.specs.Needs.{relocation_in, section_named, imports_of}
@@ -23,7 +23,6 @@ use Rattle.macho_model.specs.Targets.{target_of_relocation}
 use Rattle.macho_targets.specs.Laws.{IsOfLink}
 use Rattle.macho_model.specs.Grammar.{ObjectsAreRead}
 use Rattle.macho_model.proofs.ObjectLaws.{object_keeps}
-use Rattle.macho_model.specs.Values.{section_id}
 use Rattle.macho_targets.proofs.OfLink.{symbol_of, section_of, symbol_there, IsSectionOf}
 use Rattle.macho_targets.proofs.Named.{defined_by, name_of_link, symbol_of_link}
 use Rattle.macho_targets.proofs.Relocations.{relocation_of_link}

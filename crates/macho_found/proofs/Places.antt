@@ -12,13 +12,12 @@ use Rattle.macho_model.specs.declared.placed.PlacedSection.{PlacedSection}
 use Rattle.macho_model.specs.declared.placed.PlacedSegment.{PlacedSegment}
 use Rattle.macho_model.specs.declared.targets.Target.{Target}
 use Rattle.macho_model.specs.declared.targets.Target.TheVariants as target
-use Rattle.macho_model.specs.Links.{Link, SectionId, header_at}
+use Rattle.macho_model.specs.Links.{Link, SectionId, section_id, header_at}
 use Rattle.macho_model.specs.Targets.{is_import}
 use Rattle.macho_model.specs.Segments.{DATA}
 use Rattle.macho_model.specs.Placement.{Placed, IsPlaced, id_of, common_span, SectionLies, LiesInNamed}
 use Rattle.macho_placing.specs.Laws.{NonePasses}
 use Rattle.macho_targets.specs.Laws.{IsOfLink}
-use Rattle.macho_model.specs.Values.{section_id}
 use Rattle.macho_targets.proofs.Places.{section_place, common_place}
 use Rattle.macho_targets.proofs.Above.{targets_above}
 use Rattle.macho_standing.specs.Leads.{HasPlace}

@@ -27,7 +27,8 @@ use Rattle.macho_model.specs.Needs.{is_needed}
 use Rattle.macho_agreement.proofs.Names.{name_of-name}
 use Rattle.macho_standing.proofs.Distinct.{of_distinct}
 use Rattle.macho_standing.proofs.Members.{of_filter_map}
-use Rattle.macho_found.specs.Names.{IsPlain, StubsArePlain, ImportsArePlain, ImportsAreTellable, LibrariesAreWhole}
+use Rattle.macho_parts.specs.Views.{IsPlain}
+use Rattle.macho_found.specs.Names.{StubsArePlain, ImportsArePlain, ImportsAreTellable, LibrariesAreWhole}
 
 -- a text that doesn't begin with a NUL begins with its first byte
 first_stays : (x k : ℕ) (xs : List ℕ) → take (1 + k) (x ∷ xs) ≡ x ∷ take k xs

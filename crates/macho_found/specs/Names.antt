@@ -1,14 +1,11 @@
 -- The names of imports and of libraries hold no NUL.
-use Rattle.std.specs.Prelude.{◌≢◌, ℕ, ◌≤◌, List, length, All}
+use Rattle.std.specs.Prelude.{ℕ, ◌≤◌, List, length, All}
 use Rattle.macho_model.specs.Lists.{IsNumber}
 use Rattle.macho_model.specs.Links.{Link, StubReading, Stub}
 use Rattle.macho_model.specs.Needs.{imports_of, libraries_needed}
+use Rattle.macho_parts.specs.Views.{IsPlain}
 use Rattle.macho_agreement.specs.Laws.{NamesAreWhole}
 use Rattle.macho_linkedit.specs.Imports.{AreTellable}
-
--- no NUL stands in a text
-abbrev pub IsPlain : List ℕ → Type 0
-IsPlain text = All (λ c. c ≢ 0) text
 
 -- The texts that a stub is read as are plain.
 pub record IsPlainReading (says : StubReading) : Type 0 where

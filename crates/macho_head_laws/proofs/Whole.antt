@@ -21,7 +21,7 @@ use Rattle.macho_model.specs.Segments.{list_if}
 use Rattle.macho_model.specs.Placement.{Placed}
 use Rattle.macho_model.specs.Head.{headers_in, range_size}
 use Rattle.macho_model.specs.HeadCommands.{HeadCommand, EntryPoint, segment_for, entry_point_for, uuid_for, versions_for, dylinker_for}
-use Rattle.macho_model.specs.HeadCommands.{dylib_for, rpath_for, linkedit_for, symtab_for, commands_for}
+use Rattle.macho_model.specs.HeadCommands.{dylib_for, needed_dylib_for, rpath_for, linkedit_for, symtab_for, commands_for}
 use Rattle.macho_commands.specs.steps.Writing.{IsLinkedit}
 use Rattle.macho_head_laws.proofs.Cut.{segment_cut, range_cut, range_cut-size, counts_cut, placed_cut, entry_cut, entry_distance}
 use Rattle.macho_head_laws.proofs.Alike.{segment_with, headers_cut}
@@ -54,7 +54,7 @@ own_name : (e : Bool) (name : List ℕ) → IsWhole (if e then dylinker_for else
 own_name true name = dylinker_whole
 own_name false name = dylib_whole LC_ID_DYLIB 1 0 0 name (inl refl) (omega arith) (omega arith) (omega arith)
 
-needed_name : (name : List ℕ) → IsWhole (dylib_for LC_LOAD_DYLIB 2 0x054c0000 0x00010000 name)
+needed_name : (name : List ℕ) → IsWhole (needed_dylib_for name)
 needed_name name = dylib_whole LC_LOAD_DYLIB 2 0x054c0000 0x00010000 name (inr refl) (omega arith) (omega arith) (omega arith)
 
 ranged : (number : ℕ) (r : Range64) → IsLinkedit number → IsWhole (linkedit_for number (range_cut r).start (range_size (range_cut r)))
@@ -97,7 +97,7 @@ commands_whole l counts p uuid trie named headers fit =
     (All-cons IsWhole (uuid_for uuid) [] (uuid_whole uuid) (All-nil IsWhole)))
     (versions l.versions fit))
     (All-cons IsWhole _ [] (own_name l.executable l.install_name) (All-nil IsWhole)))
-    (All-map IsWhole (dylib_for LC_LOAD_DYLIB 2 0x054c0000 0x00010000) (libraries_needed l) (λ k d lt.
+    (All-map IsWhole needed_dylib_for (libraries_needed l) (λ k d lt.
     needed_name (get_or (libraries_needed l) k d))))
     (All-map IsWhole rpath_for l.rpaths (λ k d lt. rpath_whole (get_or l.rpaths k d))))
     (tables l counts p trie)

@@ -3,6 +3,7 @@ use Rattle.std.specs.Prelude.{◌≡◌, ℕ, List, not, [], ◌∷◌, ◌++◌
 use Rattle.std.specs.Option.{option_map}
 use Rattle.macho_args.specs.Settings.{Settings, install_name_of}
 use Rattle.macho_model.specs.Links.{Link, Input, Object, Dylib, Stub, StubReading}
+use Rattle.macho_model.specs.LinkLaws.{with_input}
 use Rattle.macho_promise.specs.Inputs.{IsStubInput}
 
 -- what is linked by arguments, before an input is added
@@ -19,10 +20,6 @@ link_of s = record {
   inputs = [];
   export_lists = [];
 }
-
--- a link with an input more
-abbrev pub with_input : Link → Input → Link
-with_input l input = record l { inputs = l.inputs ++ input ∷ [] }
 
 -- a link with an export list more
 abbrev pub with_export_list : Link → List ℕ → Link

@@ -18,7 +18,8 @@ use Rattle.macho_model.specs.Needs.{distinct, import_library, imports_of, is_nee
 use Rattle.macho_model.specs.Resolution.{Definition, library_name, library_of_input}
 use Rattle.macho_symbols.specs.declared.solved.Import.{Import}
 use Rattle.macho_symbols.specs.Told.{ImportsAre, IsImportOf}
-use Rattle.macho_inputs.specs.steps.Libraries.{texts, asked_of, is_kept}
+use Rattle.macho_stub_lines.specs.Lists.{texts}
+use Rattle.macho_inputs.specs.steps.Libraries.{asked_of, is_kept}
 
 -- the names of a set that a name was put into
 texts_put : (names : List (Bor (List ℕ))) (x : Bor (List ℕ)) → texts (insert_key same_text names x) ≡ insert_key bytes_eq (texts names) x.now

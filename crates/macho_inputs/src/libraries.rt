@@ -4,7 +4,7 @@ ghost use Rattle.macho_model.specs.Links.{Link};
 ghost use Rattle.macho_model.specs.Needs.{distinct, imports_of, libraries_needed};
 ghost use Rattle.std.specs.Str.{bytes_eq};
 ghost use Rattle.macho_symbols.specs.Kept.{IsResolved};
-ghost use Rattle.macho_inputs.specs.steps.Libraries.{texts};
+ghost use Rattle.macho_stub_lines.specs.Lists.{texts};
 ghost use Rattle.macho_inputs.specs.steps.Libraries.{asked_of, is_kept};
 
 use indexmap::IndexSet;

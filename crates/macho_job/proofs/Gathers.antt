@@ -18,7 +18,8 @@ use Rattle.macho_args.specs.Store.{Store}
 use Rattle.macho_args.specs.declared.fields.InputSpec.{InputSpec}
 use Rattle.macho_model.specs.Links.{Link}
 use Rattle.macho_model.specs.Links as model
-use Rattle.macho_image.specs.Linkers.{link_of, with_input, with_export_list}
+use Rattle.macho_model.specs.LinkLaws.{with_input}
+use Rattle.macho_image.specs.Linkers.{link_of, with_export_list}
 use Rattle.macho_devices.specs.Devices.{ReadsFile}
 use Rattle.macho_devices.specs.Faults.{CountsOn, CountRose}
 use Rattle.macho_job.specs.declared.fault.Fault.{Fault}

@@ -12,7 +12,8 @@ use Rattle.macho_args.specs.Store.{Store}
 use Rattle.std.proofs.lemmas.Bool.{cases_lt}
 use Rattle.macho_model.specs.Grammar.{IsObject}
 use Rattle.macho_model.specs.Links.{Link, Input, Object}
-use Rattle.macho_image.specs.Linkers.{link_of, with_input}
+use Rattle.macho_model.specs.LinkLaws.{with_input}
+use Rattle.macho_image.specs.Linkers.{link_of}
 use Rattle.macho_job.specs.declared.fault.Fault.{Fault}
 use Rattle.macho_job.specs.declared.fault.Fault.TheVariants as fault
 use Rattle.macho_job.specs.declared.heads.Head.TheVariants as head

@@ -1,5 +1,5 @@
 //! Tests of the tables of `__LINKEDIT`: bytes and numbers are written out from `mach-o/fixup-chains.h`, `mach-o/nlist.h` and
-//! `mach-o/loader.h`, or are those of images that ld64.lld (LLVM 19) made.
+//! `mach-o/loader.h`, or are those of images that ld64.lld (LLVM 19) made. And callers of the laws of chained fixups.
 #![tactic(auto)]
 
 #[cfg(test)]
@@ -10,6 +10,8 @@ mod fixup_images;
 mod fixups;
 #[cfg(test)]
 mod imports;
+#[cfg(test)]
+mod laws;
 #[cfg(test)]
 mod listing;
 #[cfg(test)]

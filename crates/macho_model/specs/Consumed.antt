@@ -114,10 +114,10 @@ pub record EntryId : Type 0 where
 unfoldable pub entries_of_link : Link → List EntryId
 entries_of_link l = flat_map (λ s. map (λ e. record { of_section = s; entry = e }) (range_with_len 0 (entry_count l s))) (unwind_sections l)
 
--- two entries are of functions that begin at one place
 abbrev pub same_section : SectionId → SectionId → Bool
 same_section f g = (f.file == g.file) && (f.section == g.section)
 
+-- two entries are of functions that begin at one place
 abbrev pub same_start : Link → EntryId → EntryId → Bool
 same_start l d e =
     list_any (λ q. list_any (λ r. same_section (section_named l d.of_section q) (section_named l e.of_section r)) (starts_in l e.of_section e.entry))

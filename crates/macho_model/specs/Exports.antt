@@ -6,7 +6,7 @@ use Rattle.macho_records.specs.Symbols.{is_hidden_of, is_weak_of}
 use Rattle.macho_records.specs.Sections.{type_of}
 use Rattle.macho_records.specs.declared.constants.TheConstants.{S_THREAD_LOCAL_VARIABLES}
 use Rattle.macho_model.specs.ExportLists.{listed}
-use Rattle.macho_model.specs.Links.{Link, header_at}
+use Rattle.macho_model.specs.Links.{Link, section_id, header_at}
 use Rattle.macho_model.specs.Resolution.{SymbolId, Symbol, entry_at, definition_of}
 use Rattle.macho_model.specs.Needs.{libraries_needed}
 
@@ -35,7 +35,7 @@ abbrev pub weak_flag : Link → SymbolId → ℕ
 weak_flag l s = if is_weak_of (entry_at l s) then FLAG_WEAK else 0
 
 abbrev pub section_flag : Link → ℕ → ℕ → ℕ
-section_flag l file section = if type_of (header_at l (record { file = file; section = section })) == S_THREAD_LOCAL_VARIABLES then FLAG_THREAD_LOCAL else 0
+section_flag l file section = if type_of (header_at l (section_id file section)) == S_THREAD_LOCAL_VARIABLES then FLAG_THREAD_LOCAL else 0
 
 -- the number of a library among those of the image, from 1
 abbrev pub library_number : Link → List ℕ → ℕ

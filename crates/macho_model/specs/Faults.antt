@@ -9,7 +9,7 @@ use Rattle.macho_model.specs.declared.targets.Site.{Site}
 use Rattle.macho_model.specs.declared.placed.Counts.{Counts}
 use Rattle.macho_model.specs.Lists.{IsNumber}
 use Rattle.macho_model.specs.ExportLists.{plain_entries}
-use Rattle.macho_model.specs.Links.{Link, SectionId, header_at, carried_of}
+use Rattle.macho_model.specs.Links.{Link, SectionId, section_id, header_at, carried_of}
 use Rattle.macho_model.specs.Symbols.{is_global}
 use Rattle.macho_model.specs.Resolution.{SymbolId, entry_at, name_at, strong_of, definition_of}
 use Rattle.macho_model.specs.Needs.{Use, ByRelocation, ByInitializer, ByPersonality, ByName, uses_of, symbol_used, initializer_sections, unwind_sections, relocation_in, POINTER_SIZE}
@@ -21,7 +21,7 @@ use Rattle.macho_model.specs.Rows.{is_supported, share_byte, are_pair}
 use Rattle.macho_model.specs.Consumed.{initializer_section_fits, initializer_slot_fits, is_plain_pointer, is_section_target, entry_count, whole_entries, keeps}
 use Rattle.macho_model.specs.Stands.{SectionAt}
 use Rattle.macho_model.specs.Limits.{PassesLimit, IsTooLarge}
-use Rattle.macho_model.specs.Values.{section_id, FieldOf, fits_signed, is_pointer, needs_fixup, BadRebase, BadRange}
+use Rattle.macho_model.specs.Values.{FieldOf, fits_signed, is_pointer, needs_fixup, BadRebase, BadRange}
 
 -- A refusal, seen without memory.
 pub data LinkFault : Type 0 where
@@ -57,9 +57,8 @@ names_symbol l (ByName name) = false
 -- a file uses a global name that has no definition
 abbrev pub IsUndefined : Link → List ℕ → ℕ → Type 0
 IsUndefined l name file =
-    (u : Use) × (s : SymbolId) × Contains (uses_of l) u × (names_symbol l u ≡ true) × (symbol_used l u ≡ Some s) ×
-    (is_global (entry_at l s) ≡ true) × (name_at l s ≡ name)
-    × (s.file ≡ file) × IsNone (definition_of l name)
+    (u : Use) × (s : SymbolId) × Contains (uses_of l) u × (names_symbol l u ≡ true) × (symbol_used l u ≡ Some s)
+    × (is_global (entry_at l s) ≡ true) × (name_at l s ≡ name) × (s.file ≡ file) × IsNone (definition_of l name)
 
 -- an entry breaks a rule; a section that is cut is told at the entry that is cut
 abbrev pub IsBadEntry : Link → SectionId → ℕ → UnwindRule → Type 0
@@ -74,21 +73,21 @@ entry_is_defined l = not l.executable || is_section_target (target_of_name l l.e
 abbrev pub IsBadInitializer : Link → SectionId → ℕ → Type 0
 IsBadInitializer l s offset =
     ((initializer_section_fits l s ≡ false) × (offset ≡ 0))
-    ⊎ ((slot : ℕ) × (POINTER_SIZE * slot + POINTER_SIZE ≤ (header_at l s).size) × (offset ≡ POINTER_SIZE * slot) ×
-    (initializer_slot_fits l s slot ≡ false))
+    ⊎ ((slot : ℕ) × (POINTER_SIZE * slot + POINTER_SIZE ≤ (header_at l s).size) × (offset ≡ POINTER_SIZE * slot)
+    × (initializer_slot_fits l s slot ≡ false))
     ⊎ ((r : ℕ) × (r < (header_at l s).nreloc) × (offset ≡ (relocation_in l s r).r_address) × ((offset % POINTER_SIZE == 0) ≡ false))
 
 -- a pointer is in a segment that may hold none; or its word crosses a page or is not at a multiple of four
 abbrev pub BadPlace : Link → SectionId → Field → Option Placed → Type 0
 BadPlace l s f None = may_hold_pointers (segment_name l s) ≡ false
 BadPlace l s f (Some p) =
-    (address : ℕ) × SectionAt p s.file s.section address × ((SEGMENT_PAGE < (address + f.offset) % SEGMENT_PAGE + 8) ⊎
-    (1 ≤ (address + f.offset) % 4))
+    (address : ℕ) × SectionAt p s.file s.section address
+    × ((SEGMENT_PAGE < (address + f.offset) % SEGMENT_PAGE + 8) ⊎ (1 ≤ (address + f.offset) % 4))
 
--- the last part of a path, without the slashes at its end
 abbrev pub SLASH : ℕ
 SLASH = 47
 
+-- the last part of a path, without the slashes at its end
 abbrev pub last_part : List ℕ → List ℕ
 last_part path = reverse (take_while (λ b. not (b == SLASH)) (without_slashes (reverse path)))
   where
@@ -121,9 +120,8 @@ FaultStands l counts (OverlappingFields file section first second) =
     Contains (carried_of l) (section_id file section) × (first < second) × (second < (header_at l (section_id file section)).nreloc)
     × (share_byte l (section_id file section) first second ≡ true) × (are_pair l (section_id file section) first second ≡ false)
 FaultStands l counts (BindAddend file section relocation addend) =
-    (f : Field) × FieldOf l (section_id file section) relocation f × (is_pointer f ≡ true) × (is_import f.target ≡ true) ×
-    (addend ≡ f.addend)
-    × (fits_signed 32 addend ≡ false)
+    (f : Field) × FieldOf l (section_id file section) relocation f × (is_pointer f ≡ true) × (is_import f.target ≡ true)
+    × (addend ≡ f.addend) × (fits_signed 32 addend ≡ false)
 FaultStands l counts (FixupPlace file section relocation placement) =
     (f : Field) × FieldOf l (section_id file section) relocation f × (needs_fixup l (section_id file section) f ≡ true)
     × BadPlace l (section_id file section) f placement

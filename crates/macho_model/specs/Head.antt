@@ -95,7 +95,7 @@ dylinker_for = spelling dylinker_command (record {
   name_offset = size_of dylinker_command;
 }) ++ path_filled (size_of dylinker_command) DYLINKER
 
--- a library by its install name: this one, or one that is needed
+-- a library by its install name, with a number of a command, a time stamp, and its current and its compatibility version
 abbrev pub dylib_for : ℕ → ℕ → ℕ → ℕ → List ℕ → List ℕ
 dylib_for number timestamp current compatible path = spelling dylib_command (record {
   cmd = number;
@@ -105,6 +105,10 @@ dylib_for number timestamp current compatible path = spelling dylib_command (rec
   current_version = current;
   compatibility_version = compatible;
 }) ++ path_filled (size_of dylib_command) path
+
+-- a library that is needed: with a time stamp of 2, version 1356.0.0, and 1.0.0 is enough, whichever library it is
+abbrev pub needed_dylib_for : List ℕ → List ℕ
+needed_dylib_for = dylib_for LC_LOAD_DYLIB 2 0x054c0000 0x00010000
 
 abbrev pub rpath_for : List ℕ → List ℕ
 rpath_for path = spelling rpath_command (record {
@@ -138,18 +142,19 @@ commands_for l counts p uuid trie =
     ++ uuid_for uuid ∷ []
     ++ versions_for l.versions
     ++ (if l.executable then dylinker_for else dylib_for LC_ID_DYLIB 1 0 0 l.install_name) ∷ []
-    ++ map (dylib_for LC_LOAD_DYLIB 2 0x054c0000 0x00010000) (libraries_needed l)
+    ++ map needed_dylib_for (libraries_needed l)
     ++ map rpath_for l.rpaths
     ++ linkedit_for LC_DYLD_CHAINED_FIXUPS p.linkedit.fixups.start (range_size p.linkedit.fixups)
     ∷ linkedit_for LC_DYLD_EXPORTS_TRIE p.linkedit.trie.start trie
     ∷ symtab_for counts p
     ∷ linkedit_for LC_CODE_SIGNATURE p.linkedit.signature.start (range_size p.linkedit.signature) ∷ []
 
--- the flags of an image: no name is left undefined, it is for the dynamic linker, by two levels of names; an executable may be
--- slid; and where thread-local variables are described, that they are
+-- a section describes thread-local variables
 abbrev pub describes_thread_locals : Placed → Bool
 describes_thread_locals p = list_any (λ h. type_of h == S_THREAD_LOCAL_VARIABLES) p.output_sections
 
+-- the flags of an image: no name is left undefined, it is for the dynamic linker, by two levels of names; an executable may be
+-- slid; and where thread-local variables are described, that they are
 abbrev pub flags_for : Link → Placed → ℕ
 flags_for l p =
     MH_NOUNDEFS + MH_DYLDLINK + MH_TWOLEVEL + (if l.executable then MH_PIE else 0) + (if describes_thread_locals p then MH_HAS_TLV_DESCRIPTORS else 0)

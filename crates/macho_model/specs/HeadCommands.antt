@@ -128,6 +128,9 @@ dylib_for number timestamp current compatible path = Dylib (record {
   compatibility_version = compatible;
 }) (path_filled (size_of dylib_command) path)
 
+abbrev pub needed_dylib_for : List ℕ → HeadCommand
+needed_dylib_for = dylib_for LC_LOAD_DYLIB 2 0x054c0000 0x00010000
+
 abbrev pub rpath_for : List ℕ → HeadCommand
 rpath_for path =
     Rpath (record { cmd = LC_RPATH; cmdsize = path_command_size (size_of rpath_command) path; name_offset = size_of rpath_command })
@@ -154,7 +157,7 @@ commands_for l counts p uuid trie =
     ++ uuid_for uuid ∷ []
     ++ versions_for l.versions
     ++ (if l.executable then dylinker_for else dylib_for LC_ID_DYLIB 1 0 0 l.install_name) ∷ []
-    ++ map (dylib_for LC_LOAD_DYLIB 2 0x054c0000 0x00010000) (libraries_needed l)
+    ++ map needed_dylib_for (libraries_needed l)
     ++ map rpath_for l.rpaths
     ++ linkedit_for LC_DYLD_CHAINED_FIXUPS p.linkedit.fixups.start (range_size p.linkedit.fixups)
     ∷ linkedit_for LC_DYLD_EXPORTS_TRIE p.linkedit.trie.start trie

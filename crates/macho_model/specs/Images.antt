@@ -109,6 +109,10 @@ NO_START = 0xffff
 abbrev pub page_starts : List ℕ → Table → ℕ → List ℕ
 page_starts b t k = if starts_offset b t k == 0 then [] else map (page_start b t k) (range_with_len 0 (segment_starts b t k).page_count)
 
+-- the format of chained pointers: offsets from the base (`DYLD_CHAINED_PTR_64_OFFSET`)
+abbrev pub POINTER_FORMAT : ℕ
+POINTER_FORMAT = 6
+
 -- the formats of import entries: the word alone, or the word and an addend (`DYLD_CHAINED_IMPORT`, `.._ADDEND`)
 abbrev pub IMPORT_FORMAT : ℕ
 IMPORT_FORMAT = 1

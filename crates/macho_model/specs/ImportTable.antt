@@ -20,10 +20,10 @@ fixup_count l = length (slots_of l) + length (flat_map (λ s. filter (needs_fixu
 unfoldable pub names_text : Link → List ℕ
 names_text l = flat_map (λ name. name ++ 0 ∷ []) (imports_of l)
 
--- an entry of the link by its number, and the name of its import
 abbrev pub no_entry : EntryOfImport
 no_entry = record { import = 0; addend = 0 }
 
+-- an entry of the link by its number, and the name of its import
 abbrev pub entry_of_link : Link → ℕ → EntryOfImport
 entry_of_link l k = get_or (import_entries_of l) k no_entry
 

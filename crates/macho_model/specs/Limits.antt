@@ -34,7 +34,8 @@ limited l counts limit.Pages = (0, 65535)
 abbrev pub PassesLimit : Link → Counts → Limit → ℕ → Option Placed → Type 0
 PassesLimit l counts what number None = (number ≡ (limited l counts what).0) × ((limited l counts what).1 < number)
 PassesLimit l counts limit.Pages number (Some p) =
-    (s : PlacedSegment) × Contains p.segments s × (may_hold_pointers (text_of s.name) ≡ true) × (number ≡ pages_of s) × (65535 < number)
+    (s : PlacedSegment) × Contains p.segments s × (may_hold_pointers (text_of s.name) ≡ true) × (number ≡ pages_of s)
+    × ((limited l counts limit.Pages).1 < number)
 PassesLimit l counts what number (Some p) = ⊥
 
 -- the numbers that are written in 32 bits

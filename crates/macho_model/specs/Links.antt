@@ -53,6 +53,9 @@ pub record SectionId : Type 0 where
   pub file : ℕ
   pub section : ℕ
 
+abbrev pub section_id : ℕ → ℕ → SectionId
+section_id file section = record { file = file; section = section }
+
 abbrev pub header_at : Link → SectionId → SectionHeader
 header_at l s = section_at (object_of l s.file) s.section
 

@@ -10,7 +10,7 @@ use Rattle.macho_records.specs.declared.constants.TheConstants.{CPU_TYPE_ARM64, 
 use Rattle.macho_model.specs.Commands.{Command, header_of, commands_end, segment_size}
 use Rattle.macho_model.specs.ObjectRules.{has_nul}
 use Rattle.macho_model.specs.Segments.{SEGMENT_PAGE, loaded_protection_of}
-use Rattle.macho_model.specs.Images.{segments_of, base_of, libraries_of, Table, fixups_header, starts_count, starts_offset, segment_starts, import_entry_size, import_entry, table_names, IMPORT_FORMAT, IMPORT_ADDEND_FORMAT}
+use Rattle.macho_model.specs.Images.{segments_of, base_of, libraries_of, Table, fixups_header, starts_count, starts_offset, segment_starts, import_entry_size, import_entry, table_names, POINTER_FORMAT, IMPORT_FORMAT, IMPORT_ADDEND_FORMAT}
 
 -- L1: a whole 64-bit arm64 header of an executable or a dynamic library
 abbrev pub image_head_fits : List ℕ → Bool
@@ -67,11 +67,10 @@ text_holds_commands b s = (s.fileoff == 0) && nat_le (commands_end b) s.filesize
 abbrev pub segment_address : List ℕ → ℕ → ℕ
 segment_address b k = get_or (map (λ s. s.vmaddr) (segments_of b)) k 0
 
--- L8, of a segment's starts: they have the known page size, pointers as offsets from the base (`DYLD_CHAINED_PTR_64_OFFSET`, 6),
--- and the segment's place
+-- L8, of a segment's starts: they have the known page size and pointer format, and the segment's place
 abbrev pub starts_known : List ℕ → Table → ℕ → Bool
 starts_known b t k =
-    ((segment_starts b t k).page_size == SEGMENT_PAGE) && ((segment_starts b t k).pointer_format == 6)
+    ((segment_starts b t k).page_size == SEGMENT_PAGE) && ((segment_starts b t k).pointer_format == POINTER_FORMAT)
     && (((segment_starts b t k).segment_offset + base_of b) % 2 ^ 64 == segment_address b k)
 
 -- and stand inside the table; a segment without fixups has none

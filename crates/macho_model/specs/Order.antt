@@ -12,7 +12,7 @@ use Rattle.macho_model.specs.Lists.{IsNumber, EachNext, of_first}
 use Rattle.macho_model.specs.Links.{Link, carried_of, greatest}
 use Rattle.macho_model.specs.Resolution.{chosen_commons}
 use Rattle.macho_model.specs.Segments.{PAGEZERO, TEXT, LINKEDIT, SEGMENT_PAGE, PAGEZERO_SIZE, may_hold_pointers, segment_names_of}
-use Rattle.macho_model.specs.WrittenSum.{INITIALIZER_SIZE, SYMBOL_SIZE, SIGNED_PAGE, DIGEST_SIZE, SIGNATURE_FIXED}
+use Rattle.macho_model.specs.WrittenSum.{FIXUP_RECORDS, INITIALIZER_SIZE, SYMBOL_SIZE, SIGNED_PAGE, DIGEST_SIZE, SIGNATURE_FIXED}
 use Rattle.macho_model.specs.Placement.{Placed, id_of, head_size, is_segment_named, range_span, linkedit_ranges}
 use Rattle.macho_model.specs.OutputSections.{OutputSection, output_sections_in, output_sections_of, is_zeros, key_of_output, Piece, piece, end_of_piece, pieces_of, extent_of, POINTER_EXPONENT}
 
@@ -86,10 +86,9 @@ pages_of s = (s.file_size + (SEGMENT_PAGE - 1)) / SEGMENT_PAGE
 abbrev pub pointer_pages : Placed → ℕ
 pointer_pages p = sum_by pages_of (filter (λ s. may_hold_pointers (text_of s.name)) p.segments)
 
--- The room of a fixup table: 188 bytes of records, the import entries and names, and two bytes for each page
--- (`mach-o/fixup-chains.h`).
+-- The room of a fixup table: its records, the import entries and names, and two bytes for each page (`mach-o/fixup-chains.h`).
 abbrev pub fixup_room : Counts → ℕ → ℕ
-fixup_room counts pages = rounded_up 8 (188 + counts.import_size * counts.imports + counts.name_bytes) + rounded_up 8 (2 * pages)
+fixup_room counts pages = rounded_up 8 (FIXUP_RECORDS + counts.import_size * counts.imports + counts.name_bytes) + rounded_up 8 (2 * pages)
 
 -- the room of a signature: its records, the identifier, and a digest for each page before it
 abbrev pub signature_room : Counts → ℕ → ℕ

@@ -122,10 +122,11 @@ unfoldable pub output_keys_of : Link → List OutputKey
 output_keys_of l =
     distinct same_key (map (λ s. key_of (header_at l s)) (carried_of l) ++ list_if (not (length (chosen_commons l) == 0)) (common_key ∷ []))
 
--- one for each part that the linker makes and that is not empty: initializers, unwind information, stubs, slots
 abbrev pub one_if : Bool → ℕ
 one_if b = if b then 1 else 0
 
+-- the output sections: the merged ones, and one for each part that the linker makes and that is not empty: initializers, unwind
+-- information, stubs, slots
 unfoldable pub output_count : Link → Counts → ℕ
 output_count l counts =
     length (output_keys_of l) + one_if (nat_lt 0 counts.initializers) + one_if (nat_lt 0 counts.unwind) + one_if (not (length (stubs_of l) == 0))

@@ -13,7 +13,7 @@ use Rattle.macho_records.specs.Sections.{type_of}
 use Rattle.macho_records.specs.declared.constants.TheConstants.{ARM64_RELOC_BRANCH26, ARM64_RELOC_GOT_LOAD_PAGE21, ARM64_RELOC_GOT_LOAD_PAGEOFF12, ARM64_RELOC_PAGE21, ARM64_RELOC_PAGEOFF12, ARM64_RELOC_POINTER_TO_GOT, ARM64_RELOC_TLVP_LOAD_PAGE21, ARM64_RELOC_TLVP_LOAD_PAGEOFF12, ARM64_RELOC_UNSIGNED, S_THREAD_LOCAL_VARIABLES}
 use Rattle.macho_records.specs.Symbols.{common_size_of}
 use Rattle.macho_model.specs.Objects.{section_bytes}
-use Rattle.macho_model.specs.Links.{Link, object_of, SectionId, header_at, is_template}
+use Rattle.macho_model.specs.Links.{Link, object_of, SectionId, section_id, header_at, is_template}
 use Rattle.macho_model.specs.Resolution.{entry_at}
 use Rattle.macho_model.specs.Needs.{imports_of, import_library}
 use Rattle.macho_model.specs.Fields.{Field, fields_of, content_of}
@@ -75,7 +75,7 @@ kind_of type has_subtrahend =
 
 -- a target lies in the thread-local template
 abbrev pub is_in_template : Link → Target → Bool
-is_in_template l (target.Section file section offset) = is_template (header_at l (record { file = file; section = section }))
+is_in_template l (target.Section file section offset) = is_template (header_at l (section_id file section))
 is_in_template l t = false
 
 -- a pointer in a descriptor of a thread-local variable to its initial value is an offset from the template's start

@@ -4,7 +4,7 @@ use Rattle.macho_model.specs.declared.targets.Target.{Target}
 use Rattle.macho_model.specs.declared.targets.Target.TheVariants as target
 use Rattle.macho_model.specs.declared.placed.Counts.{Counts}
 use Rattle.macho_records.specs.Symbols.{common_exponent_of, common_size_of}
-use Rattle.macho_model.specs.Links.{Link, SectionId, header_at, carried_of, placed_exponent}
+use Rattle.macho_model.specs.Links.{Link, SectionId, section_id, header_at, carried_of, placed_exponent}
 use Rattle.macho_model.specs.Resolution.{entry_at}
 use Rattle.macho_model.specs.Fields.{Field, fields_of, content_of}
 use Rattle.macho_model.specs.Words.{scale_of}
@@ -22,7 +22,7 @@ is_small x = nat_lt x (2 ^ 23) || nat_lt (2 ^ 64 - 2 ^ 23) x
 -- a target plus an addend is a multiple of a power of two, whatever address the target gets
 abbrev pub is_multiple : Link → ℕ → Target → ℕ → Bool
 is_multiple l m (target.Section file section offset) addend =
-    nat_le m (2 ^ placed_exponent l (record { file = file; section = section })) && ((offset + addend) % m == 0)
+    nat_le m (2 ^ placed_exponent l (section_id file section)) && ((offset + addend) % m == 0)
 is_multiple l m (target.Common id) addend = nat_le m (2 ^ common_exponent_of (entry_at l (common_of l id))) && (addend % m == 0)
 is_multiple l m target.Base addend = addend % m == 0
 is_multiple l m t addend = true
@@ -34,7 +34,7 @@ stands_at_multiple l s m f = nat_le m (2 ^ placed_exponent l s) && (f.offset % m
 -- an address plus an addend lies in its section or common, or at its end; an import's addend fits 32 bits
 abbrev pub stays_inside : Link → Target → ℕ → Bool
 stays_inside l (target.Section file section offset) addend =
-    nat_le ((offset + addend) % 2 ^ 64) (header_at l (record { file = file; section = section })).size
+    nat_le ((offset + addend) % 2 ^ 64) (header_at l (section_id file section)).size
 stays_inside l (target.Common id) addend = nat_le addend (common_size_of (entry_at l (common_of l id)))
 stays_inside l (target.Import id) addend = fits_signed 32 addend
 stays_inside l target.Base addend = addend == 0

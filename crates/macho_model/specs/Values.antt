@@ -9,15 +9,12 @@ use Rattle.macho_model.specs.declared.targets.Target.{Target}
 use Rattle.macho_model.specs.declared.targets.Target.TheVariants as target
 use Rattle.macho_model.specs.declared.placed.Stub.{Stub}
 use Rattle.macho_model.specs.Lists.{IsNumber}
-use Rattle.macho_model.specs.Links.{Link, SectionId, carried_of}
+use Rattle.macho_model.specs.Links.{Link, SectionId, section_id, carried_of}
 use Rattle.macho_model.specs.Targets.{is_import, slots_of}
 use Rattle.macho_model.specs.Fields.{Field, fields_of, content_of}
 use Rattle.macho_model.specs.Words.{scale_of}
 use Rattle.macho_model.specs.Placement.{Placed}
 use Rattle.macho_model.specs.Stands.{Kind, Pointer, Difference, Branch, Page, Offset, SlotPage, SlotDistance, kind_of, is_template_offset, SectionAt, IsAt, SlotAt, CallIsAt, LoadIsAt, SubtrahendIsAt}
-
-abbrev pub section_id : ℕ → ℕ → SectionId
-section_id file section = record { file = file; section = section }
 
 -- a field that is a pointer of 8 bytes
 abbrev pub is_pointer : Field → Bool
@@ -49,9 +46,7 @@ BadRebase l p (site.Field file section relocation) =
     (f : Field) × (x : ℕ) × FieldOf l (section_id file section) relocation f × (needs_fixup l (section_id file section) f ≡ true)
     × (is_import f.target ≡ false) × IsAt l p 0 empty f.target x × IsNotEncodable p ((x + f.addend) % 2 ^ 64)
 BadRebase l p (site.Slot index) =
-    (t : Target) × (x : ℕ) × IsNumber (slots_of l) index t × (is_import t ≡ false) × IsAt l p 0
-    empty t x
-    × IsNotEncodable p x
+    (t : Target) × (x : ℕ) × IsNumber (slots_of l) index t × (is_import t ≡ false) × IsAt l p 0 empty t x × IsNotEncodable p x
 BadRebase l p (site.Stub index) = ⊥
 
 -- a number modulo 2 ^ 64, read as signed, fits so many bits

@@ -51,11 +51,16 @@ unfoldable pub command_sum : Link → Counts → ℕ
 command_sum l counts =
     size_of segment_command * length (segment_names_of l) + size_of section_header * output_count l counts + counts.commands
 
--- with header, commands and the tables, whose fixed parts and alignment take 216 bytes; a segment may cost two pages of 16 KiB
+-- what a fixup table has beside imports and pages: its header of 28 bytes, a count, and for each of six segments an offset of 4
+-- bytes and a record of 22
+abbrev pub FIXUP_RECORDS : ℕ
+FIXUP_RECORDS = 188
+
+-- with header, commands and tables, whose alignment may cost 28 bytes; a segment may cost two pages of 16 KiB
 unfoldable pub unsigned_sum : Link → Counts → ℕ
 unsigned_sum l counts =
     content_sum l counts + size_of mach_header + command_sum l counts + counts.padding + counts.trie + SYMBOL_SIZE * counts.symbols + counts.strings
-    + 216 + counts.import_size * counts.imports + counts.name_bytes
+    + (FIXUP_RECORDS + 28) + counts.import_size * counts.imports + counts.name_bytes
     + 2 * (content_sum l counts / SEGMENT_PAGE + (length (carried_of l) + length (chosen_commons l) + 1)) + 2 * SEGMENT_PAGE * file_segments l
 
 -- the fixed parts of a signature: its superblob and code directory

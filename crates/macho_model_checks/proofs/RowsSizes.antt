@@ -1,9 +1,10 @@
 -- The sizes, the segments and the output sections of small links, by computing: those of an executable of one object, of one
 -- that calls a library, of a dynamic library, with the numbers that their files have.
-use Rattle.std.proofs.Common.{◌≡◌, ℕ, ◌+◌, true, false, List, [], ◌∷◌, ◌++◌, refl, Some, map}
+use Rattle.std.proofs.Common.{◌≡◌, ℕ, ◌+◌, ◌*◌, true, false, List, [], ◌∷◌, ◌++◌, refl, Some, map}
 use Rattle.std.specs.Prelude.{codes}
 use Rattle.macho_bytes.specs.Numbers.{le_at, le_bytes, row_bytes}
-use Rattle.macho_bytes.specs.Layouts.{reading}
+use Rattle.macho_bytes.specs.Layouts.{reading, size_of}
+use Rattle.macho_structs.specs.Layouts.{chained_fixups_header, chained_starts_in_segment}
 use Rattle.macho_model.specs.Commands.{header_of, commands_from, commands_of, commands_end}
 use Rattle.macho_model.specs.Objects.{segment_of, num_sections, section_place, section_at, section_bytes, symtab_of, num_symbols}
 use Rattle.macho_model.specs.Objects.{symbol_place, symbol_at, strings_of, symbol_name, relocation_place, relocation_at}
@@ -17,6 +18,7 @@ use Rattle.macho_model.specs.Fields.{fields_of}
 use Rattle.macho_model.specs.Rows.{is_supported}
 use Rattle.macho_model.specs.Segments.{TEXT, DATA_CONST, LINKEDIT, PAGEZERO, other_segments, segment_rank, segment_names_of, segments_for}
 use Rattle.macho_model.specs.Segments.{output_keys_of, output_count}
+use Rattle.macho_model.specs.WrittenSum.{FIXUP_RECORDS}
 use Rattle.macho_model.specs.OutputSections.{output_sections_of, key_of_output}
 use Rattle.macho_model.specs.Consumed.{entries_of_link}
 use Rattle.macho_model.specs.Fixups.{import_entries_of, own_entries, entries_have_addends}
@@ -166,3 +168,8 @@ unfolding header_of commands_from commands_of commands_end segment_of num_sectio
     counts_with commands_size initializers_of import_entries_of own_entries entries_have_addends table_symbols
     entries_of_link output_sections_of segments_for
 table_of_b = refl
+
+-- The records of a fixup table: its header, a count of segments, and for each of the six that an image may have an offset and a
+-- record (`mach-o/fixup-chains.h`).
+records_of_fixups : FIXUP_RECORDS ≡ size_of chained_fixups_header + 4 + 6 * (4 + size_of chained_starts_in_segment)
+records_of_fixups = refl

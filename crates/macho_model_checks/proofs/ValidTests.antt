@@ -18,11 +18,11 @@ use Rattle.macho_model.specs.declared.targets.Limit.{Limit}
 use Rattle.macho_model.specs.declared.targets.Limit.TheVariants as limit
 use Rattle.macho_model.specs.declared.placed.Counts.{Counts}
 use Rattle.macho_model.specs.ExportLists.{plain_entries}
-use Rattle.macho_model.specs.Links.{Link, SectionId, header_at, carried_of}
+use Rattle.macho_model.specs.Links.{Link, SectionId, section_id, header_at, carried_of}
 use Rattle.macho_model.specs.Lists.{IsNumber}
 use Rattle.macho_model.specs.Symbols.{is_global}
 use Rattle.macho_model.specs.Placement.{Placed}
-use Rattle.macho_model.specs.Values.{section_id, fits_signed}
+use Rattle.macho_model.specs.Values.{fits_signed}
 use Rattle.macho_model.specs.Resolution.{SymbolId, symbols_of, entry_at, name_at, has_name, is_strong, strong_of, definition_of}
 use Rattle.macho_model.specs.Needs.{Use, uses_of, symbol_used, initializer_sections, unwind_sections, relocation_in, POINTER_SIZE}
 use Rattle.macho_model.specs.Fields.{fields_of}

@@ -9,11 +9,11 @@ use Rattle.std.proofs.lemmas.List.Elements.{All-contains}
 use Rattle.macho_model.specs.declared.rules.UnwindRule.{UnwindRule}
 use Rattle.macho_model.specs.declared.rules.UnwindRule.TheVariants.{U1, U2, U3, U4, U5, U6, U7, U8}
 use Rattle.macho_model.specs.ExportLists.{plain_entries}
-use Rattle.macho_model.specs.Links.{Link, SectionId}
+use Rattle.macho_model.specs.Links.{Link, SectionId, section_id}
 use Rattle.macho_model.specs.Resolution.{definition_of}
 use Rattle.macho_model.specs.Needs.{initializer_sections, unwind_sections, relocation_in, POINTER_SIZE}
 use Rattle.macho_model.specs.Consumed.{initializer_section_fits, initializer_slot_fits, whole_entries, keeps}
-use Rattle.macho_model.specs.Values.{section_id, fits_signed}
+use Rattle.macho_model.specs.Values.{fits_signed}
 use Rattle.macho_model.specs.Faults.{DuplicateSymbol, UndefinedSymbol, EntryNotDefined, ExportListMissing, BadInitializer, BadUnwind, UnsupportedRelocation, OverlappingFields, BindAddend, FixupPlace, TooMany, ImageTooLarge, RebaseTarget, RelocationRange, BadName, IsBadEntry, IsBadInitializer}
 use Rattle.macho_consumed.specs.Told.{InitializersKeepRules, EntriesKeepRules}
 use Rattle.macho_reading.specs.Laws.{ReadIsNotRefused, PersonalitiesAreFit}

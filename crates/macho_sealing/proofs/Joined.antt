@@ -2,23 +2,22 @@
 --
 -- Each group says the parts of the head, and these are the link's. What is left is where the groups' brackets stand.
 use Rattle.std.proofs.Common.{◌≡◌, ℕ, List, [], ◌++◌, map, refl, ◌∙◌, append_assoc}
-use Rattle.macho_records.specs.declared.constants.TheConstants.{LC_LOAD_DYLIB}
 use Rattle.macho_model.specs.declared.placed.Counts.{Counts}
 use Rattle.macho_model.specs.Links.{Link}
 use Rattle.macho_model.specs.Placement.{Placed}
-use Rattle.macho_model.specs.HeadCommands.{HeadCommand, commands_for, segment_for, dylib_for, rpath_for}
+use Rattle.macho_model.specs.HeadCommands.{HeadCommand, commands_for, segment_for, needed_dylib_for, rpath_for}
 use Rattle.macho_sealing.specs.declared.commands.HeadParts.{HeadParts}
 use Rattle.macho_sealing.specs.Heads.{AreHeadParts, commands_of_parts}
 use Rattle.macho_sealing.specs.steps.Said.{own_said, tables_said}
 
 pub joined_parts : (p : Placed) (h : HeadParts) (a b c d e f : List HeadCommand)
     → a ≡ [] → b ≡ a ++ map (segment_for p) p.segments → c ≡ b ++ own_said h
-    → d ≡ c ++ map (dylib_for LC_LOAD_DYLIB 2 0x054c0000 0x00010000) (map (λ n. n.items) h.libraries.now)
+    → d ≡ c ++ map needed_dylib_for (map (λ n. n.items) h.libraries.now)
     → e ≡ d ++ map rpath_for (map (λ n. n.items) h.rpaths.now) → f ≡ e ++ tables_said p.linkedit h → f ≡ commands_of_parts p h
 unfolding commands_of_parts
 joined_parts p h a b c d e f none segments own libraries rpaths tables =
     let all : f ≡
-    (((map (segment_for p) p.segments ++ own_said h) ++ map (dylib_for LC_LOAD_DYLIB 2 0x054c0000 0x00010000)
+    (((map (segment_for p) p.segments ++ own_said h) ++ map needed_dylib_for
     (map (λ n. n.items) h.libraries.now))
     ++ map rpath_for (map (λ n. n.items) h.rpaths.now)) ++ tables_said p.linkedit h =
     rw (tables, rpaths, libraries, own, segments, none) refl in

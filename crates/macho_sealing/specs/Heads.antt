@@ -3,7 +3,7 @@ use Rattle.std.specs.Prelude.{◌≡◌, ℕ, ◌+◌, ◌-◌, ◌<◌, ◌^◌
 use Rattle.macho_bytes.specs.Texts.{put, Stands}
 use Rattle.macho_bytes.specs.Layouts.{size_of}
 use Rattle.macho_records.specs.Layouts.{mach_header}
-use Rattle.macho_records.specs.declared.constants.TheConstants.{LC_ID_DYLIB, LC_LOAD_DYLIB, LC_DYLD_CHAINED_FIXUPS, LC_DYLD_EXPORTS_TRIE, LC_CODE_SIGNATURE}
+use Rattle.macho_records.specs.declared.constants.TheConstants.{LC_ID_DYLIB, LC_DYLD_CHAINED_FIXUPS, LC_DYLD_EXPORTS_TRIE, LC_CODE_SIGNATURE}
 use Rattle.macho_model.specs.declared.placed.Counts.{Counts}
 use Rattle.macho_model.specs.declared.placed.Linkedit.{Linkedit}
 use Rattle.macho_model.specs.Commands.{header_of}
@@ -16,7 +16,7 @@ use Rattle.macho_model.specs.Addresses.{address_of}
 use Rattle.macho_model.specs.Signature.{uuid_written}
 use Rattle.macho_model.specs.Head as head
 use Rattle.macho_model.specs.Head.{range_size, head_for}
-use Rattle.macho_model.specs.HeadCommands.{HeadCommand, commands_in, commands_for, header_for, segment_for, versions_for, dylinker_for, dylib_for, rpath_for, linkedit_for, size_said}
+use Rattle.macho_model.specs.HeadCommands.{HeadCommand, commands_in, commands_for, header_for, segment_for, versions_for, dylinker_for, dylib_for, needed_dylib_for, rpath_for, linkedit_for, size_said}
 use Rattle.macho_commands.specs.Commands.{entry_point_said, uuid_said, symtab_said}
 use Rattle.macho_sealing.specs.declared.commands.HeadParts.{HeadParts}
 
@@ -50,7 +50,7 @@ commands_of_parts p h =
     map (segment_for p) p.segments ++ list_if h.executable (entry_point_said h.entry ∷ []) ++ uuid_said h.uuid ∷
     [] ++ versions_for h.versions
     ++ (if h.executable then dylinker_for else dylib_for LC_ID_DYLIB 1 0 0 h.install_name.now) ∷ []
-    ++ map (dylib_for LC_LOAD_DYLIB 2 0x054c0000 0x00010000) (map (λ n. n.items) h.libraries.now) ++ map rpath_for
+    ++ map needed_dylib_for (map (λ n. n.items) h.libraries.now) ++ map rpath_for
     (map (λ n. n.items) h.rpaths.now)
     ++ linkedit_for LC_DYLD_CHAINED_FIXUPS p.linkedit.fixups.start (range_size p.linkedit.fixups)
     ∷ linkedit_for LC_DYLD_EXPORTS_TRIE p.linkedit.trie.start h.trie_size

@@ -2,9 +2,9 @@
 ghost use Rattle.std.specs.Prelude.{◌≡◌, ℕ, ◌-◌, ◌<◌, ◌^◌, [], ◌∷◌, ◌++◌, List, map, if◌then◌else◌, IfOk, OnOk};
 ghost use Rattle.macho_model.specs.declared.placed.Counts.{Counts};
 ghost use Rattle.macho_model.specs.Links.{Link};
-ghost use Rattle.macho_records.specs.declared.constants.TheConstants.{LC_ID_DYLIB, LC_LOAD_DYLIB};
+ghost use Rattle.macho_records.specs.declared.constants.TheConstants.{LC_ID_DYLIB};
 ghost use Rattle.macho_model.specs.Segments.{list_if};
-ghost use Rattle.macho_model.specs.HeadCommands.{commands_for, versions_for, dylinker_for, dylib_for, rpath_for};
+ghost use Rattle.macho_model.specs.HeadCommands.{commands_for, versions_for, dylinker_for, dylib_for, needed_dylib_for, rpath_for};
 ghost use Rattle.macho_layout.specs.Placements.{placed_of};
 ghost use Rattle.macho_commands.specs.declared.command.Command.TheVariants.{BuildVersion};
 ghost use Rattle.macho_commands.specs.Commands.{said_by, entry_point_said};
@@ -104,7 +104,7 @@ fn add_libraries<'a>(
     libraries: &'a [Vec<u8>],
     commands: &mut Vec<Command<'a>>,
 ) -> Result<(), AllocError>
-    ensures { OnOk result (map said_by commands.new.items ≡ map said_by commands.old.items ++ map (dylib_for LC_LOAD_DYLIB 2 0x054c0000 0x00010000) (map (λ n. n.items) libraries.now)) }
+    ensures { OnOk result (map said_by commands.new.items ≡ map said_by commands.old.items ++ map needed_dylib_for (map (λ n. n.items) libraries.now)) }
 {
     for name in libraries {
         commands.push(Command::LoadDylib {

@@ -18,7 +18,7 @@ use Rattle.macho_model.specs.declared.placed.PlacedSection.{PlacedSection}
 use Rattle.macho_model.specs.declared.placed.PlacedCommon.{PlacedCommon}
 use Rattle.macho_model.specs.declared.targets.Target.{Target}
 use Rattle.macho_model.specs.declared.targets.Target.TheVariants as target
-use Rattle.macho_model.specs.Links.{Link, SectionId, header_at, carried_of}
+use Rattle.macho_model.specs.Links.{Link, SectionId, section_id, header_at, carried_of}
 use Rattle.macho_model.specs.Resolution.{chosen_commons}
 use Rattle.macho_model.specs.Targets.{is_defined, is_import}
 use Rattle.macho_model.specs.Segments.{base_of_link}
@@ -32,7 +32,7 @@ use Rattle.macho_model.specs.Meaning.{Same}
 use Rattle.macho_model.specs.Memory.{Choice, rebase_target, rebase_high}
 use Rattle.macho_model.specs.SlideLaws.{MovesAt}
 use Rattle.macho_model.specs.Stands.{IsAt}
-use Rattle.macho_model.specs.Values.{section_id, IsNotEncodable}
+use Rattle.macho_model.specs.Values.{IsNotEncodable}
 use Rattle.macho_fixups.specs.declared.run.Fixup.{Fixup}
 use Rattle.macho_fixups.specs.declared.words.FixupKind.{FixupKind}
 use Rattle.macho_fixups.specs.declared.words.FixupKind.TheVariants.{Rebase}

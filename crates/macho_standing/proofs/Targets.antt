@@ -15,7 +15,7 @@ use Rattle.macho_model.specs.declared.targets.Target.{Target}
 use Rattle.macho_model.specs.declared.targets.Target.TheVariants as target
 use Rattle.macho_model.specs.Symbols.{is_absolute, is_in_section, is_global, is_local}
 use Rattle.macho_model.specs.Objects.{num_sections, num_symbols}
-use Rattle.macho_model.specs.Links.{Link, SectionId, object_of, header_at, is_carried, sections_of, carried_of}
+use Rattle.macho_model.specs.Links.{Link, SectionId, section_id, object_of, header_at, is_carried, sections_of, carried_of}
 use Rattle.macho_model.specs.Resolution.{SymbolId, Definition, Symbol, Library, ImageBase, first_or, entry_at, name_at, same_symbol}
 use Rattle.macho_model.specs.Resolution.{symbols_of, section_of_symbol, stands_in_carried, has_name, is_strong, is_weak, strong_of, weak_of}
 use Rattle.macho_model.specs.Resolution.{commons_of, greatest_of, libraries_with, definition_of, DSO_HANDLE, is_symbol, defines, is_chosen}
@@ -25,7 +25,7 @@ use Rattle.macho_model.specs.Needs.{symbol_of_relocation}
 use Rattle.macho_model.specs.Targets.{place_of_symbol, own_target, definition_target, target_with, target_of, target_of_symbol}
 use Rattle.macho_model.specs.Targets.{target_of_section, target_of_relocation}
 use Rattle.macho_model.specs.Rows.{is_none}
-use Rattle.macho_model.specs.Values.{section_id, is_absolute_target}
+use Rattle.macho_model.specs.Values.{is_absolute_target}
 use Rattle.macho_standing.specs.Leads.{HasPlace}
 use Rattle.macho_model.specs.Grammar.{ObjectsAreRead}
 use Rattle.macho_standing.proofs.Members.{in_filter, of_filter, in_filter_map, at_front}

@@ -5,13 +5,13 @@ use Rattle.macho_records.specs.Sections.{is_zerofill}
 use Rattle.macho_model.specs.declared.rules.UnwindRule.TheVariants.{U7}
 use Rattle.macho_model.specs.declared.targets.Target.{Target}
 use Rattle.macho_model.specs.declared.targets.Target.TheVariants as target
-use Rattle.macho_model.specs.Links.{Link, SectionId, header_at, carried_of}
+use Rattle.macho_model.specs.Links.{Link, SectionId, section_id, header_at, carried_of}
 use Rattle.macho_model.specs.Resolution.{chosen_commons}
 use Rattle.macho_model.specs.Needs.{imports_of, unwind_sections}
 use Rattle.macho_model.specs.Targets.{slots_of}
 use Rattle.macho_model.specs.Fields.{Field, fields_of}
 use Rattle.macho_model.specs.Consumed.{entry_count, keeps}
-use Rattle.macho_model.specs.Values.{section_id, needs_fixup}
+use Rattle.macho_model.specs.Values.{needs_fixup}
 
 -- a target is a part of the link: a carried section up to its end, a chosen common, an import, or the base
 abbrev pub HasPlace : Link → Target → Type 0

@@ -92,18 +92,13 @@ abbrev pub behind_between : ℕ → Between → ℕ
 behind_between at (Spaces count) = at + count
 behind_between at (Turn tail number next between) = behind_between next between
 
-abbrev pub behind_scalar : ℕ → ScalarTree → ℕ
-behind_scalar at scalar = at + length (scalar_bytes scalar)
-
 -- the scalars, from this place on
-abbrev pub final_slices : ℕ → Option Final → List Slice
-final_slices at None = []
-final_slices at (Some one) = slice_of at one.scalar ∷ []
-
 abbrev pub slices_from : ℕ → List Followed → Option Final → List Slice
-slices_from at [] final = final_slices at final
-slices_from at (one ∷ others) final = slice_of at one.scalar
-    ∷ slices_from (behind_between (behind_between (behind_scalar at one.scalar) one.before + 1) one.behind) others final
+slices_from at [] None = []
+slices_from at [] (Some one) = slice_of at one.scalar ∷ []
+slices_from at (one ∷ others) final =
+    let comma_at : ℕ = behind_between (at + length (scalar_bytes one.scalar)) one.before in
+    slice_of at one.scalar ∷ slices_from (behind_between (comma_at + 1) one.behind) others final
 
 -- the scalars of a list that begins at this place
 abbrev pub slices_of : ℕ → ListTree → List Slice

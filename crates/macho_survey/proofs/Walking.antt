@@ -9,10 +9,9 @@ use Rattle.std.proofs.lemmas.List.Elements.{filter-append, Contains-append_left,
 use Rattle.std.proofs.lemmas.Grind.{flat_map-append}
 use Rattle.std.proofs.lemmas.List.FromFn.{length-range_with_len, get_or-map-range_with_len, length-enumerate_from, get_or-enumerate_from}
 use Rattle.macho_model.specs.Objects.{num_sections, section_at}
-use Rattle.macho_model.specs.Links.{Input, Object, Link, SectionId, no_input, object_of, object_bytes, header_at, is_carried}
+use Rattle.macho_model.specs.Links.{Input, Object, Link, SectionId, section_id, no_input, object_of, object_bytes, header_at, is_carried}
 use Rattle.macho_model.specs.Links.{sections_of_file, sections_of, carried_of}
 use Rattle.macho_model.specs.Needs.{Use, ByRelocation, uses_of, carried_uses, relocations_of}
-use Rattle.macho_model.specs.Values.{section_id}
 use Rattle.macho_names.specs.Kept.{FileRows, Keeps}
 use Rattle.macho_parts.specs.Noted.{BeginsWith}
 use Rattle.macho_needs.specs.declared.needs.Needs.{Needs}

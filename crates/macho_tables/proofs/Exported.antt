@@ -22,7 +22,8 @@ use Rattle.macho_symbols.specs.Exported.{IsFromObject, IsReexport, export_names}
 use Rattle.macho_linkedit.proofs.Numbering.{not_own}
 use Rattle.macho_targets.proofs.Named.{defined_by}
 use Rattle.macho_linked.specs.Linked.{export_of}
-use Rattle.macho_tables.specs.Exports.{exports_told, IsPlain, ImportsArePlain}
+use Rattle.macho_parts.specs.Views.{IsPlain}
+use Rattle.macho_tables.specs.Exports.{exports_told, ImportsArePlain}
 use Rattle.macho_tables.specs.Laws.{ExportsAreAllTold}
 use Rattle.macho_tables.proofs.Lists.{map_map, of_distinct}
 use Rattle.macho_tables.proofs.Plain.{symbol_plain}

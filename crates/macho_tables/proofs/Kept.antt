@@ -19,7 +19,8 @@ use Rattle.macho_linkedit.specs.declared.exports.ExportSays.{ExportSays}
 use Rattle.macho_linkedit.specs.declared.exports.NamedExport.{NamedExport}
 use Rattle.macho_linkedit.specs.Tries.{kept_of, names_in, AreKept}
 use Rattle.macho_linked.specs.Linked.{export_of}
-use Rattle.macho_tables.specs.Exports.{exports_told, AreExportsOf, IsPlain, ImportsArePlain, CanBeTrie}
+use Rattle.macho_parts.specs.Views.{IsPlain}
+use Rattle.macho_tables.specs.Exports.{exports_told, AreExportsOf, ImportsArePlain, CanBeTrie}
 use Rattle.macho_tables.specs.Laws.{KeptAreOne}
 use Rattle.macho_tables.specs.steps.Says.{IsAmong, number_in, says_kept, seen}
 use Rattle.macho_tables.proofs.Lists.{map_map, map_same}

@@ -7,7 +7,7 @@ use Rattle.std.proofs.lemmas.List.{get_or-take, length-take}
 use Rattle.std.proofs.lemmas.List.Sums.{fails_before_first}
 use Rattle.macho_bytes.specs.Texts.{name_of}
 use Rattle.macho_model.specs.Objects.{symbol_at, strings_of, symbol_name}
-use Rattle.macho_tables.specs.Exports.{IsPlain}
+use Rattle.macho_parts.specs.Views.{IsPlain}
 
 pub name_plain : (bytes : List ℕ) → IsPlain (name_of bytes)
 name_plain bytes k d lt zero_is =

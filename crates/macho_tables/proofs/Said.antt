@@ -13,12 +13,12 @@ use Rattle.macho_model.specs.declared.placed.Counts.{Counts}
 use Rattle.macho_model.specs.declared.targets.Target.{Target}
 use Rattle.macho_model.specs.declared.targets.Target.TheVariants as target
 use Rattle.macho_model.specs.Objects.{num_sections, section_at}
-use Rattle.macho_model.specs.Links.{Object, Link, header_at, carried_of, sections_of, is_carried}
+use Rattle.macho_model.specs.Links.{Object, Link, header_at, carried_of, sections_of, is_carried, section_id}
 use Rattle.macho_model.specs.Needs.{imports_of, import_library}
 use Rattle.macho_model.specs.Resolution.{SymbolId, entry_at}
 use Rattle.macho_model.specs.Rows.{is_none}
 use Rattle.macho_model.specs.Targets.{own_target, definition_target, target_of_name, is_defined}
-use Rattle.macho_model.specs.Values.{is_absolute_target, section_id}
+use Rattle.macho_model.specs.Values.{is_absolute_target}
 use Rattle.macho_model.specs.Exports.{IsExported, library_number}
 use Rattle.macho_model.specs.Placement.{Placed}
 use Rattle.macho_model.specs.Addresses.{address_of}

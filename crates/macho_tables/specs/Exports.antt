@@ -1,8 +1,9 @@
 -- The exported names of a link, as the exports trie is made from them.
-use Rattle.std.specs.Prelude.{◌≡◌, ◌≢◌, ℕ, List, map, All}
+use Rattle.std.specs.Prelude.{◌≡◌, ℕ, List, map, All}
 use Rattle.macho_model.specs.Links.{Link}
 use Rattle.macho_model.specs.Needs.{imports_of, libraries_needed}
 use Rattle.macho_model.specs.Told.{ToldExport}
+use Rattle.macho_parts.specs.Views.{IsPlain}
 use Rattle.macho_symbols.specs.declared.exports.ExportName.{ExportName}
 use Rattle.macho_symbols.specs.declared.solved.Import.{Import}
 use Rattle.macho_symbols.specs.Exported.{AreExports}
@@ -22,10 +23,7 @@ pub record AreExportsOf (l : Link) (exports : List ExportName) (imports : List I
   pub imports_are : ImportsAre l (imports_of l) imports
   pub libraries_are : libraries ≡ libraries_needed l
 
--- a text has no NUL, and no name of an import has one
-abbrev pub IsPlain : List ℕ → Type 0
-IsPlain text = All (λ c. c ≢ 0) text
-
+-- no name of an import has a NUL
 abbrev pub ImportsArePlain : Link → Type 0
 ImportsArePlain l = All IsPlain (imports_of l)
 

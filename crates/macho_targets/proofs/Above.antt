@@ -24,9 +24,8 @@ use Rattle.macho_model.specs.declared.targets.Target.TheVariants as target
 use Rattle.macho_model.proofs.EachBelow.{and_left}
 use Rattle.macho_lists.proofs.Members.{filter_contains, all_contains}
 use Rattle.macho_targets.specs.Laws.{TargetsStandAbove}
-use Rattle.macho_model.specs.Values.{section_id}
 use Rattle.macho_targets.proofs.Places.{section_place, common_place}
-use Rattle.macho_model.specs.Links.{Link, SectionId, header_at, is_carried, sections_of, carried_of}
+use Rattle.macho_model.specs.Links.{Link, SectionId, section_id, header_at, is_carried, sections_of, carried_of}
 use Rattle.macho_model.specs.Segments.{PAGEZERO, TEXT, DATA_CONST, DATA, LINKEDIT, base_of_link, segment_rank, segment_name, other_segments}
 use Rattle.macho_model.specs.Placement.{Placed, IsPlaced, IsInOrder, Follows, is_segment_named, SectionLies, LiesInNamed, common_span}
 use Rattle.macho_model.specs.Placement.{id_of}

@@ -18,10 +18,9 @@ use Rattle.macho_model.specs.Symbols.{is_in_section}
 use Rattle.macho_model.specs.Objects.{num_sections, num_symbols, symbol_at}
 use Rattle.macho_model.specs.Grammar.{IsObject, ObjectsAreRead}
 use Rattle.macho_model.proofs.ObjectLaws.{object_keeps}
-use Rattle.macho_model.specs.Links.{Link, Input, Object, Dylib, Stub, object_bytes, no_input, object_of, SectionId, header_at}
+use Rattle.macho_model.specs.Links.{Link, Input, Object, Dylib, Stub, object_bytes, no_input, object_of, SectionId, section_id, header_at}
 use Rattle.macho_model.specs.Links.{sections_of_file, sections_of, is_carried, carried_of}
 use Rattle.macho_model.specs.Resolution.{SymbolId, symbols_of_file, symbols_of, entry_at, section_of_symbol, stands_in_carried}
-use Rattle.macho_model.specs.Values.{section_id}
 
 -- a symbol of the link is one of an object
 pub record IsSymbolOf (l : Link) (s : SymbolId) : Type 0 where

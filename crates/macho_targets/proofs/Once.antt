@@ -20,11 +20,10 @@ use Rattle.macho_lists.proofs.Orders.{EachLater, later_filter, later_append, lat
 use Rattle.macho_model.specs.declared.targets.Target.{Target}
 use Rattle.macho_model.specs.declared.targets.Target.TheVariants as target
 use Rattle.macho_model.specs.Objects.{num_sections}
-use Rattle.macho_model.specs.Links.{Link, Input, Object, Dylib, Stub, SectionId, sections_of_file, sections_of, carried_of, header_at}
+use Rattle.macho_model.specs.Links.{Link, Input, Object, Dylib, Stub, SectionId, section_id, sections_of_file, sections_of, carried_of, header_at}
 use Rattle.macho_model.specs.Links.{is_carried}
 use Rattle.macho_model.specs.Needs.{distinct, uses_of}
 use Rattle.macho_model.specs.Targets.{same_target, slots_of, slot_of_use}
-use Rattle.macho_model.specs.Values.{section_id}
 
 -- a section stands before another one of the list: in an earlier file, or earlier in the same one
 abbrev pub Before : SectionId → SectionId → Type 0

@@ -13,7 +13,7 @@ use Rattle.macho_model.specs.declared.targets.Target.TheVariants as target
 use Rattle.macho_model.specs.declared.placed.PlacedSection.{PlacedSection}
 use Rattle.macho_model.specs.declared.placed.PlacedCommon.{PlacedCommon}
 use Rattle.macho_model.specs.declared.placed.Slot.{Slot}
-use Rattle.macho_model.specs.Links.{Link, SectionId, carried_of}
+use Rattle.macho_model.specs.Links.{Link, SectionId, section_id, carried_of}
 use Rattle.macho_model.specs.Resolution.{chosen_commons}
 use Rattle.macho_model.specs.Targets.{same_target}
 use Rattle.macho_model.specs.Placement.{Placed, id_of}
@@ -21,7 +21,6 @@ use Rattle.macho_model.specs.Lists.{of_first}
 use Rattle.macho_model.specs.Addresses.{section_address, common_address, slot_address}
 use Rattle.macho_lists.proofs.Orders.{EachLater}
 use Rattle.macho_targets.specs.Laws.{ListsAll, TargetsHavePlaces, PlacesAreOne, SlotsHavePlaces, SlotPlacesAreOne}
-use Rattle.macho_model.specs.Values.{section_id}
 use Rattle.macho_targets.proofs.Once.{Before, carried_rise, not_before, one_element, numbers_rise, same_target_is, same_targets}
 use Rattle.macho_targets.proofs.Once.{slots_differ}
 

@@ -6,7 +6,7 @@ use Rattle.macho_model.specs.declared.placed.Counts.{Counts}
 use Rattle.macho_model.specs.declared.targets.Target.{Target}
 use Rattle.macho_model.specs.declared.targets.Target.TheVariants as target
 use Rattle.macho_model.specs.Grammar.{ObjectsAreRead}
-use Rattle.macho_model.specs.Links.{Link, SectionId, header_at, sections_of, carried_of}
+use Rattle.macho_model.specs.Links.{Link, SectionId, section_id, header_at, sections_of, carried_of}
 use Rattle.macho_model.specs.Resolution.{SymbolId, symbols_of, definition_of, chosen_commons}
 use Rattle.macho_model.specs.Needs.{relocation_in}
 use Rattle.macho_model.specs.Targets.{target_with, definition_target, target_of_relocation, is_defined, slots_of}
@@ -14,7 +14,6 @@ use Rattle.macho_model.specs.Placement.{Placed, IsPlaced, id_of}
 use Rattle.macho_model.specs.Addresses.{address_of, slot_address}
 use Rattle.macho_model.specs.Memory.{Choice}
 use Rattle.macho_model.specs.Stands.{IsAt, SlotAt}
-use Rattle.macho_model.specs.Values.{section_id}
 
 -- A placement lists the carried sections, the chosen commons and the slots of its link, in order.
 pub record ListsAll (l : Link) (p : Placed) : Type 0 where

@@ -46,11 +46,25 @@ most_pages t span =
     if t.entries == 0 then 0
     else 1 + span / PAGE_SPAN + t.local / MOST_LOCALS + (t.entries + t.local) / (MOST_WORDS - 1)
 
--- the bytes of a section: header, encodings, personalities, LSDA entries, page entries, heads of pages, words and local
--- encodings
+-- the sizes of records: the section's header, an entry for language-specific data, one for a page, a page's head
+abbrev pub HEADER_SIZE : ℕ
+HEADER_SIZE = 28
+
+abbrev pub LSDA_SIZE : ℕ
+LSDA_SIZE = 8
+
+abbrev pub PAGE_ENTRY_SIZE : ℕ
+PAGE_ENTRY_SIZE = 12
+
+abbrev pub PAGE_HEAD_SIZE : ℕ
+PAGE_HEAD_SIZE = 12
+
+-- the bytes of a section: header, encodings, personalities, entries for language-specific data, entries for pages and one behind
+-- the last, heads of pages, words and local encodings (each of these, and a personality, has 4 bytes)
 abbrev pub bytes_of : Tallies → ℕ → ℕ
 bytes_of t pages =
-    28 + 4 * t.globals + 4 * t.personalities + 8 * t.lsdas + 12 * (pages + 1) + 12 * pages + 4 * t.entries + 4 * t.local
+    HEADER_SIZE + 4 * t.globals + 4 * t.personalities + LSDA_SIZE * t.lsdas + PAGE_ENTRY_SIZE * (pages + 1)
+    + PAGE_HEAD_SIZE * pages + 4 * t.entries + 4 * t.local
 
 -- the most bytes of the unwind section of entries whose starts are no more than a span apart
 abbrev pub unwind_bound_of : List UnwindInput → ℕ → ℕ

@@ -9,7 +9,7 @@ use Rattle.macho_unwind_pages.specs.declared.plans.Page.{Page}
 use Rattle.macho_unwind_pages.specs.declared.plans.Lsda.{Lsda}
 use Rattle.macho_unwind_pages.specs.declared.plans.Plan.{Plan}
 use Rattle.macho_unwind_pages.specs.Entries.{MOST_PERSONALITIES, input_of, inputs_of, ids_of, place_in, code_in, codes_of, IsLast}
-use Rattle.macho_unwind_pages.specs.Bounds.{PAGE_SPAN, MOST_GLOBALS, MOST_LOCALS, MOST_WORDS, globals_of}
+use Rattle.macho_unwind_pages.specs.Bounds.{PAGE_SPAN, HEADER_SIZE, LSDA_SIZE, PAGE_ENTRY_SIZE, PAGE_HEAD_SIZE, MOST_GLOBALS, MOST_LOCALS, MOST_WORDS, globals_of}
 
 -- a page and a plan without where their lists lie in memory
 pub record PageList : Type 0 where
@@ -56,13 +56,13 @@ rows_of plan = flat_map (page_rows plan.globals) plan.pages
 
 -- the bytes of a page: its head, its words and its codes
 abbrev pub page_size : PageList → ℕ
-page_size page = 12 + 4 * length page.words + 4 * length page.locals
+page_size page = PAGE_HEAD_SIZE + 4 * length page.words + 4 * length page.locals
 
 -- the bytes of the section
 abbrev pub size_of : PlanList → ℕ
 size_of plan =
-    28 + 4 * length plan.globals + 4 * length plan.personalities + 12 * (length plan.pages + 1) + 8 * length plan.lsdas
-    + sum_by page_size plan.pages
+    HEADER_SIZE + 4 * length plan.globals + 4 * length plan.personalities + PAGE_ENTRY_SIZE * (length plan.pages + 1)
+    + LSDA_SIZE * length plan.lsdas + sum_by page_size plan.pages
 
 -- A page that can be written: its first function stands at its first offset, and each word names a code.
 pub record IsPage (globals : List ℕ) (page : PageList) : Type 0 where

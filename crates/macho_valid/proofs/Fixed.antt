@@ -13,14 +13,14 @@ use Rattle.macho_model.specs.declared.targets.Site.{Site}
 use Rattle.macho_model.specs.declared.targets.Site.TheVariants as site
 use Rattle.macho_model.specs.declared.targets.Target.{Target}
 use Rattle.macho_model.specs.declared.targets.Target.TheVariants as target
-use Rattle.macho_model.specs.Links.{Link, SectionId, header_at, placed_exponent, carried_of}
+use Rattle.macho_model.specs.Links.{Link, SectionId, section_id, header_at, placed_exponent, carried_of}
 use Rattle.macho_model.specs.Resolution.{entry_at}
 use Rattle.macho_model.specs.Targets.{is_import, slots_of}
 use Rattle.macho_model.specs.Fields.{Field, fields_of}
 use Rattle.macho_model.specs.Placement.{Placed, id_of, common_of}
 use Rattle.macho_model.specs.Memory.{Choice}
 use Rattle.macho_model.specs.Stands.{SectionAt, IsAt}
-use Rattle.macho_model.specs.Values.{section_id, needs_fixup, IsNotEncodable, BadRebase}
+use Rattle.macho_model.specs.Values.{needs_fixup, IsNotEncodable, BadRebase}
 use Rattle.macho_model.specs.Valid.{stays_inside}
 use Rattle.macho_standing.specs.Leads.{HasPlace, TargetsLead}
 use Rattle.macho_model.proofs.FixedPointers.{pointer_keeps}

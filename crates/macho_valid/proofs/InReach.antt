@@ -14,7 +14,7 @@ use Rattle.macho_model.specs.declared.targets.Site.{Site}
 use Rattle.macho_model.specs.declared.targets.Site.TheVariants as site
 use Rattle.macho_model.specs.declared.targets.Target.{Target}
 use Rattle.macho_model.specs.declared.targets.Target.TheVariants as target
-use Rattle.macho_model.specs.Links.{Link, SectionId, header_at, placed_exponent, carried_of}
+use Rattle.macho_model.specs.Links.{Link, SectionId, section_id, header_at, placed_exponent, carried_of}
 use Rattle.macho_model.specs.Targets.{is_defined, is_import}
 use Rattle.macho_model.specs.Fields.{Field, fields_of, content_of}
 use Rattle.macho_model.specs.Words.{scale_of}
@@ -23,7 +23,7 @@ use Rattle.macho_model.specs.Placement.{Placed, id_of}
 use Rattle.macho_model.specs.SlideLaws.{targets_move, subtrahend_moves}
 use Rattle.macho_model.specs.Stands.{Kind, Pointer, Difference, Branch, Page, Offset, SlotPage, SlotOffset, SlotDistance, NoKind, kind_of}
 use Rattle.macho_model.specs.Stands.{SectionAt, IsAt, CallIsAt, SubtrahendIsAt}
-use Rattle.macho_model.specs.Values.{section_id, fits_signed, less, branch_reaches, page_reaches, offset_fits, DoesNotFit}
+use Rattle.macho_model.specs.Values.{fits_signed, less, branch_reaches, page_reaches, offset_fits, DoesNotFit}
 use Rattle.macho_model.specs.Values.{BadRange}
 use Rattle.macho_model.proofs.Unrefused.{valid_relocations}
 use Rattle.macho_model.specs.Valid.{is_small, is_multiple, stands_at_multiple, field_fits}

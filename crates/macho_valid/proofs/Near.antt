@@ -13,13 +13,12 @@ use Rattle.macho_model.specs.declared.placed.PlacedSection.{PlacedSection}
 use Rattle.macho_model.specs.declared.placed.PlacedCommon.{PlacedCommon}
 use Rattle.macho_model.specs.declared.targets.Target.{Target}
 use Rattle.macho_model.specs.declared.targets.Target.TheVariants as target
-use Rattle.macho_model.specs.Links.{Link, SectionId, header_at, placed_exponent}
+use Rattle.macho_model.specs.Links.{Link, SectionId, section_id, header_at, placed_exponent}
 use Rattle.macho_model.specs.Resolution.{entry_at}
 use Rattle.macho_model.specs.Targets.{is_defined, is_import}
 use Rattle.macho_model.specs.Placement.{Placed, id_of, common_of}
 use Rattle.macho_model.specs.Memory.{Choice}
 use Rattle.macho_model.specs.Stands.{IsAt, SlotAt, CallIsAt, LoadIsAt}
-use Rattle.macho_model.specs.Values.{section_id}
 use Rattle.macho_model.specs.Valid.{is_multiple}
 use Rattle.macho_standing.specs.Leads.{HasPlace}
 use Rattle.macho_valid.proofs.Ranges.{IsValidPlaced, IsNear, section_near, common_near, slot_near, stub_near}

@@ -1,10 +1,10 @@
 -- Of a placed valid link no refusal stands that keeps the placement: each is shown beside.
 use Rattle.std.proofs.Common.{◌≡◌, subst, Some, None}
 use Rattle.macho_model.specs.declared.placed.Counts.{Counts}
-use Rattle.macho_model.specs.Links.{Link}
+use Rattle.macho_model.specs.Links.{Link, section_id}
 use Rattle.macho_model.specs.Placement.{Placed}
 use Rattle.macho_model.specs.Stands.{SectionAt}
-use Rattle.macho_model.specs.Values.{section_id, BadRebase, BadRange}
+use Rattle.macho_model.specs.Values.{BadRebase, BadRange}
 use Rattle.macho_model.specs.Limits.{PassesLimit, ImagePasses}
 use Rattle.macho_model.specs.Faults.{LinkFault, DuplicateSymbol, UndefinedSymbol, EntryNotDefined, ExportListMissing, BadInitializer}
 use Rattle.macho_model.specs.Faults.{BadUnwind, UnsupportedRelocation, OverlappingFields, BindAddend, FixupPlace, TooMany, ImageTooLarge}

@@ -1,13 +1,8 @@
 -- Install names as the code holds them.
 use Rattle.std.specs.Prelude.{ℕ, ◌||◌, not, Bool, List, map}
-use Rattle.std.specs.Borrow.{Bor}
 use Rattle.std.specs.List.{list_any}
 use Rattle.std.specs.Str.{bytes_eq}
 use Rattle.macho_symbols.specs.declared.solved.Import.{Import}
-
--- borrowed names by their bytes
-abbrev pub texts : List (Bor (List ℕ)) → List (List ℕ)
-texts names = map (λ name. name.now) names
 
 -- the install names that imports ask for
 abbrev pub asked_of : List Import → List (List ℕ)

@@ -5,7 +5,8 @@ use Rattle.macho_args.specs.Settings as args
 use Rattle.macho_args.specs.Settings.{Settings, word_of}
 use Rattle.macho_args.specs.Store.{Store}
 use Rattle.macho_model.specs.Links.{Link, Input}
-use Rattle.macho_image.specs.Linkers.{link_of, with_input}
+use Rattle.macho_model.specs.LinkLaws.{with_input}
+use Rattle.macho_image.specs.Linkers.{link_of}
 use Rattle.macho_faults.specs.declared.fault.LinkError.{LinkError}
 use Rattle.macho_faults.specs.declared.fault.LinkError.TheVariants as error
 use Rattle.macho_faults.specs.declared.fault.InputFault.TheVariants as input

@@ -4,7 +4,7 @@ use Rattle.std.specs.List.{flat_map}
 use Rattle.macho_bytes.specs.Numbers.{le_bytes}
 use Rattle.macho_model.specs.Grammar.{IsObject}
 use Rattle.macho_model.specs.Links.{Link, Object}
-use Rattle.macho_image.specs.Linkers.{with_input}
+use Rattle.macho_model.specs.LinkLaws.{with_input}
 use Rattle.macho_job.specs.declared.fault.Fault.{Fault}
 use Rattle.macho_job.specs.declared.fault.Fault.TheVariants.{Input as InputFault, OutOfMemory}
 use Rattle.macho_job.specs.declared.made.Part.{Part}

@@ -1,11 +1,11 @@
 -- What was found so far: the first of each kind.
 use Rattle.std.specs.Prelude.{◌≡◌, ◌<◌, Bool, true, false, List, Option, Some, None, IfSome, All, Contains}
-use Rattle.macho_model.specs.Links.{Link, SectionId, header_at, carried_of}
+use Rattle.macho_model.specs.Links.{Link, SectionId, section_id, header_at, carried_of}
 use Rattle.macho_model.specs.Needs.{Use}
 use Rattle.macho_model.specs.Targets.{is_import}
 use Rattle.macho_model.specs.Rows.{is_supported, share_byte, are_pair}
 use Rattle.macho_model.specs.Segments.{segment_name, may_hold_pointers}
-use Rattle.macho_model.specs.Values.{section_id, FieldOf, fits_signed, is_pointer, needs_fixup}
+use Rattle.macho_model.specs.Values.{FieldOf, fits_signed, is_pointer, needs_fixup}
 use Rattle.macho_model.specs.Fields.{Field}
 use Rattle.macho_needs.specs.declared.needs.Needs.{Needs}
 use Rattle.macho_needs.specs.Noted.{IsNoted}

@@ -9,11 +9,11 @@ use Rattle.macho_structs.specs.declared.relocations.RelocationInfo.{RelocationIn
 use Rattle.macho_records.specs.declared.constants.TheConstants.{ARM64_RELOC_UNSIGNED}
 use Rattle.macho_model.specs.declared.targets.Target.{Target}
 use Rattle.macho_model.specs.Objects.{num_sections, section_at, section_bytes, relocation_at}
-use Rattle.macho_model.specs.Links.{Input, Object, Link, SectionId, no_input, header_at, is_carried, sections_of_file}
+use Rattle.macho_model.specs.Links.{Input, Object, Link, SectionId, section_id, no_input, header_at, is_carried, sections_of_file}
 use Rattle.macho_model.specs.Needs.{Use, carried_uses}
 use Rattle.macho_model.specs.Targets.{is_import}
 use Rattle.macho_model.specs.Segments.{may_hold_pointers}
-use Rattle.macho_model.specs.Values.{section_id, fits_signed, is_absolute_target}
+use Rattle.macho_model.specs.Values.{fits_signed, is_absolute_target}
 use Rattle.macho_object.specs.Views.{FileBytes, RelocationBytes}
 use Rattle.macho_names.specs.Kept.{FileRows, Keeps}
 use Rattle.macho_survey.specs.declared.findings.Place.{Place}

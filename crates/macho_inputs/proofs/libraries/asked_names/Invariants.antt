@@ -1,5 +1,5 @@
 use Rattle.std.proofs.Common.{◌≡◌, take}
-use Rattle.macho_inputs.specs.steps.Libraries.{texts}
+use Rattle.macho_stub_lines.specs.Lists.{texts}
 use Rattle.macho_inputs.specs.steps.Libraries.{asked_of}
 use Rattle.macho_inputs.proofs.libraries.asked_names.Given as goal
 

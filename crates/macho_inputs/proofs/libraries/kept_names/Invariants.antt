@@ -1,5 +1,5 @@
 use Rattle.std.proofs.Common.{◌≡◌, map, filter, take}
-use Rattle.macho_inputs.specs.steps.Libraries.{texts}
+use Rattle.macho_stub_lines.specs.Lists.{texts}
 use Rattle.macho_inputs.specs.steps.Libraries.{is_kept}
 use Rattle.macho_inputs.proofs.libraries.kept_names.Given as goal
 

@@ -2,7 +2,8 @@
 use Rattle.std.proofs.Common.{◌≡◌, ℕ, List, filter, map, ap, refl, subst, ◌∙◌, Bor, IfOk, IsOk}
 use Rattle.std.specs.Str.{bytes_eq}
 use Rattle.macho_model.specs.Needs.{distinct, imports_of}
-use Rattle.macho_inputs.specs.steps.Libraries.{texts, is_kept}
+use Rattle.macho_stub_lines.specs.Lists.{texts}
+use Rattle.macho_inputs.specs.steps.Libraries.{is_kept}
 use Rattle.macho_inputs.proofs.Naming.{needed_are}
 use Rattle.macho_inputs.proofs.libraries.needed_libraries.Goals as goal
 

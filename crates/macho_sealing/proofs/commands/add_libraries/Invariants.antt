@@ -1,11 +1,10 @@
 use Rattle.std.proofs.Common.{map}
-use Rattle.macho_records.specs.declared.constants.TheConstants.{LC_LOAD_DYLIB}
-use Rattle.macho_model.specs.HeadCommands.{dylib_for}
+use Rattle.macho_model.specs.HeadCommands.{needed_dylib_for}
 use Rattle.macho_commands.specs.Commands.{said_by}
 use Rattle.macho_sealing.proofs.Made.{IsMade}
 use Rattle.macho_sealing.proofs.commands.add_libraries.Given as goal
 
 abbrev pub invariant-loop-name : goal.invariant-loop-name
 invariant-loop-name l =
-    IsMade (dylib_for LC_LOAD_DYLIB 2 0x054c0000 0x00010000) (λ n. n.items) l.libraries (map said_by l.initial.commands.items)
+    IsMade needed_dylib_for (λ n. n.items) l.libraries (map said_by l.initial.commands.items)
     (map said_by l.commands.items) l.name-index

@@ -2,8 +2,7 @@
 use Rattle.std.proofs.Common.{◌≡◌, ◌<◌, ◌≤◌, ◌++◌, take, length, ap, ◌∙◌, arith, if◌then◌else◌}
 use Rattle.std.proofs.lemmas.Result.{err_from_is_err_and}
 use Rattle.macho_model.specs.Objects.{num_sections}
-use Rattle.macho_model.specs.Links.{Object, sections_of_file}
-use Rattle.macho_model.specs.Values.{section_id}
+use Rattle.macho_model.specs.Links.{Object, sections_of_file, section_id}
 use Rattle.macho_survey.specs.steps.Sections.{carried_among, uses_among}
 use Rattle.macho_survey.proofs.Walking.{walked_more, walk_begins, walked_all, walked_none, carried_joins, uses_join, sections_long}
 use Rattle.macho_survey.proofs.Walking.{section_of, rows_kept}

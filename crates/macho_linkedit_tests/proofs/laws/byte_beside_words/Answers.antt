@@ -1,4 +1,4 @@
-use Rattle.macho_format_tests.proofs.laws.byte_beside_words.Goals as goal
+use Rattle.macho_linkedit_tests.proofs.laws.byte_beside_words.Goals as goal
 
 pub returns : goal.returns
 returns c =

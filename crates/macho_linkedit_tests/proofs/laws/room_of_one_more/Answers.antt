@@ -1,5 +1,5 @@
 use Rattle.std.proofs.Common.{◌+◌, length, arith}
-use Rattle.macho_format_tests.proofs.laws.room_of_one_more.Goals as goal
+use Rattle.macho_linkedit_tests.proofs.laws.room_of_one_more.Goals as goal
 
 pub returns : goal.returns
 returns c =

@@ -2,7 +2,7 @@ use Rattle.std.proofs.Common.{List, sym, subst}
 use Rattle.std.specs.Prelude.{◌↔◌}
 use Rattle.macho_model.specs.Chain.{ChainSegment, OnChain}
 use Rattle.macho_fixups.specs.Chains.{IsAddressOf}
-use Rattle.macho_format_tests.proofs.laws.chain_of_a_file.Goals as goal
+use Rattle.macho_linkedit_tests.proofs.laws.chain_of_a_file.Goals as goal
 
 pub returns : goal.returns
 returns c a =
