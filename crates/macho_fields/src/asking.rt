@@ -10,10 +10,7 @@ use crate::kinds::{FieldKind, kind_of};
 use crate::places::Places;
 use crate::values::address_of;
 use macho_fixups::FixupKind;
-use macho_model::Target;
-
-/// The bytes of a page of a segment.
-const SEGMENT_PAGE: u64 = 0x4000;
+use macho_model::{SEGMENT_PAGE, Target};
 
 /// The bytes of a pointer, as of a word that the loader writes.
 const POINTER_SIZE: u64 = 8;
