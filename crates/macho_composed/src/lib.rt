@@ -10,4 +10,4 @@ mod laws;
 pub use laws::{composed_files_are_linked, written_files_are_linked};
 pub use macho_chaining::{write_fixup_table, write_words};
 pub use macho_filling::{LinkPlaces, file_offset, fill_contents};
-pub use macho_made::{MadeFault, Tables, unwind_section, write_initializers};
+pub use macho_made::{INIT_OFFSET_SIZE, MadeFault, Tables, unwind_section, write_initializers};

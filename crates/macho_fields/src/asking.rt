@@ -2,7 +2,6 @@
 ghost use Rattle.std.specs.Prelude.{◌≡◌, ◌-◌, ◌==◌, ◌&&◌, nat_le, if◌then◌else◌};
 ghost use Rattle.macho_bytes.specs.Numbers.{bits};
 ghost use Rattle.macho_model.specs.Fixups.{has_room};
-ghost use Rattle.macho_model.specs.Values.{is_absolute_target};
 ghost use Rattle.macho_fixups.specs.declared.words.FixupKind.TheVariants.{Bind};
 ghost use Rattle.macho_fields.specs.steps.Fields.{seen, asks, in_template, fixup_asked, may_stand};
 
@@ -11,10 +10,7 @@ use crate::kinds::{FieldKind, kind_of};
 use crate::places::Places;
 use crate::values::address_of;
 use macho_fixups::FixupKind;
-use macho_model::Target;
-
-/// The bytes of a page of a segment.
-const SEGMENT_PAGE: u64 = 0x4000;
+use macho_model::{SEGMENT_PAGE, Target};
 
 /// The bytes of a pointer, as of a word that the loader writes.
 const POINTER_SIZE: u64 = 8;
@@ -36,15 +32,6 @@ pub(crate) fn is_in_template<P: Places>(places: &P, target: Target) -> bool
     }
 }
 
-fn is_absolute(target: Target) -> bool
-    ensures { result ≡ is_absolute_target target }
-{
-    match target {
-        Target::Absolute { value: _ } => true,
-        _ => false,
-    }
-}
-
 /// Whether the loader has to write a field.
 pub(crate) fn asks<P: Places>(places: &P, field: &Field, descriptors: bool) -> bool
     ensures { result ≡ asks descriptors (P.look places.now) (seen field.now) }
@@ -52,7 +39,7 @@ pub(crate) fn asks<P: Places>(places: &P, field: &Field, descriptors: bool) -> b
     let kind = kind_of(field.r_type, field.subtrahend.is_some());
     field.width == 8
         && kind == FieldKind::Pointer
-        && !is_absolute(field.target)
+        && !field.target.is_absolute()
         && !(descriptors && is_in_template(places, field.target))
 }
 

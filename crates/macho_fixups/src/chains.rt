@@ -13,8 +13,9 @@ ghost use Rattle.macho_fixups.specs.Runs.{AreFixups, AreSegments, Holds};
 ghost use Rattle.macho_fixups.specs.Chains.{place_of, step_of, step_between, AreWritten, HaveWords, IsFirstRefused, HaveRoom, ChainIsRun};
 ghost use Rattle.macho_fixups.specs.steps.Chains.{IsSegmentOf, ArePassed};
 
-use crate::run::{Fixup, FixupSegment, SEGMENT_PAGE};
+use crate::run::{Fixup, FixupSegment};
 use crate::words::{FixupKind, NotEncodable, bind_word, rebase_word};
+use macho_model::SEGMENT_PAGE;
 use macho_numbers::put_little;
 
 /// The bytes of a step from word to word.

@@ -11,7 +11,7 @@ ghost use Rattle.macho_fixups.specs.steps.Calls.{EntryFits};
 use macho_numbers::put_little;
 
 /// `DYLD_CHAINED_IMPORT_ADDEND`: an entry is a word and an addend.
-pub(crate) const IMPORT_ADDEND_FORMAT: u32 = 2;
+pub const IMPORT_ADDEND_FORMAT: u32 = 2;
 
 /// An entry of the table of imports.
 #[derive(Clone, Copy, Debug, PartialEq, Eq)]

@@ -10,7 +10,7 @@ mod table;
 mod words;
 
 pub use chains::write_chains;
-pub use imports::ImportEntry;
+pub use imports::{IMPORT_ADDEND_FORMAT, ImportEntry};
 pub use laws::{
     bytes_beside_words_stay, chains_are_told, names_are_read, no_fixup_no_pages, pages_are_bounded,
     places_are_in_segments, room_grows,

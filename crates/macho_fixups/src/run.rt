@@ -4,9 +4,6 @@ ghost use Rattle.macho_fixups.specs.steps.Cuts.{IsSkip, IsNextBelow, IsNoneBelow
 
 use crate::words::FixupKind;
 
-/// The bytes of a page of a segment.
-pub(crate) const SEGMENT_PAGE: u64 = 0x4000;
-
 /// A word that the loader writes anew.
 #[derive(Clone, Copy, Debug, PartialEq, Eq)]
 pub struct Fixup {

@@ -7,14 +7,10 @@ ghost use Rattle.macho_fixups.specs.Runs.{AreSorted, AreSegments, pages_of, star
 ghost use Rattle.macho_fixups.specs.steps.Cuts.{IsCut, AreBelow, IsRunOf};
 ghost use Rattle.macho_fixups.specs.Tables.{page_starts_text, starts_size, starts_text};
 
-use crate::run::{Fixup, FixupSegment, SEGMENT_PAGE, SegmentRun, has_next, skip_below};
+use crate::run::{Fixup, FixupSegment, SegmentRun, has_next, skip_below};
+use macho_model::{NO_START, POINTER_FORMAT, SEGMENT_PAGE};
 use macho_numbers::put_little;
 use macho_structs::ChainedStartsInSegment;
-
-/// A page without a chain (`DYLD_CHAINED_PTR_START_NONE`).
-const NO_START: u16 = 0xffff;
-/// `DYLD_CHAINED_PTR_64_OFFSET`.
-const POINTER_FORMAT: u16 = 6;
 
 /// The bytes that tell of a segment with so many pages.
 pub(crate) fn starts_size(pages: u64) -> usize

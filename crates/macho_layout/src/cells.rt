@@ -3,7 +3,6 @@
 //! A rank tells the segment, and in it the class, by which output sections stand one behind the other: code, what the linker
 //! makes, data, initial values of thread-local variables with bytes and without, commons, other zerofill.
 ghost use Rattle.std.specs.Prelude.{◌≡◌, ◌+◌, ◌<◌, ◌≤◌, ◌^◌, ◌*◌, ◌++◌, length, IfOk, OnOk};
-ghost use Rattle.macho_records.specs.Sections.{is_zerofill_type, has_instructions};
 ghost use Rattle.macho_layout.specs.Cells.{class_of, class_of_data, segment_number, merged_cell, made_cells, cells_of, FitSizes, cell_if, is_template_class};
 ghost use Rattle.macho_layout.specs.Names.{merged_count};
 
@@ -13,8 +12,8 @@ use crate::spec::OutputName;
 use macho_cells::{Cell, Extent};
 use macho_model::Counts;
 use macho_records::{
-    S_ATTR_PURE_INSTRUCTIONS, S_ATTR_SOME_INSTRUCTIONS, S_GB_ZEROFILL, S_THREAD_LOCAL_REGULAR,
-    S_THREAD_LOCAL_ZEROFILL, S_ZEROFILL, SegmentName,
+    S_THREAD_LOCAL_REGULAR, S_THREAD_LOCAL_ZEROFILL, SegmentName, has_instructions,
+    is_zerofill_type,
 };
 use macho_rows::CLASSES;
 use std::alloc::{AllocError, Global};
@@ -48,19 +47,6 @@ pub(crate) const MADE_STUBS: u32 = 2;
 
 pub(crate) const MADE_SLOTS: u32 = 3;
 
-/// Whether sections of a type have no bytes in the file.
-pub(crate) fn is_zerofill(kind: u32) -> bool
-    ensures { result ≡ is_zerofill_type kind }
-{
-    kind == S_ZEROFILL || kind == S_GB_ZEROFILL || kind == S_THREAD_LOCAL_ZEROFILL
-}
-
-fn has_instructions(flags: u32) -> bool
-    ensures { result ≡ has_instructions flags }
-{
-    flags & (S_ATTR_PURE_INSTRUCTIONS + S_ATTR_SOME_INSTRUCTIONS) != 0
-}
-
 /// Whether a class has initial values of thread-local variables.
 pub(crate) fn is_template_class(class: u32) -> bool
     ensures { result ≡ is_template_class class }
@@ -73,7 +59,7 @@ fn class_of(name: &OutputName, flags: u32) -> u32
     ensures value { result ≡ class_of name.now flags }
     ensures small { result < 9 }
 {
-    let zeros = is_zerofill(name.kind);
+    let zeros = is_zerofill_type(name.kind);
     if name.segment == SegmentName::TEXT {
         if zeros {
             ZEROS

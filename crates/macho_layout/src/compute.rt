@@ -20,9 +20,9 @@ use crate::places::{
 };
 use crate::plan::Plan;
 use macho_cells::{PlacedMember, Stacked, stack, starts};
-use macho_model::{Counts, Limit, Linkedit, PlacedSegment};
+use macho_model::{Counts, LIMIT_32, Limit, Linkedit, PlacedSegment, SEGMENT_PAGE};
 use macho_records::SegmentName;
-use macho_rows::{Rows, SEGMENT_PAGE, place_rows, tables};
+use macho_rows::{Rows, place_rows, tables};
 use std::alloc::{AllocError, Global};
 
 /// The most segments that a file may have, `__PAGEZERO` and `__LINKEDIT` among them.
@@ -33,8 +33,6 @@ const MOST_SECTIONS: u64 = 255;
 const PAGEZERO_SIZE: u64 = 0x1_0000_0000;
 /// What the written sum has to stay below 2^64 by.
 const SPARE: u64 = 0x1_0000_0000;
-/// File offsets and sizes are told in 32 bits.
-const LIMIT_32: u64 = 0x1_0000_0000;
 
 impl Plan {
     /// Tests what is known before any address is.

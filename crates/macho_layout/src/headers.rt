@@ -2,7 +2,7 @@
 ghost use Rattle.std.specs.Prelude.{◌≡◌, ◌≤◌, length, IfOk, map};
 ghost use Rattle.macho_layout.specs.Headers.{made_title, title_of, header_of, file_offset_of};
 
-use crate::cells::{MADE_INIT_OFFSETS, MADE_STUBS, MADE_UNWIND_INFO, is_zerofill};
+use crate::cells::{MADE_INIT_OFFSETS, MADE_STUBS, MADE_UNWIND_INFO};
 use crate::plan::Plan;
 use crate::spec::OutputName;
 use macho_cells::{Extent, PlacedCell};
@@ -10,6 +10,7 @@ use macho_model::PlacedSegment;
 use macho_records::{
     S_ATTR_EXT_RELOC, S_ATTR_LOC_RELOC, S_ATTR_PURE_INSTRUCTIONS, S_ATTR_SOME_INSTRUCTIONS,
     S_INIT_FUNC_OFFSETS, S_NON_LAZY_SYMBOL_POINTERS, S_SYMBOL_STUBS, SectionHeader, SegmentName,
+    is_zerofill_type,
 };
 use macho_rows::CLASSES;
 use std::alloc::{AllocError, Global};
@@ -89,7 +90,7 @@ impl Plan {
             segname: title.name.segment.into_bytes(),
             addr: one.start,
             size: one.cell.size,
-            offset: if is_zerofill(title.name.kind) {
+            offset: if is_zerofill_type(title.name.kind) {
                 0
             } else {
                 file_offset(segments, one)

@@ -17,15 +17,12 @@ ghost use Rattle.macho_linkedit.specs.steps.Entries.{name_text, plain_entry, Hav
 
 use crate::libraries::{library_number, library_places};
 use indexmap::IndexMap;
-use macho_fixups::ImportEntry;
+use macho_fixups::{IMPORT_ADDEND_FORMAT, ImportEntry};
 use macho_symbols::{Import, OwnEntry};
 use std::alloc::{AllocError, Global};
 
 /// `DYLD_CHAINED_IMPORT`: an entry is a word.
 const IMPORT_FORMAT: u32 = 1;
-
-/// `DYLD_CHAINED_IMPORT_ADDEND`: an entry is a word and an addend.
-const IMPORT_ADDEND_FORMAT: u32 = 2;
 
 /// The import table of a link.
 #[derive(Drop)]

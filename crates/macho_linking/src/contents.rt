@@ -10,13 +10,12 @@ ghost use Rattle.macho_linking.specs.steps.Written.{OffsetsArePut, UnwindIsPut};
 
 use crate::fault::Unwritten;
 use crate::planned::Planned;
-use macho_composed::{file_offset, fill_contents, unwind_section, write_initializers, write_words};
+use macho_composed::{
+    INIT_OFFSET_SIZE, file_offset, fill_contents, unwind_section, write_initializers, write_words,
+};
 use macho_fields::Places;
 use macho_fixups::Fixup;
 use std::alloc::Global;
-
-/// The bytes of an initializer's offset.
-const INIT_OFFSET_SIZE: usize = 4;
 
 /// Fills sections and stubs, and writes the words of the loader over them. The words are answered, by their addresses.
 pub(crate) fn write_contents<P: Places>(

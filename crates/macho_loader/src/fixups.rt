@@ -22,7 +22,8 @@ ghost use Rattle.macho_loader.specs.declared.fixups.Held.{Held};
 
 use crate::cursor::{first, step_from};
 use crate::import_rules::names_of;
-use crate::word_rules::{Chained, NO_START, fitting_word, stride_of};
+use crate::word_rules::{Chained, fitting_word, stride_of};
+use macho_model::NO_START;
 use macho_model_walks::{
     Listed, addend_in, addend_of, binds, library_of, name_offset_of, nth, ordinal, pages_in,
     place_of_import, segment_at, start_of_page, u32_from, word_of,

@@ -13,13 +13,11 @@ ghost use Rattle.macho_memory_walks.specs.declared.walk.Listed.TheVariants as li
 ghost use Rattle.macho_loader.specs.steps.Words.{StandApart, IsChained, IsFittingWord};
 
 use crate::cursor::{first, step_from};
+use macho_model::NO_START;
 use macho_model_walks::{
     Listed, binds, nth, ordinal, page_has, pages_in, segment_at, start_of_page, steps_of, table_at,
     word_of,
 };
-
-/// A page without a chain: `DYLD_CHAINED_PTR_START_NONE` of mach-o/fixup-chains.h.
-pub(crate) const NO_START: u16 = 0xffff;
 
 /// A segment whose pages may have chains.
 #[derive(Clone, Copy)]

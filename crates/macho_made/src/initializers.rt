@@ -15,8 +15,8 @@ use macho_fields::Places;
 use macho_model::Target;
 use macho_numbers::put_little;
 
-/// The bytes of an offset.
-const OFFSET_BYTES: usize = 4;
+/// The bytes of an initializer's offset.
+pub const INIT_OFFSET_SIZE: usize = 4;
 
 /// How far an initializer stands behind the base; None where 32 bits don't tell it, or it is no place in a section.
 fn offset_of<P: Places>(places: &P, target: Target) -> Option<u32>
@@ -52,7 +52,7 @@ fn put_offsets<P: Places>(places: &P, rows: &[Initializer], out: &mut [u8]) -> R
         let Some(offset) = offset_of(places, target) else {
             return Err(MadeFault::TooLarge);
         };
-        put_little(out, OFFSET_BYTES * index, offset);
+        put_little(out, INIT_OFFSET_SIZE * index, offset);
     }
     Ok(())
 }

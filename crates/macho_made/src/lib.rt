@@ -16,7 +16,7 @@ mod laws;
 mod unwind;
 
 pub use fault::MadeFault;
-pub use initializers::write_initializers;
+pub use initializers::{INIT_OFFSET_SIZE, write_initializers};
 pub use laws::{
     entries_may_be_built, nothing_written_passes, texts_are_said, texts_fit_their_ranges,
 };

@@ -14,11 +14,10 @@ use crate::reads::u64_from;
 use crate::segments::segment_at;
 use crate::tables::{count_of_pages, count_of_starts, offset_of_starts, start_of_page};
 use crate::walk::{Listed, count_of, nth};
+use macho_model::NO_START;
 
-/// A page without a chain: `DYLD_CHAINED_PTR_START_NONE` of mach-o/fixup-chains.h.
-pub const NO_START: u16 = 0xffff;
-/// The bytes of a page of a segment.
-pub const SEGMENT_PAGE: u128 = 0x4000;
+/// The bytes of a page of a segment, as addresses are here.
+pub const SEGMENT_PAGE: u128 = macho_model::SEGMENT_PAGE as u128;
 
 /// The word that a segment has at an address, if it stands whole in its file part.
 pub fn word_of(bytes: &[u8], place: u64, address: u128) -> Option<u64>

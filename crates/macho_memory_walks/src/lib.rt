@@ -11,7 +11,7 @@ mod tables;
 mod walk;
 
 pub use chain_words::{
-    NO_START, SEGMENT_PAGE, is_on_chain, pages_in, pages_of, start_of, step_in, steps_of, word_of,
+    SEGMENT_PAGE, is_on_chain, pages_in, pages_of, start_of, step_in, steps_of, word_of,
 };
 pub use fixed::{addend_in, addend_of, binds, ordinal};
 pub use mapped::{memory_byte, segment_byte};

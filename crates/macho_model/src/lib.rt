@@ -1,14 +1,17 @@
 //! The definitions under the linker's theorem.
 //!
 //! They stand in `specs`, a file for each subject, in the order of `docs/THEOREMS.md`. Here stand the plain types that they
-//! speak of, none of which holds a collection, so that a contract sees each as it is; and the laws that linkers cite.
+//! speak of, none of which holds a collection, so that a contract sees each as it is; numbers that several crates share; and the
+//! laws that linkers cite.
 #![tactic(auto)]
 
+mod constants;
 mod laws;
 mod placed;
 mod rules;
 mod targets;
 
+pub use constants::{LIMIT_32, NO_START, POINTER_FORMAT, SEGMENT_PAGE};
 pub use laws::{
     chosen_commons_are_counted, equal_inputs_have_equal_definitions, equal_lists_have_equal_needs,
     fields_denote_at_every_slide, memory_moves_by_the_slide, one_input_more_adds_its_own,

@@ -1,4 +1,6 @@
 //! What references lead to, and what a refusal speaks of.
+ghost use Rattle.std.specs.Prelude.{◌≡◌};
+ghost use Rattle.macho_model.specs.Values.{is_absolute_target};
 
 /// What a symbol or a relocation leads to. Files are numbered by the order in which they were added.
 #[derive(Clone, Copy, Debug, PartialEq, Eq)]
@@ -31,6 +33,18 @@ pub enum Target {
     },
     /// Nothing.
     None,
+}
+
+impl Target {
+    /// Whether it is a value that does not move with the image.
+    pub fn is_absolute(self) -> bool
+        ensures { result ≡ is_absolute_target self }
+    {
+        match self {
+            Target::Absolute { .. } => true,
+            _ => false,
+        }
+    }
 }
 
 /// A place in an image that a value is written to.

@@ -10,15 +10,13 @@ ghost use Rattle.macho_model.specs.LoadRules.{image_head_fits, needed_in_image, 
 ghost use Rattle.macho_memory_walks.specs.Readings.{command_at};
 
 use macho_memory_walks::{is_segment_named, segment_at, u32_from};
+use macho_model::SEGMENT_PAGE;
 use macho_records::{
     CPU_TYPE_ARM64, LC_BUILD_VERSION, LC_CODE_SIGNATURE, LC_DYLD_CHAINED_FIXUPS,
     LC_DYLD_EXPORTS_TRIE, LC_ID_DYLIB, LC_LOAD_DYLIB, LC_LOAD_DYLINKER, LC_MAIN, LC_RPATH,
     LC_SEGMENT_64, LC_SYMTAB, LC_UUID, MH_DYLIB, MH_EXECUTE, MH_MAGIC_64, VM_PROT_EXECUTE,
     VM_PROT_READ, VM_PROT_WRITE,
 };
-
-/// The bytes of a page of a segment.
-const SEGMENT_PAGE: u64 = 0x4000;
 
 /// Whether the header is whole, of a 64-bit arm64 executable or dynamic library.
 #[tactic(auto, unfolding(macho_bytes::specs::Layouts::reading, macho_model::specs::Commands::header_of))]

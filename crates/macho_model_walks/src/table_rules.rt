@@ -11,12 +11,8 @@ use macho_memory_walks::{
     nth, offset_of_starts, place_of_import, place_of_segment, range_from, segment_at, table_at,
     u16_from, u32_from, u64_from,
 };
+use macho_model::{POINTER_FORMAT, SEGMENT_PAGE};
 use macho_records::name_bytes;
-
-/// The bytes of a page of a segment.
-const SEGMENT_PAGE: u16 = 0x4000;
-/// `DYLD_CHAINED_PTR_64_OFFSET` of mach-o/fixup-chains.h.
-const POINTER_FORMAT: u16 = 6;
 
 /// The address of a segment by its number, 0 where there is none.
 pub(crate) fn address_of(bytes: &[u8], number: u32) -> u64
@@ -36,7 +32,7 @@ fn starts_are_known(bytes: &[u8], place: u64, number: u32, base: u64, address: u
     ensures { result ≡ starts_known bytes.now (table_there bytes.now place) number }
 {
     let starts = place_of_segment(bytes, place, number);
-    u16_from(bytes, starts, 4) == SEGMENT_PAGE
+    u16_from(bytes, starts, 4) == SEGMENT_PAGE as u16
         && u16_from(bytes, starts, 6) == POINTER_FORMAT
         && u64_from(bytes, starts, 8).wrapping_add(base) == address
 }

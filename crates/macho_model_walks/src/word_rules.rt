@@ -15,9 +15,10 @@ ghost use Rattle.macho_model_walks.specs.steps.WordTests.{import_exists, word_fi
 ghost use Rattle.macho_memory_walks.specs.declared.walk.Listed.TheVariants as list;
 
 use macho_memory_walks::{
-    Listed, NO_START, SEGMENT_PAGE, binds, count_of, nth, ordinal, pages_of, segment_at, start_of,
-    step_in, table_at, word_of,
+    Listed, SEGMENT_PAGE, binds, count_of, nth, ordinal, pages_of, segment_at, start_of, step_in,
+    table_at, word_of,
 };
+use macho_model::NO_START;
 
 /// Whether a word at an address stands in a page of a segment and in its file part, and the segment may be written to.
 pub fn page_has(bytes: &[u8], place: u64, page: u16, address: u128) -> bool

@@ -107,6 +107,8 @@ pub use placeholders::SegmentType;
 pub use placeholders::VerneedTable;
 pub use sections::SectionAttributes;
 pub use sections::SectionFlags;
+pub use sections::has_instructions;
+pub use sections::is_zerofill_type;
 pub use segments::ProgramSegmentDef;
 pub use segments::SegmentName;
 pub use symbol_names::RawSymbolName;

@@ -13,7 +13,7 @@ use crate::constants::{
     S_THREAD_LOCAL_ZEROFILL, S_ZEROFILL, SECTION_TYPE,
 };
 use crate::header::SectionHeader;
-use crate::names::is_named;
+use crate::names::{is_named, name_bytes};
 use crate::segments::SegmentName;
 
 impl SectionHeader {
@@ -63,10 +63,10 @@ impl SectionHeader {
     pub fn is_writable(&self) -> bool
         ensures { result ≡ is_writable_of self.now }
     {
-        let segment = &self.segname;
-        !(is_named(segment, b"__PAGEZERO")
-            || is_named(segment, b"__TEXT")
-            || is_named(segment, b"__LINKEDIT"))
+        let name = name_bytes(&self.segname);
+        !(name == b"__PAGEZERO".as_slice()
+            || name == b"__TEXT".as_slice()
+            || name == b"__LINKEDIT".as_slice())
     }
 
     /// Whether it has instructions.
@@ -103,10 +103,14 @@ impl SectionHeader {
 fn is_excluded_segment(field: &[u8]) -> bool
     ensures { result ≡ is_excluded_segment (name_of field.now) }
 {
-    is_named(field, b"__PAGEZERO") || is_named(field, b"__LINKEDIT") || is_named(field, b"__LLVM")
+    let name = name_bytes(field);
+    name == b"__PAGEZERO".as_slice()
+        || name == b"__LINKEDIT".as_slice()
+        || name == b"__LLVM".as_slice()
 }
 
-fn is_zerofill_type(typ: u32) -> bool
+/// Whether sections of a type have no bytes in the file.
+pub fn is_zerofill_type(typ: u32) -> bool
     ensures { result ≡ is_zerofill_type typ }
 {
     typ == S_ZEROFILL || typ == S_GB_ZEROFILL || typ == S_THREAD_LOCAL_ZEROFILL
@@ -122,7 +126,8 @@ fn is_indirect_type(typ: u32) -> bool
         || typ == S_THREAD_LOCAL_VARIABLE_POINTERS
 }
 
-fn has_instructions(flags: u32) -> bool
+/// Whether flags are those of a section with instructions.
+pub fn has_instructions(flags: u32) -> bool
     ensures { result ≡ has_instructions flags }
 {
     flags & (S_ATTR_PURE_INSTRUCTIONS + S_ATTR_SOME_INSTRUCTIONS) != 0

@@ -6,7 +6,7 @@ ghost use Rattle.macho_model.specs.Order.{fixup_room};
 use macho_model::{Counts, Linkedit, Range64};
 
 /// The bytes of a page that has a digest of its own.
-const SIGNED_PAGE: u64 = 4096;
+pub const SIGNED_PAGE: u64 = 4096;
 
 fn range(start: u64, size: u64) -> Range64
     requires { start + size < 2 ^ 64 }

@@ -4,7 +4,7 @@ ghost use Rattle.macho_cells.specs.Ranks.{cell_cost, of_ranks};
 ghost use Rattle.macho_rows.specs.Rows.{AddsRow, AreRows, front_at};
 
 use macho_cells::{Cell, PlacedCell, place_ranks};
-use macho_model::PlacedSegment;
+use macho_model::{PlacedSegment, SEGMENT_PAGE};
 use macho_records::SegmentName;
 use std::alloc::{AllocError, Global};
 
@@ -12,8 +12,6 @@ use std::alloc::{AllocError, Global};
 pub const CLASSES: u32 = 9;
 /// The classes with bytes in the file.
 pub const FILLED_CLASSES: u32 = 6;
-/// A page of a segment.
-pub const SEGMENT_PAGE: u64 = 0x4000;
 
 /// The segments that are mapped from the file, but for `__LINKEDIT`.
 #[derive(Drop)]

@@ -17,12 +17,11 @@ use crate::personalities::count_personalities;
 use macho_linkedit::LinkedObject;
 use macho_model::Limit;
 use macho_symbols::{ExportList, Import};
+use macho_unwind_pages::MOST_PERSONALITIES;
 use std::alloc::{AllocError, Global};
 
 /// The most libraries that the image may need.
 const MOST_LIBRARIES: u64 = 240;
-/// The most personality functions.
-const MOST_PERSONALITIES: u64 = 3;
 /// The most entries of the import table.
 const MOST_IMPORTS: u64 = 1 << 24;
 /// The most bytes of import names with their NULs.
@@ -142,7 +141,7 @@ pub(crate) fn check_numbers(numbers: &Numbers) -> Result<(), Passed>
     check_one(
         Limit::Personalities,
         numbers.personalities,
-        MOST_PERSONALITIES,
+        MOST_PERSONALITIES as u64,
     )?;
     check_one(Limit::Imports, numbers.imports, MOST_IMPORTS)?;
     check_one(Limit::NameBytes, numbers.name_bytes, MOST_NAME_BYTES)

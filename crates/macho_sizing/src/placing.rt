@@ -15,15 +15,12 @@ ghost use Rattle.macho_sizing.specs.steps.Rooms.{IsAnswered, IsLaid, kept_counts
 
 use macho_faults::LinkError;
 use macho_layout::{Counts, LayoutFault, Placement, Plan};
-use macho_model::{Limit, PlacedSegment};
+use macho_model::{LIMIT_32, Limit, PlacedSegment, SEGMENT_PAGE};
 use macho_records::name_bytes;
-use macho_rows::SEGMENT_PAGE;
 use std::alloc::Global;
 
 /// The most pages of a segment that the loader writes pointers in.
 const MOST_PAGES: u64 = 65_535;
-/// File offsets and sizes are below this: they are told in 32 bits.
-const LIMIT_32: u64 = 0x1_0000_0000;
 
 /// Whether the loader writes pointers in a segment.
 fn may_hold_pointers(segment: &PlacedSegment) -> bool

@@ -8,7 +8,7 @@ ghost use Rattle.macho_model.specs.declared.placed.Counts.{Counts};
 ghost use Rattle.macho_model.specs.Objects.{num_sections, section_at, section_bytes, relocation_at};
 ghost use Rattle.macho_model.specs.Links.{Input, Link, SectionId, object_of, carried_of};
 ghost use Rattle.macho_model.specs.Needs.{Use, ByRelocation, uses_of, carried_uses};
-ghost use Rattle.macho_model.specs.Values.{fits_signed, is_absolute_target};
+ghost use Rattle.macho_model.specs.Values.{fits_signed};
 ghost use Rattle.macho_names.specs.Kept.{Keeps};
 ghost use Rattle.macho_symbols.specs.Kept.{IsResolved};
 ghost use Rattle.macho_faults.specs.Standing.{Stands};
@@ -54,16 +54,6 @@ fn fits_signed_word(value: u64) -> bool
     ensures { result ≡ fits_signed 32 value }
 {
     value < 0x8000_0000 || value >= 0xffff_ffff_8000_0000
-}
-
-/// Whether a target doesn't move with the image.
-fn is_absolute(target: Target) -> bool
-    ensures { result ≡ is_absolute_target target }
-{
-    match target {
-        Target::Absolute { .. } => true,
-        _ => false,
-    }
 }
 
 /// The 4 bytes at a relocation's place, as a word; 0 where its field isn't of 4 bytes.
@@ -129,7 +119,7 @@ fn is_misplaced(holds_pointers: bool, pointer: Option<u64>, target: Target) -> b
     ensures { result ≡ misplaced holds_pointers pointer target }
 {
     match pointer {
-        Some(_) => !is_absolute(target) && !holds_pointers,
+        Some(_) => !target.is_absolute() && !holds_pointers,
         None => false,
     }
 }

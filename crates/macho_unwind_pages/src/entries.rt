@@ -1,6 +1,9 @@
 //! Entries of compact unwind information: what is known of each function.
 use std::alloc::{AllocError, AllocFailed};
 
+/// The most personality functions that a section has.
+pub const MOST_PERSONALITIES: usize = 3;
+
 /// What the size of the unwind section is found from, for one function.
 #[derive(Clone, Copy, Debug, PartialEq, Eq)]
 pub struct UnwindInput {

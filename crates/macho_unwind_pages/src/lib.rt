@@ -12,7 +12,7 @@ mod plans;
 mod ranking;
 
 pub use bound::{output_size, unwind_bound};
-pub use entries::{Personality, ResolvedUnwindInfo, UnwindFault, UnwindInput};
+pub use entries::{MOST_PERSONALITIES, Personality, ResolvedUnwindInfo, UnwindFault, UnwindInput};
 pub use laws::{ids_are_named, plans_are_one, plans_are_short};
 pub use paging::Row;
 pub use planning::plan;

@@ -4,11 +4,8 @@ ghost use Rattle.macho_unwind_pages.specs.Orders.{put_in_order};
 ghost use Rattle.macho_unwind_pages.specs.Entries.{MOST_PERSONALITIES, input_of, inputs_of, ids_of, place_in, code_in};
 ghost use Rattle.macho_unwind_pages.specs.Calls.{BoundFault};
 
-use crate::entries::{ResolvedUnwindInfo, UnwindFault, UnwindInput};
+use crate::entries::{MOST_PERSONALITIES, ResolvedUnwindInfo, UnwindFault, UnwindInput};
 use std::alloc::{AllocError, Global};
-
-/// The most personality functions that a section has.
-const MOST_PERSONALITIES: usize = 3;
 
 /// An entry without its addresses.
 pub(crate) fn input(entry: ResolvedUnwindInfo) -> UnwindInput

@@ -1,0 +1,10 @@
+//! Numbers that several crates of code share. The definitions that say what they are have their names.
+
+/// The bytes of a page of a segment.
+pub const SEGMENT_PAGE: u64 = 0x4000;
+/// A page without a chain: `DYLD_CHAINED_PTR_START_NONE` of mach-o/fixup-chains.h.
+pub const NO_START: u16 = 0xffff;
+/// How the pointers on chains are spelled: `DYLD_CHAINED_PTR_64_OFFSET` of mach-o/fixup-chains.h.
+pub const POINTER_FORMAT: u16 = 6;
+/// File offsets and sizes are below this: they are told in 32 bits.
+pub const LIMIT_32: u64 = 0x1_0000_0000;
