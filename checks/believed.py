@@ -2,6 +2,7 @@
 
 believed.py                 the definitions under the clauses of `run`, in reading order, with lines; then the rules below
 believed.py --crate NAME    the files of a crate's specs/, and which definitions of each a public clause rests on
+believed.py --shares        the definitions under `run` that take the most lines with them: what would go if nothing needed them
 believed.py --lines         writes the reading list and its parts into docs/THEOREMS.md, and the lines of the files that its tables name
 
 The total counts all lines of the definitions. The goal, which the last line repeats, is at most MOST_LINES of them. Of all lines,
@@ -436,6 +437,28 @@ def print_run(world):
     return wrong + ([f"{believed} equations, fields and cases under `run`, more than {MOST_LINES}"] if believed > MOST_LINES else [])
 
 
+def shares_of(world):
+    """For each definition under `run` how many lines are there for it alone: its own, and those of what nothing else needs."""
+    roots = roots_of(world, run_of(world))
+    uses = {one: set(world.uses_of(one)) for one in world.closure(roots)}
+    shares = {}
+    for left_out in uses:
+        kept, todo = set(), [one for one in roots if one != left_out]
+        while todo:
+            one = todo.pop()
+            if one not in kept:
+                kept.add(one)
+                todo += uses[one] - {left_out}
+        shares[left_out] = sum(lines_of(world, one) for one in uses if one not in kept)
+    return shares
+
+
+def print_shares(world, most=60):
+    shares = shares_of(world)
+    for one in sorted(shares, key=lambda one: -shares[one])[:most]:
+        print(f"{shares[one]:5}  {short(one[0])}: {one[1]}")
+
+
 def wrong_imports(world):
     wrong = []
     for module, file in world.files.items():
@@ -606,6 +629,9 @@ def main():
     crates = [name for name in sorted(os.listdir(CRATES)) if os.path.isdir(os.path.join(CRATES, name, "src"))]
     if sys.argv[1:2] == ["--crate"]:
         print_crate(world, crates, sys.argv[2])
+        return 0
+    if sys.argv[1:2] == ["--shares"]:
+        print_shares(world)
         return 0
     if sys.argv[1:2] == ["--lines"]:
         missing = write_lines(world)

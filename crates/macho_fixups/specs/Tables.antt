@@ -8,7 +8,8 @@ use Rattle.macho_bytes.specs.Layouts.{spelling}
 use Rattle.macho_structs.specs.Layouts.{chained_fixups_header, chained_starts_in_segment}
 use Rattle.macho_structs.specs.declared.fixups.ChainedFixupsHeader.{ChainedFixupsHeader}
 use Rattle.macho_structs.specs.declared.fixups.ChainedStartsInSegment.{ChainedStartsInSegment}
-use Rattle.macho_model.specs.Images.{import_entry_size, IMPORT_ADDEND_FORMAT}
+use Rattle.macho_model.specs.Images.{import_entry_size, POINTER_FORMAT, IMPORT_ADDEND_FORMAT}
+use Rattle.macho_model.specs.WrittenSum.{FIXUP_RECORDS}
 use Rattle.macho_model.specs.Segments.{SEGMENT_PAGE}
 use Rattle.macho_fixups.specs.declared.run.Fixup.{Fixup}
 use Rattle.macho_fixups.specs.declared.run.FixupSegment.{FixupSegment}
@@ -23,12 +24,12 @@ page_starts_text fixups first pages = flat_map (λ page. le_bytes 2 (start_of fi
 abbrev pub starts_size : ℕ → ℕ
 starts_size pages = if pages == 0 then 0 else 22 + 2 * pages
 
--- the record of a segment with so many pages, its pointers in format 6 (`DYLD_CHAINED_PTR_64_OFFSET`)
+-- the record of a segment with so many pages
 abbrev pub starts_record : ℕ → FixupSegment → ℕ → ChainedStartsInSegment
 starts_record base s pages = record {
   size = 22 + 2 * pages;
   page_size = SEGMENT_PAGE;
-  pointer_format = 6;
+  pointer_format = POINTER_FORMAT;
   segment_offset = s.address - base;
   max_valid_pointer = 0;
   page_count = pages;
@@ -95,4 +96,4 @@ table_text base fixups segments format imports names =
 
 -- the bytes that are kept for a table of so many entries, bytes of names and pages
 abbrev pub table_room : ℕ → ℕ → ℕ → ℕ → ℕ
-table_room entries entry_size name_bytes pages = rounded_up 8 (188 + entry_size * entries + name_bytes) + rounded_up 8 (2 * pages)
+table_room entries entry_size name_bytes pages = rounded_up 8 (FIXUP_RECORDS + entry_size * entries + name_bytes) + rounded_up 8 (2 * pages)

@@ -20,6 +20,7 @@ ghost use Rattle.macho_fixups.specs.Calls.{AreEntries, FitsTable, all_pages};
 use crate::imports::{ImportEntry, entry_size, write_imports};
 use crate::run::{Fixup, FixupSegment};
 use crate::starts::{starts_size, write_starts};
+use macho_model::FIXUP_RECORDS;
 use macho_numbers::{put_little, put_text};
 use macho_structs::ChainedFixupsHeader;
 
@@ -33,7 +34,8 @@ pub fn table_size(entries: u64, entry_size: u64, name_bytes: u64, pages: u64) ->
     requires fits { table_room entries entry_size name_bytes pages < 2 ^ 64 }
     ensures { result ≡ table_room entries entry_size name_bytes pages }
 {
-    (188 + entry_size * entries + name_bytes).next_multiple_of(8) + (2 * pages).next_multiple_of(8)
+    (FIXUP_RECORDS + entry_size * entries + name_bytes).next_multiple_of(8)
+        + (2 * pages).next_multiple_of(8)
 }
 
 /// Writes the table of a sorted run of fixups into a range of the file; what the table doesn't need becomes zero.

@@ -2,7 +2,7 @@
 use Rattle.std.specs.Prelude.{ℕ, ◌+◌, ◌*◌, ◌-◌, ◌/◌, ◌^◌, ◌==◌, ◌≤◌, ◌<◌, nat_lt, not, if◌then◌else◌, Option, Some, None, length, sum_by}
 use Rattle.macho_model.specs.declared.placed.Counts.{Counts}
 use Rattle.macho_model.specs.Segments.{SEGMENT_PAGE, PAGEZERO_SIZE, one_if}
-use Rattle.macho_model.specs.WrittenSum.{STUB_SIZE, INITIALIZER_SIZE, SYMBOL_SIZE, SIGNED_PAGE, DIGEST_SIZE, SIGNATURE_FIXED, padding_of}
+use Rattle.macho_model.specs.WrittenSum.{FIXUP_RECORDS, STUB_SIZE, INITIALIZER_SIZE, SYMBOL_SIZE, SIGNED_PAGE, DIGEST_SIZE, SIGNATURE_FIXED, padding_of}
 use Rattle.macho_model.specs.Needs.{POINTER_SIZE}
 use Rattle.macho_layout.specs.Plans.{Planning}
 use Rattle.macho_layout.specs.Names.{segment_count, merged_count}
@@ -35,7 +35,7 @@ command_sum p counts = 72 * segment_count p + 80 * output_count p counts + count
 abbrev pub unsigned_sum : Planning → Counts → ℕ
 unsigned_sum p counts =
     content_sum p counts + 32 + command_sum p counts + counts.padding + counts.trie + SYMBOL_SIZE * counts.symbols + counts.strings
-    + 216 + counts.import_size * counts.imports + counts.name_bytes
+    + (FIXUP_RECORDS + 28) + counts.import_size * counts.imports + counts.name_bytes
     + 2 * (content_sum p counts / SEGMENT_PAGE + (length p.sections + length p.commons + 1))
     + 2 * SEGMENT_PAGE * (segment_count p - one_if p.executable)
 

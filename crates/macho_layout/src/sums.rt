@@ -8,7 +8,7 @@ ghost use Rattle.macho_layout.specs.Sums.{fitting, members_cost, output_count, u
 use crate::members::placed_align;
 use crate::plan::Plan;
 use crate::spec::{CommonSpec, Planned};
-use macho_model::{Counts, SEGMENT_PAGE};
+use macho_model::{Counts, FIXUP_RECORDS, SEGMENT_PAGE};
 use macho_rows::SIGNED_PAGE;
 
 /// A sum with the size of a section or common and twice what its alignment may cost; None from 2^64 on.
@@ -99,7 +99,7 @@ impl Plan {
             + u128::from(counts.trie)
             + 16 * u128::from(counts.symbols)
             + u128::from(counts.strings)
-            + 216
+            + u128::from(FIXUP_RECORDS + 28)
             + u128::from(counts.import_size) * u128::from(counts.imports)
             + u128::from(counts.name_bytes)
             + 2 * (content / u128::from(SEGMENT_PAGE) + parts)

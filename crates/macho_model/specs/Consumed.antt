@@ -45,7 +45,7 @@ initializer_slot_fits l s slot =
 abbrev pub initializer_section_fits : Link → SectionId → Bool
 initializer_section_fits l s = (type_of (header_at l s) == S_MOD_INIT_FUNC_POINTERS) && ((header_at l s).size % POINTER_SIZE == 0)
 
--- the places of the three addresses of an entry
+-- the places of two of an entry's three addresses; the third is `PERSONALITY_PLACE`
 abbrev pub START_PLACE : ℕ
 START_PLACE = 0
 
@@ -138,17 +138,17 @@ personality_fits l s e =
     (λ r. not (relocation_in l s r).r_extern && is_carried (header_at l (section_named l s r)) && lies_in l (section_named l s r) (unwind_entry l s e).lsda 0)
     (relocations_in_entry l s e LSDA_PLACE)
 
--- U8: the bits that the linker numbers personalities by are clear, and so is an address without a relocation
 abbrev pub absent_is_zero : List ℕ → ℕ → Bool
 absent_is_zero relocations word = not (length relocations == 0) || (word == 0)
 
+-- U8: the bits that the linker numbers personalities by are clear, and so is an address without a relocation
 abbrev pub entry_is_clear : Link → SectionId → ℕ → Bool
 entry_is_clear l s e =
     (bits 28 2 (unwind_entry l s e).encoding == 0) && absent_is_zero (relocations_in_entry l s e START_PLACE) (unwind_entry l s e).start
     && absent_is_zero (relocations_in_entry l s e PERSONALITY_PLACE) (unwind_entry l s e).personality
     && absent_is_zero (relocations_in_entry l s e LSDA_PLACE) (unwind_entry l s e).lsda
 
--- each relocation of an entry passes a test
+-- U2, of each relocation whose place is in the entry
 abbrev pub each_relocation_in : Link → SectionId → ℕ → Bool
 each_relocation_in l s e =
     list_all (unwind_relocation_fits l s) (filter (λ r. (relocation_in l s r).r_address / UNWIND_ENTRY_SIZE == e) (relocations_of l s))

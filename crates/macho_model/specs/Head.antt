@@ -23,10 +23,10 @@ use Rattle.macho_model.specs.Placement.{Placed}
 use Rattle.macho_model.specs.Addresses.{address_of}
 use Rattle.macho_model.specs.Signature.{uuid_written}
 
--- a segment's command: it has the protections and the flags of its name, and the headers of its sections behind it
 abbrev pub headers_in : Placed → PlacedSegment → List SectionHeader
 headers_in p s = filter (λ h. bytes_eq (name_of h.segname) (text_of s.name)) p.output_sections
 
+-- a segment's command: it has the protections and the flags of its name, and the headers of its sections behind it
 abbrev pub segment_for : Placed → PlacedSegment → List ℕ
 segment_for p s = spelling segment_command (record {
   cmd = LC_SEGMENT_64;
@@ -54,7 +54,7 @@ entry_point_for l p = spelling entry_point_command (record {
 abbrev pub uuid_for : List ℕ → List ℕ
 uuid_for uuid = spelling uuid_command (record { cmd = LC_UUID; cmdsize = size_of uuid_command; uuid = uuid_written uuid })
 
--- `PLATFORM_MACOS`; this linker as a tool, by the number 'wild', and its version, 0.11.0
+-- `PLATFORM_MACOS`; this linker as a tool, by the bytes `wild` read as a number, the lowest first, and its version, 0.11.0
 abbrev pub PLATFORM_MACOS : ℕ
 PLATFORM_MACOS = 1
 
@@ -134,7 +134,8 @@ symtab_for counts p = spelling symtab_command (record {
 abbrev pub range_size : Range64 → ℕ
 range_size r = r.end - r.start
 
--- THE load commands of an image, in order, with a UUID and an exports trie of so many bytes.
+-- THE load commands of an image, in order, with a UUID and an exports trie of so many bytes. A library names itself with a time stamp
+-- of 1 and versions 0.0.0.
 unfoldable pub commands_for : Link → Counts → Placed → List ℕ → ℕ → List (List ℕ)
 commands_for l counts p uuid trie =
     map (segment_for p) p.segments

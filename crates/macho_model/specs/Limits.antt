@@ -1,4 +1,7 @@
--- The greatest numbers that the format takes, and when a link or an image passes one.
+-- The greatest numbers that an image may have, and when a link or an image passes one. Most are those that a field has room for: 240
+-- libraries (ordinals of 8 bits, of which the highest are special), 255 sections (`n_sect`), 3 personalities (two bits of an encoding),
+-- imports (24 bits of a bound word), bytes of names (23 bits of an import), pages of a segment (`page_count`). Pages are counted in a
+-- placement alone.
 use Rattle.std.specs.Prelude.{◌≡◌, ℕ, ◌+◌, ◌-◌, ◌/◌, ◌^◌, ◌<◌, ◌≤◌, ◌⊎◌, length, Option, Some, None, MatchOption, Contains, true}
 use Rattle.std.specs.FinMap.{empty}
 use Rattle.macho_records.specs.Segments.{text_of}
@@ -20,7 +23,7 @@ use Rattle.macho_model.specs.Placement.{Placed, linkedit_ranges}
 use Rattle.macho_model.specs.Order.{pages_of}
 use Rattle.macho_model.specs.Stands.{IsAt, SlotAt, SectionAt}
 
--- a number that a limit speaks of, without a placement, and the greatest that the format takes
+-- a number that a limit speaks of, without a placement, and the greatest that it may be
 abbrev pub limited : Link → Counts → Limit → ℕ × ℕ
 limited l counts limit.Segments = (length (segment_names_of l), 6)
 limited l counts limit.Libraries = (length (libraries_needed l), 240)
@@ -31,6 +34,7 @@ limited l counts limit.NameBytes = (counts.name_bytes, 2 ^ 23)
 limited l counts limit.Symbols = (length (symbols_of l) + length (plain_entries l.export_lists), 2 ^ 32 - 2)
 limited l counts limit.Pages = (0, 65535)
 
+-- a number of the link passes its limit, or the pages of a segment do that the loader writes pointers in
 abbrev pub PassesLimit : Link → Counts → Limit → ℕ → Option Placed → Type 0
 PassesLimit l counts what number None = (number ≡ (limited l counts what).0) × ((limited l counts what).1 < number)
 PassesLimit l counts limit.Pages number (Some p) =

@@ -1,4 +1,5 @@
--- What the loader asks of an image: a test for each rule, of one record: the header, a command, a fixup table, an import.
+-- What the loader asks of an image: a test for each rule but that on chain words (`Loader`), of one record: the header, a command, a
+-- fixup table, an import.
 use Rattle.std.specs.Prelude.{ℕ, ◌+◌, ◌*◌, ◌%◌, ◌^◌, ◌==◌, nat_le, ◌&&◌, ◌||◌, if◌then◌else◌, Bool, List, length, map, drop, get_or}
 use Rattle.std.specs.List.{list_all, range_with_len}
 use Rattle.macho_records.specs.ByteTexts.{name_of}

@@ -79,10 +79,10 @@ least_size l counts p s =
     else if bytes_eq (text_of s.name) LINKEDIT then rounded_up SEGMENT_PAGE (p.linkedit.signature.end - s.file_offset)
     else rounded_up SEGMENT_PAGE (used_by s (row_of l counts p s (sections_in l counts s)))
 
--- the pages of the segments that the loader writes pointers in
 abbrev pub pages_of : PlacedSegment → ℕ
 pages_of s = (s.file_size + (SEGMENT_PAGE - 1)) / SEGMENT_PAGE
 
+-- the pages of the segments that the loader writes pointers in
 abbrev pub pointer_pages : Placed → ℕ
 pointer_pages p = sum_by pages_of (filter (λ s. may_hold_pointers (text_of s.name)) p.segments)
 

@@ -28,7 +28,8 @@ abbrev pub is_absolute_target : Target → Bool
 is_absolute_target (target.Absolute value) = true
 is_absolute_target t = false
 
--- a pointer that the loader has to write: its target moves, and it is no offset from the template
+-- a pointer that the loader has to write: its target is no fixed value (it moves with the image, or is an import), and it is no
+-- offset from the template
 abbrev pub needs_fixup : Link → SectionId → Field → Bool
 needs_fixup l s f = is_pointer f && not (is_absolute_target f.target) && not (is_template_offset l s f)
 
@@ -53,7 +54,7 @@ BadRebase l p (site.Stub index) = ⊥
 abbrev pub fits_signed : ℕ → ℕ → Bool
 fits_signed n x = nat_lt (x % 2 ^ 64) (2 ^ (n - 1)) || nat_le (2 ^ 64 - 2 ^ (n - 1)) (x % 2 ^ 64)
 
--- the difference of two addresses
+-- x minus y, modulo 2 ^ 64
 abbrev pub less : ℕ → ℕ → ℕ
 less x y = (x % 2 ^ 64 + (2 ^ 64 - y % 2 ^ 64)) % 2 ^ 64
 
@@ -67,7 +68,7 @@ page_reaches place x = fits_signed 33 (less (page (x % 2 ^ 64)) (page place))
 abbrev pub offset_fits : ℕ → ℕ → Bool
 offset_fits input x = low (x % 2 ^ 64) % scale_of input == 0
 
--- a field's value does not fit, by its kind, at a place
+-- a field's value does not fit, by its kind: `place` is the address of the field, `input` the word that the object has there
 abbrev pub DoesNotFit : Link → Placed → SectionId → Field → ℕ → ℕ → Kind → Type 0
 DoesNotFit l p s f place input Difference =
     (x : ℕ) × (y : ℕ) × IsAt l p 0 empty f.target x × SubtrahendIsAt l p 0 empty f.subtrahend y × (f.width ≡ 4)

@@ -11,7 +11,7 @@ use Rattle.macho_model.specs.Targets.{slots_of, stubs_of}
 use Rattle.macho_model.specs.Segments.{SEGMENT_PAGE, segment_names_of, output_count, one_if}
 use Rattle.macho_model.specs.Needs.{POINTER_SIZE}
 
--- what alignment to an exponent of 2 may cost: in front of the section, and in front of its output section
+-- what alignment to 2 ^ exponent may cost: in front of the section, and in front of its output section
 abbrev pub padding_of : ℕ → ℕ
 padding_of exponent = 2 * (2 ^ exponent - 1)
 
@@ -51,12 +51,14 @@ unfoldable pub command_sum : Link → Counts → ℕ
 command_sum l counts =
     size_of segment_command * length (segment_names_of l) + size_of section_header * output_count l counts + counts.commands
 
--- what a fixup table has beside imports and pages: its header of 28 bytes, a count, and for each of six segments an offset of 4
--- bytes and a record of 22
+-- what a fixup table has beside imports and pages: its header of 28 bytes, a count of 4, and for each of at most six segments an
+-- offset of 4 bytes and a record of 22 without its page starts (`mach-o/fixup-chains.h`)
 abbrev pub FIXUP_RECORDS : ℕ
 FIXUP_RECORDS = 188
 
--- with header, commands and tables, whose alignment may cost 28 bytes; a segment may cost two pages of 16 KiB
+-- The sum without the signature: with header, commands and tables; with two bytes for each page that fixups may be in (one for each
+-- page of content, one for each section and common, and one more); and with what alignment costs: 28 bytes, and two pages of 16 KiB for
+-- each segment, of which it fills less than one
 unfoldable pub unsigned_sum : Link → Counts → ℕ
 unsigned_sum l counts =
     content_sum l counts + size_of mach_header + command_sum l counts + counts.padding + counts.trie + SYMBOL_SIZE * counts.symbols + counts.strings

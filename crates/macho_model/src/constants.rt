@@ -6,5 +6,7 @@ pub const SEGMENT_PAGE: u64 = 0x4000;
 pub const NO_START: u16 = 0xffff;
 /// How the pointers on chains are spelled: `DYLD_CHAINED_PTR_64_OFFSET` of mach-o/fixup-chains.h.
 pub const POINTER_FORMAT: u16 = 6;
+/// The bytes of a fixup table beside imports and pages: header, count, and six segments with their offsets and records.
+pub const FIXUP_RECORDS: u64 = 188;
 /// File offsets and sizes are below this: they are told in 32 bits.
 pub const LIMIT_32: u64 = 0x1_0000_0000;

@@ -1,4 +1,4 @@
--- The objects of a link as they are viewed, by the numbers of their files: what is no object has no view.
+-- The objects of a link as they are viewed, by the numbers of their files: what is no object has no view. And texts without a NUL.
 use Rattle.std.specs.Prelude.{◌≡◌, ◌≢◌, ℕ, ◌<◌, true, false, List, map, Option, Some, None, All}
 use Rattle.macho_model.specs.Grammar.{IsObject}
 use Rattle.macho_model.specs.Links.{Input, Object, Dylib, Stub, Link}

@@ -3,7 +3,7 @@ ghost use Rattle.std.specs.Prelude.{◌≡◌, ◌+◌, ◌*◌, ◌<◌, ◌≤
 ghost use Rattle.macho_rows.specs.Tables.{tables_at, tables_cost};
 ghost use Rattle.macho_model.specs.Order.{fixup_room};
 
-use macho_model::{Counts, Linkedit, Range64};
+use macho_model::{Counts, FIXUP_RECORDS, Linkedit, Range64};
 
 /// The bytes of a page that has a digest of its own.
 pub const SIGNED_PAGE: u64 = 4096;
@@ -23,7 +23,7 @@ fn fixup_room(counts: &Counts, pages: u64) -> u64
     requires { tables_cost counts.now 0 pages < 2 ^ 64 }
     ensures { result ≡ fixup_room counts.now pages }
 {
-    let entries = 188 + counts.import_size * counts.imports + counts.name_bytes;
+    let entries = FIXUP_RECORDS + counts.import_size * counts.imports + counts.name_bytes;
     entries.next_multiple_of(8) + (2 * pages).next_multiple_of(8)
 }
 

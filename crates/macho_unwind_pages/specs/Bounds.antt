@@ -10,7 +10,8 @@ use Rattle.macho_unwind_pages.specs.Entries.{ids_of, codes_of, ranked}
 abbrev pub PAGE_SPAN : ℕ
 PAGE_SPAN = 2 ^ 24
 
--- the most encodings that every page may name
+-- the most encodings that every page may name: an encoding's number on a page has 8 bits, of which 224 are for these and 32 for those
+-- of one page
 abbrev pub MOST_GLOBALS : ℕ
 MOST_GLOBALS = 224
 
@@ -18,7 +19,7 @@ MOST_GLOBALS = 224
 abbrev pub MOST_LOCALS : ℕ
 MOST_LOCALS = 32
 
--- the most words and encodings that stand on one page
+-- the most words and encodings that stand on one page: it has 4,096 bytes with its head, and each of these has 4
 abbrev pub MOST_WORDS : ℕ
 MOST_WORDS = 1021
 
@@ -40,7 +41,8 @@ tallies_of entries = record {
   lsdas = count_by (λ e. e.lsda) entries;
 }
 
--- the most pages of so many entries: one, and one more for each reason that closes a page
+-- the most pages of so many entries: one, and one more for each reason that closes a page (one with a single word free may be closed, as
+-- a function may need two: its own and its encoding)
 abbrev pub most_pages : Tallies → ℕ → ℕ
 most_pages t span =
     if t.entries == 0 then 0
@@ -60,7 +62,7 @@ abbrev pub PAGE_HEAD_SIZE : ℕ
 PAGE_HEAD_SIZE = 12
 
 -- the bytes of a section: header, encodings, personalities, entries for language-specific data, entries for pages and one behind
--- the last, heads of pages, words and local encodings (each of these, and a personality, has 4 bytes)
+-- the last, heads of pages, words, encodings of one page; an encoding, a personality and a word have 4 bytes each
 abbrev pub bytes_of : Tallies → ℕ → ℕ
 bytes_of t pages =
     HEADER_SIZE + 4 * t.globals + 4 * t.personalities + LSDA_SIZE * t.lsdas + PAGE_ENTRY_SIZE * (pages + 1)

@@ -43,7 +43,7 @@ row_of globals page word = record {
   code = slice_index (globals ++ page.locals) (word / PAGE_SPAN);
 }
 
--- the functions of a page, and of all pages
+-- the functions of a page
 abbrev pub page_rows : List ℕ → PageList → List Row
 page_rows globals page = map (row_of globals page) page.words
 
@@ -51,6 +51,7 @@ page_rows globals page = map (row_of globals page) page.words
 abbrev pub first_row : List ℕ → PageList → Row
 first_row globals page = row_of globals page (slice_index page.words 0)
 
+-- the functions of all pages
 abbrev pub rows_of : PlanList → List Row
 rows_of plan = flat_map (page_rows plan.globals) plan.pages
 
@@ -64,7 +65,8 @@ size_of plan =
     HEADER_SIZE + 4 * length plan.globals + 4 * length plan.personalities + PAGE_ENTRY_SIZE * (length plan.pages + 1)
     + LSDA_SIZE * length plan.lsdas + sum_by page_size plan.pages
 
--- A page that can be written: its first function stands at its first offset, and each word names a code.
+-- A page that can be written: its first function stands at its first offset, and each word names a code. Its own codes are numbered
+-- behind those that every page may name, and there are some only where these are all taken.
 pub record IsPage (globals : List ℕ) (page : PageList) : Type 0 where
   pub some : 0 < length page.words
   pub first : slice_index page.words 0 % PAGE_SPAN ≡ 0
