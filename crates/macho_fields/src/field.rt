@@ -231,6 +231,7 @@ pub(crate) fn near_at(
 }
 
 /// The field of a relocation in a section's bytes.
+#[inline(always)]
 pub(crate) fn read_field<P: Places>(
     places: &P,
     number: u32,

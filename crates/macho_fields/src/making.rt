@@ -63,6 +63,7 @@ fn start_of<P: Places>(places: &P, in_template: bool) -> u64
 }
 
 /// What is written to a field.
+#[inline(always)]
 pub(crate) fn written_of<P: Places>(
     places: &P,
     place: PlacedSection,

@@ -60,6 +60,7 @@ impl<'data> Needs<'data> {
     }
 
     /// Notes the symbol that an extern relocation of an object uses, and tells what it leads to.
+    #[inline(always)]
     fn use_symbol(&mut self, file: u32, relocation: RelocationInfo) -> Result<Target, LinkError>
         requires named { relocation.r_extern ≡ true }
         requires symbol { HasSymbol self.old.resolved file relocation.r_symbolnum }
@@ -78,6 +79,7 @@ impl<'data> Needs<'data> {
     }
 
     /// Notes the name that a relocation of an object uses, if it uses one, and tells what the relocation leads to.
+    #[inline(always)]
     fn lead(
         &mut self,
         object: &File<'_>,

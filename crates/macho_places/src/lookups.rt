@@ -160,6 +160,7 @@ impl<'a, 'data> Places for LinkPlaces<'a, 'data> {
         self.placement.template
     }
 
+    #[inline(always)]
     fn target(&self, file: u32, symbol: u32) -> Target {
         self.needs.resolved.target(file, symbol)
     }

@@ -46,6 +46,11 @@ pub if_first_of : {X : Type 0} (P : X → Type 0) (o p : Option X) → IfSome o 
 if_first_of P None p h k = k
 if_first_of P (Some y) p h k = h
 
+-- the first of a kind is the first, with none behind it
+pub first_of_none : {X : Type 0} (o : Option X) → first_of o None ≡ o
+first_of_none None = refl
+first_of_none (Some y) = refl
+
 -- where none is found, there was none before and the last is none
 none_first : {X : Type 0} (b : Bool) (o : Option X) (x : X) → first_if b o x ≡ None → (o ≡ None) × (b ≡ false)
 none_first false o x e = (e, refl)

@@ -1,5 +1,5 @@
 //! What the walk over relocations finds against a link: the first fault of each kind, and the one that is told.
-ghost use Rattle.std.specs.Prelude.{◌≡◌, None, IfSome, IfNone};
+ghost use Rattle.std.specs.Prelude.{◌≡◌, true, None, IfSome, IfNone};
 ghost use Rattle.macho_model.specs.declared.placed.Counts.{Counts};
 ghost use Rattle.macho_model.specs.Links.{Link};
 ghost use Rattle.macho_faults.specs.Standing.{Stands};
@@ -44,13 +44,10 @@ pub(crate) struct Findings {
     pub(crate) place: Option<Place>,
 }
 
-/// The first place of a kind: the one that was found before, else this one, if it is of the kind.
-fn first_if(is: bool, first: Option<Place>, place: Place) -> Option<Place>
-    ensures { result ≡ first_if is first place }
+/// The first place of a kind, with one more behind it.
+fn first_of_kind(first: Option<Place>, place: Place) -> Option<Place>
+    ensures { result ≡ first_if true first place }
 {
-    if !is {
-        return first;
-    }
     match first {
         Some(first) => Some(first),
         None => Some(place),
@@ -70,13 +67,12 @@ impl Findings {
         }
     }
 
-    /// The findings with a relocation that was looked at: `is` says whether it is unsupported.
-    pub(crate) fn with_unsupported(self, place: Place, is: bool) -> Findings
-        ensures { result ≡ record self { unsupported = first_if is self.unsupported place } }
+    /// Notes a relocation that was looked at: `is` says whether it is unsupported.
+    pub(crate) fn note_unsupported(&mut self, place: Place, is: bool)
+        ensures { self.new ≡ record self.old { unsupported = first_if is self.old.unsupported place } }
     {
-        Findings {
-            unsupported: first_if(is, self.unsupported, place),
-            ..self
+        if is {
+            self.unsupported = first_of_kind(self.unsupported, place);
         }
     }
 
@@ -90,23 +86,22 @@ impl Findings {
         }
     }
 
-    /// The findings with a pointer whose addend doesn't fit, if there is one.
-    pub(crate) fn with_addend(self, addend: Option<Addend>) -> Findings
-        ensures { result ≡ record self { addend = first_of self.addend addend } }
+    /// Notes a pointer whose addend doesn't fit, if there is one.
+    #[tactic(auto, using(crate::proofs::Judging::first_of_none))]
+    pub(crate) fn note_addend(&mut self, addend: Option<Addend>)
+        ensures { self.new ≡ record self.old { addend = first_of self.old.addend addend } }
     {
-        Findings {
-            addend: self.addend.or(addend),
-            ..self
+        if addend.is_some() {
+            self.addend = self.addend.or(addend);
         }
     }
 
-    /// The findings with a relocation that was looked at: `is` says whether it is a pointer in a segment that may hold none.
-    pub(crate) fn with_place(self, place: Place, is: bool) -> Findings
-        ensures { result ≡ record self { place = first_if is self.place place } }
+    /// Notes a relocation that was looked at: `is` says whether it is a pointer in a segment that may hold none.
+    pub(crate) fn note_place(&mut self, place: Place, is: bool)
+        ensures { self.new ≡ record self.old { place = first_if is self.old.place place } }
     {
-        Findings {
-            place: first_if(is, self.place, place),
-            ..self
+        if is {
+            self.place = first_of_kind(self.place, place);
         }
     }
 

@@ -124,18 +124,18 @@ fn is_misplaced(holds_pointers: bool, pointer: Option<u64>, target: Target) -> b
     }
 }
 
-/// What is found once a relocation was looked at: by its neighbours, its target, the word at its place, and the addend of a
-/// pointer.
-fn judged(
-    findings: Findings,
+/// Notes what is found once a relocation was looked at: by its neighbours, its target, the word at its place, and the addend of
+/// a pointer.
+fn judge(
+    findings: &mut Findings,
     at: Section,
     index: u32,
     seen: Seen,
     target: Target,
     word: u32,
     pointer: Option<u64>,
-) -> Findings
-    ensures { result ≡ judged findings at.holds_pointers
+)
+    ensures { findings.new ≡ judged findings.old at.holds_pointers
         (record { file = at.file; section = at.section; relocation = index }) seen target word pointer }
 {
     let place = Place {
@@ -143,10 +143,9 @@ fn judged(
         section: at.section,
         relocation: index,
     };
-    findings
-        .with_unsupported(place, !is_supported(seen, target, word))
-        .with_addend(bad_addend(place, pointer, target))
-        .with_place(place, is_misplaced(at.holds_pointers, pointer, target))
+    findings.note_unsupported(place, !is_supported(seen, target, word));
+    findings.note_addend(bad_addend(place, pointer, target));
+    findings.note_place(place, is_misplaced(at.holds_pointers, pointer, target));
 }
 
 /// Looks at a relocation of a section, which was seen with its neighbours: its use is noted, and what stands against it is found.
@@ -176,7 +175,7 @@ fn survey_relocation(
     let pointer = pointer(object, bytes, seen);
     let target = needs.use_relocation(object, at.file, seen.this, pointer)?;
     let word = word_at(bytes, seen.this);
-    *findings = judged(*findings, at, index, seen, target, word, pointer);
+    judge(findings, at, index, seen, target, word, pointer);
     Ok(())
 }
 

@@ -48,6 +48,7 @@ impl<'data> Resolved<'data> {
 
     /// What a symbol of an object leads to. A symbol of a library that isn't noted yet is told with the number that it
     /// would get next.
+    #[inline(always)]
     pub fn target(&self, file: u32, symbol: u32) -> Target
         requires { HasSymbol self.now file symbol }
         ensures { (l : Link) (noted : List (List ℕ)) → IsResolved l noted self.now → result ≡ target_with l noted (symbol_id file symbol) }
@@ -88,6 +89,7 @@ impl<'data> Resolved<'data> {
     /// # Errors
     ///
     /// The symbol is global and nothing defines its name, or there is not enough memory. Nothing was noted.
+    #[inline(always)]
     pub fn note_use(&mut self, file: u32, symbol: u32) -> Result<Target, SymbolFault>
         requires { HasSymbol self.old file symbol }
         ensures noted { (l : Link) (noted : List (List ℕ)) → IsResolved l noted self.old

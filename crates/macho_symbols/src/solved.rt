@@ -116,6 +116,7 @@ fn number_of_common(commons: &[Common], file: u32, row: usize) -> u32
 }
 
 /// Where a row leads by itself.
+#[inline(always)]
 fn own_target(files: &[FileNames<'_>], commons: &[Common], file: u32, row: usize) -> Target
     requires file { file < length files.now }
     requires row { row < row_count files.now file }
@@ -165,6 +166,7 @@ impl<'data> Solved<'data> {
     }
 
     /// Where the best row of a name leads.
+    #[inline(always)]
     pub(crate) fn lead(&self, number: usize, name: &[u8]) -> Target
         requires solved { IsSolved self.now }
         requires entry { IsEntryOf self.now.files.items self.now.table.entries.items name.now number }
@@ -192,6 +194,7 @@ impl<'data> Solved<'data> {
     }
 
     /// The entry of a row's name, where it was looked for.
+    #[inline(always)]
     pub(crate) fn found_entry(&self, file: u32, row: usize) -> Option<usize>
         requires { IsSolved self.now }
         ensures { IfSome result (IsEntryOf self.now.files.items self.now.table.entries.items (row_at self.now.files.items file row).name) }
@@ -209,6 +212,7 @@ impl<'data> Solved<'data> {
     }
 
     /// Where the name of a row leads.
+    #[inline(always)]
     fn named_row(&self, file: u32, row: usize) -> Target
         requires file { file < length self.now.files.items }
         requires row { row < row_count self.now.files.items file }
@@ -236,6 +240,7 @@ impl<'data> Solved<'data> {
     }
 
     /// Where a symbol leads.
+    #[inline(always)]
     pub(crate) fn target(&self, file: u32, row: usize) -> Target
         requires file { file < length self.now.files.items }
         requires row { row < row_count self.now.files.items file }
@@ -304,6 +309,7 @@ pub(crate) fn is_nothing(target: Target) -> bool
 
 impl<'data> Solved<'data> {
     /// Notes a use of a symbol, and tells what it leads to.
+    #[inline(always)]
     pub(crate) fn note_use(&mut self, file: u32, row: usize) -> Result<Target, SymbolFault>
         requires file { file < length self.old.files.items }
         requires row { row < row_count self.old.files.items file }

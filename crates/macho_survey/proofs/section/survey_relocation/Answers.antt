@@ -74,7 +74,7 @@ returns-clause-surveyed c l ss us object carried next before =
     c.in_ok-target.target c.args.at.holds_pointers judged_here
     before noted leads held in
     let place : Place = record { file = c.args.at.file; section = c.args.at.section; relocation = c.args.index } in
-    let same = c.judged.ensures
+    let same = c.judge.ensures
     ∙ ap (λ w. judged c.args.findings.now c.args.at.holds_pointers place w c.in_ok-target.target c.word_at-word.result
     c.pointer-pointer.result)
     (seen_of l s c.args.index c.args.object.now c.args.bytes.now c.args.seen object c.requires.section.bytes_are c.requires.seen
