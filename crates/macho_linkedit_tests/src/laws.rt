@@ -1,6 +1,6 @@
 //! Callers of the laws of chained fixups: each says of its own values what the law says of all.
 ghost use Rattle.std.specs.Prelude.{◌≡◌, ℕ, ◌+◌, ◌-◌, ◌/◌, ◌%◌, ◌<◌, ◌≤◌, ◌⊎◌, ◌↔◌, [], ◌∷◌, length, get_or, slice_index, All, Contains};
-ghost use Rattle.macho_bytes.specs.Numbers.{low};
+ghost use Rattle.macho_records.specs.Numbers.{low};
 ghost use Rattle.macho_model.specs.Segments.{SEGMENT_PAGE};
 ghost use Rattle.macho_model.specs.Images.{tables_of};
 ghost use Rattle.macho_model.specs.Chain.{OnChainOf};
