@@ -1,6 +1,8 @@
 """Times the linker on made inputs, beside ld64.lld where it is installed, and prints rows of docs/FIGURES.md.
 
-bench.py [--program PATH] [--runs R] [--size N] [CASE..]   PATH is ./link where none is given, N the size of each case, else its own sizes
+bench.py [--program PATH] [--runs R] [--size N] [CASE..]
+
+PATH is the program that `./link` builds where none is given, N the size of each case, else its own sizes.
 
 Objects are made by clang of assembly; many files are copies of one object, each with names of its own. The linkers take turns: ours,
 ld64.lld with its threads, and ld64.lld with one thread. Of R links each, three where nothing is said, the one of least wall time is told,
@@ -178,7 +180,7 @@ def bench(name, program, size, runs):
 
 if __name__ == "__main__":
     parser = argparse.ArgumentParser(description=__doc__, formatter_class=argparse.RawDescriptionHelpFormatter)
-    parser.add_argument("--program", default=os.path.join(TOP, "link"))
+    parser.add_argument("--program", default=os.path.join(TOP, "crates", "wild_macho_main", "out", "wild_macho_main"))
     parser.add_argument("--runs", type=int, default=3)
     parser.add_argument("--size", type=int, default=0)
     parser.add_argument("cases", nargs="*", default=list(CASES))

@@ -78,14 +78,19 @@ fn bytes_made(alloc: Global, lines: &[Line<'_>]) -> Result<Vec<u8>, Unread> {
 // Changes the bytes of a file, where the line says so.
 fn change(bytes: &mut Vec<u8>, line: Line<'_>) -> Result<(), Unread> {
     if line.key == "cut" {
-        bytes.truncate(size(line.rest)?);
+        let left = size(line.rest)?;
+        if left > bytes.len() {
+            return Err(wrong("a file is cut behind its end"));
+        }
+        bytes.truncate(left);
     }
     if line.key == "change" {
         let place = first_word(line.rest);
         let value = byte(place.rest)?;
-        if let Some(one) = bytes.get_mut(size(place.key)?) {
-            *one = value;
-        }
+        let Some(one) = bytes.get_mut(size(place.key)?) else {
+            return Err(wrong("a byte is changed behind a file's end"));
+        };
+        *one = value;
     }
     Ok(())
 }

@@ -52,7 +52,7 @@ pub fn note(
 // Whether a printed text is as wanted: there is `more`, or it is `cut`, or it is whole.
 fn fits(extent: Option<&str>, want: &[u8], came: &[u8]) -> bool {
     match extent {
-        Some("more") => came.starts_with(want),
+        Some("more") => came.starts_with(want) && came.len() > want.len(),
         Some("cut") => want.starts_with(came) && !came.is_empty() && came.len() < want.len(),
         _ => came == want,
     }
